@@ -1,0 +1,2 @@
+pub mod DiskModel
+pub mod Moments
