@@ -1,0 +1,11 @@
+-- Which bytes are a name.
+use Rattle.std.specs.Prelude.{ℕ, Bool, ◌&&◌, ◌||◌, ◌==◌, nat_le, List, length}
+use Rattle.std.specs.List.{list_all}
+
+-- a to z, 0 to 9 or _
+abbrev pub is_name_byte : ℕ → Bool
+is_name_byte b = (nat_le 97 b && nat_le b 122) || ((nat_le 48 b && nat_le b 57) || b == 95)
+
+-- 1 to 16 such bytes
+abbrev pub is_name : List ℕ → Bool
+is_name text = (nat_le 1 (length text) && nat_le (length text) 16) && list_all is_name_byte text

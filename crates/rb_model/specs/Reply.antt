@@ -1,0 +1,147 @@
+-- Which answers a call may have, and the state after it.
+use Rattle.std.specs.Prelude.{◌≡◌, ◌⊎◌, ℕ, suc, ◌+◌, ◌-◌, Bool, true, false, not, ◌&&◌, ◌==◌, nat_lt, nat_le, if◌then◌else◌, is_some, is_none, List, [], ◌∷◌, ◌++◌, length, sum_by, slice_get, Option, None, Some, All}
+use Rattle.rb_model.specs.Change.{Change, Kind, Put, Gone, Held, put}
+use Rattle.rb_model.specs.Rows.{TableRow, Commits, last_number, rows_at, over, has_row}
+use Rattle.rb_model.specs.State.{State, Session, Cursor, is_session, is_table, session_of, with_session, cursor_of, cursor_rows, with_taken}
+use Rattle.rb_model.specs.declared.refusal.Refusal.{Refusal}
+use Rattle.rb_model.specs.declared.refusal.Refusal.TheVariants.{NoSession, NoTable, ValueTooLong, Duplicate, NoCursor, CursorThere, TooManyCursors, DiskFault, Stopped, LogFull}
+
+-- a call of one session
+pub data Call : Type 0 where
+  Insert : (session table key : ℕ) (value : List ℕ) → Call
+  Commit : (session : ℕ) → Call
+  OpenCursor : (session : ℕ) (name : List ℕ) (table lo hi : ℕ) → Call
+  Fetch : (session : ℕ) (name : List ℕ) → Call
+
+pub data Answer : Type 0 where
+  -- done, with nothing to tell
+  Done : Answer
+  -- a write that waits for that session
+  Waits : ℕ → Answer
+  -- a commit that took this number
+  Numbered : ℕ → Answer
+  -- the next row has this key and value
+  Given : (key : ℕ) (value : List ℕ) → Answer
+  -- all rows are given
+  End : Answer
+  Refused : Refusal → Answer
+
+-- the bytes that a change takes in a record of the log
+abbrev pub kind_length : Kind → ℕ
+kind_length (Put value) = 11 + length value
+kind_length Gone = 11
+kind_length Held = 11
+
+-- the bytes of a record of these changes
+abbrev pub record_length : List Change → ℕ
+record_length changes = 2 + sum_by (λ change. kind_length change.kind) changes
+
+-- the rows that a session sees now: the committed ones with its own changes over them
+abbrev pub rows_now : State → ℕ → List TableRow
+rows_now h s = over h.shape.blocks (rows_at h.shape.blocks h.commits (last_number h.commits)) (session_of h s).own
+
+abbrev pub is_empty : List Change → Bool
+is_empty [] = true
+is_empty (c ∷ changes) = false
+
+-- The tests of a call in their order, each with what it refuses. After the early ones the disk may have failed.
+abbrev pub early_tests : State → Call → List (Bool × Refusal)
+early_tests h (Insert s table key value) =
+    (h.stopped, Stopped) ∷ (not (is_session h s), NoSession) ∷ (not (is_table h table), NoTable)
+    ∷ (nat_lt 80 (length value), ValueTooLong) ∷ []
+early_tests h (Commit s) = (h.stopped, Stopped) ∷ (not (is_session h s), NoSession) ∷ []
+early_tests h (OpenCursor s name table lo hi) =
+    (h.stopped, Stopped) ∷ (not (is_session h s), NoSession) ∷ (not (is_table h table), NoTable) ∷ []
+early_tests h (Fetch s name) = (h.stopped, Stopped) ∷ (not (is_session h s), NoSession) ∷ []
+
+-- room: how many more records the log has room for
+abbrev pub later_tests : State → ℕ → Call → List (Bool × Refusal)
+later_tests h room (Insert s table key value) =
+    (has_row table key (rows_now h s), Duplicate)
+    ∷ (nat_lt 2000 (record_length ((session_of h s).own ++ put table key value ∷ [])), LogFull) ∷ []
+later_tests h room (Commit s) = (not (is_empty (session_of h s).own) && (room == 0), LogFull) ∷ []
+later_tests h room (OpenCursor s name table lo hi) =
+    (is_some (cursor_of h s name), CursorThere) ∷ (nat_le 16 (length (session_of h s).cursors), TooManyCursors) ∷ []
+later_tests h room (Fetch s name) = (is_none (cursor_of h s name), NoCursor) ∷ []
+
+-- a row as the answer to a fetch, or the end
+abbrev pub given : Option TableRow → Answer
+given None = End
+given (Some row) = Given row.key row.value
+
+-- what a cursor gives next
+abbrev pub next_row : State → Option Cursor → Answer
+next_row h None = End
+next_row h (Some cursor) = given (slice_get (cursor_rows h cursor) cursor.taken)
+
+-- what a call answers that no test refuses
+abbrev pub granted : State → Call → Answer
+granted h (Insert s table key value) = Done
+granted h (Commit s) = if is_empty (session_of h s).own then Done else Numbered (last_number h.commits + 1)
+granted h (OpenCursor s name table lo hi) = Done
+granted h (Fetch s name) = next_row h (cursor_of h s name)
+
+-- the first test that applies, or else the good answer
+abbrev pub first_of : List (Bool × Refusal) → Answer → Answer
+first_of [] good = good
+first_of (test ∷ tests) good = if test.0 then Refused test.1 else first_of tests good
+
+-- no test applies
+abbrev pub none_applies : List (Bool × Refusal) → Bool
+none_applies [] = true
+none_applies (test ∷ tests) = not test.0 && none_applies tests
+
+-- The call may have this answer: the first test that applies, else the good one; or a fault of the disk in the
+-- place of any that comes after the early tests.
+abbrev pub Reply : State → ℕ → Call → Answer → Type 0
+Reply h room call r =
+    (r ≡ first_of (early_tests h call ++ later_tests h room call) (granted h call))
+    ⊎ ((r ≡ Refused DiskFault) × (none_applies (early_tests h call) ≡ true))
+
+abbrev pub with_own : State → ℕ → List Change → State
+with_own h s own = with_session h s (record { own = own; cursors = (session_of h s).cursors })
+
+abbrev pub with_cursors : State → ℕ → List Cursor → State
+with_cursors h s cursors = with_session h s (record { own = (session_of h s).own; cursors = cursors })
+
+-- the state with a session's changes as one more commit
+abbrev pub committed : State → ℕ → State
+committed h s = record (with_own h s []) { commits = record h.commits { list = h.commits.list ++ (session_of h s).own ∷ [] } }
+
+-- A refusal changes nothing, but a fault of the disk stops.
+abbrev pub after_refusal : State → Refusal → State
+after_refusal h DiskFault = record h { stopped = true }
+after_refusal h NoSession = h
+after_refusal h NoTable = h
+after_refusal h ValueTooLong = h
+after_refusal h Duplicate = h
+after_refusal h NoCursor = h
+after_refusal h CursorThere = h
+after_refusal h TooManyCursors = h
+after_refusal h Stopped = h
+after_refusal h LogFull = h
+
+-- the state after a call that did what it was asked for
+abbrev pub after_grant : State → Call → State
+after_grant h (Insert s table key value) = with_own h s ((session_of h s).own ++ put table key value ∷ [])
+after_grant h (Commit s) = if is_empty (session_of h s).own then h else committed h s
+after_grant h (OpenCursor s name table lo hi) =
+    with_cursors h s ((session_of h s).cursors ++ record {
+      name = name;
+      table = table;
+      lo = lo;
+      hi = hi;
+      number = last_number h.commits;
+      own = (session_of h s).own;
+      taken = 0;
+    } ∷ [])
+after_grant h (Fetch s name) = with_cursors h s (with_taken name (session_of h s).cursors)
+
+-- the state after a call with that answer
+abbrev pub after : State → Call → Answer → State
+after h call (Refused why) = after_refusal h why
+after h call Done = after_grant h call
+after h call (Waits on) = h
+after h call (Numbered n) = after_grant h call
+after h call (Given key value) = after_grant h call
+after h call End = h

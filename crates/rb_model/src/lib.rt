@@ -1,0 +1,14 @@
+//! The abstract machine of numbered commits, in `specs/`, and the plain types of the engine's calls.
+#![tactic(auto)]
+
+mod name;
+mod op;
+mod refusal;
+mod row;
+mod wrote;
+
+pub use name::Name;
+pub use op::Op;
+pub use refusal::Refusal;
+pub use row::{Fetched, Row};
+pub use wrote::Wrote;

@@ -1,0 +1,18 @@
+//! What a fetch gives. The engine fills it, and the shell prints it.
+use arrayvec::ArrayVec;
+
+/// A key and its value of at most 80 bytes.
+#[derive(Debug, Drop)]
+pub struct Row {
+    pub key: u64,
+    pub value: ArrayVec<u8, 80>,
+}
+
+/// Whether a fetch gave a row.
+#[derive(Clone, Copy, Debug, PartialEq, Eq)]
+pub enum Fetched {
+    /// It gave the next row.
+    Row,
+    /// All rows were given before.
+    End,
+}

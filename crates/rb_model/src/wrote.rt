@@ -1,0 +1,10 @@
+//! What an accepted write answers. The engine answers it, and the shell prints it.
+
+/// Whether a write was made.
+#[derive(Clone, Copy, Debug, PartialEq, Eq)]
+pub enum Wrote {
+    /// It was made.
+    Done,
+    /// Another session holds the key, and this one waits for it.
+    Waits { on: u16 },
+}
