@@ -1,3 +1,4 @@
+pub mod Answers
 pub mod Change
 pub mod Lines
 pub mod NameTest

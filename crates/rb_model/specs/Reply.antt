@@ -91,11 +91,15 @@ abbrev pub none_applies : List (Bool × Refusal) → Bool
 none_applies [] = true
 none_applies (test ∷ tests) = not test.0 && none_applies tests
 
--- The call may have this answer: the first test that applies, else the good one; or a fault of the disk in the
--- place of any that comes after the early tests.
+-- the first test that applies, or else the good answer
+abbrev pub expected : State → ℕ → Call → Answer
+expected h room call = first_of (early_tests h call ++ later_tests h room call) (granted h call)
+
+-- The call may have this answer: what is expected, or a fault of the disk in the place of any answer that comes
+-- after the early tests.
 abbrev pub Reply : State → ℕ → Call → Answer → Type 0
 Reply h room call r =
-    (r ≡ first_of (early_tests h call ++ later_tests h room call) (granted h call))
+    (r ≡ expected h room call)
     ⊎ ((r ≡ Refused DiskFault) × (none_applies (early_tests h call) ≡ true))
 
 abbrev pub with_own : State → ℕ → List Change → State

@@ -1,0 +1,45 @@
+-- What the results of the engine's calls are as answers of the machine.
+use Rattle.std.specs.Prelude.{◌≡◌, ℕ, Option, None, Some, Result, Ok, Err}
+use Rattle.rb_model.specs.Reply.{Answer, Waits, Numbered, Given, Refused}
+use Rattle.rb_model.specs.Reply as reply
+use Rattle.rb_model.specs.declared.refusal.Refusal.{Refusal}
+use Rattle.rb_model.specs.declared.wrote.Wrote.{Wrote}
+use Rattle.rb_model.specs.declared.wrote.Wrote.TheVariants as wrote
+use Rattle.rb_model.specs.declared.row.Row.{Row}
+use Rattle.rb_model.specs.declared.row.Fetched.{Fetched}
+use Rattle.rb_model.specs.declared.row.Fetched.TheVariants as fetched
+
+abbrev pub wrote_answer : Wrote → Answer
+wrote_answer wrote.Done = reply.Done
+wrote_answer (wrote.Waits on) = Waits on
+
+abbrev pub write_answer : Result Wrote Refusal → Answer
+write_answer (Ok w) = wrote_answer w
+write_answer (Err why) = Refused why
+
+abbrev pub number_answer : Option ℕ → Answer
+number_answer None = reply.Done
+number_answer (Some n) = Numbered n
+
+abbrev pub commit_answer : Result (Option ℕ) Refusal → Answer
+commit_answer (Ok number) = number_answer number
+commit_answer (Err why) = Refused why
+
+abbrev pub plain_answer : Result (Unit {0}) Refusal → Answer
+plain_answer (Ok done) = reply.Done
+plain_answer (Err why) = Refused why
+
+abbrev pub fetched_answer : Fetched → Row → Answer
+fetched_answer fetched.Row row = Given row.key row.value.items
+fetched_answer fetched.End row = reply.End
+
+-- the result of a fetch, with the row as the call leaves it
+abbrev pub fetch_answer : Result Fetched Refusal → Row → Answer
+fetch_answer (Ok f) row = fetched_answer f row
+fetch_answer (Err why) row = Refused why
+
+-- a call that gives no row leaves the caller's as it was
+abbrev pub LeavesRow : Result Fetched Refusal → Row → Row → Type 0
+LeavesRow (Ok fetched.Row) old new = Unit {0}
+LeavesRow (Ok fetched.End) old new = new ≡ old
+LeavesRow (Err why) old new = new ≡ old
