@@ -1,2 +1,3 @@
-pub mod Puts
+pub mod Kept
 pub mod Next
+pub mod Puts

@@ -1,9 +1,10 @@
 -- The state that the sessions share, as the abstract machine sees it.
 use Rattle.std.specs.Prelude.{ℕ, suc, ◌-◌, Bool, true, false, ◌&&◌, nat_le, cond, List, [], ◌∷◌, length, slice_index_or, slice_set, find, Option, None, Some}
+use Rattle.std.specs.List.{flat_map}
 use Rattle.std.specs.Str.{bytes_eq}
 use Rattle.rb_base.specs.declared.ids.Shape.{Shape}
 use Rattle.rb_model.specs.Change.{Change}
-use Rattle.rb_model.specs.Rows.{Commits, TableRow, answer}
+use Rattle.rb_model.specs.Rows.{Commits, TableRow, answer, over}
 
 pub record Cursor : Type 0 where
   pub name : List ℕ
@@ -63,3 +64,12 @@ abbrev pub with_taken : List ℕ → List Cursor → List Cursor
 with_taken name [] = []
 with_taken name (c ∷ cursors) =
     cond (bytes_eq c.name name) (record c { taken = suc c.taken } ∷ cursors) (c ∷ with_taken name cursors)
+
+-- the state that a file of these commits opens to: they are the base, and nothing is under way
+abbrev pub opened : Shape → List (List Change) → State
+opened shape records = record {
+  shape = shape;
+  commits = record { base = length records; rows = over shape.blocks [] (flat_map (λ changes. changes) records); list = [] };
+  sessions = fresh_session ∷ [];
+  stopped = false;
+}

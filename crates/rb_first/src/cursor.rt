@@ -1,0 +1,17 @@
+//! A cursor as it lies in memory. The state keeps up to sixteen.
+use arrayvec::ArrayVec;
+
+/// A query that gives its rows one at a time.
+#[derive(Debug, Default, Drop)]
+pub struct OpenCursor {
+    pub name: ArrayVec<u8, 16>,
+    pub table: u16,
+    pub lo: u64,
+    pub hi: u64,
+    /// The commit number that it sees the rows at.
+    pub number: u64,
+    /// How many of the changes in memory it sees: the committed ones as it was opened, and its transaction's own.
+    pub visible: usize,
+    /// The key of the last row that it gave.
+    pub last: Option<u64>,
+}

@@ -1,0 +1,214 @@
+//! The state of the first engine in memory: one session, its cursors and all commits. The shell's engine owns it.
+ghost use Rattle.std.specs.Prelude.{◌≡◌, ℕ, ◌+◌, ◌-◌, ◌*◌, ◌<◌, ◌≤◌, false, [], ◌∷◌, ◌++◌, length, IfOk, IfSome, IfNone, slice_get, EachIndex, slice_index_or};
+ghost use Rattle.rb_model.specs.State.{opened, session_of};
+ghost use Rattle.rb_model.specs.Rows.{last_number};
+ghost use Rattle.rb_model.specs.Change.{put};
+ghost use Rattle.rb_model.specs.Reply.{expected, after, committed, with_own};
+ghost use Rattle.rb_model.specs.Reply.{record_length as record_bytes};
+ghost use Rattle.rb_model.specs.Reply as call;
+ghost use Rattle.rb_model.specs.Answers.{write_answer, plain_answer, fetch_answer, LeavesRow};
+ghost use Rattle.rb_model.specs.Names.{name_text};
+ghost use Rattle.rb_first.specs.Kept.{has_name, IsPlace, last_end};
+ghost use Rattle.rb_first.specs.Puts.{changes_of, change_of};
+
+use crate::cursor::OpenCursor;
+use crate::put::Put;
+use crate::rows::{has_key, next_put, record_length, Query};
+use arrayvec::ArrayVec;
+use rb_base::{NoMemory, Shape};
+use rb_model::{Fetched, Name, Refusal, Row, Wrote};
+use std::alloc::Global;
+use std::marker::Model;
+
+/// The only session of this engine.
+const SESSION: u16 = 1;
+
+/// The most changes that a record of the log holds.
+const CHANGES_PER_RECORD: usize = 181;
+
+/// The most bytes of a record of the log.
+const RECORD_BYTES: usize = 2000;
+
+/// The most bytes of a value.
+const VALUE_BYTES: usize = 80;
+
+/// One session over a list of commits. Its room is taken when it is made, so no later call takes memory.
+#[derive(Drop)]
+pub struct FirstState {
+    shape: Shape,
+    slots: u32,
+    base: u64,
+    base_length: usize,
+    changes: Vec<Put>,
+    ends: Vec<usize>,
+    cursors: ArrayVec<OpenCursor, 16>,
+    stopped: bool,
+}
+
+impl Model for FirstState {
+    ghost use Rattle.std.specs.Prelude.{vec_capacity};
+    ghost use Rattle.rb_first.specs.Kept.{Kept, IsKept, state_view};
+
+    ghost Value = { Kept };
+
+    ghost view = { λ a. record { state = state_view a.shape a.base a.base_length a.ends.items a.changes.items a.cursors.items a.stopped; slots = a.slots } };
+
+    ghost invariant = { λ a. IsKept a.shape a.slots a.base a.base_length a.ends.items a.changes.items a.cursors.items (vec_capacity a.changes) (vec_capacity a.ends) };
+}
+
+/// The place of the cursor of a name.
+fn position_of(cursors: &[OpenCursor], name: &[u8]) -> Option<usize>
+    ensures found { IfSome result (λ i. IsPlace (has_name name.now) cursors.now i) }
+    ensures within { IfSome result (λ i. i < length cursors.now) }
+    ensures none { IfNone result ((d : OpenCursor) (k : ℕ) → k < length cursors.now → has_name name.now (slice_index_or cursors.now k d) ≡ false) }
+{
+    for (i, cursor) in cursors.iter().enumerate() {
+        if cursor.name.as_slice() == name {
+            return Some(i);
+        }
+    }
+    None
+}
+
+/// A change of these parts.
+fn make_put(table: u16, key: u64, value: &[u8]) -> Put
+    requires { length value.now ≤ 80 }
+    ensures table { result.table ≡ table }
+    ensures key { result.key ≡ key }
+    ensures value { result.value.items ≡ value.now }
+{
+    let mut bytes = ArrayVec::new();
+    if bytes.try_extend_from_slice(value).is_err() {
+        unreachable!()
+    }
+    Put {
+        table,
+        key,
+        value: bytes,
+    }
+}
+
+/// Puts a change's key and value into the caller's row.
+fn fill(row: &mut Row, put: &Put)
+    ensures key { row.new.key ≡ put.now.key }
+    ensures value { row.new.value.items ≡ put.now.value.items }
+{
+    row.key = put.key;
+    row.value.clear();
+    if row.value.try_extend_from_slice(put.value.as_slice()).is_err() {
+        unreachable!()
+    }
+}
+
+/// Where the changes of the last commit end.
+fn last_end_of(base_length: usize, ends: &[usize]) -> usize
+    ensures { result ≡ last_end base_length ends.now }
+{
+    match ends.last() {
+        Some(end) => *end,
+        None => base_length,
+    }
+}
+
+impl FirstState {
+    /// The state of a file with no record and so many log slots.
+    pub fn new(alloc: Global, shape: Shape, slots: u32) -> Result<FirstState, NoMemory>
+        requires blocks { 0 < shape.blocks }
+        requires some_slots { 1 ≤ slots }
+        requires few_slots { slots ≤ 4096 }
+        ensures state { IfOk result (λ kept. kept.state ≡ opened shape []) }
+        ensures slots { IfOk result (λ kept. kept.slots ≡ slots) }
+    {
+        let room = slots as usize;
+        let Ok(changes) = Vec::with_capacity(alloc, CHANGES_PER_RECORD * room) else {
+            return Err(NoMemory);
+        };
+        let Ok(ends) = Vec::with_capacity(alloc, room) else {
+            return Err(NoMemory);
+        };
+        Ok(FirstState {
+            shape,
+            slots,
+            base: 0,
+            base_length: 0,
+            changes,
+            ends,
+            cursors: ArrayVec::new(),
+            stopped: false,
+        })
+    }
+
+    /// The number of the last commit.
+    pub fn number(&self) -> u64
+        ensures { result ≡ last_number self.now.state.commits }
+    {
+        self.base + self.ends.as_slice().len() as u64
+    }
+
+    /// The changes of the session's transaction, oldest first.
+    pub fn own(&self) -> &[Put]
+        ensures own { changes_of result.now ≡ (session_of self.now.state 1).own }
+        ensures few { record_bytes (changes_of result.now) ≤ 2000 }
+    {
+        &self.changes[last_end_of(self.base_length, self.ends.as_slice())..]
+    }
+
+    /// Why an insert is refused, where it is.
+    fn insert_refusal(&self, s: u16, table: u16, key: u64, value: &[u8]) -> Option<Refusal>
+        ensures refused { IfSome result (λ why. (room : ℕ) → call.Refused why ≡ expected self.now.state room (call.Insert s table key value.now)) }
+        ensures granted { IfNone result ((room : ℕ) → call.Done ≡ expected self.now.state room (call.Insert s table key value.now)) }
+        ensures session { IfNone result (s ≡ 1) }
+        ensures short { IfNone result (length value.now ≤ 80) }
+        ensures room { IfNone result (record_bytes ((session_of self.now.state 1).own ++ put table key value.now ∷ []) ≤ 2000) }
+    {
+        if self.stopped {
+            return Some(Refusal::Stopped);
+        }
+        if s != SESSION {
+            return Some(Refusal::NoSession);
+        }
+        if table < 1 || table > self.shape.tables {
+            return Some(Refusal::NoTable);
+        }
+        if value.len() > VALUE_BYTES {
+            return Some(Refusal::ValueTooLong);
+        }
+        if has_key(self.changes.as_slice(), table, key) {
+            return Some(Refusal::Duplicate);
+        }
+        if record_length(self.own()) + 11 + value.len() > RECORD_BYTES {
+            return Some(Refusal::LogFull);
+        }
+        None
+    }
+
+    /// Makes a row of a key. It may be refused, and then nothing is changed.
+    pub fn insert(
+        &mut self,
+        s: u16,
+        table: u16,
+        key: u64,
+        value: &[u8],
+    ) -> Result<Wrote, Refusal>
+        ensures answer { (room : ℕ) → write_answer result ≡ expected self.old.state room (call.Insert s table key value.now) }
+        ensures state { self.new.state ≡ after self.old.state (call.Insert s table key value.now) (write_answer result) }
+        ensures slots { self.new.slots ≡ self.old.slots }
+    {
+        if let Some(why) = self.insert_refusal(s, table, key, value) {
+            return Err(why);
+        }
+        self.push(make_put(table, key, value));
+        Ok(Wrote::Done)
+    }
+
+    /// Puts one more change at the end of the transaction. The record of its changes stays within 2,000 bytes.
+    pub fn push(&mut self, change: Put)
+        requires { record_bytes ((session_of self.old.state 1).own ++ change_of change ∷ []) ≤ 2000 }
+        ensures state { self.new.state ≡ with_own self.old.state 1 ((session_of self.old.state 1).own ++ change_of change ∷ []) }
+        ensures slots { self.new.slots ≡ self.old.slots }
+    {
+        if self.changes.push(change).is_err() {
+            unreachable!()
+        }
+    }
+}
