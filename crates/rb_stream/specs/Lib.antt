@@ -1,1 +1,4 @@
 pub mod StreamModel
+pub mod FaultPlan
+pub mod MemoryModel
+pub mod StandardModel

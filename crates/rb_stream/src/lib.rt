@@ -1,6 +1,14 @@
-//! Where the script comes from and where the replies go, as traits.
+//! Where the script comes from and where the replies go, as traits, and streams in memory and of std.
 #![tactic(auto)]
 
+mod memory;
+mod plan;
+mod standard;
 mod stream;
 
+pub use memory::{MemSink, MemSource};
+pub use standard::{StdSink, StdSource};
 pub use stream::{Sink, Source};
+
+#[cfg(test)]
+mod tests;

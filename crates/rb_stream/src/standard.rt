@@ -1,0 +1,143 @@
+//! A reader and a writer of std as a source and a sink. The command line runs the shell over them.
+ghost use Rattle.std.specs.Io.KnownBytes.{Appends, Keeps, ReadConsumes};
+ghost use Rattle.std.specs.Prelude.{◌≡◌, ◌≤◌, [], length, IfOk, OnOk, OnErr};
+ghost use Rattle.rb_base.specs.Counts.{IsCounted};
+ghost use Rattle.rb_stream.specs.FaultPlan.{next_count};
+
+use crate::{Sink, Source};
+use rb_base::Failed;
+use std::io::{ErrorKind, Read, Write};
+use std::marker::Model;
+
+/// A source that reads. Its clauses speak of the reader's bytes, where those are known.
+#[derive(Drop)]
+pub struct StdSource<R: Read> {
+    reader: R,
+    faults: u64,
+}
+
+impl<R: Read> Model for StdSource<R> {
+    ghost use Rattle.rb_stream.specs.StandardModel.{StandardState};
+
+    ghost Value = { StandardState };
+
+    ghost view = { λ s. record { known = R.remaining s.reader; faults = s.faults } };
+}
+
+impl<R: Read> StdSource<R> {
+    /// A source over a reader, with no fault yet.
+    pub fn new(reader: R) -> StdSource<R>
+        ensures known { result.known ≡ R.remaining reader }
+        ensures faults { result.faults ≡ 0 }
+    {
+        StdSource { reader, faults: 0 }
+    }
+}
+
+// What one read gave, tried again while it is interrupted.
+fn read_once<R: Read>(reader: &mut R, into: &mut [u8]) -> Result<usize, Failed>
+    ensures within { IfOk result (λ n. n ≤ length into.old) }
+    ensures bytes { ReadConsumes (R.remaining reader.old) (R.remaining reader.new) result into.new }
+{
+    for _ in 0..u64::MAX {
+        match reader.read(into) {
+            Ok(count) => return Ok(count),
+            Err(e) if e.kind() == ErrorKind::Interrupted => {}
+            Err(_) => return Err(Failed),
+        }
+    }
+    Err(Failed)
+}
+
+impl<R: Read> Source for StdSource<R> {
+    ghost tells = { ⊥ };
+
+    ghost left = { λ _. [] };
+
+    ghost faults = { λ s. s.faults };
+
+    /// What one read gives; 0 at the end.
+    fn take(&mut self, into: &mut [u8]) -> Result<usize, Failed>
+        ensures within { IfOk result (λ n. n ≤ length into.old) }
+        ensures bytes { ReadConsumes self.old.known self.new.known result into.new }
+        ensures counted { IsCounted self.old.faults self.new.faults result }
+        ensures ok { OnOk result (self.new.faults ≡ self.old.faults) }
+        ensures err { OnErr result (self.new.faults ≡ next_count self.old.faults) }
+    {
+        let taken = read_once(&mut self.reader, into);
+        if taken.is_err() {
+            self.faults = self.faults.saturating_add(1);
+        }
+        taken
+    }
+}
+
+/// A sink that writes. Its clauses speak of the writer's bytes, where those are known.
+#[derive(Drop)]
+pub struct StdSink<W: Write> {
+    writer: W,
+    faults: u64,
+}
+
+impl<W: Write> Model for StdSink<W> {
+    ghost use Rattle.rb_stream.specs.StandardModel.{StandardState};
+
+    ghost Value = { StandardState };
+
+    ghost view = { λ s. record { known = W.contents s.writer; faults = s.faults } };
+}
+
+impl<W: Write> StdSink<W> {
+    /// A sink over a writer, with no fault yet.
+    pub fn new(writer: W) -> StdSink<W>
+        ensures known { result.known ≡ W.contents writer }
+        ensures faults { result.faults ≡ 0 }
+    {
+        StdSink { writer, faults: 0 }
+    }
+}
+
+// Flushes, and tries again while it is interrupted.
+fn flush_once<W: Write>(writer: &mut W) -> Result<(), Failed>
+    ensures { Keeps (W.contents writer.old) (W.contents writer.new) }
+{
+    for _ in 0..u64::MAX {
+        match writer.flush() {
+            Ok(()) => return Ok(()),
+            Err(e) if e.kind() == ErrorKind::Interrupted => {}
+            Err(_) => return Err(Failed),
+        }
+    }
+    Err(Failed)
+}
+
+// Writes all the bytes, and flushes.
+fn write_through<W: Write>(writer: &mut W, bytes: &[u8]) -> Result<(), Failed>
+    ensures { OnOk result (Appends (W.contents writer.old) (W.contents writer.new) bytes.now) }
+{
+    // `write_all` goes on after a short write and after an interrupted one.
+    writer.write_all(bytes).map_err(|_| Failed)?;
+    flush_once(writer)
+}
+
+impl<W: Write> Sink for StdSink<W> {
+    ghost tells = { ⊥ };
+
+    ghost held = { λ _. [] };
+
+    ghost faults = { λ s. s.faults };
+
+    /// Writes the bytes and flushes.
+    fn put(&mut self, bytes: &[u8]) -> Result<(), Failed>
+        ensures bytes { OnOk result (Appends self.old.known self.new.known bytes.now) }
+        ensures counted { IsCounted self.old.faults self.new.faults result }
+        ensures ok { OnOk result (self.new.faults ≡ self.old.faults) }
+        ensures err { OnErr result (self.new.faults ≡ next_count self.old.faults) }
+    {
+        let put = write_through(&mut self.writer, bytes);
+        if put.is_err() {
+            self.faults = self.faults.saturating_add(1);
+        }
+        put
+    }
+}
