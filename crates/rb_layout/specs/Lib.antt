@@ -1,0 +1,3 @@
+pub mod Fresh
+pub mod Ranges
+pub mod Regions

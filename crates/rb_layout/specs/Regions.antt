@@ -1,0 +1,39 @@
+-- Where the parts of a file lie, and what its first bytes say. All parts are units of 2,048 bytes.
+use Rattle.std.specs.Prelude.{◌≡◌, ℕ, ◌+◌, ◌-◌, ◌*◌, List, ◌++◌, length, take, replicate, codes}
+use Rattle.byteorder.specs.Endian.{big_bytes}
+use Rattle.rb_layout.specs.declared.layout.Layout.{Layout}
+
+-- the blocks of the tables, and a header and eight extents of four blocks for each segment
+abbrev pub block_count : Layout → ℕ
+block_count l = l.tables * l.blocks + 33 * l.segments
+
+-- the identity, two control copies and the chooser, the log, the twin's header and eight images, the blocks
+abbrev pub file_units : Layout → ℕ
+file_units l = 4 + l.log + 9 + block_count l
+
+abbrev pub file_length : Layout → ℕ
+file_length l = 2048 * file_units l
+
+abbrev pub log_offset : ℕ → ℕ
+log_offset slot = 2048 * (4 + slot)
+
+abbrev pub twin_offset : Layout → ℕ → ℕ
+twin_offset l part = 2048 * (4 + l.log + part)
+
+abbrev pub block_offset : Layout → ℕ → ℕ
+block_offset l block = 2048 * (4 + l.log + 9 + block)
+
+-- the first 24 bytes of a file: a mark, the version, and the numbers of the layout, the highest byte first
+abbrev pub identity : ℕ → Layout → List ℕ
+identity version l =
+    codes "RBS7FILE" ++ big_bytes 4 version ++ big_bytes 2 l.tables ++ big_bytes 2 l.segments
+    ++ big_bytes 4 l.blocks ++ big_bytes 4 l.log
+
+-- a file says that it has this layout, and has the length that follows
+pub record HasIdentity (version : ℕ) (l : Layout) (file : List ℕ) : Type 0 where
+  pub front : take 24 file ≡ identity version l
+  pub whole : length file ≡ file_length l
+
+-- a new file: what it is, and zeros
+abbrev pub fresh_file : ℕ → Layout → List ℕ
+fresh_file version l = identity version l ++ replicate (file_length l - 24) 0
