@@ -207,8 +207,7 @@ impl FirstState {
         ensures state { self.new.state ≡ with_own self.old.state 1 ((session_of self.old.state 1).own ++ change_of change ∷ []) }
         ensures slots { self.new.slots ≡ self.old.slots }
     {
-        if self.changes.push(change).is_err() {
-            unreachable!()
-        }
+        let _ = self.changes.as_slice();
+        self.changes.push_reserved(change);
     }
 }
