@@ -1,5 +1,5 @@
 -- What the machine sees of the memory, before and after each change of it.
-use Rattle.std.proofs.Common.{◌≡◌, ℕ, zero, suc, ◌+◌, ◌-◌, ◌*◌, ◌<◌, ◌≤◌, Bool, true, false, List, [], ◌∷◌, ◌++◌, length, take, drop, map, refl, arith, ap, sym, ◌∙◌, subst, append_assoc, sum_by, Option, None, Some, find, set, get_or, cond, nat_le, nat_lt}
+use Rattle.std.proofs.Common.{◌≡◌, ◌≢◌, ℕ, zero, suc, ◌+◌, ◌-◌, ◌*◌, ◌<◌, ◌≤◌, Bool, true, false, List, [], ◌∷◌, ◌++◌, length, take, drop, map, refl, arith, ap, sym, ◌∙◌, subst, append_assoc, sum_by, Option, None, Some, find, set, get_or, cond, nat_le, nat_lt}
 use Rattle.std.proofs.lemmas.List.{map-append, take-append-le, drop-append-le, take_all, drop_all, drop-drop, append-nil, length-append, length-map, take-take, map_push, take-append-drop, length-drop, take_rest}
 use Rattle.std.proofs.Math.Seq.{take-add}
 use Rattle.std.proofs.lemmas.List.Sums.{sum_by-append}
@@ -11,8 +11,9 @@ use Rattle.rb_base.specs.declared.ids.Shape.{Shape}
 use Rattle.rb_model.specs.Change.{Change, put}
 use Rattle.rb_model.specs.Rows.{TableRow, Commits, over, rows_at, changed_by, has_row}
 use Rattle.rb_model.specs.State.{State, Session, Cursor, cursor_rows, session_of, with_session, with_taken}
-use Rattle.rb_model.specs.Reply.{rows_now, record_length, kind_length, with_own, with_cursors, committed, expected, first_of, Insert, Done, Refused}
-use Rattle.rb_model.specs.declared.refusal.Refusal.TheVariants.{Duplicate, LogFull}
+use Rattle.rb_model.specs.Reply.{rows_now, record_length, kind_length, with_own, with_cursors, committed, expected, first_of, Insert, Done, Refused, after_refusal}
+use Rattle.rb_model.specs.declared.refusal.Refusal.{Refusal}
+use Rattle.rb_model.specs.declared.refusal.Refusal.TheVariants.{NoSession, NoTable, ValueTooLong, Duplicate, NoCursor, CursorThere, TooManyCursors, DiskFault, Stopped, LogFull}
 use Rattle.rb_first.specs.declared.cursor.OpenCursor.{OpenCursor}
 use Rattle.rb_first.specs.declared.put.Put.{Put}
 use Rattle.rb_first.specs.Puts.{changes_of, change_of}
@@ -295,3 +296,61 @@ own_length kept puts n table key value e f =
     let g : n ≡ record_length (session_of kept.state 1).own = f ∙ ap record_length e in
     let i : kind_length (put table key value).kind ≡ 11 + length value = refl in
     omega (arith, h, g, i)
+
+-- few changes are there besides the committed ones
+pub few_puts : (base_length : ℕ) (ends : List ℕ) (puts : List Put) → record_length (changes_of (drop (last_end base_length ends) puts)) ≤ 2000 → length puts < last_end base_length ends + 182
+few_puts base_length ends puts few =
+    let h = few_changes (drop (last_end base_length ends) puts) in
+    let n = length-drop (last_end base_length ends) puts in
+    omega (arith, h, n, few)
+
+-- with one more change they are still few
+pub few_with_push : (base_length : ℕ) (ends : List ℕ) (puts : List Put) (p : Put) → record_length (changes_of (drop (last_end base_length ends) puts) ++ change_of p ∷ []) ≤ 2000 → length puts < last_end base_length ends + 181
+few_with_push base_length ends puts p few =
+    let own : List Put = drop (last_end base_length ends) puts in
+    let h = few_changes (own ++ p ∷ []) in
+    let e : record_length (changes_of (own ++ p ∷ [])) ≡ record_length (changes_of own ++ change_of p ∷ []) = ap record_length (map_push change_of own p) in
+    let m = length-append own (p ∷ []) in
+    let n = length-drop (last_end base_length ends) puts in
+    omega (arith, h, e, m, n, few)
+
+opened-push : (base base_length : ℕ) (ends : List ℕ) (count more : ℕ) (cursors : List OpenCursor) → count ≤ more → AllByRecursion (IsOpened base base_length ends count) cursors → AllByRecursion (IsOpened base base_length ends more) cursors
+opened-push base base_length ends count more [] le all = tt
+opened-push base base_length ends count more (c ∷ cursors) le all =
+    (record { no_earlier = all.0.no_earlier; no_later = all.0.no_later; sees_commits = all.0.sees_commits; within = omega (arith, all.0.within, le) },
+      opened-push base base_length ends count more cursors le all.1)
+
+-- the memory stays in order with one more change
+pub kept-push : (shape : Shape) (slots base base_length : ℕ) (ends : List ℕ) (puts : List Put) (cursors : List OpenCursor) (old_room new_room ends_room : ℕ) (p : Put) (more : List Put)
+    → IsKept shape slots base base_length ends puts cursors old_room ends_room → more ≡ puts ++ p ∷ []
+    → record_length (changes_of (drop (last_end base_length ends) puts) ++ change_of p ∷ []) ≤ 2000 → 181 * slots ≤ new_room
+    → IsKept shape slots base base_length ends more cursors new_room ends_room
+kept-push shape slots base base_length ends puts cursors old_room new_room ends_room p more kept e own room =
+    let n : length more ≡ length puts + 1 = ap length e ∙ length-append puts (p ∷ []) in
+    let o : changes_of (drop (last_end base_length ends) more) ≡ changes_of (drop (last_end base_length ends) puts) ++ change_of p ∷ [] =
+        ap (λ ps. changes_of (drop (last_end base_length ends) ps)) e ∙ ap changes_of (drop-append-le (last_end base_length ends) puts (p ∷ []) kept.within) ∙ map_push change_of (drop (last_end base_length ends) puts) p in
+    record {
+      some_blocks = kept.some_blocks;
+      few_slots = kept.few_slots;
+      in_order = kept.in_order;
+      within = omega (arith, n, kept.within);
+      few_commits = kept.few_commits;
+      few_committed = kept.few_committed;
+      few_own = rw (o) own;
+      room_for_puts = room;
+      room_for_ends = kept.room_for_ends;
+      each_cursor = opened-push base base_length ends (length puts) (length more) cursors (omega (arith, n)) kept.each_cursor;
+    }
+
+-- a refusal but a fault of the disk leaves the state
+pub after_other_refusal : (h : State) (why : Refusal) → why ≢ DiskFault → after_refusal h why ≡ h
+after_other_refusal h NoSession other = refl
+after_other_refusal h NoTable other = refl
+after_other_refusal h ValueTooLong other = refl
+after_other_refusal h Duplicate other = refl
+after_other_refusal h NoCursor other = refl
+after_other_refusal h CursorThere other = refl
+after_other_refusal h TooManyCursors other = refl
+after_other_refusal h DiskFault other = absurd (other refl)
+after_other_refusal h Stopped other = refl
+after_other_refusal h LogFull other = refl

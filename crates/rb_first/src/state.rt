@@ -1,5 +1,5 @@
 //! The state of the first engine in memory: one session, its cursors and all commits. The shell's engine owns it.
-ghost use Rattle.std.specs.Prelude.{◌≡◌, ℕ, ◌+◌, ◌-◌, ◌*◌, ◌<◌, ◌≤◌, false, [], ◌∷◌, ◌++◌, length, IfOk, IfSome, IfNone, slice_get, EachIndex, slice_index_or};
+ghost use Rattle.std.specs.Prelude.{◌≡◌, ◌≢◌, ℕ, ◌+◌, ◌-◌, ◌*◌, ◌<◌, ◌≤◌, false, [], ◌∷◌, ◌++◌, length, IfOk, IfSome, IfNone, slice_get, EachIndex, slice_index_or};
 ghost use Rattle.rb_model.specs.State.{opened, session_of};
 ghost use Rattle.rb_model.specs.Rows.{last_number};
 ghost use Rattle.rb_model.specs.Change.{put};
@@ -157,6 +157,7 @@ impl FirstState {
     fn insert_refusal(&self, s: u16, table: u16, key: u64, value: &[u8]) -> Option<Refusal>
         ensures refused { IfSome result (λ why. (room : ℕ) → call.Refused why ≡ expected self.now.state room (call.Insert s table key value.now)) }
         ensures granted { IfNone result ((room : ℕ) → call.Done ≡ expected self.now.state room (call.Insert s table key value.now)) }
+        ensures other { IfSome result (λ why. why ≢ Refusal.DiskFault) }
         ensures session { IfNone result (s ≡ 1) }
         ensures short { IfNone result (length value.now ≤ 80) }
         ensures room { IfNone result (record_bytes ((session_of self.now.state 1).own ++ put table key value.now ∷ []) ≤ 2000) }
