@@ -14,7 +14,7 @@ ghost use Rattle.rb_first.specs.Puts.{changes_of, change_of};
 
 use crate::cursor::OpenCursor;
 use crate::put::Put;
-use crate::rows::{has_key, next_put, record_length, Query};
+use crate::rows::{Query, has_key, next_put, record_length};
 use arrayvec::ArrayVec;
 use rb_base::{NoMemory, Shape};
 use rb_model::{Fetched, Name, Refusal, Row, Wrote};
@@ -110,7 +110,11 @@ fn fill(row: &mut Row, put: &Put)
 {
     row.key = put.key;
     row.value.clear();
-    if row.value.try_extend_from_slice(put.value.as_slice()).is_err() {
+    if row
+        .value
+        .try_extend_from_slice(put.value.as_slice())
+        .is_err()
+    {
         unreachable!()
     }
 }
@@ -209,13 +213,7 @@ impl FirstState {
     }
 
     /// Makes a row of a key. It may be refused, and then nothing is changed.
-    pub fn insert(
-        &mut self,
-        s: u16,
-        table: u16,
-        key: u64,
-        value: &[u8],
-    ) -> Result<Wrote, Refusal>
+    pub fn insert(&mut self, s: u16, table: u16, key: u64, value: &[u8]) -> Result<Wrote, Refusal>
         ensures answer { (room : ℕ) → write_answer result ≡ expected self.old.state room (call.Insert s table key value.now) }
         ensures state { self.new.state ≡ after self.old.state (call.Insert s table key value.now) (write_answer result) }
         ensures slots { self.new.slots ≡ self.old.slots }

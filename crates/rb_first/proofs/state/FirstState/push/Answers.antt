@@ -14,7 +14,7 @@ push_reserved-requires c =
     let a = c.self.inside in
     let n : length a.changes.items ≡ vec_len a.changes = ap length (sym c.as_slice.ensures.value) ∙ c.as_slice.ensures.len in
     let own : record_length (changes_of (drop (last_end a.base_length a.ends.items) a.changes.items) ++ change_of c.args.change ∷ []) ≤ 2000 =
-        subst (λ (k : Kept). record_length ((session_of k.state 1).own ++ change_of c.args.change ∷ []) ≤ 2000) (sym c.self.view_is) c.requires in
+    subst (λ (k : Kept). record_length ((session_of k.state 1).own ++ change_of c.args.change ∷ []) ≤ 2000) (sym c.self.view_is) c.requires in
     let few = few_with_push a.base_length a.ends.items a.changes.items c.args.change own in
     omega (arith, n, few, c.self.invariant.room_for_puts, c.self.invariant.few_committed, c.self.invariant.few_commits)
 
@@ -22,7 +22,7 @@ pub invariant_of-self : goal.invariant_of-self
 invariant_of-self c =
     let a = c.self.inside in
     let own : record_length (changes_of (drop (last_end a.base_length a.ends.items) a.changes.items) ++ change_of c.args.change ∷ []) ≤ 2000 =
-        subst (λ (k : Kept). record_length ((session_of k.state 1).own ++ change_of c.args.change ∷ []) ≤ 2000) (sym c.self.view_is) c.requires in
+    subst (λ (k : Kept). record_length ((session_of k.state 1).own ++ change_of c.args.change ∷ []) ≤ 2000) (sym c.self.view_is) c.requires in
     let room : 181 * a.slots ≤ vec_capacity c.push_reserved.new.self = omega (arith, c.push_reserved.ensures.capacity, c.self.invariant.room_for_puts) in
     kept-push a.shape a.slots a.base a.base_length a.ends.items a.changes.items a.cursors.items _ _ _ c.args.change c.push_reserved.new.self.items c.self.invariant c.push_reserved.ensures.items own room
 
