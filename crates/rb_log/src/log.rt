@@ -78,6 +78,8 @@ impl Log {
         ensures more { IfOk result (λ o. IfSome o (λ n. self.old.used + 1 < self.old.layout.log)) }
         ensures size { IfOk result (λ o. IfSome o (λ n. (13 ≤ n) × (n ≤ 2000))) }
         ensures rest { IfOk result (λ o. IfSome o (λ n. drop n into.new ≡ drop n into.old)) }
+        ensures unread { IfOk result (λ o. IfNone o (into.new ≡ into.old)) }
+        ensures unfilled { OnErr result (into.new ≡ into.old) }
         ensures end { D.tells → IfOk result (λ o. IfNone o (LogIs self.old.layout.log (D.content disk.old) self.old.used [])) }
         ensures faulty { D.tells → IsErrOf result OpenFault.NotAStore → IsFaulty self.old.layout.log (D.content disk.old) self.old.used }
         ensures failed { IsErrOf result OpenFault.Failed → Rose (D.faults disk.old) (D.faults disk.new) }
