@@ -1,0 +1,144 @@
+//! `FileDisk`: a file that is opened at its first call. The shell passes it where a disk is asked for.
+ghost use Rattle.std.specs.Prelude.{◌≡◌, ◌+◌, ◌-◌, ◌^◌, min, [], OnOk, OnErr};
+ghost use Rattle.rb_base.specs.Counts.{IsCounted};
+
+use rb_base::Failed;
+use rb_disk::Disk;
+use std::fs::{Files, OpenFile, OpenOptions};
+use std::io;
+use std::os::unix::fs::FileExt;
+
+/// The file of a path. It tells nothing of its bytes: what a file gives or keeps is outside of any proof.
+#[derive(Drop)]
+pub struct FileDisk<'a, R: Files> {
+    runtime: &'a R,
+    path: &'a str,
+    file: Option<R::File>,
+    // The length at the last sync, if there was one.
+    synced: Option<u64>,
+    faults: u64,
+}
+
+impl<'a, R: Files> FileDisk<'a, R>
+where
+    R::File: FileExt,
+{
+    ghost use Rattle.rb_filedisk.specs.FileDisk.{faults_of};
+
+    /// The file of this path, which its first call opens, and makes if it isn't there.
+    pub fn at(runtime: &'a R, path: &'a str) -> Self
+        ensures { faults_of result ≡ 0 }
+    {
+        FileDisk {
+            runtime,
+            path,
+            file: None,
+            synced: None,
+            faults: 0,
+        }
+    }
+
+    // Counts a fault where the answer is one.
+    fn counted<T>(&mut self, answer: io::Result<T>) -> Result<T, Failed>
+        ensures counted { IsCounted (faults_of self.old) (faults_of self.new) result }
+        ensures faulted { OnErr result (faults_of self.new ≡ min (faults_of self.old + 1) (2 ^ 64 - 1)) }
+        ensures no_fault { OnOk result (faults_of self.new ≡ faults_of self.old) }
+    {
+        match answer {
+            Ok(value) => Ok(value),
+            Err(_) => {
+                self.faults = self.faults.saturating_add(1);
+                Err(Failed)
+            }
+        }
+    }
+
+    fn length(&mut self) -> io::Result<u64>
+        ensures { faults_of self.new ≡ faults_of self.old }
+    {
+        Ok(
+            opened(self.runtime, self.path, &mut self.file)?
+                .metadata()?
+                .len(),
+        )
+    }
+
+    fn flush(&mut self) -> io::Result<()>
+        ensures { faults_of self.new ≡ faults_of self.old }
+    {
+        let file = opened(self.runtime, self.path, &mut self.file)?;
+        let len = file.metadata()?.len();
+        if self.synced == Some(len) {
+            return file.sync_data();
+        }
+        file.sync_all()?;
+        self.synced = Some(len);
+        Ok(())
+    }
+}
+
+// The open file, which is opened here if it isn't yet.
+fn opened<'f, R: Files>(
+    runtime: &R,
+    path: &str,
+    file: &'f mut Option<R::File>,
+) -> io::Result<&'f R::File> {
+    if file.is_none() {
+        let mut options = OpenOptions::new();
+        options.read(true);
+        options.write(true);
+        options.create(true);
+        *file = Some(options.open(runtime, path)?);
+    }
+    match file {
+        Some(file) => Ok(file),
+        None => Err(io::Error::from(io::ErrorKind::NotFound)),
+    }
+}
+
+impl<'a, R: Files> Disk for FileDisk<'a, R>
+where
+    R::File: FileExt,
+{
+    ghost tells = { ⊥ };
+
+    ghost content = { λ disk. [] };
+
+    ghost image = { λ disk c. ⊥ };
+
+    ghost moment = { λ disk. 0 };
+
+    ghost image_since = { λ disk t c. ⊥ };
+
+    ghost faults = { λ disk. disk.faults };
+
+    ghost reads_an_image = { λ disk told. absurd told };
+
+    ghost now_counts = { λ disk t c told le here. absurd told };
+
+    ghost only_now = { λ disk c told since. absurd told };
+
+    fn len(&mut self) -> Result<u64, Failed> {
+        let answer = self.length();
+        self.counted(answer)
+    }
+
+    fn read_at(&mut self, at: u64, into: &mut [u8]) -> Result<(), Failed> {
+        let answer = opened(self.runtime, self.path, &mut self.file).and_then(
+            |file| file.read_exact_at(into, at),
+        );
+        self.counted(answer)
+    }
+
+    fn write_at(&mut self, at: u64, bytes: &[u8]) -> Result<(), Failed> {
+        let answer = opened(self.runtime, self.path, &mut self.file).and_then(
+            |file| file.write_all_at(bytes, at),
+        );
+        self.counted(answer)
+    }
+
+    fn sync(&mut self) -> Result<(), Failed> {
+        let answer = self.flush();
+        self.counted(answer)
+    }
+}

@@ -1,0 +1,13 @@
+//! A disk in memory for tests: it keeps a record of its calls, fails where it is told to, and gives the images
+//! that a crash may leave.
+#![tactic(auto)]
+
+mod call;
+mod memory;
+mod pick;
+#[cfg(test)]
+mod tests;
+
+pub use call::Call;
+pub use memory::MemDisk;
+pub use pick::Pick;
