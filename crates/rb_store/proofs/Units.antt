@@ -1,5 +1,5 @@
 -- A file that grows by writes at its end.
-use Rattle.std.proofs.Common.{◌≡◌, ℕ, ◌+◌, ◌-◌, ◌*◌, ◌≤◌, List, [], ◌++◌, length, take, drop, replicate, ◌∙◌, ap, sym, arith, append_assoc, length-append}
+use Rattle.std.proofs.Common.{◌≡◌, ℕ, ◌+◌, List, [], ◌++◌, length, take, drop, replicate, ◌∙◌, ap, sym, arith, append_assoc, length-append}
 use Rattle.std.proofs.Math.Seq.{take-length}
 use Rattle.std.proofs.lemmas.List.{drop_all, nil_from_length, append-nil, length-replicate, replicate-append-replicate}
 use Rattle.rb_base.specs.Fields.{overwritten}

@@ -1,4 +1,4 @@
-use Rattle.std.proofs.Common.{◌≡◌, ◌+◌, ◌-◌, ◌*◌, ◌∙◌, arith}
+use Rattle.std.proofs.Common.{◌+◌, ◌-◌, ◌*◌, ◌∙◌, arith}
 use Rattle.rb_store.proofs.Units.{first_written, length_so_far, zeros_written}
 use Rattle.rb_store.proofs.fresh.write_units.Goals as goal
 
