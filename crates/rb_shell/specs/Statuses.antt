@@ -1,0 +1,38 @@
+-- The numbers and names of the ends of a run.
+use Rattle.std.specs.Prelude.{ℕ, List, codes}
+use Rattle.rb_shell.specs.declared.status.Status.{Status}
+use Rattle.rb_shell.specs.declared.status.Status.TheVariants.{Done, Usage, SourceFault, DiskFault, SinkFault, NotAStore, NoMemory, NotEmpty, TooLong}
+
+abbrev pub status_code : Status → ℕ
+status_code Done = 0
+status_code Usage = 1
+status_code SourceFault = 2
+status_code DiskFault = 3
+status_code SinkFault = 4
+status_code NotAStore = 5
+status_code NoMemory = 6
+status_code NotEmpty = 7
+status_code TooLong = 8
+
+abbrev pub status_name : Status → List ℕ
+status_name Done = codes "Done"
+status_name Usage = codes "Usage"
+status_name SourceFault = codes "SourceFault"
+status_name DiskFault = codes "DiskFault"
+status_name SinkFault = codes "SinkFault"
+status_name NotAStore = codes "NotAStore"
+status_name NoMemory = codes "NoMemory"
+status_name NotEmpty = codes "NotEmpty"
+status_name TooLong = codes "TooLong"
+
+-- how a command that makes a file ends
+abbrev pub EndsFormat : Status → Type 0
+EndsFormat Done = Unit {0}
+EndsFormat DiskFault = Unit {0}
+EndsFormat NotEmpty = Unit {0}
+EndsFormat Usage = ⊥
+EndsFormat SourceFault = ⊥
+EndsFormat SinkFault = ⊥
+EndsFormat NotAStore = ⊥
+EndsFormat NoMemory = ⊥
+EndsFormat TooLong = ⊥

@@ -1,0 +1,77 @@
+//! `format`: writes a new file of a layout. The shell calls it for the command of that name.
+ghost use Rattle.std.specs.Prelude.{◌≡◌, ◌+◌, ◌-◌, ◌<◌, ◌≤◌, ◌++◌, length, replicate, OnOk, OnErr, IsErrOf};
+ghost use Rattle.rb_base.specs.Counts.{IsCounted, Rose};
+ghost use Rattle.rb_disk.specs.DiskModel.{Only};
+ghost use Rattle.rb_disk.specs.Moments.{Rests};
+ghost use Rattle.rb_layout.specs.Regions.{identity, fresh_file};
+
+use rb_base::{Failed, UNIT};
+use rb_disk::Disk;
+use rb_layout::{Layout, VERSION};
+use thiserror::Error;
+
+/// Why a file wasn't made.
+#[derive(Clone, Copy, Debug, PartialEq, Eq, Error)]
+pub enum FormatFault {
+    /// A call of the disk failed.
+    #[error("a call of the disk failed")]
+    Failed,
+    /// The file has bytes already.
+    #[error("the file isn't empty")]
+    NotEmpty,
+}
+
+/// Makes the empty file of the disk a new file of this layout: writes its units in order and syncs. After an
+/// Ok a crash leaves that file whole. A file that has bytes stays as it is.
+pub fn format<D: Disk>(disk: &mut D, layout: &Layout) -> Result<(), FormatFault>
+    ensures done { D.tells → OnOk result (D.content disk.new ≡ fresh_file VERSION layout.now) }
+    ensures durable { D.tells → OnOk result (Only (fresh_file VERSION layout.now) (D.image disk.new)) }
+    ensures was_empty { D.tells → OnOk result (length (D.content disk.old) ≡ 0) }
+    ensures not_empty { D.tells → IsErrOf result FormatFault.NotEmpty → 0 < length (D.content disk.old) }
+    ensures unchanged { D.tells → 0 < length (D.content disk.old) → Rests D.content D.image D.moment D.image_since disk.old disk.new }
+    ensures failed { IsErrOf result FormatFault.Failed → Rose (D.faults disk.old) (D.faults disk.new) }
+    ensures counted { D.faults disk.old ≤ D.faults disk.new }
+{
+    let Ok(length) = disk.len() else {
+        return Err(FormatFault::Failed);
+    };
+    if length > 0 {
+        return Err(FormatFault::NotEmpty);
+    }
+    let Ok(()) = write_units(disk, layout) else {
+        return Err(FormatFault::Failed);
+    };
+    let Ok(()) = disk.sync() else {
+        return Err(FormatFault::Failed);
+    };
+    Ok(())
+}
+
+// Writes all units of a new file into an empty one, in order.
+fn write_units<D: Disk>(disk: &mut D, layout: &Layout) -> Result<(), Failed>
+    requires { D.tells → length (D.content disk.old) ≡ 0 }
+    ensures written { D.tells → OnOk result (D.content disk.new ≡ fresh_file VERSION layout.now) }
+    ensures counted { IsCounted (D.faults disk.old) (D.faults disk.new) result }
+{
+    disk.write_at(0, &first_unit(layout))?;
+    let empty = empty_unit();
+    for unit in 1..layout.length() / UNIT as u64 {
+        disk.write_at(unit * UNIT as u64, &empty)?;
+    }
+    Ok(())
+}
+
+// The unit that says what the file is.
+fn first_unit(layout: &Layout) -> [u8; UNIT]
+    ensures { result ≡ identity VERSION layout.now ++ replicate 2024 0 }
+{
+    let mut unit = empty_unit();
+    layout.put_identity(&mut unit);
+    unit
+}
+
+fn empty_unit() -> [u8; UNIT]
+    ensures { result ≡ replicate 2048 0 }
+{
+    [0; UNIT]
+}
