@@ -94,11 +94,13 @@ impl<D: Disk> FirstEngine<D> {
     {
         let length = write_record(self.state.own(), &mut self.buffer);
         self.log.append(&self.buffer[..length]);
-        if self.log.flush(&mut self.disk).is_err() {
-            self.state.stop();
-            return Err(Refusal::DiskFault);
+        match self.log.flush(&mut self.disk) {
+            Ok(()) => Ok(Some(self.state.commit())),
+            Err(_) => {
+                self.state.stop();
+                Err(Refusal::DiskFault)
+            }
         }
-        Ok(Some(self.state.commit()))
     }
 
     /// Opens a cursor over the rows as the session sees them now.

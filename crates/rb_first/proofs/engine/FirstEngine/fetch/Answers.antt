@@ -12,4 +12,4 @@ invariant_of-self g c =
       c.self.invariant.1, λ told going. c.self.invariant.2 told (sym c.fetch.ensures.stopped ∙ going))
 
 pub returns-clause-answer : goal.returns-clause-answer
-returns-clause-answer g c = λ room. c.fetch.ensures.answer room ∙ ap (λ (e : Engine g.row.D). expected e.state room (call.Fetch c.args.s (name_text c.args.name.now))) c.self.view_is
+returns-clause-answer g c = λ room. c.fetch.ensures.answer room ∙ ap (λ h. expected h room (call.Fetch c.args.s (name_text c.args.name.now))) (ap (λ e. e.state) c.self.view_is)

@@ -12,4 +12,4 @@ invariant_of-self g c =
       c.self.invariant.1, λ told going. c.self.invariant.2 told (sym c.insert.ensures.stopped ∙ going))
 
 pub returns-clause-answer : goal.returns-clause-answer
-returns-clause-answer g c = λ room. c.insert.ensures.answer room ∙ ap (λ (e : Engine g.row.D). expected e.state room (call.Insert c.args.s c.args.table c.args.key c.args.value.now)) c.self.view_is
+returns-clause-answer g c = λ room. c.insert.ensures.answer room ∙ ap (λ h. expected h room (call.Insert c.args.s c.args.table c.args.key c.args.value.now)) (ap (λ e. e.state) c.self.view_is)
