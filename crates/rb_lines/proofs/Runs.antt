@@ -1,0 +1,106 @@
+-- What a machine did with lines, one piece after another.
+use Rattle.std.proofs.Common.{◌≡◌, ℕ, ◌+◌, true, false, List, [], ◌∷◌, ◌++◌, length, take, min, Result, Ok, Err, refl, sym, ◌∙◌, ap, subst, arith, append_assoc, append-nil}
+use Rattle.std.proofs.lemmas.List.{take-append-le, take_min}
+use Rattle.std.specs.Prelude.{OnOk, IsErrOf}
+use Rattle.std.proofs.Math.Seq.{take-append-add}
+use Rattle.rb_model.specs.State.{State}
+use Rattle.rb_model.specs.Out.{Out}
+use Rattle.rb_lines.specs.declared.machine.StepFault.{StepFault}
+use Rattle.rb_lines.specs.declared.machine.StepFault.TheVariants.{Disk, Sink}
+use Rattle.rb_lines.specs.Ran.{LineRan, LineCutOff, Ran, CutOff, RanAs}
+use Rattle.rb_lines.proofs.Outs.{front_out, one_out, append_out, stopped_out}
+
+-- no line
+pub ran_none : (slots : ℕ) (h : State) (tells : Type 0) (held : List ℕ) → Ran slots h h [] tells held held
+ran_none slots h tells held = record { out = []; replies = (refl, refl); written = λ t. sym (append-nil held) }
+
+-- a line of which the machine had the front
+pub ran_one : (slots : ℕ) (h h2 : State) (line front : List ℕ) (tells : Type 0) (held held2 : List ℕ)
+    → front ≡ take 513 line → LineRan slots h h2 front tells held held2 → Ran slots h h2 (line ∷ []) tells held held2
+ran_one slots h h2 line front tells held held2 e r = record {
+  out = r.out;
+  replies = one_out h slots line r.out h2 (front_out h slots line front r.out h2 e r.reply);
+  written = r.written;
+}
+
+pub cut_one : (slots : ℕ) (h : State) (line front : List ℕ) (held held2 : List ℕ)
+    → front ≡ take 513 line → LineCutOff slots h front held held2 → CutOff slots h (line ∷ []) held held2
+cut_one slots h line front held held2 e r = record {
+  count = 1;
+  out = r.out;
+  state = r.state;
+  replies = one_out h slots line r.out r.state (front_out h slots line front r.out r.state e r.reply);
+  size = r.size;
+  written = r.written;
+}
+
+pub ran-append : (slots : ℕ) (h m h2 : State) (xs ys : List (List ℕ)) (tells : Type 0) (held held1 held2 : List ℕ)
+    → Ran slots h m xs tells held held1 → m.stopped ≡ false → Ran slots m h2 ys tells held1 held2
+    → Ran slots h h2 (xs ++ ys) tells held held2
+ran-append slots h m h2 xs ys tells held held1 held2 r going q = record {
+  out = r.out ++ q.out;
+  replies = append_out slots xs ys h m h2 r.out q.out r.replies going q.replies;
+  written = λ t. q.written t ∙ ap (λ (o : List ℕ). o ++ q.out) (r.written t) ∙ append_assoc held r.out q.out;
+}
+
+pub cut-append : (slots : ℕ) (h m : State) (xs ys : List (List ℕ)) (tells : Type 0) (held held1 held2 : List ℕ)
+    → Ran slots h m xs tells held held1 → m.stopped ≡ false → tells → CutOff slots m ys held1 held2
+    → CutOff slots h (xs ++ ys) held held2
+cut-append slots h m xs ys tells held held1 held2 r going t q = record {
+  count = length xs + q.count;
+  out = r.out ++ q.out;
+  state = q.state;
+  replies = subst (λ (ls : List (List ℕ)). Out h slots ls (r.out ++ q.out) q.state) (sym (take-append-add xs ys q.count))
+      (append_out slots xs (take q.count ys) h m q.state r.out q.out r.replies going q.replies);
+  size = length r.out + q.size;
+  written = q.written ∙ ap (λ (o : List ℕ). o ++ take q.size q.out) (r.written t) ∙ append_assoc held r.out (take q.size q.out)
+      ∙ ap (λ (o : List ℕ). held ++ o) (sym (take-append-add r.out q.out q.size));
+}
+
+pub cut_more : (slots : ℕ) (h : State) (xs ys : List (List ℕ)) (held held2 : List ℕ)
+    → CutOff slots h xs held held2 → CutOff slots h (xs ++ ys) held held2
+cut_more slots h xs ys held held2 r =
+    let same : take (min r.count (length xs)) (xs ++ ys) ≡ take r.count xs =
+    take-append-le (min r.count (length xs)) xs ys (omega arith) ∙ take_min r.count xs in
+    record {
+      count = min r.count (length xs);
+      out = r.out;
+      state = r.state;
+      replies = subst (λ (ls : List (List ℕ)). Out h slots ls r.out r.state) (sym same) r.replies;
+      size = r.size;
+      written = r.written;
+    }
+
+-- A step over the front of a line, as its clauses tell it.
+pub step_as : (slots : ℕ) (h h2 : State) (line front : List ℕ) (tells : Type 0) (held held2 : List ℕ) (result : Result (Unit {0}) StepFault)
+    → front ≡ take 513 line
+    → OnOk result (LineRan slots h h2 front tells held held2) → OnOk result (h2.stopped ≡ false)
+    → (IsErrOf result Disk → LineRan slots h h2 front tells held held2) → (IsErrOf result Disk → h2.stopped ≡ true)
+    → (IsErrOf result Sink → tells → LineCutOff slots h front held held2)
+    → RanAs slots h h2 (line ∷ []) tells held held2 result
+step_as slots h h2 line front tells held held2 (Ok done) e ran going disk stopped sink =
+    (ran_one slots h h2 line front tells held held2 e ran, going)
+step_as slots h h2 line front tells held held2 (Err Disk) e ran going disk stopped sink =
+    (ran_one slots h h2 line front tells held held2 e (disk refl), stopped refl)
+step_as slots h h2 line front tells held held2 (Err Sink) e ran going disk stopped sink =
+    λ t. cut_one slots h line front held held2 e (sink refl t)
+
+-- lines that were done, and then more of them
+pub as-append : (slots : ℕ) (h m h2 : State) (xs ys : List (List ℕ)) (tells : Type 0) (held held1 held2 : List ℕ) (result : Result (Unit {0}) StepFault)
+    → Ran slots h m xs tells held held1 → m.stopped ≡ false → RanAs slots m h2 ys tells held1 held2 result
+    → RanAs slots h h2 (xs ++ ys) tells held held2 result
+as-append slots h m h2 xs ys tells held held1 held2 (Ok done) r going q =
+    (ran-append slots h m h2 xs ys tells held held1 held2 r going q.0, q.1)
+as-append slots h m h2 xs ys tells held held1 held2 (Err Disk) r going q =
+    (ran-append slots h m h2 xs ys tells held held1 held2 r going q.0, q.1)
+as-append slots h m h2 xs ys tells held held1 held2 (Err Sink) r going q =
+    λ t. cut-append slots h m xs ys tells held held1 held2 r going t (q t)
+
+-- a fault, and then lines that were not begun
+pub as_more : (slots : ℕ) (h h2 : State) (xs ys : List (List ℕ)) (tells : Type 0) (held held2 : List ℕ) (fault : StepFault)
+    → h.stopped ≡ false → RanAs slots h h2 xs tells held held2 (Err fault) → RanAs slots h h2 (xs ++ ys) tells held held2 (Err fault)
+as_more slots h h2 xs ys tells held held2 Disk going q =
+    let more : Ran slots h h2 (xs ++ ys) tells held held2 =
+    record { out = q.0.out; replies = stopped_out slots xs ys h h2 q.0.out going q.0.replies q.1; written = q.0.written } in
+    (more, q.1)
+as_more slots h h2 xs ys tells held held2 Sink going q = λ t. cut_more slots h xs ys held held2 (q t)

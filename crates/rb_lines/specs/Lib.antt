@@ -1,0 +1,4 @@
+pub mod Ends
+pub mod Pieces
+pub mod Ran
+pub mod Whole

@@ -1,0 +1,58 @@
+//! `Machine`: what does a line. The shell implements it over an engine, and `run_lines` calls it.
+ghost use Rattle.std.specs.Prelude.{ℕ, ◌≡◌, ◌≤◌, false, true, OnOk, IsErrOf};
+ghost use Rattle.rb_base.specs.Counts.{Rose};
+ghost use Rattle.rb_model.specs.State.{State};
+ghost use Rattle.rb_lines.specs.Ran.{LineRan, LineCutOff};
+
+use rb_stream::Sink;
+use thiserror::Error;
+
+/// Why a line wasn't done to its end.
+#[derive(Clone, Copy, Debug, PartialEq, Eq, Error)]
+pub enum StepFault {
+    /// A call of the machine's disk failed.
+    #[error("a call of the disk failed")]
+    Disk,
+    /// A put to the sink failed.
+    #[error("a call of the sink failed")]
+    Sink,
+}
+
+/// What does lines.
+pub trait Machine {
+    /// Its state.
+    ghost state: { Self → State };
+
+    /// How many slots its log has.
+    ghost slots: { Self → ℕ };
+
+    /// How often its disk has failed, up to 2^64 - 1.
+    ghost faults: { Self → ℕ };
+
+    /// What a step needs of it.
+    ghost ready: { Self → Type 0 };
+
+    /// Does one line and puts its replies. The line comes without its LF. Of a line of more than 512 bytes any
+    /// 513 or more of its first bytes serve.
+    fn step<K: Sink>(&mut self, line: &[u8], sink: &mut K) -> Result<(), StepFault>
+        requires ready { ready self.old }
+        requires going { (state self.old).stopped ≡ false }
+        ensures ready { OnOk result (ready self.new) }
+        ensures going { OnOk result ((state self.new).stopped ≡ false) }
+        ensures done { OnOk result
+            (LineRan (slots self.old) (state self.old) (state self.new) line.now K.tells (K.held sink.old) (K.held sink.new)) }
+
+        // A fault of the disk is the line's last reply, and the machine stops.
+        ensures disk_done { IsErrOf result StepFault.Disk →
+            LineRan (slots self.old) (state self.old) (state self.new) line.now K.tells (K.held sink.old) (K.held sink.new) }
+        ensures stopped { IsErrOf result StepFault.Disk → (state self.new).stopped ≡ true }
+
+        // A fault of the sink cuts the replies off.
+        ensures cut_off { IsErrOf result StepFault.Sink → K.tells →
+            LineCutOff (slots self.old) (state self.old) line.now (K.held sink.old) (K.held sink.new) }
+        ensures slots { slots self.new ≡ slots self.old }
+        ensures disk { IsErrOf result StepFault.Disk → Rose (faults self.old) (faults self.new) }
+        ensures sink { IsErrOf result StepFault.Sink → Rose (K.faults sink.old) (K.faults sink.new) }
+        ensures counted { faults self.old ≤ faults self.new }
+        ensures sink_counted { K.faults sink.old ≤ K.faults sink.new };
+}
