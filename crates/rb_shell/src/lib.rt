@@ -4,6 +4,7 @@
 
 mod command;
 mod status;
+mod step;
 mod words;
 
 pub use command::run;

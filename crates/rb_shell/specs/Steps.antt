@@ -1,0 +1,92 @@
+-- What a step of the shell writes and leaves.
+use Rattle.std.specs.Prelude.{◌≡◌, ℕ, ◌+◌, Bool, true, false, List, ◌++◌, take, Result, Ok, Err}
+use Rattle.rb_model.specs.State.{State}
+use Rattle.rb_model.specs.Lines.{reply_text}
+use Rattle.rb_model.specs.Out.{room, is_given, FetchOut}
+use Rattle.rb_model.specs.Reply.{Answer, Done, Waits, Numbered, Given, End, Refused, Fetch, after}
+use Rattle.rb_model.specs.Reply as call
+use Rattle.rb_model.specs.declared.refusal.Refusal.{Refusal}
+use Rattle.rb_model.specs.declared.refusal.Refusal.TheVariants.{NoSession, NoTable, ValueTooLong, Duplicate, NoCursor, CursorThere, TooManyCursors, DiskFault, Stopped, LogFull}
+use Rattle.rb_lines.specs.declared.machine.StepFault.{StepFault}
+use Rattle.rb_lines.specs.declared.machine.StepFault.TheVariants.{Disk, Sink}
+use Rattle.rb_script.specs.declared.reply.Reply.{Reply}
+use Rattle.rb_script.specs.declared.reply.Reply.TheVariants as replies
+
+abbrev pub is_disk_fault : Refusal → Bool
+is_disk_fault DiskFault = true
+is_disk_fault NoSession = false
+is_disk_fault NoTable = false
+is_disk_fault ValueTooLong = false
+is_disk_fault Duplicate = false
+is_disk_fault NoCursor = false
+is_disk_fault CursorThere = false
+is_disk_fault TooManyCursors = false
+is_disk_fault Stopped = false
+is_disk_fault LogFull = false
+
+-- the answer tells of a fault of the disk
+abbrev pub is_fault : Answer → Bool
+is_fault Done = false
+is_fault (Waits on) = false
+is_fault (Numbered n) = false
+is_fault (Given key value) = false
+is_fault End = false
+is_fault (Refused why) = is_disk_fault why
+
+-- so does the reply
+abbrev pub tells_fault : Reply → Bool
+tells_fault (replies.Done s) = false
+tells_fault (replies.Committed s number) = false
+tells_fault (replies.Row s key value) = false
+tells_fault (replies.End s) = false
+tells_fault (replies.Waits s on) = false
+tells_fault (replies.Refused s why) = is_disk_fault why
+tells_fault replies.BadLine = false
+
+-- A text was put: whole, or a front of it where the sink failed. A reply that tells of a fault of the disk ends
+-- the step with that fault.
+abbrev pub Told : List ℕ → Bool → Type 0 → List ℕ → List ℕ → Result (Unit {0}) StepFault → Type 0
+Told text fault tells before now (Ok done) = (fault ≡ false) × (tells → now ≡ before ++ text)
+Told text fault tells before now (Err Disk) = (fault ≡ true) × (tells → now ≡ before ++ text)
+Told text fault tells before now (Err Sink) = tells → (n : ℕ) × (now ≡ before ++ take n text)
+
+-- replies as a relation allows them, the state after them, and that the sink holds them then, where it tells
+pub record Replied (allows : List ℕ → State → Type 0) (state : State) (tells : Type 0) (before now : List ℕ) : Type 0 where
+  pub out : List ℕ
+  pub reply : allows out state
+  pub written : tells → now ≡ before ++ out
+
+-- a front of replies as a relation allows them
+pub record CutShort (allows : List ℕ → State → Type 0) (before now : List ℕ) : Type 0 where
+  pub out : List ℕ
+  pub state : State
+  pub reply : allows out state
+  pub size : ℕ
+  pub written : now ≡ before ++ take size out
+
+-- What a step did, by its result: at a fault of the disk the replies end with it and the state is stopped.
+abbrev pub Steps : (List ℕ → State → Type 0) → State → Type 0 → List ℕ → List ℕ → Result (Unit {0}) StepFault → Type 0
+Steps allows state tells before now (Ok done) = Replied allows state tells before now × (state.stopped ≡ false)
+Steps allows state tells before now (Err Disk) = Replied allows state tells before now × (state.stopped ≡ true)
+Steps allows state tells before now (Err Sink) = tells → CutShort allows before now
+
+-- one fetch and its reply line
+pub record FetchOnce (h : State) (slots s : ℕ) (name : List ℕ) (gave : Bool) (out : List ℕ) (h2 : State) : Type 0 where
+  pub answer : Answer
+  pub reply : call.Reply h (room slots h) (Fetch s name) answer
+  pub gives : is_given answer ≡ gave
+  pub text : out ≡ reply_text s answer
+  pub state : h2 ≡ after h (Fetch s name) answer
+
+-- What one fetch did, by its result: whether it gave a row.
+abbrev pub FetchSteps : State → ℕ → ℕ → List ℕ → State → Type 0 → List ℕ → List ℕ → Result Bool StepFault → Type 0
+FetchSteps h slots s name state tells before now (Ok gave) = Replied (FetchOnce h slots s name gave) state tells before now × (state.stopped ≡ false)
+FetchSteps h slots s name state tells before now (Err Disk) = Replied (FetchOnce h slots s name false) state tells before now × (state.stopped ≡ true)
+FetchSteps h slots s name state tells before now (Err Sink) = tells → (gave : Bool) × CutShort (FetchOnce h slots s name gave) before now
+
+-- After so many fetches that each gave a row: what goes on from here goes on from the start.
+pub record FetchedSoFar (start : State) (slots s : ℕ) (name : List ℕ) (count : ℕ) (h : State) (tells : Type 0) (before now : List ℕ) : Type 0 where
+  pub out : List ℕ
+  pub goes_on : (more : ℕ) (rest : List ℕ) (h2 : State) → FetchOut h slots s name more rest h2 → FetchOut start slots s name (count + more) (out ++ rest) h2
+  pub written : tells → now ≡ before ++ out
+  pub going : h.stopped ≡ false
