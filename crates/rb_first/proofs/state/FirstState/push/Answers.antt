@@ -1,7 +1,7 @@
 use Rattle.std.proofs.Common.{◌≡◌, ℕ, ◌+◌, ◌*◌, ◌<◌, ◌≤◌, List, ◌++◌, ◌∷◌, [], length, drop, arith, sym, ◌∙◌, ap, subst, length-append}
 use Rattle.std.proofs.lemmas.List.{drop-append-le, map_push}
 use Rattle.std.specs.Vec.{vec_len, vec_capacity}
-use Rattle.rb_model.specs.State.{session_of}
+use Rattle.rb_model.specs.State.{State, session_of}
 use Rattle.rb_model.specs.Reply.{record_length, with_own}
 use Rattle.rb_record.specs.declared.put.Put.{Put}
 use Rattle.rb_record.specs.Puts.{changes_of, change_of}
@@ -40,3 +40,6 @@ returns-clause-own c =
     ∙ ap changes_of (drop-append-le (last_end a.base_length a.ends.items) a.changes.items (c.args.change ∷ []) c.self.invariant.within)
     ∙ map_push change_of (drop (last_end a.base_length a.ends.items) a.changes.items) c.args.change
     ∙ ap (λ (k : Kept). (session_of k.state 1).own ++ change_of c.args.change ∷ []) c.self.view_is
+
+pub returns-clause-commits : goal.returns-clause-commits
+returns-clause-commits c = ap (λ (h : State). h.commits) (returns-clause-state c)
