@@ -1,12 +1,12 @@
 -- What an opening has read so far of a file's log.
-use Rattle.std.proofs.Common.{true, ◌≡◌, ℕ, ◌+◌, ◌<◌, List, [], ◌∷◌, ◌++◌, length, map, refl, arith, ap, sym, ◌∙◌, subst, inl, inr, ⊎_elim, false, append_assoc, length-append, slice_index}
+use Rattle.std.proofs.Common.{true, ◌≡◌, ℕ, ◌+◌, ◌<◌, List, [], ◌∷◌, ◌++◌, length, map, refl, arith, ap, sym, ◌∙◌, subst, ⊎_elim, false, append_assoc, length-append, slice_index}
 use Rattle.std.proofs.lemmas.List.{map_push, length-map, append-nil}
 use Rattle.std.specs.List.{AllByRecursion, flat_map}
 use Rattle.rb_base.specs.declared.ids.Shape.{Shape}
 use Rattle.rb_model.specs.Change.{Change}
-use Rattle.rb_model.specs.Rows.{over, TableRow}
+use Rattle.rb_model.specs.Rows.{over}
 use Rattle.rb_model.specs.State.{State, opened, found_more, session_of}
-use Rattle.rb_log.specs.Slots.{slot_at, HasBody, HoldsRecord, LogIs, IsFaulty}
+use Rattle.rb_log.specs.Slots.{slot_at, HoldsRecord, LogIs, IsFaulty}
 use Rattle.rb_log.specs.SlotLaws.{BeginsWith, begins_more, begins_end, one_record, faulty_none}
 use Rattle.rb_record.specs.Records.{record_bytes, IsRecord}
 use Rattle.rb_layout.specs.declared.layout.Layout.{Layout}
@@ -49,7 +49,7 @@ pub opened-push : (shape : Shape) (records : List (List Change)) (changes : List
     → found_more h ≡ opened shape (records ++ changes ∷ [])
 opened-push shape records changes h s c o f =
     let rows : over shape.blocks [] (flat_map (λ (x : List Change). x) (records ++ changes ∷ [])) ≡ over shape.blocks (over shape.blocks [] (flat_map (λ (x : List Change). x) records)) changes =
-        ap (over shape.blocks []) (flat-push records changes) ∙ over-append shape.blocks [] (flat_map (λ (x : List Change). x) records) changes in
+    ap (over shape.blocks []) (flat-push records changes) ∙ over-append shape.blocks [] (flat_map (λ (x : List Change). x) records) changes in
     let count : length (records ++ changes ∷ []) ≡ length records + 1 = length-append records (changes ∷ []) in
     rw (s, c, o, f, rows, count) refl
 
@@ -81,12 +81,12 @@ gate_none told l file h log read t faulty others is =
 -- the end of the log
 pub read_all : (told : Type 0) (l : Layout) (file : List ℕ) (h : State) (log new : LogState) → HasRead told l file h log → new ≡ record log { scanned = true } → (told → LogIs log.layout.log file log.used []) → HasReadAll told l file h new
 read_all told l file h log new read is ended = record {
-    records = read.records;
-    opening = read.opening;
-    each = read.each;
-    log_is = is ∙ ap (λ (x : LogState). record x { scanned = true }) read.log_is;
-    whole = λ t. begins_end l.log file 0 (length read.records) (map record_bytes read.records) (counted (length read.records) read.records refl) (read.begins t) (subst (λ (x : LogState). LogIs x.layout.log file x.used []) read.log_is (ended t));
-  }
+  records = read.records;
+  opening = read.opening;
+  each = read.each;
+  log_is = is ∙ ap (λ (x : LogState). record x { scanned = true }) read.log_is;
+  whole = λ t. begins_end l.log file 0 (length read.records) (map record_bytes read.records) (counted (length read.records) read.records refl) (read.begins t) (subst (λ (x : LogState). LogIs x.layout.log file x.used []) read.log_is (ended t));
+}
 
 -- one record more
 pub read_one : (told : Type 0) (l : Layout) (file : List ℕ) (old new : Kept) (final : State) (log log_new : LogState) (bytes : List ℕ) → HasRead told l file old.state log → KeepsOthers old new → final ≡ found_more new.state

@@ -178,6 +178,7 @@ impl<D: Disk> FirstEngine<D> {
     /// disk back: NotAStore where the file is no store of this form, Failed where a call of the disk failed.
     pub fn open(alloc: Global, disk: D) -> Result<FirstEngine<D>, (OpenFault, D)>
         ensures found { D.tells → IfOk result (λ e. (records : List (List Change)) × IsStore e.layout records (D.content disk) × (e.state ≡ opened (shape_of e.layout) records)) }
+        ensures opened { IfOk result (λ e. (records : List (List Change)) × AllByRecursion (IsRecord e.layout.tables) records × (e.state ≡ opened (shape_of e.layout) records)) }
         ensures going { IfOk result (λ e. e.state.stopped ≡ false) }
         ensures none { D.tells → IfErr result (λ r. r.0 ≡ OpenFault.NotAStore → (l : Layout) (records : List (List Change)) → IsStore l records (D.content disk) → ⊥) }
         ensures failed { IfErr result (λ r. r.0 ≡ OpenFault.Failed → Rose (D.faults disk) (D.faults r.1)) }

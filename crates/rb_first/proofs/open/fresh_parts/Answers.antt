@@ -5,10 +5,10 @@ use Rattle.rb_first.proofs.open.fresh_parts.Goals as goal
 
 pub returns-clause-read : goal.returns-clause-read
 returns-clause-read g c = λ file. record {
-    records = [];
-    opening = c.in-Ok.ensures.state ∙ ap (λ (s : Shape). opened s []) c.shape.ensures;
-    each = tt;
-    log_is = c.in_ok-log.ensures.opened;
-    room = omega (arith, c.args.layout.few_slots.0);
-    begins = λ t. tt;
-  }
+  records = [];
+  opening = c.in-Ok.ensures.state ∙ ap (λ (s : Shape). opened s []) c.shape.ensures;
+  each = tt;
+  log_is = c.in_ok-log.ensures.opened;
+  room = omega (arith, c.args.layout.few_slots.0);
+  begins = λ t. tt;
+}

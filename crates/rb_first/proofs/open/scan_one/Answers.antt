@@ -1,11 +1,9 @@
-use Rattle.std.proofs.Common.{◌≡◌, ◌+◌, ◌≢◌, ℕ, List, length, take, arith, ap, sym, ◌∙◌, subst, refl, [], ◌<◌, IfSome, IfNone}
+use Rattle.std.proofs.Common.{◌≡◌, ◌+◌, ℕ, length, take, arith, ap, subst, refl, [], ◌<◌, IfSome, IfNone}
 use Rattle.std.proofs.lemmas.Result.{err_from_is_err_and}
 use Rattle.rb_log.specs.LogState.{LogState}
-use Rattle.rb_log.specs.Slots.{slot_at, HoldsRecord, LogIs, IsFaulty}
-use Rattle.rb_model.specs.Change.{Change}
+use Rattle.rb_log.specs.Slots.{slot_at, HoldsRecord, LogIs}
 use Rattle.rb_model.specs.Rows.{last_number}
 use Rattle.rb_model.specs.State.{State}
-use Rattle.rb_record.specs.Records.{record_bytes, IsRecord}
 use Rattle.rb_first.proofs.OpenLemmas.{gate_none, read_all, read_one, stuck_none}
 use Rattle.rb_first.proofs.open.scan_one.Goals as goal
 
