@@ -2,3 +2,4 @@ pub mod Engine
 pub mod Kept
 pub mod Next
 pub mod Others
+pub mod Store

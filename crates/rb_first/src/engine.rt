@@ -24,11 +24,11 @@ use std::marker::Model;
 /// again.
 #[derive(Drop)]
 pub struct FirstEngine<D: Disk> {
-    state: FirstState,
-    log: Log,
-    layout: Layout,
-    buffer: Vec<u8>,
-    disk: D,
+    pub(crate) state: FirstState,
+    pub(crate) log: Log,
+    pub(crate) layout: Layout,
+    pub(crate) buffer: Vec<u8>,
+    pub(crate) disk: D,
 }
 
 impl<D: Disk> Model for FirstEngine<D> {

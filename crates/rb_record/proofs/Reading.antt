@@ -1,15 +1,15 @@
 -- What the bytes at the front of a record say, and how far its reader has come.
-use Rattle.std.proofs.Common.{◌≡◌, ◌≢◌, ℕ, ◌+◌, ◌^◌, ◌<◌, ◌≤◌, List, [], ◌∷◌, ◌++◌, length, take, drop, refl, arith, ap, sym, ◌∙◌, subst, append_assoc, get_or, inl, inr}
+use Rattle.std.proofs.Common.{◌≡◌, ◌≢◌, ℕ, ◌+◌, ◌^◌, ◌<◌, ◌≤◌, List, [], ◌∷◌, ◌++◌, length, take, drop, refl, arith, ap, sym, ◌∙◌, append_assoc, get_or, inl, inr}
 use Rattle.std.proofs.lemmas.Bool.{cases_lt}
 use Rattle.std.proofs.lemmas.List.{length-append, length-drop, length-take-le, take-append-drop, get_or_append_left, get_or_past, get_or-drop, drop-drop, drop_more, flat_map_more}
 use Rattle.std.proofs.lemmas.Nat.{be_bytes_2, be_bytes_8}
 use Rattle.std.specs.List.{flat_map, AllByRecursion}
 use Rattle.byteorder.specs.Endian.{big_bytes, big_number}
-use Rattle.byteorder.specs.Numbers.{big_number-reads_back, big_from-take}
+use Rattle.byteorder.specs.Numbers.{big_from-take}
 use Rattle.rb_base.specs.Fields.{number_at}
-use Rattle.rb_model.specs.Change.{Change, Kind, Put, Gone, Held, put}
+use Rattle.rb_model.specs.Change.{Change, put}
 use Rattle.rb_model.specs.Reply.{record_length}
-use Rattle.rb_record.specs.Records.{kind_bytes, change_bytes, record_bytes, IsShortValue, IsChange, IsRecord}
+use Rattle.rb_record.specs.Records.{change_bytes, record_bytes, IsChange, IsRecord}
 use Rattle.rb_record.proofs.Spelling.{GoesOn, goes_on, length-changes, count_of_record, none_more}
 
 abbrev pub IsBytes : List ℕ → Type 0
@@ -67,32 +67,6 @@ change_found bytes table key count value rest fits long count-is within table-is
     ∙ ap (λ (x : ℕ). spelled table x (get_or bytes 10 0) (drop 11 bytes)) (sym key-is)
     ∙ ap (λ (x : ℕ). spelled table key x (drop 11 bytes)) (sym count-is ∙ length-is)
     ∙ ap (λ (x : List ℕ). spelled table key (length value) x) behind
-
--- what stands in the first bytes of a change in order
-pub record Parts (tables : ℕ) (bytes : List ℕ) : Type 0 where
-  pub some_table : 1 ≤ number_at bytes 0 2
-  pub within_tables : number_at bytes 0 2 ≤ tables
-  pub short_value : get_or bytes 10 0 ≤ 80
-  pub long : 11 + get_or bytes 10 0 ≤ length bytes
-
-kind_parts : (kind : Kind) (rest : List ℕ) → IsShortValue kind → (get_or (kind_bytes kind ++ rest) 0 0 ≤ 80) × (1 + get_or (kind_bytes kind ++ rest) 0 0 ≤ length (kind_bytes kind ++ rest))
-kind_parts (Put value) rest h = (h, omega (arith, length-append value rest))
-kind_parts Gone rest h = absurd h
-kind_parts Held rest h = absurd h
-
-parts : (tables : ℕ) (change : Change) (rest : List ℕ) → tables < 2 ^ 16 → IsChange tables change → Parts tables (change_bytes change ++ rest)
-parts tables change rest few h =
-    let table : number_at (change_bytes change ++ rest) 0 2 ≡ change.table = big_number-reads_back 2 change.table (big_bytes 8 change.key ++ (kind_bytes change.kind ++ rest)) (omega (arith, h.within_tables)) in
-    let kind = kind_parts change.kind rest h.short_value in
-    record {
-      some_table = rw table h.some_table;
-      within_tables = rw table h.within_tables;
-      short_value = kind.0;
-      long = omega (arith, kind.1);
-    }
-
-pub parts_of : (tables : ℕ) (bytes : List ℕ) (change : Change) (rest : List ℕ) → tables < 2 ^ 16 → IsChange tables change → bytes ≡ change_bytes change ++ rest → Parts tables bytes
-parts_of tables bytes change rest few h e = subst (Parts tables) (sym e) (parts tables change rest few h)
 
 -- how far the reader has come: these changes stand behind the number of them, and then the rest
 pub record IsFront (tables count : ℕ) (bytes : List ℕ) (index : ℕ) (held : List Change) (rest : List ℕ) : Type 0 where

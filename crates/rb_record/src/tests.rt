@@ -21,6 +21,7 @@ impl Takes for Taken {
     ghost others = { λ earlier later. vec_capacity later.changes ≡ vec_capacity earlier.changes };
 
     fn take(&mut self, change: Put) {
+        let _ = self.changes.as_slice();
         self.changes.push_reserved(change);
     }
 
