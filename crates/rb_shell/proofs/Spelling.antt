@@ -154,5 +154,5 @@ same_run words m n asked also =
 pub not_both : (words : List (String Global)) (l : Layout) (n : ℕ) → IsFormat words l → IsRun words n → ⊥
 not_both words l n asked also =
     let both : format_words asked.file l ≡ run_words also.file n = (sym asked.spelled ∙ also.spelled) in
-    let heads : 102 ≡ 114 = cc in
+    let heads : ◌≡◌ {A = ℕ} 102 114 = cc in
     absurd (omega (arith, heads))
