@@ -1,5 +1,5 @@
 -- What the machine sees of the memory, before and after each change of it.
-use Rattle.std.proofs.Common.{◌≡◌, ℕ, zero, suc, ◌+◌, ◌-◌, ◌*◌, ◌<◌, ◌≤◌, Bool, true, false, List, [], ◌∷◌, ◌++◌, length, take, drop, map, refl, arith, ap, sym, ◌∙◌, subst, append_assoc, sum_by, Option, None, Some, find, set, get_or, cond, nat_le, nat_lt}
+use Rattle.std.proofs.Common.{◌≡◌, ◌≢◌, ℕ, zero, suc, ◌+◌, ◌-◌, ◌*◌, ◌<◌, ◌≤◌, Bool, true, false, List, [], ◌∷◌, ◌++◌, length, take, drop, map, refl, arith, ap, sym, ◌∙◌, subst, append_assoc, sum_by, Option, None, Some, find, set, get_or, cond, nat_le, nat_lt}
 use Rattle.std.proofs.lemmas.List.{map-append, take-append-le, drop-append-le, take_all, drop_all, drop-drop, append-nil, length-append, length-map, take-take, map_push, take-append-drop, length-drop, take_rest}
 use Rattle.std.proofs.Math.Seq.{take-add}
 use Rattle.std.proofs.lemmas.List.Sums.{sum_by-append}
@@ -10,9 +10,10 @@ use Rattle.std.specs.List.{flat_map, AllByRecursion}
 use Rattle.rb_base.specs.declared.ids.Shape.{Shape}
 use Rattle.rb_model.specs.Change.{Change, put}
 use Rattle.rb_model.specs.Rows.{TableRow, Commits, over, rows_at, changed_by, has_row}
-use Rattle.rb_model.specs.State.{State, Session, Cursor, cursor_rows, session_of, with_session, with_taken}
-use Rattle.rb_model.specs.Reply.{rows_now, record_length, kind_length, with_own, with_cursors, committed, expected, first_of, Insert, Done, Refused}
-use Rattle.rb_model.specs.declared.refusal.Refusal.TheVariants.{Duplicate, LogFull}
+use Rattle.rb_model.specs.State.{State, Session, Cursor, cursor_rows, session_of, with_session, with_taken, found_more}
+use Rattle.rb_model.specs.Reply.{rows_now, record_length, kind_length, with_own, with_cursors, committed, expected, first_of, Insert, Done, Refused, after_refusal}
+use Rattle.rb_model.specs.declared.refusal.Refusal.{Refusal}
+use Rattle.rb_model.specs.declared.refusal.Refusal.TheVariants.{NoSession, NoTable, ValueTooLong, Duplicate, NoCursor, CursorThere, TooManyCursors, DiskFault, Stopped, LogFull}
 use Rattle.rb_first.specs.declared.cursor.OpenCursor.{OpenCursor}
 use Rattle.rb_first.specs.declared.put.Put.{Put}
 use Rattle.rb_first.specs.Puts.{changes_of, change_of}
@@ -70,7 +71,7 @@ three s e f puts p q =
 -- the rows at a number, with the changes from its end on over them, are those that all these changes make
 pub rows_from : (blocks base base_length : ℕ) (ends : List ℕ) (puts : List Put) (n visible : ℕ) → Rising base_length ends → end_at base base_length ends n ≤ visible
     → over blocks (rows_at blocks (record { base = base; rows = rows_of blocks base_length puts; list = cut base_length ends puts }) n) (changes_of (drop (end_at base base_length ends n) (take visible puts)))
-      ≡ rows_of blocks visible puts
+    ≡ rows_of blocks visible puts
 rows_from blocks base base_length ends puts n visible r within =
     let e = end_at base base_length ends n in
     let low : base_length ≤ e = last_end_le base_length (take (n - base) ends) (rising_take (n - base) base_length ends r) in
@@ -78,8 +79,8 @@ rows_from blocks base base_length ends puts n visible r within =
     ∙ ap (λ rows. over blocks rows (changes_of (drop e (take visible puts)))) (sym (over-append blocks [] (changes_of (take base_length puts)) (changes_of (between base_length e puts))))
     ∙ sym (over-append blocks [] (changes_of (take base_length puts) ++ changes_of (between base_length e puts)) (changes_of (drop e (take visible puts))))
     ∙ ap (over blocks []) (ap (λ xs. xs ++ changes_of (drop e (take visible puts))) (sym (map-append change_of (take base_length puts) (between base_length e puts)))
-      ∙ sym (map-append change_of (take base_length puts ++ between base_length e puts) (drop e (take visible puts)))
-      ∙ ap changes_of (three base_length e visible puts low within))
+    ∙ sym (map-append change_of (take base_length puts ++ between base_length e puts) (drop e (take visible puts)))
+    ∙ ap changes_of (three base_length e visible puts low within))
 
 -- the rows that a cursor answers
 pub cursor_rows_view : (shape : Shape) (base base_length : ℕ) (ends : List ℕ) (puts : List Put) (cursors : List OpenCursor) (stopped : Bool) (c : OpenCursor) → Rising base_length ends → end_at base base_length ends c.number ≤ c.visible
@@ -105,7 +106,7 @@ rows_now_view shape base base_length ends puts cursors stopped r within =
     let e : end_at base base_length ends n ≡ last_end base_length ends = end_of_all base base_length ends puts in
     let w : take (length puts) puts ≡ puts = take_all (length puts) puts (omega arith) in
     ap (λ xs. over shape.blocks (rows_at shape.blocks (record { base = base; rows = rows_of shape.blocks base_length puts; list = cut base_length ends puts }) n) (changes_of xs))
-      (ap (λ k. drop k puts) (sym e) ∙ ap (drop (end_at base base_length ends n)) (sym w))
+    (ap (λ k. drop k puts) (sym e) ∙ ap (drop (end_at base base_length ends n)) (sym w))
     ∙ rows_from shape.blocks base base_length ends puts n (length puts) r (rw e within)
     ∙ ap (λ xs. over shape.blocks [] (changes_of xs)) w
 
@@ -138,13 +139,13 @@ cursors-push blocks base base_length ends puts p (c ∷ cursors) all =
 pub view-push : (shape : Shape) (base base_length : ℕ) (ends : List ℕ) (puts : List Put) (cursors : List OpenCursor) (stopped : Bool) (p : Put)
     → Rising base_length ends → last_end base_length ends ≤ length puts → AllByRecursion (IsOpened base base_length ends (length puts)) cursors
     → state_view shape base base_length ends (puts ++ p ∷ []) cursors stopped
-      ≡ with_own (state_view shape base base_length ends puts cursors stopped) 1 (changes_of (drop (last_end base_length ends) puts) ++ change_of p ∷ [])
+    ≡ with_own (state_view shape base base_length ends puts cursors stopped) 1 (changes_of (drop (last_end base_length ends) puts) ++ change_of p ∷ [])
 view-push shape base base_length ends puts cursors stopped p r within all =
     let low : base_length ≤ length puts = let h = last_end_le base_length ends r in omega arith in
     let rows : take base_length (puts ++ p ∷ []) ≡ take base_length puts = take-append-le base_length puts (p ∷ []) low in
     let list : cut base_length ends (puts ++ p ∷ []) ≡ cut base_length ends puts = cut-push base_length ends puts p r within in
     let own : changes_of (drop (last_end base_length ends) (puts ++ p ∷ [])) ≡ changes_of (drop (last_end base_length ends) puts) ++ change_of p ∷ [] =
-        ap changes_of (drop-append-le (last_end base_length ends) puts (p ∷ []) within) ∙ map_push change_of (drop (last_end base_length ends) puts) p in
+    ap changes_of (drop-append-le (last_end base_length ends) puts (p ∷ []) within) ∙ map_push change_of (drop (last_end base_length ends) puts) p in
     let views = cursors-push shape.blocks base base_length ends puts p cursors all in
     rw (rows, list, own, views) refl
 
@@ -175,9 +176,10 @@ cursors-commit blocks base base_length ends n puts (c ∷ cursors) all =
 pub opened-commit : (base base_length : ℕ) (ends : List ℕ) (n count : ℕ) (cursors : List OpenCursor) → AllByRecursion (IsOpened base base_length ends count) cursors → AllByRecursion (IsOpened base base_length (ends ++ n ∷ []) count) cursors
 opened-commit base base_length ends n count [] all = tt
 opened-commit base base_length ends n count (c ∷ cursors) all =
-    let e = end_at-push base base_length ends n c.number all.0.no_earlier all.0.no_later in
-    (record { no_earlier = all.0.no_earlier; no_later = let l = length-append ends (n ∷ []) in omega (arith, all.0.no_later, l); sees_commits = rw e all.0.sees_commits; within = all.0.within },
-      opened-commit base base_length ends n count cursors all.1)
+    let e = end_at-push base base_length ends n c.number all.0.no_earlier all.0.no_later in (
+      record { no_earlier = all.0.no_earlier; no_later = let l = length-append ends (n ∷ []) in omega (arith, all.0.no_later, l); sees_commits = rw e all.0.sees_commits; within = all.0.within },
+      opened-commit base base_length ends n count cursors all.1,
+    )
 
 pub view-commit : (shape : Shape) (base base_length : ℕ) (ends : List ℕ) (puts : List Put) (cursors : List OpenCursor) (stopped : Bool)
     → AllByRecursion (IsOpened base base_length ends (length puts)) cursors
@@ -199,7 +201,7 @@ none_given_yet blocks (r ∷ rows) = none_given_yet blocks rows
 pub fresh_view : (blocks base base_length : ℕ) (ends : List ℕ) (puts : List Put) (c : OpenCursor)
     → c.number ≡ base + length (cut base_length ends puts) → c.visible ≡ length puts → c.last ≡ None
     → cursor_view blocks base base_length ends puts c
-      ≡ record { name = c.name.items; table = c.table; lo = c.lo; hi = c.hi; number = base + length (cut base_length ends puts); own = changes_of (drop (last_end base_length ends) puts); taken = 0 }
+    ≡ record { name = c.name.items; table = c.table; lo = c.lo; hi = c.hi; number = base + length (cut base_length ends puts); own = changes_of (drop (last_end base_length ends) puts); taken = 0 }
 fresh_view blocks base base_length ends puts c n v l =
     let e = end_of_all base base_length ends puts in
     let w : take (length puts) puts ≡ puts = take_all (length puts) puts (omega arith) in
@@ -238,8 +240,8 @@ taken_at_place blocks base base_length ends puts name (c ∷ cursors) (suc i) d 
 pub insert_expected : (shape : Shape) (base base_length : ℕ) (ends : List ℕ) (puts : List Put) (cursors : List OpenCursor) (stopped : Bool) (room s table key : ℕ) (value : List ℕ)
     → Rising base_length ends → last_end base_length ends ≤ length puts → stopped ≡ false → s ≡ 1 → 1 ≤ table → table ≤ shape.tables → length value ≤ 80
     → expected (state_view shape base base_length ends puts cursors stopped) room (Insert s table key value)
-      ≡ first_of ((has_row table key (over shape.blocks [] (changes_of puts)), Duplicate)
-        ∷ (nat_lt 2000 (record_length (changes_of (drop (last_end base_length ends) puts) ++ put table key value ∷ [])), LogFull) ∷ []) Done
+    ≡ first_of ((has_row table key (over shape.blocks [] (changes_of puts)), Duplicate)
+    ∷ (nat_lt 2000 (record_length (changes_of (drop (last_end base_length ends) puts) ++ put table key value ∷ [])), LogFull) ∷ []) Done
 insert_expected shape base base_length ends puts cursors stopped room s table key value r within going session low high short =
     let e = rows_now_view shape base base_length ends puts cursors stopped r within in
     let a : nat_le 1 table ≡ true = le-leb 1 table low in
@@ -284,8 +286,8 @@ insert_answer shape base base_length ends puts cursors stopped slots kept v room
     ap (λ (k : Kept). expected k.state room (Insert s table key value)) (sym v)
     ∙ insert_expected shape base base_length ends puts cursors stopped room s table key value r within going session low high short
     ∙ (let g : nat_lt 2000 (record_length (changes_of (drop (last_end base_length ends) puts) ++ put table key value ∷ [])) ≡ full =
-          ap (λ (k : Kept). nat_lt 2000 (record_length ((session_of k.state 1).own ++ put table key value ∷ []))) v ∙ f in
-        rw (t, g) refl)
+    ap (λ (k : Kept). nat_lt 2000 (record_length ((session_of k.state 1).own ++ put table key value ∷ []))) v ∙ f in
+    rw (t, g) refl)
 
 -- the bytes of the transaction's record with one more change
 pub own_length : (kept : Kept) (puts : List Put) (n table key : ℕ) (value : List ℕ) → changes_of puts ≡ (session_of kept.state 1).own → n ≡ record_length (changes_of puts)
@@ -295,3 +297,165 @@ own_length kept puts n table key value e f =
     let g : n ≡ record_length (session_of kept.state 1).own = f ∙ ap record_length e in
     let i : kind_length (put table key value).kind ≡ 11 + length value = refl in
     omega (arith, h, g, i)
+
+-- few changes are there besides the committed ones
+pub few_puts : (base_length : ℕ) (ends : List ℕ) (puts : List Put) → record_length (changes_of (drop (last_end base_length ends) puts)) ≤ 2000 → length puts < last_end base_length ends + 182
+few_puts base_length ends puts few =
+    let h = few_changes (drop (last_end base_length ends) puts) in
+    let n = length-drop (last_end base_length ends) puts in
+    omega (arith, h, n, few)
+
+-- with one more change they are still few
+pub few_with_push : (base_length : ℕ) (ends : List ℕ) (puts : List Put) (p : Put) → record_length (changes_of (drop (last_end base_length ends) puts) ++ change_of p ∷ []) ≤ 2000 → length puts < last_end base_length ends + 181
+few_with_push base_length ends puts p few =
+    let own : List Put = drop (last_end base_length ends) puts in
+    let h = few_changes (own ++ p ∷ []) in
+    let e : record_length (changes_of (own ++ p ∷ [])) ≡ record_length (changes_of own ++ change_of p ∷ []) = ap record_length (map_push change_of own p) in
+    let m = length-append own (p ∷ []) in
+    let n = length-drop (last_end base_length ends) puts in
+    omega (arith, h, e, m, n, few)
+
+opened-push : (base base_length : ℕ) (ends : List ℕ) (count more : ℕ) (cursors : List OpenCursor) → count ≤ more → AllByRecursion (IsOpened base base_length ends count) cursors → AllByRecursion (IsOpened base base_length ends more) cursors
+opened-push base base_length ends count more [] le all = tt
+opened-push base base_length ends count more (c ∷ cursors) le all = (
+  record { no_earlier = all.0.no_earlier; no_later = all.0.no_later; sees_commits = all.0.sees_commits; within = omega (arith, all.0.within, le) },
+  opened-push base base_length ends count more cursors le all.1,
+)
+
+-- the memory stays in order with one more change
+pub kept-push : (shape : Shape) (slots base base_length : ℕ) (ends : List ℕ) (puts : List Put) (cursors : List OpenCursor) (old_room new_room ends_room : ℕ) (p : Put) (more : List Put)
+    → IsKept shape slots base base_length ends puts cursors old_room ends_room → more ≡ puts ++ p ∷ []
+    → record_length (changes_of (drop (last_end base_length ends) puts) ++ change_of p ∷ []) ≤ 2000 → 181 * slots ≤ new_room
+    → IsKept shape slots base base_length ends more cursors new_room ends_room
+kept-push shape slots base base_length ends puts cursors old_room new_room ends_room p more kept e own room =
+    let n : length more ≡ length puts + 1 = ap length e ∙ length-append puts (p ∷ []) in
+    let o : changes_of (drop (last_end base_length ends) more) ≡ changes_of (drop (last_end base_length ends) puts) ++ change_of p ∷ [] =
+    ap (λ ps. changes_of (drop (last_end base_length ends) ps)) e ∙ ap changes_of (drop-append-le (last_end base_length ends) puts (p ∷ []) kept.within) ∙ map_push change_of (drop (last_end base_length ends) puts) p in
+    record {
+      some_blocks = kept.some_blocks;
+      few_slots = kept.few_slots;
+      in_order = kept.in_order;
+      within = omega (arith, n, kept.within);
+      few_commits = kept.few_commits;
+      few_committed = kept.few_committed;
+      few_own = rw (o) own;
+      room_for_puts = room;
+      room_for_ends = kept.room_for_ends;
+      each_cursor = opened-push base base_length ends (length puts) (length more) cursors (omega (arith, n)) kept.each_cursor;
+    }
+
+-- a refusal but a fault of the disk leaves the state
+pub after_other_refusal : (h : State) (why : Refusal) → why ≢ DiskFault → after_refusal h why ≡ h
+after_other_refusal h NoSession other = refl
+after_other_refusal h NoTable other = refl
+after_other_refusal h ValueTooLong other = refl
+after_other_refusal h Duplicate other = refl
+after_other_refusal h NoCursor other = refl
+after_other_refusal h CursorThere other = refl
+after_other_refusal h TooManyCursors other = refl
+after_other_refusal h DiskFault other = absurd (other refl)
+after_other_refusal h Stopped other = refl
+after_other_refusal h LogFull other = refl
+
+-- lists of which each element has a fact
+
+pub all-push : {X : Type 0} (P : X → Type 0) (xs : List X) (x : X) → AllByRecursion P xs → P x → AllByRecursion P (xs ++ x ∷ [])
+all-push P [] x all h = (h, tt)
+all-push P (y ∷ xs) x all h = (all.0, all-push P xs x all.1 h)
+
+pub all_at : {X : Type 0} (P : X → Type 0) (xs : List X) (i : ℕ) (d : X) → AllByRecursion P xs → i < length xs → P (get_or xs i d)
+all_at P [] i d all l = absurd (omega arith)
+all_at P (x ∷ xs) zero d all l = all.0
+all_at P (x ∷ xs) (suc i) d all l = all_at P xs i d all.1 (omega arith)
+
+pub all-set : {X : Type 0} (P : X → Type 0) (xs : List X) (i : ℕ) (x : X) → AllByRecursion P xs → P x → AllByRecursion P (set xs i x)
+all-set P [] i x all h = tt
+all-set P (y ∷ xs) zero x all h = (h, all.1)
+all-set P (y ∷ xs) (suc i) x all h = (all.0, all-set P xs i x all.1 h)
+
+-- a cursor that is opened now is in order
+pub opened_now : (base base_length : ℕ) (ends : List ℕ) (puts : List Put) (c : OpenCursor) → last_end base_length ends ≤ length puts → c.number ≡ base + length ends → c.visible ≡ length puts → IsOpened base base_length ends (length puts) c
+opened_now base base_length ends puts c within n v =
+    let e : end_at base base_length ends c.number ≡ last_end base_length ends = ap (last_end base_length) (take_all (c.number - base) ends (omega (arith, n))) in
+    record { no_earlier = omega (arith, n); no_later = omega (arith, n); sees_commits = omega (arith, e, v, within); within = omega (arith, v) }
+
+-- the memory stays in order with other cursors
+pub kept-cursors : (shape : Shape) (slots base base_length : ℕ) (ends : List ℕ) (puts : List Put) (old new : List OpenCursor) (puts_room ends_room : ℕ)
+    → IsKept shape slots base base_length ends puts old puts_room ends_room → AllByRecursion (IsOpened base base_length ends (length puts)) new → IsKept shape slots base base_length ends puts new puts_room ends_room
+kept-cursors shape slots base base_length ends puts old new puts_room ends_room kept all = record {
+  some_blocks = kept.some_blocks;
+  few_slots = kept.few_slots;
+  in_order = kept.in_order;
+  within = kept.within;
+  few_commits = kept.few_commits;
+  few_committed = kept.few_committed;
+  few_own = kept.few_own;
+  room_for_puts = kept.room_for_puts;
+  room_for_ends = kept.room_for_ends;
+  each_cursor = all;
+}
+
+-- and with one more commit
+pub kept-commit : (shape : Shape) (slots base base_length : ℕ) (ends more : List ℕ) (puts : List Put) (cursors : List OpenCursor) (puts_room old_room new_room : ℕ)
+    → IsKept shape slots base base_length ends puts cursors puts_room old_room → more ≡ ends ++ length puts ∷ [] → base + length ends + 1 < slots → slots ≤ new_room
+    → IsKept shape slots base base_length more puts cursors puts_room new_room
+kept-commit shape slots base base_length ends more puts cursors puts_room old_room new_room kept e full room =
+    let n : length more ≡ length ends + 1 = ap length e ∙ length-append ends (length puts ∷ []) in
+    let l : last_end base_length more ≡ length puts = ap (last_end base_length) e ∙ last_end-push base_length ends (length puts) in
+    let o : drop (last_end base_length more) puts ≡ [] = ap (λ k. drop k puts) l ∙ drop_all (length puts) puts (omega arith) in
+    let few = few_puts base_length ends puts kept.few_own in
+    record {
+      some_blocks = kept.some_blocks;
+      few_slots = kept.few_slots;
+      in_order = subst (Rising base_length) (sym e) (rising-push base_length ends (length puts) kept.in_order kept.within);
+      within = omega (arith, l);
+      few_commits = omega (arith, n, full);
+      few_committed = omega (arith, n, l, few, kept.few_committed);
+      few_own = rw (o) (omega arith);
+      room_for_puts = kept.room_for_puts;
+      room_for_ends = room;
+      each_cursor = subst (λ (es : List ℕ). AllByRecursion (IsOpened base base_length es (length puts)) cursors) (sym e) (opened-commit base base_length ends (length puts) (length puts) cursors kept.each_cursor);
+    }
+
+-- and with one more commit of the base, before any other
+pub kept-found : (shape : Shape) (slots base base_length : ℕ) (ends : List ℕ) (puts : List Put) (cursors : List OpenCursor) (count puts_room ends_room : ℕ)
+    → IsKept shape slots base base_length ends puts cursors puts_room ends_room → ends ≡ [] → cursors ≡ [] → base + 1 < slots → count ≡ length puts
+    → IsKept shape slots (base + 1) count ends puts cursors puts_room ends_room
+kept-found shape slots base base_length ends puts cursors count puts_room ends_room kept e c full n =
+    let few = few_puts base_length ends puts kept.few_own in
+    let old : last_end base_length ends ≡ base_length = ap (last_end base_length) e in
+    let l : last_end count ends ≡ length puts = ap (last_end count) e ∙ n in
+    let o : drop (last_end count ends) puts ≡ [] = ap (λ k. drop k puts) l ∙ drop_all (length puts) puts (omega arith) in
+    let none : length ends ≡ 0 = ap length e in
+    record {
+      some_blocks = kept.some_blocks;
+      few_slots = kept.few_slots;
+      in_order = subst (Rising count) (sym e) tt;
+      within = omega (arith, l);
+      few_commits = omega (arith, none, full);
+      few_committed = omega (arith, none, l, old, few, kept.few_committed);
+      few_own = rw (o) (omega arith);
+      room_for_puts = kept.room_for_puts;
+      room_for_ends = kept.room_for_ends;
+      each_cursor = subst (λ (cs : List OpenCursor). AllByRecursion (IsOpened (base + 1) count ends (length puts)) cs) (sym c) tt;
+    }
+
+pub no_ends : (start : ℕ) (ends : List ℕ) (puts : List Put) → cut start ends puts ≡ [] → ends ≡ []
+no_ends start [] puts e = refl
+no_ends start (x ∷ ends) puts e = cc
+
+pub no_cursors : (view : OpenCursor → Cursor) (cursors : List OpenCursor) → map view cursors ≡ [] → cursors ≡ []
+no_cursors view [] e = refl
+no_cursors view (c ∷ cursors) e = cc
+
+-- the changes found so far as one more commit of the base
+pub view-found : (shape : Shape) (base base_length : ℕ) (puts : List Put) (stopped : Bool)
+    → state_view shape (base + 1) (length puts) [] puts [] stopped ≡ found_more (state_view shape base base_length [] puts [] stopped)
+view-found shape base base_length puts stopped =
+    let w : take (length puts) puts ≡ puts = take_all (length puts) puts (omega arith) in
+    let o : drop (length puts) puts ≡ [] = drop_all (length puts) puts (omega arith) in
+    let r : over shape.blocks [] (changes_of puts) ≡ over shape.blocks (rows_of shape.blocks base_length puts) (changes_of (drop base_length puts)) =
+    ap (λ ps. over shape.blocks [] (changes_of ps)) (sym (take-append-drop base_length puts))
+    ∙ ap (over shape.blocks []) (map-append change_of (take base_length puts) (drop base_length puts))
+    ∙ over-append shape.blocks [] (changes_of (take base_length puts)) (changes_of (drop base_length puts)) in
+    rw (w, o, r) refl

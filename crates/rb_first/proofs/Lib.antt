@@ -1,3 +1,4 @@
 pub mod Order
 pub mod KeptLemmas
 pub mod RowLemmas
+pub mod StateLemmas

@@ -47,7 +47,11 @@ end_at base base_length ends n = last_end base_length (take (n - base) ends)
 -- A cursor sees the first `visible` changes: those of the commits up to its number, and its transaction's own.
 abbrev pub cursor_view : ℕ → ℕ → ℕ → List ℕ → List Put → OpenCursor → Cursor
 cursor_view blocks base base_length ends puts c = record {
-  name = c.name.items; table = c.table; lo = c.lo; hi = c.hi; number = c.number;
+  name = c.name.items;
+  table = c.table;
+  lo = c.lo;
+  hi = c.hi;
+  number = c.number;
   own = changes_of (drop (end_at base base_length ends c.number) (take c.visible puts));
   taken = given_count blocks c.last (asked c.table c.lo c.hi (rows_of blocks c.visible puts));
 }

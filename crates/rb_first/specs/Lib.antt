@@ -1,3 +1,4 @@
+pub mod Engine
 pub mod Kept
 pub mod Next
 pub mod Puts

@@ -2,10 +2,12 @@
 #![tactic(auto)]
 
 mod cursor;
+mod engine;
 mod put;
 mod rows;
 mod state;
 
+pub use engine::FirstEngine;
 pub use cursor::OpenCursor;
 pub use put::Put;
 pub use state::FirstState;

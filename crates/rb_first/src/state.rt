@@ -1,11 +1,12 @@
 //! The state of the first engine in memory: one session, its cursors and all commits. The shell's engine owns it.
-ghost use Rattle.std.specs.Prelude.{◌≡◌, ℕ, ◌+◌, ◌-◌, ◌*◌, ◌<◌, ◌≤◌, false, [], ◌∷◌, ◌++◌, length, IfOk, IfSome, IfNone, slice_get, EachIndex, slice_index_or};
-ghost use Rattle.rb_model.specs.State.{opened, session_of};
+ghost use Rattle.std.specs.Prelude.{◌≡◌, ◌≢◌, ℕ, ◌+◌, ◌-◌, ◌*◌, ◌<◌, ◌≤◌, false, [], ◌∷◌, ◌++◌, length, true, IsOk, IfOk, IfErr, IfSome, IfNone, slice_get, EachIndex, slice_index_or, slice_set};
+ghost use Rattle.rb_model.specs.State.{opened, session_of, found_more};
 ghost use Rattle.rb_model.specs.Rows.{last_number};
 ghost use Rattle.rb_model.specs.Change.{put};
-ghost use Rattle.rb_model.specs.Reply.{expected, after, committed, with_own};
+ghost use Rattle.rb_model.specs.Reply.{expected, after, after_grant, committed, with_own};
 ghost use Rattle.rb_model.specs.Reply.{record_length as record_bytes};
 ghost use Rattle.rb_model.specs.Reply as call;
+ghost use Rattle.rb_model.specs.Out.{room};
 ghost use Rattle.rb_model.specs.Answers.{write_answer, plain_answer, fetch_answer, LeavesRow};
 ghost use Rattle.rb_model.specs.Names.{name_text};
 ghost use Rattle.rb_first.specs.Kept.{has_name, IsPlace, last_end};
@@ -13,7 +14,7 @@ ghost use Rattle.rb_first.specs.Puts.{changes_of, change_of};
 
 use crate::cursor::OpenCursor;
 use crate::put::Put;
-use crate::rows::{has_key, next_put, record_length, Query};
+use crate::rows::{Query, has_key, next_put, record_length};
 use arrayvec::ArrayVec;
 use rb_base::{NoMemory, Shape};
 use rb_model::{Fetched, Name, Refusal, Row, Wrote};
@@ -28,6 +29,9 @@ const CHANGES_PER_RECORD: usize = 181;
 
 /// The most bytes of a record of the log.
 const RECORD_BYTES: usize = 2000;
+
+/// The most cursors that are open.
+const CURSORS: usize = 16;
 
 /// The most bytes of a value.
 const VALUE_BYTES: usize = 80;
@@ -88,6 +92,17 @@ fn make_put(table: u16, key: u64, value: &[u8]) -> Put
     }
 }
 
+/// The bytes of a name, to keep.
+fn name_bytes(name: &Name) -> ArrayVec<u8, 16>
+    ensures { result.items ≡ name_text name.now }
+{
+    let mut bytes = ArrayVec::new();
+    if bytes.try_extend_from_slice(name.as_bytes()).is_err() {
+        unreachable!()
+    }
+    bytes
+}
+
 /// Puts a change's key and value into the caller's row.
 fn fill(row: &mut Row, put: &Put)
     ensures key { row.new.key ≡ put.now.key }
@@ -95,9 +110,21 @@ fn fill(row: &mut Row, put: &Put)
 {
     row.key = put.key;
     row.value.clear();
-    if row.value.try_extend_from_slice(put.value.as_slice()).is_err() {
+    if row
+        .value
+        .try_extend_from_slice(put.value.as_slice())
+        .is_err()
+    {
         unreachable!()
     }
+}
+
+/// Notes the key of the last row that a cursor gave.
+fn mark_given(cursors: &mut [OpenCursor], place: usize, key: u64)
+    requires { place < length cursors.old }
+    ensures { (d : OpenCursor) → cursors.new ≡ slice_set cursors.old place (record (slice_index_or cursors.old place d) { last = Some key }) }
+{
+    cursors[place].last = Some(key);
 }
 
 /// Where the changes of the last commit end.
@@ -140,7 +167,9 @@ impl FirstState {
 
     /// The number of the last commit.
     pub fn number(&self) -> u64
-        ensures { result ≡ last_number self.now.state.commits }
+        ensures number { result ≡ last_number self.now.state.commits }
+        ensures within { result < self.now.slots }
+        ensures small { self.now.slots ≤ 4096 }
     {
         self.base + self.ends.as_slice().len() as u64
     }
@@ -157,6 +186,7 @@ impl FirstState {
     fn insert_refusal(&self, s: u16, table: u16, key: u64, value: &[u8]) -> Option<Refusal>
         ensures refused { IfSome result (λ why. (room : ℕ) → call.Refused why ≡ expected self.now.state room (call.Insert s table key value.now)) }
         ensures granted { IfNone result ((room : ℕ) → call.Done ≡ expected self.now.state room (call.Insert s table key value.now)) }
+        ensures other { IfSome result (λ why. why ≢ Refusal.DiskFault) }
         ensures session { IfNone result (s ≡ 1) }
         ensures short { IfNone result (length value.now ≤ 80) }
         ensures room { IfNone result (record_bytes ((session_of self.now.state 1).own ++ put table key value.now ∷ []) ≤ 2000) }
@@ -183,13 +213,7 @@ impl FirstState {
     }
 
     /// Makes a row of a key. It may be refused, and then nothing is changed.
-    pub fn insert(
-        &mut self,
-        s: u16,
-        table: u16,
-        key: u64,
-        value: &[u8],
-    ) -> Result<Wrote, Refusal>
+    pub fn insert(&mut self, s: u16, table: u16, key: u64, value: &[u8]) -> Result<Wrote, Refusal>
         ensures answer { (room : ℕ) → write_answer result ≡ expected self.old.state room (call.Insert s table key value.now) }
         ensures state { self.new.state ≡ after self.old.state (call.Insert s table key value.now) (write_answer result) }
         ensures slots { self.new.slots ≡ self.old.slots }
@@ -209,5 +233,160 @@ impl FirstState {
     {
         let _ = self.changes.as_slice();
         self.changes.push_reserved(change);
+    }
+
+    /// Why a cursor isn't opened, where it isn't.
+    fn open_refusal(&self, s: u16, name: &Name, table: u16) -> Option<Refusal>
+        ensures refused { IfSome result (λ why. (room lo hi : ℕ) → call.Refused why ≡ expected self.now.state room (call.OpenCursor s (name_text name.now) table lo hi)) }
+        ensures granted { IfNone result ((room lo hi : ℕ) → call.Done ≡ expected self.now.state room (call.OpenCursor s (name_text name.now) table lo hi)) }
+        ensures other { IfSome result (λ why. why ≢ Refusal.DiskFault) }
+        ensures session { IfNone result (s ≡ 1) }
+        ensures few { IfNone result (length (session_of self.now.state 1).cursors < 16) }
+    {
+        if self.stopped {
+            return Some(Refusal::Stopped);
+        }
+        if s != SESSION {
+            return Some(Refusal::NoSession);
+        }
+        if table < 1 || table > self.shape.tables {
+            return Some(Refusal::NoTable);
+        }
+        if position_of(self.cursors.as_slice(), name.as_bytes()).is_some() {
+            return Some(Refusal::CursorThere);
+        }
+        if self.cursors.as_slice().len() >= CURSORS {
+            return Some(Refusal::TooManyCursors);
+        }
+        None
+    }
+
+    /// Opens a cursor over the rows as the session sees them now. It may be refused, and then nothing is changed.
+    pub fn open_cursor(
+        &mut self,
+        s: u16,
+        name: &Name,
+        table: u16,
+        lo: u64,
+        hi: u64,
+    ) -> Result<(), Refusal>
+        ensures answer { (room : ℕ) → plain_answer result ≡ expected self.old.state room (call.OpenCursor s (name_text name.now) table lo hi) }
+        ensures state { self.new.state ≡ after self.old.state (call.OpenCursor s (name_text name.now) table lo hi) (plain_answer result) }
+        ensures slots { self.new.slots ≡ self.old.slots }
+    {
+        if let Some(why) = self.open_refusal(s, name, table) {
+            return Err(why);
+        }
+        self.keep_cursor(name, table, lo, hi);
+        Ok(())
+    }
+
+    /// Adds a cursor that has given no row.
+    fn keep_cursor(&mut self, name: &Name, table: u16, lo: u64, hi: u64)
+        requires { length (session_of self.old.state 1).cursors < 16 }
+        ensures state { self.new.state ≡ after_grant self.old.state (call.OpenCursor 1 (name_text name.now) table lo hi) }
+        ensures slots { self.new.slots ≡ self.old.slots }
+    {
+        let cursor = OpenCursor {
+            name: name_bytes(name),
+            table,
+            lo,
+            hi,
+            number: self.number(),
+            visible: self.changes.as_slice().len(),
+            last: None,
+        };
+        self.cursors.push(cursor);
+    }
+
+    /// Gives the next row of a cursor into `row`, or the end. It may be refused, and then nothing is changed.
+    pub fn fetch(&mut self, s: u16, name: &Name, row: &mut Row) -> Result<Fetched, Refusal>
+        ensures answer { (room : ℕ) → fetch_answer result row.new ≡ expected self.old.state room (call.Fetch s (name_text name.now)) }
+        ensures state { self.new.state ≡ after self.old.state (call.Fetch s (name_text name.now)) (fetch_answer result row.new) }
+        ensures row { LeavesRow result row.old row.new }
+        ensures slots { self.new.slots ≡ self.old.slots }
+    {
+        if self.stopped {
+            return Err(Refusal::Stopped);
+        }
+        if s != SESSION {
+            return Err(Refusal::NoSession);
+        }
+        let Some(place) = position_of(self.cursors.as_slice(), name.as_bytes()) else {
+            return Err(Refusal::NoCursor);
+        };
+        let cursor = &self.cursors.as_slice()[place];
+        let query = Query {
+            table: cursor.table,
+            lo: cursor.lo,
+            hi: cursor.hi,
+            last: cursor.last,
+        };
+        let seen = &self.changes.as_slice()[..cursor.visible];
+        let Some(next) = next_put(seen, self.shape.blocks, query) else {
+            return Ok(Fetched::End);
+        };
+        fill(row, next);
+        mark_given(self.cursors.as_mut_slice(), place, row.key);
+        Ok(Fetched::Row)
+    }
+
+    /// Whether a commit of the session has changes to keep, or why it is refused.
+    pub fn check_commit(&self, s: u16) -> Result<bool, Refusal>
+        ensures refused { IfErr result (λ why. call.Refused why ≡ expected self.now.state (room self.now.slots self.now.state) (call.Commit s)) }
+        ensures other { IfErr result (λ why. why ≢ Refusal.DiskFault) }
+        ensures nothing { result ≡ Ok false → call.Done ≡ expected self.now.state (room self.now.slots self.now.state) (call.Commit s) }
+        ensures changes { result ≡ Ok true → call.Numbered (last_number self.now.state.commits + 1) ≡ expected self.now.state (room self.now.slots self.now.state) (call.Commit s) }
+        ensures room { result ≡ Ok true → last_number self.now.state.commits + 1 < self.now.slots }
+        ensures session { IsOk result → s ≡ 1 }
+        ensures some { result ≡ Ok true → 0 < length (session_of self.now.state 1).own }
+    {
+        if self.stopped {
+            return Err(Refusal::Stopped);
+        }
+        if s != SESSION {
+            return Err(Refusal::NoSession);
+        }
+        if self.own().is_empty() {
+            return Ok(false);
+        }
+        if self.number() + 1 >= self.slots as u64 {
+            return Err(Refusal::LogFull);
+        }
+        Ok(true)
+    }
+
+    /// Makes the transaction's changes one more commit, and answers its number.
+    pub fn commit(&mut self) -> u64
+        requires { last_number self.old.state.commits + 1 < self.old.slots }
+        ensures number { result ≡ last_number self.old.state.commits + 1 }
+        ensures state { self.new.state ≡ committed self.old.state 1 }
+        ensures slots { self.new.slots ≡ self.old.slots }
+    {
+        let number = self.number() + 1;
+        let end = self.changes.as_slice().len();
+        let _ = self.ends.as_slice();
+        self.ends.push_reserved(end);
+        number
+    }
+
+    /// Stops the engine: a call of its disk has failed.
+    pub fn stop(&mut self)
+        ensures state { self.new.state ≡ record self.old.state { stopped = true } }
+        ensures slots { self.new.slots ≡ self.old.slots }
+    {
+        self.stopped = true;
+    }
+
+    /// Makes the changes that were pushed since the last call one more commit that the file was found with.
+    pub fn found(&mut self)
+        requires room { last_number self.old.state.commits + 1 < self.old.slots }
+        requires opening { self.old.state.commits.list ≡ [] }
+        requires no_cursor { (session_of self.old.state 1).cursors ≡ [] }
+        ensures state { self.new.state ≡ found_more self.old.state }
+        ensures slots { self.new.slots ≡ self.old.slots }
+    {
+        self.base += 1;
+        self.base_length = self.changes.as_slice().len();
     }
 }

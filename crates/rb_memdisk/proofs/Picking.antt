@@ -1,5 +1,5 @@
 -- One step of the replay that picks an image.
-use Rattle.std.proofs.Common.{◌≡◌, ℕ, ◌+◌, ◌<◌, ◌≤◌, Bool, true, false, List, ◌∷◌, length, take, drop, get_or, refl, sym, ◌∙◌, ap, subst, arith, leb-true}
+use Rattle.std.proofs.Common.{◌≡◌, ℕ, ◌+◌, ◌<◌, ◌≤◌, true, false, List, ◌∷◌, length, drop, get_or, sym, ◌∙◌, ap, subst, arith, leb-true}
 use Rattle.std.proofs.lemmas.List.{drop_more, drop-drop, length-drop}
 use Rattle.std.proofs.lemmas.Bool.{and_parts}
 use Rattle.rb_memdisk.specs.declared.call.Call.{Call}
@@ -7,7 +7,7 @@ use Rattle.rb_memdisk.specs.declared.call.Call.TheVariants.{Length, Read, Write,
 use Rattle.rb_memdisk.specs.declared.pick.Pick.{Pick}
 use Rattle.rb_memdisk.specs.declared.pick.Pick.TheVariants.{Old, New, Fill}
 use Rattle.rb_memdisk.specs.Record.{read_after, left_after, fits_one, fits, picked_after, picked_after_all, CanFill}
-use Rattle.rb_memdisk.specs.Replays.{Covers, covers_one, covers_start}
+use Rattle.rb_memdisk.specs.Replays.{Covers, covers_one}
 
 -- a pick begins as what is read, and fills within the image
 pub can_fill : (pick : Pick) (image file : List ℕ) (call : Call) (rest : List ℕ) → Covers pick image file → fits_one file call rest ≡ true → CanFill pick call image

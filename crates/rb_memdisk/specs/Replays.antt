@@ -1,7 +1,7 @@
 -- Laws of a record: what is read may always be left, the picked image may be left, and a record goes on.
-use Rattle.std.proofs.Common.{max, le-leb, get_or, ◌-◌, zero, suc, ◌≡◌, ◌⊎◌, ℕ, ◌+◌, ◌<◌, ◌≤◌, Bool, true, false, List, [], ◌∷◌, ◌++◌, length, take, drop, replicate, refl, sym, ◌∙◌, ap, subst, inl, inr, ⊎_elim, arith, rules, leb-true}
+use Rattle.std.proofs.Common.{max, le-leb, get_or, ◌-◌, zero, suc, ◌≡◌, ◌⊎◌, ℕ, ◌+◌, ◌<◌, ◌≤◌, true, false, List, [], ◌∷◌, ◌++◌, length, take, drop, replicate, refl, sym, ◌∙◌, ap, subst, inl, inr, ⊎_elim, arith, rules, leb-true}
 use Rattle.std.specs.Prelude.{All}
-use Rattle.std.proofs.lemmas.List.{get_or-take, get_or-drop, places, same_lists, take_at, drop_at, append_assoc, append-nil, take-append-le, drop-append-le, length-append, length-replicate, length-take-le, take_all, length-take, length-drop}
+use Rattle.std.proofs.lemmas.List.{get_or-take, get_or-drop, places, same_lists, take-append-le, drop-append-le, length-append, length-replicate, length-take-le, take_all}
 use Rattle.std.proofs.lemmas.List.Elements.{All-head, All-tail}
 use Rattle.std.proofs.lemmas.Bool.{and_parts, and_from, cases_lt}
 use Rattle.rb_base.specs.Fields.{overwritten}

@@ -1,5 +1,5 @@
 -- The state that the sessions share, as the abstract machine sees it.
-use Rattle.std.specs.Prelude.{ℕ, suc, ◌-◌, Bool, true, false, ◌&&◌, nat_le, cond, List, [], ◌∷◌, length, slice_index_or, slice_set, find, Option, None, Some}
+use Rattle.std.specs.Prelude.{ℕ, suc, ◌+◌, ◌-◌, Bool, true, false, ◌&&◌, nat_le, cond, List, [], ◌∷◌, length, slice_index_or, slice_set, find, Option, None, Some}
 use Rattle.std.specs.List.{flat_map}
 use Rattle.std.specs.Str.{bytes_eq}
 use Rattle.rb_base.specs.declared.ids.Shape.{Shape}
@@ -72,4 +72,15 @@ opened shape records = record {
   commits = record { base = length records; rows = over shape.blocks [] (flat_map (λ changes. changes) records); list = [] };
   sessions = fresh_session ∷ [];
   stopped = false;
+}
+
+-- the session's changes as one more commit of the base
+abbrev pub found_more : State → State
+found_more h = record h {
+  commits = record {
+    base = h.commits.base + 1;
+    rows = over h.shape.blocks h.commits.rows (session_of h 1).own;
+    list = h.commits.list;
+  };
+  sessions = fresh_session ∷ [];
 }

@@ -15,5 +15,5 @@ loop-change-preserved c =
     c.better-best.ensures
     ∙ ap (λ o. better c.args.blocks q.table q.lo q.hi q.last o (row_of p)) c.loop-change.invariant
     ∙ sym (ap (λ ps. next_of c.args.blocks q.table q.lo q.hi q.last (changes_of ps))
-        (take_more xs i p c.loop-change-test.true ∙ ap (λ x. take i xs ++ x ∷ []) (sym c.change-item.is))
-      ∙ next_of-push c.args.blocks q.table q.lo q.hi q.last (take i xs) p)
+    (take_more xs i p c.loop-change-test.true ∙ ap (λ x. take i xs ++ x ∷ []) (sym c.change-item.is))
+    ∙ next_of-push c.args.blocks q.table q.lo q.hi q.last (take i xs) p)

@@ -15,20 +15,20 @@ pub returns-then-has_key-clause-refused : goal.returns-then-has_key-clause-refus
 returns-then-has_key-clause-refused c = λ room.
     let a = c.self.inside in
     let there : has_row c.args.table c.args.key (over a.shape.blocks [] (changes_of a.changes.items)) ≡ true =
-        ap (λ ps. has_row c.args.table c.args.key (over a.shape.blocks [] (changes_of ps))) (sym c.as_slice.ensures.value) ∙ sym (c.has_key.ensures a.shape.blocks) ∙ c.if-has_key.true in
+    ap (λ ps. has_row c.args.table c.args.key (over a.shape.blocks [] (changes_of ps))) (sym c.as_slice.ensures.value) ∙ sym (c.has_key.ensures a.shape.blocks) ∙ c.if-has_key.true in
     sym (insert_answer a.shape a.base a.base_length a.ends.items a.changes.items a.cursors.items a.stopped a.slots _ c.self.view_is room c.args.s c.args.table c.args.key c.args.value.now true _
-      c.self.invariant.in_order c.self.invariant.within c.if-self.false c.if-s-ne-SESSION.false c.if-table-lt1.false c.if-table-self.false c.if-value-gt-VALUE_BYTES.false there refl)
+    c.self.invariant.in_order c.self.invariant.within c.if-self.false c.if-s-ne-SESSION.false c.if-table-lt1.false c.if-table-self.false c.if-value-gt-VALUE_BYTES.false there refl)
 
 pub returns-then-record_length-value-gt-RECORD_BYTES-clause-refused : goal.returns-then-record_length-value-gt-RECORD_BYTES-clause-refused
 returns-then-record_length-value-gt-RECORD_BYTES-clause-refused c = λ room.
     let a = c.self.inside in
     let there : has_row c.args.table c.args.key (over a.shape.blocks [] (changes_of a.changes.items)) ≡ false =
-        ap (λ ps. has_row c.args.table c.args.key (over a.shape.blocks [] (changes_of ps))) (sym c.as_slice.ensures.value) ∙ sym (c.has_key.ensures a.shape.blocks) ∙ c.if-has_key.false in
+    ap (λ ps. has_row c.args.table c.args.key (over a.shape.blocks [] (changes_of ps))) (sym c.as_slice.ensures.value) ∙ sym (c.has_key.ensures a.shape.blocks) ∙ c.if-has_key.false in
     let bytes = own_length c.args.self.now c.own.result.now c.record_length.result c.args.table c.args.key c.args.value.now c.own.ensures.own c.record_length.ensures in
     let full : nat_lt 2000 (record_length ((session_of c.args.self.now.state 1).own ++ put c.args.table c.args.key c.args.value.now ∷ [])) ≡ true =
-        lt-ltb 2000 _ (omega (arith, bytes)) in
+    lt-ltb 2000 _ (omega (arith, bytes)) in
     sym (insert_answer a.shape a.base a.base_length a.ends.items a.changes.items a.cursors.items a.stopped a.slots _ c.self.view_is room c.args.s c.args.table c.args.key c.args.value.now false true
-      c.self.invariant.in_order c.self.invariant.within c.if-self.false c.if-s-ne-SESSION.false c.if-table-lt1.false c.if-table-self.false c.if-value-gt-VALUE_BYTES.false there full)
+    c.self.invariant.in_order c.self.invariant.within c.if-self.false c.if-s-ne-SESSION.false c.if-table-lt1.false c.if-table-self.false c.if-value-gt-VALUE_BYTES.false there full)
 
 pub returns-clause-room : goal.returns-clause-room
 returns-clause-room c =
@@ -39,9 +39,9 @@ pub returns-clause-granted : goal.returns-clause-granted
 returns-clause-granted c = λ room.
     let a = c.self.inside in
     let there : has_row c.args.table c.args.key (over a.shape.blocks [] (changes_of a.changes.items)) ≡ false =
-        ap (λ ps. has_row c.args.table c.args.key (over a.shape.blocks [] (changes_of ps))) (sym c.as_slice.ensures.value) ∙ sym (c.has_key.ensures a.shape.blocks) ∙ c.if-has_key.false in
+    ap (λ ps. has_row c.args.table c.args.key (over a.shape.blocks [] (changes_of ps))) (sym c.as_slice.ensures.value) ∙ sym (c.has_key.ensures a.shape.blocks) ∙ c.if-has_key.false in
     let bytes = own_length c.args.self.now c.own.result.now c.record_length.result c.args.table c.args.key c.args.value.now c.own.ensures.own c.record_length.ensures in
     let full : nat_lt 2000 (record_length ((session_of c.args.self.now.state 1).own ++ put c.args.table c.args.key c.args.value.now ∷ [])) ≡ false =
-        le-ltb 2000 _ (omega (arith, bytes)) in
+    le-ltb 2000 _ (omega (arith, bytes)) in
     sym (insert_answer a.shape a.base a.base_length a.ends.items a.changes.items a.cursors.items a.stopped a.slots _ c.self.view_is room c.args.s c.args.table c.args.key c.args.value.now false false
-      c.self.invariant.in_order c.self.invariant.within c.if-self.false c.if-s-ne-SESSION.false c.if-table-lt1.false c.if-table-self.false c.if-value-gt-VALUE_BYTES.false there full)
+    c.self.invariant.in_order c.self.invariant.within c.if-self.false c.if-s-ne-SESSION.false c.if-table-lt1.false c.if-table-self.false c.if-value-gt-VALUE_BYTES.false there full)

@@ -1,4 +1,4 @@
-use Rattle.std.proofs.Common.{rules, ◌≡◌, ◌+◌, ◌<◌, ◌≤◌, [], ◌∷◌, ◌++◌, length, sym, refl, arith}
+use Rattle.std.proofs.Common.{rules, ◌≡◌, [], ◌∷◌, ◌++◌, sym, refl}
 use Rattle.std.proofs.lemmas.List.{append-nil}
 use Rattle.rb_memdisk.proofs.Steps.{by_one, idle_reads_more, idle_fits_more, idle_left_more}
 use Rattle.rb_memdisk.proofs.memory.MemDisk.add.Goals as goal

@@ -1,9 +1,8 @@
-use Rattle.std.proofs.Common.{rules, ◌≡◌, ◌+◌, ◌-◌, ◌<◌, ◌≤◌, List, ℕ, length, drop, take, get_or, true, ◌∙◌, sym, ap, subst, refl, arith}
+use Rattle.std.proofs.Common.{rules, ◌≡◌, ◌-◌, ◌≤◌, List, ℕ, length, drop, take, get_or, ◌∙◌, ap, arith}
 use Rattle.std.proofs.lemmas.List.{take_rest}
-use Rattle.rb_memdisk.specs.declared.call.Call.{Call}
 use Rattle.rb_memdisk.specs.declared.call.Call.TheVariants.{Length}
-use Rattle.rb_memdisk.specs.Record.{fits, fits_one, read_after, left_after, picked_after, picked_after_all}
-use Rattle.rb_memdisk.specs.Replays.{Covers, covers_start, fits_front}
+use Rattle.rb_memdisk.specs.Record.{read_after, left_after, picked_after}
+use Rattle.rb_memdisk.specs.Replays.{covers_start, fits_front}
 use Rattle.rb_memdisk.proofs.Picking.{can_fill, next_fits, fitting_on, same_on, covers_on, used_on}
 use Rattle.rb_memdisk.proofs.memory.MemDisk.replayed.Goals as goal
 

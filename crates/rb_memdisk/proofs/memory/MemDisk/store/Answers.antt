@@ -1,4 +1,4 @@
-use Rattle.std.proofs.Common.{rules, ◌≡◌, ◌+◌, ◌<◌, ◌≤◌, [], ◌∷◌, ◌++◌, length, refl, true}
+use Rattle.std.proofs.Common.{rules, ◌≡◌, [], ◌∷◌, ◌++◌, length, refl, true}
 use Rattle.rb_base.specs.Fields.{overwritten}
 use Rattle.rb_memdisk.specs.declared.call.Call.TheVariants.{Write}
 use Rattle.rb_memdisk.proofs.Steps.{by_one, stored_reads_more, stored_fits_more, stored_left_more}

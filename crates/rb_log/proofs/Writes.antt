@@ -1,0 +1,73 @@
+-- What one write changes, and two writes one behind the other.
+use Rattle.std.proofs.Common.{◌≡◌, ℕ, ◌+◌, ◌-◌, ◌≤◌, List, ◌++◌, length, take, drop, sym, ◌∙◌, ap, arith, refl, length-append, length-drop}
+use Rattle.std.proofs.lemmas.List.{take_at, drop_at, drop-drop, append_assoc, drop-take, take-take, length-take-le}
+use Rattle.rb_base.specs.Fields.{part, overwritten}
+use Rattle.rb_disk.specs.DiskModel.{Torn, Follows}
+use Rattle.rb_log.specs.Slots.{TornFrom}
+
+-- files with the same front, or the same end
+pub take_below : (f g : List ℕ) (n k : ℕ) → take n f ≡ take n g → k ≤ n → take k f ≡ take k g
+take_below f g n k same le = sym (take-take k n f le) ∙ ap (take k) same ∙ take-take k n g le
+
+pub drop_beyond : (f g : List ℕ) (n k : ℕ) → drop n f ≡ drop n g → n ≤ k → drop k f ≡ drop k g
+drop_beyond f g n k same le =
+    let e : n + (k - n) ≡ k = omega arith in
+    let at_end = λ (h : List ℕ). drop-drop (k - n) n h ∙ ap (λ (i : ℕ). drop i h) e in
+    sym (at_end f) ∙ ap (drop (k - n)) same ∙ at_end g
+
+pub part_below : (f g : List ℕ) (n k m : ℕ) → take n f ≡ take n g → k + m ≤ n → part f k m ≡ part g k m
+part_below f g n k m same le = sym (drop-take k m f) ∙ ap (drop k) (take_below f g n (k + m) same le) ∙ drop-take k m g
+
+pub part_beyond : (f g : List ℕ) (n k m : ℕ) → drop n f ≡ drop n g → n ≤ k → part f k m ≡ part g k m
+part_beyond f g n k m same le = ap (take m) (drop_beyond f g n k same le)
+
+-- nothing was written
+pub torn_none : (at count : ℕ) (f : List ℕ) → Torn at count f f
+torn_none at count f = record { before = refl; behind = refl; no_shorter = omega arith; no_longer = omega arith }
+
+-- a longer write, and one write behind another
+pub torn_wider : (at count more : ℕ) (f g : List ℕ) → Torn at count f g → Torn at (count + more) f g
+torn_wider at count more f g torn = record {
+  before = torn.before;
+  behind = drop_beyond g f (at + count) (at + (count + more)) torn.behind (omega arith);
+  no_shorter = torn.no_shorter;
+  no_longer = omega (arith, torn.no_longer);
+}
+
+pub torn_both : (at count more : ℕ) (f g h : List ℕ) → Torn at count f g → Torn (at + count) more g h → Torn at (count + more) f h
+torn_both at count more f g h first second = record {
+  before = take_below h g (at + count) at second.before (omega arith) ∙ first.before;
+  behind = ap (λ (i : ℕ). drop i h) (omega arith) ∙ second.behind ∙ drop_beyond g f (at + count) (at + count + more) first.behind (omega arith) ∙ ap (λ (i : ℕ). drop i f) (omega arith);
+  no_shorter = omega (arith, first.no_shorter, second.no_shorter);
+  no_longer = omega (arith, first.no_longer, second.no_longer);
+}
+
+-- the images of the first write, and of both
+pub first_torn : (at count more : ℕ) (old new : List ℕ → Type 0) → Follows (Torn at count) old new → (c : List ℕ) → new c → TornFrom at (count + more) old c
+first_torn at count more old new follows c left =
+    let from = follows c left in (from.0, from.1, torn_wider at count more from.0 c from.2)
+
+pub both_torn : (at count more : ℕ) (old mid new : List ℕ → Type 0) → Follows (Torn at count) old mid → Follows (Torn (at + count) more) mid new → (c : List ℕ) → new c → TornFrom at (count + more) old c
+both_torn at count more old mid new first second c left =
+    let later = second c left in
+    let from = first later.0 later.1 in (from.0, from.1, torn_both at count more from.0 later.0 c from.2 later.2)
+
+-- what stands in the range of a write
+pub part_written : (f bytes : List ℕ) (at : ℕ) → at ≤ length f → part (overwritten f at bytes) at (length bytes) ≡ bytes
+part_written f bytes at le =
+    let rest = drop (at + length bytes) f in
+    let long : length (take at f) ≡ at = length-take-le at f le in
+    ap (λ (l : List ℕ). take (length bytes) (drop at l)) (append_assoc (take at f) bytes rest) ∙ ap (take (length bytes)) (drop_at (take at f) (bytes ++ rest) at long) ∙ take_at bytes rest (length bytes) refl
+
+-- a write within a file is a torn one
+pub written_torn : (f bytes : List ℕ) (at : ℕ) → at + length bytes ≤ length f → Torn at (length bytes) f (overwritten f at bytes)
+written_torn f bytes at le =
+    let rest = drop (at + length bytes) f in
+    let long : length (take at f) ≡ at = length-take-le at f (omega arith) in
+    let front : length (take at f ++ bytes) ≡ at + length bytes = omega (arith, length-append (take at f) bytes, long) in
+    let whole : length (overwritten f at bytes) ≡ length f = omega (arith, length-append (take at f ++ bytes) rest, front, length-drop (at + length bytes) f) in record {
+      before = ap (take at) (append_assoc (take at f) bytes rest) ∙ take_at (take at f) (bytes ++ rest) at long;
+      behind = drop_at (take at f ++ bytes) rest (at + length bytes) front;
+      no_shorter = omega (arith, whole);
+      no_longer = omega (arith, whole);
+    }

@@ -1,0 +1,3 @@
+pub mod LogState
+pub mod SlotLaws
+pub mod Slots

@@ -1,0 +1,8 @@
+//! The redo log of one lap: records in the log slots of a file, each there whole or not at all after a crash.
+#![tactic(auto)]
+
+mod log;
+mod steps;
+mod unit;
+
+pub use log::Log;

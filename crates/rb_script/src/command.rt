@@ -1,0 +1,40 @@
+//! The commands of a script. `parse` makes them of lines, and the shell runs them.
+ghost use Rattle.std.specs.Prelude.{◌≡◌};
+ghost use Rattle.rb_model.specs.Lines as lines;
+
+use rb_model::{Name, Op};
+
+/// A command, with its parts in range. `s` is the number of a session, `t` that of a table; `k`, `lo` and `hi` are keys.
+#[derive(Debug, Drop)]
+pub enum Command<'a> {
+    /// `insert S T K V`.
+    Write {
+        s: u16,
+        t: u16,
+        k: u64,
+        op: Op<'a>,
+    },
+    /// `commit S`.
+    Commit {
+        s: u16,
+    },
+    /// `open S NAME T LO HI`.
+    OpenCursor {
+        s: u16,
+        name: Name,
+        t: u16,
+        lo: u64,
+        hi: u64,
+    },
+    /// `fetch S NAME N`: up to `n` rows, 1 to 1,000,000.
+    Fetch {
+        s: u16,
+        name: Name,
+        n: u32,
+    },
+}
+
+/// No two commands have one spelling.
+pub fn one_spelling()
+    ensures { (a b : lines.Command) → lines.IsCommand a → lines.IsCommand b → lines.spelling a ≡ lines.spelling b → a ≡ b }
+{}

@@ -1,0 +1,14 @@
+//! The lines of a script: which command a line spells, and the text of each reply. The shell calls it.
+#![tactic(auto)]
+
+mod command;
+mod grammar;
+mod reply;
+mod words;
+
+pub use command::{Command, one_spelling};
+pub use grammar::parse;
+pub use reply::{Reply, print};
+
+#[cfg(test)]
+mod tests;

@@ -1,0 +1,120 @@
+//! The replies to the lines of a script. The shell makes one for each command, and writes its text.
+ghost use Rattle.std.specs.Prelude.{◌≡◌, [], ◌∷◌, ◌++◌, ◌+◌, ◌≤◌, length};
+ghost use Rattle.std.specs.Fmt.{decimal};
+ghost use Rattle.arrayvec.specs.ArrayVec.{array_vec_len};
+ghost use Rattle.rb_script.specs.Replies.{text_of_reply, FitsALine};
+ghost use Rattle.rb_model.specs.Lines.{refusal_text};
+
+use arrayvec::ArrayVec;
+use itoa::Buffer;
+use rb_model::Refusal;
+
+/// What a line is answered by.
+#[derive(Clone, Copy, Debug)]
+pub enum Reply<'a> {
+    /// `S ok`.
+    Done { s: u16 },
+    /// `S committed NUMBER`.
+    Committed { s: u16, number: u64 },
+    /// `S row KEY VALUE`.
+    Row { s: u16, key: u64, value: &'a [u8] },
+    /// `S end`.
+    End { s: u16 },
+    /// `S waits ON`.
+    Waits { s: u16, on: u16 },
+    /// `S` and the text of the refusal.
+    Refused { s: u16, why: Refusal },
+    /// `bad line`.
+    BadLine,
+}
+
+type Line = ArrayVec<u8, 512>;
+
+// appends a text that has room
+fn put(text: &[u8], into: &mut Line)
+    requires { array_vec_len into.old + length text.now ≤ 512 }
+    ensures { into.new.items ≡ into.old.items ++ text.now }
+{
+    let fits = into.try_extend_from_slice(text).is_ok();
+    prove!(fits);
+}
+
+// appends the decimal digits of a number
+fn put_number(number: u64, into: &mut Line)
+    requires { array_vec_len into.old + 20 ≤ 512 }
+    ensures items { into.new.items ≡ into.old.items ++ decimal number }
+    ensures len { array_vec_len into.new ≤ array_vec_len into.old + 20 }
+{
+    put(Buffer::new().format(number).as_bytes(), into);
+}
+
+// what a refusal is called
+fn refusal_word(why: Refusal) -> &'static [u8]
+    ensures text { result.now ≡ refusal_text why }
+    ensures short { length result.now ≤ 16 }
+{
+    match why {
+        Refusal::NoSession => b"no session",
+        Refusal::NoTable => b"no table",
+        Refusal::ValueTooLong => b"value too long",
+        Refusal::Duplicate => b"duplicate",
+        Refusal::NoCursor => b"no cursor",
+        Refusal::CursorThere => b"cursor there",
+        Refusal::TooManyCursors => b"too many cursors",
+        Refusal::DiskFault => b"disk fault",
+        Refusal::Stopped => b"stopped",
+        Refusal::LogFull => b"log full",
+    }
+}
+
+// all but the LF
+fn put_reply(reply: &Reply<'_>, into: &mut Line)
+    requires empty { into.old.items ≡ [] }
+    requires fits { FitsALine reply.now }
+    ensures text { into.new.items ++ 10 ∷ [] ≡ text_of_reply reply.now }
+    ensures room { array_vec_len into.new ≤ 511 }
+{
+    match *reply {
+        Reply::Done { s } => {
+            put_number(u64::from(s), into);
+            put(b" ok", into);
+        }
+        Reply::Committed { s, number } => {
+            put_number(u64::from(s), into);
+            put(b" committed ", into);
+            put_number(number, into);
+        }
+        Reply::Row { s, key, value } => {
+            put_number(u64::from(s), into);
+            put(b" row ", into);
+            put_number(key, into);
+            put(b" ", into);
+            put(value, into);
+        }
+        Reply::End { s } => {
+            put_number(u64::from(s), into);
+            put(b" end", into);
+        }
+        Reply::Waits { s, on } => {
+            put_number(u64::from(s), into);
+            put(b" waits ", into);
+            put_number(u64::from(on), into);
+        }
+        Reply::Refused { s, why } => {
+            put_number(u64::from(s), into);
+            put(b" ", into);
+            put(refusal_word(why), into);
+        }
+        Reply::BadLine => put(b"bad line", into),
+    }
+}
+
+/// Writes the line of the reply, with its LF, into an empty `into`. A row's value has at most 80 bytes.
+pub fn print(reply: &Reply<'_>, into: &mut ArrayVec<u8, 512>)
+    requires empty { into.old.items ≡ [] }
+    requires fits { FitsALine reply.now }
+    ensures { into.new.items ≡ text_of_reply reply.now }
+{
+    put_reply(reply, into);
+    into.push(b'\n');
+}

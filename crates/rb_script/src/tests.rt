@@ -1,0 +1,129 @@
+//! Lines and replies, worked by hand.
+use crate::{Command, Reply, parse, print};
+use arrayvec::ArrayVec;
+use rb_model::{Op, Refusal};
+
+#[test]
+fn lines_that_spell_no_command(rt: HostRuntime) {
+    let lines: [&[u8]; 30] = [
+        b"fetch 1 c 0",
+        b"fetch 1 c 00",
+        b"fetch 1 c 01",
+        b"fetch 1 c 1000001",
+        b"open 1 C 1 0 9",
+        b"open 1 c 1 0",
+        b"open 1 c 1 0 ",
+        b"open 1 abcdefghijklmnopq 1 0 9",
+        b"open 1  1 0 9",
+        b"insert 1 1 1 ",
+        b"insert 1 1 1",
+        b"insert 1 1 1 a ",
+        b"insert 1 1 1 a b",
+        b"insert 1  1 1 a",
+        b"insert 1\t1 1 a",
+        b"insert 1 1 1 a\x80",
+        b"insert 1 1 18446744073709551616 a",
+        b"insert 01 1 1 a",
+        b"INSERT 1 1 1 a",
+        b"insert",
+        b"inserts 1 1 1 a",
+        b" commit 1",
+        b"commit",
+        b"commit ",
+        b"commit 1 ",
+        b"commit 1 1",
+        b"commit +1",
+        b"commit -1",
+        b"commit 65536",
+        b" ",
+    ];
+    for line in lines {
+        assert!(rt; parse(line).is_none());
+    }
+}
+
+#[test]
+fn lines_that_spell_a_command(rt: HostRuntime) {
+    assert!(rt;
+        matches!(
+            parse(b"insert 1 2 18446744073709551615 #!"),
+            Some(Command::Write {
+                s: 1,
+                t: 2,
+                k: 18446744073709551615,
+                op: Op::Insert(b"#!")
+            })
+        )
+    );
+    assert!(rt; matches!(parse(b"commit 65535"), Some(Command::Commit { s: 65535 })));
+    let opened = parse(b"open 1 _0 65535 9 0");
+    assert!(rt;
+        matches!(
+            &opened,
+            Some(Command::OpenCursor {
+                s: 1,
+                t: 65535,
+                lo: 9,
+                hi: 0,
+                ..
+            })
+        )
+    );
+    let fetched = parse(b"fetch 0 abcdefghijklmnop 1000000");
+    assert!(rt;
+        matches!(
+            &fetched,
+            Some(Command::Fetch {
+                s: 0,
+                n: 1_000_000,
+                ..
+            })
+        )
+    );
+}
+
+#[test]
+fn texts_of_replies(rt: HostRuntime) {
+    let value = [b'~'; 80];
+    let replies: [(Reply, &[u8]); 8] = [
+        (Reply::Done { s: 1 }, b"1 ok\n"),
+        (
+            Reply::Committed {
+                s: 65535,
+                number: 18446744073709551615,
+            },
+            b"65535 committed 18446744073709551615\n",
+        ),
+        (
+            Reply::Row {
+                s: 1,
+                key: 0,
+                value: b"a",
+            },
+            b"1 row 0 a\n",
+        ),
+        (
+            Reply::Row {
+                s: 1,
+                key: 1,
+                value: value.as_slice(),
+            },
+            b"1 row 1 ~~~~~~~~~~~~~~~~~~~~~~~~~~~~~~~~~~~~~~~~~~~~~~~~~~~~~~~~~~~~~~~~~~~~~~~~~~~~~~~~\n",
+        ),
+        (Reply::End { s: 0 }, b"0 end\n"),
+        (Reply::Waits { s: 2, on: 10 }, b"2 waits 10\n"),
+        (
+            Reply::Refused {
+                s: 1,
+                why: Refusal::TooManyCursors,
+            },
+            b"1 too many cursors\n",
+        ),
+        (Reply::BadLine, b"bad line\n"),
+    ];
+    for (reply, text) in replies {
+        let mut line = ArrayVec::new();
+        print(&reply, &mut line);
+        assert_eq!(rt; line.as_slice(), text);
+    }
+}
