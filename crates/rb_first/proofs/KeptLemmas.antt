@@ -15,8 +15,8 @@ use Rattle.rb_model.specs.Reply.{rows_now, record_length, kind_length, with_own,
 use Rattle.rb_model.specs.declared.refusal.Refusal.{Refusal}
 use Rattle.rb_model.specs.declared.refusal.Refusal.TheVariants.{NoSession, NoTable, ValueTooLong, Duplicate, NoCursor, CursorThere, TooManyCursors, DiskFault, Stopped, LogFull}
 use Rattle.rb_first.specs.declared.cursor.OpenCursor.{OpenCursor}
-use Rattle.rb_first.specs.declared.put.Put.{Put}
-use Rattle.rb_first.specs.Puts.{changes_of, change_of}
+use Rattle.rb_record.specs.declared.put.Put.{Put}
+use Rattle.rb_record.specs.Puts.{changes_of, change_of}
 use Rattle.rb_first.specs.Next.{asked, given_count}
 use Rattle.rb_first.specs.Kept.{Kept, last_end, Rising, between, cut, rows_of, end_at, cursor_view, state_view, IsOpened, IsKept, IsPlace, has_name}
 

@@ -12,8 +12,8 @@ use Rattle.rb_model.specs.declared.refusal.Refusal.TheVariants.{NoCursor, Cursor
 use Rattle.rb_first.specs.declared.state.FirstState.TheInside.{Inside}
 use Rattle.rb_first.specs.contracts.state.FirstState.{the_view}
 use Rattle.rb_first.specs.declared.cursor.OpenCursor.{OpenCursor}
-use Rattle.rb_first.specs.declared.put.Put.{Put}
-use Rattle.rb_first.specs.Puts.{changes_of}
+use Rattle.rb_record.specs.declared.put.Put.{Put}
+use Rattle.rb_record.specs.Puts.{changes_of}
 use Rattle.rb_first.specs.Next.{asked, given_count, next_of, row_at}
 use Rattle.rb_first.specs.Kept.{Kept, cursor_view, state_view, rows_of, cut, last_end, Rising, IsOpened, IsPlace, has_name}
 use Rattle.rb_first.proofs.RowLemmas.{next_is_wanted, given_one_more, ordered-over}

@@ -8,8 +8,8 @@ use Rattle.rb_model.specs.Rows.{TableRow, Commits, over, is_asked}
 use Rattle.rb_model.specs.State.{State, Session, Cursor}
 use Rattle.rb_model.specs.Reply.{record_length}
 use Rattle.rb_first.specs.declared.cursor.OpenCursor.{OpenCursor}
-use Rattle.rb_first.specs.declared.put.Put.{Put}
-use Rattle.rb_first.specs.Puts.{changes_of}
+use Rattle.rb_record.specs.declared.put.Put.{Put}
+use Rattle.rb_record.specs.Puts.{changes_of}
 use Rattle.rb_first.specs.Next.{asked, given_count}
 
 -- the state of the machine, and the slots of the log

@@ -1,4 +1,4 @@
 pub mod Engine
 pub mod Kept
 pub mod Next
-pub mod Puts
+pub mod Others

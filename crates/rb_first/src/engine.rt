@@ -52,6 +52,7 @@ impl<D: Disk> FirstEngine<D> {
     pub fn insert(&mut self, s: u16, table: u16, key: u64, value: &[u8]) -> Result<Wrote, Refusal>
         ensures answer { (room : ℕ) → write_answer result ≡ expected self.old.state room (call.Insert s table key value.now) }
         ensures state { self.new.state ≡ after self.old.state (call.Insert s table key value.now) (write_answer result) }
+        ensures stopped { self.new.state.stopped ≡ self.old.state.stopped }
         ensures layout { self.new.layout ≡ self.old.layout }
         ensures disk { self.new.disk ≡ self.old.disk }
     {
@@ -111,6 +112,7 @@ impl<D: Disk> FirstEngine<D> {
     ) -> Result<(), Refusal>
         ensures answer { (room : ℕ) → plain_answer result ≡ expected self.old.state room (call.OpenCursor s (name_text name.now) table lo hi) }
         ensures state { self.new.state ≡ after self.old.state (call.OpenCursor s (name_text name.now) table lo hi) (plain_answer result) }
+        ensures stopped { self.new.state.stopped ≡ self.old.state.stopped }
         ensures layout { self.new.layout ≡ self.old.layout }
         ensures disk { self.new.disk ≡ self.old.disk }
     {
@@ -122,6 +124,7 @@ impl<D: Disk> FirstEngine<D> {
         ensures answer { (room : ℕ) → fetch_answer result row.new ≡ expected self.old.state room (call.Fetch s (name_text name.now)) }
         ensures state { self.new.state ≡ after self.old.state (call.Fetch s (name_text name.now)) (fetch_answer result row.new) }
         ensures row { LeavesRow result row.old row.new }
+        ensures stopped { self.new.state.stopped ≡ self.old.state.stopped }
         ensures layout { self.new.layout ≡ self.old.layout }
         ensures disk { self.new.disk ≡ self.old.disk }
     {

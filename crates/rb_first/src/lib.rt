@@ -3,11 +3,11 @@
 
 mod cursor;
 mod engine;
-mod put;
+mod open;
 mod rows;
 mod state;
+mod takes;
 
 pub use engine::FirstEngine;
 pub use cursor::OpenCursor;
-pub use put::Put;
 pub use state::FirstState;

@@ -4,11 +4,11 @@ ghost use Rattle.rb_model.specs.Rows.{has_row, over};
 ghost use Rattle.rb_model.specs.Rows as rows;
 ghost use Rattle.rb_model.specs.Reply as reply;
 ghost use Rattle.std.specs.List.{list_any};
-ghost use Rattle.rb_first.specs.Puts.{changes_of, is_put_of};
+ghost use Rattle.rb_record.specs.Puts.{changes_of, is_put_of};
 ghost use Rattle.rb_first.specs.Next.{is_after, next_of, row_at, row_of};
 ghost use Rattle.rb_first.specs.Next as next;
 
-use crate::put::Put;
+use rb_record::Put;
 
 /// Whether one of the changes is of the key.
 fn has_put(changes: &[Put], table: u16, key: u64) -> bool

@@ -10,10 +10,10 @@ ghost use Rattle.rb_model.specs.Out.{room};
 ghost use Rattle.rb_model.specs.Answers.{write_answer, plain_answer, fetch_answer, LeavesRow};
 ghost use Rattle.rb_model.specs.Names.{name_text};
 ghost use Rattle.rb_first.specs.Kept.{has_name, IsPlace, last_end};
-ghost use Rattle.rb_first.specs.Puts.{changes_of, change_of};
+ghost use Rattle.rb_record.specs.Puts.{changes_of, change_of};
 
 use crate::cursor::OpenCursor;
-use crate::put::Put;
+use rb_record::Put;
 use crate::rows::{Query, has_key, next_put, record_length};
 use arrayvec::ArrayVec;
 use rb_base::{NoMemory, Shape};
@@ -72,24 +72,6 @@ fn position_of(cursors: &[OpenCursor], name: &[u8]) -> Option<usize>
         }
     }
     None
-}
-
-/// A change of these parts.
-fn make_put(table: u16, key: u64, value: &[u8]) -> Put
-    requires { length value.now ≤ 80 }
-    ensures table { result.table ≡ table }
-    ensures key { result.key ≡ key }
-    ensures value { result.value.items ≡ value.now }
-{
-    let mut bytes = ArrayVec::new();
-    if bytes.try_extend_from_slice(value).is_err() {
-        unreachable!()
-    }
-    Put {
-        table,
-        key,
-        value: bytes,
-    }
 }
 
 /// The bytes of a name, to keep.
@@ -216,12 +198,14 @@ impl FirstState {
     pub fn insert(&mut self, s: u16, table: u16, key: u64, value: &[u8]) -> Result<Wrote, Refusal>
         ensures answer { (room : ℕ) → write_answer result ≡ expected self.old.state room (call.Insert s table key value.now) }
         ensures state { self.new.state ≡ after self.old.state (call.Insert s table key value.now) (write_answer result) }
+        ensures commits { self.new.state.commits ≡ self.old.state.commits }
+        ensures stopped { self.new.state.stopped ≡ self.old.state.stopped }
         ensures slots { self.new.slots ≡ self.old.slots }
     {
         if let Some(why) = self.insert_refusal(s, table, key, value) {
             return Err(why);
         }
-        self.push(make_put(table, key, value));
+        self.push(Put::new(table, key, value));
         Ok(Wrote::Done)
     }
 
@@ -229,6 +213,9 @@ impl FirstState {
     pub fn push(&mut self, change: Put)
         requires { record_bytes ((session_of self.old.state 1).own ++ change_of change ∷ []) ≤ 2000 }
         ensures state { self.new.state ≡ with_own self.old.state 1 ((session_of self.old.state 1).own ++ change_of change ∷ []) }
+        ensures commits { self.new.state.commits ≡ self.old.state.commits }
+        ensures stopped { self.new.state.stopped ≡ self.old.state.stopped }
+        ensures own { (session_of self.new.state 1).own ≡ (session_of self.old.state 1).own ++ change_of change ∷ [] }
         ensures slots { self.new.slots ≡ self.old.slots }
     {
         let _ = self.changes.as_slice();
@@ -272,6 +259,8 @@ impl FirstState {
     ) -> Result<(), Refusal>
         ensures answer { (room : ℕ) → plain_answer result ≡ expected self.old.state room (call.OpenCursor s (name_text name.now) table lo hi) }
         ensures state { self.new.state ≡ after self.old.state (call.OpenCursor s (name_text name.now) table lo hi) (plain_answer result) }
+        ensures commits { self.new.state.commits ≡ self.old.state.commits }
+        ensures stopped { self.new.state.stopped ≡ self.old.state.stopped }
         ensures slots { self.new.slots ≡ self.old.slots }
     {
         if let Some(why) = self.open_refusal(s, name, table) {
@@ -285,6 +274,8 @@ impl FirstState {
     fn keep_cursor(&mut self, name: &Name, table: u16, lo: u64, hi: u64)
         requires { length (session_of self.old.state 1).cursors < 16 }
         ensures state { self.new.state ≡ after_grant self.old.state (call.OpenCursor 1 (name_text name.now) table lo hi) }
+        ensures commits { self.new.state.commits ≡ self.old.state.commits }
+        ensures stopped { self.new.state.stopped ≡ self.old.state.stopped }
         ensures slots { self.new.slots ≡ self.old.slots }
     {
         let cursor = OpenCursor {
@@ -304,6 +295,8 @@ impl FirstState {
         ensures answer { (room : ℕ) → fetch_answer result row.new ≡ expected self.old.state room (call.Fetch s (name_text name.now)) }
         ensures state { self.new.state ≡ after self.old.state (call.Fetch s (name_text name.now)) (fetch_answer result row.new) }
         ensures row { LeavesRow result row.old row.new }
+        ensures commits { self.new.state.commits ≡ self.old.state.commits }
+        ensures stopped { self.new.state.stopped ≡ self.old.state.stopped }
         ensures slots { self.new.slots ≡ self.old.slots }
     {
         if self.stopped {

@@ -1,3 +1,4 @@
 pub mod Fresh
+pub mod OneLayout
 pub mod Ranges
 pub mod Regions

@@ -5,6 +5,7 @@ mod layout;
 mod read;
 
 pub use layout::{Head, IDENTITY, Layout, VERSION};
+pub use read::one_layout;
 
 #[cfg(test)]
 mod tests {

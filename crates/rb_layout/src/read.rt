@@ -5,6 +5,7 @@ ghost use Rattle.rb_base.specs.declared.faults.OpenFault.TheVariants.{NoMemory, 
 ghost use Rattle.rb_disk.specs.Moments.{Rests};
 ghost use Rattle.rb_layout.specs.declared.layout.Layout.{Layout};
 ghost use Rattle.rb_layout.specs.Regions.{identity, HasIdentity};
+ghost use Rattle.rb_layout.specs.OneLayout.{SameNumbers};
 
 use crate::layout::{IDENTITY, Layout, VERSION};
 use rb_base::{OpenFault, UNIT, u16_at, u32_at};
@@ -61,4 +62,10 @@ fn layout_of(front: &[u8]) -> Option<Layout>
     } else {
         None
     }
+}
+
+/// A file has one layout: its identity and its length are those of no other numbers.
+pub fn one_layout()
+    ensures { (l m : Layout) (file : List ℕ) → HasIdentity VERSION l file → HasIdentity VERSION m file → SameNumbers l m }
+{
 }

@@ -1,5 +1,5 @@
 use Rattle.std.proofs.Common.{◌≡◌, take}
-use Rattle.rb_first.specs.Puts.{changes_of}
+use Rattle.rb_record.specs.Puts.{changes_of}
 use Rattle.rb_first.specs.Next.{next_of, row_at}
 use Rattle.rb_first.proofs.rows.next_put.Given as goal
 

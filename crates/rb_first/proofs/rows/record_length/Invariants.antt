@@ -1,6 +1,6 @@
 use Rattle.std.proofs.Common.{◌≡◌, take, ◌*◌, ◌≤◌, ◌+◌}
 use Rattle.rb_model.specs.Reply as reply
-use Rattle.rb_first.specs.Puts.{changes_of}
+use Rattle.rb_record.specs.Puts.{changes_of}
 use Rattle.rb_first.proofs.rows.record_length.Given as goal
 
 abbrev pub invariant-loop-change : goal.invariant-loop-change

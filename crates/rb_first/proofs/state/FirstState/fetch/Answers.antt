@@ -4,7 +4,7 @@ use Rattle.arrayvec.proofs.ArrayVecLemmas.{items-with_items}
 use Rattle.rb_model.specs.Names.{name_text}
 use Rattle.rb_model.specs.Reply.{Given}
 use Rattle.rb_first.specs.declared.cursor.OpenCursor.{OpenCursor}
-use Rattle.rb_first.specs.Puts.{changes_of}
+use Rattle.rb_record.specs.Puts.{changes_of}
 use Rattle.rb_first.specs.Next.{next_of, row_of}
 use Rattle.rb_first.proofs.StateLemmas.{fetch_tests, fetch_gives, view-fetch, going, one_session, found_none, found_place, any_cursor}
 use Rattle.rb_first.proofs.state.FirstState.fetch.Goals as goal

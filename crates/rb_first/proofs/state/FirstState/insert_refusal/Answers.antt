@@ -4,7 +4,7 @@ use Rattle.rb_model.specs.Change.{put}
 use Rattle.rb_model.specs.Rows.{has_row, over}
 use Rattle.rb_model.specs.State.{session_of}
 use Rattle.rb_model.specs.Reply.{record_length}
-use Rattle.rb_first.specs.Puts.{changes_of}
+use Rattle.rb_record.specs.Puts.{changes_of}
 use Rattle.rb_first.proofs.KeptLemmas.{insert_answer, own_length, few_changes}
 use Rattle.rb_first.proofs.state.FirstState.insert_refusal.Goals as goal
 

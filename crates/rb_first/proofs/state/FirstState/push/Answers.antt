@@ -3,8 +3,8 @@ use Rattle.std.proofs.lemmas.List.{drop-append-le, map_push}
 use Rattle.std.specs.Vec.{vec_len, vec_capacity}
 use Rattle.rb_model.specs.State.{session_of}
 use Rattle.rb_model.specs.Reply.{record_length, with_own}
-use Rattle.rb_first.specs.declared.put.Put.{Put}
-use Rattle.rb_first.specs.Puts.{changes_of, change_of}
+use Rattle.rb_record.specs.declared.put.Put.{Put}
+use Rattle.rb_record.specs.Puts.{changes_of, change_of}
 use Rattle.rb_first.specs.Kept.{Kept, last_end, IsKept, state_view}
 use Rattle.rb_first.proofs.KeptLemmas.{view-push, few_with_push, kept-push}
 use Rattle.rb_first.proofs.state.FirstState.push.Goals as goal
@@ -32,3 +32,11 @@ returns-clause-state c =
     ap (λ ps. state_view a.shape a.base a.base_length a.ends.items ps a.cursors.items a.stopped) c.push_reserved.ensures.items
     ∙ view-push a.shape a.base a.base_length a.ends.items a.changes.items a.cursors.items a.stopped c.args.change c.self.invariant.in_order c.self.invariant.within c.self.invariant.each_cursor
     ∙ ap (λ (k : Kept). with_own k.state 1 ((session_of k.state 1).own ++ change_of c.args.change ∷ [])) c.self.view_is
+
+pub returns-clause-own : goal.returns-clause-own
+returns-clause-own c =
+    let a = c.self.inside in
+    ap (λ ps. changes_of (drop (last_end a.base_length a.ends.items) ps)) c.push_reserved.ensures.items
+    ∙ ap changes_of (drop-append-le (last_end a.base_length a.ends.items) a.changes.items (c.args.change ∷ []) c.self.invariant.within)
+    ∙ map_push change_of (drop (last_end a.base_length a.ends.items) a.changes.items) c.args.change
+    ∙ ap (λ (k : Kept). (session_of k.state 1).own ++ change_of c.args.change ∷ []) c.self.view_is

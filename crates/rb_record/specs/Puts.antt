@@ -1,7 +1,7 @@
 -- What the machine sees of the changes in memory.
 use Rattle.std.specs.Prelude.{ℕ, Bool, ◌&&◌, ◌==◌, List, map}
 use Rattle.rb_model.specs.Change.{Change, put}
-use Rattle.rb_first.specs.declared.put.Put.{Put}
+use Rattle.rb_record.specs.declared.put.Put.{Put}
 
 abbrev pub change_of : Put → Change
 change_of p = put p.table p.key p.value.items
