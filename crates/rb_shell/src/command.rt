@@ -26,6 +26,8 @@ pub fn run<S: Source, K: Sink, D: Disk>(
 ) -> (Status, D)
     ensures usage { result.0 ≡ Status.Usage ↔ ((l : Layout) → ¬ IsFormat words.now l) }
     ensures usage_disk { result.0 ≡ Status.Usage → result.1 ≡ disk }
+    ensures usage_source { result.0 ≡ Status.Usage → source.new ≡ source.old }
+    ensures usage_sink { result.0 ≡ Status.Usage → sink.new ≡ sink.old }
     ensures source { ((n : ℕ) → ¬ IsRun words.now n) → source.new ≡ source.old }
     ensures sink { ((n : ℕ) → ¬ IsRun words.now n) → sink.new ≡ sink.old }
     ensures format_ends { (l : Layout) → IsFormat words.now l → EndsFormat result.0 }

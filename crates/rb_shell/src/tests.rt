@@ -1,7 +1,6 @@
 //! Command lines over a disk in memory: one that makes a file, and those that end otherwise.
 use crate::{Status, run};
 use rb_base::NoMemory;
-use rb_disk::Disk;
 use rb_memdisk::MemDisk;
 use rb_stream::{MemSink, MemSource};
 use std::alloc::{AllocError, Global};

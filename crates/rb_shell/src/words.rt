@@ -8,6 +8,10 @@ ghost use Rattle.rb_shell.specs.declared.words.Request.{Request};
 use rb_base::parse_decimal;
 use rb_layout::Layout;
 
+const FEWEST_FRAMES: u32 = 16;
+
+const MOST_FRAMES: u32 = 4096;
+
 /// What the words ask to do with the file that the first of them names.
 #[derive(Clone, Copy, Debug, PartialEq, Eq)]
 pub enum Request {
@@ -77,7 +81,7 @@ fn parse_frames(parameters: &[String]) -> Option<u32>
         return None;
     };
     let frames = number(frames.as_str(), "frames=")?;
-    if frames < 16 || frames > 4096 {
+    if frames < FEWEST_FRAMES || frames > MOST_FRAMES {
         return None;
     }
     Some(frames)

@@ -1,5 +1,4 @@
-use Rattle.std.proofs.Common.{sym, ◌∙◌, refl}
-use Rattle.rb_shell.specs.Words.{IsFormat}
+use Rattle.std.proofs.Common.{◌∙◌, refl}
 use Rattle.rb_shell.specs.declared.words.Request.TheVariants.{Format}
 use Rattle.rb_shell.proofs.Spelling.{same_file}
 use Rattle.rb_shell.proofs.command.run.Goals as goal

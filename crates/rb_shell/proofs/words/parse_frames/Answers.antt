@@ -1,13 +1,9 @@
-use Rattle.std.proofs.Common.{◌≡◌, arith}
+use Rattle.std.proofs.Common.{◌≡◌, inl, inr, arith}
 use Rattle.rb_shell.proofs.Spelling.{same_frames}
 use Rattle.rb_shell.proofs.words.parse_frames.Goals as goal
-use Rattle.rb_shell.proofs.words.parse_frames.Goals.{then-frames-lt16-via-then-frames-lt16, then-frames-lt16-via-else-frames-lt16+then-frames-gt4096}
 
-pub returns-then-frames-lt16-clause-none : goal.returns-then-frames-lt16-clause-none
-returns-then-frames-lt16-clause-none c = λ n low high asked.
+pub returns-then-frames-lt-FEWEST_FRAMES-clause-none : goal.returns-then-frames-lt-FEWEST_FRAMES-clause-none
+returns-then-frames-lt-FEWEST_FRAMES-clause-none c = λ n low high asked.
     let same : c.in_ok-frames.frames ≡ n = same_frames c.args.parameters.now c.frames-item.result c.as_str.result.now c.in_ok-frames.frames n
     c.in-len1.len_at_least c.in-len1.len_below c.frames-item.is c.as_str.ensures.value c.in_ok-frames.ensures.found (omega arith) (omega arith) asked in
-    elim c.then-frames-lt16.branch [
-      | then-frames-lt16-via-then-frames-lt16 w ↦ omega (arith, same)
-      | then-frames-lt16-via-else-frames-lt16+then-frames-gt4096 w ↦ omega (arith, same)
-    ]
+    elim c.then-frames-lt-FEWEST_FRAMES.either [ inl few ↦ omega (arith, same, few) | inr many ↦ omega (arith, same, many.1) ]

@@ -1,5 +1,5 @@
-use Rattle.std.proofs.Common.{◌≡◌, codes, refl, rules, arith}
-use Rattle.rb_shell.specs.Words.{layout_words, frames_words, IsFileWord}
+use Rattle.std.proofs.Common.{codes, refl, rules}
+use Rattle.rb_shell.specs.Words.{layout_words, frames_words}
 use Rattle.rb_shell.proofs.Spelling.{spelled}
 use Rattle.rb_shell.proofs.words.parse_words.Goals as goal
 
