@@ -1,5 +1,5 @@
 //! The run over a whole source. The shell's `run` calls it with the script.
-ghost use Rattle.std.specs.Prelude.{ℕ, ◌≡◌, ◌≤◌, ◌<◌, ◌+◌, false, true, List, [], ◌++◌, length, take, Result, Ok, Err, IfOk, OnOk, OnErr};
+ghost use Rattle.std.specs.Prelude.{ℕ, ◌≡◌, ◌≤◌, ◌<◌, false, true, List, [], ◌++◌, length, take, IfOk, OnErr};
 ghost use Rattle.rb_base.specs.Counts.{Rose, IsCounted};
 ghost use Rattle.rb_model.specs.Lines.{lines_of};
 ghost use Rattle.rb_lines.specs.Ran.{Ran, CutOff};

@@ -1,5 +1,5 @@
 //! The line under way: the bytes that came for it, fed to a machine where it ends. `run_lines` calls it.
-ghost use Rattle.std.specs.Prelude.{ℕ, ◌≡◌, ◌≤◌, ◌==◌, false, true, if◌then◌else◌, List, [], ◌∷◌, ◌++◌, take, OnOk, IsErrOf};
+ghost use Rattle.std.specs.Prelude.{ℕ, ◌≡◌, ◌≤◌, false, true, List, [], ◌∷◌, ◌++◌, take, OnOk, IsErrOf};
 ghost use Rattle.rb_base.specs.Counts.{Rose};
 ghost use Rattle.rb_lines.specs.Ran.{RanAs};
 ghost use Rattle.rb_lines.specs.Pieces.{lines_from, rest_from, last_of};
