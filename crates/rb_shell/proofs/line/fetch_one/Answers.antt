@@ -3,7 +3,7 @@ use Rattle.rb_model.specs.Out.{room}
 use Rattle.rb_model.specs.Names.{name_text}
 use Rattle.rb_model.specs.Answers.{fetch_answer}
 use Rattle.rb_shell.proofs.StepLemmas.{told_fetch, told_fetch_fault}
-use Rattle.rb_shell.proofs.step.fetch_one.Goals as goal
+use Rattle.rb_shell.proofs.line.fetch_one.Goals as goal
 
 pub returns-in-Ok-clause-steps : goal.returns-in-Ok-clause-steps
 returns-in-Ok-clause-steps g c =

@@ -4,7 +4,7 @@ use Rattle.rb_model.specs.Names.{name_text}
 use Rattle.rb_model.specs.Reply as call
 use Rattle.rb_model.specs.Answers.{write_answer, commit_answer, plain_answer}
 use Rattle.rb_shell.proofs.StepLemmas.{told_call}
-use Rattle.rb_shell.proofs.step.open_line.Goals as goal
+use Rattle.rb_shell.proofs.line.open_line.Goals as goal
 
 pub returns-clause-steps : goal.returns-clause-steps
 returns-clause-steps g c =

@@ -1,7 +1,7 @@
 use Rattle.std.proofs.Common.{◌≡◌, ◌≤◌}
 use Rattle.rb_model.specs.Names.{name_text}
 use Rattle.rb_shell.specs.Steps.{FetchedSoFar}
-use Rattle.rb_shell.proofs.step.fetch_line.Given as goal
+use Rattle.rb_shell.proofs.line.fetch_line.Given as goal
 
 abbrev pub invariant-loop : goal.invariant-loop
 invariant-loop g l = record {

@@ -4,7 +4,7 @@ use Rattle.rb_model.specs.Names.{name_text}
 use Rattle.rb_shell.specs.Steps.{Steps, FetchSteps}
 use Rattle.rb_model.specs.Out.{FetchOut}
 use Rattle.rb_shell.proofs.StepLemmas.{so_far_none, so_far_more, so_far_end, so_far_stop, so_far_fault}
-use Rattle.rb_shell.proofs.step.fetch_line.Goals as goal
+use Rattle.rb_shell.proofs.line.fetch_line.Goals as goal
 
 pub loop-init : goal.loop-init
 loop-init g c = record {

@@ -5,7 +5,7 @@ use Rattle.rb_model.specs.Lines as lines
 use Rattle.rb_model.specs.Out.{LineOut, CommandOut, too_long, bad, command}
 use Rattle.rb_script.specs.Commands.{command_of}
 use Rattle.rb_shell.proofs.StepLemmas.{steps_weaker, bad_steps}
-use Rattle.rb_shell.proofs.step.step.Goals as goal
+use Rattle.rb_shell.proofs.line.step.Goals as goal
 
 pub returns-then-line-gt-LINE_BYTES-clause-steps : goal.returns-then-line-gt-LINE_BYTES-clause-steps
 returns-then-line-gt-LINE_BYTES-clause-steps g c =
