@@ -1,5 +1,5 @@
 -- What a step does to lines and states.
-use Rattle.std.proofs.Common.{◌≡◌, ℕ, suc, zero, ◌+◌, Bool, true, false, List, [], ◌∷◌, ◌++◌, length, take, Result, Ok, Err, refl, arith, ap, sym, ◌∙◌, subst, inl, inr, ⊎_elim, ◌==◌, ◌<◌, ◌-◌, min, append_assoc}
+use Rattle.std.proofs.Common.{◌≡◌, ℕ, suc, zero, ◌+◌, Bool, true, false, List, [], ◌∷◌, ◌++◌, length, take, Result, Ok, Err, refl, arith, ap, sym, ◌∙◌, subst, inl, ⊎_elim, ◌==◌, ◌<◌, ◌-◌, min, append_assoc}
 use Rattle.std.proofs.lemmas.List.{append-nil, take-append-le, take_min}
 use Rattle.std.proofs.Math.Seq.{take-append-add}
 use Rattle.std.proofs.lemmas.Bool.{cond_both, cases_Bool, false≢true}
@@ -13,7 +13,7 @@ use Rattle.rb_model.specs.declared.refusal.Refusal.{Refusal}
 use Rattle.rb_model.specs.declared.refusal.Refusal.TheVariants.{NoSession, NoTable, ValueTooLong, Duplicate, NoCursor, CursorThere, TooManyCursors, DiskFault, Stopped, LogFull}
 use Rattle.rb_lines.specs.declared.machine.StepFault.{StepFault}
 use Rattle.rb_lines.specs.declared.machine.StepFault.TheVariants.{Disk, Sink}
-use Rattle.rb_shell.specs.Steps.{is_fault, is_disk_fault, Told, Replied, CutShort, Steps, FetchOnce, FetchSteps, FetchedSoFar}
+use Rattle.rb_shell.specs.Steps.{is_fault, is_disk_fault, Told, CutShort, Steps, FetchOnce, FetchSteps, FetchedSoFar}
 
 -- a CR at the end goes
 pub return_goes : (front : List ℕ) (last : ℕ) → last ≡ 13 → without_return (front ++ last ∷ []) ≡ front

@@ -3,15 +3,15 @@
 #![tactic(auto)]
 
 mod command;
+mod line;
 mod script;
 mod status;
-mod line;
 mod words;
 
 pub use command::run;
+pub use line::step;
 pub use rb_first::FirstEngine;
 pub use status::Status;
-pub use line::step;
 
 #[cfg(test)]
 mod tests;

@@ -9,8 +9,8 @@ ghost use Rattle.rb_model.specs.Out.{LineOut};
 ghost use Rattle.rb_shell.specs.Runs.{IsSound, HasDone, HasRun, WasCutOff, IsTaken, EndsRun, AsksScript, AsksNothing};
 ghost use Rattle.rb_shell.specs.Steps.{Steps};
 
-use crate::status::Status;
 use crate::line::step;
+use crate::status::Status;
 use rb_base::OpenFault;
 use rb_disk::Disk;
 use rb_first::FirstEngine;

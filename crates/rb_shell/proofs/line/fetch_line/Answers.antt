@@ -1,4 +1,4 @@
-use Rattle.std.proofs.Common.{◌≡◌, ℕ, List, Bool, true, false, Ok, Err, refl, arith, sym, ◌∙◌, subst}
+use Rattle.std.proofs.Common.{◌≡◌, ℕ, Bool, true, false, Ok, Err, refl, arith, ◌∙◌, subst}
 use Rattle.rb_layout.specs.declared.layout.Layout.{Layout}
 use Rattle.rb_model.specs.Names.{name_text}
 use Rattle.rb_shell.specs.Steps.{Steps, FetchSteps}

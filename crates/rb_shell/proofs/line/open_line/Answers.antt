@@ -2,7 +2,7 @@ use Rattle.std.proofs.Common.{inl}
 use Rattle.rb_model.specs.Out.{room}
 use Rattle.rb_model.specs.Names.{name_text}
 use Rattle.rb_model.specs.Reply as call
-use Rattle.rb_model.specs.Answers.{write_answer, commit_answer, plain_answer}
+use Rattle.rb_model.specs.Answers.{plain_answer}
 use Rattle.rb_shell.proofs.StepLemmas.{told_call}
 use Rattle.rb_shell.proofs.line.open_line.Goals as goal
 

@@ -1,7 +1,5 @@
-use Rattle.std.proofs.Common.{◌≡◌, ℕ, ◌≤◌, List, false, refl, arith, ap, sym, ◌∙◌, subst}
-use Rattle.rb_model.specs.State.{State}
+use Rattle.std.proofs.Common.{ℕ, List, refl, ap, sym, ◌∙◌, subst}
 use Rattle.rb_model.specs.Lines.{bad_line_text, Spells, SpellsNone, is_remark}
-use Rattle.rb_model.specs.Lines as lines
 use Rattle.rb_model.specs.Out.{LineOut, CommandOut, too_long, bad, command}
 use Rattle.rb_script.specs.Commands.{command_of}
 use Rattle.rb_shell.proofs.StepLemmas.{steps_weaker, bad_steps}

@@ -1,5 +1,5 @@
 use Rattle.std.proofs.Common.{inr}
-use Rattle.rb_shell.proofs.RunLemmas.{Found, sound_of, has_run, was_cut_off}
+use Rattle.rb_shell.proofs.RunLemmas.{has_run, was_cut_off}
 use Rattle.rb_shell.proofs.script.run_script.Goals as goal
 
 pub returns-in-Ok-open-clause-done : goal.returns-in-Ok-open-clause-done
