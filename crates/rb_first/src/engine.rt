@@ -1,5 +1,5 @@
 //! `FirstEngine`: the state of the first path with its log on a disk. The shell runs lines through it.
-ghost use Rattle.std.specs.Prelude.{◌≡◌, ℕ, ◌+◌, ◌≤◌, [], ◌∷◌, ◌++◌, List, length, IfOk, IfErr, IfSome, IsErrOf, OnOk, OnErr, ◌<◌, true, false};
+ghost use Rattle.std.specs.Prelude.{◌≡◌, ◌≢◌, ℕ, ◌+◌, ◌≤◌, [], ◌∷◌, ◌++◌, List, length, IfOk, IfErr, IfSome, IsErrOf, OnOk, OnErr, ◌<◌, true, false};
 ghost use Rattle.rb_base.specs.Counts.{Rose};
 ghost use Rattle.rb_model.specs.Reply.{expected, after, committed, Reply};
 ghost use Rattle.rb_model.specs.Reply as call;
@@ -8,7 +8,7 @@ ghost use Rattle.rb_model.specs.State.{session_of};
 ghost use Rattle.rb_model.specs.Out.{room};
 ghost use Rattle.rb_model.specs.Names.{name_text};
 ghost use Rattle.rb_model.specs.Answers.{write_answer, plain_answer, fetch_answer, commit_answer, LeavesRow};
-ghost use Rattle.rb_log.specs.Slots.{LogIs};
+ghost use Rattle.rb_log.specs.Slots.{LogIs, SameOutside, SameSlots};
 ghost use Rattle.rb_record.specs.Records.{record_bytes};
 ghost use Rattle.rb_first.specs.Engine.{Engine};
 
@@ -67,6 +67,10 @@ impl<D: Disk> FirstEngine<D> {
         ensures layout { self.new.layout ≡ self.old.layout }
         ensures fault { result ≡ Err Refusal.DiskFault → Rose (D.faults self.old.disk) (D.faults self.new.disk) }
         ensures counted { D.faults self.old.disk ≤ D.faults self.new.disk }
+        ensures refused { IfErr result (λ why. why ≢ Refusal.DiskFault → self.new.disk ≡ self.old.disk) }
+        ensures nothing { result ≡ Ok None → self.new.disk ≡ self.old.disk }
+        ensures outside { D.tells → OnOk result (SameOutside self.old.layout.log (D.content self.old.disk) (D.content self.new.disk)) }
+        ensures durable { D.tells → IfOk result (λ n. IfSome n (λ _. (c : List ℕ) → D.image self.new.disk c → SameSlots self.old.layout.log (D.content self.new.disk) c)) }
         ensures written { D.tells → IfOk result (λ n. IfSome n (λ _. (records : List (List ℕ)) → length records ≡ last_number self.old.state.commits → LogIs self.old.layout.log (D.content self.old.disk) 0 records
             → LogIs self.old.layout.log (D.content self.new.disk) 0 (records ++ record_bytes (session_of self.old.state 1).own ∷ []))) }
     {
@@ -89,6 +93,8 @@ impl<D: Disk> FirstEngine<D> {
         ensures layout { self.new.layout ≡ self.old.layout }
         ensures cause { OnErr result (Rose (D.faults self.old.disk) (D.faults self.new.disk)) }
         ensures counted { D.faults self.old.disk ≤ D.faults self.new.disk }
+        ensures outside { D.tells → OnOk result (SameOutside self.old.layout.log (D.content self.old.disk) (D.content self.new.disk)) }
+        ensures durable { D.tells → OnOk result ((c : List ℕ) → D.image self.new.disk c → SameSlots self.old.layout.log (D.content self.new.disk) c) }
         ensures written { D.tells → OnOk result ((records : List (List ℕ)) → length records ≡ last_number self.old.state.commits → LogIs self.old.layout.log (D.content self.old.disk) 0 records
             → LogIs self.old.layout.log (D.content self.new.disk) 0 (records ++ record_bytes (session_of self.old.state 1).own ∷ [])) }
     {
