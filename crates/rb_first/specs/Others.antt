@@ -17,5 +17,9 @@ others_same x = record { slots = refl; shape = refl; commits = refl; cursors = r
 
 pub others_joined : (x y z : Kept) → KeepsOthers x y → KeepsOthers y z → KeepsOthers x z
 others_joined x y z a b = record {
-    slots = b.slots ∙ a.slots; shape = b.shape ∙ a.shape; commits = b.commits ∙ a.commits; cursors = b.cursors ∙ a.cursors; stopped = b.stopped ∙ a.stopped;
-  }
+  slots = b.slots ∙ a.slots;
+  shape = b.shape ∙ a.shape;
+  commits = b.commits ∙ a.commits;
+  cursors = b.cursors ∙ a.cursors;
+  stopped = b.stopped ∙ a.stopped;
+}

@@ -144,7 +144,13 @@ impl<D: Disk> FirstEngine<D> {
     pub fn close(self) -> D
         ensures { result ≡ self.disk }
     {
-        let FirstEngine { state: _, log: _, layout: _, buffer: _, disk } = self;
+        let FirstEngine {
+            state: _,
+            log: _,
+            layout: _,
+            buffer: _,
+            disk,
+        } = self;
         disk
     }
 }

@@ -8,6 +8,6 @@ mod rows;
 mod state;
 mod takes;
 
-pub use engine::FirstEngine;
 pub use cursor::OpenCursor;
+pub use engine::FirstEngine;
 pub use state::FirstState;

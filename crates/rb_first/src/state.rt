@@ -13,11 +13,11 @@ ghost use Rattle.rb_first.specs.Kept.{has_name, IsPlace, last_end};
 ghost use Rattle.rb_record.specs.Puts.{changes_of, change_of};
 
 use crate::cursor::OpenCursor;
-use rb_record::Put;
 use crate::rows::{Query, has_key, next_put, record_length};
 use arrayvec::ArrayVec;
 use rb_base::{NoMemory, Shape};
 use rb_model::{Fetched, Name, Refusal, Row, Wrote};
+use rb_record::Put;
 use std::alloc::Global;
 use std::marker::Model;
 

@@ -67,5 +67,4 @@ fn layout_of(front: &[u8]) -> Option<Layout>
 /// A file has one layout: its identity and its length are those of no other numbers.
 pub fn one_layout()
     ensures { (l m : Layout) (file : List ℕ) → HasIdentity VERSION l file → HasIdentity VERSION m file → SameNumbers l m }
-{
-}
+{}

@@ -12,7 +12,8 @@ abbrev start : State
 start = record {
   shape = record { tables = 1; blocks = 2; segments = 1 };
   commits = record { base = 0; rows = []; list = [] };
-  sessions = fresh_session ∷ []; stopped = false;
+  sessions = fresh_session ∷ [];
+  stopped = false;
 }
 
 -- the calls in turn, each with the answer that it is granted

@@ -59,12 +59,14 @@ after_stopped h c (Refused why) e = refused_stopped h why e
 pub told_call : (h now : State) (slots s : ℕ) (c : Call) (r : Answer) (text : List ℕ) (fault : Bool) (tells : Type 0) (before after_put : List ℕ) (result : Result (Unit {0}) StepFault)
     → h.stopped ≡ false → Reply h (room slots h) c r → now ≡ after h c r → text ≡ reply_text s r → fault ≡ is_fault r → Told text fault tells before after_put result
     → Steps (CallOut h slots s c) now tells before after_put result
-told_call h now slots s c r text fault tells before after_put (Ok done) going reply state t f told =
-    (record { out = text; reply = record { answer = r; reply = reply; text = t; state = state }; written = told.1 },
-      ap (λ (x : State). x.stopped) state ∙ after_stopped h c r going ∙ sym f ∙ told.0)
-told_call h now slots s c r text fault tells before after_put (Err Disk) going reply state t f told =
-    (record { out = text; reply = record { answer = r; reply = reply; text = t; state = state }; written = told.1 },
-      ap (λ (x : State). x.stopped) state ∙ after_stopped h c r going ∙ sym f ∙ told.0)
+told_call h now slots s c r text fault tells before after_put (Ok done) going reply state t f told = (
+  record { out = text; reply = record { answer = r; reply = reply; text = t; state = state }; written = told.1 },
+  ap (λ (x : State). x.stopped) state ∙ after_stopped h c r going ∙ sym f ∙ told.0,
+)
+told_call h now slots s c r text fault tells before after_put (Err Disk) going reply state t f told = (
+  record { out = text; reply = record { answer = r; reply = reply; text = t; state = state }; written = told.1 },
+  ap (λ (x : State). x.stopped) state ∙ after_stopped h c r going ∙ sym f ∙ told.0,
+)
 told_call h now slots s c r text fault tells before after_put (Err Sink) going reply state t f told = λ t1.
     let w = told t1 in
     record { out = text; state = now; reply = record { answer = r; reply = reply; text = t; state = state }; size = w.0; written = w.1 }
@@ -90,16 +92,18 @@ fault_gives_none (Refused why) e = refl
 pub told_fetch : (h now : State) (slots s : ℕ) (name : List ℕ) (r : Answer) (text : List ℕ) (fault gave : Bool) (tells : Type 0) (before after_put : List ℕ)
     → h.stopped ≡ false → Reply h (room slots h) (Fetch s name) r → now ≡ after h (Fetch s name) r → text ≡ reply_text s r → fault ≡ is_fault r → is_given r ≡ gave → Told text fault tells before after_put (Ok tt)
     → FetchSteps h slots s name now tells before after_put (Ok gave)
-told_fetch h now slots s name r text fault gave tells before after_put going reply state t f gives told =
-    (record { out = text; reply = record { answer = r; reply = reply; gives = gives; text = t; state = state }; written = told.1 },
-      ap (λ (x : State). x.stopped) state ∙ after_stopped h (Fetch s name) r going ∙ sym f ∙ told.0)
+told_fetch h now slots s name r text fault gave tells before after_put going reply state t f gives told = (
+  record { out = text; reply = record { answer = r; reply = reply; gives = gives; text = t; state = state }; written = told.1 },
+  ap (λ (x : State). x.stopped) state ∙ after_stopped h (Fetch s name) r going ∙ sym f ∙ told.0,
+)
 
 pub told_fetch_fault : (h now : State) (slots s : ℕ) (name : List ℕ) (r : Answer) (text : List ℕ) (fault : Bool) (tells : Type 0) (before after_put : List ℕ) (why : StepFault)
     → h.stopped ≡ false → Reply h (room slots h) (Fetch s name) r → now ≡ after h (Fetch s name) r → text ≡ reply_text s r → fault ≡ is_fault r → Told text fault tells before after_put (Err why)
     → FetchSteps h slots s name now tells before after_put (Err why)
-told_fetch_fault h now slots s name r text fault tells before after_put Disk going reply state t f told =
-    (record { out = text; reply = record { answer = r; reply = reply; gives = fault_gives_none r (sym f ∙ told.0); text = t; state = state }; written = told.1 },
-      ap (λ (x : State). x.stopped) state ∙ after_stopped h (Fetch s name) r going ∙ sym f ∙ told.0)
+told_fetch_fault h now slots s name r text fault tells before after_put Disk going reply state t f told = (
+  record { out = text; reply = record { answer = r; reply = reply; gives = fault_gives_none r (sym f ∙ told.0); text = t; state = state }; written = told.1 },
+  ap (λ (x : State). x.stopped) state ∙ after_stopped h (Fetch s name) r going ∙ sym f ∙ told.0,
+)
 told_fetch_fault h now slots s name r text fault tells before after_put Sink going reply state t f told = λ t1.
     let w = told t1 in
     (is_given r, record { out = text; state = now; reply = record { answer = r; reply = reply; gives = refl; text = t; state = state }; size = w.0; written = w.1 })
@@ -107,49 +111,59 @@ told_fetch_fault h now slots s name r text fault tells before after_put Sink goi
 -- before the first fetch
 pub so_far_none : (h : State) (slots s : ℕ) (name : List ℕ) (tells : Type 0) (before : List ℕ) → h.stopped ≡ false → FetchedSoFar h slots s name 0 h tells before before
 so_far_none h slots s name tells before going = record {
-    out = [];
-    goes_on = λ more rest h2 f. subst (λ (n : ℕ). FetchOut h slots s name n rest h2) (omega arith) f;
-    written = λ told. sym (append-nil before);
-    going = going;
-  }
+  out = [];
+  goes_on = λ more rest h2 f. subst (λ (n : ℕ). FetchOut h slots s name n rest h2) (omega arith) f;
+  written = λ told. sym (append-nil before);
+  going = going;
+}
 
 -- one fetch that gave a row goes before the others
 once_more : (h mid h2 : State) (slots s : ℕ) (name : List ℕ) (more : ℕ) (out rest : List ℕ) → FetchOnce h slots s name true out mid → FetchOut mid slots s name more rest h2 → FetchOut h slots s name (suc more) (out ++ rest) h2
-once_more h mid h2 slots s name more out rest once f =
-    (once.answer, rest, once.reply, ap (λ xs. xs ++ rest) once.text,
-      subst (λ (b : Bool). MatchBool b (FetchOut (after h (Fetch s name) once.answer) slots s name more rest h2) ((rest ≡ []) × (h2 ≡ after h (Fetch s name) once.answer))) (sym once.gives)
-        (subst (λ (m : State). FetchOut m slots s name more rest h2) once.state f))
+once_more h mid h2 slots s name more out rest once f = (
+  once.answer,
+  rest,
+  once.reply,
+  ap (λ xs. xs ++ rest) once.text,
+  subst (λ (b : Bool). MatchBool b (FetchOut (after h (Fetch s name) once.answer) slots s name more rest h2) ((rest ≡ []) × (h2 ≡ after h (Fetch s name) once.answer))) (sym once.gives)
+      (subst (λ (m : State). FetchOut m slots s name more rest h2) once.state f),
+)
 
 -- one fetch that gave none is the last
 once_last : (h mid : State) (slots s : ℕ) (name : List ℕ) (more : ℕ) (out : List ℕ) → FetchOnce h slots s name false out mid → FetchOut h slots s name (suc more) out mid
 once_last h mid slots s name more out once =
-    let none : ◌≡◌ {A = List ℕ} [] [] = refl in
-    (once.answer, [], once.reply, once.text ∙ sym (append-nil (reply_text s once.answer)),
-      subst (λ (b : Bool). MatchBool b (FetchOut (after h (Fetch s name) once.answer) slots s name more [] mid) (◌≡◌ {A = List ℕ} [] [] × (mid ≡ after h (Fetch s name) once.answer))) (sym once.gives) (none, once.state))
+    let none : ◌≡◌ {A = List ℕ} [] [] = refl in (
+      once.answer,
+      [],
+      once.reply,
+      once.text ∙ sym (append-nil (reply_text s once.answer)),
+      subst (λ (b : Bool). MatchBool b (FetchOut (after h (Fetch s name) once.answer) slots s name more [] mid) (◌≡◌ {A = List ℕ} [] [] × (mid ≡ after h (Fetch s name) once.answer))) (sym once.gives) (none, once.state),
+    )
 
 pub so_far_more : (start h mid : State) (slots s : ℕ) (name : List ℕ) (count : ℕ) (tells : Type 0) (before now later : List ℕ) → FetchedSoFar start slots s name count h tells before now
     → FetchSteps h slots s name mid tells now later (Ok true) → FetchedSoFar start slots s name (count + 1) mid tells before later
 so_far_more start h mid slots s name count tells before now later so step =
     let one = step.0 in record {
-    out = so.out ++ one.out;
-    goes_on = λ more rest h2 f.
-      subst (λ (n : ℕ). FetchOut start slots s name n ((so.out ++ one.out) ++ rest) h2) (omega arith)
-        (subst (λ (xs : List ℕ). FetchOut start slots s name (count + suc more) xs h2) (sym (append_assoc so.out one.out rest))
+      out = so.out ++ one.out;
+      goes_on = λ more rest h2 f.
+          subst (λ (n : ℕ). FetchOut start slots s name n ((so.out ++ one.out) ++ rest) h2) (omega arith)
+          (subst (λ (xs : List ℕ). FetchOut start slots s name (count + suc more) xs h2) (sym (append_assoc so.out one.out rest))
           (so.goes_on (suc more) (one.out ++ rest) h2 (once_more h mid h2 slots s name more one.out rest one.reply f)));
-    written = λ told. one.written told ∙ ap (λ xs. xs ++ one.out) (so.written told) ∙ append_assoc before so.out one.out;
-    going = step.1;
-  }
+      written = λ told. one.written told ∙ ap (λ xs. xs ++ one.out) (so.written told) ∙ append_assoc before so.out one.out;
+      going = step.1;
+    }
 
 -- all fetches gave rows
 pub so_far_end : (start h : State) (slots s : ℕ) (name : List ℕ) (count : ℕ) (tells : Type 0) (before now : List ℕ) → FetchedSoFar start slots s name count h tells before now
     → Steps (FetchOut start slots s name count) h tells before now (Ok tt)
-so_far_end start h slots s name count tells before now so =
-    (record {
-      out = so.out;
-      reply = subst (λ (n : ℕ). FetchOut start slots s name n so.out h) (omega arith)
+so_far_end start h slots s name count tells before now so = (
+  record {
+    out = so.out;
+    reply = subst (λ (n : ℕ). FetchOut start slots s name n so.out h) (omega arith)
         (subst (λ (xs : List ℕ). FetchOut start slots s name (count + 0) xs h) (append-nil so.out) (so.goes_on 0 [] h (refl, refl)));
-      written = so.written;
-    }, so.going)
+    written = so.written;
+  },
+  so.going,
+)
 
 so_far_last : (start h mid : State) (slots s : ℕ) (name : List ℕ) (count all : ℕ) (out : List ℕ) (tells : Type 0) (before now : List ℕ) (so : FetchedSoFar start slots s name count h tells before now) → count < all
     → FetchOnce h slots s name false out mid → FetchOut start slots s name all (so.out ++ out) mid
@@ -160,9 +174,14 @@ so_far_last start h mid slots s name count all out tells before now so lt once =
 pub so_far_stop : (start h mid : State) (slots s : ℕ) (name : List ℕ) (count all : ℕ) (tells : Type 0) (before now later : List ℕ) → FetchedSoFar start slots s name count h tells before now → count < all
     → FetchSteps h slots s name mid tells now later (Ok false) → Steps (FetchOut start slots s name all) mid tells before later (Ok tt)
 so_far_stop start h mid slots s name count all tells before now later so lt step =
-    let one = step.0 in
-    (record { out = so.out ++ one.out; reply = so_far_last start h mid slots s name count all one.out tells before now so lt one.reply;
-      written = λ told. one.written told ∙ ap (λ xs. xs ++ one.out) (so.written told) ∙ append_assoc before so.out one.out }, step.1)
+    let one = step.0 in (
+      record {
+        out = so.out ++ one.out;
+        reply = so_far_last start h mid slots s name count all one.out tells before now so lt one.reply;
+        written = λ told. one.written told ∙ ap (λ xs. xs ++ one.out) (so.written told) ∙ append_assoc before so.out one.out;
+      },
+      step.1,
+    )
 
 -- there is always a reply to go on with
 pub some_fetches : (more : ℕ) (h : State) (slots s : ℕ) (name : List ℕ) → (out : List ℕ) × (h2 : State) × FetchOut h slots s name more out h2
@@ -172,9 +191,9 @@ some_fetches (suc more) h slots s name =
     let mid = after h (Fetch s name) r in
     let rest = some_fetches more mid slots s name in
     ⊎_elim
-      (λ g. (reply_text s r ++ rest.0, rest.1, once_more h mid rest.1 slots s name more (reply_text s r) rest.0 (record { answer = r; reply = inl refl; gives = g; text = refl; state = refl }) rest.2))
-      (λ g. (reply_text s r, mid, once_last h mid slots s name more (reply_text s r) (record { answer = r; reply = inl refl; gives = g; text = refl; state = refl })))
-      (cases_Bool (is_given r))
+    (λ g. (reply_text s r ++ rest.0, rest.1, once_more h mid rest.1 slots s name more (reply_text s r) rest.0 (record { answer = r; reply = inl refl; gives = g; text = refl; state = refl }) rest.2))
+    (λ g. (reply_text s r, mid, once_last h mid slots s name more (reply_text s r) (record { answer = r; reply = inl refl; gives = g; text = refl; state = refl })))
+    (cases_Bool (is_given r))
 
 take_within : (n : ℕ) (text more : List ℕ) → take (min n (length text)) (text ++ more) ≡ take n text
 take_within n text more = take-append-le (min n (length text)) text more (omega arith) ∙ take_min n text
@@ -189,15 +208,17 @@ cut_behind start h slots s name count all tells before now later so lt held true
     let m = all - (count + 1) in
     let rest = some_fetches m cut.state slots s name in
     record {
-      out = so.out ++ (cut.out ++ rest.0); state = rest.1;
+      out = so.out ++ (cut.out ++ rest.0);
+      state = rest.1;
       reply = subst (λ (n : ℕ). FetchOut start slots s name n (so.out ++ (cut.out ++ rest.0)) rest.1) (omega (arith, lt)) (so.goes_on (suc m) (cut.out ++ rest.0) rest.1 (once_more h cut.state rest.1 slots s name m cut.out rest.0 cut.reply rest.2));
       size = length so.out + min cut.size (length cut.out);
       written = cut.written ∙ ap (λ xs. xs ++ take cut.size cut.out) held ∙ append_assoc before so.out (take cut.size cut.out)
-        ∙ ap (λ xs. before ++ xs) (sym (take_behind so.out (min cut.size (length cut.out)) (cut.out ++ rest.0) ∙ ap (λ xs. so.out ++ xs) (take_within cut.size cut.out rest.0)));
+          ∙ ap (λ xs. before ++ xs) (sym (take_behind so.out (min cut.size (length cut.out)) (cut.out ++ rest.0) ∙ ap (λ xs. so.out ++ xs) (take_within cut.size cut.out rest.0)));
     }
 cut_behind start h slots s name count all tells before now later so lt held false cut =
     record {
-      out = so.out ++ cut.out; state = cut.state;
+      out = so.out ++ cut.out;
+      state = cut.state;
       reply = so_far_last start h cut.state slots s name count all cut.out tells before now so lt cut.reply;
       size = length so.out + cut.size;
       written = cut.written ∙ ap (λ xs. xs ++ take cut.size cut.out) held ∙ append_assoc before so.out (take cut.size cut.out) ∙ ap (λ xs. before ++ xs) (sym (take_behind so.out cut.size cut.out));
@@ -206,9 +227,14 @@ cut_behind start h slots s name count all tells before now later so lt held fals
 pub so_far_fault : (start h mid : State) (slots s : ℕ) (name : List ℕ) (count all : ℕ) (tells : Type 0) (before now later : List ℕ) (why : StepFault) → FetchedSoFar start slots s name count h tells before now → count < all
     → FetchSteps h slots s name mid tells now later (Err why) → Steps (FetchOut start slots s name all) mid tells before later (Err why)
 so_far_fault start h mid slots s name count all tells before now later Disk so lt step =
-    let one = step.0 in
-    (record { out = so.out ++ one.out; reply = so_far_last start h mid slots s name count all one.out tells before now so lt one.reply;
-      written = λ told. one.written told ∙ ap (λ xs. xs ++ one.out) (so.written told) ∙ append_assoc before so.out one.out }, step.1)
+    let one = step.0 in (
+      record {
+        out = so.out ++ one.out;
+        reply = so_far_last start h mid slots s name count all one.out tells before now so lt one.reply;
+        written = λ told. one.written told ∙ ap (λ xs. xs ++ one.out) (so.written told) ∙ append_assoc before so.out one.out;
+      },
+      step.1,
+    )
 so_far_fault start h mid slots s name count all tells before now later Sink so lt step = λ told.
     let cut = step told in cut_behind start h slots s name count all tells before now later so lt (so.written told) cut.0 cut.1
 

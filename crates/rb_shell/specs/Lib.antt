@@ -1,3 +1,4 @@
+pub mod Runs
 pub mod Statuses
 pub mod Steps
 pub mod Words

@@ -48,3 +48,7 @@ pub record IsRun (words : List (String Global)) (frames : ℕ) : Type 0 where
 abbrev pub AskFor : List (String Global) → Request → Type 0
 AskFor words (Format l) = IsFormat words l
 AskFor words (Run frames) = IsRun words frames
+
+-- the words ask for nothing
+abbrev pub IsUsage : List (String Global) → Type 0
+IsUsage words = ((l : Layout) → IsFormat words l → ⊥) × ((n : ℕ) → IsRun words n → ⊥)

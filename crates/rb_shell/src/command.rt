@@ -1,13 +1,17 @@
 //! `run`: the program over a source, a sink and a disk. `main` calls it.
-ghost use Rattle.std.specs.Prelude.{◌≡◌, ℕ, ◌<◌, ◌≤◌, ◌↔◌, length};
+ghost use Rattle.std.specs.Prelude.{◌≡◌, ◌⊎◌, ℕ, ◌<◌, ◌≤◌, ◌↔◌, List, [], length};
 ghost use Rattle.rb_base.specs.Counts.{Rose};
 ghost use Rattle.rb_disk.specs.DiskModel.{Only};
 ghost use Rattle.rb_disk.specs.Moments.{Rests};
 ghost use Rattle.rb_layout.specs.declared.layout.Layout.{Layout};
 ghost use Rattle.rb_layout.specs.Regions.{fresh_file};
+ghost use Rattle.rb_lines.specs.Whole.{whole_lines};
+ghost use Rattle.rb_model.specs.Lines.{lines_of};
+ghost use Rattle.rb_shell.specs.Runs.{IsSound, HasRun, WasCutOff, IsTaken, EndsRun, AsksScript, AsksNothing, IsDoneOrNoMemory};
 ghost use Rattle.rb_shell.specs.Statuses.{EndsFormat};
-ghost use Rattle.rb_shell.specs.Words.{IsFormat, IsRun};
+ghost use Rattle.rb_shell.specs.Words.{IsFormat, IsRun, IsUsage};
 
+use crate::script::run_script;
 use crate::status::Status;
 use crate::words::{Request, parse_words};
 use rb_disk::Disk;
@@ -16,7 +20,9 @@ use rb_store::{FormatFault, format};
 use rb_stream::{Sink, Source};
 use std::alloc::Global;
 
-/// Does what the words after the program's name ask for, and hands the disk back.
+/// Does what the words after the program's name ask for, and hands the disk back: `FILE format ...` makes a new
+/// file on the disk, and `FILE run frames=N` does the source's lines over the store of the disk, and puts each
+/// reply as soon as its line is done.
 pub fn run<S: Source, K: Sink, D: Disk>(
     alloc: Global,
     words: &[String],
@@ -24,25 +30,64 @@ pub fn run<S: Source, K: Sink, D: Disk>(
     sink: &mut K,
     disk: D,
 ) -> (Status, D)
-    ensures usage { result.0 ≡ Status.Usage ↔ ((l : Layout) → ¬ IsFormat words.now l) }
+    // Other words are refused before anything is touched.
+    ensures usage { result.0 ≡ Status.Usage ↔ IsUsage words.now }
     ensures usage_disk { result.0 ≡ Status.Usage → result.1 ≡ disk }
-    ensures usage_source { result.0 ≡ Status.Usage → source.new ≡ source.old }
-    ensures usage_sink { result.0 ≡ Status.Usage → sink.new ≡ sink.old }
-    ensures source { ((n : ℕ) → ¬ IsRun words.now n) → source.new ≡ source.old }
-    ensures sink { ((n : ℕ) → ¬ IsRun words.now n) → sink.new ≡ sink.old }
     ensures format_ends { (l : Layout) → IsFormat words.now l → EndsFormat result.0 }
+    ensures run_ends { (n : ℕ) → IsRun words.now n → EndsRun result.0 }
+
+    // A new file.
     ensures formatted { D.tells → (l : Layout) → IsFormat words.now l → result.0 ≡ Status.Done → D.content result.1 ≡ fresh_file VERSION l }
     ensures durable { D.tells → (l : Layout) → IsFormat words.now l → result.0 ≡ Status.Done → Only (fresh_file VERSION l) (D.image result.1) }
     ensures was_empty { D.tells → (l : Layout) → IsFormat words.now l → result.0 ≡ Status.Done → length (D.content disk) ≡ 0 }
     ensures not_empty { D.tells → result.0 ≡ Status.NotEmpty → 0 < length (D.content disk) }
-    ensures unchanged { D.tells → (l : Layout) → IsFormat words.now l → 0 < length (D.content disk) → Rests D.content D.image D.moment D.image_since disk result.1 }
+    ensures format_unchanged { D.tells → (l : Layout) → IsFormat words.now l → 0 < length (D.content disk) → Rests D.content D.image D.moment D.image_since disk result.1 }
+    ensures format_source { ((n : ℕ) → ¬ IsRun words.now n) → source.new ≡ source.old }
+    ensures format_sink { ((n : ℕ) → ¬ IsRun words.now n) → sink.new ≡ sink.old }
+
+    // A run to its end: the replies are those that the machine opened with the file's records allows for the lines
+    // of the whole source.
+    ensures replies { D.tells → S.tells → (n : ℕ) → IsRun words.now n → result.0 ≡ Status.Done → HasRun (D.content disk) (lines_of (S.left source.old)) K.tells (K.held sink.old) (K.held sink.new) }
+    ensures at_end { S.tells → (n : ℕ) → IsRun words.now n → result.0 ≡ Status.Done → S.left source.new ≡ [] }
+    ensures few { S.tells → (n : ℕ) → IsRun words.now n → result.0 ≡ Status.Done → length (S.left source.old) < 1000000000 }
+
+    // A run that ends at a fault of the source, or is too long: the whole lines of what was taken are done.
+    ensures source_done { D.tells → S.tells → result.0 ≡ Status.SourceFault →
+        ((taken : List ℕ) × IsTaken taken (S.left source.old) (S.left source.new)
+        × HasRun (D.content disk) (whole_lines taken) K.tells (K.held sink.old) (K.held sink.new)) }
+    ensures too_long { D.tells → S.tells → result.0 ≡ Status.TooLong →
+        ((taken : List ℕ) × (length taken ≡ 1000000000) × IsTaken taken (S.left source.old) (S.left source.new)
+        × HasRun (D.content disk) (whole_lines taken) K.tells (K.held sink.old) (K.held sink.new)) }
+
+    // At a fault of the disk nothing was asked for, or the reply that tells of it is the last; at one of the sink
+    // the replies are cut off.
+    ensures disk_done { D.tells → S.tells → (n : ℕ) → IsRun words.now n → result.0 ≡ Status.DiskFault →
+        ((source.new ≡ source.old) × (sink.new ≡ sink.old))
+        ⊎ HasRun (D.content disk) (lines_of (S.left source.old)) K.tells (K.held sink.old) (K.held sink.new) }
+    ensures cut_off { D.tells → S.tells → K.tells → result.0 ≡ Status.SinkFault → WasCutOff (D.content disk) (lines_of (S.left source.old)) (K.held sink.old) (K.held sink.new) }
+
+    // Where the script isn't asked for, nothing is changed. It is asked for just where the file is a store.
+    ensures source { AsksNothing result.0 → source.new ≡ source.old }
+    ensures sink { AsksNothing result.0 → sink.new ≡ sink.old }
+    ensures unchanged { D.tells → (n : ℕ) → IsRun words.now n → AsksNothing result.0 → Rests D.content D.image D.moment D.image_since disk result.1 }
+    ensures not_a_store { D.tells → result.0 ≡ Status.NotAStore → ¬ IsSound (D.content disk) }
+    ensures sound { D.tells → (n : ℕ) → IsRun words.now n → AsksScript result.0 → IsSound (D.content disk) }
+
+    // Each fault has its cause, and the counts never fall. Where none rises, all is done.
+    ensures source_fault { result.0 ≡ Status.SourceFault → Rose (S.faults source.old) (S.faults source.new) }
     ensures disk_fault { result.0 ≡ Status.DiskFault → Rose (D.faults disk) (D.faults result.1) }
+    ensures sink_fault { result.0 ≡ Status.SinkFault → Rose (K.faults sink.old) (K.faults sink.new) }
+    ensures source_counted { S.faults source.old ≤ S.faults source.new }
     ensures counted { D.faults disk ≤ D.faults result.1 }
+    ensures sink_counted { K.faults sink.old ≤ K.faults sink.new }
+    ensures complete_format { D.tells → (l : Layout) → IsFormat words.now l → length (D.content disk) ≡ 0 → ¬ Rose (D.faults disk) (D.faults result.1) → result.0 ≡ Status.Done }
+    ensures complete { D.tells → S.tells → (n : ℕ) → IsRun words.now n → IsSound (D.content disk) → length (S.left source.old) < 1000000000
+        → ¬ Rose (S.faults source.old) (S.faults source.new) → ¬ Rose (D.faults disk) (D.faults result.1) → ¬ Rose (K.faults sink.old) (K.faults sink.new)
+        → IsDoneOrNoMemory result.0 }
 {
     match parse_words(words) {
         Some(Request::Format(layout)) => run_format(&layout, disk),
-        // No script is run yet.
-        Some(Request::Run { .. }) => (Status::Usage, disk),
+        Some(Request::Run { frames: _ }) => run_script(alloc, source, sink, disk),
         None => (Status::Usage, disk),
     }
 }

@@ -3,12 +3,15 @@
 #![tactic(auto)]
 
 mod command;
+mod script;
 mod status;
-mod step;
+mod line;
 mod words;
 
 pub use command::run;
+pub use rb_first::FirstEngine;
 pub use status::Status;
+pub use line::step;
 
 #[cfg(test)]
 mod tests;

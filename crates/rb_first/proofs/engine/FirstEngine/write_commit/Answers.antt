@@ -19,13 +19,14 @@ invariant_of-self g c =
     let going : a.state.state.stopped ≡ false = ap (λ e. e.state.stopped) c.self.view_is ∙ c.requires.going in
     let same : length c.write_record-length.new.into ≡ length c.deref_mut.result.now = c.write_record-length.auto.into in
     let items : take a.buffer.len (c.write_record-length.new.into ++ drop (length c.write_record-length.new.into) a.buffer.items) ≡ c.write_record-length.new.into =
-        with_items_is a.buffer c.write_record-length.new.into (same ∙ c.deref_mut.ensures.len) in
+    with_items_is a.buffer c.write_record-length.new.into (same ∙ c.deref_mut.ensures.len) in
     let long : length (take a.buffer.len (c.write_record-length.new.into ++ drop (length c.write_record-length.new.into) a.buffer.items)) ≡ 2000 =
-        ap length items ∙ same ∙ ap length c.deref_mut.ensures.value ∙ step.buffer_length in
-    let layout : c.append.new.self.layout ≡ a.layout = ap (λ (l : LogState). l.layout) c.append.ensures ∙ step.same_layout in
-    (in_step_commit a.state c.commit.new.self a.log c.append.new.self c.flush.new.self a.layout _ _ _ step going c.append.ensures c.in-Ok.ensures.flushed c.commit.ensures.state c.commit.ensures.slots long,
+    ap length items ∙ same ∙ ap length c.deref_mut.ensures.value ∙ step.buffer_length in
+    let layout : c.append.new.self.layout ≡ a.layout = ap (λ (l : LogState). l.layout) c.append.ensures ∙ step.same_layout in (
+      in_step_commit a.state c.commit.new.self a.log c.append.new.self c.flush.new.self a.layout _ _ _ step going c.append.ensures c.in-Ok.ensures.flushed c.commit.ensures.state c.commit.ensures.slots long,
       λ told. c.in-Ok.ensures.whole told ∙ ap file_length layout,
-      λ told still im h. subst (λ (l : Layout). SameSlots l.log (g.D.Disk.content c.flush.new.disk) im) layout (c.in-Ok.ensures.durable told im h))
+      λ told still im h. subst (λ (l : Layout). SameSlots l.log (g.D.Disk.content c.flush.new.disk) im) layout (c.in-Ok.ensures.durable told im h),
+    )
 
 pub returns-in-Ok-clause-written : goal.returns-in-Ok-clause-written
 returns-in-Ok-clause-written g c = λ told records count log.
@@ -34,21 +35,21 @@ returns-in-Ok-clause-written g c = λ told records count log.
     let going : a.state.state.stopped ≡ false = ap (λ e. e.state.stopped) c.self.view_is ∙ c.requires.going in
     let same : length c.write_record-length.new.into ≡ length c.deref_mut.result.now = c.write_record-length.auto.into in
     let items : take a.buffer.len (c.write_record-length.new.into ++ drop (length c.write_record-length.new.into) a.buffer.items) ≡ c.write_record-length.new.into =
-        with_items_is a.buffer c.write_record-length.new.into (same ∙ c.deref_mut.ensures.len) in
+    with_items_is a.buffer c.write_record-length.new.into (same ∙ c.deref_mut.ensures.len) in
     let long : length c.deref_mut.result.now ≡ 2000 = ap length c.deref_mut.ensures.value ∙ step.buffer_length in
     let within : c.write_record-length.result ≤ length c.deref_mut.result.now = omega (arith, long, c.write_record-length.ensures.length, c.own.ensures.few) in
     let own : changes_of c.own.result.now ≡ (session_of c.args.self.now.state 1).own = c.own.ensures.own ∙ ap (λ e. (session_of e.state 1).own) c.self.view_is in
     let bytes : take c.write_record-length.result c.deref.result.now ≡ record_bytes (session_of c.args.self.now.state 1).own =
-        ap (take c.write_record-length.result) (c.deref.ensures.value ∙ items)
-        ∙ record_front (record_bytes (changes_of c.own.result.now)) c.deref_mut.result.now c.write_record-length.new.into c.write_record-length.result c.write_record-length.ensures.into same within
-        ∙ ap record_bytes own in
+    ap (take c.write_record-length.result) (c.deref.ensures.value ∙ items)
+    ∙ record_front (record_bytes (changes_of c.own.result.now)) c.deref_mut.result.now c.write_record-length.new.into c.write_record-length.result c.write_record-length.ensures.into same within
+    ∙ ap record_bytes own in
     let pending : c.append.new.self.pending ≡ record_bytes (session_of c.args.self.now.state 1).own ∷ [] =
-        ap (λ (l : LogState). l.pending) c.append.ensures ∙ ap (λ (b : List ℕ). b ∷ []) bytes in
+    ap (λ (l : LogState). l.pending) c.append.ensures ∙ ap (λ (b : List ℕ). b ∷ []) bytes in
     let layout : c.append.new.self.layout ≡ c.args.self.now.layout = ap (λ (l : LogState). l.layout) c.append.ensures ∙ step.same_layout ∙ ap (λ e. e.layout) c.self.view_is in
     let used : length records ≡ c.append.new.self.used =
-        count ∙ sym (ap (λ e. last_number e.state.commits) c.self.view_is) ∙ sym (step.used going) ∙ sym (ap (λ (l : LogState). l.used) c.append.ensures) in
+    count ∙ sym (ap (λ e. last_number e.state.commits) c.self.view_is) ∙ sym (step.used going) ∙ sym (ap (λ (l : LogState). l.used) c.append.ensures) in
     let before : LogIs c.append.new.self.layout.log (g.D.Disk.content a.disk) 0 records =
-        subst (λ (l : Layout). LogIs l.log (g.D.Disk.content a.disk) 0 records) (sym layout)
-          (subst (λ (d : _). LogIs c.args.self.now.layout.log (g.D.Disk.content d) 0 records) (sym (ap (λ e. e.disk) c.self.view_is)) log) in
+    subst (λ (l : Layout). LogIs l.log (g.D.Disk.content a.disk) 0 records) (sym layout)
+    (subst (λ (d : _). LogIs c.args.self.now.layout.log (g.D.Disk.content d) 0 records) (sym (ap (λ e. e.disk) c.self.view_is)) log) in
     subst (λ (l : Layout). LogIs l.log (g.D.Disk.content c.flush.new.disk) 0 (records ++ record_bytes (session_of c.args.self.now.state 1).own ∷ [])) layout
-      (subst (λ (p : List (List ℕ)). LogIs c.append.new.self.layout.log (g.D.Disk.content c.flush.new.disk) 0 (records ++ p)) pending (c.in-Ok.ensures.written told records used before))
+    (subst (λ (p : List (List ℕ)). LogIs c.append.new.self.layout.log (g.D.Disk.content c.flush.new.disk) 0 (records ++ p)) pending (c.in-Ok.ensures.written told records used before))

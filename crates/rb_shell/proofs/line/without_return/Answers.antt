@@ -2,7 +2,7 @@ use Rattle.std.proofs.Common.{◌≡◌, ◌==◌, false, sym, ◌∙◌, ap}
 use Rattle.std.proofs.lemmas.Bool.{ne_eqb}
 use Rattle.rb_model.specs.Lines.{without_return}
 use Rattle.rb_shell.proofs.StepLemmas.{return_goes, other_stays}
-use Rattle.rb_shell.proofs.step.without_return.Goals as goal
+use Rattle.rb_shell.proofs.line.without_return.Goals as goal
 
 pub returns-in-Some : goal.returns-in-Some
 returns-in-Some c =

@@ -4,19 +4,21 @@ use Rattle.rb_model.specs.Names.{name_text}
 use Rattle.rb_shell.specs.Steps.{Steps, FetchSteps}
 use Rattle.rb_model.specs.Out.{FetchOut}
 use Rattle.rb_shell.proofs.StepLemmas.{so_far_none, so_far_more, so_far_end, so_far_stop, so_far_fault}
-use Rattle.rb_shell.proofs.step.fetch_line.Goals as goal
+use Rattle.rb_shell.proofs.line.fetch_line.Goals as goal
 
 pub loop-init : goal.loop-init
 loop-init g c = record {
-    fetched = so_far_none c.args.engine.now.state c.args.engine.now.layout.log c.args.s (name_text c.args.name.now) g.K.Sink.tells (g.K.Sink.held c.args.sink.now) c.requires;
-    layout = refl; counted = omega arith; sink_counted = omega arith;
-  }
+  fetched = so_far_none c.args.engine.now.state c.args.engine.now.layout.log c.args.s (name_text c.args.name.now) g.K.Sink.tells (g.K.Sink.held c.args.sink.now) c.requires;
+  layout = refl;
+  counted = omega arith;
+  sink_counted = omega arith;
+}
 
 pub loop-preserved : goal.loop-preserved
 loop-preserved g c =
     let i = c.loop.invariant in
     let steps = subst (λ (l : Layout). FetchSteps c.loop.engine.state l.log c.args.s (name_text c.args.name.now) c.fetch_one.new.engine.state g.K.Sink.tells (g.K.Sink.held c.loop.sink) (g.K.Sink.held c.fetch_one.new.sink) (Ok true)) i.layout
-      (subst (λ (b : Bool). FetchSteps c.loop.engine.state c.loop.engine.layout.log c.args.s (name_text c.args.name.now) c.fetch_one.new.engine.state g.K.Sink.tells (g.K.Sink.held c.loop.sink) (g.K.Sink.held c.fetch_one.new.sink) (Ok b)) c.in-Ok-true.field-0-test c.in-Ok-true.ensures.steps) in
+    (subst (λ (b : Bool). FetchSteps c.loop.engine.state c.loop.engine.layout.log c.args.s (name_text c.args.name.now) c.fetch_one.new.engine.state g.K.Sink.tells (g.K.Sink.held c.loop.sink) (g.K.Sink.held c.fetch_one.new.sink) (Ok b)) c.in-Ok-true.field-0-test c.in-Ok-true.ensures.steps) in
     record {
       fetched = so_far_more c.args.engine.now.state c.loop.engine.state c.fetch_one.new.engine.state c.args.engine.now.layout.log c.args.s (name_text c.args.name.now) c.loop.counter g.K.Sink.tells _ _ _ i.fetched steps;
       layout = c.fetch_one.ensures.layout ∙ i.layout;
@@ -28,18 +30,18 @@ pub returns-in-Ok-false-clause-steps : goal.returns-in-Ok-false-clause-steps
 returns-in-Ok-false-clause-steps g c =
     let i = c.loop.invariant in
     so_far_stop c.args.engine.now.state c.loop.engine.state c.fetch_one.new.engine.state c.args.engine.now.layout.log c.args.s (name_text c.args.name.now) c.loop.counter c.args.count g.K.Sink.tells _ _ _ i.fetched c.loop-test.true
-      (subst (λ (l : Layout). FetchSteps c.loop.engine.state l.log c.args.s (name_text c.args.name.now) c.fetch_one.new.engine.state g.K.Sink.tells (g.K.Sink.held c.loop.sink) (g.K.Sink.held c.fetch_one.new.sink) (Ok false)) i.layout
-        (subst (λ (b : Bool). FetchSteps c.loop.engine.state c.loop.engine.layout.log c.args.s (name_text c.args.name.now) c.fetch_one.new.engine.state g.K.Sink.tells (g.K.Sink.held c.loop.sink) (g.K.Sink.held c.fetch_one.new.sink) (Ok b)) c.in-Ok-false.field-0-test c.in-Ok-false.ensures.steps))
+    (subst (λ (l : Layout). FetchSteps c.loop.engine.state l.log c.args.s (name_text c.args.name.now) c.fetch_one.new.engine.state g.K.Sink.tells (g.K.Sink.held c.loop.sink) (g.K.Sink.held c.fetch_one.new.sink) (Ok false)) i.layout
+    (subst (λ (b : Bool). FetchSteps c.loop.engine.state c.loop.engine.layout.log c.args.s (name_text c.args.name.now) c.fetch_one.new.engine.state g.K.Sink.tells (g.K.Sink.held c.loop.sink) (g.K.Sink.held c.fetch_one.new.sink) (Ok b)) c.in-Ok-false.field-0-test c.in-Ok-false.ensures.steps))
 
 pub returns-in-Err-clause-steps : goal.returns-in-Err-clause-steps
 returns-in-Err-clause-steps g c =
     let i = c.loop.invariant in
     so_far_fault c.args.engine.now.state c.loop.engine.state c.fetch_one.new.engine.state c.args.engine.now.layout.log c.args.s (name_text c.args.name.now) c.loop.counter c.args.count g.K.Sink.tells _ _ _ c.in-Err.fault i.fetched c.loop-test.true
-      (subst (λ (l : Layout). FetchSteps c.loop.engine.state l.log c.args.s (name_text c.args.name.now) c.fetch_one.new.engine.state g.K.Sink.tells (g.K.Sink.held c.loop.sink) (g.K.Sink.held c.fetch_one.new.sink) (Err c.in-Err.fault)) i.layout c.in-Err.ensures.steps)
+    (subst (λ (l : Layout). FetchSteps c.loop.engine.state l.log c.args.s (name_text c.args.name.now) c.fetch_one.new.engine.state g.K.Sink.tells (g.K.Sink.held c.loop.sink) (g.K.Sink.held c.fetch_one.new.sink) (Err c.in-Err.fault)) i.layout c.in-Err.ensures.steps)
 
 pub returns-clause-steps : goal.returns-clause-steps
 returns-clause-steps g c =
     let i = c.loop.invariant in
     let all : c.loop.counter ≡ c.args.count = omega arith in
     subst (λ (n : ℕ). Steps (FetchOut c.args.engine.now.state c.args.engine.now.layout.log c.args.s (name_text c.args.name.now) n) c.loop.engine.state g.K.Sink.tells (g.K.Sink.held c.args.sink.now) (g.K.Sink.held c.loop.sink) (Ok tt)) all
-      (so_far_end c.args.engine.now.state c.loop.engine.state c.args.engine.now.layout.log c.args.s (name_text c.args.name.now) c.loop.counter g.K.Sink.tells _ _ i.fetched)
+    (so_far_end c.args.engine.now.state c.loop.engine.state c.args.engine.now.layout.log c.args.s (name_text c.args.name.now) c.loop.counter g.K.Sink.tells _ _ i.fetched)

@@ -4,9 +4,9 @@ use Rattle.rb_model.specs.Names.{name_text}
 use Rattle.rb_model.specs.Reply as call
 use Rattle.rb_model.specs.Answers.{write_answer, commit_answer, plain_answer}
 use Rattle.rb_shell.proofs.StepLemmas.{told_call}
-use Rattle.rb_shell.proofs.step.insert_line.Goals as goal
+use Rattle.rb_shell.proofs.line.insert_line.Goals as goal
 
 pub returns-clause-steps : goal.returns-clause-steps
 returns-clause-steps g c =
     told_call c.args.engine.now.state c.insert-answer.new.self.state c.args.engine.now.layout.log c.args.s (call.Insert c.args.s c.args.table c.args.key c.args.value.now) (write_answer c.insert-answer.result) _ _ g.K.Sink.tells _ _ c.tell.result
-      c.requires (inl (c.insert-answer.ensures.answer (room c.args.engine.now.layout.log c.args.engine.now.state))) c.insert-answer.ensures.state c.reply_to_write.ensures.text c.reply_to_write.ensures.fault c.tell.ensures.told
+    c.requires (inl (c.insert-answer.ensures.answer (room c.args.engine.now.layout.log c.args.engine.now.state))) c.insert-answer.ensures.state c.reply_to_write.ensures.text c.reply_to_write.ensures.fault c.tell.ensures.told

@@ -1,0 +1,32 @@
+use Rattle.rb_shell.proofs.script.run_engine.Goals as goal
+
+pub returns-clause-done : goal.returns-clause-done
+returns-clause-done g c = λ is told. record { state = c.run_lines-end.new.machine.engine.state; ran = c.run_lines-end.ensures.done (c.status_of_end.ensures.done is) told }
+
+pub returns-clause-at_end : goal.returns-clause-at_end
+returns-clause-at_end g c = λ is told. c.run_lines-end.ensures.at_end (c.status_of_end.ensures.done is) told
+
+pub returns-clause-few : goal.returns-clause-few
+returns-clause-few g c = λ is told. c.run_lines-end.ensures.few (c.status_of_end.ensures.done is) told
+
+pub returns-clause-source_done : goal.returns-clause-source_done
+returns-clause-source_done g c = λ is told.
+    let all = c.run_lines-end.ensures.source_done (c.status_of_end.ensures.source_fault is) told in
+    (all.0, all.1, record { state = c.run_lines-end.new.machine.engine.state; ran = all.2 })
+
+pub returns-clause-too_long : goal.returns-clause-too_long
+returns-clause-too_long g c = λ is told.
+    let all = c.run_lines-end.ensures.too_long (c.status_of_end.ensures.too_long is) told in
+    (all.0, all.1, all.2, record { state = c.run_lines-end.new.machine.engine.state; ran = all.3 })
+
+pub returns-clause-disk_done : goal.returns-clause-disk_done
+returns-clause-disk_done g c = λ is told. record { state = c.run_lines-end.new.machine.engine.state; ran = c.run_lines-end.ensures.disk_done (c.status_of_end.ensures.disk_fault is) told }
+
+pub returns-clause-cut_off : goal.returns-clause-cut_off
+returns-clause-cut_off g c = λ is told tells. c.run_lines-end.ensures.cut_off (c.status_of_end.ensures.sink_fault is) told tells
+
+pub returns-clause-source_fault : goal.returns-clause-source_fault
+returns-clause-source_fault g c = λ is. c.run_lines-end.ensures.source_fault (c.status_of_end.ensures.source_fault is)
+
+pub returns-clause-sink_fault : goal.returns-clause-sink_fault
+returns-clause-sink_fault g c = λ is. c.run_lines-end.ensures.sink_fault (c.status_of_end.ensures.sink_fault is)
