@@ -1,0 +1,570 @@
+//! The worked rows. What is expected stands in the rows, and is no output of the program.
+use crate::doubles::{Ended, FORMAT_LARGE, FORMAT_SMALL, Failing, NONE, RUN, formatted, run_over};
+use rb_base::NoMemory;
+use rb_first::FirstEngine;
+use rb_memdisk::{MemDisk, Pick};
+use rb_model::{Refusal, Wrote};
+use std::alloc::Global;
+use std::test::Fail;
+
+// Scripts over a fresh file each, and their replies.
+#[test]
+fn replies(rt: HostRuntime) -> Result<(), Fail> {
+    let rows: [(&str, &[u8], &[u8]); 6] = [
+        ("empty script", b"", b""),
+        (
+            "insert, commit, fetch",
+            b"\
+insert 1 1 1 a
+commit 1
+open 1 c 1 0 9
+fetch 1 c 5
+commit 1
+",
+            b"\
+1 ok
+1 committed 1
+1 ok
+1 row 1 a
+1 end
+1 ok
+",
+        ),
+        (
+            "frozen own changes",
+            b"\
+insert 1 1 1 a
+open 1 c 1 0 9
+insert 1 1 2 b
+fetch 1 c 5
+",
+            b"\
+1 ok
+1 ok
+1 ok
+1 row 1 a
+1 end
+",
+        ),
+        (
+            "last line without its end",
+            b"insert 1 1 1 a\ncommit 1",
+            b"1 ok\n1 committed 1\n",
+        ),
+        (
+            "one row at a time",
+            b"\
+insert 1 1 1 a
+open 1 c 1 0 9
+fetch 1 c 1
+fetch 1 c 1
+fetch 1 c 1
+open 1 d 1 5 4
+fetch 1 d 1
+",
+            b"\
+1 ok
+1 ok
+1 row 1 a
+1 end
+1 end
+1 ok
+1 end
+",
+        ),
+        (
+            "line bounds",
+            LINE_BOUNDS,
+            b"\
+1 ok
+1 value too long
+bad line
+bad line
+bad line
+bad line
+1 committed 1
+",
+        ),
+    ];
+    let file = formatted(rt.alloc(), FORMAT_LARGE)?;
+    for (name, script, replies) in rows {
+        let end = run_over(rt.alloc(), RUN, &file, script, NONE)?;
+        assert_eq!(rt; end.status.code(), 0, "{name}");
+        assert_eq!(rt; end.sink.bytes(), replies, "{name}");
+    }
+    Ok(())
+}
+
+// Values of 80 and 81 bytes.
+const LINE_BOUNDS: &[u8] = b"\
+insert 1 1 18446744073709551615 vvvvvvvvvvvvvvvvvvvvvvvvvvvvvvvvvvvvvvvvvvvvvvvvvvvvvvvvvvvvvvvvvvvvvvvvvvvvvvvv
+insert 1 1 2 vvvvvvvvvvvvvvvvvvvvvvvvvvvvvvvvvvvvvvvvvvvvvvvvvvvvvvvvvvvvvvvvvvvvvvvvvvvvvvvvv
+insert 1 1 18446744073709551616 a
+insert 1 1 01 a
+insert 1  1 1 a
+INSERT 1 1 1 a
+commit 1\r
+";
+
+// Scripts of refusals, over a fresh file each.
+#[test]
+fn refusals(rt: HostRuntime) -> Result<(), Fail> {
+    let rows: [(&str, &[u8], &[u8]); 3] = [
+        (
+            "sessions and tables",
+            b"\
+commit 65535
+commit 0
+commit 2
+insert 2 1 1 a
+open 2 c 1 0 9
+fetch 2 c 1
+insert 1 2 1 a
+insert 1 0 1 a
+open 1 c 2 0 9
+",
+            b"\
+65535 no session
+0 no session
+2 no session
+2 no session
+2 no session
+2 no session
+1 no table
+1 no table
+1 no table
+",
+        ),
+        (
+            "keys and cursors",
+            b"\
+insert 1 1 1 a
+insert 1 1 1 b
+fetch 1 c 1
+open 1 c 1 0 9
+open 1 c 1 0 9
+open 1 c 2 0 9
+commit 1
+insert 1 1 1 b
+",
+            b"\
+1 ok
+1 duplicate
+1 no cursor
+1 ok
+1 cursor there
+1 no table
+1 committed 1
+1 duplicate
+",
+        ),
+        ("sixteen cursors", SEVENTEEN_CURSORS, SIXTEEN_OPEN),
+    ];
+    let file = formatted(rt.alloc(), FORMAT_SMALL)?;
+    for (name, script, replies) in rows {
+        let end = run_over(rt.alloc(), RUN, &file, script, NONE)?;
+        assert_eq!(rt; end.status.code(), 0, "{name}");
+        assert_eq!(rt; end.sink.bytes(), replies, "{name}");
+    }
+    Ok(())
+}
+
+const SEVENTEEN_CURSORS: &[u8] = b"\
+open 1 a 1 0 9
+open 1 b 1 0 9
+open 1 c 1 0 9
+open 1 d 1 0 9
+open 1 e 1 0 9
+open 1 f 1 0 9
+open 1 g 1 0 9
+open 1 h 1 0 9
+open 1 i 1 0 9
+open 1 j 1 0 9
+open 1 k 1 0 9
+open 1 l 1 0 9
+open 1 m 1 0 9
+open 1 n 1 0 9
+open 1 o 1 0 9
+open 1 p 1 0 9
+open 1 q 1 0 9
+";
+
+const SIXTEEN_OPEN: &[u8] = b"\
+1 ok
+1 ok
+1 ok
+1 ok
+1 ok
+1 ok
+1 ok
+1 ok
+1 ok
+1 ok
+1 ok
+1 ok
+1 ok
+1 ok
+1 ok
+1 ok
+1 too many cursors
+";
+
+// Each line is a bad one.
+const BAD_LINES: &[u8] = b"\
+fetch 1 c 0
+open 1 C 1 0 9
+savepoint 1 abcdefghijklmnopq
+insert 1 1 1\x20
+insert 1 1 1 a\x20
+insert 1\t1 1 a
+insert 1 1 1 a\x80
+marks 1
+commit 65536
+\r\r
+\x20
+ commit 1
+commit
+commit 1 1
+commit +1
+commit -1
+commit 1\r\r
+set 1 READ-ONLY
+set 1
+fetch 1 c 1000001
+fetch 1 c 00
+open 1 c 1 0
+lock 1 1 1 a
+delete 1 1 1 a
+insert 1 1 1 a\0
+commit 1\0
+savepoint 1\x20
+apply 1
+fetch 1 c 01
+";
+
+// Remarks, and lines that look like bad ones.
+const OTHER_LINES: &[u8] = b"\
+\r
+
+#
+# x\r
+insert 1 1 1 #
+open 1 abcdefghijklmnop 1 0 9
+open 1 _0 1 0 9
+fetch 1 c 1000000
+";
+
+#[test]
+fn bad_lines(rt: HostRuntime) -> Result<(), Fail> {
+    let file = formatted(rt.alloc(), FORMAT_SMALL)?;
+    let bad = run_over(rt.alloc(), RUN, &file, BAD_LINES, NONE)?;
+    let replies = repeated(rt.alloc(), b"bad line\n", 29)?;
+    assert_eq!(rt; bad.status.code(), 0);
+    assert_eq!(rt; bad.sink.bytes(), replies.as_slice());
+    let others = run_over(rt.alloc(), RUN, &file, OTHER_LINES, NONE)?;
+    assert_eq!(rt; others.status.code(), 0);
+    assert_eq!(rt;
+        others.sink.bytes(),
+        b"1 ok\n1 ok\n1 ok\n1 no cursor\n".as_slice()
+    );
+    Ok(())
+}
+
+fn repeated(alloc: Global, piece: &[u8], count: usize) -> Result<Vec<u8>, NoMemory> {
+    let mut bytes = Vec::new(alloc);
+    for _ in 0..count {
+        bytes.extend_from_slice(piece).map_err(|_| NoMemory)?;
+    }
+    Ok(bytes)
+}
+
+// A line has at most 512 bytes, its CR among them.
+#[test]
+fn long_lines(rt: HostRuntime) -> Result<(), Fail> {
+    let rows: [(usize, &[u8], &[u8]); 5] = [
+        (511, b"\r\n", b""),
+        (512, b"\n", b""),
+        (512, b"\r\n", b"bad line\n"),
+        (513, b"\n", b"bad line\n"),
+        (100_000, b"", b"bad line\n"),
+    ];
+    let file = formatted(rt.alloc(), FORMAT_SMALL)?;
+    for (count, tail, replies) in rows {
+        let mut script = repeated(rt.alloc(), b"#", count)?;
+        script.extend_from_slice(tail)?;
+        let end = run_over(rt.alloc(), RUN, &file, &script, NONE)?;
+        assert_eq!(rt; end.status.code(), 0, "{count}");
+        assert_eq!(rt; end.sink.bytes(), replies, "{count}");
+    }
+    Ok(())
+}
+
+// Rows come by the remainder of their keys.
+#[test]
+fn two_blocks(rt: HostRuntime) -> Result<(), Fail> {
+    let script = b"\
+insert 1 1 3 c
+insert 1 1 0 a
+commit 1
+insert 1 1 2 d
+insert 1 1 1 b
+open 1 c 1 0 9
+fetch 1 c 9
+open 1 d 1 1 2
+fetch 1 d 9
+";
+    let replies = b"\
+1 ok
+1 ok
+1 committed 1
+1 ok
+1 ok
+1 ok
+1 row 0 a
+1 row 2 d
+1 row 1 b
+1 row 3 c
+1 end
+1 ok
+1 row 2 d
+1 row 1 b
+1 end
+";
+    let format = "f format tables=1 blocks=2 segments=1 log=64";
+    let file = formatted(rt.alloc(), format)?;
+    let end = run_over(rt.alloc(), RUN, &file, script, NONE)?;
+    assert_eq!(rt; end.status.code(), 0);
+    assert_eq!(rt; end.sink.bytes(), replies.as_slice());
+    Ok(())
+}
+
+// What a first run leaves for a second one.
+#[test]
+fn second_runs(rt: HostRuntime) -> Result<(), Fail> {
+    let fetch = b"open 1 c 1 0 9\nfetch 1 c 5\n".as_slice();
+    let rows: [(&[u8], &[u8], &[u8]); 4] = [
+        (b"", fetch, b"1 ok\n1 end\n"),
+        (b"insert 1 1 1 a\n", fetch, b"1 ok\n1 end\n"),
+        (
+            b"insert 1 1 1 a\ncommit 1\ninsert 1 1 2 b\n",
+            fetch,
+            b"1 ok\n1 row 1 a\n1 end\n",
+        ),
+        (
+            b"insert 1 1 1 a\ncommit 1\n",
+            b"insert 1 1 1 b\ninsert 1 1 2 b\ncommit 1\n",
+            b"1 duplicate\n1 ok\n1 committed 2\n",
+        ),
+    ];
+    let file = formatted(rt.alloc(), FORMAT_SMALL)?;
+    for (first, second, replies) in rows {
+        let left = run_over(rt.alloc(), RUN, &file, first, NONE)?;
+        let end = run_over(rt.alloc(), RUN, left.disk.bytes(), second, NONE)?;
+        assert_eq!(rt; end.status.code(), 0);
+        assert_eq!(rt; end.sink.bytes(), replies);
+    }
+    Ok(())
+}
+
+// Inserts of the keys 0 to 21 with values of 80 bytes.
+fn long_inserts(alloc: Global) -> Result<Vec<u8>, NoMemory> {
+    let mut script = Vec::new(alloc);
+    for key in 0..22 {
+        let line = format!(in alloc; "insert 1 1 {key} {LONG_VALUE}\n").map_err(|_| NoMemory)?;
+        script
+            .extend_from_slice(line.as_bytes())
+            .map_err(|_| NoMemory)?;
+    }
+    Ok(script)
+}
+
+const LONG_VALUE: &str =
+    "vvvvvvvvvvvvvvvvvvvvvvvvvvvvvvvvvvvvvvvvvvvvvvvvvvvvvvvvvvvvvvvvvvvvvvvvvvvvvvvv";
+
+#[test]
+fn log_full_by_bytes(rt: HostRuntime) -> Result<(), Fail> {
+    let file = formatted(rt.alloc(), FORMAT_LARGE)?;
+    let script = long_inserts(rt.alloc())?;
+    let end = run_over(rt.alloc(), RUN, &file, &script, NONE)?;
+    let mut replies = repeated(rt.alloc(), b"1 ok\n", 21)?;
+    replies.extend_from_slice(b"1 log full\n")?;
+    assert_eq!(rt; end.status.code(), 0);
+    assert_eq!(rt; end.sink.bytes(), replies.as_slice());
+    Ok(())
+}
+
+// Commits of one new key each, and what they answer: the keys 1 to 63.
+fn short_commits(alloc: Global) -> Result<(String, String), NoMemory> {
+    let mut script = String::new(alloc);
+    let mut replies = String::new(alloc);
+    for key in 1..64 {
+        write!(script, "insert 1 1 {key} a\ncommit 1\n").map_err(|_| NoMemory)?;
+        write!(replies, "1 ok\n1 committed {key}\n").map_err(|_| NoMemory)?;
+    }
+    Ok((script, replies))
+}
+
+#[test]
+fn log_full_by_slots(rt: HostRuntime) -> Result<(), Fail> {
+    let file = formatted(rt.alloc(), FORMAT_SMALL)?;
+    let (mut script, mut replies) = short_commits(rt.alloc())?;
+    script.push_str("insert 1 1 64 a\ncommit 1\n")?;
+    replies.push_str("1 ok\n1 log full\n")?;
+    let end = run_over(rt.alloc(), RUN, &file, script.as_bytes(), NONE)?;
+    assert_eq!(rt; end.status.code(), 0);
+    assert_eq!(rt; end.sink.bytes(), replies.as_bytes());
+    let again = b"open 1 c 1 62 99\nfetch 1 c 5\ninsert 1 1 64 a\ncommit 1\n";
+    let found = b"1 ok\n1 row 62 a\n1 row 63 a\n1 end\n1 ok\n1 log full\n";
+    let end = run_over(rt.alloc(), RUN, end.disk.bytes(), again, NONE)?;
+    assert_eq!(rt; end.status.code(), 0);
+    assert_eq!(rt; end.sink.bytes(), found.as_slice());
+    Ok(())
+}
+
+// Each line leaves the file as it is and answers nothing.
+#[test]
+fn bad_files_and_words(rt: HostRuntime) -> Result<(), Fail> {
+    let file = formatted(rt.alloc(), FORMAT_LARGE)?;
+    let Some((_last, cut)) = file.split_last() else {
+        return Err(Fail::new("no file"));
+    };
+    let format_none = "f format tables=0 blocks=1 segments=1 log=64";
+    let rows: [(&str, &[u8], u8); 9] = [
+        (RUN, b"", 5),
+        (RUN, b"x", 5),
+        (RUN, cut, 5),
+        (FORMAT_LARGE, &file, 7),
+        ("run", &file, 1),
+        ("f run frames=15", &file, 1),
+        ("f run frames=4097", &file, 1),
+        (format_none, &file, 1),
+        (format_none, b"", 1),
+    ];
+    for (line, bytes, code) in rows {
+        let end = run_over(rt.alloc(), line, bytes, b"commit 1\n", NONE)?;
+        assert_eq!(rt; end.status.code(), code, "{line}");
+        assert_eq!(rt; end.sink.bytes(), b"".as_slice(), "{line}");
+        assert!(rt; end.disk.bytes() == bytes, "{line}");
+    }
+    Ok(())
+}
+
+// One commit over a small file.
+fn committed(alloc: Global, file: &[u8], failing: Failing<'_>) -> Result<Ended, NoMemory> {
+    run_over(
+        alloc,
+        RUN,
+        file,
+        b"insert 1 1 1 a\ncommit 1\ncommit 1\n",
+        failing,
+    )
+}
+
+// The rows that a file has.
+fn rows_of(alloc: Global, file: &[u8]) -> Result<Vec<u8>, NoMemory> {
+    let end = run_over(alloc, RUN, file, b"open 1 c 1 0 9\nfetch 1 c 5\n", NONE)?;
+    end.sink.bytes().to_vec(alloc).map_err(|_| NoMemory)
+}
+
+// The last five calls are those of the commit: the record, the gate behind it, a sync, its gate, a sync.
+#[test]
+fn each_disk_call_fails(rt: HostRuntime) -> Result<(), Fail> {
+    let file = formatted(rt.alloc(), FORMAT_SMALL)?;
+    let good = committed(rt.alloc(), &file, NONE)?;
+    assert_eq!(rt; good.status.code(), 0);
+    assert_eq!(rt;
+        good.sink.bytes(),
+        b"1 ok\n1 committed 1\n1 ok\n".as_slice()
+    );
+    let opening = good.disk.calls().saturating_sub(5);
+    assert_ne!(rt; opening, 0);
+    for call in 1..=good.disk.calls() {
+        let failing = Failing {
+            disk: &[call],
+            ..NONE
+        };
+        let end = committed(rt.alloc(), &file, failing)?;
+        let replies: &[u8] = if call <= opening {
+            b""
+        } else {
+            b"1 ok\n1 disk fault\n"
+        };
+        assert_eq!(rt; end.status.code(), 3, "{call}");
+        assert_eq!(rt; end.sink.bytes(), replies, "{call}");
+    }
+    Ok(())
+}
+
+// The first sync of the commit fails, and no row is found.
+#[test]
+fn failed_sync(rt: HostRuntime) -> Result<(), Fail> {
+    let file = formatted(rt.alloc(), FORMAT_SMALL)?;
+    let good = committed(rt.alloc(), &file, NONE)?;
+    let sync = [good.disk.calls().saturating_sub(2)];
+    let failing = Failing {
+        disk: &sync,
+        ..NONE
+    };
+    let end = committed(rt.alloc(), &file, failing)?;
+    assert_eq!(rt; end.status.code(), 3);
+    let found = rows_of(rt.alloc(), end.disk.bytes())?;
+    assert_eq!(rt; found.as_slice(), b"1 ok\n1 end\n".as_slice());
+    let room = file.len() as u64 + 10_000;
+    let disk = MemDisk::new(rt.alloc(), &file, room, 1_000, &sync)?;
+    let Ok(mut engine) = FirstEngine::open(rt.alloc(), disk) else {
+        return Err(Fail::new("not opened"));
+    };
+    assert_eq!(rt; engine.insert(1, 1, 1, b"a"), Ok(Wrote::Done));
+    assert_eq!(rt; engine.commit(1), Err(Refusal::DiskFault));
+    assert_eq!(rt; engine.commit(1), Err(Refusal::Stopped));
+    Ok(())
+}
+
+fn image(alloc: Global, disk: &MemDisk, k: u64, pick: Pick) -> Result<Vec<u8>, NoMemory> {
+    if k > disk.calls() {
+        return Err(NoMemory);
+    }
+    disk.image(alloc, k, pick)
+}
+
+// A stop between the write of the record's gate and its sync.
+#[test]
+fn gate_images(rt: HostRuntime) -> Result<(), Fail> {
+    let file = formatted(rt.alloc(), FORMAT_SMALL)?;
+    let good = committed(rt.alloc(), &file, NONE)?;
+    let before_sync = good.disk.calls().saturating_sub(1);
+    let rows: [(Pick, &[u8]); 4] = [
+        (Pick::New, b"1 ok\n1 row 1 a\n1 end\n"),
+        (Pick::Fill(1), b"1 ok\n1 row 1 a\n1 end\n"),
+        (Pick::Fill(0x7f), b"1 ok\n1 end\n"),
+        (Pick::Old, b"1 ok\n1 end\n"),
+    ];
+    for (pick, replies) in rows {
+        let stopped = image(rt.alloc(), &good.disk, before_sync, pick)?;
+        let found = rows_of(rt.alloc(), &stopped)?;
+        assert_eq!(rt; found.as_slice(), replies);
+    }
+    Ok(())
+}
+
+// A call of the source or of the sink fails.
+#[test]
+fn failing_streams(rt: HostRuntime) -> Result<(), Fail> {
+    let rows: [(&[u64], &[u64], u8, &[u8]); 3] = [
+        (&[1], &[], 2, b""),
+        (&[], &[1], 4, b""),
+        (&[], &[2], 4, b"1 ok\n"),
+    ];
+    let file = formatted(rt.alloc(), FORMAT_SMALL)?;
+    for (source, sink, code, replies) in rows {
+        let failing = Failing {
+            source,
+            sink,
+            disk: &[],
+        };
+        let end = committed(rt.alloc(), &file, failing)?;
+        assert_eq!(rt; end.status.code(), code);
+        assert_eq!(rt; end.sink.bytes(), replies);
+    }
+    Ok(())
+}
