@@ -1,10 +1,10 @@
 -- What the fields of the state say of the machine's answers.
-use Rattle.std.proofs.Common.{◌≡◌, ℕ, suc, ◌+◌, ◌-◌, ◌*◌, ◌<◌, ◌≤◌, Bool, true, false, cond, List, [], ◌∷◌, ◌++◌, length, take, drop, map, set, get_or, find, refl, arith, ap, sym, ◌∙◌, subst, Option, None, Some, IfSome, IfNone, is_some, is_none, nat_le, nat_eq}
-use Rattle.std.proofs.lemmas.List.{length-map, map_push, take_all}
+use Rattle.std.proofs.Common.{◌≡◌, ℕ, suc, ◌+◌, ◌<◌, ◌≤◌, Bool, true, false, cond, List, [], ◌∷◌, ◌++◌, length, take, drop, map, set, get_or, refl, ap, sym, ◌∙◌, subst, Option, None, Some, IfSome, IfNone, is_some, is_none, nat_le, nat_eq}
+use Rattle.std.proofs.lemmas.List.{length-map, map_push}
 use Rattle.std.proofs.lemmas.Bool.{le-leb}
 use Rattle.std.specs.List.{AllByRecursion}
 use Rattle.std.specs.Prelude.{slice_get, remove}
-use Rattle.rb_model.specs.Rows.{TableRow, last_number, over}
+use Rattle.rb_model.specs.Rows.{TableRow, last_number}
 use Rattle.rb_model.specs.State.{State, Cursor, is_session, is_table, session_of, cursor_of, cursor_rows, with_taken, without_cursor}
 use Rattle.rb_model.specs.Reply as call
 use Rattle.rb_model.specs.Reply.{Answer, Commit, Fetch, Done, Numbered, Given, End, Refused, expected, next_row, given, is_empty, after_grant}
@@ -12,9 +12,8 @@ use Rattle.rb_model.specs.declared.refusal.Refusal.TheVariants.{NoCursor, Cursor
 use Rattle.rb_first.specs.declared.state.FirstState.TheInside.{Inside}
 use Rattle.rb_first.specs.contracts.state.FirstState.{the_view}
 use Rattle.rb_first.specs.declared.cursor.OpenCursor.{OpenCursor}
-use Rattle.rb_record.specs.declared.put.Put.{Put}
 use Rattle.rb_record.specs.Puts.{changes_of}
-use Rattle.rb_first.specs.Next.{asked, given_count, next_of, row_at}
+use Rattle.rb_first.specs.Next.{asked, given_count, next_of}
 use Rattle.rb_first.specs.Kept.{Kept, cursor_view, state_view, rows_of, cut, last_end, Rising, IsOpened, IsPlace, has_name}
 use Rattle.rb_first.proofs.RowLemmas.{next_is_wanted, given_one_more, ordered-over}
 use Rattle.rb_first.proofs.KeptLemmas.{find_at_place, none_named, cursor_rows_view, taken_at_place, removed_at_place, fresh_view, all_at}

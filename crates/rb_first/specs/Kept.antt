@@ -4,8 +4,8 @@ use Rattle.std.specs.List.{AllByRecursion}
 use Rattle.std.specs.Str.{bytes_eq}
 use Rattle.rb_base.specs.declared.ids.Shape.{Shape}
 use Rattle.rb_model.specs.Change.{Change}
-use Rattle.rb_model.specs.Rows.{TableRow, Commits, over, is_asked}
-use Rattle.rb_model.specs.State.{State, Session, Cursor}
+use Rattle.rb_model.specs.Rows.{TableRow, over}
+use Rattle.rb_model.specs.State.{State, Cursor}
 use Rattle.rb_model.specs.Reply.{record_length}
 use Rattle.rb_first.specs.declared.cursor.OpenCursor.{OpenCursor}
 use Rattle.rb_record.specs.declared.put.Put.{Put}

@@ -4,7 +4,6 @@ use Rattle.std.proofs.Common.{Bor}
 use Rattle.rb_model.specs.Change.{Change}
 use Rattle.rb_model.specs.Rows.{TableRow, key_before, is_asked, over}
 use Rattle.rb_record.specs.declared.put.Put.{Put}
-use Rattle.rb_record.specs.Puts.{changes_of}
 
 -- the key comes after the last one that was given, in scan order
 abbrev pub is_after : ℕ → Option ℕ → ℕ → Bool

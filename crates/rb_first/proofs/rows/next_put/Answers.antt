@@ -1,6 +1,5 @@
-use Rattle.std.proofs.Common.{◌≡◌, List, [], ◌∷◌, ◌++◌, take, ap, sym, ◌∙◌}
+use Rattle.std.proofs.Common.{[], ◌∷◌, ◌++◌, take, ap, sym, ◌∙◌}
 use Rattle.std.proofs.lemmas.List.{take_more}
-use Rattle.rb_record.specs.declared.put.Put.{Put}
 use Rattle.rb_record.specs.Puts.{changes_of}
 use Rattle.rb_first.specs.Next.{next_of, better, row_of}
 use Rattle.rb_first.proofs.RowLemmas.{next_of-push}

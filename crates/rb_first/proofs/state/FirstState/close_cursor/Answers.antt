@@ -1,4 +1,4 @@
-use Rattle.std.proofs.Common.{◌≡◌, length, is_none, None, Some, refl, ap, sym, ◌∙◌, subst}
+use Rattle.std.proofs.Common.{length, is_none, ap, sym, subst}
 use Rattle.std.specs.List.{AllByRecursion}
 use Rattle.rb_model.specs.Names.{name_text}
 use Rattle.rb_first.specs.Kept.{IsOpened}

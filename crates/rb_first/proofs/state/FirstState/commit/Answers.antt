@@ -1,5 +1,5 @@
-use Rattle.std.proofs.Common.{◌≡◌, ◌+◌, ◌<◌, ◌≤◌, ◌∷◌, [], ◌++◌, length, arith, ap, sym, ◌∙◌, subst}
-use Rattle.std.specs.Vec.{vec_len, vec_capacity}
+use Rattle.std.proofs.Common.{◌≡◌, ◌+◌, ◌<◌, ◌∷◌, [], ◌++◌, length, arith, ap, sym, ◌∙◌}
+use Rattle.std.specs.Vec.{vec_len}
 use Rattle.rb_model.specs.Rows.{last_number}
 use Rattle.rb_model.specs.Reply.{committed}
 use Rattle.rb_first.specs.Kept.{Kept, state_view}

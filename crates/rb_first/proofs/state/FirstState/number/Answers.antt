@@ -1,4 +1,4 @@
-use Rattle.std.proofs.Common.{◌≡◌, ◌+◌, length, ap, sym, ◌∙◌}
+use Rattle.std.proofs.Common.{◌+◌, length, ap, sym, ◌∙◌}
 use Rattle.rb_model.specs.Rows.{last_number}
 use Rattle.rb_first.specs.Kept.{Kept}
 use Rattle.rb_first.proofs.KeptLemmas.{length-cut}

@@ -1,11 +1,10 @@
-use Rattle.std.proofs.Common.{◌≡◌, ℕ, ◌+◌, ◌*◌, ◌<◌, ◌≤◌, List, ◌++◌, ◌∷◌, [], length, drop, arith, sym, ◌∙◌, ap, subst, length-append}
+use Rattle.std.proofs.Common.{◌≡◌, ◌*◌, ◌≤◌, ◌++◌, ◌∷◌, [], length, drop, arith, sym, ◌∙◌, ap, subst}
 use Rattle.std.proofs.lemmas.List.{drop-append-le, map_push}
 use Rattle.std.specs.Vec.{vec_len, vec_capacity}
 use Rattle.rb_model.specs.State.{State, session_of}
 use Rattle.rb_model.specs.Reply.{record_length, with_own}
-use Rattle.rb_record.specs.declared.put.Put.{Put}
 use Rattle.rb_record.specs.Puts.{changes_of, change_of}
-use Rattle.rb_first.specs.Kept.{Kept, last_end, IsKept, state_view}
+use Rattle.rb_first.specs.Kept.{Kept, last_end, state_view}
 use Rattle.rb_first.proofs.KeptLemmas.{view-push, few_with_push, kept-push}
 use Rattle.rb_first.proofs.state.FirstState.push.Goals as goal
 
