@@ -214,3 +214,12 @@ opened_stands l h file image records store opening only c here =
       number = refl;
       rows = sym (rows_all l.blocks (opened (shape_of l) records).commits);
     })
+
+-- over calls, and then others, as their clauses tell it
+pub survives_after : {D : Type 0} (image : D → List ℕ → Type 0) (moment : D → ℕ) (since : D → ℕ → List ℕ → Type 0) (l l2 : Layout) (h m h2 : State) (old mid new : D) → l2 ≡ l → m.stopped ≡ false
+    → (Stands l h (image old) → Survives image moment since l h m old mid) → (Stands l2 m (image mid) → Survives image moment since l2 m h2 mid new)
+    → Stands l h (image old) → Survives image moment since l h h2 old new
+survives_after image moment since l l2 h m h2 old mid new same going first second stands =
+    let a = first stands in
+    survives_on image moment since l h m h2 old mid new going a
+    (subst (λ (k : Layout). Stands k m (image mid) → Survives image moment since k m h2 mid new) same second (stands_now image moment since l h m old mid going a))
