@@ -1,5 +1,5 @@
 -- What a machine did with lines.
-use Rattle.std.specs.Prelude.{◌≡◌, ℕ, true, false, List, ◌++◌, take, Result, Ok, Err}
+use Rattle.std.specs.Prelude.{◌≡◌, ℕ, true, false, List, ◌++◌, length, take, Result, Ok, Err}
 use Rattle.rb_model.specs.State.{State, session_of}
 use Rattle.rb_model.specs.Out.{LineOut, Out}
 use Rattle.rb_lines.specs.declared.machine.StepFault.{StepFault}
@@ -15,6 +15,7 @@ pub record LineRan (slots : ℕ) (before now : State) (line : List ℕ) (tells :
 pub record SameButCursors (h other : State) : Type 0 where
   pub shape : h.shape ≡ other.shape
   pub commits : h.commits ≡ other.commits
+  pub sessions : length h.sessions ≡ length other.sessions
   pub own : (s : ℕ) → (session_of h s).own ≡ (session_of other s).own
   pub stopped : h.stopped ≡ other.stopped
 

@@ -1,5 +1,5 @@
 -- From the machine that an opening made to the run over the file that it opened.
-use Rattle.std.proofs.Common.{◌≡◌, ◌∙◌, ◌⊎◌, inl, inr, ap, subst, refl, arith, ℕ, ◌+◌, ◌<◌, List, ◌++◌, length}
+use Rattle.std.proofs.Common.{◌≡◌, ◌∙◌, ◌⊎◌, inl, inr, ap, subst, refl, arith, ℕ, Bool, ◌+◌, ◌<◌, List, ◌++◌, length}
 use Rattle.rb_disk.specs.Moments.{Rests, joined, weaker, rests_leave}
 use Rattle.rb_first.specs.Crash.{OnTheWay, Stands, Survives}
 use Rattle.std.proofs.lemmas.List.{length-append}
@@ -21,10 +21,10 @@ pub record Found (l : Layout) (state : State) (file : List ℕ) : Type 0 where
 abbrev pub sound_of : (l : Layout) (state : State) (file : List ℕ) → Found l state file → IsSound file
 sound_of l state file found = record { layout = l; records = found.records; store = found.store }
 
-pub has_run : (l : Layout) (state : State) (file : List ℕ) (lines : List (List ℕ)) (tells : Type 0) (before now : List ℕ) (keeps : Layout → State → State → Type 0) → Found l state file → HasDone l.log state lines tells before now (keeps l state)
-    → HasRun file lines tells before now keeps
-has_run l state file lines tells before now keeps found did =
-    record { sound = sound_of l state file found; did = subst (λ (h : State). HasDone l.log h lines tells before now (keeps l h)) found.opening did }
+pub has_run : (l : Layout) (state : State) (file : List ℕ) (lines : List (List ℕ)) (tells : Type 0) (before now : List ℕ) (stopped : Bool) (keeps : Layout → State → State → Type 0) → Found l state file → HasDone l.log state lines tells before now stopped (keeps l state)
+    → HasRun file lines tells before now stopped keeps
+has_run l state file lines tells before now stopped keeps found did =
+    record { sound = sound_of l state file found; did = subst (λ (h : State). HasDone l.log h lines tells before now stopped (keeps l h)) found.opening did }
 
 pub was_cut_off : (l : Layout) (state : State) (file : List ℕ) (lines : List (List ℕ)) (before now : List ℕ) (keeps : Layout → State → State → Type 0) → Found l state file → WasCut l.log state lines before now (keeps l state)
     → WasCutOff file lines before now keeps
@@ -42,17 +42,17 @@ module _ {D : Type 0} (content : D → List ℕ) (image : D → List ℕ → Typ
         now_only = all.now_only;
       }
 
-  pub done_endures : (slots : ℕ) (lines : List (List ℕ)) (tells : Type 0) (before now : List ℕ) → HasDone slots h lines tells before now (λ h2. Stands l h (image mid) → Survives image moment since l h h2 mid new)
-      → HasDone slots h lines tells before now (λ h2. Endures image moment since old new l h h2)
-  done_endures slots lines tells before now did = record { state = did.state; ran = did.ran; kept = endures did.state did.kept }
+  pub done_endures : (slots : ℕ) (lines : List (List ℕ)) (tells : Type 0) (before now : List ℕ) (stopped : Bool) → HasDone slots h lines tells before now stopped (λ h2. Stands l h (image mid) → Survives image moment since l h h2 mid new)
+      → HasDone slots h lines tells before now stopped (λ h2. Endures image moment since old new l h h2)
+  done_endures slots lines tells before now stopped did = record { state = did.state; ran = did.ran; end = did.end; kept = endures did.state did.kept }
 
   pub cut_endures : (slots : ℕ) (lines : List (List ℕ)) (before now : List ℕ) → WasCut slots h lines before now (λ h2. Stands l h (image mid) → Survives image moment since l h h2 mid new)
       → WasCut slots h lines before now (λ h2. Endures image moment since old new l h h2)
   cut_endures slots lines before now was = record { state = was.state; cut = was.cut; kept = endures was.state was.kept }
 
 -- what is told
-pub told_done : (told : Type 0) (slots : ℕ) (h : State) (lines : List (List ℕ)) (tells : Type 0) (before now : List ℕ) (keeps : State → Type 0) → told → HasDone slots h lines tells before now (λ h2. told → keeps h2) → HasDone slots h lines tells before now keeps
-told_done told slots h lines tells before now keeps t did = record { state = did.state; ran = did.ran; kept = did.kept t }
+pub told_done : (told : Type 0) (slots : ℕ) (h : State) (lines : List (List ℕ)) (tells : Type 0) (before now : List ℕ) (stopped : Bool) (keeps : State → Type 0) → told → HasDone slots h lines tells before now stopped (λ h2. told → keeps h2) → HasDone slots h lines tells before now stopped keeps
+told_done told slots h lines tells before now stopped keeps t did = record { state = did.state; ran = did.ran; end = did.end; kept = did.kept t }
 
 pub told_cut : (told : Type 0) (slots : ℕ) (h : State) (lines : List (List ℕ)) (before now : List ℕ) (keeps : State → Type 0) → told → WasCut slots h lines before now (λ h2. told → keeps h2) → WasCut slots h lines before now keeps
 told_cut told slots h lines before now keeps t was = record { state = was.state; cut = was.cut; kept = was.kept t }

@@ -1,6 +1,6 @@
 -- What a step does to lines and states.
 use Rattle.std.proofs.Common.{◌≡◌, ℕ, suc, zero, ◌+◌, Bool, true, false, List, [], ◌∷◌, ◌++◌, length, take, Result, Ok, Err, refl, arith, ap, sym, ◌∙◌, subst, inl, ⊎_elim, ◌==◌, ◌<◌, ◌-◌, min, append_assoc, not, Option, None, Some, is_none, get_or, set}
-use Rattle.std.proofs.lemmas.List.{append-nil, take-append-le, take_min}
+use Rattle.std.proofs.lemmas.List.{append-nil, length-set, take-append-le, take_min}
 use Rattle.std.proofs.Math.Seq.{take-append-add}
 use Rattle.std.proofs.lemmas.Bool.{cond_both, cases_Bool, false≢true}
 use Rattle.std.specs.Bool.{MatchBool}
@@ -62,10 +62,10 @@ after_stopped h c (Refused why) e = refused_stopped h why e
 -- a state and itself, and what differs by fetches
 
 itself : (h : State) → SameButCursors h h
-itself h = record { shape = refl; commits = refl; own = λ s. refl; stopped = refl }
+itself h = record { shape = refl; commits = refl; sessions = refl; own = λ s. refl; stopped = refl }
 
 same_joined : (a b c : State) → SameButCursors a b → SameButCursors b c → SameButCursors a c
-same_joined a b c x y = record { shape = x.shape ∙ y.shape; commits = x.commits ∙ y.commits; own = λ s. x.own s ∙ y.own s; stopped = x.stopped ∙ y.stopped }
+same_joined a b c x y = record { shape = x.shape ∙ y.shape; commits = x.commits ∙ y.commits; sessions = x.sessions ∙ y.sessions; own = λ s. x.own s ∙ y.own s; stopped = x.stopped ∙ y.stopped }
 
 own_stays : (sessions : List Session) (i j : ℕ) (d : Session) (cursors : List Cursor) → (get_or (set sessions i (record { own = (get_or sessions i d).own; cursors = cursors })) j d).own ≡ (get_or sessions j d).own
 own_stays [] i j d cursors = refl
@@ -75,7 +75,7 @@ own_stays (x ∷ sessions) (suc i) zero d cursors = refl
 own_stays (x ∷ sessions) (suc i) (suc j) d cursors = own_stays sessions i j d cursors
 
 taken_same : (h : State) (s : ℕ) (name : List ℕ) → SameButCursors (call.after_grant h (Fetch s name)) h
-taken_same h s name = record { shape = refl; commits = refl; own = λ t. own_stays h.sessions (s - 1) (t - 1) fresh_session (with_taken name (session_of h s).cursors); stopped = refl }
+taken_same h s name = record { shape = refl; commits = refl; sessions = length-set h.sessions (s - 1) _; own = λ t. own_stays h.sessions (s - 1) (t - 1) fresh_session (with_taken name (session_of h s).cursors); stopped = refl }
 
 refused_same : (h : State) (why : Refusal) → is_disk_fault why ≡ false → SameButCursors (call.after_refusal h why) h
 refused_same h NoSession e = itself h

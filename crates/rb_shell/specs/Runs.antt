@@ -1,5 +1,5 @@
 -- What a run of a script over a file does.
-use Rattle.std.specs.Prelude.{◌≡◌, ◌⊎◌, ℕ, List, ◌++◌}
+use Rattle.std.specs.Prelude.{◌≡◌, ◌⊎◌, ℕ, Bool, List, ◌++◌}
 use Rattle.rb_disk.specs.Moments.{LeavesOnly}
 use Rattle.rb_first.specs.Crash.{AtEnd, OnTheWay}
 use Rattle.rb_first.specs.Store.{shape_of, IsStore}
@@ -16,10 +16,12 @@ pub record IsSound (file : List ℕ) : Type 0 where
   pub records : List (List Change)
   pub store : IsStore layout records file
 
--- From a state it did these lines, and came to some state, of which `keeps` holds.
-pub record HasDone (slots : ℕ) (before : State) (lines : List (List ℕ)) (tells : Type 0) (held_before held_now : List ℕ) (keeps : State → Type 0) : Type 0 where
+-- From a state it did these lines, and came to some state, of which `keeps` holds. It is stopped where the last reply
+-- is `disk fault`.
+pub record HasDone (slots : ℕ) (before : State) (lines : List (List ℕ)) (tells : Type 0) (held_before held_now : List ℕ) (stopped : Bool) (keeps : State → Type 0) : Type 0 where
   pub state : State
   pub ran : Ran slots before state lines tells held_before held_now
+  pub end : state.stopped ≡ stopped
   pub kept : keeps state
 
 -- It was cut off in one of these lines, in some state, of which `keeps` holds.
@@ -30,9 +32,9 @@ pub record WasCut (slots : ℕ) (before : State) (lines : List (List ℕ)) (held
 
 -- The machine opened with the file's records did these lines: the sink holds the replies then, where it tells. Of
 -- the states before and after them `keeps` holds.
-pub record HasRun (file : List ℕ) (lines : List (List ℕ)) (tells : Type 0) (before now : List ℕ) (keeps : Layout → State → State → Type 0) : Type 0 where
+pub record HasRun (file : List ℕ) (lines : List (List ℕ)) (tells : Type 0) (before now : List ℕ) (stopped : Bool) (keeps : Layout → State → State → Type 0) : Type 0 where
   pub sound : IsSound file
-  pub did : HasDone sound.layout.log (opened (shape_of sound.layout) sound.records) lines tells before now (keeps sound.layout (opened (shape_of sound.layout) sound.records))
+  pub did : HasDone sound.layout.log (opened (shape_of sound.layout) sound.records) lines tells before now stopped (keeps sound.layout (opened (shape_of sound.layout) sound.records))
 
 -- It was cut off in one of these lines: the sink holds a front of replies that the lines may have.
 pub record WasCutOff (file : List ℕ) (lines : List (List ℕ)) (before now : List ℕ) (keeps : Layout → State → State → Type 0) : Type 0 where

@@ -103,16 +103,16 @@ fn run_engine<S: Source, K: Sink, D: Disk>(
     requires buffer { 0 < length buffer.old }
     ensures ends { EndsRun result.0 }
     ensures asks { AsksNothing result.0 → ⊥ }
-    ensures done { result.0 ≡ Status.Done → S.tells → HasDone engine.layout.log engine.state (lines_of (S.left source.old)) K.tells (K.held sink.old) (K.held sink.new) (λ h. D.tells → Stands engine.layout engine.state (D.image engine.disk) → Survives D.image D.moment D.image_since engine.layout engine.state h engine.disk result.1) }
+    ensures done { result.0 ≡ Status.Done → S.tells → HasDone engine.layout.log engine.state (lines_of (S.left source.old)) K.tells (K.held sink.old) (K.held sink.new) false (λ h. D.tells → Stands engine.layout engine.state (D.image engine.disk) → Survives D.image D.moment D.image_since engine.layout engine.state h engine.disk result.1) }
     ensures at_end { result.0 ≡ Status.Done → S.tells → S.left source.new ≡ [] }
     ensures few { result.0 ≡ Status.Done → S.tells → length (S.left source.old) < 1000000000 }
     ensures source_done { result.0 ≡ Status.SourceFault → S.tells →
         ((taken : List ℕ) × IsTaken taken (S.left source.old) (S.left source.new)
-        × HasDone engine.layout.log engine.state (whole_lines taken) K.tells (K.held sink.old) (K.held sink.new) (λ h. D.tells → Stands engine.layout engine.state (D.image engine.disk) → Survives D.image D.moment D.image_since engine.layout engine.state h engine.disk result.1)) }
+        × HasDone engine.layout.log engine.state (whole_lines taken) K.tells (K.held sink.old) (K.held sink.new) false (λ h. D.tells → Stands engine.layout engine.state (D.image engine.disk) → Survives D.image D.moment D.image_since engine.layout engine.state h engine.disk result.1)) }
     ensures too_long { result.0 ≡ Status.TooLong → S.tells →
         ((taken : List ℕ) × (length taken ≡ 1000000000) × IsTaken taken (S.left source.old) (S.left source.new)
-        × HasDone engine.layout.log engine.state (whole_lines taken) K.tells (K.held sink.old) (K.held sink.new) (λ h. D.tells → Stands engine.layout engine.state (D.image engine.disk) → Survives D.image D.moment D.image_since engine.layout engine.state h engine.disk result.1)) }
-    ensures disk_done { result.0 ≡ Status.DiskFault → S.tells → HasDone engine.layout.log engine.state (lines_of (S.left source.old)) K.tells (K.held sink.old) (K.held sink.new) (λ h. D.tells → Stands engine.layout engine.state (D.image engine.disk) → Survives D.image D.moment D.image_since engine.layout engine.state h engine.disk result.1) }
+        × HasDone engine.layout.log engine.state (whole_lines taken) K.tells (K.held sink.old) (K.held sink.new) false (λ h. D.tells → Stands engine.layout engine.state (D.image engine.disk) → Survives D.image D.moment D.image_since engine.layout engine.state h engine.disk result.1)) }
+    ensures disk_done { result.0 ≡ Status.DiskFault → S.tells → HasDone engine.layout.log engine.state (lines_of (S.left source.old)) K.tells (K.held sink.old) (K.held sink.new) true (λ h. D.tells → Stands engine.layout engine.state (D.image engine.disk) → Survives D.image D.moment D.image_since engine.layout engine.state h engine.disk result.1) }
     ensures cut_off { result.0 ≡ Status.SinkFault → S.tells → K.tells → WasCut engine.layout.log engine.state (lines_of (S.left source.old)) (K.held sink.old) (K.held sink.new) (λ h. D.tells → Stands engine.layout engine.state (D.image engine.disk) → Survives D.image D.moment D.image_since engine.layout engine.state h engine.disk result.1) }
     ensures source_fault { result.0 ≡ Status.SourceFault → Rose (S.faults source.old) (S.faults source.new) }
     ensures disk_fault { result.0 ≡ Status.DiskFault → Rose (D.faults engine.disk) (D.faults result.1) }
@@ -138,18 +138,18 @@ pub fn run_script<S: Source, K: Sink, D: Disk>(
     ensures ends { EndsRun result.0 }
 
     // The script was done to its end, to a fault, or as far as it may be long.
-    ensures done { D.tells → S.tells → result.0 ≡ Status.Done → HasRun (D.content disk) (lines_of (S.left source.old)) K.tells (K.held sink.old) (K.held sink.new) (Endures D.image D.moment D.image_since disk result.1) }
+    ensures done { D.tells → S.tells → result.0 ≡ Status.Done → HasRun (D.content disk) (lines_of (S.left source.old)) K.tells (K.held sink.old) (K.held sink.new) false (Endures D.image D.moment D.image_since disk result.1) }
     ensures at_end { S.tells → result.0 ≡ Status.Done → S.left source.new ≡ [] }
     ensures few { S.tells → result.0 ≡ Status.Done → length (S.left source.old) < 1000000000 }
     ensures source_done { D.tells → S.tells → result.0 ≡ Status.SourceFault →
         ((taken : List ℕ) × IsTaken taken (S.left source.old) (S.left source.new)
-        × HasRun (D.content disk) (whole_lines taken) K.tells (K.held sink.old) (K.held sink.new) (Endures D.image D.moment D.image_since disk result.1)) }
+        × HasRun (D.content disk) (whole_lines taken) K.tells (K.held sink.old) (K.held sink.new) false (Endures D.image D.moment D.image_since disk result.1)) }
     ensures too_long { D.tells → S.tells → result.0 ≡ Status.TooLong →
         ((taken : List ℕ) × (length taken ≡ 1000000000) × IsTaken taken (S.left source.old) (S.left source.new)
-        × HasRun (D.content disk) (whole_lines taken) K.tells (K.held sink.old) (K.held sink.new) (Endures D.image D.moment D.image_since disk result.1)) }
+        × HasRun (D.content disk) (whole_lines taken) K.tells (K.held sink.old) (K.held sink.new) false (Endures D.image D.moment D.image_since disk result.1)) }
     ensures disk_done { D.tells → S.tells → result.0 ≡ Status.DiskFault →
         ((source.new ≡ source.old) × (sink.new ≡ sink.old) × Rests D.content D.image D.moment D.image_since disk result.1)
-        ⊎ HasRun (D.content disk) (lines_of (S.left source.old)) K.tells (K.held sink.old) (K.held sink.new) (Endures D.image D.moment D.image_since disk result.1) }
+        ⊎ HasRun (D.content disk) (lines_of (S.left source.old)) K.tells (K.held sink.old) (K.held sink.new) true (Endures D.image D.moment D.image_since disk result.1) }
     ensures cut_off { D.tells → S.tells → K.tells → result.0 ≡ Status.SinkFault → WasCutOff (D.content disk) (lines_of (S.left source.old)) (K.held sink.old) (K.held sink.new) (Endures D.image D.moment D.image_since disk result.1) }
 
     // Nothing was asked for.
