@@ -141,6 +141,7 @@ impl<D: Disk> FirstEngine<D> {
         ensures stopped { self.new.state.stopped ≡ self.old.state.stopped }
         ensures layout { self.new.layout ≡ self.old.layout }
         ensures disk { self.new.disk ≡ self.old.disk }
+        ensures commits { self.new.state.commits ≡ self.old.state.commits }
         ensures crash { D.tells → Stands self.old.layout self.old.state (D.image self.old.disk) → Survives D.image D.moment D.image_since self.old.layout self.old.state self.new.state self.old.disk self.new.disk }
     {
         self.state.fetch(s, name, row)

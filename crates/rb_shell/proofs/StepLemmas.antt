@@ -1,13 +1,14 @@
 -- What a step does to lines and states.
-use Rattle.std.proofs.Common.{◌≡◌, ℕ, suc, zero, ◌+◌, Bool, true, false, List, [], ◌∷◌, ◌++◌, length, take, Result, Ok, Err, refl, arith, ap, sym, ◌∙◌, subst, inl, ⊎_elim, ◌==◌, ◌<◌, ◌-◌, min, append_assoc, not, Option, None, Some, is_none, get_or, set}
+use Rattle.std.proofs.Common.{◌≡◌, ℕ, suc, zero, ◌+◌, Bool, true, false, List, [], ◌∷◌, ◌++◌, length, take, Result, Ok, Err, refl, arith, ap, sym, ◌∙◌, subst, inl, ⊎_elim, ◌==◌, ◌<◌, ◌-◌, min, append_assoc, Option, None, Some, get_or, set}
 use Rattle.std.proofs.lemmas.List.{append-nil, length-set, take-append-le, take_min}
 use Rattle.std.proofs.Math.Seq.{take-append-add}
 use Rattle.std.proofs.lemmas.Bool.{cond_both, cases_Bool, false≢true}
 use Rattle.std.specs.Bool.{MatchBool}
+use Rattle.std.specs.List.{AllByRecursion}
 use Rattle.rb_model.specs.Lines.{without_return, reply_text}
 use Rattle.std.specs.Prelude.{slice_get}
-use Rattle.rb_model.specs.Rows.{TableRow}
-use Rattle.rb_model.specs.State.{State, Session, Cursor, fresh_session, session_of, is_session, cursor_of, cursor_rows, with_taken}
+use Rattle.rb_model.specs.Rows.{TableRow, last_number}
+use Rattle.rb_model.specs.State.{State, Session, Cursor, fresh_session, session_of, cursor_of, cursor_rows, with_taken}
 use Rattle.rb_model.specs.Out.{room, CallOut, FetchOut, is_given}
 use Rattle.rb_model.specs.Reply.{Call, Insert, Commit, OpenCursor, Fetch, CloseCursor, Answer, Done, Waits, Numbered, Given, End, Refused, Reply, after, is_empty}
 use Rattle.rb_model.specs.Reply as call
@@ -30,34 +31,54 @@ other_stays [] last e = rw (e) refl
 other_stays (b ∷ []) last e = ap (λ xs. b ∷ xs) (other_stays [] last e)
 other_stays (b ∷ c ∷ front) last e = ap (λ xs. b ∷ xs) (other_stays (c ∷ front) last e)
 
--- a state that goes on is stopped after an answer exactly where the answer tells of a fault of the disk
+-- a state is stopped after an answer that tells of a fault of the disk, and else where it was before
 
-refused_stopped : (h : State) (why : Refusal) → h.stopped ≡ false → (call.after_refusal h why).stopped ≡ is_disk_fault why
-refused_stopped h NoSession e = e
-refused_stopped h NoTable e = e
-refused_stopped h ValueTooLong e = e
-refused_stopped h Duplicate e = e
-refused_stopped h NoCursor e = e
-refused_stopped h CursorThere e = e
-refused_stopped h TooManyCursors e = e
-refused_stopped h DiskFault e = refl
-refused_stopped h Stopped e = e
-refused_stopped h LogFull e = e
+refused_same_stop : (h : State) (why : Refusal) → is_disk_fault why ≡ false → (call.after_refusal h why).stopped ≡ h.stopped
+refused_same_stop h NoSession e = refl
+refused_same_stop h NoTable e = refl
+refused_same_stop h ValueTooLong e = refl
+refused_same_stop h Duplicate e = refl
+refused_same_stop h NoCursor e = refl
+refused_same_stop h CursorThere e = refl
+refused_same_stop h TooManyCursors e = refl
+refused_same_stop h DiskFault e = absurd (false≢true (sym e))
+refused_same_stop h Stopped e = refl
+refused_same_stop h LogFull e = refl
 
-granted_stopped : (h : State) (c : Call) → h.stopped ≡ false → (call.after_grant h c).stopped ≡ false
-granted_stopped h (Insert s table key value) e = e
-granted_stopped h (Commit s) e = cond_both (is_empty (session_of h s).own) h (call.committed h s) (λ (x : State). x.stopped ≡ false) (λ w. e) (λ w. e)
-granted_stopped h (OpenCursor s name table lo hi) e = e
-granted_stopped h (Fetch s name) e = e
-granted_stopped h (CloseCursor s name) e = e
+granted_same_stop : (h : State) (c : Call) → (call.after_grant h c).stopped ≡ h.stopped
+granted_same_stop h (Insert s table key value) = refl
+granted_same_stop h (Commit s) = cond_both (is_empty (session_of h s).own) h (call.committed h s) (λ (x : State). x.stopped ≡ h.stopped) (λ w. refl) (λ w. refl)
+granted_same_stop h (OpenCursor s name table lo hi) = refl
+granted_same_stop h (Fetch s name) = refl
+granted_same_stop h (CloseCursor s name) = refl
 
-pub after_stopped : (h : State) (c : Call) (r : Answer) → h.stopped ≡ false → (after h c r).stopped ≡ is_fault r
-after_stopped h c Done e = granted_stopped h c e
-after_stopped h c (Waits on) e = e
-after_stopped h c (Numbered n) e = granted_stopped h c e
-after_stopped h c (Given key value) e = granted_stopped h c e
-after_stopped h c End e = e
-after_stopped h c (Refused why) e = refused_stopped h why e
+after_same_stop : (h : State) (c : Call) (r : Answer) → is_fault r ≡ false → (after h c r).stopped ≡ h.stopped
+after_same_stop h c Done e = granted_same_stop h c
+after_same_stop h c (Waits on) e = refl
+after_same_stop h c (Numbered n) e = granted_same_stop h c
+after_same_stop h c (Given key value) e = granted_same_stop h c
+after_same_stop h c End e = refl
+after_same_stop h c (Refused why) e = refused_same_stop h why e
+
+refused_stops : (h : State) (why : Refusal) → is_disk_fault why ≡ true → (call.after_refusal h why).stopped ≡ true
+refused_stops h NoSession e = absurd (false≢true e)
+refused_stops h NoTable e = absurd (false≢true e)
+refused_stops h ValueTooLong e = absurd (false≢true e)
+refused_stops h Duplicate e = absurd (false≢true e)
+refused_stops h NoCursor e = absurd (false≢true e)
+refused_stops h CursorThere e = absurd (false≢true e)
+refused_stops h TooManyCursors e = absurd (false≢true e)
+refused_stops h DiskFault e = refl
+refused_stops h Stopped e = absurd (false≢true e)
+refused_stops h LogFull e = absurd (false≢true e)
+
+after_stops : (h : State) (c : Call) (r : Answer) → is_fault r ≡ true → (after h c r).stopped ≡ true
+after_stops h c Done e = absurd (false≢true e)
+after_stops h c (Waits on) e = absurd (false≢true e)
+after_stops h c (Numbered n) e = absurd (false≢true e)
+after_stops h c (Given key value) e = absurd (false≢true e)
+after_stops h c End e = absurd (false≢true e)
+after_stops h c (Refused why) e = refused_stops h why e
 
 -- a state and itself, and what differs by fetches
 
@@ -106,34 +127,49 @@ next_fine : (h : State) (o : Option Cursor) → is_fault (call.next_row h o) ≡
 next_fine h None = refl
 next_fine h (Some cursor) = given_fine (slice_get (cursor_rows h cursor) cursor.taken)
 
-fetch_fine : (h : State) (room s : ℕ) (name : List ℕ) → is_fault (call.expected h room (Fetch s name)) ≡ false
-fetch_fine h room s name =
-    cond_both h.stopped (Refused Stopped) _ (λ r. is_fault r ≡ false) (λ w. refl)
-    (λ w. cond_both (not (is_session h s)) (Refused NoSession) _ (λ r. is_fault r ≡ false) (λ w. refl)
-    (λ w. cond_both (is_none (cursor_of h s name)) (Refused NoCursor) _ (λ r. is_fault r ≡ false) (λ w. refl) (λ w. next_fine h (cursor_of h s name))))
+first_fine : (tests : List (Bool × Refusal)) (good : Answer) → AllByRecursion (λ test. is_disk_fault test.1 ≡ false) tests → is_fault good ≡ false → is_fault (call.first_of tests good) ≡ false
+first_fine [] good all fine = fine
+first_fine (test ∷ tests) good all fine = cond_both test.0 (Refused test.1) (call.first_of tests good) (λ r. is_fault r ≡ false) (λ w. all.0) (λ w. first_fine tests good all.1 fine)
+
+-- nor is what is expected of any call
+pub expected_fine : (h : State) (more : ℕ) (c : Call) → is_fault (call.expected h more c) ≡ false
+expected_fine h more (Insert s table key value) = first_fine (call.early_tests h (Insert s table key value) ++ call.later_tests h more (Insert s table key value)) Done (refl, (refl, (refl, (refl, (refl, (refl, tt)))))) refl
+expected_fine h more (Commit s) =
+    first_fine (call.early_tests h (Commit s) ++ call.later_tests h more (Commit s)) (call.granted h (Commit s)) (refl, (refl, (refl, tt)))
+    (cond_both (is_empty (session_of h s).own) Done (Numbered (last_number h.commits + 1)) (λ r. is_fault r ≡ false) (λ w. refl) (λ w. refl))
+expected_fine h more (OpenCursor s name table lo hi) = first_fine (call.early_tests h (OpenCursor s name table lo hi) ++ call.later_tests h more (OpenCursor s name table lo hi)) Done (refl, (refl, (refl, (refl, (refl, tt))))) refl
+expected_fine h more (Fetch s name) = first_fine (call.early_tests h (Fetch s name) ++ call.later_tests h more (Fetch s name)) (call.next_row h (cursor_of h s name)) (refl, (refl, (refl, tt))) (next_fine h (cursor_of h s name))
+expected_fine h more (CloseCursor s name) = first_fine (call.early_tests h (CloseCursor s name) ++ call.later_tests h more (CloseCursor s name)) Done (refl, (refl, (refl, tt))) refl
+
+-- what was expected isn't told as a fault
+pub told_fine : (h : State) (more : ℕ) (c : Call) (r : Answer) (text : List ℕ) (fault : Bool) (tells : Type 0) (before now : List ℕ) (result : Result (Unit {0}) StepFault) → r ≡ call.expected h more c → fault ≡ is_fault r → Told text fault tells before now result
+    → result ≡ Err Disk → ⊥
+told_fine h more c r text fault tells before now result answer same told is =
+    let t : Told text fault tells before now (Err Disk) = subst (Told text fault tells before now) is told in
+    false≢true (sym (same ∙ ap is_fault answer ∙ expected_fine h more c) ∙ t.0)
 
 -- one call whose reply was told is a step
 pub told_call : (h now : State) (slots s : ℕ) (c : Call) (r : Answer) (text : List ℕ) (fault : Bool) (tells : Type 0) (before after_put : List ℕ) (result : Result (Unit {0}) StepFault)
-    → h.stopped ≡ false → Reply h (room slots h) c r → now ≡ after h c r → text ≡ reply_text s r → fault ≡ is_fault r → Told text fault tells before after_put result
-    → Steps (CallOut h slots s c) now tells before after_put result
-told_call h now slots s c r text fault tells before after_put (Ok done) going reply state t f told = (
+    → Reply h (room slots h) c r → now ≡ after h c r → text ≡ reply_text s r → fault ≡ is_fault r → Told text fault tells before after_put result
+    → Steps (CallOut h slots s c) h.stopped now tells before after_put result
+told_call h now slots s c r text fault tells before after_put (Ok done) reply state t f told = (
   record { out = text; reply = record { answer = r; reply = reply; text = t; state = state }; written = told.1 },
-  ap (λ (x : State). x.stopped) state ∙ after_stopped h c r going ∙ sym f ∙ told.0,
+  ap (λ (x : State). x.stopped) state ∙ after_same_stop h c r (sym f ∙ told.0),
 )
-told_call h now slots s c r text fault tells before after_put (Err Disk) going reply state t f told = (
+told_call h now slots s c r text fault tells before after_put (Err Disk) reply state t f told = (
   record { out = text; reply = record { answer = r; reply = reply; text = t; state = state }; written = told.1 },
-  ap (λ (x : State). x.stopped) state ∙ after_stopped h c r going ∙ sym f ∙ told.0,
+  ap (λ (x : State). x.stopped) state ∙ after_stops h c r (sym f ∙ told.0),
 )
-told_call h now slots s c r text fault tells before after_put (Err Sink) going reply state t f told = λ t1.
+told_call h now slots s c r text fault tells before after_put (Err Sink) reply state t f told = λ t1.
     let w = told t1 in
     record { out = text; state = now; reply = record { answer = r; reply = reply; text = t; state = state }; same = itself now; size = w.0; written = w.1 }
 
 -- a step under one relation is a step under a weaker one
-pub steps_weaker : (R Q : List ℕ → State → Type 0) (now : State) (tells : Type 0) (before after_put : List ℕ) (result : Result (Unit {0}) StepFault) → ((out : List ℕ) (h : State) → R out h → Q out h)
-    → Steps R now tells before after_put result → Steps Q now tells before after_put result
-steps_weaker R Q now tells before after_put (Ok done) so steps = (record { out = steps.0.out; reply = so steps.0.out now steps.0.reply; written = steps.0.written }, steps.1)
-steps_weaker R Q now tells before after_put (Err Disk) so steps = (record { out = steps.0.out; reply = so steps.0.out now steps.0.reply; written = steps.0.written }, steps.1)
-steps_weaker R Q now tells before after_put (Err Sink) so steps = λ t1. let w = steps t1 in record { out = w.out; state = w.state; reply = so w.out w.state w.reply; same = w.same; size = w.size; written = w.written }
+pub steps_weaker : (R Q : List ℕ → State → Type 0) (was : Bool) (now : State) (tells : Type 0) (before after_put : List ℕ) (result : Result (Unit {0}) StepFault) → ((out : List ℕ) (h : State) → R out h → Q out h)
+    → Steps R was now tells before after_put result → Steps Q was now tells before after_put result
+steps_weaker R Q was now tells before after_put (Ok done) so steps = (record { out = steps.0.out; reply = so steps.0.out now steps.0.reply; written = steps.0.written }, steps.1)
+steps_weaker R Q was now tells before after_put (Err Disk) so steps = (record { out = steps.0.out; reply = so steps.0.out now steps.0.reply; written = steps.0.written }, steps.1)
+steps_weaker R Q was now tells before after_put (Err Sink) so steps = λ t1. let w = steps t1 in record { out = w.out; state = w.state; reply = so w.out w.state w.reply; same = w.same; size = w.size; written = w.written }
 
 -- fetches
 
@@ -147,31 +183,31 @@ fault_gives_none (Refused why) e = refl
 
 -- one fetch whose reply was told
 pub told_fetch : (h now : State) (slots s : ℕ) (name : List ℕ) (r : Answer) (text : List ℕ) (fault gave : Bool) (tells : Type 0) (before after_put : List ℕ)
-    → h.stopped ≡ false → Reply h (room slots h) (Fetch s name) r → now ≡ after h (Fetch s name) r → text ≡ reply_text s r → fault ≡ is_fault r → is_given r ≡ gave → Told text fault tells before after_put (Ok tt)
+    → Reply h (room slots h) (Fetch s name) r → now ≡ after h (Fetch s name) r → text ≡ reply_text s r → fault ≡ is_fault r → is_given r ≡ gave → Told text fault tells before after_put (Ok tt)
     → FetchSteps h slots s name now tells before after_put (Ok gave)
-told_fetch h now slots s name r text fault gave tells before after_put going reply state t f gives told = (
+told_fetch h now slots s name r text fault gave tells before after_put reply state t f gives told = (
   record { out = text; reply = record { answer = r; reply = reply; gives = gives; text = t; state = state }; written = told.1 },
-  ap (λ (x : State). x.stopped) state ∙ after_stopped h (Fetch s name) r going ∙ sym f ∙ told.0,
+  ap (λ (x : State). x.stopped) state ∙ after_same_stop h (Fetch s name) r (sym f ∙ told.0),
 )
 
 pub told_fetch_fault : (h now : State) (slots s : ℕ) (name : List ℕ) (r : Answer) (text : List ℕ) (fault : Bool) (tells : Type 0) (before after_put : List ℕ) (why : StepFault)
-    → h.stopped ≡ false → Reply h (room slots h) (Fetch s name) r → now ≡ after h (Fetch s name) r → text ≡ reply_text s r → fault ≡ is_fault r → Told text fault tells before after_put (Err why)
+    → Reply h (room slots h) (Fetch s name) r → now ≡ after h (Fetch s name) r → text ≡ reply_text s r → fault ≡ is_fault r → Told text fault tells before after_put (Err why)
     → FetchSteps h slots s name now tells before after_put (Err why)
-told_fetch_fault h now slots s name r text fault tells before after_put Disk going reply state t f told = (
+told_fetch_fault h now slots s name r text fault tells before after_put Disk reply state t f told = (
   record { out = text; reply = record { answer = r; reply = reply; gives = fault_gives_none r (sym f ∙ told.0); text = t; state = state }; written = told.1 },
-  ap (λ (x : State). x.stopped) state ∙ after_stopped h (Fetch s name) r going ∙ sym f ∙ told.0,
+  ap (λ (x : State). x.stopped) state ∙ after_stops h (Fetch s name) r (sym f ∙ told.0),
 )
-told_fetch_fault h now slots s name r text fault tells before after_put Sink going reply state t f told = λ t1.
+told_fetch_fault h now slots s name r text fault tells before after_put Sink reply state t f told = λ t1.
     let w = told t1 in
     (is_given r, record { out = text; state = now; reply = record { answer = r; reply = reply; gives = refl; text = t; state = state }; same = itself now; size = w.0; written = w.1 })
 
 -- before the first fetch
-pub so_far_none : (h : State) (slots s : ℕ) (name : List ℕ) (tells : Type 0) (before : List ℕ) → h.stopped ≡ false → FetchedSoFar h slots s name 0 h tells before before
-so_far_none h slots s name tells before going = record {
+pub so_far_none : (h : State) (slots s : ℕ) (name : List ℕ) (tells : Type 0) (before : List ℕ) → FetchedSoFar h slots s name 0 h tells before before
+so_far_none h slots s name tells before = record {
   out = [];
   goes_on = λ more rest h2 f. subst (λ (n : ℕ). FetchOut h slots s name n rest h2) (omega arith) f;
   written = λ told. sym (append-nil before);
-  going = going;
+  stopped = refl;
 }
 
 -- one fetch that gave a row goes before the others
@@ -206,12 +242,12 @@ so_far_more start h mid slots s name count tells before now later so step =
           (subst (λ (xs : List ℕ). FetchOut start slots s name (count + suc more) xs h2) (sym (append_assoc so.out one.out rest))
           (so.goes_on (suc more) (one.out ++ rest) h2 (once_more h mid h2 slots s name more one.out rest one.reply f)));
       written = λ told. one.written told ∙ ap (λ xs. xs ++ one.out) (so.written told) ∙ append_assoc before so.out one.out;
-      going = step.1;
+      stopped = step.1 ∙ so.stopped;
     }
 
 -- all fetches gave rows
 pub so_far_end : (start h : State) (slots s : ℕ) (name : List ℕ) (count : ℕ) (tells : Type 0) (before now : List ℕ) → FetchedSoFar start slots s name count h tells before now
-    → Steps (FetchOut start slots s name count) h tells before now (Ok tt)
+    → Steps (FetchOut start slots s name count) start.stopped h tells before now (Ok tt)
 so_far_end start h slots s name count tells before now so = (
   record {
     out = so.out;
@@ -219,7 +255,7 @@ so_far_end start h slots s name count tells before now so = (
         (subst (λ (xs : List ℕ). FetchOut start slots s name (count + 0) xs h) (append-nil so.out) (so.goes_on 0 [] h (refl, refl)));
     written = so.written;
   },
-  so.going,
+  so.stopped,
 )
 
 so_far_last : (start h mid : State) (slots s : ℕ) (name : List ℕ) (count all : ℕ) (out : List ℕ) (tells : Type 0) (before now : List ℕ) (so : FetchedSoFar start slots s name count h tells before now) → count < all
@@ -229,7 +265,7 @@ so_far_last start h mid slots s name count all out tells before now so lt once =
 
 -- a fetch gave none
 pub so_far_stop : (start h mid : State) (slots s : ℕ) (name : List ℕ) (count all : ℕ) (tells : Type 0) (before now later : List ℕ) → FetchedSoFar start slots s name count h tells before now → count < all
-    → FetchSteps h slots s name mid tells now later (Ok false) → Steps (FetchOut start slots s name all) mid tells before later (Ok tt)
+    → FetchSteps h slots s name mid tells now later (Ok false) → Steps (FetchOut start slots s name all) start.stopped mid tells before later (Ok tt)
 so_far_stop start h mid slots s name count all tells before now later so lt step =
     let one = step.0 in (
       record {
@@ -237,7 +273,7 @@ so_far_stop start h mid slots s name count all tells before now later so lt step
         reply = so_far_last start h mid slots s name count all one.out tells before now so lt one.reply;
         written = λ told. one.written told ∙ ap (λ xs. xs ++ one.out) (so.written told) ∙ append_assoc before so.out one.out;
       },
-      step.1,
+      step.1 ∙ so.stopped,
     )
 
 -- there is always a reply to go on with
@@ -247,7 +283,7 @@ some_fetches (suc more) h slots s name =
     let r = call.expected h (room slots h) (Fetch s name) in
     let mid = after h (Fetch s name) r in
     let rest = some_fetches more mid slots s name in
-    let same : SameButCursors mid h = fetch_same h s name r (fetch_fine h (room slots h) s name) in
+    let same : SameButCursors mid h = fetch_same h s name r (expected_fine h (room slots h) (Fetch s name)) in
     ⊎_elim
     (λ g. (reply_text s r ++ rest.0, rest.1, same_joined rest.1 mid h rest.2 same, once_more h mid rest.1 slots s name more (reply_text s r) rest.0 (record { answer = r; reply = inl refl; gives = g; text = refl; state = refl }) rest.3))
     (λ g. (reply_text s r, mid, same, once_last h mid slots s name more (reply_text s r) (record { answer = r; reply = inl refl; gives = g; text = refl; state = refl })))
@@ -285,7 +321,7 @@ cut_behind start h left slots s name count all tells before now later so lt held
     }
 
 pub so_far_fault : (start h mid : State) (slots s : ℕ) (name : List ℕ) (count all : ℕ) (tells : Type 0) (before now later : List ℕ) (why : StepFault) → FetchedSoFar start slots s name count h tells before now → count < all
-    → FetchSteps h slots s name mid tells now later (Err why) → Steps (FetchOut start slots s name all) mid tells before later (Err why)
+    → FetchSteps h slots s name mid tells now later (Err why) → Steps (FetchOut start slots s name all) start.stopped mid tells before later (Err why)
 so_far_fault start h mid slots s name count all tells before now later Disk so lt step =
     let one = step.0 in (
       record {
@@ -300,8 +336,8 @@ so_far_fault start h mid slots s name count all tells before now later Sink so l
 
 -- a line without a call
 
-pub bad_steps : (R : List ℕ → State → Type 0) (h : State) (text : List ℕ) (tells : Type 0) (before after_put : List ℕ) (result : Result (Unit {0}) StepFault) → h.stopped ≡ false → R text h
-    → Told text false tells before after_put result → Steps R h tells before after_put result
-bad_steps R h text tells before after_put (Ok done) going r told = (record { out = text; reply = r; written = told.1 }, going)
-bad_steps R h text tells before after_put (Err Disk) going r told = absurd (false≢true told.0)
-bad_steps R h text tells before after_put (Err Sink) going r told = λ t1. let w = told t1 in record { out = text; state = h; reply = r; same = itself h; size = w.0; written = w.1 }
+pub bad_steps : (R : List ℕ → State → Type 0) (h : State) (text : List ℕ) (tells : Type 0) (before after_put : List ℕ) (result : Result (Unit {0}) StepFault) → R text h
+    → Told text false tells before after_put result → Steps R h.stopped h tells before after_put result
+bad_steps R h text tells before after_put (Ok done) r told = (record { out = text; reply = r; written = told.1 }, refl)
+bad_steps R h text tells before after_put (Err Disk) r told = absurd (false≢true told.0)
+bad_steps R h text tells before after_put (Err Sink) r told = λ t1. let w = told t1 in record { out = text; state = h; reply = r; same = itself h; size = w.0; written = w.1 }

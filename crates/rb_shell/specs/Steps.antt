@@ -67,11 +67,12 @@ pub record CutShort (allows : List ℕ → State → Type 0) (left : State) (bef
   pub size : ℕ
   pub written : now ≡ before ++ take size out
 
--- What a step did, by its result: at a fault of the disk the replies end with it and the state is stopped.
-abbrev pub Steps : (List ℕ → State → Type 0) → State → Type 0 → List ℕ → List ℕ → Result (Unit {0}) StepFault → Type 0
-Steps allows state tells before now (Ok done) = Replied allows state tells before now × (state.stopped ≡ false)
-Steps allows state tells before now (Err Disk) = Replied allows state tells before now × (state.stopped ≡ true)
-Steps allows state tells before now (Err Sink) = tells → CutShort allows state before now
+-- What a step did, by its result: at a fault of the disk the replies end with it and the state is stopped, else it is
+-- stopped where it was before.
+abbrev pub Steps : (List ℕ → State → Type 0) → Bool → State → Type 0 → List ℕ → List ℕ → Result (Unit {0}) StepFault → Type 0
+Steps allows was state tells before now (Ok done) = Replied allows state tells before now × (state.stopped ≡ was)
+Steps allows was state tells before now (Err Disk) = Replied allows state tells before now × (state.stopped ≡ true)
+Steps allows was state tells before now (Err Sink) = tells → CutShort allows state before now
 
 -- one fetch and its reply line
 pub record FetchOnce (h : State) (slots s : ℕ) (name : List ℕ) (gave : Bool) (out : List ℕ) (h2 : State) : Type 0 where
@@ -83,7 +84,7 @@ pub record FetchOnce (h : State) (slots s : ℕ) (name : List ℕ) (gave : Bool)
 
 -- What one fetch did, by its result: whether it gave a row.
 abbrev pub FetchSteps : State → ℕ → ℕ → List ℕ → State → Type 0 → List ℕ → List ℕ → Result Bool StepFault → Type 0
-FetchSteps h slots s name state tells before now (Ok gave) = Replied (FetchOnce h slots s name gave) state tells before now × (state.stopped ≡ false)
+FetchSteps h slots s name state tells before now (Ok gave) = Replied (FetchOnce h slots s name gave) state tells before now × (state.stopped ≡ h.stopped)
 FetchSteps h slots s name state tells before now (Err Disk) = Replied (FetchOnce h slots s name false) state tells before now × (state.stopped ≡ true)
 FetchSteps h slots s name state tells before now (Err Sink) = tells → (gave : Bool) × CutShort (FetchOnce h slots s name gave) state before now
 
@@ -92,4 +93,4 @@ pub record FetchedSoFar (start : State) (slots s : ℕ) (name : List ℕ) (count
   pub out : List ℕ
   pub goes_on : (more : ℕ) (rest : List ℕ) (h2 : State) → FetchOut h slots s name more rest h2 → FetchOut start slots s name (count + more) (out ++ rest) h2
   pub written : tells → now ≡ before ++ out
-  pub going : h.stopped ≡ false
+  pub stopped : h.stopped ≡ start.stopped

@@ -146,8 +146,7 @@ fn insert_line<D: Disk, K: Sink>(
     value: &[u8],
     sink: &mut K,
 ) -> Result<(), StepFault>
-    requires { engine.old.state.stopped ≡ false }
-    ensures steps { Steps (CallOut engine.old.state engine.old.layout.log s (call.Insert s table key value.now)) engine.new.state K.tells (K.held sink.old) (K.held sink.new) result }
+    ensures steps { Steps (CallOut engine.old.state engine.old.layout.log s (call.Insert s table key value.now)) engine.old.state.stopped engine.new.state K.tells (K.held sink.old) (K.held sink.new) result }
     ensures layout { engine.new.layout ≡ engine.old.layout }
     ensures crash { D.tells → Stands engine.old.layout engine.old.state (D.image engine.old.disk) → Survives D.image D.moment D.image_since engine.old.layout engine.old.state engine.new.state engine.old.disk engine.new.disk }
     ensures disk { IsErrOf result StepFault.Disk → Rose (D.faults engine.old.disk) (D.faults engine.new.disk) }
@@ -165,8 +164,7 @@ fn commit_line<D: Disk, K: Sink>(
     s: u16,
     sink: &mut K,
 ) -> Result<(), StepFault>
-    requires { engine.old.state.stopped ≡ false }
-    ensures steps { Steps (CallOut engine.old.state engine.old.layout.log s (call.Commit s)) engine.new.state K.tells (K.held sink.old) (K.held sink.new) result }
+    ensures steps { Steps (CallOut engine.old.state engine.old.layout.log s (call.Commit s)) engine.old.state.stopped engine.new.state K.tells (K.held sink.old) (K.held sink.new) result }
     ensures layout { engine.new.layout ≡ engine.old.layout }
     ensures crash { D.tells → Stands engine.old.layout engine.old.state (D.image engine.old.disk) → Survives D.image D.moment D.image_since engine.old.layout engine.old.state engine.new.state engine.old.disk engine.new.disk }
     ensures disk { IsErrOf result StepFault.Disk → Rose (D.faults engine.old.disk) (D.faults engine.new.disk) }
@@ -188,8 +186,7 @@ fn open_line<D: Disk, K: Sink>(
     hi: u64,
     sink: &mut K,
 ) -> Result<(), StepFault>
-    requires { engine.old.state.stopped ≡ false }
-    ensures steps { Steps (CallOut engine.old.state engine.old.layout.log s (call.OpenCursor s (name_text name.now) table lo hi)) engine.new.state K.tells (K.held sink.old) (K.held sink.new) result }
+    ensures steps { Steps (CallOut engine.old.state engine.old.layout.log s (call.OpenCursor s (name_text name.now) table lo hi)) engine.old.state.stopped engine.new.state K.tells (K.held sink.old) (K.held sink.new) result }
     ensures layout { engine.new.layout ≡ engine.old.layout }
     ensures crash { D.tells → Stands engine.old.layout engine.old.state (D.image engine.old.disk) → Survives D.image D.moment D.image_since engine.old.layout engine.old.state engine.new.state engine.old.disk engine.new.disk }
     ensures disk { IsErrOf result StepFault.Disk → Rose (D.faults engine.old.disk) (D.faults engine.new.disk) }
@@ -220,9 +217,10 @@ fn fetch_one<D: Disk, K: Sink>(
     row: &mut Row,
     sink: &mut K,
 ) -> Result<bool, StepFault>
-    requires { engine.old.state.stopped ≡ false }
     ensures steps { FetchSteps engine.old.state engine.old.layout.log s (name_text name.now) engine.new.state K.tells (K.held sink.old) (K.held sink.new) result }
     ensures layout { engine.new.layout ≡ engine.old.layout }
+    ensures disk_stays { engine.new.disk ≡ engine.old.disk }
+    ensures commits { engine.new.state.commits ≡ engine.old.state.commits }
     ensures crash { D.tells → Stands engine.old.layout engine.old.state (D.image engine.old.disk) → Survives D.image D.moment D.image_since engine.old.layout engine.old.state engine.new.state engine.old.disk engine.new.disk }
     ensures disk { IsErrOf result StepFault.Disk → Rose (D.faults engine.old.disk) (D.faults engine.new.disk) }
     ensures counted { D.faults engine.old.disk ≤ D.faults engine.new.disk }
@@ -244,8 +242,7 @@ fn fetch_line<D: Disk, K: Sink>(
     count: u32,
     sink: &mut K,
 ) -> Result<(), StepFault>
-    requires { engine.old.state.stopped ≡ false }
-    ensures steps { Steps (FetchOut engine.old.state engine.old.layout.log s (name_text name.now) count) engine.new.state K.tells (K.held sink.old) (K.held sink.new) result }
+    ensures steps { Steps (FetchOut engine.old.state engine.old.layout.log s (name_text name.now) count) engine.old.state.stopped engine.new.state K.tells (K.held sink.old) (K.held sink.new) result }
     ensures layout { engine.new.layout ≡ engine.old.layout }
     ensures crash { D.tells → Stands engine.old.layout engine.old.state (D.image engine.old.disk) → Survives D.image D.moment D.image_since engine.old.layout engine.old.state engine.new.state engine.old.disk engine.new.disk }
     ensures disk { IsErrOf result StepFault.Disk → Rose (D.faults engine.old.disk) (D.faults engine.new.disk) }
@@ -274,8 +271,7 @@ fn close_line<D: Disk, K: Sink>(
     name: &Name,
     sink: &mut K,
 ) -> Result<(), StepFault>
-    requires { engine.old.state.stopped ≡ false }
-    ensures steps { Steps (CallOut engine.old.state engine.old.layout.log s (call.CloseCursor s (name_text name.now))) engine.new.state K.tells (K.held sink.old) (K.held sink.new) result }
+    ensures steps { Steps (CallOut engine.old.state engine.old.layout.log s (call.CloseCursor s (name_text name.now))) engine.old.state.stopped engine.new.state K.tells (K.held sink.old) (K.held sink.new) result }
     ensures layout { engine.new.layout ≡ engine.old.layout }
     ensures crash { D.tells → Stands engine.old.layout engine.old.state (D.image engine.old.disk) → Survives D.image D.moment D.image_since engine.old.layout engine.old.state engine.new.state engine.old.disk engine.new.disk }
     ensures disk { IsErrOf result StepFault.Disk → Rose (D.faults engine.old.disk) (D.faults engine.new.disk) }
@@ -293,8 +289,7 @@ fn run_command<D: Disk, K: Sink>(
     command: &Command<'_>,
     sink: &mut K,
 ) -> Result<(), StepFault>
-    requires { engine.old.state.stopped ≡ false }
-    ensures steps { Steps (CommandOut engine.old.state engine.old.layout.log (command_of command.now)) engine.new.state K.tells (K.held sink.old) (K.held sink.new) result }
+    ensures steps { Steps (CommandOut engine.old.state engine.old.layout.log (command_of command.now)) engine.old.state.stopped engine.new.state K.tells (K.held sink.old) (K.held sink.new) result }
     ensures layout { engine.new.layout ≡ engine.old.layout }
     ensures crash { D.tells → Stands engine.old.layout engine.old.state (D.image engine.old.disk) → Survives D.image D.moment D.image_since engine.old.layout engine.old.state engine.new.state engine.old.disk engine.new.disk }
     ensures disk { IsErrOf result StepFault.Disk → Rose (D.faults engine.old.disk) (D.faults engine.new.disk) }
@@ -325,10 +320,9 @@ pub fn step<D: Disk, K: Sink>(
     line: &[u8],
     sink: &mut K,
 ) -> Result<(), StepFault>
-    requires { engine.old.state.stopped ≡ false }
     // The replies to the line, and the state after them; at a fault of the disk they end with it. A crash may leave no
     // more than these states.
-    ensures steps { Steps (LineOut engine.old.state engine.old.layout.log line.now) engine.new.state K.tells (K.held sink.old) (K.held sink.new) result }
+    ensures steps { Steps (LineOut engine.old.state engine.old.layout.log line.now) engine.old.state.stopped engine.new.state K.tells (K.held sink.old) (K.held sink.new) result }
     ensures layout { engine.new.layout ≡ engine.old.layout }
     ensures crash { D.tells → Stands engine.old.layout engine.old.state (D.image engine.old.disk) → Survives D.image D.moment D.image_since engine.old.layout engine.old.state engine.new.state engine.old.disk engine.new.disk }
     ensures disk { IsErrOf result StepFault.Disk → Rose (D.faults engine.old.disk) (D.faults engine.new.disk) }

@@ -46,7 +46,7 @@ impl<D: Disk> Machine for Interpreter<D> {
 
     fn step<K: Sink>(&mut self, line: &[u8], sink: &mut K) -> Result<(), StepFault>
         requires going { self.old.engine.state.stopped ≡ false }
-        ensures steps { Steps (LineOut self.old.engine.state self.old.engine.layout.log line.now) self.new.engine.state K.tells (K.held sink.old) (K.held sink.new) result }
+        ensures steps { Steps (LineOut self.old.engine.state self.old.engine.layout.log line.now) self.old.engine.state.stopped self.new.engine.state K.tells (K.held sink.old) (K.held sink.new) result }
         ensures layout { self.new.engine.layout ≡ self.old.engine.layout }
         ensures crash { D.tells → Stands self.old.engine.layout self.old.engine.state (D.image self.old.engine.disk) → Survives D.image D.moment D.image_since self.old.engine.layout self.old.engine.state self.new.engine.state self.old.engine.disk self.new.engine.disk }
         ensures disk { IsErrOf result StepFault.Disk → Rose (D.faults self.old.engine.disk) (D.faults self.new.engine.disk) }

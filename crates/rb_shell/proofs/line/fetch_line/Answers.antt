@@ -3,15 +3,16 @@ use Rattle.rb_layout.specs.declared.layout.Layout.{Layout}
 use Rattle.rb_model.specs.Names.{name_text}
 use Rattle.rb_shell.specs.Steps.{Steps, FetchSteps}
 use Rattle.rb_model.specs.Out.{FetchOut}
-use Rattle.rb_first.proofs.CrashLemmas.{survives_still, survives_after}
+use Rattle.rb_first.proofs.CrashLemmas.{survives_still}
 use Rattle.rb_shell.proofs.StepLemmas.{so_far_none, so_far_more, so_far_end, so_far_stop, so_far_fault}
 use Rattle.rb_shell.proofs.line.fetch_line.Goals as goal
 
 pub loop-init : goal.loop-init
 loop-init g c = record {
-  fetched = so_far_none c.args.engine.now.state c.args.engine.now.layout.log c.args.s (name_text c.args.name.now) g.K.Sink.tells (g.K.Sink.held c.args.sink.now) c.requires;
+  fetched = so_far_none c.args.engine.now.state c.args.engine.now.layout.log c.args.s (name_text c.args.name.now) g.K.Sink.tells (g.K.Sink.held c.args.sink.now);
   layout = refl;
-  crash = λ told. survives_still g.D.Disk.image g.D.Disk.moment g.D.Disk.image_since c.args.engine.now.layout c.args.engine.now.state c.args.engine.now.state c.args.engine.now.disk c.args.engine.now.disk (λ im left. g.met.D.Disk.only_now c.args.engine.now.disk im told left) refl refl;
+  disk = refl;
+  commits = refl;
   counted = omega arith;
   sink_counted = omega arith;
 }
@@ -24,7 +25,8 @@ loop-preserved g c =
     record {
       fetched = so_far_more c.args.engine.now.state c.loop.engine.state c.fetch_one.new.engine.state c.args.engine.now.layout.log c.args.s (name_text c.args.name.now) c.loop.counter g.K.Sink.tells _ _ _ i.fetched steps;
       layout = c.fetch_one.ensures.layout ∙ i.layout;
-      crash = λ told. survives_after g.D.Disk.image g.D.Disk.moment g.D.Disk.image_since c.args.engine.now.layout c.loop.engine.layout c.args.engine.now.state c.loop.engine.state c.fetch_one.new.engine.state c.args.engine.now.disk c.loop.engine.disk c.fetch_one.new.engine.disk i.layout i.fetched.going (i.crash told) (c.fetch_one.ensures.crash told);
+      disk = c.fetch_one.ensures.disk_stays ∙ i.disk;
+      commits = c.fetch_one.ensures.commits ∙ i.commits;
       counted = omega (arith, c.fetch_one.ensures.counted, i.counted);
       sink_counted = omega (arith, c.fetch_one.ensures.sink_counted, i.sink_counted);
     }
@@ -39,12 +41,17 @@ returns-in-Ok-false-clause-steps g c =
 pub returns-in-Ok-false-clause-crash : goal.returns-in-Ok-false-clause-crash
 returns-in-Ok-false-clause-crash g c = λ told.
     let i = c.loop.invariant in
-    survives_after g.D.Disk.image g.D.Disk.moment g.D.Disk.image_since c.args.engine.now.layout c.loop.engine.layout c.args.engine.now.state c.loop.engine.state c.fetch_one.new.engine.state c.args.engine.now.disk c.loop.engine.disk c.fetch_one.new.engine.disk i.layout i.fetched.going (i.crash told) (c.fetch_one.ensures.crash told)
+    survives_still g.D.Disk.image g.D.Disk.moment g.D.Disk.image_since c.args.engine.now.layout c.args.engine.now.state c.fetch_one.new.engine.state c.args.engine.now.disk c.fetch_one.new.engine.disk (λ im left. g.met.D.Disk.only_now c.args.engine.now.disk im told left) (c.fetch_one.ensures.disk_stays ∙ i.disk) (c.fetch_one.ensures.commits ∙ i.commits)
 
 pub returns-in-Err-clause-crash : goal.returns-in-Err-clause-crash
 returns-in-Err-clause-crash g c = λ told.
     let i = c.loop.invariant in
-    survives_after g.D.Disk.image g.D.Disk.moment g.D.Disk.image_since c.args.engine.now.layout c.loop.engine.layout c.args.engine.now.state c.loop.engine.state c.fetch_one.new.engine.state c.args.engine.now.disk c.loop.engine.disk c.fetch_one.new.engine.disk i.layout i.fetched.going (i.crash told) (c.fetch_one.ensures.crash told)
+    survives_still g.D.Disk.image g.D.Disk.moment g.D.Disk.image_since c.args.engine.now.layout c.args.engine.now.state c.fetch_one.new.engine.state c.args.engine.now.disk c.fetch_one.new.engine.disk (λ im left. g.met.D.Disk.only_now c.args.engine.now.disk im told left) (c.fetch_one.ensures.disk_stays ∙ i.disk) (c.fetch_one.ensures.commits ∙ i.commits)
+
+pub returns-clause-crash : goal.returns-clause-crash
+returns-clause-crash g c = λ told.
+    let i = c.loop.invariant in
+    survives_still g.D.Disk.image g.D.Disk.moment g.D.Disk.image_since c.args.engine.now.layout c.args.engine.now.state c.loop.engine.state c.args.engine.now.disk c.loop.engine.disk (λ im left. g.met.D.Disk.only_now c.args.engine.now.disk im told left) (i.disk) (i.commits)
 
 pub returns-in-Err-clause-steps : goal.returns-in-Err-clause-steps
 returns-in-Err-clause-steps g c =
@@ -56,5 +63,5 @@ pub returns-clause-steps : goal.returns-clause-steps
 returns-clause-steps g c =
     let i = c.loop.invariant in
     let all : c.loop.counter ≡ c.args.count = omega arith in
-    subst (λ (n : ℕ). Steps (FetchOut c.args.engine.now.state c.args.engine.now.layout.log c.args.s (name_text c.args.name.now) n) c.loop.engine.state g.K.Sink.tells (g.K.Sink.held c.args.sink.now) (g.K.Sink.held c.loop.sink) (Ok tt)) all
+    subst (λ (n : ℕ). Steps (FetchOut c.args.engine.now.state c.args.engine.now.layout.log c.args.s (name_text c.args.name.now) n) c.args.engine.now.state.stopped c.loop.engine.state g.K.Sink.tells (g.K.Sink.held c.args.sink.now) (g.K.Sink.held c.loop.sink) (Ok tt)) all
     (so_far_end c.args.engine.now.state c.loop.engine.state c.args.engine.now.layout.log c.args.s (name_text c.args.name.now) c.loop.counter g.K.Sink.tells _ _ i.fetched)

@@ -1,11 +1,16 @@
+use Rattle.rb_script.specs.Replies.{text_of_reply}
+use Rattle.rb_shell.specs.Steps.{tells_fault}
 use Rattle.std.proofs.Common.{inl}
 use Rattle.rb_model.specs.Out.{room}
 use Rattle.rb_model.specs.Reply as call
 use Rattle.rb_model.specs.Answers.{write_answer}
-use Rattle.rb_shell.proofs.StepLemmas.{told_call}
+use Rattle.rb_shell.proofs.StepLemmas.{told_call, told_fine}
 use Rattle.rb_shell.proofs.line.insert_line.Goals as goal
 
 pub returns-clause-steps : goal.returns-clause-steps
 returns-clause-steps g c =
     told_call c.args.engine.now.state c.insert-answer.new.self.state c.args.engine.now.layout.log c.args.s (call.Insert c.args.s c.args.table c.args.key c.args.value.now) (write_answer c.insert-answer.result) _ _ g.K.Sink.tells _ _ c.tell.result
-    c.requires (inl (c.insert-answer.ensures.answer (room c.args.engine.now.layout.log c.args.engine.now.state))) c.insert-answer.ensures.state c.reply_to_write.ensures.text c.reply_to_write.ensures.fault c.tell.ensures.told
+    (inl (c.insert-answer.ensures.answer (room c.args.engine.now.layout.log c.args.engine.now.state))) c.insert-answer.ensures.state c.reply_to_write.ensures.text c.reply_to_write.ensures.fault c.tell.ensures.told
+
+pub returns-clause-disk : goal.returns-clause-disk
+returns-clause-disk g c = λ is. absurd (told_fine c.args.engine.now.state 0 (call.Insert c.args.s c.args.table c.args.key c.args.value.now) (write_answer c.insert-answer.result) (text_of_reply c.reply_to_write.result) (tells_fault c.reply_to_write.result) g.K.Sink.tells (g.K.Sink.held c.args.sink.now) (g.K.Sink.held c.tell.new.sink) c.tell.result (c.insert-answer.ensures.answer 0) c.reply_to_write.ensures.fault c.tell.ensures.told is)

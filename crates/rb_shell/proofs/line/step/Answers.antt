@@ -8,18 +8,18 @@ use Rattle.rb_shell.proofs.line.step.Goals as goal
 
 pub returns-then-line-gt-LINE_BYTES-clause-steps : goal.returns-then-line-gt-LINE_BYTES-clause-steps
 returns-then-line-gt-LINE_BYTES-clause-steps g c =
-    bad_steps (LineOut c.args.engine.now.state c.args.engine.now.layout.log c.args.line.now) c.args.engine.now.state bad_line_text g.K.Sink.tells _ _ c.tell.result c.requires
+    bad_steps (LineOut c.args.engine.now.state c.args.engine.now.layout.log c.args.line.now) c.args.engine.now.state bad_line_text g.K.Sink.tells _ _ c.tell.result
     (too_long c.if-line-gt-LINE_BYTES.true refl refl) c.tell.ensures.told
 
 pub returns-in-None-clause-steps : goal.returns-in-None-clause-steps
 returns-in-None-clause-steps g c =
-    bad_steps (LineOut c.args.engine.now.state c.args.engine.now.layout.log c.args.line.now) c.args.engine.now.state bad_line_text g.K.Sink.tells _ _ c.tell-in-None.result c.requires
+    bad_steps (LineOut c.args.engine.now.state c.args.engine.now.layout.log c.args.line.now) c.args.engine.now.state bad_line_text g.K.Sink.tells _ _ c.tell-in-None.result
     (bad c.if-line-gt-LINE_BYTES.false (ap is_remark (sym c.without_return-text.ensures) ∙ sym c.is_remark.ensures ∙ c.if-is_remark.false)
     (subst SpellsNone c.without_return-text.ensures c.in-None.ensures.none) refl refl) c.tell-in-None.ensures.told
 
 pub returns-in-Some-clause-steps : goal.returns-in-Some-clause-steps
 returns-in-Some-clause-steps g c =
-    steps_weaker (CommandOut c.args.engine.now.state c.args.engine.now.layout.log (command_of c.in-Some.command)) (LineOut c.args.engine.now.state c.args.engine.now.layout.log c.args.line.now)
+    steps_weaker (CommandOut c.args.engine.now.state c.args.engine.now.layout.log (command_of c.in-Some.command)) (LineOut c.args.engine.now.state c.args.engine.now.layout.log c.args.line.now) c.args.engine.now.state.stopped
     c.run_command.new.engine.state g.K.Sink.tells _ _ c.run_command.result
     (λ out h did. command c.if-line-gt-LINE_BYTES.false (command_of c.in-Some.command) (subst (λ (text : List ℕ). Spells text (command_of c.in-Some.command)) c.without_return-text.ensures c.in-Some.ensures.found) did)
     c.run_command.ensures.steps
