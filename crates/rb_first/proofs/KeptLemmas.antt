@@ -3,14 +3,14 @@ use Rattle.std.proofs.Common.{◌≡◌, ◌≢◌, ℕ, zero, suc, ◌+◌, ◌
 use Rattle.std.proofs.lemmas.List.{map-append, take-append-le, drop-append-le, take_all, drop_all, drop-drop, append-nil, length-append, length-map, take-take, map_push, take-append-drop, length-drop, take_rest}
 use Rattle.std.proofs.Math.Seq.{take-add}
 use Rattle.std.proofs.lemmas.List.Sums.{sum_by-append}
-use Rattle.std.specs.Prelude.{slice_get}
+use Rattle.std.specs.Prelude.{slice_get, remove}
 use Rattle.std.proofs.lemmas.Bool.{cond-true, cond-false, le-leb, le-ltb}
 use Rattle.std.specs.Str.{bytes_eq}
 use Rattle.std.specs.List.{flat_map, AllByRecursion}
 use Rattle.rb_base.specs.declared.ids.Shape.{Shape}
 use Rattle.rb_model.specs.Change.{Change, put}
 use Rattle.rb_model.specs.Rows.{TableRow, Commits, over, rows_at, changed_by, has_row}
-use Rattle.rb_model.specs.State.{State, Session, Cursor, cursor_rows, session_of, with_session, with_taken, found_more}
+use Rattle.rb_model.specs.State.{State, Session, Cursor, cursor_rows, session_of, with_session, with_taken, without_cursor, found_more}
 use Rattle.rb_model.specs.Reply.{rows_now, record_length, kind_length, with_own, with_cursors, committed, expected, first_of, Insert, Done, Refused, after_refusal}
 use Rattle.rb_model.specs.declared.refusal.Refusal.{Refusal}
 use Rattle.rb_model.specs.declared.refusal.Refusal.TheVariants.{NoSession, NoTable, ValueTooLong, Duplicate, NoCursor, CursorThere, TooManyCursors, DiskFault, Stopped, LogFull}
@@ -235,6 +235,19 @@ taken_at_place blocks base base_length ends puts name [] i d c' h e = absurd h
 taken_at_place blocks base base_length ends puts name (c ∷ cursors) zero d c' h e = cond-true (has_name name c) _ _ h ∙ ap (λ x. x ∷ map (cursor_view blocks base base_length ends puts) cursors) (sym e)
 taken_at_place blocks base base_length ends puts name (c ∷ cursors) (suc i) d c' h e =
     cond-false (has_name name c) _ _ h.0 ∙ ap (λ xs. cursor_view blocks base base_length ends puts c ∷ xs) (taken_at_place blocks base base_length ends puts name cursors i d c' h.1 e)
+
+pub removed_at_place : (blocks base base_length : ℕ) (ends : List ℕ) (puts : List Put) (name : List ℕ) (cursors : List OpenCursor) (i : ℕ) → IsPlace (has_name name) cursors i
+    → without_cursor name (map (cursor_view blocks base base_length ends puts) cursors) ≡ map (cursor_view blocks base base_length ends puts) (remove cursors i)
+removed_at_place blocks base base_length ends puts name [] i h = absurd h
+removed_at_place blocks base base_length ends puts name (c ∷ cursors) zero h = cond-true (has_name name c) _ _ h
+removed_at_place blocks base base_length ends puts name (c ∷ cursors) (suc i) h =
+    cond-false (has_name name c) _ _ h.0 ∙ ap (λ xs. cursor_view blocks base base_length ends puts c ∷ xs) (removed_at_place blocks base base_length ends puts name cursors i h.1)
+
+pub all-remove : {X : Type 0} (P : X → Type 0) (xs : List X) (i : ℕ) → AllByRecursion P xs → AllByRecursion P (remove xs i)
+all-remove P [] zero all = all
+all-remove P [] (suc i) all = all
+all-remove P (x ∷ xs) zero all = all.1
+all-remove P (x ∷ xs) (suc i) all = (all.0, all-remove P xs i all.1)
 
 -- the tests of an insert that are left behind the early ones
 pub insert_expected : (shape : Shape) (base base_length : ℕ) (ends : List ℕ) (puts : List Put) (cursors : List OpenCursor) (stopped : Bool) (room s table key : ℕ) (value : List ℕ)

@@ -3,9 +3,9 @@ use Rattle.std.proofs.Common.{◌≡◌, ℕ, suc, ◌+◌, ◌-◌, ◌*◌, �
 use Rattle.std.proofs.lemmas.List.{length-map, map_push, take_all}
 use Rattle.std.proofs.lemmas.Bool.{le-leb}
 use Rattle.std.specs.List.{AllByRecursion}
-use Rattle.std.specs.Prelude.{slice_get}
+use Rattle.std.specs.Prelude.{slice_get, remove}
 use Rattle.rb_model.specs.Rows.{TableRow, last_number, over}
-use Rattle.rb_model.specs.State.{State, Cursor, is_session, is_table, session_of, cursor_of, cursor_rows, with_taken}
+use Rattle.rb_model.specs.State.{State, Cursor, is_session, is_table, session_of, cursor_of, cursor_rows, with_taken, without_cursor}
 use Rattle.rb_model.specs.Reply as call
 use Rattle.rb_model.specs.Reply.{Answer, Commit, Fetch, Done, Numbered, Given, End, Refused, expected, next_row, given, is_empty, after_grant}
 use Rattle.rb_model.specs.declared.refusal.Refusal.TheVariants.{NoCursor, CursorThere, TooManyCursors, LogFull}
@@ -17,7 +17,7 @@ use Rattle.rb_record.specs.Puts.{changes_of}
 use Rattle.rb_first.specs.Next.{asked, given_count, next_of, row_at}
 use Rattle.rb_first.specs.Kept.{Kept, cursor_view, state_view, rows_of, cut, last_end, Rising, IsOpened, IsPlace, has_name}
 use Rattle.rb_first.proofs.RowLemmas.{next_is_wanted, given_one_more, ordered-over}
-use Rattle.rb_first.proofs.KeptLemmas.{find_at_place, none_named, cursor_rows_view, taken_at_place, fresh_view, all_at}
+use Rattle.rb_first.proofs.KeptLemmas.{find_at_place, none_named, cursor_rows_view, taken_at_place, removed_at_place, fresh_view, all_at}
 
 -- the tests of a call, each with its outcome
 
@@ -29,6 +29,10 @@ open_tests h room s name table lo hi there many a b d e f = rw (a, b, d, e, f) r
 pub fetch_tests : (h : State) (room s : ℕ) (name : List ℕ) (found : Option Cursor) → h.stopped ≡ false → is_session h s ≡ true → cursor_of h s name ≡ found
     → expected h room (Fetch s name) ≡ cond (is_none found) (Refused NoCursor) (next_row h found)
 fetch_tests h room s name found a b e = rw (a, b, e) refl
+
+pub close_tests : (h : State) (room s : ℕ) (name : List ℕ) (none : Bool) → h.stopped ≡ false → is_session h s ≡ true → is_none (cursor_of h s name) ≡ none
+    → expected h room (call.CloseCursor s name) ≡ cond none (Refused NoCursor) Done
+close_tests h room s name none a b e = rw (a, b, e) refl
 
 pub commit_tests : (h : State) (room s : ℕ) (empty full : Bool) → h.stopped ≡ false → is_session h s ≡ true → is_empty (session_of h s).own ≡ empty → nat_eq room 0 ≡ full
     → expected h room (Commit s) ≡ cond empty Done (cond full (Refused LogFull) (Numbered (last_number h.commits + 1)))
@@ -142,6 +146,16 @@ view-fetch a kept s name i d r key cs v e place f k next =
     rw (cursors) refl
     ∙ ap (λ (k : Kept). after_grant k.state (Fetch 1 name)) v
     ∙ ap (λ n. after_grant kept.state (Fetch n name)) (sym e)
+
+-- the state without the cursor of a name
+pub view-close : (a : Inside) (kept : Kept) (s : ℕ) (name : List ℕ) (i : ℕ) (cs : List OpenCursor) → the_view a ≡ kept → s ≡ 1 → IsPlace (has_name name) a.cursors.items i → cs ≡ remove a.cursors.items i
+    → state_view a.shape a.base a.base_length a.ends.items a.changes.items cs a.stopped ≡ after_grant kept.state (call.CloseCursor s name)
+view-close a kept s name i cs v e place f =
+    let view = cursor_view a.shape.blocks a.base a.base_length a.ends.items a.changes.items in
+    let cursors : map view cs ≡ without_cursor name (map view a.cursors.items) = ap (map view) f ∙ sym (removed_at_place a.shape.blocks a.base a.base_length a.ends.items a.changes.items name a.cursors.items i place) in
+    rw (cursors) refl
+    ∙ ap (λ (k : Kept). after_grant k.state (call.CloseCursor 1 name)) v
+    ∙ ap (λ n. after_grant kept.state (call.CloseCursor n name)) (sym e)
 
 -- a cursor in order stays so
 pub mark_opened : (base base_length : ℕ) (ends : List ℕ) (count : ℕ) (c : OpenCursor) (last : Option ℕ) → IsOpened base base_length ends count c → IsOpened base base_length ends count (record c { last = last })

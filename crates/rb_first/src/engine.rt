@@ -139,6 +139,17 @@ impl<D: Disk> FirstEngine<D> {
         self.state.fetch(s, name, row)
     }
 
+    /// Closes the session's cursor of a name.
+    pub fn close_cursor(&mut self, s: u16, name: &Name) -> Result<(), Refusal>
+        ensures answer { (room : ℕ) → plain_answer result ≡ expected self.old.state room (call.CloseCursor s (name_text name.now)) }
+        ensures state { self.new.state ≡ after self.old.state (call.CloseCursor s (name_text name.now)) (plain_answer result) }
+        ensures stopped { self.new.state.stopped ≡ self.old.state.stopped }
+        ensures layout { self.new.layout ≡ self.old.layout }
+        ensures disk { self.new.disk ≡ self.old.disk }
+    {
+        self.state.close_cursor(s, name)
+    }
+
     /// The number of the last commit.
     pub fn number(&self) -> u64
         ensures { result ≡ last_number self.now.state.commits }

@@ -324,6 +324,27 @@ impl FirstState {
         Ok(Fetched::Row)
     }
 
+    /// Closes the cursor of a name. It may be refused, and then nothing is changed.
+    pub fn close_cursor(&mut self, s: u16, name: &Name) -> Result<(), Refusal>
+        ensures answer { (room : ℕ) → plain_answer result ≡ expected self.old.state room (call.CloseCursor s (name_text name.now)) }
+        ensures state { self.new.state ≡ after self.old.state (call.CloseCursor s (name_text name.now)) (plain_answer result) }
+        ensures commits { self.new.state.commits ≡ self.old.state.commits }
+        ensures stopped { self.new.state.stopped ≡ self.old.state.stopped }
+        ensures slots { self.new.slots ≡ self.old.slots }
+    {
+        if self.stopped {
+            return Err(Refusal::Stopped);
+        }
+        if s != SESSION {
+            return Err(Refusal::NoSession);
+        }
+        let Some(place) = position_of(self.cursors.as_slice(), name.as_bytes()) else {
+            return Err(Refusal::NoCursor);
+        };
+        self.cursors.remove(place);
+        Ok(())
+    }
+
     /// Whether a commit of the session has changes to keep, or why it is refused.
     pub fn check_commit(&self, s: u16) -> Result<bool, Refusal>
         ensures refused { IfErr result (λ why. call.Refused why ≡ expected self.now.state (room self.now.slots self.now.state) (call.Commit s)) }

@@ -34,6 +34,7 @@ pub data Command : Type 0 where
   CommitLine : (session : ℕ) → Command
   OpenLine : (session : ℕ) (name : List ℕ) (table lo hi : ℕ) → Command
   FetchLine : (session : ℕ) (name : List ℕ) (count : ℕ) → Command
+  CloseLine : (session : ℕ) (name : List ℕ) → Command
 
 -- a space and a number
 abbrev pub number : ℕ → List ℕ
@@ -45,6 +46,7 @@ spelling (InsertLine s table key value) = codes "insert" ++ number s ++ number t
 spelling (CommitLine s) = codes "commit" ++ number s
 spelling (OpenLine s name table lo hi) = codes "open" ++ number s ++ 32 ∷ name ++ number table ++ number lo ++ number hi
 spelling (FetchLine s name count) = codes "fetch" ++ number s ++ 32 ∷ name ++ number count
+spelling (CloseLine s name) = codes "close" ++ number s ++ 32 ∷ name
 
 -- one or more visible bytes
 abbrev pub is_value : List ℕ → Bool
@@ -57,6 +59,7 @@ IsCommand (CommitLine s) = s < 2 ^ 16
 IsCommand (OpenLine s name table lo hi) =
     (s < 2 ^ 16) × IsTrue (is_name name) × (table < 2 ^ 16) × (lo < 2 ^ 64) × (hi < 2 ^ 64)
 IsCommand (FetchLine s name count) = (s < 2 ^ 16) × IsTrue (is_name name) × (1 ≤ count) × (count ≤ 1000000)
+IsCommand (CloseLine s name) = (s < 2 ^ 16) × IsTrue (is_name name)
 
 -- the text spells this command
 abbrev pub Spells : List ℕ → Command → Type 0

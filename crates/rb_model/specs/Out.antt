@@ -2,8 +2,8 @@
 use Rattle.std.specs.Prelude.{◌≡◌, ℕ, zero, suc, ◌-◌, ◌<◌, ◌≤◌, Bool, true, false, MatchBool, List, [], ◌∷◌, ◌++◌, length}
 use Rattle.rb_model.specs.Rows.{last_number}
 use Rattle.rb_model.specs.State.{State}
-use Rattle.rb_model.specs.Reply.{Call, Insert, Commit, OpenCursor, Fetch, Answer, Done, Waits, Numbered, Given, End, Refused, Reply, after}
-use Rattle.rb_model.specs.Lines.{Command, InsertLine, CommitLine, OpenLine, FetchLine, Spells, SpellsNone, without_return, is_remark, reply_text, bad_line_text}
+use Rattle.rb_model.specs.Reply.{Call, Insert, Commit, OpenCursor, Fetch, CloseCursor, Answer, Done, Waits, Numbered, Given, End, Refused, Reply, after}
+use Rattle.rb_model.specs.Lines.{Command, InsertLine, CommitLine, OpenLine, FetchLine, CloseLine, Spells, SpellsNone, without_return, is_remark, reply_text, bad_line_text}
 
 -- how many more commits a log of so many slots has room for
 abbrev pub room : ℕ → State → ℕ
@@ -38,6 +38,7 @@ CommandOut h slots (InsertLine s table key value) out h2 = CallOut h slots s (In
 CommandOut h slots (CommitLine s) out h2 = CallOut h slots s (Commit s) out h2
 CommandOut h slots (OpenLine s name table lo hi) out h2 = CallOut h slots s (OpenCursor s name table lo hi) out h2
 CommandOut h slots (FetchLine s name count) out h2 = FetchOut h slots s name count out h2
+CommandOut h slots (CloseLine s name) out h2 = CallOut h slots s (CloseCursor s name) out h2
 
 -- What one line does. A line of more than 512 bytes is bad whatever it has; one CR at its end doesn't count.
 pub data LineOut (h : State) (slots : ℕ) (line out : List ℕ) (h2 : State) : Type 0 where

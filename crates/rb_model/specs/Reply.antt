@@ -2,7 +2,7 @@
 use Rattle.std.specs.Prelude.{◌≡◌, ◌⊎◌, ℕ, suc, ◌+◌, ◌-◌, Bool, true, false, not, ◌&&◌, ◌==◌, nat_lt, nat_le, if◌then◌else◌, is_some, is_none, List, [], ◌∷◌, ◌++◌, length, sum_by, slice_get, Option, None, Some, All}
 use Rattle.rb_model.specs.Change.{Change, Kind, Put, Gone, Held, put}
 use Rattle.rb_model.specs.Rows.{TableRow, Commits, last_number, rows_at, over, has_row}
-use Rattle.rb_model.specs.State.{State, Session, Cursor, is_session, is_table, session_of, with_session, cursor_of, cursor_rows, with_taken}
+use Rattle.rb_model.specs.State.{State, Session, Cursor, is_session, is_table, session_of, with_session, cursor_of, cursor_rows, with_taken, without_cursor}
 use Rattle.rb_model.specs.declared.refusal.Refusal.{Refusal}
 use Rattle.rb_model.specs.declared.refusal.Refusal.TheVariants.{NoSession, NoTable, ValueTooLong, Duplicate, NoCursor, CursorThere, TooManyCursors, DiskFault, Stopped, LogFull}
 
@@ -12,6 +12,7 @@ pub data Call : Type 0 where
   Commit : (session : ℕ) → Call
   OpenCursor : (session : ℕ) (name : List ℕ) (table lo hi : ℕ) → Call
   Fetch : (session : ℕ) (name : List ℕ) → Call
+  CloseCursor : (session : ℕ) (name : List ℕ) → Call
 
 pub data Answer : Type 0 where
   -- done, with nothing to tell
@@ -53,6 +54,7 @@ early_tests h (Commit s) = (h.stopped, Stopped) ∷ (not (is_session h s), NoSes
 early_tests h (OpenCursor s name table lo hi) =
     (h.stopped, Stopped) ∷ (not (is_session h s), NoSession) ∷ (not (is_table h table), NoTable) ∷ []
 early_tests h (Fetch s name) = (h.stopped, Stopped) ∷ (not (is_session h s), NoSession) ∷ []
+early_tests h (CloseCursor s name) = (h.stopped, Stopped) ∷ (not (is_session h s), NoSession) ∷ []
 
 -- room: how many more records the log has room for
 abbrev pub later_tests : State → ℕ → Call → List (Bool × Refusal)
@@ -63,6 +65,7 @@ later_tests h room (Commit s) = (not (is_empty (session_of h s).own) && (room ==
 later_tests h room (OpenCursor s name table lo hi) =
     (is_some (cursor_of h s name), CursorThere) ∷ (nat_le 16 (length (session_of h s).cursors), TooManyCursors) ∷ []
 later_tests h room (Fetch s name) = (is_none (cursor_of h s name), NoCursor) ∷ []
+later_tests h room (CloseCursor s name) = (is_none (cursor_of h s name), NoCursor) ∷ []
 
 -- a row as the answer to a fetch, or the end
 abbrev pub given : Option TableRow → Answer
@@ -80,6 +83,7 @@ granted h (Insert s table key value) = Done
 granted h (Commit s) = if is_empty (session_of h s).own then Done else Numbered (last_number h.commits + 1)
 granted h (OpenCursor s name table lo hi) = Done
 granted h (Fetch s name) = next_row h (cursor_of h s name)
+granted h (CloseCursor s name) = Done
 
 -- the first test that applies, or else the good answer
 abbrev pub first_of : List (Bool × Refusal) → Answer → Answer
@@ -140,6 +144,7 @@ after_grant h (OpenCursor s name table lo hi) =
       taken = 0;
     } ∷ [])
 after_grant h (Fetch s name) = with_cursors h s (with_taken name (session_of h s).cursors)
+after_grant h (CloseCursor s name) = with_cursors h s (without_cursor name (session_of h s).cursors)
 
 -- the state after a call with that answer
 abbrev pub after : State → Call → Answer → State

@@ -65,6 +65,11 @@ with_taken name [] = []
 with_taken name (c ∷ cursors) =
     cond (bytes_eq c.name name) (record c { taken = suc c.taken } ∷ cursors) (c ∷ with_taken name cursors)
 
+-- the cursors without the first of that name
+abbrev pub without_cursor : List ℕ → List Cursor → List Cursor
+without_cursor name [] = []
+without_cursor name (c ∷ cursors) = cond (bytes_eq c.name name) cursors (c ∷ without_cursor name cursors)
+
 -- the state that a file of these commits opens to: they are the base, and nothing is under way
 abbrev pub opened : Shape → List (List Change) → State
 opened shape records = record {

@@ -10,7 +10,7 @@ use std::test::Fail;
 // Scripts over a fresh file each, and their replies.
 #[test]
 fn replies(rt: HostRuntime) -> Result<(), Fail> {
-    let rows: [(&str, &[u8], &[u8]); 6] = [
+    let rows: [(&str, &[u8], &[u8]); 7] = [
         ("empty script", b"", b""),
         (
             "insert, commit, fetch",
@@ -20,6 +20,7 @@ commit 1
 open 1 c 1 0 9
 fetch 1 c 5
 commit 1
+close 1 c
 ",
             b"\
 1 ok
@@ -28,6 +29,34 @@ commit 1
 1 row 1 a
 1 end
 1 ok
+1 ok
+",
+        ),
+        (
+            "closed cursors",
+            b"\
+insert 1 1 1 a
+open 1 first 1 0 9
+open 1 second 1 0 9
+close 1 first
+fetch 1 first 1
+close 1 first
+fetch 1 second 1
+close 2 second
+open 1 first 1 0 9
+fetch 1 first 1
+",
+            b"\
+1 ok
+1 ok
+1 ok
+1 ok
+1 no cursor
+1 no cursor
+1 row 1 a
+2 no session
+1 ok
+1 row 1 a
 ",
         ),
         (

@@ -3,7 +3,7 @@ use Rattle.rb_model.specs.Lines as lines
 use Rattle.rb_model.specs.Names.{name_text}
 use Rattle.rb_model.specs.declared.op.Op.TheVariants.{Insert}
 use Rattle.rb_script.specs.declared.command.Command.{Command}
-use Rattle.rb_script.specs.declared.command.Command.TheVariants.{Write, Commit, OpenCursor, Fetch}
+use Rattle.rb_script.specs.declared.command.Command.TheVariants.{Write, Commit, OpenCursor, Fetch, CloseCursor}
 
 -- the command that a value of the code stands for
 abbrev pub command_of : Command → lines.Command
@@ -11,3 +11,4 @@ command_of (Write s t k (Insert value)) = lines.InsertLine s t k value.now
 command_of (Commit s) = lines.CommitLine s
 command_of (OpenCursor s name t lo hi) = lines.OpenLine s (name_text name) t lo hi
 command_of (Fetch s name n) = lines.FetchLine s (name_text name) n
+command_of (CloseCursor s name) = lines.CloseLine s (name_text name)

@@ -32,6 +32,11 @@ pub enum Command<'a> {
         name: Name,
         n: u32,
     },
+    /// `close S NAME`.
+    CloseCursor {
+        s: u16,
+        name: Name,
+    },
 }
 
 /// No two commands have one spelling.

@@ -6,7 +6,7 @@ ghost use Rattle.rb_script.specs.Commands.{command_of};
 use crate::command::Command;
 use crate::words::{count_of, id_and_rest, id_of, is_visible, key_and_rest, name_and_rest, split};
 use rb_base::parse_decimal;
-use rb_model::Op;
+use rb_model::{Name, Op};
 
 // the command of the line that is `insert`, a space and these fields
 fn insert_of(fields: &[u8]) -> Option<Command<'_>>
@@ -84,6 +84,20 @@ fn fetch_of(fields: &[u8]) -> Option<Command<'_>>
     Some(Command::Fetch { s, name, n })
 }
 
+// the command of the line that is `close`, a space and these fields
+fn close_of(fields: &[u8]) -> Option<Command<'_>>
+    ensures found { IfSome result (λ command. Spells (codes "close" ++ 32 ∷ fields.now) (command_of command)) }
+    ensures none { IfNone result (SpellsNone (codes "close" ++ 32 ∷ fields.now)) }
+{
+    let Some((s, fields)) = id_and_rest(fields) else {
+        return None;
+    };
+    let Some(name) = Name::new(fields) else {
+        return None;
+    };
+    Some(Command::CloseCursor { s, name })
+}
+
 /// The command that the line spells, without the bytes that end it. None exactly where it spells none.
 pub fn parse(line: &[u8]) -> Option<Command<'_>>
     ensures found { IfSome result (λ command. Spells line.now (command_of command)) }
@@ -103,6 +117,9 @@ pub fn parse(line: &[u8]) -> Option<Command<'_>>
     }
     if word == b"fetch".as_slice() {
         return fetch_of(fields);
+    }
+    if word == b"close".as_slice() {
+        return close_of(fields);
     }
     None
 }

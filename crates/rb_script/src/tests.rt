@@ -5,7 +5,7 @@ use rb_model::{Op, Refusal};
 
 #[test]
 fn lines_that_spell_no_command(rt: HostRuntime) {
-    let lines: [&[u8]; 30] = [
+    let lines: [&[u8]; 35] = [
         b"fetch 1 c 0",
         b"fetch 1 c 00",
         b"fetch 1 c 01",
@@ -34,6 +34,11 @@ fn lines_that_spell_no_command(rt: HostRuntime) {
         b"commit 1 1",
         b"commit +1",
         b"commit -1",
+        b"close 1",
+        b"close 1 ",
+        b"close 1 C",
+        b"close 1 c ",
+        b"close 65536 c",
         b"commit 65536",
         b" ",
     ];

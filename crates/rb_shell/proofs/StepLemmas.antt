@@ -7,7 +7,7 @@ use Rattle.std.specs.Bool.{MatchBool}
 use Rattle.rb_model.specs.Lines.{without_return, reply_text}
 use Rattle.rb_model.specs.State.{State, session_of}
 use Rattle.rb_model.specs.Out.{room, CallOut, FetchOut, is_given}
-use Rattle.rb_model.specs.Reply.{Call, Insert, Commit, OpenCursor, Fetch, Answer, Done, Waits, Numbered, Given, End, Refused, Reply, after, is_empty}
+use Rattle.rb_model.specs.Reply.{Call, Insert, Commit, OpenCursor, Fetch, CloseCursor, Answer, Done, Waits, Numbered, Given, End, Refused, Reply, after, is_empty}
 use Rattle.rb_model.specs.Reply as call
 use Rattle.rb_model.specs.declared.refusal.Refusal.{Refusal}
 use Rattle.rb_model.specs.declared.refusal.Refusal.TheVariants.{NoSession, NoTable, ValueTooLong, Duplicate, NoCursor, CursorThere, TooManyCursors, DiskFault, Stopped, LogFull}
@@ -46,6 +46,7 @@ granted_stopped h (Insert s table key value) e = e
 granted_stopped h (Commit s) e = cond_both (is_empty (session_of h s).own) h (call.committed h s) (λ (x : State). x.stopped ≡ false) (λ w. e) (λ w. e)
 granted_stopped h (OpenCursor s name table lo hi) e = e
 granted_stopped h (Fetch s name) e = e
+granted_stopped h (CloseCursor s name) e = e
 
 pub after_stopped : (h : State) (c : Call) (r : Answer) → h.stopped ≡ false → (after h c r).stopped ≡ is_fault r
 after_stopped h c Done e = granted_stopped h c e

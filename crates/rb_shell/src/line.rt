@@ -108,7 +108,7 @@ fn reply_to_commit(s: u16, answer: Result<Option<u64>, Refusal>) -> Reply<'stati
 }
 
 /// The reply to a call that tells nothing but that it was done.
-fn reply_to_open(s: u16, answer: Result<(), Refusal>) -> Reply<'static>
+fn reply_to_call(s: u16, answer: Result<(), Refusal>) -> Reply<'static>
     ensures text { text_of_reply result ≡ lines.reply_text s (plain_answer answer) }
     ensures fault { tells_fault result ≡ is_fault_answer (plain_answer answer) }
     ensures fits { FitsALine result }
@@ -194,7 +194,7 @@ fn open_line<D: Disk, K: Sink>(
     ensures sink_counted { K.faults sink.old ≤ K.faults sink.new }
 {
     let answer = engine.open_cursor(s, name, table, lo, hi);
-    tell(&reply_to_open(s, answer), sink)
+    tell(&reply_to_call(s, answer), sink)
 }
 
 /// Whether a fetch gave a row.
@@ -261,6 +261,25 @@ fn fetch_line<D: Disk, K: Sink>(
     Ok(())
 }
 
+/// Does a `close` line.
+fn close_line<D: Disk, K: Sink>(
+    engine: &mut FirstEngine<D>,
+    s: u16,
+    name: &Name,
+    sink: &mut K,
+) -> Result<(), StepFault>
+    requires { engine.old.state.stopped ≡ false }
+    ensures steps { Steps (CallOut engine.old.state engine.old.layout.log s (call.CloseCursor s (name_text name.now))) engine.new.state K.tells (K.held sink.old) (K.held sink.new) result }
+    ensures layout { engine.new.layout ≡ engine.old.layout }
+    ensures disk { IsErrOf result StepFault.Disk → Rose (D.faults engine.old.disk) (D.faults engine.new.disk) }
+    ensures counted { D.faults engine.old.disk ≤ D.faults engine.new.disk }
+    ensures sink { IsErrOf result StepFault.Sink → Rose (K.faults sink.old) (K.faults sink.new) }
+    ensures sink_counted { K.faults sink.old ≤ K.faults sink.new }
+{
+    let answer = engine.close_cursor(s, name);
+    tell(&reply_to_call(s, answer), sink)
+}
+
 /// Does a command.
 fn run_command<D: Disk, K: Sink>(
     engine: &mut FirstEngine<D>,
@@ -287,6 +306,7 @@ fn run_command<D: Disk, K: Sink>(
             open_line(engine, *s, name, *t, *lo, *hi, sink)
         }
         Command::Fetch { s, name, n } => fetch_line(engine, *s, name, *n, sink),
+        Command::CloseCursor { s, name } => close_line(engine, *s, name, sink),
     }
 }
 

@@ -20,3 +20,4 @@ returns-clause-none c =
     (another word _ c.as_slice-2.result.now c.eq-2.result c.as_slice-2.ensures c.eq-2.ensures c.if-eq-2.false)
     (another word _ c.as_slice-3.result.now c.eq-3.result c.as_slice-3.ensures c.eq-3.ensures c.if-eq-3.false)
     (another word _ c.as_slice-4.result.now c.eq-4.result c.as_slice-4.ensures c.eq-4.ensures c.if-eq-4.false)
+    (another word _ c.as_slice-5.result.now c.eq-5.result c.as_slice-5.ensures c.eq-5.ensures c.if-eq-5.false)

@@ -9,4 +9,4 @@ use Rattle.rb_shell.proofs.line.open_line.Goals as goal
 pub returns-clause-steps : goal.returns-clause-steps
 returns-clause-steps g c =
     told_call c.args.engine.now.state c.open_cursor-answer.new.self.state c.args.engine.now.layout.log c.args.s (call.OpenCursor c.args.s (name_text c.args.name.now) c.args.table c.args.lo c.args.hi) (plain_answer c.open_cursor-answer.result) _ _ g.K.Sink.tells _ _ c.tell.result
-    c.requires (inl (c.open_cursor-answer.ensures.answer (room c.args.engine.now.layout.log c.args.engine.now.state))) c.open_cursor-answer.ensures.state c.reply_to_open.ensures.text c.reply_to_open.ensures.fault c.tell.ensures.told
+    c.requires (inl (c.open_cursor-answer.ensures.answer (room c.args.engine.now.layout.log c.args.engine.now.state))) c.open_cursor-answer.ensures.state c.reply_to_call.ensures.text c.reply_to_call.ensures.fault c.tell.ensures.told
