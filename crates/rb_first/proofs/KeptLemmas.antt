@@ -1,6 +1,6 @@
 -- What the machine sees of the memory, before and after each change of it.
-use Rattle.std.proofs.Common.{◌≡◌, ◌≢◌, ℕ, zero, suc, ◌+◌, ◌-◌, ◌*◌, ◌<◌, ◌≤◌, Bool, true, false, List, [], ◌∷◌, ◌++◌, length, take, drop, map, refl, arith, ap, sym, ◌∙◌, subst, append_assoc, sum_by, Option, None, Some, find, set, get_or, cond, nat_le, nat_lt}
-use Rattle.std.proofs.lemmas.List.{map-append, take-append-le, drop-append-le, take_all, drop_all, drop-drop, append-nil, length-append, length-map, take-take, map_push, take-append-drop, length-drop, take_rest}
+use Rattle.std.proofs.Common.{◌≡◌, ◌≢◌, ℕ, zero, suc, ◌+◌, ◌-◌, ◌*◌, ◌<◌, ◌≤◌, Bool, true, false, List, [], ◌∷◌, ◌++◌, length, take, drop, map, refl, arith, ap, sym, ◌∙◌, subst, sum_by, None, Some, find, set, get_or, cond, nat_le, nat_lt}
+use Rattle.std.proofs.lemmas.List.{map-append, take-append-le, drop-append-le, take_all, drop_all, drop-drop, length-append, take-take, map_push, take-append-drop, length-drop, take_rest}
 use Rattle.std.proofs.Math.Seq.{take-add}
 use Rattle.std.proofs.lemmas.List.Sums.{sum_by-append}
 use Rattle.std.specs.Prelude.{slice_get, remove}
@@ -9,15 +9,15 @@ use Rattle.std.specs.Str.{bytes_eq}
 use Rattle.std.specs.List.{flat_map, AllByRecursion}
 use Rattle.rb_base.specs.declared.ids.Shape.{Shape}
 use Rattle.rb_model.specs.Change.{Change, put}
-use Rattle.rb_model.specs.Rows.{TableRow, Commits, over, rows_at, changed_by, has_row}
-use Rattle.rb_model.specs.State.{State, Session, Cursor, cursor_rows, session_of, with_session, with_taken, without_cursor, found_more}
-use Rattle.rb_model.specs.Reply.{rows_now, record_length, kind_length, with_own, with_cursors, committed, expected, first_of, Insert, Done, Refused, after_refusal}
+use Rattle.rb_model.specs.Rows.{TableRow, over, rows_at, changed_by, has_row}
+use Rattle.rb_model.specs.State.{State, Cursor, cursor_rows, session_of, with_taken, without_cursor, found_more}
+use Rattle.rb_model.specs.Reply.{rows_now, record_length, kind_length, with_own, committed, expected, first_of, Insert, Done, Refused, after_refusal}
 use Rattle.rb_model.specs.declared.refusal.Refusal.{Refusal}
 use Rattle.rb_model.specs.declared.refusal.Refusal.TheVariants.{NoSession, NoTable, ValueTooLong, Duplicate, NoCursor, CursorThere, TooManyCursors, DiskFault, Stopped, LogFull}
 use Rattle.rb_first.specs.declared.cursor.OpenCursor.{OpenCursor}
 use Rattle.rb_record.specs.declared.put.Put.{Put}
 use Rattle.rb_record.specs.Puts.{changes_of, change_of}
-use Rattle.rb_first.specs.Next.{asked, given_count}
+use Rattle.rb_index.specs.Next.{asked, given_count}
 use Rattle.rb_first.specs.Kept.{Kept, last_end, Rising, between, cut, rows_of, end_at, cursor_view, state_view, IsOpened, IsKept, IsPlace, has_name}
 
 pub over-append : (blocks : ℕ) (rows : List TableRow) (xs ys : List Change) → over blocks rows (xs ++ ys) ≡ over blocks (over blocks rows xs) ys

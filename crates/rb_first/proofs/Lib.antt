@@ -1,6 +1,4 @@
-pub mod Order
 pub mod EngineLemmas
 pub mod KeptLemmas
 pub mod OpenLemmas
-pub mod RowLemmas
 pub mod StateLemmas

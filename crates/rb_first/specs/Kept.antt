@@ -4,13 +4,13 @@ use Rattle.std.specs.List.{AllByRecursion}
 use Rattle.std.specs.Str.{bytes_eq}
 use Rattle.rb_base.specs.declared.ids.Shape.{Shape}
 use Rattle.rb_model.specs.Change.{Change}
-use Rattle.rb_model.specs.Rows.{TableRow, Commits, over, is_asked}
-use Rattle.rb_model.specs.State.{State, Session, Cursor}
+use Rattle.rb_model.specs.Rows.{TableRow, over}
+use Rattle.rb_model.specs.State.{State, Cursor}
 use Rattle.rb_model.specs.Reply.{record_length}
 use Rattle.rb_first.specs.declared.cursor.OpenCursor.{OpenCursor}
 use Rattle.rb_record.specs.declared.put.Put.{Put}
 use Rattle.rb_record.specs.Puts.{changes_of}
-use Rattle.rb_first.specs.Next.{asked, given_count}
+use Rattle.rb_index.specs.Next.{asked, given_count}
 
 -- the state of the machine, and the slots of the log
 pub record Kept : Type 0 where

@@ -1,5 +1,4 @@
 pub mod Engine
 pub mod Kept
-pub mod Next
 pub mod Others
 pub mod Store
