@@ -78,6 +78,32 @@ fn skip(blocks: u32, run: &[Entry], at: usize, query: Query) -> usize
     }
 }
 
+/// What `first_in_run` answers to a query of a single key: it is looked up at its home.
+fn first_of_key(blocks: u32, run: &[Entry], query: Query, seen: usize) -> Option<usize>
+    requires run { IsRun run.now }
+    requires homes { All (HasHome blocks) run.now }
+    requires some_blocks { 0 < blocks }
+    requires single { query.lo ≡ query.hi }
+    ensures found { IfSome result (λ place. IsFirstPlace (is_found blocks query seen) run.now place) }
+    ensures none { IfNone result (NonePasses (is_found blocks query seen) run.now) }
+{
+    let table = query.table;
+    let key = query.lo;
+    let home = key % blocks as u64;
+    let mut at = lower_bound(run, Spot { table, home, key });
+    while at < run.len() {
+        let candidate = run[at];
+        if candidate.table != table || candidate.key != key {
+            return None;
+        }
+        if candidate.place < seen && wants(blocks, query, candidate.table, candidate.key) {
+            return Some(candidate.place);
+        }
+        at += 1;
+    }
+    None
+}
+
 /// The place of the change that makes the first row that the query wants, of the run's changes among the first `seen`.
 pub(crate) fn first_in_run(blocks: u32, run: &[Entry], query: Query, seen: usize) -> Option<usize>
     requires run { IsRun run.now }
@@ -86,6 +112,9 @@ pub(crate) fn first_in_run(blocks: u32, run: &[Entry], query: Query, seen: usize
     ensures found { IfSome result (λ place. IsFirstPlace (is_found blocks query seen) run.now place) }
     ensures none { IfNone result (NonePasses (is_found blocks query seen) run.now) }
 {
+    if query.lo == query.hi {
+        return first_of_key(blocks, run, query, seen);
+    }
     let mut at = lower_bound(run, first_spot(blocks, query));
     while at < run.len() {
         let entry = run[at];
