@@ -88,7 +88,9 @@ fn opened<'f, R: Files>(
         options.read(true);
         options.write(true);
         options.create(true);
-        *file = Some(options.open(runtime, path)?);
+        // A closed standard stream leaves its number free, and the first opening would take it: replies would go into
+        // the store. The copy's number is above theirs.
+        *file = Some(options.open(runtime, path)?.try_clone()?);
     }
     match file {
         Some(file) => Ok(file),

@@ -1,3 +1,4 @@
+pub mod CrashLemmas
 pub mod EngineLemmas
 pub mod KeptLemmas
 pub mod OpenLemmas

@@ -1,3 +1,4 @@
+pub mod Crash
 pub mod Engine
 pub mod Kept
 pub mod Others

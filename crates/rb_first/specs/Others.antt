@@ -1,7 +1,7 @@
 -- What stays while the changes of a record are taken.
-use Rattle.std.specs.Prelude.{◌≡◌, ℕ, List, refl}
+use Rattle.std.specs.Prelude.{◌≡◌, refl}
 use Rattle.std.proofs.Common.{◌∙◌}
-use Rattle.rb_model.specs.State.{State, session_of}
+use Rattle.rb_model.specs.State.{session_of}
 use Rattle.rb_first.specs.Kept.{Kept}
 
 -- nothing but the session's changes differs

@@ -10,6 +10,7 @@ ghost use Rattle.rb_model.specs.Names.{name_text};
 ghost use Rattle.rb_model.specs.Answers.{write_answer, plain_answer, fetch_answer, commit_answer, LeavesRow};
 ghost use Rattle.rb_log.specs.Slots.{LogIs, SameOutside, SameSlots};
 ghost use Rattle.rb_record.specs.Records.{record_bytes};
+ghost use Rattle.rb_first.specs.Crash.{Stands, Survives};
 ghost use Rattle.rb_first.specs.Engine.{Engine};
 
 use crate::state::FirstState;
@@ -55,6 +56,7 @@ impl<D: Disk> FirstEngine<D> {
         ensures stopped { self.new.state.stopped ≡ self.old.state.stopped }
         ensures layout { self.new.layout ≡ self.old.layout }
         ensures disk { self.new.disk ≡ self.old.disk }
+        ensures crash { D.tells → Stands self.old.layout self.old.state (D.image self.old.disk) → Survives D.image D.moment D.image_since self.old.layout self.old.state self.new.state self.old.disk self.new.disk }
     {
         self.state.insert(s, table, key, value)
     }
@@ -69,6 +71,8 @@ impl<D: Disk> FirstEngine<D> {
         ensures counted { D.faults self.old.disk ≤ D.faults self.new.disk }
         ensures refused { IfErr result (λ why. why ≢ Refusal.DiskFault → self.new.disk ≡ self.old.disk) }
         ensures nothing { result ≡ Ok None → self.new.disk ≡ self.old.disk }
+        // At any moment each image has the commits of before, or at the end this one too.
+        ensures crash { D.tells → Stands self.old.layout self.old.state (D.image self.old.disk) → Survives D.image D.moment D.image_since self.old.layout self.old.state self.new.state self.old.disk self.new.disk }
         ensures outside { D.tells → OnOk result (SameOutside self.old.layout.log (D.content self.old.disk) (D.content self.new.disk)) }
         ensures durable { D.tells → IfOk result (λ n. IfSome n (λ _. (c : List ℕ) → D.image self.new.disk c → SameSlots self.old.layout.log (D.content self.new.disk) c)) }
         ensures written { D.tells → IfOk result (λ n. IfSome n (λ _. (records : List (List ℕ)) → length records ≡ last_number self.old.state.commits → LogIs self.old.layout.log (D.content self.old.disk) 0 records
@@ -95,6 +99,7 @@ impl<D: Disk> FirstEngine<D> {
         ensures counted { D.faults self.old.disk ≤ D.faults self.new.disk }
         ensures outside { D.tells → OnOk result (SameOutside self.old.layout.log (D.content self.old.disk) (D.content self.new.disk)) }
         ensures durable { D.tells → OnOk result ((c : List ℕ) → D.image self.new.disk c → SameSlots self.old.layout.log (D.content self.new.disk) c) }
+        ensures crash { D.tells → Stands self.old.layout self.old.state (D.image self.old.disk) → Survives D.image D.moment D.image_since self.old.layout self.old.state self.new.state self.old.disk self.new.disk }
         ensures written { D.tells → OnOk result ((records : List (List ℕ)) → length records ≡ last_number self.old.state.commits → LogIs self.old.layout.log (D.content self.old.disk) 0 records
             → LogIs self.old.layout.log (D.content self.new.disk) 0 (records ++ record_bytes (session_of self.old.state 1).own ∷ [])) }
     {
@@ -123,6 +128,7 @@ impl<D: Disk> FirstEngine<D> {
         ensures stopped { self.new.state.stopped ≡ self.old.state.stopped }
         ensures layout { self.new.layout ≡ self.old.layout }
         ensures disk { self.new.disk ≡ self.old.disk }
+        ensures crash { D.tells → Stands self.old.layout self.old.state (D.image self.old.disk) → Survives D.image D.moment D.image_since self.old.layout self.old.state self.new.state self.old.disk self.new.disk }
     {
         self.state.open_cursor(s, name, table, lo, hi)
     }
@@ -135,6 +141,7 @@ impl<D: Disk> FirstEngine<D> {
         ensures stopped { self.new.state.stopped ≡ self.old.state.stopped }
         ensures layout { self.new.layout ≡ self.old.layout }
         ensures disk { self.new.disk ≡ self.old.disk }
+        ensures crash { D.tells → Stands self.old.layout self.old.state (D.image self.old.disk) → Survives D.image D.moment D.image_since self.old.layout self.old.state self.new.state self.old.disk self.new.disk }
     {
         self.state.fetch(s, name, row)
     }
@@ -146,6 +153,7 @@ impl<D: Disk> FirstEngine<D> {
         ensures stopped { self.new.state.stopped ≡ self.old.state.stopped }
         ensures layout { self.new.layout ≡ self.old.layout }
         ensures disk { self.new.disk ≡ self.old.disk }
+        ensures crash { D.tells → Stands self.old.layout self.old.state (D.image self.old.disk) → Survives D.image D.moment D.image_since self.old.layout self.old.state self.new.state self.old.disk self.new.disk }
     {
         self.state.close_cursor(s, name)
     }

@@ -10,6 +10,7 @@ ghost use Rattle.rb_log.specs.Slots.{LogIs};
 ghost use Rattle.rb_model.specs.Change.{Change};
 ghost use Rattle.rb_model.specs.State.{opened};
 ghost use Rattle.rb_record.specs.Records.{record_bytes, IsRecord};
+ghost use Rattle.rb_first.specs.Crash.{Stands};
 ghost use Rattle.rb_first.specs.Store.{shape_of, IsStore, HasRead, HasReadAll};
 
 use crate::engine::FirstEngine;
@@ -187,6 +188,7 @@ impl<D: Disk> FirstEngine<D> {
         ensures unchanged_ok { D.tells → IfOk result (λ e. Rests D.content D.image D.moment D.image_since disk e.disk) }
         ensures unchanged_err { D.tells → IfErr result (λ r. Rests D.content D.image D.moment D.image_since disk r.1) }
         ensures durable { D.tells → IfOk result (λ e. Only (D.content disk) (D.image e.disk)) }
+        ensures stands { D.tells → IfOk result (λ e. Stands e.layout e.state (D.image e.disk)) }
     {
         let mut disk = disk;
         match open_parts(alloc, &mut disk) {

@@ -179,6 +179,7 @@ impl FirstState {
         ensures granted { IfNone result ((room : ℕ) → call.Done ≡ expected self.now.state room (call.Insert s table key value.now)) }
         ensures other { IfSome result (λ why. why ≢ Refusal.DiskFault) }
         ensures session { IfNone result (s ≡ 1) }
+        ensures table { IfNone result ((1 ≤ table) × (table ≤ self.now.state.shape.tables)) }
         ensures short { IfNone result (length value.now ≤ 80) }
         ensures room { IfNone result (record_bytes ((session_of self.now.state 1).own ++ put table key value.now ∷ []) ≤ 2000) }
     {
@@ -207,8 +208,12 @@ impl FirstState {
     pub fn insert(&mut self, s: u16, table: u16, key: u64, value: &[u8]) -> Result<Wrote, Refusal>
         ensures answer { (room : ℕ) → write_answer result ≡ expected self.old.state room (call.Insert s table key value.now) }
         ensures state { self.new.state ≡ after self.old.state (call.Insert s table key value.now) (write_answer result) }
+        ensures shape { self.new.state.shape ≡ self.old.state.shape }
         ensures commits { self.new.state.commits ≡ self.old.state.commits }
         ensures stopped { self.new.state.stopped ≡ self.old.state.stopped }
+        ensures own { IfOk result (λ _. (session_of self.new.state 1).own ≡ (session_of self.old.state 1).own ++ put table key value.now ∷ []) }
+        ensures table { IfOk result (λ _. (1 ≤ table) × (table ≤ self.old.state.shape.tables) × (length value.now ≤ 80)) }
+        ensures refused { IfErr result (λ _. (session_of self.new.state 1).own ≡ (session_of self.old.state 1).own) }
         ensures slots { self.new.slots ≡ self.old.slots }
     {
         if let Some(why) = self.insert_refusal(s, table, key, value) {
@@ -222,6 +227,7 @@ impl FirstState {
     pub fn push(&mut self, change: Put)
         requires { record_bytes ((session_of self.old.state 1).own ++ change_of change ∷ []) ≤ 2000 }
         ensures state { self.new.state ≡ with_own self.old.state 1 ((session_of self.old.state 1).own ++ change_of change ∷ []) }
+        ensures shape { self.new.state.shape ≡ self.old.state.shape }
         ensures commits { self.new.state.commits ≡ self.old.state.commits }
         ensures stopped { self.new.state.stopped ≡ self.old.state.stopped }
         ensures own { (session_of self.new.state 1).own ≡ (session_of self.old.state 1).own ++ change_of change ∷ [] }
@@ -268,8 +274,10 @@ impl FirstState {
     ) -> Result<(), Refusal>
         ensures answer { (room : ℕ) → plain_answer result ≡ expected self.old.state room (call.OpenCursor s (name_text name.now) table lo hi) }
         ensures state { self.new.state ≡ after self.old.state (call.OpenCursor s (name_text name.now) table lo hi) (plain_answer result) }
+        ensures shape { self.new.state.shape ≡ self.old.state.shape }
         ensures commits { self.new.state.commits ≡ self.old.state.commits }
         ensures stopped { self.new.state.stopped ≡ self.old.state.stopped }
+        ensures own { (session_of self.new.state 1).own ≡ (session_of self.old.state 1).own }
         ensures slots { self.new.slots ≡ self.old.slots }
     {
         if let Some(why) = self.open_refusal(s, name, table) {
@@ -283,8 +291,10 @@ impl FirstState {
     fn keep_cursor(&mut self, name: &Name, table: u16, lo: u64, hi: u64)
         requires { length (session_of self.old.state 1).cursors < 16 }
         ensures state { self.new.state ≡ after_grant self.old.state (call.OpenCursor 1 (name_text name.now) table lo hi) }
+        ensures shape { self.new.state.shape ≡ self.old.state.shape }
         ensures commits { self.new.state.commits ≡ self.old.state.commits }
         ensures stopped { self.new.state.stopped ≡ self.old.state.stopped }
+        ensures own { (session_of self.new.state 1).own ≡ (session_of self.old.state 1).own }
         ensures slots { self.new.slots ≡ self.old.slots }
     {
         let cursor = OpenCursor {
@@ -304,8 +314,10 @@ impl FirstState {
         ensures answer { (room : ℕ) → fetch_answer result row.new ≡ expected self.old.state room (call.Fetch s (name_text name.now)) }
         ensures state { self.new.state ≡ after self.old.state (call.Fetch s (name_text name.now)) (fetch_answer result row.new) }
         ensures row { LeavesRow result row.old row.new }
+        ensures shape { self.new.state.shape ≡ self.old.state.shape }
         ensures commits { self.new.state.commits ≡ self.old.state.commits }
         ensures stopped { self.new.state.stopped ≡ self.old.state.stopped }
+        ensures own { (session_of self.new.state 1).own ≡ (session_of self.old.state 1).own }
         ensures slots { self.new.slots ≡ self.old.slots }
     {
         if self.stopped {
@@ -336,8 +348,10 @@ impl FirstState {
     pub fn close_cursor(&mut self, s: u16, name: &Name) -> Result<(), Refusal>
         ensures answer { (room : ℕ) → plain_answer result ≡ expected self.old.state room (call.CloseCursor s (name_text name.now)) }
         ensures state { self.new.state ≡ after self.old.state (call.CloseCursor s (name_text name.now)) (plain_answer result) }
+        ensures shape { self.new.state.shape ≡ self.old.state.shape }
         ensures commits { self.new.state.commits ≡ self.old.state.commits }
         ensures stopped { self.new.state.stopped ≡ self.old.state.stopped }
+        ensures own { (session_of self.new.state 1).own ≡ (session_of self.old.state 1).own }
         ensures slots { self.new.slots ≡ self.old.slots }
     {
         if self.stopped {

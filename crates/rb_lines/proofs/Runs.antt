@@ -23,13 +23,14 @@ ran_one slots h h2 line front tells held held2 e r = record {
   written = r.written;
 }
 
-pub cut_one : (slots : ℕ) (h : State) (line front : List ℕ) (held held2 : List ℕ)
-    → front ≡ take 513 line → LineCutOff slots h front held held2 → CutOff slots h (line ∷ []) held held2
-cut_one slots h line front held held2 e r = record {
+pub cut_one : (slots : ℕ) (h h2 : State) (line front : List ℕ) (held held2 : List ℕ)
+    → front ≡ take 513 line → LineCutOff slots h h2 front held held2 → CutOff slots h h2 (line ∷ []) held held2
+cut_one slots h h2 line front held held2 e r = record {
   count = 1;
   out = r.out;
   state = r.state;
   replies = one_out h slots line r.out r.state (front_out h slots line front r.out r.state e r.reply);
+  same = r.same;
   size = r.size;
   written = r.written;
 }
@@ -43,30 +44,32 @@ ran-append slots h m h2 xs ys tells held held1 held2 r going q = record {
   written = λ t. q.written t ∙ ap (λ (o : List ℕ). o ++ q.out) (r.written t) ∙ append_assoc held r.out q.out;
 }
 
-pub cut-append : (slots : ℕ) (h m : State) (xs ys : List (List ℕ)) (tells : Type 0) (held held1 held2 : List ℕ)
-    → Ran slots h m xs tells held held1 → m.stopped ≡ false → tells → CutOff slots m ys held1 held2
-    → CutOff slots h (xs ++ ys) held held2
-cut-append slots h m xs ys tells held held1 held2 r going t q = record {
+pub cut-append : (slots : ℕ) (h m h2 : State) (xs ys : List (List ℕ)) (tells : Type 0) (held held1 held2 : List ℕ)
+    → Ran slots h m xs tells held held1 → m.stopped ≡ false → tells → CutOff slots m h2 ys held1 held2
+    → CutOff slots h h2 (xs ++ ys) held held2
+cut-append slots h m h2 xs ys tells held held1 held2 r going t q = record {
   count = length xs + q.count;
   out = r.out ++ q.out;
   state = q.state;
   replies = subst (λ (ls : List (List ℕ)). Out h slots ls (r.out ++ q.out) q.state) (sym (take-append-add xs ys q.count))
       (append_out slots xs (take q.count ys) h m q.state r.out q.out r.replies going q.replies);
+  same = q.same;
   size = length r.out + q.size;
   written = q.written ∙ ap (λ (o : List ℕ). o ++ take q.size q.out) (r.written t) ∙ append_assoc held r.out (take q.size q.out)
       ∙ ap (λ (o : List ℕ). held ++ o) (sym (take-append-add r.out q.out q.size));
 }
 
-pub cut_more : (slots : ℕ) (h : State) (xs ys : List (List ℕ)) (held held2 : List ℕ)
-    → CutOff slots h xs held held2 → CutOff slots h (xs ++ ys) held held2
-cut_more slots h xs ys held held2 r =
-    let same : take (min r.count (length xs)) (xs ++ ys) ≡ take r.count xs =
+pub cut_more : (slots : ℕ) (h h2 : State) (xs ys : List (List ℕ)) (held held2 : List ℕ)
+    → CutOff slots h h2 xs held held2 → CutOff slots h h2 (xs ++ ys) held held2
+cut_more slots h h2 xs ys held held2 r =
+    let cut : take (min r.count (length xs)) (xs ++ ys) ≡ take r.count xs =
     take-append-le (min r.count (length xs)) xs ys (omega arith) ∙ take_min r.count xs in
     record {
       count = min r.count (length xs);
       out = r.out;
       state = r.state;
-      replies = subst (λ (ls : List (List ℕ)). Out h slots ls r.out r.state) (sym same) r.replies;
+      replies = subst (λ (ls : List (List ℕ)). Out h slots ls r.out r.state) (sym cut) r.replies;
+      same = r.same;
       size = r.size;
       written = r.written;
     }
@@ -76,14 +79,14 @@ pub step_as : (slots : ℕ) (h h2 : State) (line front : List ℕ) (tells : Type
     → front ≡ take 513 line
     → OnOk result (LineRan slots h h2 front tells held held2) → OnOk result (h2.stopped ≡ false)
     → (IsErrOf result Disk → LineRan slots h h2 front tells held held2) → (IsErrOf result Disk → h2.stopped ≡ true)
-    → (IsErrOf result Sink → tells → LineCutOff slots h front held held2)
+    → (IsErrOf result Sink → tells → LineCutOff slots h h2 front held held2)
     → RanAs slots h h2 (line ∷ []) tells held held2 result
 step_as slots h h2 line front tells held held2 (Ok done) e ran going disk stopped sink =
     (ran_one slots h h2 line front tells held held2 e ran, going)
 step_as slots h h2 line front tells held held2 (Err Disk) e ran going disk stopped sink =
     (ran_one slots h h2 line front tells held held2 e (disk refl), stopped refl)
 step_as slots h h2 line front tells held held2 (Err Sink) e ran going disk stopped sink =
-    λ t. cut_one slots h line front held held2 e (sink refl t)
+    λ t. cut_one slots h h2 line front held held2 e (sink refl t)
 
 -- lines that were done, and then more of them
 pub as-append : (slots : ℕ) (h m h2 : State) (xs ys : List (List ℕ)) (tells : Type 0) (held held1 held2 : List ℕ) (result : Result (Unit {0}) StepFault)
@@ -94,7 +97,7 @@ as-append slots h m h2 xs ys tells held held1 held2 (Ok done) r going q =
 as-append slots h m h2 xs ys tells held held1 held2 (Err Disk) r going q =
     (ran-append slots h m h2 xs ys tells held held1 held2 r going q.0, q.1)
 as-append slots h m h2 xs ys tells held held1 held2 (Err Sink) r going q =
-    λ t. cut-append slots h m xs ys tells held held1 held2 r going t (q t)
+    λ t. cut-append slots h m h2 xs ys tells held held1 held2 r going t (q t)
 
 -- a fault, and then lines that were not begun
 pub as_more : (slots : ℕ) (h h2 : State) (xs ys : List (List ℕ)) (tells : Type 0) (held held2 : List ℕ) (fault : StepFault)
@@ -103,4 +106,4 @@ as_more slots h h2 xs ys tells held held2 Disk going q =
     let more : Ran slots h h2 (xs ++ ys) tells held held2 =
     record { out = q.0.out; replies = stopped_out slots xs ys h h2 q.0.out going q.0.replies q.1; written = q.0.written } in
     (more, q.1)
-as_more slots h h2 xs ys tells held held2 Sink going q = λ t. cut_more slots h xs ys held held2 (q t)
+as_more slots h h2 xs ys tells held held2 Sink going q = λ t. cut_more slots h h2 xs ys held held2 (q t)

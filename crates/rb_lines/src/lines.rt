@@ -77,7 +77,7 @@ pub fn run_lines<M: Machine, S: Source, K: Sink>(
 
     // A fault of the sink cuts the replies off.
     ensures cut_off { result ≡ LinesEnd.SinkFault → S.tells → K.tells →
-        CutOff (M.slots machine.old) (M.state machine.old) (lines_of (S.left source.old)) (K.held sink.old) (K.held sink.new) }
+        CutOff (M.slots machine.old) (M.state machine.old) (M.state machine.new) (lines_of (S.left source.old)) (K.held sink.old) (K.held sink.new) }
 
     // Each fault has its cause, and the counts never fall.
     ensures source_fault { result ≡ LinesEnd.SourceFault → Rose (S.faults source.old) (S.faults source.new) }
@@ -94,6 +94,9 @@ pub fn run_lines<M: Machine, S: Source, K: Sink>(
     ensures going { IsUnbroken result → (M.state machine.new).stopped ≡ false }
     ensures ready { IsUnbroken result → M.ready machine.new }
     ensures slots { M.slots machine.new ≡ M.slots machine.old }
+
+    // What became of the machine's file, however it ends.
+    ensures since { M.since machine.old machine.new }
 {
     let mut pending = ArrayVec::new();
     let mut room = MAX_BYTES;

@@ -32,6 +32,9 @@ pub trait Machine {
     /// What a step needs of it.
     ghost ready: { Self → Type 0 };
 
+    /// What may have become of its file from an earlier machine to a later one.
+    ghost since: { Self → Self → Type 0 };
+
     /// Does one line and puts its replies. The line comes without its LF. Of a line of more than 512 bytes any
     /// 513 or more of its first bytes serve.
     fn step<K: Sink>(&mut self, line: &[u8], sink: &mut K) -> Result<(), StepFault>
@@ -49,10 +52,17 @@ pub trait Machine {
 
         // A fault of the sink cuts the replies off.
         ensures cut_off { IsErrOf result StepFault.Sink → K.tells →
-            LineCutOff (slots self.old) (state self.old) line.now (K.held sink.old) (K.held sink.new) }
+            LineCutOff (slots self.old) (state self.old) (state self.new) line.now (K.held sink.old) (K.held sink.new) }
         ensures slots { slots self.new ≡ slots self.old }
+        ensures since { since self.old self.new }
         ensures disk { IsErrOf result StepFault.Disk → Rose (faults self.old) (faults self.new) }
         ensures sink { IsErrOf result StepFault.Sink → Rose (K.faults sink.old) (K.faults sink.new) }
         ensures counted { faults self.old ≤ faults self.new }
         ensures sink_counted { K.faults sink.old ≤ K.faults sink.new };
+
+    /// Where nothing is done, nothing becomes of it.
+    ghost since_same: { (m : Self) → since m m };
+
+    /// What becomes of it over some lines and then over others. A stopped machine does no line more.
+    ghost since_joined: { (a b c : Self) → (state b).stopped ≡ false → since a b → since b c → since a c };
 }

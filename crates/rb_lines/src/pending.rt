@@ -35,6 +35,7 @@ fn feed_byte<M: Machine, K: Sink>(
     ensures stopped { IsErrOf result StepFault.Disk → (M.state machine.new).stopped ≡ true }
     ensures kept { OnOk result ((line : List ℕ) → pending.old.items ≡ take 513 line → pending.new.items ≡ take 513 (rest_from line (byte ∷ []))) }
     ensures slots { M.slots machine.new ≡ M.slots machine.old }
+    ensures since { M.since machine.old machine.new }
     ensures disk { IsErrOf result StepFault.Disk → Rose (M.faults machine.old) (M.faults machine.new) }
     ensures sink { IsErrOf result StepFault.Sink → Rose (K.faults sink.old) (K.faults sink.new) }
     ensures counted { M.faults machine.old ≤ M.faults machine.new }
@@ -65,6 +66,7 @@ pub fn feed<M: Machine, K: Sink>(
     ensures stopped { IsErrOf result StepFault.Disk → (M.state machine.new).stopped ≡ true }
     ensures kept { OnOk result ((line : List ℕ) → pending.old.items ≡ take 513 line → pending.new.items ≡ take 513 (rest_from line bytes.now)) }
     ensures slots { M.slots machine.new ≡ M.slots machine.old }
+    ensures since { M.since machine.old machine.new }
     ensures disk { IsErrOf result StepFault.Disk → Rose (M.faults machine.old) (M.faults machine.new) }
     ensures sink { IsErrOf result StepFault.Sink → Rose (K.faults sink.old) (K.faults sink.new) }
     ensures counted { M.faults machine.old ≤ M.faults machine.new }
@@ -90,6 +92,7 @@ pub fn finish<M: Machine, K: Sink>(
     ensures going { OnOk result ((M.state machine.new).stopped ≡ false) }
     ensures stopped { IsErrOf result StepFault.Disk → (M.state machine.new).stopped ≡ true }
     ensures slots { M.slots machine.new ≡ M.slots machine.old }
+    ensures since { M.since machine.old machine.new }
     ensures disk { IsErrOf result StepFault.Disk → Rose (M.faults machine.old) (M.faults machine.new) }
     ensures sink { IsErrOf result StepFault.Sink → Rose (K.faults sink.old) (K.faults sink.new) }
     ensures counted { M.faults machine.old ≤ M.faults machine.new }

@@ -1,16 +1,19 @@
 -- What a step does to lines and states.
-use Rattle.std.proofs.Common.{◌≡◌, ℕ, suc, zero, ◌+◌, Bool, true, false, List, [], ◌∷◌, ◌++◌, length, take, Result, Ok, Err, refl, arith, ap, sym, ◌∙◌, subst, inl, ⊎_elim, ◌==◌, ◌<◌, ◌-◌, min, append_assoc}
-use Rattle.std.proofs.lemmas.List.{append-nil, take-append-le, take_min}
+use Rattle.std.proofs.Common.{◌≡◌, ℕ, suc, zero, ◌+◌, Bool, true, false, List, [], ◌∷◌, ◌++◌, length, take, Result, Ok, Err, refl, arith, ap, sym, ◌∙◌, subst, inl, ⊎_elim, ◌==◌, ◌<◌, ◌-◌, min, append_assoc, not, Option, None, Some, is_none, get_or, set}
+use Rattle.std.proofs.lemmas.List.{append-nil, length-set, take-append-le, take_min}
 use Rattle.std.proofs.Math.Seq.{take-append-add}
 use Rattle.std.proofs.lemmas.Bool.{cond_both, cases_Bool, false≢true}
 use Rattle.std.specs.Bool.{MatchBool}
 use Rattle.rb_model.specs.Lines.{without_return, reply_text}
-use Rattle.rb_model.specs.State.{State, session_of}
+use Rattle.std.specs.Prelude.{slice_get}
+use Rattle.rb_model.specs.Rows.{TableRow}
+use Rattle.rb_model.specs.State.{State, Session, Cursor, fresh_session, session_of, is_session, cursor_of, cursor_rows, with_taken}
 use Rattle.rb_model.specs.Out.{room, CallOut, FetchOut, is_given}
 use Rattle.rb_model.specs.Reply.{Call, Insert, Commit, OpenCursor, Fetch, CloseCursor, Answer, Done, Waits, Numbered, Given, End, Refused, Reply, after, is_empty}
 use Rattle.rb_model.specs.Reply as call
 use Rattle.rb_model.specs.declared.refusal.Refusal.{Refusal}
 use Rattle.rb_model.specs.declared.refusal.Refusal.TheVariants.{NoSession, NoTable, ValueTooLong, Duplicate, NoCursor, CursorThere, TooManyCursors, DiskFault, Stopped, LogFull}
+use Rattle.rb_lines.specs.Ran.{SameButCursors}
 use Rattle.rb_lines.specs.declared.machine.StepFault.{StepFault}
 use Rattle.rb_lines.specs.declared.machine.StepFault.TheVariants.{Disk, Sink}
 use Rattle.rb_shell.specs.Steps.{is_fault, is_disk_fault, Told, CutShort, Steps, FetchOnce, FetchSteps, FetchedSoFar}
@@ -56,6 +59,59 @@ after_stopped h c (Given key value) e = granted_stopped h c e
 after_stopped h c End e = e
 after_stopped h c (Refused why) e = refused_stopped h why e
 
+-- a state and itself, and what differs by fetches
+
+itself : (h : State) → SameButCursors h h
+itself h = record { shape = refl; commits = refl; sessions = refl; own = λ s. refl; stopped = refl }
+
+same_joined : (a b c : State) → SameButCursors a b → SameButCursors b c → SameButCursors a c
+same_joined a b c x y = record { shape = x.shape ∙ y.shape; commits = x.commits ∙ y.commits; sessions = x.sessions ∙ y.sessions; own = λ s. x.own s ∙ y.own s; stopped = x.stopped ∙ y.stopped }
+
+own_stays : (sessions : List Session) (i j : ℕ) (d : Session) (cursors : List Cursor) → (get_or (set sessions i (record { own = (get_or sessions i d).own; cursors = cursors })) j d).own ≡ (get_or sessions j d).own
+own_stays [] i j d cursors = refl
+own_stays (x ∷ sessions) zero zero d cursors = refl
+own_stays (x ∷ sessions) zero (suc j) d cursors = refl
+own_stays (x ∷ sessions) (suc i) zero d cursors = refl
+own_stays (x ∷ sessions) (suc i) (suc j) d cursors = own_stays sessions i j d cursors
+
+taken_same : (h : State) (s : ℕ) (name : List ℕ) → SameButCursors (call.after_grant h (Fetch s name)) h
+taken_same h s name = record { shape = refl; commits = refl; sessions = length-set h.sessions (s - 1) _; own = λ t. own_stays h.sessions (s - 1) (t - 1) fresh_session (with_taken name (session_of h s).cursors); stopped = refl }
+
+refused_same : (h : State) (why : Refusal) → is_disk_fault why ≡ false → SameButCursors (call.after_refusal h why) h
+refused_same h NoSession e = itself h
+refused_same h NoTable e = itself h
+refused_same h ValueTooLong e = itself h
+refused_same h Duplicate e = itself h
+refused_same h NoCursor e = itself h
+refused_same h CursorThere e = itself h
+refused_same h TooManyCursors e = itself h
+refused_same h DiskFault e = absurd (false≢true (sym e))
+refused_same h Stopped e = itself h
+refused_same h LogFull e = itself h
+
+fetch_same : (h : State) (s : ℕ) (name : List ℕ) (r : Answer) → is_fault r ≡ false → SameButCursors (after h (Fetch s name) r) h
+fetch_same h s name Done e = taken_same h s name
+fetch_same h s name (Waits on) e = itself h
+fetch_same h s name (Numbered n) e = taken_same h s name
+fetch_same h s name (Given key value) e = taken_same h s name
+fetch_same h s name End e = itself h
+fetch_same h s name (Refused why) e = refused_same h why e
+
+-- what is expected of a fetch is no fault
+given_fine : (o : Option TableRow) → is_fault (call.given o) ≡ false
+given_fine None = refl
+given_fine (Some row) = refl
+
+next_fine : (h : State) (o : Option Cursor) → is_fault (call.next_row h o) ≡ false
+next_fine h None = refl
+next_fine h (Some cursor) = given_fine (slice_get (cursor_rows h cursor) cursor.taken)
+
+fetch_fine : (h : State) (room s : ℕ) (name : List ℕ) → is_fault (call.expected h room (Fetch s name)) ≡ false
+fetch_fine h room s name =
+    cond_both h.stopped (Refused Stopped) _ (λ r. is_fault r ≡ false) (λ w. refl)
+    (λ w. cond_both (not (is_session h s)) (Refused NoSession) _ (λ r. is_fault r ≡ false) (λ w. refl)
+    (λ w. cond_both (is_none (cursor_of h s name)) (Refused NoCursor) _ (λ r. is_fault r ≡ false) (λ w. refl) (λ w. next_fine h (cursor_of h s name))))
+
 -- one call whose reply was told is a step
 pub told_call : (h now : State) (slots s : ℕ) (c : Call) (r : Answer) (text : List ℕ) (fault : Bool) (tells : Type 0) (before after_put : List ℕ) (result : Result (Unit {0}) StepFault)
     → h.stopped ≡ false → Reply h (room slots h) c r → now ≡ after h c r → text ≡ reply_text s r → fault ≡ is_fault r → Told text fault tells before after_put result
@@ -70,14 +126,14 @@ told_call h now slots s c r text fault tells before after_put (Err Disk) going r
 )
 told_call h now slots s c r text fault tells before after_put (Err Sink) going reply state t f told = λ t1.
     let w = told t1 in
-    record { out = text; state = now; reply = record { answer = r; reply = reply; text = t; state = state }; size = w.0; written = w.1 }
+    record { out = text; state = now; reply = record { answer = r; reply = reply; text = t; state = state }; same = itself now; size = w.0; written = w.1 }
 
 -- a step under one relation is a step under a weaker one
 pub steps_weaker : (R Q : List ℕ → State → Type 0) (now : State) (tells : Type 0) (before after_put : List ℕ) (result : Result (Unit {0}) StepFault) → ((out : List ℕ) (h : State) → R out h → Q out h)
     → Steps R now tells before after_put result → Steps Q now tells before after_put result
 steps_weaker R Q now tells before after_put (Ok done) so steps = (record { out = steps.0.out; reply = so steps.0.out now steps.0.reply; written = steps.0.written }, steps.1)
 steps_weaker R Q now tells before after_put (Err Disk) so steps = (record { out = steps.0.out; reply = so steps.0.out now steps.0.reply; written = steps.0.written }, steps.1)
-steps_weaker R Q now tells before after_put (Err Sink) so steps = λ t1. let w = steps t1 in record { out = w.out; state = w.state; reply = so w.out w.state w.reply; size = w.size; written = w.written }
+steps_weaker R Q now tells before after_put (Err Sink) so steps = λ t1. let w = steps t1 in record { out = w.out; state = w.state; reply = so w.out w.state w.reply; same = w.same; size = w.size; written = w.written }
 
 -- fetches
 
@@ -107,7 +163,7 @@ told_fetch_fault h now slots s name r text fault tells before after_put Disk goi
 )
 told_fetch_fault h now slots s name r text fault tells before after_put Sink going reply state t f told = λ t1.
     let w = told t1 in
-    (is_given r, record { out = text; state = now; reply = record { answer = r; reply = reply; gives = refl; text = t; state = state }; size = w.0; written = w.1 })
+    (is_given r, record { out = text; state = now; reply = record { answer = r; reply = reply; gives = refl; text = t; state = state }; same = itself now; size = w.0; written = w.1 })
 
 -- before the first fetch
 pub so_far_none : (h : State) (slots s : ℕ) (name : List ℕ) (tells : Type 0) (before : List ℕ) → h.stopped ≡ false → FetchedSoFar h slots s name 0 h tells before before
@@ -185,15 +241,16 @@ so_far_stop start h mid slots s name count all tells before now later so lt step
     )
 
 -- there is always a reply to go on with
-pub some_fetches : (more : ℕ) (h : State) (slots s : ℕ) (name : List ℕ) → (out : List ℕ) × (h2 : State) × FetchOut h slots s name more out h2
-some_fetches zero h slots s name = ([], h, (refl, refl))
+pub some_fetches : (more : ℕ) (h : State) (slots s : ℕ) (name : List ℕ) → (out : List ℕ) × (h2 : State) × SameButCursors h2 h × FetchOut h slots s name more out h2
+some_fetches zero h slots s name = ([], h, itself h, (refl, refl))
 some_fetches (suc more) h slots s name =
     let r = call.expected h (room slots h) (Fetch s name) in
     let mid = after h (Fetch s name) r in
     let rest = some_fetches more mid slots s name in
+    let same : SameButCursors mid h = fetch_same h s name r (fetch_fine h (room slots h) s name) in
     ⊎_elim
-    (λ g. (reply_text s r ++ rest.0, rest.1, once_more h mid rest.1 slots s name more (reply_text s r) rest.0 (record { answer = r; reply = inl refl; gives = g; text = refl; state = refl }) rest.2))
-    (λ g. (reply_text s r, mid, once_last h mid slots s name more (reply_text s r) (record { answer = r; reply = inl refl; gives = g; text = refl; state = refl })))
+    (λ g. (reply_text s r ++ rest.0, rest.1, same_joined rest.1 mid h rest.2 same, once_more h mid rest.1 slots s name more (reply_text s r) rest.0 (record { answer = r; reply = inl refl; gives = g; text = refl; state = refl }) rest.3))
+    (λ g. (reply_text s r, mid, same, once_last h mid slots s name more (reply_text s r) (record { answer = r; reply = inl refl; gives = g; text = refl; state = refl })))
     (cases_Bool (is_given r))
 
 take_within : (n : ℕ) (text more : List ℕ) → take (min n (length text)) (text ++ more) ≡ take n text
@@ -203,24 +260,26 @@ take_behind : (out : List ℕ) (n : ℕ) (rest : List ℕ) → take (length out 
 take_behind out n rest = take-append-add out rest n
 
 -- a fetch was cut off by its sink
-cut_behind : (start h : State) (slots s : ℕ) (name : List ℕ) (count all : ℕ) (tells : Type 0) (before now later : List ℕ) (so : FetchedSoFar start slots s name count h tells before now) → count < all → now ≡ before ++ so.out
-    → (gave : Bool) → CutShort (FetchOnce h slots s name gave) now later → CutShort (FetchOut start slots s name all) before later
-cut_behind start h slots s name count all tells before now later so lt held true cut =
+cut_behind : (start h left : State) (slots s : ℕ) (name : List ℕ) (count all : ℕ) (tells : Type 0) (before now later : List ℕ) (so : FetchedSoFar start slots s name count h tells before now) → count < all → now ≡ before ++ so.out
+    → (gave : Bool) → CutShort (FetchOnce h slots s name gave) left now later → CutShort (FetchOut start slots s name all) left before later
+cut_behind start h left slots s name count all tells before now later so lt held true cut =
     let m = all - (count + 1) in
     let rest = some_fetches m cut.state slots s name in
     record {
       out = so.out ++ (cut.out ++ rest.0);
       state = rest.1;
-      reply = subst (λ (n : ℕ). FetchOut start slots s name n (so.out ++ (cut.out ++ rest.0)) rest.1) (omega (arith, lt)) (so.goes_on (suc m) (cut.out ++ rest.0) rest.1 (once_more h cut.state rest.1 slots s name m cut.out rest.0 cut.reply rest.2));
+      reply = subst (λ (n : ℕ). FetchOut start slots s name n (so.out ++ (cut.out ++ rest.0)) rest.1) (omega (arith, lt)) (so.goes_on (suc m) (cut.out ++ rest.0) rest.1 (once_more h cut.state rest.1 slots s name m cut.out rest.0 cut.reply rest.3));
+      same = same_joined rest.1 cut.state left rest.2 cut.same;
       size = length so.out + min cut.size (length cut.out);
       written = cut.written ∙ ap (λ xs. xs ++ take cut.size cut.out) held ∙ append_assoc before so.out (take cut.size cut.out)
           ∙ ap (λ xs. before ++ xs) (sym (take_behind so.out (min cut.size (length cut.out)) (cut.out ++ rest.0) ∙ ap (λ xs. so.out ++ xs) (take_within cut.size cut.out rest.0)));
     }
-cut_behind start h slots s name count all tells before now later so lt held false cut =
+cut_behind start h left slots s name count all tells before now later so lt held false cut =
     record {
       out = so.out ++ cut.out;
       state = cut.state;
       reply = so_far_last start h cut.state slots s name count all cut.out tells before now so lt cut.reply;
+      same = cut.same;
       size = length so.out + cut.size;
       written = cut.written ∙ ap (λ xs. xs ++ take cut.size cut.out) held ∙ append_assoc before so.out (take cut.size cut.out) ∙ ap (λ xs. before ++ xs) (sym (take_behind so.out cut.size cut.out));
     }
@@ -237,7 +296,7 @@ so_far_fault start h mid slots s name count all tells before now later Disk so l
       step.1,
     )
 so_far_fault start h mid slots s name count all tells before now later Sink so lt step = λ told.
-    let cut = step told in cut_behind start h slots s name count all tells before now later so lt (so.written told) cut.0 cut.1
+    let cut = step told in cut_behind start h mid slots s name count all tells before now later so lt (so.written told) cut.0 cut.1
 
 -- a line without a call
 
@@ -245,4 +304,4 @@ pub bad_steps : (R : List ℕ → State → Type 0) (h : State) (text : List ℕ
     → Told text false tells before after_put result → Steps R h tells before after_put result
 bad_steps R h text tells before after_put (Ok done) going r told = (record { out = text; reply = r; written = told.1 }, going)
 bad_steps R h text tells before after_put (Err Disk) going r told = absurd (false≢true told.0)
-bad_steps R h text tells before after_put (Err Sink) going r told = λ t1. let w = told t1 in record { out = text; state = h; reply = r; size = w.0; written = w.1 }
+bad_steps R h text tells before after_put (Err Sink) going r told = λ t1. let w = told t1 in record { out = text; state = h; reply = r; same = itself h; size = w.0; written = w.1 }

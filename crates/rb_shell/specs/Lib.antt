@@ -1,4 +1,5 @@
 pub mod Runs
+pub mod Since
 pub mod Statuses
 pub mod Steps
 pub mod Words

@@ -7,6 +7,7 @@ use Rattle.rb_model.specs.Reply.{Answer, Done, Waits, Numbered, Given, End, Refu
 use Rattle.rb_model.specs.Reply as call
 use Rattle.rb_model.specs.declared.refusal.Refusal.{Refusal}
 use Rattle.rb_model.specs.declared.refusal.Refusal.TheVariants.{NoSession, NoTable, ValueTooLong, Duplicate, NoCursor, CursorThere, TooManyCursors, DiskFault, Stopped, LogFull}
+use Rattle.rb_lines.specs.Ran.{SameButCursors}
 use Rattle.rb_lines.specs.declared.machine.StepFault.{StepFault}
 use Rattle.rb_lines.specs.declared.machine.StepFault.TheVariants.{Disk, Sink}
 use Rattle.rb_script.specs.declared.reply.Reply.{Reply}
@@ -56,11 +57,13 @@ pub record Replied (allows : List ℕ → State → Type 0) (state : State) (tel
   pub reply : allows out state
   pub written : tells → now ≡ before ++ out
 
--- a front of replies as a relation allows them
-pub record CutShort (allows : List ℕ → State → Type 0) (before now : List ℕ) : Type 0 where
+-- A front of replies as a relation allows them. They may go on where a fetch was cut off, so the state after them may
+-- have other cursors than the one that the step leaves.
+pub record CutShort (allows : List ℕ → State → Type 0) (left : State) (before now : List ℕ) : Type 0 where
   pub out : List ℕ
   pub state : State
   pub reply : allows out state
+  pub same : SameButCursors state left
   pub size : ℕ
   pub written : now ≡ before ++ take size out
 
@@ -68,7 +71,7 @@ pub record CutShort (allows : List ℕ → State → Type 0) (before now : List 
 abbrev pub Steps : (List ℕ → State → Type 0) → State → Type 0 → List ℕ → List ℕ → Result (Unit {0}) StepFault → Type 0
 Steps allows state tells before now (Ok done) = Replied allows state tells before now × (state.stopped ≡ false)
 Steps allows state tells before now (Err Disk) = Replied allows state tells before now × (state.stopped ≡ true)
-Steps allows state tells before now (Err Sink) = tells → CutShort allows before now
+Steps allows state tells before now (Err Sink) = tells → CutShort allows state before now
 
 -- one fetch and its reply line
 pub record FetchOnce (h : State) (slots s : ℕ) (name : List ℕ) (gave : Bool) (out : List ℕ) (h2 : State) : Type 0 where
@@ -82,7 +85,7 @@ pub record FetchOnce (h : State) (slots s : ℕ) (name : List ℕ) (gave : Bool)
 abbrev pub FetchSteps : State → ℕ → ℕ → List ℕ → State → Type 0 → List ℕ → List ℕ → Result Bool StepFault → Type 0
 FetchSteps h slots s name state tells before now (Ok gave) = Replied (FetchOnce h slots s name gave) state tells before now × (state.stopped ≡ false)
 FetchSteps h slots s name state tells before now (Err Disk) = Replied (FetchOnce h slots s name false) state tells before now × (state.stopped ≡ true)
-FetchSteps h slots s name state tells before now (Err Sink) = tells → (gave : Bool) × CutShort (FetchOnce h slots s name gave) before now
+FetchSteps h slots s name state tells before now (Err Sink) = tells → (gave : Bool) × CutShort (FetchOnce h slots s name gave) state before now
 
 -- After so many fetches that each gave a row: what goes on from here goes on from the start.
 pub record FetchedSoFar (start : State) (slots s : ℕ) (name : List ℕ) (count : ℕ) (h : State) (tells : Type 0) (before now : List ℕ) : Type 0 where

@@ -1,5 +1,5 @@
 //! `run`: the program over a source, a sink and a disk. `main` calls it.
-ghost use Rattle.std.specs.Prelude.{◌≡◌, ◌⊎◌, ℕ, ◌<◌, ◌≤◌, ◌↔◌, List, [], length};
+ghost use Rattle.std.specs.Prelude.{◌≡◌, ◌⊎◌, ℕ, ◌<◌, ◌≤◌, ◌↔◌, true, false, List, [], length};
 ghost use Rattle.rb_base.specs.Counts.{Rose};
 ghost use Rattle.rb_disk.specs.DiskModel.{Only};
 ghost use Rattle.rb_disk.specs.Moments.{Rests};
@@ -7,7 +7,7 @@ ghost use Rattle.rb_layout.specs.declared.layout.Layout.{Layout};
 ghost use Rattle.rb_layout.specs.Regions.{fresh_file};
 ghost use Rattle.rb_lines.specs.Whole.{whole_lines};
 ghost use Rattle.rb_model.specs.Lines.{lines_of};
-ghost use Rattle.rb_shell.specs.Runs.{IsSound, HasRun, WasCutOff, IsTaken, EndsRun, AsksScript, AsksNothing, IsDoneOrNoMemory};
+ghost use Rattle.rb_shell.specs.Runs.{IsSound, HasRun, WasCutOff, Endures, IsTaken, EndsRun, AsksScript, AsksNothing, IsDoneOrNoMemory};
 ghost use Rattle.rb_shell.specs.Statuses.{EndsFormat};
 ghost use Rattle.rb_shell.specs.Words.{IsFormat, IsRun, IsUsage};
 
@@ -46,25 +46,26 @@ pub fn run<S: Source, K: Sink, D: Disk>(
     ensures format_sink { ((n : ℕ) → ¬ IsRun words.now n) → sink.new ≡ sink.old }
 
     // A run to its end: the replies are those that the machine opened with the file's records allows for the lines
-    // of the whole source.
-    ensures replies { D.tells → S.tells → (n : ℕ) → IsRun words.now n → result.0 ≡ Status.Done → HasRun (D.content disk) (lines_of (S.left source.old)) K.tells (K.held sink.old) (K.held sink.new) }
+    // of the whole source. Here and below `Endures` says what a crash may leave at any moment of the run, and at its
+    // end.
+    ensures replies { D.tells → S.tells → (n : ℕ) → IsRun words.now n → result.0 ≡ Status.Done → HasRun (D.content disk) (lines_of (S.left source.old)) K.tells (K.held sink.old) (K.held sink.new) false (Endures D.image D.moment D.image_since disk result.1) }
     ensures at_end { S.tells → (n : ℕ) → IsRun words.now n → result.0 ≡ Status.Done → S.left source.new ≡ [] }
     ensures few { S.tells → (n : ℕ) → IsRun words.now n → result.0 ≡ Status.Done → length (S.left source.old) < 1000000000 }
 
     // A run that ends at a fault of the source, or is too long: the whole lines of what was taken are done.
     ensures source_done { D.tells → S.tells → result.0 ≡ Status.SourceFault →
         ((taken : List ℕ) × IsTaken taken (S.left source.old) (S.left source.new)
-        × HasRun (D.content disk) (whole_lines taken) K.tells (K.held sink.old) (K.held sink.new)) }
+        × HasRun (D.content disk) (whole_lines taken) K.tells (K.held sink.old) (K.held sink.new) false (Endures D.image D.moment D.image_since disk result.1)) }
     ensures too_long { D.tells → S.tells → result.0 ≡ Status.TooLong →
         ((taken : List ℕ) × (length taken ≡ 1000000000) × IsTaken taken (S.left source.old) (S.left source.new)
-        × HasRun (D.content disk) (whole_lines taken) K.tells (K.held sink.old) (K.held sink.new)) }
+        × HasRun (D.content disk) (whole_lines taken) K.tells (K.held sink.old) (K.held sink.new) false (Endures D.image D.moment D.image_since disk result.1)) }
 
-    // At a fault of the disk nothing was asked for, or the reply that tells of it is the last; at one of the sink
-    // the replies are cut off.
+    // At a fault of the disk nothing was asked for and the file is as it was, or the reply that tells of it is the
+    // last; at one of the sink the replies are cut off.
     ensures disk_done { D.tells → S.tells → (n : ℕ) → IsRun words.now n → result.0 ≡ Status.DiskFault →
-        ((source.new ≡ source.old) × (sink.new ≡ sink.old))
-        ⊎ HasRun (D.content disk) (lines_of (S.left source.old)) K.tells (K.held sink.old) (K.held sink.new) }
-    ensures cut_off { D.tells → S.tells → K.tells → result.0 ≡ Status.SinkFault → WasCutOff (D.content disk) (lines_of (S.left source.old)) (K.held sink.old) (K.held sink.new) }
+        ((source.new ≡ source.old) × (sink.new ≡ sink.old) × Rests D.content D.image D.moment D.image_since disk result.1)
+        ⊎ HasRun (D.content disk) (lines_of (S.left source.old)) K.tells (K.held sink.old) (K.held sink.new) true (Endures D.image D.moment D.image_since disk result.1) }
+    ensures cut_off { D.tells → S.tells → K.tells → result.0 ≡ Status.SinkFault → WasCutOff (D.content disk) (lines_of (S.left source.old)) (K.held sink.old) (K.held sink.new) (Endures D.image D.moment D.image_since disk result.1) }
 
     // Where the script isn't asked for, nothing is changed. It is asked for just where the file is a store.
     ensures source { AsksNothing result.0 → source.new ≡ source.old }

@@ -9,6 +9,7 @@ ghost use Rattle.rb_model.specs.Reply as call;
 ghost use Rattle.rb_model.specs.Answers.{write_answer, plain_answer, commit_answer, fetch_answer};
 ghost use Rattle.rb_script.specs.Commands.{command_of};
 ghost use Rattle.rb_script.specs.Replies.{text_of_reply, FitsALine};
+ghost use Rattle.rb_first.specs.Crash.{Stands, Survives};
 ghost use Rattle.rb_shell.specs.Steps.{Told, Steps, FetchSteps, tells_fault};
 ghost use Rattle.rb_shell.specs.Steps.{is_fault as is_fault_answer};
 
@@ -148,6 +149,7 @@ fn insert_line<D: Disk, K: Sink>(
     requires { engine.old.state.stopped ≡ false }
     ensures steps { Steps (CallOut engine.old.state engine.old.layout.log s (call.Insert s table key value.now)) engine.new.state K.tells (K.held sink.old) (K.held sink.new) result }
     ensures layout { engine.new.layout ≡ engine.old.layout }
+    ensures crash { D.tells → Stands engine.old.layout engine.old.state (D.image engine.old.disk) → Survives D.image D.moment D.image_since engine.old.layout engine.old.state engine.new.state engine.old.disk engine.new.disk }
     ensures disk { IsErrOf result StepFault.Disk → Rose (D.faults engine.old.disk) (D.faults engine.new.disk) }
     ensures counted { D.faults engine.old.disk ≤ D.faults engine.new.disk }
     ensures sink { IsErrOf result StepFault.Sink → Rose (K.faults sink.old) (K.faults sink.new) }
@@ -166,6 +168,7 @@ fn commit_line<D: Disk, K: Sink>(
     requires { engine.old.state.stopped ≡ false }
     ensures steps { Steps (CallOut engine.old.state engine.old.layout.log s (call.Commit s)) engine.new.state K.tells (K.held sink.old) (K.held sink.new) result }
     ensures layout { engine.new.layout ≡ engine.old.layout }
+    ensures crash { D.tells → Stands engine.old.layout engine.old.state (D.image engine.old.disk) → Survives D.image D.moment D.image_since engine.old.layout engine.old.state engine.new.state engine.old.disk engine.new.disk }
     ensures disk { IsErrOf result StepFault.Disk → Rose (D.faults engine.old.disk) (D.faults engine.new.disk) }
     ensures counted { D.faults engine.old.disk ≤ D.faults engine.new.disk }
     ensures sink { IsErrOf result StepFault.Sink → Rose (K.faults sink.old) (K.faults sink.new) }
@@ -188,6 +191,7 @@ fn open_line<D: Disk, K: Sink>(
     requires { engine.old.state.stopped ≡ false }
     ensures steps { Steps (CallOut engine.old.state engine.old.layout.log s (call.OpenCursor s (name_text name.now) table lo hi)) engine.new.state K.tells (K.held sink.old) (K.held sink.new) result }
     ensures layout { engine.new.layout ≡ engine.old.layout }
+    ensures crash { D.tells → Stands engine.old.layout engine.old.state (D.image engine.old.disk) → Survives D.image D.moment D.image_since engine.old.layout engine.old.state engine.new.state engine.old.disk engine.new.disk }
     ensures disk { IsErrOf result StepFault.Disk → Rose (D.faults engine.old.disk) (D.faults engine.new.disk) }
     ensures counted { D.faults engine.old.disk ≤ D.faults engine.new.disk }
     ensures sink { IsErrOf result StepFault.Sink → Rose (K.faults sink.old) (K.faults sink.new) }
@@ -219,6 +223,7 @@ fn fetch_one<D: Disk, K: Sink>(
     requires { engine.old.state.stopped ≡ false }
     ensures steps { FetchSteps engine.old.state engine.old.layout.log s (name_text name.now) engine.new.state K.tells (K.held sink.old) (K.held sink.new) result }
     ensures layout { engine.new.layout ≡ engine.old.layout }
+    ensures crash { D.tells → Stands engine.old.layout engine.old.state (D.image engine.old.disk) → Survives D.image D.moment D.image_since engine.old.layout engine.old.state engine.new.state engine.old.disk engine.new.disk }
     ensures disk { IsErrOf result StepFault.Disk → Rose (D.faults engine.old.disk) (D.faults engine.new.disk) }
     ensures counted { D.faults engine.old.disk ≤ D.faults engine.new.disk }
     ensures sink { IsErrOf result StepFault.Sink → Rose (K.faults sink.old) (K.faults sink.new) }
@@ -242,6 +247,7 @@ fn fetch_line<D: Disk, K: Sink>(
     requires { engine.old.state.stopped ≡ false }
     ensures steps { Steps (FetchOut engine.old.state engine.old.layout.log s (name_text name.now) count) engine.new.state K.tells (K.held sink.old) (K.held sink.new) result }
     ensures layout { engine.new.layout ≡ engine.old.layout }
+    ensures crash { D.tells → Stands engine.old.layout engine.old.state (D.image engine.old.disk) → Survives D.image D.moment D.image_since engine.old.layout engine.old.state engine.new.state engine.old.disk engine.new.disk }
     ensures disk { IsErrOf result StepFault.Disk → Rose (D.faults engine.old.disk) (D.faults engine.new.disk) }
     ensures counted { D.faults engine.old.disk ≤ D.faults engine.new.disk }
     ensures sink { IsErrOf result StepFault.Sink → Rose (K.faults sink.old) (K.faults sink.new) }
@@ -271,6 +277,7 @@ fn close_line<D: Disk, K: Sink>(
     requires { engine.old.state.stopped ≡ false }
     ensures steps { Steps (CallOut engine.old.state engine.old.layout.log s (call.CloseCursor s (name_text name.now))) engine.new.state K.tells (K.held sink.old) (K.held sink.new) result }
     ensures layout { engine.new.layout ≡ engine.old.layout }
+    ensures crash { D.tells → Stands engine.old.layout engine.old.state (D.image engine.old.disk) → Survives D.image D.moment D.image_since engine.old.layout engine.old.state engine.new.state engine.old.disk engine.new.disk }
     ensures disk { IsErrOf result StepFault.Disk → Rose (D.faults engine.old.disk) (D.faults engine.new.disk) }
     ensures counted { D.faults engine.old.disk ≤ D.faults engine.new.disk }
     ensures sink { IsErrOf result StepFault.Sink → Rose (K.faults sink.old) (K.faults sink.new) }
@@ -289,6 +296,7 @@ fn run_command<D: Disk, K: Sink>(
     requires { engine.old.state.stopped ≡ false }
     ensures steps { Steps (CommandOut engine.old.state engine.old.layout.log (command_of command.now)) engine.new.state K.tells (K.held sink.old) (K.held sink.new) result }
     ensures layout { engine.new.layout ≡ engine.old.layout }
+    ensures crash { D.tells → Stands engine.old.layout engine.old.state (D.image engine.old.disk) → Survives D.image D.moment D.image_since engine.old.layout engine.old.state engine.new.state engine.old.disk engine.new.disk }
     ensures disk { IsErrOf result StepFault.Disk → Rose (D.faults engine.old.disk) (D.faults engine.new.disk) }
     ensures counted { D.faults engine.old.disk ≤ D.faults engine.new.disk }
     ensures sink { IsErrOf result StepFault.Sink → Rose (K.faults sink.old) (K.faults sink.new) }
@@ -318,9 +326,11 @@ pub fn step<D: Disk, K: Sink>(
     sink: &mut K,
 ) -> Result<(), StepFault>
     requires { engine.old.state.stopped ≡ false }
-    // The replies to the line, and the state after them; at a fault of the disk they end with it.
+    // The replies to the line, and the state after them; at a fault of the disk they end with it. A crash may leave no
+    // more than these states.
     ensures steps { Steps (LineOut engine.old.state engine.old.layout.log line.now) engine.new.state K.tells (K.held sink.old) (K.held sink.new) result }
     ensures layout { engine.new.layout ≡ engine.old.layout }
+    ensures crash { D.tells → Stands engine.old.layout engine.old.state (D.image engine.old.disk) → Survives D.image D.moment D.image_since engine.old.layout engine.old.state engine.new.state engine.old.disk engine.new.disk }
     ensures disk { IsErrOf result StepFault.Disk → Rose (D.faults engine.old.disk) (D.faults engine.new.disk) }
     ensures counted { D.faults engine.old.disk ≤ D.faults engine.new.disk }
     ensures sink { IsErrOf result StepFault.Sink → Rose (K.faults sink.old) (K.faults sink.new) }

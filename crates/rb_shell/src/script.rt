@@ -2,11 +2,11 @@
 ghost use Rattle.std.specs.Prelude.{◌≡◌, ◌≢◌, ◌⊎◌, ℕ, ◌<◌, ◌≤◌, List, [], ◌++◌, length, false, true, OnOk, IsErrOf, IfErr, IfOk};
 ghost use Rattle.rb_base.specs.Counts.{Rose};
 ghost use Rattle.rb_disk.specs.Moments.{Rests};
-ghost use Rattle.rb_lines.specs.Ran.{CutOff};
+ghost use Rattle.rb_first.specs.Crash.{Stands, Survives};
 ghost use Rattle.rb_lines.specs.Whole.{whole_lines};
 ghost use Rattle.rb_model.specs.Lines.{lines_of};
 ghost use Rattle.rb_model.specs.Out.{LineOut};
-ghost use Rattle.rb_shell.specs.Runs.{IsSound, HasDone, HasRun, WasCutOff, IsTaken, EndsRun, AsksScript, AsksNothing};
+ghost use Rattle.rb_shell.specs.Runs.{IsSound, HasDone, HasRun, WasCut, WasCutOff, Endures, IsTaken, EndsRun, AsksScript, AsksNothing};
 ghost use Rattle.rb_shell.specs.Steps.{Steps};
 
 use crate::line::step;
@@ -28,6 +28,8 @@ struct Interpreter<D: Disk> {
 }
 
 impl<D: Disk> Machine for Interpreter<D> {
+    ghost use Rattle.rb_shell.specs.Since.{IsSince, since_same, since_joined};
+
     ghost state = { λ m. m.engine.state };
 
     ghost slots = { λ m. m.engine.layout.log };
@@ -36,10 +38,17 @@ impl<D: Disk> Machine for Interpreter<D> {
 
     ghost ready = { λ m. Unit {0} };
 
+    ghost since = { λ a b. IsSince D.tells D.image D.moment D.image_since a.engine b.engine };
+
+    ghost since_same = { λ m. since_same m.engine (λ told im left. D.only_now m.engine.disk im told left) };
+
+    ghost since_joined = { λ a b c. since_joined a.engine b.engine c.engine };
+
     fn step<K: Sink>(&mut self, line: &[u8], sink: &mut K) -> Result<(), StepFault>
         requires going { self.old.engine.state.stopped ≡ false }
         ensures steps { Steps (LineOut self.old.engine.state self.old.engine.layout.log line.now) self.new.engine.state K.tells (K.held sink.old) (K.held sink.new) result }
         ensures layout { self.new.engine.layout ≡ self.old.engine.layout }
+        ensures crash { D.tells → Stands self.old.engine.layout self.old.engine.state (D.image self.old.engine.disk) → Survives D.image D.moment D.image_since self.old.engine.layout self.old.engine.state self.new.engine.state self.old.engine.disk self.new.engine.disk }
         ensures disk { IsErrOf result StepFault.Disk → Rose (D.faults self.old.engine.disk) (D.faults self.new.engine.disk) }
         ensures sink { IsErrOf result StepFault.Sink → Rose (K.faults sink.old) (K.faults sink.new) }
         ensures counted { D.faults self.old.engine.disk ≤ D.faults self.new.engine.disk }
@@ -94,17 +103,17 @@ fn run_engine<S: Source, K: Sink, D: Disk>(
     requires buffer { 0 < length buffer.old }
     ensures ends { EndsRun result.0 }
     ensures asks { AsksNothing result.0 → ⊥ }
-    ensures done { result.0 ≡ Status.Done → S.tells → HasDone engine.layout.log engine.state (lines_of (S.left source.old)) K.tells (K.held sink.old) (K.held sink.new) }
+    ensures done { result.0 ≡ Status.Done → S.tells → HasDone engine.layout.log engine.state (lines_of (S.left source.old)) K.tells (K.held sink.old) (K.held sink.new) false (λ h. D.tells → Stands engine.layout engine.state (D.image engine.disk) → Survives D.image D.moment D.image_since engine.layout engine.state h engine.disk result.1) }
     ensures at_end { result.0 ≡ Status.Done → S.tells → S.left source.new ≡ [] }
     ensures few { result.0 ≡ Status.Done → S.tells → length (S.left source.old) < 1000000000 }
     ensures source_done { result.0 ≡ Status.SourceFault → S.tells →
         ((taken : List ℕ) × IsTaken taken (S.left source.old) (S.left source.new)
-        × HasDone engine.layout.log engine.state (whole_lines taken) K.tells (K.held sink.old) (K.held sink.new)) }
+        × HasDone engine.layout.log engine.state (whole_lines taken) K.tells (K.held sink.old) (K.held sink.new) false (λ h. D.tells → Stands engine.layout engine.state (D.image engine.disk) → Survives D.image D.moment D.image_since engine.layout engine.state h engine.disk result.1)) }
     ensures too_long { result.0 ≡ Status.TooLong → S.tells →
         ((taken : List ℕ) × (length taken ≡ 1000000000) × IsTaken taken (S.left source.old) (S.left source.new)
-        × HasDone engine.layout.log engine.state (whole_lines taken) K.tells (K.held sink.old) (K.held sink.new)) }
-    ensures disk_done { result.0 ≡ Status.DiskFault → S.tells → HasDone engine.layout.log engine.state (lines_of (S.left source.old)) K.tells (K.held sink.old) (K.held sink.new) }
-    ensures cut_off { result.0 ≡ Status.SinkFault → S.tells → K.tells → CutOff engine.layout.log engine.state (lines_of (S.left source.old)) (K.held sink.old) (K.held sink.new) }
+        × HasDone engine.layout.log engine.state (whole_lines taken) K.tells (K.held sink.old) (K.held sink.new) false (λ h. D.tells → Stands engine.layout engine.state (D.image engine.disk) → Survives D.image D.moment D.image_since engine.layout engine.state h engine.disk result.1)) }
+    ensures disk_done { result.0 ≡ Status.DiskFault → S.tells → HasDone engine.layout.log engine.state (lines_of (S.left source.old)) K.tells (K.held sink.old) (K.held sink.new) true (λ h. D.tells → Stands engine.layout engine.state (D.image engine.disk) → Survives D.image D.moment D.image_since engine.layout engine.state h engine.disk result.1) }
+    ensures cut_off { result.0 ≡ Status.SinkFault → S.tells → K.tells → WasCut engine.layout.log engine.state (lines_of (S.left source.old)) (K.held sink.old) (K.held sink.new) (λ h. D.tells → Stands engine.layout engine.state (D.image engine.disk) → Survives D.image D.moment D.image_since engine.layout engine.state h engine.disk result.1) }
     ensures source_fault { result.0 ≡ Status.SourceFault → Rose (S.faults source.old) (S.faults source.new) }
     ensures disk_fault { result.0 ≡ Status.DiskFault → Rose (D.faults engine.disk) (D.faults result.1) }
     ensures sink_fault { result.0 ≡ Status.SinkFault → Rose (K.faults sink.old) (K.faults sink.new) }
@@ -129,19 +138,19 @@ pub fn run_script<S: Source, K: Sink, D: Disk>(
     ensures ends { EndsRun result.0 }
 
     // The script was done to its end, to a fault, or as far as it may be long.
-    ensures done { D.tells → S.tells → result.0 ≡ Status.Done → HasRun (D.content disk) (lines_of (S.left source.old)) K.tells (K.held sink.old) (K.held sink.new) }
+    ensures done { D.tells → S.tells → result.0 ≡ Status.Done → HasRun (D.content disk) (lines_of (S.left source.old)) K.tells (K.held sink.old) (K.held sink.new) false (Endures D.image D.moment D.image_since disk result.1) }
     ensures at_end { S.tells → result.0 ≡ Status.Done → S.left source.new ≡ [] }
     ensures few { S.tells → result.0 ≡ Status.Done → length (S.left source.old) < 1000000000 }
     ensures source_done { D.tells → S.tells → result.0 ≡ Status.SourceFault →
         ((taken : List ℕ) × IsTaken taken (S.left source.old) (S.left source.new)
-        × HasRun (D.content disk) (whole_lines taken) K.tells (K.held sink.old) (K.held sink.new)) }
+        × HasRun (D.content disk) (whole_lines taken) K.tells (K.held sink.old) (K.held sink.new) false (Endures D.image D.moment D.image_since disk result.1)) }
     ensures too_long { D.tells → S.tells → result.0 ≡ Status.TooLong →
         ((taken : List ℕ) × (length taken ≡ 1000000000) × IsTaken taken (S.left source.old) (S.left source.new)
-        × HasRun (D.content disk) (whole_lines taken) K.tells (K.held sink.old) (K.held sink.new)) }
+        × HasRun (D.content disk) (whole_lines taken) K.tells (K.held sink.old) (K.held sink.new) false (Endures D.image D.moment D.image_since disk result.1)) }
     ensures disk_done { D.tells → S.tells → result.0 ≡ Status.DiskFault →
-        ((source.new ≡ source.old) × (sink.new ≡ sink.old))
-        ⊎ HasRun (D.content disk) (lines_of (S.left source.old)) K.tells (K.held sink.old) (K.held sink.new) }
-    ensures cut_off { D.tells → S.tells → K.tells → result.0 ≡ Status.SinkFault → WasCutOff (D.content disk) (lines_of (S.left source.old)) (K.held sink.old) (K.held sink.new) }
+        ((source.new ≡ source.old) × (sink.new ≡ sink.old) × Rests D.content D.image D.moment D.image_since disk result.1)
+        ⊎ HasRun (D.content disk) (lines_of (S.left source.old)) K.tells (K.held sink.old) (K.held sink.new) true (Endures D.image D.moment D.image_since disk result.1) }
+    ensures cut_off { D.tells → S.tells → K.tells → result.0 ≡ Status.SinkFault → WasCutOff (D.content disk) (lines_of (S.left source.old)) (K.held sink.old) (K.held sink.new) (Endures D.image D.moment D.image_since disk result.1) }
 
     // Nothing was asked for.
     ensures source { AsksNothing result.0 → source.new ≡ source.old }

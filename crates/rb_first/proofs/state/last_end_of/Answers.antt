@@ -1,4 +1,4 @@
-use Rattle.std.proofs.Common.{◌≡◌, sym, ◌∙◌, ap}
+use Rattle.std.proofs.Common.{sym}
 use Rattle.rb_first.proofs.KeptLemmas.{last_end_is}
 use Rattle.rb_first.proofs.state.last_end_of.Goals as goal
 

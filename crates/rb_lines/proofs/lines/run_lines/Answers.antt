@@ -50,6 +50,7 @@ loop-room-preserved g c =
           part_more _ _ _ _ _ g.K.Sink.tells _ _ _ _ _ _ _ _ c.loop-room.room c.in-Ok.count (take c.in-Ok.count c.take_bytes.new.buffer) p i.going i.slots o.room size (o.taken t)
           (f.ran (rest_from [] p.taken) p.rest).0 (f.kept (rest_from [] p.taken) p.rest);
       slots = f.slots ∙ i.slots;
+      since = g.met.M.Machine.since_joined c.args.machine.now c.loop-room.machine c.feed.new.machine i.going i.since f.since;
       source_counted = omega (arith, o.counted.no_less, i.source_counted);
       counted = omega (arith, f.counted, i.counted);
       sink_counted = omega (arith, f.sink_counted, i.sink_counted);

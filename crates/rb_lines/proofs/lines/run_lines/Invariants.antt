@@ -10,6 +10,7 @@ invariant-loop-room g l = record {
   room : l.room ≤ 1000000000;
   part : g.S.Source.tells → Part (g.M.Machine.slots l.initial.machine) (g.M.Machine.state l.initial.machine) (g.M.Machine.state l.machine) g.K.Sink.tells (g.K.Sink.held l.initial.sink) (g.K.Sink.held l.sink) (g.S.Source.left l.initial.source) (g.S.Source.left l.source) l.pending.items l.room;
   slots : g.M.Machine.slots l.machine ≡ g.M.Machine.slots l.initial.machine;
+  since : g.M.Machine.since l.initial.machine l.machine;
   source_counted : g.S.Source.faults l.initial.source ≤ g.S.Source.faults l.source;
   counted : g.M.Machine.faults l.initial.machine ≤ g.M.Machine.faults l.machine;
   sink_counted : g.K.Sink.faults l.initial.sink ≤ g.K.Sink.faults l.sink;

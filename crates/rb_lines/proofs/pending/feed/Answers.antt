@@ -30,6 +30,7 @@ loop-byte-preserved g c =
           (o.ran (rest_from line (take c.loop-byte.byte-index c.args.bytes.now)) (i.kept line e))).0;
       kept = λ line e. o.kept _ (i.kept line e) ∙ ap (λ (b : List ℕ). take 513 b) (rest_more line c.args.bytes.now c.loop-byte.byte-index within);
       slots = o.slots ∙ i.slots;
+      since = g.met.M.Machine.since_joined c.args.machine.now c.loop-byte.machine c.feed_byte.new.machine i.going i.since o.since;
       counted = omega (arith, o.counted, i.counted);
       sink_counted = omega (arith, o.sink_counted, i.sink_counted);
     }

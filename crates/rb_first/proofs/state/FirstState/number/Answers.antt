@@ -1,4 +1,4 @@
-use Rattle.std.proofs.Common.{◌≡◌, ◌+◌, length, ap, sym, ◌∙◌}
+use Rattle.std.proofs.Common.{◌+◌, length, ap, sym, ◌∙◌}
 use Rattle.rb_model.specs.Rows.{last_number}
 use Rattle.rb_first.specs.Kept.{Kept}
 use Rattle.rb_first.proofs.KeptLemmas.{length-cut}
@@ -7,5 +7,5 @@ use Rattle.rb_first.proofs.state.FirstState.number.Goals as goal
 pub returns-clause-number : goal.returns-clause-number
 returns-clause-number c =
     let a = c.self.inside in
-    ap (λ n. a.base + n) (ap length c.as_slice.ensures.value ∙ sym (length-cut a.base_length a.ends.items a.changes.items))
+    ap (λ n. a.base + n) (ap length c.as_slice.ensures.value ∙ sym (length-cut a.base_length a.ends.items a.index.changes))
     ∙ ap (λ (k : Kept). last_number k.state.commits) c.self.view_is

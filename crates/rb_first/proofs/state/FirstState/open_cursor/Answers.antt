@@ -1,4 +1,4 @@
-use Rattle.std.proofs.Common.{◌≡◌, ℕ, ap, sym, ◌∙◌}
+use Rattle.std.proofs.Common.{ap, sym, ◌∙◌}
 use Rattle.rb_model.specs.Reply as call
 use Rattle.rb_model.specs.Reply.{after_grant}
 use Rattle.rb_model.specs.Names.{name_text}

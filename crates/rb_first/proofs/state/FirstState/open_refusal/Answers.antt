@@ -1,8 +1,6 @@
-use Rattle.std.proofs.Common.{◌≡◌, ℕ, ◌≤◌, true, false, length, nat_le, is_some, Option, None, Some, arith, refl, sym, ◌∙◌, ap, not}
+use Rattle.std.proofs.Common.{◌≡◌, true, false, length, arith, refl, sym, ◌∙◌, ap}
 use Rattle.std.proofs.lemmas.Bool.{le-leb, lt-leb}
-use Rattle.rb_model.specs.State.{session_of, cursor_of}
 use Rattle.rb_model.specs.Names.{name_text}
-use Rattle.rb_first.specs.declared.cursor.OpenCursor.{OpenCursor}
 use Rattle.rb_first.proofs.StateLemmas.{open_tests, going, one_session, some_table, cursor_count, search_tells, any_cursor}
 use Rattle.rb_first.proofs.state.FirstState.open_refusal.Goals as goal
 
