@@ -17,7 +17,7 @@ use Rattle.rb_model.specs.declared.refusal.Refusal.TheVariants.{NoSession, NoTab
 use Rattle.rb_first.specs.declared.cursor.OpenCursor.{OpenCursor}
 use Rattle.rb_record.specs.declared.put.Put.{Put}
 use Rattle.rb_record.specs.Puts.{changes_of, change_of}
-use Rattle.rb_first.specs.Next.{asked, given_count}
+use Rattle.rb_index.specs.Next.{asked, given_count}
 use Rattle.rb_first.specs.Kept.{Kept, last_end, Rising, between, cut, rows_of, end_at, cursor_view, state_view, IsOpened, IsKept, IsPlace, has_name}
 
 pub over-append : (blocks : ℕ) (rows : List TableRow) (xs ys : List Change) → over blocks rows (xs ++ ys) ≡ over blocks (over blocks rows xs) ys

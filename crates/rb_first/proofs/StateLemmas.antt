@@ -13,9 +13,9 @@ use Rattle.rb_first.specs.declared.state.FirstState.TheInside.{Inside}
 use Rattle.rb_first.specs.contracts.state.FirstState.{the_view}
 use Rattle.rb_first.specs.declared.cursor.OpenCursor.{OpenCursor}
 use Rattle.rb_record.specs.Puts.{changes_of}
-use Rattle.rb_first.specs.Next.{asked, given_count, next_of}
+use Rattle.rb_index.specs.Next.{asked, given_count, next_of}
 use Rattle.rb_first.specs.Kept.{Kept, cursor_view, state_view, rows_of, cut, last_end, Rising, IsOpened, IsPlace, has_name}
-use Rattle.rb_first.proofs.RowLemmas.{next_is_wanted, given_one_more, ordered-over}
+use Rattle.rb_index.proofs.RowLemmas.{next_is_wanted, given_one_more, ordered-over}
 use Rattle.rb_first.proofs.KeptLemmas.{find_at_place, none_named, cursor_rows_view, taken_at_place, removed_at_place, fresh_view, all_at}
 
 -- the tests of a call, each with its outcome
@@ -54,20 +54,20 @@ some_table a kept table v low high =
 
 pub cursor_count : (a : Inside) (kept : Kept) (s : ℕ) → the_view a ≡ kept → s ≡ 1 → length (session_of kept.state s).cursors ≡ length a.cursors.items
 cursor_count a kept s v e =
-    ap (λ (k : Kept). length (session_of k.state s).cursors) (sym v) ∙ (rw (e) (length-map a.cursors.items (cursor_view a.shape.blocks a.base a.base_length a.ends.items a.changes.items)))
+    ap (λ (k : Kept). length (session_of k.state s).cursors) (sym v) ∙ (rw (e) (length-map a.cursors.items (cursor_view a.shape.blocks a.base a.base_length a.ends.items a.index.changes)))
 
 -- the cursor of a name, where there is one
 pub cursor_there : (a : Inside) (kept : Kept) (s : ℕ) (name : List ℕ) (i : ℕ) (d : OpenCursor) → the_view a ≡ kept → s ≡ 1 → IsPlace (has_name name) a.cursors.items i
-    → cursor_of kept.state s name ≡ Some (cursor_view a.shape.blocks a.base a.base_length a.ends.items a.changes.items (get_or a.cursors.items i d))
+    → cursor_of kept.state s name ≡ Some (cursor_view a.shape.blocks a.base a.base_length a.ends.items a.index.changes (get_or a.cursors.items i d))
 cursor_there a kept s name i d v e place =
     ap (λ (k : Kept). cursor_of k.state s name) (sym v)
-    ∙ (rw (e) (find_at_place a.shape.blocks a.base a.base_length a.ends.items a.changes.items name a.cursors.items i d place))
+    ∙ (rw (e) (find_at_place a.shape.blocks a.base a.base_length a.ends.items a.index.changes name a.cursors.items i d place))
 
 pub no_cursor : (a : Inside) (kept : Kept) (s : ℕ) (name : List ℕ) (d : OpenCursor) → the_view a ≡ kept → s ≡ 1 → ((k : ℕ) → k < length a.cursors.items → has_name name (get_or a.cursors.items k d) ≡ false)
     → cursor_of kept.state s name ≡ None
 no_cursor a kept s name d v e none =
     ap (λ (k : Kept). cursor_of k.state s name) (sym v)
-    ∙ (rw (e) (none_named a.shape.blocks a.base a.base_length a.ends.items a.changes.items name a.cursors.items d none))
+    ∙ (rw (e) (none_named a.shape.blocks a.base a.base_length a.ends.items a.index.changes name a.cursors.items d none))
 
 abbrev pub any_cursor : OpenCursor
 any_cursor = record { name = record { items = [] }; table = 0; lo = 0; hi = 0; number = 0; visible = 0; last = None }
@@ -92,66 +92,66 @@ search_tells a kept s xs bytes name d None v e x b place none = ap is_some (foun
 -- what a cursor gives next
 
 pub next_row_view : (a : Inside) (kept : Kept) (c : OpenCursor) (d : Option TableRow) → the_view a ≡ kept
-    → slice_get (asked c.table c.lo c.hi (rows_of a.shape.blocks c.visible a.changes.items)) (given_count a.shape.blocks c.last (asked c.table c.lo c.hi (rows_of a.shape.blocks c.visible a.changes.items))) ≡ d
-    → cursor_rows kept.state (cursor_view a.shape.blocks a.base a.base_length a.ends.items a.changes.items c) ≡ asked c.table c.lo c.hi (rows_of a.shape.blocks c.visible a.changes.items)
-    → next_row kept.state (Some (cursor_view a.shape.blocks a.base a.base_length a.ends.items a.changes.items c)) ≡ given d
+    → slice_get (asked c.table c.lo c.hi (rows_of a.shape.blocks c.visible a.index.changes)) (given_count a.shape.blocks c.last (asked c.table c.lo c.hi (rows_of a.shape.blocks c.visible a.index.changes))) ≡ d
+    → cursor_rows kept.state (cursor_view a.shape.blocks a.base a.base_length a.ends.items a.index.changes c) ≡ asked c.table c.lo c.hi (rows_of a.shape.blocks c.visible a.index.changes)
+    → next_row kept.state (Some (cursor_view a.shape.blocks a.base a.base_length a.ends.items a.index.changes c)) ≡ given d
 next_row_view a kept c d v e rows =
-    ap (λ rs. given (slice_get rs (given_count a.shape.blocks c.last (asked c.table c.lo c.hi (rows_of a.shape.blocks c.visible a.changes.items))))) rows ∙ ap given e
+    ap (λ rs. given (slice_get rs (given_count a.shape.blocks c.last (asked c.table c.lo c.hi (rows_of a.shape.blocks c.visible a.index.changes))))) rows ∙ ap given e
 
 -- the state with one more cursor, that has given nothing
 pub view-open : (a : Inside) (kept : Kept) (cs : List OpenCursor) (c : OpenCursor) (name : List ℕ) (table lo hi : ℕ) → the_view a ≡ kept → cs ≡ a.cursors.items ++ c ∷ []
-    → c.name.items ≡ name → c.table ≡ table → c.lo ≡ lo → c.hi ≡ hi → c.number ≡ last_number kept.state.commits → c.visible ≡ length a.changes.items → c.last ≡ None
-    → state_view a.shape a.base a.base_length a.ends.items a.changes.items cs a.stopped ≡ after_grant kept.state (call.OpenCursor 1 name table lo hi)
+    → c.name.items ≡ name → c.table ≡ table → c.lo ≡ lo → c.hi ≡ hi → c.number ≡ last_number kept.state.commits → c.visible ≡ length a.index.changes → c.last ≡ None
+    → state_view a.shape a.base a.base_length a.ends.items a.index.changes cs a.stopped ≡ after_grant kept.state (call.OpenCursor 1 name table lo hi)
 view-open a kept cs c name table lo hi v e n t l h number visible last =
-    let at_view : c.number ≡ a.base + length (cut a.base_length a.ends.items a.changes.items) = number ∙ ap (λ (k : Kept). last_number k.state.commits) (sym v) in
-    let view = cursor_view a.shape.blocks a.base a.base_length a.ends.items a.changes.items in
-    let f : view c ≡ record { name = name; table = table; lo = lo; hi = hi; number = a.base + length (cut a.base_length a.ends.items a.changes.items); own = changes_of (drop (last_end a.base_length a.ends.items) a.changes.items); taken = 0 } =
-    fresh_view a.shape.blocks a.base a.base_length a.ends.items a.changes.items c at_view visible last ∙ (rw (n, t, l, h) refl) in
+    let at_view : c.number ≡ a.base + length (cut a.base_length a.ends.items a.index.changes) = number ∙ ap (λ (k : Kept). last_number k.state.commits) (sym v) in
+    let view = cursor_view a.shape.blocks a.base a.base_length a.ends.items a.index.changes in
+    let f : view c ≡ record { name = name; table = table; lo = lo; hi = hi; number = a.base + length (cut a.base_length a.ends.items a.index.changes); own = changes_of (drop (last_end a.base_length a.ends.items) a.index.changes); taken = 0 } =
+    fresh_view a.shape.blocks a.base a.base_length a.ends.items a.index.changes c at_view visible last ∙ (rw (n, t, l, h) refl) in
     let m : map view cs ≡ map view a.cursors.items ++ view c ∷ [] = ap (map view) e ∙ map_push view a.cursors.items c in
     rw (m, f) refl
     ∙ ap (λ (k : Kept). after_grant k.state (call.OpenCursor 1 name table lo hi)) v
 
 -- what a fetch gives, by the row that the changes make next
 pub fetch_gives : (a : Inside) (kept : Kept) (room s : ℕ) (name : List ℕ) (i : ℕ) (d : OpenCursor) (o : Option TableRow) → the_view a ≡ kept → Rising a.base_length a.ends.items
-    → AllByRecursion (IsOpened a.base a.base_length a.ends.items (length a.changes.items)) a.cursors.items → a.stopped ≡ false → s ≡ 1 → IsPlace (has_name name) a.cursors.items i → i < length a.cursors.items
-    → next_of a.shape.blocks (get_or a.cursors.items i d).table (get_or a.cursors.items i d).lo (get_or a.cursors.items i d).hi (get_or a.cursors.items i d).last (changes_of (take (get_or a.cursors.items i d).visible a.changes.items)) ≡ o
+    → AllByRecursion (IsOpened a.base a.base_length a.ends.items (length a.index.changes)) a.cursors.items → a.stopped ≡ false → s ≡ 1 → IsPlace (has_name name) a.cursors.items i → i < length a.cursors.items
+    → next_of a.shape.blocks (get_or a.cursors.items i d).table (get_or a.cursors.items i d).lo (get_or a.cursors.items i d).hi (get_or a.cursors.items i d).last (changes_of (take (get_or a.cursors.items i d).visible a.index.changes)) ≡ o
     → expected kept.state room (Fetch s name) ≡ given o
 fetch_gives a kept room s name i d o v rising all go e place within next =
     let c = get_or a.cursors.items i d in
-    let cur = cursor_view a.shape.blocks a.base a.base_length a.ends.items a.changes.items c in
-    let opened = all_at (IsOpened a.base a.base_length a.ends.items (length a.changes.items)) a.cursors.items i d all within in
-    let rows : cursor_rows kept.state cur ≡ asked c.table c.lo c.hi (rows_of a.shape.blocks c.visible a.changes.items) =
+    let cur = cursor_view a.shape.blocks a.base a.base_length a.ends.items a.index.changes c in
+    let opened = all_at (IsOpened a.base a.base_length a.ends.items (length a.index.changes)) a.cursors.items i d all within in
+    let rows : cursor_rows kept.state cur ≡ asked c.table c.lo c.hi (rows_of a.shape.blocks c.visible a.index.changes) =
     ap (λ (k : Kept). cursor_rows k.state cur) (sym v)
-    ∙ cursor_rows_view a.shape a.base a.base_length a.ends.items a.changes.items a.cursors.items a.stopped c rising opened.sees_commits in
+    ∙ cursor_rows_view a.shape a.base a.base_length a.ends.items a.index.changes a.cursors.items a.stopped c rising opened.sees_commits in
     fetch_tests kept.state room s name (Some cur) (going a kept v go) (one_session a kept s v e) (cursor_there a kept s name i d v e place)
     ∙ next_row_view a kept c o v
-    (next_is_wanted a.shape.blocks c.table c.lo c.hi c.last (rows_of a.shape.blocks c.visible a.changes.items) (ordered-over a.shape.blocks [] (take c.visible a.changes.items) tt) ∙ next) rows
+    (next_is_wanted a.shape.blocks c.table c.lo c.hi c.last (rows_of a.shape.blocks c.visible a.index.changes) (ordered-over a.shape.blocks [] (take c.visible a.index.changes) tt) ∙ next) rows
 
 -- the state where the cursor of a name has given one more row
 pub view-fetch : (a : Inside) (kept : Kept) (s : ℕ) (name : List ℕ) (i : ℕ) (d : OpenCursor) (r : TableRow) (key : ℕ) (cs : List OpenCursor) → the_view a ≡ kept → s ≡ 1 → IsPlace (has_name name) a.cursors.items i
     → cs ≡ set a.cursors.items i (record (get_or a.cursors.items i d) { last = Some key }) → key ≡ r.key
-    → next_of a.shape.blocks (get_or a.cursors.items i d).table (get_or a.cursors.items i d).lo (get_or a.cursors.items i d).hi (get_or a.cursors.items i d).last (changes_of (take (get_or a.cursors.items i d).visible a.changes.items)) ≡ Some r
-    → state_view a.shape a.base a.base_length a.ends.items a.changes.items cs a.stopped ≡ after_grant kept.state (Fetch s name)
+    → next_of a.shape.blocks (get_or a.cursors.items i d).table (get_or a.cursors.items i d).lo (get_or a.cursors.items i d).hi (get_or a.cursors.items i d).last (changes_of (take (get_or a.cursors.items i d).visible a.index.changes)) ≡ Some r
+    → state_view a.shape a.base a.base_length a.ends.items a.index.changes cs a.stopped ≡ after_grant kept.state (Fetch s name)
 view-fetch a kept s name i d r key cs v e place f k next =
     let c = get_or a.cursors.items i d in
-    let view = cursor_view a.shape.blocks a.base a.base_length a.ends.items a.changes.items in
-    let rows = rows_of a.shape.blocks c.visible a.changes.items in
+    let view = cursor_view a.shape.blocks a.base a.base_length a.ends.items a.index.changes in
+    let rows = rows_of a.shape.blocks c.visible a.index.changes in
     let more : given_count a.shape.blocks (Some key) (asked c.table c.lo c.hi rows) ≡ suc (given_count a.shape.blocks c.last (asked c.table c.lo c.hi rows)) =
     ap (λ n. given_count a.shape.blocks (Some n) (asked c.table c.lo c.hi rows)) k
-    ∙ given_one_more a.shape.blocks c.table c.lo c.hi c.last r rows (ordered-over a.shape.blocks [] (take c.visible a.changes.items) tt) next in
+    ∙ given_one_more a.shape.blocks c.table c.lo c.hi c.last r rows (ordered-over a.shape.blocks [] (take c.visible a.index.changes) tt) next in
     let moved : view (record c { last = Some key }) ≡ record (view c) { taken = suc (view c).taken } = rw (more) refl in
     let cursors : map view cs ≡ with_taken name (map view a.cursors.items) =
-    ap (map view) f ∙ sym (taken_at_place a.shape.blocks a.base a.base_length a.ends.items a.changes.items name a.cursors.items i d (record c { last = Some key }) place moved) in
+    ap (map view) f ∙ sym (taken_at_place a.shape.blocks a.base a.base_length a.ends.items a.index.changes name a.cursors.items i d (record c { last = Some key }) place moved) in
     rw (cursors) refl
     ∙ ap (λ (k : Kept). after_grant k.state (Fetch 1 name)) v
     ∙ ap (λ n. after_grant kept.state (Fetch n name)) (sym e)
 
 -- the state without the cursor of a name
 pub view-close : (a : Inside) (kept : Kept) (s : ℕ) (name : List ℕ) (i : ℕ) (cs : List OpenCursor) → the_view a ≡ kept → s ≡ 1 → IsPlace (has_name name) a.cursors.items i → cs ≡ remove a.cursors.items i
-    → state_view a.shape a.base a.base_length a.ends.items a.changes.items cs a.stopped ≡ after_grant kept.state (call.CloseCursor s name)
+    → state_view a.shape a.base a.base_length a.ends.items a.index.changes cs a.stopped ≡ after_grant kept.state (call.CloseCursor s name)
 view-close a kept s name i cs v e place f =
-    let view = cursor_view a.shape.blocks a.base a.base_length a.ends.items a.changes.items in
-    let cursors : map view cs ≡ without_cursor name (map view a.cursors.items) = ap (map view) f ∙ sym (removed_at_place a.shape.blocks a.base a.base_length a.ends.items a.changes.items name a.cursors.items i place) in
+    let view = cursor_view a.shape.blocks a.base a.base_length a.ends.items a.index.changes in
+    let cursors : map view cs ≡ without_cursor name (map view a.cursors.items) = ap (map view) f ∙ sym (removed_at_place a.shape.blocks a.base a.base_length a.ends.items a.index.changes name a.cursors.items i place) in
     rw (cursors) refl
     ∙ ap (λ (k : Kept). after_grant k.state (call.CloseCursor 1 name)) v
     ∙ ap (λ n. after_grant kept.state (call.CloseCursor n name)) (sym e)

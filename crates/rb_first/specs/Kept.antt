@@ -10,7 +10,7 @@ use Rattle.rb_model.specs.Reply.{record_length}
 use Rattle.rb_first.specs.declared.cursor.OpenCursor.{OpenCursor}
 use Rattle.rb_record.specs.declared.put.Put.{Put}
 use Rattle.rb_record.specs.Puts.{changes_of}
-use Rattle.rb_first.specs.Next.{asked, given_count}
+use Rattle.rb_index.specs.Next.{asked, given_count}
 
 -- the state of the machine, and the slots of the log
 pub record Kept : Type 0 where

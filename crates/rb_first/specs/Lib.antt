@@ -1,6 +1,5 @@
 pub mod Crash
 pub mod Engine
 pub mod Kept
-pub mod Next
 pub mod Others
 pub mod Store

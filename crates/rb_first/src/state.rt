@@ -13,9 +13,10 @@ ghost use Rattle.rb_first.specs.Kept.{has_name, IsPlace, last_end};
 ghost use Rattle.rb_record.specs.Puts.{changes_of, change_of};
 
 use crate::cursor::OpenCursor;
-use crate::rows::{Query, has_key, next_put, record_length};
+use crate::rows::record_length;
 use arrayvec::ArrayVec;
 use rb_base::{NoMemory, Shape};
+use rb_index::{ChangeIndex, Query};
 use rb_model::{Fetched, Name, Refusal, Row, Wrote};
 use rb_record::Put;
 use std::alloc::Global;
@@ -43,21 +44,22 @@ pub struct FirstState {
     slots: u32,
     base: u64,
     base_length: usize,
-    changes: Vec<Put>,
+    index: ChangeIndex,
     ends: Vec<usize>,
     cursors: ArrayVec<OpenCursor, 16>,
     stopped: bool,
 }
 
 impl Model for FirstState {
-    ghost use Rattle.std.specs.Prelude.{vec_capacity};
+    ghost use Rattle.std.specs.Prelude.{◌≡◌, vec_capacity};
     ghost use Rattle.rb_first.specs.Kept.{Kept, IsKept, state_view};
 
     ghost Value = { Kept };
 
-    ghost view = { λ a. record { state = state_view a.shape a.base a.base_length a.ends.items a.changes.items a.cursors.items a.stopped; slots = a.slots } };
+    ghost view = { λ a. record { state = state_view a.shape a.base a.base_length a.ends.items a.index.changes a.cursors.items a.stopped; slots = a.slots } };
 
-    ghost invariant = { λ a. IsKept a.shape a.slots a.base a.base_length a.ends.items a.changes.items a.cursors.items (vec_capacity a.changes) (vec_capacity a.ends) };
+    ghost invariant = { λ a. IsKept a.shape a.slots a.base a.base_length a.ends.items a.index.changes a.cursors.items a.index.room (vec_capacity a.ends)
+        × (a.index.blocks ≡ a.shape.blocks) };
 }
 
 /// The place of the cursor of a name.
@@ -109,6 +111,15 @@ fn mark_given(cursors: &mut [OpenCursor], place: usize, key: u64)
     cursors[place].last = Some(key);
 }
 
+/// How many changes each open cursor sees; 0 for those that aren't open.
+fn seen_counts(cursors: &[OpenCursor]) -> [usize; CURSORS] {
+    let mut counts = [0; CURSORS];
+    for (count, cursor) in counts.iter_mut().zip(cursors) {
+        *count = cursor.visible;
+    }
+    counts
+}
+
 /// Where the changes of the last commit end.
 fn last_end_of(base_length: usize, ends: &[usize]) -> usize
     ensures { result ≡ last_end base_length ends.now }
@@ -129,9 +140,7 @@ impl FirstState {
         ensures slots { IfOk result (λ kept. kept.slots ≡ slots) }
     {
         let room = slots as usize;
-        let Ok(changes) = Vec::with_capacity(alloc, CHANGES_PER_RECORD * room) else {
-            return Err(NoMemory);
-        };
+        let index = ChangeIndex::new(alloc, shape.blocks, CHANGES_PER_RECORD * room)?;
         let Ok(ends) = Vec::with_capacity(alloc, room) else {
             return Err(NoMemory);
         };
@@ -140,7 +149,7 @@ impl FirstState {
             slots,
             base: 0,
             base_length: 0,
-            changes,
+            index,
             ends,
             cursors: ArrayVec::new(),
             stopped: false,
@@ -161,7 +170,7 @@ impl FirstState {
         ensures own { changes_of result.now ≡ (session_of self.now.state 1).own }
         ensures few { record_bytes (changes_of result.now) ≤ 2000 }
     {
-        &self.changes[last_end_of(self.base_length, self.ends.as_slice())..]
+        &self.index.changes()[last_end_of(self.base_length, self.ends.as_slice())..]
     }
 
     /// Why an insert is refused, where it is.
@@ -186,7 +195,7 @@ impl FirstState {
         if value.len() > VALUE_BYTES {
             return Some(Refusal::ValueTooLong);
         }
-        if has_key(self.changes.as_slice(), table, key) {
+        if self.index.has_key(table, key) {
             return Some(Refusal::Duplicate);
         }
         if record_length(self.own()) + 11 + value.len() > RECORD_BYTES {
@@ -224,8 +233,8 @@ impl FirstState {
         ensures own { (session_of self.new.state 1).own ≡ (session_of self.old.state 1).own ++ change_of change ∷ [] }
         ensures slots { self.new.slots ≡ self.old.slots }
     {
-        let _ = self.changes.as_slice();
-        self.changes.push_reserved(change);
+        let kept = seen_counts(self.cursors.as_slice());
+        self.index.push(change, &kept);
     }
 
     /// Why a cursor isn't opened, where it isn't.
@@ -294,7 +303,7 @@ impl FirstState {
             lo,
             hi,
             number: self.number(),
-            visible: self.changes.as_slice().len(),
+            visible: self.index.changes().len(),
             last: None,
         };
         self.cursors.push(cursor);
@@ -327,8 +336,7 @@ impl FirstState {
             hi: cursor.hi,
             last: cursor.last,
         };
-        let seen = &self.changes.as_slice()[..cursor.visible];
-        let Some(next) = next_put(seen, self.shape.blocks, query) else {
+        let Some(next) = self.index.next(cursor.visible, query) else {
             return Ok(Fetched::End);
         };
         fill(row, next);
@@ -392,7 +400,7 @@ impl FirstState {
         ensures slots { self.new.slots ≡ self.old.slots }
     {
         let number = self.number() + 1;
-        let end = self.changes.as_slice().len();
+        let end = self.index.changes().len();
         let _ = self.ends.as_slice();
         self.ends.push_reserved(end);
         number
@@ -415,6 +423,6 @@ impl FirstState {
         ensures slots { self.new.slots ≡ self.old.slots }
     {
         self.base += 1;
-        self.base_length = self.changes.as_slice().len();
+        self.base_length = self.index.changes().len();
     }
 }

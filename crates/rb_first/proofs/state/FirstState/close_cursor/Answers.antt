@@ -8,10 +8,12 @@ use Rattle.rb_first.proofs.state.FirstState.close_cursor.Goals as goal
 
 pub invariant_of-self : goal.invariant_of-self
 invariant_of-self c =
-    let a = c.self.inside in
-    kept-cursors a.shape a.slots a.base a.base_length a.ends.items a.changes.items a.cursors.items c.remove.new.self.items _ _ c.self.invariant
-    (subst (AllByRecursion (IsOpened a.base a.base_length a.ends.items (length a.changes.items))) (sym c.remove.ensures.items)
-    (all-remove (IsOpened a.base a.base_length a.ends.items (length a.changes.items)) a.cursors.items c.in-Some.place c.self.invariant.each_cursor))
+    let a = c.self.inside in (
+      kept-cursors a.shape a.slots a.base a.base_length a.ends.items a.index.changes a.cursors.items c.remove.new.self.items _ _ c.self.invariant.0
+          (subst (AllByRecursion (IsOpened a.base a.base_length a.ends.items (length a.index.changes))) (sym c.remove.ensures.items)
+          (all-remove (IsOpened a.base a.base_length a.ends.items (length a.index.changes)) a.cursors.items c.in-Some.place c.self.invariant.0.each_cursor)),
+      c.self.invariant.1,
+    )
 
 pub returns-in_default-clause-answer : goal.returns-in_default-clause-answer
 returns-in_default-clause-answer c = λ room.

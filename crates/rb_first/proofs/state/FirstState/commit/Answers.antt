@@ -10,22 +10,24 @@ pub push_reserved-requires : goal.push_reserved-requires
 push_reserved-requires c =
     let a = c.self.inside in
     let n : length a.ends.items ≡ vec_len a.ends = ap length (sym c.as_slice.ensures.value) ∙ c.as_slice.ensures.len in
-    omega (arith, n, c.self.invariant.few_commits, c.self.invariant.room_for_ends)
+    omega (arith, n, c.self.invariant.0.few_commits, c.self.invariant.0.room_for_ends)
 
 pub invariant_of-self : goal.invariant_of-self
 invariant_of-self c =
     let a = c.self.inside in
     let full : a.base + length a.ends.items + 1 < a.slots =
     let l : last_number c.args.self.now.state.commits ≡ a.base + length a.ends.items =
-    ap (λ (k : Kept). last_number k.state.commits) (sym c.self.view_is) ∙ ap (λ n. a.base + n) (length-cut a.base_length a.ends.items a.changes.items) in
+    ap (λ (k : Kept). last_number k.state.commits) (sym c.self.view_is) ∙ ap (λ n. a.base + n) (length-cut a.base_length a.ends.items a.index.changes) in
     let s : c.args.self.now.slots ≡ a.slots = ap (λ (k : Kept). k.slots) (sym c.self.view_is) in
-    omega (arith, l, s, c.requires) in
-    kept-commit a.shape a.slots a.base a.base_length a.ends.items c.push_reserved.new.self.items a.changes.items a.cursors.items _ _ _ c.self.invariant
-    (c.push_reserved.ensures.items ∙ ap (λ n. a.ends.items ++ n ∷ []) (ap length c.as_slice-end.ensures.value)) full (omega (arith, c.push_reserved.ensures.capacity, c.self.invariant.room_for_ends))
+    omega (arith, l, s, c.requires) in (
+      kept-commit a.shape a.slots a.base a.base_length a.ends.items c.push_reserved.new.self.items a.index.changes a.cursors.items _ _ _ c.self.invariant.0
+          (c.push_reserved.ensures.items ∙ ap (λ n. a.ends.items ++ n ∷ []) (ap length c.changes-end.ensures)) full (omega (arith, c.push_reserved.ensures.capacity, c.self.invariant.0.room_for_ends)),
+      c.self.invariant.1,
+    )
 
 pub returns-clause-state : goal.returns-clause-state
 returns-clause-state c =
     let a = c.self.inside in
-    ap (λ es. state_view a.shape a.base a.base_length es a.changes.items a.cursors.items a.stopped) (c.push_reserved.ensures.items ∙ ap (λ n. a.ends.items ++ n ∷ []) (ap length c.as_slice-end.ensures.value))
-    ∙ view-commit a.shape a.base a.base_length a.ends.items a.changes.items a.cursors.items a.stopped c.self.invariant.each_cursor
+    ap (λ es. state_view a.shape a.base a.base_length es a.index.changes a.cursors.items a.stopped) (c.push_reserved.ensures.items ∙ ap (λ n. a.ends.items ++ n ∷ []) (ap length c.changes-end.ensures))
+    ∙ view-commit a.shape a.base a.base_length a.ends.items a.index.changes a.cursors.items a.stopped c.self.invariant.0.each_cursor
     ∙ ap (λ (k : Kept). committed k.state 1) c.self.view_is
