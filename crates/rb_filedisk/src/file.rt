@@ -23,11 +23,12 @@ impl<'a, R: Files> FileDisk<'a, R>
 where
     R::File: FileExt,
 {
-    ghost use Rattle.rb_filedisk.specs.FileDisk.{faults_of};
+    ghost use Rattle.rb_filedisk.specs.FileDisk.{faults_of, path_of};
 
     /// The file of this path, which its first call opens, and makes if it isn't there.
     pub fn at(runtime: &'a R, path: &'a str) -> Self
-        ensures { faults_of result ≡ 0 }
+        ensures path { path_of result ≡ path.now }
+        ensures faults { faults_of result ≡ 0 }
     {
         FileDisk {
             runtime,
