@@ -1,2 +1,3 @@
 pub mod DiskModel
 pub mod Moments
+pub mod Writes

@@ -1,7 +1,11 @@
 -- What a file disk is seen as.
-use Rattle.std.specs.Prelude.{ℕ}
+use Rattle.std.specs.Prelude.{ℕ, List}
 use Rattle.rb_filedisk.specs.declared.file.FileDisk.{FileDisk}
 
 -- how often it has failed
 abbrev pub faults_of : {R F D : Type 0} → FileDisk R F D → ℕ
 faults_of disk = disk.faults
+
+-- the bytes of its file's path
+abbrev pub path_of : {R F D : Type 0} → FileDisk R F D → List ℕ
+path_of disk = disk.path.now

@@ -23,11 +23,12 @@ impl<'a, R: Files> FileDisk<'a, R>
 where
     R::File: FileExt,
 {
-    ghost use Rattle.rb_filedisk.specs.FileDisk.{faults_of};
+    ghost use Rattle.rb_filedisk.specs.FileDisk.{faults_of, path_of};
 
     /// The file of this path, which its first call opens, and makes if it isn't there.
     pub fn at(runtime: &'a R, path: &'a str) -> Self
-        ensures { faults_of result ≡ 0 }
+        ensures path { path_of result ≡ path.now }
+        ensures faults { faults_of result ≡ 0 }
     {
         FileDisk {
             runtime,
@@ -102,6 +103,8 @@ impl<'a, R: Files> Disk for FileDisk<'a, R>
 where
     R::File: FileExt,
 {
+    ghost use Rattle.rb_filedisk.specs.FileDisk.{faults_of};
+
     ghost tells = { ⊥ };
 
     ghost content = { λ disk. [] };
@@ -120,26 +123,42 @@ where
 
     ghost only_now = { λ disk c told since. absurd told };
 
-    fn len(&mut self) -> Result<u64, Failed> {
+    fn len(&mut self) -> Result<u64, Failed>
+        ensures counted { IsCounted (faults_of self.old) (faults_of self.new) result }
+        ensures faulted { OnErr result (faults_of self.new ≡ min (faults_of self.old + 1) (2 ^ 64 - 1)) }
+        ensures no_fault { OnOk result (faults_of self.new ≡ faults_of self.old) }
+    {
         let answer = self.length();
         self.counted(answer)
     }
 
-    fn read_at(&mut self, at: u64, into: &mut [u8]) -> Result<(), Failed> {
+    fn read_at(&mut self, at: u64, into: &mut [u8]) -> Result<(), Failed>
+        ensures counted { IsCounted (faults_of self.old) (faults_of self.new) result }
+        ensures faulted { OnErr result (faults_of self.new ≡ min (faults_of self.old + 1) (2 ^ 64 - 1)) }
+        ensures no_fault { OnOk result (faults_of self.new ≡ faults_of self.old) }
+    {
         let answer = opened(self.runtime, self.path, &mut self.file).and_then(
             |file| file.read_exact_at(into, at),
         );
         self.counted(answer)
     }
 
-    fn write_at(&mut self, at: u64, bytes: &[u8]) -> Result<(), Failed> {
+    fn write_at(&mut self, at: u64, bytes: &[u8]) -> Result<(), Failed>
+        ensures counted { IsCounted (faults_of self.old) (faults_of self.new) result }
+        ensures faulted { OnErr result (faults_of self.new ≡ min (faults_of self.old + 1) (2 ^ 64 - 1)) }
+        ensures no_fault { OnOk result (faults_of self.new ≡ faults_of self.old) }
+    {
         let answer = opened(self.runtime, self.path, &mut self.file).and_then(
             |file| file.write_all_at(bytes, at),
         );
         self.counted(answer)
     }
 
-    fn sync(&mut self) -> Result<(), Failed> {
+    fn sync(&mut self) -> Result<(), Failed>
+        ensures counted { IsCounted (faults_of self.old) (faults_of self.new) result }
+        ensures faulted { OnErr result (faults_of self.new ≡ min (faults_of self.old + 1) (2 ^ 64 - 1)) }
+        ensures no_fault { OnOk result (faults_of self.new ≡ faults_of self.old) }
+    {
         let answer = self.flush();
         self.counted(answer)
     }

@@ -108,7 +108,8 @@ impl Layout {
     /// Writes what the file is into the first 24 bytes, and nothing else.
     pub fn put_identity(&self, into: &mut [u8])
         requires { 24 ≤ length into.old }
-        ensures { into.new ≡ identity VERSION self.now ++ drop 24 into.old }
+        ensures bytes { into.new ≡ identity VERSION self.now ++ drop 24 into.old }
+        ensures version { VERSION ≡ 101 }
     {
         into[..8].copy_from_slice(&MARK);
         put_u32(into, 8, VERSION);

@@ -21,10 +21,6 @@ part_below f g n k m same le = sym (drop-take k m f) ∙ ap (drop k) (take_below
 pub part_beyond : (f g : List ℕ) (n k m : ℕ) → drop n f ≡ drop n g → n ≤ k → part f k m ≡ part g k m
 part_beyond f g n k m same le = ap (take m) (drop_beyond f g n k same le)
 
--- nothing was written
-pub torn_none : (at count : ℕ) (f : List ℕ) → Torn at count f f
-torn_none at count f = record { before = refl; behind = refl; no_shorter = omega arith; no_longer = omega arith }
-
 -- a longer write, and one write behind another
 pub torn_wider : (at count more : ℕ) (f g : List ℕ) → Torn at count f g → Torn at (count + more) f g
 torn_wider at count more f g torn = record {

@@ -8,7 +8,8 @@ use Rattle.rb_memdisk.specs.declared.call.Call.{Call}
 use Rattle.rb_memdisk.specs.declared.call.Call.TheVariants.{Length, Read, Write, Sync}
 use Rattle.rb_memdisk.specs.declared.memory.MemDisk.{MemDisk}
 use Rattle.rb_memdisk.specs.Record.{read_after, left_after, read_after_all, left_after_all, fits_one, fits, images_after, IsIdle, IsUndone, MayLeave, MayLeaveSince}
-use Rattle.rb_memdisk.specs.Replays.{torn_same, GoesOn, read_goes_on, left_goes_on, fits_go_on, images_now, passes}
+use Rattle.rb_disk.specs.Writes.{none_is_torn}
+use Rattle.rb_memdisk.specs.Replays.{GoesOn, read_goes_on, left_goes_on, fits_go_on, images_now, passes}
 use Rattle.rb_memdisk.specs.MemDisk.{bytes_of, first_of, record_of, written_of, made, Leaves, LeavesSince, GoesOnBy}
 
 -- by a call that is recorded and brings these bytes
@@ -32,7 +33,7 @@ undone_images : (images : List ℕ → Type 0) (file : List ℕ) (call : Call) (
 undone_images images file Length c undone here = here
 undone_images images file Read c undone here = here
 undone_images images file (Write at count true) c undone here = absurd undone
-undone_images images file (Write at count false) c undone here = (c, here, torn_same at count c)
+undone_images images file (Write at count false) c undone here = (c, here, none_is_torn at count c)
 undone_images images file (Sync true) c undone here = absurd undone
 undone_images images file (Sync false) c undone here = here
 

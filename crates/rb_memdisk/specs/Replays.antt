@@ -1,29 +1,21 @@
 -- Laws of a record: what is read may always be left, the picked image may be left, and a record goes on.
-use Rattle.std.proofs.Common.{max, le-leb, get_or, ◌-◌, zero, suc, ◌≡◌, ◌⊎◌, ℕ, ◌+◌, ◌<◌, ◌≤◌, true, false, List, [], ◌∷◌, ◌++◌, length, take, drop, replicate, refl, sym, ◌∙◌, ap, subst, inl, inr, ⊎_elim, arith, rules, leb-true}
+use Rattle.std.proofs.Common.{max, le-leb, get_or, zero, suc, ◌≡◌, ◌⊎◌, ℕ, ◌+◌, ◌<◌, ◌≤◌, true, false, List, [], ◌∷◌, ◌++◌, length, take, replicate, refl, sym, ◌∙◌, ap, subst, inl, inr, ⊎_elim, arith, leb-true}
 use Rattle.std.specs.Prelude.{All}
-use Rattle.std.proofs.lemmas.List.{get_or-take, get_or-drop, places, same_lists, take-append-le, drop-append-le, length-append, length-replicate, length-take-le, take_all}
+use Rattle.std.proofs.lemmas.List.{places, take-append-le, drop-append-le, length-append, length-replicate, length-take-le, take_all}
 use Rattle.std.proofs.lemmas.List.Elements.{All-head, All-tail}
 use Rattle.std.proofs.lemmas.Bool.{and_parts, and_from, cases_lt}
 use Rattle.rb_base.specs.Fields.{overwritten}
 use Rattle.rb_disk.specs.DiskModel.{Torn, Passes}
+use Rattle.rb_disk.specs.Writes.{done_is_torn, none_is_torn, torn_stays}
 use Rattle.rb_memdisk.specs.declared.call.Call.{Call}
 use Rattle.rb_memdisk.specs.declared.call.Call.TheVariants.{Length, Read, Write, Sync}
 use Rattle.rb_memdisk.specs.declared.pick.Pick.{Pick}
 use Rattle.rb_memdisk.specs.declared.pick.Pick.TheVariants.{Old, New, Fill}
 use Rattle.rb_memdisk.specs.Record.{read_after, left_after, read_after_all, left_after_all, fits_one, fits, images_after, images_after_all, picked_after, picked_after_all, MayLeave, MayLeaveSince}
 
--- an untouched file may be a torn one
-pub torn_same : (at count : ℕ) (file : List ℕ) → Torn at count file file
-torn_same at count file = record { before = refl; behind = refl; no_shorter = omega arith; no_longer = omega arith }
-
--- so may one that was written
-pub torn_over : (at count : ℕ) (file bytes : List ℕ) → at ≤ length file → length bytes ≡ count → Torn at count file (overwritten file at bytes)
-torn_over at count file bytes begins size = record {
-  before = same_lists _ _ (search (rules, places)) (λ k d h. grind (arith, places));
-  behind = same_lists _ _ (search (rules, places)) (λ k d h. grind (arith, places));
-  no_shorter = grind (arith, places);
-  no_longer = grind (arith, places);
-}
+-- a file that was written, by a write of that many bytes, may be a torn one
+torn_over : (at count : ℕ) (file bytes : List ℕ) → at ≤ length file → length bytes ≡ count → Torn at count file (overwritten file at bytes)
+torn_over at count file bytes begins size = subst (λ (n : ℕ). Torn at n file (overwritten file at bytes)) size (done_is_torn at file bytes begins)
 
 -- what is read after a call may be left after it
 reads_one : (images : List ℕ → Type 0) (file : List ℕ) (call : Call) (written : List ℕ) → images file → fits_one file call written ≡ true
@@ -33,7 +25,7 @@ reads_one images file Read written here ok = here
 reads_one images file (Write at count true) written here ok =
     let both = and_parts _ _ ok in
     (file, here, torn_over at count file (take count written) (leb-true _ _ both.0) (length-take-le count written (leb-true _ _ both.1)))
-reads_one images file (Write at count false) written here ok = (file, here, torn_same at count file)
+reads_one images file (Write at count false) written here ok = (file, here, none_is_torn at count file)
 reads_one images file (Sync true) written here ok = refl
 reads_one images file (Sync false) written here ok = here
 
@@ -79,8 +71,8 @@ picked_one : (images : List ℕ → Type 0) (pick : Pick) (image file : List ℕ
 picked_one images New image file call written here reads covers ok = reads_one images file call written reads ok
 picked_one images Old image file Length written here reads covers ok = here
 picked_one images Old image file Read written here reads covers ok = here
-picked_one images Old image file (Write at count true) written here reads covers ok = (image, here, torn_same at count image)
-picked_one images Old image file (Write at count false) written here reads covers ok = (image, here, torn_same at count image)
+picked_one images Old image file (Write at count true) written here reads covers ok = (image, here, none_is_torn at count image)
+picked_one images Old image file (Write at count false) written here reads covers ok = (image, here, none_is_torn at count image)
 picked_one images Old image file (Sync true) written here reads covers ok = refl
 picked_one images Old image file (Sync false) written here reads covers ok = here
 picked_one images (Fill byte) image file Length written here reads covers ok = here
@@ -300,18 +292,10 @@ pub record HasAt (i byte : ℕ) (file : List ℕ) : Type 0 where
 
 -- a torn file has the same bytes outside the range
 pub torn_keeps : (i byte at count : ℕ) (old new : List ℕ) → (i < at) ⊎ (at + count ≤ i) → Torn at count old new → HasAt i byte old → HasAt i byte new
-torn_keeps i byte at count old new (inl before) torn has = record {
+torn_keeps i byte at count old new outside torn has = record {
   within = omega (arith, has.within, torn.no_shorter);
-  is = sym (get_or-take at new i 0 before) ∙ ap (λ l. get_or l i 0) torn.before ∙ get_or-take at old i 0 before ∙ has.is;
+  is = torn_stays i at count old new outside torn ∙ has.is;
 }
-torn_keeps i byte at count old new (inr behind) torn has =
-    let place : (at + count) + (i - (at + count)) ≡ i = omega (arith, behind) in
-    let there : (l : List ℕ) → get_or (drop (at + count) l) (i - (at + count)) 0 ≡ get_or l i 0 =
-    λ l. get_or-drop (at + count) l (i - (at + count)) 0 ∙ ap (λ j. get_or l j 0) place in
-    record {
-      within = omega (arith, has.within, torn.no_shorter);
-      is = sym (there new) ∙ ap (λ l. get_or l (i - (at + count)) 0) torn.behind ∙ there old ∙ has.is;
-    }
 
 read_keeps : (i byte : ℕ) (file : List ℕ) (call : Call) (written : List ℕ) → IsUnreached i call → fits_one file call written ≡ true → HasAt i byte file → HasAt i byte (read_after file call written)
 read_keeps i byte file Length written out ok has = has

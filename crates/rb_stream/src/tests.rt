@@ -1,6 +1,7 @@
-//! Each stream on its happy path, failing calls, and a sink past its room.
+//! Each stream on its happy path, failing calls, a sink past its room, and streams of std that are interrupted.
 use super::*;
 use rb_base::{Failed, NoMemory};
+use std::io::{self, ErrorKind, Read, Write};
 
 #[test]
 fn source_in_memory(rt: HostRuntime) -> Result<(), NoMemory> {
@@ -49,4 +50,63 @@ fn sink_of_std(rt: HostRuntime) {
     assert_eq!(rt; sink.put(b"ab"), Ok(()));
     assert_eq!(rt; sink.put(b"c"), Ok(()));
     assert_eq!(rt; held.as_slice(), b"abc".as_slice());
+}
+
+// A reader that is interrupted at its first call, gives a byte at the second, and fails then.
+#[derive(Drop)]
+struct Shaky {
+    reads: u32,
+}
+
+impl Read for Shaky {
+    fn read(&mut self, into: &mut [u8]) -> io::Result<usize> {
+        self.reads = self.reads.saturating_add(1);
+        if self.reads == 1 {
+            return Err(io::Error::from(ErrorKind::Interrupted));
+        }
+        if self.reads > 2 || into.is_empty() {
+            return Err(io::Error::from(ErrorKind::NotFound));
+        }
+        into[0] = b'a';
+        Ok(1)
+    }
+}
+
+#[test]
+fn interrupted_source_of_std(rt: HostRuntime) {
+    let mut source = StdSource::new(Shaky { reads: 0 });
+    let mut into = [0; 2];
+    assert_eq!(rt; source.take(&mut into), Ok(1));
+    assert_eq!(rt; into, *b"a\0");
+    assert_eq!(rt; source.take(&mut into), Err(Failed));
+}
+
+// A writer whose flush is interrupted at its first call, succeeds at the second, and fails then.
+#[derive(Drop)]
+struct Held {
+    flushes: u32,
+}
+
+impl Write for Held {
+    fn write(&mut self, bytes: &[u8]) -> io::Result<usize> {
+        Ok(bytes.len())
+    }
+
+    fn flush(&mut self) -> io::Result<()> {
+        self.flushes = self.flushes.saturating_add(1);
+        match self.flushes {
+            1 => Err(io::Error::from(ErrorKind::Interrupted)),
+            2 => Ok(()),
+            _ => Err(io::Error::from(ErrorKind::NotFound)),
+        }
+    }
+}
+
+#[test]
+fn each_put_of_std_is_flushed(rt: HostRuntime) {
+    let mut writer = Held { flushes: 0 };
+    let mut sink = StdSink::new(&mut writer);
+    assert_eq!(rt; sink.put(b"a"), Ok(()));
+    assert_eq!(rt; sink.put(b"b"), Err(Failed));
+    assert_eq!(rt; writer.flushes, 3);
 }

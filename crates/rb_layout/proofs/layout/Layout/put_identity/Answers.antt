@@ -3,8 +3,8 @@ use Rattle.byteorder.specs.Endian.{big_bytes}
 use Rattle.rb_layout.proofs.Fields.{put_next}
 use Rattle.rb_layout.proofs.layout.Layout.put_identity.Goals as goal
 
-pub returns : goal.returns
-returns c =
+pub returns-clause-bytes : goal.returns-clause-bytes
+returns-clause-bytes c =
     let mark = codes "RBS7FILE" in
     let l = c.args.self.now in
     let a = c.args.into.now in
