@@ -14,8 +14,9 @@ pub struct FileDisk<'a, R: Files> {
     runtime: &'a R,
     path: &'a str,
     file: Option<R::File>,
-    // The length at the last sync, if there was one.
+    // The length at the last sync, if there was one, and where the furthest write ended.
     synced: Option<u64>,
+    written: u64,
     faults: u64,
 }
 
@@ -35,6 +36,7 @@ where
             path,
             file: None,
             synced: None,
+            written: 0,
             faults: 0,
         }
     }
@@ -64,14 +66,17 @@ where
         )
     }
 
+    // Where nothing was written past the length of the last sync, the file's data is all that there is to sync.
     fn flush(&mut self) -> io::Result<()>
         ensures { faults_of self.new ≡ faults_of self.old }
     {
         let file = opened(self.runtime, self.path, &mut self.file)?;
-        let len = file.metadata()?.len();
-        if self.synced == Some(len) {
+        if let Some(len) = self.synced
+            && self.written <= len
+        {
             return file.sync_data();
         }
+        let len = file.metadata()?.len();
         file.sync_all()?;
         self.synced = Some(len);
         Ok(())
@@ -148,6 +153,8 @@ where
         ensures faulted { OnErr result (faults_of self.new ≡ min (faults_of self.old + 1) (2 ^ 64 - 1)) }
         ensures no_fault { OnOk result (faults_of self.new ≡ faults_of self.old) }
     {
+        let end = at.saturating_add(bytes.len() as u64);
+        self.written = self.written.max(end);
         let answer = opened(self.runtime, self.path, &mut self.file).and_then(
             |file| file.write_all_at(bytes, at),
         );
