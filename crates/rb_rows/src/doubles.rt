@@ -57,6 +57,20 @@ fn split(alloc: Global, line: &str) -> Result<Vec<String>, AllocError> {
     Ok(words)
 }
 
+fn run_on(
+    alloc: Global,
+    line: &str,
+    script: &[u8],
+    failing: Failing<'_>,
+    disk: MemDisk,
+) -> Result<Ended, NoMemory> {
+    let words = split(alloc, line).map_err(|_| NoMemory)?;
+    let mut source = MemSource::new(alloc, script, failing.source)?;
+    let mut sink = MemSink::new(alloc, SINK_ROOM, failing.sink)?;
+    let (status, disk) = run(alloc, &words, &mut source, &mut sink, disk);
+    Ok(Ended { status, sink, disk })
+}
+
 /// Runs a line over a file of these bytes, with a script.
 pub fn run_over(
     alloc: Global,
@@ -65,13 +79,21 @@ pub fn run_over(
     script: &[u8],
     failing: Failing<'_>,
 ) -> Result<Ended, NoMemory> {
-    let words = split(alloc, line).map_err(|_| NoMemory)?;
-    let mut source = MemSource::new(alloc, script, failing.source)?;
-    let mut sink = MemSink::new(alloc, SINK_ROOM, failing.sink)?;
     let room = file.len() as u64 + SCRIPT_ROOM;
     let disk = MemDisk::new(alloc, file, room, CALLS, failing.disk)?;
-    let (status, disk) = run(alloc, &words, &mut source, &mut sink, disk);
-    Ok(Ended { status, sink, disk })
+    run_on(alloc, line, script, failing, disk)
+}
+
+/// Runs a script over a file of these bytes up to a call of the disk: all behind it fail, and aren't recorded.
+pub fn run_stopped(
+    alloc: Global,
+    file: &[u8],
+    script: &[u8],
+    call: u64,
+) -> Result<Ended, NoMemory> {
+    let room = file.len() as u64 + SCRIPT_ROOM;
+    let disk = MemDisk::new(alloc, file, room, call as usize, &[])?;
+    run_on(alloc, RUN, script, NONE, disk)
 }
 
 /// The file that a `format` line makes.

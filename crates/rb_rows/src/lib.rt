@@ -3,6 +3,12 @@
 #![tactic(auto)]
 
 #[cfg(test)]
+mod commits;
+#[cfg(test)]
 mod doubles;
+#[cfg(test)]
+mod failures;
+#[cfg(test)]
+mod stops;
 #[cfg(test)]
 mod tests;

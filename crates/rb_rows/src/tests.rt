@@ -1,4 +1,5 @@
 //! The worked rows. What is expected stands in the rows, and is no output of the program.
+use crate::commits::image;
 use crate::doubles::{Ended, FORMAT_LARGE, FORMAT_SMALL, Failing, NONE, RUN, formatted, run_over};
 use rb_base::NoMemory;
 use rb_first::FirstEngine;
@@ -495,35 +496,7 @@ fn rows_of(alloc: Global, file: &[u8]) -> Result<Vec<u8>, NoMemory> {
     end.sink.bytes().to_vec(alloc).map_err(|_| NoMemory)
 }
 
-// The last five calls are those of the commit: the record, the gate behind it, a sync, its gate, a sync.
-#[test]
-fn each_disk_call_fails(rt: HostRuntime) -> Result<(), Fail> {
-    let file = formatted(rt.alloc(), FORMAT_SMALL)?;
-    let good = committed(rt.alloc(), &file, NONE)?;
-    assert_eq!(rt; good.status.code(), 0);
-    assert_eq!(rt;
-        good.sink.bytes(),
-        b"1 ok\n1 committed 1\n1 ok\n".as_slice()
-    );
-    let opening = good.disk.calls().saturating_sub(5);
-    assert_ne!(rt; opening, 0);
-    for call in 1..=good.disk.calls() {
-        let failing = Failing {
-            disk: &[call],
-            ..NONE
-        };
-        let end = committed(rt.alloc(), &file, failing)?;
-        let replies: &[u8] = if call <= opening {
-            b""
-        } else {
-            b"1 ok\n1 disk fault\n"
-        };
-        assert_eq!(rt; end.status.code(), 3, "{call}");
-        assert_eq!(rt; end.sink.bytes(), replies, "{call}");
-    }
-    Ok(())
-}
-
+// The last five calls of a run of one commit are the record, the gate behind it, a sync, its gate and a sync.
 // The first sync of the commit fails, and no row is found.
 #[test]
 fn failed_sync(rt: HostRuntime) -> Result<(), Fail> {
@@ -549,13 +522,6 @@ fn failed_sync(rt: HostRuntime) -> Result<(), Fail> {
     Ok(())
 }
 
-fn image(alloc: Global, disk: &MemDisk, k: u64, pick: Pick) -> Result<Vec<u8>, NoMemory> {
-    if k > disk.calls() {
-        return Err(NoMemory);
-    }
-    disk.image(alloc, k, pick)
-}
-
 // A stop between the write of the record's gate and its sync.
 #[test]
 fn gate_images(rt: HostRuntime) -> Result<(), Fail> {
@@ -572,28 +538,6 @@ fn gate_images(rt: HostRuntime) -> Result<(), Fail> {
         let stopped = image(rt.alloc(), &good.disk, before_sync, pick)?;
         let found = rows_of(rt.alloc(), &stopped)?;
         assert_eq!(rt; found.as_slice(), replies);
-    }
-    Ok(())
-}
-
-// A call of the source or of the sink fails.
-#[test]
-fn failing_streams(rt: HostRuntime) -> Result<(), Fail> {
-    let rows: [(&[u64], &[u64], u8, &[u8]); 3] = [
-        (&[1], &[], 2, b""),
-        (&[], &[1], 4, b""),
-        (&[], &[2], 4, b"1 ok\n"),
-    ];
-    let file = formatted(rt.alloc(), FORMAT_SMALL)?;
-    for (source, sink, code, replies) in rows {
-        let failing = Failing {
-            source,
-            sink,
-            disk: &[],
-        };
-        let end = committed(rt.alloc(), &file, failing)?;
-        assert_eq!(rt; end.status.code(), code);
-        assert_eq!(rt; end.sink.bytes(), replies);
     }
     Ok(())
 }

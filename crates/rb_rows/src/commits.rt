@@ -1,0 +1,153 @@
+//! Five commits, and what a second run shows of them. The tables of stops and of failures run them.
+use crate::doubles::{NONE, RUN, run_over};
+use rb_base::NoMemory;
+use rb_memdisk::{MemDisk, Pick};
+use rb_shell::Status;
+use std::alloc::Global;
+use std::process::Abort;
+
+// How many commits there are.
+const COMMITS: u8 = 5;
+
+// The inserts in the order of their lines: the number of their commit, the key and the value.
+const INSERTS: [(u8, u64, &str); 13] = [
+    (1, 30, "thirty"),
+    (1, 10, "ten"),
+    (1, 20, "twenty"),
+    (2, 5, "five"),
+    (2, 25, LONG),
+    (3, 98, "x"),
+    (3, 0, "nought"),
+    (3, 40, "forty"),
+    (4, 26, "~"),
+    (4, 24, "!"),
+    (5, 60, LONG),
+    (5, 62, "#"),
+    (5, 61, "commit"),
+];
+
+// As long as a value may be.
+const LONG: &str =
+    "vvvvvvvvvvvvvvvvvvvvvvvvvvvvvvvvvvvvvvvvvvvvvvvvvvvvvvvvvvvvvvvvvvvvvvvvvvvvvvvv";
+
+// Shows the rows, and goes on with one more commit.
+const SECOND: &[u8] = b"\
+open 1 c 1 0 99
+fetch 1 c 99
+insert 1 1 99 z
+commit 1
+";
+
+/// What a crash may leave, as it is picked in the tables: 1 is the byte that opens a gate.
+pub const PICKS: [Pick; 4] = [Pick::Old, Pick::New, Pick::Fill(1), Pick::Fill(0x7f)];
+
+fn add_inserts(script: &mut String, replies: &mut String, number: u8) -> Result<(), NoMemory> {
+    for (commit, key, value) in INSERTS {
+        if commit == number {
+            write!(script, "insert 1 1 {key} {value}\n").map_err(|_| NoMemory)?;
+            replies.push_str("1 ok\n").map_err(|_| NoMemory)?;
+        }
+    }
+    Ok(())
+}
+
+/// The script of the commits, and its replies where no call fails. Each line has one.
+pub fn script_and_replies(alloc: Global) -> Result<(String, String), NoMemory> {
+    let mut script = String::new(alloc);
+    let mut replies = String::new(alloc);
+    for number in 1..=COMMITS {
+        add_inserts(&mut script, &mut replies, number)?;
+        script.push_str("commit 1\n").map_err(|_| NoMemory)?;
+        write!(replies, "1 committed {number}\n").map_err(|_| NoMemory)?;
+    }
+    Ok((script, replies))
+}
+
+/// How many commits the replies answer.
+pub fn answered(replies: &[u8]) -> usize {
+    replies
+        .split(|byte| *byte == b'\n')
+        .filter(|line| line.starts_with(b"1 committed "))
+        .count()
+}
+
+// The value of a key after so many commits.
+fn value_of(commits: u8, key: u64) -> Option<&'static str> {
+    for (commit, at, value) in INSERTS {
+        if commit <= commits && at == key {
+            return Some(value);
+        }
+    }
+    None
+}
+
+// What the second run answers after so many commits.
+fn second_replies(alloc: Global, commits: u8) -> Result<String, NoMemory> {
+    let mut replies = String::from_str(alloc, "1 ok\n").map_err(|_| NoMemory)?;
+    for key in 0..=99 {
+        if let Some(value) = value_of(commits, key) {
+            write!(replies, "1 row {key} {value}\n").map_err(|_| NoMemory)?;
+        }
+    }
+    let next = u64::from(commits) + 1;
+    write!(replies, "1 end\n1 ok\n1 committed {next}\n").map_err(|_| NoMemory)?;
+    Ok(replies)
+}
+
+/// How many of the commits a file shows to a second run. None where that answers otherwise than after one of them.
+pub fn shown(alloc: Global, file: &[u8]) -> Result<Option<u8>, NoMemory> {
+    let end = run_over(alloc, RUN, file, SECOND, NONE)?;
+    if end.status != Status::Done {
+        return Ok(None);
+    }
+    for commits in 0..=COMMITS {
+        let replies = second_replies(alloc, commits)?;
+        if end.sink.bytes() == replies.as_bytes() {
+            return Ok(Some(commits));
+        }
+    }
+    Ok(None)
+}
+
+// Whether a file shows what it owes: each commit that was answered, and at most the one under way besides.
+fn is_kept(shown: Option<u8>, answered: usize) -> bool {
+    match shown {
+        Some(commits) => {
+            let commits = usize::from(commits);
+            answered <= commits && commits - answered <= 1
+        }
+        None => false,
+    }
+}
+
+/// An image after a call that the disk made, picked so.
+pub fn image(alloc: Global, disk: &MemDisk, k: u64, pick: Pick) -> Result<Vec<u8>, NoMemory> {
+    if k > disk.calls() {
+        return Err(NoMemory);
+    }
+    disk.image(alloc, k, pick)
+}
+
+/// Checks what a run leaves: what its disk reads as, and each pick of what a crash after its last call may leave.
+pub fn check_left(
+    rt: &impl Abort,
+    alloc: Global,
+    disk: &MemDisk,
+    answered: usize,
+) -> Result<(), NoMemory> {
+    let calls = disk.calls();
+    let found = shown(alloc, disk.bytes())?;
+    assert!(rt;
+        is_kept(found, answered),
+        "call {calls}: {found:?} of {answered}"
+    );
+    for pick in PICKS {
+        let left = image(alloc, disk, calls, pick)?;
+        let found = shown(alloc, &left)?;
+        assert!(rt;
+            is_kept(found, answered),
+            "call {calls}, {pick:?}: {found:?} of {answered}"
+        );
+    }
+    Ok(())
+}
