@@ -42,9 +42,6 @@ fn check_second_stops(rt: &impl Abort, alloc: Global, disk: &MemDisk) -> Result<
     Ok(())
 }
 
-// A second stop is tried where so many commits are answered: in the third one.
-const ANSWERED: usize = 2;
-
 fn check_stop(
     rt: &impl Abort,
     alloc: Global,
@@ -56,10 +53,7 @@ fn check_stop(
     let answered = answered(stopped.sink.bytes());
     assert_eq!(rt; stopped.disk.calls(), call);
     check_left(rt, alloc, &stopped.disk, answered)?;
-    if answered == ANSWERED {
-        check_second_stops(rt, alloc, &stopped.disk)?;
-    }
-    Ok(())
+    check_second_stops(rt, alloc, &stopped.disk)
 }
 
 fn check_stops(rt: &impl Abort, alloc: Global, file: &[u8]) -> Result<(), NoMemory> {

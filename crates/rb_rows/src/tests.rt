@@ -3,8 +3,11 @@ use crate::commits::image;
 use crate::doubles::{Ended, FORMAT_LARGE, FORMAT_SMALL, Failing, NONE, RUN, formatted, run_over};
 use rb_base::NoMemory;
 use rb_first::FirstEngine;
+use rb_layout::{Head, Layout};
+use rb_log::Log;
 use rb_memdisk::{MemDisk, Pick};
 use rb_model::{Refusal, Wrote};
+use rb_stream::{MemSink, MemSource};
 use std::alloc::Global;
 use std::test::Fail;
 
@@ -497,6 +500,28 @@ fn rows_of(alloc: Global, file: &[u8]) -> Result<Vec<u8>, NoMemory> {
 }
 
 // The last five calls of a run of one commit are the record, the gate behind it, a sync, its gate and a sync.
+// Each call that may answer want of memory answers Ok where there is enough.
+#[test]
+fn constructors(rt: HostRuntime) -> Result<(), Fail> {
+    let file = formatted(rt.alloc(), FORMAT_SMALL)?;
+    let room = file.len() as u64;
+    let mut disk = MemDisk::new(rt.alloc(), &file, room, 100, &[])?;
+    let same = image(rt.alloc(), &disk, 0, Pick::New)?;
+    assert_eq!(rt; same.as_slice(), file.as_slice());
+    let source = MemSource::new(rt.alloc(), b"commit 1\n", &[]);
+    assert!(rt; source.is_ok());
+    let sink = MemSink::new(rt.alloc(), 100, &[])?;
+    assert!(rt; sink.bytes().is_empty());
+    let Some(layout) = Layout::new(1, 1, 1, 64) else {
+        return Err(Fail::new("no layout"));
+    };
+    let head = Head { slot: 0, number: 1 };
+    let log = Log::open(rt.alloc(), &mut disk, &layout, head);
+    assert!(rt; log.is_ok());
+    assert!(rt; FirstEngine::open(rt.alloc(), disk).is_ok());
+    Ok(())
+}
+
 // The first sync of the commit fails, and no row is found.
 #[test]
 fn failed_sync(rt: HostRuntime) -> Result<(), Fail> {
