@@ -4,13 +4,10 @@ use Rattle.std.proofs.lemmas.List.{take_all, drop_at, take-append-le, drop-appen
 use Rattle.std.proofs.lemmas.List.Sums.{sum_by_push}
 use Rattle.std.specs.List.{AllByRecursion}
 use Rattle.rb_base.specs.Fields.{part}
+use Rattle.rb_base.proofs.Counted.{all_push}
 use Rattle.rb_base.specs.Groups.{Patch, patch, patch_length, group_length, IsPatch, IsGroup}
 use Rattle.rb_base.specs.Heads.{patch_of, patches_of, IsWithin, IsKept}
 use Rattle.rb_base.specs.declared.group.Head.{Head}
-
-pub all_push : {X : Type 0} (P : X → Type 0) (xs : List X) (x : X) → AllByRecursion P xs → P x → AllByRecursion P (xs ++ x ∷ [])
-all_push P [] x h p = (p, tt)
-all_push P (y ∷ ys) x h p = (h.0, all_push P ys x h.1 p)
 
 -- each patch's bytes stay where they are
 part_stays : (bytes more : List ℕ) (at count : ℕ) → at + count ≤ length bytes → part (bytes ++ more) at count ≡ part bytes at count
