@@ -2,7 +2,8 @@
 -- of one has come.
 use Rattle.std.proofs.Common.{◌≡◌, ◌≢◌, ℕ, ◌+◌, ◌^◌, ◌<◌, ◌≤◌, List, [], ◌∷◌, ◌++◌, length, refl, arith, ap, sym, ◌∙◌, append_assoc, append-nil}
 use Rattle.std.proofs.lemmas.List.{length-append, nil_from_length, flat_map_more}
-use Rattle.std.specs.List.{flat_map, AllByRecursion}
+use Rattle.std.proofs.lemmas.List.Sums.{sum_by-cons}
+use Rattle.std.specs.List.{flat_map, sum_by, AllByRecursion}
 use Rattle.byteorder.specs.Endian.{big_bytes}
 use Rattle.rb_base.proofs.Fronts.{number_apart}
 
@@ -13,6 +14,16 @@ Apart {X} spell Is = (a b : X) (s t : List ℕ) → Is a → Is b → spell a ++
 -- how many there are, in two bytes, and then each of them
 abbrev pub counted : {X : Type 0} → (X → List ℕ) → List X → List ℕ
 counted spell xs = big_bytes 2 (length xs) ++ flat_map spell xs
+
+-- the lengths of spellings one behind another
+pub length_spelled : {X : Type 0} (spell : X → List ℕ) (size : X → ℕ) → ((x : X) → length (spell x) ≡ size x) → (xs : List X) → length (flat_map spell xs) ≡ sum_by size xs
+length_spelled spell size is [] = refl
+length_spelled spell size is (x ∷ xs) =
+    let e = is x in
+    let f = length_spelled spell size is xs in
+    let l = length-append (spell x) (flat_map spell xs) in
+    let s = sum_by-cons size x xs in
+    omega (arith, e, f, l, s)
 
 pub all_push : {X : Type 0} (P : X → Type 0) (xs : List X) (x : X) → AllByRecursion P xs → P x → AllByRecursion P (xs ++ x ∷ [])
 all_push P [] x h p = (p, tt)

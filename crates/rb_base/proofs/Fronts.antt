@@ -1,7 +1,7 @@
 -- The number at the front of bytes, read and spelled again.
-use Rattle.std.proofs.Common.{◌≡◌, ℕ, ◌+◌, ◌^◌, ◌<◌, ◌≤◌, List, ◌++◌, length, take, drop, arith, ap, sym, ◌∙◌, get_or, inl, inr}
+use Rattle.std.proofs.Common.{◌≡◌, ℕ, ◌+◌, ◌^◌, ◌<◌, ◌≤◌, List, ◌++◌, length, take, drop, refl, arith, ap, sym, ◌∙◌, get_or, inl, inr}
 use Rattle.std.proofs.lemmas.Bool.{cases_lt}
-use Rattle.std.proofs.lemmas.List.{length-take-le, take-append-drop, get_or_append_left, get_or_past, get_or-drop, drop_at}
+use Rattle.std.proofs.lemmas.List.{length-take-le, take-append-drop, get_or_append_left, get_or_past, get_or-drop, take_at, drop_at}
 use Rattle.std.proofs.lemmas.Nat.{be_bytes_2, be_bytes_4, be_bytes_8}
 use Rattle.byteorder.specs.Endian.{big_bytes, big_number, big_from}
 use Rattle.byteorder.specs.Numbers.{big_from-take, big_number-reads_back, length-bytes_high_first}
@@ -52,4 +52,11 @@ pub number_apart : (n x y : ℕ) (s t : List ℕ) → x < 256 ^ n → y < 256 ^ 
 number_apart n x y s t x_fits y_fits e = (
   sym (big_number-reads_back n x s x_fits) ∙ ap (big_from 0 n) e ∙ big_number-reads_back n y t y_fits,
   sym (drop_at (big_bytes n x) s n (length-bytes_high_first n x)) ∙ ap (drop n) e ∙ drop_at (big_bytes n y) t n (length-bytes_high_first n y),
+)
+
+-- as many bytes in front of each of two equal lists are the same bytes
+pub part_apart : (v w s t : List ℕ) → length v ≡ length w → v ++ s ≡ w ++ t → (v ≡ w) × (s ≡ t)
+part_apart v w s t long e = (
+  sym (take_at v s (length v) refl) ∙ ap (take (length v)) e ∙ take_at w t (length v) (sym long),
+  sym (drop_at v s (length v) refl) ∙ ap (drop (length v)) e ∙ drop_at w t (length v) (sym long),
 )
