@@ -1,1 +1,5 @@
+pub mod Counted
 pub mod Decimals
+pub mod Fronts
+pub mod Groups
+pub mod Written

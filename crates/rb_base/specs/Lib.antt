@@ -1,2 +1,4 @@
 pub mod Counts
 pub mod Fields
+pub mod Groups
+pub mod Heads

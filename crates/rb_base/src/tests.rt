@@ -33,3 +33,37 @@ fn fields(rt: HostRuntime) {
     assert_eq!(rt; u32_at(&bytes, 3), 0x0304_0506);
     assert_eq!(rt; u64_at(&bytes, 7), 0x0708_090a_0b0c_0d0e);
 }
+
+#[test]
+fn one_group(rt: HostRuntime) {
+    let mut group = Group::new();
+    assert_eq!(rt; group.patches(), 0);
+    group.push(7, 32, b"ab");
+    group.push(u32::MAX, 2047, b"c");
+    assert_eq!(rt; group.patches(), 2);
+    assert_eq!(rt; group.patch_block(0), 7);
+    assert_eq!(rt; group.patch_at(0), 32);
+    assert_eq!(rt; group.patch_bytes(0), b"ab".as_slice());
+    assert_eq!(rt; group.patch_block(1), u32::MAX);
+    assert_eq!(rt; group.patch_at(1), 2047);
+    assert_eq!(rt; group.patch_bytes(1), b"c".as_slice());
+}
+
+#[test]
+fn room_of_a_group(rt: HostRuntime) {
+    let mut many = Group::new();
+    for at in 32..72 {
+        assert!(rt; many.fits(1));
+        many.push(0, at, b"a");
+    }
+    assert!(rt; !many.fits(0));
+    let mut long = Group::new();
+    assert!(rt; long.fits(1990));
+    assert!(rt; !long.fits(1991));
+    assert!(rt; !long.fits(usize::MAX));
+    long.push(0, 58, &[1; 1981]);
+    assert!(rt; long.fits(1));
+    assert!(rt; !long.fits(2));
+    long.push(0, 57, b"a");
+    assert!(rt; !long.fits(0));
+}

@@ -1,0 +1,81 @@
+//! Reads the bytes of a group. The next stage's log will call it.
+ghost use Rattle.std.specs.Prelude.{◌≡◌, ◌≢◌, ℕ, List, [], ◌++◌, length, IfSome, IfNone};
+ghost use Rattle.rb_base.specs.Groups.{Patch, patch, group_length, IsPatch, IsGroup};
+ghost use Rattle.rb_group.specs.Spelling.{patch_bytes, group_bytes, Spells};
+
+use rb_base::{BlockNo, Group, UNIT, u16_at, u32_at};
+
+/// The most bytes of a group.
+const GROUP_BYTES: usize = 2000;
+
+/// The most patches of a group.
+const PATCHES: u16 = 40;
+
+/// The bytes of a patch in front of those that it writes: the block, the offset and the length.
+const PATCH_BYTES: usize = 8;
+
+/// The bytes at the front of a block that no patch writes.
+const BLOCK_HEAD: u16 = 32;
+
+/// A patch as it lies in the bytes that are read.
+#[derive(Drop)]
+struct Found<'a> {
+    block: BlockNo,
+    at: u16,
+    bytes: &'a [u8],
+}
+
+/// The patch at the front of the bytes, and the bytes behind it.
+fn read_patch(bytes: &[u8]) -> Option<(Found<'_>, &[u8])>
+    ensures valid { IfSome result (λ parts. IsPatch (patch parts.0.block parts.0.at parts.0.bytes.now)) }
+    ensures found { IfSome result (λ parts. bytes.now ≡ patch_bytes (patch parts.0.block parts.0.at parts.0.bytes.now) ++ parts.1.now) }
+    ensures none { IfNone result ((p : Patch) (rest : List ℕ) → IsPatch p → bytes.now ≢ patch_bytes p ++ rest) }
+{
+    if bytes.len() < PATCH_BYTES {
+        return None;
+    }
+    let at = u16_at(bytes, 4);
+    let length = u16_at(bytes, 6) as usize;
+    let behind = &bytes[PATCH_BYTES..];
+    if length < 1 || at < BLOCK_HEAD || at as usize + length > UNIT || behind.len() < length {
+        return None;
+    }
+    let (own, rest) = behind.split_at(length);
+    let found = Found {
+        block: u32_at(bytes, 0),
+        at,
+        bytes: own,
+    };
+    Some((found, rest))
+}
+
+/// The group whose spelling the bytes are. None exactly where they are the spelling of none.
+pub fn decode(bytes: &[u8]) -> Option<Group>
+    ensures found { IfSome result (Spells bytes.now) }
+    ensures none { IfNone result ((patches : List Patch) → Spells bytes.now patches → ⊥) }
+{
+    if bytes.len() < 2 || bytes.len() > GROUP_BYTES {
+        return None;
+    }
+    let count = u16_at(bytes, 0);
+    if count < 1 || count > PATCHES {
+        return None;
+    }
+    let mut group = Group::new();
+    let mut rest = &bytes[2..];
+    for _ in 0..count {
+        let Some((patch, behind)) = read_patch(rest) else {
+            return None;
+        };
+        group.push(patch.block, patch.at, patch.bytes);
+        rest = behind;
+    }
+    if rest.is_empty() { Some(group) } else { None }
+}
+
+/// No two groups have one spelling, and none is the front of another's. A spelling has as many bytes as its length says.
+pub fn one_spelling()
+    ensures same { (patches others : List Patch) → IsGroup patches → IsGroup others → group_bytes patches ≡ group_bytes others → patches ≡ others }
+    ensures prefix { (patches others : List Patch) (rest : List ℕ) → IsGroup patches → IsGroup others → group_bytes patches ++ rest ≡ group_bytes others → rest ≡ [] }
+    ensures length { (patches : List Patch) → length (group_bytes patches) ≡ group_length patches }
+{}
