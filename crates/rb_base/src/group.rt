@@ -78,8 +78,8 @@ impl Group {
             && len <= GROUP_BYTES - HEAD_BYTES - used
     }
 
-    /// Puts one more patch at the end: these bytes go into a block from its byte `at` on. They are behind the block's
-    /// first 32 bytes, and within its 2,048.
+    /// Puts one more patch at the end, which has room (`fits`): these bytes, one at least, go into a block from its byte
+    /// `at` on, behind the block's first 32 bytes and within its 2,048.
     pub fn push(&mut self, block: BlockNo, at: u16, bytes: &[u8])
         requires count { length self.old < 40 }
         requires room { group_length self.old + (8 + length bytes.now) ≤ 2000 }

@@ -1,48 +1,15 @@
 -- What the bytes at the front of a record say, and how far its reader has come.
-use Rattle.std.proofs.Common.{◌≡◌, ◌≢◌, ℕ, ◌+◌, ◌^◌, ◌<◌, ◌≤◌, List, [], ◌∷◌, ◌++◌, length, take, drop, refl, arith, ap, sym, ◌∙◌, append_assoc, get_or, inl, inr}
-use Rattle.std.proofs.lemmas.Bool.{cases_lt}
-use Rattle.std.proofs.lemmas.List.{length-append, length-drop, length-take-le, take-append-drop, get_or_append_left, get_or_past, get_or-drop, drop-drop, drop_more, flat_map_more}
-use Rattle.std.proofs.lemmas.Nat.{be_bytes_2, be_bytes_8}
-use Rattle.std.specs.List.{flat_map, AllByRecursion}
-use Rattle.byteorder.specs.Endian.{big_bytes, big_number}
-use Rattle.byteorder.specs.Numbers.{big_from-take}
+use Rattle.std.proofs.Common.{◌≡◌, ◌≢◌, ℕ, ◌+◌, ◌^◌, ◌<◌, ◌≤◌, List, [], ◌∷◌, ◌++◌, length, take, drop, arith, ap, sym, ◌∙◌, get_or}
+use Rattle.std.proofs.lemmas.List.{length-append, length-drop, length-take-le, take-append-drop, drop-drop, drop_more}
+use Rattle.std.specs.List.{flat_map}
+use Rattle.byteorder.specs.Endian.{big_bytes}
 use Rattle.rb_base.specs.Fields.{number_at}
+use Rattle.rb_base.proofs.Counted as lists
+use Rattle.rb_base.proofs.Fronts.{IsBytes, IsBytes-drop, front_2, front_8}
 use Rattle.rb_model.specs.Change.{Change, put}
 use Rattle.rb_model.specs.Reply.{record_length}
 use Rattle.rb_record.specs.Records.{change_bytes, record_bytes, IsChange, IsRecord}
-use Rattle.rb_record.proofs.Spelling.{GoesOn, goes_on, length-changes, count_of_record, none_more}
-
-abbrev pub IsBytes : List ℕ → Type 0
-IsBytes bytes = (i : ℕ) → get_or bytes i 0 < 256
-
-IsBytes-front : (front rest : List ℕ) → IsBytes (front ++ rest) → IsBytes front
-IsBytes-front front rest h i =
-    elim (cases_lt i (length front)) [
-      | inl lt ↦ rw (← get_or_append_left front rest 0 i lt) (h i)
-      | inr le ↦ rw (get_or_past front i 0 le) (omega arith)
-    ]
-
-IsBytes-drop : (n : ℕ) (bytes : List ℕ) → IsBytes bytes → IsBytes (drop n bytes)
-IsBytes-drop n bytes h i = rw get_or-drop (h (n + i))
-
--- the bytes of a number that was read
-front_2 : (bytes : List ℕ) → IsBytes bytes → 2 ≤ length bytes → bytes ≡ big_bytes 2 (big_number 2 bytes) ++ drop 2 bytes
-front_2 [] fits long = absurd (omega arith)
-front_2 (a ∷ []) fits long = absurd (omega arith)
-front_2 (a ∷ b ∷ rest) fits long =
-    let e = be_bytes_2 (a ∷ b ∷ []) (big_number 2 (a ∷ b ∷ rest)) refl (IsBytes-front (a ∷ b ∷ []) rest fits) (omega arith) in
-    ap (λ (x : List ℕ). x ++ rest) (sym e)
-
-eight : (bytes : List ℕ) → length bytes ≡ 8 → IsBytes bytes → big_bytes 8 (big_number 8 bytes) ≡ bytes
-eight bytes long fits = be_bytes_8 bytes (big_number 8 bytes) long fits (omega arith)
-
-front_8 : (bytes : List ℕ) → IsBytes bytes → 8 ≤ length bytes → bytes ≡ big_bytes 8 (big_number 8 bytes) ++ drop 8 bytes
-front_8 bytes fits long =
-    let parts = take-append-drop 8 bytes in
-    let front : IsBytes (take 8 bytes) = IsBytes-front (take 8 bytes) (drop 8 bytes) (rw parts fits) in
-    let e = eight (take 8 bytes) (length-take-le 8 bytes long) front in
-    let n : big_number 8 (take 8 bytes) ≡ big_number 8 bytes = big_from-take 0 8 8 bytes (omega arith) in
-    sym parts ∙ ap (λ (x : List ℕ). x ++ drop 8 bytes) (sym e ∙ ap (big_bytes 8) n)
+use Rattle.rb_record.proofs.Spelling.{change_apart, length-changes, few_in_record}
 
 -- the fields at the front of the bytes
 change_front : (bytes : List ℕ) → IsBytes bytes → 11 ≤ length bytes → bytes ≡ big_bytes 2 (number_at bytes 0 2) ++ (big_bytes 8 (number_at bytes 2 8) ++ (get_or bytes 10 0 ∷ drop 11 bytes))
@@ -69,26 +36,12 @@ change_found bytes table key count value rest fits long count-is within table-is
     ∙ ap (λ (x : List ℕ). spelled table key (length value) x) behind
 
 -- how far the reader has come: these changes stand behind the number of them, and then the rest
-pub record IsFront (tables count : ℕ) (bytes : List ℕ) (index : ℕ) (held : List Change) (rest : List ℕ) : Type 0 where
-  pub each : AllByRecursion (IsChange tables) held
-  pub counted : length held ≡ index
-  pub whole : bytes ≡ big_bytes 2 count ++ (flat_map change_bytes held ++ rest)
-
-all_push : (P : Change → Type 0) (xs : List Change) (x : Change) → AllByRecursion P xs → P x → AllByRecursion P (xs ++ x ∷ [])
-all_push P [] x h p = (p, tt)
-all_push P (y ∷ ys) x h p = (h.0, all_push P ys x h.1 p)
+abbrev pub IsFront : ℕ → ℕ → List ℕ → ℕ → List Change → List ℕ → Type 0
+IsFront tables count bytes index held rest = lists.IsFront change_bytes (IsChange tables) count bytes index held rest
 
 pub front_more : (tables count : ℕ) (bytes : List ℕ) (index : ℕ) (held : List Change) (rest : List ℕ) (change : Change) (behind : List ℕ) → IsFront tables count bytes index held rest → IsChange tables change
     → rest ≡ change_bytes change ++ behind → IsFront tables count bytes (index + 1) (held ++ change ∷ []) behind
-front_more tables count bytes index held rest change behind h valid e =
-    let l = length-append held (change ∷ []) in
-    let one : flat_map change_bytes held ++ rest ≡ (flat_map change_bytes held ++ change_bytes change) ++ behind = ap (λ (x : List ℕ). flat_map change_bytes held ++ x) e ∙ sym (append_assoc (flat_map change_bytes held) (change_bytes change) behind) in
-    let two : flat_map change_bytes held ++ change_bytes change ≡ flat_map change_bytes (held ++ change ∷ []) = flat_map_more change_bytes [] held change in
-    record {
-      each = all_push (IsChange tables) held change h.each valid;
-      counted = omega (arith, l, h.counted);
-      whole = h.whole ∙ ap (λ (x : List ℕ). big_bytes 2 count ++ x) (one ∙ ap (λ (x : List ℕ). x ++ behind) two);
-    }
+front_more tables count bytes index held rest change behind h valid e = lists.front_more change_bytes (IsChange tables) count bytes index held rest change behind h valid e
 
 -- what is held stays within the bytes
 pub front_fits : (tables count : ℕ) (bytes : List ℕ) (index : ℕ) (held : List Change) (rest : List ℕ) → IsFront tables count bytes index held rest → record_length held ≤ length bytes
@@ -98,41 +51,26 @@ front_fits tables count bytes index held rest h =
     let w = ap length h.whole in
     omega (arith, e, l, w)
 
--- the changes of a record go on behind those that are held
-pub front_on : (tables count : ℕ) (bytes : List ℕ) (index : ℕ) (held : List Change) (rest : List ℕ) (changes : List Change) → tables < 2 ^ 16 → count < 2 ^ 16 → index ≤ count → IsFront tables count bytes index held rest
-    → IsRecord tables changes → bytes ≡ record_bytes changes → (count ≡ length changes) × GoesOn tables held changes rest
-front_on tables count bytes index held rest changes few fits le h valid e =
-    let n = count_of_record tables count changes (flat_map change_bytes held ++ rest) fits valid (sym h.whole ∙ e) in
-    (n.0, goes_on tables held changes rest few h.each valid.each (omega (arith, n.0, h.counted)) (sym n.1))
-
-stuck : (tables : ℕ) (held more : List Change) (rest : List ℕ) → length held < length (held ++ more) → rest ≡ flat_map change_bytes more → AllByRecursion (IsChange tables) more
-    → ((change : Change) (behind : List ℕ) → IsChange tables change → rest ≡ change_bytes change ++ behind → ⊥) → ⊥
-stuck tables held [] rest lt e each none = let l = length-append held [] in absurd (omega (arith, l))
-stuck tables held (c ∷ more) rest lt e each none = none c (flat_map change_bytes more) each.0 e
-
 -- where no change in order comes next, the bytes are no record
 pub front_stuck : (tables count : ℕ) (bytes : List ℕ) (index : ℕ) (held : List Change) (rest : List ℕ) → tables < 2 ^ 16 → count < 2 ^ 16 → index < count → IsFront tables count bytes index held rest
     → ((change : Change) (behind : List ℕ) → IsChange tables change → rest ≢ change_bytes change ++ behind) → (changes : List Change) → IsRecord tables changes → bytes ≢ record_bytes changes
 front_stuck tables count bytes index held rest few fits lt h none changes valid e =
-    let on = front_on tables count bytes index held rest changes few fits (omega arith) h valid e in
-    let w = ap length on.1.whole in
-    stuck tables held on.1.more rest (omega (arith, on.0, h.counted, w)) on.1.behind on.1.each none
+    lists.front_stuck change_bytes (IsChange tables) count bytes index held rest (change_apart tables few) fits lt h none changes (few_in_record tables changes valid) valid.each e
 
 -- the reader has come to the end of the changes
 pub front_at_end : (tables count : ℕ) (bytes : List ℕ) (index : ℕ) (held : List Change) (rest : List ℕ) → index ≤ count → count ≤ index → IsFront tables count bytes index held rest → IsFront tables count bytes count held rest
-front_at_end tables count bytes index held rest le ge h = let c = h.counted in record { each = h.each; counted = omega (arith, c); whole = h.whole }
+front_at_end tables count bytes index held rest le ge h = lists.front_at_end change_bytes (IsChange tables) count bytes index held rest le ge h
 
 -- where all are read and bytes follow, or none was to be read, the bytes are no record
 pub front_ended : (tables count : ℕ) (bytes : List ℕ) (held : List Change) (rest : List ℕ) → tables < 2 ^ 16 → count < 2 ^ 16 → IsFront tables count bytes count held rest
     → (changes : List Change) → IsRecord tables changes → bytes ≡ record_bytes changes → (0 < count) × (rest ≡ [])
 front_ended tables count bytes held rest few fits h changes valid e =
-    let on = front_on tables count bytes count held rest changes few fits (omega arith) h valid e in
-    let none = none_more held on.1.more (ap length (sym on.1.whole) ∙ omega (arith, on.0, h.counted)) in
+    let ended = lists.front_ended change_bytes (IsChange tables) count bytes held rest (change_apart tables few) fits h changes (few_in_record tables changes valid) valid.each e in
     let s = valid.some in
-    (omega (arith, on.0, s), on.1.behind ∙ ap (flat_map change_bytes) none)
+    (omega (arith, ended.0, s), ended.1)
 
 pub front_found : (tables count : ℕ) (bytes : List ℕ) (held : List Change) (rest : List ℕ) → length bytes ≤ 2000 → IsFront tables count bytes count held rest → 0 < count → IsRecord tables held
 front_found tables count bytes held rest long h some =
     let f = front_fits tables count bytes count held rest h in
-    let c = h.counted in
+    let c = h.counts in
     record { some = omega (arith, c); each = h.each; within = omega (arith, f) }

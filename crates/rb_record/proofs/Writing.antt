@@ -1,56 +1,18 @@
--- Parts written one behind another, over what stood there, and how long the changes so far are.
-use Rattle.std.proofs.Common.{◌≡◌, ℕ, ◌+◌, ◌*◌, ◌-◌, ◌<◌, ◌≤◌, List, [], ◌∷◌, ◌++◌, length, take, drop, set, refl, arith, ap, sym, ◌∙◌, subst, append_assoc, get_or}
-use Rattle.std.proofs.lemmas.List.{take_at, drop_at, drop-drop, drop_more, set_at, length-append, take-append-drop, map-append, flat_map_more, length-take-le, take_more, length-map}
+-- A change's fields written one behind another, and how long the changes so far are.
+use Rattle.std.proofs.Common.{◌≡◌, ℕ, ◌+◌, ◌*◌, ◌<◌, ◌≤◌, List, [], ◌∷◌, ◌++◌, length, take, drop, set, refl, arith, ap, sym, ◌∙◌, append_assoc, get_or}
+use Rattle.std.proofs.lemmas.List.{length-append, take-append-drop, map-append, take_more, length-map}
 use Rattle.std.proofs.lemmas.List.Sums.{sum_by-append}
 use Rattle.std.specs.List.{flat_map}
 use borrow.Rule.Slice.PartMut.{put_mid}
 use Rattle.byteorder.specs.Endian.{big_bytes}
-use Rattle.byteorder.specs.Numbers.{length-bytes_high_first}
 use Rattle.rb_base.specs.Fields.{with_number}
+use Rattle.rb_base.proofs.Written.{number_next, byte_next, part_next, nothing_yet, same_place, item_next}
 use Rattle.rb_model.specs.Change.{Change, put}
 use Rattle.rb_model.specs.Reply.{record_length, kind_length}
 use Rattle.rb_record.specs.declared.put.Put.{Put}
 use Rattle.rb_record.specs.Puts.{change_of, changes_of}
 use Rattle.rb_record.specs.Records.{change_bytes}
 use Rattle.rb_record.proofs.Spelling.{few_changes, record_length-cons}
-
--- What was written so far stands in front, and what stood there first behind it.
-pub record Written (first bytes front : List ℕ) (at : ℕ) : Type 0 where
-  pub whole : bytes ≡ front ++ drop at first
-  pub long : length front ≡ at
-  pub within : at ≤ length first
-
-pub number_next : (first bytes front new : List ℕ) (at count value : ℕ) → Written first bytes front at → new ≡ with_number bytes at count value → at + count ≤ length first → Written first new (front ++ big_bytes count value) (at + count)
-number_next first bytes front new at count value h now fits =
-    let before : take at bytes ≡ front = ap (take at) h.whole ∙ take_at front (drop at first) at h.long in
-    let behind : drop (at + count) bytes ≡ drop (at + count) first = sym (drop-drop count at bytes) ∙ ap (drop count) (ap (drop at) h.whole ∙ drop_at front (drop at first) at h.long) ∙ drop-drop count at first in
-    record {
-      whole = now ∙ ap (λ (l : List ℕ). (l ++ big_bytes count value) ++ drop (at + count) bytes) before ∙ ap (λ (l : List ℕ). (front ++ big_bytes count value) ++ l) behind;
-      long = omega (arith, length-append front (big_bytes count value), length-bytes_high_first count value, h.long);
-      within = fits;
-    }
-
-pub byte_next : (first bytes front : List ℕ) (at value : ℕ) → Written first bytes front at → at < length first → Written first (set bytes at value) (front ++ value ∷ []) (at + 1)
-byte_next first bytes front at value h fits =
-    let more : bytes ≡ front ++ (get_or first at 0 ∷ drop (at + 1) first) = h.whole ∙ ap (λ (l : List ℕ). front ++ l) (drop_more first at 0 fits) in
-    record {
-      whole = ap (λ (l : List ℕ). set l at value) more ∙ set_at front (get_or first at 0) (drop (at + 1) first) value at h.long ∙ sym (append_assoc front (value ∷ []) (drop (at + 1) first));
-      long = omega (arith, length-append front (value ∷ []), h.long);
-      within = omega arith;
-    }
-
-pub part_next : (first bytes front part : List ℕ) (at count : ℕ) → Written first bytes front at → length part ≡ count → at + count ≤ length first → Written first (put_mid at count bytes part) (front ++ part) (at + count)
-part_next first bytes front part at count h long fits =
-    let before : take at bytes ≡ front = ap (take at) h.whole ∙ take_at front (drop at first) at h.long in
-    let behind : drop count (drop at bytes) ≡ drop (at + count) first = ap (drop count) (ap (drop at) h.whole ∙ drop_at front (drop at first) at h.long) ∙ drop-drop count at first in
-    record {
-      whole = ap (λ (l : List ℕ). l ++ (part ++ drop count (drop at bytes))) before ∙ ap (λ (l : List ℕ). front ++ (part ++ l)) behind ∙ sym (append_assoc front part (drop (at + count) first));
-      long = omega (arith, length-append front part, h.long, long);
-      within = fits;
-    }
-
-pub nothing_yet : (first : List ℕ) (at : ℕ) → at ≤ length first → Written first first (take at first) at
-nothing_yet first at fits = record { whole = sym (take-append-drop at first); long = length-take-le at first fits; within = fits }
 
 -- the fields of a change one behind another
 pub change_joined : (front value rest : List ℕ) (table key : ℕ) → ((((front ++ big_bytes 2 table) ++ big_bytes 8 key) ++ length value ∷ []) ++ value) ++ rest ≡ (front ++ change_bytes (put table key value)) ++ rest
@@ -89,20 +51,6 @@ length_within ps i =
 pub few_puts : (ps : List Put) → 2 + 11 * length ps ≤ record_length (changes_of ps)
 few_puts ps = let f = few_changes (changes_of ps) in let l = length-map ps change_of in omega (arith, f, l)
 
--- the bytes with one more change behind those that are written
-pub change_next : (first old new front : List ℕ) (xs : List Change) (x : Change) (at end : ℕ) → old ≡ (front ++ flat_map change_bytes xs) ++ drop at first → length (front ++ flat_map change_bytes xs) ≡ at
-    → at ≤ end → new ≡ (take at old ++ change_bytes x) ++ drop end old → new ≡ (front ++ flat_map change_bytes (xs ++ x ∷ [])) ++ drop end first
-change_next first old new front xs x at end was long le now =
-    let done = front ++ flat_map change_bytes xs in
-    let before : take at old ≡ done = ap (take at) was ∙ take_at done (drop at first) at long in
-    let k : end ≡ at + (end - at) = omega arith in
-    let behind : drop end old ≡ drop end first =
-    ap (λ (n : ℕ). drop n old) k ∙ sym (drop-drop (end - at) at old) ∙ ap (drop (end - at)) (ap (drop at) was ∙ drop_at done (drop at first) at long) ∙ drop-drop (end - at) at first ∙ ap (λ (n : ℕ). drop n first) (sym k) in
-    now ∙ ap (λ (l : List ℕ). (l ++ change_bytes x) ++ drop end old) before ∙ ap (λ (l : List ℕ). (done ++ change_bytes x) ++ l) behind ∙ ap (λ (l : List ℕ). l ++ drop end first) (flat_map_more change_bytes front xs x)
-
-same_place : (first bytes front : List ℕ) (at to : ℕ) → Written first bytes front at → at ≡ to → Written first bytes front to
-same_place first bytes front at to h e = subst (Written first bytes front) e h
-
 -- the writes of a change's fields, one behind another
 pub change_written : (first one two part value : List ℕ) (at count end table key : ℕ) → at + (11 + length value) ≤ length first → one ≡ with_number first at 2 table → two ≡ with_number one (at + 2) 8 key
     → part ≡ value → count ≡ length value → end ≡ at + (11 + length value)
@@ -136,5 +84,5 @@ pub put_next : (ps : List Put) (i : ℕ) (p : Put) (first old new front : List �
 put_next ps i p first old new front at end lt is two at-is was end-is now =
     let l = length-append front (flat_map change_bytes (changes_of (take i ps))) in
     let n = length_puts (take i ps) in
-    change_next first old new front (changes_of (take i ps)) (change_of p) at end was (omega (arith, l, n)) (omega arith) now
+    item_next change_bytes first old new front (changes_of (take i ps)) (change_of p) at end was (omega (arith, l, n)) (omega arith) now
     ∙ ap (λ (xs : List Change). (front ++ flat_map change_bytes xs) ++ drop end first) (sym (taken_more ps i p lt is))
