@@ -12,3 +12,6 @@ pub use laws::entries_apart;
 pub use read::entry;
 pub use slots::{BOUND, EXACT, Entry, FREE, OPEN};
 pub use write::put_entry;
+
+#[cfg(test)]
+mod tests;
