@@ -1,4 +1,4 @@
-//! What holds of every entry and every block. Nothing calls it; the crates above cite its clauses.
+//! What holds of every entry and every block, as clauses for proofs to cite. Nothing calls it.
 ghost use Rattle.rb_itl.specs.Entries.{ReadsBack, IsFreeEmpty, ReadsOwn, KeepsOthers, KeepsOutside, KeepsCells, KeepsLength};
 
 /// An entry's bytes say what it is, and a free one's are 0. Written over those of its place in a block, they are read
