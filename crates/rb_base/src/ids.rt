@@ -22,3 +22,25 @@ pub struct Shape {
     /// 1 to 16, numbered from 0.
     pub segments: u16,
 }
+
+/// The identity of a transaction: a slot of a rollback segment, and how often that slot had been taken.
+#[derive(Clone, Copy, Debug, Default, PartialEq, Eq)]
+pub struct Xid {
+    /// The rollback segment, from 0 on.
+    pub seg: u16,
+    /// The slot of its transaction table, 0 to 15.
+    pub slot: u16,
+    /// The slot's count of transactions, from 1 on.
+    pub wrap: u64,
+}
+
+/// The address of an undo record. An `ord` of 0 is no address.
+#[derive(Clone, Copy, Debug, Default, PartialEq, Eq)]
+pub struct Uba {
+    /// The undo block.
+    pub block: u32,
+    /// The record in it, 0 to 9.
+    pub rec: u16,
+    /// The number that its extent had as the record was made.
+    pub ord: u64,
+}

@@ -12,7 +12,7 @@ pub use decimal::parse_decimal;
 pub use faults::{Failed, NoMemory, OpenFault};
 pub use fields::{put_u16, put_u32, put_u64, u16_at, u32_at, u64_at};
 pub use group::Group;
-pub use ids::{BlockNo, Lsn, Scn, Shape, UNIT};
+pub use ids::{BlockNo, Lsn, Scn, Shape, UNIT, Uba, Xid};
 
 #[cfg(test)]
 mod tests;

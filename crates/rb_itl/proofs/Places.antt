@@ -1,0 +1,46 @@
+-- An entry that was written over a block's bytes.
+use Rattle.std.proofs.Common.{◌≡◌, ◌⊎◌, ◌+◌, ◌≤◌, take, drop, refl, arith, ap, ◌∙◌, inl, inr}
+use Rattle.std.proofs.lemmas.Bool.{cases_lt}
+use Rattle.byteorder.specs.Numbers.{big_number-reads_back}
+use Rattle.rb_base.specs.Fields.{number_at}
+use Rattle.rb_itl.specs.Entries.{entry_place, entry_bytes, entry_of, ReadsOwn, KeepsOthers, KeepsOutside, KeepsCells, KeepsLength, ReadsBack}
+use Rattle.rb_itl.proofs.Overwriting.{overwritten_itself, before_overwritten, behind_overwritten, length-overwritten}
+
+pub entry_kept_outside : KeepsOutside
+entry_kept_outside block i at count e long lt side =
+    elim side [
+      | inl le ↦ before_overwritten block (entry_bytes e) (entry_place i) at count (omega arith) le
+      | inr le ↦ ap (take count) (behind_overwritten block (entry_bytes e) (entry_place i) at (omega arith) le)
+    ]
+
+pub others_kept : KeepsOthers
+others_kept block i j e long lt lt_too other =
+    let side : (entry_place j + 48 ≤ entry_place i) ⊎ (entry_place i + 48 ≤ entry_place j) =
+    elim (cases_lt j i) [
+      | inl less ↦ inl (omega arith)
+      | inr le ↦ inr (omega arith)
+    ] in
+    ap entry_of (entry_kept_outside block i (entry_place j) 48 e long lt side)
+
+pub cells_kept : KeepsCells
+cells_kept block i e long lt = behind_overwritten block (entry_bytes e) (entry_place i) 416 (omega arith) (omega arith)
+
+pub length_kept : KeepsLength
+length_kept block i e long lt = length-overwritten block (entry_bytes e) (entry_place i) (omega arith) ∙ long
+
+-- each field is read from the bytes that it was written to
+pub read_back : ReadsBack
+read_back e h =
+    let bytes = entry_bytes e in
+    let seg : number_at bytes 4 2 ≡ e.xid.seg = big_number-reads_back 2 e.xid.seg (drop 6 bytes) h.seg in
+    let slot : number_at bytes 6 2 ≡ e.xid.slot = big_number-reads_back 2 e.xid.slot (drop 8 bytes) h.slot in
+    let wrap : number_at bytes 8 8 ≡ e.xid.wrap = big_number-reads_back 8 e.xid.wrap (drop 16 bytes) h.wrap in
+    let number : number_at bytes 16 8 ≡ e.number = big_number-reads_back 8 e.number (drop 24 bytes) h.number in
+    let block : number_at bytes 24 4 ≡ e.newest.block = big_number-reads_back 4 e.newest.block (drop 28 bytes) h.block in
+    let rec : number_at bytes 28 2 ≡ e.newest.rec = big_number-reads_back 2 e.newest.rec (drop 30 bytes) h.rec in
+    let ord : number_at bytes 32 8 ≡ e.newest.ord = big_number-reads_back 8 e.newest.ord (drop 40 bytes) h.ord in
+    let length : number_at bytes 40 4 ≡ e.length = big_number-reads_back 4 e.length (drop 44 bytes) h.length in
+    rw (seg, slot, wrap, number, block, rec, ord, length) refl
+
+pub own_read : ReadsOwn
+own_read block i e long lt fits = ap entry_of (overwritten_itself block (entry_bytes e) (entry_place i) (omega arith)) ∙ read_back e fits

@@ -1,0 +1,17 @@
+//! The slot entries of a heap block: which transactions changed it, and what became of them. They are read from the
+//! block's bytes, and written as patches of a group. A later stage's heap blocks will use them; the program doesn't
+//! yet.
+#![tactic(auto)]
+
+mod laws;
+mod read;
+mod slots;
+mod write;
+
+pub use laws::entries_apart;
+pub use read::entry;
+pub use slots::{BOUND, EXACT, Entry, FREE, OPEN};
+pub use write::put_entry;
+
+#[cfg(test)]
+mod tests;

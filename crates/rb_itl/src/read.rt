@@ -1,0 +1,31 @@
+//! Reads the slot entries of a block. A later stage's heap blocks will call it.
+ghost use Rattle.std.specs.Prelude.{◌≡◌, ◌<◌, length};
+ghost use Rattle.rb_itl.specs.Entries.{entry_at};
+
+use crate::slots::{ENTRY_BYTES, Entry, HEAD_BYTES};
+use rb_base::{Uba, Xid, u16_at, u32_at, u64_at};
+
+/// The entry at place `i`, 0 to 7, of a block of 2,048 bytes. Bytes that have no meaning in an entry aren't looked at.
+pub fn entry(block: &[u8], i: u8) -> Entry
+    requires block { length block.now ≡ 2048 }
+    requires place { i < 8 }
+    ensures { result ≡ entry_at block.now i }
+{
+    let place = HEAD_BYTES + ENTRY_BYTES * i as usize;
+    let bytes = &block[place..place + ENTRY_BYTES];
+    Entry {
+        kind: bytes[0],
+        xid: Xid {
+            seg: u16_at(bytes, 4),
+            slot: u16_at(bytes, 6),
+            wrap: u64_at(bytes, 8),
+        },
+        number: u64_at(bytes, 16),
+        newest: Uba {
+            block: u32_at(bytes, 24),
+            rec: u16_at(bytes, 28),
+            ord: u64_at(bytes, 32),
+        },
+        length: u32_at(bytes, 40),
+    }
+}

@@ -1,0 +1,36 @@
+//! What a slot entry says. Readers and writers of heap blocks use it.
+use rb_base::{Uba, Xid};
+
+/// The bytes in front of a block's entries.
+pub(crate) const HEAD_BYTES: usize = 32;
+
+/// The bytes of an entry.
+pub(crate) const ENTRY_BYTES: usize = 48;
+
+/// The kind of an entry of no transaction.
+pub const FREE: u8 = 0;
+
+/// The kind of an entry whose transaction has no outcome recorded here.
+pub const OPEN: u8 = 1;
+
+/// The kind of an entry whose transaction committed, and its number is here.
+pub const EXACT: u8 = 2;
+
+/// The kind of an entry whose transaction committed, at the number here or at one before.
+pub const BOUND: u8 = 3;
+
+/// A slot entry of a heap block: a transaction that changed the block, and where its changes begin. A free one is 0
+/// throughout.
+#[derive(Clone, Copy, Debug, Default, PartialEq, Eq)]
+pub struct Entry {
+    /// `FREE`, `OPEN`, `EXACT` or `BOUND`.
+    pub kind: u8,
+    /// The transaction.
+    pub xid: Xid,
+    /// The commit number of an exact entry, the greatest that it can be of a bound one, else 0.
+    pub number: u64,
+    /// The transaction's newest live undo record for this block.
+    pub newest: Uba,
+    /// How many live undo records the transaction has for this block.
+    pub length: u32,
+}

@@ -1,0 +1,160 @@
+//! Entries by their bytes, worked by hand, at every place of a block.
+use crate::{BOUND, EXACT, Entry, FREE, OPEN, entry, put_entry};
+use rb_base::{Group, Uba, Xid};
+
+/// Segment 2, slot 15, the 7th transaction there: open, with 3 records, the newest in block 0x01020304 at place 9.
+const OPEN_ENTRY: Entry = Entry {
+    kind: OPEN,
+    xid: Xid {
+        seg: 2,
+        slot: 15,
+        wrap: 7,
+    },
+    number: 0,
+    newest: Uba {
+        block: 0x0102_0304,
+        rec: 9,
+        ord: 0x0506_0708_090a_0b0c,
+    },
+    length: 3,
+};
+
+const OPEN_BYTES: [u8; 48] = [
+    1, 0, 0, 0, 0, 2, 0, 15, // kind, segment, slot
+    0, 0, 0, 0, 0, 0, 0, 7, // wrap
+    0, 0, 0, 0, 0, 0, 0, 0, // number
+    1, 2, 3, 4, 0, 9, 0, 0, // undo block, record
+    5, 6, 7, 8, 9, 10, 11, 12, // extent's number
+    0, 0, 0, 3, 0, 0, 0, 0, // chain's length
+];
+
+/// The first commit of all: segment 0, slot 0, the first transaction there, at number 1.
+const EXACT_ENTRY: Entry = Entry {
+    kind: EXACT,
+    xid: Xid {
+        seg: 0,
+        slot: 0,
+        wrap: 1,
+    },
+    number: 1,
+    newest: Uba {
+        block: 16,
+        rec: 0,
+        ord: 1,
+    },
+    length: 1,
+};
+
+const EXACT_BYTES: [u8; 48] = [
+    2, 0, 0, 0, 0, 0, 0, 0, //
+    0, 0, 0, 0, 0, 0, 0, 1, //
+    0, 0, 0, 0, 0, 0, 0, 1, //
+    0, 0, 0, 16, 0, 0, 0, 0, //
+    0, 0, 0, 0, 0, 0, 0, 1, //
+    0, 0, 0, 1, 0, 0, 0, 0, //
+];
+
+/// At 0x0102 or before.
+const BOUND_ENTRY: Entry = Entry {
+    kind: BOUND,
+    xid: Xid {
+        seg: 0x0a0b,
+        slot: 0x0c0d,
+        wrap: 0x0e0f,
+    },
+    number: 0x0102,
+    newest: Uba {
+        block: 0x1112,
+        rec: 0x1314,
+        ord: 0x1516,
+    },
+    length: 0x1718_191a,
+};
+
+const BOUND_BYTES: [u8; 48] = [
+    3, 0, 0, 0, 10, 11, 12, 13, //
+    0, 0, 0, 0, 0, 0, 14, 15, //
+    0, 0, 0, 0, 0, 0, 1, 2, //
+    0, 0, 17, 18, 19, 20, 0, 0, //
+    0, 0, 0, 0, 0, 0, 21, 22, //
+    23, 24, 25, 26, 0, 0, 0, 0, //
+];
+
+/// The greatest value of each field.
+const GREATEST_ENTRY: Entry = Entry {
+    kind: u8::MAX,
+    xid: Xid {
+        seg: u16::MAX,
+        slot: u16::MAX,
+        wrap: u64::MAX,
+    },
+    number: u64::MAX,
+    newest: Uba {
+        block: u32::MAX,
+        rec: u16::MAX,
+        ord: u64::MAX,
+    },
+    length: u32::MAX,
+};
+
+const GREATEST_BYTES: [u8; 48] = [
+    255, 0, 0, 0, 255, 255, 255, 255, //
+    255, 255, 255, 255, 255, 255, 255, 255, //
+    255, 255, 255, 255, 255, 255, 255, 255, //
+    255, 255, 255, 255, 255, 255, 0, 0, //
+    255, 255, 255, 255, 255, 255, 255, 255, //
+    255, 255, 255, 255, 0, 0, 0, 0, //
+];
+
+#[test]
+fn worked_entries(rt: HostRuntime) {
+    let rows = [
+        (Entry::default(), [0; 48]),
+        (OPEN_ENTRY, OPEN_BYTES),
+        (EXACT_ENTRY, EXACT_BYTES),
+        (BOUND_ENTRY, BOUND_BYTES),
+        (GREATEST_ENTRY, GREATEST_BYTES),
+    ];
+    for (value, bytes) in rows {
+        for i in 0..8 {
+            let mut group = Group::new();
+            put_entry(&mut group, 5, i, &value);
+            assert_eq!(rt; group.patches(), 1);
+            assert_eq!(rt; group.patch_block(0), 5);
+            assert_eq!(rt; group.patch_at(0), 32 + 48 * i as u16);
+            assert_eq!(rt; group.patch_bytes(0), bytes.as_slice());
+            let mut block = [9; 2048];
+            let place = 32 + 48 * i as usize;
+            block[place..place + 48].copy_from_slice(&bytes);
+            assert_eq!(rt; entry(&block, i), value);
+        }
+    }
+    assert_eq!(rt; Entry::default().kind, FREE);
+}
+
+#[test]
+fn meaningless_bytes(rt: HostRuntime) {
+    let mut block = [9; 2048];
+    block[368..416].copy_from_slice(&OPEN_BYTES);
+    for at in [369, 370, 371, 398, 399, 412, 413, 414, 415] {
+        block[at] = 1;
+    }
+    assert_eq!(rt; entry(&block, 7), OPEN_ENTRY);
+    assert_eq!(rt; entry(&block, 6).number, 0x0909_0909_0909_0909);
+}
+
+#[test]
+fn entries_behind_others(rt: HostRuntime) {
+    let mut group = Group::new();
+    group.push(1, 416, &[1]);
+    put_entry(&mut group, u32::MAX, 0, &OPEN_ENTRY);
+    put_entry(&mut group, 0, 7, &EXACT_ENTRY);
+    assert_eq!(rt; group.patches(), 3);
+    assert_eq!(rt; group.patch_bytes(0), [1].as_slice());
+    assert_eq!(rt; group.patch_block(1), u32::MAX);
+    assert_eq!(rt; group.patch_at(1), 32);
+    assert_eq!(rt; group.patch_bytes(1), OPEN_BYTES.as_slice());
+    assert_eq!(rt; group.patch_block(2), 0);
+    assert_eq!(rt; group.patch_at(2), 368);
+    assert_eq!(rt; group.patch_bytes(2), EXACT_BYTES.as_slice());
+}

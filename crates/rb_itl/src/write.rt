@@ -1,0 +1,35 @@
+//! Writes slot entries as patches. A later stage's heap blocks will call it.
+ghost use Rattle.std.specs.Prelude.{◌≡◌, ◌+◌, ◌<◌, ◌≤◌, [], ◌∷◌, ◌++◌, length};
+ghost use Rattle.rb_base.specs.Groups.{patch, group_length};
+ghost use Rattle.rb_itl.specs.Entries.{entry_place, entry_bytes};
+
+use crate::slots::{ENTRY_BYTES, Entry, HEAD_BYTES};
+use rb_base::{BlockNo, Group, put_u16, put_u32, put_u64};
+
+/// The bytes of an entry. Those that have no meaning are 0.
+fn spelled(entry: &Entry) -> [u8; 48]
+    ensures { result ≡ entry_bytes entry.now }
+{
+    let mut bytes = [0; ENTRY_BYTES];
+    bytes[0] = entry.kind;
+    put_u16(&mut bytes, 4, entry.xid.seg);
+    put_u16(&mut bytes, 6, entry.xid.slot);
+    put_u64(&mut bytes, 8, entry.xid.wrap);
+    put_u64(&mut bytes, 16, entry.number);
+    put_u32(&mut bytes, 24, entry.newest.block);
+    put_u16(&mut bytes, 28, entry.newest.rec);
+    put_u64(&mut bytes, 32, entry.newest.ord);
+    put_u32(&mut bytes, 40, entry.length);
+    bytes
+}
+
+/// Puts one more patch at the end of the group: the entry goes to place `i`, 0 to 7, of block `no`.
+pub fn put_entry(group: &mut Group, no: BlockNo, i: u8, entry: &Entry)
+    requires place { i < 8 }
+    requires count { length group.old < 40 }
+    requires room { group_length group.old + (8 + 48) ≤ 2000 }
+    ensures { group.new ≡ group.old ++ patch no (entry_place i) (entry_bytes entry.now) ∷ [] }
+{
+    let at = HEAD_BYTES + ENTRY_BYTES * i as usize;
+    group.push(no, at as u16, &spelled(entry));
+}
