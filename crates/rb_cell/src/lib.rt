@@ -11,3 +11,6 @@ pub use cell::{Cell, EMPTY, ROW, STUB};
 pub use laws::{cell_in_block, lock_in_block};
 pub use read::cells;
 pub use write::{put_cell, put_lock};
+
+#[cfg(test)]
+mod tests;

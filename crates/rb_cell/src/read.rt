@@ -34,8 +34,8 @@ fn read_cell(bytes: &[u8]) -> Cell
 /// Cell `c`, 0 to 15, of a block of 2,048 bytes, whatever they are. Where the length says more than 80, all 80 bytes
 /// are the value.
 pub fn cells(block: &[u8], c: u8) -> Cell
-    requires block { length block.now ≡ 2048 }
-    requires cell { c < 16 }
+    requires length { length block.now ≡ 2048 }
+    requires within { c < 16 }
     ensures cell { result ≡ cell_at block.now c }
     ensures sound { IsCell result }
 {
