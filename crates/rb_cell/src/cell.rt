@@ -4,7 +4,7 @@ ghost use Rattle.rb_cell.specs.Cells.{cell_place};
 
 use arrayvec::ArrayVec;
 
-/// The state of a cell that was never used.
+/// The state of a cell that holds nothing.
 pub const EMPTY: u8 = 0;
 
 /// The state of a cell that holds a row.
@@ -15,6 +15,9 @@ pub const STUB: u8 = 2;
 
 /// The bytes of a cell.
 pub(crate) const CELL_BYTES: usize = 92;
+
+/// The bytes of a cell in front of its value: the state, the lock, the value's length and the key.
+pub(crate) const HEAD_BYTES: usize = 12;
 
 /// One of the 16 cells of a heap block. It has room for one row.
 #[derive(Debug, Drop)]

@@ -2,12 +2,9 @@
 ghost use Rattle.std.specs.Prelude.{◌≡◌, ◌<◌, length};
 ghost use Rattle.rb_cell.specs.Cells.{cell_of, cell_at, IsCell};
 
-use crate::cell::{CELL_BYTES, Cell, place_of};
+use crate::cell::{CELL_BYTES, Cell, HEAD_BYTES, place_of};
 use arrayvec::ArrayVec;
 use rb_base::{u16_at, u64_at};
-
-/// The bytes of a cell in front of its value: the state, the lock, the value's length and the key.
-const HEAD_BYTES: usize = 12;
 
 /// The most bytes of a value.
 const VALUE_BYTES: usize = 80;

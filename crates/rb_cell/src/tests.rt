@@ -48,7 +48,7 @@ fn three_states_read(rt: HostRuntime) {
 
 #[test]
 fn lengths_read(rt: HostRuntime) {
-    // Cell 0 has an x in front and behind of 78 bytes of zero, and cell 1 begins with a z.
+    // The 80 value bytes of cell 0 begin and end with an x, and cell 1 begins with a z.
     let mut block = [0; 2048];
     block[428] = b'x';
     block[507] = b'x';

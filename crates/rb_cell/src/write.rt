@@ -3,7 +3,7 @@ ghost use Rattle.std.specs.Prelude.{◌≡◌, ◌+◌, ◌≤◌, ◌<◌, [], 
 ghost use Rattle.rb_base.specs.Groups.{group_length};
 ghost use Rattle.rb_cell.specs.Cells.{cell_bytes, IsCell, cell_patch, lock_patch};
 
-use crate::cell::{CELL_BYTES, Cell, place_of};
+use crate::cell::{CELL_BYTES, Cell, HEAD_BYTES, place_of};
 use rb_base::{BlockNo, Group, put_u16, put_u64};
 
 /// The bytes of a cell, with zeros behind its value.
@@ -18,7 +18,7 @@ fn bytes_of(cell: &Cell) -> [u8; 92]
     bytes[1] = cell.lock;
     put_u16(&mut bytes, 2, value.len() as u16);
     put_u64(&mut bytes, 4, key);
-    bytes[12..12 + value.len()].copy_from_slice(value);
+    bytes[HEAD_BYTES..HEAD_BYTES + value.len()].copy_from_slice(value);
     bytes
 }
 
