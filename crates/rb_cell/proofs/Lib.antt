@@ -1,0 +1,3 @@
+mod CellBytes
+mod Overwriting
+mod Writing

@@ -1,0 +1,60 @@
+-- The cells of a heap block: what their bytes say, and what a patch of one makes of its block.
+use Rattle.std.specs.Prelude.{ℕ, ◌⊎◌, ◌+◌, ◌*◌, ◌-◌, ◌^◌, ◌<◌, ◌≤◌, List, [], ◌∷◌, ◌++◌, length, take, drop, replicate, slice_index}
+use Rattle.byteorder.specs.Endian.{big_bytes}
+use Rattle.rb_base.specs.Fields.{part, number_at, overwritten}
+use Rattle.rb_base.specs.Groups.{Patch, patch}
+use Rattle.rb_cell.specs.declared.cell.Cell.{Cell}
+
+-- the byte of its block at which cell c begins
+abbrev pub cell_place : ℕ → ℕ
+cell_place c = 416 + 92 * c
+
+-- a cell that can be written: its key and its value have room
+pub record IsCell (cell : Cell) : Type 0 where
+  pub key_fits : cell.key < 2 ^ 64
+  pub short_value : length cell.value.items ≤ 80
+
+-- the value filled up with zeros to 80 bytes
+abbrev pub padded : List ℕ → List ℕ
+padded value = value ++ replicate (80 - length value) 0
+
+-- the 92 bytes of a cell: the state, the lock, the value's length, the key and the value
+abbrev pub cell_bytes : Cell → List ℕ
+cell_bytes cell = cell.state ∷ cell.lock ∷ (big_bytes 2 (length cell.value.items) ++ (big_bytes 8 cell.key ++ padded cell.value.items))
+
+-- The cell that 92 bytes say. A length above 80 takes the 80 bytes that there are.
+abbrev pub cell_of : List ℕ → Cell
+cell_of bytes = record {
+  state = slice_index bytes 0;
+  lock = slice_index bytes 1;
+  key = number_at bytes 4 8;
+  value = record { items = take (number_at bytes 2 2) (drop 12 bytes) };
+}
+
+-- cell c of a block
+abbrev pub cell_at : List ℕ → ℕ → Cell
+cell_at block c = cell_of (part block (cell_place c) 92)
+
+-- the patch of a whole cell
+abbrev pub cell_patch : ℕ → ℕ → Cell → Patch
+cell_patch block c cell = patch block (cell_place c) (cell_bytes cell)
+
+-- the patch of a cell's lock alone
+abbrev pub lock_patch : ℕ → ℕ → ℕ → Patch
+lock_patch block c lock = patch block (cell_place c + 1) (lock ∷ [])
+
+-- a block after the patch of a cell
+abbrev pub with_cell : List ℕ → ℕ → Cell → List ℕ
+with_cell block c cell = overwritten block (cell_place c) (cell_bytes cell)
+
+-- a block after the patch of a lock
+abbrev pub with_lock : List ℕ → ℕ → ℕ → List ℕ
+with_lock block c lock = overwritten block (cell_place c + 1) (lock ∷ [])
+
+-- the cell with another lock
+abbrev pub locked_by : Cell → ℕ → Cell
+locked_by cell lock = record cell { lock = lock }
+
+-- a range and another one have no byte in common
+abbrev pub AreApart : ℕ → ℕ → ℕ → ℕ → Type 0
+AreApart at count other other_count = (at + count ≤ other) ⊎ (other + other_count ≤ at)
