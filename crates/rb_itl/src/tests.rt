@@ -1,4 +1,4 @@
-//! Entries by their bytes, worked by hand, at every place of a block.
+//! Entries by their bytes, worked by hand.
 use crate::{BOUND, EXACT, Entry, FREE, OPEN, entry, put_entry};
 use rb_base::{Group, Uba, Xid};
 
@@ -109,25 +109,23 @@ const GREATEST_BYTES: [u8; 48] = [
 #[test]
 fn worked_entries(rt: HostRuntime) {
     let rows = [
-        (Entry::default(), [0; 48]),
-        (OPEN_ENTRY, OPEN_BYTES),
-        (EXACT_ENTRY, EXACT_BYTES),
-        (BOUND_ENTRY, BOUND_BYTES),
-        (GREATEST_ENTRY, GREATEST_BYTES),
+        (0, Entry::default(), [0; 48]),
+        (1, OPEN_ENTRY, OPEN_BYTES),
+        (4, EXACT_ENTRY, EXACT_BYTES),
+        (6, BOUND_ENTRY, BOUND_BYTES),
+        (7, GREATEST_ENTRY, GREATEST_BYTES),
     ];
-    for (value, bytes) in rows {
-        for i in 0..8 {
-            let mut group = Group::new();
-            put_entry(&mut group, 5, i, &value);
-            assert_eq!(rt; group.patches(), 1);
-            assert_eq!(rt; group.patch_block(0), 5);
-            assert_eq!(rt; group.patch_at(0), 32 + 48 * i as u16);
-            assert_eq!(rt; group.patch_bytes(0), bytes.as_slice());
-            let mut block = [9; 2048];
-            let place = 32 + 48 * i as usize;
-            block[place..place + 48].copy_from_slice(&bytes);
-            assert_eq!(rt; entry(&block, i), value);
-        }
+    for (i, value, bytes) in rows {
+        let place = 32 + 48 * i as usize;
+        let mut group = Group::new();
+        put_entry(&mut group, 5, i, &value);
+        assert_eq!(rt; group.patches(), 1);
+        assert_eq!(rt; group.patch_block(0), 5);
+        assert_eq!(rt; group.patch_at(0) as usize, place);
+        assert_eq!(rt; group.patch_bytes(0), bytes.as_slice());
+        let mut block = [9; 2048];
+        block[place..place + 48].copy_from_slice(&bytes);
+        assert_eq!(rt; entry(&block, i), value);
     }
     assert_eq!(rt; Entry::default().kind, FREE);
 }
