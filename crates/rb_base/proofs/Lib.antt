@@ -2,4 +2,5 @@ pub mod Counted
 pub mod Decimals
 pub mod Fronts
 pub mod Groups
+pub mod Overwriting
 pub mod Written

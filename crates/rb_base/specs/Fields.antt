@@ -1,5 +1,5 @@
 -- Numbers in the bytes of a unit, the highest byte first.
-use Rattle.std.specs.Prelude.{ℕ, ◌+◌, List, ◌++◌, length, take, drop}
+use Rattle.std.specs.Prelude.{ℕ, ◌⊎◌, ◌+◌, ◌≤◌, List, ◌++◌, length, take, drop}
 use Rattle.byteorder.specs.Endian.{big_number, big_bytes}
 
 -- the bytes from `at` to before `at + count`
@@ -17,3 +17,7 @@ overwritten old at bytes = take at old ++ bytes ++ drop (at + length bytes) old
 -- the bytes with a number of `count` bytes written at `at`
 abbrev pub with_number : List ℕ → ℕ → ℕ → ℕ → List ℕ
 with_number old at count value = take at old ++ big_bytes count value ++ drop (at + count) old
+
+-- a range and another one have no byte in common
+abbrev pub AreApart : ℕ → ℕ → ℕ → ℕ → Type 0
+AreApart at count other other_count = (at + count ≤ other) ⊎ (other + other_count ≤ at)

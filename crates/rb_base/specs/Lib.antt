@@ -1,4 +1,7 @@
+pub mod Blocks
 pub mod Counts
 pub mod Fields
 pub mod Groups
 pub mod Heads
+pub mod Moments
+pub mod Stores

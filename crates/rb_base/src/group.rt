@@ -59,6 +59,21 @@ impl Group {
         }
     }
 
+    /// The same patches once more.
+    pub fn copied(&self) -> Group
+        ensures { result ≡ self.now }
+    {
+        let mut heads = ArrayVec::new();
+        let mut bytes = ArrayVec::new();
+        if heads.try_extend_from_slice(self.heads.as_slice()).is_err() {
+            unreachable!()
+        }
+        if bytes.try_extend_from_slice(self.bytes.as_slice()).is_err() {
+            unreachable!()
+        }
+        Group { heads, bytes }
+    }
+
     /// How many patches there are, 0 to 40.
     pub fn patches(&self) -> u32
         ensures count { result ≡ length self.now }

@@ -1,5 +1,5 @@
-//! What every crate of the workspace shares: faults, ids, the fields of a unit, groups of patches, and decimal
-//! numbers.
+//! What every crate of the workspace shares: faults, ids, the fields of a unit, groups of patches, the store that they
+//! patch, and decimal numbers.
 #![tactic(auto)]
 
 mod decimal;
@@ -7,12 +7,14 @@ mod faults;
 mod fields;
 mod group;
 mod ids;
+mod store;
 
 pub use decimal::parse_decimal;
 pub use faults::{Failed, NoMemory, OpenFault};
 pub use fields::{put_u16, put_u32, put_u64, u16_at, u32_at, u64_at};
 pub use group::Group;
 pub use ids::{BlockNo, Lsn, Scn, Shape, UNIT, Uba, Xid};
+pub use store::Store;
 
 #[cfg(test)]
 mod tests;

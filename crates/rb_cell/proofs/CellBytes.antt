@@ -4,10 +4,10 @@ use Rattle.std.proofs.lemmas.Bool.{cases_lt}
 use Rattle.std.proofs.lemmas.List.{take_at, length-append, length-replicate, length-drop}
 use Rattle.byteorder.specs.Endian.{big_bytes}
 use Rattle.byteorder.specs.Numbers.{big_number-reads_back}
-use Rattle.rb_base.specs.Fields.{part, number_at, overwritten}
+use Rattle.rb_base.specs.Fields.{part, number_at, overwritten, AreApart}
 use Rattle.rb_cell.specs.declared.cell.Cell.{Cell}
-use Rattle.rb_cell.specs.Cells.{cell_place, padded, cell_bytes, cell_of, cell_at, IsCell, with_cell, with_lock, locked_by, AreApart}
-use Rattle.rb_cell.proofs.Overwriting.{length-overwritten, part_written, part_apart, drop_before}
+use Rattle.rb_cell.specs.Cells.{cell_place, padded, cell_bytes, cell_of, cell_at, IsCell, with_cell, with_lock, locked_by}
+use Rattle.rb_base.proofs.Overwriting.{length-overwritten, part_written, part_apart, drop_before}
 
 length-padded : (value : List ℕ) → length value ≤ 80 → length (padded value) ≡ 80
 length-padded value short = omega (arith, length-append value (replicate (80 - length value) 0), length-replicate {A = ℕ} (80 - length value) 0)

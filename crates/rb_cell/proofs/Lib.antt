@@ -1,3 +1,2 @@
 mod CellBytes
-mod Overwriting
 mod Writing

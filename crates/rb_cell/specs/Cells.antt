@@ -54,7 +54,3 @@ with_lock block c lock = overwritten block (cell_place c + 1) (lock ∷ [])
 -- the cell with another lock
 abbrev pub locked_by : Cell → ℕ → Cell
 locked_by cell lock = record cell { lock = lock }
-
--- a range and another one have no byte in common
-abbrev pub AreApart : ℕ → ℕ → ℕ → ℕ → Type 0
-AreApart at count other other_count = (at + count ≤ other) ⊎ (other + other_count ≤ at)

@@ -1,9 +1,9 @@
 //! What a cell's patch makes of the block that it is applied to. Whoever reads a block that a group was applied to will
 //! cite these laws.
 ghost use Rattle.std.specs.Prelude.{◌≡◌, ◌≢◌, ℕ, ◌+◌, ◌<◌, List, length};
-ghost use Rattle.rb_base.specs.Fields.{part};
+ghost use Rattle.rb_base.specs.Fields.{part, AreApart};
 ghost use Rattle.rb_cell.specs.declared.cell.Cell.{Cell};
-ghost use Rattle.rb_cell.specs.Cells.{cell_place, cell_bytes, cell_at, IsCell, with_cell, with_lock, locked_by, AreApart};
+ghost use Rattle.rb_cell.specs.Cells.{cell_place, cell_bytes, cell_at, IsCell, with_cell, with_lock, locked_by};
 
 /// Where the bytes of a cell stand, that cell is read. A block that a cell is written to has that cell there, every other
 /// cell as before, and every byte outside of the cell's 92 as before.

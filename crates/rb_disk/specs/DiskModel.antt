@@ -1,5 +1,5 @@
--- How a disk behaves: what a call leaves to be read, what a crash may leave, and how time goes on.
-use Rattle.std.specs.Prelude.{◌≡◌, ◌⊎◌, ℕ, ◌+◌, ◌≤◌, max, List, length, take, drop}
+-- How a disk behaves: what a call leaves to be read, and what a crash may leave.
+use Rattle.std.specs.Prelude.{◌≡◌, ℕ, ◌+◌, ◌≤◌, max, List, length, take, drop}
 
 -- A file after a write of `count` bytes at `at` that may have been cut short: any bytes in the range and past
 -- the old end, the same bytes elsewhere, and a length from the old one to the end of the write.
@@ -13,16 +13,6 @@ pub record Torn (at count : ℕ) (old new : List ℕ) : Type 0 where
 abbrev pub Follows : (List ℕ → List ℕ → Type 0) → (List ℕ → Type 0) → (List ℕ → Type 0) → Type 0
 Follows step before now = (c : List ℕ) → now c → (d : List ℕ) × before d × step d c
 
--- a crash may leave nothing now that it mightn't have left before
-abbrev pub NoMore : (List ℕ → Type 0) → (List ℕ → Type 0) → Type 0
-NoMore before now = (c : List ℕ) → now c → before c
-
 -- each image is this
 abbrev pub Only : List ℕ → (List ℕ → Type 0) → Type 0
 Only file image = (c : List ℕ) → image c → c ≡ file
-
--- Time goes on: what a crash may have left at some moment since t is what it may have left by the call's
--- start, or what it may leave now.
-pub record Passes (before now : ℕ) (since_before since_now : ℕ → List ℕ → Type 0) (image : List ℕ → Type 0) : Type 0 where
-  pub later : before ≤ now
-  pub splits : (t : ℕ) (c : List ℕ) → t ≤ before → since_now t c → since_before t c ⊎ image c

@@ -2,7 +2,8 @@
 use Rattle.std.proofs.Common.{◌≡◌, ◌⊎◌, ℕ, ◌+◌, ◌<◌, ◌≤◌, List, length, drop, get_or, ◌-◌, refl, sym, subst, ◌∙◌, ap, arith, rules, inl, inr}
 use Rattle.std.proofs.lemmas.List.{get_or-take, get_or-drop, places, same_lists}
 use Rattle.rb_base.specs.Fields.{overwritten}
-use Rattle.rb_disk.specs.DiskModel.{Torn, Follows, NoMore, Only}
+use Rattle.rb_base.specs.Moments.{NoMore}
+use Rattle.rb_disk.specs.DiskModel.{Torn, Follows, Only}
 
 -- a write that was done is one that may have been cut short, at any length
 pub done_is_torn : (at : ℕ) (file bytes : List ℕ) → at ≤ length file → Torn at (length bytes) file (overwritten file at bytes)

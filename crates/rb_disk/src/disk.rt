@@ -2,7 +2,8 @@
 ghost use Rattle.std.specs.Prelude.{◌≡◌, ◌+◌, ◌≤◌, ℕ, List, length, IfOk, OnOk, OnErr};
 ghost use Rattle.rb_base.specs.Counts.{IsCounted};
 ghost use Rattle.rb_base.specs.Fields.{part, overwritten};
-ghost use Rattle.rb_disk.specs.DiskModel.{Torn, Follows, NoMore, Only, Passes};
+ghost use Rattle.rb_base.specs.Moments.{NoMore, Passes};
+ghost use Rattle.rb_disk.specs.DiskModel.{Torn, Follows, Only};
 
 use rb_base::Failed;
 

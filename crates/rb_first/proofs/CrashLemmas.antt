@@ -4,7 +4,7 @@ use Rattle.std.proofs.lemmas.Bool.{false≢true}
 use Rattle.std.proofs.lemmas.List.{append-nil, take-append-le, take_all, take-take, map_push, length-map}
 use Rattle.std.specs.List.{flat_map}
 use Rattle.rb_disk.specs.DiskModel.{Only}
-use Rattle.rb_disk.specs.Moments.{LeavesOnly, begun, joined, weaker}
+use Rattle.rb_base.specs.Moments.{LeavesOnly, begun, joined, weaker}
 use Rattle.rb_layout.specs.declared.layout.Layout.{Layout}
 use Rattle.rb_layout.specs.Regions.{HasIdentity, log_offset}
 use Rattle.rb_log.specs.Slots.{LogIs, SameSlots, SameOutside, Interrupted}

@@ -1,6 +1,6 @@
 -- What a crash may leave of a store, by the states of its engine.
 use Rattle.std.specs.Prelude.{◌≡◌, ℕ, ◌≤◌, true, false, List, ◌++◌}
-use Rattle.rb_disk.specs.Moments.{LeavesOnly}
+use Rattle.rb_base.specs.Moments.{LeavesOnly}
 use Rattle.rb_layout.specs.declared.layout.Layout.{Layout}
 use Rattle.rb_model.specs.Change.{Change}
 use Rattle.rb_model.specs.Reply.{is_empty, committed}

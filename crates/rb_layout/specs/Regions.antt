@@ -1,7 +1,11 @@
 -- Where the parts of a file lie, and what its first bytes say. All parts are units of 2,048 bytes.
 use Rattle.std.specs.Prelude.{◌≡◌, ℕ, ◌+◌, ◌-◌, ◌*◌, List, ◌++◌, length, take, replicate, codes}
 use Rattle.byteorder.specs.Endian.{big_bytes}
+use Rattle.rb_base.specs.declared.ids.Shape.{Shape}
 use Rattle.rb_layout.specs.declared.layout.Layout.{Layout}
+
+abbrev pub shape_of : Layout → Shape
+shape_of l = record { tables = l.tables; blocks = l.blocks; segments = l.segments }
 
 -- the blocks of the tables, and a header and eight extents of four blocks for each segment
 abbrev pub block_count : Layout → ℕ

@@ -1,10 +1,13 @@
 //! `Layout`: the four numbers of a file and the offsets that they give. The log, the shell and `format` ask it.
 ghost use Rattle.std.specs.Prelude.{◌≡◌, ◌+◌, ◌*◌, ◌<◌, ◌≤◌, ◌↔◌, ◌++◌, length, drop, IsSome, IfSome};
 
-use rb_base::{UNIT, put_u16, put_u32};
+use rb_base::{Shape, UNIT, put_u16, put_u32};
 
-/// The version of the files of this form.
+/// The version of the files that the program makes and runs: records of commits in the log.
 pub const VERSION: u32 = 101;
+
+/// The version of the files whose log has groups of patches.
+pub const GROUPS_VERSION: u32 = 102;
 
 /// How many bytes of the first unit say what file it is.
 pub const IDENTITY: usize = 24;
@@ -48,7 +51,8 @@ pub struct Head {
 
 impl Layout {
     ghost use Rattle.rb_layout.specs.Ranges.{InRange};
-    ghost use Rattle.rb_layout.specs.Regions.{file_length, log_offset, twin_offset, block_count, block_offset, identity};
+    ghost use Rattle.rb_base.specs.Blocks.{IsShape};
+    ghost use Rattle.rb_layout.specs.Regions.{file_length, log_offset, twin_offset, block_count, block_offset, identity, shape_of};
 
     /// A layout of these numbers, or None where one is out of its range.
     pub fn new(tables: u16, blocks: u32, segments: u16, log: u32) -> Option<Layout>
@@ -105,14 +109,40 @@ impl Layout {
         UNIT_BYTES * (BEFORE_LOG + u64::from(self.log) + TWIN + u64::from(no))
     }
 
+    /// The tables, blocks and segments.
+    pub fn shape(&self) -> Shape
+        ensures shape { result ≡ shape_of self.now }
+        ensures in_range { IsShape result }
+    {
+        let Layout {
+            tables,
+            blocks,
+            segments,
+            log: _,
+        } = *self;
+        Shape {
+            tables,
+            blocks,
+            segments,
+        }
+    }
+
     /// Writes what the file is into the first 24 bytes, and nothing else.
     pub fn put_identity(&self, into: &mut [u8])
         requires { 24 ≤ length into.old }
         ensures bytes { into.new ≡ identity VERSION self.now ++ drop 24 into.old }
         ensures version { VERSION ≡ 101 }
     {
+        self.put_identity_of(VERSION, into);
+    }
+
+    /// Writes what a file of that version is into the first 24 bytes, and nothing else.
+    pub fn put_identity_of(&self, version: u32, into: &mut [u8])
+        requires { 24 ≤ length into.old }
+        ensures { into.new ≡ identity version self.now ++ drop 24 into.old }
+    {
         into[..8].copy_from_slice(&MARK);
-        put_u32(into, 8, VERSION);
+        put_u32(into, 8, version);
         put_u16(into, 12, self.tables);
         put_u16(into, 14, self.segments);
         put_u32(into, 16, self.blocks);

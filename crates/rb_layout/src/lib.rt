@@ -4,7 +4,7 @@
 mod layout;
 mod read;
 
-pub use layout::{Head, IDENTITY, Layout, VERSION};
+pub use layout::{GROUPS_VERSION, Head, IDENTITY, Layout, VERSION};
 pub use read::one_layout;
 
 #[cfg(test)]

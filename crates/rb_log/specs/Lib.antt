@@ -1,3 +1,4 @@
+pub mod GroupSlots
 pub mod LogState
 pub mod SlotLaws
 pub mod Slots

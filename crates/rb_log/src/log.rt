@@ -2,7 +2,8 @@
 ghost use Rattle.std.specs.Prelude.{◌≡◌, ◌≤◌, ◌<◌, ◌+◌, ◌++◌, ◌⊎◌, ◌↔◌, [], ◌∷◌, ℕ, List, true, false, take, drop, length, IsTrue, IsErrOf, IfOk, IfErr, IfSome, IfNone, OnOk, OnErr};
 ghost use Rattle.rb_base.specs.Counts.{IsCounted, Rose};
 ghost use Rattle.rb_disk.specs.DiskModel.{Only};
-ghost use Rattle.rb_disk.specs.Moments.{Rests, LeavesOnly};
+ghost use Rattle.rb_base.specs.Moments.{LeavesOnly};
+ghost use Rattle.rb_disk.specs.Moments.{Rests};
 ghost use Rattle.rb_layout.specs.Regions.{file_length};
 ghost use Rattle.rb_log.specs.Slots.{slot_at, record_unit, HoldsRecord, LogIs, IsFaulty, SameSlots, SameOutside, Interrupted};
 ghost use Rattle.rb_log.specs.LogState.{LogState, pending_records, IsReady};

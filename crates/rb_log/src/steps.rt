@@ -3,7 +3,7 @@ ghost use Rattle.std.specs.Prelude.{◌≡◌, ◌+◌, ◌≤◌, ◌<◌, ◌^
 ghost use Rattle.rb_base.specs.Counts.{IsCounted};
 ghost use Rattle.rb_base.specs.Fields.{overwritten};
 ghost use Rattle.rb_disk.specs.DiskModel.{Torn, Only};
-ghost use Rattle.rb_disk.specs.Moments.{LeavesOnly};
+ghost use Rattle.rb_base.specs.Moments.{LeavesOnly};
 ghost use Rattle.rb_log.specs.Slots.{TornFrom};
 
 use rb_base::Failed;

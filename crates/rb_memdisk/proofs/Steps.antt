@@ -3,7 +3,7 @@ use Rattle.std.proofs.Common.{◌≡◌, ℕ, ◌≤◌, true, false, List, [], 
 use Rattle.std.proofs.lemmas.List.{append-nil, take_all, drop_all}
 use Rattle.std.proofs.lemmas.Bool.{and_from}
 use Rattle.rb_base.specs.Fields.{overwritten}
-use Rattle.rb_disk.specs.DiskModel.{Passes}
+use Rattle.rb_base.specs.Moments.{Passes}
 use Rattle.rb_memdisk.specs.declared.call.Call.{Call}
 use Rattle.rb_memdisk.specs.declared.call.Call.TheVariants.{Length, Read, Write, Sync}
 use Rattle.rb_memdisk.specs.declared.memory.MemDisk.{MemDisk}

@@ -5,7 +5,8 @@ use Rattle.std.proofs.lemmas.List.{places, take-append-le, drop-append-le, lengt
 use Rattle.std.proofs.lemmas.List.Elements.{All-head, All-tail}
 use Rattle.std.proofs.lemmas.Bool.{and_parts, and_from, cases_lt}
 use Rattle.rb_base.specs.Fields.{overwritten}
-use Rattle.rb_disk.specs.DiskModel.{Torn, Passes}
+use Rattle.rb_base.specs.Moments.{Passes}
+use Rattle.rb_disk.specs.DiskModel.{Torn}
 use Rattle.rb_disk.specs.Writes.{done_is_torn, none_is_torn, torn_stays}
 use Rattle.rb_memdisk.specs.declared.call.Call.{Call}
 use Rattle.rb_memdisk.specs.declared.call.Call.TheVariants.{Length, Read, Write, Sync}

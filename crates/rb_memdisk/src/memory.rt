@@ -2,7 +2,8 @@
 ghost use Rattle.std.specs.Prelude.{◌≡◌, ◌+◌, ◌<◌, ◌≤◌, ◌⊎◌, ◌↔◌, ℕ, true, [], ◌∷◌, ◌++◌, length, take, drop, count_by, vec_len, vec_capacity, max, IsTrue, IsOk, IsErr, IfOk, OnOk, OnErr, is_ok};
 ghost use Rattle.rb_base.specs.Counts.{IsCounted, Rose};
 ghost use Rattle.rb_base.specs.Fields.{part, overwritten};
-ghost use Rattle.rb_disk.specs.DiskModel.{Torn, Follows, NoMore, Only, Passes};
+ghost use Rattle.rb_base.specs.Moments.{NoMore, Passes};
+ghost use Rattle.rb_disk.specs.DiskModel.{Torn, Follows, Only};
 ghost use Rattle.rb_memdisk.specs.Record.{read_after_all, left_after_all, fits, fits_one, read_after, left_after, picked_after, picked_after_all, MayLeave, MayLeaveSince, IsIdle, IsUndone, CanFill, is_sync};
 ghost use Rattle.rb_memdisk.specs.Replays.{reads_now, now_counts, only_now};
 

@@ -1,6 +1,7 @@
 -- From the machine that an opening made to the run over the file that it opened.
 use Rattle.std.proofs.Common.{◌≡◌, ◌∙◌, ◌⊎◌, inl, inr, ap, subst, refl, arith, ℕ, Bool, ◌+◌, ◌<◌, List, ◌++◌, length}
-use Rattle.rb_disk.specs.Moments.{Rests, joined, weaker, rests_leave}
+use Rattle.rb_base.specs.Moments.{joined, weaker}
+use Rattle.rb_disk.specs.Moments.{Rests, rests_leave}
 use Rattle.rb_first.specs.Crash.{OnTheWay, Stands, Survives}
 use Rattle.std.proofs.lemmas.List.{length-append}
 use Rattle.rb_first.specs.Store.{shape_of, IsStore}

@@ -1,6 +1,6 @@
 -- What a run of a script over a file does.
 use Rattle.std.specs.Prelude.{◌≡◌, ◌⊎◌, ℕ, Bool, List, ◌++◌}
-use Rattle.rb_disk.specs.Moments.{LeavesOnly}
+use Rattle.rb_base.specs.Moments.{LeavesOnly}
 use Rattle.rb_first.specs.Crash.{AtEnd, OnTheWay}
 use Rattle.rb_first.specs.Store.{shape_of, IsStore}
 use Rattle.rb_layout.specs.declared.layout.Layout.{Layout}

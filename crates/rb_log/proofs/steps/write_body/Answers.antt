@@ -1,6 +1,6 @@
 use Rattle.std.proofs.Common.{◌≡◌, ◌+◌, ℕ, subst, arith}
 use Rattle.rb_disk.specs.DiskModel.{Torn, Follows}
-use Rattle.rb_disk.specs.Moments.{begun, goes_on}
+use Rattle.rb_base.specs.Moments.{begun, goes_on}
 use Rattle.rb_log.specs.Slots.{TornFrom}
 use Rattle.rb_disk.specs.Writes.{none_is_torn}
 use Rattle.rb_log.proofs.Writes.{first_torn, both_torn}

@@ -1,6 +1,6 @@
 use Rattle.std.proofs.Common.{◌≡◌, ℕ, ◌≤◌, ◌<◌, List, ◌∷◌, ◌++◌, [], length, take, drop, false, arith, ap, sym, ◌∙◌, subst, refl}
 use Rattle.std.specs.List.{AllByRecursion}
-use Rattle.rb_disk.specs.Moments.{LeavesOnly}
+use Rattle.rb_base.specs.Moments.{LeavesOnly}
 use Rattle.rb_model.specs.Reply.{is_empty, record_length}
 use Rattle.rb_record.specs.Records.{IsChange, IsRecord}
 use Rattle.rb_first.specs.Engine.{Engine}

@@ -1,6 +1,6 @@
 use Rattle.std.proofs.Common.{◌≡◌, ◌+◌, ◌++◌, ◌-◌, List, ℕ, length, take, drop, subst, sym, ◌∙◌, ap, arith}
 use Rattle.std.proofs.lemmas.List.{take_rest}
-use Rattle.rb_disk.specs.Moments.{begun, weaker, joined}
+use Rattle.rb_base.specs.Moments.{begun, weaker, joined}
 use Rattle.rb_layout.specs.Regions.{log_offset}
 use Rattle.rb_log.specs.LogState.{LogState, IsReady}
 use Rattle.rb_log.specs.Slots.{record_unit, TornFrom, LogIs, Interrupted}

@@ -1,8 +1,7 @@
 -- What bytes that were written over others leave of them.
 use Rattle.std.proofs.Common.{◌≡◌, ℕ, ◌+◌, ◌-◌, ◌≤◌, List, ◌++◌, length, take, drop, arith, ap, sym, ◌∙◌, append_assoc, inl, inr}
 use Rattle.std.proofs.lemmas.List.{take_at, drop_at, take-take, take-append-le, drop-append-le, drop-drop, drop-take, length-append, length-take-le, length-drop}
-use Rattle.rb_base.specs.Fields.{part, overwritten}
-use Rattle.rb_cell.specs.Cells.{AreApart}
+use Rattle.rb_base.specs.Fields.{part, overwritten, AreApart}
 
 pub length-overwritten : (old : List ℕ) (at : ℕ) (bytes : List ℕ) → at + length bytes ≤ length old → length (overwritten old at bytes) ≡ length old
 length-overwritten old at bytes within =

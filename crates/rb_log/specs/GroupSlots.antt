@@ -1,0 +1,69 @@
+-- What the log slots of a file hold where groups of patches are logged. A slot has a unit as in `Slots`.
+use Rattle.std.specs.Prelude.{◌≡◌, ◌≢◌, ◌⊎◌, ℕ, ◌+◌, ◌-◌, ◌*◌, ◌<◌, List, [], ◌∷◌, ◌++◌, take, replicate, slice_index, Bool}
+use Rattle.byteorder.specs.Endian.{big_bytes}
+use Rattle.rb_base.specs.Blocks.{AreWithin}
+use Rattle.rb_base.specs.Fields.{part, number_at}
+use Rattle.rb_base.specs.Groups.{Patch, group_length}
+use Rattle.rb_group.specs.Spelling.{group_bytes, Spells}
+use Rattle.rb_layout.specs.Regions.{shape_of}
+use Rattle.rb_layout.specs.declared.layout.Layout.{Layout}
+use Rattle.rb_log.specs.Slots.{slot_at, SameOutside}
+
+-- The body of a unit holds this group under this number, and its blocks are those of the file.
+pub record HasGroup (l : Layout) (unit : List ℕ) (number : ℕ) (group : List Patch) : Type 0 where
+  pub numbered : number_at unit 8 8 ≡ number
+  pub spelled : Spells (part unit 16 (number_at unit 2 2)) group
+  pub long : number_at unit 2 2 ≡ group_length group
+  pub within : AreWithin (shape_of l) group
+
+-- and its gate is open
+pub record HoldsGroup (l : Layout) (unit : List ℕ) (number : ℕ) (group : List Patch) : Type 0 where
+  pub opened : slice_index unit 0 ≡ 1
+  pub body : HasGroup l unit number group
+
+-- The log of a file from a slot on: these groups in order, with consecutive numbers, up to a closed gate or the last slot.
+abbrev pub GroupsAre : Layout → List ℕ → ℕ → List (List Patch) → Type 0
+GroupsAre l file slot [] = (slot + 1 ≡ l.log) ⊎ (slice_index (slot_at file slot) 0 ≢ 1)
+GroupsAre l file slot (group ∷ groups) =
+    (slot + 1 < l.log) × HoldsGroup l (slot_at file slot) (slot + 1) group × GroupsAre l file (slot + 1) groups
+
+-- the log begins with these groups from a slot on, whatever follows
+abbrev pub BeginsWithGroups : Layout → List ℕ → ℕ → List (List Patch) → Type 0
+BeginsWithGroups l file slot [] = Unit {0}
+BeginsWithGroups l file slot (group ∷ groups) =
+    (slot + 1 < l.log) × HoldsGroup l (slot_at file slot) (slot + 1) group × BeginsWithGroups l file (slot + 1) groups
+
+-- a slot that the log reaches is open and holds no group of its number
+pub record IsFaultyGroup (l : Layout) (file : List ℕ) (slot : ℕ) : Type 0 where
+  pub reached : slot + 1 < l.log
+  pub opened : slice_index (slot_at file slot) 0 ≡ 1
+  pub none : (group : List Patch) → HasGroup l (slot_at file slot) (slot + 1) group → ⊥
+
+-- a unit as it is written: what isn't named is 0
+abbrev pub group_unit : ℕ → ℕ → List Patch → List ℕ
+group_unit gate number group =
+    gate ∷ 0 ∷ big_bytes 2 (group_length group) ++ 0 ∷ 0 ∷ 0 ∷ 0 ∷ big_bytes 8 number ++ group_bytes group
+    ++ replicate (2032 - group_length group) 0
+
+-- An image of a flush: its log has the groups of before and those of some number of its first units, 32 to a unit and the
+-- last with fewer. Outside the log it is as an image of before.
+pub record FlushedSome (image : List ℕ → Type 0) (l : Layout) (groups pending : List (List Patch)) (c : List ℕ) : Type 0 where
+  pub outside : (d : List ℕ) × image d × SameOutside l.log d c
+  pub units : ℕ
+  pub log : GroupsAre l c 0 (groups ++ take (32 * units) pending)
+
+-- An image while the groups behind the first `count` are dropped: its log has all or those. Outside the log it is as an
+-- image of before.
+pub record DroppedSome (image : List ℕ → Type 0) (l : Layout) (groups : List (List Patch)) (count : ℕ) (c : List ℕ) : Type 0 where
+  pub outside : (d : List ℕ) × image d × SameOutside l.log d c
+  pub log : GroupsAre l c 0 groups ⊎ GroupsAre l c 0 (take count groups)
+
+-- what a log of groups is at a moment
+pub record GroupLogState : Type 0 where
+  pub layout : Layout
+  -- how many slots hold groups that were scanned or flushed
+  pub used : ℕ
+  -- what the next flush writes
+  pub pending : List (List Patch)
+  -- whether a scan has found the end
+  pub scanned : Bool
