@@ -1,1 +1,2 @@
-pub mod Units
+mod LapLemmas
+mod Units
