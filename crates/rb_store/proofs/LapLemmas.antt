@@ -1,9 +1,9 @@
 -- What a crash leaves of a file of groups, and what it opens to, over a flush and over an opening.
 use Rattle.std.proofs.Common.{◌≡◌, ℕ, ◌+◌, ◌*◌, ◌-◌, List, ◌++◌, length, take, refl, arith, ap, sym, ◌∙◌, subst, Some}
-use Rattle.std.proofs.lemmas.List.{take-take}
-use Rattle.rb_base.specs.Blocks.{after_groups, commit_block, fresh_blocks}
+use Rattle.std.proofs.lemmas.List.{take-take, length-append}
+use Rattle.rb_base.specs.Blocks.{after_group, after_groups, up_to_last, commit_block, fresh_blocks}
 use Rattle.rb_base.specs.Groups.{Patch}
-use Rattle.rb_base.specs.Stores.{AfterSome}
+use Rattle.rb_base.specs.Stores.{AfterSome, after_pending, after_kept}
 use Rattle.rb_base.proofs.Commits.{behind_commit, after_joined}
 use Rattle.rb_layout.specs.Regions.{HasIdentity, log_offset, shape_of}
 use Rattle.rb_layout.specs.declared.layout.Layout.{Layout}
@@ -53,3 +53,71 @@ module _ {D : Type 0} (content : D → List ℕ) (image : D → List ℕ → Typ
       let now = after_groups first (committed_groups (shape_of l) (take (32 * some.units) s.pending)) b in
       let opens : OpensTo l c now = opens_behind l st.groups (take (32 * some.units) s.pending) b c first st.whole st.made (first_waiting s.number (length st.groups) (length s.pending) st.count) lap in
       (now, record { layout = l; shape_is = refl; slots_are = refl; opens = opens }, record { count = 32 * some.units; made = refl })
+
+  -- an image opens to what is stable
+  pub stable_left : (s : LapState D) (b : List (List ℕ)) (c : List ℕ) → IsStable content image s b → image s.disk c → Opens (shape_of s.layout) (Some s.layout.log) c b
+  stable_left s b c st here = record {
+    layout = s.layout;
+    shape_is = refl;
+    slots_are = refl;
+    opens = record { groups = st.groups; lap = st.images c here; made = st.made ∙ ap (λ (gs : List (List Patch)). after_groups 1 gs (fresh_blocks (shape_of s.layout))) (sym st.whole) };
+  }
+
+  -- and patched by the groups that wait it is what is read
+  pub stable_patched : (s : LapState D) (b : List (List ℕ)) → IsStable content image s b → s.blocks ≡ after_pending s.number s.pending b
+  stable_patched s b st = st.patched ∙ ap (λ (n : ℕ). after_groups n s.pending b) (omega (arith, st.count))
+
+  -- a file that has the groups that waited behind those of before
+  pub flush_opens : (s : LapState D) (b : List (List ℕ)) (c : List ℕ) → (st : IsStable content image s b) → IsLap s.layout (st.groups ++ s.pending) c
+      → Opens (shape_of s.layout) (Some s.layout.log) c (after_kept (commit_block (shape_of s.layout)) s.number s.pending b)
+  flush_opens s b c st lap = record {
+    layout = s.layout;
+    shape_is = refl;
+    slots_are = refl;
+    opens = opens_behind s.layout st.groups s.pending b c (s.number + 1 - length s.pending) st.whole st.made (first_waiting s.number (length st.groups) (length s.pending) st.count) lap;
+  }
+
+  -- where they end in a commit they are stable then
+  pub flush_stable : (s new : LapState D) (b : List (List ℕ)) → (st : IsStable content image s b) → committed_groups (shape_of s.layout) s.pending ≡ s.pending → new.layout ≡ s.layout → new.blocks ≡ s.blocks → new.pending ≡ [] → new.number ≡ s.number
+      → IsLap s.layout (st.groups ++ s.pending) (content new.disk) → ((c : List ℕ) → image new.disk c → IsLap s.layout (st.groups ++ s.pending) c) → IsStable content image new new.blocks
+  flush_stable s new b st ends layout blocks pending number file images =
+      let all = st.groups ++ s.pending in
+      let lap : (c : List ℕ) → IsLap s.layout all c → IsLap new.layout all c = λ c h. subst (λ (l : Layout). IsLap l all c) (sym layout) h in
+      record {
+        groups = all;
+        count = let l = length-append st.groups s.pending in let p = ap length pending in omega (arith, l, p, st.count, number);
+        whole = ap (λ (l : Layout). committed_groups (shape_of l) all) layout ∙ behind_commit (commit_block (shape_of s.layout)) st.groups s.pending st.whole ∙ ap (λ (gs : List (List Patch)). st.groups ++ gs) ends;
+        made = blocks ∙ st.patched ∙ ap (λ (bs : List (List ℕ)). after_groups (length st.groups + 1) s.pending bs) st.made
+            ∙ ap (λ (n : ℕ). after_groups n s.pending (after_groups 1 st.groups (fresh_blocks (shape_of s.layout)))) (omega arith)
+            ∙ sym (after_joined 1 st.groups s.pending (fresh_blocks (shape_of s.layout))) ∙ ap (λ (l : Layout). after_groups 1 all (fresh_blocks (shape_of l))) (sym layout);
+        patched = ap (λ (gs : List (List Patch)). after_groups (length all + 1) gs new.blocks) (sym pending);
+        file = lap (content new.disk) file;
+        images = λ c here. lap c (images c here);
+      }
+
+  -- one group more that waits
+  pub apply_stable : (s new : LapState D) (b : List (List ℕ)) (group : List Patch) → IsStable content image s b → new.layout ≡ s.layout → new.blocks ≡ after_group (s.number + 1) group s.blocks → new.pending ≡ s.pending ++ group ∷ []
+      → new.number ≡ s.number + 1 → new.disk ≡ s.disk → IsStable content image new b
+  apply_stable s new b group st layout blocks pending number disk = record {
+    groups = st.groups;
+    count = let p = ap length pending in let l = length-append s.pending (group ∷ []) in omega (arith, p, l, number, st.count);
+    whole = ap (λ (l : Layout). committed_groups (shape_of l) st.groups) layout ∙ st.whole;
+    made = st.made ∙ ap (λ (l : Layout). after_groups 1 st.groups (fresh_blocks (shape_of l))) (sym layout);
+    patched = blocks ∙ ap (λ (bs : List (List ℕ)). after_group (s.number + 1) group bs) st.patched
+        ∙ ap (λ (n : ℕ). after_group n group (after_groups (length st.groups + 1) s.pending b)) (omega (arith, st.count))
+        ∙ sym (after_joined (length st.groups + 1) s.pending (group ∷ []) b) ∙ ap (λ (gs : List (List Patch)). after_groups (length st.groups + 1) gs b) (sym pending);
+    file = subst (λ (l : Layout). IsLap l st.groups (content new.disk)) (sym layout) (subst (λ (d : D). IsLap s.layout st.groups (content d)) (sym disk) st.file);
+    images = λ c here. subst (λ (l : Layout). IsLap l st.groups c) (sym layout) (st.images c (subst (λ (d : D). image d c) disk here));
+  }
+
+  -- another block loaded
+  pub load_stable : (s new : LapState D) (b : List (List ℕ)) → IsStable content image s b → new.layout ≡ s.layout → new.blocks ≡ s.blocks → new.pending ≡ s.pending → new.number ≡ s.number → new.disk ≡ s.disk → IsStable content image new b
+  load_stable s new b st layout blocks pending number disk = record {
+    groups = st.groups;
+    count = let p = ap length pending in omega (arith, p, number, st.count);
+    whole = ap (λ (l : Layout). committed_groups (shape_of l) st.groups) layout ∙ st.whole;
+    made = st.made ∙ ap (λ (l : Layout). after_groups 1 st.groups (fresh_blocks (shape_of l))) (sym layout);
+    patched = blocks ∙ st.patched ∙ ap (λ (gs : List (List Patch)). after_groups (length st.groups + 1) gs b) (sym pending);
+    file = subst (λ (l : Layout). IsLap l st.groups (content new.disk)) (sym layout) (subst (λ (d : D). IsLap s.layout st.groups (content d)) (sym disk) st.file);
+    images = λ c here. subst (λ (l : Layout). IsLap l st.groups c) (sym layout) (st.images c (subst (λ (d : D). image d c) disk here));
+  }
