@@ -1,5 +1,5 @@
 -- What a crash leaves of a file of groups, and what it opens to, over a flush and over an opening.
-use Rattle.std.proofs.Common.{◌≡◌, ℕ, ◌+◌, ◌*◌, ◌-◌, List, ◌++◌, length, take, refl, arith, ap, sym, ◌∙◌, subst, Some}
+use Rattle.std.proofs.Common.{[], ◌∷◌, ◌≡◌, ℕ, ◌+◌, ◌*◌, ◌-◌, List, ◌++◌, length, take, refl, arith, ap, sym, ◌∙◌, subst, Some}
 use Rattle.std.proofs.lemmas.List.{take-take, length-append}
 use Rattle.rb_base.specs.Blocks.{after_group, after_groups, up_to_last, commit_block, fresh_blocks}
 use Rattle.rb_base.specs.Groups.{Patch}
