@@ -1,7 +1,7 @@
 -- What a crash leaves of a file of groups, and what it opens to, over a flush and over an opening.
 use Rattle.std.proofs.Common.{[], ◌∷◌, ◌≡◌, ℕ, ◌+◌, ◌*◌, ◌-◌, List, ◌++◌, length, take, refl, arith, ap, sym, ◌∙◌, subst, Some}
 use Rattle.std.proofs.lemmas.List.{take-take, length-append}
-use Rattle.rb_base.specs.Blocks.{after_group, after_groups, up_to_last, commit_block, fresh_blocks}
+use Rattle.rb_base.specs.Blocks.{after_group, after_groups, commit_block, fresh_blocks}
 use Rattle.rb_base.specs.Groups.{Patch}
 use Rattle.rb_base.specs.Stores.{AfterSome, after_pending, after_kept}
 use Rattle.rb_base.proofs.Commits.{behind_commit, after_joined}

@@ -1,1 +1,3 @@
+pub mod Lap
 pub mod Laps
+pub mod Scanned

@@ -1,0 +1,53 @@
+-- What an opening has scanned of a log of groups, and what it leaves.
+use Rattle.std.specs.Prelude.{◌≡◌, ℕ, ◌+◌, ◌<◌, ◌≤◌, Bool, true, false, List, [], ◌∷◌, ◌++◌, length}
+use Rattle.std.specs.List.{AllByRecursion}
+use Rattle.rb_base.specs.Blocks.{after_groups, fresh_blocks, patches_block}
+use Rattle.rb_base.specs.Groups.{Patch}
+use Rattle.rb_layout.specs.Regions.{shape_of}
+use Rattle.rb_layout.specs.declared.layout.Layout.{Layout}
+use Rattle.rb_log.specs.GroupSlots.{GroupLogState, GroupsAre, BeginsWithGroups, IsLoggable}
+use Rattle.rb_plainstore.specs.Plain.{PlainState}
+use Rattle.rb_store.specs.Laps.{IsLap, committed_groups}
+
+-- The log is scanned up to some slot. The blocks are those after the groups up to the last commit, and the groups behind
+-- it wait. The file begins with them all, where it is told.
+pub record HasScanned (told : Type 0) (l : Layout) (file : List ℕ) (plain : PlainState) (log : GroupLogState) (waiting : List (List Patch)) : Type 0 where
+  pub groups : List (List Patch)
+  pub log_is : log ≡ record { layout = l; used = length groups + length waiting; pending = []; scanned = false }
+  pub shape_is : plain.shape ≡ shape_of l
+  pub number : plain.number ≡ length groups
+  pub blocks : plain.blocks ≡ after_groups 1 groups (fresh_blocks (shape_of l))
+  pub whole : committed_groups (shape_of l) (groups ++ waiting) ≡ groups
+  pub few : length groups + length waiting < l.log
+  pub each : AllByRecursion (IsLoggable l) waiting
+  pub begins : told → BeginsWithGroups l file 0 (groups ++ waiting)
+
+-- One more group was taken: it waits, or, being a commit, all that wait are put into the blocks.
+pub record Takes (commit : ℕ) (before now : PlainState) (waiting : List (List Patch)) (group : List Patch) (left : List (List Patch)) : Type 0 where
+  pub waits : patches_block commit group ≡ false → (now ≡ before) × (left ≡ waiting ++ group ∷ [])
+  pub blocks : patches_block commit group ≡ true → now.blocks ≡ after_groups (before.number + 1) (waiting ++ group ∷ []) before.blocks
+  pub number : patches_block commit group ≡ true → now.number ≡ before.number + length waiting + 1
+  pub none_left : patches_block commit group ≡ true → left ≡ []
+
+-- The log is scanned to its end, as `HasScanned` says: the file has these groups and no more.
+pub record HasScannedAll (told : Type 0) (l : Layout) (file : List ℕ) (plain : PlainState) (log : GroupLogState) (waiting : List (List Patch)) : Type 0 where
+  pub groups : List (List Patch)
+  pub log_is : log ≡ record { layout = l; used = length groups + length waiting; pending = []; scanned = true }
+  pub shape_is : plain.shape ≡ shape_of l
+  pub number : plain.number ≡ length groups
+  pub blocks : plain.blocks ≡ after_groups 1 groups (fresh_blocks (shape_of l))
+  pub whole : committed_groups (shape_of l) (groups ++ waiting) ≡ groups
+  pub few : length groups + length waiting < l.log
+  pub log : told → GroupsAre l file 0 (groups ++ waiting)
+
+-- The file and each image have these groups, of which the last is a commit, and the blocks are those after them.
+pub record HasOpened {D : Type 0} (told : Type 0) (content : D → List ℕ) (image : D → List ℕ → Type 0) (l : Layout) (plain : PlainState) (log : GroupLogState) (disk : D) : Type 0 where
+  pub groups : List (List Patch)
+  pub log_is : log ≡ record { layout = l; used = length groups; pending = []; scanned = true }
+  pub shape_is : plain.shape ≡ shape_of l
+  pub number : plain.number ≡ length groups
+  pub blocks : plain.blocks ≡ after_groups 1 groups (fresh_blocks (shape_of l))
+  pub whole : committed_groups (shape_of l) groups ≡ groups
+  pub few : length groups < l.log
+  pub file : told → IsLap l groups (content disk)
+  pub images : told → (c : List ℕ) → image disk c → IsLap l groups c

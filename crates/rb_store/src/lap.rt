@@ -1,0 +1,135 @@
+//! `LapStore`: the blocks of a file in memory, with the log of one lap that makes them last. The engine over blocks will
+//! stand on it; the program doesn't use it yet.
+ghost use Rattle.std.specs.Prelude.{◌≡◌, ℕ, List, false, [], IfOk, IfErr};
+ghost use Rattle.rb_base.specs.Counts.{Rose};
+ghost use Rattle.rb_disk.specs.Moments.{Rests};
+ghost use Rattle.rb_layout.specs.declared.layout.Layout.{Layout};
+ghost use Rattle.rb_log.specs.GroupSlots.{GroupLogState};
+ghost use Rattle.rb_plainstore.specs.Plain.{PlainState};
+ghost use Rattle.rb_store.specs.Laps.{LapState, OpensTo, IsStable};
+
+use rb_base::{BlockNo, Failed, Group, Lsn, Shape, Store};
+use rb_disk::Disk;
+use rb_layout::Layout;
+use rb_log::GroupLog;
+use rb_plainstore::PlainStore;
+use std::marker::Model;
+
+/// The blocks of a file of groups in memory, and its log. The log begins in its first slot and doesn't go round: what has
+/// no room in it is not taken.
+#[derive(Drop)]
+pub struct LapStore<D: Disk> {
+    pub(crate) plain: PlainStore,
+    pub(crate) log: GroupLog,
+    pub(crate) layout: Layout,
+    pub(crate) failed: bool,
+    pub(crate) disk: D,
+}
+
+impl<D: Disk> Model for LapStore<D> {
+    ghost use Rattle.std.specs.Prelude.{◌≡◌, ℕ, List, length, false};
+    ghost use Rattle.rb_layout.specs.Regions.{file_length};
+    ghost use Rattle.rb_log.specs.Slots.{SameSlots};
+    ghost use Rattle.rb_store.specs.Laps.{LapState};
+    ghost use Rattle.rb_store.specs.Lap.{IsInStep};
+
+    ghost Value = { LapState D };
+
+    ghost view = { λ s. record { layout = s.layout; blocks = s.plain.blocks; pending = s.log.pending; number = s.plain.number; loaded = s.plain.loaded; failed = s.failed; disk = s.disk } };
+
+    ghost invariant = { λ s. IsInStep s.layout s.plain s.log
+        × (D.tells → length (D.content s.disk) ≡ file_length s.layout)
+        × (D.tells → s.failed ≡ false → (c : List ℕ) → D.image s.disk c → SameSlots s.layout.log (D.content s.disk) c) };
+}
+
+impl<D: Disk> LapStore<D> {
+    /// Gives the disk back as it is.
+    pub fn close(self) -> D
+        ensures { result ≡ self.disk }
+    {
+        let LapStore {
+            plain: _,
+            log: _,
+            layout: _,
+            failed: _,
+            disk,
+        } = self;
+        disk
+    }
+}
+
+impl<D: Disk> Store for LapStore<D> {
+    ghost use Rattle.std.specs.Prelude.{Some, ℕ, List};
+    ghost use Rattle.rb_layout.specs.Regions.{shape_of as layout_shape};
+    ghost use Rattle.rb_store.specs.Laps.{Opens, IsStable};
+    ghost use Rattle.rb_store.proofs.LapLemmas.{stable_left as left_opens, stable_patched as patched_is_read};
+
+    ghost tells = { Unit {0} };
+
+    ghost keeps = { D.tells };
+
+    ghost shape_of = { λ s. layout_shape s.layout };
+
+    ghost slots = { λ s. Some s.layout.log };
+
+    ghost blocks = { λ s. s.blocks };
+
+    ghost pending = { λ s. s.pending };
+
+    ghost number = { λ s. s.number };
+
+    ghost loaded = { λ s. s.loaded };
+
+    ghost failed = { λ s. s.failed };
+
+    ghost faults = { λ s. D.faults s.disk };
+
+    ghost image = { List ℕ };
+
+    ghost left = { λ s c. D.image s.disk c };
+
+    ghost moment = { λ s. D.moment s.disk };
+
+    ghost left_since = { λ s t c. D.image_since s.disk t c };
+
+    ghost opens = { Opens };
+
+    ghost stable = { λ s b. IsStable D.content D.image s b };
+
+    fn shape(&self) -> Shape {
+        self.layout.shape()
+    }
+
+    fn load(&mut self, no: BlockNo) -> Result<(), Failed> {
+        self.plain.load(no)
+    }
+
+    fn block(&self) -> &[u8] {
+        self.plain.block()
+    }
+
+    fn apply(&mut self, group: &Group) -> Result<(), Failed> {
+        self.plain.apply(group)?;
+        self.log.append(group);
+        Ok(())
+    }
+
+    fn flush(&mut self) -> Result<(), Failed> {
+        let result = self.log.flush(&mut self.disk);
+        self.failed = result.is_err();
+        result
+    }
+
+    // A log of one lap can't be made shorter.
+    fn checkpoint(&mut self) -> Result<(), Failed> {
+        self.flush()
+    }
+
+    fn logged(&self) -> Lsn {
+        self.plain.logged()
+    }
+
+    fn room(&self) -> u64 {
+        u64::from(self.layout.log - 1 - self.log.used() - self.log.pending())
+    }
+}
