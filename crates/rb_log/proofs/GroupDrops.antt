@@ -7,20 +7,14 @@ use Rattle.rb_base.specs.Groups.{Patch}
 use Rattle.rb_disk.specs.DiskModel.{Torn}
 use Rattle.rb_layout.specs.declared.layout.Layout.{Layout}
 use Rattle.rb_layout.specs.Regions.{log_offset, file_length}
-use Rattle.rb_log.specs.GroupSlots.{HoldsGroup, GroupsAre, BeginsWithGroups, DroppedSome}
-use Rattle.rb_log.specs.GroupLaws.{same_units_log, begins_end_group, cut_log}
+use Rattle.rb_log.specs.GroupSlots.{GroupsAre, DroppedSome}
+use Rattle.rb_log.specs.GroupLaws.{begins_same, same_units_log, begins_end_group, cut_log}
 use Rattle.rb_log.specs.Slots.{slot_at, TornFrom, SameSlots, SameOutside}
 use Rattle.rb_log.specs.SlotLaws.{same_slot}
 use Rattle.rb_log.proofs.Logs.{gate_at, torn_outside}
 use Rattle.rb_log.proofs.Writes.{part_below, part_beyond, part_written, written_torn}
 
--- the log begins with the same groups where their units are the same
-begins_same : (l : Layout) (f c : List ℕ) (slot end : ℕ) (groups : List (List Patch)) → slot + length groups ≡ end → ((k : ℕ) → k < end → slot_at c k ≡ slot_at f k) → BeginsWithGroups l f slot groups → BeginsWithGroups l c slot groups
-begins_same l f c slot end [] e same begins = tt
-begins_same l f c slot end (group ∷ groups) e same begins =
-    (begins.0, subst (λ (u : List ℕ). HoldsGroup l u (slot + 1) group) (sym (same slot (omega (arith, e)))) begins.1, begins_same l f c (slot + 1) end groups (omega (arith, e)) same begins.2)
-
--- each of their slots is open, and none is the last
+-- each slot of these groups is open, and none is the last
 opened_at : (l : Layout) (f : List ℕ) (slot k : ℕ) (groups : List (List Patch)) → GroupsAre l f slot groups → slot ≤ k → k < slot + length groups → (k + 1 < l.log) × (slice_index (slot_at f k) 0 ≡ 1)
 opened_at l f slot k [] log low high = absurd (omega (arith, low, high))
 opened_at l f slot k (group ∷ groups) log low high =
@@ -68,15 +62,19 @@ module _ (l : Layout) (f : List ℕ) (groups : List (List Patch)) (used count : 
     where
       low : (k : ℕ) → k < count → slot_at c k ≡ slot_at f k
       low k lt = part_below c d (log_offset count) (log_offset k) 2048 torn.before (omega (arith, lt)) ∙ same_slot l.log f d same k (omega (arith, lt, within.0))
+
       high : (k : ℕ) → count < k → k < l.log → slot_at c k ≡ slot_at f k
       high k gt lt = part_beyond c d (log_offset count + 1) (log_offset k) 2048 torn.behind (omega (arith, gt)) ∙ same_slot l.log f d same k lt
+
       here : slice_index (slot_at c count) 0 ≡ 1 → slot_at c count ≡ slot_at f count
       here one =
           let there = same_slot l.log f d same count (omega (arith, within.0)) in
           let gate : slice_index (slot_at d count) 0 ≡ 1 = ap (λ (u : List ℕ). slice_index u 0) there ∙ within.1 in
           same_gate c d count (omega (arith, same.long, whole, within.0, torn.no_shorter)) (omega (arith, same.long, whole, within.0)) (one ∙ sym gate) torn.behind ∙ there
+
       opened : slice_index (slot_at c count) 0 ≡ 1 → GroupsAre l c 0 groups ⊎ GroupsAre l c 0 (take count groups)
       opened one = inl (same_units_log l f c 0 groups (same_all l.log count f c low (here one) high) (omega (arith, within.0)) log)
+
       shut : slice_index (slot_at c count) 0 ≢ 1 → GroupsAre l c 0 groups ⊎ GroupsAre l c 0 (take count groups)
       shut other = inr (cut_off c low other)
 

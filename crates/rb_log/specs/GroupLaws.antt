@@ -1,6 +1,7 @@
 -- What follows from the definitions on groups in log slots, for the crates above.
 use Rattle.std.specs.Prelude.{◌≡◌, ℕ, ◌+◌, ◌<◌, zero, suc, List, [], ◌∷◌, ◌++◌, length, take, slice_index}
 use Rattle.std.proofs.Common.{inl, inr, ⊎_elim, sym, ◌∙◌, ap, subst, refl, arith}
+use Rattle.std.proofs.lemmas.List.{append-nil}
 use Rattle.rb_base.specs.Groups.{Patch}
 use Rattle.rb_group.proofs.Spelling.{group_same}
 use Rattle.rb_layout.specs.declared.layout.Layout.{Layout}
@@ -20,8 +21,7 @@ begins_then l file slot end [] more e begins rest = subst (λ (i : ℕ). GroupsA
 begins_then l file slot end (first ∷ groups) more e begins rest = (begins.0, begins.1, begins_then l file (slot + 1) end groups more (omega (arith, e)) begins.2 rest)
 
 pub begins_end_group : (l : Layout) (file : List ℕ) (slot end : ℕ) (groups : List (List Patch)) → slot + length groups ≡ end → BeginsWithGroups l file slot groups → GroupsAre l file end [] → GroupsAre l file slot groups
-begins_end_group l file slot end [] e begins ended = subst (λ (i : ℕ). GroupsAre l file i []) (omega (arith, e)) ended
-begins_end_group l file slot end (first ∷ groups) e begins ended = (begins.0, begins.1, begins_end_group l file (slot + 1) end groups (omega (arith, e)) begins.2 ended)
+begins_end_group l file slot end groups e begins ended = subst (λ (all : List (List Patch)). GroupsAre l file slot all) (append-nil groups) (begins_then l file slot end groups [] e begins ended)
 
 -- a unit holds one group, and a file has one log
 pub one_group : (l : Layout) (unit : List ℕ) (number : ℕ) (first second : List Patch) → HasGroup l unit number first → HasGroup l unit number second → first ≡ second
@@ -43,6 +43,12 @@ faulty_none_group l file slot end [] e begins faulty others log = none others (s
     none (b ∷ others) held = faulty.none b held.1.body
 faulty_none_group l file slot end (first ∷ groups) e begins faulty [] log = ⊎_elim (λ last. omega (arith, last, begins.0)) (λ shut. shut begins.1.opened) log
 faulty_none_group l file slot end (first ∷ groups) e begins faulty (b ∷ others) log = faulty_none_group l file (slot + 1) end groups (omega (arith, e)) begins.2 faulty others log.2
+
+-- a file begins with the same groups where their units are the same
+pub begins_same : (l : Layout) (file other : List ℕ) (slot end : ℕ) (groups : List (List Patch)) → slot + length groups ≡ end → ((k : ℕ) → k < end → slot_at other k ≡ slot_at file k) → BeginsWithGroups l file slot groups → BeginsWithGroups l other slot groups
+begins_same l file other slot end [] e same begins = tt
+begins_same l file other slot end (group ∷ groups) e same begins =
+    (begins.0, subst (λ (u : List ℕ). HoldsGroup l u (slot + 1) group) (sym (same slot (omega (arith, e)))) begins.1, begins_same l file other (slot + 1) end groups (omega (arith, e)) same begins.2)
 
 -- files with the same units have the same log
 pub same_units_log : (l : Layout) (file other : List ℕ) (slot : ℕ) (groups : List (List Patch)) → ((k : ℕ) → k < l.log → slot_at other k ≡ slot_at file k) → slot < l.log → GroupsAre l file slot groups → GroupsAre l other slot groups

@@ -20,5 +20,5 @@ invariant_of-self-2 g c =
       enough = m.enough;
       each = m.each;
       none = m.none;
-      units = ap length (take_at filled (drop (length filled) c.self.inside.buffer.items) c.self.inside.buffer.len long) ∙ omega (arith, c.read_group.auto.buffer, c.deref_mut.ensures.value, ap length c.deref_mut.ensures.value, m.units);
+      units = ap length (take_at filled (drop (length filled) c.self.inside.buffer.items) c.self.inside.buffer.len long) ∙ omega (arith, c.read_group.auto.buffer, ap length c.deref_mut.ensures.value, m.units);
     }
