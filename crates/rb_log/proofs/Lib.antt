@@ -1,4 +1,6 @@
 pub mod Flush
+pub mod GroupDrops
+pub mod GroupUnits
 pub mod Logs
 pub mod Scan
 pub mod Units

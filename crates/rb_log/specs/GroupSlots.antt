@@ -1,9 +1,10 @@
 -- What the log slots of a file hold where groups of patches are logged. A slot has a unit as in `Slots`.
-use Rattle.std.specs.Prelude.{◌≡◌, ◌≢◌, ◌⊎◌, ℕ, ◌+◌, ◌-◌, ◌*◌, ◌<◌, List, [], ◌∷◌, ◌++◌, take, replicate, slice_index, Bool}
+use Rattle.std.specs.Prelude.{◌≡◌, ◌≢◌, ◌⊎◌, ℕ, ◌+◌, ◌-◌, ◌*◌, ◌<◌, ◌≤◌, List, [], ◌∷◌, ◌++◌, length, take, replicate, slice_index, Bool, false}
+use Rattle.std.specs.List.{AllByRecursion}
 use Rattle.byteorder.specs.Endian.{big_bytes}
 use Rattle.rb_base.specs.Blocks.{AreWithin}
 use Rattle.rb_base.specs.Fields.{part, number_at}
-use Rattle.rb_base.specs.Groups.{Patch, group_length}
+use Rattle.rb_base.specs.Groups.{Patch, group_length, IsGroup}
 use Rattle.rb_group.specs.Spelling.{group_bytes, Spells}
 use Rattle.rb_layout.specs.Regions.{shape_of}
 use Rattle.rb_layout.specs.declared.layout.Layout.{Layout}
@@ -67,3 +68,17 @@ pub record GroupLogState : Type 0 where
   pub pending : List (List Patch)
   -- whether a scan has found the end
   pub scanned : Bool
+
+-- a group that the log may take
+pub record IsLoggable (l : Layout) (group : List Patch) : Type 0 where
+  pub valid : IsGroup group
+  pub some : 0 < length group
+  pub within : AreWithin (shape_of l) group
+
+-- What the log has in memory: room for as many groups as there are slots, of which one stays free, and 32 units.
+pub record IsLogMemory (l : Layout) (used : ℕ) (pending : List (List Patch)) (scanned : Bool) (buffer : List ℕ) (room : ℕ) : Type 0 where
+  pub below : used + length pending < l.log
+  pub enough : l.log ≤ room
+  pub each : AllByRecursion (IsLoggable l) pending
+  pub none : scanned ≡ false → pending ≡ []
+  pub units : length buffer ≡ 65536

@@ -1,3 +1,4 @@
+pub mod GroupLaws
 pub mod GroupSlots
 pub mod LogState
 pub mod SlotLaws
