@@ -9,3 +9,6 @@ mod plain;
 
 pub use laws::never_fails;
 pub use plain::PlainStore;
+
+#[cfg(test)]
+mod tests;
