@@ -1,0 +1,126 @@
+//! `PlainStore`: all blocks of a file in memory. Tests of the layers above a store make one.
+ghost use Rattle.std.specs.Prelude.{◌≡◌, Option, None, Some, false, IfOk};
+ghost use Rattle.rb_base.specs.Blocks.{IsShape, fresh_blocks as fresh_blocks_of};
+
+use crate::fresh::fresh_blocks;
+use crate::patching::patch;
+use rb_base::{BlockNo, Failed, Group, Lsn, NoMemory, Shape, Store, UNIT};
+use std::alloc::Global;
+use std::marker::Model;
+
+/// How many more groups a store without an end has room for.
+const ROOM: u64 = 1 << 63;
+
+/// The blocks of a file in memory, which nothing keeps. All its memory is taken when it is made, and no call of it fails.
+#[derive(Drop)]
+pub struct PlainStore {
+    shape: Shape,
+    blocks: Vec<[u8; UNIT]>,
+    number: Lsn,
+    loaded: Option<BlockNo>,
+}
+
+impl Model for PlainStore {
+    ghost use Rattle.rb_plainstore.specs.Plain.{PlainState, IsPlain};
+
+    ghost Value = { PlainState };
+
+    ghost view = { λ a. record { shape = a.shape; blocks = a.blocks.items; number = a.number; loaded = a.loaded } };
+
+    ghost invariant = { λ a. IsPlain a.shape a.blocks.items a.loaded };
+}
+
+impl PlainStore {
+    /// The blocks of a new file, of which none is loaded. It takes 2,048 bytes for each.
+    pub fn new(alloc: Global, shape: Shape) -> Result<PlainStore, NoMemory>
+        requires { IsShape shape }
+        ensures { IfOk result (λ store. store ≡ record { shape = shape; blocks = fresh_blocks_of shape; number = 0; loaded = None }) }
+    {
+        Ok(PlainStore {
+            shape,
+            blocks: fresh_blocks(alloc, shape)?,
+            number: 0,
+            loaded: None,
+        })
+    }
+}
+
+impl Store for PlainStore {
+    ghost use Rattle.std.specs.Prelude.{[], false, None};
+
+    ghost tells = { Unit {0} };
+
+    ghost keeps = { ⊥ };
+
+    ghost shape_of = { λ store. store.shape };
+
+    ghost slots = { λ _. None };
+
+    ghost blocks = { λ store. store.blocks };
+
+    ghost pending = { λ _. [] };
+
+    ghost number = { λ store. store.number };
+
+    ghost loaded = { λ store. store.loaded };
+
+    ghost failed = { λ _. false };
+
+    ghost faults = { λ _. 0 };
+
+    ghost image = { Unit {0} };
+
+    ghost left = { λ _ _. ⊥ };
+
+    ghost moment = { λ _. 0 };
+
+    ghost left_since = { λ _ _ _. ⊥ };
+
+    ghost opens = { λ _ _ _ _. ⊥ };
+
+    ghost stable = { λ _ _. ⊥ };
+
+    ghost stable_left = { λ store b i keeps. absurd keeps };
+
+    ghost stable_patched = { λ store b keeps. absurd keeps };
+
+    ghost only_now = { λ store i keeps. absurd keeps };
+
+    fn shape(&self) -> Shape {
+        self.shape
+    }
+
+    fn load(&mut self, no: BlockNo) -> Result<(), Failed> {
+        self.loaded = Some(no);
+        Ok(())
+    }
+
+    fn block(&self) -> &[u8] {
+        match self.loaded {
+            Some(no) => &self.blocks[no as usize],
+            None => unreachable!(),
+        }
+    }
+
+    fn apply(&mut self, group: &Group) -> Result<(), Failed> {
+        self.number += 1;
+        patch(self.blocks.as_mut_slice(), group, self.number);
+        Ok(())
+    }
+
+    fn flush(&mut self) -> Result<(), Failed> {
+        Ok(())
+    }
+
+    fn checkpoint(&mut self) -> Result<(), Failed> {
+        Ok(())
+    }
+
+    fn logged(&self) -> Lsn {
+        self.number
+    }
+
+    fn room(&self) -> u64 {
+        ROOM
+    }
+}
