@@ -1,3 +1,3 @@
 mod Reading
-mod Spelling
+pub mod Spelling
 mod Writing
