@@ -1,4 +1,5 @@
 pub mod Flush
+pub mod GroupUnits
 pub mod Logs
 pub mod Scan
 pub mod Units

@@ -1,13 +1,19 @@
 -- What the log slots of a file hold where groups of patches are logged. A slot has a unit as in `Slots`.
-use Rattle.std.specs.Prelude.{◌≡◌, ◌≢◌, ◌⊎◌, ℕ, ◌+◌, ◌-◌, ◌*◌, ◌<◌, List, [], ◌∷◌, ◌++◌, take, replicate, slice_index, Bool}
+use Rattle.std.specs.Prelude.{◌≡◌, ◌≢◌, ◌⊎◌, ℕ, ◌+◌, ◌-◌, ◌*◌, ◌<◌, List, [], ◌∷◌, ◌++◌, length, take, replicate, slice_index, Bool}
 use Rattle.byteorder.specs.Endian.{big_bytes}
 use Rattle.rb_base.specs.Blocks.{AreWithin}
 use Rattle.rb_base.specs.Fields.{part, number_at}
-use Rattle.rb_base.specs.Groups.{Patch, group_length}
+use Rattle.rb_base.specs.Groups.{Patch, group_length, IsGroup}
 use Rattle.rb_group.specs.Spelling.{group_bytes, Spells}
 use Rattle.rb_layout.specs.Regions.{shape_of}
 use Rattle.rb_layout.specs.declared.layout.Layout.{Layout}
 use Rattle.rb_log.specs.Slots.{slot_at, SameOutside}
+
+-- The log takes this group: it has a patch, and its blocks are those of the file.
+pub record IsLogged (l : Layout) (group : List Patch) : Type 0 where
+  pub valid : IsGroup group
+  pub some : 0 < length group
+  pub within : AreWithin (shape_of l) group
 
 -- The body of a unit holds this group under this number, and its blocks are those of the file.
 pub record HasGroup (l : Layout) (unit : List ℕ) (number : ℕ) (group : List Patch) : Type 0 where
