@@ -1,4 +1,6 @@
 pub mod Flush
+pub mod GroupFlush
+pub mod GroupLogs
 pub mod GroupUnits
 pub mod Logs
 pub mod Scan
