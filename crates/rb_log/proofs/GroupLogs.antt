@@ -127,6 +127,10 @@ run_outside slots end groups f c lt was = record {
   behind = drop_beyond c f (log_offset (end + length groups) + 1) (log_offset slots) was.back (omega (arith, lt));
 }
 
+-- the units in front of them
+pub run_earlier : (end : ℕ) (groups : List (List Patch)) (f c : List ℕ) → StagedRun end groups f c → (k : ℕ) → k < end → slot_at c k ≡ slot_at f k
+run_earlier end groups f c was k below = part_below c f (log_offset end) (log_offset k) 2048 was.front (omega arith)
+
 -- each unit, once the first gate is open
 pub run_units : (end : ℕ) (groups : List (List Patch)) (f c : List ℕ) → log_offset end < length f → StagedRun end groups f c → get_or c (log_offset end) 0 ≡ 1
     → (k : ℕ) (d : List Patch) → k < length groups → slot_at c (end + k) ≡ group_unit 1 (end + k + 1) (get_or groups k d)
@@ -147,7 +151,7 @@ pub run_log : (l : Layout) (end : ℕ) (groups : List (List Patch)) (f c : List 
     → ((get_or c (log_offset end) 0 ≡ 1) × GroupsAre l c 0 (before ++ groups)) ⊎ ((get_or c (log_offset end) 0 ≢ 1) × GroupsAre l c 0 before)
 run_log l end groups f c before lt fits each e log was =
     let at = log_offset end in
-    let units : (k : ℕ) → k < end → slot_at c k ≡ slot_at f k = λ k below. part_below c f at (log_offset k) 2048 was.front (omega arith) in
+    let units = run_earlier end groups f c was in
     elim (cases_eq (get_or c at 0) 1) [
       | inl opened ↦
           let stand = run_units end groups f c (omega (arith, lt, fits)) was opened in

@@ -1,6 +1,7 @@
 pub mod Flush
 pub mod GroupFlush
 pub mod GroupLogs
+pub mod GroupRuns
 pub mod GroupUnits
 pub mod Logs
 pub mod Scan

@@ -75,6 +75,7 @@ fn write_run<D: Disk>(
     requires synced { D.tells → (c : List ℕ) → D.image disk.old c → SameSlots layout.now.log (D.content disk.old) c }
     ensures written { D.tells → OnOk result ((before : List (List Patch)) → length before ≡ used → GroupsAre layout.now (D.content disk.old) 0 before → GroupsAre layout.now (D.content disk.new) 0 (before ++ groups.now)) }
     ensures units { D.tells → OnOk result ((k : ℕ) (d : List Patch) → k < length groups.now → slot_at (D.content disk.new) (used + k) ≡ group_unit 1 (used + k + 1) (slice_index_or groups.now k d)) }
+    ensures earlier { D.tells → OnOk result ((k : ℕ) → k < used → slot_at (D.content disk.new) k ≡ slot_at (D.content disk.old) k) }
     ensures outside { D.tells → OnOk result (SameOutside layout.now.log (D.content disk.old) (D.content disk.new)) }
     ensures durable { D.tells → OnOk result (Only (D.content disk.new) (D.image disk.new)) }
     ensures whole { D.tells → length (D.content disk.new) ≡ file_length layout.now }
@@ -91,7 +92,7 @@ fn write_run<D: Disk>(
 /// Writes these groups to the log's slots from `used` on, one of which stays free behind them: up to 32 as one run, and
 /// one run after another. Each group has a patch, and its blocks are those of the file. After an Ok every image has all
 /// of them, and a crash before leaves a number of whole runs. The buffer has 65,536 bytes, and what they are is no matter.
-pub fn write_groups<D: Disk>(
+pub(crate) fn write_groups<D: Disk>(
     disk: &mut D,
     layout: &Layout,
     used: u32,
@@ -105,6 +106,7 @@ pub fn write_groups<D: Disk>(
     requires synced { D.tells → (c : List ℕ) → D.image disk.old c → SameSlots layout.now.log (D.content disk.old) c }
     ensures written { D.tells → OnOk result ((before : List (List Patch)) → length before ≡ used → GroupsAre layout.now (D.content disk.old) 0 before → GroupsAre layout.now (D.content disk.new) 0 (before ++ groups.now)) }
     ensures units { D.tells → OnOk result ((k : ℕ) (d : List Patch) → k < length groups.now → slot_at (D.content disk.new) (used + k) ≡ group_unit 1 (used + k + 1) (slice_index_or groups.now k d)) }
+    ensures earlier { D.tells → OnOk result ((k : ℕ) → k < used → slot_at (D.content disk.new) k ≡ slot_at (D.content disk.old) k) }
     ensures outside { D.tells → OnOk result (SameOutside layout.now.log (D.content disk.old) (D.content disk.new)) }
     ensures durable { D.tells → OnOk result ((c : List ℕ) → D.image disk.new c → SameSlots layout.now.log (D.content disk.new) c) }
     ensures whole { D.tells → length (D.content disk.new) ≡ file_length layout.now }
