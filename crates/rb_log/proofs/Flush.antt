@@ -56,9 +56,11 @@ planned state unit body f at w long is place whole = record {
 }
 
 module _ (slots end at : ℕ) (bytes body f : List ℕ) (plan : Plan slots end at bytes body f) where
-  pub staged : (m : List ℕ) → m ≡ overwritten (overwritten f (at + 1) body) (at + 2048) (0 ∷ []) → Staged (log_offset end) (drop 1 (record_unit 0 (end + 1) bytes)) f m
+  pub staged : (m : List ℕ) → m ≡ overwritten (overwritten f (at + 1) body) (at + 1 + length body) (0 ∷ []) → Staged (log_offset end) (drop 1 (record_unit 0 (end + 1) bytes)) f m
   staged m is =
-      let here : Staged at body f m = subst (λ c. Staged at body f c) (sym is) (staged_first at body f plan.long (omega (arith, plan.place, plan.room, plan.fits))) in
+      let place : at + 1 + length body ≡ at + 2048 = omega (arith, plan.long) in
+      let whole = is ∙ ap (λ (i : ℕ). overwritten (overwritten f (at + 1) body) i (0 ∷ [])) place in
+      let here : Staged at body f m = subst (λ c. Staged at body f c) (sym whole) (staged_first at body f plan.long (omega (arith, plan.place, plan.room, plan.fits))) in
       subst (λ (b : List ℕ). Staged (log_offset end) b f m) plan.body_is (subst (λ (i : ℕ). Staged i body f m) plan.place here)
 
   torn_now : (m c : List ℕ) → Staged (log_offset end) (drop 1 (record_unit 0 (end + 1) bytes)) f m → Torn at 1 m c → Staged (log_offset end) (drop 1 (record_unit 0 (end + 1) bytes)) f c
@@ -82,10 +84,11 @@ module _ (slots end at : ℕ) (bytes body f : List ℕ) (plan : Plan slots end a
     decided c was = staged_log slots end bytes f c records plan.room plan.few plan.low plan.high plan.fits counts log was
 
     -- a crash in step one
-    pub one_interrupted : (image : List ℕ → Type 0) (pending : List (List ℕ)) → ((c : List ℕ) → image c → SameSlots slots f c) → (c : List ℕ) → TornFrom (at + 1) 2048 image c → Interrupted image slots records pending c
+    pub one_interrupted : (image : List ℕ → Type 0) (pending : List (List ℕ)) → ((c : List ℕ) → image c → SameSlots slots f c) → (c : List ℕ) → TornFrom (at + 1) (length body + 1) image c → Interrupted image slots records pending c
     one_interrupted image pending synced c from =
         let same = synced from.0 from.1 in
-        let torn = subst (λ (i : ℕ). Torn (i + 1) 2048 from.0 c) plan.place from.2 in record {
+        let count : length body + 1 ≡ 2048 = omega (arith, plan.long) in
+        let torn = subst (λ (i : ℕ). Torn (i + 1) 2048 from.0 c) plan.place (subst (λ (n : ℕ). Torn (at + 1) n from.0 c) count from.2) in record {
           outside = (from.0, from.1, torn_outside slots from.0 c (log_offset end + 1) 2048 (omega arith) (omega (arith, plan.room)) (omega (arith, plan.fits, same.long)) torn);
           whole = inl (log_kept slots f from.0 c end records plan.room counts log same torn);
         }

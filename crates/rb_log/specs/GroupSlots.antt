@@ -10,6 +10,12 @@ use Rattle.rb_layout.specs.Regions.{shape_of}
 use Rattle.rb_layout.specs.declared.layout.Layout.{Layout}
 use Rattle.rb_log.specs.Slots.{slot_at, SameOutside}
 
+-- The log takes this group: it has a patch, and its blocks are those of the file.
+pub record IsLoggable (l : Layout) (group : List Patch) : Type 0 where
+  pub valid : IsGroup group
+  pub some : 0 < length group
+  pub within : AreWithin (shape_of l) group
+
 -- The body of a unit holds this group under this number, and its blocks are those of the file.
 pub record HasGroup (l : Layout) (unit : List ℕ) (number : ℕ) (group : List Patch) : Type 0 where
   pub numbered : number_at unit 8 8 ≡ number
@@ -68,12 +74,6 @@ pub record GroupLogState : Type 0 where
   pub pending : List (List Patch)
   -- whether a scan has found the end
   pub scanned : Bool
-
--- a group that the log may take
-pub record IsLoggable (l : Layout) (group : List Patch) : Type 0 where
-  pub valid : IsGroup group
-  pub some : 0 < length group
-  pub within : AreWithin (shape_of l) group
 
 -- What the log has in memory: room for as many groups as there are slots, of which one stays free, and 32 units.
 pub record IsLogMemory (l : Layout) (used : ℕ) (pending : List (List Patch)) (scanned : Bool) (buffer : List ℕ) (room : ℕ) : Type 0 where

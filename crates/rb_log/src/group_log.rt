@@ -1,6 +1,6 @@
 //! `GroupLog`: the groups of patches in the log slots of a file. A store scans it at opening, and flushes to it what
 //! changes the blocks.
-ghost use Rattle.std.specs.Prelude.{◌≡◌, ◌≤◌, ◌<◌, ◌+◌, ◌++◌, ◌↔◌, [], ◌∷◌, ℕ, List, true, false, take, length, IsTrue, IsErrOf, IfOk, IfErr, IfSome, IfNone, OnOk, OnErr};
+ghost use Rattle.std.specs.Prelude.{◌≡◌, ◌≤◌, ◌<◌, ◌+◌, ◌++◌, ◌↔◌, [], ◌∷◌, ℕ, List, true, false, take, length, IsTrue, IsErrOf, slice_index_or, IfOk, IfErr, IfSome, IfNone, OnOk, OnErr};
 ghost use Rattle.rb_base.specs.Blocks.{AreWithin};
 ghost use Rattle.rb_base.specs.Counts.{IsCounted, Rose};
 ghost use Rattle.rb_base.specs.Fields.{overwritten};
@@ -9,9 +9,10 @@ ghost use Rattle.rb_base.specs.Moments.{LeavesOnly};
 ghost use Rattle.rb_disk.specs.DiskModel.{Only};
 ghost use Rattle.rb_disk.specs.Moments.{Rests};
 ghost use Rattle.rb_layout.specs.Regions.{file_length, shape_of};
-ghost use Rattle.rb_log.specs.GroupSlots.{HoldsGroup, GroupsAre, IsFaultyGroup, DroppedSome, IsLoggable};
+ghost use Rattle.rb_log.specs.GroupSlots.{HoldsGroup, GroupsAre, IsFaultyGroup, DroppedSome, FlushedSome, IsLoggable, group_unit};
 ghost use Rattle.rb_log.specs.Slots.{slot_at, SameSlots, SameOutside, TornFrom};
 
+use crate::group_flush::write_groups;
 use crate::group_unit::read_group;
 use rb_base::{Failed, Group, Lsn, OpenFault, UNIT};
 use rb_disk::Disk;
@@ -154,6 +155,28 @@ impl GroupLog {
         // Its count says that it is a group.
         let _ = group.patches();
         self.pending.push_reserved(group.copied());
+    }
+
+    /// Writes the groups that wait behind those of the log, up to 32 as one run of slots, and one run after another. After
+    /// an Ok every image has all of them; a crash before leaves a number of whole runs.
+    pub fn flush<D: Disk>(&mut self, disk: &mut D) -> Result<(), Failed>
+        requires whole { D.tells → length (D.content disk.old) ≡ file_length self.old.layout }
+        requires synced { D.tells → (c : List ℕ) → D.image disk.old c → SameSlots self.old.layout.log (D.content disk.old) c }
+        ensures written { D.tells → OnOk result ((groups : List (List Patch)) → length groups ≡ self.old.used → GroupsAre self.old.layout (D.content disk.old) 0 groups → GroupsAre self.old.layout (D.content disk.new) 0 (groups ++ self.old.pending)) }
+        ensures units { D.tells → OnOk result ((k : ℕ) (d : List Patch) → k < length self.old.pending → slot_at (D.content disk.new) (self.old.used + k) ≡ group_unit 1 (self.old.used + k + 1) (slice_index_or self.old.pending k d)) }
+        ensures outside { D.tells → OnOk result (SameOutside self.old.layout.log (D.content disk.old) (D.content disk.new)) }
+        ensures durable { D.tells → OnOk result ((c : List ℕ) → D.image disk.new c → SameSlots self.old.layout.log (D.content disk.new) c) }
+        ensures whole { D.tells → length (D.content disk.new) ≡ file_length self.old.layout }
+        ensures any_moment { D.tells → (groups : List (List Patch)) → length groups ≡ self.old.used → GroupsAre self.old.layout (D.content disk.old) 0 groups → LeavesOnly D.moment D.image_since disk.old disk.new (FlushedSome (D.image disk.old) self.old.layout groups self.old.pending) }
+        ensures flushed { OnOk result (self.new ≡ record self.old { used = self.old.used + length self.old.pending; pending = [] }) }
+        ensures stays { OnErr result (self.new ≡ self.old) }
+        ensures counted { IsCounted (D.faults disk.old) (D.faults disk.new) result }
+    {
+        let count = self.pending();
+        write_groups(disk, &self.layout, self.used, &self.pending, &mut self.buffer)?;
+        self.used += count;
+        self.pending.clear();
+        Ok(())
     }
 
     /// Forgets the groups behind the first `count`. After an Ok each image has those alone; a crash before leaves all or

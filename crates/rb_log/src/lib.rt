@@ -2,6 +2,7 @@
 //! stage keeps groups of patches there.
 #![tactic(auto)]
 
+mod group_flush;
 mod group_log;
 mod group_unit;
 mod log;

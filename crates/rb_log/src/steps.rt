@@ -9,20 +9,19 @@ ghost use Rattle.rb_log.specs.Slots.{TornFrom};
 use rb_base::Failed;
 use rb_disk::Disk;
 
-/// Step one: the body of a unit, behind its gate, and a closed gate behind it. Only then may the gate be opened,
-/// since a crash may leave any part of an unsynced body.
+/// Step one: the body of one unit or of several in a row, behind the first gate, and a closed gate behind it. Only then
+/// may the first gate be opened, since a crash may leave any part of an unsynced body.
 pub fn write_body<D: Disk>(disk: &mut D, at: u64, body: &[u8]) -> Result<(), Failed>
-    requires body { length body.now ≡ 2047 }
-    requires place { at + 2048 < 2 ^ 64 }
-    requires within { D.tells → at + 2049 ≤ length (D.content disk.old) }
-    ensures written { D.tells → OnOk result (D.content disk.new ≡ overwritten (overwritten (D.content disk.old) (at + 1) body.now) (at + 2048) (0 ∷ [])) }
+    requires place { at + 1 + length body.now < 2 ^ 64 }
+    requires within { D.tells → at + 2 + length body.now ≤ length (D.content disk.old) }
+    ensures written { D.tells → OnOk result (D.content disk.new ≡ overwritten (overwritten (D.content disk.old) (at + 1) body.now) (at + 1 + length body.now) (0 ∷ [])) }
     ensures durable { D.tells → OnOk result (Only (D.content disk.new) (D.image disk.new)) }
     ensures length { D.tells → length (D.content disk.new) ≡ length (D.content disk.old) }
-    ensures any_moment { D.tells → LeavesOnly D.moment D.image_since disk.old disk.new (TornFrom (at + 1) 2048 (D.image disk.old)) }
+    ensures any_moment { D.tells → LeavesOnly D.moment D.image_since disk.old disk.new (TornFrom (at + 1) (length body.now + 1) (D.image disk.old)) }
     ensures counted { IsCounted (D.faults disk.old) (D.faults disk.new) result }
 {
     disk.write_at(at + 1, body)?;
-    disk.write_at(at + 2048, &[0])?;
+    disk.write_at(at + 1 + body.len() as u64, &[0])?;
     disk.sync()
 }
 

@@ -14,9 +14,11 @@ pub const LONGEST: usize = 2000;
 /// Where a record begins in its unit.
 pub const RECORD: usize = 16;
 
-const LENGTH: usize = 2;
+/// Where the length of a unit's record or group stands.
+pub const LENGTH: usize = 2;
 
-const NUMBER: usize = 8;
+/// Where its number stands.
+pub const NUMBER: usize = 8;
 
 /// How many bytes the record in a unit has, or None where the unit has no record of that number.
 pub fn record_length(unit: &[u8], number: u64) -> Option<usize>

@@ -1,6 +1,6 @@
 use Rattle.std.proofs.Common.{◌<◌, [], arith, rules}
 use Rattle.rb_base.specs.Groups.{Patch, patch}
-use Rattle.rb_log.proofs.GroupUnits.{all_more, all_at}
+use Rattle.rb_log.proofs.GroupReading.{all_more, all_at}
 use Rattle.rb_log.proofs.group_unit.are_below.Goals as goal
 
 pub returns-then-from-blocks : goal.returns-then-from-blocks

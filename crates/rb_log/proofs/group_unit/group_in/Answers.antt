@@ -3,7 +3,7 @@ use Rattle.std.specs.List.{AllByRecursion}
 use Rattle.rb_base.specs.Blocks.{shape_blocks}
 use Rattle.rb_base.specs.Fields.{part}
 use Rattle.rb_base.specs.Groups.{Patch}
-use Rattle.rb_log.proofs.GroupUnits.{found_group, other_group}
+use Rattle.rb_log.proofs.GroupReading.{found_group, other_group}
 use Rattle.rb_log.proofs.group_unit.group_in.Goals as goal
 
 pub returns-then-are_below-clause-found : goal.returns-then-are_below-clause-found
