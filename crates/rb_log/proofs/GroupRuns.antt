@@ -62,11 +62,11 @@ run_widened old mid l before groups run done end runs next from c some =
     λ n same. subst (λ (gs : List (List Patch)). GroupsAre l c 0 gs) (append_assoc before (take done groups) (take (32 * some.units) run) ∙ ap (λ (gs : List (List Patch)). before ++ gs) same) some.log in
     elim (cases_lt 0 some.units) [
       | inl more ↦ record {
-            outside = (was.0, was.1, outside);
-            units = runs + 1;
-            log = logged (runs + 1) (ap (λ (gs : List (List Patch)). take done groups ++ gs) (take_all (32 * some.units) run (omega (arith, size.2, more))) ∙ run_joins groups run done end runs next
-                ∙ ap (λ (n : ℕ). take n groups) (runs_more groups run done end runs next) ∙ all (32 * (runs + 1)));
-          }
+        outside = (was.0, was.1, outside);
+        units = runs + 1;
+        log = logged (runs + 1) (ap (λ (gs : List (List Patch)). take done groups ++ gs) (take_all (32 * some.units) run (omega (arith, size.2, more))) ∙ run_joins groups run done end runs next
+            ∙ ap (λ (n : ℕ). take n groups) (runs_more groups run done end runs next) ∙ all (32 * (runs + 1)));
+      }
       | inr none ↦
           let zero_is : some.units ≡ 0 = omega (arith, none) in
           record {

@@ -173,7 +173,13 @@ impl GroupLog {
         ensures counted { IsCounted (D.faults disk.old) (D.faults disk.new) result }
     {
         let count = self.pending();
-        write_groups(disk, &self.layout, self.used, &self.pending, &mut self.buffer)?;
+        write_groups(
+            disk,
+            &self.layout,
+            self.used,
+            &self.pending,
+            &mut self.buffer,
+        )?;
         self.used += count;
         self.pending.clear();
         Ok(())

@@ -84,6 +84,8 @@ impl Store for PlainStore {
 
     ghost stable_patched = { λ store b keeps. absurd keeps };
 
+    ghost now_counts = { λ store t i keeps. absurd keeps };
+
     ghost only_now = { λ store i keeps. absurd keeps };
 
     fn shape(&self) -> Shape {

@@ -1,14 +1,16 @@
 -- What a crash leaves of a file of groups, and what it opens to, over a flush and over an opening.
-use Rattle.std.proofs.Common.{[], ◌∷◌, ◌≡◌, ℕ, ◌+◌, ◌*◌, ◌-◌, List, ◌++◌, length, take, refl, arith, ap, sym, ◌∙◌, subst, Some}
+use Rattle.std.proofs.Common.{◌≤◌, [], ◌∷◌, ◌≡◌, ℕ, ◌+◌, ◌*◌, ◌-◌, List, ◌++◌, length, take, refl, arith, ap, sym, ◌∙◌, subst, Some}
 use Rattle.std.proofs.lemmas.List.{take-take, length-append}
 use Rattle.rb_base.specs.Blocks.{after_group, after_groups, commit_block, fresh_blocks}
 use Rattle.rb_base.specs.Groups.{Patch}
-use Rattle.rb_base.specs.Stores.{AfterSome, after_pending, after_kept}
+use Rattle.rb_base.specs.Stores.{AfterSome, after_kept}
 use Rattle.rb_base.proofs.Commits.{behind_commit, after_joined}
 use Rattle.rb_layout.specs.Regions.{HasIdentity, log_offset, shape_of}
 use Rattle.rb_layout.specs.declared.layout.Layout.{Layout}
-use Rattle.rb_log.specs.Slots.{SameOutside}
+use Rattle.rb_log.specs.Slots.{SameOutside, SameSlots}
 use Rattle.rb_log.specs.GroupSlots.{GroupsAre, FlushedSome}
+use Rattle.rb_log.specs.GroupLaws.{same_group_log}
+use Rattle.rb_base.specs.Moments.{LeavesOnly, weaker}
 use Rattle.rb_store.specs.Laps.{IsLap, OpensTo, Opens, LapState, IsStable, committed_groups}
 
 -- a file that differs in its log slots alone has the same identity
@@ -53,19 +55,6 @@ module _ {D : Type 0} (content : D → List ℕ) (image : D → List ℕ → Typ
       let now = after_groups first (committed_groups (shape_of l) (take (32 * some.units) s.pending)) b in
       let opens : OpensTo l c now = opens_behind l st.groups (take (32 * some.units) s.pending) b c first st.whole st.made (first_waiting s.number (length st.groups) (length s.pending) st.count) lap in
       (now, record { layout = l; shape_is = refl; slots_are = refl; opens = opens }, record { count = 32 * some.units; made = refl })
-
-  -- an image opens to what is stable
-  pub stable_left : (s : LapState D) (b : List (List ℕ)) (c : List ℕ) → IsStable content image s b → image s.disk c → Opens (shape_of s.layout) (Some s.layout.log) c b
-  stable_left s b c st here = record {
-    layout = s.layout;
-    shape_is = refl;
-    slots_are = refl;
-    opens = record { groups = st.groups; lap = st.images c here; made = st.made ∙ ap (λ (gs : List (List Patch)). after_groups 1 gs (fresh_blocks (shape_of s.layout))) (sym st.whole) };
-  }
-
-  -- and patched by the groups that wait it is what is read
-  pub stable_patched : (s : LapState D) (b : List (List ℕ)) → IsStable content image s b → s.blocks ≡ after_pending s.number s.pending b
-  stable_patched s b st = st.patched ∙ ap (λ (n : ℕ). after_groups n s.pending b) (omega (arith, st.count))
 
   -- a file that has the groups that waited behind those of before
   pub flush_opens : (s : LapState D) (b : List (List ℕ)) (c : List ℕ) → (st : IsStable content image s b) → IsLap s.layout (st.groups ++ s.pending) c
@@ -121,3 +110,21 @@ module _ {D : Type 0} (content : D → List ℕ) (image : D → List ℕ → Typ
     file = subst (λ (l : Layout). IsLap l st.groups (content new.disk)) (sym layout) (subst (λ (d : D). IsLap s.layout st.groups (content d)) (sym disk) st.file);
     images = λ c here. subst (λ (l : Layout). IsLap l st.groups c) (sym layout) (st.images c (subst (λ (d : D). image d c) disk here));
   }
+
+  module _ (moment : D → ℕ) (since : D → ℕ → List ℕ → Type 0) where
+    -- the same of the disk's moments
+    pub flush_moments : (s new : LapState D) (b : List (List ℕ)) → (st : IsStable content image s b) → LeavesOnly moment since s.disk new.disk (FlushedSome (image s.disk) s.layout st.groups s.pending)
+        → LeavesOnly (λ (x : LapState D). moment x.disk) (λ (x : LapState D) t c. since x.disk t c) s new (λ i. (now : List (List ℕ)) × Opens (shape_of s.layout) (Some s.layout.log) i now × AfterSome (commit_block (shape_of s.layout)) s.number s.pending b now)
+    flush_moments s new b st leaves =
+        let w = weaker moment since s.disk new.disk (FlushedSome (image s.disk) s.layout st.groups s.pending) (λ i. (now : List (List ℕ)) × Opens (shape_of s.layout) (Some s.layout.log) i now × AfterSome (commit_block (shape_of s.layout)) s.number s.pending b now)
+            (λ c some. flush_leaves s b c st st.groups some st refl) leaves in
+        record { later = w.later; each = w.each; earlier = w.earlier }
+
+    -- each image of a flush that is done has all groups
+    pub flush_images : (s : LapState D) (b : List (List ℕ)) (new : D) → (st : IsStable content image s b) → LeavesOnly moment since s.disk new (FlushedSome (image s.disk) s.layout st.groups s.pending) → ((c : List ℕ) → moment s.disk ≤ moment new → image new c → since new (moment s.disk) c)
+        → GroupsAre s.layout (content new) 0 (st.groups ++ s.pending) → ((c : List ℕ) → image new c → SameSlots s.layout.log (content new) c) → (c : List ℕ) → image new c → IsLap s.layout (st.groups ++ s.pending) c
+    flush_images s b new st leaves counts written durable c here =
+        let some = leaves.each c (counts c leaves.later here) in record {
+          identity = same_identity s.layout some.outside.0 c some.outside.2 (st.images some.outside.0 some.outside.1).identity;
+          log = same_group_log s.layout (content new) c 0 (st.groups ++ s.pending) (durable c here) (omega (arith, s.layout.few_slots.0)) written;
+        }

@@ -1,2 +1,3 @@
 mod LapLemmas
+mod ScanLemmas
 mod Units

@@ -1,5 +1,5 @@
 -- How the parts of a store over a disk go together.
-use Rattle.std.specs.Prelude.{◌≡◌, ℕ, ◌+◌, true, length}
+use Rattle.std.specs.Prelude.{◌≡◌, ◌+◌, true, length}
 use Rattle.rb_layout.specs.Regions.{shape_of}
 use Rattle.rb_layout.specs.declared.layout.Layout.{Layout}
 use Rattle.rb_log.specs.GroupSlots.{GroupLogState}

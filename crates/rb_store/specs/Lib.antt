@@ -1,3 +1,4 @@
 pub mod Lap
+pub mod LapLaws
 pub mod Laps
 pub mod Scanned

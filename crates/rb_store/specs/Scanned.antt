@@ -38,7 +38,7 @@ pub record HasScannedAll (told : Type 0) (l : Layout) (file : List ℕ) (plain :
   pub blocks : plain.blocks ≡ after_groups 1 groups (fresh_blocks (shape_of l))
   pub whole : committed_groups (shape_of l) (groups ++ waiting) ≡ groups
   pub few : length groups + length waiting < l.log
-  pub log : told → GroupsAre l file 0 (groups ++ waiting)
+  pub ends : told → GroupsAre l file 0 (groups ++ waiting)
 
 -- The file and each image have these groups, of which the last is a commit, and the blocks are those after them.
 pub record HasOpened {D : Type 0} (told : Type 0) (content : D → List ℕ) (image : D → List ℕ → Type 0) (l : Layout) (plain : PlainState) (log : GroupLogState) (disk : D) : Type 0 where

@@ -62,7 +62,7 @@ impl<D: Disk> Store for LapStore<D> {
     ghost use Rattle.std.specs.Prelude.{Some, ℕ, List};
     ghost use Rattle.rb_layout.specs.Regions.{shape_of as layout_shape};
     ghost use Rattle.rb_store.specs.Laps.{Opens, IsStable};
-    ghost use Rattle.rb_store.proofs.LapLemmas.{stable_left as left_opens, stable_patched as patched_is_read};
+    ghost use Rattle.rb_store.specs.LapLaws.{stable_left as left_opens, stable_patched as patched_is_read};
 
     ghost tells = { Unit {0} };
 
@@ -96,6 +96,14 @@ impl<D: Disk> Store for LapStore<D> {
 
     ghost stable = { λ s b. IsStable D.content D.image s b };
 
+    ghost stable_left = { λ s b i told stands here. left_opens D.content D.image s b i stands here };
+
+    ghost stable_patched = { λ s b told stands. patched_is_read D.content D.image s b stands };
+
+    ghost now_counts = { λ s t i told le here. D.now_counts s.disk t i told le here };
+
+    ghost only_now = { λ s i told left. D.only_now s.disk i told left };
+
     fn shape(&self) -> Shape {
         self.layout.shape()
     }
@@ -115,9 +123,13 @@ impl<D: Disk> Store for LapStore<D> {
     }
 
     fn flush(&mut self) -> Result<(), Failed> {
-        let result = self.log.flush(&mut self.disk);
-        self.failed = result.is_err();
-        result
+        match self.log.flush(&mut self.disk) {
+            Ok(()) => Ok(()),
+            Err(fault) => {
+                self.failed = true;
+                Err(fault)
+            }
+        }
     }
 
     // A log of one lap can't be made shorter.

@@ -248,13 +248,21 @@ impl<D: Disk> LapStore<D> {
     {
         let mut disk = disk;
         match open_parts(alloc, &mut disk) {
-            Ok(parts) => Ok(LapStore {
-                plain: parts.scan.plain,
-                log: parts.scan.log,
-                layout: parts.layout,
-                failed: false,
-                disk,
-            }),
+            Ok(parts) => {
+                let Parts { scan, layout } = parts;
+                let Scan {
+                    plain,
+                    log,
+                    waiting: _,
+                } = scan;
+                Ok(LapStore {
+                    plain,
+                    log,
+                    layout,
+                    failed: false,
+                    disk,
+                })
+            }
             Err(fault) => Err((fault, disk)),
         }
     }

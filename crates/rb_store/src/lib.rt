@@ -1,6 +1,9 @@
-//! Makes the file of a store. The shell calls it.
+//! Makes the file of a store, for the shell, and the store of one lap over a file, for what comes to stand on it.
 #![tactic(auto)]
 
 mod fresh;
+mod lap;
+mod lap_open;
 
 pub use fresh::{FormatFault, format};
+pub use lap::LapStore;
