@@ -1,1 +1,4 @@
+pub mod Blocks
+pub mod Listed
+pub mod Patching
 pub mod Reading
