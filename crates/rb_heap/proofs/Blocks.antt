@@ -1,5 +1,5 @@
 -- The homes of a file's blocks after a group of patches.
-use Rattle.std.proofs.Common.{◌≡◌, ◌≢◌, ℕ, zero, suc, ◌+◌, ◌<◌, ◌≤◌, List, [], ◌∷◌, length, arith, ap, ◌∙◌, slice_index_or, slice_set}
+use Rattle.std.proofs.Common.{◌≡◌, ◌≢◌, ℕ, zero, suc, ◌+◌, ◌<◌, ◌≤◌, List, [], ◌∷◌, length, refl, arith, ap, sym, ◌∙◌, slice_index_or, slice_set}
 use Rattle.std.proofs.lemmas.List.{length-set, get_or-set_same, get_or-set_other}
 use Rattle.std.specs.List.{AllByRecursion}
 use Rattle.rb_base.specs.declared.ids.Shape.{Shape}
@@ -45,6 +45,12 @@ pub group_are : (shape : Shape) (number : ℕ) (group : List Patch) (blocks : Li
 group_are shape number [] blocks are within sound = are
 group_are shape number (p ∷ group) blocks are within sound = group_are shape number group (after_patch number p blocks) (after_are shape number p blocks are within.0 sound.0.within_block) within.1 sound.1
 
+pub entry_alone : (shape : Shape) (blocks : List (List ℕ)) (number which i : ℕ) (entry : Entry) → AreBlocks shape blocks → which < shape_blocks shape → i < 8 → IsEntry entry
+    → home_of (block_of (after_group number (entry_patch which i entry ∷ []) blocks) which) ≡ with_home_entry (home_of (block_of blocks which)) i entry
+entry_alone shape blocks number which i entry are lt few sound =
+    let count = are.count in
+    ap home_of (after_there number (entry_patch which i entry) blocks (omega (arith, count, lt))) ∙ entry_patched (block_of blocks which) number which i entry (block_long shape blocks which are lt) few sound
+
 module _ (shape : Shape) (blocks : List (List ℕ)) (number which c : ℕ) (are : AreBlocks shape blocks) (lt : which < shape_blocks shape) (few : c < 16) where
   pub cell_alone : (cell : Cell) → IsCell cell → home_of (block_of (after_group number (cell_patch which c cell ∷ []) blocks) which) ≡ with_home_cell (home_of (block_of blocks which)) c cell
   cell_alone cell sound =
@@ -59,14 +65,11 @@ module _ (shape : Shape) (blocks : List (List ℕ)) (number which c : ℕ) (are 
   pub both_changed : (cell : Cell) (i : ℕ) (entry : Entry) → IsCell cell → i < 8 → IsEntry entry
       → home_of (block_of (after_group number (home_patches which c cell i entry) blocks) which) ≡ with_home_entry (with_home_cell (home_of (block_of blocks which)) c cell) i entry
   both_changed cell i entry cell_sound i_few entry_sound =
-      let p = cell_patch which c cell in
-      let mid = after_patch number p blocks in
-      let are_mid = after_are shape number p blocks are lt (omega (arith, length-cell cell cell_sound)) in
-      let count = are_mid.count in
-      ap home_of (after_there number (entry_patch which i entry) mid (omega (arith, count, lt)))
-      ∙ entry_patched (block_of mid which) number which i entry (block_long shape mid which are_mid lt) i_few entry_sound
-      ∙ ap (λ home. with_home_entry home i entry) (cell_alone cell cell_sound)
+      let mid = after_patch number (cell_patch which c cell) blocks in
+      let are_mid = after_are shape number (cell_patch which c cell) blocks are lt (omega (arith, length-cell cell cell_sound)) in
+      entry_alone shape mid number which i entry are_mid lt i_few entry_sound ∙ ap (λ home. with_home_entry home i entry) (cell_alone cell cell_sound)
 
-pub change_others : (blocks : List (List ℕ)) (number which c i other : ℕ) (cell : Cell) (entry : Entry) → other ≢ which → block_of (after_group number (home_patches which c cell i entry) blocks) other ≡ block_of blocks other
-change_others blocks number which c i other cell entry differ =
-    after_others number (entry_patch which i entry) (after_patch number (cell_patch which c cell) blocks) other differ ∙ after_others number (cell_patch which c cell) blocks other differ
+-- a block that no patch of a group is of
+pub group_others : (number other : ℕ) (group : List Patch) (blocks : List (List ℕ)) → AllByRecursion (λ p. p.block ≢ other) group → block_of (after_group number group blocks) other ≡ block_of blocks other
+group_others number other [] blocks apart = refl
+group_others number other (p ∷ group) blocks apart = group_others number other group (after_patch number p blocks) apart.1 ∙ after_others number p blocks other (λ same. apart.0 (sym same))

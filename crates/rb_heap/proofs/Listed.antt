@@ -16,7 +16,7 @@ listed_set f g n c x d within there others =
     let long = length-map-range_with_len g 0 n in
     sym
     (fill_by_all f (slice_set before c x) n d (length-set before c x ∙ long) (λ k lt.
-        elim (cases_eq k c) [
-          | inl same ↦ get_or-set_at before c k x d same (omega (arith, long)) ∙ sym there ∙ ap f (sym same)
-          | inr differ ↦ get_or-set_other before c k x d differ ∙ get_or-map-range_with_len g 0 n k k d lt (omega arith) ∙ sym (others k lt differ)
-        ]))
+    elim (cases_eq k c) [
+      | inl same ↦ get_or-set_at before c k x d same (omega (arith, long)) ∙ sym there ∙ ap f (sym same)
+      | inr differ ↦ get_or-set_other before c k x d differ ∙ get_or-map-range_with_len g 0 n k k d lt (omega arith) ∙ sym (others k lt differ)
+    ]))

