@@ -1,2 +1,2 @@
-mod CellBytes
+pub mod CellBytes
 mod Writing

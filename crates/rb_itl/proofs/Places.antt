@@ -1,17 +1,14 @@
 -- An entry that was written over a block's bytes.
-use Rattle.std.proofs.Common.{◌≡◌, ◌⊎◌, ◌+◌, ◌≤◌, take, drop, refl, arith, ap, ◌∙◌, inl, inr}
+use Rattle.std.proofs.Common.{◌≡◌, ◌⊎◌, ◌+◌, ◌≤◌, drop, refl, arith, ap, sym, ◌∙◌, inl, inr}
 use Rattle.std.proofs.lemmas.Bool.{cases_lt}
+use Rattle.std.proofs.lemmas.List.{take_all, length-drop}
 use Rattle.byteorder.specs.Numbers.{big_number-reads_back}
+use Rattle.rb_base.proofs.Overwriting.{length-overwritten, part_written, part_apart}
 use Rattle.rb_base.specs.Fields.{number_at}
-use Rattle.rb_itl.specs.Entries.{entry_place, entry_bytes, entry_of, ReadsOwn, KeepsOthers, KeepsOutside, KeepsCells, KeepsLength, ReadsBack}
-use Rattle.rb_itl.proofs.Overwriting.{overwritten_itself, before_overwritten, behind_overwritten, length-overwritten}
+use Rattle.rb_itl.specs.Entries.{entry_place, entry_bytes, entry_of, with_entry, ReadsOwn, KeepsOthers, KeepsOutside, KeepsCells, KeepsLength, ReadsBack}
 
 pub entry_kept_outside : KeepsOutside
-entry_kept_outside block i at count e long lt side =
-    elim side [
-      | inl le ↦ before_overwritten block (entry_bytes e) (entry_place i) at count (omega arith) le
-      | inr le ↦ ap (take count) (behind_overwritten block (entry_bytes e) (entry_place i) at (omega arith) le)
-    ]
+entry_kept_outside block i at count e long lt side = part_apart block (entry_place i) (entry_bytes e) at count 48 (omega (arith, long)) refl side
 
 pub others_kept : KeepsOthers
 others_kept block i j e long lt lt_too other =
@@ -22,11 +19,14 @@ others_kept block i j e long lt lt_too other =
     ] in
     ap entry_of (entry_kept_outside block i (entry_place j) 48 e long lt side)
 
-pub cells_kept : KeepsCells
-cells_kept block i e long lt = behind_overwritten block (entry_bytes e) (entry_place i) 416 (omega arith) (omega arith)
-
 pub length_kept : KeepsLength
-length_kept block i e long lt = length-overwritten block (entry_bytes e) (entry_place i) (omega arith) ∙ long
+length_kept block i e long lt = length-overwritten block (entry_place i) (entry_bytes e) (omega (arith, long)) ∙ long
+
+pub cells_kept : KeepsCells
+cells_kept block i e long lt =
+    sym (take_all 1632 (drop 416 (with_entry block i e)) (omega (arith, length-drop 416 (with_entry block i e), length_kept block i e long lt)))
+    ∙ entry_kept_outside block i 416 1632 e long lt (inr (omega arith))
+    ∙ take_all 1632 (drop 416 block) (omega (arith, length-drop 416 block, long))
 
 -- each field is read from the bytes that it was written to
 pub read_back : ReadsBack
@@ -43,4 +43,4 @@ read_back e h =
     rw (seg, slot, wrap, number, block, rec, ord, length) refl
 
 pub own_read : ReadsOwn
-own_read block i e long lt fits = ap entry_of (overwritten_itself block (entry_bytes e) (entry_place i) (omega arith)) ∙ read_back e fits
+own_read block i e long lt fits = ap entry_of (part_written block (entry_place i) (entry_bytes e) 48 (omega (arith, long)) refl) ∙ read_back e fits

@@ -1,0 +1,43 @@
+-- A block of a new file has an empty home.
+use Rattle.std.proofs.Common.{◌≡◌, ℕ, zero, suc, ◌+◌, ◌-◌, ◌%◌, ◌==◌, ◌<◌, ◌≤◌, Bool, if◌then◌else◌, List, ◌++◌, length, take, drop, replicate, refl, arith, ap, sym, ◌∙◌}
+use Rattle.std.proofs.lemmas.Bool.{lt-ltb}
+use Rattle.std.proofs.lemmas.List.{drop_at, drop-drop, drop-replicate, take-replicate, get_or-replicate}
+use Rattle.std.proofs.lemmas.List.FromFn.{fill_by_all}
+use Rattle.rb_base.specs.declared.ids.Shape.{Shape}
+use Rattle.rb_base.specs.Blocks.{block_of, block_kind, fresh_head, fresh_rest, fresh_block, fresh_from, fresh_blocks, table_blocks, shape_blocks}
+use Rattle.rb_base.specs.Fields.{part}
+use Rattle.rb_cell.specs.Cells.{cell_place, cell_of, cell_at}
+use Rattle.rb_itl.specs.Entries.{entry_place, entry_of, entry_at, free_entry}
+use Rattle.rb_heap.specs.Homes.{home_of, empty_cell, empty_home}
+
+zeros_behind : (head : List ℕ) (at count : ℕ) → length head ≡ 32 → 32 ≤ at → at + count ≤ 2048 → part (head ++ replicate 2016 0) at count ≡ replicate count 0
+zeros_behind head at count long behind within =
+    let block = head ++ replicate 2016 0 in
+    let more : at ≡ 32 + (at - 32) = omega arith in
+    ap (λ (n : ℕ). part block n count) more
+    ∙ ap (take count) (sym (drop-drop (at - 32) 32 block) ∙ ap (drop (at - 32)) (drop_at head (replicate 2016 0) 32 long) ∙ drop-replicate (at - 32) 2016 0)
+    ∙ take-replicate count (2016 - (at - 32)) 0 (omega arith)
+
+empty_behind : (head : List ℕ) → length head ≡ 32 → home_of (head ++ replicate 2016 0) ≡ empty_home
+unfolding home_of
+empty_behind head long =
+    let block = head ++ replicate 2016 0 in
+    let entries =
+    fill_by_all (entry_at block) (replicate 8 free_entry) 8 free_entry refl (λ k lt. get_or-replicate 8 k free_entry free_entry lt ∙ sym (ap entry_of (zeros_behind head (entry_place k) 48 long (omega arith) (omega arith)))) in
+    let cells =
+    fill_by_all (cell_at block) (replicate 16 empty_cell) 16 empty_cell refl (λ k lt. get_or-replicate 16 k empty_cell empty_cell lt ∙ sym (ap cell_of (zeros_behind head (cell_place k) 92 long (omega arith) (omega arith)))) in
+    rw (← entries, ← cells) refl
+
+of_rows : (shape : Shape) (which : ℕ) → which < table_blocks shape → block_kind shape which ≡ 1
+of_rows shape which lt = ap (λ (b : Bool). if b then 1 else if (which - table_blocks shape) % 33 == 0 then 2 else 3) (lt-ltb which (table_blocks shape) lt)
+
+pub fresh_empty : (shape : Shape) (which : ℕ) → which < table_blocks shape → home_of (fresh_block shape which) ≡ empty_home
+fresh_empty shape which lt = ap (λ (kind : ℕ). home_of (fresh_head kind which ++ fresh_rest kind)) (of_rows shape which lt) ∙ empty_behind (fresh_head 1 which) refl
+
+fresh_at : (shape : Shape) (first count i : ℕ) → i < count → block_of (fresh_from shape first count) i ≡ fresh_block shape (first + i)
+fresh_at shape first zero i lt = absurd (omega arith)
+fresh_at shape first (suc count) zero lt = ap (fresh_block shape) (omega arith)
+fresh_at shape first (suc count) (suc i) lt = fresh_at shape (first + 1) count i (omega arith) ∙ ap (fresh_block shape) (omega arith)
+
+pub new_empty : (shape : Shape) (which : ℕ) → which < table_blocks shape → home_of (block_of (fresh_blocks shape) which) ≡ empty_home
+new_empty shape which lt = ap home_of (fresh_at shape 0 (shape_blocks shape) which (omega arith) ∙ ap (fresh_block shape) (omega arith)) ∙ fresh_empty shape which lt

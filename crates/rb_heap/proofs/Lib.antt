@@ -1,0 +1,7 @@
+pub mod Blocks
+pub mod Fresh
+pub mod Listed
+pub mod Patching
+pub mod Ranges
+pub mod Reading
+pub mod Seen

@@ -1,0 +1,15 @@
+//! The homes of a heap block: what its bytes say of its slot entries and its cells, which cell has a key, which is free,
+//! and what patches make of them. The engine over blocks will reason about homes and never about bytes; the program
+//! doesn't use them yet.
+#![tactic(auto)]
+
+mod laws;
+mod search;
+mod write;
+
+pub use laws::{head_patched, home_changed, home_listed, home_patched, home_read, home_searched};
+pub use search::{find, free_cell};
+pub use write::change;
+
+#[cfg(test)]
+mod tests;
