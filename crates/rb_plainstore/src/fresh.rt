@@ -1,7 +1,6 @@
 //! The blocks of a new file. `PlainStore::new` makes them.
-ghost use Rattle.std.specs.Prelude.{◌≡◌, ◌+◌, ◌<◌, ◌≤◌, length, replicate, IfOk};
+ghost use Rattle.std.specs.Prelude.{◌≡◌, replicate, IfOk};
 ghost use Rattle.rb_base.specs.Blocks.{IsShape, shape_blocks, block_kind, fresh_rest, fresh_block as fresh_block_of, fresh_blocks as fresh_blocks_of, fresh_head as fresh_head_of};
-ghost use Rattle.rb_base.specs.Fields.{with_number};
 ghost use Rattle.rb_plainstore.specs.Kinds.{kind_number};
 
 use rb_base::{BlockNo, NoMemory, Shape, UNIT, put_u32, put_u64};

@@ -1,8 +1,8 @@
 //! Patches blocks in memory by a group. `PlainStore::apply` calls it.
-ghost use Rattle.std.specs.Prelude.{◌≡◌, ◌+◌, ◌<◌, ◌≤◌, length, slice_index_or};
+ghost use Rattle.std.specs.Prelude.{◌≡◌, ◌+◌, ◌<◌, ◌≤◌, length};
 ghost use Rattle.std.specs.List.{AllByRecursion};
 ghost use Rattle.rb_base.specs.Blocks.{after_patch, after_group};
-ghost use Rattle.rb_base.specs.Groups.{Patch, patch, IsGroup};
+ghost use Rattle.rb_base.specs.Groups.{patch, IsGroup};
 
 use rb_base::{Group, Lsn, UNIT, put_u64};
 

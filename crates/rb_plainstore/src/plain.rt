@@ -1,5 +1,5 @@
 //! `PlainStore`: all blocks of a file in memory. Tests of the layers above a store make one.
-ghost use Rattle.std.specs.Prelude.{◌≡◌, Option, None, Some, false, IfOk};
+ghost use Rattle.std.specs.Prelude.{◌≡◌, IfOk};
 ghost use Rattle.rb_base.specs.Blocks.{IsShape, fresh_blocks as fresh_blocks_of};
 
 use crate::fresh::fresh_blocks;
@@ -98,10 +98,10 @@ impl Store for PlainStore {
     }
 
     fn block(&self) -> &[u8] {
-        match self.loaded {
-            Some(no) => &self.blocks[no as usize],
-            None => unreachable!(),
-        }
+        let Some(no) = self.loaded else {
+            unreachable!()
+        };
+        &self.blocks[no as usize]
     }
 
     fn apply(&mut self, group: &Group) -> Result<(), Failed> {
