@@ -1,3 +1,4 @@
 mod LapLemmas
+mod OpenLemmas
 mod ScanLemmas
 mod Units

@@ -1,8 +1,9 @@
 -- What an opening has scanned of a log of groups, and what it leaves.
-use Rattle.std.specs.Prelude.{◌≡◌, ℕ, ◌+◌, ◌<◌, ◌≤◌, Bool, true, false, List, [], ◌∷◌, ◌++◌, length}
+use Rattle.std.specs.Prelude.{◌≡◌, ℕ, ◌+◌, ◌<◌, true, false, List, [], ◌∷◌, ◌++◌, length}
 use Rattle.std.specs.List.{AllByRecursion}
 use Rattle.rb_base.specs.Blocks.{after_groups, fresh_blocks, patches_block}
 use Rattle.rb_base.specs.Groups.{Patch}
+use Rattle.rb_disk.specs.DiskModel.{Only}
 use Rattle.rb_layout.specs.Regions.{shape_of}
 use Rattle.rb_layout.specs.declared.layout.Layout.{Layout}
 use Rattle.rb_log.specs.GroupSlots.{GroupLogState, GroupsAre, BeginsWithGroups, IsLoggable}
@@ -51,3 +52,4 @@ pub record HasOpened {D : Type 0} (told : Type 0) (content : D → List ℕ) (im
   pub few : length groups < l.log
   pub file : told → IsLap l groups (content disk)
   pub images : told → (c : List ℕ) → image disk c → IsLap l groups c
+  pub only : told → Only (content disk) (image disk)

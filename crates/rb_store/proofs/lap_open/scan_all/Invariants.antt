@@ -1,4 +1,4 @@
-use Rattle.std.proofs.Common.{◌≡◌, ◌≤◌, vec_capacity}
+use Rattle.std.proofs.Common.{◌≤◌, vec_capacity}
 use Rattle.rb_disk.specs.Moments.{Rests}
 use Rattle.rb_store.specs.Scanned.{HasScanned}
 use Rattle.rb_store.proofs.lap_open.scan_all.Given as goal

@@ -1,0 +1,35 @@
+use Rattle.std.proofs.Common.{List, ℕ, sym, subst}
+use Rattle.std.proofs.lemmas.Result.{err_from_is_err_and}
+use Rattle.rb_disk.specs.Moments.{rests_on}
+use Rattle.rb_log.specs.GroupSlots.{GroupsAre}
+use Rattle.rb_store.specs.Scanned.{HasScannedAll}
+use Rattle.rb_store.proofs.OpenLemmas.{log_for, open_leaves}
+use Rattle.rb_store.proofs.lap_open.open_parts.Goals as goal
+
+pub returns-in_err-scan-clause-none : goal.returns-in_err-scan-clause-none
+returns-in_err-scan-clause-none g c told is l b opens =
+    let m = c.in_ok-layout.layout in
+    let p = err_from_is_err_and c.from_residual-in_err-scan.result c.from_residual-in_err-scan.ensures.1 in
+    let same = (c.in_ok-layout.ensures.same told).same in
+    let log = log_for l m (g.D.Disk.content c.args.disk.now) b opens (c.in_ok-layout.ensures.identity told) in
+    c.in_err-scan.ensures.none told (cc (p.1, p.2, is)) log.0 (subst (λ (f : List ℕ). GroupsAre m f 0 log.0) (sym same) log.1)
+
+pub returns-in_err-drop_uncommitted-clause-any_moment : goal.returns-in_err-drop_uncommitted-clause-any_moment
+returns-in_err-drop_uncommitted-clause-any_moment g c told l b opens =
+    let m = c.in_ok-layout.layout in
+    let old = c.args.disk.now in
+    let d = g.D.Disk in
+    let first = c.in_ok-layout.ensures.same told in
+    let found = subst (λ (f : List ℕ). HasScannedAll d.tells m f c.in_ok-scan.scan.plain c.in_ok-scan.scan.log c.in_ok-scan.scan.waiting.items) first.same c.in_ok-scan.ensures.found in
+    open_leaves d.content d.image d.moment d.image_since d.tells old c.scan_file.new.disk c.drop_uncommitted.new.disk l m b c.in_ok-scan.scan.plain c.in_ok-scan.scan.log c.in_ok-scan.scan.waiting.items (λ im left. g.met.D.Disk.only_now old im told left)
+    (rests_on d.content d.image d.moment d.image_since old c.synced_layout.new.disk c.scan_file.new.disk first (c.scan_file.ensures.same told)) (c.in_ok-layout.ensures.identity told) found told opens (c.drop_uncommitted.ensures.any_moment told)
+
+pub returns-clause-any_moment : goal.returns-clause-any_moment
+returns-clause-any_moment g c told l b opens =
+    let m = c.in_ok-layout.layout in
+    let old = c.args.disk.now in
+    let d = g.D.Disk in
+    let first = c.in_ok-layout.ensures.same told in
+    let found = subst (λ (f : List ℕ). HasScannedAll d.tells m f c.in_ok-scan.scan.plain c.in_ok-scan.scan.log c.in_ok-scan.scan.waiting.items) first.same c.in_ok-scan.ensures.found in
+    open_leaves d.content d.image d.moment d.image_since d.tells old c.scan_file.new.disk c.drop_uncommitted.new.disk l m b c.in_ok-scan.scan.plain c.in_ok-scan.scan.log c.in_ok-scan.scan.waiting.items (λ im left. g.met.D.Disk.only_now old im told left)
+    (rests_on d.content d.image d.moment d.image_since old c.synced_layout.new.disk c.scan_file.new.disk first (c.scan_file.ensures.same told)) (c.in_ok-layout.ensures.identity told) found told opens (c.drop_uncommitted.ensures.any_moment told)
