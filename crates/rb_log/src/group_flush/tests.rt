@@ -1,5 +1,6 @@
 //! Units by their bytes, and the calls of a disk that a flush of groups makes.
-ghost use Rattle.std.specs.Prelude.{◌≡◌, []};
+ghost use Rattle.std.specs.Prelude.{◌≡◌, [], ◌∷◌};
+ghost use Rattle.rb_base.specs.Counts.{IsCounted};
 ghost use Rattle.rb_base.specs.Groups.{patch};
 
 use super::{fill_run, put_group, write_groups};
@@ -14,7 +15,7 @@ const UNIT_BYTES: &[u8; 27] =
 
 /// The group of one patch of block 0.
 fn one_patch(byte: u8) -> Group
-    ensures { result ≡ [] ++ patch 0 416 (byte ∷ []) ∷ [] }
+    ensures { result ≡ patch 0 416 (byte ∷ []) ∷ [] }
 {
     let mut group = Group::new();
     group.push(0, 416, &[byte]);
@@ -104,11 +105,19 @@ fn unit_of_one_patch(rt: HostRuntime) {
 fn gates_of_a_run(rt: HostRuntime) -> Result<(), Fail> {
     let mut buffer = vec![in rt.alloc(); 9; 65536]?;
     fill_run(&mut buffer, 5, &[one_patch(1), one_patch(2), one_patch(3)]);
-    for (place, expected) in [(0, 0), (15, 5), (26, 1), (2048, 1), (2063, 6), (2074, 2)] {
-        assert_eq!(rt; buffer[place], expected);
-    }
-    for (place, expected) in [(4096, 1), (4111, 7), (4122, 3), (6143, 0), (6144, 9)] {
-        assert_eq!(rt; buffer[place], expected);
+    // The gate, the number, the byte of the patch and the end of each unit, and what lies behind them.
+    let first = [(0, 0), (15, 5), (26, 1), (2047, 0)];
+    let second = [(2048, 1), (2063, 6), (2074, 2), (4095, 0)];
+    let third = [(4096, 1), (4111, 7), (4122, 3), (6143, 0)];
+    for row in [
+        first,
+        second,
+        third,
+        [(6144, 9), (6145, 9), (65534, 9), (65535, 9)],
+    ] {
+        for (place, expected) in row {
+            assert_eq!(rt; buffer.get(place).copied(), Some(expected));
+        }
     }
     Ok(())
 }
