@@ -1,5 +1,5 @@
 //! Units by their bytes, and the calls of a disk that a flush of groups makes.
-ghost use Rattle.std.specs.Prelude.{◌≡◌, [], ◌∷◌};
+ghost use Rattle.std.specs.Prelude.{◌≡◌, ◌≤◌, [], ◌∷◌, replicate, IfOk};
 ghost use Rattle.rb_base.specs.Counts.{IsCounted};
 ghost use Rattle.rb_base.specs.Groups.{patch};
 
@@ -122,9 +122,23 @@ fn gates_of_a_run(rt: HostRuntime) -> Result<(), Fail> {
     Ok(())
 }
 
-/// The calls of a flush of two groups behind three of them, where the call of that number fails.
-fn two_groups(rt: &HostRuntime, fails_at: usize) -> Result<(Calls, bool), Fail> {
+/// That many groups, each of one patch.
+fn groups_of(rt: &HostRuntime, count: u8) -> Result<Vec<Group>, Fail>
+    ensures { IfOk result (λ groups. groups.items ≡ replicate count (patch 0 416 (1 ∷ []) ∷ [])) }
+{
+    let mut groups = Vec::new(rt.alloc());
+    for _ in 0..count {
+        groups.push(one_patch(1))?;
+    }
+    Ok(groups)
+}
+
+/// The calls of a flush of groups behind three others, and whether it is done, where the call of that number fails.
+fn flush_of(rt: &HostRuntime, count: u8, fails_at: usize) -> Result<(Calls, bool), Fail>
+    requires { count ≤ 60 }
+{
     let layout = Layout::new(1, 1, 1, 64).ok_or("a layout")?;
+    let groups = groups_of(rt, count)?;
     let mut buffer = vec![in rt.alloc(); 9; 65536]?;
     let mut disk = Calls {
         made: [Call::None; 10],
@@ -132,33 +146,42 @@ fn two_groups(rt: &HostRuntime, fails_at: usize) -> Result<(Calls, bool), Fail> 
         fails_at,
         faults: 0,
     };
-    let answer = write_groups(
-        &mut disk,
-        &layout,
-        3,
-        &[one_patch(1), one_patch(2)],
-        &mut buffer,
-    );
+    let answer = write_groups(&mut disk, &layout, 3, &groups, &mut buffer);
     Ok((disk, answer.is_ok()))
 }
 
+/// The calls of a flush of 34 groups.
+const TWO_RUNS: [Call; 10] = [
+    Call::Write(14337, 65535, 0),
+    Call::Write(79872, 1, 0),
+    Call::Sync,
+    Call::Write(14336, 1, 1),
+    Call::Sync,
+    Call::Write(79873, 4095, 0),
+    Call::Write(83968, 1, 0),
+    Call::Sync,
+    Call::Write(79872, 1, 1),
+    Call::Sync,
+];
+
 #[test]
-fn calls_in_order(rt: HostRuntime) -> Result<(), Fail> {
-    let expected = [
-        Call::Write(14337, 4095, 0),
-        Call::Write(18432, 1, 0),
-        Call::Sync,
-        Call::Write(14336, 1, 1),
-        Call::Sync,
-    ];
-    for fails_at in 0..6 {
-        let (disk, is_ok) = two_groups(&rt, fails_at)?;
-        assert_eq!(rt; is_ok, fails_at == 5);
-        assert_eq!(rt; disk.count, 5.min(fails_at + 1));
-        for i in 0..disk.count {
-            assert!(rt; i < 5);
-            assert_eq!(rt; disk.made[i], expected[i]);
-        }
+fn two_runs_in_order(rt: HostRuntime) -> Result<(), Fail> {
+    for fails_at in 0..11 {
+        let (disk, is_ok) = flush_of(&rt, 34, fails_at)?;
+        assert_eq!(rt; is_ok, fails_at == 10);
+        let made = 10.min(fails_at + 1);
+        assert_eq!(rt; disk.count, made);
+        assert_eq!(rt; &disk.made[..made], &TWO_RUNS[..made]);
+    }
+    Ok(())
+}
+
+#[test]
+fn whole_runs_and_none(rt: HostRuntime) -> Result<(), Fail> {
+    for (count, calls) in [(0, 0), (1, 5), (32, 5), (33, 10)] {
+        let (disk, is_ok) = flush_of(&rt, count, 10)?;
+        assert!(rt; is_ok);
+        assert_eq!(rt; disk.count, calls);
     }
     Ok(())
 }
