@@ -128,8 +128,13 @@ run_outside slots end groups f c lt was = record {
 }
 
 -- the units in front of them
-pub run_earlier : (end : ℕ) (groups : List (List Patch)) (f c : List ℕ) → StagedRun end groups f c → (k : ℕ) → k < end → slot_at c k ≡ slot_at f k
+run_earlier : (end : ℕ) (groups : List (List Patch)) (f c : List ℕ) → StagedRun end groups f c → (k : ℕ) → k < end → slot_at c k ≡ slot_at f k
 run_earlier end groups f c was k below = part_below c f (log_offset end) (log_offset k) 2048 was.front (omega arith)
+
+-- and those behind the closed gate
+pub run_others : (end : ℕ) (groups : List (List Patch)) (f c : List ℕ) → StagedRun end groups f c → (k : ℕ) → (k < end) ⊎ (end + length groups < k) → slot_at c k ≡ slot_at f k
+run_others end groups f c was k (inl below) = run_earlier end groups f c was k below
+run_others end groups f c was k (inr behind) = part_beyond c f (log_offset (end + length groups) + 1) (log_offset k) 2048 was.back (omega (arith, behind))
 
 -- each unit, once the first gate is open
 pub run_units : (end : ℕ) (groups : List (List Patch)) (f c : List ℕ) → log_offset end < length f → StagedRun end groups f c → get_or c (log_offset end) 0 ≡ 1

@@ -1,6 +1,6 @@
 //! Groups of patches written to the log slots of a file, each there whole or not at all after a crash. The log of groups
 //! calls it.
-ghost use Rattle.std.specs.Prelude.{◌≡◌, ◌+◌, ◌*◌, ◌++◌, ◌<◌, ◌≤◌, ◌^◌, [], ◌∷◌, ℕ, List, length, min, slice_index_or, OnOk};
+ghost use Rattle.std.specs.Prelude.{◌≡◌, ◌⊎◌, ◌+◌, ◌*◌, ◌++◌, ◌<◌, ◌≤◌, ◌^◌, [], ◌∷◌, ℕ, List, length, min, slice_index_or, OnOk};
 ghost use Rattle.std.specs.List.{AllByRecursion};
 ghost use Rattle.rb_base.specs.Counts.{IsCounted};
 ghost use Rattle.rb_base.specs.Fields.{part};
@@ -75,7 +75,7 @@ fn write_run<D: Disk>(
     requires synced { D.tells → (c : List ℕ) → D.image disk.old c → SameSlots layout.now.log (D.content disk.old) c }
     ensures written { D.tells → OnOk result ((before : List (List Patch)) → length before ≡ used → GroupsAre layout.now (D.content disk.old) 0 before → GroupsAre layout.now (D.content disk.new) 0 (before ++ groups.now)) }
     ensures units { D.tells → OnOk result ((k : ℕ) (d : List Patch) → k < length groups.now → slot_at (D.content disk.new) (used + k) ≡ group_unit 1 (used + k + 1) (slice_index_or groups.now k d)) }
-    ensures earlier { D.tells → OnOk result ((k : ℕ) → k < used → slot_at (D.content disk.new) k ≡ slot_at (D.content disk.old) k) }
+    ensures others { D.tells → OnOk result ((k : ℕ) → (k < used) ⊎ (used + length groups.now < k) → slot_at (D.content disk.new) k ≡ slot_at (D.content disk.old) k) }
     ensures outside { D.tells → OnOk result (SameOutside layout.now.log (D.content disk.old) (D.content disk.new)) }
     ensures durable { D.tells → OnOk result (Only (D.content disk.new) (D.image disk.new)) }
     ensures whole { D.tells → length (D.content disk.new) ≡ file_length layout.now }
@@ -106,7 +106,7 @@ pub(crate) fn write_groups<D: Disk>(
     requires synced { D.tells → (c : List ℕ) → D.image disk.old c → SameSlots layout.now.log (D.content disk.old) c }
     ensures written { D.tells → OnOk result ((before : List (List Patch)) → length before ≡ used → GroupsAre layout.now (D.content disk.old) 0 before → GroupsAre layout.now (D.content disk.new) 0 (before ++ groups.now)) }
     ensures units { D.tells → OnOk result ((k : ℕ) (d : List Patch) → k < length groups.now → slot_at (D.content disk.new) (used + k) ≡ group_unit 1 (used + k + 1) (slice_index_or groups.now k d)) }
-    ensures earlier { D.tells → OnOk result ((k : ℕ) → k < used → slot_at (D.content disk.new) k ≡ slot_at (D.content disk.old) k) }
+    ensures others { D.tells → OnOk result ((k : ℕ) → (k < used) ⊎ (used + length groups.now < k) → slot_at (D.content disk.new) k ≡ slot_at (D.content disk.old) k) }
     ensures outside { D.tells → OnOk result (SameOutside layout.now.log (D.content disk.old) (D.content disk.new)) }
     ensures durable { D.tells → OnOk result ((c : List ℕ) → D.image disk.new c → SameSlots layout.now.log (D.content disk.new) c) }
     ensures whole { D.tells → length (D.content disk.new) ≡ file_length layout.now }
@@ -122,3 +122,6 @@ pub(crate) fn write_groups<D: Disk>(
     }
     Ok(())
 }
+
+#[cfg(test)]
+mod tests;

@@ -33,6 +33,6 @@ loop-done-preserved g c =
       runs = (c.loop-done.invariant.runs.0 + 1, runs_more c.args.groups.now _ c.loop-done.done c.min-end.result c.loop-done.invariant.runs.0 here);
       so_far = λ told.
           run_done g.D.Disk.content g.D.Disk.image g.D.Disk.moment g.D.Disk.image_since c.args.layout.now c.args.used c.args.groups.now _ c.loop-done.done c.min-end.result c.loop-done.invariant.runs.0 here c.args.disk.now c.loop-done.disk c.write_run.new.disk
-          (c.loop-done.invariant.so_far told) (g.met.D.Disk.reads_an_image c.args.disk.now told) (did.written told) (did.units told) (did.earlier told) (did.outside told) (did.durable told) (did.whole told) (did.any_moment told);
+          (c.loop-done.invariant.so_far told) (g.met.D.Disk.reads_an_image c.args.disk.now told) (did.written told) (did.units told) (did.others told) (did.outside told) (did.durable told) (did.whole told) (did.any_moment told);
       counted = omega (arith, c.loop-done.invariant.counted, did.counted.no_less);
     }

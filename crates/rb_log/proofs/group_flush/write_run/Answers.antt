@@ -3,7 +3,7 @@ use Rattle.std.proofs.lemmas.Result.{on_ok_weaker}
 use Rattle.std.specs.Result.{OnOk}
 use Rattle.rb_base.specs.Moments.{weaker, joined}
 use Rattle.rb_layout.specs.Regions.{log_offset}
-use Rattle.rb_log.proofs.GroupLogs.{StagedRun, run_earlier}
+use Rattle.rb_log.proofs.GroupLogs.{StagedRun, run_others}
 use Rattle.rb_log.proofs.GroupFlush.{RunPlan, run_planned, staged, opened, flushed_outside, flushed_units, flushed_log, one_interrupted, two_interrupted}
 use Rattle.rb_log.proofs.group_flush.write_run.Given.{Over}
 use Rattle.rb_log.proofs.group_flush.write_run.Goals.{After-write_body}
@@ -63,6 +63,6 @@ returns-clause-outside g c told =
     let plan = planned g (goal.at.returns-clause-outside g c).After-write_body told in
     on_ok_weaker c.open_gate.result (λ now. flushed_outside _ _ _ _ _ _ _ plan (g.D.Disk.content c.open_gate.new.disk) now.0) (ended g c told)
 
-pub returns-clause-earlier : goal.returns-clause-earlier
-returns-clause-earlier g c told =
-    on_ok_weaker c.open_gate.result (λ now. run_earlier c.args.used c.args.groups.now (g.D.Disk.content c.args.disk.now) (g.D.Disk.content c.open_gate.new.disk) now.0) (ended g c told)
+pub returns-clause-others : goal.returns-clause-others
+returns-clause-others g c told =
+    on_ok_weaker c.open_gate.result (λ now. run_others c.args.used c.args.groups.now (g.D.Disk.content c.args.disk.now) (g.D.Disk.content c.open_gate.new.disk) now.0) (ended g c told)
