@@ -117,7 +117,7 @@ module _ {D : Type 0} (content : D → List ℕ) (image : D → List ℕ → Typ
         → LeavesOnly (λ (x : LapState D). moment x.disk) (λ (x : LapState D) t c. since x.disk t c) s new (λ i. (now : List (List ℕ)) × Opens (shape_of s.layout) (Some s.layout.log) i now × AfterSome (commit_block (shape_of s.layout)) s.number s.pending b now)
     flush_moments s new b st leaves =
         let w = weaker moment since s.disk new.disk (FlushedSome (image s.disk) s.layout st.groups s.pending) (λ i. (now : List (List ℕ)) × Opens (shape_of s.layout) (Some s.layout.log) i now × AfterSome (commit_block (shape_of s.layout)) s.number s.pending b now)
-            (λ c some. flush_leaves s b c st st.groups some st refl) leaves in
+        (λ c some. flush_leaves s b c st st.groups some st refl) leaves in
         record { later = w.later; each = w.each; earlier = w.earlier }
 
     -- each image of a flush that is done has all groups

@@ -29,8 +29,10 @@ dropped_opens l image file c groups waiting b count id only whole made counts so
   where
     identity : HasIdentity 102 l c
     identity = same_identity l some.outside.0 c some.outside.2 (subst (λ (d : List ℕ). HasIdentity 102 l d) (sym (only some.outside.0 some.outside.1)) id)
+
     all : GroupsAre l c 0 (groups ++ waiting) → OpensTo l c b
     all log = record { groups = groups ++ waiting; lap = record { identity = identity; log = log }; made = made ∙ ap (λ (gs : List (List Patch)). after_groups 1 gs (fresh_blocks (shape_of l))) (sym whole) }
+
     fewer : GroupsAre l c 0 (take count (groups ++ waiting)) → OpensTo l c b
     fewer log = record {
       groups = groups;

@@ -75,6 +75,7 @@ scan_more told l file before now old new waiting left group h log lt valid holds
   where
     used : old.used ≡ length h.groups + length waiting
     used = ap (λ (x : GroupLogState). x.used) h.log_is
+
     from : (b : Bool) → patches_block (commit_block (shape_of l)) group ≡ b → HasScanned told l file now new left
     from true e = scan_commits told l file before now old new waiting left group h used log lt holds e shape (takes.blocks e) (takes.number e) (takes.none_left e)
     from false e = scan_waits told l file before now old new waiting left group h used log lt valid holds e (takes.waits e).0 (takes.waits e).1

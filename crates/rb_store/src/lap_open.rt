@@ -152,7 +152,11 @@ fn scan_all<D: Disk>(scan: &mut Scan, disk: &mut D, layout: &Layout) -> Result<(
 }
 
 /// Drops the groups behind the last commit, so that the next ones stand behind it.
-fn drop_uncommitted<D: Disk>(scan: &mut Scan, disk: &mut D, layout: &Layout) -> Result<(), OpenFault>
+fn drop_uncommitted<D: Disk>(
+    scan: &mut Scan,
+    disk: &mut D,
+    layout: &Layout,
+) -> Result<(), OpenFault>
     requires all { HasScannedAll D.tells layout.now (D.content disk.old) scan.old.plain scan.old.log scan.old.waiting.items }
     requires identity { D.tells → HasIdentity GROUPS_VERSION layout.now (D.content disk.old) }
     requires synced { D.tells → Only (D.content disk.old) (D.image disk.old) }

@@ -4,6 +4,8 @@
 mod fresh;
 mod lap;
 mod lap_open;
+mod laws;
 
-pub use fresh::{FormatFault, format};
+pub use fresh::{FormatFault, format, format_version};
 pub use lap::LapStore;
+pub use laws::fresh_lap;
