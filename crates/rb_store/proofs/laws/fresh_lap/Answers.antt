@@ -1,7 +1,7 @@
-use Rattle.std.proofs.Common.{◌≡◌, ◌≢◌, ℕ, ◌+◌, ◌-◌, ◌*◌, ◌<◌, List, [], ◌++◌, length, drop, replicate, get_or, refl, arith, ap, sym, ◌∙◌, inr}
+use Rattle.std.proofs.Common.{◌≡◌, ◌-◌, [], length, drop, replicate, get_or, refl, arith, ◌∙◌, inr}
 use Rattle.std.proofs.lemmas.List.{get_or-take, get_or-drop, get_or-append_right, get_or-replicate}
 use Rattle.rb_layout.specs.Fresh.{fresh_has_identity}
-use Rattle.rb_layout.specs.Regions.{identity, fresh_file, file_length, log_offset}
+use Rattle.rb_layout.specs.Regions.{identity, fresh_file, file_length}
 use Rattle.rb_layout.specs.declared.layout.Layout.{Layout}
 use Rattle.rb_store.proofs.laws.fresh_lap.Goals as goal
 
@@ -9,8 +9,7 @@ use Rattle.rb_store.proofs.laws.fresh_lap.Goals as goal
 first_gate : (l : Layout) → get_or (fresh_file 102 l) 8192 0 ≡ 0
 first_gate l =
     let long : length (identity 102 l) ≡ 24 = omega arith in
-    get_or-append_right (identity 102 l) (replicate (file_length l - 24) 0) 0 8192 (omega (arith, long)) ∙ ap (λ (n : ℕ). get_or (replicate (file_length l - 24) 0) (8192 - n) 0) long
-    ∙ get_or-replicate (file_length l - 24) (8192 - 24) 0 0 (omega arith)
+    get_or-append_right (identity 102 l) (replicate (file_length l - 24) 0) 24 8192 0 long (omega arith) ∙ get_or-replicate (file_length l - 24) (8192 - 24) 0 0 (omega arith)
 
 pub returns : goal.returns
 returns c = λ l. record {
