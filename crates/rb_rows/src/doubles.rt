@@ -18,10 +18,10 @@ pub const RUN: &str = "f run frames=16";
 const FORMAT_ROOM: u64 = 2_500_000;
 
 // More bytes than any script of the rows writes.
-const SCRIPT_ROOM: u64 = 1_000_000;
+pub const SCRIPT_ROOM: u64 = 1_000_000;
 
 // More calls than any line of the rows makes.
-const CALLS: usize = 5_000;
+pub const CALLS: usize = 5_000;
 
 // More bytes than any script of the rows answers.
 const SINK_ROOM: usize = 20_000;

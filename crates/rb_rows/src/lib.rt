@@ -11,4 +11,6 @@ mod failures;
 #[cfg(test)]
 mod stops;
 #[cfg(test)]
+mod stores;
+#[cfg(test)]
 mod tests;
