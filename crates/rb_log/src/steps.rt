@@ -1,4 +1,4 @@
-//! The two steps of a flush, each with what a crash in it may leave. `Log` calls one after the other.
+//! The two steps of a flush, each with what a crash in it may leave. `Log` and the flush of groups call one after the other.
 ghost use Rattle.std.specs.Prelude.{◌≡◌, ◌+◌, ◌≤◌, ◌<◌, ◌^◌, [], ◌∷◌, ℕ, List, length, OnOk};
 ghost use Rattle.rb_base.specs.Counts.{IsCounted};
 ghost use Rattle.rb_base.specs.Fields.{overwritten};
@@ -25,7 +25,7 @@ pub fn write_body<D: Disk>(disk: &mut D, at: u64, body: &[u8]) -> Result<(), Fai
     disk.sync()
 }
 
-/// Step two: the gate. From its sync on every image has the record.
+/// Step two: the gate. From its sync on every image has what was written behind it.
 pub fn open_gate<D: Disk>(disk: &mut D, at: u64) -> Result<(), Failed>
     requires within { D.tells → at + 1 ≤ length (D.content disk.old) }
     ensures written { D.tells → OnOk result (D.content disk.new ≡ overwritten (D.content disk.old) at (1 ∷ [])) }

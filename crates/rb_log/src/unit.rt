@@ -1,4 +1,5 @@
-//! A log slot's unit: where its fields stand, and how a record is found in it or put into it. `Log` calls it.
+//! A log slot's unit: where its fields stand, and how a record is found in it or put into it. `Log` calls it; the flush of
+//! groups takes the places.
 ghost use Rattle.std.specs.Prelude.{◌≡◌, ◌≤◌, ℕ, List, length, IfSome, IfNone};
 ghost use Rattle.rb_base.specs.Fields.{part};
 ghost use Rattle.rb_log.specs.Slots.{HasBody, record_unit};
@@ -11,7 +12,7 @@ pub const SHORTEST: usize = 13;
 /// Most bytes of a record.
 pub const LONGEST: usize = 2000;
 
-/// Where a record begins in its unit.
+/// Where a record or a group begins in its unit.
 pub const RECORD: usize = 16;
 
 /// Where the length of a unit's record or group stands.
