@@ -1,5 +1,5 @@
 //! Both stores under one list of calls, and the store of one lap over the files that a crash leaves of three commits.
-ghost use Rattle.std.specs.Prelude.{◌≡◌, ◌≤◌, ◌<◌, false, OnOk};
+ghost use Rattle.std.specs.Prelude.{◌≡◌, ◌≤◌, ◌<◌, false, IfOk, OnOk};
 
 use crate::commits::{PICKS, image};
 use crate::doubles::{CALLS, SCRIPT_ROOM};
@@ -170,10 +170,15 @@ fn open_file(
     alloc: Global,
     file: &[u8],
     calls: usize,
-) -> Result<Result<LapStore<MemDisk>, MemDisk>, NoMemory> {
+) -> Result<Result<LapStore<MemDisk>, MemDisk>, NoMemory>
+    ensures { IfOk result (λ opened. IfOk opened (λ store. store.failed ≡ false)) }
+{
     let room = file.len() as u64 + SCRIPT_ROOM;
     let disk = MemDisk::new(alloc, file, room, calls, &[])?;
-    Ok(LapStore::open(alloc, disk).map_err(|refused| refused.1))
+    match LapStore::open(alloc, disk) {
+        Ok(store) => Ok(Ok(store)),
+        Err((_, disk)) => Ok(Err(disk)),
+    }
 }
 
 /// How many commits were made, and the disk.
