@@ -82,7 +82,7 @@ joined_newer blocks q changes start middle end i j p r low l m e f h a b = recor
 
 -- what the first says of the rows
 
-wanted_table : (blocks : ℕ) (q : Query) (table key : ℕ) → wants blocks q table key ≡ true → table ≡ q.table
+pub wanted_table : (blocks : ℕ) (q : Query) (table key : ℕ) → wants blocks q table key ≡ true → table ≡ q.table
 wanted_table blocks q table key h =
     eqb-true table q.table (and_parts (table == q.table) _ (and_parts (is_asked q.table q.lo q.hi (record { table = table; key = key; value = [] })) _ h).0).0
 
@@ -263,11 +263,11 @@ seen_changes changes seen =
 
 -- the same for what a search answers
 
-kind_made : (t k : ℕ) (kind : RowKind) → is_put kind ≡ true → (b : TableRow) × (row_of_kind t k kind ≡ Some b)
+pub kind_made : (t k : ℕ) (kind : RowKind) → is_put kind ≡ true → (b : TableRow) × (row_of_kind t k kind ≡ Some b)
 kind_made t k (Put value) is = (record { table = t; key = k; value = value.items }, refl)
 kind_made t k Gone is = absurd (false≢true is)
 
-kind_unmade : (t k : ℕ) (kind : RowKind) → is_put kind ≡ false → row_of_kind t k kind ≡ None
+pub kind_unmade : (t k : ℕ) (kind : RowKind) → is_put kind ≡ false → row_of_kind t k kind ≡ None
 kind_unmade t k (Put value) is = absurd (false≢true (sym is))
 kind_unmade t k Gone is = refl
 

@@ -5,3 +5,5 @@ pub mod FirstLemmas
 pub mod SortLemmas
 pub mod RunLemmas
 pub mod JoinLemmas
+pub mod NewestLemmas
+pub mod HomeLemmas

@@ -2,3 +2,4 @@ pub mod Changes
 pub mod Entries
 pub mod Next
 pub mod Index
+pub mod Homes
