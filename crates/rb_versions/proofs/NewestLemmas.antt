@@ -1,5 +1,5 @@
 -- The newest change of a key: whether its key has a row, and whether a change from a place on names it.
-use Rattle.std.proofs.Common.{◌≡◌, ℕ, ◌+◌, ◌-◌, ◌<◌, ◌≤◌, Bool, true, false, ◌&&◌, ◌||◌, nat_le, ◌==◌, List, [], length, take, drop, get_or, Option, None, Some, refl, arith, ap, sym, ◌∙◌, subst, inl, inr, ⊎_elim, min, length-drop}
+use Rattle.std.proofs.Common.{◌≡◌, ℕ, ◌+◌, ◌-◌, ◌<◌, ◌≤◌, true, false, ◌||◌, nat_le, List, [], length, take, drop, get_or, None, Some, arith, ap, sym, ◌∙◌, ⊎_elim, min, length-drop}
 use Rattle.std.proofs.lemmas.Bool.{cases_Bool, cases_lt, false≢true, lt-leb}
 use Rattle.std.proofs.lemmas.Bool.Decides.{nat_tests}
 use Rattle.std.proofs.lemmas.List.{get_or-drop}
@@ -7,11 +7,9 @@ use Rattle.std.proofs.lemmas.List.Folds.{list_any_none, list_any_at}
 use Rattle.std.specs.List.{list_any}
 use Rattle.rb_model.specs.Rows.{has_row, over}
 use Rattle.rb_versions.specs.declared.change.RowChange.{RowChange}
-use Rattle.rb_versions.specs.declared.change.RowKind.{RowKind}
-use Rattle.rb_versions.specs.declared.change.RowKind.TheVariants.{Put, Gone}
-use Rattle.rb_versions.specs.declared.query.Query.{Query}
+use Rattle.rb_versions.specs.declared.change.RowKind.TheVariants.{Gone}
 use Rattle.rb_versions.specs.Changes.{changes_of, is_change_of, row_of, makes_row}
-use Rattle.rb_versions.specs.Index.{IsNewest, IsFirst}
+use Rattle.rb_versions.specs.Index.{IsNewest}
 use Rattle.rb_versions.specs.Homes.{is_in_use}
 use Rattle.rb_versions.proofs.RowLemmas.{key_row, rows_of, row-newest, row-none, has_row-some, has_row-none}
 use Rattle.rb_versions.proofs.FirstLemmas.{seen_changes, kind_made, kind_unmade}
@@ -81,6 +79,6 @@ unnamed table key changes from none = none_named table key changes from (λ k d 
 pub unused : (blocks : ℕ) (changes : List RowChange) (committed table key : ℕ) → list_any (is_change_of table key) changes ≡ false → is_in_use blocks changes committed table key ≡ false
 unused blocks changes committed table key none =
     let each : (k : ℕ) (d : RowChange) → k < length changes → is_change_of table key (get_or changes k d) ≡ false = λ k d up.
-        ⊎_elim (λ yes. absurd (false≢true (sym none ∙ list_any_at (is_change_of table key) changes k d up yes))) (λ no. no) (cases_Bool (is_change_of table key (get_or changes k d))) in
+    ⊎_elim (λ yes. absurd (false≢true (sym none ∙ list_any_at (is_change_of table key) changes k d up yes))) (λ no. no) (cases_Bool (is_change_of table key (get_or changes k d))) in
     ap (λ b. b || list_any (is_change_of table key) (drop committed changes)) (absent_newest blocks table key changes committed (λ k d up. each k d (omega (arith, up))))
     ∙ none_named table key changes committed (λ k d low up. each k d up)

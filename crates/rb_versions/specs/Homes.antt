@@ -1,5 +1,5 @@
 -- Which keys are in use, and when a home is full.
-use Rattle.std.specs.Prelude.{◌≡◌, ◌≢◌, ℕ, ◌<◌, ◌%◌, Bool, true, false, ◌||◌, ◌==◌, List, [], length, take, drop, Option, None, Some}
+use Rattle.std.specs.Prelude.{◌≡◌, ◌≢◌, ℕ, ◌<◌, ◌%◌, Bool, true, false, ◌||◌, nat_eq, List, [], length, take, drop, Option, None, Some}
 use Rattle.std.specs.List.{All, IsDistinct, list_any}
 use Rattle.rb_model.specs.Rows.{has_row, over}
 use Rattle.rb_versions.specs.declared.change.RowChange.{RowChange}
@@ -16,7 +16,7 @@ pub record IsFull (blocks : ℕ) (changes : List RowChange) (committed table key
   pub unused : is_in_use blocks changes committed table key ≡ false
   pub others : List ℕ
   pub sixteen : length others ≡ 16
-  pub different : IsDistinct (λ x y. x == y) others
+  pub different : IsDistinct nat_eq others
   pub not_the_key : All (λ other. other ≢ key) others
   pub of_its_home : All (λ other. other % blocks ≡ key % blocks) others
   pub in_use : All (λ other. is_in_use blocks changes committed table other ≡ true) others

@@ -4,6 +4,7 @@
 
 mod change;
 mod entry;
+mod homes;
 mod index;
 mod query;
 mod run;
