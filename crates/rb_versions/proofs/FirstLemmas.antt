@@ -46,15 +46,6 @@ joined_none blocks q changes start middle end (Some i) high a b = record {
       ⊎_elim (λ early. a.first k d low early w) (λ late. absurd (false≢true (sym (b k d late up) ∙ w))) (cases_lt k middle);
 }
 
-pub joined_first : (blocks : ℕ) (q : Query) (changes : List RowChange) (start middle end : ℕ) (j : ℕ) → start ≤ middle → IsFirst blocks q changes start middle None → IsFirst blocks q changes middle end (Some j) → IsFirst blocks q changes start end (Some j)
-joined_first blocks q changes start middle end j low a b = record {
-  low = omega (arith, b.low, low);
-  high = b.high;
-  wanted = b.wanted;
-  first = λ k d from up w.
-      ⊎_elim (λ early. absurd (false≢true (sym (a k d from early) ∙ w))) (λ late. b.first k d late up w) (cases_lt k middle);
-}
-
 pub joined_older : (blocks : ℕ) (q : Query) (changes : List RowChange) (start middle end i j : ℕ) (p r : RowChange) → middle ≤ end → i < length changes → j < length changes → p ≡ get_or changes i p → r ≡ get_or changes j r → key_before blocks p.key r.key ≡ true
     → IsFirst blocks q changes start middle (Some i) → IsFirst blocks q changes middle end (Some j) → IsFirst blocks q changes start end (Some i)
 joined_older blocks q changes start middle end i j p r high l m e f h a b = record {

@@ -127,13 +127,6 @@ pub record Sifted (blocks : ℕ) (p : ℕ → Bool) (last at : ℕ) : Type 0 whe
   pub behind : last ≤ at
   pub none : (k : ℕ) → k % blocks ≡ last % blocks → last < k → k ≤ at → p k ≡ false
 
-pub sift_start : (blocks : ℕ) (p : ℕ → Bool) (last at : ℕ) → at ≡ last → Sifted blocks p last at
-sift_start blocks p last at same = record {
-  of_home = ap (λ n. n % blocks) same;
-  behind = omega arith;
-  none = λ k home low up. absurd (omega (arith, low, up, same));
-}
-
 -- what comes before the next that a change names
 sift_before : (blocks : ℕ) (p named : ℕ → Bool) (last at key k : ℕ) → ((n : ℕ) → named n ≡ false → p n ≡ false) → Sifted blocks p last at → IsLeast blocks named at key → k % blocks ≡ last % blocks → last < k → k < key → p k ≡ false
 sift_before blocks p named last at key k so sifted next home low up =

@@ -13,3 +13,6 @@ mod search;
 pub use change::{RowChange, RowKind};
 pub use index::Versions;
 pub use query::Query;
+
+#[cfg(test)]
+mod tests;
