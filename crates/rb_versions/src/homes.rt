@@ -43,11 +43,11 @@ impl Versions {
         ensures { IsLeastBehind self.now.blocks (homes.is_in_use self.now.blocks self.now.changes committed table) last result }
     {
         let mut at = last;
-        while let Some(key) = self.next_named(table, at) {
-            if self.is_in_use(table, key, committed) {
-                return Some(key);
+        while let Some(named) = self.next_named(table, at) {
+            if self.is_in_use(table, named, committed) {
+                return Some(named);
             }
-            at = key;
+            at = named;
         }
         None
     }
