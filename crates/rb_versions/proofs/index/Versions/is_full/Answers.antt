@@ -10,9 +10,9 @@ loop-used-init c =
     let p = is_in_use v.blocks v.changes c.args.committed c.args.table in
     ⊎_elim
     (λ yes. let one : c.from-used.result ≡ 1 = rw yes at c.from-used.ensures in
-    record { few = omega (arith, one); counted = start_one v.blocks c.args.key c.home_of-last.result c.from-used.result p c.home_of-last.ensures.home (sym c.is_in_use-2.ensures ∙ yes) one })
+    record { few = omega (arith, one); counted = start_one v.blocks c.args.key c.home_of-last.result c.from-used.result p c.home_of-last.ensures (sym c.is_in_use-2.ensures ∙ yes) one })
     (λ no. let none : c.from-used.result ≡ 0 = rw no at c.from-used.ensures in
-    record { few = omega (arith, none); counted = start_none v.blocks c.args.key c.home_of-last.result c.from-used.result p c.home_of-last.ensures.home (sym c.is_in_use-2.ensures ∙ no) none })
+    record { few = omega (arith, none); counted = start_none v.blocks c.args.key c.home_of-last.result c.from-used.result p c.home_of-last.ensures (sym c.is_in_use-2.ensures ∙ no) none })
     (cases_Bool c.is_in_use-2.result)
 
 pub returns-in_default-clause-room : goal.returns-in_default-clause-room
