@@ -1,0 +1,8 @@
+use Rattle.std.proofs.Common.{◌≡◌, length}
+use Rattle.rb_versions.proofs.tests.one_home.Given as goal
+
+abbrev pub invariant-loop-step : goal.invariant-loop-step
+invariant-loop-step l = record {
+  many : length l.versions.changes ≡ l.step;
+  room : l.versions.room ≡ 17;
+}

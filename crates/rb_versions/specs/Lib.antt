@@ -1,0 +1,5 @@
+pub mod Changes
+pub mod Entries
+pub mod Next
+pub mod Index
+pub mod Homes
