@@ -1,3 +1,4 @@
+pub mod Commits
 pub mod Counted
 pub mod Decimals
 pub mod Fronts

@@ -5,7 +5,7 @@ ghost use Rattle.rb_base.specs.Blocks.{block_of, after_group, up_to_last, commit
 ghost use Rattle.rb_base.specs.Counts.{IsCounted};
 ghost use Rattle.rb_base.specs.Groups.{Patch};
 ghost use Rattle.rb_base.specs.Moments.{NoMore, Passes, LeavesOnly};
-ghost use Rattle.rb_base.specs.Stores.{room_of, after_pending, AfterSome};
+ghost use Rattle.rb_base.specs.Stores.{room_of, after_pending, after_kept, AfterSome};
 ghost use Rattle.rb_base.specs.declared.ids.Shape.{Shape};
 
 use crate::faults::Failed;
@@ -117,7 +117,7 @@ pub trait Store {
         requires going { failed self.old ≡ false }
         ensures flushed { keeps → OnOk result (pending self.new ≡ []) }
         ensures kept { keeps → OnOk result ((b : List (List ℕ)) → stable self.old b → (i : image) → left self.new i
-            → opens (shape_of self.new) (slots self.new) i (after_pending (number self.old) (up_to_last (commit_block (shape_of self.old)) (pending self.old)) b)) }
+            → opens (shape_of self.new) (slots self.new) i (after_kept (commit_block (shape_of self.old)) (number self.old) (pending self.old) b)) }
         ensures stable { keeps → OnOk result ((b : List (List ℕ)) → stable self.old b → up_to_last (commit_block (shape_of self.old)) (pending self.old) ≡ pending self.old → stable self.new (blocks self.new)) }
         ensures any_moment { keeps → (b : List (List ℕ)) → stable self.old b → LeavesOnly moment left_since self.old self.new
             (λ i. (now : List (List ℕ)) × opens (shape_of self.new) (slots self.new) i now × AfterSome (commit_block (shape_of self.old)) (number self.old) (pending self.old) b now) }
@@ -133,7 +133,7 @@ pub trait Store {
         requires going { failed self.old ≡ false }
         ensures flushed { keeps → OnOk result (pending self.new ≡ []) }
         ensures kept { keeps → OnOk result ((b : List (List ℕ)) → stable self.old b → (i : image) → left self.new i
-            → opens (shape_of self.new) (slots self.new) i (after_pending (number self.old) (up_to_last (commit_block (shape_of self.old)) (pending self.old)) b)) }
+            → opens (shape_of self.new) (slots self.new) i (after_kept (commit_block (shape_of self.old)) (number self.old) (pending self.old) b)) }
         ensures stable { keeps → OnOk result ((b : List (List ℕ)) → stable self.old b → up_to_last (commit_block (shape_of self.old)) (pending self.old) ≡ pending self.old → stable self.new (blocks self.new)) }
         ensures any_moment { keeps → (b : List (List ℕ)) → stable self.old b → LeavesOnly moment left_since self.old self.new
             (λ i. (now : List (List ℕ)) × opens (shape_of self.new) (slots self.new) i now × AfterSome (commit_block (shape_of self.old)) (number self.old) (pending self.old) b now) }
@@ -157,6 +157,9 @@ pub trait Store {
 
     /// Those blocks, patched by the groups that wait, are the ones that it reads.
     ghost stable_patched: { (store : Self) (b : List (List ℕ)) → keeps → stable store b → blocks store ≡ after_pending (number store) (pending store) b };
+
+    /// This moment is one of those since an earlier one.
+    ghost now_counts: { (store : Self) (t : ℕ) (i : image) → keeps → t ≤ moment store → left store i → left_since store t i };
 
     /// Since this moment there is no other.
     ghost only_now: { (store : Self) (i : image) → keeps → left_since store (moment store) i → left store i };

@@ -47,6 +47,9 @@ fn one_group(rt: HostRuntime) {
     assert_eq!(rt; group.patch_block(1), u32::MAX);
     assert_eq!(rt; group.patch_at(1), 2047);
     assert_eq!(rt; group.patch_bytes(1), b"c".as_slice());
+    let copy = group.copied();
+    assert_eq!(rt; copy.patches(), 2);
+    assert_eq!(rt; copy.patch_bytes(1), b"c".as_slice());
 }
 
 #[test]

@@ -1,5 +1,5 @@
 -- The cells of a heap block: what their bytes say, and what a patch of one makes of its block.
-use Rattle.std.specs.Prelude.{ℕ, ◌⊎◌, ◌+◌, ◌*◌, ◌-◌, ◌^◌, ◌<◌, ◌≤◌, List, [], ◌∷◌, ◌++◌, length, take, drop, replicate, slice_index}
+use Rattle.std.specs.Prelude.{ℕ, ◌+◌, ◌*◌, ◌-◌, ◌^◌, ◌<◌, ◌≤◌, List, [], ◌∷◌, ◌++◌, length, take, drop, replicate, slice_index}
 use Rattle.byteorder.specs.Endian.{big_bytes}
 use Rattle.rb_base.specs.Fields.{part, number_at, overwritten}
 use Rattle.rb_base.specs.Groups.{Patch, patch}

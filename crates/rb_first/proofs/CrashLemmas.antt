@@ -6,7 +6,7 @@ use Rattle.std.specs.List.{flat_map}
 use Rattle.rb_disk.specs.DiskModel.{Only}
 use Rattle.rb_base.specs.Moments.{LeavesOnly, begun, joined, weaker}
 use Rattle.rb_layout.specs.declared.layout.Layout.{Layout}
-use Rattle.rb_layout.specs.Regions.{HasIdentity, log_offset}
+use Rattle.rb_layout.specs.Regions.{HasIdentity, log_offset, shape_of}
 use Rattle.rb_log.specs.Slots.{LogIs, SameSlots, SameOutside, Interrupted}
 use Rattle.rb_log.specs.SlotLaws.{same_log}
 use Rattle.rb_model.specs.Change.{Change}
@@ -14,7 +14,7 @@ use Rattle.rb_model.specs.Reply.{is_empty, committed}
 use Rattle.rb_model.specs.Rows.{Commits, last_number, rows_at, over}
 use Rattle.rb_model.specs.State.{State, opened, session_of}
 use Rattle.rb_record.specs.Records.{record_bytes, IsRecord}
-use Rattle.rb_first.specs.Store.{shape_of, IsStore}
+use Rattle.rb_first.specs.Store.{IsStore}
 use Rattle.rb_first.specs.Crash.{RestartsAt, Restarts, Stands, AtEnd, whole, one_more, OnTheWay, reached, at_end, Extends, Survives}
 use Rattle.rb_first.proofs.KeptLemmas.{over-append, all-push}
 

@@ -13,7 +13,8 @@ use Rattle.rb_layout.specs.declared.layout.Layout.{Layout}
 use Rattle.rb_log.specs.LogState.{LogState}
 use Rattle.rb_first.specs.Kept.{Kept}
 use Rattle.rb_first.specs.Others.{KeepsOthers}
-use Rattle.rb_first.specs.Store.{shape_of, HasRead, HasReadAll}
+use Rattle.rb_layout.specs.Regions.{shape_of}
+use Rattle.rb_first.specs.Store.{HasRead, HasReadAll}
 use Rattle.rb_first.proofs.KeptLemmas.{over-append, all-push}
 
 -- whatever the log is, it goes on with the record that stands behind those read

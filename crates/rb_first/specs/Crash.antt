@@ -6,7 +6,8 @@ use Rattle.rb_model.specs.Change.{Change}
 use Rattle.rb_model.specs.Reply.{is_empty, committed}
 use Rattle.rb_model.specs.Rows.{last_number, rows_at}
 use Rattle.rb_model.specs.State.{State, opened, session_of}
-use Rattle.rb_first.specs.Store.{shape_of, IsStore}
+use Rattle.rb_layout.specs.Regions.{shape_of}
+use Rattle.rb_first.specs.Store.{IsStore}
 
 -- The file is a store, and opens to the number n and the rows after the commits of h up to n.
 pub record RestartsAt (l : Layout) (h : State) (n : ℕ) (file : List ℕ) : Type 0 where

@@ -6,7 +6,7 @@ use Rattle.rb_log.specs.LogState.{LogState}
 use Rattle.rb_model.specs.Rows.{last_number}
 use Rattle.rb_model.specs.State.{State, session_of}
 use Rattle.rb_record.specs.Records.{IsChange}
-use Rattle.rb_first.specs.Store.{shape_of}
+use Rattle.rb_layout.specs.Regions.{shape_of}
 use Rattle.rb_first.specs.Kept.{Kept}
 
 -- the machine's state, the layout of the file, and the disk

@@ -1,18 +1,14 @@
 -- What file is a store of this engine, and what an opening has read of it.
 use Rattle.std.specs.Prelude.{◌≡◌, ℕ, ◌<◌, true, false, List, [], length, map}
 use Rattle.std.specs.List.{AllByRecursion}
-use Rattle.rb_base.specs.declared.ids.Shape.{Shape}
 use Rattle.rb_layout.specs.declared.layout.Layout.{Layout}
-use Rattle.rb_layout.specs.Regions.{HasIdentity}
+use Rattle.rb_layout.specs.Regions.{HasIdentity, shape_of}
 use Rattle.rb_log.specs.LogState.{LogState}
 use Rattle.rb_log.specs.Slots.{LogIs}
 use Rattle.rb_log.specs.SlotLaws.{BeginsWith}
 use Rattle.rb_model.specs.Change.{Change}
 use Rattle.rb_model.specs.State.{State, opened}
 use Rattle.rb_record.specs.Records.{record_bytes, IsRecord}
-
-abbrev pub shape_of : Layout → Shape
-shape_of l = record { tables = l.tables; blocks = l.blocks; segments = l.segments }
 
 -- The file has this layout, and its log has these records, all of them in order for its tables.
 pub record IsStore (l : Layout) (records : List (List Change)) (file : List ℕ) : Type 0 where

@@ -5,17 +5,17 @@ ghost use Rattle.rb_base.specs.Counts.{Rose};
 ghost use Rattle.rb_disk.specs.DiskModel.{Only};
 ghost use Rattle.rb_disk.specs.Moments.{Rests};
 ghost use Rattle.rb_layout.specs.declared.layout.Layout.{Layout};
-ghost use Rattle.rb_layout.specs.Regions.{file_length, HasIdentity};
+ghost use Rattle.rb_layout.specs.Regions.{file_length, HasIdentity, shape_of};
 ghost use Rattle.rb_log.specs.Slots.{LogIs};
 ghost use Rattle.rb_model.specs.Change.{Change};
 ghost use Rattle.rb_model.specs.State.{opened};
 ghost use Rattle.rb_record.specs.Records.{record_bytes, IsRecord};
 ghost use Rattle.rb_first.specs.Crash.{Stands};
-ghost use Rattle.rb_first.specs.Store.{shape_of, IsStore, HasRead, HasReadAll};
+ghost use Rattle.rb_first.specs.Store.{IsStore, HasRead, HasReadAll};
 
 use crate::engine::FirstEngine;
 use crate::state::FirstState;
-use rb_base::{OpenFault, Shape};
+use rb_base::OpenFault;
 use rb_disk::Disk;
 use rb_layout::{Head, Layout, VERSION};
 use rb_log::Log;
@@ -96,17 +96,6 @@ fn scan_log<D: Disk>(
     unreachable!()
 }
 
-/// The shape that a layout gives.
-fn shape(layout: &Layout) -> Shape
-    ensures { result ≡ shape_of layout.now }
-{
-    Shape {
-        tables: layout.tables,
-        blocks: layout.blocks,
-        segments: layout.segments,
-    }
-}
-
 /// Takes all the memory that an engine of this layout needs. Nothing is read yet.
 fn fresh_parts<D: Disk>(alloc: Global, disk: &mut D, layout: Layout) -> Result<Parts, OpenFault>
     ensures layout { IfOk result (λ p. p.layout ≡ layout) }
@@ -118,7 +107,7 @@ fn fresh_parts<D: Disk>(alloc: Global, disk: &mut D, layout: Layout) -> Result<P
 {
     let head = Head { slot: 0, number: 1 };
     let log = Log::open(alloc, disk, &layout, head)?;
-    let Ok(state) = FirstState::new(alloc, shape(&layout), layout.log) else {
+    let Ok(state) = FirstState::new(alloc, layout.shape(), layout.log) else {
         return Err(OpenFault::NoMemory);
     };
     let Ok(buffer) = vec![in alloc; 0; RECORD_BYTES] else {

@@ -4,7 +4,8 @@ use Rattle.rb_base.specs.Moments.{joined, weaker}
 use Rattle.rb_disk.specs.Moments.{Rests, rests_leave}
 use Rattle.rb_first.specs.Crash.{OnTheWay, Stands, Survives}
 use Rattle.std.proofs.lemmas.List.{length-append}
-use Rattle.rb_first.specs.Store.{shape_of, IsStore}
+use Rattle.rb_layout.specs.Regions.{shape_of}
+use Rattle.rb_first.specs.Store.{IsStore}
 use Rattle.rb_layout.specs.declared.layout.Layout.{Layout}
 use Rattle.rb_model.specs.Change.{Change}
 use Rattle.rb_model.specs.State.{State, opened}

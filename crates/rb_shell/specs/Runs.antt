@@ -2,7 +2,8 @@
 use Rattle.std.specs.Prelude.{◌≡◌, ◌⊎◌, ℕ, Bool, List, ◌++◌}
 use Rattle.rb_base.specs.Moments.{LeavesOnly}
 use Rattle.rb_first.specs.Crash.{AtEnd, OnTheWay}
-use Rattle.rb_first.specs.Store.{shape_of, IsStore}
+use Rattle.rb_layout.specs.Regions.{shape_of}
+use Rattle.rb_first.specs.Store.{IsStore}
 use Rattle.rb_layout.specs.declared.layout.Layout.{Layout}
 use Rattle.rb_lines.specs.Ran.{Ran, CutOff}
 use Rattle.rb_model.specs.Change.{Change}

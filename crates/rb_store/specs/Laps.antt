@@ -1,0 +1,74 @@
+-- Files whose log has groups of patches: what they open to, and what a contract sees of the store over one.
+use Rattle.std.specs.Prelude.{◌≡◌, ℕ, ◌+◌, ◌<◌, Bool, false, List, [], ◌++◌, length, Option, Some}
+use Rattle.std.specs.List.{AllByRecursion}
+use Rattle.rb_base.specs.Blocks.{AreWithin, after_groups, up_to_last, commit_block, fresh_blocks}
+use Rattle.rb_base.specs.Groups.{Patch, IsGroup}
+use Rattle.rb_base.specs.declared.ids.Shape.{Shape}
+use Rattle.rb_layout.specs.Regions.{HasIdentity, shape_of}
+use Rattle.rb_layout.specs.declared.layout.Layout.{Layout}
+use Rattle.rb_log.specs.GroupSlots.{GroupLogState, GroupsAre, BeginsWithGroups}
+use Rattle.rb_plainstore.specs.Plain.{PlainState}
+
+-- the file has this layout, and its log has these groups
+pub record IsLap (l : Layout) (groups : List (List Patch)) (file : List ℕ) : Type 0 where
+  pub identity : HasIdentity 102 l file
+  pub log : GroupsAre l file 0 groups
+
+-- the groups of a file of that shape up to the last commit
+abbrev pub committed_groups : Shape → List (List Patch) → List (List Patch)
+committed_groups shape groups = up_to_last (commit_block shape) groups
+
+-- The blocks that a file of a layout opens to: those of a new file after the groups of its log up to the last commit.
+pub record OpensTo (l : Layout) (file : List ℕ) (blocks : List (List ℕ)) : Type 0 where
+  pub groups : List (List Patch)
+  pub lap : IsLap l groups file
+  pub made : blocks ≡ after_groups 1 (committed_groups (shape_of l) groups) (fresh_blocks (shape_of l))
+
+-- the same by the shape and the slots of the layout
+pub record Opens (shape : Shape) (slots : Option ℕ) (file : List ℕ) (blocks : List (List ℕ)) : Type 0 where
+  pub layout : Layout
+  pub shape_is : shape_of layout ≡ shape
+  pub slots_are : Some layout.log ≡ slots
+  pub opens : OpensTo layout file blocks
+
+-- a store over a disk
+pub record LapState (D : Type 0) : Type 0 where
+  pub layout : Layout
+  pub blocks : List (List ℕ)
+  -- the groups that wait for a flush
+  pub pending : List (List Patch)
+  -- the last log number given
+  pub number : ℕ
+  pub loaded : Option ℕ
+  pub failed : Bool
+  pub disk : D
+
+-- The file and each image have the same groups, of which the last is a commit. Those that wait are behind them. The
+-- blocks are those after all of them.
+pub record IsStable {D : Type 0} (content : D → List ℕ) (image : D → List ℕ → Type 0) (s : LapState D) (blocks : List (List ℕ)) : Type 0 where
+  pub groups : List (List Patch)
+  pub count : length groups + length s.pending ≡ s.number
+  pub whole : committed_groups (shape_of s.layout) groups ≡ groups
+  pub made : blocks ≡ after_groups 1 groups (fresh_blocks (shape_of s.layout))
+  pub patched : s.blocks ≡ after_groups (length groups + 1) s.pending blocks
+  pub file : IsLap s.layout groups (content s.disk)
+  pub images : (c : List ℕ) → image s.disk c → IsLap s.layout groups c
+
+-- a group that may stand in the log of a file
+pub record IsLogged (shape : Shape) (group : List Patch) : Type 0 where
+  pub valid : IsGroup group
+  pub some : 0 < length group
+  pub within : AreWithin shape group
+
+-- The log is scanned up to some slot. The blocks are those after the groups up to the last commit, and the groups behind
+-- it wait. The file begins with them all, where it is told.
+pub record HasScanned (told : Type 0) (l : Layout) (file : List ℕ) (plain : PlainState) (log : GroupLogState) (waiting : List (List Patch)) : Type 0 where
+  pub groups : List (List Patch)
+  pub log_is : log ≡ record { layout = l; used = length groups + length waiting; pending = []; scanned = false }
+  pub shape_is : plain.shape ≡ shape_of l
+  pub number : plain.number ≡ length groups
+  pub blocks : plain.blocks ≡ after_groups 1 groups (fresh_blocks (shape_of l))
+  pub whole : committed_groups (shape_of l) (groups ++ waiting) ≡ groups
+  pub few : length groups + length waiting < l.log
+  pub each : AllByRecursion (IsLogged (shape_of l)) waiting
+  pub begins : told → BeginsWithGroups l file 0 (groups ++ waiting)
