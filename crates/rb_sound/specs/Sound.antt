@@ -1,8 +1,9 @@
 -- What an opening tests on the blocks of a file: each header of a segment, and each block of rows.
-use Rattle.std.specs.Prelude.{◌≡◌, ◌≢◌, ℕ, zero, suc, ◌+◌, ◌-◌, ◌*◌, ◌%◌, ◌<◌, ◌≤◌, max, true, List, slice_index}
+use Rattle.std.specs.Prelude.{◌≡◌, ◌≢◌, ℕ, zero, suc, ◌+◌, ◌-◌, ◌*◌, ◌%◌, ◌<◌, ◌≤◌, max, true, false, List, [], slice_index, slice_index_or}
 use Rattle.rb_base.specs.Blocks.{block_of, table_blocks}
 use Rattle.rb_base.specs.Fields.{number_at}
 use Rattle.rb_base.specs.declared.ids.Shape.{Shape}
+use Rattle.rb_cell.specs.declared.cell.Cell.{Cell}
 use Rattle.rb_cell.specs.declared.cell.TheConstants.{EMPTY}
 use Rattle.rb_cell.specs.Cells.{cell_place, cell_at}
 use Rattle.rb_itl.specs.declared.slots.Entry.{Entry}
@@ -92,38 +93,59 @@ header_newest header = greatest (slot_newest header) 16
 abbrev pub commit_number : Shape → List (List ℕ) → ℕ
 commit_number shape blocks = greatest (λ g. header_newest (block_of blocks (header_block shape g))) shape.segments
 
--- how often a slot of a segment had been taken
+-- how often a slot of a segment had been taken, and the same in a table of them
 abbrev pub wrap_at : Shape → List (List ℕ) → ℕ → ℕ → ℕ
 wrap_at shape blocks seg slot = slot_wrap (block_of blocks (header_block shape seg)) slot
 
--- An entry that isn't free: what it names is there, and its numbers are ones that were given.
-pub record IsEntrySound (shape : Shape) (commit : ℕ) (wrap_of : ℕ → ℕ → ℕ) (entry : Entry) : Type 0 where
+abbrev pub wrap_in : List (List ℕ) → ℕ → ℕ → ℕ
+wrap_in wraps seg slot = slice_index (slice_index_or wraps seg []) slot
+
+-- An entry of a transaction: what it names is there, and its numbers are ones that were given.
+pub record IsTaken (shape : Shape) (commit : ℕ) (wrap_of : ℕ → ℕ → ℕ) (entry : Entry) : Type 0 where
   pub segment : entry.xid.seg < shape.segments
   pub slot : entry.xid.slot < 16
   pub wrap : (1 ≤ entry.xid.wrap) × (entry.xid.wrap ≤ wrap_of entry.xid.seg entry.xid.slot)
   pub chain : (1 ≤ entry.length) × (entry.length ≤ 320)
   pub number : entry.number ≤ commit
 
--- Cell c: a lock names an entry that isn't free, and a key is one of this home. The value's length is read from the
--- block, since a cell's value ends at 80 bytes.
-pub record IsCellSound (shape : Shape) (home : ℕ) (block : List ℕ) (c : ℕ) : Type 0 where
-  pub state : (cell_at block c).state ≤ 2
-  pub value : number_at block (cell_place c + 2) 2 ≤ 80
-  pub unlocked : (cell_at block c).state ≡ EMPTY → (cell_at block c).lock ≡ 0
-  pub lock : (cell_at block c).lock ≤ 8
-  pub locked : (cell_at block c).lock ≢ 0 → (entry_at block ((cell_at block c).lock - 1)).kind ≢ FREE
-  pub key : (cell_at block c).state ≢ EMPTY → (cell_at block c).key % shape.blocks ≡ home
+pub record IsEntrySound (shape : Shape) (commit : ℕ) (wrap_of : ℕ → ℕ → ℕ) (entry : Entry) : Type 0 where
+  pub kind : entry.kind ≤ 3
+  pub taken : entry.kind ≢ FREE → IsTaken shape commit wrap_of entry
 
--- of the cells that are rows or locked, no two have one key
-abbrev pub AreKeysApart : List ℕ → Type 0
-AreKeysApart block = (key c other : ℕ) → c < other → other < 16 → is_keyed key (cell_at block c) ≡ true → is_keyed key (cell_at block other) ≡ true → ⊥
+-- no lock, or that of an entry of the block that isn't free
+pub record IsLock (block : List ℕ) (lock : ℕ) : Type 0 where
+  pub few : lock ≤ 8
+  pub taken : lock ≢ 0 → (entry_at block (lock - 1)).kind ≢ FREE
+
+-- a cell in order, but for its value and its lock
+pub record IsCellSound (shape : Shape) (home : ℕ) (cell : Cell) : Type 0 where
+  pub state : cell.state ≤ 2
+  pub unlocked : cell.state ≡ EMPTY → cell.lock ≡ 0
+  pub key : cell.state ≢ EMPTY → cell.key % shape.blocks ≡ home
+
+-- the length of the value of cell c, which the block may say to be more than there is room for
+unfoldable pub value_length : List ℕ → ℕ → ℕ
+value_length block c = number_at block (cell_place c + 2) 2
+
+-- no cell below cell c has a key that cell c has, where a cell has its key if it is a row or locked
+pub record IsFirstKeyed (block : List ℕ) (c : ℕ) : Type 0 where
+  pub lower : (key k : ℕ) → k < c → is_keyed key (cell_at block c) ≡ true → is_keyed key (cell_at block k) ≡ false
+
+-- each key is that of one cell at most
+pub record AreKeysApart (block : List ℕ) : Type 0 where
+  pub one : (key c other : ℕ) → c < 16 → other < 16 → is_keyed key (cell_at block c) ≡ true → is_keyed key (cell_at block other) ≡ true → c ≡ other
+
+-- the cells of the block of that home are in order
+pub record AreCellsSound (shape : Shape) (home : ℕ) (block : List ℕ) : Type 0 where
+  pub each : (c : ℕ) → c < 16 → IsCellSound shape home (cell_at block c)
+  pub values : (c : ℕ) → c < 16 → value_length block c ≤ 80
+  pub locks : (c : ℕ) → c < 16 → IsLock block (cell_at block c).lock
+  pub keys : AreKeysApart block
 
 -- the block of rows of that home is in order
 pub record IsHomeSound (shape : Shape) (commit : ℕ) (wrap_of : ℕ → ℕ → ℕ) (home : ℕ) (block : List ℕ) : Type 0 where
-  pub kinds : (i : ℕ) → i < 8 → (entry_at block i).kind ≤ 3
-  pub entries : (i : ℕ) → i < 8 → (entry_at block i).kind ≢ FREE → IsEntrySound shape commit wrap_of (entry_at block i)
-  pub cells : (c : ℕ) → c < 16 → IsCellSound shape home block c
-  pub keys : AreKeysApart block
+  pub entries : (i : ℕ) → i < 8 → IsEntrySound shape commit wrap_of (entry_at block i)
+  pub cells : AreCellsSound shape home block
 
 -- The blocks of a file are in order. A table's blocks stand in the order of their homes, from 0 on.
 pub record AreSound (shape : Shape) (blocks : List (List ℕ)) : Type 0 where

@@ -2,6 +2,8 @@
 //! it; the program doesn't use it yet.
 #![tactic(auto)]
 
+mod home;
 mod segment;
 
+pub use home::{Limits, home_sound};
 pub use segment::segment_sound;
