@@ -147,7 +147,15 @@ pub record IsHomeSound (shape : Shape) (commit : ℕ) (wrap_of : ℕ → ℕ →
   pub entries : (i : ℕ) → i < 8 → IsEntrySound shape commit wrap_of (entry_at block i)
   pub cells : AreCellsSound shape home block
 
--- The blocks of a file are in order. A table's blocks stand in the order of their homes, from 0 on.
+-- each segment's header is in order
+abbrev pub AreSegmentsSound : Shape → ℕ → List (List ℕ) → Type 0
+AreSegmentsSound shape commit blocks = (g : ℕ) → g < shape.segments → IsSegment commit (block_of blocks (header_block shape g))
+
+-- each block of rows is in order; those of a table stand by their homes, from 0 on
+abbrev pub AreHomesSound : Shape → ℕ → (ℕ → ℕ → ℕ) → List (List ℕ) → Type 0
+AreHomesSound shape commit wrap_of blocks = (which : ℕ) → which < table_blocks shape → IsHomeSound shape commit wrap_of (which % shape.blocks) (block_of blocks which)
+
+-- the blocks of a file are in order
 pub record AreSound (shape : Shape) (blocks : List (List ℕ)) : Type 0 where
-  pub segments : (g : ℕ) → g < shape.segments → IsSegment (commit_number shape blocks) (block_of blocks (header_block shape g))
-  pub homes : (which : ℕ) → which < table_blocks shape → IsHomeSound shape (commit_number shape blocks) (wrap_at shape blocks) (which % shape.blocks) (block_of blocks which)
+  pub segments : AreSegmentsSound shape (commit_number shape blocks) blocks
+  pub homes : AreHomesSound shape (commit_number shape blocks) (wrap_at shape blocks) blocks

@@ -2,8 +2,10 @@
 //! it; the program doesn't use it yet.
 #![tactic(auto)]
 
+mod blocks;
 mod home;
 mod segment;
 
+pub use blocks::commit_number_of;
 pub use home::{Limits, home_sound};
 pub use segment::segment_sound;

@@ -1,11 +1,11 @@
 //! Tests the header of a segment. `blocks` calls it for each segment of a file.
-ghost use Rattle.std.specs.Prelude.{◌≡◌, ◌≢◌, ◌↔◌, ℕ, ◌+◌, ◌<◌, ◌≤◌, true, length};
-ghost use Rattle.rb_sound.specs.Sound.{slot_state, slot_wrap, slot_newest, slot_before, slot_place, extent_place, extent_ord, extent_newest, head_extent, head_records, lost_number, IsSlot, IsNear, IsRing, IsSegment};
+ghost use Rattle.std.specs.Prelude.{◌≡◌, ◌≢◌, ◌↔◌, ℕ, ◌+◌, ◌<◌, ◌≤◌, true, length, slice_index};
+ghost use Rattle.rb_sound.specs.Sound.{slot_state, slot_wrap, slot_newest, slot_before, slot_place, extent_place, extent_ord, extent_newest, head_extent, head_records, lost_number, header_newest, IsSlot, IsNear, IsRing, IsSegment};
 
 use rb_base::{Scn, u16_at, u64_at};
 
 /// The table slots of a segment.
-pub(crate) const SLOTS: u8 = 16;
+const SLOTS: u8 = 16;
 
 /// The extents of a segment.
 const EXTENTS: u8 = 8;
@@ -260,4 +260,28 @@ pub fn segment_sound(header: &[u8], commit: Scn) -> bool
         && slots_sound(header)
         && lost_number(header) <= commit
         && extents_sound(header, commit)
+}
+
+/// The greatest commit number given in a table slot.
+pub(crate) fn newest_in(header: &[u8]) -> Scn
+    requires { length header.now ≡ 2048 }
+    ensures { result ≡ header_newest header.now }
+{
+    let mut newest: Scn = 0;
+    for i in 0..SLOTS {
+        newest = newest.max(slot_newest(header, i));
+    }
+    newest
+}
+
+/// How often each table slot had been taken.
+pub(crate) fn wraps_in(header: &[u8]) -> [u64; 16]
+    requires { length header.now ≡ 2048 }
+    ensures { (i : ℕ) → i < 16 → slice_index result i ≡ slot_wrap header.now i }
+{
+    let mut wraps = [0; 16];
+    for i in 0..SLOTS {
+        wraps[i as usize] = slot_wrap(header, i);
+    }
+    wraps
 }
