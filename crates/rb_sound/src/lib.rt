@@ -6,6 +6,6 @@ mod blocks;
 mod home;
 mod segment;
 
-pub use blocks::commit_number_of;
+pub use blocks::{blocks_sound, commit_number_of};
 pub use home::{Limits, home_sound};
 pub use segment::segment_sound;
