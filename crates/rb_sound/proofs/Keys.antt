@@ -17,19 +17,19 @@ two_firsts block key c other lt first has has_too =
 pub apart_of_firsts : (block : List ℕ) → ((c : ℕ) → c < 16 → IsFirstKeyed block c) → AreKeysApart block
 apart_of_firsts block firsts = record {
   one = λ key c other few others_few has has_too.
-    elim (cases_lt c other) [
-      | inl lt ↦ absurd (two_firsts block key c other lt (firsts other others_few) has has_too)
-      | inr le ↦ elim (cases_lt other c) [
-        | inl lt ↦ absurd (two_firsts block key other c lt (firsts c few) has_too has)
-        | inr ge ↦ omega arith
-      ]
-    ];
+      elim (cases_lt c other) [
+        | inl lt ↦ absurd (two_firsts block key c other lt (firsts other others_few) has has_too)
+        | inr le ↦ elim (cases_lt other c) [
+          | inl lt ↦ absurd (two_firsts block key other c lt (firsts c few) has_too has)
+          | inr ge ↦ omega arith
+        ]
+      ];
 }
 
 pub first_of_apart : (block : List ℕ) (c : ℕ) → c < 16 → AreKeysApart block → IsFirstKeyed block c
 first_of_apart block c few apart = record {
   lower = λ key k lt has.
-    false_from_ne_true (is_keyed key (cell_at block k)) (λ other. let e = apart.one key k c (omega arith) few other has in absurd (omega arith));
+      false_from_ne_true (is_keyed key (cell_at block k)) (λ other. let e = apart.one key k c (omega arith) few other has in absurd (omega arith));
 }
 
 own_key : (key : ℕ) (cell : Cell) → is_keyed key cell ≡ true → key ≡ cell.key
@@ -44,20 +44,21 @@ found_is_first block c key None few is has some none =
     let here = ap (is_keyed key) (cell_read block c empty_cell few) in
     absurd (cc)
 found_is_first block c key (Some f) few is has first none = (
-    (λ (e : nat_eq f c ≡ true). record {
-      lower = λ key_too k lt has_too.
+  (λ (e : nat_eq f c ≡ true). record {
+    lower = λ key_too k lt has_too.
         let same = own_key key_too (cell_at block c) has_too ∙ sym is in
         let f_is_c = eqb-true f c e in
         let lt_f : k < f = omega arith in
         let fails = first.lower k lt_f in
         let read = cell_read block k empty_cell (omega arith) in
         rw (same) (sym (ap (is_keyed key) read) ∙ fails);
-    }),
-    λ firsts.
+  }),
+  λ firsts.
       elim (cases_lt c f) [
         | inl lt ↦ absurd (let fails = first.lower c lt in let read = ap (is_keyed key) (cell_read block c empty_cell few) in cc)
         | inr le ↦ elim (cases_lt f c) [
           | inl lt ↦ absurd (let fails = firsts.lower key f lt has in let passes = first.passes in let read = ap (is_keyed key) (cell_read block f empty_cell first.within) in cc)
           | inr ge ↦ eq-eqb f c (omega arith)
         ]
-      ])
+      ],
+)

@@ -22,22 +22,22 @@ homes_alike shape commit wrap_of other blocks same homes which lt =
     let home = homes which lt in
     record {
       entries = λ i few.
-        let entry = home.entries i few in
-        record { kind = entry.kind; taken = λ not_free. taken_alike shape commit wrap_of other _ same (entry.taken not_free) };
+          let entry = home.entries i few in
+          record { kind = entry.kind; taken = λ not_free. taken_alike shape commit wrap_of other _ same (entry.taken not_free) };
       cells = home.cells;
     }
 
 pub all_sound : (shape : Shape) (blocks : List (List ℕ)) (commit : ℕ) (wrap_of : ℕ → ℕ → ℕ) (sound : Bool) → commit ≡ commit_number shape blocks → AreAlike shape wrap_of (wrap_at shape blocks) → AreSegmentsSound shape commit blocks
     → (sound ≡ true ↔ AreHomesSound shape commit wrap_of blocks) → sound ≡ true ↔ AreSound shape blocks
 all_sound shape blocks commit wrap_of sound commit_is same segments is = (
-    (λ (e : sound ≡ true). record {
-      segments = subst (λ (number : ℕ). AreSegmentsSound shape number blocks) commit_is segments;
-      homes = subst (λ (number : ℕ). AreHomesSound shape number (wrap_at shape blocks) blocks) commit_is (homes_alike shape commit wrap_of (wrap_at shape blocks) blocks same (is.0 e));
-    }),
-    λ all.
+  (λ (e : sound ≡ true). record {
+    segments = subst (λ (number : ℕ). AreSegmentsSound shape number blocks) commit_is segments;
+    homes = subst (λ (number : ℕ). AreHomesSound shape number (wrap_at shape blocks) blocks) commit_is (homes_alike shape commit wrap_of (wrap_at shape blocks) blocks same (is.0 e));
+  }),
+  λ all.
       let homes = subst (λ (number : ℕ). AreHomesSound shape number (wrap_at shape blocks) blocks) (sym commit_is) all.homes in
-      is.1 (homes_alike shape commit (wrap_at shape blocks) wrap_of blocks (λ seg slot there few. sym (same seg slot there few)) homes)
-  )
+      is.1 (homes_alike shape commit (wrap_at shape blocks) wrap_of blocks (λ seg slot there few. sym (same seg slot there few)) homes),
+)
 
 -- the same of the shape and the blocks that are equal
 pub segments_moved : (commit : ℕ) (now shape : Shape) (blocks_now blocks : List (List ℕ)) → now ≡ shape → blocks_now ≡ blocks → AreSegmentsSound now commit blocks_now → AreSegmentsSound shape commit blocks

@@ -44,5 +44,5 @@ module _ {S : Type 0} (s : Ghosts S) where
     no_more = λ kept. λ i now. first.no_more kept i (second.no_more kept i now);
     later = λ kept. omega (arith, first.later kept, second.later kept);
     nothing_else = λ kept. λ t i le was.
-      ⊎_elim (first.nothing_else kept t i le) (λ now. inr (first.no_more kept i now)) (second.nothing_else kept t i (omega (arith, le, first.later kept)) was);
+        ⊎_elim (first.nothing_else kept t i le) (λ now. inr (first.no_more kept i now)) (second.nothing_else kept t i (omega (arith, le, first.later kept)) was);
   }

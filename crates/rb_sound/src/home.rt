@@ -184,7 +184,10 @@ fn all_cells_sound(block: &[u8], shape: Shape, home: u32) -> bool
     requires shape { IsShape shape }
     ensures { result ≡ true ↔ AreCellsSound shape home block.now }
 {
-    cells_sound(block, shape, home) && values_sound(block) && locks_sound(block) && keys_apart(block)
+    cells_sound(block, shape, home)
+        && values_sound(block)
+        && locks_sound(block)
+        && keys_apart(block)
 }
 
 /// Whether a block of rows, 2,048 bytes, is in order, as the block of `home` in its table.

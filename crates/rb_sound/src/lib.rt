@@ -4,8 +4,13 @@
 
 mod blocks;
 mod home;
+mod laws;
 mod segment;
 
 pub use blocks::{blocks_sound, commit_number_of};
 pub use home::{Limits, home_sound};
+pub use laws::{commit_greatest, homes_by_table};
 pub use segment::segment_sound;
+
+#[cfg(test)]
+mod tests;

@@ -247,7 +247,9 @@ fn ring_sound(header: &[u8]) -> bool
         return false;
     }
     let newest = extent_ord(header, head as u8);
-    others_out(header, extents) && numbers_near(header, extents, newest) && numbers_apart(header, extents)
+    others_out(header, extents)
+        && numbers_near(header, extents, newest)
+        && numbers_apart(header, extents)
 }
 
 /// Whether the header of a segment, 2,048 bytes, is in order, in a file of that commit number.

@@ -19,8 +19,8 @@ returns-clause-told g c = λ told.
     let segments = segments_moved commit _ shape _ blocks first.same_shape (first.same_blocks told) ((c.in_ok-segments_sound.ensures.told told).0 c.if-not-branch.false) in
     let same = wraps_moved wraps _ shape _ blocks second.same_shape (second.same_blocks told) (c.in_ok-wraps_of.ensures.told told) in
     IfOk-weaker c.homes_sound.result
-      (λ (sound : Bool). sound ≡ true ↔ AreHomesSound c.shape.result commit wraps (s.blocks c.wraps_of.new.store))
-      (λ (sound : Bool). sound ≡ true ↔ AreSound shape blocks)
-      (λ sound is. all_sound shape blocks commit wraps sound (c.in_ok-commit.ensures.told told) same segments
-        (homes_moved commit wraps sound _ shape _ blocks (c.shape.ensures.shape ∙ second.same_shape) (third.same_blocks told) is))
-      (c.homes_sound.ensures.told told)
+    (λ (sound : Bool). sound ≡ true ↔ AreHomesSound c.shape.result commit wraps (s.blocks c.wraps_of.new.store))
+    (λ (sound : Bool). sound ≡ true ↔ AreSound shape blocks)
+    (λ sound is. all_sound shape blocks commit wraps sound (c.in_ok-commit.ensures.told told) same segments
+    (homes_moved commit wraps sound _ shape _ blocks (c.shape.ensures.shape ∙ second.same_shape) (third.same_blocks told) is))
+    (c.homes_sound.ensures.told told)

@@ -28,10 +28,10 @@ loop-g-preserved g c =
       going = call.failed ∙ ap is_err c.in_ok-header_newest.was;
       no_less = omega (arith, inv.no_less, call.counted.no_less);
       so_far = λ told.
-        greatest_next (λ (k : ℕ). header_newest (block_of (s.blocks old) (header_block (s.shape_of old) k))) c.loop-g.g c.loop-g.commit c.in_ok-header_newest.field-0 c.max-commit.result
+          greatest_next (λ (k : ℕ). header_newest (block_of (s.blocks old) (header_block (s.shape_of old) k))) c.loop-g.g c.loop-g.commit c.in_ok-header_newest.field-0 c.max-commit.result
           (inv.so_far told)
           (c.in_ok-header_newest.ensures.told told
-            ∙ ap (λ (b : List (List ℕ)). header_newest (block_of b (header_block c.shape-shape.result c.loop-g.g))) (inv.loads.same_blocks told)
-            ∙ ap (λ (shape : Shape). header_newest (block_of (s.blocks old) (header_block shape c.loop-g.g))) c.shape-shape.ensures.shape)
+          ∙ ap (λ (b : List (List ℕ)). header_newest (block_of b (header_block c.shape-shape.result c.loop-g.g))) (inv.loads.same_blocks told)
+          ∙ ap (λ (shape : Shape). header_newest (block_of (s.blocks old) (header_block shape c.loop-g.g))) c.shape-shape.ensures.shape)
           c.max-commit.ensures;
     }

@@ -18,7 +18,7 @@ loop-no-preserved g c =
       going = call.failed ∙ ap is_err c.in_ok-rows_sound.was;
       no_less = omega (arith, inv.no_less, call.counted.no_less);
       so_far = λ told.
-        let here = (c.in_ok-rows_sound.ensures.told told).0 c.if-not-branch.false in
-        below_more (λ (k : ℕ). IsHomeSound limits.shape limits.commit (wrap_in limits.wraps) (k % limits.shape.blocks) (block_of (s.blocks old) k)) c.loop-no.no (inv.so_far told)
+          let here = (c.in_ok-rows_sound.ensures.told told).0 c.if-not-branch.false in
+          below_more (λ (k : ℕ). IsHomeSound limits.shape limits.commit (wrap_in limits.wraps) (k % limits.shape.blocks) (block_of (s.blocks old) k)) c.loop-no.no (inv.so_far told)
           (subst (λ (b : List (List ℕ)). IsHomeSound limits.shape limits.commit (wrap_in limits.wraps) (c.loop-no.no % limits.shape.blocks) (block_of b c.loop-no.no)) (inv.loads.same_blocks told) here);
     }

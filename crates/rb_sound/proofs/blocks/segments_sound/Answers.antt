@@ -19,8 +19,8 @@ loop-g-preserved g c =
       going = call.failed ∙ ap is_err c.in_ok-header_sound.was;
       no_less = omega (arith, inv.no_less, call.counted.no_less);
       so_far = λ told.
-        let here = (c.in_ok-header_sound.ensures.told told).0 c.if-not-branch.false in
-        let of_old = subst (λ (b : List (List ℕ)). IsSegment c.args.commit (block_of b (header_block c.shape-shape.result c.loop-g.g))) (inv.loads.same_blocks told) here in
-        below_more (λ (k : ℕ). IsSegment c.args.commit (block_of (s.blocks old) (header_block (s.shape_of old) k))) c.loop-g.g (inv.so_far told)
+          let here = (c.in_ok-header_sound.ensures.told told).0 c.if-not-branch.false in
+          let of_old = subst (λ (b : List (List ℕ)). IsSegment c.args.commit (block_of b (header_block c.shape-shape.result c.loop-g.g))) (inv.loads.same_blocks told) here in
+          below_more (λ (k : ℕ). IsSegment c.args.commit (block_of (s.blocks old) (header_block (s.shape_of old) k))) c.loop-g.g (inv.so_far told)
           (subst (λ (shape : Shape). IsSegment c.args.commit (block_of (s.blocks old) (header_block shape c.loop-g.g))) shape_is of_old);
     }
