@@ -1,7 +1,7 @@
 //! What holds of every file, as clauses for proofs to cite. Nothing calls them.
 ghost use Rattle.std.specs.Prelude.{◌≡◌, ℕ, ◌+◌, ◌-◌, ◌*◌, ◌<◌, ◌≤◌, List};
 ghost use Rattle.rb_base.specs.declared.ids.Shape.{Shape};
-ghost use Rattle.rb_base.specs.Blocks.{block_of, fresh_blocks, IsShape};
+ghost use Rattle.rb_base.specs.Blocks.{block_of, fresh_blocks};
 ghost use Rattle.rb_sound.specs.Sound.{header_block, slot_newest, commit_number, IsHomeSound, AreHomesSound, AreSound};
 
 /// The commit number of a file is the least that no table slot's newest is above.
@@ -14,4 +14,9 @@ pub fn commit_greatest()
 pub fn homes_by_table()
     ensures { (shape : Shape) (commit : ℕ) (wrap_of : ℕ → ℕ → ℕ) (blocks : List (List ℕ)) (t h : ℕ) → AreHomesSound shape commit wrap_of blocks → 1 ≤ t → t ≤ shape.tables → h < shape.blocks
         → IsHomeSound shape commit wrap_of h (block_of blocks ((t - 1) * shape.blocks + h)) }
+{}
+
+/// The blocks of a new file are in order.
+pub fn fresh_sound()
+    ensures { (shape : Shape) → AreSound shape (fresh_blocks shape) }
 {}

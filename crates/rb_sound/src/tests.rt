@@ -15,7 +15,6 @@ fn header() -> [u8; 2048] {
     header[1063] = 5;
     header[1095] = 3;
     header[1127] = 4;
-    header[1313] = 0;
     header[1315] = 40;
     header[1335] = 7;
     header[1135] = 7;
