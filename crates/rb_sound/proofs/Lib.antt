@@ -1,0 +1,4 @@
+pub mod Fresh
+pub mod Greatest
+pub mod Keys
+pub mod Together

@@ -1,0 +1,54 @@
+-- What is tested of the headers, and what is tested of the blocks of rows by the numbers that the headers have.
+use Rattle.std.proofs.Common.{◌≡◌, ◌↔◌, ℕ, ◌<◌, Bool, true, List, subst, sym, arith}
+use Rattle.rb_base.specs.declared.ids.Shape.{Shape}
+use Rattle.rb_itl.specs.declared.slots.Entry.{Entry}
+use Rattle.rb_sound.specs.Sound.{commit_number, wrap_at, IsTaken, AreSegmentsSound, AreHomesSound, AreSound}
+
+-- the two are alike at each slot of the segments of a file
+abbrev pub AreAlike : Shape → (ℕ → ℕ → ℕ) → (ℕ → ℕ → ℕ) → Type 0
+AreAlike shape wrap_of other = (seg slot : ℕ) → seg < shape.segments → slot < 16 → wrap_of seg slot ≡ other seg slot
+
+taken_alike : (shape : Shape) (commit : ℕ) (wrap_of other : ℕ → ℕ → ℕ) (entry : Entry) → AreAlike shape wrap_of other → IsTaken shape commit wrap_of entry → IsTaken shape commit other entry
+taken_alike shape commit wrap_of other entry same taken = record {
+  segment = taken.segment;
+  slot = taken.slot;
+  wrap = let one = same entry.xid.seg entry.xid.slot taken.segment taken.slot in (taken.wrap.0, omega (arith, one, taken.wrap.1));
+  chain = taken.chain;
+  number = taken.number;
+}
+
+homes_alike : (shape : Shape) (commit : ℕ) (wrap_of other : ℕ → ℕ → ℕ) (blocks : List (List ℕ)) → AreAlike shape wrap_of other → AreHomesSound shape commit wrap_of blocks → AreHomesSound shape commit other blocks
+homes_alike shape commit wrap_of other blocks same homes which lt =
+    let home = homes which lt in
+    record {
+      entries = λ i few.
+          let entry = home.entries i few in
+          record { kind = entry.kind; taken = λ not_free. taken_alike shape commit wrap_of other _ same (entry.taken not_free) };
+      cells = home.cells;
+    }
+
+pub all_sound : (shape : Shape) (blocks : List (List ℕ)) (commit : ℕ) (wrap_of : ℕ → ℕ → ℕ) (sound : Bool) → commit ≡ commit_number shape blocks → AreAlike shape wrap_of (wrap_at shape blocks) → AreSegmentsSound shape commit blocks
+    → (sound ≡ true ↔ AreHomesSound shape commit wrap_of blocks) → sound ≡ true ↔ AreSound shape blocks
+all_sound shape blocks commit wrap_of sound commit_is same segments is = (
+  (λ (e : sound ≡ true). record {
+    segments = subst (λ (number : ℕ). AreSegmentsSound shape number blocks) commit_is segments;
+    homes = subst (λ (number : ℕ). AreHomesSound shape number (wrap_at shape blocks) blocks) commit_is (homes_alike shape commit wrap_of (wrap_at shape blocks) blocks same (is.0 e));
+  }),
+  λ all.
+      let homes = subst (λ (number : ℕ). AreHomesSound shape number (wrap_at shape blocks) blocks) (sym commit_is) all.homes in
+      is.1 (homes_alike shape commit (wrap_at shape blocks) wrap_of blocks (λ seg slot there few. sym (same seg slot there few)) homes),
+)
+
+-- the same of the shape and the blocks that are equal
+pub segments_moved : (commit : ℕ) (now shape : Shape) (blocks_now blocks : List (List ℕ)) → now ≡ shape → blocks_now ≡ blocks → AreSegmentsSound now commit blocks_now → AreSegmentsSound shape commit blocks
+segments_moved commit now shape blocks_now blocks shape_is blocks_are all =
+    subst (λ (s : Shape). AreSegmentsSound s commit blocks) shape_is (subst (λ (b : List (List ℕ)). AreSegmentsSound now commit b) blocks_are all)
+
+pub wraps_moved : (wrap_of : ℕ → ℕ → ℕ) (now shape : Shape) (blocks_now blocks : List (List ℕ)) → now ≡ shape → blocks_now ≡ blocks → AreAlike now wrap_of (wrap_at now blocks_now) → AreAlike shape wrap_of (wrap_at shape blocks)
+wraps_moved wrap_of now shape blocks_now blocks shape_is blocks_are same =
+    subst (λ (s : Shape). AreAlike s wrap_of (wrap_at s blocks)) shape_is (subst (λ (b : List (List ℕ)). AreAlike now wrap_of (wrap_at now b)) blocks_are same)
+
+pub homes_moved : (commit : ℕ) (wrap_of : ℕ → ℕ → ℕ) (sound : Bool) (now shape : Shape) (blocks_now blocks : List (List ℕ)) → now ≡ shape → blocks_now ≡ blocks
+    → (sound ≡ true ↔ AreHomesSound now commit wrap_of blocks_now) → sound ≡ true ↔ AreHomesSound shape commit wrap_of blocks
+homes_moved commit wrap_of sound now shape blocks_now blocks shape_is blocks_are is =
+    subst (λ (s : Shape). sound ≡ true ↔ AreHomesSound s commit wrap_of blocks) shape_is (subst (λ (b : List (List ℕ)). sound ≡ true ↔ AreHomesSound now commit wrap_of b) blocks_are is)

@@ -1,0 +1,24 @@
+use Rattle.std.proofs.Common.{ℕ, ◌%◌, List, arith, subst, ap, ◌∙◌}
+use borrow.Author.Count.{below_more}
+use Rattle.std.specs.Result.{is_err}
+use Rattle.rb_base.specs.Blocks.{block_of}
+use Rattle.rb_sound.specs.Loads.{more_loads}
+use Rattle.rb_sound.specs.Sound.{wrap_in, IsHomeSound}
+use Rattle.rb_sound.proofs.blocks.homes_sound.Goals as goal
+
+pub loop-no-preserved : goal.loop-no-preserved
+loop-no-preserved g c =
+    let s = g.S.Store in
+    let old = c.args.store.now in
+    let limits = c.args.limits.now in
+    let inv = c.loop-no.invariant in
+    let call = c.rows_sound.ensures in
+    record {
+      loads = more_loads s old c.loop-no.store c.rows_sound.new.store inv.loads call.only_loads;
+      going = call.failed ∙ ap is_err c.in_ok-rows_sound.was;
+      no_less = omega (arith, inv.no_less, call.counted.no_less);
+      so_far = λ told.
+          let here = (c.in_ok-rows_sound.ensures.told told).0 c.if-not-branch.false in
+          below_more (λ (k : ℕ). IsHomeSound limits.shape limits.commit (wrap_in limits.wraps) (k % limits.shape.blocks) (block_of (s.blocks old) k)) c.loop-no.no (inv.so_far told)
+          (subst (λ (b : List (List ℕ)). IsHomeSound limits.shape limits.commit (wrap_in limits.wraps) (c.loop-no.no % limits.shape.blocks) (block_of b c.loop-no.no)) (inv.loads.same_blocks told) here);
+    }

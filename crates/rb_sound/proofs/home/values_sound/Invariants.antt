@@ -1,0 +1,6 @@
+use Rattle.std.proofs.Common.{ℕ, ◌<◌, ◌≤◌}
+use Rattle.rb_sound.specs.Sound.{value_length}
+use Rattle.rb_sound.proofs.home.values_sound.Given as goal
+
+abbrev pub invariant-loop-c : goal.invariant-loop-c
+invariant-loop-c l = (k : ℕ) → k < l.c → value_length l.block k ≤ 80

@@ -1,0 +1,6 @@
+use Rattle.std.proofs.Common.{◌≡◌}
+use Rattle.rb_sound.specs.Sound.{greatest, slot_newest}
+use Rattle.rb_sound.proofs.segment.newest_in.Given as goal
+
+abbrev pub invariant-loop-i : goal.invariant-loop-i
+invariant-loop-i l = l.newest ≡ greatest (slot_newest l.header) l.i

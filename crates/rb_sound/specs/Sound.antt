@@ -1,0 +1,161 @@
+-- What an opening tests on the blocks of a file: each header of a segment, and each block of rows.
+use Rattle.std.specs.Prelude.{◌≡◌, ◌≢◌, ℕ, zero, suc, ◌+◌, ◌-◌, ◌*◌, ◌%◌, ◌<◌, ◌≤◌, max, true, false, List, [], slice_index, slice_index_or}
+use Rattle.rb_base.specs.Blocks.{block_of, table_blocks}
+use Rattle.rb_base.specs.Fields.{number_at}
+use Rattle.rb_base.specs.declared.ids.Shape.{Shape}
+use Rattle.rb_cell.specs.declared.cell.Cell.{Cell}
+use Rattle.rb_cell.specs.declared.cell.TheConstants.{EMPTY}
+use Rattle.rb_cell.specs.Cells.{cell_place, cell_at}
+use Rattle.rb_itl.specs.declared.slots.Entry.{Entry}
+use Rattle.rb_itl.specs.declared.slots.TheConstants.{FREE}
+use Rattle.rb_itl.specs.Entries.{entry_at}
+use Rattle.rb_heap.specs.Homes.{is_keyed}
+
+-- the greatest of f 0 to f (n - 1), and 0 of none
+unfoldable pub greatest : (ℕ → ℕ) → ℕ → ℕ
+greatest f zero = 0
+greatest f (suc n) = max (greatest f n) (f n)
+
+-- the block of the header of segment g
+abbrev pub header_block : Shape → ℕ → ℕ
+header_block shape g = table_blocks shape + 33 * g
+
+-- the first byte of table slot i in a header, and of extent e
+abbrev pub slot_place : ℕ → ℕ
+slot_place i = 32 + 64 * i
+
+abbrev pub extent_place : ℕ → ℕ
+extent_place e = 1056 + 32 * e
+
+-- what a header's bytes say of table slot i: the state, how often it had been taken, the greatest commit number given in
+-- it, and the one before
+unfoldable pub slot_state : List ℕ → ℕ → ℕ
+slot_state header i = slice_index header (slot_place i)
+
+unfoldable pub slot_wrap : List ℕ → ℕ → ℕ
+slot_wrap header i = number_at header (slot_place i + 8) 8
+
+unfoldable pub slot_newest : List ℕ → ℕ → ℕ
+slot_newest header i = number_at header (slot_place i + 16) 8
+
+unfoldable pub slot_before : List ℕ → ℕ → ℕ
+slot_before header i = number_at header (slot_place i + 24) 8
+
+-- of extent e: its number, which is 0 outside of the ring, and its newest commit number
+unfoldable pub extent_ord : List ℕ → ℕ → ℕ
+extent_ord header e = number_at header (extent_place e) 8
+
+unfoldable pub extent_newest : List ℕ → ℕ → ℕ
+extent_newest header e = number_at header (extent_place e + 8) 8
+
+-- which extent is the head, how many records it has, and the greatest commit number that was lost
+unfoldable pub head_extent : List ℕ → ℕ
+head_extent header = number_at header 1312 2
+
+unfoldable pub head_records : List ℕ → ℕ
+head_records header = number_at header 1314 2
+
+unfoldable pub lost_number : List ℕ → ℕ
+lost_number header = number_at header 1328 8
+
+-- one of the k numbers up to the newest
+pub record IsNear (k newest ord : ℕ) : Type 0 where
+  pub up_to : ord ≤ newest
+  pub near : newest + 1 ≤ ord + k
+
+-- Extents 0 to k - 1 make the ring. Their numbers are the k up to the head's, each once and none 0.
+pub record IsRing (ord : ℕ → ℕ) (head k : ℕ) : Type 0 where
+  pub few : (2 ≤ k) × (k ≤ 8)
+  pub head_within : head < k
+  pub positive : (e : ℕ) → e < k → 1 ≤ ord e
+  pub near : (e : ℕ) → e < k → IsNear k (ord head) (ord e)
+  pub apart : (e : ℕ) → e < k → (lower : ℕ) → lower < e → ord lower ≢ ord e
+  pub others : (e : ℕ) → k ≤ e → e < 8 → ord e ≡ 0
+
+-- table slot i has a state, and the commit number before its newest isn't above that
+pub record IsSlot (header : List ℕ) (i : ℕ) : Type 0 where
+  pub state : slot_state header i ≤ 3
+  pub before : slot_before header i ≤ slot_newest header i
+
+-- the header of a segment is in order, in a file of that commit number
+pub record IsSegment (commit : ℕ) (header : List ℕ) : Type 0 where
+  pub ring : (k : ℕ) × IsRing (extent_ord header) (head_extent header) k
+  pub records : head_records header ≤ 40
+  pub slots : (i : ℕ) → i < 16 → IsSlot header i
+  pub lost : lost_number header ≤ commit
+  pub newest : (e : ℕ) → e < 8 → extent_newest header e ≤ commit
+
+-- the greatest commit number that a header's table slots have
+abbrev pub header_newest : List ℕ → ℕ
+header_newest header = greatest (slot_newest header) 16
+
+-- the commit number of a file, the greatest that a table slot has
+abbrev pub commit_number : Shape → List (List ℕ) → ℕ
+commit_number shape blocks = greatest (λ g. header_newest (block_of blocks (header_block shape g))) shape.segments
+
+-- how often a slot of a segment had been taken, and the same in a table of them
+abbrev pub wrap_at : Shape → List (List ℕ) → ℕ → ℕ → ℕ
+wrap_at shape blocks seg slot = slot_wrap (block_of blocks (header_block shape seg)) slot
+
+abbrev pub wrap_in : List (List ℕ) → ℕ → ℕ → ℕ
+wrap_in wraps seg slot = slice_index (slice_index_or wraps seg []) slot
+
+-- An entry of a transaction: what it names is there, and its numbers are ones that were given.
+pub record IsTaken (shape : Shape) (commit : ℕ) (wrap_of : ℕ → ℕ → ℕ) (entry : Entry) : Type 0 where
+  pub segment : entry.xid.seg < shape.segments
+  pub slot : entry.xid.slot < 16
+  pub wrap : (1 ≤ entry.xid.wrap) × (entry.xid.wrap ≤ wrap_of entry.xid.seg entry.xid.slot)
+  pub chain : (1 ≤ entry.length) × (entry.length ≤ 320)
+  pub number : entry.number ≤ commit
+
+pub record IsEntrySound (shape : Shape) (commit : ℕ) (wrap_of : ℕ → ℕ → ℕ) (entry : Entry) : Type 0 where
+  pub kind : entry.kind ≤ 3
+  pub taken : entry.kind ≢ FREE → IsTaken shape commit wrap_of entry
+
+-- no lock, or that of an entry of the block that isn't free
+pub record IsLock (block : List ℕ) (lock : ℕ) : Type 0 where
+  pub few : lock ≤ 8
+  pub taken : lock ≢ 0 → (entry_at block (lock - 1)).kind ≢ FREE
+
+-- a cell in order, but for its value and its lock
+pub record IsCellSound (shape : Shape) (home : ℕ) (cell : Cell) : Type 0 where
+  pub state : cell.state ≤ 2
+  pub unlocked : cell.state ≡ EMPTY → cell.lock ≡ 0
+  pub key : cell.state ≢ EMPTY → cell.key % shape.blocks ≡ home
+
+-- the length of the value of cell c, which the block may say to be more than there is room for
+unfoldable pub value_length : List ℕ → ℕ → ℕ
+value_length block c = number_at block (cell_place c + 2) 2
+
+-- no cell below cell c has a key that cell c has, where a cell has its key if it is a row or locked
+pub record IsFirstKeyed (block : List ℕ) (c : ℕ) : Type 0 where
+  pub lower : (key k : ℕ) → k < c → is_keyed key (cell_at block c) ≡ true → is_keyed key (cell_at block k) ≡ false
+
+-- each key is that of one cell at most
+pub record AreKeysApart (block : List ℕ) : Type 0 where
+  pub one : (key c other : ℕ) → c < 16 → other < 16 → is_keyed key (cell_at block c) ≡ true → is_keyed key (cell_at block other) ≡ true → c ≡ other
+
+-- the cells of the block of that home are in order
+pub record AreCellsSound (shape : Shape) (home : ℕ) (block : List ℕ) : Type 0 where
+  pub each : (c : ℕ) → c < 16 → IsCellSound shape home (cell_at block c)
+  pub values : (c : ℕ) → c < 16 → value_length block c ≤ 80
+  pub locks : (c : ℕ) → c < 16 → IsLock block (cell_at block c).lock
+  pub keys : AreKeysApart block
+
+-- the block of rows of that home is in order
+pub record IsHomeSound (shape : Shape) (commit : ℕ) (wrap_of : ℕ → ℕ → ℕ) (home : ℕ) (block : List ℕ) : Type 0 where
+  pub entries : (i : ℕ) → i < 8 → IsEntrySound shape commit wrap_of (entry_at block i)
+  pub cells : AreCellsSound shape home block
+
+-- each segment's header is in order
+abbrev pub AreSegmentsSound : Shape → ℕ → List (List ℕ) → Type 0
+AreSegmentsSound shape commit blocks = (g : ℕ) → g < shape.segments → IsSegment commit (block_of blocks (header_block shape g))
+
+-- each block of rows is in order; those of a table stand by their homes, from 0 on
+abbrev pub AreHomesSound : Shape → ℕ → (ℕ → ℕ → ℕ) → List (List ℕ) → Type 0
+AreHomesSound shape commit wrap_of blocks = (which : ℕ) → which < table_blocks shape → IsHomeSound shape commit wrap_of (which % shape.blocks) (block_of blocks which)
+
+-- the blocks of a file are in order
+pub record AreSound (shape : Shape) (blocks : List (List ℕ)) : Type 0 where
+  pub segments : AreSegmentsSound shape (commit_number shape blocks) blocks
+  pub homes : AreHomesSound shape (commit_number shape blocks) (wrap_at shape blocks) blocks

@@ -1,0 +1,200 @@
+//! Tests a block of rows. `blocks` calls it for each one of a file.
+ghost use Rattle.std.specs.Prelude.{◌≡◌, ◌≢◌, ◌↔◌, ℕ, ◌+◌, ◌<◌, ◌≤◌, true, false, length};
+ghost use Rattle.rb_base.specs.Blocks.{IsShape};
+ghost use Rattle.rb_cell.specs.Cells.{cell_at};
+ghost use Rattle.rb_itl.specs.Entries.{entry_at};
+ghost use Rattle.rb_heap.specs.Homes.{is_keyed};
+ghost use Rattle.rb_sound.specs.Sound.{wrap_in, value_length, IsTaken, IsEntrySound, IsLock, IsCellSound, AreCellsSound, IsHomeSound, IsFirstKeyed, AreKeysApart};
+
+use rb_base::{Scn, Shape, u16_at};
+use rb_cell::{Cell, EMPTY, ROW, STUB, cells};
+use rb_heap::find;
+use rb_itl::{BOUND, Entry, FREE, entry};
+
+/// The cells of a block.
+const CELLS: u8 = 16;
+
+/// The entries of a block.
+const ENTRIES: u8 = 8;
+
+/// The table slots of a segment.
+const SLOTS: u16 = 16;
+
+/// The most bytes of a value.
+const VALUE_BYTES: u16 = 80;
+
+/// The most undo records that a transaction has for a block.
+const CHAIN_RECORDS: u32 = 320;
+
+/// How far the numbers of a file go.
+#[derive(Clone, Copy, Debug, PartialEq, Eq)]
+pub struct Limits {
+    /// The tables, their blocks and the segments.
+    pub shape: Shape,
+    /// The file's commit number.
+    pub commit: Scn,
+    /// How often each slot of each segment had been taken. Those of a segment that isn't there aren't looked at.
+    pub wraps: [[u64; 16]; 16],
+}
+
+/// Whether what an entry names is there, and its numbers are ones that were given.
+fn entry_taken(entry: &Entry, limits: &Limits) -> bool
+    requires { IsShape limits.now.shape }
+    ensures { result ≡ true ↔ IsTaken limits.now.shape limits.now.commit (wrap_in limits.now.wraps) entry.now }
+{
+    let xid = entry.xid;
+    if xid.seg >= limits.shape.segments || xid.slot >= SLOTS {
+        return false;
+    }
+    let wrap = limits.wraps[xid.seg as usize][xid.slot as usize];
+    1 <= xid.wrap
+        && xid.wrap <= wrap
+        && 1 <= entry.length
+        && entry.length <= CHAIN_RECORDS
+        && entry.number <= limits.commit
+}
+
+/// Whether an entry is in order.
+fn entry_sound(entry: &Entry, limits: &Limits) -> bool
+    requires { IsShape limits.now.shape }
+    ensures { result ≡ true ↔ IsEntrySound limits.now.shape limits.now.commit (wrap_in limits.now.wraps) entry.now }
+{
+    entry.kind <= BOUND && (entry.kind == FREE || entry_taken(entry, limits))
+}
+
+/// Whether each entry of a block is in order.
+fn entries_sound(block: &[u8], limits: &Limits) -> bool
+    requires block { length block.now ≡ 2048 }
+    requires shape { IsShape limits.now.shape }
+    ensures { result ≡ true ↔ ((i : ℕ) → i < 8 → IsEntrySound limits.now.shape limits.now.commit (wrap_in limits.now.wraps) (entry_at block.now i)) }
+{
+    for i in 0..ENTRIES {
+        if !entry_sound(&entry(block, i), limits) {
+            return false;
+        }
+    }
+    true
+}
+
+/// Whether a cell is in order, but for its value and its lock.
+fn cell_sound(cell: &Cell, shape: Shape, home: u32) -> bool
+    requires { IsShape shape }
+    ensures { result ≡ true ↔ IsCellSound shape home cell.now }
+{
+    if cell.state == EMPTY {
+        return cell.lock == 0;
+    }
+    cell.state <= STUB && cell.key % shape.blocks as u64 == home as u64
+}
+
+/// Whether each cell of a block is, for a block of that home.
+fn cells_sound(block: &[u8], shape: Shape, home: u32) -> bool
+    requires block { length block.now ≡ 2048 }
+    requires shape { IsShape shape }
+    ensures { result ≡ true ↔ ((c : ℕ) → c < 16 → IsCellSound shape home (cell_at block.now c)) }
+{
+    for c in 0..CELLS {
+        if !cell_sound(&cells(block, c), shape, home) {
+            return false;
+        }
+    }
+    true
+}
+
+/// The length of the value of cell `c`, 0 to 15, as the block says it.
+#[tactic(auto, unfolding(crate::specs::Sound::value_length))]
+fn value_length(block: &[u8], c: u8) -> u16
+    requires block { length block.now ≡ 2048 }
+    requires place { c < 16 }
+    ensures { result ≡ value_length block.now c }
+{
+    u16_at(block, 416 + 92 * c as usize + 2)
+}
+
+/// Whether there is room for each cell's value.
+fn values_sound(block: &[u8]) -> bool
+    requires { length block.now ≡ 2048 }
+    ensures { result ≡ true ↔ ((c : ℕ) → c < 16 → value_length block.now c ≤ 80) }
+{
+    for c in 0..CELLS {
+        if value_length(block, c) > VALUE_BYTES {
+            return false;
+        }
+    }
+    true
+}
+
+/// Whether a lock is none, or that of an entry that isn't free.
+fn lock_sound(block: &[u8], lock: u8) -> bool
+    requires { length block.now ≡ 2048 }
+    ensures { result ≡ true ↔ IsLock block.now lock }
+{
+    if lock == 0 {
+        return true;
+    }
+    lock <= ENTRIES && entry(block, lock - 1).kind != FREE
+}
+
+/// Whether each cell's lock is.
+fn locks_sound(block: &[u8]) -> bool
+    requires { length block.now ≡ 2048 }
+    ensures { result ≡ true ↔ ((c : ℕ) → c < 16 → IsLock block.now (cell_at block.now c).lock) }
+{
+    for c in 0..CELLS {
+        if !lock_sound(block, cells(block, c).lock) {
+            return false;
+        }
+    }
+    true
+}
+
+/// Whether a cell is a row or locked, so that no other one may have its key.
+fn has_own_key(cell: &Cell) -> bool
+    ensures { result ≡ is_keyed cell.now.key cell.now }
+{
+    cell.state == ROW || cell.lock != 0
+}
+
+/// Whether cell `c`, 0 to 15, is neither a row nor locked, or is the first one of those that are with its key.
+fn key_is_first(block: &[u8], c: u8) -> bool
+    requires block { length block.now ≡ 2048 }
+    requires place { c < 16 }
+    ensures { result ≡ true ↔ IsFirstKeyed block.now c }
+{
+    let cell = cells(block, c);
+    !has_own_key(&cell) || find(block, cell.key) == Some(c)
+}
+
+/// Whether of the cells that are rows or locked no two have one key.
+fn keys_apart(block: &[u8]) -> bool
+    requires { length block.now ≡ 2048 }
+    ensures { result ≡ true ↔ AreKeysApart block.now }
+{
+    for c in 0..CELLS {
+        if !key_is_first(block, c) {
+            return false;
+        }
+    }
+    true
+}
+
+/// Whether the cells of a block are in order, as those of the block of `home` in its table.
+fn all_cells_sound(block: &[u8], shape: Shape, home: u32) -> bool
+    requires block { length block.now ≡ 2048 }
+    requires shape { IsShape shape }
+    ensures { result ≡ true ↔ AreCellsSound shape home block.now }
+{
+    cells_sound(block, shape, home)
+        && values_sound(block)
+        && locks_sound(block)
+        && keys_apart(block)
+}
+
+/// Whether a block of rows, 2,048 bytes, is in order, as the block of `home` in its table.
+pub fn home_sound(block: &[u8], home: u32, limits: &Limits) -> bool
+    requires block { length block.now ≡ 2048 }
+    requires shape { IsShape limits.now.shape }
+    ensures { result ≡ true ↔ IsHomeSound limits.now.shape limits.now.commit (wrap_in limits.now.wraps) home block.now }
+{
+    entries_sound(block, limits) && all_cells_sound(block, limits.shape, home)
+}

@@ -1,0 +1,16 @@
+//! Whether the blocks of a file are in order: the header of each segment, and each block of rows. An opening will call
+//! it; the program doesn't use it yet.
+#![tactic(auto)]
+
+mod blocks;
+mod home;
+mod laws;
+mod segment;
+
+pub use blocks::{blocks_sound, commit_number_of};
+pub use home::{Limits, home_sound};
+pub use laws::{commit_greatest, fresh_sound, homes_by_table};
+pub use segment::segment_sound;
+
+#[cfg(test)]
+mod tests;

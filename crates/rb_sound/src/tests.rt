@@ -1,0 +1,133 @@
+//! Headers and blocks of rows by their bytes, written by hand, each with one byte changed.
+use crate::{Limits, home_sound, segment_sound};
+use rb_base::Shape;
+
+const SHAPE: Shape = Shape {
+    tables: 1,
+    blocks: 10,
+    segments: 2,
+};
+
+/// A ring of extents 0 to 2 with the numbers 5, 3 and 4 and 40 records in the head, and table slot 15 as it stands after
+/// two commits, at 6 and at 7.
+fn header() -> [u8; 2048] {
+    let mut header = [0; 2048];
+    header[1063] = 5;
+    header[1095] = 3;
+    header[1127] = 4;
+    header[1315] = 40;
+    header[1335] = 7;
+    header[1135] = 7;
+    header[992] = 3;
+    header[1007] = 9;
+    header[1015] = 7;
+    header[1023] = 6;
+    header
+}
+
+/// A block of home 3 with an open entry at 0 and a committed one at 7, a row of key 13 in cell 0, which entry 7 has locked,
+/// and a deleted one of the same key in cell 15.
+fn rows() -> [u8; 2048] {
+    let mut block = [0; 2048];
+    block[32] = 1;
+    block[37] = 1;
+    block[39] = 15;
+    block[47] = 4;
+    block[74] = 1;
+    block[75] = 0x40;
+    block[368] = 2;
+    block[383] = 1;
+    block[391] = 9;
+    block[411] = 1;
+    block[416] = 1;
+    block[417] = 8;
+    block[419] = 80;
+    block[427] = 13;
+    block[1796] = 2;
+    block[1807] = 13;
+    block
+}
+
+#[test]
+fn headers(rt: HostRuntime) {
+    let header = header();
+    assert!(rt; segment_sound(&header, 7));
+    assert!(rt; !segment_sound(&header, 6));
+    // A new file's header, and no header at all.
+    let mut fresh = [0; 2048];
+    assert!(rt; !segment_sound(&fresh, 0));
+    fresh[1063] = 2;
+    fresh[1095] = 1;
+    assert!(rt; segment_sound(&fresh, 0));
+}
+
+#[test]
+fn changed_headers(rt: HostRuntime) {
+    let cases: [(usize, u8, bool); 16] = [
+        (1007, 255, true), // a wrap
+        (992, 4, false), // a state
+        (1023, 7, true), // before, up to newest
+        (1023, 8, false), // and above it
+        (1335, 8, false), // lost
+        (1135, 8, false), // the newest of an extent in the ring
+        (1295, 8, false), // and of one outside
+        (1315, 41, false), // the records of the head
+        (1313, 1, false), // the head isn't the newest,
+        (1313, 3, false), // or isn't in the ring
+        (1312, 1, false), //
+        (1159, 2, true), // a fourth extent
+        (1159, 1, false), // which doesn't follow
+        (1191, 2, false), // one behind a gap
+        (1095, 4, false), // a number that stands twice
+        (1095, 0, false), // a ring of one
+    ];
+    for (at, byte, sound) in cases {
+        let mut changed = header();
+        assert!(rt; at < 2048);
+        changed[at] = byte;
+        assert_eq!(rt; segment_sound(&changed, 7), sound, "at {at}");
+    }
+}
+
+#[test]
+fn changed_rows(rt: HostRuntime) {
+    let cases: [(usize, u8, bool); 22] = [
+        (0, 1, true), // the block's head isn't looked at
+        (32, 4, false), // a kind
+        (32, 0, true), // a free entry's bytes aren't looked at
+        (37, 2, false), // a segment
+        (39, 16, false), // a slot
+        (47, 5, false), // a wrap
+        (47, 0, false), //
+        (75, 0x41, false), // a chain
+        (411, 0, false), //
+        (391, 10, false), // a number
+        (368, 0, false), // the entry that has the lock is free
+        (416, 3, false), // a state
+        (416, 0, false), // an empty cell with a lock
+        (417, 9, false), // a lock that names no entry
+        (417, 2, false), // or a free one
+        (419, 81, false), // a value's length
+        (418, 1, false), //
+        (427, 23, true), // another key of this home
+        (427, 14, false), // a key of another home
+        (1796, 1, false), // two rows of one key
+        (1797, 1, false), // a row and a locked cell of one key
+        (1796, 0, true), // an empty cell's key isn't looked at
+    ];
+    let mut limits = Limits {
+        shape: SHAPE,
+        commit: 9,
+        wraps: [[0; 16]; 16],
+    };
+    limits.wraps[0][0] = 1;
+    limits.wraps[1][15] = 4;
+    for (at, byte, sound) in cases {
+        let mut changed = rows();
+        assert!(rt; at < 2048);
+        changed[at] = byte;
+        assert_eq!(rt; home_sound(&changed, 3, &limits), sound, "at {at}");
+    }
+    assert!(rt; !home_sound(&rows(), 4, &limits));
+    assert!(rt; home_sound(&[0; 2048], 4, &limits));
+}
