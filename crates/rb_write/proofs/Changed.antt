@@ -1,23 +1,22 @@
 -- What a write makes of its home: the values of the keys, and that it stays plain.
-use Rattle.std.proofs.Common.{◌≡◌, ◌≢◌, ℕ, ◌+◌, ◌<◌, Bool, false, true, not, ◌&&◌, ◌||◌, ◌==◌, List, [], ◌∷◌, length, Option, None, Some, is_some, refl, arith, ap, sym, subst, ◌∙◌, inl, inr, slice_index_or, slice_set}
+use Rattle.std.proofs.Common.{◌≡◌, ◌≢◌, ℕ, ◌<◌, Bool, false, true, not, ◌&&◌, ◌||◌, ◌==◌, List, length, Option, None, Some, is_some, refl, arith, ap, sym, subst, ◌∙◌, inl, inr}
 use Rattle.std.proofs.lemmas.Bool.{cases_eq, cases_Bool, eqb-true, eq-eqb, ne_eqb}
 use Rattle.std.proofs.lemmas.List.{get_or-set_other, set-get_or}
 use Rattle.std.proofs.lemmas.Grind.{get_or-set_at}
 use Rattle.rb_cell.specs.declared.cell.Cell.{Cell}
 use Rattle.rb_cell.specs.declared.cell.TheConstants.{EMPTY, ROW, STUB}
 use Rattle.rb_heap.specs.Homes.{Home, home_cell, home_rows, rows_in, with_home_cell, empty_cell, is_keyed, is_free, IsFirst, IsNowhere}
-use Rattle.rb_heap.proofs.Seen.{first_or_nowhere}
 use Rattle.rb_write.specs.Values.{value_in, IsPlainHome}
 use Rattle.rb_write.specs.Writes.{adds, may_take, value_after, cell_after, TakesWrite, HasPlace}
 use Rattle.rb_write.specs.declared.ask.Op.{Op}
 use Rattle.rb_write.specs.declared.ask.Op.TheVariants.{Insert, Update, Delete}
 use Rattle.rb_write.proofs.Valued.{holds, value_missing, value_found, value_set, value_gone, value_kept}
 
-both_left : (x y : Bool) → (x && y) ≡ true → x ≡ true
+pub both_left : (x y : Bool) → (x && y) ≡ true → x ≡ true
 both_left true y both = refl
 both_left false y both = both
 
-both_right : (x y : Bool) → (x && y) ≡ true → y ≡ true
+pub both_right : (x y : Bool) → (x && y) ≡ true → y ≡ true
 both_right true y both = both
 both_right false y both = absurd cc
 
@@ -108,7 +107,7 @@ module _ (home : Home) (count : length home.cells ≡ 16) where
   pub home_takes : (op : Option Op) (key : ℕ) → IsPlainHome home → HasPlace op key home → TakesWrite op key home
   home_takes (Some (Insert value)) key plain has = record {
     row = ap is_some (home_missing key (has.new_key refl));
-    room = λ is none. first_or_nowhere is_free home.cells has.place has.first none;
+    room = λ is. (has.place, has.first);
   }
   home_takes (Some (Update value)) key plain has = record { row = ap is_some (home_found key has.place plain has.first); room = λ is. absurd cc }
   home_takes (Some Delete) key plain has = record { row = ap is_some (home_found key has.place plain has.first); room = λ is. absurd cc }

@@ -1,21 +1,23 @@
 -- Rows of other tables have other blocks, and what a change of one block makes of the values of all.
-use Rattle.std.proofs.Common.{◌≡◌, ◌≢◌, ℕ, ◌+◌, ◌-◌, ◌*◌, ◌/◌, ◌%◌, ◌^◌, ◌<◌, ◌≤◌, Bool, true, false, ◌&&◌, ◌==◌, if◌then◌else◌, List, [], ◌∷◌, Option, arith, ap, sym, subst, ◌∙◌, inl, inr, refl}
+use Rattle.std.proofs.Common.{◌≡◌, ◌≢◌, ℕ, ◌+◌, ◌-◌, ◌*◌, ◌/◌, ◌%◌, ◌^◌, ◌<◌, ◌≤◌, Bool, true, ◌&&◌, ◌==◌, if◌then◌else◌, List, [], ◌∷◌, Option, None, arith, ap, sym, subst, ◌∙◌, inl, inr}
 use Rattle.std.proofs.lemmas.Bool.{cases_eq, cases_Bool, eqb-true, eq-eqb}
+use Rattle.std.proofs.lemmas.List.{get_or-replicate}
 use Rattle.std.proofs.lemmas.Nat.{div-mul-add}
-use Rattle.std.proofs.Math.Nat.{mod-lt}
+use Rattle.std.proofs.Math.Nat.{mod-lt, mul-le-mul_right}
 use Rattle.rb_base.specs.declared.ids.Shape.{Shape}
-use Rattle.rb_base.specs.Blocks.{block_of, after_group, table_blocks, shape_blocks, AreBlocks}
+use Rattle.rb_base.specs.Blocks.{block_of, after_group, fresh_blocks, table_blocks, shape_blocks, AreBlocks}
 use Rattle.rb_base.specs.Groups.{IsPatch}
 use Rattle.rb_cell.specs.declared.cell.Cell.{Cell}
 use Rattle.rb_cell.specs.Cells.{cell_patch, IsCell}
 use Rattle.rb_cell.proofs.CellBytes.{length-cell}
-use Rattle.rb_heap.specs.Homes.{Home, home_of, home_cell, home_rows, with_home_cell, is_keyed, IsFirst, IsNowhere}
+use Rattle.rb_heap.specs.Homes.{Home, home_of, empty_cell, empty_home, home_cell, home_rows, with_home_cell, is_keyed, IsFirst, IsNowhere}
 use Rattle.rb_heap.proofs.Blocks.{cell_alone, group_others, group_are}
+use Rattle.rb_heap.proofs.Fresh.{new_empty}
 use Rattle.rb_heap.proofs.Reading.{cells_counted}
 use Rattle.rb_write.specs.Values.{home_block, home_at, value_in, value_at, IsPlainHome, ArePlain}
 use Rattle.rb_write.specs.Writes.{adds, may_take, value_after, cell_after, ChangesHome}
 use Rattle.rb_write.specs.declared.ask.Op.{Op}
-use Rattle.rb_write.proofs.Changed.{key_written, others_kept, plain_kept}
+use Rattle.rb_write.proofs.Changed.{both_left, both_right, key_written, others_kept, plain_kept}
 
 pub same_table : (shape : Shape) (table key other k : ℕ) → 1 ≤ shape.blocks → 1 ≤ table → 1 ≤ other → home_block shape table key ≡ home_block shape other k → table ≡ other
 same_table shape table key other k some first first_too same =
@@ -25,16 +27,35 @@ same_table shape table key other k some first first_too same =
     let equal : table - 1 ≡ other - 1 = sym one ∙ ap (λ (n : ℕ). n / b) same ∙ two in
     omega (arith, equal, first, first_too)
 
+one_more : (n b : ℕ) → (n + 1) * b ≡ n * b + b
+one_more n b = grind arith
+
+empty_read : (k : ℕ) → k < 16 → home_cell empty_home k ≡ empty_cell
+empty_read k few = get_or-replicate 16 k empty_cell empty_cell few
+
+empty_plain : IsPlainHome empty_home
+empty_plain = record {
+  unlocked = λ c few. ap (λ (cell : Cell). cell.lock) (empty_read c few);
+  apart = λ c k c_few k_few differ row row_too same. let never : 0 ≡ 1 = sym (ap (λ (cell : Cell). cell.state) (empty_read c c_few)) ∙ row in omega (arith, never);
+}
+
+-- a row's block is one of its table's
+pub row_block : (shape : Shape) (table key : ℕ) → 1 ≤ shape.blocks → 1 ≤ table → table ≤ shape.tables → home_block shape table key < table_blocks shape
+row_block shape table key some first few =
+    let b = shape.blocks in
+    let r = mod-lt key some in
+    let up_to : (table - 1) * b + b ≤ table_blocks shape = subst (λ (n : ℕ). n ≤ shape.tables * b) (one_more (table - 1) b) (mul-le-mul_right {m = table - 1 + 1} b (omega (arith, first, few))) in
+    omega (arith, r, up_to)
+
+-- the homes of a new file are plain, and hold no row
+pub new_plain : (shape : Shape) → ArePlain shape (fresh_blocks shape)
+new_plain shape b lt = subst IsPlainHome (sym (new_empty shape b lt)) empty_plain
+
+pub new_values : (shape : Shape) (table key : ℕ) → 1 ≤ shape.blocks → 1 ≤ table → table ≤ shape.tables → value_at shape (fresh_blocks shape) table key ≡ None
+new_values shape table key some first few = ap (λ (home : Home). value_in (home_rows home) key) (new_empty shape (home_block shape table key) (row_block shape table key some first few))
+
 both : (x y : Bool) → x ≡ true → y ≡ true → (x && y) ≡ true
 both x y one two = rw one two
-
-left_of : (x y : Bool) → (x && y) ≡ true → x ≡ true
-left_of true y is = refl
-left_of false y is = is
-
-right_of : (x y : Bool) → (x && y) ≡ true → y ≡ true
-right_of true y is = is
-right_of false y is = absurd cc
 
 cell_is_patch : (which c : ℕ) (cell : Cell) → which < 2 ^ 32 → c < 16 → IsCell cell → IsPatch (cell_patch which c cell)
 cell_is_patch which c cell fits few sound = record {
@@ -75,8 +96,8 @@ module _ (shape : Shape) (op : Option Op) (table key : ℕ) (old new : List (Lis
       let count = cells_counted (block_of old (home_block shape table key)) in
       elim (cases_Bool ((t == table) && (k == key))) [
         | inl equal ↦
-            let same_t = eqb-true t table (left_of (t == table) (k == key) equal) in
-            let same_k = eqb-true k key (right_of (t == table) (k == key) equal) in
+            let same_t = eqb-true t table (both_left (t == table) (k == key) equal) in
+            let same_k = eqb-true k key (both_right (t == table) (k == key) equal) in
             rw equal
             (subst (λ (t : ℕ). value_at shape new t k ≡ value_after op (value_at shape old t k)) (sym same_t)
             (subst (λ (k : ℕ). value_at shape new table k ≡ value_after op (value_at shape old table k)) (sym same_k)

@@ -53,7 +53,13 @@ pub record ChangesHome (op : Option Op) (key : ℕ) (before now : Home) : Type 0
 -- A home takes an insert where the key has no row and a cell is free, and each other write where the key has a row.
 pub record TakesWrite (op : Option Op) (key : ℕ) (home : Home) : Type 0 where
   pub row : is_some (value_in (home_rows home) key) ≡ not (adds op)
-  pub room : adds op ≡ true → ¬ IsNowhere is_free home.cells
+  pub room : adds op ≡ true → (c : ℕ) × IsFirst is_free home.cells c
+
+-- a home has a cell for the write, and no row of the key where the write adds one
+pub record HasPlace (op : Option Op) (key : ℕ) (home : Home) : Type 0 where
+  pub place : ℕ
+  pub first : IsFirst (may_take op key) home.cells place
+  pub new_key : adds op ≡ true → IsNowhere (is_keyed key) home.cells
 
 -- why a home refuses a write, by its cells
 abbrev pub HomeRefuses : AttemptFault → Option Op → ℕ → Home → Type 0
@@ -82,9 +88,3 @@ has_failed (Err NotFound) = false
 has_failed (Err BlockFull) = false
 has_failed (Err WornOut) = false
 has_failed (Err LogFull) = false
-
--- a home has a cell for the write, and no row of the key where the write adds one
-pub record HasPlace (op : Option Op) (key : ℕ) (home : Home) : Type 0 where
-  pub place : ℕ
-  pub first : IsFirst (may_take op key) home.cells place
-  pub new_key : adds op ≡ true → IsNowhere (is_keyed key) home.cells

@@ -3,9 +3,14 @@
 #![tactic(auto)]
 
 mod ask;
+mod laws;
 mod place;
 mod write;
 
 pub use ask::{Ask, AttemptFault, Op};
+pub use laws::{value_read, values_placed};
 pub use place::home_block;
 pub use write::attempt;
+
+#[cfg(test)]
+mod tests;

@@ -115,7 +115,7 @@ pub fn attempt<S: Store>(
     ensures failed { S.failed store.new ≡ has_failed result }
     ensures counted { S.faults store.old ≤ S.faults store.new }
     ensures fault { IsErrOf result AttemptFault.Failed → Rose (S.faults store.old) (S.faults store.new) }
-    ensures first { IfOk result (λ xid. xid ≡ record { seg = 0; slot = 0; wrap = 0 }) }
+    ensures answer { IfOk result (λ xid. xid ≡ record { seg = 0; slot = 0; wrap = 0 }) }
 {
     let no = home_block(store.shape(), ask.table, ask.key);
     let (c, cell) = prepared(store, no, ask)?;

@@ -1,10 +1,10 @@
-use Rattle.std.proofs.Common.{◌≡◌, ◌<◌, ◌≤◌, ◌∙◌, [], ◌∷◌, ◌++◌, ℕ, ◌+◌, List, true, false, is_some, arith, ap, subst, inl, inr, ⊎_elim, IsErrOf}
+use Rattle.std.proofs.Common.{◌≡◌, ◌<◌, ◌≤◌, ◌∙◌, [], ◌∷◌, ◌++◌, ℕ, ◌+◌, List, is_some, arith, ap, subst, inl, inr, ⊎_elim, IsErrOf}
 use Rattle.rb_base.specs.declared.ids.Shape.{Shape}
 use Rattle.rb_base.specs.Blocks.{block_of, after_group, table_blocks, AreBlocks}
 use Rattle.rb_base.specs.Groups.{Patch}
 use Rattle.rb_cell.specs.declared.cell.Cell.{Cell}
 use Rattle.rb_cell.specs.Cells.{cell_patch}
-use Rattle.rb_heap.specs.Homes.{Home, home_of, is_free, is_keyed, IsFirst, IsNowhere}
+use Rattle.rb_heap.specs.Homes.{home_of, is_free, is_keyed, IsFirst, IsNowhere}
 use Rattle.rb_heap.proofs.Reading.{cells_counted}
 use Rattle.rb_write.specs.Values.{home_block, home_at}
 use Rattle.rb_write.specs.Writes.{HasPlace}
