@@ -5,6 +5,8 @@ ghost use Rattle.rb_base.specs.Counts.{Rose};
 ghost use Rattle.rb_base.specs.Groups.{Patch};
 ghost use Rattle.rb_base.specs.Moments.{NoMore, Passes};
 ghost use Rattle.rb_base.specs.Stores.{room_of};
+ghost use Rattle.rb_cell.specs.Cells.{cell_patch};
+ghost use Rattle.rb_cell.specs.declared.cell.Cell.{Cell};
 ghost use Rattle.rb_heap.specs.Homes.{home_of, home_cell, is_keyed, is_free, IsFirst, IsNowhere};
 ghost use Rattle.rb_write.specs.Values.{home_block as home_block_of, home_at, value_at, IsPlainHome, ArePlain};
 ghost use Rattle.rb_write.specs.Writes.{adds, may_take, value_after, cell_after, has_failed, IsShort, HomeRefuses, LogRefuses, ChangesHome, TakesWrite, HasPlace};
@@ -104,6 +106,7 @@ pub fn attempt<S: Store>(
     ensures whole { S.tells → OnOk result (AreBlocks (S.shape_of store.old) (S.blocks store.new)) }
     ensures number { OnOk result (S.number store.new ≡ S.number store.old + 1) }
     ensures group { S.keeps → OnOk result ((patches : List Patch) × (S.pending store.new ≡ S.pending store.old ++ patches ∷ []) × (patches_block (commit_block (S.shape_of store.old)) patches ≡ false)) }
+    ensures patch { S.keeps → OnOk result ((c : ℕ) × (cell : Cell) × (S.pending store.new ≡ S.pending store.old ++ (cell_patch (home_block_of (S.shape_of store.old) ask.now.table ask.now.key) c cell ∷ []) ∷ [])) }
     ensures stable { S.keeps → has_failed result ≡ false → (b : List (List ℕ)) → S.stable store.old b → S.stable store.new b }
     ensures refused_blocks { S.tells → has_failed result ≡ false → OnErr result (S.blocks store.new ≡ S.blocks store.old) }
     ensures refused_number { has_failed result ≡ false → OnErr result (S.number store.new ≡ S.number store.old) }

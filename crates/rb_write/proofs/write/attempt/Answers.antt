@@ -16,6 +16,14 @@ use Rattle.rb_write.proofs.Placed.{Writes, writes, values_written, all_plain}
 use Rattle.rb_write.proofs.write.attempt.Given.{Over}
 use Rattle.rb_write.proofs.write.attempt.Goals as goal
 
+-- the block that is written is the key's
+place : (g : Over) (c : goal.After-default g) → c.home_block-no.result ≡ home_block (g.S.Store.shape_of c.args.store.now) c.args.ask.now.table c.args.ask.now.key
+place g c = c.home_block-no.ensures.block ∙ ap (λ (s : Shape). home_block s c.args.ask.now.table c.args.ask.now.key) c.shape.ensures.shape
+
+-- the group has the cell's patch alone
+patches : (g : Over) (c : goal.After-default g) → c.put_cell.new.group ≡ cell_patch c.home_block-no.result c.in_ok-c.c c.in_ok-c.cell ∷ []
+patches g c = c.put_cell.ensures.patch ∙ ap (λ (group : List Patch). group ++ cell_patch c.home_block-no.result c.in_ok-c.c c.in_ok-c.cell ∷ []) c.new.ensures
+
 written : (g : Over) (c : goal.After-default g) → g.S.Store.tells → Writes (g.S.Store.shape_of c.args.store.now) c.args.ask.now.op c.args.ask.now.table c.args.ask.now.key (g.S.Store.blocks c.args.store.now) (g.S.Store.blocks c.apply.new.self)
 written g c told =
     let shape = g.S.Store.shape_of c.args.store.now in
@@ -24,15 +32,26 @@ written g c told =
     let number = g.S.Store.number c.prepared.new.store + 1 in
     let which = c.home_block-no.result in
     let one = cell_patch which c.in_ok-c.c c.in_ok-c.cell ∷ [] in
-    let place = c.home_block-no.ensures.block ∙ ap (λ (s : Shape). home_block s c.args.ask.now.table c.args.ask.now.key) c.shape.ensures.shape in
     let patched = c.in-Ok.ensures.blocks told
-    ∙ ap (λ (group : List Patch). after_group number group mid) (c.put_cell.ensures.patch ∙ ap (λ (group : List Patch). group ++ one) c.new.ensures)
+    ∙ ap (λ (group : List Patch). after_group number group mid) (patches g c)
     ∙ ap (after_group number one) (c.in_ok-c.ensures.blocks told) in
     let rows = c.home_block-no.ensures.of_rows in
     let within : which < table_blocks shape = subst (λ (s : Shape). which < table_blocks s) c.shape.ensures.shape rows in
     let are = subst (λ (s : Shape). AreBlocks s old) c.in_ok-c.ensures.shape (subst (AreBlocks (g.S.Store.shape_of c.prepared.new.store)) (c.in_ok-c.ensures.blocks told) (c.in_ok-c.ensures.whole told)) in
     writes shape c.args.ask.now.op c.args.ask.now.table c.args.ask.now.key which c.in_ok-c.c number c.in_ok-c.cell old (g.S.Store.blocks c.apply.new.self)
-    place are (omega (arith, within)) (omega arith) (c.in_ok-c.ensures.first told) (c.in_ok-c.ensures.new_key told) (c.in_ok-c.ensures.cell told) c.put_cell.ensures.sound patched
+    (place g c) are (omega (arith, within)) (omega arith) (c.in_ok-c.ensures.first told) (c.in_ok-c.ensures.new_key told) (c.in_ok-c.ensures.cell told) c.put_cell.ensures.sound patched
+
+pub returns-in-Ok-clause-patch : goal.returns-in-Ok-clause-patch
+returns-in-Ok-clause-patch g c keeps =
+    let old = g.S.Store.pending c.args.store.now in
+    let group = c.put_cell.new.group in
+    let cell = c.in_ok-c.cell in (
+      c.in_ok-c.c,
+      cell,
+      c.in-Ok.ensures.pending keeps
+          ∙ ap (λ (waiting : List (List Patch)). waiting ++ group ∷ []) (c.in_ok-c.ensures.pending keeps)
+          ∙ ap (λ (last : List Patch). old ++ last ∷ []) (patches g c ∙ ap (λ (b : ℕ). cell_patch b c.in_ok-c.c cell ∷ []) (place g c)),
+    )
 
 pub returns-in-Ok-clause-home : goal.returns-in-Ok-clause-home
 returns-in-Ok-clause-home g c told = (written g c told).home
@@ -58,15 +77,15 @@ returns-in-Ok-clause-taken g c told plain =
     (record { place = is.home.place; first = is.home.first; new_key = is.new_key })
 
 -- the block that was searched is the key's
-place : (g : Over) (c : goal.After-from_residual g) → c.home_block-no.result ≡ home_block (g.S.Store.shape_of c.args.store.now) c.args.ask.now.table c.args.ask.now.key
-place g c = c.home_block-no.ensures.block ∙ ap (λ (s : Shape). home_block s c.args.ask.now.table c.args.ask.now.key) c.shape.ensures.shape
+searched : (g : Over) (c : goal.After-from_residual g) → c.home_block-no.result ≡ home_block (g.S.Store.shape_of c.args.store.now) c.args.ask.now.table c.args.ask.now.key
+searched g c = c.home_block-no.ensures.block ∙ ap (λ (s : Shape). home_block s c.args.ask.now.table c.args.ask.now.key) c.shape.ensures.shape
 
 pub returns-in_err-c-clause-duplicate : goal.returns-in_err-c-clause-duplicate
 returns-in_err-c-clause-duplicate g c told plain is =
     let blocks = g.S.Store.blocks c.args.store.now in
     let key = c.args.ask.now.key in
     let refused = c.in_err-c.ensures.duplicate told (same_fault c.from_residual.result c.in_err-c.field-0.0 Duplicate c.from_residual.ensures.1 is) in
-    let first = subst (λ (b : ℕ). IsFirst (is_keyed key) (home_of (block_of blocks b)).cells refused.1.0) (place g c) refused.1.1 in
+    let first = subst (λ (b : ℕ). IsFirst (is_keyed key) (home_of (block_of blocks b)).cells refused.1.0) (searched g c) refused.1.1 in
     (refused.0, ap is_some (home_found (home_at (g.S.Store.shape_of c.args.store.now) blocks c.args.ask.now.table key) (cells_counted _) key refused.1.0 plain first))
 
 pub returns-in_err-c-clause-not_found : goal.returns-in_err-c-clause-not_found
@@ -74,7 +93,7 @@ returns-in_err-c-clause-not_found g c told is =
     let blocks = g.S.Store.blocks c.args.store.now in
     let key = c.args.ask.now.key in
     let refused = c.in_err-c.ensures.not_found told (same_fault c.from_residual.result c.in_err-c.field-0.0 NotFound c.from_residual.ensures.1 is) in
-    let none = subst (λ (b : ℕ). IsNowhere (is_keyed key) (home_of (block_of blocks b)).cells) (place g c) refused.1 in
+    let none = subst (λ (b : ℕ). IsNowhere (is_keyed key) (home_of (block_of blocks b)).cells) (searched g c) refused.1 in
     (refused.0, ap is_some (home_missing (home_at (g.S.Store.shape_of c.args.store.now) blocks c.args.ask.now.table key) (cells_counted _) key none))
 
 pub returns-in_err-c-clause-block_full : goal.returns-in_err-c-clause-block_full
@@ -82,8 +101,8 @@ returns-in_err-c-clause-block_full g c told is =
     let blocks = g.S.Store.blocks c.args.store.now in
     let key = c.args.ask.now.key in
     let refused = c.in_err-c.ensures.block_full told (same_fault c.from_residual.result c.in_err-c.field-0.0 BlockFull c.from_residual.ensures.1 is) in
-    let none = subst (λ (b : ℕ). IsNowhere (is_keyed key) (home_of (block_of blocks b)).cells) (place g c) refused.1 in
-    let full = subst (λ (b : ℕ). IsNowhere is_free (home_of (block_of blocks b)).cells) (place g c) refused.2 in
+    let none = subst (λ (b : ℕ). IsNowhere (is_keyed key) (home_of (block_of blocks b)).cells) (searched g c) refused.1 in
+    let full = subst (λ (b : ℕ). IsNowhere is_free (home_of (block_of blocks b)).cells) (searched g c) refused.2 in
     (refused.0, ap is_some (home_missing (home_at (g.S.Store.shape_of c.args.store.now) blocks c.args.ask.now.table key) (cells_counted _) key none), full)
 
 pub returns-in_err-c-clause-late : goal.returns-in_err-c-clause-late
@@ -92,5 +111,5 @@ returns-in_err-c-clause-late g c told plain is =
     let key = c.args.ask.now.key in
     let same = λ (fault : AttemptFault) (of : IsErrOf c.from_residual.result fault). same_fault {T = ℕ × Cell} c.from_residual.result c.in_err-c.field-0.0 fault c.from_residual.ensures.1 of in
     let has = c.in_err-c.ensures.late told (⊎_elim (λ worn. inl (same WornOut worn)) (λ full. inr (same LogFull full)) is) in
-    let here = subst (λ (b : ℕ). HasPlace c.args.ask.now.op key (home_of (block_of blocks b))) (place g c) has in
+    let here = subst (λ (b : ℕ). HasPlace c.args.ask.now.op key (home_of (block_of blocks b))) (searched g c) has in
     home_takes (home_at (g.S.Store.shape_of c.args.store.now) blocks c.args.ask.now.table key) (cells_counted _) c.args.ask.now.op key plain here
