@@ -1,0 +1,4 @@
+pub mod Valued
+pub mod Changed
+pub mod Placed
+pub mod Faults

@@ -1,0 +1,32 @@
+-- The values that a file's blocks hold, by table and key.
+use Rattle.std.specs.Prelude.{◌≡◌, ◌≢◌, ℕ, ◌+◌, ◌-◌, ◌*◌, ◌%◌, ◌<◌, ◌==◌, if◌then◌else◌, List, [], ◌∷◌, Option, None, Some}
+use Rattle.rb_base.specs.Blocks.{block_of, table_blocks}
+use Rattle.rb_base.specs.declared.ids.Shape.{Shape}
+use Rattle.rb_cell.specs.declared.cell.TheConstants.{ROW}
+use Rattle.rb_heap.specs.Homes.{Home, CellRow, home_of, home_cell, home_rows}
+
+-- the block where the row of that key of a table, from 1 on, has its place
+abbrev pub home_block : Shape → ℕ → ℕ → ℕ
+home_block shape table key = (table - 1) * shape.blocks + key % shape.blocks
+
+-- what that block says
+abbrev pub home_at : Shape → List (List ℕ) → ℕ → ℕ → Home
+home_at shape blocks table key = home_of (block_of blocks (home_block shape table key))
+
+-- the value of the first row of that key
+abbrev pub value_in : List CellRow → ℕ → Option (List ℕ)
+value_in [] key = None
+value_in (row ∷ rows) key = if row.key == key then Some row.value else value_in rows key
+
+-- the value of that key of a table, where it has a row
+abbrev pub value_at : Shape → List (List ℕ) → ℕ → ℕ → Option (List ℕ)
+value_at shape blocks table key = value_in (home_rows (home_at shape blocks table key)) key
+
+-- nothing has a cell locked, and no two rows have one key
+pub record IsPlainHome (home : Home) : Type 0 where
+  pub unlocked : (c : ℕ) → c < 16 → (home_cell home c).lock ≡ 0
+  pub apart : (c k : ℕ) → c < 16 → k < 16 → c ≢ k → (home_cell home c).state ≡ ROW → (home_cell home k).state ≡ ROW → (home_cell home c).key ≢ (home_cell home k).key
+
+-- the homes of all tables are plain
+abbrev pub ArePlain : Shape → List (List ℕ) → Type 0
+ArePlain shape blocks = (b : ℕ) → b < table_blocks shape → IsPlainHome (home_of (block_of blocks b))

@@ -1,0 +1,51 @@
+//! What a write is asked for, and why it isn't made. Callers of `attempt` use both.
+
+use rb_base::Xid;
+use thiserror::Error;
+
+/// What a write does to its key.
+#[derive(Clone, Copy, Debug)]
+pub enum Op<'a> {
+    /// Makes a row of this value, of at most 80 bytes, where the key has none.
+    Insert(&'a [u8]),
+    /// Gives the key's row this value, of at most 80 bytes.
+    Update(&'a [u8]),
+    /// Takes the key's row away.
+    Delete,
+}
+
+/// A write of one key.
+#[derive(Clone, Copy, Debug)]
+pub struct Ask<'a> {
+    /// The transaction that writes. None until undo is kept.
+    pub own: Option<Xid>,
+    /// The table, from 1 on.
+    pub table: u16,
+    /// The key, any number.
+    pub key: u64,
+    /// What is done. None needs the key's row, and writes its cell again as it is.
+    pub op: Option<Op<'a>>,
+}
+
+/// Why a write isn't made.
+#[derive(Clone, Copy, Debug, PartialEq, Eq, Error)]
+pub enum AttemptFault {
+    /// A call of the store failed.
+    #[error("a call of the store failed")]
+    Failed,
+    /// An insert of a key that has a row.
+    #[error("the key has a row")]
+    Duplicate,
+    /// A write of another kind, of a key that has no row.
+    #[error("the key has no row")]
+    NotFound,
+    /// An insert where no cell of the key's block is free.
+    #[error("no cell of the key's block is free")]
+    BlockFull,
+    /// 2^60 groups or more are logged.
+    #[error("the log numbers are used up")]
+    WornOut,
+    /// The log has room for fewer than two groups.
+    #[error("the log has no room")]
+    LogFull,
+}

@@ -1,0 +1,16 @@
+//! Writes rows into the blocks of a store: one attempt is one change, as one group of one patch, or a refusal. The
+//! engine over blocks will call it; the program doesn't use it yet.
+#![tactic(auto)]
+
+mod ask;
+mod laws;
+mod place;
+mod write;
+
+pub use ask::{Ask, AttemptFault, Op};
+pub use laws::{value_read, values_placed};
+pub use place::home_block;
+pub use write::attempt;
+
+#[cfg(test)]
+mod tests;
