@@ -1,6 +1,10 @@
-//! Headers and blocks of rows by their bytes, written by hand, each with one byte changed.
-use crate::{Limits, home_sound, segment_sound};
-use rb_base::Shape;
+//! Headers and blocks of rows by their bytes, written by hand, each with one byte changed; and the blocks of a store.
+ghost use Rattle.std.specs.Prelude.{◌≡◌, ◌≤◌, ◌<◌, false, OnOk};
+
+use crate::{Limits, blocks_sound, commit_number_of, home_sound, segment_sound};
+use rb_base::{BlockNo, Failed, Group, Shape, Store};
+use rb_plainstore::PlainStore;
+use std::test::Fail;
 
 const SHAPE: Shape = Shape {
     tables: 1,
@@ -130,4 +134,40 @@ fn changed_rows(rt: HostRuntime) {
     }
     assert!(rt; !home_sound(&rows(), 4, &limits));
     assert!(rt; home_sound(&[0; 2048], 4, &limits));
+}
+
+/// Whether the blocks of a store are in order, and their commit number.
+fn state_of<S: Store>(store: &mut S) -> Result<(bool, u64), Failed>
+    requires { S.failed store.old ≡ false }
+{
+    let sound = blocks_sound(store)?;
+    Ok((sound, commit_number_of(store)?))
+}
+
+/// Patches one byte of a block. It answers Failed where the store can't take that.
+fn patch<S: Store>(store: &mut S, no: BlockNo, at: u16, byte: u8) -> Result<(), Failed>
+    requires going { S.failed store.old ≡ false }
+    requires within { (32 ≤ at) × (at < 2048) }
+    ensures going { OnOk result (S.failed store.new ≡ false) }
+{
+    let shape = store.shape();
+    let count = u32::from(shape.tables) * shape.blocks + 33 * u32::from(shape.segments);
+    if no >= count || store.room() < 1 || store.logged() > 1_000_000 {
+        return Err(Failed);
+    }
+    let mut group = Group::new();
+    group.push(no, at, &[byte]);
+    store.apply(&group)
+}
+
+// A new file is in order. Its commit number is what the last header says, and a cell of an unknown state isn't in order.
+#[test]
+fn blocks_of_a_store(rt: HostRuntime) -> Result<(), Fail> {
+    let mut store = PlainStore::new(rt.alloc(), SHAPE)?;
+    assert_eq!(rt; state_of(&mut store)?, (true, 0));
+    patch(&mut store, 43, 55, 9)?;
+    assert_eq!(rt; state_of(&mut store)?, (true, 9));
+    patch(&mut store, 9, 416, 3)?;
+    assert_eq!(rt; state_of(&mut store)?, (false, 9));
+    Ok(())
 }
