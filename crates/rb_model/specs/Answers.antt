@@ -1,13 +1,21 @@
--- What the results of the engine's calls are as answers of the machine.
+-- What the arguments and results of the engine's calls are as the machine's actions and answers.
 use Rattle.std.specs.Prelude.{◌≡◌, ℕ, Option, None, Some, Result, Ok, Err}
-use Rattle.rb_model.specs.Reply.{Answer, Waits, Numbered, Given, Refused}
+use Rattle.rb_model.specs.Reply.{Action, Answer, Waits, Numbered, Given, Refused}
 use Rattle.rb_model.specs.Reply as reply
+use Rattle.rb_model.specs.declared.op.Op.{Op}
+use Rattle.rb_model.specs.declared.op.Op.TheVariants as op
 use Rattle.rb_model.specs.declared.refusal.Refusal.{Refusal}
 use Rattle.rb_model.specs.declared.wrote.Wrote.{Wrote}
 use Rattle.rb_model.specs.declared.wrote.Wrote.TheVariants as wrote
 use Rattle.rb_model.specs.declared.row.Row.{Row}
 use Rattle.rb_model.specs.declared.row.Fetched.{Fetched}
 use Rattle.rb_model.specs.declared.row.Fetched.TheVariants as fetched
+
+-- what the code's operation is
+abbrev pub action_of : Op → Action
+action_of (op.Insert value) = reply.Insert value.now
+action_of (op.Update value) = reply.Update value.now
+action_of op.Delete = reply.Delete
 
 abbrev pub wrote_answer : Wrote → Answer
 wrote_answer wrote.Done = reply.Done

@@ -17,3 +17,7 @@ pub record Change : Type 0 where
 -- the change that gives a key a value
 abbrev pub put : ℕ → ℕ → List ℕ → Change
 put table key value = record { table = table; key = key; kind = Put value }
+
+-- the change that takes a key's row away
+abbrev pub gone : ℕ → ℕ → Change
+gone table key = record { table = table; key = key; kind = Gone }

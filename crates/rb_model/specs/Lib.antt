@@ -1,5 +1,6 @@
 pub mod Answers
 pub mod Change
+pub mod Full
 pub mod Lines
 pub mod NameTest
 pub mod Names

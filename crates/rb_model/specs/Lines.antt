@@ -1,11 +1,11 @@
 -- How a script is cut into lines, which command a line spells, and the texts of the replies.
-use Rattle.std.specs.Prelude.{◌≡◌, ◌≢◌, ◌⊎◌, ℕ, ◌^◌, ◌<◌, ◌≤◌, Bool, true, false, ◌==◌, ◌||◌, ◌&&◌, nat_lt, nat_le, if◌then◌else◌, IsTrue, List, [], ◌∷◌, ◌++◌, length, codes}
+use Rattle.std.specs.Prelude.{◌≡◌, ◌≢◌, ℕ, ◌^◌, ◌<◌, ◌≤◌, Bool, true, ◌==◌, ◌&&◌, nat_le, if◌then◌else◌, IsTrue, List, [], ◌∷◌, ◌++◌, length, codes}
 use Rattle.std.specs.List.{list_all}
 use Rattle.std.specs.Fmt.{decimal}
 use Rattle.rb_model.specs.NameTest.{is_name}
-use Rattle.rb_model.specs.Reply.{Answer, Done, Waits, Numbered, Given, End, Refused}
+use Rattle.rb_model.specs.Reply.{Action, Insert, Update, Delete, Answer, Done, Waits, Numbered, Given, End, Refused}
 use Rattle.rb_model.specs.declared.refusal.Refusal.{Refusal}
-use Rattle.rb_model.specs.declared.refusal.Refusal.TheVariants.{NoSession, NoTable, ValueTooLong, Duplicate, NoCursor, CursorThere, TooManyCursors, DiskFault, Stopped, LogFull}
+use Rattle.rb_model.specs.declared.refusal.Refusal.TheVariants.{NoSession, NoTable, ValueTooLong, Duplicate, NotFound, BlockFull, NoCursor, CursorThere, TooManyCursors, WornOut, DiskFault, Stopped, LogFull}
 
 -- a byte at the front of the first line
 abbrev pub onto_first : ℕ → List (List ℕ) → List (List ℕ)
@@ -30,7 +30,7 @@ is_remark (b ∷ line) = b == 35
 
 -- a command as a line spells it
 pub data Command : Type 0 where
-  InsertLine : (session table key : ℕ) (value : List ℕ) → Command
+  WriteLine : (session table key : ℕ) (action : Action) → Command
   CommitLine : (session : ℕ) → Command
   OpenLine : (session : ℕ) (name : List ℕ) (table lo hi : ℕ) → Command
   FetchLine : (session : ℕ) (name : List ℕ) (count : ℕ) → Command
@@ -40,9 +40,21 @@ pub data Command : Type 0 where
 abbrev pub number : ℕ → List ℕ
 number n = 32 ∷ decimal n
 
+-- the word of a write
+abbrev pub action_word : Action → List ℕ
+action_word (Insert value) = codes "insert"
+action_word (Update value) = codes "update"
+action_word Delete = codes "delete"
+
+-- what stands behind its key
+abbrev pub action_rest : Action → List ℕ
+action_rest (Insert value) = 32 ∷ value
+action_rest (Update value) = 32 ∷ value
+action_rest Delete = []
+
 -- the one spelling of a command
 abbrev pub spelling : Command → List ℕ
-spelling (InsertLine s table key value) = codes "insert" ++ number s ++ number table ++ number key ++ 32 ∷ value
+spelling (WriteLine s table key action) = action_word action ++ number s ++ number table ++ number key ++ action_rest action
 spelling (CommitLine s) = codes "commit" ++ number s
 spelling (OpenLine s name table lo hi) = codes "open" ++ number s ++ 32 ∷ name ++ number table ++ number lo ++ number hi
 spelling (FetchLine s name count) = codes "fetch" ++ number s ++ 32 ∷ name ++ number count
@@ -52,9 +64,15 @@ spelling (CloseLine s name) = codes "close" ++ number s ++ 32 ∷ name
 abbrev pub is_value : List ℕ → Bool
 is_value value = nat_le 1 (length value) && list_all (λ b. nat_le 33 b && nat_le b 126) value
 
+-- the value of a write, where it has one, is visible
+abbrev pub IsAction : Action → Type 0
+IsAction (Insert value) = IsTrue (is_value value)
+IsAction (Update value) = IsTrue (is_value value)
+IsAction Delete = Unit {0}
+
 -- the parts of a command are in range
 abbrev pub IsCommand : Command → Type 0
-IsCommand (InsertLine s table key value) = (s < 2 ^ 16) × (table < 2 ^ 16) × (key < 2 ^ 64) × IsTrue (is_value value)
+IsCommand (WriteLine s table key action) = (s < 2 ^ 16) × (table < 2 ^ 16) × (key < 2 ^ 64) × IsAction action
 IsCommand (CommitLine s) = s < 2 ^ 16
 IsCommand (OpenLine s name table lo hi) =
     (s < 2 ^ 16) × IsTrue (is_name name) × (table < 2 ^ 16) × (lo < 2 ^ 64) × (hi < 2 ^ 64)
@@ -75,9 +93,12 @@ refusal_text NoSession = codes "no session"
 refusal_text NoTable = codes "no table"
 refusal_text ValueTooLong = codes "value too long"
 refusal_text Duplicate = codes "duplicate"
+refusal_text NotFound = codes "not found"
+refusal_text BlockFull = codes "block full"
 refusal_text NoCursor = codes "no cursor"
 refusal_text CursorThere = codes "cursor there"
 refusal_text TooManyCursors = codes "too many cursors"
+refusal_text WornOut = codes "worn out"
 refusal_text DiskFault = codes "disk fault"
 refusal_text Stopped = codes "stopped"
 refusal_text LogFull = codes "log full"

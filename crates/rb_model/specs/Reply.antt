@@ -1,14 +1,21 @@
 -- Which answers a call may have, and the state after it.
-use Rattle.std.specs.Prelude.{◌≡◌, ◌⊎◌, ℕ, suc, ◌+◌, ◌-◌, Bool, true, false, not, ◌&&◌, ◌==◌, nat_lt, nat_le, if◌then◌else◌, is_some, is_none, List, [], ◌∷◌, ◌++◌, length, sum_by, slice_get, Option, None, Some, All}
-use Rattle.rb_model.specs.Change.{Change, Kind, Put, Gone, Held, put}
-use Rattle.rb_model.specs.Rows.{TableRow, Commits, last_number, rows_at, over, has_row}
-use Rattle.rb_model.specs.State.{State, Session, Cursor, is_session, is_table, session_of, with_session, cursor_of, cursor_rows, with_taken, without_cursor}
+use Rattle.std.specs.Prelude.{◌≡◌, ◌⊎◌, ℕ, ◌+◌, ◌^◌, Bool, true, false, not, ◌&&◌, nat_lt, nat_le, if◌then◌else◌, is_some, is_none, List, [], ◌∷◌, ◌++◌, length, slice_get, Option, None, Some}
+use Rattle.rb_model.specs.Change.{Change, put, gone}
+use Rattle.rb_model.specs.Full.{full_block}
+use Rattle.rb_model.specs.Rows.{TableRow, last_number, rows_at, over, has_row}
+use Rattle.rb_model.specs.State.{State, Cursor, is_session, is_table, session_of, with_session, cursor_of, cursor_rows, with_taken, without_cursor}
 use Rattle.rb_model.specs.declared.refusal.Refusal.{Refusal}
-use Rattle.rb_model.specs.declared.refusal.Refusal.TheVariants.{NoSession, NoTable, ValueTooLong, Duplicate, NoCursor, CursorThere, TooManyCursors, DiskFault, Stopped, LogFull}
+use Rattle.rb_model.specs.declared.refusal.Refusal.TheVariants.{NoSession, NoTable, ValueTooLong, Duplicate, NotFound, BlockFull, NoCursor, CursorThere, TooManyCursors, WornOut, DiskFault, Stopped, LogFull}
+
+-- what a write does to its key
+pub data Action : Type 0 where
+  Insert : (value : List ℕ) → Action
+  Update : (value : List ℕ) → Action
+  Delete : Action
 
 -- a call of one session
 pub data Call : Type 0 where
-  Insert : (session table key : ℕ) (value : List ℕ) → Call
+  Write : (session table key : ℕ) (action : Action) → Call
   Commit : (session : ℕ) → Call
   OpenCursor : (session : ℕ) (name : List ℕ) (table lo hi : ℕ) → Call
   Fetch : (session : ℕ) (name : List ℕ) → Call
@@ -27,15 +34,23 @@ pub data Answer : Type 0 where
   End : Answer
   Refused : Refusal → Answer
 
--- the bytes that a change takes in a record of the log
-abbrev pub kind_length : Kind → ℕ
-kind_length (Put value) = 11 + length value
-kind_length Gone = 11
-kind_length Held = 11
+-- an insert makes a row, and each other write needs the one that is there
+abbrev pub adds : Action → Bool
+adds (Insert value) = true
+adds (Update value) = false
+adds Delete = false
 
--- the bytes of a record of these changes
-abbrev pub record_length : List Change → ℕ
-record_length changes = 2 + sum_by (λ change. kind_length change.kind) changes
+-- the value has more bytes than a row
+abbrev pub is_too_long : Action → Bool
+is_too_long (Insert value) = nat_lt 80 (length value)
+is_too_long (Update value) = nat_lt 80 (length value)
+is_too_long Delete = false
+
+-- the change that a write makes
+abbrev pub change_by : ℕ → ℕ → Action → Change
+change_by table key (Insert value) = put table key value
+change_by table key (Update value) = put table key value
+change_by table key Delete = gone table key
 
 -- the rows that a session sees now: the committed ones with its own changes over them
 abbrev pub rows_now : State → ℕ → List TableRow
@@ -47,25 +62,28 @@ is_empty (c ∷ changes) = false
 
 -- The tests of a call in their order, each with what it refuses. After the early ones the disk may have failed.
 abbrev pub early_tests : State → Call → List (Bool × Refusal)
-early_tests h (Insert s table key value) =
+early_tests h (Write s table key action) =
     (h.stopped, Stopped) ∷ (not (is_session h s), NoSession) ∷ (not (is_table h table), NoTable)
-    ∷ (nat_lt 80 (length value), ValueTooLong) ∷ []
+    ∷ (is_too_long action, ValueTooLong) ∷ []
 early_tests h (Commit s) = (h.stopped, Stopped) ∷ (not (is_session h s), NoSession) ∷ []
 early_tests h (OpenCursor s name table lo hi) =
     (h.stopped, Stopped) ∷ (not (is_session h s), NoSession) ∷ (not (is_table h table), NoTable) ∷ []
 early_tests h (Fetch s name) = (h.stopped, Stopped) ∷ (not (is_session h s), NoSession) ∷ []
 early_tests h (CloseCursor s name) = (h.stopped, Stopped) ∷ (not (is_session h s), NoSession) ∷ []
 
--- room: how many more records the log has room for
-abbrev pub later_tests : State → ℕ → Call → List (Bool × Refusal)
-later_tests h room (Insert s table key value) =
-    (has_row table key (rows_now h s), Duplicate)
-    ∷ (nat_lt 2000 (record_length ((session_of h s).own ++ put table key value ∷ [])), LogFull) ∷ []
-later_tests h room (Commit s) = (not (is_empty (session_of h s).own) && (room == 0), LogFull) ∷ []
-later_tests h room (OpenCursor s name table lo hi) =
+-- logged: the last log number given; room: how many more groups the log has room for. A write leaves room for the
+-- group of its commit.
+abbrev pub later_tests : State → ℕ → ℕ → Call → List (Bool × Refusal)
+later_tests h logged room (Write s table key action) =
+    (adds action && has_row table key (rows_now h s), Duplicate)
+    ∷ (not (adds action) && not (has_row table key (rows_now h s)), NotFound)
+    ∷ (adds action && full_block h table key, BlockFull)
+    ∷ (nat_le (2 ^ 60) logged, WornOut) ∷ (nat_lt room 2, LogFull) ∷ []
+later_tests h logged room (Commit s) = []
+later_tests h logged room (OpenCursor s name table lo hi) =
     (is_some (cursor_of h s name), CursorThere) ∷ (nat_le 16 (length (session_of h s).cursors), TooManyCursors) ∷ []
-later_tests h room (Fetch s name) = (is_none (cursor_of h s name), NoCursor) ∷ []
-later_tests h room (CloseCursor s name) = (is_none (cursor_of h s name), NoCursor) ∷ []
+later_tests h logged room (Fetch s name) = (is_none (cursor_of h s name), NoCursor) ∷ []
+later_tests h logged room (CloseCursor s name) = (is_none (cursor_of h s name), NoCursor) ∷ []
 
 -- a row as the answer to a fetch, or the end
 abbrev pub given : Option TableRow → Answer
@@ -79,7 +97,7 @@ next_row h (Some cursor) = given (slice_get (cursor_rows h cursor) cursor.taken)
 
 -- what a call answers that no test refuses
 abbrev pub granted : State → Call → Answer
-granted h (Insert s table key value) = Done
+granted h (Write s table key action) = Done
 granted h (Commit s) = if is_empty (session_of h s).own then Done else Numbered (last_number h.commits + 1)
 granted h (OpenCursor s name table lo hi) = Done
 granted h (Fetch s name) = next_row h (cursor_of h s name)
@@ -96,14 +114,14 @@ none_applies [] = true
 none_applies (test ∷ tests) = not test.0 && none_applies tests
 
 -- the first test that applies, or else the good answer
-abbrev pub expected : State → ℕ → Call → Answer
-expected h room call = first_of (early_tests h call ++ later_tests h room call) (granted h call)
+abbrev pub expected : State → ℕ → ℕ → Call → Answer
+expected h logged room call = first_of (early_tests h call ++ later_tests h logged room call) (granted h call)
 
 -- The call may have this answer: what is expected, or a fault of the disk in the place of any answer that comes
 -- after the early tests.
-abbrev pub Reply : State → ℕ → Call → Answer → Type 0
-Reply h room call r =
-    (r ≡ expected h room call)
+abbrev pub Reply : State → ℕ → ℕ → Call → Answer → Type 0
+Reply h logged room call r =
+    (r ≡ expected h logged room call)
     ⊎ ((r ≡ Refused DiskFault) × (none_applies (early_tests h call) ≡ true))
 
 abbrev pub with_own : State → ℕ → List Change → State
@@ -123,15 +141,18 @@ after_refusal h NoSession = h
 after_refusal h NoTable = h
 after_refusal h ValueTooLong = h
 after_refusal h Duplicate = h
+after_refusal h NotFound = h
+after_refusal h BlockFull = h
 after_refusal h NoCursor = h
 after_refusal h CursorThere = h
 after_refusal h TooManyCursors = h
+after_refusal h WornOut = h
 after_refusal h Stopped = h
 after_refusal h LogFull = h
 
 -- the state after a call that did what it was asked for
 abbrev pub after_grant : State → Call → State
-after_grant h (Insert s table key value) = with_own h s ((session_of h s).own ++ put table key value ∷ [])
+after_grant h (Write s table key action) = with_own h s ((session_of h s).own ++ change_by table key action ∷ [])
 after_grant h (Commit s) = if is_empty (session_of h s).own then h else committed h s
 after_grant h (OpenCursor s name table lo hi) =
     with_cursors h s ((session_of h s).cursors ++ record {
@@ -154,3 +175,27 @@ after h call (Waits on) = h
 after h call (Numbered n) = after_grant h call
 after h call (Given key value) = after_grant h call
 after h call End = h
+
+abbrev pub is_done : Answer → Bool
+is_done Done = true
+is_done (Waits on) = false
+is_done (Numbered n) = false
+is_done (Given key value) = false
+is_done End = false
+is_done (Refused why) = false
+
+abbrev pub is_numbered : Answer → Bool
+is_numbered Done = false
+is_numbered (Waits on) = false
+is_numbered (Numbered n) = true
+is_numbered (Given key value) = false
+is_numbered End = false
+is_numbered (Refused why) = false
+
+-- How many groups a call with that answer gives the log: a write that is done one, and a commit that takes a number one.
+abbrev pub groups : Call → Answer → ℕ
+groups (Write s table key action) r = if is_done r then 1 else 0
+groups (Commit s) r = if is_numbered r then 1 else 0
+groups (OpenCursor s name table lo hi) r = 0
+groups (Fetch s name) r = 0
+groups (CloseCursor s name) r = 0

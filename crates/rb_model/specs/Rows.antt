@@ -1,6 +1,6 @@
 -- Rows as a list in scan order, and what changes and commits make of them.
-use Rattle.std.specs.Prelude.{ℕ, ◌+◌, ◌-◌, ◌%◌, Bool, true, false, not, ◌&&◌, ◌||◌, ◌==◌, nat_lt, nat_le, if◌then◌else◌, List, [], ◌∷◌, length, take, filter}
-use Rattle.std.specs.List.{flat_map, list_any}
+use Rattle.std.specs.Prelude.{◌≡◌, ℕ, ◌+◌, ◌-◌, ◌%◌, Bool, true, not, ◌&&◌, ◌||◌, ◌==◌, nat_lt, nat_le, if◌then◌else◌, List, [], ◌∷◌, length, take, filter, Option, None, Some}
+use Rattle.std.specs.List.{flat_map, list_any, AllByRecursion}
 use Rattle.rb_model.specs.Change.{Change, Kind, Put, Gone, Held}
 
 pub record TableRow : Type 0 where
@@ -24,6 +24,16 @@ is_row_of table key row = row.table == table && row.key == key
 
 abbrev pub has_row : ℕ → ℕ → List TableRow → Bool
 has_row table key rows = list_any (is_row_of table key) rows
+
+-- the value of a key, where it has a row
+abbrev pub value_of : ℕ → ℕ → List TableRow → Option (List ℕ)
+value_of table key [] = None
+value_of table key (row ∷ rows) = if is_row_of table key row then Some row.value else value_of table key rows
+
+-- the rows stand in scan order, each key once
+abbrev pub InOrder : ℕ → List TableRow → Type 0
+InOrder blocks [] = Unit {0}
+InOrder blocks (row ∷ rows) = AllByRecursion (λ other. row_before blocks row other ≡ true) rows × InOrder blocks rows
 
 -- the rows with this one in its place
 abbrev pub with_row : ℕ → TableRow → List TableRow → List TableRow

@@ -1,10 +1,9 @@
 -- The state that the sessions share, as the abstract machine sees it.
-use Rattle.std.specs.Prelude.{ℕ, suc, ◌+◌, ◌-◌, Bool, true, false, ◌&&◌, nat_le, cond, List, [], ◌∷◌, length, slice_index_or, slice_set, find, Option, None, Some}
-use Rattle.std.specs.List.{flat_map}
+use Rattle.std.specs.Prelude.{ℕ, suc, ◌-◌, Bool, false, ◌&&◌, nat_le, cond, List, [], ◌∷◌, length, slice_index_or, slice_set, find, Option}
 use Rattle.std.specs.Str.{bytes_eq}
 use Rattle.rb_base.specs.declared.ids.Shape.{Shape}
 use Rattle.rb_model.specs.Change.{Change}
-use Rattle.rb_model.specs.Rows.{Commits, TableRow, answer, over}
+use Rattle.rb_model.specs.Rows.{Commits, TableRow, answer}
 
 pub record Cursor : Type 0 where
   pub name : List ℕ
@@ -70,22 +69,11 @@ abbrev pub without_cursor : List ℕ → List Cursor → List Cursor
 without_cursor name [] = []
 without_cursor name (c ∷ cursors) = cond (bytes_eq c.name name) cursors (c ∷ without_cursor name cursors)
 
--- the state that a file of these commits opens to: they are the base, and nothing is under way
-abbrev pub opened : Shape → List (List Change) → State
-opened shape records = record {
+-- the state that a file of that commit number and these rows opens to: they are the base, and nothing is under way
+abbrev pub opened : Shape → ℕ → List TableRow → State
+opened shape number rows = record {
   shape = shape;
-  commits = record { base = length records; rows = over shape.blocks [] (flat_map (λ changes. changes) records); list = [] };
+  commits = record { base = number; rows = rows; list = [] };
   sessions = fresh_session ∷ [];
   stopped = false;
-}
-
--- the session's changes as one more commit of the base
-abbrev pub found_more : State → State
-found_more h = record h {
-  commits = record {
-    base = h.commits.base + 1;
-    rows = over h.shape.blocks h.commits.rows (session_of h 1).own;
-    list = h.commits.list;
-  };
-  sessions = fresh_session ∷ [];
 }

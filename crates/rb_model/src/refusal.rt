@@ -16,6 +16,12 @@ pub enum Refusal {
     /// The key is there already.
     #[error("duplicate")]
     Duplicate,
+    /// The key has no row.
+    #[error("not found")]
+    NotFound,
+    /// Sixteen other keys of the key's block are in use.
+    #[error("block full")]
+    BlockFull,
     /// No open cursor of the session has that name.
     #[error("no cursor")]
     NoCursor,
@@ -25,6 +31,9 @@ pub enum Refusal {
     /// Sixteen cursors of the session are open.
     #[error("too many cursors")]
     TooManyCursors,
+    /// 2^60 groups or more are logged.
+    #[error("worn out")]
+    WornOut,
     /// A call of the disk failed. The engine is stopped.
     #[error("disk fault")]
     DiskFault,
