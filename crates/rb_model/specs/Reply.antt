@@ -71,14 +71,17 @@ early_tests h (OpenCursor s name table lo hi) =
 early_tests h (Fetch s name) = (h.stopped, Stopped) ∷ (not (is_session h s), NoSession) ∷ []
 early_tests h (CloseCursor s name) = (h.stopped, Stopped) ∷ (not (is_session h s), NoSession) ∷ []
 
--- logged: the last log number given; room: how many more groups the log has room for. A write leaves room for the
--- group of its commit.
+-- the tests of a write that ask the log: its numbers are used up, or it has no room for the write and its commit
+abbrev pub log_tests : ℕ → ℕ → List (Bool × Refusal)
+log_tests logged room = (nat_le (2 ^ 60) logged, WornOut) ∷ (nat_lt room 2, LogFull) ∷ []
+
+-- logged: the last log number given; room: how many more groups the log has room for
 abbrev pub later_tests : State → ℕ → ℕ → Call → List (Bool × Refusal)
 later_tests h logged room (Write s table key action) =
     (adds action && has_row table key (rows_now h s), Duplicate)
     ∷ (not (adds action) && not (has_row table key (rows_now h s)), NotFound)
     ∷ (adds action && full_block h table key, BlockFull)
-    ∷ (nat_le (2 ^ 60) logged, WornOut) ∷ (nat_lt room 2, LogFull) ∷ []
+    ∷ log_tests logged room
 later_tests h logged room (Commit s) = []
 later_tests h logged room (OpenCursor s name table lo hi) =
     (is_some (cursor_of h s name), CursorThere) ∷ (nat_le 16 (length (session_of h s).cursors), TooManyCursors) ∷ []

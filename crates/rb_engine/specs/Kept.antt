@@ -1,0 +1,93 @@
+-- What the machine sees of the engine's memory.
+use Rattle.std.specs.Prelude.{◌≡◌, ℕ, zero, suc, ◌+◌, ◌-◌, ◌^◌, ◌<◌, ◌≤◌, Bool, true, false, List, [], ◌∷◌, length, take, drop, map}
+use Rattle.std.specs.List.{AllByRecursion}
+use Rattle.std.specs.Str.{bytes_eq}
+use Rattle.rb_base.specs.declared.ids.Shape.{Shape}
+use Rattle.rb_model.specs.Change.{Change}
+use Rattle.rb_model.specs.Rows.{TableRow, over}
+use Rattle.rb_model.specs.State.{State, Cursor}
+use Rattle.rb_engine.specs.declared.cursor.OpenCursor.{OpenCursor}
+use Rattle.rb_versions.specs.declared.change.RowChange.{RowChange}
+use Rattle.rb_versions.specs.Changes.{changes_of}
+use Rattle.rb_versions.specs.Next.{asked, given_count}
+
+-- the state of the machine, and how many more changes there is room for
+pub record Kept : Type 0 where
+  pub state : State
+  pub spare : ℕ
+
+-- where the last of these parts ends, the first of which begins at start
+abbrev pub last_end : ℕ → List ℕ → ℕ
+last_end start [] = start
+last_end start (end ∷ ends) = last_end end ends
+
+-- each part ends behind where it begins
+abbrev pub Rising : ℕ → List ℕ → Type 0
+Rising start [] = Unit {0}
+Rising start (end ∷ ends) = (start < end) × Rising end ends
+
+-- the changes from start to before end
+abbrev pub between : ℕ → ℕ → List RowChange → List RowChange
+between start end changes = take (end - start) (drop start changes)
+
+-- the changes cut into commits at their ends
+abbrev pub cut : ℕ → List ℕ → List RowChange → List (List Change)
+cut start [] changes = []
+cut start (end ∷ ends) changes = changes_of (between start end changes) ∷ cut end ends changes
+
+-- the rows that the first changes make
+abbrev pub rows_of : ℕ → ℕ → List RowChange → List TableRow
+rows_of blocks count changes = over blocks [] (changes_of (take count changes))
+
+-- where the changes of the commits up to n end
+abbrev pub end_at : ℕ → ℕ → List ℕ → ℕ → ℕ
+end_at base base_length ends n = last_end base_length (take (n - base) ends)
+
+-- A cursor sees the first `visible` changes: those of the commits up to its number, and its transaction's own.
+abbrev pub cursor_view : ℕ → ℕ → ℕ → List ℕ → List RowChange → OpenCursor → Cursor
+cursor_view blocks base base_length ends changes c = record {
+  name = c.name.items;
+  table = c.table;
+  lo = c.lo;
+  hi = c.hi;
+  number = c.number;
+  own = changes_of (drop (end_at base base_length ends c.number) (take c.visible changes));
+  taken = given_count blocks c.last (asked c.table c.lo c.hi (rows_of blocks c.visible changes));
+}
+
+abbrev pub state_view : Shape → ℕ → ℕ → List ℕ → List RowChange → List OpenCursor → Bool → State
+state_view shape base base_length ends changes cursors stopped = record {
+  shape = shape;
+  commits = record { base = base; rows = rows_of shape.blocks base_length changes; list = cut base_length ends changes };
+  sessions = record {
+    own = changes_of (drop (last_end base_length ends) changes);
+    cursors = map (cursor_view shape.blocks base base_length ends changes) cursors;
+  } ∷ [];
+  stopped = stopped;
+}
+
+-- a cursor's number is that of the base or of a commit after it, and it sees the changes up to there
+pub record IsOpened (base base_length : ℕ) (ends : List ℕ) (count : ℕ) (c : OpenCursor) : Type 0 where
+  pub no_earlier : base ≤ c.number
+  pub no_later : c.number ≤ base + length ends
+  pub sees_commits : end_at base base_length ends c.number ≤ c.visible
+  pub within : c.visible ≤ count
+
+-- The memory is in order, and has room for as many commits as changes, since each commit has a change.
+pub record IsKept (shape : Shape) (base base_length : ℕ) (ends : List ℕ) (changes : List RowChange) (cursors : List OpenCursor) (room ends_room : ℕ) : Type 0 where
+  pub some_blocks : 0 < shape.blocks
+  pub few_before : base ≤ 2 ^ 62
+  pub few_changes : room ≤ 2 ^ 32
+  pub in_order : Rising base_length ends
+  pub within : last_end base_length ends ≤ length changes
+  pub room_for_ends : room ≤ ends_room
+  pub each_cursor : AllByRecursion (IsOpened base base_length ends (length changes)) cursors
+
+-- the first place at which a test passes
+abbrev pub IsPlace : (OpenCursor → Bool) → List OpenCursor → ℕ → Type 0
+IsPlace p [] i = ⊥
+IsPlace p (c ∷ cursors) zero = p c ≡ true
+IsPlace p (c ∷ cursors) (suc i) = (p c ≡ false) × IsPlace p cursors i
+
+abbrev pub has_name : List ℕ → OpenCursor → Bool
+has_name name c = bytes_eq c.name.items name

@@ -1,0 +1,8 @@
+//! The engine over a store of blocks: one session that inserts, updates, deletes, commits and reads by cursors. The
+//! shell runs the lines of a script by it.
+#![tactic(auto)]
+
+mod cursor;
+mod state;
+
+pub use state::EngineState;

@@ -1,0 +1,464 @@
+//! The engine's state in memory: one session, its cursors, the rows found at opening and the changes since. The engine
+//! owns one.
+ghost use Rattle.std.specs.Prelude.{◌≡◌, ◌≢◌, ℕ, ◌+◌, ◌^◌, ◌<◌, ◌≤◌, false, [], ◌∷◌, length, true, not, IsOk, IfOk, IfErr, IfSome, IfNone, slice_index_or, slice_set};
+ghost use Rattle.rb_model.specs.State.{opened, session_of};
+ghost use Rattle.rb_model.specs.Rows.{has_row, last_number, with_row};
+ghost use Rattle.rb_model.specs.Full.{full_block};
+ghost use Rattle.rb_model.specs.Reply.{adds, change_by, expected, after, after_grant, committed, first_of, log_tests, rows_now};
+ghost use Rattle.rb_model.specs.Reply as call;
+ghost use Rattle.rb_model.specs.Answers.{action_of, plain_answer, fetch_answer, LeavesRow};
+ghost use Rattle.rb_model.specs.Names.{name_text};
+ghost use Rattle.rb_versions.specs.Changes.{change_of, makes_row, row_of};
+ghost use Rattle.rb_write.specs.Writes.{IsShort};
+ghost use Rattle.rb_engine.specs.Kept.{has_name, IsPlace, last_end};
+
+use crate::cursor::OpenCursor;
+use arrayvec::ArrayVec;
+use rb_base::{NoMemory, Scn, Shape};
+use rb_model::{Fetched, Name, Op, Refusal, Row};
+use rb_versions::{Query, RowChange, RowKind, Versions};
+use std::alloc::Global;
+use std::marker::Model;
+
+/// The only session of this engine.
+const SESSION: u16 = 1;
+
+/// The most cursors that are open.
+const CURSORS: usize = 16;
+
+/// The most bytes of a value.
+const VALUE_BYTES: usize = 80;
+
+/// One session over the rows found at opening and the commits since. Its room is taken when it is made, so no later call
+/// takes memory.
+#[derive(Drop)]
+pub struct EngineState {
+    shape: Shape,
+    /// The number of the last commit at opening.
+    base: Scn,
+    /// How many rows were found at opening: the first changes put them.
+    base_length: usize,
+    versions: Versions,
+    /// Where the changes of each commit since end.
+    ends: Vec<usize>,
+    cursors: ArrayVec<OpenCursor, 16>,
+    stopped: bool,
+}
+
+impl Model for EngineState {
+    ghost use Rattle.std.specs.Prelude.{◌≡◌, ◌-◌, length, vec_capacity};
+    ghost use Rattle.rb_engine.specs.Kept.{Kept, IsKept, state_view};
+
+    ghost Value = { Kept };
+
+    ghost view = { λ a. record { state = state_view a.shape a.base a.base_length a.ends.items a.versions.changes a.cursors.items a.stopped; spare = a.versions.room - length a.versions.changes } };
+
+    ghost invariant = { λ a. IsKept a.shape a.base a.base_length a.ends.items a.versions.changes a.cursors.items a.versions.room (vec_capacity a.ends)
+        × (a.versions.blocks ≡ a.shape.blocks) };
+}
+
+/// The place of the cursor of a name.
+fn position_of(cursors: &[OpenCursor], name: &[u8]) -> Option<usize>
+    ensures found { IfSome result (λ i. IsPlace (has_name name.now) cursors.now i) }
+    ensures within { IfSome result (λ i. i < length cursors.now) }
+    ensures none { IfNone result ((d : OpenCursor) (k : ℕ) → k < length cursors.now → has_name name.now (slice_index_or cursors.now k d) ≡ false) }
+{
+    for (i, cursor) in cursors.iter().enumerate() {
+        if cursor.name.as_slice() == name {
+            return Some(i);
+        }
+    }
+    None
+}
+
+/// The bytes of a name, to keep.
+fn name_bytes(name: &Name) -> ArrayVec<u8, 16>
+    ensures { result.items ≡ name_text name.now }
+{
+    let mut bytes = ArrayVec::new();
+    if bytes.try_extend_from_slice(name.as_bytes()).is_err() {
+        unreachable!()
+    }
+    bytes
+}
+
+/// Puts a change's key and value into the caller's row, where it makes a row.
+fn fill(row: &mut Row, change: &RowChange)
+    requires { makes_row change.now ≡ true }
+    ensures { row_of change.now ≡ Some (record { table = change.now.table; key = row.new.key; value = row.new.value.items }) }
+{
+    let RowKind::Put(value) = &change.kind else {
+        unreachable!()
+    };
+    row.key = change.key;
+    row.value.clear();
+    if row.value.try_extend_from_slice(value.as_slice()).is_err() {
+        unreachable!()
+    }
+}
+
+/// Notes the key of the last row that a cursor gave.
+fn mark_given(cursors: &mut [OpenCursor], place: usize, key: u64)
+    requires { place < length cursors.old }
+    ensures { (d : OpenCursor) → cursors.new ≡ slice_set cursors.old place (record (slice_index_or cursors.old place d) { last = Some key }) }
+{
+    cursors[place].last = Some(key);
+}
+
+/// How many changes each open cursor sees; 0 for those that aren't open.
+fn seen_counts(cursors: &[OpenCursor]) -> [usize; CURSORS] {
+    let mut counts = [0; CURSORS];
+    for (count, cursor) in counts.iter_mut().zip(cursors) {
+        *count = cursor.visible;
+    }
+    counts
+}
+
+/// Where the changes of the last commit end.
+fn last_end_of(base_length: usize, ends: &[usize]) -> usize
+    ensures { result ≡ last_end base_length ends.now }
+{
+    match ends.last() {
+        Some(end) => *end,
+        None => base_length,
+    }
+}
+
+/// How many bytes the value of a write has.
+fn value_length(op: Op<'_>) -> usize
+    ensures { result ≤ 80 → IsShort (Some op) }
+    ensures long { 80 < result → call.is_too_long (action_of op) ≡ true }
+    ensures short { result ≤ 80 → call.is_too_long (action_of op) ≡ false }
+{
+    match op {
+        Op::Insert(value) | Op::Update(value) => value.len(),
+        Op::Delete => 0,
+    }
+}
+
+/// Whether a write makes a row where there is none.
+fn is_insert(op: Op<'_>) -> bool
+    ensures { result ≡ adds (action_of op) }
+{
+    matches!(op, Op::Insert(_))
+}
+
+/// The change that a write makes.
+fn change_of_write(table: u16, key: u64, op: Op<'_>) -> RowChange
+    requires { IsShort (Some op) }
+    ensures { change_of result ≡ change_by table key (action_of op) }
+{
+    match op {
+        Op::Insert(value) | Op::Update(value) => RowChange::put(table, key, value),
+        Op::Delete => RowChange::gone(table, key),
+    }
+}
+
+impl EngineState {
+    /// The state of a file of that commit number, before its rows are told, with room for so many rows and changes.
+    pub fn new(
+        alloc: Global,
+        shape: Shape,
+        number: Scn,
+        room: usize,
+    ) -> Result<EngineState, NoMemory>
+        requires blocks { 0 < shape.blocks }
+        requires few_commits { number ≤ 2 ^ 62 }
+        requires few_changes { room ≤ 2 ^ 32 }
+        ensures state { IfOk result (λ kept. kept.state ≡ opened shape number []) }
+        ensures spare { IfOk result (λ kept. kept.spare ≡ room) }
+    {
+        let versions = Versions::new(alloc, shape.blocks, room)?;
+        let Ok(ends) = Vec::with_capacity(alloc, room) else {
+            return Err(NoMemory);
+        };
+        Ok(EngineState {
+            shape,
+            base: number,
+            base_length: 0,
+            versions,
+            ends,
+            cursors: ArrayVec::new(),
+            stopped: false,
+        })
+    }
+
+    /// Takes one of the rows that the file was found with. No call but `found` came before.
+    pub fn found(&mut self, table: u16, key: u64, value: &[u8])
+        requires short { length value.now ≤ 80 }
+        requires room { 0 < self.old.spare }
+        requires opening { self.old.state ≡ opened self.old.state.shape self.old.state.commits.base self.old.state.commits.rows }
+        ensures state { self.new.state ≡ opened self.old.state.shape self.old.state.commits.base (with_row self.old.state.shape.blocks (record { table = table; key = key; value = value.now }) self.old.state.commits.rows) }
+        ensures spare { self.new.spare + 1 ≡ self.old.spare }
+    {
+        self.versions.push(RowChange::put(table, key, value), &[]);
+        self.base_length = self.versions.changes().len();
+    }
+
+    /// The number of the last commit.
+    pub fn number(&self) -> Scn
+        ensures number { result ≡ last_number self.now.state.commits }
+        ensures few { result < 2 ^ 63 }
+    {
+        self.base + self.ends.as_slice().len() as u64
+    }
+
+    /// How many more changes there is room for.
+    pub fn spare(&self) -> usize
+        ensures { result ≡ self.now.spare }
+    {
+        self.versions.spare()
+    }
+
+    /// Whether a call of the engine's store has failed.
+    pub fn is_stopped(&self) -> bool
+        ensures { result ≡ self.now.state.stopped }
+    {
+        self.stopped
+    }
+
+    /// Why the session, the table or the value stands in the way of a write, where it does.
+    fn early_refusal(&self, s: u16, table: u16, op: Op<'_>) -> Option<Refusal>
+        ensures refused { IfSome result (λ why. (logged room key : ℕ) → call.Refused why ≡ expected self.now.state logged room (call.Write s table key (action_of op))) }
+        ensures granted { IfNone result ((key : ℕ) → call.none_applies (call.early_tests self.now.state (call.Write s table key (action_of op))) ≡ true) }
+        ensures other { IfSome result (λ why. why ≢ Refusal.DiskFault) }
+        ensures session { IfNone result (s ≡ 1) }
+        ensures table { IfNone result ((1 ≤ table) × (table ≤ self.now.state.shape.tables)) }
+        ensures short { IfNone result (IsShort (Some op)) }
+        ensures going { IfNone result (self.now.state.stopped ≡ false) }
+    {
+        if self.stopped {
+            return Some(Refusal::Stopped);
+        }
+        if s != SESSION {
+            return Some(Refusal::NoSession);
+        }
+        if table < 1 || table > self.shape.tables {
+            return Some(Refusal::NoTable);
+        }
+        if value_length(op) > VALUE_BYTES {
+            return Some(Refusal::ValueTooLong);
+        }
+        None
+    }
+
+    /// Why a write is refused, whatever the log: its tests but the last two.
+    pub fn write_refusal(&self, s: u16, table: u16, key: u64, op: Op<'_>) -> Option<Refusal>
+        ensures refused { IfSome result (λ why. (logged room : ℕ) → call.Refused why ≡ expected self.now.state logged room (call.Write s table key (action_of op))) }
+        ensures granted { IfNone result ((logged room : ℕ) → expected self.now.state logged room (call.Write s table key (action_of op)) ≡ first_of (log_tests logged room) call.Done) }
+        ensures early { IfNone result (call.none_applies (call.early_tests self.now.state (call.Write s table key (action_of op))) ≡ true) }
+        ensures other { IfSome result (λ why. why ≢ Refusal.DiskFault) }
+        ensures session { IfNone result (s ≡ 1) }
+        ensures table { IfNone result ((1 ≤ table) × (table ≤ self.now.state.shape.tables)) }
+        ensures short { IfNone result (IsShort (Some op)) }
+        ensures going { IfNone result (self.now.state.stopped ≡ false) }
+        ensures row { IfNone result (has_row table key (rows_now self.now.state 1) ≡ not (adds (action_of op))) }
+        ensures room { IfNone result (adds (action_of op) ≡ true → full_block self.now.state table key ≡ false) }
+    {
+        if let Some(why) = self.early_refusal(s, table, op) {
+            return Some(why);
+        }
+        let present = self
+            .versions
+            .is_present(table, key, self.versions.changes().len());
+        let committed = last_end_of(self.base_length, self.ends.as_slice());
+        if is_insert(op) && present {
+            return Some(Refusal::Duplicate);
+        }
+        if !is_insert(op) && !present {
+            return Some(Refusal::NotFound);
+        }
+        if is_insert(op) && self.versions.is_full(table, key, committed) {
+            return Some(Refusal::BlockFull);
+        }
+        None
+    }
+
+    /// Puts a write at the end of the transaction.
+    pub fn wrote(&mut self, table: u16, key: u64, op: Op<'_>)
+        requires room { 0 < self.old.spare }
+        requires short { IsShort (Some op) }
+        ensures state { self.new.state ≡ after_grant self.old.state (call.Write 1 table key (action_of op)) }
+        ensures shape { self.new.state.shape ≡ self.old.state.shape }
+        ensures commits { self.new.state.commits ≡ self.old.state.commits }
+        ensures stopped { self.new.state.stopped ≡ self.old.state.stopped }
+        ensures own { (session_of self.new.state 1).own ≡ (session_of self.old.state 1).own ++ change_by table key (action_of op) ∷ [] }
+        ensures spare { self.new.spare + 1 ≡ self.old.spare }
+    {
+        let kept = seen_counts(self.cursors.as_slice());
+        self.versions
+            .push(change_of_write(table, key, op), &kept);
+    }
+
+    /// Why a cursor isn't opened, where it isn't.
+    fn open_refusal(&self, s: u16, name: &Name, table: u16) -> Option<Refusal>
+        ensures refused { IfSome result (λ why. (logged room lo hi : ℕ) → call.Refused why ≡ expected self.now.state logged room (call.OpenCursor s (name_text name.now) table lo hi)) }
+        ensures granted { IfNone result ((logged room lo hi : ℕ) → call.Done ≡ expected self.now.state logged room (call.OpenCursor s (name_text name.now) table lo hi)) }
+        ensures other { IfSome result (λ why. why ≢ Refusal.DiskFault) }
+        ensures session { IfNone result (s ≡ 1) }
+        ensures few { IfNone result (length (session_of self.now.state 1).cursors < 16) }
+    {
+        if self.stopped {
+            return Some(Refusal::Stopped);
+        }
+        if s != SESSION {
+            return Some(Refusal::NoSession);
+        }
+        if table < 1 || table > self.shape.tables {
+            return Some(Refusal::NoTable);
+        }
+        if position_of(self.cursors.as_slice(), name.as_bytes()).is_some() {
+            return Some(Refusal::CursorThere);
+        }
+        if self.cursors.as_slice().len() >= CURSORS {
+            return Some(Refusal::TooManyCursors);
+        }
+        None
+    }
+
+    /// Opens a cursor over the rows as the session sees them now. It may be refused, and then nothing is changed.
+    pub fn open_cursor(
+        &mut self,
+        s: u16,
+        name: &Name,
+        table: u16,
+        lo: u64,
+        hi: u64,
+    ) -> Result<(), Refusal>
+        ensures answer { (logged room : ℕ) → plain_answer result ≡ expected self.old.state logged room (call.OpenCursor s (name_text name.now) table lo hi) }
+        ensures state { self.new.state ≡ after self.old.state (call.OpenCursor s (name_text name.now) table lo hi) (plain_answer result) }
+        ensures shape { self.new.state.shape ≡ self.old.state.shape }
+        ensures commits { self.new.state.commits ≡ self.old.state.commits }
+        ensures stopped { self.new.state.stopped ≡ self.old.state.stopped }
+        ensures own { (session_of self.new.state 1).own ≡ (session_of self.old.state 1).own }
+        ensures spare { self.new.spare ≡ self.old.spare }
+    {
+        if let Some(why) = self.open_refusal(s, name, table) {
+            return Err(why);
+        }
+        self.keep_cursor(name, table, lo, hi);
+        Ok(())
+    }
+
+    /// Adds a cursor that has given no row.
+    fn keep_cursor(&mut self, name: &Name, table: u16, lo: u64, hi: u64)
+        requires { length (session_of self.old.state 1).cursors < 16 }
+        ensures state { self.new.state ≡ after_grant self.old.state (call.OpenCursor 1 (name_text name.now) table lo hi) }
+        ensures shape { self.new.state.shape ≡ self.old.state.shape }
+        ensures commits { self.new.state.commits ≡ self.old.state.commits }
+        ensures stopped { self.new.state.stopped ≡ self.old.state.stopped }
+        ensures own { (session_of self.new.state 1).own ≡ (session_of self.old.state 1).own }
+        ensures spare { self.new.spare ≡ self.old.spare }
+    {
+        let cursor = OpenCursor {
+            name: name_bytes(name),
+            table,
+            lo,
+            hi,
+            number: self.number(),
+            visible: self.versions.changes().len(),
+            last: None,
+        };
+        self.cursors.push(cursor);
+    }
+
+    /// Gives the next row of a cursor into `row`, or the end. It may be refused, and then nothing is changed.
+    pub fn fetch(&mut self, s: u16, name: &Name, row: &mut Row) -> Result<Fetched, Refusal>
+        ensures answer { (logged room : ℕ) → fetch_answer result row.new ≡ expected self.old.state logged room (call.Fetch s (name_text name.now)) }
+        ensures state { self.new.state ≡ after self.old.state (call.Fetch s (name_text name.now)) (fetch_answer result row.new) }
+        ensures row { LeavesRow result row.old row.new }
+        ensures shape { self.new.state.shape ≡ self.old.state.shape }
+        ensures commits { self.new.state.commits ≡ self.old.state.commits }
+        ensures stopped { self.new.state.stopped ≡ self.old.state.stopped }
+        ensures own { (session_of self.new.state 1).own ≡ (session_of self.old.state 1).own }
+        ensures spare { self.new.spare ≡ self.old.spare }
+    {
+        if self.stopped {
+            return Err(Refusal::Stopped);
+        }
+        if s != SESSION {
+            return Err(Refusal::NoSession);
+        }
+        let Some(place) = position_of(self.cursors.as_slice(), name.as_bytes()) else {
+            return Err(Refusal::NoCursor);
+        };
+        let cursor = &self.cursors.as_slice()[place];
+        let query = Query {
+            table: cursor.table,
+            lo: cursor.lo,
+            hi: cursor.hi,
+            last: cursor.last,
+        };
+        let Some(next) = self.versions.next(cursor.visible, query) else {
+            return Ok(Fetched::End);
+        };
+        fill(row, next);
+        mark_given(self.cursors.as_mut_slice(), place, row.key);
+        Ok(Fetched::Row)
+    }
+
+    /// Closes the cursor of a name. It may be refused, and then nothing is changed.
+    pub fn close_cursor(&mut self, s: u16, name: &Name) -> Result<(), Refusal>
+        ensures answer { (logged room : ℕ) → plain_answer result ≡ expected self.old.state logged room (call.CloseCursor s (name_text name.now)) }
+        ensures state { self.new.state ≡ after self.old.state (call.CloseCursor s (name_text name.now)) (plain_answer result) }
+        ensures shape { self.new.state.shape ≡ self.old.state.shape }
+        ensures commits { self.new.state.commits ≡ self.old.state.commits }
+        ensures stopped { self.new.state.stopped ≡ self.old.state.stopped }
+        ensures own { (session_of self.new.state 1).own ≡ (session_of self.old.state 1).own }
+        ensures spare { self.new.spare ≡ self.old.spare }
+    {
+        if self.stopped {
+            return Err(Refusal::Stopped);
+        }
+        if s != SESSION {
+            return Err(Refusal::NoSession);
+        }
+        let Some(place) = position_of(self.cursors.as_slice(), name.as_bytes()) else {
+            return Err(Refusal::NoCursor);
+        };
+        self.cursors.remove(place);
+        Ok(())
+    }
+
+    /// Whether a commit of the session has changes to keep, or why it is refused.
+    pub fn check_commit(&self, s: u16) -> Result<bool, Refusal>
+        ensures refused { IfErr result (λ why. (logged room : ℕ) → call.Refused why ≡ expected self.now.state logged room (call.Commit s)) }
+        ensures other { IfErr result (λ why. why ≢ Refusal.DiskFault) }
+        ensures nothing { result ≡ Ok false → (logged room : ℕ) → call.Done ≡ expected self.now.state logged room (call.Commit s) }
+        ensures changes { result ≡ Ok true → (logged room : ℕ) → call.Numbered (last_number self.now.state.commits + 1) ≡ expected self.now.state logged room (call.Commit s) }
+        ensures session { IsOk result → s ≡ 1 }
+        ensures going { IsOk result → self.now.state.stopped ≡ false }
+        ensures some { result ≡ Ok true → 0 < length (session_of self.now.state 1).own }
+    {
+        if self.stopped {
+            return Err(Refusal::Stopped);
+        }
+        if s != SESSION {
+            return Err(Refusal::NoSession);
+        }
+        let committed = last_end_of(self.base_length, self.ends.as_slice());
+        Ok(committed < self.versions.changes().len())
+    }
+
+    /// Makes the transaction's changes one more commit, and answers its number. There are some.
+    pub fn commit(&mut self) -> Scn
+        requires { 0 < length (session_of self.old.state 1).own }
+        ensures number { result ≡ last_number self.old.state.commits + 1 }
+        ensures state { self.new.state ≡ committed self.old.state 1 }
+        ensures spare { self.new.spare ≡ self.old.spare }
+    {
+        let number = self.number() + 1;
+        let end = self.versions.changes().len();
+        let _ = self.ends.as_slice();
+        self.ends.push_reserved(end);
+        number
+    }
+
+    /// Stops the engine: a call of its store has failed.
+    pub fn stop(&mut self)
+        ensures state { self.new.state ≡ record self.old.state { stopped = true } }
+        ensures spare { self.new.spare ≡ self.old.spare }
+    {
+        self.stopped = true;
+    }
+}

@@ -1,5 +1,0 @@
-pub mod CrashLemmas
-pub mod EngineLemmas
-pub mod KeptLemmas
-pub mod OpenLemmas
-pub mod StateLemmas

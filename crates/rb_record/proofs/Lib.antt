@@ -1,3 +1,0 @@
-mod Spelling
-mod Reading
-mod Writing
