@@ -7,3 +7,4 @@ pub mod RunLemmas
 pub mod JoinLemmas
 pub mod NewestLemmas
 pub mod HomeLemmas
+pub mod GivenLemmas

@@ -5,7 +5,7 @@ use Rattle.std.proofs.lemmas.List.{take_more}
 use Rattle.std.specs.List.{AllByRecursion}
 use Rattle.rb_model.specs.Change.{Change, Kind}
 use Rattle.rb_model.specs.Change as model
-use Rattle.rb_model.specs.Rows.{TableRow, row_before, is_row_of, has_row, with_row, without_row, changed_by, over}
+use Rattle.rb_model.specs.Rows.{TableRow, row_before, is_row_of, has_row, with_row, without_row, changed_by, over, InOrder}
 use Rattle.rb_versions.specs.declared.change.RowChange.{RowChange}
 use Rattle.rb_versions.specs.declared.change.RowKind.{RowKind}
 use Rattle.rb_versions.specs.declared.change.RowKind.TheVariants.{Put, Gone}
@@ -14,11 +14,8 @@ use Rattle.rb_versions.proofs.Order.{row_trans, row_total, row_same, row_asym, r
 
 -- rows in order
 
-abbrev pub Ordered : ℕ → List TableRow → Type 0
-Ordered blocks [] = Unit {0}
-Ordered blocks (r ∷ rows) = AllByRecursion (λ x. row_before blocks r x ≡ true) rows × Ordered blocks rows
-
-abbrev AllBefore : ℕ → TableRow → List TableRow → Type 0
+-- a row comes before all of these
+abbrev pub AllBefore : ℕ → TableRow → List TableRow → Type 0
 AllBefore blocks r rows = AllByRecursion (λ x. row_before blocks r x ≡ true) rows
 
 -- what comes before all of the rows and before one more comes before all with it
@@ -42,13 +39,13 @@ all_before_same : (blocks : ℕ) (x y : TableRow) (rows : List TableRow) → y.t
 all_before_same blocks x y [] e f all = tt
 all_before_same blocks x y (z ∷ rows) e f all = (rw (← e, ← f) all.0, all_before_same blocks x y rows e f all.1)
 
-pub ordered-with_row : (blocks : ℕ) (row : TableRow) (rows : List TableRow) → Ordered blocks rows → Ordered blocks (with_row blocks row rows)
+pub ordered-with_row : (blocks : ℕ) (row : TableRow) (rows : List TableRow) → InOrder blocks rows → InOrder blocks (with_row blocks row rows)
 ordered-with_row blocks row [] o = (tt, tt)
 ordered-with_row blocks row (r ∷ rows) o =
     cond_both (is_row_of row.table row.key r) (row ∷ rows) (cond (row_before blocks row r) (row ∷ r ∷ rows) (r ∷ with_row blocks row rows))
-    (Ordered blocks)
+    (InOrder blocks)
     (λ same. let s = row_same row.table row.key r same in (all_before_same blocks row r rows s.0 s.1 o.0, o.1))
-    (λ other. cond_both (row_before blocks row r) (row ∷ r ∷ rows) (r ∷ with_row blocks row rows) (Ordered blocks)
+    (λ other. cond_both (row_before blocks row r) (row ∷ r ∷ rows) (r ∷ with_row blocks row rows) (InOrder blocks)
     (λ before. ((before, all_before_trans blocks row r rows before o.0), (o.0, o.1)))
     (λ behind. (all-with_row blocks r row rows (row_total blocks row r behind other) o.0, ordered-with_row blocks row rows o.1)))
 
@@ -59,20 +56,20 @@ all-filter A p (x ∷ rows) all =
     let rest = all-filter A p rows all.1 in
     cond_both (p x) (x ∷ filter p rows) (filter p rows) (AllByRecursion A) (λ yes. (all.0, rest)) (λ no. rest)
 
-ordered-filter : (blocks : ℕ) (p : TableRow → Bool) (rows : List TableRow) → Ordered blocks rows → Ordered blocks (filter p rows)
+ordered-filter : (blocks : ℕ) (p : TableRow → Bool) (rows : List TableRow) → InOrder blocks rows → InOrder blocks (filter p rows)
 ordered-filter blocks p [] o = tt
 ordered-filter blocks p (x ∷ rows) o =
     let rest = ordered-filter blocks p rows o.1 in
-    cond_both (p x) (x ∷ filter p rows) (filter p rows) (Ordered blocks)
+    cond_both (p x) (x ∷ filter p rows) (filter p rows) (InOrder blocks)
     (λ yes. (all-filter (λ y. row_before blocks x y ≡ true) p rows o.0, rest))
     (λ no. rest)
 
-ordered-changed : (blocks table key : ℕ) (kind : Kind) (rows : List TableRow) → Ordered blocks rows → Ordered blocks (changed_by blocks table key kind rows)
+ordered-changed : (blocks table key : ℕ) (kind : Kind) (rows : List TableRow) → InOrder blocks rows → InOrder blocks (changed_by blocks table key kind rows)
 ordered-changed blocks table key (model.Put value) rows o = ordered-with_row blocks (record { table = table; key = key; value = value }) rows o
 ordered-changed blocks table key model.Gone rows o = ordered-filter blocks (λ row. not (is_row_of table key row)) rows o
 ordered-changed blocks table key model.Held rows o = o
 
-pub ordered-over : (blocks : ℕ) (rows : List TableRow) (changes : List Change) → Ordered blocks rows → Ordered blocks (over blocks rows changes)
+pub ordered-over : (blocks : ℕ) (rows : List TableRow) (changes : List Change) → InOrder blocks rows → InOrder blocks (over blocks rows changes)
 ordered-over blocks rows [] o = o
 ordered-over blocks rows (c ∷ changes) o = ordered-over blocks (changed_by blocks c.table c.key c.kind rows) changes (ordered-changed blocks c.table c.key c.kind rows o)
 
@@ -148,7 +145,7 @@ over-push blocks rows (q ∷ ps) p = over-push blocks (changed_by blocks q.table
 abbrev pub rows_of : ℕ → List RowChange → ℕ → List TableRow
 rows_of blocks changes n = over blocks [] (changes_of (take n changes))
 
-pub ordered-rows : (blocks : ℕ) (changes : List RowChange) (n : ℕ) → Ordered blocks (rows_of blocks changes n)
+pub ordered-rows : (blocks : ℕ) (changes : List RowChange) (n : ℕ) → InOrder blocks (rows_of blocks changes n)
 ordered-rows blocks changes n = ordered-over blocks [] (changes_of (take n changes)) tt
 
 row-more : (blocks table key : ℕ) (changes : List RowChange) (n : ℕ) (d : RowChange) → n < length changes
@@ -229,7 +226,7 @@ has_row-none table key (x ∷ rows) none =
 -- the first row that passes a test
 
 -- what is found behind a row comes after it
-found_behind : (blocks : ℕ) (P : TableRow → Bool) (r : TableRow) (rows : List TableRow) (b : TableRow) → AllBefore blocks r rows → find P rows ≡ Some b → row_before blocks r b ≡ true
+pub found_behind : (blocks : ℕ) (P : TableRow → Bool) (r : TableRow) (rows : List TableRow) (b : TableRow) → AllBefore blocks r rows → find P rows ≡ Some b → row_before blocks r b ≡ true
 found_behind blocks P r [] b all e = absurd (none_is_some b e)
 found_behind blocks P r (x ∷ rows) b all e =
     ⊎_elim
@@ -246,7 +243,7 @@ each_later blocks x rows (r ∷ some) before all =
     (cond-false (is_row_of r.table r.key x) (Some x) (key_row r.table r.key rows) (row_apart blocks x r before.0) ∙ all.0, each_later blocks x rows some before.1 all.1)
 
 -- each of the rows is the row of its key
-each_there : (blocks : ℕ) (rows : List TableRow) → Ordered blocks rows → AllByRecursion (IsThere rows) rows
+each_there : (blocks : ℕ) (rows : List TableRow) → InOrder blocks rows → AllByRecursion (IsThere rows) rows
 each_there blocks [] o = tt
 each_there blocks (x ∷ rows) o =
     (cond-true (is_row_of x.table x.key x) (Some x) (key_row x.table x.key rows) (same_itself x.table x.key), each_later blocks x rows rows o.0 (each_there blocks rows o.1))
@@ -263,7 +260,7 @@ find_none : (P : TableRow → Bool) (rows : List TableRow) → AllByRecursion (�
 find_none P [] all = refl
 find_none P (x ∷ rows) all = cond-false (P x) (Some x) (find P rows) all.0 ∙ find_none P rows all.1
 
-find_this : (blocks : ℕ) (P : TableRow → Bool) (b : TableRow) (rows : List TableRow) → Ordered blocks rows → IsThere rows b → P b ≡ true
+find_this : (blocks : ℕ) (P : TableRow → Bool) (b : TableRow) (rows : List TableRow) → InOrder blocks rows → IsThere rows b → P b ≡ true
     → AllByRecursion (λ r. P r ≡ true → (r ≡ b) ⊎ (row_before blocks b r ≡ true)) rows → find P rows ≡ Some b
 find_this blocks P b [] o is passes first = absurd (none_is_some b is)
 find_this blocks P b (x ∷ rows) o is passes first =
@@ -283,15 +280,15 @@ find_this blocks P b (x ∷ rows) o is passes first =
 -- of rows in order, where each that is the row of its key ..
 
 -- .. passes two tests alike
-pub agree_in_rows : (blocks : ℕ) (P Q : TableRow → Bool) (rows : List TableRow) → Ordered blocks rows → ((r : TableRow) → key_row r.table r.key rows ≡ Some r → P r ≡ Q r) → find P rows ≡ find Q rows
+pub agree_in_rows : (blocks : ℕ) (P Q : TableRow → Bool) (rows : List TableRow) → InOrder blocks rows → ((r : TableRow) → key_row r.table r.key rows ≡ Some r → P r ≡ Q r) → find P rows ≡ find Q rows
 agree_in_rows blocks P Q rows o so = find_agree P Q rows (all_so (IsThere rows) (λ r. P r ≡ Q r) rows so (each_there blocks rows o))
 
 -- .. fails a test
-pub none_in_rows : (blocks : ℕ) (P : TableRow → Bool) (rows : List TableRow) → Ordered blocks rows → ((r : TableRow) → key_row r.table r.key rows ≡ Some r → P r ≡ false) → find P rows ≡ None
+pub none_in_rows : (blocks : ℕ) (P : TableRow → Bool) (rows : List TableRow) → InOrder blocks rows → ((r : TableRow) → key_row r.table r.key rows ≡ Some r → P r ≡ false) → find P rows ≡ None
 none_in_rows blocks P rows o so = find_none P rows (all_so (IsThere rows) (λ r. P r ≡ false) rows so (each_there blocks rows o))
 
 -- .. fails a test or doesn't come before one that passes it
-pub first_in_rows : (blocks : ℕ) (P : TableRow → Bool) (b : TableRow) (rows : List TableRow) → Ordered blocks rows → key_row b.table b.key rows ≡ Some b → P b ≡ true
+pub first_in_rows : (blocks : ℕ) (P : TableRow → Bool) (b : TableRow) (rows : List TableRow) → InOrder blocks rows → key_row b.table b.key rows ≡ Some b → P b ≡ true
     → ((r : TableRow) → key_row r.table r.key rows ≡ Some r → P r ≡ true → (r ≡ b) ⊎ (row_before blocks b r ≡ true)) → find P rows ≡ Some b
 first_in_rows blocks P b rows o is passes so =
     find_this blocks P b rows o is passes (all_so (IsThere rows) (λ r. P r ≡ true → (r ≡ b) ⊎ (row_before blocks b r ≡ true)) rows so (each_there blocks rows o))

@@ -8,10 +8,6 @@ use Rattle.rb_versions.specs.declared.change.RowChange.{RowChange}
 use Rattle.rb_versions.specs.declared.change.RowKind.{RowKind}
 use Rattle.rb_versions.specs.declared.change.RowKind.TheVariants.{Put, Gone}
 
--- the change that takes a key's row away
-abbrev pub gone : ℕ → ℕ → Change
-gone table key = record { table = table; key = key; kind = model.Gone }
-
 abbrev pub kind_of : RowKind → Kind
 kind_of (Put value) = model.Put value.items
 kind_of Gone = model.Gone

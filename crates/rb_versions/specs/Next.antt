@@ -1,5 +1,5 @@
--- Which row a query gives next.
-use Rattle.std.specs.Prelude.{ℕ, Bool, true, ◌&&◌, List, [], Option, None, Some, find}
+-- Which row a query gives next, and how many it has given.
+use Rattle.std.specs.Prelude.{ℕ, Bool, true, not, ◌&&◌, List, [], length, Option, None, Some, find, filter}
 use Rattle.rb_model.specs.Change.{Change}
 use Rattle.rb_model.specs.Rows.{TableRow, key_before, is_asked, over}
 
@@ -15,3 +15,11 @@ is_wanted blocks table lo hi last row = is_asked table lo hi row && is_after blo
 -- the first row behind the last one that was given, of those that the changes make
 abbrev pub next_of : ℕ → ℕ → ℕ → ℕ → Option ℕ → List Change → Option TableRow
 next_of blocks table lo hi last changes = find (is_wanted blocks table lo hi last) (over blocks [] changes)
+
+-- the rows that are asked for
+abbrev pub asked : ℕ → ℕ → ℕ → List TableRow → List TableRow
+asked table lo hi rows = filter (is_asked table lo hi) rows
+
+-- how many of the rows come up to the last one that was given
+abbrev pub given_count : ℕ → Option ℕ → List TableRow → ℕ
+given_count blocks last rows = length (filter (λ row. not (is_after blocks last row.key)) rows)

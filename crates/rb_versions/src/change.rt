@@ -1,8 +1,8 @@
 //! A change of a row as it lies in memory. What reads a file and what a session does both make them, and `Versions`
 //! keeps them.
 ghost use Rattle.std.specs.Prelude.{◌≡◌, ◌≤◌, length};
-ghost use Rattle.rb_model.specs.Change.{put};
-ghost use Rattle.rb_versions.specs.Changes.{change_of, gone, makes_row};
+ghost use Rattle.rb_model.specs.Change.{put, gone};
+ghost use Rattle.rb_versions.specs.Changes.{change_of, makes_row};
 
 use arrayvec::ArrayVec;
 

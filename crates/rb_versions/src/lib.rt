@@ -1,5 +1,5 @@
-//! The rows found at an opening and the changes made since, in memory, with an index in scan order. The engine over
-//! blocks will ask it for rows; the program doesn't use it yet.
+//! The rows found at an opening and the changes made since, in memory, with an index in scan order. The engine's state
+//! keeps its changes here, and asks for rows and for full homes.
 #![tactic(auto)]
 
 mod change;
