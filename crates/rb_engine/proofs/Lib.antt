@@ -1,2 +1,2 @@
+pub mod CrashLemmas
 pub mod KeptLemmas
-pub mod StateLemmas

@@ -126,7 +126,7 @@ fn last_end_of(base_length: usize, ends: &[usize]) -> usize
 
 /// How many bytes the value of a write has.
 fn value_length(op: Op<'_>) -> usize
-    ensures { result ≤ 80 → IsShort (Some op) }
+    ensures fits { result ≤ 80 → IsShort (Some op) }
     ensures long { 80 < result → call.is_too_long (action_of op) ≡ true }
     ensures short { result ≤ 80 → call.is_too_long (action_of op) ≡ false }
 {
@@ -389,7 +389,7 @@ impl EngineState {
             hi: cursor.hi,
             last: cursor.last,
         };
-        let Some(next) = self.versions.next(cursor.visible, query) else {
+        let Some(next) = self.versions.next(query, cursor.visible) else {
             return Ok(Fetched::End);
         };
         fill(row, next);
