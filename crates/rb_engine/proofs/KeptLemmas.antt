@@ -1,23 +1,22 @@
 -- What the machine sees of the memory, before and after each change of it.
-use Rattle.std.proofs.Common.{◌≡◌, ◌≢◌, ℕ, zero, suc, ◌+◌, ◌-◌, ◌*◌, ◌<◌, ◌≤◌, Bool, true, false, List, [], ◌∷◌, ◌++◌, length, take, drop, map, refl, arith, ap, sym, ◌∙◌, subst, sum_by, None, Some, find, set, get_or, cond, nat_le, nat_lt}
-use Rattle.std.proofs.lemmas.List.{map-append, take-append-le, drop-append-le, take_all, drop_all, drop-drop, length-append, take-take, map_push, take-append-drop, length-drop, take_rest}
+use Rattle.std.proofs.Common.{◌≡◌, ◌≢◌, ℕ, zero, suc, ◌+◌, ◌-◌, ◌^◌, ◌<◌, ◌≤◌, Bool, true, false, List, [], ◌∷◌, ◌++◌, length, take, drop, map, refl, arith, ap, sym, ◌∙◌, subst, None, Some, find, set, get_or}
+use Rattle.std.proofs.lemmas.List.{map-append, take-append-le, drop-append-le, take_all, drop_all, drop-drop, length-append, length-map, length-take, take-take, map_push, take-append-drop, length-drop, take_rest}
 use Rattle.std.proofs.Math.Seq.{take-add}
-use Rattle.std.proofs.lemmas.List.Sums.{sum_by-append}
 use Rattle.std.specs.Prelude.{slice_get, remove}
-use Rattle.std.proofs.lemmas.Bool.{cond-true, cond-false, le-leb, le-ltb}
+use Rattle.std.proofs.lemmas.Bool.{cond-true, cond-false}
 use Rattle.std.specs.Str.{bytes_eq}
 use Rattle.std.specs.List.{flat_map, AllByRecursion}
 use Rattle.rb_base.specs.declared.ids.Shape.{Shape}
 use Rattle.rb_model.specs.Change.{Change, put}
-use Rattle.rb_model.specs.Rows.{TableRow, over, rows_at, changed_by, has_row}
-use Rattle.rb_model.specs.State.{State, Cursor, cursor_rows, session_of, with_taken, without_cursor, found_more}
-use Rattle.rb_model.specs.Reply.{rows_now, record_length, kind_length, with_own, committed, expected, first_of, Insert, Done, Refused, after_refusal}
+use Rattle.rb_model.specs.Rows.{TableRow, over, rows_at, changed_by, with_row}
+use Rattle.rb_model.specs.State.{State, Cursor, cursor_rows, session_of, with_taken, without_cursor, opened}
+use Rattle.rb_model.specs.Reply.{rows_now, with_own, committed, after_refusal}
 use Rattle.rb_model.specs.declared.refusal.Refusal.{Refusal}
-use Rattle.rb_model.specs.declared.refusal.Refusal.TheVariants.{NoSession, NoTable, ValueTooLong, Duplicate, NoCursor, CursorThere, TooManyCursors, DiskFault, Stopped, LogFull}
+use Rattle.rb_model.specs.declared.refusal.Refusal.TheVariants.{NoSession, NoTable, ValueTooLong, Duplicate, NotFound, BlockFull, NoCursor, CursorThere, TooManyCursors, WornOut, DiskFault, Stopped, LogFull}
 use Rattle.rb_engine.specs.declared.cursor.OpenCursor.{OpenCursor}
-use Rattle.rb_record.specs.declared.put.Put.{Put}
-use Rattle.rb_record.specs.Puts.{changes_of, change_of}
-use Rattle.rb_index.specs.Next.{asked, given_count}
+use Rattle.rb_versions.specs.declared.change.RowChange.{RowChange}
+use Rattle.rb_versions.specs.Changes.{changes_of, change_of}
+use Rattle.rb_versions.specs.Next.{asked, given_count}
 use Rattle.rb_engine.specs.Kept.{Kept, last_end, Rising, between, cut, rows_of, end_at, cursor_view, state_view, IsOpened, IsKept, IsPlace, has_name}
 
 pub over-append : (blocks : ℕ) (rows : List TableRow) (xs ys : List Change) → over blocks rows (xs ++ ys) ≡ over blocks (over blocks rows xs) ys
@@ -28,6 +27,11 @@ over-append blocks rows (x ∷ xs) ys = over-append blocks (changed_by blocks x.
 pub last_end_le : (start : ℕ) (ends : List ℕ) → Rising start ends → start ≤ last_end start ends
 last_end_le start [] r = omega arith
 last_end_le start (e ∷ ends) r = let h = last_end_le e ends r.1 in omega (arith, r.0, h)
+
+-- each part has a place of its own
+pub ends_within : (start : ℕ) (ends : List ℕ) → Rising start ends → start + length ends ≤ last_end start ends
+ends_within start [] r = omega arith
+ends_within start (e ∷ ends) r = let h = ends_within e ends r.1 in omega (arith, r.0, h)
 
 pub rising_take : (k start : ℕ) (ends : List ℕ) → Rising start ends → Rising start (take k ends)
 rising_take zero start ends r = tt
@@ -41,137 +45,150 @@ last_end_take (suc k) start [] r = omega arith
 last_end_take (suc k) start (e ∷ ends) r = last_end_take k e ends r.1
 
 -- three places in a list
-joined : (s e f : ℕ) (puts : List Put) → s ≤ e → e ≤ f → between s e puts ++ between e f puts ≡ between s f puts
-joined s e f puts p q =
+joined : (s e f : ℕ) (changes : List RowChange) → s ≤ e → e ≤ f → between s e changes ++ between e f changes ≡ between s f changes
+joined s e f changes p q =
     let n : (e - s) + (f - e) ≡ f - s = omega arith in
     let m : s + (e - s) ≡ e = omega arith in
-    ap (λ xs. between s e puts ++ take (f - e) xs) (ap (λ k. drop k puts) (sym m) ∙ sym (drop-drop (e - s) s puts))
-    ∙ sym (take-add (e - s) (f - e) (drop s puts))
-    ∙ ap (λ k. take k (drop s puts)) n
+    ap (λ xs. between s e changes ++ take (f - e) xs) (ap (λ k. drop k changes) (sym m) ∙ sym (drop-drop (e - s) s changes))
+    ∙ sym (take-add (e - s) (f - e) (drop s changes))
+    ∙ ap (λ k. take k (drop s changes)) n
 
-none_between : (start : ℕ) (puts : List Put) → [] ≡ changes_of (between start start puts)
-none_between start puts = let e : start - start ≡ 0 = omega arith in rw e refl
+none_between : (start : ℕ) (changes : List RowChange) → [] ≡ changes_of (between start start changes)
+none_between start changes = let e : start - start ≡ 0 = omega arith in rw e refl
 
 -- the changes of the first commits are those up to the end of the last of them
-pub cut_flat : (k start : ℕ) (ends : List ℕ) (puts : List Put) → Rising start ends → flat_map (λ changes. changes) (take k (cut start ends puts)) ≡ changes_of (between start (last_end start (take k ends)) puts)
-cut_flat zero start ends puts r = none_between start puts
-cut_flat (suc k) start [] puts r = none_between start puts
-cut_flat (suc k) start (e ∷ ends) puts r =
-    ap (λ xs. changes_of (between start e puts) ++ xs) (cut_flat k e ends puts r.1)
-    ∙ sym (map-append change_of (between start e puts) (between e (last_end e (take k ends)) puts))
-    ∙ ap changes_of (joined start e (last_end e (take k ends)) puts r.0 (last_end_le e (take k ends) (rising_take k e ends r.1)))
+pub cut_flat : (k start : ℕ) (ends : List ℕ) (changes : List RowChange) → Rising start ends → flat_map (λ commit. commit) (take k (cut start ends changes)) ≡ changes_of (between start (last_end start (take k ends)) changes)
+cut_flat zero start ends changes r = none_between start changes
+cut_flat (suc k) start [] changes r = none_between start changes
+cut_flat (suc k) start (e ∷ ends) changes r =
+    ap (λ xs. changes_of (between start e changes) ++ xs) (cut_flat k e ends changes r.1)
+    ∙ sym (map-append change_of (between start e changes) (between e (last_end e (take k ends)) changes))
+    ∙ ap changes_of (joined start e (last_end e (take k ends)) changes (let low = r.0 in omega (arith, low)) (last_end_le e (take k ends) (rising_take k e ends r.1)))
 
-three : (s e f : ℕ) (puts : List Put) → s ≤ e → e ≤ f → (take s puts ++ between s e puts) ++ drop e (take f puts) ≡ take f puts
-three s e f puts p q =
+three : (s e f : ℕ) (changes : List RowChange) → s ≤ e → e ≤ f → (take s changes ++ between s e changes) ++ drop e (take f changes) ≡ take f changes
+three s e f changes p q =
     let n : s + (e - s) ≡ e = omega arith in
     let m : e + (f - e) ≡ f = omega arith in
-    ap (λ xs. xs ++ drop e (take f puts)) (sym (take-add s (e - s) puts) ∙ ap (λ k. take k puts) n ∙ sym (take-take e f puts q))
-    ∙ take-append-drop e (take f puts)
+    ap (λ xs. xs ++ drop e (take f changes)) (sym (take-add s (e - s) changes) ∙ ap (λ k. take k changes) n ∙ sym (take-take e f changes q))
+    ∙ take-append-drop e (take f changes)
 
 -- the rows at a number, with the changes from its end on over them, are those that all these changes make
-pub rows_from : (blocks base base_length : ℕ) (ends : List ℕ) (puts : List Put) (n visible : ℕ) → Rising base_length ends → end_at base base_length ends n ≤ visible
-    → over blocks (rows_at blocks (record { base = base; rows = rows_of blocks base_length puts; list = cut base_length ends puts }) n) (changes_of (drop (end_at base base_length ends n) (take visible puts)))
-    ≡ rows_of blocks visible puts
-rows_from blocks base base_length ends puts n visible r within =
+pub rows_from : (blocks base base_length : ℕ) (ends : List ℕ) (changes : List RowChange) (n visible : ℕ) → Rising base_length ends → end_at base base_length ends n ≤ visible
+    → over blocks (rows_at blocks (record { base = base; rows = rows_of blocks base_length changes; list = cut base_length ends changes }) n) (changes_of (drop (end_at base base_length ends n) (take visible changes)))
+    ≡ rows_of blocks visible changes
+rows_from blocks base base_length ends changes n visible r within =
     let e = end_at base base_length ends n in
     let low : base_length ≤ e = last_end_le base_length (take (n - base) ends) (rising_take (n - base) base_length ends r) in
-    ap (λ xs. over blocks (over blocks (rows_of blocks base_length puts) xs) (changes_of (drop e (take visible puts)))) (cut_flat (n - base) base_length ends puts r)
-    ∙ ap (λ rows. over blocks rows (changes_of (drop e (take visible puts)))) (sym (over-append blocks [] (changes_of (take base_length puts)) (changes_of (between base_length e puts))))
-    ∙ sym (over-append blocks [] (changes_of (take base_length puts) ++ changes_of (between base_length e puts)) (changes_of (drop e (take visible puts))))
-    ∙ ap (over blocks []) (ap (λ xs. xs ++ changes_of (drop e (take visible puts))) (sym (map-append change_of (take base_length puts) (between base_length e puts)))
-    ∙ sym (map-append change_of (take base_length puts ++ between base_length e puts) (drop e (take visible puts)))
-    ∙ ap changes_of (three base_length e visible puts low within))
+    ap (λ xs. over blocks (over blocks (rows_of blocks base_length changes) xs) (changes_of (drop e (take visible changes)))) (cut_flat (n - base) base_length ends changes r)
+    ∙ ap (λ rows. over blocks rows (changes_of (drop e (take visible changes)))) (sym (over-append blocks [] (changes_of (take base_length changes)) (changes_of (between base_length e changes))))
+    ∙ sym (over-append blocks [] (changes_of (take base_length changes) ++ changes_of (between base_length e changes)) (changes_of (drop e (take visible changes))))
+    ∙ ap (over blocks []) (ap (λ xs. xs ++ changes_of (drop e (take visible changes))) (sym (map-append change_of (take base_length changes) (between base_length e changes)))
+    ∙ sym (map-append change_of (take base_length changes ++ between base_length e changes) (drop e (take visible changes)))
+    ∙ ap changes_of (three base_length e visible changes low within))
 
 -- the rows that a cursor answers
-pub cursor_rows_view : (shape : Shape) (base base_length : ℕ) (ends : List ℕ) (puts : List Put) (cursors : List OpenCursor) (stopped : Bool) (c : OpenCursor) → Rising base_length ends → end_at base base_length ends c.number ≤ c.visible
-    → cursor_rows (state_view shape base base_length ends puts cursors stopped) (cursor_view shape.blocks base base_length ends puts c) ≡ asked c.table c.lo c.hi (rows_of shape.blocks c.visible puts)
-cursor_rows_view shape base base_length ends puts cursors stopped c r within =
-    ap (asked c.table c.lo c.hi) (rows_from shape.blocks base base_length ends puts c.number c.visible r within)
+pub cursor_rows_view : (shape : Shape) (base base_length : ℕ) (ends : List ℕ) (changes : List RowChange) (cursors : List OpenCursor) (stopped : Bool) (c : OpenCursor) → Rising base_length ends → end_at base base_length ends c.number ≤ c.visible
+    → cursor_rows (state_view shape base base_length ends changes cursors stopped) (cursor_view shape.blocks base base_length ends changes c) ≡ asked c.table c.lo c.hi (rows_of shape.blocks c.visible changes)
+cursor_rows_view shape base base_length ends changes cursors stopped c r within =
+    ap (asked c.table c.lo c.hi) (rows_from shape.blocks base base_length ends changes c.number c.visible r within)
 
-pub length-cut : (start : ℕ) (ends : List ℕ) (puts : List Put) → length (cut start ends puts) ≡ length ends
-length-cut start [] puts = refl
-length-cut start (e ∷ ends) puts = ap suc (length-cut e ends puts)
+pub length-cut : (start : ℕ) (ends : List ℕ) (changes : List RowChange) → length (cut start ends changes) ≡ length ends
+length-cut start [] changes = refl
+length-cut start (e ∷ ends) changes = ap suc (length-cut e ends changes)
 
 -- the last number given is that of the last commit
-end_of_all : (base base_length : ℕ) (ends : List ℕ) (puts : List Put) → end_at base base_length ends (base + length (cut base_length ends puts)) ≡ last_end base_length ends
-end_of_all base base_length ends puts =
-    let n : length ends ≤ (base + length (cut base_length ends puts)) - base = rw (length-cut base_length ends puts) (omega arith) in
+end_of_all : (base base_length : ℕ) (ends : List ℕ) (changes : List RowChange) → end_at base base_length ends (base + length (cut base_length ends changes)) ≡ last_end base_length ends
+end_of_all base base_length ends changes =
+    let n : length ends ≤ (base + length (cut base_length ends changes)) - base = rw (length-cut base_length ends changes) (omega arith) in
     ap (last_end base_length) (take_all _ ends n)
 
+-- the rows at the last commit
+pub rows_committed : (shape : Shape) (base base_length : ℕ) (ends : List ℕ) (changes : List RowChange) → Rising base_length ends
+    → rows_at shape.blocks (record { base = base; rows = rows_of shape.blocks base_length changes; list = cut base_length ends changes }) (base + length (cut base_length ends changes))
+    ≡ rows_of shape.blocks (last_end base_length ends) changes
+rows_committed shape base base_length ends changes r =
+    let n = base + length (cut base_length ends changes) in
+    let l = last_end base_length ends in
+    let e : end_at base base_length ends n ≡ l = end_of_all base base_length ends changes in
+    let few : length (take l changes) ≤ l = let m = length-take l changes in omega (arith, m) in
+    let none : drop (end_at base base_length ends n) (take l changes) ≡ [] = ap (λ k. drop k (take l changes)) e ∙ drop_all l (take l changes) few in
+    ap (λ ps. over shape.blocks (rows_at shape.blocks (record { base = base; rows = rows_of shape.blocks base_length changes; list = cut base_length ends changes }) n) (changes_of ps)) (sym none)
+    ∙ rows_from shape.blocks base base_length ends changes n l r (rw e (omega arith))
+
 -- the rows that the session sees now
-pub rows_now_view : (shape : Shape) (base base_length : ℕ) (ends : List ℕ) (puts : List Put) (cursors : List OpenCursor) (stopped : Bool) → Rising base_length ends → last_end base_length ends ≤ length puts
-    → rows_now (state_view shape base base_length ends puts cursors stopped) 1 ≡ over shape.blocks [] (changes_of puts)
-rows_now_view shape base base_length ends puts cursors stopped r within =
-    let n = base + length (cut base_length ends puts) in
-    let e : end_at base base_length ends n ≡ last_end base_length ends = end_of_all base base_length ends puts in
-    let w : take (length puts) puts ≡ puts = take_all (length puts) puts (omega arith) in
-    ap (λ xs. over shape.blocks (rows_at shape.blocks (record { base = base; rows = rows_of shape.blocks base_length puts; list = cut base_length ends puts }) n) (changes_of xs))
-    (ap (λ k. drop k puts) (sym e) ∙ ap (drop (end_at base base_length ends n)) (sym w))
-    ∙ rows_from shape.blocks base base_length ends puts n (length puts) r (rw e within)
+pub rows_now_view : (shape : Shape) (base base_length : ℕ) (ends : List ℕ) (changes : List RowChange) (cursors : List OpenCursor) (stopped : Bool) → Rising base_length ends → last_end base_length ends ≤ length changes
+    → rows_now (state_view shape base base_length ends changes cursors stopped) 1 ≡ over shape.blocks [] (changes_of changes)
+rows_now_view shape base base_length ends changes cursors stopped r within =
+    let n = base + length (cut base_length ends changes) in
+    let e : end_at base base_length ends n ≡ last_end base_length ends = end_of_all base base_length ends changes in
+    let w : take (length changes) changes ≡ changes = take_all (length changes) changes (omega arith) in
+    ap (λ xs. over shape.blocks (rows_at shape.blocks (record { base = base; rows = rows_of shape.blocks base_length changes; list = cut base_length ends changes }) n) (changes_of xs))
+    (ap (λ k. drop k changes) (sym e) ∙ ap (drop (end_at base base_length ends n)) (sym w))
+    ∙ rows_from shape.blocks base base_length ends changes n (length changes) r (rw e within)
     ∙ ap (λ xs. over shape.blocks [] (changes_of xs)) w
 
 -- one more change of the transaction
 
-between-push : (start end : ℕ) (puts : List Put) (p : Put) → start ≤ end → end ≤ length puts → between start end (puts ++ p ∷ []) ≡ between start end puts
-between-push start end puts p low high =
-    ap (take (end - start)) (drop-append-le start puts (p ∷ []) (omega arith))
-    ∙ take-append-le (end - start) (drop start puts) (p ∷ []) (rw (length-drop start puts) (omega arith))
+between-push : (start end : ℕ) (changes : List RowChange) (p : RowChange) → start ≤ end → end ≤ length changes → between start end (changes ++ p ∷ []) ≡ between start end changes
+between-push start end changes p low high =
+    ap (take (end - start)) (drop-append-le start changes (p ∷ []) (omega arith))
+    ∙ take-append-le (end - start) (drop start changes) (p ∷ []) (rw (length-drop start changes) (omega arith))
 
-cut-push : (start : ℕ) (ends : List ℕ) (puts : List Put) (p : Put) → Rising start ends → last_end start ends ≤ length puts → cut start ends (puts ++ p ∷ []) ≡ cut start ends puts
-cut-push start [] puts p r within = refl
-cut-push start (e ∷ ends) puts p r within =
-    let low : e ≤ length puts = let h = last_end_le e ends r.1 in omega arith in
-    ap (λ xs. changes_of xs ∷ cut e ends (puts ++ p ∷ [])) (between-push start e puts p r.0 low)
-    ∙ ap (λ xs. changes_of (between start e puts) ∷ xs) (cut-push e ends puts p r.1 within)
+cut-push : (start : ℕ) (ends : List ℕ) (changes : List RowChange) (p : RowChange) → Rising start ends → last_end start ends ≤ length changes → cut start ends (changes ++ p ∷ []) ≡ cut start ends changes
+cut-push start [] changes p r within = refl
+cut-push start (e ∷ ends) changes p r within =
+    let low : e ≤ length changes = let h = last_end_le e ends r.1 in omega arith in
+    ap (λ xs. changes_of xs ∷ cut e ends (changes ++ p ∷ [])) (between-push start e changes p (let up = r.0 in omega (arith, up)) low)
+    ∙ ap (λ xs. changes_of (between start e changes) ∷ xs) (cut-push e ends changes p r.1 within)
 
-cursor-push : (blocks base base_length : ℕ) (ends : List ℕ) (puts : List Put) (p : Put) (c : OpenCursor) → c.visible ≤ length puts → cursor_view blocks base base_length ends (puts ++ p ∷ []) c ≡ cursor_view blocks base base_length ends puts c
-cursor-push blocks base base_length ends puts p c within =
-    let e : take c.visible (puts ++ p ∷ []) ≡ take c.visible puts = take-append-le c.visible puts (p ∷ []) within in
+cursor-push : (blocks base base_length : ℕ) (ends : List ℕ) (changes : List RowChange) (p : RowChange) (c : OpenCursor) → c.visible ≤ length changes → cursor_view blocks base base_length ends (changes ++ p ∷ []) c ≡ cursor_view blocks base base_length ends changes c
+cursor-push blocks base base_length ends changes p c within =
+    let e : take c.visible (changes ++ p ∷ []) ≡ take c.visible changes = take-append-le c.visible changes (p ∷ []) within in
     rw e refl
 
-cursors-push : (blocks base base_length : ℕ) (ends : List ℕ) (puts : List Put) (p : Put) (cursors : List OpenCursor) → AllByRecursion (IsOpened base base_length ends (length puts)) cursors
-    → map (cursor_view blocks base base_length ends (puts ++ p ∷ [])) cursors ≡ map (cursor_view blocks base base_length ends puts) cursors
-cursors-push blocks base base_length ends puts p [] all = refl
-cursors-push blocks base base_length ends puts p (c ∷ cursors) all =
-    ap (λ x. x ∷ map (cursor_view blocks base base_length ends (puts ++ p ∷ [])) cursors) (cursor-push blocks base base_length ends puts p c all.0.within)
-    ∙ ap (λ xs. cursor_view blocks base base_length ends puts c ∷ xs) (cursors-push blocks base base_length ends puts p cursors all.1)
+cursors-push : (blocks base base_length : ℕ) (ends : List ℕ) (changes : List RowChange) (p : RowChange) (cursors : List OpenCursor) → AllByRecursion (IsOpened base base_length ends (length changes)) cursors
+    → map (cursor_view blocks base base_length ends (changes ++ p ∷ [])) cursors ≡ map (cursor_view blocks base base_length ends changes) cursors
+cursors-push blocks base base_length ends changes p [] all = refl
+cursors-push blocks base base_length ends changes p (c ∷ cursors) all =
+    ap (λ x. x ∷ map (cursor_view blocks base base_length ends (changes ++ p ∷ [])) cursors) (cursor-push blocks base base_length ends changes p c all.0.within)
+    ∙ ap (λ xs. cursor_view blocks base base_length ends changes c ∷ xs) (cursors-push blocks base base_length ends changes p cursors all.1)
 
-pub view-push : (shape : Shape) (base base_length : ℕ) (ends : List ℕ) (puts : List Put) (cursors : List OpenCursor) (stopped : Bool) (p : Put)
-    → Rising base_length ends → last_end base_length ends ≤ length puts → AllByRecursion (IsOpened base base_length ends (length puts)) cursors
-    → state_view shape base base_length ends (puts ++ p ∷ []) cursors stopped
-    ≡ with_own (state_view shape base base_length ends puts cursors stopped) 1 (changes_of (drop (last_end base_length ends) puts) ++ change_of p ∷ [])
-view-push shape base base_length ends puts cursors stopped p r within all =
-    let low : base_length ≤ length puts = let h = last_end_le base_length ends r in omega arith in
-    let rows : take base_length (puts ++ p ∷ []) ≡ take base_length puts = take-append-le base_length puts (p ∷ []) low in
-    let list : cut base_length ends (puts ++ p ∷ []) ≡ cut base_length ends puts = cut-push base_length ends puts p r within in
-    let own : changes_of (drop (last_end base_length ends) (puts ++ p ∷ [])) ≡ changes_of (drop (last_end base_length ends) puts) ++ change_of p ∷ [] =
-    ap changes_of (drop-append-le (last_end base_length ends) puts (p ∷ []) within) ∙ map_push change_of (drop (last_end base_length ends) puts) p in
-    let views = cursors-push shape.blocks base base_length ends puts p cursors all in
+pub view-push : (shape : Shape) (base base_length : ℕ) (ends : List ℕ) (changes : List RowChange) (cursors : List OpenCursor) (stopped : Bool) (p : RowChange)
+    → Rising base_length ends → last_end base_length ends ≤ length changes → AllByRecursion (IsOpened base base_length ends (length changes)) cursors
+    → state_view shape base base_length ends (changes ++ p ∷ []) cursors stopped
+    ≡ with_own (state_view shape base base_length ends changes cursors stopped) 1 (changes_of (drop (last_end base_length ends) changes) ++ change_of p ∷ [])
+view-push shape base base_length ends changes cursors stopped p r within all =
+    let low : base_length ≤ length changes = let h = last_end_le base_length ends r in omega arith in
+    let rows : take base_length (changes ++ p ∷ []) ≡ take base_length changes = take-append-le base_length changes (p ∷ []) low in
+    let list : cut base_length ends (changes ++ p ∷ []) ≡ cut base_length ends changes = cut-push base_length ends changes p r within in
+    let own : changes_of (drop (last_end base_length ends) (changes ++ p ∷ [])) ≡ changes_of (drop (last_end base_length ends) changes) ++ change_of p ∷ [] =
+    ap changes_of (drop-append-le (last_end base_length ends) changes (p ∷ []) within) ∙ map_push change_of (drop (last_end base_length ends) changes) p in
+    let views = cursors-push shape.blocks base base_length ends changes p cursors all in
     rw (rows, list, own, views) refl
 
 -- one more commit
 
-cut-commit : (start : ℕ) (ends : List ℕ) (puts : List Put) → cut start (ends ++ length puts ∷ []) puts ≡ cut start ends puts ++ changes_of (drop (last_end start ends) puts) ∷ []
-cut-commit start [] puts = ap (λ xs. changes_of xs ∷ []) (take_rest puts start)
-cut-commit start (e ∷ ends) puts = ap (λ xs. changes_of (between start e puts) ∷ xs) (cut-commit e ends puts)
+cut-commit : (start : ℕ) (ends : List ℕ) (changes : List RowChange) → cut start (ends ++ length changes ∷ []) changes ≡ cut start ends changes ++ changes_of (drop (last_end start ends) changes) ∷ []
+cut-commit start [] changes = ap (λ xs. changes_of xs ∷ []) (take_rest changes start)
+cut-commit start (e ∷ ends) changes = ap (λ xs. changes_of (between start e changes) ∷ xs) (cut-commit e ends changes)
 
 last_end-push : (start : ℕ) (ends : List ℕ) (n : ℕ) → last_end start (ends ++ n ∷ []) ≡ n
 last_end-push start [] n = refl
 last_end-push start (e ∷ ends) n = last_end-push e ends n
 
-pub rising-push : (start : ℕ) (ends : List ℕ) (n : ℕ) → Rising start ends → last_end start ends ≤ n → Rising start (ends ++ n ∷ [])
+pub rising-push : (start : ℕ) (ends : List ℕ) (n : ℕ) → Rising start ends → last_end start ends < n → Rising start (ends ++ n ∷ [])
 rising-push start [] n r within = (within, tt)
 rising-push start (e ∷ ends) n r within = (r.0, rising-push e ends n r.1 within)
 
 end_at-push : (base base_length : ℕ) (ends : List ℕ) (n k : ℕ) → base ≤ k → k ≤ base + length ends → end_at base base_length (ends ++ n ∷ []) k ≡ end_at base base_length ends k
 end_at-push base base_length ends n k low high = ap (last_end base_length) (take-append-le (k - base) ends (n ∷ []) (omega arith))
 
-cursors-commit : (blocks base base_length : ℕ) (ends : List ℕ) (n : ℕ) (puts : List Put) (cursors : List OpenCursor) → AllByRecursion (IsOpened base base_length ends (length puts)) cursors
-    → map (cursor_view blocks base base_length (ends ++ n ∷ []) puts) cursors ≡ map (cursor_view blocks base base_length ends puts) cursors
-cursors-commit blocks base base_length ends n puts [] all = refl
-cursors-commit blocks base base_length ends n puts (c ∷ cursors) all =
+cursors-commit : (blocks base base_length : ℕ) (ends : List ℕ) (n : ℕ) (changes : List RowChange) (cursors : List OpenCursor) → AllByRecursion (IsOpened base base_length ends (length changes)) cursors
+    → map (cursor_view blocks base base_length (ends ++ n ∷ []) changes) cursors ≡ map (cursor_view blocks base base_length ends changes) cursors
+cursors-commit blocks base base_length ends n changes [] all = refl
+cursors-commit blocks base base_length ends n changes (c ∷ cursors) all =
     let e = end_at-push base base_length ends n c.number all.0.no_earlier all.0.no_later in
-    rw (e, cursors-commit blocks base base_length ends n puts cursors all.1) refl
+    rw (e, cursors-commit blocks base base_length ends n changes cursors all.1) refl
 
 pub opened-commit : (base base_length : ℕ) (ends : List ℕ) (n count : ℕ) (cursors : List OpenCursor) → AllByRecursion (IsOpened base base_length ends count) cursors → AllByRecursion (IsOpened base base_length (ends ++ n ∷ []) count) cursors
 opened-commit base base_length ends n count [] all = tt
@@ -181,13 +198,13 @@ opened-commit base base_length ends n count (c ∷ cursors) all =
       opened-commit base base_length ends n count cursors all.1,
     )
 
-pub view-commit : (shape : Shape) (base base_length : ℕ) (ends : List ℕ) (puts : List Put) (cursors : List OpenCursor) (stopped : Bool)
-    → AllByRecursion (IsOpened base base_length ends (length puts)) cursors
-    → state_view shape base base_length (ends ++ length puts ∷ []) puts cursors stopped ≡ committed (state_view shape base base_length ends puts cursors stopped) 1
-view-commit shape base base_length ends puts cursors stopped all =
-    let list = cut-commit base_length ends puts in
-    let own : drop (last_end base_length (ends ++ length puts ∷ [])) puts ≡ [] = ap (λ k. drop k puts) (last_end-push base_length ends (length puts)) ∙ drop_all (length puts) puts (omega arith) in
-    let views = cursors-commit shape.blocks base base_length ends (length puts) puts cursors all in
+pub view-commit : (shape : Shape) (base base_length : ℕ) (ends : List ℕ) (changes : List RowChange) (cursors : List OpenCursor) (stopped : Bool)
+    → AllByRecursion (IsOpened base base_length ends (length changes)) cursors
+    → state_view shape base base_length (ends ++ length changes ∷ []) changes cursors stopped ≡ committed (state_view shape base base_length ends changes cursors stopped) 1
+view-commit shape base base_length ends changes cursors stopped all =
+    let list = cut-commit base_length ends changes in
+    let own : drop (last_end base_length (ends ++ length changes ∷ [])) changes ≡ [] = ap (λ k. drop k changes) (last_end-push base_length ends (length changes)) ∙ drop_all (length changes) changes (omega arith) in
+    let views = cursors-commit shape.blocks base base_length ends (length changes) changes cursors all in
     rw (list, own, views) refl
 
 -- one more cursor
@@ -198,14 +215,14 @@ none_given_yet blocks [] = refl
 none_given_yet blocks (r ∷ rows) = none_given_yet blocks rows
 
 -- a cursor that is opened now
-pub fresh_view : (blocks base base_length : ℕ) (ends : List ℕ) (puts : List Put) (c : OpenCursor)
-    → c.number ≡ base + length (cut base_length ends puts) → c.visible ≡ length puts → c.last ≡ None
-    → cursor_view blocks base base_length ends puts c
-    ≡ record { name = c.name.items; table = c.table; lo = c.lo; hi = c.hi; number = base + length (cut base_length ends puts); own = changes_of (drop (last_end base_length ends) puts); taken = 0 }
-fresh_view blocks base base_length ends puts c n v l =
-    let e = end_of_all base base_length ends puts in
-    let w : take (length puts) puts ≡ puts = take_all (length puts) puts (omega arith) in
-    rw (n, v, l, e, w, none_given_yet blocks (asked c.table c.lo c.hi (over blocks [] (changes_of puts)))) refl
+pub fresh_view : (blocks base base_length : ℕ) (ends : List ℕ) (changes : List RowChange) (c : OpenCursor)
+    → c.number ≡ base + length (cut base_length ends changes) → c.visible ≡ length changes → c.last ≡ None
+    → cursor_view blocks base base_length ends changes c
+    ≡ record { name = c.name.items; table = c.table; lo = c.lo; hi = c.hi; number = base + length (cut base_length ends changes); own = changes_of (drop (last_end base_length ends) changes); taken = 0 }
+fresh_view blocks base base_length ends changes c n v l =
+    let e = end_of_all base base_length ends changes in
+    let w : take (length changes) changes ≡ changes = take_all (length changes) changes (omega arith) in
+    rw (n, v, l, e, w, none_given_yet blocks (asked c.table c.lo c.hi (over blocks [] (changes_of changes)))) refl
 
 -- the cursor of a name
 
@@ -216,67 +233,38 @@ place_from p (c ∷ cursors) zero d l before here = here
 place_from p (c ∷ cursors) (suc i) d l before here = (before 0 (omega arith), place_from p cursors i d (omega arith) (λ k h. before (suc k) (omega arith)) here)
 
 -- no cursor has the name
-pub none_named : (blocks base base_length : ℕ) (ends : List ℕ) (puts : List Put) (name : List ℕ) (cursors : List OpenCursor) (d : OpenCursor) → ((k : ℕ) → k < length cursors → has_name name (get_or cursors k d) ≡ false)
-    → find (λ cursor. bytes_eq cursor.name name) (map (cursor_view blocks base base_length ends puts) cursors) ≡ None
-none_named blocks base base_length ends puts name [] d h = refl
-none_named blocks base base_length ends puts name (c ∷ cursors) d h =
-    cond-false (has_name name c) _ _ (h 0 (omega arith)) ∙ none_named blocks base base_length ends puts name cursors d (λ k l. h (suc k) (omega arith))
+pub none_named : (blocks base base_length : ℕ) (ends : List ℕ) (changes : List RowChange) (name : List ℕ) (cursors : List OpenCursor) (d : OpenCursor) → ((k : ℕ) → k < length cursors → has_name name (get_or cursors k d) ≡ false)
+    → find (λ cursor. bytes_eq cursor.name name) (map (cursor_view blocks base base_length ends changes) cursors) ≡ None
+none_named blocks base base_length ends changes name [] d h = refl
+none_named blocks base base_length ends changes name (c ∷ cursors) d h =
+    cond-false (has_name name c) _ _ (h 0 (omega arith)) ∙ none_named blocks base base_length ends changes name cursors d (λ k l. h (suc k) (omega arith))
 
-pub find_at_place : (blocks base base_length : ℕ) (ends : List ℕ) (puts : List Put) (name : List ℕ) (cursors : List OpenCursor) (i : ℕ) (d : OpenCursor) → IsPlace (has_name name) cursors i
-    → find (λ cursor. bytes_eq cursor.name name) (map (cursor_view blocks base base_length ends puts) cursors) ≡ Some (cursor_view blocks base base_length ends puts (get_or cursors i d))
-find_at_place blocks base base_length ends puts name [] i d h = absurd h
-find_at_place blocks base base_length ends puts name (c ∷ cursors) zero d h = cond-true (has_name name c) _ _ h
-find_at_place blocks base base_length ends puts name (c ∷ cursors) (suc i) d h = cond-false (has_name name c) _ _ h.0 ∙ find_at_place blocks base base_length ends puts name cursors i d h.1
+pub find_at_place : (blocks base base_length : ℕ) (ends : List ℕ) (changes : List RowChange) (name : List ℕ) (cursors : List OpenCursor) (i : ℕ) (d : OpenCursor) → IsPlace (has_name name) cursors i
+    → find (λ cursor. bytes_eq cursor.name name) (map (cursor_view blocks base base_length ends changes) cursors) ≡ Some (cursor_view blocks base base_length ends changes (get_or cursors i d))
+find_at_place blocks base base_length ends changes name [] i d h = absurd h
+find_at_place blocks base base_length ends changes name (c ∷ cursors) zero d h = cond-true (has_name name c) _ _ h
+find_at_place blocks base base_length ends changes name (c ∷ cursors) (suc i) d h = cond-false (has_name name c) _ _ h.0 ∙ find_at_place blocks base base_length ends changes name cursors i d h.1
 
-pub taken_at_place : (blocks base base_length : ℕ) (ends : List ℕ) (puts : List Put) (name : List ℕ) (cursors : List OpenCursor) (i : ℕ) (d c' : OpenCursor) → IsPlace (has_name name) cursors i
-    → cursor_view blocks base base_length ends puts c' ≡ record (cursor_view blocks base base_length ends puts (get_or cursors i d)) { taken = suc (cursor_view blocks base base_length ends puts (get_or cursors i d)).taken }
-    → with_taken name (map (cursor_view blocks base base_length ends puts) cursors) ≡ map (cursor_view blocks base base_length ends puts) (set cursors i c')
-taken_at_place blocks base base_length ends puts name [] i d c' h e = absurd h
-taken_at_place blocks base base_length ends puts name (c ∷ cursors) zero d c' h e = cond-true (has_name name c) _ _ h ∙ ap (λ x. x ∷ map (cursor_view blocks base base_length ends puts) cursors) (sym e)
-taken_at_place blocks base base_length ends puts name (c ∷ cursors) (suc i) d c' h e =
-    cond-false (has_name name c) _ _ h.0 ∙ ap (λ xs. cursor_view blocks base base_length ends puts c ∷ xs) (taken_at_place blocks base base_length ends puts name cursors i d c' h.1 e)
+pub taken_at_place : (blocks base base_length : ℕ) (ends : List ℕ) (changes : List RowChange) (name : List ℕ) (cursors : List OpenCursor) (i : ℕ) (d c' : OpenCursor) → IsPlace (has_name name) cursors i
+    → cursor_view blocks base base_length ends changes c' ≡ record (cursor_view blocks base base_length ends changes (get_or cursors i d)) { taken = suc (cursor_view blocks base base_length ends changes (get_or cursors i d)).taken }
+    → with_taken name (map (cursor_view blocks base base_length ends changes) cursors) ≡ map (cursor_view blocks base base_length ends changes) (set cursors i c')
+taken_at_place blocks base base_length ends changes name [] i d c' h e = absurd h
+taken_at_place blocks base base_length ends changes name (c ∷ cursors) zero d c' h e = cond-true (has_name name c) _ _ h ∙ ap (λ x. x ∷ map (cursor_view blocks base base_length ends changes) cursors) (sym e)
+taken_at_place blocks base base_length ends changes name (c ∷ cursors) (suc i) d c' h e =
+    cond-false (has_name name c) _ _ h.0 ∙ ap (λ xs. cursor_view blocks base base_length ends changes c ∷ xs) (taken_at_place blocks base base_length ends changes name cursors i d c' h.1 e)
 
-pub removed_at_place : (blocks base base_length : ℕ) (ends : List ℕ) (puts : List Put) (name : List ℕ) (cursors : List OpenCursor) (i : ℕ) → IsPlace (has_name name) cursors i
-    → without_cursor name (map (cursor_view blocks base base_length ends puts) cursors) ≡ map (cursor_view blocks base base_length ends puts) (remove cursors i)
-removed_at_place blocks base base_length ends puts name [] i h = absurd h
-removed_at_place blocks base base_length ends puts name (c ∷ cursors) zero h = cond-true (has_name name c) _ _ h
-removed_at_place blocks base base_length ends puts name (c ∷ cursors) (suc i) h =
-    cond-false (has_name name c) _ _ h.0 ∙ ap (λ xs. cursor_view blocks base base_length ends puts c ∷ xs) (removed_at_place blocks base base_length ends puts name cursors i h.1)
+pub removed_at_place : (blocks base base_length : ℕ) (ends : List ℕ) (changes : List RowChange) (name : List ℕ) (cursors : List OpenCursor) (i : ℕ) → IsPlace (has_name name) cursors i
+    → without_cursor name (map (cursor_view blocks base base_length ends changes) cursors) ≡ map (cursor_view blocks base base_length ends changes) (remove cursors i)
+removed_at_place blocks base base_length ends changes name [] i h = absurd h
+removed_at_place blocks base base_length ends changes name (c ∷ cursors) zero h = cond-true (has_name name c) _ _ h
+removed_at_place blocks base base_length ends changes name (c ∷ cursors) (suc i) h =
+    cond-false (has_name name c) _ _ h.0 ∙ ap (λ xs. cursor_view blocks base base_length ends changes c ∷ xs) (removed_at_place blocks base base_length ends changes name cursors i h.1)
 
 pub all-remove : {X : Type 0} (P : X → Type 0) (xs : List X) (i : ℕ) → AllByRecursion P xs → AllByRecursion P (remove xs i)
 all-remove P [] zero all = all
 all-remove P [] (suc i) all = all
 all-remove P (x ∷ xs) zero all = all.1
 all-remove P (x ∷ xs) (suc i) all = (all.0, all-remove P xs i all.1)
-
--- the tests of an insert that are left behind the early ones
-pub insert_expected : (shape : Shape) (base base_length : ℕ) (ends : List ℕ) (puts : List Put) (cursors : List OpenCursor) (stopped : Bool) (room s table key : ℕ) (value : List ℕ)
-    → Rising base_length ends → last_end base_length ends ≤ length puts → stopped ≡ false → s ≡ 1 → 1 ≤ table → table ≤ shape.tables → length value ≤ 80
-    → expected (state_view shape base base_length ends puts cursors stopped) room (Insert s table key value)
-    ≡ first_of ((has_row table key (over shape.blocks [] (changes_of puts)), Duplicate)
-    ∷ (nat_lt 2000 (record_length (changes_of (drop (last_end base_length ends) puts) ++ put table key value ∷ [])), LogFull) ∷ []) Done
-insert_expected shape base base_length ends puts cursors stopped room s table key value r within going session low high short =
-    let e = rows_now_view shape base base_length ends puts cursors stopped r within in
-    let a : nat_le 1 table ≡ true = le-leb 1 table low in
-    let b : nat_le table shape.tables ≡ true = le-leb table shape.tables high in
-    let d : nat_lt 80 (length value) ≡ false = le-ltb 80 (length value) short in
-    rw (session) (rw (going, a, b, d, e) refl)
-
--- a record of one more change
-pub record_length-push : (xs : List Change) (c : Change) → record_length (xs ++ c ∷ []) ≡ record_length xs + kind_length c.kind
-record_length-push xs c =
-    let e = sum_by-append (λ (x : Change). kind_length x.kind) xs (c ∷ []) in
-    let f : sum_by (λ (x : Change). kind_length x.kind) (c ∷ []) ≡ 0 + kind_length c.kind = refl in
-    omega (arith, e, f)
-
--- a record holds few changes
-pub few_changes : (ps : List Put) → 2 + 11 * length ps ≤ record_length (changes_of ps)
-few_changes [] = omega arith
-few_changes (p ∷ ps) =
-    let h = few_changes ps in
-    let e = sum_by-append (λ (x : Change). kind_length x.kind) (change_of p ∷ []) (changes_of ps) in
-    let f : sum_by (λ (x : Change). kind_length x.kind) (change_of p ∷ []) ≡ 0 + (11 + length p.value.items) = refl in
-    omega (arith, h, e, f)
 
 last_step : (n : ℕ) → suc (suc n) - 1 ≡ suc (suc n - 1)
 last_step n = omega arith
@@ -287,47 +275,6 @@ last_end_is start [] e h = cc
 last_end_is start (x ∷ []) e h = cc
 last_end_is start (x ∷ y ∷ ends) e h = last_end_is x (y ∷ ends) e (subst (λ n. slice_get (x ∷ y ∷ ends) n ≡ Some e) (last_step (length ends)) h)
 
--- what an insert is answered behind the early tests
-pub insert_answer : (shape : Shape) (base base_length : ℕ) (ends : List ℕ) (puts : List Put) (cursors : List OpenCursor) (stopped : Bool) (slots : ℕ) (kept : Kept)
-    → record { state = state_view shape base base_length ends puts cursors stopped; slots = slots } ≡ kept
-    → (room s table key : ℕ) (value : List ℕ) (there full : Bool)
-    → Rising base_length ends → last_end base_length ends ≤ length puts → stopped ≡ false → s ≡ 1 → 1 ≤ table → table ≤ shape.tables → length value ≤ 80
-    → has_row table key (over shape.blocks [] (changes_of puts)) ≡ there
-    → nat_lt 2000 (record_length ((session_of kept.state 1).own ++ put table key value ∷ [])) ≡ full
-    → expected kept.state room (Insert s table key value) ≡ cond there (Refused Duplicate) (cond full (Refused LogFull) Done)
-insert_answer shape base base_length ends puts cursors stopped slots kept v room s table key value there full r within going session low high short t f =
-    ap (λ (k : Kept). expected k.state room (Insert s table key value)) (sym v)
-    ∙ insert_expected shape base base_length ends puts cursors stopped room s table key value r within going session low high short
-    ∙ (let g : nat_lt 2000 (record_length (changes_of (drop (last_end base_length ends) puts) ++ put table key value ∷ [])) ≡ full =
-    ap (λ (k : Kept). nat_lt 2000 (record_length ((session_of k.state 1).own ++ put table key value ∷ []))) v ∙ f in
-    rw (t, g) refl)
-
--- the bytes of the transaction's record with one more change
-pub own_length : (kept : Kept) (puts : List Put) (n table key : ℕ) (value : List ℕ) → changes_of puts ≡ (session_of kept.state 1).own → n ≡ record_length (changes_of puts)
-    → record_length ((session_of kept.state 1).own ++ put table key value ∷ []) ≡ n + 11 + length value
-own_length kept puts n table key value e f =
-    let h = record_length-push (session_of kept.state 1).own (put table key value) in
-    let g : n ≡ record_length (session_of kept.state 1).own = f ∙ ap record_length e in
-    let i : kind_length (put table key value).kind ≡ 11 + length value = refl in
-    omega (arith, h, g, i)
-
--- few changes are there besides the committed ones
-pub few_puts : (base_length : ℕ) (ends : List ℕ) (puts : List Put) → record_length (changes_of (drop (last_end base_length ends) puts)) ≤ 2000 → length puts < last_end base_length ends + 182
-few_puts base_length ends puts few =
-    let h = few_changes (drop (last_end base_length ends) puts) in
-    let n = length-drop (last_end base_length ends) puts in
-    omega (arith, h, n, few)
-
--- with one more change they are still few
-pub few_with_push : (base_length : ℕ) (ends : List ℕ) (puts : List Put) (p : Put) → record_length (changes_of (drop (last_end base_length ends) puts) ++ change_of p ∷ []) ≤ 2000 → length puts < last_end base_length ends + 181
-few_with_push base_length ends puts p few =
-    let own : List Put = drop (last_end base_length ends) puts in
-    let h = few_changes (own ++ p ∷ []) in
-    let e : record_length (changes_of (own ++ p ∷ [])) ≡ record_length (changes_of own ++ change_of p ∷ []) = ap record_length (map_push change_of own p) in
-    let m = length-append own (p ∷ []) in
-    let n = length-drop (last_end base_length ends) puts in
-    omega (arith, h, e, m, n, few)
-
 opened-push : (base base_length : ℕ) (ends : List ℕ) (count more : ℕ) (cursors : List OpenCursor) → count ≤ more → AllByRecursion (IsOpened base base_length ends count) cursors → AllByRecursion (IsOpened base base_length ends more) cursors
 opened-push base base_length ends count more [] le all = tt
 opened-push base base_length ends count more (c ∷ cursors) le all = (
@@ -336,25 +283,20 @@ opened-push base base_length ends count more (c ∷ cursors) le all = (
 )
 
 -- the memory stays in order with one more change
-pub kept-push : (shape : Shape) (slots base base_length : ℕ) (ends : List ℕ) (puts : List Put) (cursors : List OpenCursor) (old_room new_room ends_room : ℕ) (p : Put) (more : List Put)
-    → IsKept shape slots base base_length ends puts cursors old_room ends_room → more ≡ puts ++ p ∷ []
-    → record_length (changes_of (drop (last_end base_length ends) puts) ++ change_of p ∷ []) ≤ 2000 → 181 * slots ≤ new_room
-    → IsKept shape slots base base_length ends more cursors new_room ends_room
-kept-push shape slots base base_length ends puts cursors old_room new_room ends_room p more kept e own room =
-    let n : length more ≡ length puts + 1 = ap length e ∙ length-append puts (p ∷ []) in
-    let o : changes_of (drop (last_end base_length ends) more) ≡ changes_of (drop (last_end base_length ends) puts) ++ change_of p ∷ [] =
-    ap (λ ps. changes_of (drop (last_end base_length ends) ps)) e ∙ ap changes_of (drop-append-le (last_end base_length ends) puts (p ∷ []) kept.within) ∙ map_push change_of (drop (last_end base_length ends) puts) p in
+pub kept-push : (shape : Shape) (base base_length : ℕ) (ends : List ℕ) (changes : List RowChange) (cursors : List OpenCursor) (old_room new_room ends_room : ℕ) (p : RowChange) (more : List RowChange)
+    → IsKept shape base base_length ends changes cursors old_room ends_room → more ≡ changes ++ p ∷ [] → length changes < old_room → new_room ≡ old_room
+    → IsKept shape base base_length ends more cursors new_room ends_room
+kept-push shape base base_length ends changes cursors old_room new_room ends_room p more kept e room same =
+    let n : length more ≡ length changes + 1 = ap length e ∙ length-append changes (p ∷ []) in
     record {
       some_blocks = kept.some_blocks;
-      few_slots = kept.few_slots;
+      few_before = kept.few_before;
+      few_changes = subst (λ r. r ≤ 2 ^ 32) (sym same) kept.few_changes;
       in_order = kept.in_order;
-      within = omega (arith, n, kept.within);
-      few_commits = kept.few_commits;
-      few_committed = kept.few_committed;
-      few_own = rw (o) own;
-      room_for_puts = room;
-      room_for_ends = kept.room_for_ends;
-      each_cursor = opened-push base base_length ends (length puts) (length more) cursors (omega (arith, n)) kept.each_cursor;
+      within = let w = kept.within in omega (arith, n, w);
+      within_room = omega (arith, n, room, same);
+      room_for_ends = subst (λ r. r ≤ ends_room) (sym same) kept.room_for_ends;
+      each_cursor = opened-push base base_length ends (length changes) (length more) cursors (omega (arith, n)) kept.each_cursor;
     }
 
 -- a refusal but a fault of the disk leaves the state
@@ -363,9 +305,12 @@ after_other_refusal h NoSession other = refl
 after_other_refusal h NoTable other = refl
 after_other_refusal h ValueTooLong other = refl
 after_other_refusal h Duplicate other = refl
+after_other_refusal h NotFound other = refl
+after_other_refusal h BlockFull other = refl
 after_other_refusal h NoCursor other = refl
 after_other_refusal h CursorThere other = refl
 after_other_refusal h TooManyCursors other = refl
+after_other_refusal h WornOut other = refl
 after_other_refusal h DiskFault other = absurd (other refl)
 after_other_refusal h Stopped other = refl
 after_other_refusal h LogFull other = refl
@@ -387,88 +332,106 @@ all-set P (y ∷ xs) zero x all h = (h, all.1)
 all-set P (y ∷ xs) (suc i) x all h = (all.0, all-set P xs i x all.1 h)
 
 -- a cursor that is opened now is in order
-pub opened_now : (base base_length : ℕ) (ends : List ℕ) (puts : List Put) (c : OpenCursor) → last_end base_length ends ≤ length puts → c.number ≡ base + length ends → c.visible ≡ length puts → IsOpened base base_length ends (length puts) c
-opened_now base base_length ends puts c within n v =
+pub opened_now : (base base_length : ℕ) (ends : List ℕ) (changes : List RowChange) (c : OpenCursor) → last_end base_length ends ≤ length changes → c.number ≡ base + length ends → c.visible ≡ length changes → IsOpened base base_length ends (length changes) c
+opened_now base base_length ends changes c within n v =
     let e : end_at base base_length ends c.number ≡ last_end base_length ends = ap (last_end base_length) (take_all (c.number - base) ends (omega (arith, n))) in
     record { no_earlier = omega (arith, n); no_later = omega (arith, n); sees_commits = omega (arith, e, v, within); within = omega (arith, v) }
 
 -- the memory stays in order with other cursors
-pub kept-cursors : (shape : Shape) (slots base base_length : ℕ) (ends : List ℕ) (puts : List Put) (old new : List OpenCursor) (puts_room ends_room : ℕ)
-    → IsKept shape slots base base_length ends puts old puts_room ends_room → AllByRecursion (IsOpened base base_length ends (length puts)) new → IsKept shape slots base base_length ends puts new puts_room ends_room
-kept-cursors shape slots base base_length ends puts old new puts_room ends_room kept all = record {
+pub kept-cursors : (shape : Shape) (base base_length : ℕ) (ends : List ℕ) (changes : List RowChange) (old new : List OpenCursor) (room ends_room : ℕ)
+    → IsKept shape base base_length ends changes old room ends_room → AllByRecursion (IsOpened base base_length ends (length changes)) new → IsKept shape base base_length ends changes new room ends_room
+kept-cursors shape base base_length ends changes old new room ends_room kept all = record {
   some_blocks = kept.some_blocks;
-  few_slots = kept.few_slots;
+  few_before = kept.few_before;
+  few_changes = kept.few_changes;
   in_order = kept.in_order;
   within = kept.within;
-  few_commits = kept.few_commits;
-  few_committed = kept.few_committed;
-  few_own = kept.few_own;
-  room_for_puts = kept.room_for_puts;
+  within_room = kept.within_room;
   room_for_ends = kept.room_for_ends;
   each_cursor = all;
 }
 
 -- and with one more commit
-pub kept-commit : (shape : Shape) (slots base base_length : ℕ) (ends more : List ℕ) (puts : List Put) (cursors : List OpenCursor) (puts_room old_room new_room : ℕ)
-    → IsKept shape slots base base_length ends puts cursors puts_room old_room → more ≡ ends ++ length puts ∷ [] → base + length ends + 1 < slots → slots ≤ new_room
-    → IsKept shape slots base base_length more puts cursors puts_room new_room
-kept-commit shape slots base base_length ends more puts cursors puts_room old_room new_room kept e full room =
-    let n : length more ≡ length ends + 1 = ap length e ∙ length-append ends (length puts ∷ []) in
-    let l : last_end base_length more ≡ length puts = ap (last_end base_length) e ∙ last_end-push base_length ends (length puts) in
-    let o : drop (last_end base_length more) puts ≡ [] = ap (λ k. drop k puts) l ∙ drop_all (length puts) puts (omega arith) in
-    let few = few_puts base_length ends puts kept.few_own in
+pub kept-commit : (shape : Shape) (base base_length : ℕ) (ends more : List ℕ) (changes : List RowChange) (cursors : List OpenCursor) (room old_room new_room : ℕ)
+    → IsKept shape base base_length ends changes cursors room old_room → more ≡ ends ++ length changes ∷ [] → last_end base_length ends < length changes → room ≤ new_room
+    → IsKept shape base base_length more changes cursors room new_room
+kept-commit shape base base_length ends more changes cursors room old_room new_room kept e some enough =
+    let l : last_end base_length more ≡ length changes = ap (last_end base_length) e ∙ last_end-push base_length ends (length changes) in
     record {
       some_blocks = kept.some_blocks;
-      few_slots = kept.few_slots;
-      in_order = subst (Rising base_length) (sym e) (rising-push base_length ends (length puts) kept.in_order kept.within);
+      few_before = kept.few_before;
+      few_changes = kept.few_changes;
+      in_order = subst (Rising base_length) (sym e) (rising-push base_length ends (length changes) kept.in_order some);
       within = omega (arith, l);
-      few_commits = omega (arith, n, full);
-      few_committed = omega (arith, n, l, few, kept.few_committed);
-      few_own = rw (o) (omega arith);
-      room_for_puts = kept.room_for_puts;
-      room_for_ends = room;
-      each_cursor = subst (λ (es : List ℕ). AllByRecursion (IsOpened base base_length es (length puts)) cursors) (sym e) (opened-commit base base_length ends (length puts) (length puts) cursors kept.each_cursor);
+      within_room = kept.within_room;
+      room_for_ends = enough;
+      each_cursor = subst (λ (es : List ℕ). AllByRecursion (IsOpened base base_length es (length changes)) cursors) (sym e) (opened-commit base base_length ends (length changes) (length changes) cursors kept.each_cursor);
     }
 
--- and with one more commit of the base, before any other
-pub kept-found : (shape : Shape) (slots base base_length : ℕ) (ends : List ℕ) (puts : List Put) (cursors : List OpenCursor) (count puts_room ends_room : ℕ)
-    → IsKept shape slots base base_length ends puts cursors puts_room ends_room → ends ≡ [] → cursors ≡ [] → base + 1 < slots → count ≡ length puts
-    → IsKept shape slots (base + 1) count ends puts cursors puts_room ends_room
-kept-found shape slots base base_length ends puts cursors count puts_room ends_room kept e c full n =
-    let few = few_puts base_length ends puts kept.few_own in
-    let old : last_end base_length ends ≡ base_length = ap (last_end base_length) e in
-    let l : last_end count ends ≡ length puts = ap (last_end count) e ∙ n in
-    let o : drop (last_end count ends) puts ≡ [] = ap (λ k. drop k puts) l ∙ drop_all (length puts) puts (omega arith) in
-    let none : length ends ≡ 0 = ap length e in
-    record {
-      some_blocks = kept.some_blocks;
-      few_slots = kept.few_slots;
-      in_order = subst (Rising count) (sym e) tt;
-      within = omega (arith, l);
-      few_commits = omega (arith, none, full);
-      few_committed = omega (arith, none, l, old, few, kept.few_committed);
-      few_own = rw (o) (omega arith);
-      room_for_puts = kept.room_for_puts;
-      room_for_ends = kept.room_for_ends;
-      each_cursor = subst (λ (cs : List OpenCursor). AllByRecursion (IsOpened (base + 1) count ends (length puts)) cs) (sym c) tt;
-    }
+-- there is room for one more commit
+pub room_for_end : (shape : Shape) (base base_length : ℕ) (ends : List ℕ) (changes : List RowChange) (cursors : List OpenCursor) (room ends_room : ℕ)
+    → IsKept shape base base_length ends changes cursors room ends_room → last_end base_length ends < length changes → length ends < ends_room
+room_for_end shape base base_length ends changes cursors room ends_room kept some =
+    let n = ends_within base_length ends kept.in_order in
+    let r = kept.within_room in
+    let e = kept.room_for_ends in
+    omega (arith, n, r, e, some)
 
-pub no_ends : (start : ℕ) (ends : List ℕ) (puts : List Put) → cut start ends puts ≡ [] → ends ≡ []
-no_ends start [] puts e = refl
-no_ends start (x ∷ ends) puts e = cc
+-- where the transaction has a change, one is behind those of the last commit
+pub own_some : (start : ℕ) (changes : List RowChange) → 0 < length (changes_of (drop start changes)) → start < length changes
+own_some start changes some =
+    let m = length-map (drop start changes) change_of in
+    let n = length-drop start changes in
+    omega (arith, some, m, n)
+
+-- as the file was found: no commit, no cursor and no change but of the base
+
+pub no_ends : (start : ℕ) (ends : List ℕ) (changes : List RowChange) → cut start ends changes ≡ [] → ends ≡ []
+no_ends start [] changes e = refl
+no_ends start (x ∷ ends) changes e = cc
 
 pub no_cursors : (view : OpenCursor → Cursor) (cursors : List OpenCursor) → map view cursors ≡ [] → cursors ≡ []
 no_cursors view [] e = refl
 no_cursors view (c ∷ cursors) e = cc
 
--- the changes found so far as one more commit of the base
-pub view-found : (shape : Shape) (base base_length : ℕ) (puts : List Put) (stopped : Bool)
-    → state_view shape (base + 1) (length puts) [] puts [] stopped ≡ found_more (state_view shape base base_length [] puts [] stopped)
-view-found shape base base_length puts stopped =
-    let w : take (length puts) puts ≡ puts = take_all (length puts) puts (omega arith) in
-    let o : drop (length puts) puts ≡ [] = drop_all (length puts) puts (omega arith) in
-    let r : over shape.blocks [] (changes_of puts) ≡ over shape.blocks (rows_of shape.blocks base_length puts) (changes_of (drop base_length puts)) =
-    ap (λ ps. over shape.blocks [] (changes_of ps)) (sym (take-append-drop base_length puts))
-    ∙ ap (over shape.blocks []) (map-append change_of (take base_length puts) (drop base_length puts))
-    ∙ over-append shape.blocks [] (changes_of (take base_length puts)) (changes_of (drop base_length puts)) in
-    rw (w, o, r) refl
+pub no_own : (start : ℕ) (changes : List RowChange) → changes_of (drop start changes) ≡ [] → length changes ≤ start
+no_own start changes e =
+    let m = length-map (drop start changes) change_of in
+    let n = length-drop start changes in
+    let z : length (changes_of (drop start changes)) ≡ 0 = ap length e in
+    omega (arith, z, m, n)
+
+-- with one more change that is found
+pub kept-found : (shape : Shape) (base base_length count : ℕ) (ends : List ℕ) (changes more : List RowChange) (cursors : List OpenCursor) (old_room new_room ends_room : ℕ) (p : RowChange)
+    → IsKept shape base base_length ends changes cursors old_room ends_room → ends ≡ [] → cursors ≡ [] → more ≡ changes ++ p ∷ [] → count ≡ length more → length changes < old_room → new_room ≡ old_room
+    → IsKept shape base count ends more cursors new_room ends_room
+kept-found shape base base_length count ends changes more cursors old_room new_room ends_room p kept none none_open e n room same =
+    let m : length more ≡ length changes + 1 = ap length e ∙ length-append changes (p ∷ []) in
+    let l : last_end count ends ≡ length more = ap (last_end count) none ∙ n in
+    record {
+      some_blocks = kept.some_blocks;
+      few_before = kept.few_before;
+      few_changes = subst (λ r. r ≤ 2 ^ 32) (sym same) kept.few_changes;
+      in_order = subst (Rising count) (sym none) tt;
+      within = omega (arith, l);
+      within_room = omega (arith, m, room, same);
+      room_for_ends = subst (λ r. r ≤ ends_room) (sym same) kept.room_for_ends;
+      each_cursor = subst (λ (cs : List OpenCursor). AllByRecursion (IsOpened base count ends (length more)) cs) (sym none_open) tt;
+    }
+
+-- a change that puts a row, as the last that was found
+pub view-found : (shape : Shape) (base base_length count : ℕ) (ends : List ℕ) (changes more : List RowChange) (cursors : List OpenCursor) (stopped : Bool) (p : RowChange) (table key : ℕ) (value : List ℕ)
+    → ends ≡ [] → cursors ≡ [] → length changes ≤ base_length → more ≡ changes ++ p ∷ [] → count ≡ length more → change_of p ≡ put table key value → stopped ≡ false
+    → state_view shape base count ends more cursors stopped
+    ≡ opened shape base (with_row shape.blocks (record { table = table; key = key; value = value }) (rows_of shape.blocks base_length changes))
+view-found shape base base_length count ends changes more cursors stopped p table key value none none_open found e n is_put go =
+    let w : take count more ≡ more = take_all count more (omega (arith, n)) in
+    let o : drop count more ≡ [] = drop_all count more (omega (arith, n)) in
+    let old : take base_length changes ≡ changes = take_all base_length changes found in
+    let rows : over shape.blocks [] (changes_of more) ≡ with_row shape.blocks (record { table = table; key = key; value = value }) (rows_of shape.blocks base_length changes) =
+    ap (λ ps. over shape.blocks [] (changes_of ps)) e
+    ∙ ap (over shape.blocks []) (map_push change_of changes p)
+    ∙ ap (λ c. over shape.blocks [] (changes_of changes ++ c ∷ [])) is_put
+    ∙ over-append shape.blocks [] (changes_of changes) (put table key value ∷ [])
+    ∙ ap (λ ps. with_row shape.blocks (record { table = table; key = key; value = value }) (over shape.blocks [] (changes_of ps))) (sym old) in
+    rw (none, none_open, go) (rw (w, o, rows) refl)

@@ -1,43 +1,60 @@
 -- What the fields of the state say of the machine's answers.
-use Rattle.std.proofs.Common.{◌≡◌, ℕ, suc, ◌+◌, ◌<◌, ◌≤◌, Bool, true, false, cond, List, [], ◌∷◌, ◌++◌, length, take, drop, map, set, get_or, refl, ap, sym, ◌∙◌, subst, Option, None, Some, IfSome, IfNone, is_some, is_none, nat_le, nat_eq}
+use Rattle.std.proofs.Common.{◌≡◌, ℕ, suc, ◌+◌, ◌<◌, ◌≤◌, Bool, true, false, not, ◌&&◌, cond, List, [], ◌∷◌, ◌++◌, length, take, drop, map, set, get_or, refl, ap, sym, ◌∙◌, subst, Option, None, Some, IfSome, IfNone, is_some, is_none, nat_le}
 use Rattle.std.proofs.lemmas.List.{length-map, map_push}
-use Rattle.std.proofs.lemmas.Bool.{le-leb}
+use Rattle.std.proofs.lemmas.Bool.{le-leb, and_parts, not-true, cond-false}
 use Rattle.std.specs.List.{AllByRecursion}
 use Rattle.std.specs.Prelude.{slice_get, remove}
-use Rattle.rb_model.specs.Rows.{TableRow, last_number}
+use Rattle.rb_model.specs.Rows.{TableRow, last_number, has_row}
 use Rattle.rb_model.specs.State.{State, Cursor, is_session, is_table, session_of, cursor_of, cursor_rows, with_taken, without_cursor}
 use Rattle.rb_model.specs.Reply as call
-use Rattle.rb_model.specs.Reply.{Answer, Commit, Fetch, Done, Numbered, Given, End, Refused, expected, next_row, given, is_empty, after_grant}
-use Rattle.rb_model.specs.declared.refusal.Refusal.TheVariants.{NoCursor, CursorThere, TooManyCursors, LogFull}
+use Rattle.rb_model.specs.Full.{full_block}
+use Rattle.rb_model.specs.Reply.{Action, Answer, Write, Commit, Fetch, Done, Numbered, Given, End, Refused, adds, expected, first_of, none_applies, early_tests, later_tests, log_tests, rows_now, next_row, given, is_empty, after_grant}
+use Rattle.rb_model.specs.declared.refusal.Refusal.{Refusal}
+use Rattle.rb_model.specs.declared.refusal.Refusal.TheVariants.{Duplicate, NotFound, BlockFull, NoCursor, CursorThere, TooManyCursors}
 use Rattle.rb_engine.specs.declared.state.EngineState.TheInside.{Inside}
 use Rattle.rb_engine.specs.contracts.state.EngineState.{the_view}
 use Rattle.rb_engine.specs.declared.cursor.OpenCursor.{OpenCursor}
-use Rattle.rb_record.specs.Puts.{changes_of}
-use Rattle.rb_index.specs.Next.{asked, given_count, next_of}
+use Rattle.rb_versions.specs.Changes.{changes_of}
+use Rattle.rb_versions.specs.Next.{asked, given_count, next_of}
 use Rattle.rb_engine.specs.Kept.{Kept, cursor_view, state_view, rows_of, cut, last_end, Rising, IsOpened, IsPlace, has_name}
-use Rattle.rb_index.proofs.RowLemmas.{next_is_wanted, given_one_more, ordered-over}
+use Rattle.rb_versions.proofs.RowLemmas.{ordered-rows}
+use Rattle.rb_versions.proofs.GivenLemmas.{next_is_wanted, given_one_more}
 use Rattle.rb_engine.proofs.KeptLemmas.{find_at_place, none_named, cursor_rows_view, taken_at_place, removed_at_place, fresh_view, all_at}
 
 -- the tests of a call, each with its outcome
 
-pub open_tests : (h : State) (room s : ℕ) (name : List ℕ) (table lo hi : ℕ) (there many : Bool) → h.stopped ≡ false → is_session h s ≡ true → is_table h table ≡ true
+pub open_tests : (h : State) (logged room s : ℕ) (name : List ℕ) (table lo hi : ℕ) (there many : Bool) → h.stopped ≡ false → is_session h s ≡ true → is_table h table ≡ true
     → is_some (cursor_of h s name) ≡ there → nat_le 16 (length (session_of h s).cursors) ≡ many
-    → expected h room (call.OpenCursor s name table lo hi) ≡ cond there (Refused CursorThere) (cond many (Refused TooManyCursors) Done)
-open_tests h room s name table lo hi there many a b d e f = rw (a, b, d, e, f) refl
+    → expected h logged room (call.OpenCursor s name table lo hi) ≡ cond there (Refused CursorThere) (cond many (Refused TooManyCursors) Done)
+open_tests h logged room s name table lo hi there many a b d e f = rw (a, b, d, e, f) refl
 
-pub fetch_tests : (h : State) (room s : ℕ) (name : List ℕ) (found : Option Cursor) → h.stopped ≡ false → is_session h s ≡ true → cursor_of h s name ≡ found
-    → expected h room (Fetch s name) ≡ cond (is_none found) (Refused NoCursor) (next_row h found)
-fetch_tests h room s name found a b e = rw (a, b, e) refl
+pub fetch_tests : (h : State) (logged room s : ℕ) (name : List ℕ) (found : Option Cursor) → h.stopped ≡ false → is_session h s ≡ true → cursor_of h s name ≡ found
+    → expected h logged room (Fetch s name) ≡ cond (is_none found) (Refused NoCursor) (next_row h found)
+fetch_tests h logged room s name found a b e = rw (a, b, e) refl
 
-pub close_tests : (h : State) (room s : ℕ) (name : List ℕ) (none : Bool) → h.stopped ≡ false → is_session h s ≡ true → is_none (cursor_of h s name) ≡ none
-    → expected h room (call.CloseCursor s name) ≡ cond none (Refused NoCursor) Done
-close_tests h room s name none a b e = rw (a, b, e) refl
+pub close_tests : (h : State) (logged room s : ℕ) (name : List ℕ) (none : Bool) → h.stopped ≡ false → is_session h s ≡ true → is_none (cursor_of h s name) ≡ none
+    → expected h logged room (call.CloseCursor s name) ≡ cond none (Refused NoCursor) Done
+close_tests h logged room s name none a b e = rw (a, b, e) refl
 
-pub commit_tests : (h : State) (room s : ℕ) (empty full : Bool) → h.stopped ≡ false → is_session h s ≡ true → is_empty (session_of h s).own ≡ empty → nat_eq room 0 ≡ full
-    → expected h room (Commit s) ≡ cond empty Done (cond full (Refused LogFull) (Numbered (last_number h.commits + 1)))
-commit_tests h room s true full a b e f = rw (a, b, e) refl
-commit_tests h room s false true a b e f = rw (a, b, e, f) refl
-commit_tests h room s false false a b e f = rw (a, b, e, f) refl
+pub commit_tests : (h : State) (logged room s : ℕ) (empty : Bool) → h.stopped ≡ false → is_session h s ≡ true → is_empty (session_of h s).own ≡ empty
+    → expected h logged room (Commit s) ≡ cond empty Done (Numbered (last_number h.commits + 1))
+commit_tests h logged room s empty a b e = rw (a, b, e) refl
+
+-- where no test of the first ones applies, the others tell
+tests_behind : (tests more : List (Bool × Refusal)) (good : Answer) → none_applies tests ≡ true → first_of (tests ++ more) good ≡ first_of more good
+tests_behind [] more good none = refl
+tests_behind (test ∷ tests) more good none =
+    let parts = and_parts (not test.0) (none_applies tests) none in
+    cond-false test.0 (Refused test.1) (first_of (tests ++ more) good) (not-true test.0 parts.0) ∙ tests_behind tests more good parts.1
+
+-- a write behind its early tests
+pub write_tests : (h : State) (logged room s table key : ℕ) (action : Action) (adding there full : Bool) → none_applies (early_tests h (Write s table key action)) ≡ true
+    → adds action ≡ adding → has_row table key (rows_now h s) ≡ there → (adding && full_block h table key) ≡ full
+    → expected h logged room (Write s table key action)
+    ≡ cond (adding && there) (Refused Duplicate) (cond (not adding && not there) (Refused NotFound) (cond full (Refused BlockFull) (first_of (log_tests logged room) Done)))
+write_tests h logged room s table key action adding there full early a t f =
+    tests_behind (early_tests h (Write s table key action)) (later_tests h logged room (Write s table key action)) Done early
+    ∙ (rw (a, t) (rw (f) refl))
 
 -- what the fields say
 
@@ -54,20 +71,20 @@ some_table a kept table v low high =
 
 pub cursor_count : (a : Inside) (kept : Kept) (s : ℕ) → the_view a ≡ kept → s ≡ 1 → length (session_of kept.state s).cursors ≡ length a.cursors.items
 cursor_count a kept s v e =
-    ap (λ (k : Kept). length (session_of k.state s).cursors) (sym v) ∙ (rw (e) (length-map a.cursors.items (cursor_view a.shape.blocks a.base a.base_length a.ends.items a.index.changes)))
+    ap (λ (k : Kept). length (session_of k.state s).cursors) (sym v) ∙ (rw (e) (length-map a.cursors.items (cursor_view a.shape.blocks a.base a.base_length a.ends.items a.versions.changes)))
 
 -- the cursor of a name, where there is one
 pub cursor_there : (a : Inside) (kept : Kept) (s : ℕ) (name : List ℕ) (i : ℕ) (d : OpenCursor) → the_view a ≡ kept → s ≡ 1 → IsPlace (has_name name) a.cursors.items i
-    → cursor_of kept.state s name ≡ Some (cursor_view a.shape.blocks a.base a.base_length a.ends.items a.index.changes (get_or a.cursors.items i d))
+    → cursor_of kept.state s name ≡ Some (cursor_view a.shape.blocks a.base a.base_length a.ends.items a.versions.changes (get_or a.cursors.items i d))
 cursor_there a kept s name i d v e place =
     ap (λ (k : Kept). cursor_of k.state s name) (sym v)
-    ∙ (rw (e) (find_at_place a.shape.blocks a.base a.base_length a.ends.items a.index.changes name a.cursors.items i d place))
+    ∙ (rw (e) (find_at_place a.shape.blocks a.base a.base_length a.ends.items a.versions.changes name a.cursors.items i d place))
 
 pub no_cursor : (a : Inside) (kept : Kept) (s : ℕ) (name : List ℕ) (d : OpenCursor) → the_view a ≡ kept → s ≡ 1 → ((k : ℕ) → k < length a.cursors.items → has_name name (get_or a.cursors.items k d) ≡ false)
     → cursor_of kept.state s name ≡ None
 no_cursor a kept s name d v e none =
     ap (λ (k : Kept). cursor_of k.state s name) (sym v)
-    ∙ (rw (e) (none_named a.shape.blocks a.base a.base_length a.ends.items a.index.changes name a.cursors.items d none))
+    ∙ (rw (e) (none_named a.shape.blocks a.base a.base_length a.ends.items a.versions.changes name a.cursors.items d none))
 
 abbrev pub any_cursor : OpenCursor
 any_cursor = record { name = record { items = [] }; table = 0; lo = 0; hi = 0; number = 0; visible = 0; last = None }
@@ -92,66 +109,66 @@ search_tells a kept s xs bytes name d None v e x b place none = ap is_some (foun
 -- what a cursor gives next
 
 pub next_row_view : (a : Inside) (kept : Kept) (c : OpenCursor) (d : Option TableRow) → the_view a ≡ kept
-    → slice_get (asked c.table c.lo c.hi (rows_of a.shape.blocks c.visible a.index.changes)) (given_count a.shape.blocks c.last (asked c.table c.lo c.hi (rows_of a.shape.blocks c.visible a.index.changes))) ≡ d
-    → cursor_rows kept.state (cursor_view a.shape.blocks a.base a.base_length a.ends.items a.index.changes c) ≡ asked c.table c.lo c.hi (rows_of a.shape.blocks c.visible a.index.changes)
-    → next_row kept.state (Some (cursor_view a.shape.blocks a.base a.base_length a.ends.items a.index.changes c)) ≡ given d
+    → slice_get (asked c.table c.lo c.hi (rows_of a.shape.blocks c.visible a.versions.changes)) (given_count a.shape.blocks c.last (asked c.table c.lo c.hi (rows_of a.shape.blocks c.visible a.versions.changes))) ≡ d
+    → cursor_rows kept.state (cursor_view a.shape.blocks a.base a.base_length a.ends.items a.versions.changes c) ≡ asked c.table c.lo c.hi (rows_of a.shape.blocks c.visible a.versions.changes)
+    → next_row kept.state (Some (cursor_view a.shape.blocks a.base a.base_length a.ends.items a.versions.changes c)) ≡ given d
 next_row_view a kept c d v e rows =
-    ap (λ rs. given (slice_get rs (given_count a.shape.blocks c.last (asked c.table c.lo c.hi (rows_of a.shape.blocks c.visible a.index.changes))))) rows ∙ ap given e
+    ap (λ rs. given (slice_get rs (given_count a.shape.blocks c.last (asked c.table c.lo c.hi (rows_of a.shape.blocks c.visible a.versions.changes))))) rows ∙ ap given e
 
 -- the state with one more cursor, that has given nothing
 pub view-open : (a : Inside) (kept : Kept) (cs : List OpenCursor) (c : OpenCursor) (name : List ℕ) (table lo hi : ℕ) → the_view a ≡ kept → cs ≡ a.cursors.items ++ c ∷ []
-    → c.name.items ≡ name → c.table ≡ table → c.lo ≡ lo → c.hi ≡ hi → c.number ≡ last_number kept.state.commits → c.visible ≡ length a.index.changes → c.last ≡ None
-    → state_view a.shape a.base a.base_length a.ends.items a.index.changes cs a.stopped ≡ after_grant kept.state (call.OpenCursor 1 name table lo hi)
+    → c.name.items ≡ name → c.table ≡ table → c.lo ≡ lo → c.hi ≡ hi → c.number ≡ last_number kept.state.commits → c.visible ≡ length a.versions.changes → c.last ≡ None
+    → state_view a.shape a.base a.base_length a.ends.items a.versions.changes cs a.stopped ≡ after_grant kept.state (call.OpenCursor 1 name table lo hi)
 view-open a kept cs c name table lo hi v e n t l h number visible last =
-    let at_view : c.number ≡ a.base + length (cut a.base_length a.ends.items a.index.changes) = number ∙ ap (λ (k : Kept). last_number k.state.commits) (sym v) in
-    let view = cursor_view a.shape.blocks a.base a.base_length a.ends.items a.index.changes in
-    let f : view c ≡ record { name = name; table = table; lo = lo; hi = hi; number = a.base + length (cut a.base_length a.ends.items a.index.changes); own = changes_of (drop (last_end a.base_length a.ends.items) a.index.changes); taken = 0 } =
-    fresh_view a.shape.blocks a.base a.base_length a.ends.items a.index.changes c at_view visible last ∙ (rw (n, t, l, h) refl) in
+    let at_view : c.number ≡ a.base + length (cut a.base_length a.ends.items a.versions.changes) = number ∙ ap (λ (k : Kept). last_number k.state.commits) (sym v) in
+    let view = cursor_view a.shape.blocks a.base a.base_length a.ends.items a.versions.changes in
+    let f : view c ≡ record { name = name; table = table; lo = lo; hi = hi; number = a.base + length (cut a.base_length a.ends.items a.versions.changes); own = changes_of (drop (last_end a.base_length a.ends.items) a.versions.changes); taken = 0 } =
+    fresh_view a.shape.blocks a.base a.base_length a.ends.items a.versions.changes c at_view visible last ∙ (rw (n, t, l, h) refl) in
     let m : map view cs ≡ map view a.cursors.items ++ view c ∷ [] = ap (map view) e ∙ map_push view a.cursors.items c in
     rw (m, f) refl
     ∙ ap (λ (k : Kept). after_grant k.state (call.OpenCursor 1 name table lo hi)) v
 
 -- what a fetch gives, by the row that the changes make next
-pub fetch_gives : (a : Inside) (kept : Kept) (room s : ℕ) (name : List ℕ) (i : ℕ) (d : OpenCursor) (o : Option TableRow) → the_view a ≡ kept → Rising a.base_length a.ends.items
-    → AllByRecursion (IsOpened a.base a.base_length a.ends.items (length a.index.changes)) a.cursors.items → a.stopped ≡ false → s ≡ 1 → IsPlace (has_name name) a.cursors.items i → i < length a.cursors.items
-    → next_of a.shape.blocks (get_or a.cursors.items i d).table (get_or a.cursors.items i d).lo (get_or a.cursors.items i d).hi (get_or a.cursors.items i d).last (changes_of (take (get_or a.cursors.items i d).visible a.index.changes)) ≡ o
-    → expected kept.state room (Fetch s name) ≡ given o
-fetch_gives a kept room s name i d o v rising all go e place within next =
+pub fetch_gives : (a : Inside) (kept : Kept) (logged room s : ℕ) (name : List ℕ) (i : ℕ) (d : OpenCursor) (o : Option TableRow) → the_view a ≡ kept → Rising a.base_length a.ends.items
+    → AllByRecursion (IsOpened a.base a.base_length a.ends.items (length a.versions.changes)) a.cursors.items → a.stopped ≡ false → s ≡ 1 → IsPlace (has_name name) a.cursors.items i → i < length a.cursors.items
+    → next_of a.shape.blocks (get_or a.cursors.items i d).table (get_or a.cursors.items i d).lo (get_or a.cursors.items i d).hi (get_or a.cursors.items i d).last (changes_of (take (get_or a.cursors.items i d).visible a.versions.changes)) ≡ o
+    → expected kept.state logged room (Fetch s name) ≡ given o
+fetch_gives a kept logged room s name i d o v rising all go e place within next =
     let c = get_or a.cursors.items i d in
-    let cur = cursor_view a.shape.blocks a.base a.base_length a.ends.items a.index.changes c in
-    let opened = all_at (IsOpened a.base a.base_length a.ends.items (length a.index.changes)) a.cursors.items i d all within in
-    let rows : cursor_rows kept.state cur ≡ asked c.table c.lo c.hi (rows_of a.shape.blocks c.visible a.index.changes) =
+    let cur = cursor_view a.shape.blocks a.base a.base_length a.ends.items a.versions.changes c in
+    let opened = all_at (IsOpened a.base a.base_length a.ends.items (length a.versions.changes)) a.cursors.items i d all within in
+    let rows : cursor_rows kept.state cur ≡ asked c.table c.lo c.hi (rows_of a.shape.blocks c.visible a.versions.changes) =
     ap (λ (k : Kept). cursor_rows k.state cur) (sym v)
-    ∙ cursor_rows_view a.shape a.base a.base_length a.ends.items a.index.changes a.cursors.items a.stopped c rising opened.sees_commits in
-    fetch_tests kept.state room s name (Some cur) (going a kept v go) (one_session a kept s v e) (cursor_there a kept s name i d v e place)
+    ∙ cursor_rows_view a.shape a.base a.base_length a.ends.items a.versions.changes a.cursors.items a.stopped c rising opened.sees_commits in
+    fetch_tests kept.state logged room s name (Some cur) (going a kept v go) (one_session a kept s v e) (cursor_there a kept s name i d v e place)
     ∙ next_row_view a kept c o v
-    (next_is_wanted a.shape.blocks c.table c.lo c.hi c.last (rows_of a.shape.blocks c.visible a.index.changes) (ordered-over a.shape.blocks [] (take c.visible a.index.changes) tt) ∙ next) rows
+    (next_is_wanted a.shape.blocks c.table c.lo c.hi c.last (rows_of a.shape.blocks c.visible a.versions.changes) (ordered-rows a.shape.blocks a.versions.changes c.visible) ∙ next) rows
 
 -- the state where the cursor of a name has given one more row
 pub view-fetch : (a : Inside) (kept : Kept) (s : ℕ) (name : List ℕ) (i : ℕ) (d : OpenCursor) (r : TableRow) (key : ℕ) (cs : List OpenCursor) → the_view a ≡ kept → s ≡ 1 → IsPlace (has_name name) a.cursors.items i
     → cs ≡ set a.cursors.items i (record (get_or a.cursors.items i d) { last = Some key }) → key ≡ r.key
-    → next_of a.shape.blocks (get_or a.cursors.items i d).table (get_or a.cursors.items i d).lo (get_or a.cursors.items i d).hi (get_or a.cursors.items i d).last (changes_of (take (get_or a.cursors.items i d).visible a.index.changes)) ≡ Some r
-    → state_view a.shape a.base a.base_length a.ends.items a.index.changes cs a.stopped ≡ after_grant kept.state (Fetch s name)
+    → next_of a.shape.blocks (get_or a.cursors.items i d).table (get_or a.cursors.items i d).lo (get_or a.cursors.items i d).hi (get_or a.cursors.items i d).last (changes_of (take (get_or a.cursors.items i d).visible a.versions.changes)) ≡ Some r
+    → state_view a.shape a.base a.base_length a.ends.items a.versions.changes cs a.stopped ≡ after_grant kept.state (Fetch s name)
 view-fetch a kept s name i d r key cs v e place f k next =
     let c = get_or a.cursors.items i d in
-    let view = cursor_view a.shape.blocks a.base a.base_length a.ends.items a.index.changes in
-    let rows = rows_of a.shape.blocks c.visible a.index.changes in
+    let view = cursor_view a.shape.blocks a.base a.base_length a.ends.items a.versions.changes in
+    let rows = rows_of a.shape.blocks c.visible a.versions.changes in
     let more : given_count a.shape.blocks (Some key) (asked c.table c.lo c.hi rows) ≡ suc (given_count a.shape.blocks c.last (asked c.table c.lo c.hi rows)) =
     ap (λ n. given_count a.shape.blocks (Some n) (asked c.table c.lo c.hi rows)) k
-    ∙ given_one_more a.shape.blocks c.table c.lo c.hi c.last r rows (ordered-over a.shape.blocks [] (take c.visible a.index.changes) tt) next in
+    ∙ given_one_more a.shape.blocks c.table c.lo c.hi c.last r rows (ordered-rows a.shape.blocks a.versions.changes c.visible) next in
     let moved : view (record c { last = Some key }) ≡ record (view c) { taken = suc (view c).taken } = rw (more) refl in
     let cursors : map view cs ≡ with_taken name (map view a.cursors.items) =
-    ap (map view) f ∙ sym (taken_at_place a.shape.blocks a.base a.base_length a.ends.items a.index.changes name a.cursors.items i d (record c { last = Some key }) place moved) in
+    ap (map view) f ∙ sym (taken_at_place a.shape.blocks a.base a.base_length a.ends.items a.versions.changes name a.cursors.items i d (record c { last = Some key }) place moved) in
     rw (cursors) refl
     ∙ ap (λ (k : Kept). after_grant k.state (Fetch 1 name)) v
     ∙ ap (λ n. after_grant kept.state (Fetch n name)) (sym e)
 
 -- the state without the cursor of a name
 pub view-close : (a : Inside) (kept : Kept) (s : ℕ) (name : List ℕ) (i : ℕ) (cs : List OpenCursor) → the_view a ≡ kept → s ≡ 1 → IsPlace (has_name name) a.cursors.items i → cs ≡ remove a.cursors.items i
-    → state_view a.shape a.base a.base_length a.ends.items a.index.changes cs a.stopped ≡ after_grant kept.state (call.CloseCursor s name)
+    → state_view a.shape a.base a.base_length a.ends.items a.versions.changes cs a.stopped ≡ after_grant kept.state (call.CloseCursor s name)
 view-close a kept s name i cs v e place f =
-    let view = cursor_view a.shape.blocks a.base a.base_length a.ends.items a.index.changes in
-    let cursors : map view cs ≡ without_cursor name (map view a.cursors.items) = ap (map view) f ∙ sym (removed_at_place a.shape.blocks a.base a.base_length a.ends.items a.index.changes name a.cursors.items i place) in
+    let view = cursor_view a.shape.blocks a.base a.base_length a.ends.items a.versions.changes in
+    let cursors : map view cs ≡ without_cursor name (map view a.cursors.items) = ap (map view) f ∙ sym (removed_at_place a.shape.blocks a.base a.base_length a.ends.items a.versions.changes name a.cursors.items i place) in
     rw (cursors) refl
     ∙ ap (λ (k : Kept). after_grant k.state (call.CloseCursor 1 name)) v
     ∙ ap (λ n. after_grant kept.state (call.CloseCursor n name)) (sym e)

@@ -11,11 +11,11 @@ pub invariant_of-self : goal.invariant_of-self
 invariant_of-self c =
     let a = c.self.inside in
     let number : c.number.result ≡ a.base + length a.ends.items =
-    c.number.ensures.number ∙ ap (λ (k : Kept). last_number k.state.commits) (sym c.self.view_is) ∙ ap (λ n. a.base + n) (length-cut a.base_length a.ends.items a.index.changes) in (
-      kept-cursors a.shape a.slots a.base a.base_length a.ends.items a.index.changes a.cursors.items c.push.new.self.items _ _ c.self.invariant.0
-          (subst (AllByRecursion (IsOpened a.base a.base_length a.ends.items (length a.index.changes))) (sym c.push.ensures.items)
-          (all-push (IsOpened a.base a.base_length a.ends.items (length a.index.changes)) a.cursors.items _ c.self.invariant.0.each_cursor
-          (opened_now a.base a.base_length a.ends.items a.index.changes _ c.self.invariant.0.within number (ap length c.changes.ensures)))),
+    c.number.ensures.number ∙ ap (λ (k : Kept). last_number k.state.commits) (sym c.self.view_is) ∙ ap (λ n. a.base + n) (length-cut a.base_length a.ends.items a.versions.changes) in (
+      kept-cursors a.shape a.base a.base_length a.ends.items a.versions.changes a.cursors.items c.push.new.self.items _ _ c.self.invariant.0
+          (subst (AllByRecursion (IsOpened a.base a.base_length a.ends.items (length a.versions.changes))) (sym c.push.ensures.items)
+          (all-push (IsOpened a.base a.base_length a.ends.items (length a.versions.changes)) a.cursors.items _ c.self.invariant.0.each_cursor
+          (opened_now a.base a.base_length a.ends.items a.versions.changes _ c.self.invariant.0.within number (ap length c.changes.ensures)))),
       c.self.invariant.1,
     )
 

@@ -7,5 +7,5 @@ use Rattle.rb_engine.proofs.state.EngineState.number.Goals as goal
 pub returns-clause-number : goal.returns-clause-number
 returns-clause-number c =
     let a = c.self.inside in
-    ap (λ n. a.base + n) (ap length c.as_slice.ensures.value ∙ sym (length-cut a.base_length a.ends.items a.index.changes))
+    ap (λ n. a.base + n) (ap length c.as_slice.ensures.value ∙ sym (length-cut a.base_length a.ends.items a.versions.changes))
     ∙ ap (λ (k : Kept). last_number k.state.commits) c.self.view_is
