@@ -9,7 +9,7 @@ use Rattle.std.specs.List.{flat_map, AllByRecursion}
 use Rattle.rb_base.specs.declared.ids.Shape.{Shape}
 use Rattle.rb_model.specs.Change.{Change, put}
 use Rattle.rb_model.specs.Rows.{TableRow, over, rows_at, changed_by, with_row}
-use Rattle.rb_model.specs.State.{State, Cursor, cursor_rows, session_of, with_taken, without_cursor, opened}
+use Rattle.rb_model.specs.State.{State, Cursor, cursor_rows, with_taken, without_cursor, opened}
 use Rattle.rb_model.specs.Reply.{rows_now, with_own, committed, after_refusal}
 use Rattle.rb_model.specs.declared.refusal.Refusal.{Refusal}
 use Rattle.rb_model.specs.declared.refusal.Refusal.TheVariants.{NoSession, NoTable, ValueTooLong, Duplicate, NotFound, BlockFull, NoCursor, CursorThere, TooManyCursors, WornOut, DiskFault, Stopped, LogFull}
@@ -17,7 +17,7 @@ use Rattle.rb_engine.specs.declared.cursor.OpenCursor.{OpenCursor}
 use Rattle.rb_versions.specs.declared.change.RowChange.{RowChange}
 use Rattle.rb_versions.specs.Changes.{changes_of, change_of}
 use Rattle.rb_versions.specs.Next.{asked, given_count}
-use Rattle.rb_engine.specs.Kept.{Kept, last_end, Rising, between, cut, rows_of, end_at, cursor_view, state_view, IsOpened, IsKept, IsPlace, has_name}
+use Rattle.rb_engine.specs.Kept.{last_end, Rising, between, cut, rows_of, end_at, cursor_view, state_view, IsOpened, IsKept, IsPlace, has_name}
 
 pub over-append : (blocks : ℕ) (rows : List TableRow) (xs ys : List Change) → over blocks rows (xs ++ ys) ≡ over blocks (over blocks rows xs) ys
 over-append blocks rows [] ys = refl

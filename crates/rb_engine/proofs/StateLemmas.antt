@@ -1,10 +1,11 @@
 -- What the fields of the state say of the machine's answers.
-use Rattle.std.proofs.Common.{◌≡◌, ℕ, suc, ◌+◌, ◌<◌, ◌≤◌, Bool, true, false, not, ◌&&◌, cond, List, [], ◌∷◌, ◌++◌, length, take, drop, map, set, get_or, refl, ap, sym, ◌∙◌, subst, Option, None, Some, IfSome, IfNone, is_some, is_none, nat_le}
-use Rattle.std.proofs.lemmas.List.{length-map, map_push}
+use Rattle.std.proofs.Common.{◌≡◌, ℕ, zero, suc, ◌+◌, ◌<◌, ◌≤◌, Bool, true, false, not, ◌&&◌, cond, List, [], ◌∷◌, ◌++◌, length, take, drop, map, set, get_or, refl, ap, sym, ◌∙◌, subst, Option, None, Some, IfSome, IfNone, is_some, is_none, nat_le, nat_lt, arith, Result, Ok}
+use Rattle.std.proofs.lemmas.Bool.Decides.{nat_tests}
+use Rattle.std.proofs.lemmas.List.{length-map, map_push, take_all}
 use Rattle.std.proofs.lemmas.Bool.{le-leb, and_parts, not-true, cond-false}
 use Rattle.std.specs.List.{AllByRecursion}
 use Rattle.std.specs.Prelude.{slice_get, remove}
-use Rattle.rb_model.specs.Rows.{TableRow, last_number, has_row}
+use Rattle.rb_model.specs.Rows.{TableRow, last_number, has_row, over}
 use Rattle.rb_model.specs.State.{State, Cursor, is_session, is_table, session_of, cursor_of, cursor_rows, with_taken, without_cursor}
 use Rattle.rb_model.specs.Reply as call
 use Rattle.rb_model.specs.Full.{full_block}
@@ -14,12 +15,15 @@ use Rattle.rb_model.specs.declared.refusal.Refusal.TheVariants.{Duplicate, NotFo
 use Rattle.rb_engine.specs.declared.state.EngineState.TheInside.{Inside}
 use Rattle.rb_engine.specs.contracts.state.EngineState.{the_view}
 use Rattle.rb_engine.specs.declared.cursor.OpenCursor.{OpenCursor}
+use Rattle.rb_versions.specs.declared.change.RowChange.{RowChange}
 use Rattle.rb_versions.specs.Changes.{changes_of}
+use Rattle.rb_versions.specs.Homes.{IsFull}
 use Rattle.rb_versions.specs.Next.{asked, given_count, next_of}
 use Rattle.rb_engine.specs.Kept.{Kept, cursor_view, state_view, rows_of, cut, last_end, Rising, IsOpened, IsPlace, has_name}
 use Rattle.rb_versions.proofs.RowLemmas.{ordered-rows}
 use Rattle.rb_versions.proofs.GivenLemmas.{next_is_wanted, given_one_more}
-use Rattle.rb_engine.proofs.KeptLemmas.{find_at_place, none_named, cursor_rows_view, taken_at_place, removed_at_place, fresh_view, all_at}
+use Rattle.rb_engine.proofs.FullLemmas.{full_view}
+use Rattle.rb_engine.proofs.KeptLemmas.{find_at_place, none_named, cursor_rows_view, rows_now_view, taken_at_place, removed_at_place, fresh_view, all_at}
 
 -- the tests of a call, each with its outcome
 
@@ -40,6 +44,15 @@ pub commit_tests : (h : State) (logged room s : ℕ) (empty : Bool) → h.stoppe
     → expected h logged room (Commit s) ≡ cond empty Done (Numbered (last_number h.commits + 1))
 commit_tests h logged room s empty a b e = rw (a, b, e) refl
 
+pub gives_true : (x y : ℕ) → ◌≡◌ {A = Result Bool Refusal} (Ok (nat_lt x y)) (Ok true) → x < y
+gives_true x y e = grind (arith, nat_tests)
+
+-- a transaction whose changes begin before their end has one
+pub own_empty : (start : ℕ) (changes : List RowChange) → start < length changes → is_empty (changes_of (drop start changes)) ≡ false
+own_empty start [] some = absurd (omega (arith, some))
+own_empty zero (p ∷ changes) some = refl
+own_empty (suc start) (p ∷ changes) some = own_empty start changes (omega (arith, some))
+
 -- where no test of the first ones applies, the others tell
 tests_behind : (tests more : List (Bool × Refusal)) (good : Answer) → none_applies tests ≡ true → first_of (tests ++ more) good ≡ first_of more good
 tests_behind [] more good none = refl
@@ -48,13 +61,14 @@ tests_behind (test ∷ tests) more good none =
     cond-false test.0 (Refused test.1) (first_of (tests ++ more) good) (not-true test.0 parts.0) ∙ tests_behind tests more good parts.1
 
 -- a write behind its early tests
-pub write_tests : (h : State) (logged room s table key : ℕ) (action : Action) (adding there full : Bool) → none_applies (early_tests h (Write s table key action)) ≡ true
-    → adds action ≡ adding → has_row table key (rows_now h s) ≡ there → (adding && full_block h table key) ≡ full
+pub write_tests : (h : State) (logged room s table key : ℕ) (action : Action) (adding there full : Bool) → none_applies (early_tests h (Write s table key action)) ≡ true → s ≡ 1
+    → adds action ≡ adding → has_row table key (rows_now h 1) ≡ there → (adding && full_block h table key) ≡ full
     → expected h logged room (Write s table key action)
     ≡ cond (adding && there) (Refused Duplicate) (cond (not adding && not there) (Refused NotFound) (cond full (Refused BlockFull) (first_of (log_tests logged room) Done)))
-write_tests h logged room s table key action adding there full early a t f =
+write_tests h logged room s table key action adding there full early e a t f =
+    let now : has_row table key (rows_now h s) ≡ there = ap (λ n. has_row table key (rows_now h n)) e ∙ t in
     tests_behind (early_tests h (Write s table key action)) (later_tests h logged room (Write s table key action)) Done early
-    ∙ (rw (a, t) (rw (f) refl))
+    ∙ (rw (a, now) (rw (f) refl))
 
 -- what the fields say
 
@@ -105,6 +119,29 @@ pub search_tells : (a : Inside) (kept : Kept) (s : ℕ) (xs : List OpenCursor) (
     → is_some (cursor_of kept.state s name) ≡ is_some r
 search_tells a kept s xs bytes name d (Some i) v e x b place none = ap is_some (cursor_there a kept s name i d v e (found_place a xs bytes name i x b place))
 search_tells a kept s xs bytes name d None v e x b place none = ap is_some (found_none a kept s xs bytes name d v e x b none)
+
+-- what a write asks of the memory
+
+pub row_now : (a : Inside) (kept : Kept) (table key : ℕ) (changes : List RowChange) (there : Bool) → the_view a ≡ kept → Rising a.base_length a.ends.items → last_end a.base_length a.ends.items ≤ length a.versions.changes
+    → changes ≡ a.versions.changes → ((blocks : ℕ) → there ≡ has_row table key (over blocks [] (changes_of (take (length changes) a.versions.changes)))) → has_row table key (rows_now kept.state 1) ≡ there
+row_now a kept table key changes there v rising within e is =
+    let all : take (length changes) a.versions.changes ≡ a.versions.changes = take_all (length changes) a.versions.changes (let n = ap length e in omega (arith, n)) in
+    ap (λ (k : Kept). has_row table key (rows_now k.state 1)) (sym v)
+    ∙ ap (has_row table key) (rows_now_view a.shape a.base a.base_length a.ends.items a.versions.changes a.cursors.items a.stopped rising within)
+    ∙ ap (λ ps. has_row table key (over a.shape.blocks [] (changes_of ps))) (sym all)
+    ∙ sym (is a.shape.blocks)
+
+pub full_now : (a : Inside) (kept : Kept) (committed table key : ℕ) (ends : List ℕ) (full : Bool) → the_view a ≡ kept → Rising a.base_length a.ends.items → ends ≡ a.ends.items → committed ≡ last_end a.base_length ends
+    → a.versions.blocks ≡ a.shape.blocks → (full ≡ true → IsFull a.versions.blocks a.versions.changes committed table key) → (full ≡ false → IsFull a.versions.blocks a.versions.changes committed table key → ⊥)
+    → full_block kept.state table key ≡ full
+full_now a kept committed table key ends full v rising f e b makes never =
+    let at : committed ≡ last_end a.base_length a.ends.items = e ∙ ap (last_end a.base_length) f in
+    let there : IsFull a.versions.blocks a.versions.changes committed table key → IsFull a.shape.blocks a.versions.changes (last_end a.base_length a.ends.items) table key =
+    λ is. subst (λ n. IsFull n a.versions.changes (last_end a.base_length a.ends.items) table key) b (subst (λ n. IsFull a.versions.blocks a.versions.changes n table key) at is) in
+    let back : IsFull a.shape.blocks a.versions.changes (last_end a.base_length a.ends.items) table key → IsFull a.versions.blocks a.versions.changes committed table key =
+    λ is. subst (λ n. IsFull a.versions.blocks a.versions.changes n table key) (sym at) (subst (λ n. IsFull n a.versions.changes (last_end a.base_length a.ends.items) table key) (sym b) is) in
+    ap (λ (k : Kept). full_block k.state table key) (sym v)
+    ∙ full_view a.shape a.base a.base_length a.ends.items a.versions.changes a.cursors.items a.stopped table key full rising (λ is. there (makes is)) (λ fails is. never fails (back is))
 
 -- what a cursor gives next
 

@@ -261,14 +261,18 @@ impl EngineState {
         let present = self
             .versions
             .is_present(table, key, self.versions.changes().len());
-        let committed = last_end_of(self.base_length, self.ends.as_slice());
-        if is_insert(op) && present {
+        if !is_insert(op) {
+            return if present {
+                None
+            } else {
+                Some(Refusal::NotFound)
+            };
+        }
+        if present {
             return Some(Refusal::Duplicate);
         }
-        if !is_insert(op) && !present {
-            return Some(Refusal::NotFound);
-        }
-        if is_insert(op) && self.versions.is_full(table, key, committed) {
+        let committed = last_end_of(self.base_length, self.ends.as_slice());
+        if self.versions.is_full(table, key, committed) {
             return Some(Refusal::BlockFull);
         }
         None
@@ -286,8 +290,7 @@ impl EngineState {
         ensures spare { self.new.spare + 1 ≡ self.old.spare }
     {
         let kept = seen_counts(self.cursors.as_slice());
-        self.versions
-            .push(change_of_write(table, key, op), &kept);
+        self.versions.push(change_of_write(table, key, op), &kept);
     }
 
     /// Why a cursor isn't opened, where it isn't.

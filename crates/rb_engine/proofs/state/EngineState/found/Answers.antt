@@ -1,4 +1,4 @@
-use Rattle.std.proofs.Common.{◌≡◌, ◌-◌, ◌<◌, ◌≤◌, false, List, [], drop, length, arith, ap, sym, ◌∙◌, subst}
+use Rattle.std.proofs.Common.{◌≡◌, ◌-◌, ◌<◌, ◌≤◌, false, [], drop, length, arith, ap, sym, ◌∙◌, subst}
 use Rattle.rb_model.specs.Rows.{with_row}
 use Rattle.rb_model.specs.State.{State, session_of, opened}
 use Rattle.rb_versions.specs.Changes.{changes_of}

@@ -1,4 +1,4 @@
-use Rattle.std.proofs.Common.{◌≡◌, ◌-◌, ◌<◌, ◌++◌, ◌∷◌, [], drop, length, arith, ap, sym, ◌∙◌, subst}
+use Rattle.std.proofs.Common.{◌-◌, ◌<◌, ◌++◌, ◌∷◌, [], drop, length, arith, ap, sym, ◌∙◌, subst}
 use Rattle.std.proofs.lemmas.List.{drop-append-le, map_push}
 use Rattle.rb_model.specs.Change.{Change}
 use Rattle.rb_model.specs.State.{State, session_of}
