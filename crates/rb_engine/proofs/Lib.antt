@@ -1,2 +1,4 @@
 pub mod CrashLemmas
+pub mod FullLemmas
 pub mod KeptLemmas
+pub mod StateLemmas
