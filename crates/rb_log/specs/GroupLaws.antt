@@ -1,8 +1,10 @@
 -- What follows from the definitions on groups in log slots, for the crates above.
-use Rattle.std.specs.Prelude.{◌≡◌, ℕ, ◌+◌, ◌*◌, ◌<◌, zero, suc, List, [], ◌∷◌, ◌++◌, length, take, drop, slice_index}
+use Rattle.std.specs.Prelude.{◌≡◌, ℕ, ◌+◌, ◌*◌, ◌<◌, ◌≤◌, zero, suc, List, [], ◌∷◌, ◌++◌, length, take, drop, slice_index}
 use Rattle.std.proofs.Common.{inl, inr, ⊎_elim, sym, ◌∙◌, ap, subst, refl, arith}
 use Rattle.std.proofs.lemmas.List.{append-nil, drop-drop, drop-take, take-take}
-use Rattle.rb_base.specs.Fields.{part}
+use Rattle.byteorder.specs.Numbers.{big_number-reads_back}
+use Rattle.rb_base.specs.Blocks.{patched}
+use Rattle.rb_base.specs.Fields.{part, number_at, overwritten}
 use Rattle.rb_base.specs.Groups.{Patch}
 use Rattle.rb_group.proofs.Spelling.{group_same}
 use Rattle.rb_layout.specs.Regions.{log_offset}
@@ -75,3 +77,7 @@ pub cut_log : (l : Layout) (file : List ℕ) (slot n : ℕ) (groups : List (List
 cut_log l file slot zero groups log = tt
 cut_log l file slot (suc n) [] log = tt
 cut_log l file slot (suc n) (group ∷ groups) log = (log.0, log.1, cut_log l file (slot + 1) n groups log.2)
+
+-- a block that a group patches has the group's number in front
+pub patched_number : (number : ℕ) (p : Patch) (block : List ℕ) → number ≤ 4096 → number_at (patched number p block) 0 8 ≡ number
+patched_number number p block few = big_number-reads_back 8 number (drop 8 (overwritten block p.at p.bytes)) (omega (arith, few))
