@@ -1,5 +1,5 @@
 use Rattle.std.proofs.Common.{ℕ, List, take, ap, ◌∙◌}
-use Rattle.rb_layout.proofs.layout.Layout.read_version.Goals as goal
+use Rattle.rb_layout.proofs.layout.Layout.read.Goals as goal
 
 -- what was read is the front of the file
 pub returns-in_default-layout_of-clause-none : goal.returns-in_default-layout_of-clause-none
