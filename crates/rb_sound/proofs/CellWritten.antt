@@ -1,5 +1,5 @@
 -- A good cell written into a block of rows that is in order.
-use Rattle.std.proofs.Common.{◌≡◌, ◌≢◌, ℕ, ◌+◌, ◌-◌, ◌%◌, ◌<◌, ◌≤◌, true, false, List, [], ◌∷◌, ◌++◌, length, take, drop, arith, ap, sym, subst, ◌∙◌, inl, inr}
+use Rattle.std.proofs.Common.{◌≡◌, ◌≢◌, ℕ, ◌+◌, ◌-◌, ◌%◌, ◌<◌, ◌≤◌, true, false, List, [], ◌∷◌, ◌++◌, length, drop, arith, ap, sym, subst, ◌∙◌, inl, inr}
 use Rattle.std.proofs.lemmas.Bool.{cases_lt, cases_eq, false≢true}
 use Rattle.std.proofs.lemmas.List.{drop-take, drop-drop}
 use Rattle.byteorder.specs.Endian.{big_bytes}
@@ -11,7 +11,7 @@ use Rattle.rb_itl.specs.declared.slots.Entry.{Entry}
 use Rattle.rb_itl.specs.declared.slots.TheConstants.{FREE}
 use Rattle.rb_itl.specs.Entries.{entry_place, entry_of, entry_at}
 use Rattle.rb_cell.specs.declared.cell.Cell.{Cell}
-use Rattle.rb_cell.specs.Cells.{cell_place, padded, cell_bytes, cell_of, cell_at, cell_patch, IsCell}
+use Rattle.rb_cell.specs.Cells.{cell_place, padded, cell_of, cell_at, cell_patch, IsCell}
 use Rattle.rb_cell.proofs.CellBytes.{length-cell, cell_read}
 use Rattle.rb_heap.specs.Homes.{is_keyed}
 use Rattle.rb_heap.proofs.Blocks.{block_long}

@@ -1,6 +1,6 @@
 -- The next commit number written into the first table slot of a file that is in order.
-use Rattle.std.proofs.Common.{◌≡◌, ◌≢◌, ℕ, ◌+◌, ◌%◌, ◌^◌, ◌<◌, ◌≤◌, List, [], ◌∷◌, length, refl, arith, ap, sym, subst, ◌∙◌, inl, inr}
-use Rattle.std.proofs.lemmas.Bool.{cases_lt, cases_eq}
+use Rattle.std.proofs.Common.{◌≡◌, ℕ, ◌+◌, ◌%◌, ◌^◌, ◌<◌, ◌≤◌, List, [], ◌∷◌, length, refl, arith, ap, sym, subst, ◌∙◌, inl, inr}
+use Rattle.std.proofs.lemmas.Bool.{cases_lt}
 use Rattle.byteorder.specs.Endian.{big_bytes}
 use Rattle.byteorder.specs.Numbers.{big_number-reads_back}
 use Rattle.rb_base.specs.declared.ids.Shape.{Shape}
@@ -9,7 +9,7 @@ use Rattle.rb_base.specs.Fields.{number_at, AreApart}
 use Rattle.rb_base.specs.Groups.{Patch, patch}
 use Rattle.rb_heap.proofs.Blocks.{block_long}
 use Rattle.rb_heap.proofs.Patching.{number_patched}
-use Rattle.rb_sound.specs.Sound.{header_block, slot_place, extent_place, slot_state, slot_wrap, slot_newest, slot_before, extent_ord, extent_newest, head_extent, head_records, lost_number, commit_number, wrap_at, IsRing, IsSlot, IsSegment, IsHomeSound, AreSound}
+use Rattle.rb_sound.specs.Sound.{header_block, slot_place, extent_place, slot_state, slot_wrap, slot_newest, slot_before, extent_ord, extent_newest, head_extent, head_records, lost_number, commit_number, wrap_at, IsRing, IsSegment, IsHomeSound, AreSound}
 use Rattle.rb_sound.proofs.Greatest.{commit_above, commit_least}
 use Rattle.rb_sound.proofs.Kept.{all_kept, segment_later}
 use Rattle.rb_sound.proofs.Patched.{number_of_part, number_kept, byte_kept, part_there, block_there, block_elsewhere}
@@ -129,21 +129,21 @@ commit_next shape blocks number n is are was fits =
     let least : commit_number shape now ≤ n + 1 =
     commit_least shape now (n + 1)
     (λ g i there few.
-        let old = commit_above shape blocks g i there few in
-        elim (cases_lt g 1) [
-          | inl first ↦
-              let zeroth : g ≡ 0 = omega arith in
-              subst (λ (g : ℕ). slot_newest (block_of now (header_block shape g)) i ≤ n + 1) (sym zeroth)
-              (elim (cases_lt i 1) [
-                | inl own ↦ let same : i ≡ 0 = omega arith in let newest = ap (slot_newest (block_of now (header_block shape 0))) same ∙ has.own in omega (arith, newest)
-                | inr other ↦
-                    let above = subst (λ (g : ℕ). slot_newest (block_of blocks (header_block shape g)) i ≤ commit_number shape blocks) zeroth old in
-                    omega (arith, has.others i other, above, was)
-              ])
-          | inr more ↦
-              let same = ap (λ (header : List ℕ). slot_newest header i) (header_elsewhere shape blocks number n g more) in
-              omega (arith, same, old, was)
-        ]) in
+    let old = commit_above shape blocks g i there few in
+    elim (cases_lt g 1) [
+      | inl first ↦
+          let zeroth : g ≡ 0 = omega arith in
+          subst (λ (g : ℕ). slot_newest (block_of now (header_block shape g)) i ≤ n + 1) (sym zeroth)
+          (elim (cases_lt i 1) [
+            | inl own ↦ let same : i ≡ 0 = omega arith in let newest = ap (slot_newest (block_of now (header_block shape 0))) same ∙ has.own in omega (arith, newest)
+            | inr other ↦
+                let above = subst (λ (g : ℕ). slot_newest (block_of blocks (header_block shape g)) i ≤ commit_number shape blocks) zeroth old in
+                omega (arith, has.others i other, above, was)
+          ])
+      | inr more ↦
+          let same = ap (λ (header : List ℕ). slot_newest header i) (header_elsewhere shape blocks number n g more) in
+          omega (arith, same, old, was)
+    ]) in
     let above = commit_above shape now 0 0 (omega (arith, is.few_segments.0)) (omega arith) in
     omega (arith, least, above, has.own)
 

@@ -1,5 +1,5 @@
 -- Blocks of a file that stay in order, where the commit number rises or stays, and no slot is taken.
-use Rattle.std.proofs.Common.{◌≡◌, ℕ, ◌<◌, ◌≤◌, ◌%◌, List, arith, sym, ◌∙◌}
+use Rattle.std.proofs.Common.{ℕ, ◌<◌, ◌≤◌, ◌%◌, List, arith}
 use Rattle.rb_base.specs.declared.ids.Shape.{Shape}
 use Rattle.rb_base.specs.Blocks.{block_of, table_blocks}
 use Rattle.rb_itl.specs.declared.slots.Entry.{Entry}
@@ -36,7 +36,7 @@ segment_later commit later header le is = record {
 pub all_kept : (shape : Shape) (blocks now : List (List ℕ)) → AreSound shape blocks → commit_number shape blocks ≤ commit_number shape now → AreAlike shape (wrap_at shape blocks) (wrap_at shape now)
     → ((g : ℕ) → g < shape.segments → IsSegment (commit_number shape blocks) (block_of blocks (header_block shape g)) → IsSegment (commit_number shape now) (block_of now (header_block shape g)))
     → ((b : ℕ) → b < table_blocks shape → IsHomeSound shape (commit_number shape blocks) (wrap_at shape blocks) (b % shape.blocks) (block_of blocks b)
-        → IsHomeSound shape (commit_number shape blocks) (wrap_at shape blocks) (b % shape.blocks) (block_of now b))
+    → IsHomeSound shape (commit_number shape blocks) (wrap_at shape blocks) (b % shape.blocks) (block_of now b))
     → AreSound shape now
 all_kept shape blocks now sound le same segments homes = record {
   segments = λ g there. segments g there (sound.segments g there);

@@ -5,7 +5,7 @@ use Rattle.byteorder.specs.Endian.{big_bytes}
 use Rattle.byteorder.specs.Numbers.{big_from-take}
 use Rattle.rb_base.specs.declared.ids.Shape.{Shape}
 use Rattle.rb_base.specs.Blocks.{block_of, patched, after_group, shape_blocks, AreBlocks}
-use Rattle.rb_base.specs.Fields.{part, number_at, overwritten, with_number, AreApart}
+use Rattle.rb_base.specs.Fields.{part, number_at, overwritten, AreApart}
 use Rattle.rb_base.specs.Groups.{Patch}
 use Rattle.rb_base.proofs.Overwriting.{length-overwritten, part_written, part_apart}
 use Rattle.rb_heap.proofs.Blocks.{group_others}
