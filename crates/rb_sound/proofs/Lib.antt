@@ -1,8 +1,8 @@
-mod CellWritten
-mod CommitWritten
+pub mod CellWritten
+pub mod CommitWritten
 pub mod Fresh
 pub mod Greatest
-mod Kept
+pub mod Kept
 pub mod Keys
-mod Patched
+pub mod Patched
 pub mod Together
