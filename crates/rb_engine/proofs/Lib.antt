@@ -1,3 +1,4 @@
 pub mod KeptLemmas
 pub mod StateLemmas
 pub mod FullLemmas
+pub mod UsedLemmas
