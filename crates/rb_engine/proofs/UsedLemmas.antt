@@ -2,15 +2,17 @@
 use Rattle.std.proofs.Common.{◌≡◌, ◌≢◌, ℕ, suc, ◌+◌, ◌-◌, ◌%◌, ◌<◌, ◌≤◌, Bool, true, false, not, ◌&&◌, ◌||◌, ◌==◌, nat_eq, nat_le, List, [], ◌∷◌, ◌++◌, length, take, filter, get_or, cond, append_assoc, refl, arith, ap, sym, ◌∙◌, subst, ⊎_elim, ◌⊎◌, inl, inr}
 use Rattle.std.proofs.lemmas.Bool.{cases_Bool, or_cases, cases_eq, cases_lt, cond_both, false≢true, and_parts, and_from, le-leb}
 use Rattle.std.proofs.lemmas.Bool.Decides.{nat_tests}
-use Rattle.std.proofs.lemmas.List.{append-nil, take_all}
+use Rattle.std.proofs.lemmas.List.{append-nil, take_all, length-set}
 use Rattle.std.proofs.lemmas.List.Folds.{list_any-append, Any-from_list_any}
 use Rattle.std.proofs.lemmas.Map.Keys.{IsDistinct-cons}
 use Rattle.std.specs.List.{flat_map, list_any, All, AllByRecursion, IsDistinct}
 use Rattle.rb_model.specs.Change.{Change, Kind, Put, Gone, Held}
-use Rattle.rb_model.specs.Rows.{TableRow, row_before, is_row_of, has_row, with_row, changed_by, last_number, over, rows_at}
-use Rattle.rb_model.specs.State.{State, Session, session_of}
+use Rattle.rb_model.specs.Rows.{TableRow, row_before, is_row_of, has_row, with_row, changed_by, over, rows_at}
+use Rattle.rb_model.specs.State.{State, Session, session_of, fresh_session}
 use Rattle.rb_model.specs.Full.{has_key, held, used_keys, full_block}
-use Rattle.rb_model.specs.Reply.{Action, Insert, Update, Delete, Write, adds, change_by, rows_now, after_grant, committed}
+use Rattle.rb_model.specs.Reply.{Action, Insert, Update, Delete, Call, Write, Commit, OpenCursor, Fetch, CloseCursor, Answer, Done, Waits, Numbered, Given, End, Refused, adds, change_by, is_empty, rows_now, after, after_grant, after_refusal, committed}
+use Rattle.rb_model.specs.declared.refusal.Refusal.{Refusal}
+use Rattle.rb_model.specs.declared.refusal.Refusal.TheVariants.{NoSession, NoTable, ValueTooLong, Duplicate, NotFound, BlockFull, NoCursor, CursorThere, TooManyCursors, WornOut, DiskFault, Stopped, LogFull}
 use Rattle.rb_engine.proofs.KeptLemmas.{over-append}
 use Rattle.rb_engine.proofs.FullLemmas.{distinct_within, is_of, rows_last, uses, used_has, used_home, distinct_used}
 
@@ -267,3 +269,47 @@ full_when h s table key others one distinct sixteen homes different rows few =
     absurd (omega (arith, more, count, sixteen, most)))
     (λ unused. and_from (not (has_key key keys)) (nat_le 16 (length keys)) (ap not unused) (le-leb 16 (length keys) (omega (arith, many, sixteen))))
     (cases_Bool (has_key key keys))
+
+-- calls keep the sessions that there are
+
+pub sessions_committed : (h : State) (n : ℕ) → length (committed h n).sessions ≡ length h.sessions
+sessions_committed h n = length-set h.sessions (n - 1) (record { own = []; cursors = (session_of h n).cursors })
+
+pub sessions_granted : (h : State) (call : Call) → length (after_grant h call).sessions ≡ length h.sessions
+sessions_granted h (Write n table key action) = length-set h.sessions (n - 1) _
+sessions_granted h (Commit n) = cond_both (is_empty (session_of h n).own) h (committed h n) (λ (g : State). length g.sessions ≡ length h.sessions) (λ nothing. refl) (λ some. sessions_committed h n)
+sessions_granted h (OpenCursor n name table lo hi) = length-set h.sessions (n - 1) _
+sessions_granted h (Fetch n name) = length-set h.sessions (n - 1) _
+sessions_granted h (CloseCursor n name) = length-set h.sessions (n - 1) _
+
+sessions_refused : (h : State) (why : Refusal) → length (after_refusal h why).sessions ≡ length h.sessions
+sessions_refused h NoSession = refl
+sessions_refused h NoTable = refl
+sessions_refused h ValueTooLong = refl
+sessions_refused h Duplicate = refl
+sessions_refused h NotFound = refl
+sessions_refused h BlockFull = refl
+sessions_refused h NoCursor = refl
+sessions_refused h CursorThere = refl
+sessions_refused h TooManyCursors = refl
+sessions_refused h WornOut = refl
+sessions_refused h DiskFault = refl
+sessions_refused h Stopped = refl
+sessions_refused h LogFull = refl
+
+pub sessions_after : (h : State) (call : Call) (answer : Answer) → length (after h call answer).sessions ≡ length h.sessions
+sessions_after h call Done = sessions_granted h call
+sessions_after h call (Waits on) = refl
+sessions_after h call (Numbered n) = sessions_granted h call
+sessions_after h call (Given key value) = sessions_granted h call
+sessions_after h call End = refl
+sessions_after h call (Refused why) = sessions_refused h why
+
+one_of : (sessions : List Session) (d : Session) → length sessions ≡ 1 → sessions ≡ get_or sessions 0 d ∷ []
+one_of [] d one = absurd (omega (arith, one))
+one_of (s ∷ []) d one = refl
+one_of (s ∷ r ∷ sessions) d one = absurd (omega (arith, one))
+
+-- where there is one session, it is the first
+pub the_one : (h : State) → length h.sessions ≡ 1 → h.sessions ≡ session_of h 1 ∷ []
+the_one h one = one_of h.sessions fresh_session one
