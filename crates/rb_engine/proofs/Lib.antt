@@ -1,4 +1,6 @@
 pub mod CrashLemmas
+pub mod EngineLemmas
 pub mod FullLemmas
 pub mod KeptLemmas
 pub mod StateLemmas
+pub mod UsedLemmas
