@@ -1,4 +1,5 @@
+pub mod CrashLemmas
+pub mod FullLemmas
 pub mod KeptLemmas
 pub mod StateLemmas
-pub mod FullLemmas
 pub mod UsedLemmas

@@ -3,6 +3,8 @@
 #![tactic(auto)]
 
 mod cursor;
+mod engine;
+mod open;
 mod state;
 
-pub use state::EngineState;
+pub use engine::Engine;

@@ -205,7 +205,8 @@ impl EngineState {
 
     /// How many more changes there is room for.
     pub fn spare(&self) -> usize
-        ensures { result ≡ self.now.spare }
+        ensures spare { result ≡ self.now.spare }
+        ensures few { result ≤ 2 ^ 32 }
     {
         self.versions.spare()
     }

@@ -8,8 +8,8 @@ use Rattle.rb_cell.specs.declared.cell.TheConstants.{EMPTY, ROW, STUB}
 use Rattle.rb_heap.specs.Homes.{Home, home_cell, home_rows, rows_in, with_home_cell, empty_cell, is_keyed, is_free, IsFirst, IsNowhere}
 use Rattle.rb_write.specs.Values.{value_in, IsPlainHome}
 use Rattle.rb_write.specs.Writes.{adds, may_take, value_after, cell_after, TakesWrite, HasPlace}
-use Rattle.rb_write.specs.declared.ask.Op.{Op}
-use Rattle.rb_write.specs.declared.ask.Op.TheVariants.{Insert, Update, Delete}
+use Rattle.rb_model.specs.declared.op.Op.{Op}
+use Rattle.rb_model.specs.declared.op.Op.TheVariants.{Insert, Update, Delete}
 use Rattle.rb_write.proofs.Valued.{holds, value_missing, value_found, value_set, value_gone, value_kept}
 
 pub both_left : (x y : Bool) → (x && y) ≡ true → x ≡ true

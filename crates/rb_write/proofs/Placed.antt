@@ -15,8 +15,9 @@ use Rattle.rb_heap.proofs.Blocks.{cell_alone, group_others, group_are}
 use Rattle.rb_heap.proofs.Fresh.{new_empty}
 use Rattle.rb_heap.proofs.Reading.{cells_counted}
 use Rattle.rb_write.specs.Values.{home_block, home_at, value_in, value_at, IsPlainHome, ArePlain}
-use Rattle.rb_write.specs.Writes.{adds, may_take, value_after, cell_after, ChangesHome}
-use Rattle.rb_write.specs.declared.ask.Op.{Op}
+use Rattle.rb_write.specs.Writes.{adds, may_take, value_after, cell_after, ChangesHome, IsMade}
+use Rattle.rb_model.specs.declared.op.Op.{Op}
+use Rattle.rb_write.specs.declared.ask.Ask.{Ask}
 use Rattle.rb_write.proofs.Changed.{both_left, both_right, key_written, others_kept, plain_kept}
 
 pub same_table : (shape : Shape) (table key other k : ℕ) → 1 ≤ shape.blocks → 1 ≤ table → 1 ≤ other → home_block shape table key ≡ home_block shape other k → table ≡ other
@@ -85,6 +86,19 @@ writes shape op table key which c number cell old new place are lt fits first ne
       others = λ b differ. ap (λ (blocks : List (List ℕ)). block_of blocks b) patched ∙ group_others number b (cell_patch which c cell ∷ []) old ((λ same. differ (sym same ∙ place)), tt);
       whole = subst (AreBlocks shape) (sym patched) (group_are shape number (cell_patch which c cell ∷ []) old are (lt, tt) (cell_is_patch which c cell fits first.within sound, tt));
     }
+
+-- what was patched, said of the key's block
+pub is_made : (shape : Shape) (ask : Ask) (which c number : ℕ) (cell : Cell) (old new : List (List ℕ)) → which ≡ home_block shape ask.table ask.key
+    → IsFirst (may_take ask.op ask.key) (home_of (block_of old which)).cells c → (adds ask.op ≡ true → IsNowhere (is_keyed ask.key) (home_of (block_of old which)).cells)
+    → cell ≡ cell_after ask.op ask.key (home_cell (home_of (block_of old which)) c) → new ≡ after_group (number + 1) (cell_patch which c cell ∷ []) old → IsMade shape ask number old new
+is_made shape ask which c number cell old new at first new_key is patched = record {
+  place = c;
+  first = subst (λ (b : ℕ). IsFirst (may_take ask.op ask.key) (home_of (block_of old b)).cells c) at first;
+  new_key = subst (λ (b : ℕ). adds ask.op ≡ true → IsNowhere (is_keyed ask.key) (home_of (block_of old b)).cells) at new_key;
+  made = patched
+      ∙ ap (λ (one : Cell). after_group (number + 1) (cell_patch which c one ∷ []) old) is
+      ∙ ap (λ (b : ℕ). after_group (number + 1) (cell_patch b c (cell_after ask.op ask.key (home_cell (home_of (block_of old b)) c)) ∷ []) old) at;
+}
 
 module _ (shape : Shape) (op : Option Op) (table key : ℕ) (old new : List (List ℕ)) (is : Writes shape op table key old new) where
   -- the values of all keys after a write of one

@@ -1,13 +1,17 @@
 -- What a write of one key makes of its home, and what it is refused for.
-use Rattle.std.specs.Prelude.{◌≡◌, ℕ, ◌^◌, ◌<◌, ◌≤◌, Bool, false, true, not, List, [], length, Option, None, Some, is_some, Result, Ok, Err, ⊤}
+use Rattle.std.specs.Prelude.{◌≡◌, ℕ, ◌+◌, ◌^◌, ◌<◌, ◌≤◌, Bool, false, true, not, List, [], ◌∷◌, length, Option, None, Some, is_some, Result, Ok, Err, ⊤}
+use Rattle.rb_base.specs.Blocks.{after_group}
+use Rattle.rb_base.specs.declared.ids.Shape.{Shape}
 use Rattle.rb_cell.specs.declared.cell.Cell.{Cell}
 use Rattle.rb_cell.specs.declared.cell.TheConstants.{ROW, STUB}
+use Rattle.rb_cell.specs.Cells.{cell_patch}
 use Rattle.rb_heap.specs.Homes.{Home, home_cell, home_rows, with_home_cell, is_keyed, is_free, IsFirst, IsNowhere}
-use Rattle.rb_write.specs.Values.{value_in}
+use Rattle.rb_write.specs.Values.{home_block, home_at, value_in}
+use Rattle.rb_write.specs.declared.ask.Ask.{Ask}
 use Rattle.rb_write.specs.declared.ask.AttemptFault.{AttemptFault}
 use Rattle.rb_write.specs.declared.ask.AttemptFault.TheVariants.{Failed, Duplicate, NotFound, BlockFull, WornOut, LogFull}
-use Rattle.rb_write.specs.declared.ask.Op.{Op}
-use Rattle.rb_write.specs.declared.ask.Op.TheVariants.{Insert, Update, Delete}
+use Rattle.rb_model.specs.declared.op.Op.{Op}
+use Rattle.rb_model.specs.declared.op.Op.TheVariants.{Insert, Update, Delete}
 
 -- an insert makes a row, and each other write needs the one that is there
 abbrev pub adds : Option Op → Bool
@@ -60,6 +64,14 @@ pub record HasPlace (op : Option Op) (key : ℕ) (home : Home) : Type 0 where
   pub place : ℕ
   pub first : IsFirst (may_take op key) home.cells place
   pub new_key : adds op ≡ true → IsNowhere (is_keyed key) home.cells
+
+-- Of all blocks, a write patches one cell of the block of its key, by the group behind the last one of that number: the
+-- first cell that it may take, and no row of the key is there where the write adds one.
+pub record IsMade (shape : Shape) (ask : Ask) (number : ℕ) (before now : List (List ℕ)) : Type 0 where
+  pub place : ℕ
+  pub first : IsFirst (may_take ask.op ask.key) (home_at shape before ask.table ask.key).cells place
+  pub new_key : adds ask.op ≡ true → IsNowhere (is_keyed ask.key) (home_at shape before ask.table ask.key).cells
+  pub made : now ≡ after_group (number + 1) (cell_patch (home_block shape ask.table ask.key) place (cell_after ask.op ask.key (home_cell (home_at shape before ask.table ask.key) place)) ∷ []) before
 
 -- why a home refuses a write, by its cells
 abbrev pub HomeRefuses : AttemptFault → Option Op → ℕ → Home → Type 0

@@ -1,18 +1,8 @@
 //! What a write is asked for, and why it isn't made. Callers of `attempt` use both.
 
 use rb_base::Xid;
+use rb_model::Op;
 use thiserror::Error;
-
-/// What a write does to its key.
-#[derive(Clone, Copy, Debug)]
-pub enum Op<'a> {
-    /// Makes a row of this value, of at most 80 bytes, where the key has none.
-    Insert(&'a [u8]),
-    /// Gives the key's row this value, of at most 80 bytes.
-    Update(&'a [u8]),
-    /// Takes the key's row away.
-    Delete,
-}
 
 /// A write of one key.
 #[derive(Clone, Copy, Debug)]

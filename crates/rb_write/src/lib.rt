@@ -7,7 +7,7 @@ mod laws;
 mod place;
 mod write;
 
-pub use ask::{Ask, AttemptFault, Op};
+pub use ask::{Ask, AttemptFault};
 pub use laws::{value_read, values_placed};
 pub use place::home_block;
 pub use write::attempt;

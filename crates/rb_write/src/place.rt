@@ -5,11 +5,12 @@ ghost use Rattle.rb_heap.specs.Homes.{home_of, home_cell, is_keyed, IsFirst, IsN
 ghost use Rattle.rb_write.specs.Values.{home_block as home_block_of};
 ghost use Rattle.rb_write.specs.Writes.{adds, may_take, cell_after, IsShort, HomeRefuses};
 
-use crate::ask::{AttemptFault, Op};
+use crate::ask::AttemptFault;
 use arrayvec::ArrayVec;
 use rb_base::{BlockNo, Shape};
 use rb_cell::{Cell, ROW, STUB, cells};
 use rb_heap::{find, free_cell};
+use rb_model::Op;
 
 /// The block where row `key` of a table, 1 to `tables`, has its place.
 pub fn home_block(shape: Shape, table: u16, key: u64) -> BlockNo

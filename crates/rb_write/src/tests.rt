@@ -2,9 +2,10 @@
 ghost use Rattle.std.specs.Prelude.{◌≡◌, false};
 ghost use Rattle.rb_write.specs.Writes.{IsShort};
 
-use crate::{Ask, AttemptFault, Op, attempt, home_block};
+use crate::{Ask, AttemptFault, attempt, home_block};
 use rb_base::{BlockNo, Failed, Group, Shape, Store};
 use rb_cell::{Cell, EMPTY, ROW, STUB, cells};
+use rb_model::Op;
 use rb_plainstore::PlainStore;
 use std::test::Fail;
 

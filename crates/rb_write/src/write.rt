@@ -9,7 +9,7 @@ ghost use Rattle.rb_cell.specs.Cells.{cell_patch};
 ghost use Rattle.rb_cell.specs.declared.cell.Cell.{Cell};
 ghost use Rattle.rb_heap.specs.Homes.{home_of, home_cell, is_keyed, is_free, IsFirst, IsNowhere};
 ghost use Rattle.rb_write.specs.Values.{home_block as home_block_of, home_at, value_at, IsPlainHome, ArePlain};
-ghost use Rattle.rb_write.specs.Writes.{adds, may_take, value_after, cell_after, has_failed, IsShort, HomeRefuses, LogRefuses, ChangesHome, TakesWrite, HasPlace};
+ghost use Rattle.rb_write.specs.Writes.{adds, may_take, value_after, cell_after, has_failed, IsShort, HomeRefuses, LogRefuses, ChangesHome, IsMade, TakesWrite, HasPlace};
 
 use crate::ask::{Ask, AttemptFault};
 use crate::place::{cell_for, home_block};
@@ -100,6 +100,7 @@ pub fn attempt<S: Store>(
         → value_at (S.shape_of store.old) (S.blocks store.new) table key
         ≡ (if (table == ask.now.table) && (key == ask.now.key) then value_after ask.now.op (value_at (S.shape_of store.old) (S.blocks store.old) table key) else value_at (S.shape_of store.old) (S.blocks store.old) table key)) }
     ensures plain { S.tells → ArePlain (S.shape_of store.old) (S.blocks store.old) → OnOk result (ArePlain (S.shape_of store.old) (S.blocks store.new)) }
+    ensures made { S.tells → OnOk result (IsMade (S.shape_of store.old) ask.now (S.number store.old) (S.blocks store.old) (S.blocks store.new)) }
     ensures home { S.tells → OnOk result (ChangesHome ask.now.op ask.now.key (home_at (S.shape_of store.old) (S.blocks store.old) ask.now.table ask.now.key) (home_at (S.shape_of store.old) (S.blocks store.new) ask.now.table ask.now.key)) }
     ensures other { S.tells → OnOk result ((b : ℕ) → b ≢ home_block_of (S.shape_of store.old) ask.now.table ask.now.key → block_of (S.blocks store.new) b ≡ block_of (S.blocks store.old) b) }
     ensures segments { S.tells → OnOk result ((b : ℕ) → table_blocks (S.shape_of store.old) ≤ b → block_of (S.blocks store.new) b ≡ block_of (S.blocks store.old) b) }

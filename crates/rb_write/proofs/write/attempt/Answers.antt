@@ -12,7 +12,7 @@ use Rattle.rb_write.proofs.Changed.{home_missing, home_found, home_takes}
 use Rattle.rb_write.specs.declared.ask.AttemptFault.{AttemptFault}
 use Rattle.rb_write.specs.declared.ask.AttemptFault.TheVariants.{Duplicate, NotFound, BlockFull, WornOut, LogFull}
 use Rattle.rb_write.proofs.Faults.{same_fault}
-use Rattle.rb_write.proofs.Placed.{Writes, writes, values_written, all_plain}
+use Rattle.rb_write.proofs.Placed.{Writes, writes, is_made, values_written, all_plain}
 use Rattle.rb_write.proofs.write.attempt.Given.{Over}
 use Rattle.rb_write.proofs.write.attempt.Goals as goal
 
@@ -24,22 +24,31 @@ place g c = c.home_block-no.ensures.block ∙ ap (λ (s : Shape). home_block s c
 patches : (g : Over) (c : goal.After-default g) → c.put_cell.new.group ≡ cell_patch c.home_block-no.result c.in_ok-c.c c.in_ok-c.cell ∷ []
 patches g c = c.put_cell.ensures.patch ∙ ap (λ (group : List Patch). group ++ cell_patch c.home_block-no.result c.in_ok-c.c c.in_ok-c.cell ∷ []) c.new.ensures
 
+-- the blocks after the call are those before it after the group
+patched : (g : Over) (c : goal.After-default g) → g.S.Store.tells → g.S.Store.blocks c.apply.new.self ≡ after_group (g.S.Store.number c.args.store.now + 1) (cell_patch c.home_block-no.result c.in_ok-c.c c.in_ok-c.cell ∷ []) (g.S.Store.blocks c.args.store.now)
+patched g c told =
+    let one = cell_patch c.home_block-no.result c.in_ok-c.c c.in_ok-c.cell ∷ [] in
+    c.in-Ok.ensures.blocks told
+    ∙ ap (λ (group : List Patch). after_group (g.S.Store.number c.prepared.new.store + 1) group (g.S.Store.blocks c.prepared.new.store)) (patches g c)
+    ∙ ap (λ (number : ℕ). after_group (number + 1) one (g.S.Store.blocks c.prepared.new.store)) c.in_ok-c.ensures.number
+    ∙ ap (after_group (g.S.Store.number c.args.store.now + 1) one) (c.in_ok-c.ensures.blocks told)
+
 written : (g : Over) (c : goal.After-default g) → g.S.Store.tells → Writes (g.S.Store.shape_of c.args.store.now) c.args.ask.now.op c.args.ask.now.table c.args.ask.now.key (g.S.Store.blocks c.args.store.now) (g.S.Store.blocks c.apply.new.self)
 written g c told =
     let shape = g.S.Store.shape_of c.args.store.now in
     let old = g.S.Store.blocks c.args.store.now in
-    let mid = g.S.Store.blocks c.prepared.new.store in
-    let number = g.S.Store.number c.prepared.new.store + 1 in
+    let number = g.S.Store.number c.args.store.now + 1 in
     let which = c.home_block-no.result in
-    let one = cell_patch which c.in_ok-c.c c.in_ok-c.cell ∷ [] in
-    let patched = c.in-Ok.ensures.blocks told
-    ∙ ap (λ (group : List Patch). after_group number group mid) (patches g c)
-    ∙ ap (after_group number one) (c.in_ok-c.ensures.blocks told) in
     let rows = c.home_block-no.ensures.of_rows in
     let within : which < table_blocks shape = subst (λ (s : Shape). which < table_blocks s) c.shape.ensures.shape rows in
     let are = subst (λ (s : Shape). AreBlocks s old) c.in_ok-c.ensures.shape (subst (AreBlocks (g.S.Store.shape_of c.prepared.new.store)) (c.in_ok-c.ensures.blocks told) (c.in_ok-c.ensures.whole told)) in
     writes shape c.args.ask.now.op c.args.ask.now.table c.args.ask.now.key which c.in_ok-c.c number c.in_ok-c.cell old (g.S.Store.blocks c.apply.new.self)
-    (place g c) are (omega (arith, within)) (omega arith) (c.in_ok-c.ensures.first told) (c.in_ok-c.ensures.new_key told) (c.in_ok-c.ensures.cell told) c.put_cell.ensures.sound patched
+    (place g c) are (omega (arith, within)) (omega arith) (c.in_ok-c.ensures.first told) (c.in_ok-c.ensures.new_key told) (c.in_ok-c.ensures.cell told) c.put_cell.ensures.sound (patched g c told)
+
+pub returns-in-Ok-clause-made : goal.returns-in-Ok-clause-made
+returns-in-Ok-clause-made g c told =
+    is_made (g.S.Store.shape_of c.args.store.now) c.args.ask.now c.home_block-no.result c.in_ok-c.c (g.S.Store.number c.args.store.now) c.in_ok-c.cell (g.S.Store.blocks c.args.store.now) (g.S.Store.blocks c.apply.new.self)
+    (place g c) (c.in_ok-c.ensures.first told) (c.in_ok-c.ensures.new_key told) (c.in_ok-c.ensures.cell told) (patched g c told)
 
 pub returns-in-Ok-clause-patch : goal.returns-in-Ok-clause-patch
 returns-in-Ok-clause-patch g c keeps =

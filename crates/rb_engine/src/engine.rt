@@ -1,0 +1,294 @@
+//! `Engine`: the state in memory with the store that makes it last. The shell runs lines through it.
+ghost use Rattle.std.specs.Prelude.{◌≡◌, ◌≢◌, ◌⊎◌, ℕ, ◌+◌, ◌^◌, ◌<◌, ◌≤◌, [], ◌∷◌, List, length, IfOk, IfErr, IfSome, IfNone, IsErrOf, OnOk, OnErr, true, false, not};
+ghost use Rattle.std.specs.Result.{is_err};
+ghost use Rattle.std.specs.List.{list_any};
+ghost use Rattle.byteorder.specs.Endian.{big_bytes};
+ghost use Rattle.rb_base.specs.Blocks.{after_group, commit_block, patches_block, AreBlocks};
+ghost use Rattle.rb_base.specs.Counts.{Rose, IsCounted};
+ghost use Rattle.rb_base.specs.Groups.{patch};
+ghost use Rattle.rb_base.specs.Moments.{LeavesOnly};
+ghost use Rattle.rb_base.specs.Stores.{room_of, after_pending};
+ghost use Rattle.rb_model.specs.Answers.{action_of, write_answer, plain_answer, fetch_answer, commit_answer, LeavesRow};
+ghost use Rattle.rb_model.specs.Full.{full_block};
+ghost use Rattle.rb_model.specs.Names.{name_text};
+ghost use Rattle.rb_model.specs.Reply.{adds, expected, first_of, log_tests, after, committed, groups, Reply, rows_now};
+ghost use Rattle.rb_model.specs.Reply as call;
+ghost use Rattle.rb_model.specs.Rows.{has_row, last_number};
+ghost use Rattle.rb_model.specs.State.{session_of};
+ghost use Rattle.rb_write.specs.Writes.{IsShort};
+ghost use Rattle.rb_engine.specs.Crash.{Stands, Survives};
+ghost use Rattle.rb_engine.specs.Engine.{EngineView, room_left};
+
+use crate::state::EngineState;
+use rb_base::{Failed, Group, Scn, Shape, Store, put_u64};
+use rb_model::{Fetched, Name, Op, Refusal, Row, Wrote};
+use rb_write::{Ask, AttemptFault, attempt};
+use std::marker::Model;
+
+/// As many groups, and the log numbers are used up.
+const WORN: u64 = 1 << 60;
+
+/// Where the block that each commit patches has the commit's number: the newest number of its first table slot.
+const NUMBER_AT: u16 = 48;
+
+/// One session over the blocks of a store. A call that answers `DiskFault` stops it for good; then the store is opened
+/// again.
+#[derive(Drop)]
+pub struct Engine<T: Store> {
+    pub(crate) state: EngineState,
+    pub(crate) store: T,
+}
+
+impl<T: Store> Model for Engine<T> {
+    ghost use Rattle.rb_engine.specs.Engine.{EngineView, IsInStep};
+
+    ghost Value = { EngineView T };
+
+    ghost view = { λ e. record { state = e.state.state; spare = e.state.spare; store = e.store } };
+
+    ghost invariant = { λ e. IsInStep T.Store e.state e.store };
+}
+
+/// The refusal of a write that its block or the log stands in the way of, or that a call of the store failed for.
+fn refusal_of(fault: AttemptFault) -> Refusal
+    ensures failed { fault ≡ AttemptFault.Failed → result ≡ Refusal.DiskFault }
+    ensures duplicate { fault ≡ AttemptFault.Duplicate → result ≡ Refusal.Duplicate }
+    ensures not_found { fault ≡ AttemptFault.NotFound → result ≡ Refusal.NotFound }
+    ensures block_full { fault ≡ AttemptFault.BlockFull → result ≡ Refusal.BlockFull }
+    ensures worn_out { fault ≡ AttemptFault.WornOut → result ≡ Refusal.WornOut }
+    ensures log_full { fault ≡ AttemptFault.LogFull → result ≡ Refusal.LogFull }
+{
+    match fault {
+        AttemptFault::Failed => Refusal::DiskFault,
+        AttemptFault::Duplicate => Refusal::Duplicate,
+        AttemptFault::NotFound => Refusal::NotFound,
+        AttemptFault::BlockFull => Refusal::BlockFull,
+        AttemptFault::WornOut => Refusal::WornOut,
+        AttemptFault::LogFull => Refusal::LogFull,
+    }
+}
+
+/// Writes the number of a commit into its block, by one group of one patch, and makes all groups that wait last.
+fn write_number<T: Store>(store: &mut T, number: Scn) -> Result<(), Failed>
+    requires going { T.failed store.old ≡ false }
+    requires room { 1 ≤ room_of (T.slots store.old) (T.number store.old) }
+    requires few { T.number store.old ≤ 2 ^ 60 }
+    ensures blocks { T.tells → OnOk result (T.blocks store.new ≡ after_group (T.number store.old + 1) (patch (commit_block (T.shape_of store.old)) 48 (big_bytes 8 number) ∷ []) (T.blocks store.old)) }
+    ensures number { OnOk result (T.number store.new ≡ T.number store.old + 1) }
+    ensures shape { T.shape_of store.new ≡ T.shape_of store.old }
+    ensures slots { T.slots store.new ≡ T.slots store.old }
+    ensures stable { T.tells → T.keeps → OnOk result ((b : List (List ℕ)) → T.stable store.old b → list_any (patches_block (commit_block (T.shape_of store.old))) (T.pending store.old) ≡ false → T.stable store.new (T.blocks store.new)) }
+    ensures flushed { T.keeps → OnOk result (T.pending store.new ≡ []) }
+    ensures any_moment { T.tells → T.keeps → (b : List (List ℕ)) → T.stable store.old b → list_any (patches_block (commit_block (T.shape_of store.old))) (T.pending store.old) ≡ false
+        → LeavesOnly T.moment T.left_since store.old store.new (λ i. (now : List (List ℕ)) × T.opens (T.shape_of store.old) (T.slots store.old) i now × ((now ≡ b) ⊎ (now ≡ after_group (T.number store.old + 1) (patch (commit_block (T.shape_of store.old)) 48 (big_bytes 8 number) ∷ []) (T.blocks store.old)))) }
+    ensures failed { T.failed store.new ≡ is_err result }
+    ensures counted { IsCounted (T.faults store.old) (T.faults store.new) result }
+{
+    let shape = store.shape();
+    let mut bytes = [0; 8];
+    put_u64(&mut bytes, 0, number);
+    let mut group = Group::new();
+    group.push(shape.tables as u32 * shape.blocks, NUMBER_AT, &bytes);
+    store.apply(&group)?;
+    store.flush()
+}
+
+impl<T: Store> Engine<T> {
+    /// How many more groups it takes.
+    fn room(&self) -> u64
+        ensures { result ≡ room_left (T.slots self.now.store) (T.number self.now.store) self.now.spare }
+    {
+        self.store.room().min(self.state.spare() as u64)
+    }
+
+    /// Why the log takes no write more, where it doesn't.
+    fn log_refusal(&self) -> Option<Refusal>
+        ensures refused { IfSome result (λ why. call.Refused why ≡ first_of (log_tests (T.number self.now.store) (room_left (T.slots self.now.store) (T.number self.now.store) self.now.spare)) call.Done) }
+        ensures other { IfSome result (λ why. why ≢ Refusal.DiskFault) }
+        ensures granted { IfNone result (first_of (log_tests (T.number self.now.store) (room_left (T.slots self.now.store) (T.number self.now.store) self.now.spare)) call.Done ≡ call.Done) }
+        ensures few { IfNone result (T.number self.now.store < 2 ^ 60) }
+        ensures room { IfNone result (2 ≤ room_left (T.slots self.now.store) (T.number self.now.store) self.now.spare) }
+    {
+        if self.store.logged() >= WORN {
+            return Some(Refusal::WornOut);
+        }
+        if self.room() < 2 {
+            return Some(Refusal::LogFull);
+        }
+        None
+    }
+
+    /// Makes a write that nothing in memory stands in the way of.
+    fn make_write(&mut self, table: u16, key: u64, op: Op<'_>) -> Result<Wrote, Refusal>
+        requires going { self.old.state.stopped ≡ false }
+        requires table { (1 ≤ table) × (table ≤ self.old.state.shape.tables) }
+        requires short { IsShort (Some op) }
+        requires row { has_row table key (rows_now self.old.state 1) ≡ not (adds (action_of op)) }
+        requires home { adds (action_of op) ≡ true → full_block self.old.state table key ≡ false }
+        requires few { T.number self.old.store < 2 ^ 60 }
+        requires room { 2 ≤ room_left (T.slots self.old.store) (T.number self.old.store) self.old.spare }
+        ensures done { IfOk result (λ wrote. wrote ≡ Wrote.Done) }
+        ensures fault { T.tells → IfErr result (λ why. why ≡ Refusal.DiskFault) }
+        ensures state { self.new.state ≡ after self.old.state (call.Write 1 table key (action_of op.entry)) (write_answer result) }
+        ensures number { OnOk result (T.number self.new.store ≡ T.number self.old.store + 1) }
+        ensures shape { T.shape_of self.new.store ≡ T.shape_of self.old.store }
+        ensures slots { T.slots self.new.store ≡ T.slots self.old.store }
+        ensures cause { result ≡ Err Refusal.DiskFault → Rose (T.faults self.old.store) (T.faults self.new.store) }
+        ensures counted { T.faults self.old.store ≤ T.faults self.new.store }
+        ensures crash { T.tells → T.keeps → Stands T.Store self.old.state self.old.store → Survives T.Store (T.slots self.old.store) self.old.state self.new.state self.old.store self.new.store }
+    {
+        let ask = Ask {
+            own: None,
+            table,
+            key,
+            op: Some(op),
+        };
+        let mut group = Group::new();
+        match attempt(&mut self.store, &ask, &mut group) {
+            Ok(_) => {
+                self.state.wrote(table, key, op);
+                Ok(Wrote::Done)
+            }
+            Err(fault) => {
+                if fault == AttemptFault::Failed {
+                    self.state.stop();
+                }
+                Err(refusal_of(fault))
+            }
+        }
+    }
+
+    /// Inserts, updates or deletes the row of a key. It may be refused, and then nothing is changed, unless a call of the
+    /// store failed.
+    pub fn write(&mut self, s: u16, table: u16, key: u64, op: Op<'_>) -> Result<Wrote, Refusal>
+        ensures answer { T.tells → Reply self.old.state (T.number self.old.store) (room_left (T.slots self.old.store) (T.number self.old.store) self.old.spare) (call.Write s table key (action_of op.entry)) (write_answer result) }
+        ensures state { self.new.state ≡ after self.old.state (call.Write s table key (action_of op.entry)) (write_answer result) }
+        ensures number { self.new.state.stopped ≡ false → T.number self.new.store ≡ T.number self.old.store + groups (call.Write s table key (action_of op.entry)) (write_answer result) }
+        ensures shape { T.shape_of self.new.store ≡ T.shape_of self.old.store }
+        ensures slots { T.slots self.new.store ≡ T.slots self.old.store }
+        ensures fault { result ≡ Err Refusal.DiskFault → Rose (T.faults self.old.store) (T.faults self.new.store) }
+        ensures counted { T.faults self.old.store ≤ T.faults self.new.store }
+        ensures refused { T.tells → IfErr result (λ why. why ≢ Refusal.DiskFault → self.new.store ≡ self.old.store) }
+        // At any moment each image has the commits of before.
+        ensures crash { T.tells → T.keeps → Stands T.Store self.old.state self.old.store → Survives T.Store (T.slots self.old.store) self.old.state self.new.state self.old.store self.new.store }
+    {
+        if let Some(why) = self.state.write_refusal(s, table, key, op) {
+            return Err(why);
+        }
+        if let Some(why) = self.log_refusal() {
+            return Err(why);
+        }
+        self.make_write(table, key, op)
+    }
+
+    /// Makes the session's changes one more commit. There are some.
+    fn make_commit(&mut self) -> Result<Option<u64>, Refusal>
+        requires going { self.old.state.stopped ≡ false }
+        requires some { 0 < length (session_of self.old.state 1).own }
+        ensures done { IfOk result (λ n. n ≡ Some (last_number self.old.state.commits + 1)) }
+        ensures fault { IfErr result (λ why. why ≡ Refusal.DiskFault) }
+        ensures state { OnOk result (self.new.state ≡ committed self.old.state 1) }
+        ensures stopped { OnErr result (self.new.state ≡ record self.old.state { stopped = true }) }
+        ensures number { OnOk result (T.number self.new.store ≡ T.number self.old.store + 1) }
+        ensures shape { T.shape_of self.new.store ≡ T.shape_of self.old.store }
+        ensures slots { T.slots self.new.store ≡ T.slots self.old.store }
+        ensures cause { OnErr result (Rose (T.faults self.old.store) (T.faults self.new.store)) }
+        ensures counted { T.faults self.old.store ≤ T.faults self.new.store }
+        ensures crash { T.tells → T.keeps → Stands T.Store self.old.state self.old.store → Survives T.Store (T.slots self.old.store) self.old.state self.new.state self.old.store self.new.store }
+    {
+        let number = self.state.number() + 1;
+        match write_number(&mut self.store, number) {
+            Ok(()) => Ok(Some(self.state.commit())),
+            Err(_) => {
+                self.state.stop();
+                Err(Refusal::DiskFault)
+            }
+        }
+    }
+
+    /// Makes the session's changes one more commit, which is in the file in every image once its number is answered.
+    /// Without changes it answers None.
+    pub fn commit(&mut self, s: u16) -> Result<Option<u64>, Refusal>
+        ensures answer { (room : ℕ) → Reply self.old.state (T.number self.old.store) room (call.Commit s) (commit_answer result) }
+        ensures state { self.new.state ≡ after self.old.state (call.Commit s) (commit_answer result) }
+        ensures number { self.new.state.stopped ≡ false → T.number self.new.store ≡ T.number self.old.store + groups (call.Commit s) (commit_answer result) }
+        ensures shape { T.shape_of self.new.store ≡ T.shape_of self.old.store }
+        ensures slots { T.slots self.new.store ≡ T.slots self.old.store }
+        ensures fault { result ≡ Err Refusal.DiskFault → Rose (T.faults self.old.store) (T.faults self.new.store) }
+        ensures counted { T.faults self.old.store ≤ T.faults self.new.store }
+        ensures refused { IfErr result (λ why. why ≢ Refusal.DiskFault → self.new.store ≡ self.old.store) }
+        ensures nothing { result ≡ Ok None → self.new.store ≡ self.old.store }
+        // At any moment each image has the commits of before, or at the end this one too.
+        ensures crash { T.tells → T.keeps → Stands T.Store self.old.state self.old.store → Survives T.Store (T.slots self.old.store) self.old.state self.new.state self.old.store self.new.store }
+    {
+        if self.state.check_commit(s)? {
+            self.make_commit()
+        } else {
+            Ok(None)
+        }
+    }
+
+    /// Opens a cursor over the rows as the session sees them now.
+    pub fn open_cursor(
+        &mut self,
+        s: u16,
+        name: &Name,
+        table: u16,
+        lo: u64,
+        hi: u64,
+    ) -> Result<(), Refusal>
+        ensures answer { (logged room : ℕ) → plain_answer result ≡ expected self.old.state logged room (call.OpenCursor s (name_text name.now) table lo hi) }
+        ensures state { self.new.state ≡ after self.old.state (call.OpenCursor s (name_text name.now) table lo hi) (plain_answer result) }
+        ensures stopped { self.new.state.stopped ≡ self.old.state.stopped }
+        ensures store { self.new.store ≡ self.old.store }
+        ensures crash { T.tells → T.keeps → Stands T.Store self.old.state self.old.store → Survives T.Store (T.slots self.old.store) self.old.state self.new.state self.old.store self.new.store }
+    {
+        self.state.open_cursor(s, name, table, lo, hi)
+    }
+
+    /// Gives the next row of a cursor into `row`, or the end.
+    pub fn fetch(&mut self, s: u16, name: &Name, row: &mut Row) -> Result<Fetched, Refusal>
+        ensures answer { (logged room : ℕ) → fetch_answer result row.new ≡ expected self.old.state logged room (call.Fetch s (name_text name.now)) }
+        ensures state { self.new.state ≡ after self.old.state (call.Fetch s (name_text name.now)) (fetch_answer result row.new) }
+        ensures row { LeavesRow result row.old row.new }
+        ensures stopped { self.new.state.stopped ≡ self.old.state.stopped }
+        ensures store { self.new.store ≡ self.old.store }
+        ensures commits { self.new.state.commits ≡ self.old.state.commits }
+        ensures crash { T.tells → T.keeps → Stands T.Store self.old.state self.old.store → Survives T.Store (T.slots self.old.store) self.old.state self.new.state self.old.store self.new.store }
+    {
+        self.state.fetch(s, name, row)
+    }
+
+    /// Closes the session's cursor of a name.
+    pub fn close_cursor(&mut self, s: u16, name: &Name) -> Result<(), Refusal>
+        ensures answer { (logged room : ℕ) → plain_answer result ≡ expected self.old.state logged room (call.CloseCursor s (name_text name.now)) }
+        ensures state { self.new.state ≡ after self.old.state (call.CloseCursor s (name_text name.now)) (plain_answer result) }
+        ensures stopped { self.new.state.stopped ≡ self.old.state.stopped }
+        ensures store { self.new.store ≡ self.old.store }
+        ensures crash { T.tells → T.keeps → Stands T.Store self.old.state self.old.store → Survives T.Store (T.slots self.old.store) self.old.state self.new.state self.old.store self.new.store }
+    {
+        self.state.close_cursor(s, name)
+    }
+
+    /// The number of the last commit.
+    pub fn now(&self) -> Scn
+        ensures { result ≡ last_number self.now.state.commits }
+    {
+        self.state.number()
+    }
+
+    /// The store's shape.
+    pub fn shape(&self) -> Shape
+        ensures { result ≡ T.shape_of self.now.store }
+    {
+        self.store.shape()
+    }
+
+    /// Gives the store back as it is.
+    pub fn close(self) -> T
+        ensures { result ≡ self.store }
+    {
+        let Engine { state: _, store } = self;
+        store
+    }
+}

@@ -1,0 +1,175 @@
+//! Opens a store: tests its blocks, and takes their rows into memory. `Engine` is made here.
+ghost use Rattle.std.specs.Prelude.{◌≡◌, ℕ, ◌+◌, ◌*◌, ◌-◌, ◌^◌, ◌<◌, ◌≤◌, List, [], map, take, length, true, false, Some, IfOk, IfErr, OnOk, IsErrOf};
+ghost use Rattle.std.specs.Result.{is_err};
+ghost use Rattle.rb_base.specs.Blocks.{block_of, commit_block, shape_blocks, table_blocks, IsShape};
+ghost use Rattle.rb_base.specs.Counts.{Rose, IsCounted};
+ghost use Rattle.rb_cell.specs.Cells.{cell_at};
+ghost use Rattle.rb_heap.specs.Homes.{home_of, home_rows};
+ghost use Rattle.rb_model.specs.Rows.{over};
+ghost use Rattle.rb_model.specs.State.{opened};
+ghost use Rattle.rb_sound.specs.Loads.{OnlyLoads};
+ghost use Rattle.rb_sound.specs.Sound.{commit_number};
+ghost use Rattle.rb_engine.specs.Crash.{Stands};
+ghost use Rattle.rb_engine.specs.Found.{put_row, rows_found, table_of, table_row};
+ghost use Rattle.rb_engine.specs.Holds.{CanOpen, OpensAs, commit_logged};
+
+use crate::engine::Engine;
+use crate::state::EngineState;
+use rb_base::{BlockNo, Failed, OpenFault, Scn, Store, u64_at};
+use rb_cell::{ROW, cells};
+use rb_sound::{blocks_sound, commit_number_of};
+use std::alloc::Global;
+
+/// The most changes that are kept in memory, where the log has no end. A log of a file has at most 4,096 slots.
+const CHANGES: u64 = 65_536;
+
+/// The cells of a block.
+const CELLS: u8 = 16;
+
+/// Takes the rows of a table's block, and says whether none of its cells is locked.
+fn take_block(state: &mut EngineState, block: &[u8], table: u16) -> bool
+    requires block { length block.now ≡ 2048 }
+    requires room { 16 ≤ state.old.spare }
+    requires opening { state.old.state ≡ opened state.old.state.shape state.old.state.commits.base state.old.state.commits.rows }
+    ensures state { result ≡ true → state.new.state ≡ opened state.old.state.shape state.old.state.commits.base (over state.old.state.shape.blocks state.old.state.commits.rows (map (λ row. put_row (table_row table row)) (home_rows (home_of block.now)))) }
+    ensures unlocked { result ≡ true → (c : ℕ) → c < 16 → (cell_at block.now c).lock ≡ 0 }
+    ensures locked { result ≡ false → ((c : ℕ) → c < 16 → (cell_at block.now c).lock ≡ 0) → ⊥ }
+    ensures spare { state.old.spare ≤ state.new.spare + 16 }
+{
+    for c in 0..CELLS {
+        let cell = cells(block, c);
+        if cell.lock != 0 {
+            return false;
+        }
+        if cell.state == ROW {
+            state.found(table, cell.key, cell.value.as_slice());
+        }
+    }
+    true
+}
+
+/// Takes the rows of block `no` of the tables, and says whether none of its cells is locked.
+fn take_one<T: Store>(state: &mut EngineState, store: &mut T, no: BlockNo) -> Result<bool, Failed>
+    requires going { T.failed store.old ≡ false }
+    requires shape { state.old.state.shape ≡ T.shape_of store.old }
+    requires there { no < table_blocks state.old.state.shape }
+    requires room { 16 ≤ state.old.spare }
+    requires opening { state.old.state ≡ opened state.old.state.shape state.old.state.commits.base state.old.state.commits.rows }
+    ensures shape { OnOk result (state.new.state.shape ≡ state.old.state.shape) }
+    ensures base { OnOk result (state.new.state.commits.base ≡ state.old.state.commits.base) }
+    ensures opening { result ≡ Ok true → state.new.state ≡ opened state.new.state.shape state.new.state.commits.base state.new.state.commits.rows }
+    ensures rows { T.tells → result ≡ Ok true → state.new.state.commits.rows ≡ over state.old.state.shape.blocks state.old.state.commits.rows (map (λ row. put_row (table_row (table_of state.old.state.shape no) row)) (home_rows (home_of (block_of (T.blocks store.old) no)))) }
+    ensures unlocked { T.tells → result ≡ Ok true → (c : ℕ) → c < 16 → (cell_at (block_of (T.blocks store.old) no) c).lock ≡ 0 }
+    ensures locked { T.tells → result ≡ Ok false → ((c : ℕ) → c < 16 → (cell_at (block_of (T.blocks store.old) no) c).lock ≡ 0) → ⊥ }
+    ensures spare { state.old.spare ≤ state.new.spare + 16 }
+    ensures only_loads { OnlyLoads T.Store store.old store.new }
+    ensures failed { T.failed store.new ≡ is_err result }
+    ensures counted { IsCounted (T.faults store.old) (T.faults store.new) result }
+{
+    store.load(no)?;
+    let table = no / store.shape().blocks + 1;
+    Ok(take_block(state, store.block(), table as u16))
+}
+
+/// Takes the rows of all blocks, and says whether no cell is locked.
+fn take_rows<T: Store>(state: &mut EngineState, store: &mut T) -> Result<bool, Failed>
+    requires going { T.failed store.old ≡ false }
+    requires shape { state.old.state.shape ≡ T.shape_of store.old }
+    requires room { 16 * table_blocks state.old.state.shape ≤ state.old.spare }
+    requires opening { state.old.state ≡ opened state.old.state.shape state.old.state.commits.base [] }
+    ensures opening { result ≡ Ok true → state.new.state ≡ opened state.old.state.shape state.old.state.commits.base state.new.state.commits.rows }
+    ensures rows { T.tells → result ≡ Ok true → state.new.state.commits.rows ≡ rows_found state.old.state.shape (T.blocks store.old) (table_blocks state.old.state.shape) }
+    ensures unlocked { T.tells → result ≡ Ok true → (b c : ℕ) → b < table_blocks state.old.state.shape → c < 16 → (cell_at (block_of (T.blocks store.old) b) c).lock ≡ 0 }
+    ensures locked { T.tells → result ≡ Ok false → ((b c : ℕ) → b < table_blocks state.old.state.shape → c < 16 → (cell_at (block_of (T.blocks store.old) b) c).lock ≡ 0) → ⊥ }
+    ensures spare { state.old.spare ≤ state.new.spare + 16 * table_blocks state.old.state.shape }
+    ensures only_loads { OnlyLoads T.Store store.old store.new }
+    ensures failed { T.failed store.new ≡ is_err result }
+    ensures counted { IsCounted (T.faults store.old) (T.faults store.new) result }
+{
+    let shape = store.shape();
+    for no in 0..u32::from(shape.tables) * shape.blocks {
+        if !take_one(state, store, no)? {
+            return Ok(false);
+        }
+    }
+    Ok(true)
+}
+
+/// Whether a commit number is at most the log number of the block that commits patch, and that at most the last one given.
+fn number_sound<T: Store>(store: &mut T, number: Scn) -> Result<bool, Failed>
+    requires { T.failed store.old ≡ false }
+    ensures few { result ≡ Ok true → number ≤ T.number store.old }
+    ensures sound { T.tells → result ≡ Ok true → (number ≤ commit_logged (T.shape_of store.old) (T.blocks store.old)) × (commit_logged (T.shape_of store.old) (T.blocks store.old) ≤ T.number store.old) }
+    ensures unsound { T.tells → result ≡ Ok false → number ≤ commit_logged (T.shape_of store.old) (T.blocks store.old) → commit_logged (T.shape_of store.old) (T.blocks store.old) ≤ T.number store.old → ⊥ }
+    ensures only_loads { OnlyLoads T.Store store.old store.new }
+    ensures failed { T.failed store.new ≡ is_err result }
+    ensures counted { IsCounted (T.faults store.old) (T.faults store.new) result }
+{
+    let shape = store.shape();
+    store.load(u32::from(shape.tables) * shape.blocks)?;
+    let logged = u64_at(store.block(), 0);
+    Ok(number <= logged && logged <= store.logged())
+}
+
+/// The state that the blocks of a store open to.
+fn open_state<T: Store>(alloc: Global, store: &mut T) -> Result<EngineState, OpenFault>
+    requires going { T.failed store.old ≡ false }
+    requires few { T.number store.old ≤ 2 ^ 61 + 4096 }
+    requires few_slots { (slots : ℕ) → T.slots store.old ≡ Some slots → slots ≤ 4096 }
+    ensures opened { T.tells → IfOk result (λ kept. OpensAs (T.shape_of store.old) (T.blocks store.old) kept.state) }
+    ensures base { IfOk result (λ kept. kept.state ≡ opened (T.shape_of store.old) kept.state.commits.base kept.state.commits.rows) }
+    ensures sound { T.tells → OnOk result (CanOpen (T.shape_of store.old) (T.blocks store.old) (T.number store.old)) }
+    ensures none { T.tells → IsErrOf result OpenFault.NotAStore → CanOpen (T.shape_of store.old) (T.blocks store.old) (T.number store.old) → ⊥ }
+    ensures numbers { IfOk result (λ kept. kept.state.commits.base ≤ T.number store.old) }
+    ensures enough { IfOk result (λ kept. (slots : ℕ) → T.slots store.old ≡ Some slots → slots - 1 - T.number store.old ≤ kept.spare) }
+    ensures only_loads { OnlyLoads T.Store store.old store.new }
+    ensures failed { OnOk result (T.failed store.new ≡ false) }
+    ensures counted { T.faults store.old ≤ T.faults store.new }
+    ensures fault { IsErrOf result OpenFault.Failed → Rose (T.faults store.old) (T.faults store.new) }
+{
+    let sound = blocks_sound(store).map_err(|_| OpenFault::Failed)?;
+    let number = commit_number_of(store).map_err(|_| OpenFault::Failed)?;
+    let numbered = number_sound(store, number).map_err(|_| OpenFault::Failed)?;
+    if !sound || !numbered {
+        return Err(OpenFault::NotAStore);
+    }
+    let shape = store.shape();
+    let rows = u32::from(shape.tables) * shape.blocks * u32::from(CELLS);
+    let changes = store.room().min(CHANGES);
+    let room = rows as usize + changes as usize;
+    let Ok(mut state) = EngineState::new(alloc, shape, number, room) else {
+        return Err(OpenFault::NoMemory);
+    };
+    let unlocked = take_rows(&mut state, store).map_err(|_| OpenFault::Failed)?;
+    if unlocked {
+        Ok(state)
+    } else {
+        Err(OpenFault::NotAStore)
+    }
+}
+
+impl<T: Store> Engine<T> {
+    /// Opens a store: its blocks give the last commit's number and the rows. A refusal gives the store back: NotAStore
+    /// where the blocks aren't in order, Failed where a call of the store failed. Nothing of the store is changed.
+    pub fn open(alloc: Global, store: T) -> Result<Engine<T>, (OpenFault, T)>
+        requires going { T.failed store ≡ false }
+        requires few { T.number store ≤ 2 ^ 61 + 4096 }
+        requires few_slots { (slots : ℕ) → T.slots store ≡ Some slots → slots ≤ 4096 }
+        ensures opened { T.tells → IfOk result (λ e. OpensAs (T.shape_of store) (T.blocks store) e.state) }
+        ensures going { IfOk result (λ e. e.state.stopped ≡ false) }
+        ensures sound { T.tells → OnOk result (CanOpen (T.shape_of store) (T.blocks store) (T.number store)) }
+        ensures none { T.tells → IfErr result (λ r. r.0 ≡ OpenFault.NotAStore → CanOpen (T.shape_of store) (T.blocks store) (T.number store) → ⊥) }
+        ensures failed { IfErr result (λ r. r.0 ≡ OpenFault.Failed → Rose (T.faults store) (T.faults r.1)) }
+        ensures counted_ok { IfOk result (λ e. T.faults store ≤ T.faults e.store) }
+        ensures counted_err { IfErr result (λ r. T.faults store ≤ T.faults r.1) }
+        ensures loads_ok { IfOk result (λ e. OnlyLoads T.Store store e.store) }
+        ensures loads_err { IfErr result (λ r. OnlyLoads T.Store store r.1) }
+        ensures stands { T.tells → T.keeps → T.pending store ≡ [] → T.stable store (T.blocks store) → IfOk result (λ e. Stands T.Store e.state e.store) }
+    {
+        let mut store = store;
+        match open_state(alloc, &mut store) {
+            Ok(state) => Ok(Engine { state, store }),
+            Err(fault) => Err((fault, store)),
+        }
+    }
+}
