@@ -2,5 +2,6 @@ pub mod CrashLemmas
 pub mod EngineLemmas
 pub mod FullLemmas
 pub mod KeptLemmas
+pub mod NumberLemmas
 pub mod StateLemmas
 pub mod UsedLemmas
