@@ -1,2 +1,3 @@
 pub mod CrashLemmas
 pub mod KeptLemmas
+pub mod FoundLemmas
