@@ -12,7 +12,7 @@ use Rattle.rb_model.specs.Reply.{is_empty, committed, rows_now}
 use Rattle.rb_model.specs.Rows.{Commits, TableRow, last_number, rows_at, over}
 use Rattle.rb_model.specs.State.{State, session_of}
 use Rattle.rb_engine.specs.Holds.{Holds}
-use Rattle.rb_engine.specs.Crash.{RestartsAt, Restarts, Stands, AtEnd, whole, one_more, OnTheWay, reached, at_end, Extends, Survives}
+use Rattle.rb_engine.specs.Crash.{RestartsAt, Restarts, Stands, AtEnd, whole, one_more, OnTheWay, reached, at_end, Extends, Survives, opens_of}
 use Rattle.rb_engine.proofs.KeptLemmas.{over-append}
 
 -- commits are only added
@@ -54,39 +54,40 @@ holds_later h h2 blocks n e le holds =
     subst (λ (shape : Shape). Holds shape blocks n (rows_at shape.blocks h2.commits n)) (sym e.shape)
     (subst (λ (rows : List TableRow). Holds h.shape blocks n rows) (sym (rows_stay h.shape.blocks h h2 n e le)) holds)
 
-module _ {S : Type 0} (s : Ghosts S) (slots : Option ℕ) where
-  restarts_later : (h h2 : State) (n : ℕ) (i : s.image) → Extends h h2 → n ≤ last_number h.commits → RestartsAt s slots h n i → RestartsAt s slots h2 n i
+module _ {I : Type 0} (opens : Shape → I → List (List ℕ) → Type 0) where
+  restarts_later : (h h2 : State) (n : ℕ) (i : I) → Extends h h2 → n ≤ last_number h.commits → RestartsAt opens h n i → RestartsAt opens h2 n i
   restarts_later h h2 n i e le r = record {
     blocks = r.blocks;
-    opens = subst (λ (shape : Shape). s.opens shape slots i r.blocks) (sym e.shape) r.opens;
+    opening = subst (λ (shape : Shape). opens shape i r.blocks) (sym e.shape) r.opening;
     holds = holds_later h h2 r.blocks n e le r.holds;
   }
 
   -- the same at states of the same shape and commits
-  pub restarts_same : (h h2 : State) (i : s.image) → h2.shape ≡ h.shape → h2.commits ≡ h.commits → Restarts s slots h i → Restarts s slots h2 i
+  pub restarts_same : (h h2 : State) (i : I) → h2.shape ≡ h.shape → h2.commits ≡ h.commits → Restarts opens h i → Restarts opens h2 i
   restarts_same h h2 i shape e r =
-      subst (λ (n : ℕ). RestartsAt s slots h2 n i) (ap last_number (sym e)) (restarts_later h h2 (last_number h.commits) i (extends_same h h2 shape e) (omega arith) r)
+      subst (λ (n : ℕ). RestartsAt opens h2 n i) (ap last_number (sym e)) (restarts_later h h2 (last_number h.commits) i (extends_same h h2 shape e) (omega arith) r)
 
   -- an engine that goes on stands for its state
-  pub stands_at_end : (h : State) (i : s.image) → h.stopped ≡ false → AtEnd s slots h i → Restarts s slots h i
+  pub stands_at_end : (h : State) (i : I) → h.stopped ≡ false → AtEnd opens h i → Restarts opens h i
   stands_at_end h i going (whole r) = r
   stands_at_end h i going (one_more n stopped some r) = absurd (false≢true (sym going ∙ stopped))
 
-  way_further : (h m h2 : State) (i : s.image) → Extends h m → Extends m h2 → m.stopped ≡ false → OnTheWay s slots h m i → OnTheWay s slots h h2 i
+  way_further : (h m h2 : State) (i : I) → Extends h m → Extends m h2 → m.stopped ≡ false → OnTheWay opens h m i → OnTheWay opens h h2 i
   way_further h m h2 i d e going (reached n low high r) = reached n low (omega (arith, high, extends_later m h2 e)) (restarts_later m h2 n i e high r)
   way_further h m h2 i d e going (at_end a) = reached (last_number m.commits) (extends_later h m d) (extends_later m h2 e) (restarts_later m h2 (last_number m.commits) i e (omega arith) (stands_at_end m i going a))
 
-  way_longer : (h m h2 : State) (i : s.image) → Extends h m → OnTheWay s slots m h2 i → OnTheWay s slots h h2 i
+  way_longer : (h m h2 : State) (i : I) → Extends h m → OnTheWay opens m h2 i → OnTheWay opens h h2 i
   way_longer h m h2 i d (reached n low high r) = reached n (omega (arith, low, extends_later h m d)) high r
   way_longer h m h2 i d (at_end a) = at_end a
 
+module _ {S : Type 0} (s : Ghosts S) (slots : Option ℕ) where
   -- over calls, and then others
   pub survives_on : (h m h2 : State) (old mid new : S) → m.stopped ≡ false → Survives s slots h m old mid → Survives s slots m h2 mid new → Survives s slots h h2 old new
   survives_on h m h2 old mid new going a b = record {
     extends = extends_on h m h2 a.extends b.extends;
-    any_moment = joined s.moment s.left_since old mid new (OnTheWay s slots h h2)
-        (weaker s.moment s.left_since old mid (OnTheWay s slots h m) (OnTheWay s slots h h2) (λ i w. way_further h m h2 i a.extends b.extends going w) a.any_moment)
-        (weaker s.moment s.left_since mid new (OnTheWay s slots m h2) (OnTheWay s slots h h2) (λ i w. way_longer h m h2 i a.extends w) b.any_moment);
+    any_moment = joined s.moment s.left_since old mid new (OnTheWay (opens_of s slots) h h2)
+        (weaker s.moment s.left_since old mid (OnTheWay (opens_of s slots) h m) (OnTheWay (opens_of s slots) h h2) (λ i w. way_further (opens_of s slots) h m h2 i a.extends b.extends going w) a.any_moment)
+        (weaker s.moment s.left_since mid new (OnTheWay (opens_of s slots) m h2) (OnTheWay (opens_of s slots) h h2) (λ i w. way_longer (opens_of s slots) h m h2 i a.extends w) b.any_moment);
     now_only = b.now_only;
     stands = b.stands;
   }
@@ -107,10 +108,10 @@ pub record Laws {S : Type 0} (s : Ghosts S) : Type 0 where
 
 module _ {S : Type 0} (s : Ghosts S) (laws : Laws s) where
   -- each image of a store that stands for a state opens to its rows
-  pub left_restarts : (h : State) (store : S) (i : s.image) → s.shape_of store ≡ h.shape → Stands s h store → s.left store i → Restarts s (s.slots store) h i
+  pub left_restarts : (h : State) (store : S) (i : s.image) → s.shape_of store ≡ h.shape → Stands s h store → s.left store i → Restarts (opens_of s (s.slots store)) h i
   left_restarts h store i shape st here = record {
     blocks = st.base;
-    opens = subst (λ (x : Shape). s.opens x (s.slots store) i st.base) shape (laws.left_opens store st.base i st.stable here);
+    opening = subst (λ (x : Shape). s.opens x (s.slots store) i st.base) shape (laws.left_opens store st.base i st.stable here);
     holds = st.holds;
   }
 
@@ -118,13 +119,13 @@ module _ {S : Type 0} (s : Ghosts S) (laws : Laws s) where
   pub survives_still : (h h2 : State) (old new : S) → s.shape_of old ≡ h.shape → new ≡ old → h2.shape ≡ h.shape → h2.commits ≡ h.commits → Stands s h old → Survives s (s.slots old) h h2 old new
   survives_still h h2 old new shape same shapes commits st = subst (λ (d : S). Survives s (s.slots old) h h2 old d) (sym same) (record {
     extends = extends_same h h2 shapes commits;
-    any_moment = begun s.moment s.left_since old (OnTheWay s (s.slots old) h h2) (λ i left. at_end (whole (ends i (laws.read_patched old i left))));
+    any_moment = begun s.moment s.left_since old (OnTheWay (opens_of s (s.slots old)) h h2) (λ i left. at_end (whole (ends i (laws.read_patched old i left))));
     now_only = λ i here. whole (ends i here);
     stands = λ going. stands_same s h h2 old shapes commits st;
   })
     where
-      ends : (i : s.image) → s.left old i → Restarts s (s.slots old) h2 i
-      ends i here = restarts_same s (s.slots old) h h2 i shapes commits (left_restarts h old i shape st here)
+      ends : (i : s.image) → s.left old i → Restarts (opens_of s (s.slots old)) h2 i
+      ends i here = restarts_same (opens_of s (s.slots old)) h h2 i shapes commits (left_restarts h old i shape st here)
 
   -- Over calls that leave no more than the start, and the commits: what the images are is that of before. What the store
   -- stands for then is told apart.
@@ -133,15 +134,15 @@ module _ {S : Type 0} (s : Ghosts S) (laws : Laws s) where
       → (h2.stopped ≡ false → Stands s h2 new) → Stands s h old → Survives s (s.slots old) h h2 old new
   survives_more h h2 old new shape shapes commits fewer passes after st = record {
     extends = extends_same h h2 shapes commits;
-    any_moment = goes_on s.moment s.left_since old old new (OnTheWay s (s.slots old) h h2) (s.left new)
-        (begun s.moment s.left_since old (OnTheWay s (s.slots old) h h2) (λ i left. at_end (whole (ends i (laws.read_patched old i left)))))
+    any_moment = goes_on s.moment s.left_since old old new (OnTheWay (opens_of s (s.slots old)) h h2) (s.left new)
+        (begun s.moment s.left_since old (OnTheWay (opens_of s (s.slots old)) h h2) (λ i left. at_end (whole (ends i (laws.read_patched old i left)))))
         passes (λ i here. at_end (whole (ends i (fewer i here))));
     now_only = λ i here. whole (ends i (fewer i here));
     stands = after;
   }
     where
-      ends : (i : s.image) → s.left old i → Restarts s (s.slots old) h2 i
-      ends i here = restarts_same s (s.slots old) h h2 i shapes commits (left_restarts h old i shape st here)
+      ends : (i : s.image) → s.left old i → Restarts (opens_of s (s.slots old)) h2 i
+      ends i here = restarts_same (opens_of s (s.slots old)) h h2 i shapes commits (left_restarts h old i shape st here)
 
 -- a commit
 
@@ -177,13 +178,13 @@ module _ {S : Type 0} (s : Ghosts S) (slots : Option ℕ) (h : State) (old new :
       subst (λ (rows : List TableRow). Holds h.shape now (last_number (committed h 1).commits) rows) (sym (rows_committed h))
       (subst (λ (n : ℕ). Holds h.shape now n (rows_now h 1)) (sym (number_committed h)) holds)
 
-  with_it : (i : s.image) → s.opens h.shape slots i now → Restarts s slots (committed h 1) i
-  with_it i opens = record { blocks = now; opens = opens; holds = holds_committed }
+  with_it : (i : s.image) → s.opens h.shape slots i now → Restarts (opens_of s slots) (committed h 1) i
+  with_it i opens = record { blocks = now; opening = opens; holds = holds_committed }
 
-  without_it : (i : s.image) → s.opens h.shape slots i before → Restarts s slots h i
-  without_it i opens = record { blocks = before; opens = opens; holds = stood }
+  without_it : (i : s.image) → s.opens h.shape slots i before → Restarts (opens_of s slots) h i
+  without_it i opens = record { blocks = before; opening = opens; holds = stood }
 
-  which : (i : s.image) → (b : List (List ℕ)) × s.opens h.shape slots i b × ((b ≡ before) ⊎ (b ≡ now)) → Restarts s slots h i ⊎ Restarts s slots (committed h 1) i
+  which : (i : s.image) → (b : List (List ℕ)) × s.opens h.shape slots i b × ((b ≡ before) ⊎ (b ≡ now)) → Restarts (opens_of s slots) h i ⊎ Restarts (opens_of s slots) (committed h 1) i
   which i (b, opens, either) =
       ⊎_elim
       (λ (same : b ≡ before). inl (without_it i (subst (s.opens h.shape slots i) same opens)))
@@ -194,10 +195,10 @@ module _ {S : Type 0} (s : Ghosts S) (slots : Option ℕ) (h : State) (old new :
   pub commit_done : ((i : s.image) → s.left new i → s.opens h.shape slots i now) → Stands s (committed h 1) new → Survives s slots h (committed h 1) old new
   commit_done kept stands = record {
     extends = extends_committed h;
-    any_moment = weaker s.moment s.left_since old new _ (OnTheWay s slots h (committed h 1))
+    any_moment = weaker s.moment s.left_since old new _ (OnTheWay (opens_of s slots) h (committed h 1))
         (λ i cut. ⊎_elim
-        (λ (r : Restarts s slots h i). reached (last_number h.commits) (omega arith) (extends_later h (committed h 1) (extends_committed h)) (restarts_later s slots h (committed h 1) (last_number h.commits) i (extends_committed h) (omega arith) r))
-        (λ (r : Restarts s slots (committed h 1) i). at_end (whole r))
+        (λ (r : Restarts (opens_of s slots) h i). reached (last_number h.commits) (omega arith) (extends_later h (committed h 1) (extends_committed h)) (restarts_later (opens_of s slots) h (committed h 1) (last_number h.commits) i (extends_committed h) (omega arith) r))
+        (λ (r : Restarts (opens_of s slots) (committed h 1) i). at_end (whole r))
         (which i cut))
         flush;
     now_only = λ i here. whole (with_it i (kept i here));
@@ -208,15 +209,15 @@ module _ {S : Type 0} (s : Ghosts S) (slots : Option ℕ) (h : State) (old new :
   pub commit_failed : is_empty (session_of h 1).own ≡ false → Survives s slots h (record h { stopped = true }) old new
   commit_failed some = record {
     extends = extends_same h (record h { stopped = true }) refl refl;
-    any_moment = weaker s.moment s.left_since old new _ (OnTheWay s slots h (record h { stopped = true })) (λ i cut. at_end (left i cut)) flush;
+    any_moment = weaker s.moment s.left_since old new _ (OnTheWay (opens_of s slots) h (record h { stopped = true })) (λ i cut. at_end (left i cut)) flush;
     now_only = λ i here. left i (flush.each i (now_counts i flush.later here));
     stands = λ going. absurd (false≢true (sym going));
   }
     where
-      left : (i : s.image) → (b : List (List ℕ)) × s.opens h.shape slots i b × ((b ≡ before) ⊎ (b ≡ now)) → AtEnd s slots (record h { stopped = true }) i
+      left : (i : s.image) → (b : List (List ℕ)) × s.opens h.shape slots i b × ((b ≡ before) ⊎ (b ≡ now)) → AtEnd (opens_of s slots) (record h { stopped = true }) i
       left i cut = ⊎_elim
-          (λ (r : Restarts s slots h i). whole (restarts_same s slots h (record h { stopped = true }) i refl refl r))
-          (λ (r : Restarts s slots (committed h 1) i). one_more 1 refl some (restarts_same s slots (committed h 1) (committed (record h { stopped = true }) 1) i refl refl r))
+          (λ (r : Restarts (opens_of s slots) h i). whole (restarts_same (opens_of s slots) h (record h { stopped = true }) i refl refl r))
+          (λ (r : Restarts (opens_of s slots) (committed h 1) i). one_more 1 refl some (restarts_same (opens_of s slots) (committed h 1) (committed (record h { stopped = true }) 1) i refl refl r))
           (which i cut)
 
 -- over calls, and then others, as their clauses tell it

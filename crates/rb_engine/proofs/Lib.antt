@@ -1,3 +1,7 @@
 pub mod CrashLemmas
-pub mod KeptLemmas
+pub mod EngineLemmas
 pub mod FoundLemmas
+pub mod FullLemmas
+pub mod KeptLemmas
+pub mod StateLemmas
+pub mod UsedLemmas

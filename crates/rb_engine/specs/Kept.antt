@@ -80,6 +80,7 @@ pub record IsKept (shape : Shape) (base base_length : ℕ) (ends : List ℕ) (ch
   pub few_changes : room ≤ 2 ^ 32
   pub in_order : Rising base_length ends
   pub within : last_end base_length ends ≤ length changes
+  pub within_room : length changes ≤ room
   pub room_for_ends : room ≤ ends_room
   pub each_cursor : AllByRecursion (IsOpened base base_length ends (length changes)) cursors
 

@@ -1,5 +1,5 @@
 //! `Engine`: the state in memory with the store that makes it last. The shell runs lines through it.
-ghost use Rattle.std.specs.Prelude.{◌≡◌, ◌≢◌, ◌⊎◌, ℕ, ◌+◌, ◌^◌, ◌<◌, ◌≤◌, [], ◌∷◌, List, length, IfOk, IfErr, IfSome, IfNone, IsErrOf, OnOk, OnErr, true, false};
+ghost use Rattle.std.specs.Prelude.{◌≡◌, ◌≢◌, ◌⊎◌, ℕ, ◌+◌, ◌^◌, ◌<◌, ◌≤◌, [], ◌∷◌, List, length, IfOk, IfErr, IfSome, IfNone, IsErrOf, OnOk, OnErr, true, false, not};
 ghost use Rattle.std.specs.Result.{is_err};
 ghost use Rattle.std.specs.List.{list_any};
 ghost use Rattle.byteorder.specs.Endian.{big_bytes};
@@ -129,7 +129,7 @@ impl<T: Store> Engine<T> {
         requires room { 2 ≤ room_left (T.slots self.old.store) (T.number self.old.store) self.old.spare }
         ensures done { IfOk result (λ wrote. wrote ≡ Wrote.Done) }
         ensures fault { T.tells → IfErr result (λ why. why ≡ Refusal.DiskFault) }
-        ensures state { self.new.state ≡ after self.old.state (call.Write 1 table key (action_of op)) (write_answer result) }
+        ensures state { self.new.state ≡ after self.old.state (call.Write 1 table key (action_of op.entry)) (write_answer result) }
         ensures number { OnOk result (T.number self.new.store ≡ T.number self.old.store + 1) }
         ensures shape { T.shape_of self.new.store ≡ T.shape_of self.old.store }
         ensures slots { T.slots self.new.store ≡ T.slots self.old.store }
@@ -161,9 +161,9 @@ impl<T: Store> Engine<T> {
     /// Inserts, updates or deletes the row of a key. It may be refused, and then nothing is changed, unless a call of the
     /// store failed.
     pub fn write(&mut self, s: u16, table: u16, key: u64, op: Op<'_>) -> Result<Wrote, Refusal>
-        ensures answer { T.tells → Reply self.old.state (T.number self.old.store) (room_left (T.slots self.old.store) (T.number self.old.store) self.old.spare) (call.Write s table key (action_of op)) (write_answer result) }
-        ensures state { self.new.state ≡ after self.old.state (call.Write s table key (action_of op)) (write_answer result) }
-        ensures number { self.new.state.stopped ≡ false → T.number self.new.store ≡ T.number self.old.store + groups (call.Write s table key (action_of op)) (write_answer result) }
+        ensures answer { T.tells → Reply self.old.state (T.number self.old.store) (room_left (T.slots self.old.store) (T.number self.old.store) self.old.spare) (call.Write s table key (action_of op.entry)) (write_answer result) }
+        ensures state { self.new.state ≡ after self.old.state (call.Write s table key (action_of op.entry)) (write_answer result) }
+        ensures number { self.new.state.stopped ≡ false → T.number self.new.store ≡ T.number self.old.store + groups (call.Write s table key (action_of op.entry)) (write_answer result) }
         ensures shape { T.shape_of self.new.store ≡ T.shape_of self.old.store }
         ensures slots { T.slots self.new.store ≡ T.slots self.old.store }
         ensures fault { result ≡ Err Refusal.DiskFault → Rose (T.faults self.old.store) (T.faults self.new.store) }

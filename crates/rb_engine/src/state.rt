@@ -1,6 +1,6 @@
 //! The engine's state in memory: one session, its cursors, the rows found at opening and the changes since. The engine
 //! owns one.
-ghost use Rattle.std.specs.Prelude.{◌≡◌, ◌≢◌, ℕ, ◌+◌, ◌^◌, ◌<◌, ◌≤◌, false, [], ◌∷◌, length, true, not, IsOk, IfOk, IfErr, IfSome, IfNone, slice_index_or, slice_set};
+ghost use Rattle.std.specs.Prelude.{◌≡◌, ◌≢◌, ℕ, ◌+◌, ◌^◌, ◌<◌, ◌≤◌, false, [], ◌∷◌, ◌++◌, length, true, not, IsOk, IfOk, IfErr, IfSome, IfNone, slice_index_or, slice_set};
 ghost use Rattle.rb_model.specs.State.{opened, session_of};
 ghost use Rattle.rb_model.specs.Rows.{has_row, last_number, with_row};
 ghost use Rattle.rb_model.specs.Full.{full_block};
@@ -126,9 +126,9 @@ fn last_end_of(base_length: usize, ends: &[usize]) -> usize
 
 /// How many bytes the value of a write has.
 fn value_length(op: Op<'_>) -> usize
-    ensures fits { result ≤ 80 → IsShort (Some op) }
-    ensures long { 80 < result → call.is_too_long (action_of op) ≡ true }
-    ensures short { result ≤ 80 → call.is_too_long (action_of op) ≡ false }
+    ensures kept { result ≤ 80 → IsShort (Some op.entry) }
+    ensures long { 80 < result → call.is_too_long (action_of op.entry) ≡ true }
+    ensures short { result ≤ 80 → call.is_too_long (action_of op.entry) ≡ false }
 {
     match op {
         Op::Insert(value) | Op::Update(value) => value.len(),
@@ -138,7 +138,7 @@ fn value_length(op: Op<'_>) -> usize
 
 /// Whether a write makes a row where there is none.
 fn is_insert(op: Op<'_>) -> bool
-    ensures { result ≡ adds (action_of op) }
+    ensures { result ≡ adds (action_of op.entry) }
 {
     matches!(op, Op::Insert(_))
 }
@@ -146,7 +146,7 @@ fn is_insert(op: Op<'_>) -> bool
 /// The change that a write makes.
 fn change_of_write(table: u16, key: u64, op: Op<'_>) -> RowChange
     requires { IsShort (Some op) }
-    ensures { change_of result ≡ change_by table key (action_of op) }
+    ensures { change_of result ≡ change_by table key (action_of op.entry) }
 {
     match op {
         Op::Insert(value) | Op::Update(value) => RowChange::put(table, key, value),
@@ -205,7 +205,8 @@ impl EngineState {
 
     /// How many more changes there is room for.
     pub fn spare(&self) -> usize
-        ensures { result ≡ self.now.spare }
+        ensures spare { result ≡ self.now.spare }
+        ensures few { result ≤ 2 ^ 32 }
     {
         self.versions.spare()
     }
@@ -219,12 +220,12 @@ impl EngineState {
 
     /// Why the session, the table or the value stands in the way of a write, where it does.
     fn early_refusal(&self, s: u16, table: u16, op: Op<'_>) -> Option<Refusal>
-        ensures refused { IfSome result (λ why. (logged room key : ℕ) → call.Refused why ≡ expected self.now.state logged room (call.Write s table key (action_of op))) }
-        ensures granted { IfNone result ((key : ℕ) → call.none_applies (call.early_tests self.now.state (call.Write s table key (action_of op))) ≡ true) }
+        ensures refused { IfSome result (λ why. (logged room key : ℕ) → call.Refused why ≡ expected self.now.state logged room (call.Write s table key (action_of op.entry))) }
+        ensures granted { IfNone result ((key : ℕ) → call.none_applies (call.early_tests self.now.state (call.Write s table key (action_of op.entry))) ≡ true) }
         ensures other { IfSome result (λ why. why ≢ Refusal.DiskFault) }
         ensures session { IfNone result (s ≡ 1) }
         ensures table { IfNone result ((1 ≤ table) × (table ≤ self.now.state.shape.tables)) }
-        ensures short { IfNone result (IsShort (Some op)) }
+        ensures short { IfNone result (IsShort (Some op.entry)) }
         ensures going { IfNone result (self.now.state.stopped ≡ false) }
     {
         if self.stopped {
@@ -244,16 +245,16 @@ impl EngineState {
 
     /// Why a write is refused, whatever the log: its tests but the last two.
     pub fn write_refusal(&self, s: u16, table: u16, key: u64, op: Op<'_>) -> Option<Refusal>
-        ensures refused { IfSome result (λ why. (logged room : ℕ) → call.Refused why ≡ expected self.now.state logged room (call.Write s table key (action_of op))) }
-        ensures granted { IfNone result ((logged room : ℕ) → expected self.now.state logged room (call.Write s table key (action_of op)) ≡ first_of (log_tests logged room) call.Done) }
-        ensures early { IfNone result (call.none_applies (call.early_tests self.now.state (call.Write s table key (action_of op))) ≡ true) }
+        ensures refused { IfSome result (λ why. (logged room : ℕ) → call.Refused why ≡ expected self.now.state logged room (call.Write s table key (action_of op.entry))) }
+        ensures granted { IfNone result ((logged room : ℕ) → expected self.now.state logged room (call.Write s table key (action_of op.entry)) ≡ first_of (log_tests logged room) call.Done) }
+        ensures early { IfNone result (call.none_applies (call.early_tests self.now.state (call.Write s table key (action_of op.entry))) ≡ true) }
         ensures other { IfSome result (λ why. why ≢ Refusal.DiskFault) }
         ensures session { IfNone result (s ≡ 1) }
         ensures table { IfNone result ((1 ≤ table) × (table ≤ self.now.state.shape.tables)) }
-        ensures short { IfNone result (IsShort (Some op)) }
+        ensures short { IfNone result (IsShort (Some op.entry)) }
         ensures going { IfNone result (self.now.state.stopped ≡ false) }
-        ensures row { IfNone result (has_row table key (rows_now self.now.state 1) ≡ not (adds (action_of op))) }
-        ensures room { IfNone result (adds (action_of op) ≡ true → full_block self.now.state table key ≡ false) }
+        ensures row { IfNone result (has_row table key (rows_now self.now.state 1) ≡ not (adds (action_of op.entry))) }
+        ensures room { IfNone result (adds (action_of op.entry) ≡ true → full_block self.now.state table key ≡ false) }
     {
         if let Some(why) = self.early_refusal(s, table, op) {
             return Some(why);
@@ -261,14 +262,18 @@ impl EngineState {
         let present = self
             .versions
             .is_present(table, key, self.versions.changes().len());
-        let committed = last_end_of(self.base_length, self.ends.as_slice());
-        if is_insert(op) && present {
+        if !is_insert(op) {
+            return if present {
+                None
+            } else {
+                Some(Refusal::NotFound)
+            };
+        }
+        if present {
             return Some(Refusal::Duplicate);
         }
-        if !is_insert(op) && !present {
-            return Some(Refusal::NotFound);
-        }
-        if is_insert(op) && self.versions.is_full(table, key, committed) {
+        let committed = last_end_of(self.base_length, self.ends.as_slice());
+        if self.versions.is_full(table, key, committed) {
             return Some(Refusal::BlockFull);
         }
         None
@@ -278,16 +283,15 @@ impl EngineState {
     pub fn wrote(&mut self, table: u16, key: u64, op: Op<'_>)
         requires room { 0 < self.old.spare }
         requires short { IsShort (Some op) }
-        ensures state { self.new.state ≡ after_grant self.old.state (call.Write 1 table key (action_of op)) }
+        ensures state { self.new.state ≡ after_grant self.old.state (call.Write 1 table key (action_of op.entry)) }
         ensures shape { self.new.state.shape ≡ self.old.state.shape }
         ensures commits { self.new.state.commits ≡ self.old.state.commits }
         ensures stopped { self.new.state.stopped ≡ self.old.state.stopped }
-        ensures own { (session_of self.new.state 1).own ≡ (session_of self.old.state 1).own ++ change_by table key (action_of op) ∷ [] }
+        ensures own { (session_of self.new.state 1).own ≡ (session_of self.old.state 1).own ++ change_by table key (action_of op.entry) ∷ [] }
         ensures spare { self.new.spare + 1 ≡ self.old.spare }
     {
         let kept = seen_counts(self.cursors.as_slice());
-        self.versions
-            .push(change_of_write(table, key, op), &kept);
+        self.versions.push(change_of_write(table, key, op), &kept);
     }
 
     /// Why a cursor isn't opened, where it isn't.

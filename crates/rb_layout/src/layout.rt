@@ -3,11 +3,8 @@ ghost use Rattle.std.specs.Prelude.{◌≡◌, ◌+◌, ◌*◌, ◌<◌, ◌≤
 
 use rb_base::{Shape, UNIT, put_u16, put_u32};
 
-/// The version of the files that the program makes and runs: records of commits in the log.
-pub const VERSION: u32 = 101;
-
-/// The version of the files whose log has groups of patches.
-pub const GROUPS_VERSION: u32 = 102;
+/// The version of the files: 102, whose log has groups of patches.
+pub const VERSION: u32 = 102;
 
 /// How many bytes of the first unit say what file it is.
 pub const IDENTITY: usize = 24;
@@ -40,12 +37,12 @@ pub struct Layout {
     pub ghost few_slots: { (64 ≤ log) × (log ≤ 4096) },
 }
 
-/// Where the log begins: the slot of its first record and that record's log number.
+/// Where the log begins: the slot of its first group and that group's log number.
 #[derive(Clone, Copy, Debug, PartialEq, Eq)]
 pub struct Head {
     /// A log slot, below the layout's number of them.
     pub slot: u32,
-    /// The log number of the record that stands, or will stand, there.
+    /// The log number of the group that stands, or will stand, there.
     pub number: u64,
 }
 
@@ -131,18 +128,10 @@ impl Layout {
     pub fn put_identity(&self, into: &mut [u8])
         requires { 24 ≤ length into.old }
         ensures bytes { into.new ≡ identity VERSION self.now ++ drop 24 into.old }
-        ensures version { VERSION ≡ 101 }
-    {
-        self.put_identity_of(VERSION, into);
-    }
-
-    /// Writes what a file of that version is into the first 24 bytes, and nothing else.
-    pub fn put_identity_of(&self, version: u32, into: &mut [u8])
-        requires { 24 ≤ length into.old }
-        ensures { into.new ≡ identity version self.now ++ drop 24 into.old }
+        ensures version { VERSION ≡ 102 }
     {
         into[..8].copy_from_slice(&MARK);
-        put_u32(into, 8, version);
+        put_u32(into, 8, VERSION);
         put_u16(into, 12, self.tables);
         put_u16(into, 14, self.segments);
         put_u32(into, 16, self.blocks);

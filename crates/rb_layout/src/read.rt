@@ -22,18 +22,6 @@ impl Layout {
         ensures counted { D.faults disk.old ≤ D.faults disk.new }
         ensures same { D.tells → Rests D.content D.image D.moment D.image_since disk.old disk.new }
     {
-        Layout::read_version(disk, VERSION)
-    }
-
-    /// The same for the files of another version.
-    pub fn read_version<D: Disk>(disk: &mut D, version: u32) -> Result<Layout, OpenFault>
-        ensures found { D.tells → IfOk result (λ l. HasIdentity version l (D.content disk.old)) }
-        ensures none { D.tells → IsErrOf result NotAStore → (l : Layout) → HasIdentity version l (D.content disk.old) → ⊥ }
-        ensures failed { IsErrOf result Failed → Rose (D.faults disk.old) (D.faults disk.new) }
-        ensures no_memory { IsErrOf result NoMemory → ⊥ }
-        ensures counted { D.faults disk.old ≤ D.faults disk.new }
-        ensures same { D.tells → Rests D.content D.image D.moment D.image_since disk.old disk.new }
-    {
         let Ok(length) = disk.len() else {
             return Err(OpenFault::Failed);
         };
@@ -44,7 +32,7 @@ impl Layout {
         let Ok(()) = disk.read_at(0, &mut front) else {
             return Err(OpenFault::Failed);
         };
-        let Some(layout) = layout_of(version, &front) else {
+        let Some(layout) = layout_of(&front) else {
             return Err(OpenFault::NotAStore);
         };
         if layout.length() == length {
@@ -55,11 +43,11 @@ impl Layout {
     }
 }
 
-// The layout whose identity these bytes are, in the files of that version.
-fn layout_of(version: u32, front: &[u8]) -> Option<Layout>
+// The layout whose identity these bytes are.
+fn layout_of(front: &[u8]) -> Option<Layout>
     requires { length front.now ≡ 24 }
-    ensures found { IfSome result (λ l. front.now ≡ identity version l) }
-    ensures none { IfNone result ((l : Layout) → front.now ≡ identity version l → ⊥) }
+    ensures found { IfSome result (λ l. front.now ≡ identity VERSION l) }
+    ensures none { IfNone result ((l : Layout) → front.now ≡ identity VERSION l → ⊥) }
 {
     let layout = Layout::new(
         u16_at(front, 12),
@@ -68,7 +56,7 @@ fn layout_of(version: u32, front: &[u8]) -> Option<Layout>
         u32_at(front, 20),
     )?;
     let mut expected = [0; IDENTITY];
-    layout.put_identity_of(version, &mut expected);
+    layout.put_identity(&mut expected);
     if front == expected.as_slice() {
         Some(layout)
     } else {

@@ -1,7 +1,7 @@
 -- What a machine did with the bytes of one piece, byte by byte.
 use Rattle.std.proofs.Common.{◌≡◌, ℕ, ◌+◌, ◌<◌, false, List, [], ◌∷◌, ◌++◌, length, take, drop, get_or, Result, Err, sym, ◌∙◌, ap, subst}
 use Rattle.std.proofs.lemmas.List.{take_more, take-append-drop}
-use Rattle.rb_model.specs.State.{State}
+use Rattle.rb_model.specs.Out.{Logged}
 use Rattle.rb_lines.specs.declared.machine.StepFault.{StepFault}
 use Rattle.rb_lines.specs.Ran.{Ran, RanAs}
 use Rattle.rb_lines.specs.Pieces.{lines_from, rest_from}
@@ -14,9 +14,9 @@ rest_more line bytes i within =
     sym (ap (λ (b : List ℕ). rest_from line b) (take_more bytes i 0 within) ∙ rest-append line (take i bytes) (get_or bytes i 0 ∷ []))
 
 -- the bytes up to one, and that one
-pub as_byte : (slots slots1 : ℕ) (h m h2 : State) (line bytes : List ℕ) (i : ℕ) (tells : Type 0) (held held1 held2 : List ℕ) (r : Result (Unit {0}) StepFault)
+pub as_byte : (slots slots1 : ℕ) (h m h2 : Logged) (line bytes : List ℕ) (i : ℕ) (tells : Type 0) (held held1 held2 : List ℕ) (r : Result (Unit {0}) StepFault)
     → i < length bytes → slots1 ≡ slots
-    → Ran slots h m (lines_from line (take i bytes)) tells held held1 → m.stopped ≡ false
+    → Ran slots h m (lines_from line (take i bytes)) tells held held1 → m.state.stopped ≡ false
     → RanAs slots1 m h2 (lines_from (rest_from line (take i bytes)) (get_or bytes i 0 ∷ [])) tells held1 held2 r
     → RanAs slots h h2 (lines_from line (take (i + 1) bytes)) tells held held2 r
 as_byte slots slots1 h m h2 line bytes i tells held held1 held2 r within same ran going q =
@@ -28,8 +28,8 @@ as_byte slots slots1 h m h2 line bytes i tells held held1 held2 r within same ra
     (as-append slots h m h2 _ _ tells held held1 held2 r ran going here)
 
 -- a fault in a piece, and the bytes behind it
-pub as_piece : (slots : ℕ) (h h2 : State) (line bytes : List ℕ) (n : ℕ) (tells : Type 0) (held held2 : List ℕ) (fault : StepFault)
-    → h.stopped ≡ false → RanAs slots h h2 (lines_from line (take n bytes)) tells held held2 (Err fault)
+pub as_piece : (slots : ℕ) (h h2 : Logged) (line bytes : List ℕ) (n : ℕ) (tells : Type 0) (held held2 : List ℕ) (fault : StepFault)
+    → h.state.stopped ≡ false → RanAs slots h h2 (lines_from line (take n bytes)) tells held held2 (Err fault)
     → RanAs slots h h2 (lines_from line bytes) tells held held2 (Err fault)
 as_piece slots h h2 line bytes n tells held held2 fault going q =
     let cut : lines_from line bytes ≡ lines_from line (take n bytes) ++ lines_from (rest_from line (take n bytes)) (drop n bytes) =

@@ -3,19 +3,18 @@ use Rattle.std.proofs.Common.{◌≡◌, ℕ, ◌+◌, true, false, List, [], �
 use Rattle.std.proofs.lemmas.List.{take-append-le, take_min}
 use Rattle.std.specs.Prelude.{OnOk, IsErrOf}
 use Rattle.std.proofs.Math.Seq.{take-append-add}
-use Rattle.rb_model.specs.State.{State}
-use Rattle.rb_model.specs.Out.{Out}
+use Rattle.rb_model.specs.Out.{Logged, Out}
 use Rattle.rb_lines.specs.declared.machine.StepFault.{StepFault}
 use Rattle.rb_lines.specs.declared.machine.StepFault.TheVariants.{Disk, Sink}
 use Rattle.rb_lines.specs.Ran.{LineRan, LineCutOff, Ran, CutOff, RanAs}
 use Rattle.rb_lines.proofs.Outs.{front_out, one_out, append_out, stopped_out}
 
 -- no line
-pub ran_none : (slots : ℕ) (h : State) (tells : Type 0) (held : List ℕ) → Ran slots h h [] tells held held
+pub ran_none : (slots : ℕ) (h : Logged) (tells : Type 0) (held : List ℕ) → Ran slots h h [] tells held held
 ran_none slots h tells held = record { out = []; replies = (refl, refl); written = λ t. sym (append-nil held) }
 
 -- a line of which the machine had the front
-pub ran_one : (slots : ℕ) (h h2 : State) (line front : List ℕ) (tells : Type 0) (held held2 : List ℕ)
+pub ran_one : (slots : ℕ) (h h2 : Logged) (line front : List ℕ) (tells : Type 0) (held held2 : List ℕ)
     → front ≡ take 513 line → LineRan slots h h2 front tells held held2 → Ran slots h h2 (line ∷ []) tells held held2
 ran_one slots h h2 line front tells held held2 e r = record {
   out = r.out;
@@ -23,7 +22,7 @@ ran_one slots h h2 line front tells held held2 e r = record {
   written = r.written;
 }
 
-pub cut_one : (slots : ℕ) (h h2 : State) (line front : List ℕ) (held held2 : List ℕ)
+pub cut_one : (slots : ℕ) (h h2 : Logged) (line front : List ℕ) (held held2 : List ℕ)
     → front ≡ take 513 line → LineCutOff slots h h2 front held held2 → CutOff slots h h2 (line ∷ []) held held2
 cut_one slots h h2 line front held held2 e r = record {
   count = 1;
@@ -35,8 +34,8 @@ cut_one slots h h2 line front held held2 e r = record {
   written = r.written;
 }
 
-pub ran-append : (slots : ℕ) (h m h2 : State) (xs ys : List (List ℕ)) (tells : Type 0) (held held1 held2 : List ℕ)
-    → Ran slots h m xs tells held held1 → m.stopped ≡ false → Ran slots m h2 ys tells held1 held2
+pub ran-append : (slots : ℕ) (h m h2 : Logged) (xs ys : List (List ℕ)) (tells : Type 0) (held held1 held2 : List ℕ)
+    → Ran slots h m xs tells held held1 → m.state.stopped ≡ false → Ran slots m h2 ys tells held1 held2
     → Ran slots h h2 (xs ++ ys) tells held held2
 ran-append slots h m h2 xs ys tells held held1 held2 r going q = record {
   out = r.out ++ q.out;
@@ -44,8 +43,8 @@ ran-append slots h m h2 xs ys tells held held1 held2 r going q = record {
   written = λ t. q.written t ∙ ap (λ (o : List ℕ). o ++ q.out) (r.written t) ∙ append_assoc held r.out q.out;
 }
 
-pub cut-append : (slots : ℕ) (h m h2 : State) (xs ys : List (List ℕ)) (tells : Type 0) (held held1 held2 : List ℕ)
-    → Ran slots h m xs tells held held1 → m.stopped ≡ false → tells → CutOff slots m h2 ys held1 held2
+pub cut-append : (slots : ℕ) (h m h2 : Logged) (xs ys : List (List ℕ)) (tells : Type 0) (held held1 held2 : List ℕ)
+    → Ran slots h m xs tells held held1 → m.state.stopped ≡ false → tells → CutOff slots m h2 ys held1 held2
     → CutOff slots h h2 (xs ++ ys) held held2
 cut-append slots h m h2 xs ys tells held held1 held2 r going t q = record {
   count = length xs + q.count;
@@ -59,7 +58,7 @@ cut-append slots h m h2 xs ys tells held held1 held2 r going t q = record {
       ∙ ap (λ (o : List ℕ). held ++ o) (sym (take-append-add r.out q.out q.size));
 }
 
-pub cut_more : (slots : ℕ) (h h2 : State) (xs ys : List (List ℕ)) (held held2 : List ℕ)
+pub cut_more : (slots : ℕ) (h h2 : Logged) (xs ys : List (List ℕ)) (held held2 : List ℕ)
     → CutOff slots h h2 xs held held2 → CutOff slots h h2 (xs ++ ys) held held2
 cut_more slots h h2 xs ys held held2 r =
     let cut : take (min r.count (length xs)) (xs ++ ys) ≡ take r.count xs =
@@ -75,10 +74,10 @@ cut_more slots h h2 xs ys held held2 r =
     }
 
 -- A step over the front of a line, as its clauses tell it.
-pub step_as : (slots : ℕ) (h h2 : State) (line front : List ℕ) (tells : Type 0) (held held2 : List ℕ) (result : Result (Unit {0}) StepFault)
+pub step_as : (slots : ℕ) (h h2 : Logged) (line front : List ℕ) (tells : Type 0) (held held2 : List ℕ) (result : Result (Unit {0}) StepFault)
     → front ≡ take 513 line
-    → OnOk result (LineRan slots h h2 front tells held held2) → OnOk result (h2.stopped ≡ false)
-    → (IsErrOf result Disk → LineRan slots h h2 front tells held held2) → (IsErrOf result Disk → h2.stopped ≡ true)
+    → OnOk result (LineRan slots h h2 front tells held held2) → OnOk result (h2.state.stopped ≡ false)
+    → (IsErrOf result Disk → LineRan slots h h2 front tells held held2) → (IsErrOf result Disk → h2.state.stopped ≡ true)
     → (IsErrOf result Sink → tells → LineCutOff slots h h2 front held held2)
     → RanAs slots h h2 (line ∷ []) tells held held2 result
 step_as slots h h2 line front tells held held2 (Ok done) e ran going disk stopped sink =
@@ -89,8 +88,8 @@ step_as slots h h2 line front tells held held2 (Err Sink) e ran going disk stopp
     λ t. cut_one slots h h2 line front held held2 e (sink refl t)
 
 -- lines that were done, and then more of them
-pub as-append : (slots : ℕ) (h m h2 : State) (xs ys : List (List ℕ)) (tells : Type 0) (held held1 held2 : List ℕ) (result : Result (Unit {0}) StepFault)
-    → Ran slots h m xs tells held held1 → m.stopped ≡ false → RanAs slots m h2 ys tells held1 held2 result
+pub as-append : (slots : ℕ) (h m h2 : Logged) (xs ys : List (List ℕ)) (tells : Type 0) (held held1 held2 : List ℕ) (result : Result (Unit {0}) StepFault)
+    → Ran slots h m xs tells held held1 → m.state.stopped ≡ false → RanAs slots m h2 ys tells held1 held2 result
     → RanAs slots h h2 (xs ++ ys) tells held held2 result
 as-append slots h m h2 xs ys tells held held1 held2 (Ok done) r going q =
     (ran-append slots h m h2 xs ys tells held held1 held2 r going q.0, q.1)
@@ -100,8 +99,8 @@ as-append slots h m h2 xs ys tells held held1 held2 (Err Sink) r going q =
     λ t. cut-append slots h m h2 xs ys tells held held1 held2 r going t (q t)
 
 -- a fault, and then lines that were not begun
-pub as_more : (slots : ℕ) (h h2 : State) (xs ys : List (List ℕ)) (tells : Type 0) (held held2 : List ℕ) (fault : StepFault)
-    → h.stopped ≡ false → RanAs slots h h2 xs tells held held2 (Err fault) → RanAs slots h h2 (xs ++ ys) tells held held2 (Err fault)
+pub as_more : (slots : ℕ) (h h2 : Logged) (xs ys : List (List ℕ)) (tells : Type 0) (held held2 : List ℕ) (fault : StepFault)
+    → h.state.stopped ≡ false → RanAs slots h h2 xs tells held held2 (Err fault) → RanAs slots h h2 (xs ++ ys) tells held held2 (Err fault)
 as_more slots h h2 xs ys tells held held2 Disk going q =
     let more : Ran slots h h2 (xs ++ ys) tells held held2 =
     record { out = q.0.out; replies = stopped_out slots xs ys h h2 q.0.out going q.0.replies q.1; written = q.0.written } in

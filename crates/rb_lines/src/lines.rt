@@ -53,31 +53,31 @@ pub fn run_lines<M: Machine, S: Source, K: Sink>(
     buffer: &mut [u8],
 ) -> LinesEnd
     requires ready { M.ready machine.old }
-    requires going { (M.state machine.old).stopped ≡ false }
+    requires going { (M.reached machine.old).state.stopped ≡ false }
     requires buffer { 0 < length buffer.old }
 
     // All lines were done, and the source is at its end.
     ensures done { result ≡ LinesEnd.Done → S.tells →
-        Ran (M.slots machine.old) (M.state machine.old) (M.state machine.new) (lines_of (S.left source.old)) K.tells (K.held sink.old) (K.held sink.new) }
+        Ran (M.slots machine.old) (M.reached machine.old) (M.reached machine.new) (lines_of (S.left source.old)) K.tells (K.held sink.old) (K.held sink.new) }
     ensures at_end { result ≡ LinesEnd.Done → S.tells → S.left source.new ≡ [] }
     ensures few { result ≡ LinesEnd.Done → S.tells → length (S.left source.old) < 1000000000 }
 
     // At a fault of the source, and where it is too long, the whole lines among the bytes taken were done.
     ensures source_done { result ≡ LinesEnd.SourceFault → S.tells →
         ((taken : List ℕ) × (S.left source.old ≡ taken ++ S.left source.new)
-        × Ran (M.slots machine.old) (M.state machine.old) (M.state machine.new) (whole_lines taken) K.tells (K.held sink.old) (K.held sink.new)) }
+        × Ran (M.slots machine.old) (M.reached machine.old) (M.reached machine.new) (whole_lines taken) K.tells (K.held sink.old) (K.held sink.new)) }
     ensures too_long { result ≡ LinesEnd.TooLong → S.tells →
         ((taken : List ℕ) × (length taken ≡ 1000000000) × (S.left source.old ≡ taken ++ S.left source.new)
-        × Ran (M.slots machine.old) (M.state machine.old) (M.state machine.new) (whole_lines taken) K.tells (K.held sink.old) (K.held sink.new)) }
+        × Ran (M.slots machine.old) (M.reached machine.old) (M.reached machine.new) (whole_lines taken) K.tells (K.held sink.old) (K.held sink.new)) }
 
     // A fault of the disk stops the machine, so that nothing follows the line in which it came.
     ensures disk_done { result ≡ LinesEnd.DiskFault → S.tells →
-        Ran (M.slots machine.old) (M.state machine.old) (M.state machine.new) (lines_of (S.left source.old)) K.tells (K.held sink.old) (K.held sink.new) }
-    ensures stopped { result ≡ LinesEnd.DiskFault → (M.state machine.new).stopped ≡ true }
+        Ran (M.slots machine.old) (M.reached machine.old) (M.reached machine.new) (lines_of (S.left source.old)) K.tells (K.held sink.old) (K.held sink.new) }
+    ensures stopped { result ≡ LinesEnd.DiskFault → (M.reached machine.new).state.stopped ≡ true }
 
     // A fault of the sink cuts the replies off.
     ensures cut_off { result ≡ LinesEnd.SinkFault → S.tells → K.tells →
-        CutOff (M.slots machine.old) (M.state machine.old) (M.state machine.new) (lines_of (S.left source.old)) (K.held sink.old) (K.held sink.new) }
+        CutOff (M.slots machine.old) (M.reached machine.old) (M.reached machine.new) (lines_of (S.left source.old)) (K.held sink.old) (K.held sink.new) }
 
     // Each fault has its cause, and the counts never fall.
     ensures source_fault { result ≡ LinesEnd.SourceFault → Rose (S.faults source.old) (S.faults source.new) }
@@ -91,7 +91,7 @@ pub fn run_lines<M: Machine, S: Source, K: Sink>(
     ensures took { S.tells → ((taken : List ℕ) × (length taken ≤ 1000000000) × (S.left source.old ≡ taken ++ S.left source.new)) }
 
     // Where no step failed, the machine goes on.
-    ensures going { IsUnbroken result → (M.state machine.new).stopped ≡ false }
+    ensures going { IsUnbroken result → (M.reached machine.new).state.stopped ≡ false }
     ensures ready { IsUnbroken result → M.ready machine.new }
     ensures slots { M.slots machine.new ≡ M.slots machine.old }
 

@@ -1,7 +1,7 @@
 //! `Machine`: what does a line. The shell implements it over an engine, and `run_lines` calls it.
 ghost use Rattle.std.specs.Prelude.{ℕ, ◌≡◌, ◌≤◌, false, true, OnOk, IsErrOf};
 ghost use Rattle.rb_base.specs.Counts.{Rose};
-ghost use Rattle.rb_model.specs.State.{State};
+ghost use Rattle.rb_model.specs.Out.{Logged};
 ghost use Rattle.rb_lines.specs.Ran.{LineRan, LineCutOff};
 
 use rb_stream::Sink;
@@ -20,8 +20,8 @@ pub enum StepFault {
 
 /// What does lines.
 pub trait Machine {
-    /// Its state.
-    ghost state: { Self → State };
+    /// Where it has come to: its state, and the last log number that was given.
+    ghost reached: { Self → Logged };
 
     /// How many slots its log has.
     ghost slots: { Self → ℕ };
@@ -39,20 +39,20 @@ pub trait Machine {
     /// 513 or more of its first bytes serve.
     fn step<K: Sink>(&mut self, line: &[u8], sink: &mut K) -> Result<(), StepFault>
         requires ready { ready self.old }
-        requires going { (state self.old).stopped ≡ false }
+        requires going { (reached self.old).state.stopped ≡ false }
         ensures ready { OnOk result (ready self.new) }
-        ensures going { OnOk result ((state self.new).stopped ≡ false) }
+        ensures going { OnOk result ((reached self.new).state.stopped ≡ false) }
         ensures done { OnOk result
-            (LineRan (slots self.old) (state self.old) (state self.new) line.now K.tells (K.held sink.old) (K.held sink.new)) }
+            (LineRan (slots self.old) (reached self.old) (reached self.new) line.now K.tells (K.held sink.old) (K.held sink.new)) }
 
         // A fault of the disk is the line's last reply, and the machine stops.
         ensures disk_done { IsErrOf result StepFault.Disk →
-            LineRan (slots self.old) (state self.old) (state self.new) line.now K.tells (K.held sink.old) (K.held sink.new) }
-        ensures stopped { IsErrOf result StepFault.Disk → (state self.new).stopped ≡ true }
+            LineRan (slots self.old) (reached self.old) (reached self.new) line.now K.tells (K.held sink.old) (K.held sink.new) }
+        ensures stopped { IsErrOf result StepFault.Disk → (reached self.new).state.stopped ≡ true }
 
         // A fault of the sink cuts the replies off.
         ensures cut_off { IsErrOf result StepFault.Sink → K.tells →
-            LineCutOff (slots self.old) (state self.old) (state self.new) line.now (K.held sink.old) (K.held sink.new) }
+            LineCutOff (slots self.old) (reached self.old) (reached self.new) line.now (K.held sink.old) (K.held sink.new) }
         ensures slots { slots self.new ≡ slots self.old }
         ensures since { since self.old self.new }
         ensures disk { IsErrOf result StepFault.Disk → Rose (faults self.old) (faults self.new) }
@@ -64,5 +64,5 @@ pub trait Machine {
     ghost since_same: { (m : Self) → since m m };
 
     /// What becomes of it over some lines and then over others. A stopped machine does no line more.
-    ghost since_joined: { (a b c : Self) → (state b).stopped ≡ false → since a b → since b c → since a c };
+    ghost since_joined: { (a b c : Self) → (reached b).state.stopped ≡ false → since a b → since b c → since a c };
 }

@@ -27,12 +27,12 @@ fn feed_byte<M: Machine, K: Sink>(
     byte: u8,
 ) -> Result<(), StepFault>
     requires ready { M.ready machine.old }
-    requires going { (M.state machine.old).stopped ≡ false }
+    requires going { (M.reached machine.old).state.stopped ≡ false }
     ensures ready { OnOk result (M.ready machine.new) }
     ensures ran { (line : List ℕ) → pending.old.items ≡ take 513 line →
-        RanAs (M.slots machine.old) (M.state machine.old) (M.state machine.new) (lines_from line (byte ∷ [])) K.tells (K.held sink.old) (K.held sink.new) result }
-    ensures going { OnOk result ((M.state machine.new).stopped ≡ false) }
-    ensures stopped { IsErrOf result StepFault.Disk → (M.state machine.new).stopped ≡ true }
+        RanAs (M.slots machine.old) (M.reached machine.old) (M.reached machine.new) (lines_from line (byte ∷ [])) K.tells (K.held sink.old) (K.held sink.new) result }
+    ensures going { OnOk result ((M.reached machine.new).state.stopped ≡ false) }
+    ensures stopped { IsErrOf result StepFault.Disk → (M.reached machine.new).state.stopped ≡ true }
     ensures kept { OnOk result ((line : List ℕ) → pending.old.items ≡ take 513 line → pending.new.items ≡ take 513 (rest_from line (byte ∷ []))) }
     ensures slots { M.slots machine.new ≡ M.slots machine.old }
     ensures since { M.since machine.old machine.new }
@@ -58,12 +58,12 @@ pub fn feed<M: Machine, K: Sink>(
     bytes: &[u8],
 ) -> Result<(), StepFault>
     requires ready { M.ready machine.old }
-    requires going { (M.state machine.old).stopped ≡ false }
+    requires going { (M.reached machine.old).state.stopped ≡ false }
     ensures ready { OnOk result (M.ready machine.new) }
     ensures ran { (line : List ℕ) → pending.old.items ≡ take 513 line →
-        RanAs (M.slots machine.old) (M.state machine.old) (M.state machine.new) (lines_from line bytes.now) K.tells (K.held sink.old) (K.held sink.new) result }
-    ensures going { OnOk result ((M.state machine.new).stopped ≡ false) }
-    ensures stopped { IsErrOf result StepFault.Disk → (M.state machine.new).stopped ≡ true }
+        RanAs (M.slots machine.old) (M.reached machine.old) (M.reached machine.new) (lines_from line bytes.now) K.tells (K.held sink.old) (K.held sink.new) result }
+    ensures going { OnOk result ((M.reached machine.new).state.stopped ≡ false) }
+    ensures stopped { IsErrOf result StepFault.Disk → (M.reached machine.new).state.stopped ≡ true }
     ensures kept { OnOk result ((line : List ℕ) → pending.old.items ≡ take 513 line → pending.new.items ≡ take 513 (rest_from line bytes.now)) }
     ensures slots { M.slots machine.new ≡ M.slots machine.old }
     ensures since { M.since machine.old machine.new }
@@ -85,12 +85,12 @@ pub fn finish<M: Machine, K: Sink>(
     pending: &Pending,
 ) -> Result<(), StepFault>
     requires ready { M.ready machine.old }
-    requires going { (M.state machine.old).stopped ≡ false }
+    requires going { (M.reached machine.old).state.stopped ≡ false }
     ensures ready { OnOk result (M.ready machine.new) }
     ensures ran { (line : List ℕ) → pending.now.items ≡ take 513 line →
-        RanAs (M.slots machine.old) (M.state machine.old) (M.state machine.new) (last_of line) K.tells (K.held sink.old) (K.held sink.new) result }
-    ensures going { OnOk result ((M.state machine.new).stopped ≡ false) }
-    ensures stopped { IsErrOf result StepFault.Disk → (M.state machine.new).stopped ≡ true }
+        RanAs (M.slots machine.old) (M.reached machine.old) (M.reached machine.new) (last_of line) K.tells (K.held sink.old) (K.held sink.new) result }
+    ensures going { OnOk result ((M.reached machine.new).state.stopped ≡ false) }
+    ensures stopped { IsErrOf result StepFault.Disk → (M.reached machine.new).state.stopped ≡ true }
     ensures slots { M.slots machine.new ≡ M.slots machine.old }
     ensures since { M.since machine.old machine.new }
     ensures disk { IsErrOf result StepFault.Disk → Rose (M.faults machine.old) (M.faults machine.new) }

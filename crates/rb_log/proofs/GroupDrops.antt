@@ -8,11 +8,9 @@ use Rattle.rb_disk.specs.DiskModel.{Torn}
 use Rattle.rb_layout.specs.declared.layout.Layout.{Layout}
 use Rattle.rb_layout.specs.Regions.{log_offset, file_length}
 use Rattle.rb_log.specs.GroupSlots.{GroupsAre, DroppedSome}
-use Rattle.rb_log.specs.GroupLaws.{begins_same, same_units_log, begins_end_group, cut_log}
-use Rattle.rb_log.specs.Slots.{slot_at, TornFrom, SameSlots, SameOutside}
-use Rattle.rb_log.specs.SlotLaws.{same_slot}
-use Rattle.rb_log.proofs.Logs.{gate_at, torn_outside}
-use Rattle.rb_log.proofs.Writes.{part_below, part_beyond, part_written, written_torn}
+use Rattle.rb_log.specs.GroupLaws.{same_slot, begins_same, same_units_log, begins_end_group, cut_log}
+use Rattle.rb_log.specs.Slots.{slot_at, TornFrom, SameSlots, SameOutside, SameBut}
+use Rattle.rb_log.proofs.Writes.{gate_at, torn_outside, part_below, part_beyond, part_written, written_torn}
 
 -- each slot of these groups is open, and none is the last
 opened_at : (l : Layout) (f : List ℕ) (slot k : ℕ) (groups : List (List Patch)) → GroupsAre l f slot groups → slot ≤ k → k < slot + length groups → (k + 1 < l.log) × (slice_index (slot_at f k) 0 ≡ 1)
@@ -90,3 +88,13 @@ module _ (l : Layout) (f : List ℕ) (groups : List (List Patch)) (used count : 
 pub cut_outside : (l : Layout) (f c : List ℕ) (slot : ℕ) → length f ≡ file_length l → slot + 1 < l.log → c ≡ overwritten f (log_offset slot) (0 ∷ []) → SameOutside l.log f c
 cut_outside l f c slot whole lt is =
     subst (λ (g : List ℕ). SameOutside l.log f g) (sym is) (torn_outside l.log f (overwritten f (log_offset slot) (0 ∷ [])) (log_offset slot) 1 (omega arith) (omega (arith, lt)) (omega (arith, whole)) (written_torn f (0 ∷ []) (log_offset slot) (omega (arith, whole, lt))))
+
+-- and all but the gate
+pub cut_others : (l : Layout) (f c : List ℕ) (slot : ℕ) → length f ≡ file_length l → slot + 1 < l.log → c ≡ overwritten f (log_offset slot) (0 ∷ []) → SameBut (log_offset slot) (log_offset slot + 1) f c
+cut_others l f c slot whole lt is =
+    let torn = written_torn f (0 ∷ []) (log_offset slot) (omega (arith, whole, lt)) in
+    subst (λ (g : List ℕ). SameBut (log_offset slot) (log_offset slot + 1) f g) (sym is) (record {
+      long = omega (arith, torn.no_shorter, torn.no_longer, whole, lt);
+      before = torn.before;
+      behind = torn.behind;
+    })

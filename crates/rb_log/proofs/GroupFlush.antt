@@ -11,8 +11,7 @@ use Rattle.rb_log.specs.GroupSlots.{IsLoggable, GroupsAre, FlushedSome, group_un
 use Rattle.rb_log.specs.Slots.{slot_at, TornFrom, SameSlots, SameOutside}
 use Rattle.rb_log.proofs.GroupUnits.{AreSideBySide}
 use Rattle.rb_log.proofs.GroupLogs.{groups_same, groups_kept, StagedRun, staged_run, run_still, run_outside, run_units, run_log}
-use Rattle.rb_log.proofs.Logs.{torn_outside}
-use Rattle.rb_log.proofs.Writes.{part_written, written_torn}
+use Rattle.rb_log.proofs.Writes.{part_written, written_torn, torn_outside}
 
 -- an image whose log is that of before, and one that has the pending groups of one run too
 pub none_more : (image : List ℕ → Type 0) (l : Layout) (before pending : List (List Patch)) (c d : List ℕ) → image d → SameOutside l.log d c → GroupsAre l c 0 before → FlushedSome image l before pending c

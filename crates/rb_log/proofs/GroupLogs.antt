@@ -9,11 +9,10 @@ use Rattle.rb_disk.specs.DiskModel.{Torn}
 use Rattle.rb_layout.specs.Regions.{log_offset}
 use Rattle.rb_layout.specs.declared.layout.Layout.{Layout}
 use Rattle.rb_log.specs.GroupSlots.{IsLoggable, HoldsGroup, HasGroup, GroupsAre, group_unit}
-use Rattle.rb_log.specs.Slots.{slot_at, SameSlots, SameOutside}
-use Rattle.rb_log.specs.SlotLaws.{same_slot}
+use Rattle.rb_log.specs.Slots.{slot_at, SameSlots, SameOutside, SameBut}
+use Rattle.rb_log.specs.GroupLaws.{same_slot}
 use Rattle.rb_log.proofs.GroupUnits.{AreSideBySide, group_has}
-use Rattle.rb_log.proofs.Logs.{gate_at}
-use Rattle.rb_log.proofs.Writes.{take_below, drop_beyond, part_below, part_beyond, part_written, written_torn}
+use Rattle.rb_log.proofs.Writes.{gate_at, take_below, drop_beyond, part_below, part_beyond, part_written, written_torn}
 
 -- what ends the log behind these groups
 groups_end : (l : Layout) (f : List ℕ) (slot end : ℕ) (groups : List (List Patch)) → slot + length groups ≡ end → GroupsAre l f slot groups → GroupsAre l f end []
@@ -131,10 +130,13 @@ run_outside slots end groups f c lt was = record {
 run_earlier : (end : ℕ) (groups : List (List Patch)) (f c : List ℕ) → StagedRun end groups f c → (k : ℕ) → k < end → slot_at c k ≡ slot_at f k
 run_earlier end groups f c was k below = part_below c f (log_offset end) (log_offset k) 2048 was.front (omega arith)
 
--- and those behind the closed gate
-pub run_others : (end : ℕ) (groups : List (List Patch)) (f c : List ℕ) → StagedRun end groups f c → (k : ℕ) → (k < end) ⊎ (end + length groups < k) → slot_at c k ≡ slot_at f k
-run_others end groups f c was k (inl below) = run_earlier end groups f c was k below
-run_others end groups f c was k (inr behind) = part_beyond c f (log_offset (end + length groups) + 1) (log_offset k) 2048 was.back (omega (arith, behind))
+-- and all bytes but those of the run and of the closed gate behind it
+pub run_others : (end : ℕ) (groups : List (List Patch)) (f c : List ℕ) → StagedRun end groups f c → SameBut (log_offset end) (log_offset (end + length groups) + 1) f c
+run_others end groups f c was = record {
+  long = was.long;
+  before = was.front;
+  behind = was.back;
+}
 
 -- each unit, once the first gate is open
 pub run_units : (end : ℕ) (groups : List (List Patch)) (f c : List ℕ) → log_offset end < length f → StagedRun end groups f c → get_or c (log_offset end) 0 ≡ 1

@@ -1,5 +1,5 @@
 -- How far a flush of several runs has come.
-use Rattle.std.proofs.Common.{◌≡◌, ◌⊎◌, ⊎_elim, inl, inr, ℕ, zero, suc, ◌+◌, ◌-◌, ◌*◌, ◌≤◌, ◌<◌, min, List, [], ◌∷◌, ◌++◌, length, take, drop, get_or, sym, ◌∙◌, ap, subst, arith, refl, append_assoc}
+use Rattle.std.proofs.Common.{◌≡◌, inl, inr, ℕ, zero, suc, ◌+◌, ◌-◌, ◌*◌, ◌≤◌, ◌<◌, min, List, [], ◌∷◌, ◌++◌, length, take, drop, get_or, sym, ◌∙◌, ap, subst, arith, refl, append_assoc}
 use Rattle.std.proofs.Math.Seq.{take-add}
 use Rattle.std.proofs.lemmas.Bool.{cases_lt}
 use Rattle.std.proofs.lemmas.List.{append-nil, take_all, take_min, length-append, length-take-le, length-drop, get_or-take, get_or-drop}
@@ -7,11 +7,12 @@ use Rattle.std.specs.List.{AllByRecursion}
 use Rattle.rb_base.specs.Groups.{Patch}
 use Rattle.rb_base.specs.Moments.{LeavesOnly, begun, weaker, joined}
 use Rattle.rb_disk.specs.DiskModel.{Only}
-use Rattle.rb_layout.specs.Regions.{file_length}
+use Rattle.rb_layout.specs.Regions.{file_length, log_offset}
 use Rattle.rb_layout.specs.declared.layout.Layout.{Layout}
 use Rattle.rb_log.specs.GroupSlots.{GroupsAre, FlushedSome, group_unit}
-use Rattle.rb_log.specs.Slots.{slot_at, SameSlots, SameOutside}
+use Rattle.rb_log.specs.Slots.{slot_at, SameSlots, SameOutside, SameBut}
 use Rattle.rb_log.proofs.GroupFlush.{nothing_flushed}
+use Rattle.rb_log.proofs.Writes.{take_below, drop_beyond, part_below}
 
 pub all_taken : {X : Type 0} (P : X → Type 0) (n : ℕ) (xs : List X) → AllByRecursion P xs → AllByRecursion P (take n xs)
 all_taken P zero xs each = tt
@@ -28,6 +29,13 @@ outside_on slots f g h first second = record {
   long = second.long ∙ first.long;
   before = second.before ∙ first.before;
   behind = second.behind ∙ first.behind;
+}
+
+pub but_on : (first middle end last : ℕ) (f g h : List ℕ) → first ≤ middle → end ≤ last → SameBut first end f g → SameBut middle last g h → SameBut first last f h
+but_on first middle end last f g h low high one two = record {
+  long = two.long ∙ one.long;
+  before = take_below h g middle first two.before low ∙ one.before;
+  behind = two.behind ∙ drop_beyond g f end last one.behind high;
 }
 
 -- the run behind those that are written
@@ -81,7 +89,7 @@ module _ {D : Type 0} (content : D → List ℕ) (image : D → List ℕ → Typ
   pub record RunsFlushed (l : Layout) (used : ℕ) (groups : List (List Patch)) (done : ℕ) (old new : D) : Type 0 where
     pub written : (before : List (List Patch)) → length before ≡ used → GroupsAre l (content old) 0 before → GroupsAre l (content new) 0 (before ++ take done groups)
     pub units : (k : ℕ) (d : List Patch) → k < done → slot_at (content new) (used + k) ≡ group_unit 1 (used + k + 1) (get_or groups k d)
-    pub others : (k : ℕ) → (k < used) ⊎ (used + done < k) → slot_at (content new) k ≡ slot_at (content old) k
+    pub others : SameBut (log_offset used) (log_offset (used + done) + 1) (content old) (content new)
     pub outside : SameOutside l.log (content old) (content new)
     pub durable : (c : List ℕ) → image new c → SameSlots l.log (content new) c
     pub from : (c : List ℕ) → image new c → (d : List ℕ) × image old d × SameOutside l.log d c
@@ -93,7 +101,7 @@ module _ {D : Type 0} (content : D → List ℕ) (image : D → List ℕ → Typ
   no_run l used groups disk only_now synced whole = record {
     written = λ before counts log. subst (λ (gs : List (List Patch)). GroupsAre l (content disk) 0 gs) (sym (append-nil before)) log;
     units = λ k d below. absurd (omega (arith, below));
-    others = λ k other. refl;
+    others = record { long = refl; before = refl; behind = refl };
     outside = record { long = refl; before = refl; behind = refl };
     durable = synced;
     from = λ c here. (c, here, record { long = refl; before = refl; behind = refl });
@@ -117,7 +125,7 @@ module _ {D : Type 0} (content : D → List ℕ) (image : D → List ℕ → Typ
 
     -- one run more
     pub run_done : image old (content old) → ((before : List (List Patch)) → length before ≡ used + done → GroupsAre l (content mid) 0 before → GroupsAre l (content new) 0 (before ++ run))
-        → ((k : ℕ) (d : List Patch) → k < length run → slot_at (content new) (used + done + k) ≡ group_unit 1 (used + done + k + 1) (get_or run k d)) → ((k : ℕ) → (k < used + done) ⊎ (used + done + length run < k) → slot_at (content new) k ≡ slot_at (content mid) k)
+        → ((k : ℕ) (d : List Patch) → k < length run → slot_at (content new) (used + done + k) ≡ group_unit 1 (used + done + k + 1) (get_or run k d)) → SameBut (log_offset (used + done)) (log_offset (used + done + length run) + 1) (content mid) (content new)
         → SameOutside l.log (content mid) (content new) → Only (content new) (image new) → length (content new) ≡ file_length l
         → ((before : List (List Patch)) → length before ≡ used + done → GroupsAre l (content mid) 0 before → LeavesOnly moment since mid new (FlushedSome (image mid) l before run)) → RunsFlushed l used groups end old new
     run_done here written units others outside durable whole leaves =
@@ -128,7 +136,7 @@ module _ {D : Type 0} (content : D → List ℕ) (image : D → List ℕ → Typ
               (written (before ++ take done groups) (fronted before counts) (so_far.written before counts log));
           units = λ k d below.
               elim (cases_lt k done) [
-                | inl first ↦ others (used + k) (inl (omega (arith, first))) ∙ so_far.units k d first
+                | inl first ↦ part_below (content new) (content mid) (log_offset (used + done)) (log_offset (used + k)) 2048 others.before (omega (arith, first)) ∙ so_far.units k d first
                 | inr later ↦
                     let at : used + done + (k - done) ≡ used + k = omega (arith, later) in
                     let within : k - done < length run = omega (arith, size.0, below, later) in
@@ -136,8 +144,8 @@ module _ {D : Type 0} (content : D → List ℕ) (image : D → List ℕ → Typ
                     ap (λ (gs : List (List Patch)). get_or gs (k - done) d) next.run_is ∙ get_or-take (end - done) (drop done groups) (k - done) d (omega (arith, below, later)) ∙ get_or-drop done groups (k - done) d ∙ ap (λ (i : ℕ). get_or groups i d) (omega (arith, later)) in
                     ap (λ (i : ℕ). slot_at (content new) i) (sym at) ∙ units (k - done) d within ∙ ap (λ (i : ℕ). group_unit 1 (i + 1) (get_or run (k - done) d)) at ∙ ap (group_unit 1 (used + k + 1)) group
               ];
-          others = λ k other.
-              ⊎_elim (λ before. others k (inl (omega (arith, before))) ∙ so_far.others k (inl before)) (λ behind. others k (inr (omega (arith, behind, size.3))) ∙ so_far.others k (inr (omega (arith, behind, size.1, size.3)))) other;
+          others = subst (λ (n : ℕ). SameBut (log_offset used) (log_offset n + 1) (content old) (content new)) (omega (arith, size.3))
+              (but_on (log_offset used) (log_offset (used + done)) (log_offset (used + done) + 1) (log_offset (used + done + length run) + 1) (content old) (content mid) (content new) (omega arith) (omega arith) so_far.others others);
           outside = all_outside;
           durable = λ c left. subst (λ (f : List ℕ). SameSlots l.log (content new) f) (sym (durable c left)) (record { long = refl; slots_are = refl });
           from = λ c left. (content old, here, subst (λ (f : List ℕ). SameOutside l.log (content old) f) (sym (durable c left)) all_outside);

@@ -1,11 +1,7 @@
-pub mod Flush
 pub mod GroupDrops
 pub mod GroupFlush
 pub mod GroupLogs
 pub mod GroupReading
 pub mod GroupRuns
 pub mod GroupUnits
-pub mod Logs
-pub mod Scan
-pub mod Units
 pub mod Writes

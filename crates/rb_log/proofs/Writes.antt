@@ -1,9 +1,10 @@
--- What one write changes, and two writes one behind the other.
-use Rattle.std.proofs.Common.{◌≡◌, ℕ, ◌+◌, ◌-◌, ◌≤◌, List, ◌++◌, length, take, drop, sym, ◌∙◌, ap, arith, refl, length-append, length-drop}
-use Rattle.std.proofs.lemmas.List.{take_at, drop_at, drop-drop, append_assoc, drop-take, take-take, length-take-le}
+-- What one write changes, and two writes one behind the other, in a file and in its log slots.
+use Rattle.std.proofs.Common.{◌≡◌, ℕ, ◌+◌, ◌-◌, ◌≤◌, List, ◌++◌, length, take, drop, get_or, slice_index, sym, ◌∙◌, ap, arith, refl, length-append, length-drop}
+use Rattle.std.proofs.lemmas.List.{take_at, drop_at, drop-drop, append_assoc, drop-take, take-take, length-take-le, get_or-take, get_or-drop}
 use Rattle.rb_base.specs.Fields.{part, overwritten}
 use Rattle.rb_disk.specs.DiskModel.{Torn, Follows}
-use Rattle.rb_log.specs.Slots.{TornFrom}
+use Rattle.rb_layout.specs.Regions.{log_offset}
+use Rattle.rb_log.specs.Slots.{slot_at, SameOutside, TornFrom}
 
 -- files with the same front, or the same end
 pub take_below : (f g : List ℕ) (n k : ℕ) → take n f ≡ take n g → k ≤ n → take k f ≡ take k g
@@ -67,3 +68,15 @@ written_torn f bytes at le =
       no_shorter = omega (arith, whole);
       no_longer = omega (arith, whole);
     }
+
+-- the gate of a slot is a byte of the file
+pub gate_at : (f : List ℕ) (slot : ℕ) → slice_index (slot_at f slot) 0 ≡ get_or f (log_offset slot) 0
+gate_at f slot = get_or-take 2048 (drop (log_offset slot) f) 0 0 (omega arith) ∙ get_or-drop (log_offset slot) f 0 0 ∙ ap (λ (i : ℕ). get_or f i 0) (omega arith)
+
+-- a torn write within the log leaves the rest of the file
+pub torn_outside : (slots : ℕ) (f g : List ℕ) (at count : ℕ) → log_offset 0 ≤ at → at + count ≤ log_offset slots → log_offset slots ≤ length f → Torn at count f g → SameOutside slots f g
+torn_outside slots f g at count low high fits torn = record {
+  long = omega (arith, torn.no_shorter, torn.no_longer);
+  before = take_below g f at (log_offset 0) torn.before low;
+  behind = drop_beyond g f (at + count) (log_offset slots) torn.behind high;
+}

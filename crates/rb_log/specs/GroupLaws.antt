@@ -1,13 +1,26 @@
 -- What follows from the definitions on groups in log slots, for the crates above.
-use Rattle.std.specs.Prelude.{◌≡◌, ℕ, ◌+◌, ◌<◌, zero, suc, List, [], ◌∷◌, ◌++◌, length, take, slice_index}
+use Rattle.std.specs.Prelude.{◌≡◌, ℕ, ◌+◌, ◌*◌, ◌<◌, ◌≤◌, zero, suc, List, [], ◌∷◌, ◌++◌, length, take, drop, slice_index}
 use Rattle.std.proofs.Common.{inl, inr, ⊎_elim, sym, ◌∙◌, ap, subst, refl, arith}
-use Rattle.std.proofs.lemmas.List.{append-nil}
+use Rattle.std.proofs.lemmas.List.{append-nil, drop-drop, drop-take, take-take}
+use Rattle.byteorder.specs.Numbers.{big_number-reads_back}
+use Rattle.rb_base.specs.Blocks.{patched}
+use Rattle.rb_base.specs.Fields.{part, number_at, overwritten}
 use Rattle.rb_base.specs.Groups.{Patch}
 use Rattle.rb_group.proofs.Spelling.{group_same}
+use Rattle.rb_layout.specs.Regions.{log_offset}
 use Rattle.rb_layout.specs.declared.layout.Layout.{Layout}
 use Rattle.rb_log.specs.Slots.{slot_at, SameSlots}
-use Rattle.rb_log.specs.SlotLaws.{same_slot}
 use Rattle.rb_log.specs.GroupSlots.{HasGroup, HoldsGroup, GroupsAre, BeginsWithGroups, IsFaultyGroup}
+
+-- a slot's unit lies among the bytes of the log
+pub same_slot : (slots : ℕ) (file other : List ℕ) → SameSlots slots file other → (k : ℕ) → k < slots → slot_at other k ≡ slot_at file k
+same_slot slots file other same k lt = sym (among other) ∙ ap (λ (l : List ℕ). take 2048 (drop (2048 * k) l)) same.slots_are ∙ among file
+  where
+    among : (h : List ℕ) → take 2048 (drop (2048 * k) (part h (log_offset 0) (2048 * slots))) ≡ slot_at h k
+    among h =
+        let all = drop (log_offset 0) h in
+        sym (drop-take (2048 * k) 2048 (take (2048 * slots) all)) ∙ ap (drop (2048 * k)) (take-take (2048 * k + 2048) (2048 * slots) all (omega arith)) ∙ drop-take (2048 * k) 2048 all
+        ∙ ap (take 2048) (drop-drop (2048 * k) (log_offset 0) h ∙ ap (λ (i : ℕ). drop i h) (omega arith))
 
 -- one group more, as a scan finds it
 pub begins_more_group : (l : Layout) (file : List ℕ) (slot end : ℕ) (groups : List (List Patch)) (group : List Patch) → slot + length groups ≡ end → BeginsWithGroups l file slot groups → end + 1 < l.log
@@ -64,3 +77,7 @@ pub cut_log : (l : Layout) (file : List ℕ) (slot n : ℕ) (groups : List (List
 cut_log l file slot zero groups log = tt
 cut_log l file slot (suc n) [] log = tt
 cut_log l file slot (suc n) (group ∷ groups) log = (log.0, log.1, cut_log l file (slot + 1) n groups log.2)
+
+-- a block that a group patches has the group's number in front
+pub patched_number : (number : ℕ) (p : Patch) (block : List ℕ) → number ≤ 4096 → number_at (patched number p block) 0 8 ≡ number
+patched_number number p block few = big_number-reads_back 8 number (drop 8 (overwritten block p.at p.bytes)) (omega (arith, few))

@@ -7,12 +7,12 @@ ghost use Rattle.rb_base.specs.Fields.{part};
 ghost use Rattle.rb_base.specs.Groups.{Patch, IsGroup};
 ghost use Rattle.rb_base.specs.Moments.{LeavesOnly};
 ghost use Rattle.rb_disk.specs.DiskModel.{Only};
-ghost use Rattle.rb_layout.specs.Regions.{file_length};
-ghost use Rattle.rb_log.specs.Slots.{slot_at, SameSlots, SameOutside};
+ghost use Rattle.rb_layout.specs.Regions.{file_length, log_offset};
+ghost use Rattle.rb_log.specs.Slots.{slot_at, SameSlots, SameOutside, SameBut};
 ghost use Rattle.rb_log.specs.GroupSlots.{GroupsAre, IsLoggable, group_unit, FlushedSome};
 
+use crate::group_unit::{GROUP, LENGTH, NUMBER};
 use crate::steps::{open_gate, write_body};
-use crate::unit::{LENGTH, NUMBER, RECORD};
 use rb_base::{Failed, Group, UNIT, put_u16, put_u64};
 use rb_disk::Disk;
 use rb_group::encode;
@@ -29,7 +29,7 @@ fn put_group(unit: &mut [u8], gate: u8, number: u64, group: &Group)
     ensures { unit.new ≡ group_unit gate number group.now }
 {
     unit.fill(0);
-    let length = encode(group, &mut unit[RECORD..]);
+    let length = encode(group, &mut unit[GROUP..]);
     unit[0] = gate;
     put_u16(unit, LENGTH, length as u16);
     put_u64(unit, NUMBER, number);
@@ -75,7 +75,7 @@ fn write_run<D: Disk>(
     requires synced { D.tells → (c : List ℕ) → D.image disk.old c → SameSlots layout.now.log (D.content disk.old) c }
     ensures written { D.tells → OnOk result ((before : List (List Patch)) → length before ≡ used → GroupsAre layout.now (D.content disk.old) 0 before → GroupsAre layout.now (D.content disk.new) 0 (before ++ groups.now)) }
     ensures units { D.tells → OnOk result ((k : ℕ) (d : List Patch) → k < length groups.now → slot_at (D.content disk.new) (used + k) ≡ group_unit 1 (used + k + 1) (slice_index_or groups.now k d)) }
-    ensures others { D.tells → OnOk result ((k : ℕ) → (k < used) ⊎ (used + length groups.now < k) → slot_at (D.content disk.new) k ≡ slot_at (D.content disk.old) k) }
+    ensures others { D.tells → OnOk result (SameBut (log_offset used) (log_offset (used + length groups.now) + 1) (D.content disk.old) (D.content disk.new)) }
     ensures outside { D.tells → OnOk result (SameOutside layout.now.log (D.content disk.old) (D.content disk.new)) }
     ensures durable { D.tells → OnOk result (Only (D.content disk.new) (D.image disk.new)) }
     ensures whole { D.tells → length (D.content disk.new) ≡ file_length layout.now }
@@ -106,7 +106,7 @@ pub(crate) fn write_groups<D: Disk>(
     requires synced { D.tells → (c : List ℕ) → D.image disk.old c → SameSlots layout.now.log (D.content disk.old) c }
     ensures written { D.tells → OnOk result ((before : List (List Patch)) → length before ≡ used → GroupsAre layout.now (D.content disk.old) 0 before → GroupsAre layout.now (D.content disk.new) 0 (before ++ groups.now)) }
     ensures units { D.tells → OnOk result ((k : ℕ) (d : List Patch) → k < length groups.now → slot_at (D.content disk.new) (used + k) ≡ group_unit 1 (used + k + 1) (slice_index_or groups.now k d)) }
-    ensures others { D.tells → OnOk result ((k : ℕ) → (k < used) ⊎ (used + length groups.now < k) → slot_at (D.content disk.new) k ≡ slot_at (D.content disk.old) k) }
+    ensures others { D.tells → OnOk result (SameBut (log_offset used) (log_offset (used + length groups.now) + 1) (D.content disk.old) (D.content disk.new)) }
     ensures outside { D.tells → OnOk result (SameOutside layout.now.log (D.content disk.old) (D.content disk.new)) }
     ensures durable { D.tells → OnOk result ((c : List ℕ) → D.image disk.new c → SameSlots layout.now.log (D.content disk.new) c) }
     ensures whole { D.tells → length (D.content disk.new) ≡ file_length layout.now }

@@ -8,9 +8,9 @@ ghost use Rattle.rb_base.specs.Groups.{Patch, IsGroup};
 ghost use Rattle.rb_base.specs.Moments.{LeavesOnly};
 ghost use Rattle.rb_disk.specs.DiskModel.{Only};
 ghost use Rattle.rb_disk.specs.Moments.{Rests};
-ghost use Rattle.rb_layout.specs.Regions.{file_length, shape_of};
+ghost use Rattle.rb_layout.specs.Regions.{file_length, log_offset, shape_of};
 ghost use Rattle.rb_log.specs.GroupSlots.{HoldsGroup, GroupsAre, IsFaultyGroup, DroppedSome, FlushedSome, IsLoggable, group_unit};
-ghost use Rattle.rb_log.specs.Slots.{slot_at, SameSlots, SameOutside, TornFrom};
+ghost use Rattle.rb_log.specs.Slots.{slot_at, SameSlots, SameOutside, SameBut, TornFrom};
 
 use crate::group_flush::write_groups;
 use crate::group_unit::read_group;
@@ -164,6 +164,7 @@ impl GroupLog {
         requires synced { D.tells → (c : List ℕ) → D.image disk.old c → SameSlots self.old.layout.log (D.content disk.old) c }
         ensures written { D.tells → OnOk result ((groups : List (List Patch)) → length groups ≡ self.old.used → GroupsAre self.old.layout (D.content disk.old) 0 groups → GroupsAre self.old.layout (D.content disk.new) 0 (groups ++ self.old.pending)) }
         ensures units { D.tells → OnOk result ((k : ℕ) (d : List Patch) → k < length self.old.pending → slot_at (D.content disk.new) (self.old.used + k) ≡ group_unit 1 (self.old.used + k + 1) (slice_index_or self.old.pending k d)) }
+        ensures others { D.tells → OnOk result (SameBut (log_offset self.old.used) (log_offset (self.old.used + length self.old.pending) + 1) (D.content disk.old) (D.content disk.new)) }
         ensures outside { D.tells → OnOk result (SameOutside self.old.layout.log (D.content disk.old) (D.content disk.new)) }
         ensures durable { D.tells → OnOk result ((c : List ℕ) → D.image disk.new c → SameSlots self.old.layout.log (D.content disk.new) c) }
         ensures whole { D.tells → length (D.content disk.new) ≡ file_length self.old.layout }
@@ -194,6 +195,7 @@ impl GroupLog {
         requires whole { D.tells → length (D.content disk.old) ≡ file_length self.old.layout }
         requires synced { D.tells → (c : List ℕ) → D.image disk.old c → SameSlots self.old.layout.log (D.content disk.old) c }
         ensures dropped { D.tells → OnOk result ((groups : List (List Patch)) → length groups ≡ self.old.used → GroupsAre self.old.layout (D.content disk.old) 0 groups → GroupsAre self.old.layout (D.content disk.new) 0 (take count groups)) }
+        ensures others { D.tells → OnOk result (SameBut (log_offset count) (log_offset count + 1) (D.content disk.old) (D.content disk.new)) }
         ensures outside { D.tells → OnOk result (SameOutside self.old.layout.log (D.content disk.old) (D.content disk.new)) }
         ensures durable { D.tells → OnOk result (Only (D.content disk.new) (D.image disk.new)) }
         ensures whole { D.tells → length (D.content disk.new) ≡ file_length self.old.layout }

@@ -1,5 +1,5 @@
 //! A log slot's unit with a group: how it is found there, and whether its blocks are those of the file. `GroupLog` calls
-//! it.
+//! it, and the flush of groups takes the places.
 ghost use Rattle.std.specs.Prelude.{◌≡◌, ◌≢◌, ◌≤◌, ◌<◌, ◌+◌, ◌↔◌, ℕ, List, [], length, slice_index, IsTrue, IsErrOf, IfOk, IfSome, IfNone};
 ghost use Rattle.std.specs.List.{AllByRecursion};
 ghost use Rattle.rb_base.specs.Blocks.{shape_blocks};
@@ -16,16 +16,16 @@ use rb_group::decode;
 use rb_layout::Layout;
 
 /// Where a group begins in its unit.
-const GROUP: usize = 16;
+pub const GROUP: usize = 16;
 
 /// The most bytes of a group.
 const LONGEST: usize = 2000;
 
 /// Where the length of a group stands.
-const LENGTH: usize = 2;
+pub const LENGTH: usize = 2;
 
 /// Where the number of a group stands.
-const NUMBER: usize = 8;
+pub const NUMBER: usize = 8;
 
 /// Units of a segment.
 const SEGMENT: u64 = 33;

@@ -1,4 +1,4 @@
-//! The two steps of a flush, each with what a crash in it may leave. `Log` and the flush of groups call one after the other.
+//! The two steps of a flush, each with what a crash in it may leave. The flush of groups calls one after the other.
 ghost use Rattle.std.specs.Prelude.{◌≡◌, ◌+◌, ◌≤◌, ◌<◌, ◌^◌, [], ◌∷◌, ℕ, List, length, OnOk};
 ghost use Rattle.rb_base.specs.Counts.{IsCounted};
 ghost use Rattle.rb_base.specs.Fields.{overwritten};

@@ -5,7 +5,7 @@ use rb_model::{Op, Refusal};
 
 #[test]
 fn lines_that_spell_no_command(rt: HostRuntime) {
-    let lines: [&[u8]; 35] = [
+    let lines: [&[u8]; 44] = [
         b"fetch 1 c 0",
         b"fetch 1 c 00",
         b"fetch 1 c 01",
@@ -27,6 +27,15 @@ fn lines_that_spell_no_command(rt: HostRuntime) {
         b"INSERT 1 1 1 a",
         b"insert",
         b"inserts 1 1 1 a",
+        b"update 1 1 1",
+        b"update 1 1 1 ",
+        b"update 1  1 1 a",
+        b"update 1 1 1  a",
+        b"delete 1 1",
+        b"delete 1 1 ",
+        b"delete 1 1  1",
+        b"delete 1 1 1 x",
+        b"delete 1 1 1 ",
         b" commit 1",
         b"commit",
         b"commit ",
@@ -60,6 +69,28 @@ fn lines_that_spell_a_command(rt: HostRuntime) {
             })
         )
     );
+    assert!(rt;
+        matches!(
+            parse(b"update 65535 2 0 ~"),
+            Some(Command::Write {
+                s: 65535,
+                t: 2,
+                k: 0,
+                op: Op::Update(b"~")
+            })
+        )
+    );
+    assert!(rt;
+        matches!(
+            parse(b"delete 1 2 18446744073709551615"),
+            Some(Command::Write {
+                s: 1,
+                t: 2,
+                k: 18446744073709551615,
+                op: Op::Delete
+            })
+        )
+    );
     assert!(rt; matches!(parse(b"commit 65535"), Some(Command::Commit { s: 65535 })));
     let opened = parse(b"open 1 _0 65535 9 0");
     assert!(rt;
@@ -90,7 +121,7 @@ fn lines_that_spell_a_command(rt: HostRuntime) {
 #[test]
 fn texts_of_replies(rt: HostRuntime) {
     let value = [b'~'; 80];
-    let replies: [(Reply, &[u8]); 8] = [
+    let replies: [(Reply, &[u8]); 11] = [
         (Reply::Done { s: 1 }, b"1 ok\n"),
         (
             Reply::Committed {
@@ -123,6 +154,27 @@ fn texts_of_replies(rt: HostRuntime) {
                 why: Refusal::TooManyCursors,
             },
             b"1 too many cursors\n",
+        ),
+        (
+            Reply::Refused {
+                s: 1,
+                why: Refusal::NotFound,
+            },
+            b"1 not found\n",
+        ),
+        (
+            Reply::Refused {
+                s: 1,
+                why: Refusal::BlockFull,
+            },
+            b"1 block full\n",
+        ),
+        (
+            Reply::Refused {
+                s: 1,
+                why: Refusal::WornOut,
+            },
+            b"1 worn out\n",
         ),
         (Reply::BadLine, b"bad line\n"),
     ];

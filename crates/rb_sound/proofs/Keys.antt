@@ -32,7 +32,8 @@ first_of_apart block c few apart = record {
       false_from_ne_true (is_keyed key (cell_at block k)) (λ other. let e = apart.one key k c (omega arith) few other has in absurd (omega arith));
 }
 
-own_key : (key : ℕ) (cell : Cell) → is_keyed key cell ≡ true → key ≡ cell.key
+-- a cell has no key but its own
+pub own_key : (key : ℕ) (cell : Cell) → is_keyed key cell ≡ true → key ≡ cell.key
 own_key key cell has = sym (eqb-true cell.key key (and_parts ((cell.state == ROW) || not (cell.lock == 0)) (cell.key == key) has).1)
 
 -- `found` is the first cell with that key, if there is one

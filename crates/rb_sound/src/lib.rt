@@ -9,7 +9,7 @@ mod segment;
 
 pub use blocks::{blocks_sound, commit_number_of};
 pub use home::{Limits, home_sound};
-pub use laws::{commit_greatest, fresh_sound, homes_by_table};
+pub use laws::{cell_written, commit_greatest, commit_written, fresh_sound, homes_by_table};
 pub use segment::segment_sound;
 
 #[cfg(test)]

@@ -1,3 +1,4 @@
+mod HeaderLemmas
 mod LapLemmas
 mod OpenLemmas
 mod ScanLemmas

@@ -1,6 +1,6 @@
 -- Dropping the groups behind the last commit, and what an opening leaves of the file.
 use Rattle.std.proofs.Common.{◌⊎◌, ◌≡◌, inl, inr, ⊎_elim, ℕ, ◌+◌, List, [], ◌∷◌, ◌++◌, length, take, arith, ap, sym, ◌∙◌, subst}
-use Rattle.rb_store.specs.Laps.{IsLap, OpensTo, committed_groups}
+use Rattle.rb_store.specs.Laps.{IsLap, OpensTo, OpensAt, committed_groups}
 use Rattle.rb_log.specs.GroupSlots.{GroupLogState, GroupsAre, HoldsGroup, DroppedSome}
 use Rattle.rb_store.specs.Scanned.{HasScannedAll}
 use Rattle.rb_plainstore.specs.Plain.{PlainState}
@@ -21,6 +21,17 @@ use Rattle.rb_store.proofs.LapLemmas.{same_identity}
 -- what is kept of a log is whole
 pub whole_kept : (shape : Shape) (groups waiting : List (List Patch)) → committed_groups shape (groups ++ waiting) ≡ groups → committed_groups shape groups ≡ groups
 whole_kept shape groups waiting e = ap (committed_groups shape) (sym e) ∙ cut_twice (commit_block shape) (groups ++ waiting) ∙ e
+
+-- what was scanned to its end is what the file opens to
+pub scanned_opens : (told : Type 0) (l : Layout) (file : List ℕ) (plain now : PlainState) (log : GroupLogState) (waiting : List (List Patch)) → HasIdentity 102 l file → HasScannedAll told l file plain log waiting → told → now ≡ plain → OpensAt l file now.blocks now.number
+scanned_opens told l file plain now log waiting id h t same = record {
+  opens = record {
+    groups = h.groups ++ waiting;
+    lap = record { identity = id; log = h.ends t };
+    made = ap (λ (p : PlainState). p.blocks) same ∙ h.blocks ∙ ap (λ (gs : List (List Patch)). after_groups 1 gs (fresh_blocks (shape_of l))) (sym h.whole);
+  };
+  last = ap length h.whole ∙ sym h.number ∙ sym (ap (λ (p : PlainState). p.number) same);
+}
 
 -- an image of a drop opens to what is kept
 pub dropped_opens : (l : Layout) (image : List ℕ → Type 0) (file c : List ℕ) (groups waiting : List (List Patch)) (b : List (List ℕ)) (count : ℕ) → HasIdentity 102 l file → Only file image → committed_groups (shape_of l) (groups ++ waiting) ≡ groups

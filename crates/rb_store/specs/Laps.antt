@@ -22,7 +22,12 @@ pub record OpensTo (l : Layout) (file : List ℕ) (blocks : List (List ℕ)) : T
   pub lap : IsLap l groups file
   pub made : blocks ≡ after_groups 1 (committed_groups (shape_of l) groups) (fresh_blocks (shape_of l))
 
--- the same by the shape and the slots of the layout
+-- The same, and the last log number of these groups.
+pub record OpensAt (l : Layout) (file : List ℕ) (blocks : List (List ℕ)) (number : ℕ) : Type 0 where
+  pub opens : OpensTo l file blocks
+  pub last : length (committed_groups (shape_of l) opens.groups) ≡ number
+
+-- what a file opens to, by the shape and the slots of the layout
 pub record Opens (shape : Shape) (slots : Option ℕ) (file : List ℕ) (blocks : List (List ℕ)) : Type 0 where
   pub layout : Layout
   pub shape_is : shape_of layout ≡ shape

@@ -32,30 +32,13 @@ pub fn format<D: Disk>(disk: &mut D, layout: &Layout) -> Result<(), FormatFault>
     ensures failed { IsErrOf result FormatFault.Failed → Rose (D.faults disk.old) (D.faults disk.new) }
     ensures counted { D.faults disk.old ≤ D.faults disk.new }
 {
-    format_version(disk, layout, VERSION)
-}
-
-/// Makes the empty file a new file of that version.
-pub fn format_version<D: Disk>(
-    disk: &mut D,
-    layout: &Layout,
-    version: u32,
-) -> Result<(), FormatFault>
-    ensures done { D.tells → OnOk result (D.content disk.new ≡ fresh_file version layout.now) }
-    ensures durable { D.tells → OnOk result (Only (fresh_file version layout.now) (D.image disk.new)) }
-    ensures was_empty { D.tells → OnOk result (length (D.content disk.old) ≡ 0) }
-    ensures not_empty { D.tells → IsErrOf result FormatFault.NotEmpty → 0 < length (D.content disk.old) }
-    ensures unchanged { D.tells → 0 < length (D.content disk.old) → Rests D.content D.image D.moment D.image_since disk.old disk.new }
-    ensures failed { IsErrOf result FormatFault.Failed → Rose (D.faults disk.old) (D.faults disk.new) }
-    ensures counted { D.faults disk.old ≤ D.faults disk.new }
-{
     let Ok(length) = disk.len() else {
         return Err(FormatFault::Failed);
     };
     if length > 0 {
         return Err(FormatFault::NotEmpty);
     }
-    let Ok(()) = write_units(disk, layout, version) else {
+    let Ok(()) = write_units(disk, layout) else {
         return Err(FormatFault::Failed);
     };
     let Ok(()) = disk.sync() else {
@@ -65,12 +48,12 @@ pub fn format_version<D: Disk>(
 }
 
 // Writes all units of a new file into an empty one, in order.
-fn write_units<D: Disk>(disk: &mut D, layout: &Layout, version: u32) -> Result<(), Failed>
+fn write_units<D: Disk>(disk: &mut D, layout: &Layout) -> Result<(), Failed>
     requires { D.tells → length (D.content disk.old) ≡ 0 }
-    ensures written { D.tells → OnOk result (D.content disk.new ≡ fresh_file version layout.now) }
+    ensures written { D.tells → OnOk result (D.content disk.new ≡ fresh_file VERSION layout.now) }
     ensures counted { IsCounted (D.faults disk.old) (D.faults disk.new) result }
 {
-    disk.write_at(0, &first_unit(layout, version))?;
+    disk.write_at(0, &first_unit(layout))?;
     let empty = empty_unit();
     for unit in 1..layout.length() / UNIT as u64 {
         disk.write_at(unit * UNIT as u64, &empty)?;
@@ -79,11 +62,11 @@ fn write_units<D: Disk>(disk: &mut D, layout: &Layout, version: u32) -> Result<(
 }
 
 // The unit that says what the file is.
-fn first_unit(layout: &Layout, version: u32) -> [u8; UNIT]
-    ensures { result ≡ identity version layout.now ++ replicate 2024 0 }
+fn first_unit(layout: &Layout) -> [u8; UNIT]
+    ensures { result ≡ identity VERSION layout.now ++ replicate 2024 0 }
 {
     let mut unit = empty_unit();
-    layout.put_identity_of(version, &mut unit);
+    layout.put_identity(&mut unit);
     unit
 }
 

@@ -1,5 +1,5 @@
-//! `LapStore`: the blocks of a file in memory, with the log of one lap that makes them last. The engine over blocks will
-//! stand on it; the program doesn't use it yet.
+//! `LapStore`: the blocks of a file in memory, with the log of one lap that makes them last. The engine over blocks
+//! stands on it.
 ghost use Rattle.std.specs.Prelude.{◌≡◌, ℕ, List, false, [], IfOk, IfErr};
 ghost use Rattle.rb_base.specs.Counts.{Rose};
 ghost use Rattle.rb_disk.specs.Moments.{Rests};

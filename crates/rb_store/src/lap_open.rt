@@ -11,13 +11,13 @@ ghost use Rattle.rb_disk.specs.Moments.{Rests};
 ghost use Rattle.rb_layout.specs.declared.layout.Layout.{Layout};
 ghost use Rattle.rb_layout.specs.Regions.{file_length, shape_of, HasIdentity};
 ghost use Rattle.rb_log.specs.GroupSlots.{GroupsAre, IsLoggable};
-ghost use Rattle.rb_store.specs.Laps.{LapState, OpensTo, IsLap, IsStable};
+ghost use Rattle.rb_store.specs.Laps.{LapState, OpensTo, OpensAt, IsLap, IsStable};
 ghost use Rattle.rb_store.specs.Scanned.{HasScanned, HasScannedAll, HasOpened, Takes};
 
 use crate::lap::LapStore;
 use rb_base::{BlockNo, Group, OpenFault, Store};
 use rb_disk::Disk;
-use rb_layout::{GROUPS_VERSION, Head, Layout};
+use rb_layout::{Head, Layout, VERSION};
 use rb_log::GroupLog;
 use rb_plainstore::PlainStore;
 use std::alloc::Global;
@@ -158,7 +158,7 @@ fn drop_uncommitted<D: Disk>(
     layout: &Layout,
 ) -> Result<(), OpenFault>
     requires all { HasScannedAll D.tells layout.now (D.content disk.old) scan.old.plain scan.old.log scan.old.waiting.items }
-    requires identity { D.tells → HasIdentity GROUPS_VERSION layout.now (D.content disk.old) }
+    requires identity { D.tells → HasIdentity VERSION layout.now (D.content disk.old) }
     requires synced { D.tells → Only (D.content disk.old) (D.image disk.old) }
     ensures opened { OnOk result (HasOpened D.tells D.content D.image layout.now scan.new.plain scan.new.log disk.new) }
     ensures blocks { scan.new.plain ≡ scan.old.plain }
@@ -193,8 +193,8 @@ fn scan_file<D: Disk>(alloc: Global, disk: &mut D, layout: &Layout) -> Result<Sc
 
 /// Which layout the file has, once a sync has made the file the only one that a crash may leave.
 fn synced_layout<D: Disk>(disk: &mut D) -> Result<Layout, OpenFault>
-    ensures identity { D.tells → IfOk result (λ l. HasIdentity GROUPS_VERSION l (D.content disk.old)) }
-    ensures none { D.tells → IsErrOf result OpenFault.NotAStore → (l : Layout) → HasIdentity GROUPS_VERSION l (D.content disk.old) → ⊥ }
+    ensures identity { D.tells → IfOk result (λ l. HasIdentity VERSION l (D.content disk.old)) }
+    ensures none { D.tells → IsErrOf result OpenFault.NotAStore → (l : Layout) → HasIdentity VERSION l (D.content disk.old) → ⊥ }
     ensures failed { IsErrOf result OpenFault.Failed → Rose (D.faults disk.old) (D.faults disk.new) }
     ensures no_memory { IsErrOf result OpenFault.NoMemory → ⊥ }
     ensures counted { D.faults disk.old ≤ D.faults disk.new }
@@ -204,7 +204,7 @@ fn synced_layout<D: Disk>(disk: &mut D) -> Result<Layout, OpenFault>
     let Ok(()) = disk.sync() else {
         return Err(OpenFault::Failed);
     };
-    Layout::read_version(disk, GROUPS_VERSION)
+    Layout::read(disk)
 }
 
 /// All of a store but its disk.
@@ -217,7 +217,7 @@ struct Parts {
 /// Opens the file: its layout, its groups, and none behind the last commit.
 fn open_parts<D: Disk>(alloc: Global, disk: &mut D) -> Result<Parts, OpenFault>
     ensures opened { IfOk result (λ p. HasOpened D.tells D.content D.image p.layout p.scan.plain p.scan.log disk.new) }
-    ensures found { D.tells → IfOk result (λ p. OpensTo p.layout (D.content disk.old) p.scan.plain.blocks) }
+    ensures found { D.tells → IfOk result (λ p. OpensAt p.layout (D.content disk.old) p.scan.plain.blocks p.scan.plain.number) }
     ensures none { D.tells → IsErrOf result OpenFault.NotAStore → (l : Layout) (b : List (List ℕ)) → OpensTo l (D.content disk.old) b → ⊥ }
     ensures failed { IsErrOf result OpenFault.Failed → Rose (D.faults disk.old) (D.faults disk.new) }
     ensures counted { D.faults disk.old ≤ D.faults disk.new }
@@ -237,9 +237,10 @@ impl<D: Disk> LapStore<D> {
     /// Failed where a call of the disk failed. Until the sync has answered, a crash leaves what it would have left before;
     /// from then on a file that opens to the same blocks.
     pub fn open(alloc: Global, disk: D) -> Result<LapStore<D>, (OpenFault, D)>
-        ensures found { D.tells → IfOk result (λ s. OpensTo s.layout (D.content disk) s.blocks) }
+        ensures found { D.tells → IfOk result (λ s. OpensAt s.layout (D.content disk) s.blocks s.number) }
         ensures stable { D.tells → IfOk result (λ s. IsStable D.content D.image s s.blocks) }
         ensures pending { IfOk result (λ s. s.pending ≡ []) }
+        ensures few { IfOk result (λ s. s.number < s.layout.log) }
         ensures going { IfOk result (λ s. s.failed ≡ false) }
         ensures none { D.tells → IfErr result (λ r. r.0 ≡ OpenFault.NotAStore → (l : Layout) (b : List (List ℕ)) → OpensTo l (D.content disk) b → ⊥) }
         ensures failed { IfErr result (λ r. r.0 ≡ OpenFault.Failed → Rose (D.faults disk) (D.faults r.1)) }

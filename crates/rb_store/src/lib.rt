@@ -1,4 +1,4 @@
-//! Makes the file of a store, for the shell, and the store of one lap over a file, for what comes to stand on it.
+//! Makes the file of a store, and opens the store of one lap over it.
 #![tactic(auto)]
 
 mod fresh;
@@ -6,6 +6,6 @@ mod lap;
 mod lap_open;
 mod laws;
 
-pub use fresh::{FormatFault, format, format_version};
+pub use fresh::{FormatFault, format};
 pub use lap::LapStore;
-pub use laws::fresh_lap;
+pub use laws::{fresh_lap, last_header, one_opening};

@@ -13,9 +13,9 @@ returns-in_err-feed_byte-clause-ran g c = λ line e.
     let so_far = as_byte _ _ _ _ _ line c.args.bytes.now c.loop-byte.byte-index g.K.Sink.tells _ _ _ c.feed_byte.result (omega arith) i.slots (i.ran line e) i.going here in
     let p = err_from_is_err_and c.from_residual.result c.from_residual.ensures.1 in
     let lines : List (List ℕ) = lines_from line (take (c.loop-byte.byte-index + 1) c.args.bytes.now) in
-    let fault = subst (λ (r : Result (Unit {0}) StepFault). RanAs (g.M.Machine.slots c.args.machine.now) (g.M.Machine.state c.args.machine.now) (g.M.Machine.state c.feed_byte.new.machine) lines g.K.Sink.tells (g.K.Sink.held c.args.sink.now) (g.K.Sink.held c.feed_byte.new.sink) r)
+    let fault = subst (λ (r : Result (Unit {0}) StepFault). RanAs (g.M.Machine.slots c.args.machine.now) (g.M.Machine.reached c.args.machine.now) (g.M.Machine.reached c.feed_byte.new.machine) lines g.K.Sink.tells (g.K.Sink.held c.args.sink.now) (g.K.Sink.held c.feed_byte.new.sink) r)
     (c.in_err-feed_byte.was ∙ sym (ap (λ (x : StepFault). Err x) p.2)) so_far in
-    subst (λ (r : Result (Unit {0}) StepFault). RanAs (g.M.Machine.slots c.args.machine.now) (g.M.Machine.state c.args.machine.now) (g.M.Machine.state c.feed_byte.new.machine) (lines_from line c.args.bytes.now) g.K.Sink.tells (g.K.Sink.held c.args.sink.now) (g.K.Sink.held c.feed_byte.new.sink) r)
+    subst (λ (r : Result (Unit {0}) StepFault). RanAs (g.M.Machine.slots c.args.machine.now) (g.M.Machine.reached c.args.machine.now) (g.M.Machine.reached c.feed_byte.new.machine) (lines_from line c.args.bytes.now) g.K.Sink.tells (g.K.Sink.held c.args.sink.now) (g.K.Sink.held c.feed_byte.new.sink) r)
     (sym p.1) (as_piece _ _ _ line c.args.bytes.now (c.loop-byte.byte-index + 1) g.K.Sink.tells _ _ p.0 c.requires.going fault)
 
 pub loop-byte-preserved : goal.loop-byte-preserved

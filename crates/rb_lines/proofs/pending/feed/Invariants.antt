@@ -6,9 +6,9 @@ use Rattle.rb_lines.proofs.pending.feed.Given as goal
 abbrev pub invariant-loop-byte : goal.invariant-loop-byte
 invariant-loop-byte g l = record {
   ready : g.M.Machine.ready l.machine;
-  going : (g.M.Machine.state l.machine).stopped ≡ false;
+  going : (g.M.Machine.reached l.machine).state.stopped ≡ false;
   ran : (line : List ℕ) → l.initial.pending.items ≡ take 513 line →
-      Ran (g.M.Machine.slots l.initial.machine) (g.M.Machine.state l.initial.machine) (g.M.Machine.state l.machine) (lines_from line (take l.byte-index l.bytes)) g.K.Sink.tells (g.K.Sink.held l.initial.sink) (g.K.Sink.held l.sink);
+      Ran (g.M.Machine.slots l.initial.machine) (g.M.Machine.reached l.initial.machine) (g.M.Machine.reached l.machine) (lines_from line (take l.byte-index l.bytes)) g.K.Sink.tells (g.K.Sink.held l.initial.sink) (g.K.Sink.held l.sink);
   kept : (line : List ℕ) → l.initial.pending.items ≡ take 513 line → l.pending.items ≡ take 513 (rest_from line (take l.byte-index l.bytes));
   slots : g.M.Machine.slots l.machine ≡ g.M.Machine.slots l.initial.machine;
   since : g.M.Machine.since l.initial.machine l.machine;

@@ -1,6 +1,6 @@
 use Rattle.std.proofs.Common.{◌≡◌, ℕ, List, [], ◌∷◌, Result, Err, sym, ◌∙◌, ap, subst}
 use Rattle.std.proofs.lemmas.Result.{err_from_is_err_and}
-use Rattle.rb_model.specs.State.{State}
+use Rattle.rb_model.specs.Out.{Logged}
 use Rattle.rb_lines.specs.declared.machine.StepFault.{StepFault}
 use Rattle.rb_lines.specs.Ran.{RanAs}
 use Rattle.rb_lines.specs.Pieces.{lines_from}
@@ -8,7 +8,7 @@ use Rattle.rb_lines.proofs.Runs.{step_as}
 use Rattle.rb_lines.proofs.pending.feed_byte.Goals as goal
 
 -- LF ends the line
-ended : (slots : ℕ) (h h2 : State) (line : List ℕ) (b : ℕ) (tells : Type 0) (held held2 : List ℕ) (r r2 : Result (Unit {0}) StepFault)
+ended : (slots : ℕ) (h h2 : Logged) (line : List ℕ) (b : ℕ) (tells : Type 0) (held held2 : List ℕ) (r r2 : Result (Unit {0}) StepFault)
     → b ≡ 10 → r ≡ r2 → RanAs slots h h2 (line ∷ []) tells held held2 r → RanAs slots h h2 (lines_from line (b ∷ [])) tells held held2 r2
 ended slots h h2 line b tells held held2 r r2 e f q =
     subst (λ (x : ℕ). RanAs slots h h2 (lines_from line (x ∷ [])) tells held held2 r2) (sym e)

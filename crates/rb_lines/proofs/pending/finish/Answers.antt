@@ -15,5 +15,5 @@ returns-clause-ran g c = λ line e.
     let s = c.step.ensures in
     let some = eqb-false (length c.args.pending.now.items) 0 (sym c.is_empty.ensures ∙ c.if-is_empty.false) in
     let ran = step_as _ _ _ line _ g.K.Sink.tells _ _ c.step.result (c.as_slice.ensures.value ∙ e) s.done s.going s.disk_done s.stopped s.cut_off in
-    subst (λ (lines : List (List ℕ)). RanAs (g.M.Machine.slots c.args.machine.now) (g.M.Machine.state c.args.machine.now) (g.M.Machine.state c.step.new.self) lines g.K.Sink.tells (g.K.Sink.held c.args.sink.now) (g.K.Sink.held c.step.new.sink) c.step.result)
+    subst (λ (lines : List (List ℕ)). RanAs (g.M.Machine.slots c.args.machine.now) (g.M.Machine.reached c.args.machine.now) (g.M.Machine.reached c.step.new.self) lines g.K.Sink.tells (g.K.Sink.held c.args.sink.now) (g.K.Sink.held c.step.new.sink) c.step.result)
     (sym (last line c.args.pending.now.items e some)) ran

@@ -21,3 +21,5 @@ returns-clause-none c =
     (another word _ c.as_slice-3.result.now c.eq-3.result c.as_slice-3.ensures c.eq-3.ensures c.if-eq-3.false)
     (another word _ c.as_slice-4.result.now c.eq-4.result c.as_slice-4.ensures c.eq-4.ensures c.if-eq-4.false)
     (another word _ c.as_slice-5.result.now c.eq-5.result c.as_slice-5.ensures c.eq-5.ensures c.if-eq-5.false)
+    (another word _ c.as_slice-6.result.now c.eq-6.result c.as_slice-6.ensures c.eq-6.ensures c.if-eq-6.false)
+    (another word _ c.as_slice-7.result.now c.eq-7.result c.as_slice-7.ensures c.eq-7.ensures c.if-eq-7.false)

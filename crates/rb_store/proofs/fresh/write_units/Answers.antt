@@ -4,7 +4,7 @@ use Rattle.rb_store.proofs.fresh.write_units.Goals as goal
 
 pub write_at-requires-in-loop-unit : goal.write_at-requires-in-loop-unit
 write_at-requires-in-loop-unit g c = λ told.
-    let long = length_so_far c.args.version (g.D.Disk.content c.loop-unit.disk) c.args.layout.now (2048 * c.loop-unit.unit - 24) (c.loop-unit.invariant.written told) in
+    let long = length_so_far 102 (g.D.Disk.content c.loop-unit.disk) c.args.layout.now (2048 * c.loop-unit.unit - 24) (c.loop-unit.invariant.written told) in
     omega (arith, long)
 
 pub loop-unit-init : goal.loop-unit-init
@@ -15,7 +15,7 @@ loop-unit-init g c = record {
 
 pub loop-unit-preserved : goal.loop-unit-preserved
 loop-unit-preserved g c = record {
-  written = λ told. zeros_written c.args.version (g.D.Disk.content c.loop-unit.disk) (g.D.Disk.content c.write_at-in-loop-unit.new.self) c.empty_unit-empty.result c.args.layout.now
+  written = λ told. zeros_written 102 (g.D.Disk.content c.loop-unit.disk) (g.D.Disk.content c.write_at-in-loop-unit.new.self) c.empty_unit-empty.result c.args.layout.now
       (c.loop-unit.unit * 2048) (2048 * c.loop-unit.unit - 24) 2048 (2048 * (c.loop-unit.unit + 1) - 24) (c.loop-unit.invariant.written told) (omega arith) c.empty_unit-empty.ensures (c.in_ok-write_at-2.ensures.written told) (omega arith);
   no_less = omega (arith, c.loop-unit.invariant.no_less, c.write_at-in-loop-unit.ensures.counted.no_less);
 }

@@ -3,7 +3,7 @@ use Rattle.std.proofs.lemmas.Result.{err_from_is_err_and}
 use Rattle.rb_disk.specs.Moments.{rests_on}
 use Rattle.rb_log.specs.GroupSlots.{GroupsAre}
 use Rattle.rb_store.specs.Scanned.{HasScannedAll}
-use Rattle.rb_store.proofs.OpenLemmas.{log_for, open_leaves}
+use Rattle.rb_store.proofs.OpenLemmas.{log_for, open_leaves, scanned_opens}
 use Rattle.rb_store.proofs.lap_open.open_parts.Goals as goal
 
 pub returns-in_err-scan-clause-none : goal.returns-in_err-scan-clause-none
@@ -33,3 +33,11 @@ returns-clause-any_moment g c told l b opens =
     let found = subst (λ (f : List ℕ). HasScannedAll d.tells m f c.in_ok-scan.scan.plain c.in_ok-scan.scan.log c.in_ok-scan.scan.waiting.items) first.same c.in_ok-scan.ensures.found in
     open_leaves d.content d.image d.moment d.image_since d.tells old c.scan_file.new.disk c.drop_uncommitted.new.disk l m b c.in_ok-scan.scan.plain c.in_ok-scan.scan.log c.in_ok-scan.scan.waiting.items (λ im left. g.met.D.Disk.only_now old im told left)
     (rests_on d.content d.image d.moment d.image_since old c.synced_layout.new.disk c.scan_file.new.disk first (c.scan_file.ensures.same told)) (c.in_ok-layout.ensures.identity told) found told opens (c.drop_uncommitted.ensures.any_moment told)
+
+pub returns-clause-found : goal.returns-clause-found
+returns-clause-found g c told =
+    let m = c.in_ok-layout.layout in
+    let first = c.in_ok-layout.ensures.same told in
+    let plain = c.in_ok-scan.scan.plain in
+    let found = subst (λ (f : List ℕ). HasScannedAll g.D.Disk.tells m f plain c.in_ok-scan.scan.log c.in_ok-scan.scan.waiting.items) first.same c.in_ok-scan.ensures.found in
+    scanned_opens g.D.Disk.tells m (g.D.Disk.content c.args.disk.now) plain c.drop_uncommitted.new.scan.plain c.in_ok-scan.scan.log c.in_ok-scan.scan.waiting.items (c.in_ok-layout.ensures.identity told) found told c.drop_uncommitted.ensures.blocks

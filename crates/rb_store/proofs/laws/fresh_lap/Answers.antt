@@ -1,8 +1,10 @@
 use Rattle.std.proofs.Common.{◌≡◌, ◌-◌, [], length, drop, replicate, get_or, refl, arith, ◌∙◌, inr}
 use Rattle.std.proofs.lemmas.List.{get_or-take, get_or-drop, get_or-append_right, get_or-replicate}
 use Rattle.rb_layout.specs.Fresh.{fresh_has_identity}
-use Rattle.rb_layout.specs.Regions.{identity, fresh_file, file_length}
+use Rattle.rb_base.specs.Blocks.{fresh_blocks}
+use Rattle.rb_layout.specs.Regions.{identity, fresh_file, file_length, shape_of}
 use Rattle.rb_layout.specs.declared.layout.Layout.{Layout}
+use Rattle.rb_store.specs.Laps.{OpensTo}
 use Rattle.rb_store.proofs.laws.fresh_lap.Goals as goal
 
 -- the first gate of a new file is closed
@@ -11,8 +13,8 @@ first_gate l =
     let long : length (identity 102 l) ≡ 24 = omega arith in
     get_or-append_right (identity 102 l) (replicate (file_length l - 24) 0) 24 8192 0 long (omega arith) ∙ get_or-replicate (file_length l - 24) (8192 - 24) 0 0 (omega arith)
 
-pub returns : goal.returns
-returns c = λ l. record {
+abbrev opens : (l : Layout) → OpensTo l (fresh_file 102 l) (fresh_blocks (shape_of l))
+opens l = record {
   groups = [];
   lap = record {
     identity = fresh_has_identity 102 l;
@@ -20,3 +22,9 @@ returns c = λ l. record {
   };
   made = refl;
 }
+
+pub returns-clause-opens : goal.returns-clause-opens
+returns-clause-opens c = λ l. opens l
+
+pub returns-clause-at : goal.returns-clause-at
+returns-clause-at c = λ l. record { opens = opens l; last = refl }

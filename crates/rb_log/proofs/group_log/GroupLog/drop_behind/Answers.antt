@@ -3,7 +3,7 @@ use Rattle.rb_base.specs.Fields.{overwritten}
 use Rattle.rb_base.specs.Moments.{weaker}
 use Rattle.rb_log.specs.GroupSlots.{GroupLogState}
 use Rattle.rb_log.specs.Slots.{TornFrom}
-use Rattle.rb_log.proofs.GroupDrops.{cut_written, cut_outside, dropped_some}
+use Rattle.rb_log.proofs.GroupDrops.{cut_written, cut_outside, cut_others, dropped_some}
 use Rattle.rb_log.proofs.group_log.GroupLog.drop_behind.Goals as goal
 
 -- the gate was written or not
@@ -37,4 +37,13 @@ returns-clause-outside g c told =
     let used = ap (λ (s : GroupLogState). s.used) c.self.view_is in
     let slots = ap (λ (s : GroupLogState). s.layout.log) c.self.view_is in
     cut_outside state.layout file (g.D.Disk.content c.close_gate.new.disk) c.args.count (c.requires.whole told) (omega (arith, used, slots, c.self.invariant.below, c.requires.fewer))
+    (c.in_ok-close_gate.ensures.written told ∙ ap (λ (at : ℕ). overwritten file at (0 ∷ [])) c.log_at.ensures)
+
+pub returns-clause-others : goal.returns-clause-others
+returns-clause-others g c told =
+    let state = c.args.self.now in
+    let file = g.D.Disk.content c.args.disk.now in
+    let used = ap (λ (s : GroupLogState). s.used) c.self.view_is in
+    let slots = ap (λ (s : GroupLogState). s.layout.log) c.self.view_is in
+    cut_others state.layout file (g.D.Disk.content c.close_gate.new.disk) c.args.count (c.requires.whole told) (omega (arith, used, slots, c.self.invariant.below, c.requires.fewer))
     (c.in_ok-close_gate.ensures.written told ∙ ap (λ (at : ℕ). overwritten file at (0 ∷ [])) c.log_at.ensures)

@@ -1,0 +1,46 @@
+-- Blocks of a file that stay in order, where the commit number rises or stays, and no slot is taken.
+use Rattle.std.proofs.Common.{ℕ, ◌<◌, ◌≤◌, ◌%◌, List, arith}
+use Rattle.rb_base.specs.declared.ids.Shape.{Shape}
+use Rattle.rb_base.specs.Blocks.{block_of, table_blocks}
+use Rattle.rb_itl.specs.declared.slots.Entry.{Entry}
+use Rattle.rb_sound.specs.Sound.{header_block, commit_number, wrap_at, IsTaken, IsSegment, IsHomeSound, AreSound}
+use Rattle.rb_sound.proofs.Together.{AreAlike}
+
+taken_later : (shape : Shape) (commit later : ℕ) (wrap_of other : ℕ → ℕ → ℕ) (entry : Entry) → commit ≤ later → AreAlike shape wrap_of other → IsTaken shape commit wrap_of entry → IsTaken shape later other entry
+taken_later shape commit later wrap_of other entry le same taken = record {
+  segment = taken.segment;
+  slot = taken.slot;
+  wrap = let one = same entry.xid.seg entry.xid.slot taken.segment taken.slot in (taken.wrap.0, omega (arith, one, taken.wrap.1));
+  chain = taken.chain;
+  number = omega (arith, le, taken.number);
+}
+
+home_later : (shape : Shape) (commit later : ℕ) (wrap_of other : ℕ → ℕ → ℕ) (home : ℕ) (block : List ℕ) → commit ≤ later → AreAlike shape wrap_of other → IsHomeSound shape commit wrap_of home block → IsHomeSound shape later other home block
+home_later shape commit later wrap_of other home block le same sound = record {
+  entries = λ i few.
+      let entry = sound.entries i few in
+      record { kind = entry.kind; taken = λ not_free. taken_later shape commit later wrap_of other _ le same (entry.taken not_free) };
+  cells = sound.cells;
+}
+
+-- the header stays in order as the commit number rises
+pub segment_later : (commit later : ℕ) (header : List ℕ) → commit ≤ later → IsSegment commit header → IsSegment later header
+segment_later commit later header le is = record {
+  ring = is.ring;
+  records = is.records;
+  slots = is.slots;
+  lost = omega (arith, le, is.lost);
+  newest = λ e few. let most = is.newest e few in omega (arith, le, most);
+}
+
+pub all_kept : (shape : Shape) (blocks now : List (List ℕ)) → AreSound shape blocks → commit_number shape blocks ≤ commit_number shape now → AreAlike shape (wrap_at shape blocks) (wrap_at shape now)
+    → ((g : ℕ) → g < shape.segments → IsSegment (commit_number shape blocks) (block_of blocks (header_block shape g)) → IsSegment (commit_number shape now) (block_of now (header_block shape g)))
+    → ((b : ℕ) → b < table_blocks shape → IsHomeSound shape (commit_number shape blocks) (wrap_at shape blocks) (b % shape.blocks) (block_of blocks b)
+    → IsHomeSound shape (commit_number shape blocks) (wrap_at shape blocks) (b % shape.blocks) (block_of now b))
+    → AreSound shape now
+all_kept shape blocks now sound le same segments homes = record {
+  segments = λ g there. segments g there (sound.segments g there);
+  homes = λ which lt.
+      home_later shape (commit_number shape blocks) (commit_number shape now) (wrap_at shape blocks) (wrap_at shape now) (which % shape.blocks) (block_of now which) le same
+      (homes which lt (sound.homes which lt));
+}

@@ -1,0 +1,46 @@
+-- What a patch leaves of its block's bytes, and what a group of one leaves of a file's blocks.
+use Rattle.std.proofs.Common.{◌≡◌, ◌≢◌, ℕ, ◌+◌, ◌<◌, ◌≤◌, List, [], ◌∷◌, length, drop, refl, arith, ap, sym, ◌∙◌, inr, slice_index}
+use Rattle.std.proofs.lemmas.List.{get_or-drop, get_or-take, get_or-set_same}
+use Rattle.byteorder.specs.Endian.{big_bytes}
+use Rattle.byteorder.specs.Numbers.{big_from-take}
+use Rattle.rb_base.specs.declared.ids.Shape.{Shape}
+use Rattle.rb_base.specs.Blocks.{block_of, patched, after_group, shape_blocks, AreBlocks}
+use Rattle.rb_base.specs.Fields.{part, number_at, overwritten, AreApart}
+use Rattle.rb_base.specs.Groups.{Patch}
+use Rattle.rb_base.proofs.Overwriting.{length-overwritten, part_written, part_apart}
+use Rattle.rb_heap.proofs.Blocks.{group_others}
+
+-- a number, and a byte, by the part of the bytes that it stands in
+pub number_of_part : (bytes : List ℕ) (at count : ℕ) → number_at (part bytes at count) 0 count ≡ number_at bytes at count
+number_of_part bytes at count = big_from-take 0 count count (drop at bytes) (omega arith)
+
+byte_of_part : (bytes : List ℕ) (at : ℕ) → slice_index (part bytes at 1) 0 ≡ slice_index bytes at
+byte_of_part bytes at = get_or-take 1 (drop at bytes) 0 0 (omega arith) ∙ get_or-drop at bytes 0 0 ∙ ap (slice_index bytes) (omega arith)
+
+module _ (block : List ℕ) (number size : ℕ) (p : Patch) (long : length block ≡ 2048) (within : p.at + size ≤ 2048) (size_is : length p.bytes ≡ size) where
+  -- what is behind the log number in front
+  behind_number : (at count : ℕ) → 8 ≤ at → part (patched number p block) at count ≡ part (overwritten block p.at p.bytes) at count
+  behind_number at count behind =
+      let same = length-overwritten block p.at p.bytes (omega (arith, long, size_is, within)) in
+      part_apart (overwritten block p.at p.bytes) 0 (big_bytes 8 number) at count 8 (omega (arith, long, same)) refl (inr behind)
+
+  -- outside of the patch
+  pub part_kept : (at count : ℕ) → 8 ≤ at → AreApart at count p.at size → part (patched number p block) at count ≡ part block at count
+  part_kept at count behind apart = behind_number at count behind ∙ part_apart block p.at p.bytes at count size (omega (arith, long, size_is, within)) size_is apart
+
+  pub number_kept : (at count : ℕ) → 8 ≤ at → AreApart at count p.at size → number_at (patched number p block) at count ≡ number_at block at count
+  number_kept at count behind apart = sym (number_of_part (patched number p block) at count) ∙ ap (λ (l : List ℕ). number_at l 0 count) (part_kept at count behind apart) ∙ number_of_part block at count
+
+  pub byte_kept : (at : ℕ) → 8 ≤ at → AreApart at 1 p.at size → slice_index (patched number p block) at ≡ slice_index block at
+  byte_kept at behind apart = sym (byte_of_part (patched number p block) at) ∙ ap (λ (l : List ℕ). slice_index l 0) (part_kept at 1 behind apart) ∙ byte_of_part block at
+
+  -- the patch itself
+  pub part_there : 8 ≤ p.at → part (patched number p block) p.at size ≡ p.bytes
+  part_there behind = behind_number p.at size behind ∙ part_written block p.at p.bytes size (omega (arith, long, size_is, within)) size_is
+
+-- the patched block of a file, and every other one
+pub block_there : (shape : Shape) (blocks : List (List ℕ)) (number : ℕ) (p : Patch) → AreBlocks shape blocks → p.block < shape_blocks shape → block_of (after_group number (p ∷ []) blocks) p.block ≡ patched number p (block_of blocks p.block)
+block_there shape blocks number p are lt = let count = are.count in get_or-set_same blocks p.block (patched number p (block_of blocks p.block)) [] (omega (arith, count, lt))
+
+pub block_elsewhere : (blocks : List (List ℕ)) (number b : ℕ) (p : Patch) → b ≢ p.block → block_of (after_group number (p ∷ []) blocks) b ≡ block_of blocks b
+block_elsewhere blocks number b p differ = group_others number b (p ∷ []) blocks ((λ same. differ (sym same)), tt)
