@@ -1,7 +1,7 @@
 -- The rows that an opening finds in blocks: what a loop over cells and one over blocks has taken, and that blocks that pass
 -- an opening's tests hold these rows.
-use Rattle.std.proofs.Common.{◌≡◌, ◌≢◌, ℕ, zero, suc, ◌+◌, ◌-◌, ◌*◌, ◌/◌, ◌%◌, ◌<◌, ◌≤◌, Bool, true, false, not, ◌&&◌, ◌||◌, ◌==◌, cond, nat_eq, List, [], ◌∷◌, ◌++◌, length, map, filter, Option, None, Some, refl, arith, ap, sym, ◌∙◌, subst, inl, inr, ⊎_elim, slice_index_or, add-one, length-append}
-use Rattle.std.proofs.lemmas.Bool.{cases_Bool, cases_eq, cases_lt, cond_both, cond-true, cond-false, false≢true, and_parts, and_from, or_cases, or_left, or_right, eqb-true, eq-eqb, ne_eqb, false_from_ne_true}
+use Rattle.std.proofs.Common.{◌≡◌, ◌≢◌, ℕ, zero, suc, ◌+◌, ◌-◌, ◌*◌, ◌/◌, ◌%◌, ◌<◌, ◌≤◌, Bool, true, false, ◌&&◌, ◌==◌, cond, nat_eq, List, [], ◌∷◌, ◌++◌, length, map, filter, Option, None, Some, refl, arith, ap, sym, ◌∙◌, subst, ⊎_elim, slice_index_or, add-one}
+use Rattle.std.proofs.lemmas.Bool.{cases_Bool, cases_eq, cond_both, cond-true, cond-false, false≢true, and_parts, and_from, or_cases, or_left, or_right, eqb-true, eq-eqb, ne_eqb, false_from_ne_true}
 use Rattle.std.proofs.lemmas.Cmp.{nat_eq_equiv}
 use Rattle.std.proofs.lemmas.Grind.{flat_map-append}
 use Rattle.std.proofs.lemmas.List.{append-nil, map-append}
@@ -15,14 +15,14 @@ use Rattle.std.specs.List.{AllByRecursion, IsDistinct, flat_map, list_any, range
 use Rattle.rb_base.specs.Blocks.{block_of, table_blocks, AreBlocks, IsShape}
 use Rattle.rb_base.specs.declared.ids.Shape.{Shape}
 use Rattle.rb_cell.specs.declared.cell.Cell.{Cell}
-use Rattle.rb_cell.specs.declared.cell.TheConstants.{EMPTY, ROW}
+use Rattle.rb_cell.specs.declared.cell.TheConstants.{ROW}
 use Rattle.rb_cell.specs.Cells.{cell_at}
-use Rattle.rb_heap.specs.Homes.{Home, CellRow, empty_cell, home_cell, home_of, home_rows, is_keyed, row_in, rows_in}
+use Rattle.rb_heap.specs.Homes.{CellRow, empty_cell, home_of, home_rows, is_keyed, row_in, rows_in}
 use Rattle.rb_heap.proofs.Reading.{cells_counted, cell_read}
 use Rattle.rb_model.specs.Change.{Change}
 use Rattle.rb_model.specs.Full.{has_home, has_key, once, used_keys}
 use Rattle.rb_model.specs.Reply.{rows_now}
-use Rattle.rb_model.specs.Rows.{TableRow, InOrder, is_row_of, last_number, over, rows_at, row_before, value_of, with_row}
+use Rattle.rb_model.specs.Rows.{TableRow, is_row_of, last_number, over, rows_at, row_before, value_of, with_row}
 use Rattle.rb_model.specs.State.{State, opened, session_of}
 use Rattle.rb_sound.specs.Sound.{commit_number, AreCellsSound, AreKeysApart, AreSound}
 use Rattle.rb_versions.proofs.Order.{row_same, same_other}
@@ -260,13 +260,12 @@ placed shape table key which k of_table same home =
 
 elsewhere : (shape : Shape) (table key which : ℕ) (rows : List CellRow) → which ≢ home_block shape table key → AllByRecursion (λ (row : CellRow). row.key % shape.blocks ≡ which % shape.blocks) rows → NoneOf table key (map (table_row (table_of shape which)) rows)
 elsewhere shape table key which [] other homes = tt
-elsewhere shape table key which (row ∷ rows) other homes =
-    (
-      false_from_ne_true (is_row_of table key (table_row (table_of shape which) row)) (λ yes.
-          let same = row_same table key (table_row (table_of shape which) row) yes in
-          other (placed shape table key which row.key same.0 same.1 homes.0)),
-      elsewhere shape table key which rows other homes.1,
-    )
+elsewhere shape table key which (row ∷ rows) other homes = (
+  false_from_ne_true (is_row_of table key (table_row (table_of shape which) row)) (λ yes.
+      let same = row_same table key (table_row (table_of shape which) row) yes in
+      other (placed shape table key which row.key same.0 same.1 homes.0)),
+  elsewhere shape table key which rows other homes.1,
+)
 
 -- the values of all blocks
 
@@ -374,11 +373,10 @@ is_in_once key (k ∷ keys) is =
 
 no_key : (key : ℕ) (keys : List ℕ) → has_key key keys ≡ false → AllByRecursion (λ (k : ℕ). nat_eq key k ≡ false) keys
 no_key key [] none = tt
-no_key key (k ∷ keys) none =
-    (
-      false_from_ne_true (nat_eq key k) (λ yes. false≢true (sym none ∙ or_left (k == key) (has_key key keys) (eq-eqb k key (sym (eqb-true key k yes))))),
-      no_key key keys (false_from_ne_true (has_key key keys) (λ yes. false≢true (sym none ∙ or_right (k == key) (has_key key keys) yes))),
-    )
+no_key key (k ∷ keys) none = (
+  false_from_ne_true (nat_eq key k) (λ yes. false≢true (sym none ∙ or_left (k == key) (has_key key keys) (eq-eqb k key (sym (eqb-true key k yes))))),
+  no_key key keys (false_from_ne_true (has_key key keys) (λ yes. false≢true (sym none ∙ or_right (k == key) (has_key key keys) yes))),
+)
 
 distinct_none : IsDistinct nat_eq []
 unfolding IsDistinct

@@ -1,6 +1,6 @@
-use Rattle.std.proofs.Common.{◌≡◌, ◌↔◌, ℕ, List, Result, Ok, Err, Bool, true, refl, sym, ap, subst, ◌∙◌, IfOk}
+use Rattle.std.proofs.Common.{◌≡◌, ◌↔◌, ℕ, Result, Ok, Err, Bool, true, refl, sym, ap, subst, ◌∙◌, IfOk}
 use Rattle.std.specs.Result.{MatchResult, OnOk, is_ok}
-use Rattle.rb_base.specs.Blocks.{table_blocks, AreBlocks, IsShape}
+use Rattle.rb_base.specs.Blocks.{AreBlocks, IsShape}
 use Rattle.rb_base.specs.declared.faults.Failed.{Failed}
 use Rattle.rb_base.specs.declared.ids.Shape.{Shape}
 use Rattle.rb_model.specs.State.{State}

@@ -1,8 +1,8 @@
-use Rattle.std.proofs.Common.{◌≡◌, ℕ, ◌<◌, List, arith, sym, ap, ◌∙◌}
+use Rattle.std.proofs.Common.{◌≡◌, ℕ, List, arith, sym, ap, ◌∙◌}
 use borrow.Author.Count.{below_more}
 use Rattle.rb_cell.specs.declared.cell.Cell.{Cell}
 use Rattle.rb_cell.specs.Cells.{cell_at}
-use Rattle.rb_model.specs.Rows.{TableRow, with_row}
+use Rattle.rb_model.specs.Rows.{with_row}
 use Rattle.rb_model.specs.State.{State, opened}
 use Rattle.rb_engine.specs.Kept.{Kept}
 use Rattle.rb_engine.proofs.FoundLemmas.{rows_all, rows_to, row_left, row_taken}
