@@ -1,5 +1,6 @@
 pub mod CrashLemmas
 pub mod EngineLemmas
+pub mod FoundLemmas
 pub mod FullLemmas
 pub mod KeptLemmas
 pub mod NumberLemmas
