@@ -29,7 +29,7 @@ in_step_still s kept kept2 store call answer state shape commits stopped own spa
     record {
       same_shape = step.same_shape ∙ sym shape;
       alone = alone;
-      enough = λ slots e. subst (λ (n : ℕ). slots - 1 - s.number store ≤ n) (sym spare) (step.enough slots e);
+      enough = λ go slots e. subst (λ (n : ℕ). slots - 1 - s.number store ≤ n) (sym spare) (step.enough (sym stopped ∙ go) slots e);
       going = λ go. step.going (sym stopped ∙ go);
       numbers = λ go. subst (λ (c : Commits). last_number c ≤ s.number store) (sym commits) (step.numbers (sym stopped ∙ go));
       room = λ go some. step.room (sym stopped ∙ go) (subst (λ (x : List Change). 0 < length x) own some);
@@ -41,15 +41,14 @@ in_step_still s kept kept2 store call answer state shape commits stopped own spa
     }
 
 -- a stopped engine says nothing of its store's blocks
-pub in_step_stopped : {S : Type 0} (s : Ghosts S) (kept kept2 : Kept) (old new : S) → kept2.state ≡ record kept.state { stopped = true } → kept2.spare ≡ kept.spare → s.shape_of new ≡ s.shape_of old
-    → ((slots : ℕ) → s.slots new ≡ Some slots → slots - 1 - s.number new ≤ kept.spare) → IsInStep s kept old → IsInStep s kept2 new
-in_step_stopped s kept kept2 old new state spare shape enough step =
+pub in_step_stopped : {S : Type 0} (s : Ghosts S) (kept kept2 : Kept) (old new : S) → kept2.state ≡ record kept.state { stopped = true } → s.shape_of new ≡ s.shape_of old → IsInStep s kept old → IsInStep s kept2 new
+in_step_stopped s kept kept2 old new state shape step =
     let never : kept2.state.stopped ≡ true = ap (λ (h : State). h.stopped) state in
     let stops : (P : Type 0) → kept2.state.stopped ≡ false → P = λ P go. let clash : true ≡ false = sym never ∙ go in cc in
     record {
       same_shape = shape ∙ step.same_shape ∙ sym (ap (λ (h : State). h.shape) state);
       alone = ap (λ (h : State). length h.sessions) state ∙ step.alone;
-      enough = λ slots e. subst (λ (n : ℕ). slots - 1 - s.number new ≤ n) (sym spare) (enough slots e);
+      enough = λ go. stops _ go;
       going = λ go. stops _ go;
       numbers = λ go. stops _ go;
       room = λ go some. stops _ go;

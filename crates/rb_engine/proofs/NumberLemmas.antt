@@ -75,7 +75,7 @@ patches_it which p group e f = ap (patches_block which) f ∙ either_true (nat_e
     either_true true e = refl
     either_true false e = absurd (false≢true e)
     is_same : (a b : ℕ) → a ≡ b → nat_eq a b ≡ true
-    is_same a b e = grind (nat_tests)
+    is_same a b e = grind (arith, nat_tests)
 
 -- What images a store may leave over calls that make nothing last, and then a flush.
 module _ {S : Type 0} (s : Ghosts S) (left_opens : (store : S) (b : List (List ℕ)) (i : s.image) → s.stable store b → s.left store i → s.opens (s.shape_of store) (s.slots store) i b)
