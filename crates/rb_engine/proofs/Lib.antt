@@ -4,3 +4,4 @@ pub mod FullLemmas
 pub mod KeptLemmas
 pub mod StateLemmas
 pub mod UsedLemmas
+pub mod ValueLemmas
