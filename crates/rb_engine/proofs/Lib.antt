@@ -5,3 +5,4 @@ pub mod KeptLemmas
 pub mod StateLemmas
 pub mod UsedLemmas
 pub mod ValueLemmas
+pub mod WriteLemmas
