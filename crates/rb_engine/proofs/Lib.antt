@@ -6,3 +6,5 @@ pub mod KeptLemmas
 pub mod NumberLemmas
 pub mod StateLemmas
 pub mod UsedLemmas
+pub mod ValueLemmas
+pub mod WriteLemmas
