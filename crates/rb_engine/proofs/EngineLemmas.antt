@@ -1,6 +1,6 @@
 -- The engine's state stays in step with its store.
 use Rattle.std.proofs.Common.{◌≡◌, ℕ, ◌+◌, ◌-◌, ◌^◌, ◌<◌, ◌≤◌, true, false, List, [], ◌∷◌, ◌++◌, length, arith, refl, ap, sym, ◌∙◌, subst, Option, None, Some}
-use Rattle.rb_base.specs.Blocks.{commit_block, patches_block}
+use Rattle.rb_base.specs.Blocks.{IsShape}
 use Rattle.rb_base.specs.Stores.{room_of}
 use Rattle.rb_base.specs.declared.ids.Shape.{Shape}
 use Rattle.rb_base.specs.declared.store.Store.{Ghosts}
@@ -28,6 +28,7 @@ in_step_still s kept kept2 store call answer state shape commits stopped own spa
     let alone : length kept2.state.sessions ≡ 1 = ap (λ (h : State). length h.sessions) state ∙ sessions_after kept.state call answer ∙ step.alone in
     record {
       same_shape = step.same_shape ∙ sym shape;
+      in_range = subst IsShape (sym shape) step.in_range;
       alone = alone;
       enough = λ go slots e. subst (λ (n : ℕ). slots - 1 - s.number store ≤ n) (sym spare) (step.enough (sym stopped ∙ go) slots e);
       going = λ go. step.going (sym stopped ∙ go);
@@ -47,6 +48,7 @@ in_step_stopped s kept kept2 old new state shape step =
     let stops : (P : Type 0) → kept2.state.stopped ≡ false → P = λ P go. let clash : true ≡ false = sym never ∙ go in cc in
     record {
       same_shape = shape ∙ step.same_shape ∙ sym (ap (λ (h : State). h.shape) state);
+      in_range = subst IsShape (sym (ap (λ (h : State). h.shape) state)) step.in_range;
       alone = ap (λ (h : State). length h.sessions) state ∙ step.alone;
       enough = λ go. stops _ go;
       going = λ go. stops _ go;

@@ -1,5 +1,6 @@
 -- What a contract sees of the engine, and how its state goes together with its store.
 use Rattle.std.specs.Prelude.{◌≡◌, ℕ, ◌-◌, ◌^◌, ◌<◌, ◌≤◌, true, false, length, Option, None, Some}
+use Rattle.rb_base.specs.Blocks.{IsShape}
 use Rattle.rb_base.specs.Stores.{room_of}
 use Rattle.rb_base.specs.declared.store.Store.{Ghosts}
 use Rattle.rb_model.specs.Full.{used_keys}
@@ -26,6 +27,7 @@ room_left (Some slots) number spare = slots - 1 - number
 -- home has more keys in use than it has cells.
 pub record IsInStep {S : Type 0} (s : Ghosts S) (kept : Kept) (store : S) : Type 0 where
   pub same_shape : s.shape_of store ≡ kept.state.shape
+  pub in_range : IsShape kept.state.shape
   pub alone : length kept.state.sessions ≡ 1
   pub enough : kept.state.stopped ≡ false → (slots : ℕ) → s.slots store ≡ Some slots → slots - 1 - s.number store ≤ kept.spare
   pub going : kept.state.stopped ≡ false → s.failed store ≡ false
