@@ -7,6 +7,10 @@ use Rattle.rb_model.specs.Full.{used_keys}
 use Rattle.rb_model.specs.Reply.{rows_now}
 use Rattle.rb_model.specs.Rows.{last_number}
 use Rattle.rb_model.specs.State.{State, session_of}
+use Rattle.rb_model.specs.declared.refusal.Refusal.{Refusal}
+use Rattle.rb_model.specs.declared.refusal.Refusal.TheVariants as refusals
+use Rattle.rb_write.specs.declared.ask.AttemptFault.{AttemptFault}
+use Rattle.rb_write.specs.declared.ask.AttemptFault.TheVariants as faults
 use Rattle.rb_engine.specs.Holds.{Holds}
 use Rattle.rb_engine.specs.Kept.{Kept}
 
@@ -15,6 +19,15 @@ pub record EngineView (S : Type 0) : Type 0 where
   pub state : State
   pub spare : ℕ
   pub store : S
+
+-- the refusal of a write that its block or the log stands in the way of, or that a call of the store failed for
+abbrev pub refusal_of : AttemptFault → Refusal
+refusal_of faults.Failed = refusals.DiskFault
+refusal_of faults.Duplicate = refusals.Duplicate
+refusal_of faults.NotFound = refusals.NotFound
+refusal_of faults.BlockFull = refusals.BlockFull
+refusal_of faults.WornOut = refusals.WornOut
+refusal_of faults.LogFull = refusals.LogFull
 
 -- How many more groups an engine takes: as many as its store's log has room for, behind that number. Where the log has no
 -- end, as many changes as the memory has room for.
