@@ -1,6 +1,5 @@
 -- What may have become of an engine's store over lines of a script.
-use Rattle.std.proofs.Common.{◌≡◌, ◌∙◌, refl, sym, ap, subst, ℕ, false, Option}
-use Rattle.rb_base.specs.declared.ids.Shape.{Shape}
+use Rattle.std.proofs.Common.{◌≡◌, ◌∙◌, refl, sym, subst, ℕ, false, Option}
 use Rattle.rb_base.specs.declared.store.Store.{Ghosts}
 use Rattle.rb_engine.specs.Crash.{Stands, Survives}
 use Rattle.rb_engine.specs.Engine.{EngineView}
