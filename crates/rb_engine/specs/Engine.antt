@@ -21,12 +21,13 @@ abbrev pub room_left : Option ℕ → ℕ → ℕ → ℕ
 room_left None number spare = spare
 room_left (Some slots) number spare = slots - 1 - number
 
--- The memory has room for what the log has room for. Unless the engine is stopped, its store goes on and holds the rows that
--- the session sees; the log has room for the group of a commit where the session has changes; and no home has more keys in
--- use than it has cells.
+-- There is one session. Unless the engine is stopped, its store goes on and holds the rows that the session sees; the memory
+-- has room for what the log has room for; the log has room for the group of a commit where the session has changes; and no
+-- home has more keys in use than it has cells.
 pub record IsInStep {S : Type 0} (s : Ghosts S) (kept : Kept) (store : S) : Type 0 where
   pub same_shape : s.shape_of store ≡ kept.state.shape
-  pub enough : (slots : ℕ) → s.slots store ≡ Some slots → slots - 1 - s.number store ≤ kept.spare
+  pub alone : length kept.state.sessions ≡ 1
+  pub enough : kept.state.stopped ≡ false → (slots : ℕ) → s.slots store ≡ Some slots → slots - 1 - s.number store ≤ kept.spare
   pub going : kept.state.stopped ≡ false → s.failed store ≡ false
   pub numbers : kept.state.stopped ≡ false → last_number kept.state.commits ≤ s.number store
   pub room : kept.state.stopped ≡ false → 0 < length (session_of kept.state 1).own → 1 ≤ room_of (s.slots store) (s.number store)

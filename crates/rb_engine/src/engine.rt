@@ -96,6 +96,7 @@ fn write_number<T: Store>(store: &mut T, number: Scn) -> Result<(), Failed>
 impl<T: Store> Engine<T> {
     /// How many more groups it takes.
     fn room(&self) -> u64
+        requires { self.now.state.stopped ≡ false }
         ensures { result ≡ room_left (T.slots self.now.store) (T.number self.now.store) self.now.spare }
     {
         self.store.room().min(self.state.spare() as u64)
@@ -103,6 +104,7 @@ impl<T: Store> Engine<T> {
 
     /// Why the log takes no write more, where it doesn't.
     fn log_refusal(&self) -> Option<Refusal>
+        requires going { self.now.state.stopped ≡ false }
         ensures refused { IfSome result (λ why. call.Refused why ≡ first_of (log_tests (T.number self.now.store) (room_left (T.slots self.now.store) (T.number self.now.store) self.now.spare)) call.Done) }
         ensures other { IfSome result (λ why. why ≢ Refusal.DiskFault) }
         ensures granted { IfNone result (first_of (log_tests (T.number self.now.store) (room_left (T.slots self.now.store) (T.number self.now.store) self.now.spare)) call.Done ≡ call.Done) }

@@ -1,7 +1,7 @@
 //! Opens a store: tests its blocks, and takes their rows into memory. `Engine` is made here.
 ghost use Rattle.std.specs.Prelude.{◌≡◌, ℕ, ◌+◌, ◌*◌, ◌-◌, ◌^◌, ◌<◌, ◌≤◌, List, [], map, take, length, true, false, Some, IfOk, IfErr, OnOk, IsErrOf};
 ghost use Rattle.std.specs.Result.{is_err};
-ghost use Rattle.rb_base.specs.Blocks.{block_of, commit_block, shape_blocks, table_blocks, IsShape};
+ghost use Rattle.rb_base.specs.Blocks.{block_of, commit_block, shape_blocks, table_blocks, AreBlocks, IsShape};
 ghost use Rattle.rb_base.specs.Counts.{Rose, IsCounted};
 ghost use Rattle.rb_cell.specs.Cells.{cell_at};
 ghost use Rattle.rb_heap.specs.Homes.{home_of, home_rows};
@@ -32,6 +32,8 @@ fn take_block(state: &mut EngineState, block: &[u8], table: u16) -> bool
     requires room { 16 ≤ state.old.spare }
     requires opening { state.old.state ≡ opened state.old.state.shape state.old.state.commits.base state.old.state.commits.rows }
     ensures state { result ≡ true → state.new.state ≡ opened state.old.state.shape state.old.state.commits.base (over state.old.state.shape.blocks state.old.state.commits.rows (map (λ row. put_row (table_row table row)) (home_rows (home_of block.now)))) }
+    ensures shape { state.new.state.shape ≡ state.old.state.shape }
+    ensures base { state.new.state.commits.base ≡ state.old.state.commits.base }
     ensures unlocked { result ≡ true → (c : ℕ) → c < 16 → (cell_at block.now c).lock ≡ 0 }
     ensures locked { result ≡ false → ((c : ℕ) → c < 16 → (cell_at block.now c).lock ≡ 0) → ⊥ }
     ensures spare { state.old.spare ≤ state.new.spare + 16 }
@@ -100,6 +102,7 @@ fn number_sound<T: Store>(store: &mut T, number: Scn) -> Result<bool, Failed>
     requires { T.failed store.old ≡ false }
     ensures few { result ≡ Ok true → number ≤ T.number store.old }
     ensures sound { T.tells → result ≡ Ok true → (number ≤ commit_logged (T.shape_of store.old) (T.blocks store.old)) × (commit_logged (T.shape_of store.old) (T.blocks store.old) ≤ T.number store.old) }
+    ensures whole { T.tells → OnOk result (AreBlocks (T.shape_of store.old) (T.blocks store.old)) }
     ensures unsound { T.tells → result ≡ Ok false → number ≤ commit_logged (T.shape_of store.old) (T.blocks store.old) → commit_logged (T.shape_of store.old) (T.blocks store.old) ≤ T.number store.old → ⊥ }
     ensures only_loads { OnlyLoads T.Store store.old store.new }
     ensures failed { T.failed store.new ≡ is_err result }

@@ -1,0 +1,162 @@
+-- The value of a key, and the tables of all rows, after a change of the rows.
+use Rattle.std.proofs.Common.{◌≡◌, ℕ, ◌≤◌, Bool, true, false, not, ◌&&◌, ◌||◌, ◌==◌, cond, if◌then◌else◌, List, [], ◌∷◌, ◌++◌, length, filter, Option, None, Some, is_some, refl, arith, ap, ◌∙◌, ⊎_elim}
+use Rattle.std.proofs.lemmas.Bool.{cases_Bool, cond_both, cond-true, cond-false}
+use Rattle.std.proofs.lemmas.Bool.Decides.{nat_tests}
+use Rattle.std.specs.List.{AllByRecursion}
+use Rattle.rb_model.specs.Answers.{action_of}
+use Rattle.rb_model.specs.Change.{Change, Kind, Put, Gone, Held}
+use Rattle.rb_model.specs.Reply.{Action, Insert, Update, Delete, Write, adds, change_by, after_grant, rows_now}
+use Rattle.rb_model.specs.Rows.{TableRow, row_before, is_row_of, has_row, value_of, with_row, without_row, changed_by, over, last_number, rows_at}
+use Rattle.rb_model.specs.State.{State, Session, session_of}
+use Rattle.rb_model.specs.declared.op.Op.{Op}
+use Rattle.rb_model.specs.declared.op.Op.TheVariants as op
+use Rattle.rb_write.specs.Writes as write
+use Rattle.rb_versions.proofs.Order.{row_same, same_other, same_apart}
+use Rattle.rb_engine.proofs.KeptLemmas.{over-append}
+use Rattle.rb_engine.proofs.UsedLemmas.{the_one}
+
+-- a key has a row where it has a value
+
+front_has : (is : Bool) (row : TableRow) (rest : Option (List ℕ)) (has : Bool) → has ≡ is_some rest → (is || has) ≡ is_some (cond is (Some row.value) rest)
+front_has true row rest has e = refl
+front_has false row rest has e = e
+
+pub has_value : (t k : ℕ) (rows : List TableRow) → has_row t k rows ≡ is_some (value_of t k rows)
+has_value t k [] = refl
+has_value t k (row ∷ rows) = front_has (is_row_of t k row) row (value_of t k rows) (has_row t k rows) (has_value t k rows)
+
+-- what a change leaves of its key, which had that value
+abbrev pub value_by : Kind → Option (List ℕ) → Option (List ℕ)
+value_by (Put value) before = Some value
+value_by Gone before = None
+value_by Held before = before
+
+-- the values of all keys after a row is put in its place
+
+same_row : (t k : ℕ) (row r : TableRow) → is_row_of row.table row.key r ≡ true → is_row_of t k r ≡ is_row_of t k row
+same_row t k row r h = let s = row_same row.table row.key r h in rw (s.0, s.1) refl
+
+replaced : (m q : Bool) (new old rest : Option (List ℕ)) → q ≡ m → cond m new rest ≡ cond m new (cond q old rest)
+replaced true q new old rest e = refl
+replaced false q new old rest e = rw e refl
+
+swapped : (m q : Bool) (new old rest : Option (List ℕ)) → (q ≡ true → m ≡ false) → cond q old (cond m new rest) ≡ cond m new (cond q old rest)
+swapped true true new old rest h = let never = h refl in absurd cc
+swapped true false new old rest h = refl
+swapped false true new old rest h = refl
+swapped false false new old rest h = refl
+
+value-with_row : (blocks t k : ℕ) (row : TableRow) (rows : List TableRow) → value_of t k (with_row blocks row rows) ≡ cond (is_row_of t k row) (Some row.value) (value_of t k rows)
+value-with_row blocks t k row [] = refl
+value-with_row blocks t k row (r ∷ rows) =
+    let new : Option (List ℕ) = Some row.value in
+    let old : Option (List ℕ) = Some r.value in
+    let rest = value_of t k rows in
+    cond_both (is_row_of row.table row.key r) (row ∷ rows) (cond (row_before blocks row r) (row ∷ r ∷ rows) (r ∷ with_row blocks row rows))
+    (λ xs. value_of t k xs ≡ cond (is_row_of t k row) new (cond (is_row_of t k r) old rest))
+    (λ same. replaced (is_row_of t k row) (is_row_of t k r) new old rest (same_row t k row r same))
+    (λ other. cond_both (row_before blocks row r) (row ∷ r ∷ rows) (r ∷ with_row blocks row rows)
+    (λ xs. value_of t k xs ≡ cond (is_row_of t k row) new (cond (is_row_of t k r) old rest))
+    (λ before. refl)
+    (λ behind. ap (λ o. cond (is_row_of t k r) old o) (value-with_row blocks t k row rows)
+    ∙ swapped (is_row_of t k row) (is_row_of t k r) new old rest (same_other row.table row.key r.table r.key t k other)))
+
+-- and after a row is taken away
+
+emptied : (m g : Bool) (old rest : Option (List ℕ)) → m ≡ g → cond g None rest ≡ cond g None (cond m old rest)
+emptied m true old rest e = refl
+emptied m false old rest e = rw e refl
+
+left_out : (m g : Bool) (old rest : Option (List ℕ)) → (g ≡ true → m ≡ false) → cond m old (cond g None rest) ≡ cond g None (cond m old rest)
+left_out true true old rest h = let never = h refl in absurd cc
+left_out true false old rest h = refl
+left_out false true old rest h = refl
+left_out false false old rest h = refl
+
+of_key : (t k table key : ℕ) (r : TableRow) → is_row_of table key r ≡ true → is_row_of t k r ≡ (table == t && key == k)
+of_key t k table key r h = let s = row_same table key r h in rw (s.0, s.1) refl
+
+value-without_row : (t k table key : ℕ) (rows : List TableRow) → value_of t k (without_row table key rows) ≡ cond (table == t && key == k) None (value_of t k rows)
+value-without_row t k table key [] = cond_both (table == t && key == k) None None (λ o. None ≡ o) (λ yes. refl) (λ no. refl)
+value-without_row t k table key (r ∷ rows) =
+    let rest = value-without_row t k table key rows in
+    let this : Bool = is_row_of table key r in
+    let old : Option (List ℕ) = Some r.value in
+    ⊎_elim
+    (λ yes. ap (value_of t k) (cond-false (not this) (r ∷ without_row table key rows) (without_row table key rows) (ap not yes))
+    ∙ rest ∙ emptied (is_row_of t k r) (table == t && key == k) old (value_of t k rows) (of_key t k table key r yes))
+    (λ no. ap (value_of t k) (cond-true (not this) (r ∷ without_row table key rows) (without_row table key rows) (ap not no))
+    ∙ ap (λ o. cond (is_row_of t k r) old o) rest
+    ∙ left_out (is_row_of t k r) (table == t && key == k) old (value_of t k rows) (λ same. same_apart table key r.table r.key t k no same))
+    (cases_Bool this)
+
+-- and after any change
+
+turned : (t k table key : ℕ) → (table == t && key == k) ≡ ((t == table) && (k == key))
+turned t k table key = grind (arith, nat_tests)
+
+unchanged : (is : Bool) (value : Option (List ℕ)) → value ≡ (if is then value else value)
+unchanged true value = refl
+unchanged false value = refl
+
+pub value_changed : (blocks t k table key : ℕ) (kind : Kind) (rows : List TableRow)
+    → value_of t k (changed_by blocks table key kind rows) ≡ (if (t == table) && (k == key) then value_by kind (value_of t k rows) else value_of t k rows)
+value_changed blocks t k table key (Put value) rows =
+    value-with_row blocks t k (record { table = table; key = key; value = value }) rows ∙ ap (λ is. cond is (Some value) (value_of t k rows)) (turned t k table key)
+value_changed blocks t k table key Gone rows = value-without_row t k table key rows ∙ ap (λ is. cond is None (value_of t k rows)) (turned t k table key)
+value_changed blocks t k table key Held rows = unchanged ((t == table) && (k == key)) (value_of t k rows)
+
+-- what holds of all rows, and of one that is put
+
+all-with_row : (P : TableRow → Type 0) (blocks : ℕ) (row : TableRow) (rows : List TableRow) → P row → AllByRecursion P rows → AllByRecursion P (with_row blocks row rows)
+all-with_row P blocks row [] is all = (is, tt)
+all-with_row P blocks row (r ∷ rows) is all =
+    cond_both (is_row_of row.table row.key r) (row ∷ rows) (cond (row_before blocks row r) (row ∷ r ∷ rows) (r ∷ with_row blocks row rows)) (AllByRecursion P)
+    (λ same. (is, all.1))
+    (λ other. cond_both (row_before blocks row r) (row ∷ r ∷ rows) (r ∷ with_row blocks row rows) (AllByRecursion P)
+    (λ before. (is, all))
+    (λ behind. (all.0, all-with_row P blocks row rows is all.1)))
+
+all-filter : (P : TableRow → Type 0) (p : TableRow → Bool) (rows : List TableRow) → AllByRecursion P rows → AllByRecursion P (filter p rows)
+all-filter P p [] all = tt
+all-filter P p (r ∷ rows) all =
+    let rest = all-filter P p rows all.1 in
+    cond_both (p r) (r ∷ filter p rows) (filter p rows) (AllByRecursion P) (λ yes. (all.0, rest)) (λ no. rest)
+
+-- the rows stay in the tables that there are
+pub tables_changed : (n blocks table key : ℕ) (kind : Kind) (rows : List TableRow) → 1 ≤ table → table ≤ n
+    → AllByRecursion (λ row. (1 ≤ row.table) × (row.table ≤ n)) rows → AllByRecursion (λ row. (1 ≤ row.table) × (row.table ≤ n)) (changed_by blocks table key kind rows)
+tables_changed n blocks table key (Put value) rows low high all =
+    all-with_row (λ row. (1 ≤ row.table) × (row.table ≤ n)) blocks (record { table = table; key = key; value = value }) rows (low, high) all
+tables_changed n blocks table key Gone rows low high all = all-filter (λ row. (1 ≤ row.table) × (row.table ≤ n)) (λ row. not (is_row_of table key row)) rows all
+tables_changed n blocks table key Held rows low high all = all
+
+-- the words of a write and those of the machine
+
+pub adds_same : (o : Op) → write.adds (Some o) ≡ adds (action_of o)
+adds_same (op.Insert value) = refl
+adds_same (op.Update value) = refl
+adds_same op.Delete = refl
+
+pub value_after_same : (table key : ℕ) (o : Op) (before : Option (List ℕ)) → write.value_after (Some o) before ≡ value_by (change_by table key (action_of o)).kind before
+value_after_same table key (op.Insert value) before = refl
+value_after_same table key (op.Update value) before = refl
+value_after_same table key op.Delete before = refl
+
+-- the rows after a write
+
+over_one : (blocks table key : ℕ) (action : Action) (rows : List TableRow) → over blocks rows (change_by table key action ∷ []) ≡ changed_by blocks table key (change_by table key action).kind rows
+over_one blocks table key (Insert value) rows = refl
+over_one blocks table key (Update value) rows = refl
+over_one blocks table key Delete rows = refl
+
+written_own : (h : State) (s : Session) (table key : ℕ) (action : Action) → h.sessions ≡ s ∷ [] → (session_of (after_grant h (Write 1 table key action)) 1).own ≡ (session_of h 1).own ++ change_by table key action ∷ []
+written_own h s table key action one = rw (one) refl
+
+pub now_written : (h : State) (table key : ℕ) (action : Action) → length h.sessions ≡ 1
+    → rows_now (after_grant h (Write 1 table key action)) 1 ≡ changed_by h.shape.blocks table key (change_by table key action).kind (rows_now h 1)
+now_written h table key action alone =
+    let rows = rows_at h.shape.blocks h.commits (last_number h.commits) in
+    ap (λ (own : List Change). over h.shape.blocks rows own) (written_own h (session_of h 1) table key action (the_one h alone))
+    ∙ over-append h.shape.blocks rows (session_of h 1).own (change_by table key action ∷ [])
+    ∙ over_one h.shape.blocks table key action (rows_now h 1)
