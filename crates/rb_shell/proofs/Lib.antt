@@ -1,3 +1,4 @@
+pub mod Openings
 pub mod RunLemmas
 pub mod Spelling
 pub mod StepLemmas
