@@ -1,4 +1,3 @@
-pub mod Openings
 pub mod RunLemmas
 pub mod Spelling
 pub mod StepLemmas

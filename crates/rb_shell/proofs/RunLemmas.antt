@@ -24,7 +24,7 @@ use Rattle.rb_shell.specs.Runs.{IsSound, HasDone, HasOpened, HasRun, WasCut, Was
 use Rattle.rb_shell.specs.Statuses.{EndsFormat}
 use Rattle.rb_shell.specs.declared.status.Status.{Status}
 use Rattle.rb_shell.specs.declared.status.Status.TheVariants.{Done, Usage, SourceFault, DiskFault, SinkFault, NotAStore, NoMemory, NotEmpty, TooLong}
-use Rattle.rb_shell.proofs.Openings.{one_opening, one_number, opens_moves}
+use Rattle.rb_store.specs.OneOpening.{one_opening, one_number, opens_moves}
 use Rattle.rb_store.specs.Laps.{LapState, IsLap, IsStable, Opens, OpensTo, OpensAt}
 
 -- an image that opens to the blocks of a state has its rows
@@ -39,10 +39,10 @@ opening_holds shape blocks number rows holds =
     (subst (λ (rs : List TableRow). Holds shape blocks number rs) (sym (rows_opened shape.blocks number rows)) holds)
 
 pub opened_restarts : (l : Layout) (blocks : List (List ℕ)) (h : State) (c : List ℕ) → OpensAs (shape_of l) blocks h → OpensTo l c blocks → Restarts (file_opens l) h c
-opened_restarts l blocks h c as to = subst (λ (x : State). Restarts (file_opens l) x c) (sym as.state) (record {
+opened_restarts l blocks h c opening to = subst (λ (x : State). Restarts (file_opens l) x c) (sym opening.state) (record {
   blocks = blocks;
   opening = record { layout = l; shape_is = refl; slots_are = refl; opens = to };
-  holds = opening_holds (shape_of l) blocks as.number as.rows as.holds;
+  holds = opening_holds (shape_of l) blocks opening.number opening.rows opening.holds;
 })
 
 -- it has them at a later state too
@@ -186,6 +186,10 @@ done_keeps slots h lines tells before now stopped keeps other so did = record { 
 pub cut_keeps : (slots : ℕ) (h : Logged) (lines : List (List ℕ)) (before now : List ℕ) (keeps other : State → Type 0) → ((h2 : State) → keeps h2 → other h2)
     → WasCut slots h lines before now keeps → WasCut slots h lines before now other
 cut_keeps slots h lines before now keeps other so was = record { now = was.now; cut = was.cut; kept = so was.now.state was.kept }
+
+-- a file that opens to nothing isn't sound
+pub no_opening : (file : List ℕ) → ((l : Layout) (blocks : List (List ℕ)) → OpensTo l file blocks → ⊥) → IsSound file → ⊥
+no_opening file none sound = none sound.layout sound.blocks sound.opens.opens
 
 -- a fault that is none of the disk
 pub neither_failed : {P : Type 0} (fault : OpenFault) → (fault ≡ Failed → ⊥) → (fault ≡ faults.NotAStore → P) → (fault ≡ faults.NoMemory → P) → P

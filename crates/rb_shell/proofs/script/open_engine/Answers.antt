@@ -1,10 +1,10 @@
-use Rattle.std.proofs.Common.{◌≡◌, ◌∙◌, ap, sym, subst}
+use Rattle.std.proofs.Common.{◌≡◌, ◌∙◌, ap, sym, subst, rw}
 use Rattle.rb_base.specs.declared.faults.OpenFault.{OpenFault}
 use Rattle.rb_base.specs.declared.faults.OpenFault.TheVariants.{NoMemory, Failed, NotAStore}
 use Rattle.rb_model.specs.State.{State}
 use Rattle.rb_shell.specs.Runs.{LeftAlone, OpensSame}
 use Rattle.rb_shell.specs.Steps.{slots_of}
-use Rattle.rb_shell.proofs.RunLemmas.{Found, Loaded, has_opened, loads_alone, loads_leave, not_sound, rests_alone, neither_failed}
+use Rattle.rb_shell.proofs.RunLemmas.{Found, Loaded, has_opened, loads_alone, loads_leave, not_sound, no_opening, rests_alone, neither_failed}
 use Rattle.rb_shell.proofs.script.open_engine.Goals as goal
 
 pub returns-in-Ok-open-clause-opened : goal.returns-in-Ok-open-clause-opened
@@ -83,7 +83,7 @@ returns-in-Err-open-clause-left_alone g c = λ told other.
     subst (λ d. LeftAlone g.D.Disk.content g.D.Disk.image g.D.Disk.moment g.D.Disk.image_since c.args.disk d) (sym c.close.ensures) (loads_alone g.D.Disk.content g.D.Disk.image g.D.Disk.moment g.D.Disk.image_since c.args.disk c.in-Ok.store c.in-Err-open.store found loads)
 
 pub returns-in-Err-clause-none : goal.returns-in-Err-clause-none
-returns-in-Err-clause-none g c = λ told is sound. c.in-Err.ensures.none told is sound.layout sound.blocks sound.opens.opens
+returns-in-Err-clause-none g c = λ told is sound. no_opening (g.D.Disk.content c.args.disk) (c.in-Err.ensures.none told is) sound
 
 pub returns-in-Err-clause-left_alone : goal.returns-in-Err-clause-left_alone
 returns-in-Err-clause-left_alone g c = λ told other.

@@ -1,10 +1,10 @@
--- A file of groups has one layout, and opens to one list of blocks.
-use Rattle.std.proofs.Common.{◌≡◌, inl, inr, ⊎_elim, ℕ, ◌+◌, List, [], ◌∷◌, ◌++◌, length, arith, ap, sym, ◌∙◌, subst}
+-- A file of groups opens to one list of blocks, for the crates above.
+use Rattle.std.proofs.Common.{◌≡◌, inl, inr, ⊎_elim, ℕ, ◌+◌, List, [], ◌∷◌, length, arith, ap, sym, ◌∙◌, subst}
 use Rattle.rb_base.specs.Blocks.{AreWithin, after_groups, fresh_blocks}
 use Rattle.rb_base.specs.Groups.{Patch}
 use Rattle.rb_base.specs.declared.ids.Shape.{Shape}
 use Rattle.rb_layout.specs.OneLayout.{SameNumbers, one_layout}
-use Rattle.rb_layout.specs.Regions.{HasIdentity, identity, file_length, shape_of}
+use Rattle.rb_layout.specs.Regions.{identity, file_length, shape_of}
 use Rattle.rb_layout.specs.declared.layout.Layout.{Layout}
 use Rattle.rb_log.specs.GroupLaws.{one_group_log}
 use Rattle.rb_log.specs.GroupSlots.{GroupsAre, HoldsGroup}
