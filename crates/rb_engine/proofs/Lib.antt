@@ -1,3 +1,4 @@
+pub mod CommitLemmas
 pub mod CrashLemmas
 pub mod EngineLemmas
 pub mod FoundLemmas

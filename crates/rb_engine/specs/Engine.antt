@@ -1,11 +1,16 @@
 -- What a contract sees of the engine, and how its state goes together with its store.
 use Rattle.std.specs.Prelude.{◌≡◌, ℕ, ◌-◌, ◌^◌, ◌<◌, ◌≤◌, true, false, length, Option, None, Some}
+use Rattle.rb_base.specs.Blocks.{IsShape}
 use Rattle.rb_base.specs.Stores.{room_of}
 use Rattle.rb_base.specs.declared.store.Store.{Ghosts}
 use Rattle.rb_model.specs.Full.{used_keys}
 use Rattle.rb_model.specs.Reply.{rows_now}
 use Rattle.rb_model.specs.Rows.{last_number}
 use Rattle.rb_model.specs.State.{State, session_of}
+use Rattle.rb_model.specs.declared.refusal.Refusal.{Refusal}
+use Rattle.rb_model.specs.declared.refusal.Refusal.TheVariants as refusals
+use Rattle.rb_write.specs.declared.ask.AttemptFault.{AttemptFault}
+use Rattle.rb_write.specs.declared.ask.AttemptFault.TheVariants as faults
 use Rattle.rb_engine.specs.Holds.{Holds}
 use Rattle.rb_engine.specs.Kept.{Kept}
 
@@ -14,6 +19,15 @@ pub record EngineView (S : Type 0) : Type 0 where
   pub state : State
   pub spare : ℕ
   pub store : S
+
+-- the refusal of a write that its block or the log stands in the way of, or that a call of the store failed for
+abbrev pub refusal_of : AttemptFault → Refusal
+refusal_of faults.Failed = refusals.DiskFault
+refusal_of faults.Duplicate = refusals.Duplicate
+refusal_of faults.NotFound = refusals.NotFound
+refusal_of faults.BlockFull = refusals.BlockFull
+refusal_of faults.WornOut = refusals.WornOut
+refusal_of faults.LogFull = refusals.LogFull
 
 -- How many more groups an engine takes: as many as its store's log has room for, behind that number. Where the log has no
 -- end, as many changes as the memory has room for.
@@ -26,6 +40,7 @@ room_left (Some slots) number spare = slots - 1 - number
 -- home has more keys in use than it has cells.
 pub record IsInStep {S : Type 0} (s : Ghosts S) (kept : Kept) (store : S) : Type 0 where
   pub same_shape : s.shape_of store ≡ kept.state.shape
+  pub in_range : IsShape kept.state.shape
   pub alone : length kept.state.sessions ≡ 1
   pub enough : kept.state.stopped ≡ false → (slots : ℕ) → s.slots store ≡ Some slots → slots - 1 - s.number store ≤ kept.spare
   pub going : kept.state.stopped ≡ false → s.failed store ≡ false

@@ -11,13 +11,13 @@ ghost use Rattle.rb_base.specs.Stores.{room_of, after_pending};
 ghost use Rattle.rb_model.specs.Answers.{action_of, write_answer, plain_answer, fetch_answer, commit_answer, LeavesRow};
 ghost use Rattle.rb_model.specs.Full.{full_block};
 ghost use Rattle.rb_model.specs.Names.{name_text};
-ghost use Rattle.rb_model.specs.Reply.{adds, expected, first_of, log_tests, after, committed, groups, Reply, rows_now};
+ghost use Rattle.rb_model.specs.Reply.{adds, expected, first_of, log_tests, after, after_refusal, committed, groups, Reply, rows_now};
 ghost use Rattle.rb_model.specs.Reply as call;
 ghost use Rattle.rb_model.specs.Rows.{has_row, last_number};
 ghost use Rattle.rb_model.specs.State.{session_of};
 ghost use Rattle.rb_write.specs.Writes.{IsShort};
 ghost use Rattle.rb_engine.specs.Crash.{Stands, Survives};
-ghost use Rattle.rb_engine.specs.Engine.{EngineView, room_left};
+ghost use Rattle.rb_engine.specs.Engine.{EngineView, refusal_of, room_left};
 
 use crate::state::EngineState;
 use rb_base::{Failed, Group, Scn, Shape, Store, put_u64};
@@ -49,17 +49,17 @@ impl<T: Store> Model for Engine<T> {
     ghost invariant = { λ e. IsInStep T.Store e.state e.store };
 }
 
-/// The refusal of a write that its block or the log stands in the way of, or that a call of the store failed for.
-fn refusal_of(fault: AttemptFault) -> Refusal
-    ensures failed { fault ≡ AttemptFault.Failed → result ≡ Refusal.DiskFault }
-    ensures duplicate { fault ≡ AttemptFault.Duplicate → result ≡ Refusal.Duplicate }
-    ensures not_found { fault ≡ AttemptFault.NotFound → result ≡ Refusal.NotFound }
-    ensures block_full { fault ≡ AttemptFault.BlockFull → result ≡ Refusal.BlockFull }
-    ensures worn_out { fault ≡ AttemptFault.WornOut → result ≡ Refusal.WornOut }
-    ensures log_full { fault ≡ AttemptFault.LogFull → result ≡ Refusal.LogFull }
+/// What a write that wasn't made is refused by. Where a call of the store failed, the state is stopped.
+fn refuse(state: &mut EngineState, fault: AttemptFault) -> Refusal
+    ensures why { result ≡ refusal_of fault }
+    ensures state { state.new.state ≡ after_refusal state.old.state result }
+    ensures spare { state.new.spare ≡ state.old.spare }
 {
     match fault {
-        AttemptFault::Failed => Refusal::DiskFault,
+        AttemptFault::Failed => {
+            state.stop();
+            Refusal::DiskFault
+        }
         AttemptFault::Duplicate => Refusal::Duplicate,
         AttemptFault::NotFound => Refusal::NotFound,
         AttemptFault::BlockFull => Refusal::BlockFull,
@@ -151,12 +151,8 @@ impl<T: Store> Engine<T> {
                 self.state.wrote(table, key, op);
                 Ok(Wrote::Done)
             }
-            Err(fault) => {
-                if fault == AttemptFault::Failed {
-                    self.state.stop();
-                }
-                Err(refusal_of(fault))
-            }
+            // Memory and blocks say the same: over a store that tells its blocks this is a call that failed.
+            Err(fault) => Err(refuse(&mut self.state, fault)),
         }
     }
 

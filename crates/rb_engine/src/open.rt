@@ -123,6 +123,7 @@ fn open_state<T: Store>(alloc: Global, store: &mut T) -> Result<EngineState, Ope
     ensures base { IfOk result (λ kept. kept.state ≡ opened (T.shape_of store.old) kept.state.commits.base kept.state.commits.rows) }
     ensures sound { T.tells → OnOk result (CanOpen (T.shape_of store.old) (T.blocks store.old) (T.number store.old)) }
     ensures none { T.tells → IsErrOf result OpenFault.NotAStore → CanOpen (T.shape_of store.old) (T.blocks store.old) (T.number store.old) → ⊥ }
+    ensures in_range { OnOk result (IsShape (T.shape_of store.old)) }
     ensures numbers { IfOk result (λ kept. kept.state.commits.base ≤ T.number store.old) }
     ensures enough { IfOk result (λ kept. (slots : ℕ) → T.slots store.old ≡ Some slots → slots - 1 - T.number store.old ≤ kept.spare) }
     ensures only_loads { OnlyLoads T.Store store.old store.new }

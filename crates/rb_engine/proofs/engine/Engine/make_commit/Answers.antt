@@ -1,36 +1,53 @@
-use Rattle.std.proofs.Common.{rules, ◌≡◌, ◌≢◌, ◌⊎◌, ℕ, ◌+◌, ◌^◌, ◌<◌, ◌≤◌, [], ◌∷◌, List, length, IfOk, IfErr, IfSome, IfNone, IsErrOf, OnOk, OnErr, true, false, not, ◌-◌, ◌*◌, ◌/◌, ◌%◌, Bool, nat_eq, nat_lt, ◌++◌, slice_index_or, slice_set, bit_and, bit_or, Fits, w8, w32, w64, Bor, MutBor}
-use Rattle.std.specs.Result.{is_err}
+use Rattle.std.proofs.Common.{◌≡◌, ◌⊎◌, ℕ, ◌+◌, ◌<◌, List, [], ◌∷◌, length, false, arith, ap, sym, ◌∙◌, subst, refl, Option}
+use Rattle.rb_base.specs.Blocks.{commit_block, patches_block}
 use Rattle.std.specs.List.{list_any}
-use Rattle.byteorder.specs.Endian.{big_bytes}
-use Rattle.rb_base.specs.Blocks.{after_group, commit_block, patches_block, AreBlocks}
-use Rattle.rb_base.specs.Counts.{Rose, IsCounted}
-use Rattle.rb_base.specs.Groups.{patch}
-use Rattle.rb_base.specs.Moments.{LeavesOnly}
-use Rattle.rb_base.specs.Stores.{room_of, after_pending}
-use Rattle.rb_model.specs.Answers.{action_of, write_answer, plain_answer, fetch_answer, commit_answer, LeavesRow}
-use Rattle.rb_model.specs.Full.{full_block}
-use Rattle.rb_model.specs.Names.{name_text}
-use Rattle.rb_model.specs.Reply.{adds, expected, first_of, log_tests, after, committed, groups, Reply, rows_now}
-use Rattle.rb_model.specs.Reply as call
-use Rattle.rb_model.specs.Rows.{has_row, last_number}
-use Rattle.rb_model.specs.State.{session_of}
-use Rattle.rb_write.specs.Writes.{IsShort}
+use Rattle.rb_base.specs.declared.ids.Shape.{Shape}
+use Rattle.rb_model.specs.Change.{Change}
+use Rattle.rb_model.specs.Reply.{is_empty, committed, rows_now}
+use Rattle.rb_model.specs.Rows.{last_number}
+use Rattle.rb_model.specs.State.{State, session_of}
 use Rattle.rb_engine.specs.Crash.{Stands, Survives}
-use Rattle.rb_engine.specs.Engine.{EngineView, room_left}
+use Rattle.rb_engine.specs.Engine.{EngineView}
+use Rattle.rb_engine.specs.Holds.{Holds}
+use Rattle.rb_engine.proofs.CommitLemmas.{in_step_committed, some_own, survives_committed, survives_failed}
+use Rattle.rb_engine.proofs.EngineLemmas.{in_step_stopped}
 use Rattle.rb_engine.proofs.engine.Engine.make_commit.Goals as goal
 
--- src/engine.rt:201:23
 pub invariant_of-self : goal.invariant_of-self
-invariant_of-self g c = ?
+invariant_of-self g c =
+    let step = c.self.invariant in
+    let going : c.self.inside.state.state.stopped ≡ false = ap (λ (e : EngineView _). e.state.stopped) c.self.view_is ∙ c.requires.going in
+    let some : 0 < length (session_of c.self.inside.state.state 1).own = subst (λ (e : EngineView _). 0 < length (session_of e.state 1).own) (sym c.self.view_is) c.requires.some in
+    in_step_committed g.T.Store c.self.inside.state c.commit.new.self c.self.inside.store c.write_number.new.store (c.number-number.result + 1) going (ap (λ (n : ℕ). n + 1) c.number-number.ensures.number)
+    c.commit.ensures.state c.commit.ensures.spare c.write_number.ensures.shape c.write_number.ensures.slots c.in-Ok.ensures.number c.in-Ok.ensures.failed (step.few going some) (λ told. c.in-Ok.ensures.blocks told) step
 
--- src/engine.rt:204:17
 pub invariant_of-self-in-Err : goal.invariant_of-self-in-Err
-invariant_of-self-in-Err g c = ?
+invariant_of-self-in-Err g c = in_step_stopped g.T.Store c.self.inside.state c.stop.new.self c.self.inside.store c.write_number.new.store c.stop.ensures.state c.write_number.ensures.shape c.self.invariant
 
--- src/engine.rt:185:5
 pub returns-in-Ok-clause-crash : goal.returns-in-Ok-clause-crash
-returns-in-Ok-clause-crash g c = ?
+returns-in-Ok-clause-crash g c =
+    let step = c.self.invariant in
+    let going : c.self.inside.state.state.stopped ≡ false = ap (λ (e : EngineView _). e.state.stopped) c.self.view_is ∙ c.requires.going in
+    let some : 0 < length (session_of c.self.inside.state.state 1).own = subst (λ (e : EngineView _). 0 < length (session_of e.state 1).own) (sym c.self.view_is) c.requires.some in
+    let few = step.few going some in
+    let is = ap (λ (n : ℕ). n + 1) c.number-number.ensures.number in
+    rw (← c.self.view_is) (λ told keeps st.
+    subst (λ (h2 : State). Survives g.T.Store (g.T.Store.slots c.self.inside.store) c.self.inside.state.state h2 c.self.inside.store c.write_number.new.store) (sym c.commit.ensures.state)
+    (survives_committed g.T.Store (λ store b i stands here. g.met.T.Store.stable_left store b i keeps stands here) (λ store t i le here. g.met.T.Store.now_counts store t i keeps le here)
+    c.self.inside.state c.self.inside.store c.write_number.new.store (c.number-number.result + 1) going is few told step
+    c.write_number.ensures.shape c.write_number.ensures.slots (c.in-Ok.ensures.blocks told)
+    (c.in-Ok.ensures.stable told keeps st.base st.stable (subst (λ (x : Shape). list_any (patches_block (commit_block x)) (g.T.Store.pending c.self.inside.store) ≡ false) (sym step.same_shape) st.quiet))
+    (c.in-Ok.ensures.flushed keeps) (c.write_number.ensures.any_moment told keeps) st))
 
--- src/engine.rt:185:5
 pub returns-in-Err-clause-crash : goal.returns-in-Err-clause-crash
-returns-in-Err-clause-crash g c = ?
+returns-in-Err-clause-crash g c =
+    let step = c.self.invariant in
+    let going : c.self.inside.state.state.stopped ≡ false = ap (λ (e : EngineView _). e.state.stopped) c.self.view_is ∙ c.requires.going in
+    let some : 0 < length (session_of c.self.inside.state.state 1).own = subst (λ (e : EngineView _). 0 < length (session_of e.state 1).own) (sym c.self.view_is) c.requires.some in
+    let few = step.few going some in
+    let is = ap (λ (n : ℕ). n + 1) c.number-number.ensures.number in
+    rw (← c.self.view_is) (λ told keeps st.
+    subst (λ (h2 : State). Survives g.T.Store (g.T.Store.slots c.self.inside.store) c.self.inside.state.state h2 c.self.inside.store c.write_number.new.store) (sym c.stop.ensures.state)
+    (survives_failed g.T.Store (λ store b i stands here. g.met.T.Store.stable_left store b i keeps stands here) (λ store t i le here. g.met.T.Store.now_counts store t i keeps le here)
+    c.self.inside.state c.self.inside.store c.write_number.new.store (c.number-number.result + 1) going is few told step
+    (some_own (session_of c.self.inside.state.state 1).own some) (c.write_number.ensures.any_moment told keeps) st))

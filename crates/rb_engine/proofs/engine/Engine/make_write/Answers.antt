@@ -1,40 +1,141 @@
-use Rattle.std.proofs.Common.{rules, ◌≡◌, ◌≢◌, ◌⊎◌, ℕ, ◌+◌, ◌^◌, ◌<◌, ◌≤◌, [], ◌∷◌, List, length, IfOk, IfErr, IfSome, IfNone, IsErrOf, OnOk, OnErr, true, false, not, ◌-◌, ◌*◌, ◌/◌, ◌%◌, Bool, nat_eq, nat_lt, ◌++◌, slice_index_or, slice_set, bit_and, bit_or, Fits, w8, w32, w64, Bor, MutBor}
-use Rattle.std.specs.Result.{is_err}
+use Rattle.std.proofs.Common.{◌≡◌, ℕ, ◌+◌, ◌<◌, ◌≤◌, List, [], ◌∷◌, length, true, false, not, is_some, refl, arith, ap, sym, ◌∙◌, subst}
+use Rattle.std.specs.Prelude.{Err}
+use Rattle.std.proofs.lemmas.Bool.{false≢true}
 use Rattle.std.specs.List.{list_any}
-use Rattle.byteorder.specs.Endian.{big_bytes}
-use Rattle.rb_base.specs.Blocks.{after_group, commit_block, patches_block, AreBlocks}
-use Rattle.rb_base.specs.Counts.{Rose, IsCounted}
-use Rattle.rb_base.specs.Groups.{patch}
-use Rattle.rb_base.specs.Moments.{LeavesOnly}
-use Rattle.rb_base.specs.Stores.{room_of, after_pending}
-use Rattle.rb_model.specs.Answers.{action_of, write_answer, plain_answer, fetch_answer, commit_answer, LeavesRow}
-use Rattle.rb_model.specs.Full.{full_block}
-use Rattle.rb_model.specs.Names.{name_text}
-use Rattle.rb_model.specs.Reply.{adds, expected, first_of, log_tests, after, committed, groups, Reply, rows_now}
-use Rattle.rb_model.specs.Reply as call
-use Rattle.rb_model.specs.Rows.{has_row, last_number}
-use Rattle.rb_model.specs.State.{session_of}
-use Rattle.rb_write.specs.Writes.{IsShort}
+use Rattle.rb_base.specs.Blocks.{commit_block, patches_block, IsShape}
+use Rattle.rb_base.specs.Groups.{Patch}
+use Rattle.rb_base.specs.declared.ids.Shape.{Shape}
+use Rattle.rb_model.specs.Answers.{action_of}
+use Rattle.rb_model.specs.Full.{used_keys}
+use Rattle.rb_model.specs.Reply.{adds, after_refusal, rows_now, Write}
+use Rattle.rb_model.specs.Rows.{Commits, last_number}
+use Rattle.rb_model.specs.State.{State, session_of}
+use Rattle.rb_model.specs.declared.refusal.Refusal.{Refusal}
+use Rattle.rb_model.specs.declared.refusal.Refusal.TheVariants.{DiskFault}
+use Rattle.rb_write.specs.declared.ask.AttemptFault.{AttemptFault}
+use Rattle.rb_write.specs.declared.ask.AttemptFault.TheVariants.{Failed, Duplicate, NotFound, BlockFull, WornOut, LogFull}
 use Rattle.rb_engine.specs.Crash.{Stands, Survives}
-use Rattle.rb_engine.specs.Engine.{EngineView, room_left}
+use Rattle.rb_engine.specs.Engine.{EngineView, refusal_of}
+use Rattle.rb_engine.specs.Holds.{Holds}
+use Rattle.rb_engine.proofs.CrashLemmas.{Laws, survives_more}
+use Rattle.rb_engine.proofs.EngineLemmas.{in_step_refused, room_after, room_before, stands_moved}
+use Rattle.rb_engine.proofs.NumberLemmas.{still_none}
+use Rattle.rb_engine.proofs.UsedLemmas.{sessions_granted, the_one, used_after_write}
+use Rattle.rb_engine.proofs.ValueLemmas.{adds_same}
+use Rattle.rb_engine.proofs.WriteLemmas.{full_refused, holds_after_write, plain_there, row_there}
+use Rattle.rb_engine.proofs.engine.Engine.make_write.Given.{Over}
 use Rattle.rb_engine.proofs.engine.Engine.make_write.Goals as goal
 
--- src/engine.rt:150:17
 pub invariant_of-self : goal.invariant_of-self
-invariant_of-self g c = ?
+invariant_of-self g c =
+    let s = g.T.Store in
+    let step = c.self.invariant in
+    let h = c.self.inside.state.state in
+    let table = rw (← c.self.view_is) at c.requires.table in
+    let row = rw (← c.self.view_is) at c.requires.row in
+    let home = rw (← c.self.view_is) at c.requires.home in
+    let few = rw (← c.self.view_is) at c.requires.few in
+    let room = rw (← c.self.view_is) at c.requires.room in
+    let number = c.in-Ok.ensures.number in
+    let back : c.wrote.new.self.state.stopped ≡ false → h.stopped ≡ false = λ go. sym c.wrote.ensures.stopped ∙ go in
+    record {
+      same_shape = c.attempt.ensures.shape ∙ step.same_shape ∙ sym c.wrote.ensures.shape;
+      in_range = subst IsShape (sym c.wrote.ensures.shape) step.in_range;
+      alone = ap (λ (x : State). length x.sessions) c.wrote.ensures.state ∙ sessions_granted h (Write 1 c.args.table c.args.key (action_of c.args.op)) ∙ step.alone;
+      enough = λ go k e. let before = step.enough (back go) k (sym c.attempt.ensures.slots ∙ e) in omega (arith, before, number, c.wrote.ensures.spare);
+      going = λ go. c.in-Ok.ensures.failed;
+      numbers = λ go. let lower = step.numbers (back go) in let last : last_number c.wrote.new.self.state.commits ≡ last_number h.commits = ap last_number c.wrote.ensures.commits in omega (arith, lower, last, number);
+      room = λ go some. rw (number, c.attempt.ensures.slots) (room_after (s.slots c.self.inside.store) (s.number c.self.inside.store) c.self.inside.state.spare room);
+      few = λ go some. omega (arith, number, few);
+      holds = λ told go.
+          holds_after_write h c.wrote.new.self.state (s.shape_of c.self.inside.store) (s.blocks c.self.inside.store) (s.blocks c.attempt.new.store) (s.number c.self.inside.store) c.args.table c.args.key c.args.op
+          step.same_shape step.alone c.wrote.ensures.state (step.holds told (back go)) step.in_range.few_blocks.0 table.0 table.1 c.ranges.key.fits c.requires.short
+          (c.in-Ok.ensures.made told) (c.in-Ok.ensures.written told) (c.in-Ok.ensures.plain told) (c.in-Ok.ensures.whole told) (c.in-Ok.ensures.segments told);
+      used = λ told go t k.
+          subst (λ (x : State). length (used_keys x t k) ≤ 16) (sym c.wrote.ensures.state)
+          (used_after_write h (session_of h 1) c.args.table c.args.key (action_of c.args.op) (the_one h step.alone) row home (step.used told (back go)) t k);
+    }
 
--- src/engine.rt:154:21
-pub invariant_of-self-then-eq : goal.invariant_of-self-then-eq
-invariant_of-self-then-eq g c = ?
-
--- src/engine.rt:122:5
 pub returns-in-Ok-clause-crash : goal.returns-in-Ok-clause-crash
-returns-in-Ok-clause-crash g c = ?
+returns-in-Ok-clause-crash g c =
+    let s = g.T.Store in
+    let step = c.self.invariant in
+    let h = c.self.inside.state.state in
+    rw (← c.self.view_is) (λ told keeps st.
+    let group = c.in-Ok.ensures.group keeps in
+    let quiet : list_any (patches_block (commit_block h.shape)) (s.pending c.attempt.new.store) ≡ false =
+    subst (λ (gs : List (List Patch)). list_any (patches_block (commit_block h.shape)) gs ≡ false) (sym group.1)
+    (still_none (commit_block h.shape) (s.pending c.self.inside.store) group.0 st.quiet (subst (λ (x : Shape). patches_block (commit_block x) group.0 ≡ false) step.same_shape group.2)) in
+    survives_more s (record { left_opens = λ store b i. g.met.T.Store.stable_left store b i keeps; read_patched = λ store i. g.met.T.Store.only_now store i keeps })
+    h c.wrote.new.self.state c.self.inside.store c.attempt.new.store step.same_shape c.wrote.ensures.shape c.wrote.ensures.commits (c.attempt.ensures.images keeps) (c.attempt.ensures.time keeps)
+    (λ go. stands_moved s h c.wrote.new.self.state c.self.inside.store c.attempt.new.store st c.wrote.ensures.shape c.wrote.ensures.commits (c.in-Ok.ensures.stable keeps refl st.base st.stable) quiet) st)
 
--- src/engine.rt:122:5
-pub returns-after-eq-clause-fault : goal.returns-after-eq-clause-fault
-returns-after-eq-clause-fault g c = ?
+pub invariant_of-self-in-Err : goal.invariant_of-self-in-Err
+invariant_of-self-in-Err g c =
+    in_step_refused g.T.Store c.self.inside.state c.refuse.new.state c.self.inside.store c.attempt.new.store c.in-Err.fault c.refuse.result c.refuse.ensures.why c.refuse.ensures.state c.refuse.ensures.spare
+    c.attempt.ensures.shape c.attempt.ensures.slots c.in-Err.ensures.refused_number c.in-Err.ensures.failed c.in-Err.ensures.refused_blocks c.self.invariant
 
--- src/engine.rt:122:5
-pub returns-after-eq-clause-crash : goal.returns-after-eq-clause-crash
-returns-after-eq-clause-crash g c = ?
+-- over blocks that hold the rows, nothing but a call that failed stands in the way
+failed : (g : Over) (c : goal.After-refuse g) (fault : AttemptFault) → fault ≡ c.in-Err.fault → g.T.Store.tells → fault ≡ Failed
+failed g c Failed is told = refl
+failed g c Duplicate is told =
+    let s = g.T.Store in
+    let step = c.self.invariant in
+    let h = c.self.inside.state.state in
+    let going = rw (← c.self.view_is) at c.requires.going in
+    let table = rw (← c.self.view_is) at c.requires.table in
+    let row = rw (← c.self.view_is) at c.requires.row in
+    let held = subst (λ (x : Shape). Holds x (s.blocks c.self.inside.store) (last_number h.commits) (rows_now h 1)) (sym step.same_shape) (step.holds told going) in
+    let first = subst (λ (x : Shape). 1 ≤ x.blocks) (sym step.same_shape) step.in_range.few_blocks.0 in
+    let last = subst (λ (x : Shape). c.args.table ≤ x.tables) (sym step.same_shape) table.1 in
+    let refused = c.in-Err.ensures.duplicate told (plain_there (s.shape_of c.self.inside.store) (s.blocks c.self.inside.store) (last_number h.commits) (rows_now h 1) c.args.table c.args.key held first table.0 last) (ap Err (sym is)) in
+    let inserts : adds (action_of c.args.op) ≡ true = sym (adds_same c.args.op) ∙ refused.0 in
+    let there = row_there (s.shape_of c.self.inside.store) (s.blocks c.self.inside.store) (last_number h.commits) (rows_now h 1) c.args.table c.args.key held first table.0 last in
+    absurd (false≢true (sym (row ∙ ap not inserts) ∙ sym there ∙ refused.1))
+failed g c NotFound is told =
+    let s = g.T.Store in
+    let step = c.self.invariant in
+    let h = c.self.inside.state.state in
+    let going = rw (← c.self.view_is) at c.requires.going in
+    let table = rw (← c.self.view_is) at c.requires.table in
+    let row = rw (← c.self.view_is) at c.requires.row in
+    let held = subst (λ (x : Shape). Holds x (s.blocks c.self.inside.store) (last_number h.commits) (rows_now h 1)) (sym step.same_shape) (step.holds told going) in
+    let first = subst (λ (x : Shape). 1 ≤ x.blocks) (sym step.same_shape) step.in_range.few_blocks.0 in
+    let last = subst (λ (x : Shape). c.args.table ≤ x.tables) (sym step.same_shape) table.1 in
+    let refused = c.in-Err.ensures.not_found told (ap Err (sym is)) in
+    let other : adds (action_of c.args.op) ≡ false = sym (adds_same c.args.op) ∙ refused.0 in
+    let there = row_there (s.shape_of c.self.inside.store) (s.blocks c.self.inside.store) (last_number h.commits) (rows_now h 1) c.args.table c.args.key held first table.0 last in
+    absurd (false≢true (sym refused.1 ∙ there ∙ row ∙ ap not other))
+failed g c BlockFull is told =
+    let s = g.T.Store in
+    let step = c.self.invariant in
+    let h = c.self.inside.state.state in
+    let going = rw (← c.self.view_is) at c.requires.going in
+    let table = rw (← c.self.view_is) at c.requires.table in
+    let row = rw (← c.self.view_is) at c.requires.row in
+    let home = rw (← c.self.view_is) at c.requires.home in
+    let refused = c.in-Err.ensures.block_full told (ap Err (sym is)) in
+    let inserts : adds (action_of c.args.op) ≡ true = sym (adds_same c.args.op) ∙ refused.0 in
+    absurd (false≢true (sym (home inserts) ∙ full_refused h (s.shape_of c.self.inside.store) (s.blocks c.self.inside.store) (last_number h.commits) c.args.table c.args.key
+    step.same_shape step.alone (step.holds told going) step.in_range.few_blocks.0 table.0 table.1 refused.2 (row ∙ ap not inserts) (step.used told going)))
+failed g c WornOut is told =
+    let few = rw (← c.self.view_is) at c.requires.few in
+    let worn = c.in-Err.ensures.worn_out (ap Err (sym is)) in absurd (omega (arith, few, worn))
+failed g c LogFull is told =
+    let room = rw (← c.self.view_is) at c.requires.room in
+    let enough = room_before (g.T.Store.slots c.self.inside.store) (g.T.Store.number c.self.inside.store) c.self.inside.state.spare room in
+    let full = c.in-Err.ensures.log_full (ap Err (sym is)) in absurd (omega (arith, enough, full.1))
+
+pub returns-in-Err-clause-fault : goal.returns-in-Err-clause-fault
+returns-in-Err-clause-fault g c = λ told. c.refuse.ensures.why ∙ ap refusal_of (failed g c c.in-Err.fault refl told)
+
+pub returns-in-Err-clause-crash : goal.returns-in-Err-clause-crash
+returns-in-Err-clause-crash g c =
+    let s = g.T.Store in
+    let step = c.self.invariant in
+    let h = c.self.inside.state.state in
+    rw (← c.self.view_is) (λ told keeps st.
+    let stopped : c.refuse.new.state.state ≡ record h { stopped = true } = c.refuse.ensures.state ∙ ap (after_refusal h) (c.refuse.ensures.why ∙ ap refusal_of (failed g c c.in-Err.fault refl told)) in
+    survives_more s (record { left_opens = λ store b i. g.met.T.Store.stable_left store b i keeps; read_patched = λ store i. g.met.T.Store.only_now store i keeps })
+    h c.refuse.new.state.state c.self.inside.store c.attempt.new.store step.same_shape (ap (λ (x : State). x.shape) stopped) (ap (λ (x : State). x.commits) stopped) (c.attempt.ensures.images keeps) (c.attempt.ensures.time keeps)
+    (λ go. absurd (false≢true (sym go ∙ ap (λ (x : State). x.stopped) stopped))) st)

@@ -1,4 +1,5 @@
 use Rattle.std.proofs.Common.{◌≡◌, ℕ, ◌+◌, ◌-◌, ◌<◌, ◌≤◌, List, length, arith, sym, ap, subst, ◌∙◌}
+use Rattle.rb_base.specs.Blocks.{IsShape}
 use Rattle.rb_model.specs.Full.{used_keys}
 use Rattle.rb_model.specs.Reply.{rows_now}
 use Rattle.rb_model.specs.Rows.{last_number}
@@ -18,8 +19,9 @@ invariant_of-result g c =
     let none : 0 < length (session_of h 1).own → ⊥ = λ some. let never : 0 < 0 = subst (λ (x : State). 0 < length (session_of x 1).own) call.base some in omega (arith, never) in
     record {
       same_shape = loads.same_shape ∙ sym (ap (λ (x : State). x.shape) call.base);
+      in_range = subst IsShape (sym (ap (λ (x : State). x.shape) call.base)) call.in_range;
       alone = ap (λ (x : State). length x.sessions) call.base;
-      enough = λ slots is.
+      enough = λ going slots is.
           let room = call.enough slots (sym loads.same_slots ∙ is) in
           subst (λ (n : ℕ). slots - 1 - n ≤ c.in-Ok.state.spare) (sym loads.same_number) room;
       going = λ going. call.failed;
