@@ -1,7 +1,7 @@
 -- The engine's state stays in step with its store.
-use Rattle.std.proofs.Common.{◌≡◌, ℕ, ◌+◌, ◌-◌, ◌^◌, ◌<◌, ◌≤◌, true, false, List, [], ◌∷◌, ◌++◌, length, arith, refl, ap, sym, ◌∙◌, subst, Option, None, Some}
+use Rattle.std.proofs.Common.{◌≡◌, ◌≢◌, Result, Ok, Err, ℕ, ◌+◌, ◌-◌, ◌^◌, ◌<◌, ◌≤◌, true, false, List, [], ◌∷◌, ◌++◌, length, arith, refl, ap, sym, ◌∙◌, subst, Option, None, Some}
 use Rattle.std.specs.List.{list_any}
-use Rattle.std.specs.Prelude.{Err}
+use Rattle.std.specs.Prelude.{IfErr, IfOk, OnOk}
 use Rattle.rb_base.specs.Blocks.{commit_block, patches_block, IsShape}
 use Rattle.rb_base.specs.declared.ids.Xid.{Xid}
 use Rattle.rb_base.specs.Stores.{room_of}
@@ -9,7 +9,11 @@ use Rattle.rb_base.specs.declared.ids.Shape.{Shape}
 use Rattle.rb_base.specs.declared.store.Store.{Ghosts}
 use Rattle.rb_model.specs.Change.{Change}
 use Rattle.rb_model.specs.Full.{held, used_keys}
-use Rattle.rb_model.specs.Reply.{Call, Answer, after, after_refusal, rows_now}
+use Rattle.rb_model.specs.Reply.{Action, Call, Write, Answer, after, after_refusal, groups, rows_now}
+use Rattle.rb_model.specs.Answers.{write_answer}
+use Rattle.rb_model.specs.declared.refusal.Refusal.TheVariants.{DiskFault}
+use Rattle.rb_model.specs.declared.wrote.Wrote.{Wrote}
+use Rattle.rb_model.specs.declared.wrote.Wrote.TheVariants as wrote
 use Rattle.rb_model.specs.declared.refusal.Refusal.{Refusal}
 use Rattle.rb_write.specs.Writes.{has_failed}
 use Rattle.rb_write.specs.declared.ask.AttemptFault.{AttemptFault}
@@ -115,3 +119,12 @@ stands_moved s h h2 old new st shape commits stable quiet = record {
       (subst (λ (c : Commits). Holds h.shape st.base (last_number c) (rows_at h.shape.blocks c (last_number c))) (sym commits) st.holds);
   quiet = subst (λ (x : Shape). list_any (patches_block (commit_block x)) (s.pending new) ≡ false) (sym shape) quiet;
 }
+
+-- a write that goes on gives a number where it is done, and else none
+pub groups_of_write : (h : State) (n table key : ℕ) (action : Action) (result : Result Wrote Refusal) (h2 : State) (before now : ℕ) → h2 ≡ after h (Write n table key action) (write_answer result) → IfOk result (λ w. w ≡ wrote.Done) → OnOk result (now ≡ before + 1)
+    → IfErr result (λ why. why ≢ DiskFault → now ≡ before) → h2.stopped ≡ false → now ≡ before + groups (Write n table key action) (write_answer result)
+groups_of_write h n table key action (Ok w) h2 before now state done more none going =
+    more ∙ ap (λ (x : Wrote). before + groups (Write n table key action) (write_answer (Ok x))) (sym done)
+groups_of_write h n table key action (Err why) h2 before now state done more none going =
+    let other : why ≢ DiskFault = λ is. let stops : h2.stopped ≡ true = ap (λ (x : State). x.stopped) (state ∙ ap (after_refusal h) is) in let clash : true ≡ false = sym stops ∙ going in cc in
+    omega (arith, none other)

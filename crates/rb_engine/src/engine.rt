@@ -133,6 +133,7 @@ impl<T: Store> Engine<T> {
         ensures fault { T.tells → IfErr result (λ why. why ≡ Refusal.DiskFault) }
         ensures state { self.new.state ≡ after self.old.state (call.Write 1 table key (action_of op.entry)) (write_answer result) }
         ensures number { OnOk result (T.number self.new.store ≡ T.number self.old.store + 1) }
+        ensures no_number { IfErr result (λ why. why ≢ Refusal.DiskFault → T.number self.new.store ≡ T.number self.old.store) }
         ensures shape { T.shape_of self.new.store ≡ T.shape_of self.old.store }
         ensures slots { T.slots self.new.store ≡ T.slots self.old.store }
         ensures cause { result ≡ Err Refusal.DiskFault → Rose (T.faults self.old.store) (T.faults self.new.store) }
@@ -219,10 +220,10 @@ impl<T: Store> Engine<T> {
         // At any moment each image has the commits of before, or at the end this one too.
         ensures crash { T.tells → T.keeps → Stands T.Store self.old.state self.old.store → Survives T.Store (T.slots self.old.store) self.old.state self.new.state self.old.store self.new.store }
     {
-        if self.state.check_commit(s)? {
-            self.make_commit()
-        } else {
-            Ok(None)
+        match self.state.check_commit(s) {
+            Ok(true) => self.make_commit(),
+            Ok(false) => Ok(None),
+            Err(why) => Err(why),
         }
     }
 

@@ -1,10 +1,12 @@
-use Rattle.std.proofs.Common.{◌≡◌, ℕ, ◌+◌, ◌<◌, ◌≤◌, List, [], ◌∷◌, length, true, false, not, is_some, refl, arith, ap, sym, ◌∙◌, subst}
+use Rattle.std.proofs.Common.{◌≡◌, ◌≢◌, ℕ, ◌+◌, ◌<◌, ◌≤◌, List, [], ◌∷◌, length, true, false, not, is_some, refl, arith, ap, sym, ◌∙◌, subst}
 use Rattle.std.specs.Prelude.{Err}
 use Rattle.std.proofs.lemmas.Bool.{false≢true}
 use Rattle.std.specs.List.{list_any}
 use Rattle.rb_base.specs.Blocks.{commit_block, patches_block, IsShape}
 use Rattle.rb_base.specs.Groups.{Patch}
 use Rattle.rb_base.specs.declared.ids.Shape.{Shape}
+use Rattle.rb_base.specs.declared.ids.Xid.{Xid}
+use Rattle.rb_write.specs.Writes.{has_failed}
 use Rattle.rb_model.specs.Answers.{action_of}
 use Rattle.rb_model.specs.Full.{used_keys}
 use Rattle.rb_model.specs.Reply.{adds, after_refusal, rows_now, Write}
@@ -139,3 +141,15 @@ returns-in-Err-clause-crash g c =
     survives_more s (record { left_opens = λ store b i. g.met.T.Store.stable_left store b i keeps; read_patched = λ store i. g.met.T.Store.only_now store i keeps })
     h c.refuse.new.state.state c.self.inside.store c.attempt.new.store step.same_shape (ap (λ (x : State). x.shape) stopped) (ap (λ (x : State). x.commits) stopped) (c.attempt.ensures.images keeps) (c.attempt.ensures.time keeps)
     (λ go. absurd (false≢true (sym go ∙ ap (λ (x : State). x.stopped) stopped))) st)
+
+-- what is refused otherwise has no number
+other_fault : (fault : AttemptFault) → refusal_of fault ≢ DiskFault → has_failed {T = Xid} (Err fault) ≡ false
+other_fault Failed other = absurd (other refl)
+other_fault Duplicate other = refl
+other_fault NotFound other = refl
+other_fault BlockFull other = refl
+other_fault WornOut other = refl
+other_fault LogFull other = refl
+
+pub returns-in-Err-clause-no_number : goal.returns-in-Err-clause-no_number
+returns-in-Err-clause-no_number g c = rw (← c.self.view_is) (λ other. c.in-Err.ensures.refused_number (other_fault c.in-Err.fault (λ is. other (c.refuse.ensures.why ∙ is))))

@@ -1,28 +1,28 @@
-use Rattle.std.proofs.Common.{rules, ◌≡◌, ◌≢◌, ◌⊎◌, ℕ, ◌+◌, ◌^◌, ◌<◌, ◌≤◌, [], ◌∷◌, List, length, IfOk, IfErr, IfSome, IfNone, IsErrOf, OnOk, OnErr, true, false, not, ◌-◌, ◌*◌, ◌/◌, ◌%◌, Bool, nat_eq, nat_lt, ◌++◌, slice_index_or, slice_set, bit_and, bit_or, Fits, w8, w32, w64, Bor, MutBor}
-use Rattle.std.specs.Result.{is_err}
-use Rattle.std.specs.List.{list_any}
-use Rattle.byteorder.specs.Endian.{big_bytes}
-use Rattle.rb_base.specs.Blocks.{after_group, commit_block, patches_block, AreBlocks}
-use Rattle.rb_base.specs.Counts.{Rose, IsCounted}
-use Rattle.rb_base.specs.Groups.{patch}
-use Rattle.rb_base.specs.Moments.{LeavesOnly}
-use Rattle.rb_base.specs.Stores.{room_of, after_pending}
-use Rattle.rb_model.specs.Answers.{action_of, write_answer, plain_answer, fetch_answer, commit_answer, LeavesRow}
-use Rattle.rb_model.specs.Full.{full_block}
-use Rattle.rb_model.specs.Names.{name_text}
-use Rattle.rb_model.specs.Reply.{adds, expected, first_of, log_tests, after, committed, groups, Reply, rows_now}
+use Rattle.std.proofs.Common.{◌≡◌, ◌≢◌, ℕ, ◌+◌, true, false, refl, arith, ap, sym, ◌∙◌, Ok, Err, Result}
+use Rattle.std.proofs.lemmas.Bool.{false≢true}
+use Rattle.std.specs.Prelude.{IfOk, IfErr, OnOk, if◌then◌else◌}
+use Rattle.rb_model.specs.Answers.{write_answer}
+use Rattle.rb_model.specs.Reply.{after, is_done}
 use Rattle.rb_model.specs.Reply as call
-use Rattle.rb_model.specs.Rows.{has_row, last_number}
-use Rattle.rb_model.specs.State.{session_of}
-use Rattle.rb_write.specs.Writes.{IsShort}
-use Rattle.rb_engine.specs.Crash.{Stands, Survives}
-use Rattle.rb_engine.specs.Engine.{EngineView, room_left}
+use Rattle.rb_model.specs.State.{State}
+use Rattle.rb_model.specs.declared.refusal.Refusal.{Refusal}
+use Rattle.rb_model.specs.declared.refusal.Refusal.TheVariants.{DiskFault}
+use Rattle.rb_model.specs.declared.wrote.Wrote.{Wrote}
+use Rattle.rb_model.specs.declared.wrote.Wrote.TheVariants as wrote
+use Rattle.rb_engine.proofs.CrashLemmas.{Laws, survives_still}
+use Rattle.rb_engine.proofs.EngineLemmas.{groups_of_write}
 use Rattle.rb_engine.proofs.engine.Engine.write.Goals as goal
 
--- src/engine.rt:179:13
 pub returns-in-Some-log_refusal-clause-crash : goal.returns-in-Some-log_refusal-clause-crash
-returns-in-Some-log_refusal-clause-crash g c = ?
+returns-in-Some-log_refusal-clause-crash g c = rw (← c.self.view_is) (λ told keeps st.
+    survives_still g.T.Store (record { left_opens = λ store b i. g.met.T.Store.stable_left store b i keeps; read_patched = λ store i. g.met.T.Store.only_now store i keeps })
+    c.self.inside.state.state c.self.inside.state.state c.self.inside.store c.self.inside.store c.self.invariant.same_shape refl refl refl st)
 
--- src/engine.rt:163:5
 pub returns-clause-number : goal.returns-clause-number
-returns-clause-number g c = ?
+returns-clause-number g c = λ going. groups_of_write c.args.self.now.state 1 c.args.table c.args.key _ c.make_write.result c.make_write.new.self.state (g.T.Store.number c.args.self.now.store) (g.T.Store.number c.make_write.new.self.store)
+    c.make_write.ensures.state c.make_write.ensures.done c.make_write.ensures.number c.make_write.ensures.no_number going
+
+pub returns-in-Some-clause-crash : goal.returns-in-Some-clause-crash
+returns-in-Some-clause-crash g c = rw (← c.self.view_is) (λ told keeps st.
+    survives_still g.T.Store (record { left_opens = λ store b i. g.met.T.Store.stable_left store b i keeps; read_patched = λ store i. g.met.T.Store.only_now store i keeps })
+    c.self.inside.state.state c.self.inside.state.state c.self.inside.store c.self.inside.store c.self.invariant.same_shape refl refl refl st)
