@@ -1,23 +1,22 @@
 -- What blocks hold after a commit, and that the engine stays in step.
-use Rattle.std.proofs.Common.{◌≡◌, ◌⊎◌, ℕ, ◌+◌, ◌-◌, ◌*◌, ◌^◌, ◌<◌, ◌≤◌, true, false, List, [], ◌∷◌, ◌++◌, length, arith, refl, ap, sym, ◌∙◌, subst, Option, None, Some}
+use Rattle.std.proofs.Common.{◌≡◌, ◌⊎◌, ℕ, ◌+◌, ◌*◌, ◌^◌, ◌<◌, ◌≤◌, true, false, List, [], ◌∷◌, length, arith, refl, ap, sym, ◌∙◌, subst, Option}
 use Rattle.byteorder.specs.Endian.{big_bytes}
-use Rattle.rb_base.specs.Blocks.{after_group, block_of, commit_block, patches_block, AreBlocks, IsShape}
+use Rattle.rb_base.specs.Blocks.{after_group, commit_block, patches_block, AreBlocks, IsShape}
 use Rattle.rb_base.specs.Groups.{Patch, patch}
 use Rattle.rb_base.specs.Moments.{LeavesOnly}
-use Rattle.rb_base.specs.Stores.{room_of}
 use Rattle.rb_base.specs.declared.ids.Shape.{Shape}
 use Rattle.rb_base.specs.declared.store.Store.{Ghosts}
 use Rattle.rb_heap.specs.Homes.{home_of, home_rows}
 use Rattle.rb_heap.proofs.Blocks.{group_are}
 use Rattle.rb_model.specs.Change.{Change}
 use Rattle.rb_model.specs.Reply.{committed, is_empty, rows_now}
-use Rattle.rb_model.specs.Rows.{TableRow, last_number, rows_at, value_of}
+use Rattle.rb_model.specs.Rows.{TableRow, last_number, rows_at}
 use Rattle.rb_model.specs.State.{State, Session, Cursor, fresh_session, session_of}
 use Rattle.rb_model.specs.Full.{used_keys}
 use Rattle.std.specs.Prelude.{slice_index_or, slice_set}
 use Rattle.std.proofs.Math.Nat.{mul-le-mul_right}
 use Rattle.rb_sound.proofs.CommitWritten.{commit_next, commit_numbered, rows_kept, sound_with_commit}
-use Rattle.rb_write.specs.Values.{home_block, value_at, value_in, IsPlainHome}
+use Rattle.rb_write.specs.Values.{home_block, value_in, IsPlainHome}
 use Rattle.rb_write.proofs.Placed.{row_block}
 use Rattle.std.specs.List.{list_any}
 use Rattle.rb_engine.specs.Crash.{Stands, Survives}

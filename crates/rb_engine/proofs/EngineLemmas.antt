@@ -1,5 +1,5 @@
 -- The engine's state stays in step with its store.
-use Rattle.std.proofs.Common.{◌≡◌, ◌≢◌, Result, Ok, Err, ℕ, ◌+◌, ◌-◌, ◌^◌, ◌<◌, ◌≤◌, true, false, List, [], ◌∷◌, ◌++◌, length, arith, refl, ap, sym, ◌∙◌, subst, Option, None, Some}
+use Rattle.std.proofs.Common.{◌≡◌, ◌≢◌, Result, Ok, Err, ℕ, ◌+◌, ◌-◌, ◌^◌, ◌<◌, ◌≤◌, true, false, List, length, arith, refl, ap, sym, ◌∙◌, subst, Option, None, Some}
 use Rattle.std.specs.List.{list_any}
 use Rattle.std.specs.Prelude.{IfErr, IfOk, OnOk}
 use Rattle.rb_base.specs.Blocks.{commit_block, patches_block, IsShape}
@@ -18,7 +18,7 @@ use Rattle.rb_model.specs.declared.refusal.Refusal.{Refusal}
 use Rattle.rb_write.specs.Writes.{has_failed}
 use Rattle.rb_write.specs.declared.ask.AttemptFault.{AttemptFault}
 use Rattle.rb_write.specs.declared.ask.AttemptFault.TheVariants.{Failed, Duplicate, NotFound, BlockFull, WornOut, LogFull}
-use Rattle.rb_model.specs.Rows.{Commits, TableRow, last_number, rows_at, over}
+use Rattle.rb_model.specs.Rows.{Commits, TableRow, last_number, rows_at}
 use Rattle.rb_model.specs.State.{State, session_of}
 use Rattle.rb_engine.specs.Crash.{Stands}
 use Rattle.rb_engine.specs.Engine.{IsInStep, refusal_of, room_left}

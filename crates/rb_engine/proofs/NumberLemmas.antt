@@ -5,7 +5,7 @@ use Rattle.std.proofs.lemmas.Bool.Decides.{nat_tests}
 use Rattle.std.proofs.lemmas.List.{take-append-le, take_all}
 use Rattle.std.specs.Prelude.{OnOk}
 use Rattle.std.specs.List.{list_any}
-use Rattle.rb_base.specs.Blocks.{after_group, after_groups, commit_block, patches_block, up_to_last}
+use Rattle.rb_base.specs.Blocks.{after_groups, commit_block, patches_block, up_to_last}
 use Rattle.rb_base.specs.Groups.{Patch}
 use Rattle.rb_base.specs.Moments.{LeavesOnly, NoMore, Passes, begun, goes_on, joined, weaker}
 use Rattle.rb_base.specs.Stores.{AfterSome, after_pending}
@@ -74,6 +74,7 @@ patches_it which p group e f = ap (patches_block which) f ∙ either_true (nat_e
     either_true : (a : Bool) → a ≡ true → (a || false) ≡ true
     either_true true e = refl
     either_true false e = absurd (false≢true e)
+
     is_same : (a b : ℕ) → a ≡ b → nat_eq a b ≡ true
     is_same a b e = grind (arith, nat_tests)
 

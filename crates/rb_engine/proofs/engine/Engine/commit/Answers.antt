@@ -1,9 +1,9 @@
-use Rattle.std.proofs.Common.{◌≡◌, inl, ⊎_elim, ℕ, ◌+◌, true, false, length, Ok, refl, ap, sym, ◌∙◌, if◌then◌else◌}
+use Rattle.std.proofs.Common.{◌≡◌, inl, ⊎_elim, ℕ, ◌+◌, true, false, length, Ok, refl, ap, ◌∙◌, if◌then◌else◌}
 use Rattle.std.proofs.lemmas.Bool.{cases_Bool}
 use Rattle.rb_model.specs.Reply.{Commit, Done, Numbered, expected, is_empty}
 use Rattle.rb_model.specs.Rows.{last_number}
 use Rattle.rb_model.specs.State.{State, is_session, session_of}
-use Rattle.rb_engine.proofs.CrashLemmas.{Laws, survives_still}
+use Rattle.rb_engine.proofs.CrashLemmas.{survives_still}
 use Rattle.rb_engine.proofs.StateLemmas.{commit_tests}
 use Rattle.rb_engine.proofs.engine.Engine.commit.Goals as goal
 

@@ -1,14 +1,10 @@
-use Rattle.std.proofs.Common.{◌≡◌, ◌⊎◌, ℕ, ◌+◌, ◌<◌, List, [], ◌∷◌, length, false, arith, ap, sym, ◌∙◌, subst, refl, Option}
+use Rattle.std.proofs.Common.{◌≡◌, ℕ, ◌+◌, ◌<◌, length, false, ap, sym, ◌∙◌, subst}
 use Rattle.rb_base.specs.Blocks.{commit_block, patches_block}
 use Rattle.std.specs.List.{list_any}
 use Rattle.rb_base.specs.declared.ids.Shape.{Shape}
-use Rattle.rb_model.specs.Change.{Change}
-use Rattle.rb_model.specs.Reply.{is_empty, committed, rows_now}
-use Rattle.rb_model.specs.Rows.{last_number}
 use Rattle.rb_model.specs.State.{State, session_of}
-use Rattle.rb_engine.specs.Crash.{Stands, Survives}
+use Rattle.rb_engine.specs.Crash.{Survives}
 use Rattle.rb_engine.specs.Engine.{EngineView}
-use Rattle.rb_engine.specs.Holds.{Holds}
 use Rattle.rb_engine.proofs.CommitLemmas.{in_step_committed, some_own, survives_committed, survives_failed}
 use Rattle.rb_engine.proofs.EngineLemmas.{in_step_stopped}
 use Rattle.rb_engine.proofs.engine.Engine.make_commit.Goals as goal

@@ -1,4 +1,4 @@
-use Rattle.std.proofs.Common.{◌≡◌, ◌≢◌, ℕ, ◌+◌, ◌<◌, ◌≤◌, List, [], ◌∷◌, length, true, false, not, is_some, refl, arith, ap, sym, ◌∙◌, subst}
+use Rattle.std.proofs.Common.{◌≡◌, ◌≢◌, ◌≤◌, List, length, true, false, not, refl, arith, ap, sym, ◌∙◌, subst}
 use Rattle.std.specs.Prelude.{Err}
 use Rattle.std.proofs.lemmas.Bool.{false≢true}
 use Rattle.std.specs.List.{list_any}
@@ -10,16 +10,14 @@ use Rattle.rb_write.specs.Writes.{has_failed}
 use Rattle.rb_model.specs.Answers.{action_of}
 use Rattle.rb_model.specs.Full.{used_keys}
 use Rattle.rb_model.specs.Reply.{adds, after_refusal, rows_now, Write}
-use Rattle.rb_model.specs.Rows.{Commits, last_number}
+use Rattle.rb_model.specs.Rows.{last_number}
 use Rattle.rb_model.specs.State.{State, session_of}
-use Rattle.rb_model.specs.declared.refusal.Refusal.{Refusal}
 use Rattle.rb_model.specs.declared.refusal.Refusal.TheVariants.{DiskFault}
 use Rattle.rb_write.specs.declared.ask.AttemptFault.{AttemptFault}
 use Rattle.rb_write.specs.declared.ask.AttemptFault.TheVariants.{Failed, Duplicate, NotFound, BlockFull, WornOut, LogFull}
-use Rattle.rb_engine.specs.Crash.{Stands, Survives}
-use Rattle.rb_engine.specs.Engine.{EngineView, refusal_of}
+use Rattle.rb_engine.specs.Engine.{refusal_of}
 use Rattle.rb_engine.specs.Holds.{Holds}
-use Rattle.rb_engine.proofs.CrashLemmas.{Laws, survives_more}
+use Rattle.rb_engine.proofs.CrashLemmas.{survives_more}
 use Rattle.rb_engine.proofs.EngineLemmas.{in_step_refused, room_after, room_before, stands_moved}
 use Rattle.rb_engine.proofs.NumberLemmas.{still_none}
 use Rattle.rb_engine.proofs.UsedLemmas.{sessions_granted, the_one, used_after_write}

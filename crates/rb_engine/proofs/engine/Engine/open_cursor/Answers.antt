@@ -1,4 +1,4 @@
-use Rattle.std.proofs.Common.{◌≡◌, refl}
+use Rattle.std.proofs.Common.{refl}
 use Rattle.rb_model.specs.Answers.{plain_answer}
 use Rattle.rb_model.specs.Names.{name_text}
 use Rattle.rb_model.specs.Reply as call

@@ -1,15 +1,5 @@
-use Rattle.std.proofs.Common.{◌≡◌, ◌≢◌, ℕ, ◌+◌, true, false, refl, arith, ap, sym, ◌∙◌, Ok, Err, Result}
-use Rattle.std.proofs.lemmas.Bool.{false≢true}
-use Rattle.std.specs.Prelude.{IfOk, IfErr, OnOk, if◌then◌else◌}
-use Rattle.rb_model.specs.Answers.{write_answer}
-use Rattle.rb_model.specs.Reply.{after, is_done}
-use Rattle.rb_model.specs.Reply as call
-use Rattle.rb_model.specs.State.{State}
-use Rattle.rb_model.specs.declared.refusal.Refusal.{Refusal}
-use Rattle.rb_model.specs.declared.refusal.Refusal.TheVariants.{DiskFault}
-use Rattle.rb_model.specs.declared.wrote.Wrote.{Wrote}
-use Rattle.rb_model.specs.declared.wrote.Wrote.TheVariants as wrote
-use Rattle.rb_engine.proofs.CrashLemmas.{Laws, survives_still}
+use Rattle.std.proofs.Common.{refl}
+use Rattle.rb_engine.proofs.CrashLemmas.{survives_still}
 use Rattle.rb_engine.proofs.EngineLemmas.{groups_of_write}
 use Rattle.rb_engine.proofs.engine.Engine.write.Goals as goal
 
