@@ -5,6 +5,7 @@ pub mod FoundLemmas
 pub mod FullLemmas
 pub mod KeptLemmas
 pub mod NumberLemmas
+pub mod OneHolding
 pub mod StateLemmas
 pub mod UsedLemmas
 pub mod ValueLemmas
