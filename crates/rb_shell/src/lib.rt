@@ -10,7 +10,7 @@ mod words;
 
 pub use command::run;
 pub use line::step;
-pub use rb_first::FirstEngine;
+pub use rb_engine::Engine;
 pub use status::Status;
 
 #[cfg(test)]
