@@ -3,6 +3,7 @@ pub mod CrashLemmas
 pub mod EngineLemmas
 pub mod FoundLemmas
 pub mod FullLemmas
+pub mod HoldsLemmas
 pub mod KeptLemmas
 pub mod NumberLemmas
 pub mod OneHolding
