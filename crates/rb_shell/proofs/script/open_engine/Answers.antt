@@ -87,4 +87,3 @@ pub returns-in-Err-clause-left_alone : goal.returns-in-Err-clause-left_alone
 returns-in-Err-clause-left_alone g c = λ told other.
     rests_alone g.D.Disk.content g.D.Disk.image g.D.Disk.moment g.D.Disk.image_since c.args.disk c.in-Err.disk (λ im left. g.met.D.Disk.only_now c.args.disk im told left)
     (neither_failed c.in-Err.fault other (λ is. c.in-Err.ensures.unchanged told is) (λ is. c.in-Err.ensures.no_memory told is))
-

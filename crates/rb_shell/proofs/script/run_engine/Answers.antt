@@ -34,4 +34,3 @@ returns-clause-source_fault g c = λ is. c.run_lines-end.ensures.source_fault (c
 
 pub returns-clause-sink_fault : goal.returns-clause-sink_fault
 returns-clause-sink_fault g c = λ is. c.run_lines-end.ensures.sink_fault (c.status_of_end.ensures.sink_fault is)
-
