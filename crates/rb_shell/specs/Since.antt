@@ -17,7 +17,7 @@ pub record IsSince {S : Type 0} (s : Ghosts S) (old new : EngineView S) : Type 0
   pub shape : s.shape_of new.store ≡ s.shape_of old.store
   pub crash : s.tells → s.keeps → StandsFor s old → Survives s (s.slots old.store) old.state new.state old.store new.store
 
-module _ {S : Type 0} (s : Ghosts S) where
+module _ {S : Type 0} {s : Ghosts S} where
   pub since_same : (e : EngineView S) → (s.keeps → Laws s) → IsSince s e e
   since_same e laws = record {
     slots = refl;

@@ -41,12 +41,12 @@ impl<T: Store> Machine for Interpreter<T> {
 
     ghost since = { λ a b. IsSince T.Store a.engine b.engine };
 
-    ghost since_same = { λ m. since_same T.Store m.engine (λ kept. record {
+    ghost since_same = { λ m. since_same m.engine (λ kept. record {
       left_opens = λ store b i stands here. T.stable_left store b i kept stands here;
       read_patched = λ store i left. T.only_now store i kept left;
     }) };
 
-    ghost since_joined = { λ a b c. since_joined T.Store a.engine b.engine c.engine };
+    ghost since_joined = { λ a b c. since_joined a.engine b.engine c.engine };
 
     fn step<K: Sink>(&mut self, line: &[u8], sink: &mut K) -> Result<(), StepFault>
         requires ready { IsReady T.Store self.old.engine }
@@ -67,6 +67,7 @@ impl<T: Store> Machine for Interpreter<T> {
 /// The status of a store that wasn't opened.
 fn status_of_fault(fault: OpenFault) -> Status
     ensures asks_nothing { result ≢ Status.DiskFault → AsksNothing result }
+    ensures not_asked { fault ≡ OpenFault.Failed → AsksNothing result → ⊥ }
     ensures ends { EndsRun result }
     ensures failed { result ≡ Status.DiskFault → fault ≡ OpenFault.Failed }
     ensures none { result ≡ Status.NotAStore → fault ≡ OpenFault.NotAStore }

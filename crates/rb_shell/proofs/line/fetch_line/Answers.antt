@@ -61,4 +61,3 @@ pub returns-clause-crash : goal.returns-clause-crash
 returns-clause-crash g c = λ told kept st.
     let i = c.loop.invariant in
     survives_still g.T.Store (record { left_opens = λ store b i stands here. g.met.T.Store.stable_left store b i kept stands here; read_patched = λ store i left. g.met.T.Store.only_now store i kept left }) c.args.engine.now.state c.loop.engine.state c.args.engine.now.store c.loop.engine.store st.same_shape (i.store) (i.shape) (i.commits) st.stands
-

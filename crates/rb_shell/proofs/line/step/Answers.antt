@@ -16,12 +16,14 @@ returns-then-line-gt-LINE_BYTES-clause-steps g c = λ told slots is.
 
 pub returns-then-is_remark-clause-steps : goal.returns-then-is_remark-clause-steps
 returns-then-is_remark-clause-steps g c = λ told slots is.
-    let old = logged g.T.Store c.args.engine.now in
-    (record {
-      out = [];
-      reply = skipped c.if-line-gt-LINE_BYTES.false (ap is_remark (sym c.without_return-text.ensures) ∙ sym c.is_remark.ensures ∙ c.if-is_remark.true) refl refl;
-      written = λ told. sym (append-nil (g.K.Sink.held c.args.sink.now));
-    }, refl)
+    let old = logged g.T.Store c.args.engine.now in (
+      record {
+        out = [];
+        reply = skipped c.if-line-gt-LINE_BYTES.false (ap is_remark (sym c.without_return-text.ensures) ∙ sym c.is_remark.ensures ∙ c.if-is_remark.true) refl refl;
+        written = λ told. sym (append-nil (g.K.Sink.held c.args.sink.now));
+      },
+      refl,
+    )
 
 pub returns-in-None-clause-steps : goal.returns-in-None-clause-steps
 returns-in-None-clause-steps g c = λ told slots is.
@@ -52,4 +54,3 @@ pub returns-in-None-clause-crash : goal.returns-in-None-clause-crash
 returns-in-None-clause-crash g c = λ told kept st.
     let e = c.args.engine.now in
     survives_still g.T.Store (record { left_opens = λ store b i stands here. g.met.T.Store.stable_left store b i kept stands here; read_patched = λ store i left. g.met.T.Store.only_now store i kept left }) e.state e.state e.store e.store st.same_shape refl refl refl st.stands
-
