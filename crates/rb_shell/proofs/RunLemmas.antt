@@ -1,16 +1,16 @@
 -- From the engine that an opening made to the run over the file that it opened.
-use Rattle.std.proofs.Common.{◌≡◌, ◌∙◌, ◌⊎◌, inl, inr, ⊎_elim, ap, sym, subst, refl, arith, ℕ, Bool, ◌+◌, ◌<◌, ◌≤◌, List, [], ◌++◌, length, Option, Some}
+use Rattle.std.proofs.Common.{◌≡◌, ◌∙◌, ◌⊎◌, inl, inr, ⊎_elim, ap, sym, subst, refl, arith, ℕ, Bool, ◌+◌, ◌<◌, ◌≤◌, List, [], ◌++◌, length, Some}
 use Rattle.std.specs.List.{flat_map}
 use Rattle.std.proofs.lemmas.List.{length-append, take_all}
 use Rattle.rb_base.specs.Blocks.{after_groups, fresh_blocks}
 use Rattle.rb_base.specs.Groups.{Patch}
-use Rattle.rb_base.specs.Moments.{LeavesOnly, NoMore, begun, joined, weaker}
+use Rattle.rb_base.specs.Moments.{LeavesOnly, joined, weaker}
 use Rattle.rb_base.specs.declared.faults.OpenFault.{OpenFault}
 use Rattle.rb_base.specs.declared.faults.OpenFault.TheVariants.{Failed}
 use Rattle.rb_base.specs.declared.faults.OpenFault.TheVariants as faults
 use Rattle.rb_base.specs.declared.ids.Shape.{Shape}
 use Rattle.rb_disk.specs.Moments.{Rests, rests_leave}
-use Rattle.rb_engine.specs.Crash.{AtEnd, Extends, OnTheWay, reached, Restarts, RestartsAt}
+use Rattle.rb_engine.specs.Crash.{AtEnd, Extends, OnTheWay, reached, Restarts}
 use Rattle.rb_engine.specs.Engine.{EngineView}
 use Rattle.rb_engine.specs.Holds.{CanOpen, Holds, OpensAs}
 use Rattle.rb_engine.proofs.CrashLemmas.{extends_later, rows_stay}

@@ -67,6 +67,7 @@ impl<T: Store> Machine for Interpreter<T> {
 /// The status of a store that wasn't opened.
 fn status_of_fault(fault: OpenFault) -> Status
     ensures asks_nothing { result ≢ Status.DiskFault → AsksNothing result }
+    ensures not_asked { fault ≡ OpenFault.Failed → AsksNothing result → ⊥ }
     ensures ends { EndsRun result }
     ensures failed { result ≡ Status.DiskFault → fault ≡ OpenFault.Failed }
     ensures none { result ≡ Status.NotAStore → fault ≡ OpenFault.NotAStore }

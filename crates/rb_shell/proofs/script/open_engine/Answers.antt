@@ -1,6 +1,4 @@
-use Rattle.std.proofs.Common.{◌≡◌, ◌∙◌, ap, sym, subst, rw}
-use Rattle.rb_base.specs.declared.faults.OpenFault.{OpenFault}
-use Rattle.rb_base.specs.declared.faults.OpenFault.TheVariants.{NoMemory, Failed, NotAStore}
+use Rattle.std.proofs.Common.{◌∙◌, ap, sym, subst, arith}
 use Rattle.rb_model.specs.State.{State}
 use Rattle.rb_shell.specs.Runs.{LeftAlone, OpensSame}
 use Rattle.rb_shell.specs.Steps.{slots_of}
