@@ -1,4 +1,4 @@
-//! `step`: one line through the engine to the sink. `run` does each line of a script by it.
+//! `step`: one line through the engine to the sink. `Interpreter` does each line of a script by it.
 ghost use Rattle.std.specs.Prelude.{◌≡◌, ◌≤◌, ℕ, List, Some, false, true, length, IsTrue, IsErrOf, IfOk, [], ◌++◌};
 ghost use Rattle.rb_base.specs.Counts.{Rose, IsCounted};
 ghost use Rattle.rb_stream.specs.StreamModel.{Puts};
