@@ -51,7 +51,14 @@ commit 1
 ";
 
 /// What a crash may leave, as it is picked in the tables: 1 is the byte that opens a gate.
-pub const PICKS: [Pick; 4] = [Pick::Old, Pick::New, Pick::Fill(1), Pick::Fill(0x7f)];
+pub const PICKS: [Pick; 4] = [Pick::New, Pick::Old, Pick::Fill(1), Pick::Fill(0x7f)];
+
+/// A crash: the call after which it came, and what it left.
+#[derive(Clone, Copy, Debug)]
+pub struct Stop {
+    pub call: u64,
+    pub pick: Pick,
+}
 
 // The line of a change.
 fn add_line(script: &mut String, key: u64, change: Change) -> Result<(), NoMemory> {
@@ -169,26 +176,38 @@ pub fn image(alloc: Global, disk: &MemDisk, k: u64, pick: Pick) -> Result<Vec<u8
     disk.image(alloc, k, pick)
 }
 
-/// Checks what a run leaves: what its disk reads as, and each pick of what a crash after its last call may leave.
+/// What a crash after the last call of a disk may leave, picked so. What it reads as is the newest of it.
+pub fn image_now(alloc: Global, disk: &MemDisk, pick: Pick) -> Result<Vec<u8>, NoMemory> {
+    if pick == Pick::New {
+        return disk.bytes().to_vec(alloc).map_err(|_| NoMemory);
+    }
+    image(alloc, disk, disk.calls(), pick)
+}
+
+/// Checks that a file which a crash left shows what it owes, and answers how many commits it shows.
+pub fn check_kept(
+    rt: &impl Abort,
+    alloc: Global,
+    file: &[u8],
+    answered: usize,
+    stop: Stop,
+) -> Result<Option<u8>, NoMemory> {
+    let found = shown(alloc, file)?;
+    assert!(rt; is_kept(found, answered), "{stop:?}: {found:?} of {answered}");
+    Ok(found)
+}
+
+/// Checks what a crash after the last call of a run may leave.
 pub fn check_left(
     rt: &impl Abort,
     alloc: Global,
     disk: &MemDisk,
     answered: usize,
 ) -> Result<(), NoMemory> {
-    let calls = disk.calls();
-    let found = shown(alloc, disk.bytes())?;
-    assert!(rt;
-        is_kept(found, answered),
-        "call {calls}: {found:?} of {answered}"
-    );
+    let call = disk.calls();
     for pick in PICKS {
-        let left = image(alloc, disk, calls, pick)?;
-        let found = shown(alloc, &left)?;
-        assert!(rt;
-            is_kept(found, answered),
-            "call {calls}, {pick:?}: {found:?} of {answered}"
-        );
+        let left = image_now(alloc, disk, pick)?;
+        let _ = check_kept(rt, alloc, &left, answered, Stop { call, pick })?;
     }
     Ok(())
 }
