@@ -193,7 +193,10 @@ pub fn check_kept(
     stop: Stop,
 ) -> Result<Option<u8>, NoMemory> {
     let found = shown(alloc, file)?;
-    assert!(rt; is_kept(found, answered), "{stop:?}: {found:?} of {answered}");
+    assert!(rt;
+        is_kept(found, answered),
+        "{stop:?}: {found:?} of {answered}"
+    );
     Ok(found)
 }
 

@@ -80,7 +80,7 @@ fn answer_of_fetch(answer: Result<Fetched, Refusal>, row: &Row) -> Answer<'_> {
 }
 
 // Calls an engine. A row is given into `row`.
-fn answer<'a, S: Store>(engine: &mut Engine<S>, call: Call<'_>, row: &'a mut Row) -> Answer<'a> {
+fn called<'a, S: Store>(engine: &mut Engine<S>, call: Call<'_>, row: &'a mut Row) -> Answer<'a> {
     match call {
         Call::Write(s, table, key, op) => answer_of_write(engine.write(s, table, key, op)),
         Call::Commit(s) => answer_of_commit(engine.commit(s)),
@@ -137,7 +137,7 @@ fn lap_engine(alloc: Global) -> Result<Engine<LapStore<MemDisk>>, Fail> {
 }
 
 // New engines.
-fn both(alloc: Global) -> Result<Both, Fail> {
+fn new_engines(alloc: Global) -> Result<Both, Fail> {
     let Ok(plain) = Engine::open(alloc, PlainStore::new(alloc, SHAPE)?) else {
         return Err(Fail::new("no engine"));
     };
@@ -151,8 +151,8 @@ fn both(alloc: Global) -> Result<Both, Fail> {
 
 // Both engines answer a call so.
 fn check(rt: &impl Abort, both: &mut Both, call: Call<'_>, expected: Answer<'_>) {
-    let plain = answer(&mut both.plain, call, &mut both.plain_row);
-    let lap = answer(&mut both.lap, call, &mut both.lap_row);
+    let plain = called(&mut both.plain, call, &mut both.plain_row);
+    let lap = called(&mut both.lap, call, &mut both.lap_row);
     assert_eq!(rt; plain, lap, "{call:?}");
     assert_eq!(rt; plain, expected, "{call:?}");
 }
@@ -172,32 +172,71 @@ fn one_list_of_writes(rt: HostRuntime) -> Result<(), Fail> {
     let rows: [(Call<'_>, Answer<'_>); 26] = [
         (Call::Commit(1), Answer::Done),
         (Call::Commit(2), Answer::Refused(Refusal::NoSession)),
-        (Call::Write(0, 1, 1, Op::Insert(b"a")), Answer::Refused(Refusal::NoSession)),
-        (Call::Write(2, 3, 1, Op::Delete), Answer::Refused(Refusal::NoSession)),
-        (Call::Write(1, 0, 1, Op::Insert(LONGER)), Answer::Refused(Refusal::NoTable)),
-        (Call::Write(1, 3, 1, Op::Delete), Answer::Refused(Refusal::NoTable)),
-        (Call::Write(1, 1, 1, Op::Insert(LONGER)), Answer::Refused(Refusal::ValueTooLong)),
-        (Call::Write(1, 1, 1, Op::Update(LONGER)), Answer::Refused(Refusal::ValueTooLong)),
-        (Call::Write(1, 1, 1, Op::Update(b"a")), Answer::Refused(Refusal::NotFound)),
-        (Call::Write(1, 1, 1, Op::Delete), Answer::Refused(Refusal::NotFound)),
+        (
+            Call::Write(0, 1, 1, Op::Insert(b"a")),
+            Answer::Refused(Refusal::NoSession),
+        ),
+        (
+            Call::Write(2, 3, 1, Op::Delete),
+            Answer::Refused(Refusal::NoSession),
+        ),
+        (
+            Call::Write(1, 0, 1, Op::Insert(LONGER)),
+            Answer::Refused(Refusal::NoTable),
+        ),
+        (
+            Call::Write(1, 3, 1, Op::Delete),
+            Answer::Refused(Refusal::NoTable),
+        ),
+        (
+            Call::Write(1, 1, 1, Op::Insert(LONGER)),
+            Answer::Refused(Refusal::ValueTooLong),
+        ),
+        (
+            Call::Write(1, 1, 1, Op::Update(LONGER)),
+            Answer::Refused(Refusal::ValueTooLong),
+        ),
+        (
+            Call::Write(1, 1, 1, Op::Update(b"a")),
+            Answer::Refused(Refusal::NotFound),
+        ),
+        (
+            Call::Write(1, 1, 1, Op::Delete),
+            Answer::Refused(Refusal::NotFound),
+        ),
         (Call::Write(1, 1, 1, Op::Insert(&LONGER[1..])), Answer::Done),
-        (Call::Write(1, 1, 1, Op::Insert(b"b")), Answer::Refused(Refusal::Duplicate)),
-        (Call::Write(1, 2, 1, Op::Update(b"b")), Answer::Refused(Refusal::NotFound)),
-        (Call::Write(1, 1, 3, Op::Update(b"b")), Answer::Refused(Refusal::NotFound)),
+        (
+            Call::Write(1, 1, 1, Op::Insert(b"b")),
+            Answer::Refused(Refusal::Duplicate),
+        ),
+        (
+            Call::Write(1, 2, 1, Op::Update(b"b")),
+            Answer::Refused(Refusal::NotFound),
+        ),
+        (
+            Call::Write(1, 1, 3, Op::Update(b"b")),
+            Answer::Refused(Refusal::NotFound),
+        ),
         (Call::Commit(1), Answer::Numbered(1)),
         (Call::Commit(1), Answer::Done),
-        (Call::Write(1, 1, 1, Op::Insert(b"b")), Answer::Refused(Refusal::Duplicate)),
+        (
+            Call::Write(1, 1, 1, Op::Insert(b"b")),
+            Answer::Refused(Refusal::Duplicate),
+        ),
         (Call::Write(1, 1, 1, Op::Update(b"")), Answer::Done),
         (Call::Write(1, 1, 1, Op::Update(b"c")), Answer::Done),
         (Call::Write(1, 1, 1, Op::Delete), Answer::Done),
-        (Call::Write(1, 1, 1, Op::Delete), Answer::Refused(Refusal::NotFound)),
+        (
+            Call::Write(1, 1, 1, Op::Delete),
+            Answer::Refused(Refusal::NotFound),
+        ),
         (Call::Write(1, 1, 1, Op::Insert(b"d")), Answer::Done),
         (Call::Write(1, 2, 1, Op::Insert(b"e")), Answer::Done),
         (Call::Commit(1), Answer::Numbered(2)),
         (Call::Write(1, 2, 1, Op::Delete), Answer::Done),
         (Call::Commit(1), Answer::Numbered(3)),
     ];
-    let mut both = both(rt.alloc())?;
+    let mut both = new_engines(rt.alloc())?;
     check_all(&rt, &mut both, &rows);
     Ok(())
 }
@@ -210,15 +249,33 @@ fn one_list_of_cursors(rt: HostRuntime) -> Result<(), Fail> {
         (Call::Write(1, 1, 2, Op::Insert(b"b")), Answer::Done),
         (Call::Write(1, 2, 2, Op::Insert(b"c")), Answer::Done),
         (Call::Commit(1), Answer::Numbered(1)),
-        (Call::Open(2, b"early", 1, 0, 9), Answer::Refused(Refusal::NoSession)),
-        (Call::Open(1, b"early", 3, 0, 9), Answer::Refused(Refusal::NoTable)),
-        (Call::Open(1, b"early", 0, 0, 9), Answer::Refused(Refusal::NoTable)),
+        (
+            Call::Open(2, b"early", 1, 0, 9),
+            Answer::Refused(Refusal::NoSession),
+        ),
+        (
+            Call::Open(1, b"early", 3, 0, 9),
+            Answer::Refused(Refusal::NoTable),
+        ),
+        (
+            Call::Open(1, b"early", 0, 0, 9),
+            Answer::Refused(Refusal::NoTable),
+        ),
         (Call::Fetch(1, b"early"), Answer::Refused(Refusal::NoCursor)),
         (Call::Close(1, b"early"), Answer::Refused(Refusal::NoCursor)),
         (Call::Open(1, b"early", 1, 0, 9), Answer::Done),
-        (Call::Open(1, b"early", 2, 0, 9), Answer::Refused(Refusal::CursorThere)),
-        (Call::Fetch(2, b"early"), Answer::Refused(Refusal::NoSession)),
-        (Call::Close(2, b"early"), Answer::Refused(Refusal::NoSession)),
+        (
+            Call::Open(1, b"early", 2, 0, 9),
+            Answer::Refused(Refusal::CursorThere),
+        ),
+        (
+            Call::Fetch(2, b"early"),
+            Answer::Refused(Refusal::NoSession),
+        ),
+        (
+            Call::Close(2, b"early"),
+            Answer::Refused(Refusal::NoSession),
+        ),
         (Call::Fetch(1, b"early"), Answer::Given(2, b"b")),
         (Call::Write(1, 1, 1, Op::Update(b"d")), Answer::Done),
         (Call::Write(1, 1, 2, Op::Delete), Answer::Done),
@@ -249,7 +306,7 @@ fn one_list_of_cursors(rt: HostRuntime) -> Result<(), Fail> {
         (Call::Fetch(1, b"early"), Answer::Given(1, b"d")),
         (Call::Fetch(1, b"early"), Answer::End),
     ];
-    let mut both = both(rt.alloc())?;
+    let mut both = new_engines(rt.alloc())?;
     check_all(&rt, &mut both, &rows);
     Ok(())
 }
@@ -258,21 +315,36 @@ fn one_list_of_cursors(rt: HostRuntime) -> Result<(), Fail> {
 #[test]
 fn one_list_of_full_homes(rt: HostRuntime) -> Result<(), Fail> {
     let rows: [(Call<'_>, Answer<'_>); 13] = [
-        (Call::Write(1, 1, 32, Op::Insert(b"a")), Answer::Refused(Refusal::BlockFull)),
-        (Call::Write(1, 1, 30, Op::Insert(b"a")), Answer::Refused(Refusal::Duplicate)),
+        (
+            Call::Write(1, 1, 32, Op::Insert(b"a")),
+            Answer::Refused(Refusal::BlockFull),
+        ),
+        (
+            Call::Write(1, 1, 30, Op::Insert(b"a")),
+            Answer::Refused(Refusal::Duplicate),
+        ),
         (Call::Write(1, 1, 1, Op::Insert(b"a")), Answer::Done),
         (Call::Write(1, 2, 32, Op::Insert(b"a")), Answer::Done),
         (Call::Commit(1), Answer::Numbered(1)),
-        (Call::Write(1, 1, 32, Op::Insert(b"a")), Answer::Refused(Refusal::BlockFull)),
+        (
+            Call::Write(1, 1, 32, Op::Insert(b"a")),
+            Answer::Refused(Refusal::BlockFull),
+        ),
         (Call::Write(1, 1, 0, Op::Delete), Answer::Done),
-        (Call::Write(1, 1, 32, Op::Insert(b"a")), Answer::Refused(Refusal::BlockFull)),
+        (
+            Call::Write(1, 1, 32, Op::Insert(b"a")),
+            Answer::Refused(Refusal::BlockFull),
+        ),
         (Call::Write(1, 1, 0, Op::Insert(b"b")), Answer::Done),
         (Call::Write(1, 1, 0, Op::Delete), Answer::Done),
         (Call::Commit(1), Answer::Numbered(2)),
         (Call::Write(1, 1, 32, Op::Insert(b"c")), Answer::Done),
-        (Call::Write(1, 1, 0, Op::Insert(b"c")), Answer::Refused(Refusal::BlockFull)),
+        (
+            Call::Write(1, 1, 0, Op::Insert(b"c")),
+            Answer::Refused(Refusal::BlockFull),
+        ),
     ];
-    let mut both = both(rt.alloc())?;
+    let mut both = new_engines(rt.alloc())?;
     for key in 0..16 {
         let insert = Call::Write(1, 1, 2 * key, Op::Insert(b"a"));
         check(&rt, &mut both, insert, Answer::Done);
@@ -284,14 +356,23 @@ fn one_list_of_full_homes(rt: HostRuntime) -> Result<(), Fail> {
 #[test]
 fn one_list_of_many_cursors(rt: HostRuntime) -> Result<(), Fail> {
     let rows: [(Call<'_>, Answer<'_>); 6] = [
-        (Call::Open(1, b"q", 1, 0, 9), Answer::Refused(Refusal::TooManyCursors)),
-        (Call::Open(1, b"p", 1, 0, 9), Answer::Refused(Refusal::CursorThere)),
+        (
+            Call::Open(1, b"q", 1, 0, 9),
+            Answer::Refused(Refusal::TooManyCursors),
+        ),
+        (
+            Call::Open(1, b"p", 1, 0, 9),
+            Answer::Refused(Refusal::CursorThere),
+        ),
         (Call::Close(1, b"c"), Answer::Done),
         (Call::Open(1, b"q", 1, 0, 9), Answer::Done),
-        (Call::Open(1, b"c", 1, 0, 9), Answer::Refused(Refusal::TooManyCursors)),
+        (
+            Call::Open(1, b"c", 1, 0, 9),
+            Answer::Refused(Refusal::TooManyCursors),
+        ),
         (Call::Fetch(1, b"q"), Answer::End),
     ];
-    let mut both = both(rt.alloc())?;
+    let mut both = new_engines(rt.alloc())?;
     for name in b'a'..=b'p' {
         let open = Call::Open(1, &[name], 1, 0, 9);
         check(&rt, &mut both, open, Answer::Done);

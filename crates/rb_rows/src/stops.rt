@@ -44,7 +44,11 @@ fn check_opening(
     let calls = opened.disk.calls();
     // An opening begins with a sync.
     let drops = opened.disk.syncs() > 1;
-    let reads = if drops { calls.saturating_sub(2) } else { calls };
+    let reads = if drops {
+        calls.saturating_sub(2)
+    } else {
+        calls
+    };
     let quiet = image(alloc, &opened.disk, reads, Pick::Fill(0x7f))?;
     assert!(rt; quiet.as_slice() == file, "{first:?}");
     for call in reads..calls {
