@@ -1,5 +1,5 @@
-//! The cells of a heap block, read from its bytes and written as patches. The engine over blocks will keep its rows in
-//! them; the program doesn't use them yet.
+//! The cells of a heap block, read from its bytes and written as patches. Each row of a table stands
+//! in one.
 #![tactic(auto)]
 
 mod cell;

@@ -1,4 +1,4 @@
-//! Writes cells as patches of a group. What changes rows in blocks will call it.
+//! Writes cells as patches of a group. rb_heap and rb_write call it.
 ghost use Rattle.std.specs.Prelude.{◌≡◌, ◌+◌, ◌≤◌, ◌<◌, [], ◌∷◌, ◌++◌, length};
 ghost use Rattle.rb_base.specs.Groups.{group_length};
 ghost use Rattle.rb_cell.specs.Cells.{cell_bytes, IsCell, cell_patch, lock_patch};

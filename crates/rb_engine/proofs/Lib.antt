@@ -3,8 +3,10 @@ pub mod CrashLemmas
 pub mod EngineLemmas
 pub mod FoundLemmas
 pub mod FullLemmas
+pub mod HoldsLemmas
 pub mod KeptLemmas
 pub mod NumberLemmas
+pub mod OneHolding
 pub mod StateLemmas
 pub mod UsedLemmas
 pub mod ValueLemmas

@@ -4,7 +4,9 @@
 
 mod cursor;
 mod engine;
+mod laws;
 mod open;
 mod state;
 
 pub use engine::Engine;
+pub use laws::one_holding;

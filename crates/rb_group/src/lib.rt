@@ -1,5 +1,4 @@
-//! The bytes of a group of patches, written and read. A later stage keeps the changes of blocks so; the program doesn't
-//! use it yet.
+//! The bytes of a group of patches, written and read. The log keeps the changes of blocks so.
 #![tactic(auto)]
 
 mod read;

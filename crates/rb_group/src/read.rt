@@ -1,4 +1,4 @@
-//! Reads the bytes of a group. The next stage's log will call it.
+//! Reads the bytes of a group. The log calls it.
 ghost use Rattle.std.specs.Prelude.{◌≡◌, ◌≢◌, ℕ, List, [], ◌++◌, length, IfSome, IfNone};
 ghost use Rattle.rb_base.specs.Groups.{Patch, patch, group_length, IsPatch, IsGroup};
 ghost use Rattle.rb_group.specs.Spelling.{patch_bytes, group_bytes, Spells};

@@ -1,4 +1,4 @@
-//! Writes the bytes of a group. The next stage's log will call it.
+//! Writes the bytes of a group. The log calls it.
 ghost use Rattle.std.specs.Prelude.{◌≡◌, ◌+◌, ◌^◌, ◌<◌, ◌≤◌, ◌++◌, length, take, drop};
 ghost use Rattle.rb_base.specs.Groups.{patch, group_length};
 ghost use Rattle.rb_group.specs.Spelling.{patch_bytes, group_bytes};

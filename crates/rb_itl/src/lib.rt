@@ -1,6 +1,5 @@
 //! The slot entries of a heap block: which transactions changed it, and what became of them. They are read from the
-//! block's bytes, and written as patches of a group. A later stage's heap blocks will use them; the program doesn't
-//! yet.
+//! block's bytes, and written as patches of a group. An opening tests them; as long as no undo is kept they stay free.
 #![tactic(auto)]
 
 mod laws;

@@ -1,4 +1,4 @@
-//! Reads the slot entries of a block. A later stage's heap blocks will call it.
+//! Reads the slot entries of a block. rb_heap and rb_sound call it.
 ghost use Rattle.std.specs.Prelude.{◌≡◌, ◌<◌, length};
 ghost use Rattle.rb_itl.specs.Entries.{entry_at};
 

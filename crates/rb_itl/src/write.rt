@@ -1,4 +1,4 @@
-//! Writes slot entries as patches. A later stage's heap blocks will call it.
+//! Writes slot entries as patches. rb_heap calls it.
 ghost use Rattle.std.specs.Prelude.{◌≡◌, ◌+◌, ◌<◌, ◌≤◌, [], ◌∷◌, ◌++◌, length};
 ghost use Rattle.rb_base.specs.Groups.{patch, group_length};
 ghost use Rattle.rb_itl.specs.Entries.{entry_place, entry_bytes};

@@ -10,7 +10,7 @@ use Rattle.rb_layout.specs.declared.layout.Layout.{Layout}
 use Rattle.rb_log.specs.GroupSlots.{IsLoggable, GroupsAre, FlushedSome, group_unit}
 use Rattle.rb_log.specs.Slots.{slot_at, TornFrom, SameSlots, SameOutside}
 use Rattle.rb_log.proofs.GroupUnits.{AreSideBySide}
-use Rattle.rb_log.proofs.GroupLogs.{groups_same, groups_kept, StagedRun, staged_run, run_still, run_outside, run_units, run_log}
+use Rattle.rb_log.proofs.LogLemmas.{groups_same, groups_kept, StagedRun, staged_run, run_still, run_outside, run_units, run_log}
 use Rattle.rb_log.proofs.Writes.{part_written, written_torn, torn_outside}
 
 -- an image whose log is that of before, and one that has the pending groups of one run too

@@ -1,6 +1,6 @@
 pub mod GroupDrops
 pub mod GroupFlush
-pub mod GroupLogs
+pub mod LogLemmas
 pub mod GroupReading
 pub mod GroupRuns
 pub mod GroupUnits

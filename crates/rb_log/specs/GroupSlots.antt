@@ -66,7 +66,7 @@ pub record DroppedSome (image : List ℕ → Type 0) (l : Layout) (groups : List
   pub log : GroupsAre l c 0 groups ⊎ GroupsAre l c 0 (take count groups)
 
 -- what a log of groups is at a moment
-pub record GroupLogState : Type 0 where
+pub record LogState : Type 0 where
   pub layout : Layout
   -- how many slots hold groups that were scanned or flushed
   pub used : ℕ

@@ -1,9 +1,9 @@
 //! The redo log of one lap: groups of patches in the log slots of a file, each there whole or not at all after a crash.
 #![tactic(auto)]
 
-mod group_flush;
-mod group_log;
-mod group_unit;
+mod flush;
+mod log;
 mod steps;
+mod unit;
 
-pub use group_log::GroupLog;
+pub use log::Log;

@@ -1,4 +1,5 @@
-//! Five commits, and what a second run shows of them. The tables of stops and of failures run them.
+//! Five commits of inserts, updates and deletes, and what a second run shows of them. The tables of stops and of
+//! failures run them.
 use crate::doubles::{NONE, RUN, run_over};
 use rb_base::NoMemory;
 use rb_memdisk::{MemDisk, Pick};
@@ -9,21 +10,32 @@ use std::process::Abort;
 // How many commits there are.
 const COMMITS: u8 = 5;
 
-// The inserts in the order of their lines: the number of their commit, the key and the value.
-const INSERTS: [(u8, u64, &str); 13] = [
-    (1, 30, "thirty"),
-    (1, 10, "ten"),
-    (1, 20, "twenty"),
-    (2, 5, "five"),
-    (2, 25, LONG),
-    (3, 98, "x"),
-    (3, 0, "nought"),
-    (3, 40, "forty"),
-    (4, 26, "~"),
-    (4, 24, "!"),
-    (5, 60, LONG),
-    (5, 62, "#"),
-    (5, 61, "commit"),
+/// What a line does to its key.
+#[derive(Clone, Copy)]
+enum Change {
+    Insert(&'static str),
+    Update(&'static str),
+    Delete,
+}
+
+// The lines in order: the number of their commit, how many times they stand there, the key and what is done to it.
+const LINES: [(u8, u8, u64, Change); 15] = [
+    (1, 1, 30, Change::Insert("thirty")),
+    (1, 1, 10, Change::Insert("ten")),
+    (1, 1, 20, Change::Insert("twenty")),
+    (2, 1, 5, Change::Insert("five")),
+    (2, 1, 10, Change::Update(LONG)),
+    (2, 1, 30, Change::Delete),
+    (3, 1, 98, Change::Insert("gone")),
+    (3, 1, 98, Change::Delete),
+    (3, 1, 5, Change::Delete),
+    (3, 1, 5, Change::Insert("again")),
+    (3, 1, 30, Change::Insert("~")),
+    // Two runs of the log: the first has 32 groups and no commit.
+    (4, 1, 24, Change::Insert("!")),
+    (4, 32, 20, Change::Update("many")),
+    (4, 1, 10, Change::Delete),
+    (5, 1, 0, Change::Insert("nought")),
 ];
 
 // As long as a value may be.
@@ -39,13 +51,45 @@ commit 1
 ";
 
 /// What a crash may leave, as it is picked in the tables: 1 is the byte that opens a gate.
-pub const PICKS: [Pick; 4] = [Pick::Old, Pick::New, Pick::Fill(1), Pick::Fill(0x7f)];
+pub const PICKS: [Pick; 4] = [Pick::New, Pick::Old, Pick::Fill(1), Pick::Fill(0x7f)];
 
-fn add_inserts(script: &mut String, replies: &mut String, number: u8) -> Result<(), NoMemory> {
-    for (commit, key, value) in INSERTS {
+/// A crash: the call after which it came, and what it left.
+#[derive(Clone, Copy, Debug)]
+pub struct Stop {
+    pub call: u64,
+    pub pick: Pick,
+}
+
+// The line of a change.
+fn add_line(script: &mut String, key: u64, change: Change) -> Result<(), NoMemory> {
+    let added = match change {
+        Change::Insert(value) => write!(script, "insert 1 1 {key} {value}\n"),
+        Change::Update(value) => write!(script, "update 1 1 {key} {value}\n"),
+        Change::Delete => write!(script, "delete 1 1 {key}\n"),
+    };
+    added.map_err(|_| NoMemory)
+}
+
+// A line as often as it stands there, and its replies.
+fn add_lines(
+    script: &mut String,
+    replies: &mut String,
+    times: u8,
+    key: u64,
+    change: Change,
+) -> Result<(), NoMemory> {
+    for _ in 0..times {
+        add_line(script, key, change)?;
+        replies.push_str("1 ok\n").map_err(|_| NoMemory)?;
+    }
+    Ok(())
+}
+
+// The lines of a commit, and their replies.
+fn add_changes(script: &mut String, replies: &mut String, number: u8) -> Result<(), NoMemory> {
+    for (commit, times, key, change) in LINES {
         if commit == number {
-            write!(script, "insert 1 1 {key} {value}\n").map_err(|_| NoMemory)?;
-            replies.push_str("1 ok\n").map_err(|_| NoMemory)?;
+            add_lines(script, replies, times, key, change)?;
         }
     }
     Ok(())
@@ -56,7 +100,7 @@ pub fn script_and_replies(alloc: Global) -> Result<(String, String), NoMemory> {
     let mut script = String::new(alloc);
     let mut replies = String::new(alloc);
     for number in 1..=COMMITS {
-        add_inserts(&mut script, &mut replies, number)?;
+        add_changes(&mut script, &mut replies, number)?;
         script.push_str("commit 1\n").map_err(|_| NoMemory)?;
         write!(replies, "1 committed {number}\n").map_err(|_| NoMemory)?;
     }
@@ -71,14 +115,18 @@ pub fn answered(replies: &[u8]) -> usize {
         .count()
 }
 
-// The value of a key after so many commits.
+// The value of a key after so many commits: the last of its changes gives it, or takes it away.
 fn value_of(commits: u8, key: u64) -> Option<&'static str> {
-    for (commit, at, value) in INSERTS {
+    let mut found = None;
+    for (commit, _times, at, change) in LINES {
         if commit <= commits && at == key {
-            return Some(value);
+            found = match change {
+                Change::Insert(value) | Change::Update(value) => Some(value),
+                Change::Delete => None,
+            };
         }
     }
-    None
+    found
 }
 
 // What the second run answers after so many commits.
@@ -128,26 +176,41 @@ pub fn image(alloc: Global, disk: &MemDisk, k: u64, pick: Pick) -> Result<Vec<u8
     disk.image(alloc, k, pick)
 }
 
-/// Checks what a run leaves: what its disk reads as, and each pick of what a crash after its last call may leave.
+/// What a crash after the last call of a disk may leave, picked so. What it reads as is the newest of it.
+pub fn image_now(alloc: Global, disk: &MemDisk, pick: Pick) -> Result<Vec<u8>, NoMemory> {
+    if pick == Pick::New {
+        return disk.bytes().to_vec(alloc).map_err(|_| NoMemory);
+    }
+    image(alloc, disk, disk.calls(), pick)
+}
+
+/// Checks that a file which a crash left shows what it owes, and answers how many commits it shows.
+pub fn check_kept(
+    rt: &impl Abort,
+    alloc: Global,
+    file: &[u8],
+    answered: usize,
+    stop: Stop,
+) -> Result<Option<u8>, NoMemory> {
+    let found = shown(alloc, file)?;
+    assert!(rt;
+        is_kept(found, answered),
+        "{stop:?}: {found:?} of {answered}"
+    );
+    Ok(found)
+}
+
+/// Checks what a crash after the last call of a run may leave.
 pub fn check_left(
     rt: &impl Abort,
     alloc: Global,
     disk: &MemDisk,
     answered: usize,
 ) -> Result<(), NoMemory> {
-    let calls = disk.calls();
-    let found = shown(alloc, disk.bytes())?;
-    assert!(rt;
-        is_kept(found, answered),
-        "call {calls}: {found:?} of {answered}"
-    );
+    let call = disk.calls();
     for pick in PICKS {
-        let left = image(alloc, disk, calls, pick)?;
-        let found = shown(alloc, &left)?;
-        assert!(rt;
-            is_kept(found, answered),
-            "call {calls}, {pick:?}: {found:?} of {answered}"
-        );
+        let left = image_now(alloc, disk, pick)?;
+        let _ = check_kept(rt, alloc, &left, answered, Stop { call, pick })?;
     }
     Ok(())
 }

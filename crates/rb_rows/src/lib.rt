@@ -1,11 +1,15 @@
-//! The worked rows: scripts and command lines, and what the program answers them over files in memory. It has
-//! tests alone, and nothing calls it.
+//! The worked rows: scripts and command lines, and what the program answers them over files in memory; and the stores
+//! and engines that it stands on, side by side. It has tests alone, and nothing calls it.
 #![tactic(auto)]
 
 #[cfg(test)]
 mod commits;
 #[cfg(test)]
+mod constructors;
+#[cfg(test)]
 mod doubles;
+#[cfg(test)]
+mod engines;
 #[cfg(test)]
 mod failures;
 #[cfg(test)]

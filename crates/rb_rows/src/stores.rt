@@ -4,10 +4,10 @@ ghost use Rattle.std.specs.Prelude.{◌≡◌, ◌≤◌, ◌<◌, false, IfOk, 
 use crate::commits::{PICKS, image};
 use crate::doubles::{CALLS, SCRIPT_ROOM};
 use rb_base::{BlockNo, Failed, Group, NoMemory, Shape, Store};
-use rb_layout::{GROUPS_VERSION, Layout};
+use rb_layout::Layout;
 use rb_memdisk::MemDisk;
 use rb_plainstore::PlainStore;
-use rb_store::{LapStore, format_version};
+use rb_store::{LapStore, format};
 use std::alloc::Global;
 use std::process::Abort;
 use std::test::Fail;
@@ -34,11 +34,11 @@ const FIRST_AT: u16 = 416;
 
 const LAST_AT: u16 = 455;
 
-/// A new file of groups.
+/// A new file.
 fn new_file(alloc: Global) -> Result<Vec<u8>, NoMemory> {
     let mut disk = MemDisk::new(alloc, b"", SCRIPT_ROOM, CALLS, &[])?;
     if let Some(layout) = Layout::new(SHAPE.tables, SHAPE.blocks, SHAPE.segments, SLOTS) {
-        let _ = format_version(&mut disk, &layout, GROUPS_VERSION);
+        let _ = format(&mut disk, &layout);
     }
     disk.bytes().to_vec(alloc).map_err(|_| NoMemory)
 }

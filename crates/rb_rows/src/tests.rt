@@ -2,12 +2,10 @@
 use crate::commits::image;
 use crate::doubles::{Ended, FORMAT_LARGE, FORMAT_SMALL, Failing, NONE, RUN, formatted, run_over};
 use rb_base::NoMemory;
-use rb_first::FirstEngine;
-use rb_layout::{Head, Layout};
-use rb_log::Log;
+use rb_engine::Engine;
 use rb_memdisk::{MemDisk, Pick};
-use rb_model::{Refusal, Wrote};
-use rb_stream::{MemSink, MemSource};
+use rb_model::{Op, Refusal, Wrote};
+use rb_store::LapStore;
 use std::alloc::Global;
 use std::test::Fail;
 
@@ -152,8 +150,13 @@ commit 2
 insert 2 1 1 a
 open 2 c 1 0 9
 fetch 2 c 1
+update 2 1 1 a
+delete 2 1 1
+close 2 c
 insert 1 2 1 a
 insert 1 0 1 a
+update 1 2 1 a
+delete 1 2 1
 open 1 c 2 0 9
 ",
             b"\
@@ -163,6 +166,11 @@ open 1 c 2 0 9
 2 no session
 2 no session
 2 no session
+2 no session
+2 no session
+2 no session
+1 no table
+1 no table
 1 no table
 1 no table
 1 no table
@@ -273,6 +281,9 @@ commit 1\0
 savepoint 1\x20
 apply 1
 fetch 1 c 01
+update 1 1 1
+update 1 1 1 a b
+delete 1 1
 ";
 
 // Remarks, and lines that look like bad ones.
@@ -291,7 +302,7 @@ fetch 1 c 1000000
 fn bad_lines(rt: HostRuntime) -> Result<(), Fail> {
     let file = formatted(rt.alloc(), FORMAT_SMALL)?;
     let bad = run_over(rt.alloc(), RUN, &file, BAD_LINES, NONE)?;
-    let replies = repeated(rt.alloc(), b"bad line\n", 29)?;
+    let replies = repeated(rt.alloc(), b"bad line\n", 32)?;
     assert_eq!(rt; bad.status.code(), 0);
     assert_eq!(rt; bad.sink.bytes(), replies.as_slice());
     let others = run_over(rt.alloc(), RUN, &file, OTHER_LINES, NONE)?;
@@ -371,11 +382,221 @@ fetch 1 d 9
     Ok(())
 }
 
+// Scripts of updates and deletes, over a fresh file each.
+#[test]
+fn updates_and_deletes(rt: HostRuntime) -> Result<(), Fail> {
+    let rows: [(&str, &[u8], &[u8]); 7] = [
+        (
+            "keys without a row",
+            b"\
+update 1 1 1 a
+delete 1 1 1
+insert 1 1 1 a
+insert 1 1 1 b
+delete 1 1 1
+update 1 1 1 b
+delete 1 1 1
+commit 1
+update 1 1 1 b
+delete 1 1 1
+",
+            b"\
+1 not found
+1 not found
+1 ok
+1 duplicate
+1 ok
+1 not found
+1 not found
+1 committed 1
+1 not found
+1 not found
+",
+        ),
+        (
+            "an update, and a new cursor",
+            b"\
+insert 1 1 1 a
+commit 1
+update 1 1 1 b
+open 1 own 1 0 9
+commit 1
+open 1 late 1 0 9
+fetch 1 own 5
+fetch 1 late 5
+",
+            b"\
+1 ok
+1 committed 1
+1 ok
+1 ok
+1 committed 2
+1 ok
+1 row 1 b
+1 end
+1 row 1 b
+1 end
+",
+        ),
+        (
+            "a delete, and a new cursor",
+            b"\
+insert 1 1 1 a
+insert 1 1 2 b
+commit 1
+delete 1 1 1
+open 1 own 1 0 9
+commit 1
+open 1 late 1 0 9
+fetch 1 own 5
+fetch 1 late 5
+",
+            b"\
+1 ok
+1 ok
+1 committed 1
+1 ok
+1 ok
+1 committed 2
+1 ok
+1 row 2 b
+1 end
+1 row 2 b
+1 end
+",
+        ),
+        (
+            "a cursor opened before them",
+            b"\
+insert 1 1 1 a
+insert 1 1 2 b
+commit 1
+open 1 early 1 0 9
+fetch 1 early 1
+update 1 1 1 c
+delete 1 1 2
+insert 1 1 3 d
+fetch 1 early 1
+commit 1
+fetch 1 early 1
+close 1 early
+open 1 early 1 0 9
+fetch 1 early 5
+",
+            b"\
+1 ok
+1 ok
+1 committed 1
+1 ok
+1 row 1 a
+1 ok
+1 ok
+1 ok
+1 row 2 b
+1 committed 2
+1 end
+1 ok
+1 ok
+1 row 1 c
+1 row 3 d
+1 end
+",
+        ),
+        (
+            "a key deleted and made again",
+            b"\
+insert 1 1 1 a
+commit 1
+open 1 early 1 0 9
+delete 1 1 1
+open 1 between 1 0 9
+insert 1 1 1 b
+insert 1 1 1 c
+open 1 own 1 0 9
+commit 1
+fetch 1 early 5
+fetch 1 between 5
+fetch 1 own 5
+",
+            b"\
+1 ok
+1 committed 1
+1 ok
+1 ok
+1 ok
+1 ok
+1 duplicate
+1 ok
+1 committed 2
+1 row 1 a
+1 end
+1 end
+1 row 1 b
+1 end
+",
+        ),
+        (
+            "changes of one transaction that cancel out",
+            b"\
+insert 1 1 1 a
+delete 1 1 1
+open 1 c 1 0 9
+fetch 1 c 5
+commit 1
+commit 1
+",
+            b"\
+1 ok
+1 ok
+1 ok
+1 end
+1 committed 1
+1 ok
+",
+        ),
+        ("values", LONG_UPDATES, LONG_REPLIES),
+    ];
+    let file = formatted(rt.alloc(), FORMAT_SMALL)?;
+    for (name, script, replies) in rows {
+        let end = run_over(rt.alloc(), RUN, &file, script, NONE)?;
+        assert_eq!(rt; end.status.code(), 0, "{name}");
+        assert_eq!(rt; end.sink.bytes(), replies, "{name}");
+    }
+    Ok(())
+}
+
+// Values of 80 and 81 bytes. That a value is too long is told before whether there is a row.
+const LONG_UPDATES: &[u8] = b"\
+update 1 1 1 vvvvvvvvvvvvvvvvvvvvvvvvvvvvvvvvvvvvvvvvvvvvvvvvvvvvvvvvvvvvvvvvvvvvvvvvvvvvvvvvv
+insert 1 1 1 a
+update 1 1 1 vvvvvvvvvvvvvvvvvvvvvvvvvvvvvvvvvvvvvvvvvvvvvvvvvvvvvvvvvvvvvvvvvvvvvvvvvvvvvvvvv
+update 1 1 1 vvvvvvvvvvvvvvvvvvvvvvvvvvvvvvvvvvvvvvvvvvvvvvvvvvvvvvvvvvvvvvvvvvvvvvvvvvvvvvvv
+open 1 long 1 0 9
+update 1 1 1 b
+open 1 short 1 0 9
+fetch 1 long 5
+fetch 1 short 5
+";
+
+const LONG_REPLIES: &[u8] = b"\
+1 value too long
+1 ok
+1 value too long
+1 ok
+1 ok
+1 ok
+1 ok
+1 row 1 vvvvvvvvvvvvvvvvvvvvvvvvvvvvvvvvvvvvvvvvvvvvvvvvvvvvvvvvvvvvvvvvvvvvvvvvvvvvvvvv
+1 end
+1 row 1 b
+1 end
+";
+
 // What a first run leaves for a second one.
 #[test]
 fn second_runs(rt: HostRuntime) -> Result<(), Fail> {
     let fetch = b"open 1 c 1 0 9\nfetch 1 c 5\n".as_slice();
-    let rows: [(&[u8], &[u8], &[u8]); 4] = [
+    let rows: [(&[u8], &[u8], &[u8]); 7] = [
         (b"", fetch, b"1 ok\n1 end\n"),
         (b"insert 1 1 1 a\n", fetch, b"1 ok\n1 end\n"),
         (
@@ -388,6 +609,21 @@ fn second_runs(rt: HostRuntime) -> Result<(), Fail> {
             b"insert 1 1 1 b\ninsert 1 1 2 b\ncommit 1\n",
             b"1 duplicate\n1 ok\n1 committed 2\n",
         ),
+        (
+            b"insert 1 1 1 a\ninsert 1 1 2 b\ncommit 1\nupdate 1 1 1 c\ndelete 1 1 2\ncommit 1\n",
+            fetch,
+            b"1 ok\n1 row 1 c\n1 end\n",
+        ),
+        (
+            b"insert 1 1 1 a\ninsert 1 1 2 b\ncommit 1\nupdate 1 1 1 c\ndelete 1 1 2\n",
+            fetch,
+            b"1 ok\n1 row 1 a\n1 row 2 b\n1 end\n",
+        ),
+        (
+            b"insert 1 1 1 a\ncommit 1\ndelete 1 1 1\ncommit 1\n",
+            b"update 1 1 1 b\ninsert 1 1 1 b\ncommit 1\n",
+            b"1 not found\n1 ok\n1 committed 3\n",
+        ),
     ];
     let file = formatted(rt.alloc(), FORMAT_SMALL)?;
     for (first, second, replies) in rows {
@@ -399,59 +635,98 @@ fn second_runs(rt: HostRuntime) -> Result<(), Fail> {
     Ok(())
 }
 
-// Inserts of the keys 0 to 21 with values of 80 bytes.
-fn long_inserts(alloc: Global) -> Result<Vec<u8>, NoMemory> {
-    let mut script = Vec::new(alloc);
-    for key in 0..22 {
-        let line = format!(in alloc; "insert 1 1 {key} {LONG_VALUE}\n").map_err(|_| NoMemory)?;
+// Commits of one group and its number each, and what they answer. With 31 of them 62 slots of a small file are used.
+fn one_row_commits(alloc: Global) -> Result<(String, String), NoMemory> {
+    let mut script = String::from_str(alloc, "insert 1 1 1 a\ncommit 1\n").map_err(|_| NoMemory)?;
+    let mut replies = String::from_str(alloc, "1 ok\n1 committed 1\n").map_err(|_| NoMemory)?;
+    for number in 2..=31 {
         script
-            .extend_from_slice(line.as_bytes())
+            .push_str("update 1 1 1 a\ncommit 1\n")
             .map_err(|_| NoMemory)?;
+        write!(replies, "1 ok\n1 committed {number}\n").map_err(|_| NoMemory)?;
     }
-    Ok(script)
+    Ok((script, replies))
 }
 
-const LONG_VALUE: &str =
-    "vvvvvvvvvvvvvvvvvvvvvvvvvvvvvvvvvvvvvvvvvvvvvvvvvvvvvvvvvvvvvvvvvvvvvvvvvvvvvvvv";
+// One slot has room still, and a write asks for two: its own and its commit's. What asks for none goes on.
+#[test]
+fn log_full_by_room(rt: HostRuntime) -> Result<(), Fail> {
+    let file = formatted(rt.alloc(), FORMAT_SMALL)?;
+    let (mut script, mut replies) = one_row_commits(rt.alloc())?;
+    script.push_str("update 1 1 1 a\n")?;
+    replies.push_str("1 log full\n")?;
+    script.push_str("delete 1 1 1\ninsert 1 1 2 a\nupdate 1 1 2 a\ncommit 1\n")?;
+    replies.push_str("1 log full\n1 log full\n1 not found\n1 ok\n")?;
+    let end = run_over(rt.alloc(), RUN, &file, script.as_bytes(), NONE)?;
+    assert_eq!(rt; end.status.code(), 0);
+    assert_eq!(rt; end.sink.bytes(), replies.as_bytes());
+    Ok(())
+}
 
 #[test]
-fn log_full_by_bytes(rt: HostRuntime) -> Result<(), Fail> {
-    let file = formatted(rt.alloc(), FORMAT_LARGE)?;
-    let script = long_inserts(rt.alloc())?;
+fn log_full_by_room_second_run(rt: HostRuntime) -> Result<(), Fail> {
+    let file = formatted(rt.alloc(), FORMAT_SMALL)?;
+    let (script, replies) = one_row_commits(rt.alloc())?;
+    let first = run_over(rt.alloc(), RUN, &file, script.as_bytes(), NONE)?;
+    assert_eq!(rt; first.status.code(), 0);
+    assert_eq!(rt; first.sink.bytes(), replies.as_bytes());
+    let again = b"update 1 1 1 a\n";
+    let second = run_over(rt.alloc(), RUN, first.disk.bytes(), again, NONE)?;
+    assert_eq!(rt; second.status.code(), 0);
+    assert_eq!(rt; second.sink.bytes(), b"1 log full\n".as_slice());
+    // The file is readable still.
+    let found = rows_of(rt.alloc(), second.disk.bytes())?;
+    assert_eq!(rt; found.as_slice(), b"1 ok\n1 row 1 a\n1 end\n".as_slice());
+    Ok(())
+}
+
+// A transaction may fill the log up to the slot of its commit, and is committed then.
+#[test]
+fn log_full_within_a_transaction(rt: HostRuntime) -> Result<(), Fail> {
+    let file = formatted(rt.alloc(), FORMAT_SMALL)?;
+    let mut script = b"insert 1 1 1 a\n".to_vec(rt.alloc())?;
+    let updates = repeated(rt.alloc(), b"update 1 1 1 b\n", 62)?;
+    script.extend_from_slice(&updates)?;
+    script.extend_from_slice(b"commit 1\nupdate 1 1 1 c\n")?;
+    let mut replies = repeated(rt.alloc(), b"1 ok\n", 62)?;
+    replies.extend_from_slice(b"1 log full\n1 committed 1\n1 log full\n")?;
     let end = run_over(rt.alloc(), RUN, &file, &script, NONE)?;
-    let mut replies = repeated(rt.alloc(), b"1 ok\n", 21)?;
-    replies.extend_from_slice(b"1 log full\n")?;
+    assert_eq!(rt; end.status.code(), 0);
+    assert_eq!(rt; end.sink.bytes(), replies.as_slice());
+    let found = rows_of(rt.alloc(), end.disk.bytes())?;
+    assert_eq!(rt; found.as_slice(), b"1 ok\n1 row 1 b\n1 end\n".as_slice());
+    Ok(())
+}
+
+// The cell of a deleted row is free once its delete is committed.
+#[test]
+fn block_full_until_commit(rt: HostRuntime) -> Result<(), Fail> {
+    let file = formatted(rt.alloc(), FORMAT_LARGE)?;
+    let mut script = String::new(rt.alloc());
+    for key in 0..16 {
+        write!(script, "insert 1 1 {key} a\n")?;
+    }
+    script.push_str("commit 1\ndelete 1 1 0\ninsert 1 1 16 a\ncommit 1\ninsert 1 1 16 a\n")?;
+    let mut replies = repeated(rt.alloc(), b"1 ok\n", 16)?;
+    replies.extend_from_slice(b"1 committed 1\n1 ok\n1 block full\n1 committed 2\n1 ok\n")?;
+    let end = run_over(rt.alloc(), RUN, &file, script.as_bytes(), NONE)?;
     assert_eq!(rt; end.status.code(), 0);
     assert_eq!(rt; end.sink.bytes(), replies.as_slice());
     Ok(())
 }
 
-// Commits of one new key each, and what they answer: the keys 1 to 63.
-fn short_commits(alloc: Global) -> Result<(String, String), NoMemory> {
-    let mut script = String::new(alloc);
-    let mut replies = String::new(alloc);
-    for key in 1..64 {
-        write!(script, "insert 1 1 {key} a\ncommit 1\n").map_err(|_| NoMemory)?;
-        write!(replies, "1 ok\n1 committed {key}\n").map_err(|_| NoMemory)?;
-    }
-    Ok((script, replies))
+// A file of that version.
+fn of_version(alloc: Global, file: &[u8], version: u8) -> Result<Vec<u8>, NoMemory> {
+    with_byte(alloc, file, 11, version)
 }
 
-#[test]
-fn log_full_by_slots(rt: HostRuntime) -> Result<(), Fail> {
-    let file = formatted(rt.alloc(), FORMAT_SMALL)?;
-    let (mut script, mut replies) = short_commits(rt.alloc())?;
-    script.push_str("insert 1 1 64 a\ncommit 1\n")?;
-    replies.push_str("1 ok\n1 log full\n")?;
-    let end = run_over(rt.alloc(), RUN, &file, script.as_bytes(), NONE)?;
-    assert_eq!(rt; end.status.code(), 0);
-    assert_eq!(rt; end.sink.bytes(), replies.as_bytes());
-    let again = b"open 1 c 1 62 99\nfetch 1 c 5\ninsert 1 1 64 a\ncommit 1\n";
-    let found = b"1 ok\n1 row 62 a\n1 row 63 a\n1 end\n1 ok\n1 log full\n";
-    let end = run_over(rt.alloc(), RUN, end.disk.bytes(), again, NONE)?;
-    assert_eq!(rt; end.status.code(), 0);
-    assert_eq!(rt; end.sink.bytes(), found.as_slice());
-    Ok(())
+// A file with another byte at a place.
+fn with_byte(alloc: Global, file: &[u8], at: usize, byte: u8) -> Result<Vec<u8>, NoMemory> {
+    let mut bytes = file.to_vec(alloc).map_err(|_| NoMemory)?;
+    if let Some(place) = bytes.get_mut(at) {
+        *place = byte;
+    }
+    Ok(bytes)
 }
 
 // Each line leaves the file as it is and answers nothing.
@@ -461,11 +736,15 @@ fn bad_files_and_words(rt: HostRuntime) -> Result<(), Fail> {
     let Some((_last, cut)) = file.split_last() else {
         return Err(Fail::new("no file"));
     };
+    let records = of_version(rt.alloc(), &file, 101)?;
+    let open_gate = with_byte(rt.alloc(), &file, 8_192, 1)?;
     let format_none = "f format tables=0 blocks=1 segments=1 log=64";
-    let rows: [(&str, &[u8], u8); 9] = [
+    let rows: [(&str, &[u8], u8); 11] = [
         (RUN, b"", 5),
         (RUN, b"x", 5),
         (RUN, cut, 5),
+        (RUN, &records, 5),
+        (RUN, &open_gate, 5),
         (FORMAT_LARGE, &file, 7),
         ("run", &file, 1),
         ("f run frames=15", &file, 1),
@@ -482,7 +761,8 @@ fn bad_files_and_words(rt: HostRuntime) -> Result<(), Fail> {
     Ok(())
 }
 
-// One commit over a small file.
+// One commit over a small file. Its last five calls are the run of groups, the gate behind it, a sync, the run's first
+// gate and a sync.
 fn committed(alloc: Global, file: &[u8], failing: Failing<'_>) -> Result<Ended, NoMemory> {
     run_over(
         alloc,
@@ -499,30 +779,18 @@ fn rows_of(alloc: Global, file: &[u8]) -> Result<Vec<u8>, NoMemory> {
     end.sink.bytes().to_vec(alloc).map_err(|_| NoMemory)
 }
 
-// The last five calls of a run of one commit are the record, the gate behind it, a sync, its gate and a sync.
-// Each call that may answer want of memory answers Ok where there is enough.
-#[test]
-fn constructors(rt: HostRuntime) -> Result<(), Fail> {
-    let file = formatted(rt.alloc(), FORMAT_SMALL)?;
-    let room = file.len() as u64;
-    let mut disk = MemDisk::new(rt.alloc(), &file, room, 100, &[])?;
-    let same = image(rt.alloc(), &disk, 0, Pick::New)?;
-    assert_eq!(rt; same.as_slice(), file.as_slice());
-    let source = MemSource::new(rt.alloc(), b"commit 1\n", &[]);
-    assert!(rt; source.is_ok());
-    let sink = MemSink::new(rt.alloc(), 100, &[])?;
-    assert!(rt; sink.bytes().is_empty());
-    let Some(layout) = Layout::new(1, 1, 1, 64) else {
-        return Err(Fail::new("no layout"));
+// The engine over the store of a disk.
+fn opened(alloc: Global, disk: MemDisk) -> Result<Engine<LapStore<MemDisk>>, Fail> {
+    let Ok(store) = LapStore::open(alloc, disk) else {
+        return Err(Fail::new("no store"));
     };
-    let head = Head { slot: 0, number: 1 };
-    let log = Log::open(rt.alloc(), &mut disk, &layout, head);
-    assert!(rt; log.is_ok());
-    assert!(rt; FirstEngine::open(rt.alloc(), disk).is_ok());
-    Ok(())
+    let Ok(engine) = Engine::open(alloc, store) else {
+        return Err(Fail::new("no engine"));
+    };
+    Ok(engine)
 }
 
-// The first sync of the commit fails, and no row is found.
+// The first sync of the commit fails, and no row is found. The engine does nothing more.
 #[test]
 fn failed_sync(rt: HostRuntime) -> Result<(), Fail> {
     let file = formatted(rt.alloc(), FORMAT_SMALL)?;
@@ -534,20 +802,21 @@ fn failed_sync(rt: HostRuntime) -> Result<(), Fail> {
     };
     let end = committed(rt.alloc(), &file, failing)?;
     assert_eq!(rt; end.status.code(), 3);
+    assert_eq!(rt; end.sink.bytes(), b"1 ok\n1 disk fault\n".as_slice());
     let found = rows_of(rt.alloc(), end.disk.bytes())?;
     assert_eq!(rt; found.as_slice(), b"1 ok\n1 end\n".as_slice());
     let room = file.len() as u64 + 10_000;
     let disk = MemDisk::new(rt.alloc(), &file, room, 1_000, &sync)?;
-    let Ok(mut engine) = FirstEngine::open(rt.alloc(), disk) else {
-        return Err(Fail::new("not opened"));
-    };
-    assert_eq!(rt; engine.insert(1, 1, 1, b"a"), Ok(Wrote::Done));
+    let mut engine = opened(rt.alloc(), disk)?;
+    let insert = Op::Insert(b"a");
+    assert_eq!(rt; engine.write(1, 1, 1, insert), Ok(Wrote::Done));
     assert_eq!(rt; engine.commit(1), Err(Refusal::DiskFault));
     assert_eq!(rt; engine.commit(1), Err(Refusal::Stopped));
+    assert_eq!(rt; engine.write(1, 1, 1, Op::Delete), Err(Refusal::Stopped));
     Ok(())
 }
 
-// A stop between the write of the record's gate and its sync.
+// A stop between the write of a run's first gate and its sync.
 #[test]
 fn gate_images(rt: HostRuntime) -> Result<(), Fail> {
     let file = formatted(rt.alloc(), FORMAT_SMALL)?;

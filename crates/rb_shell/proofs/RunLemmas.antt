@@ -1,63 +1,201 @@
--- From the machine that an opening made to the run over the file that it opened.
-use Rattle.std.proofs.Common.{◌≡◌, ◌∙◌, ◌⊎◌, inl, inr, ap, subst, refl, arith, ℕ, Bool, ◌+◌, ◌<◌, List, ◌++◌, length}
-use Rattle.rb_base.specs.Moments.{joined, weaker}
+-- From the engine that an opening made to the run over the file that it opened.
+use Rattle.std.proofs.Common.{◌≡◌, ◌∙◌, ◌⊎◌, inl, inr, ⊎_elim, ap, sym, subst, refl, arith, ℕ, Bool, ◌+◌, ◌<◌, ◌≤◌, List, [], ◌++◌, length, Some}
+use Rattle.std.specs.List.{flat_map}
+use Rattle.std.proofs.lemmas.List.{length-append, take_all}
+use Rattle.rb_base.specs.Blocks.{after_groups, fresh_blocks}
+use Rattle.rb_base.specs.Groups.{Patch}
+use Rattle.rb_base.specs.Moments.{LeavesOnly, joined, weaker}
+use Rattle.rb_base.specs.declared.faults.OpenFault.{OpenFault}
+use Rattle.rb_base.specs.declared.faults.OpenFault.TheVariants.{Failed}
+use Rattle.rb_base.specs.declared.faults.OpenFault.TheVariants as faults
+use Rattle.rb_base.specs.declared.ids.Shape.{Shape}
 use Rattle.rb_disk.specs.Moments.{Rests, rests_leave}
-use Rattle.rb_first.specs.Crash.{OnTheWay, Stands, Survives}
-use Rattle.std.proofs.lemmas.List.{length-append}
+use Rattle.rb_engine.specs.Crash.{AtEnd, Extends, OnTheWay, reached, Restarts}
+use Rattle.rb_engine.specs.Engine.{EngineView}
+use Rattle.rb_engine.specs.Holds.{CanOpen, Holds, OpensAs}
+use Rattle.rb_engine.proofs.CrashLemmas.{extends_later, rows_stay}
+use Rattle.rb_layout.specs.OneLayout.{SameNumbers}
 use Rattle.rb_layout.specs.Regions.{shape_of}
-use Rattle.rb_first.specs.Store.{IsStore}
 use Rattle.rb_layout.specs.declared.layout.Layout.{Layout}
-use Rattle.rb_model.specs.Change.{Change}
+use Rattle.rb_model.specs.Out.{Logged}
+use Rattle.rb_model.specs.Rows.{TableRow, last_number, over, rows_at}
 use Rattle.rb_model.specs.State.{State, opened}
-use Rattle.rb_shell.specs.Runs.{IsSound, HasDone, HasRun, WasCut, WasCutOff, Endures, EndsRun, IsDoneOrNoMemory}
+use Rattle.rb_shell.specs.Runs.{IsSound, HasDone, HasOpened, HasRun, WasCut, WasCutOff, Endures, LeftAlone, OpensSame, EndsRun, IsDoneOrNoMemory, file_opens}
 use Rattle.rb_shell.specs.Statuses.{EndsFormat}
 use Rattle.rb_shell.specs.declared.status.Status.{Status}
 use Rattle.rb_shell.specs.declared.status.Status.TheVariants.{Done, Usage, SourceFault, DiskFault, SinkFault, NotAStore, NoMemory, NotEmpty, TooLong}
+use Rattle.rb_store.specs.OneOpening.{one_opening, one_number, opens_moves}
+use Rattle.rb_store.specs.Laps.{LapState, IsLap, IsStable, Opens, OpensTo, OpensAt}
 
--- what an opening says of a file that tells
-pub record Found (l : Layout) (state : State) (file : List ℕ) : Type 0 where
-  pub records : List (List Change)
-  pub store : IsStore l records file
-  pub opening : state ≡ opened (shape_of l) records
+-- an image that opens to the blocks of a state has its rows
 
-abbrev pub sound_of : (l : Layout) (state : State) (file : List ℕ) → Found l state file → IsSound file
-sound_of l state file found = record { layout = l; records = found.records; store = found.store }
+rows_opened : (blocks number : ℕ) (rows : List TableRow) → rows_at blocks (record { base = number; rows = rows; list = [] }) number ≡ rows
+rows_opened blocks number rows = ap (λ xs. over blocks rows (flat_map (λ changes. changes) xs)) (take_all _ [] (omega arith))
 
-pub has_run : (l : Layout) (state : State) (file : List ℕ) (lines : List (List ℕ)) (tells : Type 0) (before now : List ℕ) (stopped : Bool) (keeps : Layout → State → State → Type 0) → Found l state file → HasDone l.log state lines tells before now stopped (keeps l state)
-    → HasRun file lines tells before now stopped keeps
-has_run l state file lines tells before now stopped keeps found did =
-    record { sound = sound_of l state file found; did = subst (λ (h : State). HasDone l.log h lines tells before now stopped (keeps l h)) found.opening did }
+opening_holds : (shape : Shape) (blocks : List (List ℕ)) (number : ℕ) (rows : List TableRow) → Holds shape blocks number rows
+    → Holds shape blocks (last_number (opened shape number rows).commits) (rows_at shape.blocks (opened shape number rows).commits (last_number (opened shape number rows).commits))
+opening_holds shape blocks number rows holds =
+    subst (λ (n : ℕ). Holds shape blocks n (rows_at shape.blocks (opened shape number rows).commits n)) (omega arith)
+    (subst (λ (rs : List TableRow). Holds shape blocks number rs) (sym (rows_opened shape.blocks number rows)) holds)
 
-pub was_cut_off : (l : Layout) (state : State) (file : List ℕ) (lines : List (List ℕ)) (before now : List ℕ) (keeps : Layout → State → State → Type 0) → Found l state file → WasCut l.log state lines before now (keeps l state)
-    → WasCutOff file lines before now keeps
-was_cut_off l state file lines before now keeps found cut =
-    record { sound = sound_of l state file found; cut = subst (λ (h : State). WasCut l.log h lines before now (keeps l h)) found.opening cut }
+pub opened_restarts : (l : Layout) (blocks : List (List ℕ)) (h : State) (c : List ℕ) → OpensAs (shape_of l) blocks h → OpensTo l c blocks → Restarts (file_opens l) h c
+opened_restarts l blocks h c opening to = subst (λ (x : State). Restarts (file_opens l) x c) (sym opening.state) (record {
+  blocks = blocks;
+  opening = record { layout = l; shape_is = refl; slots_are = refl; opens = to };
+  holds = opening_holds (shape_of l) blocks opening.number opening.rows opening.holds;
+})
 
-module _ {D : Type 0} (content : D → List ℕ) (image : D → List ℕ → Type 0) (moment : D → ℕ) (since : D → ℕ → List ℕ → Type 0) (l : Layout) (h : State) (old mid new : D) (only_now : (c : List ℕ) → since old (moment old) c → image old c) (still : Rests content image moment since old mid) (stands : Stands l h (image mid)) where
+-- it has them at a later state too
+restarts_on_the_way : (l : Layout) (h h2 : State) (c : List ℕ) → Extends h h2 → Restarts (file_opens l) h c → OnTheWay (file_opens l) h h2 c
+restarts_on_the_way l h h2 c e r = reached (last_number h.commits) (omega arith) (extends_later h h2 e) (record {
+  blocks = r.blocks;
+  opening = subst (λ (shape : Shape). file_opens l shape c r.blocks) (sym e.shape) r.opening;
+  holds = subst (λ (shape : Shape). Holds shape r.blocks (last_number h.commits) (rows_at shape.blocks h2.commits (last_number h.commits))) (sym e.shape)
+      (subst (λ (rows : List TableRow). Holds h.shape r.blocks (last_number h.commits) rows) (sym (rows_stay h.shape.blocks h h2 (last_number h.commits) e (omega arith))) r.holds);
+})
+
+-- two layouts of the same shape and slots have the same numbers
+numbers_of : (l m : Layout) → shape_of l ≡ shape_of m → l.log ≡ m.log → SameNumbers l m
+numbers_of l m shape log = record { tables = ap (λ (s : Shape). s.tables) shape; blocks = ap (λ (s : Shape). s.blocks) shape; segments = ap (λ (s : Shape). s.segments) shape; log = log }
+
+-- to which blocks images of that many slots open
+abbrev pub images_open : ℕ → Shape → List ℕ → List (List ℕ) → Type 0
+images_open slots shape image blocks = Opens shape (Some slots) image blocks
+
+-- what was given for the loads of a store over a disk
+pub record Loaded {D : Type 0} (content : D → List ℕ) (image : D → List ℕ → Type 0) (moment : D → ℕ) (since : D → ℕ → List ℕ → Type 0) (old new : LapState D) : Type 0 where
+  pub shape : shape_of new.layout ≡ shape_of old.layout
+  pub log : new.layout.log ≡ old.layout.log
+  pub stable : (b : List (List ℕ)) → IsStable content image old b → IsStable content image new b
+  pub later : moment old.disk ≤ moment new.disk
+  pub nothing_else : (t : ℕ) (c : List ℕ) → t ≤ moment old.disk → since new.disk t c → since old.disk t c ⊎ image old.disk c
+
+-- and for the opening before them
+pub record Found {D : Type 0} (content : D → List ℕ) (image : D → List ℕ → Type 0) (moment : D → ℕ) (since : D → ℕ → List ℕ → Type 0) (old : D) (s : LapState D) : Type 0 where
+  pub opens : OpensAt s.layout (content old) s.blocks s.number
+  pub stable : IsStable content image s s.blocks
+  pub any_moment : OpensSame content image moment since old s.disk
+  pub only_now : (c : List ℕ) → since s.disk (moment s.disk) c → image s.disk c
+
+module _ {D : Type 0} (content : D → List ℕ) (image : D → List ℕ → Type 0) (moment : D → ℕ) (since : D → ℕ → List ℕ → Type 0) (old : D) where
+  stable_opens : (s : LapState D) (b : List (List ℕ)) (c : List ℕ) (st : IsStable content image s b) → IsLap s.layout st.groups c → OpensTo s.layout c b
+  stable_opens s b c st lap = record { groups = st.groups; lap = lap; made = st.made ∙ ap (λ (gs : List (List Patch)). after_groups 1 gs (fresh_blocks (shape_of s.layout))) (sym st.whole) }
+
+  -- loads behind an opening leave what it left
+  pub loads_leave : (s new : LapState D) → Found content image moment since old s → Loaded content image moment since s new → OpensSame content image moment since old new.disk
+  loads_leave s new found loads = λ l blocks opens.
+      let agree = one_opening s.layout l (content old) s.blocks blocks found.opens.opens opens in
+      let here : (c : List ℕ) → image s.disk c → image old c ⊎ OpensTo l c blocks =
+      λ c is. inr (subst (λ (b : List (List ℕ)). OpensTo l c b) agree.blocks (opens_moves s.layout l c s.blocks agree.numbers (stable_opens s s.blocks c found.stable (found.stable.images c is)))) in
+      joined moment since old s.disk new.disk (λ c. image old c ⊎ OpensTo l c blocks) (found.any_moment l blocks opens) (record {
+        later = loads.later;
+        each = λ c left. ⊎_elim (λ was. here c (found.only_now c was)) (here c) (loads.nothing_else (moment s.disk) c (omega arith) left);
+        earlier = λ t c le left. ⊎_elim (λ was. inl was) (λ now. inr (here c now)) (loads.nothing_else t c le left);
+      })
+
+  -- and the file as it was
+  file_stays : (s new : LapState D) → Found content image moment since old s → Loaded content image moment since s new
+      → (l : Layout) (blocks : List (List ℕ)) → OpensTo l (content old) blocks → OpensTo l (content new.disk) blocks
+  file_stays s new found loads l blocks opens =
+      let agree = one_opening s.layout l (content old) s.blocks blocks found.opens.opens opens in
+      let st = loads.stable s.blocks found.stable in
+      let here = opens_moves new.layout s.layout (content new.disk) s.blocks (numbers_of new.layout s.layout loads.shape loads.log) (stable_opens new s.blocks (content new.disk) st st.file) in
+      subst (λ (b : List (List ℕ)). OpensTo l (content new.disk) b) agree.blocks (opens_moves s.layout l (content new.disk) s.blocks agree.numbers here)
+
+  pub loads_alone : (s new : LapState D) → Found content image moment since old s → Loaded content image moment since s new → LeftAlone content image moment since old new.disk
+  loads_alone s new found loads = record {
+    file = file_stays s new found loads;
+    images = loads_leave s new found loads;
+    none = λ nothing. absurd (nothing s.layout s.blocks found.opens.opens);
+  }
+
+  -- calls that change nothing leave it alone
+  pub rests_alone : (new : D) → ((c : List ℕ) → since old (moment old) c → image old c) → Rests content image moment since old new → LeftAlone content image moment since old new
+  rests_alone new only_now still = record {
+    file = λ l blocks opens. subst (λ (c : List ℕ). OpensTo l c blocks) (sym still.same) opens;
+    images = λ l blocks opens. rests_leave content image moment since old new (λ c. image old c ⊎ OpensTo l c blocks) only_now (λ c here. inl here) still;
+    none = λ nothing. still;
+  }
+
+  pub no_call : Rests content image moment since old old
+  no_call = record { same = refl; no_more = λ c now. now; later = omega arith; nothing_else = λ t c le left. inl left }
+
+  -- an engine over it
+  pub has_opened : (s : LapState D) (e : EngineView (LapState D)) → Found content image moment since old s → Loaded content image moment since s e.store → OpensAs (shape_of s.layout) s.blocks e.state
+      → CanOpen (shape_of s.layout) s.blocks s.number → e.store.number ≡ s.number → HasOpened content image moment since old e
+  has_opened s e found loads opening sound number = record {
+    sound = record { layout = s.layout; blocks = s.blocks; number = s.number; opens = found.opens; can_open = sound };
+    opening = opening;
+    slots = loads.log;
+    number = number;
+    any_moment = weaker moment since old e.store.disk (λ c. image old c ⊎ OpensTo s.layout c s.blocks) (λ c. image old c ⊎ Restarts (file_opens s.layout) e.state c)
+        (λ c p. ⊎_elim (λ was. inl was) (λ to. inr (opened_restarts s.layout s.blocks e.state c opening to)) p)
+        (loads_leave s e.store found loads s.layout s.blocks found.opens.opens);
+  }
+
+  -- where it was refused, the file isn't sound
+  pub not_sound : (s : LapState D) → Found content image moment since old s → (CanOpen (shape_of s.layout) s.blocks s.number → ⊥) → IsSound (content old) → ⊥
+  not_sound s found refused sound =
+      let agree = one_opening sound.layout s.layout (content old) sound.blocks s.blocks sound.opens.opens found.opens.opens in
+      let numbers = one_number sound.layout s.layout (content old) sound.blocks s.blocks sound.number s.number sound.opens found.opens in
+      refused (subst (λ (n : ℕ). CanOpen (shape_of s.layout) s.blocks n) numbers
+      (subst (λ (b : List (List ℕ)). CanOpen (shape_of s.layout) b sound.number) agree.blocks
+      (subst (λ (shape : Shape). CanOpen shape sound.blocks sound.number) agree.shape sound.can_open)))
+
   -- an opening, and the lines behind it
-  pub endures : (h2 : State) → (Stands l h (image mid) → Survives image moment since l h h2 mid new) → Endures image moment since old new l h h2
-  endures h2 over =
-      let all = over stands in record {
-        any_moment = joined moment since old mid new (λ c. image old c ⊎ OnTheWay l h h2 c)
-            (weaker moment since old mid (image old) (λ c. image old c ⊎ OnTheWay l h h2 c) (λ c here. inl here) (rests_leave content image moment since old mid (image old) only_now (λ c here. here) still))
-            (weaker moment since mid new (OnTheWay l h h2) (λ c. image old c ⊎ OnTheWay l h h2 c) (λ c way. inr way) all.any_moment);
-        now_only = all.now_only;
+  pub endures : (e : EngineView (LapState D)) (h2 : State) (new : D) (o : HasOpened content image moment since old e) → Extends e.state h2
+      → LeavesOnly moment since e.store.disk new (λ c. OnTheWay (images_open e.store.layout.log) e.state h2 c) → ((c : List ℕ) → image new c → AtEnd (images_open e.store.layout.log) h2 c)
+      → Endures image moment since old new o.sound.layout e.state h2
+  endures e h2 new o extends any end =
+      let l = o.sound.layout in
+      record {
+        any_moment = joined moment since old e.store.disk new (λ c. image old c ⊎ OnTheWay (file_opens l) e.state h2 c)
+            (weaker moment since old e.store.disk (λ c. image old c ⊎ Restarts (file_opens l) e.state c) (λ c. image old c ⊎ OnTheWay (file_opens l) e.state h2 c)
+            (λ c p. ⊎_elim (λ was. inl was) (λ r. inr (restarts_on_the_way l e.state h2 c extends r)) p) o.any_moment)
+            (weaker moment since e.store.disk new (λ c. OnTheWay (images_open e.store.layout.log) e.state h2 c) (λ c. image old c ⊎ OnTheWay (file_opens l) e.state h2 c)
+            (λ c way. inr (subst (λ (k : ℕ). OnTheWay (images_open k) e.state h2 c) o.slots way)) any);
+        now_only = λ c here. subst (λ (k : ℕ). AtEnd (images_open k) h2 c) o.slots (end c here);
       }
 
-  pub done_endures : (slots : ℕ) (lines : List (List ℕ)) (tells : Type 0) (before now : List ℕ) (stopped : Bool) → HasDone slots h lines tells before now stopped (λ h2. Stands l h (image mid) → Survives image moment since l h h2 mid new)
-      → HasDone slots h lines tells before now stopped (λ h2. Endures image moment since old new l h h2)
-  done_endures slots lines tells before now stopped did = record { state = did.state; ran = did.ran; end = did.end; kept = endures did.state did.kept }
+  -- what was done over the engine was done over the file
+  pub has_run : (e : EngineView (LapState D)) (lines : List (List ℕ)) (tells : Type 0) (before now : List ℕ) (stopped : Bool) (keeps : Layout → State → State → Type 0) (o : HasOpened content image moment since old e)
+      → HasDone e.store.layout.log (record { state = e.state; number = e.store.number }) lines tells before now stopped (keeps o.sound.layout e.state) → HasRun (content old) lines tells before now stopped keeps
+  has_run e lines tells before now stopped keeps o did = record {
+    sound = o.sound;
+    state = e.state;
+    opening = o.opening;
+    did = subst (λ (n : ℕ). HasDone o.sound.layout.log (record { state = e.state; number = n }) lines tells before now stopped (keeps o.sound.layout e.state)) o.number
+        (subst (λ (k : ℕ). HasDone k (record { state = e.state; number = e.store.number }) lines tells before now stopped (keeps o.sound.layout e.state)) o.slots did);
+  }
 
-  pub cut_endures : (slots : ℕ) (lines : List (List ℕ)) (before now : List ℕ) → WasCut slots h lines before now (λ h2. Stands l h (image mid) → Survives image moment since l h h2 mid new)
-      → WasCut slots h lines before now (λ h2. Endures image moment since old new l h h2)
-  cut_endures slots lines before now was = record { state = was.state; cut = was.cut; kept = endures was.state was.kept }
+  pub was_cut_off : (e : EngineView (LapState D)) (lines : List (List ℕ)) (before now : List ℕ) (keeps : Layout → State → State → Type 0) (o : HasOpened content image moment since old e)
+      → WasCut e.store.layout.log (record { state = e.state; number = e.store.number }) lines before now (keeps o.sound.layout e.state) → WasCutOff (content old) lines before now keeps
+  was_cut_off e lines before now keeps o was = record {
+    sound = o.sound;
+    state = e.state;
+    opening = o.opening;
+    cut = subst (λ (n : ℕ). WasCut o.sound.layout.log (record { state = e.state; number = n }) lines before now (keeps o.sound.layout e.state)) o.number
+        (subst (λ (k : ℕ). WasCut k (record { state = e.state; number = e.store.number }) lines before now (keeps o.sound.layout e.state)) o.slots was);
+  }
 
--- what is told
-pub told_done : (told : Type 0) (slots : ℕ) (h : State) (lines : List (List ℕ)) (tells : Type 0) (before now : List ℕ) (stopped : Bool) (keeps : State → Type 0) → told → HasDone slots h lines tells before now stopped (λ h2. told → keeps h2) → HasDone slots h lines tells before now stopped keeps
-told_done told slots h lines tells before now stopped keeps t did = record { state = did.state; ran = did.ran; end = did.end; kept = did.kept t }
+-- what is kept of the state is told otherwise
+pub done_keeps : (slots : ℕ) (h : Logged) (lines : List (List ℕ)) (tells : Type 0) (before now : List ℕ) (stopped : Bool) (keeps other : State → Type 0) → ((h2 : State) → keeps h2 → other h2)
+    → HasDone slots h lines tells before now stopped keeps → HasDone slots h lines tells before now stopped other
+done_keeps slots h lines tells before now stopped keeps other so did = record { now = did.now; ran = did.ran; end = did.end; kept = so did.now.state did.kept }
 
-pub told_cut : (told : Type 0) (slots : ℕ) (h : State) (lines : List (List ℕ)) (before now : List ℕ) (keeps : State → Type 0) → told → WasCut slots h lines before now (λ h2. told → keeps h2) → WasCut slots h lines before now keeps
-told_cut told slots h lines before now keeps t was = record { state = was.state; cut = was.cut; kept = was.kept t }
+pub cut_keeps : (slots : ℕ) (h : Logged) (lines : List (List ℕ)) (before now : List ℕ) (keeps other : State → Type 0) → ((h2 : State) → keeps h2 → other h2)
+    → WasCut slots h lines before now keeps → WasCut slots h lines before now other
+cut_keeps slots h lines before now keeps other so was = record { now = was.now; cut = was.cut; kept = so was.now.state was.kept }
+
+-- a file that opens to nothing isn't sound
+pub no_opening : (file : List ℕ) → ((l : Layout) (blocks : List (List ℕ)) → OpensTo l file blocks → ⊥) → IsSound file → ⊥
+no_opening file none sound = none sound.layout sound.blocks sound.opens.opens
+
+-- a fault that is none of the disk
+pub neither_failed : {P : Type 0} (fault : OpenFault) → (fault ≡ Failed → ⊥) → (fault ≡ faults.NotAStore → P) → (fault ≡ faults.NoMemory → P) → P
+neither_failed Failed other store memory = absurd (other refl)
+neither_failed faults.NotAStore other store memory = store refl
+neither_failed faults.NoMemory other store memory = memory refl
 
 -- what is left where nothing failed
 pub complete_format : (status : Status) → EndsFormat status → (status ≡ DiskFault → ⊥) → (status ≡ NotEmpty → ⊥) → status ≡ Done

@@ -1,52 +1,88 @@
 -- What a run of a script over a file does.
-use Rattle.std.specs.Prelude.{◌≡◌, ◌⊎◌, ℕ, Bool, List, ◌++◌}
+use Rattle.std.specs.Prelude.{◌≡◌, ◌⊎◌, ℕ, Bool, List, ◌++◌, Some}
 use Rattle.rb_base.specs.Moments.{LeavesOnly}
-use Rattle.rb_first.specs.Crash.{AtEnd, OnTheWay}
+use Rattle.rb_base.specs.declared.ids.Shape.{Shape}
+use Rattle.rb_disk.specs.Moments.{Rests}
+use Rattle.rb_engine.specs.Crash.{AtEnd, OnTheWay, Restarts}
+use Rattle.rb_engine.specs.Engine.{EngineView}
+use Rattle.rb_engine.specs.Holds.{CanOpen, OpensAs}
 use Rattle.rb_layout.specs.Regions.{shape_of}
-use Rattle.rb_first.specs.Store.{IsStore}
 use Rattle.rb_layout.specs.declared.layout.Layout.{Layout}
 use Rattle.rb_lines.specs.Ran.{Ran, CutOff}
-use Rattle.rb_model.specs.Change.{Change}
-use Rattle.rb_model.specs.State.{State, opened}
+use Rattle.rb_model.specs.Out.{Logged}
+use Rattle.rb_model.specs.State.{State}
 use Rattle.rb_shell.specs.declared.status.Status.{Status}
 use Rattle.rb_shell.specs.declared.status.Status.TheVariants.{Done, Usage, SourceFault, DiskFault, SinkFault, NotAStore, NoMemory, NotEmpty, TooLong}
+use Rattle.rb_store.specs.Laps.{LapState, Opens, OpensTo, OpensAt}
 
--- the file is a store of some layout and records
+-- The file is a store of some layout: its log gives these blocks and that last log number, and they are in order.
 pub record IsSound (file : List ℕ) : Type 0 where
   pub layout : Layout
-  pub records : List (List Change)
-  pub store : IsStore layout records file
+  pub blocks : List (List ℕ)
+  pub number : ℕ
+  pub opens : OpensAt layout file blocks number
+  pub can_open : CanOpen (shape_of layout) blocks number
 
--- From a state it did these lines, and came to some state, of which `keeps` holds. It is stopped where the last reply
--- is `disk fault`.
-pub record HasDone (slots : ℕ) (before : State) (lines : List (List ℕ)) (tells : Type 0) (held_before held_now : List ℕ) (stopped : Bool) (keeps : State → Type 0) : Type 0 where
-  pub state : State
-  pub ran : Ran slots before state lines tells held_before held_now
-  pub end : state.stopped ≡ stopped
-  pub kept : keeps state
+-- to which blocks images of a file of that layout open
+abbrev pub file_opens : Layout → Shape → List ℕ → List (List ℕ) → Type 0
+file_opens l shape image blocks = Opens shape (Some l.log) image blocks
+
+-- From a state and log number it did these lines, and came to others. Of the state `keeps` holds. It is stopped where
+-- the last reply is `disk fault`.
+pub record HasDone (slots : ℕ) (before : Logged) (lines : List (List ℕ)) (tells : Type 0) (held_before held_now : List ℕ) (stopped : Bool) (keeps : State → Type 0) : Type 0 where
+  pub now : Logged
+  pub ran : Ran slots before now lines tells held_before held_now
+  pub end : now.state.stopped ≡ stopped
+  pub kept : keeps now.state
 
 -- It was cut off in one of these lines, in some state, of which `keeps` holds.
-pub record WasCut (slots : ℕ) (before : State) (lines : List (List ℕ)) (held_before held_now : List ℕ) (keeps : State → Type 0) : Type 0 where
-  pub state : State
-  pub cut : CutOff slots before state lines held_before held_now
-  pub kept : keeps state
+pub record WasCut (slots : ℕ) (before : Logged) (lines : List (List ℕ)) (held_before held_now : List ℕ) (keeps : State → Type 0) : Type 0 where
+  pub now : Logged
+  pub cut : CutOff slots before now lines held_before held_now
+  pub kept : keeps now.state
 
--- The machine opened with the file's records did these lines: the sink holds the replies then, where it tells. Of
+-- The machine that opened with the file's rows did these lines: the sink holds the replies then, where it tells. Of
 -- the states before and after them `keeps` holds.
 pub record HasRun (file : List ℕ) (lines : List (List ℕ)) (tells : Type 0) (before now : List ℕ) (stopped : Bool) (keeps : Layout → State → State → Type 0) : Type 0 where
   pub sound : IsSound file
-  pub did : HasDone sound.layout.log (opened (shape_of sound.layout) sound.records) lines tells before now stopped (keeps sound.layout (opened (shape_of sound.layout) sound.records))
+  pub state : State
+  pub opening : OpensAs (shape_of sound.layout) sound.blocks state
+  pub did : HasDone sound.layout.log (record { state = state; number = sound.number }) lines tells before now stopped (keeps sound.layout state)
 
 -- It was cut off in one of these lines: the sink holds a front of replies that the lines may have.
 pub record WasCutOff (file : List ℕ) (lines : List (List ℕ)) (before now : List ℕ) (keeps : Layout → State → State → Type 0) : Type 0 where
   pub sound : IsSound file
-  pub cut : WasCut sound.layout.log (opened (shape_of sound.layout) sound.records) lines before now (keeps sound.layout (opened (shape_of sound.layout) sound.records))
+  pub state : State
+  pub opening : OpensAs (shape_of sound.layout) sound.blocks state
+  pub cut : WasCut sound.layout.log (record { state = state; number = sound.number }) lines before now (keeps sound.layout state)
 
 -- What a crash may leave over a run, which opens the file first: at any moment since its start an image that the disk
 -- had at the start, or a file on the way from the state opened; and at its end all commits of the state.
 pub record Endures {D : Type 0} (image : D → List ℕ → Type 0) (moment : D → ℕ) (since : D → ℕ → List ℕ → Type 0) (old new : D) (l : Layout) (before now : State) : Type 0 where
-  pub any_moment : LeavesOnly moment since old new (λ c. image old c ⊎ OnTheWay l before now c)
-  pub now_only : (c : List ℕ) → image new c → AtEnd l now c
+  pub any_moment : LeavesOnly moment since old new (λ c. image old c ⊎ OnTheWay (file_opens l) before now c)
+  pub now_only : (c : List ℕ) → image new c → AtEnd (file_opens l) now c
+
+-- An engine was opened over the file of a disk, whose log it goes on with. At any moment since the start a crash leaves
+-- an image that the disk had at the start, or one that opens to the engine's rows.
+pub record HasOpened {D : Type 0} (content : D → List ℕ) (image : D → List ℕ → Type 0) (moment : D → ℕ) (since : D → ℕ → List ℕ → Type 0) (old : D) (e : EngineView (LapState D)) : Type 0 where
+  pub sound : IsSound (content old)
+  pub opening : OpensAs (shape_of sound.layout) sound.blocks e.state
+  pub slots : e.store.layout.log ≡ sound.layout.log
+  pub number : e.store.number ≡ sound.number
+  pub any_moment : LeavesOnly moment since old e.store.disk (λ c. image old c ⊎ Restarts (file_opens sound.layout) e.state c)
+
+-- At any moment since the start a crash leaves an image that the disk had at the start, or one that opens to the blocks
+-- to which the file opened.
+abbrev pub OpensSame : {D : Type 0} → (D → List ℕ) → (D → List ℕ → Type 0) → (D → ℕ) → (D → ℕ → List ℕ → Type 0) → D → D → Type 0
+OpensSame {D} content image moment since old new =
+    (l : Layout) (blocks : List (List ℕ)) → OpensTo l (content old) blocks → LeavesOnly moment since old new (λ c. image old c ⊎ OpensTo l c blocks)
+
+-- Nothing was done but an opening, which may take away what was logged behind the last commit: the file and each image
+-- open as before. A file that opens to no blocks is as it was.
+pub record LeftAlone {D : Type 0} (content : D → List ℕ) (image : D → List ℕ → Type 0) (moment : D → ℕ) (since : D → ℕ → List ℕ → Type 0) (old new : D) : Type 0 where
+  pub file : (l : Layout) (blocks : List (List ℕ)) → OpensTo l (content old) blocks → OpensTo l (content new) blocks
+  pub images : OpensSame content image moment since old new
+  pub none : ((l : Layout) (blocks : List (List ℕ)) → OpensTo l (content old) blocks → ⊥) → Rests content image moment since old new
 
 -- these bytes were taken from what was left, and nothing else
 abbrev pub IsTaken : List ℕ → List ℕ → List ℕ → Type 0

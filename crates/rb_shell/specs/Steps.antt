@@ -1,17 +1,32 @@
 -- What a step of the shell writes and leaves.
-use Rattle.std.specs.Prelude.{◌≡◌, ℕ, ◌+◌, Bool, true, false, List, ◌++◌, take, Result, Ok, Err}
-use Rattle.rb_model.specs.State.{State}
+use Rattle.std.specs.Prelude.{◌≡◌, ℕ, ◌+◌, Bool, true, false, List, ◌++◌, take, Option, None, Some, Result, Ok, Err}
+use Rattle.rb_base.specs.declared.store.Store.{Ghosts}
+use Rattle.rb_engine.specs.Engine.{EngineView}
 use Rattle.rb_model.specs.Lines.{reply_text}
-use Rattle.rb_model.specs.Out.{room, is_given, FetchOut}
-use Rattle.rb_model.specs.Reply.{Answer, Done, Waits, Numbered, Given, End, Refused, Fetch, after}
+use Rattle.rb_model.specs.Out.{Logged, room, is_given, fetched, FetchOut}
+use Rattle.rb_model.specs.Reply.{Answer, Done, Waits, Numbered, Given, End, Refused, Fetch}
 use Rattle.rb_model.specs.Reply as call
 use Rattle.rb_model.specs.declared.refusal.Refusal.{Refusal}
-use Rattle.rb_model.specs.declared.refusal.Refusal.TheVariants.{NoSession, NoTable, ValueTooLong, Duplicate, NoCursor, CursorThere, TooManyCursors, DiskFault, Stopped, LogFull}
+use Rattle.rb_model.specs.declared.refusal.Refusal.TheVariants.{NoSession, NoTable, ValueTooLong, Duplicate, NotFound, BlockFull, NoCursor, CursorThere, TooManyCursors, WornOut, DiskFault, Stopped, LogFull}
 use Rattle.rb_lines.specs.Ran.{SameButCursors}
 use Rattle.rb_lines.specs.declared.machine.StepFault.{StepFault}
 use Rattle.rb_lines.specs.declared.machine.StepFault.TheVariants.{Disk, Sink}
 use Rattle.rb_script.specs.declared.reply.Reply.{Reply}
 use Rattle.rb_script.specs.declared.reply.Reply.TheVariants as replies
+
+-- an engine's state, and the last log number of its store
+abbrev pub logged : {S : Type 0} → (s : Ghosts S) → EngineView S → Logged
+logged {S} s e = record { state = e.state; number = s.number e.store }
+
+-- the slots of a log, where there is an end of it
+abbrev pub slots_of : Option ℕ → ℕ
+slots_of None = 0
+slots_of (Some slots) = slots
+
+-- The engine can do lines: its store tells its blocks, and its log has an end.
+pub record IsReady {S : Type 0} (s : Ghosts S) (e : EngineView S) : Type 0 where
+  pub told : s.tells
+  pub slots : s.slots e.store ≡ Some (slots_of (s.slots e.store))
 
 abbrev pub is_disk_fault : Refusal → Bool
 is_disk_fault DiskFault = true
@@ -19,9 +34,12 @@ is_disk_fault NoSession = false
 is_disk_fault NoTable = false
 is_disk_fault ValueTooLong = false
 is_disk_fault Duplicate = false
+is_disk_fault NotFound = false
+is_disk_fault BlockFull = false
 is_disk_fault NoCursor = false
 is_disk_fault CursorThere = false
 is_disk_fault TooManyCursors = false
+is_disk_fault WornOut = false
 is_disk_fault Stopped = false
 is_disk_fault LogFull = false
 
@@ -52,16 +70,16 @@ Told text fault tells before now (Err Disk) = (fault ≡ true) × (tells → now
 Told text fault tells before now (Err Sink) = tells → (n : ℕ) × (now ≡ before ++ take n text)
 
 -- replies as a relation allows them, the state after them, and that the sink holds them then, where it tells
-pub record Replied (allows : List ℕ → State → Type 0) (state : State) (tells : Type 0) (before now : List ℕ) : Type 0 where
+pub record Replied (allows : List ℕ → Logged → Type 0) (state : Logged) (tells : Type 0) (before now : List ℕ) : Type 0 where
   pub out : List ℕ
   pub reply : allows out state
   pub written : tells → now ≡ before ++ out
 
 -- A front of replies as a relation allows them. They may go on where a fetch was cut off, so the state after them may
 -- have other cursors than the one that the step leaves.
-pub record CutShort (allows : List ℕ → State → Type 0) (left : State) (before now : List ℕ) : Type 0 where
+pub record CutShort (allows : List ℕ → Logged → Type 0) (left : Logged) (before now : List ℕ) : Type 0 where
   pub out : List ℕ
-  pub state : State
+  pub state : Logged
   pub reply : allows out state
   pub same : SameButCursors state left
   pub size : ℕ
@@ -69,28 +87,28 @@ pub record CutShort (allows : List ℕ → State → Type 0) (left : State) (bef
 
 -- What a step did, by its result: at a fault of the disk the replies end with it and the state is stopped, else it is
 -- stopped where it was before.
-abbrev pub Steps : (List ℕ → State → Type 0) → Bool → State → Type 0 → List ℕ → List ℕ → Result (Unit {0}) StepFault → Type 0
-Steps allows was state tells before now (Ok done) = Replied allows state tells before now × (state.stopped ≡ was)
-Steps allows was state tells before now (Err Disk) = Replied allows state tells before now × (state.stopped ≡ true)
+abbrev pub Steps : (List ℕ → Logged → Type 0) → Bool → Logged → Type 0 → List ℕ → List ℕ → Result (Unit {0}) StepFault → Type 0
+Steps allows was state tells before now (Ok done) = Replied allows state tells before now × (state.state.stopped ≡ was)
+Steps allows was state tells before now (Err Disk) = Replied allows state tells before now × (state.state.stopped ≡ true)
 Steps allows was state tells before now (Err Sink) = tells → CutShort allows state before now
 
 -- one fetch and its reply line
-pub record FetchOnce (h : State) (slots s : ℕ) (name : List ℕ) (gave : Bool) (out : List ℕ) (h2 : State) : Type 0 where
+pub record FetchOnce (h : Logged) (slots s : ℕ) (name : List ℕ) (gave : Bool) (out : List ℕ) (h2 : Logged) : Type 0 where
   pub answer : Answer
-  pub reply : call.Reply h (room slots h) (Fetch s name) answer
+  pub reply : call.Reply h.state h.number (room slots h.number) (Fetch s name) answer
   pub gives : is_given answer ≡ gave
   pub text : out ≡ reply_text s answer
-  pub state : h2 ≡ after h (Fetch s name) answer
+  pub state : h2 ≡ fetched h s name answer
 
 -- What one fetch did, by its result: whether it gave a row.
-abbrev pub FetchSteps : State → ℕ → ℕ → List ℕ → State → Type 0 → List ℕ → List ℕ → Result Bool StepFault → Type 0
-FetchSteps h slots s name state tells before now (Ok gave) = Replied (FetchOnce h slots s name gave) state tells before now × (state.stopped ≡ h.stopped)
-FetchSteps h slots s name state tells before now (Err Disk) = Replied (FetchOnce h slots s name false) state tells before now × (state.stopped ≡ true)
+abbrev pub FetchSteps : Logged → ℕ → ℕ → List ℕ → Logged → Type 0 → List ℕ → List ℕ → Result Bool StepFault → Type 0
+FetchSteps h slots s name state tells before now (Ok gave) = Replied (FetchOnce h slots s name gave) state tells before now × (state.state.stopped ≡ h.state.stopped)
+FetchSteps h slots s name state tells before now (Err Disk) = Replied (FetchOnce h slots s name false) state tells before now × (state.state.stopped ≡ true)
 FetchSteps h slots s name state tells before now (Err Sink) = tells → (gave : Bool) × CutShort (FetchOnce h slots s name gave) state before now
 
 -- After so many fetches that each gave a row: what goes on from here goes on from the start.
-pub record FetchedSoFar (start : State) (slots s : ℕ) (name : List ℕ) (count : ℕ) (h : State) (tells : Type 0) (before now : List ℕ) : Type 0 where
+pub record FetchedSoFar (start : Logged) (slots s : ℕ) (name : List ℕ) (count : ℕ) (h : Logged) (tells : Type 0) (before now : List ℕ) : Type 0 where
   pub out : List ℕ
-  pub goes_on : (more : ℕ) (rest : List ℕ) (h2 : State) → FetchOut h slots s name more rest h2 → FetchOut start slots s name (count + more) (out ++ rest) h2
+  pub goes_on : (more : ℕ) (rest : List ℕ) (h2 : Logged) → FetchOut h slots s name more rest h2 → FetchOut start slots s name (count + more) (out ++ rest) h2
   pub written : tells → now ≡ before ++ out
-  pub stopped : h.stopped ≡ start.stopped
+  pub stopped : h.state.stopped ≡ start.state.stopped

@@ -3,14 +3,16 @@
 #![tactic(auto)]
 
 mod command;
+mod laws;
 mod line;
 mod script;
 mod status;
 mod words;
 
 pub use command::run;
+pub use laws::restarts_sound;
 pub use line::step;
-pub use rb_first::FirstEngine;
+pub use rb_engine::Engine;
 pub use status::Status;
 
 #[cfg(test)]

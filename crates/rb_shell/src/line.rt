@@ -1,22 +1,22 @@
-//! `step`: one line through the engine to the sink. `run` does each line of a script by it.
-ghost use Rattle.std.specs.Prelude.{◌≡◌, ◌≤◌, ℕ, List, false, true, length, IsTrue, IsErrOf, IfOk, [], ◌++◌};
+//! `step`: one line through the engine to the sink. `Interpreter` does each line of a script by it.
+ghost use Rattle.std.specs.Prelude.{◌≡◌, ◌≤◌, ℕ, List, Some, false, true, length, IsTrue, IsErrOf, IfOk, [], ◌++◌};
 ghost use Rattle.rb_base.specs.Counts.{Rose, IsCounted};
 ghost use Rattle.rb_stream.specs.StreamModel.{Puts};
 ghost use Rattle.rb_model.specs.Lines as lines;
 ghost use Rattle.rb_model.specs.Names.{name_text};
 ghost use Rattle.rb_model.specs.Out.{CallOut, CommandOut, FetchOut, LineOut, is_given};
 ghost use Rattle.rb_model.specs.Reply as call;
-ghost use Rattle.rb_model.specs.Answers.{write_answer, plain_answer, commit_answer, fetch_answer};
+ghost use Rattle.rb_model.specs.Answers.{action_of, write_answer, plain_answer, commit_answer, fetch_answer};
 ghost use Rattle.rb_script.specs.Commands.{command_of};
 ghost use Rattle.rb_script.specs.Replies.{text_of_reply, FitsALine};
-ghost use Rattle.rb_first.specs.Crash.{Stands, Survives};
-ghost use Rattle.rb_shell.specs.Steps.{Told, Steps, FetchSteps, tells_fault};
+ghost use Rattle.rb_engine.specs.Crash.{Survives};
+ghost use Rattle.rb_shell.specs.Since.{StandsFor};
+ghost use Rattle.rb_shell.specs.Steps.{Told, Steps, FetchSteps, logged, tells_fault};
 ghost use Rattle.rb_shell.specs.Steps.{is_fault as is_fault_answer};
 
 use arrayvec::ArrayVec;
-use rb_base::Failed;
-use rb_disk::Disk;
-use rb_first::FirstEngine;
+use rb_base::{Failed, Store};
+use rb_engine::Engine;
 use rb_lines::StepFault;
 use rb_model::{Fetched, Name, Op, Refusal, Row, Wrote};
 use rb_script::{Command, Reply, parse, print};
@@ -137,38 +137,40 @@ fn reply_to_fetch(s: u16, answer: Result<Fetched, Refusal>, row: &Row) -> Reply<
     }
 }
 
-/// Does an `insert` line.
-fn insert_line<D: Disk, K: Sink>(
-    engine: &mut FirstEngine<D>,
+/// Does an `insert`, `update` or `delete` line.
+fn write_line<T: Store, K: Sink>(
+    engine: &mut Engine<T>,
     s: u16,
     table: u16,
     key: u64,
-    value: &[u8],
+    op: Op<'_>,
     sink: &mut K,
 ) -> Result<(), StepFault>
-    ensures steps { Steps (CallOut engine.old.state engine.old.layout.log s (call.Insert s table key value.now)) engine.old.state.stopped engine.new.state K.tells (K.held sink.old) (K.held sink.new) result }
-    ensures layout { engine.new.layout ≡ engine.old.layout }
-    ensures crash { D.tells → Stands engine.old.layout engine.old.state (D.image engine.old.disk) → Survives D.image D.moment D.image_since engine.old.layout engine.old.state engine.new.state engine.old.disk engine.new.disk }
-    ensures disk { IsErrOf result StepFault.Disk → Rose (D.faults engine.old.disk) (D.faults engine.new.disk) }
-    ensures counted { D.faults engine.old.disk ≤ D.faults engine.new.disk }
+    ensures steps { T.tells → (slots : ℕ) → T.slots engine.old.store ≡ Some slots → Steps (CallOut (logged T.Store engine.old) slots s (call.Write s table key (action_of op.entry))) engine.old.state.stopped (logged T.Store engine.new) K.tells (K.held sink.old) (K.held sink.new) result }
+    ensures slots { T.slots engine.new.store ≡ T.slots engine.old.store }
+    ensures shape { T.shape_of engine.new.store ≡ T.shape_of engine.old.store }
+    ensures crash { T.tells → T.keeps → StandsFor T.Store engine.old → Survives T.Store (T.slots engine.old.store) engine.old.state engine.new.state engine.old.store engine.new.store }
+    ensures disk { IsErrOf result StepFault.Disk → Rose (T.faults engine.old.store) (T.faults engine.new.store) }
+    ensures counted { T.faults engine.old.store ≤ T.faults engine.new.store }
     ensures sink { IsErrOf result StepFault.Sink → Rose (K.faults sink.old) (K.faults sink.new) }
     ensures sink_counted { K.faults sink.old ≤ K.faults sink.new }
 {
-    let answer = engine.insert(s, table, key, value);
+    let answer = engine.write(s, table, key, op);
     tell(&reply_to_write(s, answer), sink)
 }
 
 /// Does a `commit` line.
-fn commit_line<D: Disk, K: Sink>(
-    engine: &mut FirstEngine<D>,
+fn commit_line<T: Store, K: Sink>(
+    engine: &mut Engine<T>,
     s: u16,
     sink: &mut K,
 ) -> Result<(), StepFault>
-    ensures steps { Steps (CallOut engine.old.state engine.old.layout.log s (call.Commit s)) engine.old.state.stopped engine.new.state K.tells (K.held sink.old) (K.held sink.new) result }
-    ensures layout { engine.new.layout ≡ engine.old.layout }
-    ensures crash { D.tells → Stands engine.old.layout engine.old.state (D.image engine.old.disk) → Survives D.image D.moment D.image_since engine.old.layout engine.old.state engine.new.state engine.old.disk engine.new.disk }
-    ensures disk { IsErrOf result StepFault.Disk → Rose (D.faults engine.old.disk) (D.faults engine.new.disk) }
-    ensures counted { D.faults engine.old.disk ≤ D.faults engine.new.disk }
+    ensures steps { T.tells → (slots : ℕ) → T.slots engine.old.store ≡ Some slots → Steps (CallOut (logged T.Store engine.old) slots s (call.Commit s)) engine.old.state.stopped (logged T.Store engine.new) K.tells (K.held sink.old) (K.held sink.new) result }
+    ensures slots { T.slots engine.new.store ≡ T.slots engine.old.store }
+    ensures shape { T.shape_of engine.new.store ≡ T.shape_of engine.old.store }
+    ensures crash { T.tells → T.keeps → StandsFor T.Store engine.old → Survives T.Store (T.slots engine.old.store) engine.old.state engine.new.state engine.old.store engine.new.store }
+    ensures disk { IsErrOf result StepFault.Disk → Rose (T.faults engine.old.store) (T.faults engine.new.store) }
+    ensures counted { T.faults engine.old.store ≤ T.faults engine.new.store }
     ensures sink { IsErrOf result StepFault.Sink → Rose (K.faults sink.old) (K.faults sink.new) }
     ensures sink_counted { K.faults sink.old ≤ K.faults sink.new }
 {
@@ -177,8 +179,8 @@ fn commit_line<D: Disk, K: Sink>(
 }
 
 /// Does an `open` line.
-fn open_line<D: Disk, K: Sink>(
-    engine: &mut FirstEngine<D>,
+fn open_line<T: Store, K: Sink>(
+    engine: &mut Engine<T>,
     s: u16,
     name: &Name,
     table: u16,
@@ -186,11 +188,12 @@ fn open_line<D: Disk, K: Sink>(
     hi: u64,
     sink: &mut K,
 ) -> Result<(), StepFault>
-    ensures steps { Steps (CallOut engine.old.state engine.old.layout.log s (call.OpenCursor s (name_text name.now) table lo hi)) engine.old.state.stopped engine.new.state K.tells (K.held sink.old) (K.held sink.new) result }
-    ensures layout { engine.new.layout ≡ engine.old.layout }
-    ensures crash { D.tells → Stands engine.old.layout engine.old.state (D.image engine.old.disk) → Survives D.image D.moment D.image_since engine.old.layout engine.old.state engine.new.state engine.old.disk engine.new.disk }
-    ensures disk { IsErrOf result StepFault.Disk → Rose (D.faults engine.old.disk) (D.faults engine.new.disk) }
-    ensures counted { D.faults engine.old.disk ≤ D.faults engine.new.disk }
+    ensures steps { T.tells → (slots : ℕ) → T.slots engine.old.store ≡ Some slots → Steps (CallOut (logged T.Store engine.old) slots s (call.OpenCursor s (name_text name.now) table lo hi)) engine.old.state.stopped (logged T.Store engine.new) K.tells (K.held sink.old) (K.held sink.new) result }
+    ensures slots { T.slots engine.new.store ≡ T.slots engine.old.store }
+    ensures shape { T.shape_of engine.new.store ≡ T.shape_of engine.old.store }
+    ensures crash { T.tells → T.keeps → StandsFor T.Store engine.old → Survives T.Store (T.slots engine.old.store) engine.old.state engine.new.state engine.old.store engine.new.store }
+    ensures disk { IsErrOf result StepFault.Disk → Rose (T.faults engine.old.store) (T.faults engine.new.store) }
+    ensures counted { T.faults engine.old.store ≤ T.faults engine.new.store }
     ensures sink { IsErrOf result StepFault.Sink → Rose (K.faults sink.old) (K.faults sink.new) }
     ensures sink_counted { K.faults sink.old ≤ K.faults sink.new }
 {
@@ -210,20 +213,18 @@ fn gives_row(answer: Result<Fetched, Refusal>) -> bool
 }
 
 /// Does one fetch, and says whether it gave a row.
-fn fetch_one<D: Disk, K: Sink>(
-    engine: &mut FirstEngine<D>,
+fn fetch_one<T: Store, K: Sink>(
+    engine: &mut Engine<T>,
     s: u16,
     name: &Name,
     row: &mut Row,
     sink: &mut K,
 ) -> Result<bool, StepFault>
-    ensures steps { FetchSteps engine.old.state engine.old.layout.log s (name_text name.now) engine.new.state K.tells (K.held sink.old) (K.held sink.new) result }
-    ensures layout { engine.new.layout ≡ engine.old.layout }
-    ensures disk_stays { engine.new.disk ≡ engine.old.disk }
+    ensures steps { T.tells → (slots : ℕ) → T.slots engine.old.store ≡ Some slots → FetchSteps (logged T.Store engine.old) slots s (name_text name.now) (logged T.Store engine.new) K.tells (K.held sink.old) (K.held sink.new) result }
+    ensures store { engine.new.store ≡ engine.old.store }
+    ensures state_shape { engine.new.state.shape ≡ engine.old.state.shape }
     ensures commits { engine.new.state.commits ≡ engine.old.state.commits }
-    ensures crash { D.tells → Stands engine.old.layout engine.old.state (D.image engine.old.disk) → Survives D.image D.moment D.image_since engine.old.layout engine.old.state engine.new.state engine.old.disk engine.new.disk }
-    ensures disk { IsErrOf result StepFault.Disk → Rose (D.faults engine.old.disk) (D.faults engine.new.disk) }
-    ensures counted { D.faults engine.old.disk ≤ D.faults engine.new.disk }
+    ensures disk { IsErrOf result StepFault.Disk → ⊥ }
     ensures sink { IsErrOf result StepFault.Sink → Rose (K.faults sink.old) (K.faults sink.new) }
     ensures sink_counted { K.faults sink.old ≤ K.faults sink.new }
 {
@@ -235,18 +236,19 @@ fn fetch_one<D: Disk, K: Sink>(
 }
 
 /// Does a `fetch` line: up to `count` fetches, which end at the first answer that is no row.
-fn fetch_line<D: Disk, K: Sink>(
-    engine: &mut FirstEngine<D>,
+fn fetch_line<T: Store, K: Sink>(
+    engine: &mut Engine<T>,
     s: u16,
     name: &Name,
     count: u32,
     sink: &mut K,
 ) -> Result<(), StepFault>
-    ensures steps { Steps (FetchOut engine.old.state engine.old.layout.log s (name_text name.now) count) engine.old.state.stopped engine.new.state K.tells (K.held sink.old) (K.held sink.new) result }
-    ensures layout { engine.new.layout ≡ engine.old.layout }
-    ensures crash { D.tells → Stands engine.old.layout engine.old.state (D.image engine.old.disk) → Survives D.image D.moment D.image_since engine.old.layout engine.old.state engine.new.state engine.old.disk engine.new.disk }
-    ensures disk { IsErrOf result StepFault.Disk → Rose (D.faults engine.old.disk) (D.faults engine.new.disk) }
-    ensures counted { D.faults engine.old.disk ≤ D.faults engine.new.disk }
+    ensures steps { T.tells → (slots : ℕ) → T.slots engine.old.store ≡ Some slots → Steps (FetchOut (logged T.Store engine.old) slots s (name_text name.now) count) engine.old.state.stopped (logged T.Store engine.new) K.tells (K.held sink.old) (K.held sink.new) result }
+    ensures slots { T.slots engine.new.store ≡ T.slots engine.old.store }
+    ensures shape { T.shape_of engine.new.store ≡ T.shape_of engine.old.store }
+    ensures crash { T.tells → T.keeps → StandsFor T.Store engine.old → Survives T.Store (T.slots engine.old.store) engine.old.state engine.new.state engine.old.store engine.new.store }
+    ensures disk { IsErrOf result StepFault.Disk → Rose (T.faults engine.old.store) (T.faults engine.new.store) }
+    ensures counted { T.faults engine.old.store ≤ T.faults engine.new.store }
     ensures sink { IsErrOf result StepFault.Sink → Rose (K.faults sink.old) (K.faults sink.new) }
     ensures sink_counted { K.faults sink.old ≤ K.faults sink.new }
 {
@@ -265,17 +267,18 @@ fn fetch_line<D: Disk, K: Sink>(
 }
 
 /// Does a `close` line.
-fn close_line<D: Disk, K: Sink>(
-    engine: &mut FirstEngine<D>,
+fn close_line<T: Store, K: Sink>(
+    engine: &mut Engine<T>,
     s: u16,
     name: &Name,
     sink: &mut K,
 ) -> Result<(), StepFault>
-    ensures steps { Steps (CallOut engine.old.state engine.old.layout.log s (call.CloseCursor s (name_text name.now))) engine.old.state.stopped engine.new.state K.tells (K.held sink.old) (K.held sink.new) result }
-    ensures layout { engine.new.layout ≡ engine.old.layout }
-    ensures crash { D.tells → Stands engine.old.layout engine.old.state (D.image engine.old.disk) → Survives D.image D.moment D.image_since engine.old.layout engine.old.state engine.new.state engine.old.disk engine.new.disk }
-    ensures disk { IsErrOf result StepFault.Disk → Rose (D.faults engine.old.disk) (D.faults engine.new.disk) }
-    ensures counted { D.faults engine.old.disk ≤ D.faults engine.new.disk }
+    ensures steps { T.tells → (slots : ℕ) → T.slots engine.old.store ≡ Some slots → Steps (CallOut (logged T.Store engine.old) slots s (call.CloseCursor s (name_text name.now))) engine.old.state.stopped (logged T.Store engine.new) K.tells (K.held sink.old) (K.held sink.new) result }
+    ensures slots { T.slots engine.new.store ≡ T.slots engine.old.store }
+    ensures shape { T.shape_of engine.new.store ≡ T.shape_of engine.old.store }
+    ensures crash { T.tells → T.keeps → StandsFor T.Store engine.old → Survives T.Store (T.slots engine.old.store) engine.old.state engine.new.state engine.old.store engine.new.store }
+    ensures disk { IsErrOf result StepFault.Disk → Rose (T.faults engine.old.store) (T.faults engine.new.store) }
+    ensures counted { T.faults engine.old.store ≤ T.faults engine.new.store }
     ensures sink { IsErrOf result StepFault.Sink → Rose (K.faults sink.old) (K.faults sink.new) }
     ensures sink_counted { K.faults sink.old ≤ K.faults sink.new }
 {
@@ -284,26 +287,22 @@ fn close_line<D: Disk, K: Sink>(
 }
 
 /// Does a command.
-fn run_command<D: Disk, K: Sink>(
-    engine: &mut FirstEngine<D>,
+fn run_command<T: Store, K: Sink>(
+    engine: &mut Engine<T>,
     command: &Command<'_>,
     sink: &mut K,
 ) -> Result<(), StepFault>
-    ensures steps { Steps (CommandOut engine.old.state engine.old.layout.log (command_of command.now)) engine.old.state.stopped engine.new.state K.tells (K.held sink.old) (K.held sink.new) result }
-    ensures layout { engine.new.layout ≡ engine.old.layout }
-    ensures crash { D.tells → Stands engine.old.layout engine.old.state (D.image engine.old.disk) → Survives D.image D.moment D.image_since engine.old.layout engine.old.state engine.new.state engine.old.disk engine.new.disk }
-    ensures disk { IsErrOf result StepFault.Disk → Rose (D.faults engine.old.disk) (D.faults engine.new.disk) }
-    ensures counted { D.faults engine.old.disk ≤ D.faults engine.new.disk }
+    ensures steps { T.tells → (slots : ℕ) → T.slots engine.old.store ≡ Some slots → Steps (CommandOut (logged T.Store engine.old) slots (command_of command.now)) engine.old.state.stopped (logged T.Store engine.new) K.tells (K.held sink.old) (K.held sink.new) result }
+    ensures slots { T.slots engine.new.store ≡ T.slots engine.old.store }
+    ensures shape { T.shape_of engine.new.store ≡ T.shape_of engine.old.store }
+    ensures crash { T.tells → T.keeps → StandsFor T.Store engine.old → Survives T.Store (T.slots engine.old.store) engine.old.state engine.new.state engine.old.store engine.new.store }
+    ensures disk { IsErrOf result StepFault.Disk → Rose (T.faults engine.old.store) (T.faults engine.new.store) }
+    ensures counted { T.faults engine.old.store ≤ T.faults engine.new.store }
     ensures sink { IsErrOf result StepFault.Sink → Rose (K.faults sink.old) (K.faults sink.new) }
     ensures sink_counted { K.faults sink.old ≤ K.faults sink.new }
 {
     match command {
-        Command::Write {
-            s,
-            t,
-            k,
-            op: Op::Insert(value),
-        } => insert_line(engine, *s, *t, *k, value, sink),
+        Command::Write { s, t, k, op } => write_line(engine, *s, *t, *k, *op, sink),
         Command::Commit { s } => commit_line(engine, *s, sink),
         Command::OpenCursor { s, name, t, lo, hi } => {
             open_line(engine, *s, name, *t, *lo, *hi, sink)
@@ -315,18 +314,19 @@ fn run_command<D: Disk, K: Sink>(
 
 /// Does one line of a script, which comes without its LF, and puts its replies. Of a line of more than 512 bytes
 /// any 513 or more of its first bytes serve.
-pub fn step<D: Disk, K: Sink>(
-    engine: &mut FirstEngine<D>,
+pub fn step<T: Store, K: Sink>(
+    engine: &mut Engine<T>,
     line: &[u8],
     sink: &mut K,
 ) -> Result<(), StepFault>
     // The replies to the line, and the state after them; at a fault of the disk they end with it. A crash may leave no
     // more than these states.
-    ensures steps { Steps (LineOut engine.old.state engine.old.layout.log line.now) engine.old.state.stopped engine.new.state K.tells (K.held sink.old) (K.held sink.new) result }
-    ensures layout { engine.new.layout ≡ engine.old.layout }
-    ensures crash { D.tells → Stands engine.old.layout engine.old.state (D.image engine.old.disk) → Survives D.image D.moment D.image_since engine.old.layout engine.old.state engine.new.state engine.old.disk engine.new.disk }
-    ensures disk { IsErrOf result StepFault.Disk → Rose (D.faults engine.old.disk) (D.faults engine.new.disk) }
-    ensures counted { D.faults engine.old.disk ≤ D.faults engine.new.disk }
+    ensures steps { T.tells → (slots : ℕ) → T.slots engine.old.store ≡ Some slots → Steps (LineOut (logged T.Store engine.old) slots line.now) engine.old.state.stopped (logged T.Store engine.new) K.tells (K.held sink.old) (K.held sink.new) result }
+    ensures slots { T.slots engine.new.store ≡ T.slots engine.old.store }
+    ensures shape { T.shape_of engine.new.store ≡ T.shape_of engine.old.store }
+    ensures crash { T.tells → T.keeps → StandsFor T.Store engine.old → Survives T.Store (T.slots engine.old.store) engine.old.state engine.new.state engine.old.store engine.new.store }
+    ensures disk { IsErrOf result StepFault.Disk → Rose (T.faults engine.old.store) (T.faults engine.new.store) }
+    ensures counted { T.faults engine.old.store ≤ T.faults engine.new.store }
     ensures sink { IsErrOf result StepFault.Sink → Rose (K.faults sink.old) (K.faults sink.new) }
     ensures sink_counted { K.faults sink.old ≤ K.faults sink.new }
 {

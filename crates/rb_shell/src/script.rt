@@ -1,20 +1,21 @@
 //! Runs a script over a store: its lines, one after another, through the engine to the sink. `run` calls it.
-ghost use Rattle.std.specs.Prelude.{◌≡◌, ◌≢◌, ◌⊎◌, ℕ, ◌<◌, ◌≤◌, List, [], ◌++◌, length, false, true, OnOk, IsErrOf, IfErr, IfOk};
+ghost use Rattle.std.specs.Prelude.{◌≡◌, ◌≢◌, ◌⊎◌, ℕ, ◌<◌, ◌≤◌, List, [], ◌++◌, Some, length, false, true, OnOk, IsErrOf, IfErr, IfOk};
 ghost use Rattle.rb_base.specs.Counts.{Rose};
-ghost use Rattle.rb_disk.specs.Moments.{Rests};
-ghost use Rattle.rb_first.specs.Crash.{Stands, Survives};
+ghost use Rattle.rb_engine.specs.Crash.{Survives};
 ghost use Rattle.rb_lines.specs.Whole.{whole_lines};
 ghost use Rattle.rb_model.specs.Lines.{lines_of};
 ghost use Rattle.rb_model.specs.Out.{LineOut};
-ghost use Rattle.rb_shell.specs.Runs.{IsSound, HasDone, HasRun, WasCut, WasCutOff, Endures, IsTaken, EndsRun, AsksScript, AsksNothing};
-ghost use Rattle.rb_shell.specs.Steps.{Steps};
+ghost use Rattle.rb_shell.specs.Runs.{IsSound, HasDone, HasOpened, HasRun, WasCut, WasCutOff, Endures, LeftAlone, OpensSame, IsTaken, EndsRun, AsksScript, AsksNothing};
+ghost use Rattle.rb_shell.specs.Since.{StandsFor};
+ghost use Rattle.rb_shell.specs.Steps.{Steps, IsReady, logged, slots_of};
 
 use crate::line::step;
 use crate::status::Status;
-use rb_base::OpenFault;
+use rb_base::{OpenFault, Store};
 use rb_disk::Disk;
-use rb_first::FirstEngine;
+use rb_engine::Engine;
 use rb_lines::{LinesEnd, Machine, StepFault, run_lines};
+use rb_store::LapStore;
 use rb_stream::{Sink, Source};
 use std::alloc::Global;
 
@@ -23,35 +24,40 @@ const BUFFER_BYTES: usize = 65_536;
 
 /// The engine as what does the lines of a script.
 #[derive(Drop)]
-struct Interpreter<D: Disk> {
-    engine: FirstEngine<D>,
+struct Interpreter<T: Store> {
+    engine: Engine<T>,
 }
 
-impl<D: Disk> Machine for Interpreter<D> {
+impl<T: Store> Machine for Interpreter<T> {
     ghost use Rattle.rb_shell.specs.Since.{IsSince, since_same, since_joined};
 
-    ghost state = { λ m. m.engine.state };
+    ghost reached = { λ m. logged T.Store m.engine };
 
-    ghost slots = { λ m. m.engine.layout.log };
+    ghost slots = { λ m. slots_of (T.slots m.engine.store) };
 
-    ghost faults = { λ m. D.faults m.engine.disk };
+    ghost faults = { λ m. T.faults m.engine.store };
 
-    ghost ready = { λ m. Unit {0} };
+    ghost ready = { λ m. IsReady T.Store m.engine };
 
-    ghost since = { λ a b. IsSince D.tells D.image D.moment D.image_since a.engine b.engine };
+    ghost since = { λ a b. IsSince T.Store a.engine b.engine };
 
-    ghost since_same = { λ m. since_same m.engine (λ told im left. D.only_now m.engine.disk im told left) };
+    ghost since_same = { λ m. since_same m.engine (λ kept. record {
+      left_opens = λ store b i stands here. T.stable_left store b i kept stands here;
+      read_patched = λ store i left. T.only_now store i kept left;
+    }) };
 
     ghost since_joined = { λ a b c. since_joined a.engine b.engine c.engine };
 
     fn step<K: Sink>(&mut self, line: &[u8], sink: &mut K) -> Result<(), StepFault>
+        requires ready { IsReady T.Store self.old.engine }
         requires going { self.old.engine.state.stopped ≡ false }
-        ensures steps { Steps (LineOut self.old.engine.state self.old.engine.layout.log line.now) self.old.engine.state.stopped self.new.engine.state K.tells (K.held sink.old) (K.held sink.new) result }
-        ensures layout { self.new.engine.layout ≡ self.old.engine.layout }
-        ensures crash { D.tells → Stands self.old.engine.layout self.old.engine.state (D.image self.old.engine.disk) → Survives D.image D.moment D.image_since self.old.engine.layout self.old.engine.state self.new.engine.state self.old.engine.disk self.new.engine.disk }
-        ensures disk { IsErrOf result StepFault.Disk → Rose (D.faults self.old.engine.disk) (D.faults self.new.engine.disk) }
+        ensures steps { Steps (LineOut (logged T.Store self.old.engine) (slots_of (T.slots self.old.engine.store)) line.now) self.old.engine.state.stopped (logged T.Store self.new.engine) K.tells (K.held sink.old) (K.held sink.new) result }
+        ensures slots { T.slots self.new.engine.store ≡ T.slots self.old.engine.store }
+        ensures shape { T.shape_of self.new.engine.store ≡ T.shape_of self.old.engine.store }
+        ensures crash { T.tells → T.keeps → StandsFor T.Store self.old.engine → Survives T.Store (T.slots self.old.engine.store) self.old.engine.state self.new.engine.state self.old.engine.store self.new.engine.store }
+        ensures disk { IsErrOf result StepFault.Disk → Rose (T.faults self.old.engine.store) (T.faults self.new.engine.store) }
         ensures sink { IsErrOf result StepFault.Sink → Rose (K.faults sink.old) (K.faults sink.new) }
-        ensures counted { D.faults self.old.engine.disk ≤ D.faults self.new.engine.disk }
+        ensures counted { T.faults self.old.engine.store ≤ T.faults self.new.engine.store }
         ensures sink_counted { K.faults sink.old ≤ K.faults sink.new }
     {
         step(&mut self.engine, line, sink)
@@ -61,6 +67,7 @@ impl<D: Disk> Machine for Interpreter<D> {
 /// The status of a store that wasn't opened.
 fn status_of_fault(fault: OpenFault) -> Status
     ensures asks_nothing { result ≢ Status.DiskFault → AsksNothing result }
+    ensures not_asked { fault ≡ OpenFault.Failed → AsksNothing result → ⊥ }
     ensures ends { EndsRun result }
     ensures failed { result ≡ Status.DiskFault → fault ≡ OpenFault.Failed }
     ensures none { result ≡ Status.NotAStore → fault ≡ OpenFault.NotAStore }
@@ -92,39 +99,61 @@ fn status_of_end(end: LinesEnd) -> Status
     }
 }
 
-/// Runs the script over an engine, and gives its disk back.
-fn run_engine<S: Source, K: Sink, D: Disk>(
-    engine: FirstEngine<D>,
+/// Runs the script over an engine, and gives its store back.
+fn run_engine<S: Source, K: Sink, T: Store>(
+    engine: Engine<T>,
     source: &mut S,
     sink: &mut K,
     buffer: &mut [u8],
-) -> (Status, D)
+) -> (Status, T)
+    requires ready { IsReady T.Store engine }
     requires going { engine.state.stopped ≡ false }
     requires buffer { 0 < length buffer.old }
     ensures ends { EndsRun result.0 }
     ensures asks { AsksNothing result.0 → ⊥ }
-    ensures done { result.0 ≡ Status.Done → S.tells → HasDone engine.layout.log engine.state (lines_of (S.left source.old)) K.tells (K.held sink.old) (K.held sink.new) false (λ h. D.tells → Stands engine.layout engine.state (D.image engine.disk) → Survives D.image D.moment D.image_since engine.layout engine.state h engine.disk result.1) }
+    ensures done { result.0 ≡ Status.Done → S.tells → HasDone (slots_of (T.slots engine.store)) (logged T.Store engine) (lines_of (S.left source.old)) K.tells (K.held sink.old) (K.held sink.new) false (λ h. T.keeps → StandsFor T.Store engine → Survives T.Store (T.slots engine.store) engine.state h engine.store result.1) }
     ensures at_end { result.0 ≡ Status.Done → S.tells → S.left source.new ≡ [] }
     ensures few { result.0 ≡ Status.Done → S.tells → length (S.left source.old) < 1000000000 }
     ensures source_done { result.0 ≡ Status.SourceFault → S.tells →
         ((taken : List ℕ) × IsTaken taken (S.left source.old) (S.left source.new)
-        × HasDone engine.layout.log engine.state (whole_lines taken) K.tells (K.held sink.old) (K.held sink.new) false (λ h. D.tells → Stands engine.layout engine.state (D.image engine.disk) → Survives D.image D.moment D.image_since engine.layout engine.state h engine.disk result.1)) }
+        × HasDone (slots_of (T.slots engine.store)) (logged T.Store engine) (whole_lines taken) K.tells (K.held sink.old) (K.held sink.new) false (λ h. T.keeps → StandsFor T.Store engine → Survives T.Store (T.slots engine.store) engine.state h engine.store result.1)) }
     ensures too_long { result.0 ≡ Status.TooLong → S.tells →
         ((taken : List ℕ) × (length taken ≡ 1000000000) × IsTaken taken (S.left source.old) (S.left source.new)
-        × HasDone engine.layout.log engine.state (whole_lines taken) K.tells (K.held sink.old) (K.held sink.new) false (λ h. D.tells → Stands engine.layout engine.state (D.image engine.disk) → Survives D.image D.moment D.image_since engine.layout engine.state h engine.disk result.1)) }
-    ensures disk_done { result.0 ≡ Status.DiskFault → S.tells → HasDone engine.layout.log engine.state (lines_of (S.left source.old)) K.tells (K.held sink.old) (K.held sink.new) true (λ h. D.tells → Stands engine.layout engine.state (D.image engine.disk) → Survives D.image D.moment D.image_since engine.layout engine.state h engine.disk result.1) }
-    ensures cut_off { result.0 ≡ Status.SinkFault → S.tells → K.tells → WasCut engine.layout.log engine.state (lines_of (S.left source.old)) (K.held sink.old) (K.held sink.new) (λ h. D.tells → Stands engine.layout engine.state (D.image engine.disk) → Survives D.image D.moment D.image_since engine.layout engine.state h engine.disk result.1) }
+        × HasDone (slots_of (T.slots engine.store)) (logged T.Store engine) (whole_lines taken) K.tells (K.held sink.old) (K.held sink.new) false (λ h. T.keeps → StandsFor T.Store engine → Survives T.Store (T.slots engine.store) engine.state h engine.store result.1)) }
+    ensures disk_done { result.0 ≡ Status.DiskFault → S.tells → HasDone (slots_of (T.slots engine.store)) (logged T.Store engine) (lines_of (S.left source.old)) K.tells (K.held sink.old) (K.held sink.new) true (λ h. T.keeps → StandsFor T.Store engine → Survives T.Store (T.slots engine.store) engine.state h engine.store result.1) }
+    ensures cut_off { result.0 ≡ Status.SinkFault → S.tells → K.tells → WasCut (slots_of (T.slots engine.store)) (logged T.Store engine) (lines_of (S.left source.old)) (K.held sink.old) (K.held sink.new) (λ h. T.keeps → StandsFor T.Store engine → Survives T.Store (T.slots engine.store) engine.state h engine.store result.1) }
     ensures source_fault { result.0 ≡ Status.SourceFault → Rose (S.faults source.old) (S.faults source.new) }
-    ensures disk_fault { result.0 ≡ Status.DiskFault → Rose (D.faults engine.disk) (D.faults result.1) }
+    ensures disk_fault { result.0 ≡ Status.DiskFault → Rose (T.faults engine.store) (T.faults result.1) }
     ensures sink_fault { result.0 ≡ Status.SinkFault → Rose (K.faults sink.old) (K.faults sink.new) }
     ensures source_counted { S.faults source.old ≤ S.faults source.new }
-    ensures disk_counted { D.faults engine.disk ≤ D.faults result.1 }
+    ensures disk_counted { T.faults engine.store ≤ T.faults result.1 }
     ensures sink_counted { K.faults sink.old ≤ K.faults sink.new }
 {
     let mut interpreter = Interpreter { engine };
     let end = run_lines(&mut interpreter, source, sink, buffer);
     let Interpreter { engine } = interpreter;
     (status_of_end(end), engine.close())
+}
+
+/// Opens the engine over the store of a disk. An Err gives the disk back.
+fn open_engine<D: Disk>(alloc: Global, disk: D) -> Result<Engine<LapStore<D>>, (OpenFault, D)>
+    ensures going { IfOk result (λ e. e.state.stopped ≡ false) }
+    ensures opened { D.tells → IfOk result (λ e. HasOpened D.content D.image D.moment D.image_since disk e) }
+    ensures stands { D.tells → IfOk result (λ e. StandsFor ⟦<LapStore<D> as Store>⟧ e) }
+    ensures none { D.tells → IfErr result (λ r. r.0 ≡ OpenFault.NotAStore → IsSound (D.content disk) → ⊥) }
+    ensures failed { IfErr result (λ r. r.0 ≡ OpenFault.Failed → Rose (D.faults disk) (D.faults r.1)) }
+    ensures images { D.tells → IfErr result (λ r. OpensSame D.content D.image D.moment D.image_since disk r.1) }
+    ensures left_alone { D.tells → IfErr result (λ r. r.0 ≢ OpenFault.Failed → LeftAlone D.content D.image D.moment D.image_since disk r.1) }
+    ensures counted_ok { IfOk result (λ e. D.faults disk ≤ D.faults e.store.disk) }
+    ensures counted_err { IfErr result (λ r. D.faults disk ≤ D.faults r.1) }
+{
+    match LapStore::open(alloc, disk) {
+        Ok(store) => match Engine::open(alloc, store) {
+            Ok(engine) => Ok(engine),
+            Err((fault, store)) => Err((fault, store.close())),
+        },
+        Err((fault, disk)) => Err((fault, disk)),
+    }
 }
 
 /// Opens the store of a disk and does the lines of a script, each as soon as it is whole. All memory is taken
@@ -148,14 +177,14 @@ pub fn run_script<S: Source, K: Sink, D: Disk>(
         ((taken : List ℕ) × (length taken ≡ 1000000000) × IsTaken taken (S.left source.old) (S.left source.new)
         × HasRun (D.content disk) (whole_lines taken) K.tells (K.held sink.old) (K.held sink.new) false (Endures D.image D.moment D.image_since disk result.1)) }
     ensures disk_done { D.tells → S.tells → result.0 ≡ Status.DiskFault →
-        ((source.new ≡ source.old) × (sink.new ≡ sink.old) × Rests D.content D.image D.moment D.image_since disk result.1)
+        ((source.new ≡ source.old) × (sink.new ≡ sink.old) × OpensSame D.content D.image D.moment D.image_since disk result.1)
         ⊎ HasRun (D.content disk) (lines_of (S.left source.old)) K.tells (K.held sink.old) (K.held sink.new) true (Endures D.image D.moment D.image_since disk result.1) }
     ensures cut_off { D.tells → S.tells → K.tells → result.0 ≡ Status.SinkFault → WasCutOff (D.content disk) (lines_of (S.left source.old)) (K.held sink.old) (K.held sink.new) (Endures D.image D.moment D.image_since disk result.1) }
 
     // Nothing was asked for.
     ensures source { AsksNothing result.0 → source.new ≡ source.old }
     ensures sink { AsksNothing result.0 → sink.new ≡ sink.old }
-    ensures unchanged { D.tells → AsksNothing result.0 → Rests D.content D.image D.moment D.image_since disk result.1 }
+    ensures untouched { D.tells → AsksNothing result.0 → LeftAlone D.content D.image D.moment D.image_since disk result.1 }
     ensures not_a_store { D.tells → result.0 ≡ Status.NotAStore → IsSound (D.content disk) → ⊥ }
     ensures sound { D.tells → AsksScript result.0 → IsSound (D.content disk) }
 
@@ -170,8 +199,11 @@ pub fn run_script<S: Source, K: Sink, D: Disk>(
     let Ok(mut buffer) = vec![in alloc; 0; BUFFER_BYTES] else {
         return (Status::NoMemory, disk);
     };
-    match FirstEngine::open(alloc, disk) {
-        Ok(engine) => run_engine(engine, source, sink, &mut buffer),
+    match open_engine(alloc, disk) {
+        Ok(engine) => {
+            let (status, store) = run_engine(engine, source, sink, &mut buffer);
+            (status, store.close())
+        }
         Err((fault, disk)) => (status_of_fault(fault), disk),
     }
 }

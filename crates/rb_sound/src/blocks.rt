@@ -1,4 +1,4 @@
-//! Tests the blocks of a file. An opening will call it.
+//! Tests the blocks of a file. The engine's opening calls it.
 ghost use Rattle.std.specs.Prelude.{◌≡◌, ◌↔◌, ℕ, ◌%◌, ◌<◌, true, false, Some, IfOk, OnOk, slice_index};
 ghost use Rattle.std.specs.Result.{is_err};
 ghost use Rattle.rb_base.specs.Blocks.{block_of, shape_blocks, table_blocks, IsShape};

@@ -1,5 +1,5 @@
-//! Whether the blocks of a file are in order: the header of each segment, and each block of rows. An opening will call
-//! it; the program doesn't use it yet.
+//! Whether the blocks of a file are in order: the header of each segment, and each block of rows. The
+//! engine's opening calls it.
 #![tactic(auto)]
 
 mod blocks;

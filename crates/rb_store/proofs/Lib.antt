@@ -1,4 +1,4 @@
-mod HeaderLemmas
+pub mod HeaderLemmas
 mod LapLemmas
 mod OpenLemmas
 mod ScanLemmas

@@ -1,7 +1,7 @@
 -- Dropping the groups behind the last commit, and what an opening leaves of the file.
 use Rattle.std.proofs.Common.{◌⊎◌, ◌≡◌, inl, inr, ⊎_elim, ℕ, ◌+◌, List, [], ◌∷◌, ◌++◌, length, take, arith, ap, sym, ◌∙◌, subst}
 use Rattle.rb_store.specs.Laps.{IsLap, OpensTo, OpensAt, committed_groups}
-use Rattle.rb_log.specs.GroupSlots.{GroupLogState, GroupsAre, HoldsGroup, DroppedSome}
+use Rattle.rb_log.specs.GroupSlots.{LogState, GroupsAre, HoldsGroup, DroppedSome}
 use Rattle.rb_store.specs.Scanned.{HasScannedAll}
 use Rattle.rb_plainstore.specs.Plain.{PlainState}
 use Rattle.rb_disk.specs.Moments.{Rests, rests_leave}
@@ -23,7 +23,7 @@ pub whole_kept : (shape : Shape) (groups waiting : List (List Patch)) → commit
 whole_kept shape groups waiting e = ap (committed_groups shape) (sym e) ∙ cut_twice (commit_block shape) (groups ++ waiting) ∙ e
 
 -- what was scanned to its end is what the file opens to
-pub scanned_opens : (told : Type 0) (l : Layout) (file : List ℕ) (plain now : PlainState) (log : GroupLogState) (waiting : List (List Patch)) → HasIdentity 102 l file → HasScannedAll told l file plain log waiting → told → now ≡ plain → OpensAt l file now.blocks now.number
+pub scanned_opens : (told : Type 0) (l : Layout) (file : List ℕ) (plain now : PlainState) (log : LogState) (waiting : List (List Patch)) → HasIdentity 102 l file → HasScannedAll told l file plain log waiting → told → now ≡ plain → OpensAt l file now.blocks now.number
 scanned_opens told l file plain now log waiting id h t same = record {
   opens = record {
     groups = h.groups ++ waiting;
@@ -96,7 +96,7 @@ log_for l m file b opens id =
 
 module _ {D : Type 0} (content : D → List ℕ) (image : D → List ℕ → Type 0) (moment : D → ℕ) (since : D → ℕ → List ℕ → Type 0) where
   -- an opening that reads the file and then drops the groups behind the last commit
-  pub open_leaves : (told : Type 0) (old mid new : D) (l m : Layout) (b : List (List ℕ)) (plain : PlainState) (log : GroupLogState) (waiting : List (List Patch)) → ((c : List ℕ) → since old (moment old) c → image old c) → Rests content image moment since old mid → HasIdentity 102 m (content old)
+  pub open_leaves : (told : Type 0) (old mid new : D) (l m : Layout) (b : List (List ℕ)) (plain : PlainState) (log : LogState) (waiting : List (List Patch)) → ((c : List ℕ) → since old (moment old) c → image old c) → Rests content image moment since old mid → HasIdentity 102 m (content old)
       → HasScannedAll told m (content old) plain log waiting → told → OpensTo l (content old) b → LeavesOnly moment since mid new (λ c. OpensTo m c plain.blocks) → LeavesOnly moment since old new (λ c. image old c ⊎ OpensTo l c b)
   open_leaves told old mid new l m b plain log waiting only_now rests id h t opens leaves =
       let all = h.groups ++ waiting in

@@ -9,7 +9,7 @@ use Rattle.rb_base.proofs.Counted.{all_push}
 use Rattle.rb_layout.specs.Regions.{shape_of}
 use Rattle.rb_layout.specs.declared.layout.Layout.{Layout}
 use Rattle.rb_log.specs.GroupLaws.{begins_more_group, begins_end_group}
-use Rattle.rb_log.specs.GroupSlots.{GroupLogState, GroupsAre, BeginsWithGroups, HoldsGroup, IsLoggable}
+use Rattle.rb_log.specs.GroupSlots.{LogState, GroupsAre, BeginsWithGroups, HoldsGroup, IsLoggable}
 use Rattle.rb_log.specs.Slots.{slot_at}
 use Rattle.rb_plainstore.specs.Plain.{PlainState}
 use Rattle.rb_store.specs.Laps.{committed_groups}
@@ -23,7 +23,7 @@ stands_behind l file groups waiting used group e lt holds begins =
     (begins_more_group l file 0 used (groups ++ waiting) group (omega (arith, length-append groups waiting, e)) begins lt holds)
 
 -- it waits
-scan_waits : (told : Type 0) (l : Layout) (file : List ℕ) (before now : PlainState) (old new : GroupLogState) (waiting left : List (List Patch)) (group : List Patch) → (scanned : HasScanned told l file before old waiting) → old.used ≡ length scanned.groups + length waiting
+scan_waits : (told : Type 0) (l : Layout) (file : List ℕ) (before now : PlainState) (old new : LogState) (waiting left : List (List Patch)) (group : List Patch) → (scanned : HasScanned told l file before old waiting) → old.used ≡ length scanned.groups + length waiting
     → new ≡ record old { used = old.used + 1 } → old.used + 1 < l.log → IsLoggable l group → (told → HoldsGroup l (slot_at file old.used) (old.used + 1) group) → patches_block (commit_block (shape_of l)) group ≡ false → now ≡ before → left ≡ waiting ++ group ∷ []
     → HasScanned told l file now new left
 scan_waits told l file before now old new waiting left group h used log lt valid holds other same more =
@@ -31,7 +31,7 @@ scan_waits told l file before now old new waiting left group h used log lt valid
     let long = ap length more in
     record {
       groups = h.groups;
-      log_is = log ∙ ap (λ (x : GroupLogState). record x { used = x.used + 1 }) h.log_is ∙ ap (λ (n : ℕ). record { layout = l; used = n; pending = []; scanned = false }) (omega (arith, count, long));
+      log_is = log ∙ ap (λ (x : LogState). record x { used = x.used + 1 }) h.log_is ∙ ap (λ (n : ℕ). record { layout = l; used = n; pending = []; scanned = false }) (omega (arith, count, long));
       shape_is = ap (λ (p : PlainState). p.shape) same ∙ h.shape_is;
       number = ap (λ (p : PlainState). p.number) same ∙ h.number;
       blocks = ap (λ (p : PlainState). p.blocks) same ∙ h.blocks;
@@ -44,7 +44,7 @@ scan_waits told l file before now old new waiting left group h used log lt valid
     }
 
 -- it is a commit, and all that wait are put into the blocks
-scan_commits : (told : Type 0) (l : Layout) (file : List ℕ) (before now : PlainState) (old new : GroupLogState) (waiting left : List (List Patch)) (group : List Patch) → (scanned : HasScanned told l file before old waiting) → old.used ≡ length scanned.groups + length waiting
+scan_commits : (told : Type 0) (l : Layout) (file : List ℕ) (before now : PlainState) (old new : LogState) (waiting left : List (List Patch)) (group : List Patch) → (scanned : HasScanned told l file before old waiting) → old.used ≡ length scanned.groups + length waiting
     → new ≡ record old { used = old.used + 1 } → old.used + 1 < l.log → (told → HoldsGroup l (slot_at file old.used) (old.used + 1) group) → patches_block (commit_block (shape_of l)) group ≡ true → now.shape ≡ before.shape
     → now.blocks ≡ after_groups (before.number + 1) (waiting ++ group ∷ []) before.blocks → now.number ≡ before.number + length waiting + 1 → left ≡ [] → HasScanned told l file now new left
 scan_commits told l file before now old new waiting left group h used log lt holds commit shape blocks number none =
@@ -55,7 +55,7 @@ scan_commits told l file before now old new waiting left group h used log lt hol
     let whole_all : all ++ left ≡ all = ap (λ (gs : List (List Patch)). all ++ gs) none ∙ append-nil all in
     record {
       groups = all;
-      log_is = log ∙ ap (λ (x : GroupLogState). record x { used = x.used + 1 }) h.log_is ∙ ap (λ (n : ℕ). record { layout = l; used = n; pending = []; scanned = false }) (omega (arith, count, behind, nothing));
+      log_is = log ∙ ap (λ (x : LogState). record x { used = x.used + 1 }) h.log_is ∙ ap (λ (n : ℕ). record { layout = l; used = n; pending = []; scanned = false }) (omega (arith, count, behind, nothing));
       shape_is = shape ∙ h.shape_is;
       number = omega (arith, number, h.number, count, behind);
       blocks = blocks ∙ ap (λ (n : ℕ). after_groups (n + 1) (waiting ++ group ∷ []) before.blocks) h.number ∙ ap (λ (b : List (List ℕ)). after_groups (length h.groups + 1) (waiting ++ group ∷ []) b) h.blocks
@@ -68,28 +68,28 @@ scan_commits told l file before now old new waiting left group h used log lt hol
     }
 
 -- one group more
-pub scan_more : (told : Type 0) (l : Layout) (file : List ℕ) (before now : PlainState) (old new : GroupLogState) (waiting left : List (List Patch)) (group : List Patch) → HasScanned told l file before old waiting
+pub scan_more : (told : Type 0) (l : Layout) (file : List ℕ) (before now : PlainState) (old new : LogState) (waiting left : List (List Patch)) (group : List Patch) → HasScanned told l file before old waiting
     → new ≡ record old { used = old.used + 1 } → old.used + 1 < l.log → IsLoggable l group → (told → HoldsGroup l (slot_at file old.used) (old.used + 1) group) → now.shape ≡ before.shape → Takes (commit_block (shape_of l)) before now waiting group left
     → HasScanned told l file now new left
 scan_more told l file before now old new waiting left group h log lt valid holds shape takes = from (patches_block (commit_block (shape_of l)) group) refl
   where
     used : old.used ≡ length h.groups + length waiting
-    used = ap (λ (x : GroupLogState). x.used) h.log_is
+    used = ap (λ (x : LogState). x.used) h.log_is
 
     from : (b : Bool) → patches_block (commit_block (shape_of l)) group ≡ b → HasScanned told l file now new left
     from true e = scan_commits told l file before now old new waiting left group h used log lt holds e shape (takes.blocks e) (takes.number e) (takes.none_left e)
     from false e = scan_waits told l file before now old new waiting left group h used log lt valid holds e (takes.waits e).0 (takes.waits e).1
 
 -- the end of the log
-pub scan_end : (told : Type 0) (l : Layout) (file : List ℕ) (plain : PlainState) (old new : GroupLogState) (waiting : List (List Patch)) → HasScanned told l file plain old waiting → new ≡ record old { scanned = true } → (told → GroupsAre l file old.used [])
+pub scan_end : (told : Type 0) (l : Layout) (file : List ℕ) (plain : PlainState) (old new : LogState) (waiting : List (List Patch)) → HasScanned told l file plain old waiting → new ≡ record old { scanned = true } → (told → GroupsAre l file old.used [])
     → HasScannedAll told l file plain new waiting
 scan_end told l file plain old new waiting h log ended = record {
   groups = h.groups;
-  log_is = log ∙ ap (λ (x : GroupLogState). record x { scanned = true }) h.log_is;
+  log_is = log ∙ ap (λ (x : LogState). record x { scanned = true }) h.log_is;
   shape_is = h.shape_is;
   number = h.number;
   blocks = h.blocks;
   whole = h.whole;
   few = h.few;
-  ends = λ t. begins_end_group l file 0 old.used (h.groups ++ waiting) (omega (arith, length-append h.groups waiting, ap (λ (x : GroupLogState). x.used) h.log_is)) (h.begins t) (ended t);
+  ends = λ t. begins_end_group l file 0 old.used (h.groups ++ waiting) (omega (arith, length-append h.groups waiting, ap (λ (x : LogState). x.used) h.log_is)) (h.begins t) (ended t);
 }

@@ -1,4 +1,5 @@
 pub mod Lap
 pub mod LapLaws
 pub mod Laps
+pub mod OneOpening
 pub mod Scanned

@@ -6,13 +6,13 @@ use Rattle.rb_base.specs.Groups.{Patch}
 use Rattle.rb_disk.specs.DiskModel.{Only}
 use Rattle.rb_layout.specs.Regions.{shape_of}
 use Rattle.rb_layout.specs.declared.layout.Layout.{Layout}
-use Rattle.rb_log.specs.GroupSlots.{GroupLogState, GroupsAre, BeginsWithGroups, IsLoggable}
+use Rattle.rb_log.specs.GroupSlots.{LogState, GroupsAre, BeginsWithGroups, IsLoggable}
 use Rattle.rb_plainstore.specs.Plain.{PlainState}
 use Rattle.rb_store.specs.Laps.{IsLap, committed_groups}
 
 -- The log is scanned up to some slot. The blocks are those after the groups up to the last commit, and the groups behind
 -- it wait. The file begins with them all, where it is told.
-pub record HasScanned (told : Type 0) (l : Layout) (file : List ℕ) (plain : PlainState) (log : GroupLogState) (waiting : List (List Patch)) : Type 0 where
+pub record HasScanned (told : Type 0) (l : Layout) (file : List ℕ) (plain : PlainState) (log : LogState) (waiting : List (List Patch)) : Type 0 where
   pub groups : List (List Patch)
   pub log_is : log ≡ record { layout = l; used = length groups + length waiting; pending = []; scanned = false }
   pub shape_is : plain.shape ≡ shape_of l
@@ -31,7 +31,7 @@ pub record Takes (commit : ℕ) (before now : PlainState) (waiting : List (List 
   pub none_left : patches_block commit group ≡ true → left ≡ []
 
 -- The log is scanned to its end, as `HasScanned` says: the file has these groups and no more.
-pub record HasScannedAll (told : Type 0) (l : Layout) (file : List ℕ) (plain : PlainState) (log : GroupLogState) (waiting : List (List Patch)) : Type 0 where
+pub record HasScannedAll (told : Type 0) (l : Layout) (file : List ℕ) (plain : PlainState) (log : LogState) (waiting : List (List Patch)) : Type 0 where
   pub groups : List (List Patch)
   pub log_is : log ≡ record { layout = l; used = length groups + length waiting; pending = []; scanned = true }
   pub shape_is : plain.shape ≡ shape_of l
@@ -42,7 +42,7 @@ pub record HasScannedAll (told : Type 0) (l : Layout) (file : List ℕ) (plain :
   pub ends : told → GroupsAre l file 0 (groups ++ waiting)
 
 -- The file and each image have these groups, of which the last is a commit, and the blocks are those after them.
-pub record HasOpened {D : Type 0} (told : Type 0) (content : D → List ℕ) (image : D → List ℕ → Type 0) (l : Layout) (plain : PlainState) (log : GroupLogState) (disk : D) : Type 0 where
+pub record HasOpened {D : Type 0} (told : Type 0) (content : D → List ℕ) (image : D → List ℕ → Type 0) (l : Layout) (plain : PlainState) (log : LogState) (disk : D) : Type 0 where
   pub groups : List (List Patch)
   pub log_is : log ≡ record { layout = l; used = length groups; pending = []; scanned = true }
   pub shape_is : plain.shape ≡ shape_of l

@@ -4,14 +4,14 @@ ghost use Rattle.std.specs.Prelude.{◌≡◌, ℕ, List, false, [], IfOk, IfErr
 ghost use Rattle.rb_base.specs.Counts.{Rose};
 ghost use Rattle.rb_disk.specs.Moments.{Rests};
 ghost use Rattle.rb_layout.specs.declared.layout.Layout.{Layout};
-ghost use Rattle.rb_log.specs.GroupSlots.{GroupLogState};
+ghost use Rattle.rb_log.specs.GroupSlots.{LogState};
 ghost use Rattle.rb_plainstore.specs.Plain.{PlainState};
 ghost use Rattle.rb_store.specs.Laps.{LapState, OpensTo, IsStable};
 
 use rb_base::{BlockNo, Failed, Group, Lsn, Shape, Store};
 use rb_disk::Disk;
 use rb_layout::Layout;
-use rb_log::GroupLog;
+use rb_log::Log;
 use rb_plainstore::PlainStore;
 use std::marker::Model;
 
@@ -20,7 +20,7 @@ use std::marker::Model;
 #[derive(Drop)]
 pub struct LapStore<D: Disk> {
     pub(crate) plain: PlainStore,
-    pub(crate) log: GroupLog,
+    pub(crate) log: Log,
     pub(crate) layout: Layout,
     pub(crate) failed: bool,
     pub(crate) disk: D,

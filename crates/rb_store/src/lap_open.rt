@@ -18,7 +18,7 @@ use crate::lap::LapStore;
 use rb_base::{BlockNo, Group, OpenFault, Store};
 use rb_disk::Disk;
 use rb_layout::{Head, Layout, VERSION};
-use rb_log::GroupLog;
+use rb_log::Log;
 use rb_plainstore::PlainStore;
 use std::alloc::Global;
 
@@ -26,7 +26,7 @@ use std::alloc::Global;
 #[derive(Drop)]
 struct Scan {
     plain: PlainStore,
-    log: GroupLog,
+    log: Log,
     // The groups behind the last commit so far.
     waiting: Vec<Group>,
 }
@@ -67,7 +67,7 @@ fn fresh_scan<D: Disk>(alloc: Global, disk: &mut D, layout: &Layout) -> Result<S
     ensures untouched { disk.new ≡ disk.old }
 {
     let head = Head { slot: 0, number: 1 };
-    let log = GroupLog::open(alloc, disk, layout, head)?;
+    let log = Log::open(alloc, disk, layout, head)?;
     let Ok(plain) = PlainStore::new(alloc, layout.shape()) else {
         return Err(OpenFault::NoMemory);
     };

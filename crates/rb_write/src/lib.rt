@@ -1,5 +1,5 @@
 //! Writes rows into the blocks of a store: one attempt is one change, as one group of one patch, or a refusal. The
-//! engine over blocks will call it; the program doesn't use it yet.
+//! engine calls it.
 #![tactic(auto)]
 
 mod ask;

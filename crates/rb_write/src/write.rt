@@ -1,4 +1,4 @@
-//! One attempt of a write: what stands in its way, and the group that makes it. The engine over blocks will call it.
+//! One attempt of a write: what stands in its way, and the group that makes it. The engine calls it.
 ghost use Rattle.std.specs.Prelude.{◌≡◌, ◌≢◌, ◌⊎◌, ◌+◌, ◌^◌, ◌<◌, ◌≤◌, ◌==◌, ◌&&◌, if◌then◌else◌, [], ◌∷◌, ◌++◌, ℕ, List, true, false, is_some, length, IfOk, IfErr, OnOk, OnErr, IsErrOf};
 ghost use Rattle.rb_base.specs.Blocks.{block_of, commit_block, table_blocks, shape_blocks, patches_block, AreBlocks};
 ghost use Rattle.rb_base.specs.Counts.{Rose};

@@ -18,11 +18,11 @@ returns-in-Some-Format-clause-run_ends g c = λ n asked. absurd (not_both c.args
 
 pub returns-in-Some-Format-clause-formatted : goal.returns-in-Some-Format-clause-formatted
 returns-in-Some-Format-clause-formatted g c = λ told l asked done.
-    c.run_format.ensures.formatted told done ∙ same_file 101 c.args.words.now c.in-Some-Format.layout l (rw c.in-Some-Format.field-0-is at c.in-Some-Format.ensures.found) asked
+    c.run_format.ensures.formatted told done ∙ same_file 102 c.args.words.now c.in-Some-Format.layout l (rw c.in-Some-Format.field-0-is at c.in-Some-Format.ensures.found) asked
 
 pub returns-in-Some-Format-clause-durable : goal.returns-in-Some-Format-clause-durable
 returns-in-Some-Format-clause-durable g c = λ told l asked done image left.
-    c.run_format.ensures.durable told done image left ∙ same_file 101 c.args.words.now c.in-Some-Format.layout l (rw c.in-Some-Format.field-0-is at c.in-Some-Format.ensures.found) asked
+    c.run_format.ensures.durable told done image left ∙ same_file 102 c.args.words.now c.in-Some-Format.layout l (rw c.in-Some-Format.field-0-is at c.in-Some-Format.ensures.found) asked
 
 pub returns-in-Some-Format-clause-was_empty : goal.returns-in-Some-Format-clause-was_empty
 returns-in-Some-Format-clause-was_empty g c = λ told l asked is. c.run_format.ensures.was_empty told is
@@ -54,8 +54,8 @@ returns-in-Some-Format-clause-disk_done g c = λ disk told n asked is. absurd (n
 pub returns-in-Some-Format-clause-cut_off : goal.returns-in-Some-Format-clause-cut_off
 returns-in-Some-Format-clause-cut_off g c = λ disk told tells is. absurd (rw is at c.run_format.ensures.ends)
 
-pub returns-in-Some-Format-clause-unchanged : goal.returns-in-Some-Format-clause-unchanged
-returns-in-Some-Format-clause-unchanged g c = λ disk n asked is. absurd (not_both c.args.words.now c.in-Some-Format.layout n (rw c.in-Some-Format.field-0-is at c.in-Some-Format.ensures.found) asked)
+pub returns-in-Some-Format-clause-untouched : goal.returns-in-Some-Format-clause-untouched
+returns-in-Some-Format-clause-untouched g c = λ disk n asked is. absurd (not_both c.args.words.now c.in-Some-Format.layout n (rw c.in-Some-Format.field-0-is at c.in-Some-Format.ensures.found) asked)
 
 pub returns-in-Some-Format-clause-not_a_store : goal.returns-in-Some-Format-clause-not_a_store
 returns-in-Some-Format-clause-not_a_store g c = λ disk is. absurd (rw is at c.run_format.ensures.ends)
@@ -151,8 +151,8 @@ returns-in-Some-Run-clause-sink_fault g c = λ is. c.run_script.ensures.sink_fau
 pub returns-in-Some-Run-clause-disk_done : goal.returns-in-Some-Run-clause-disk_done
 returns-in-Some-Run-clause-disk_done g c = λ disk told n asked is. c.run_script.ensures.disk_done disk told is
 
-pub returns-in-Some-Run-clause-unchanged : goal.returns-in-Some-Run-clause-unchanged
-returns-in-Some-Run-clause-unchanged g c = λ disk n asked is. c.run_script.ensures.unchanged disk is
+pub returns-in-Some-Run-clause-untouched : goal.returns-in-Some-Run-clause-untouched
+returns-in-Some-Run-clause-untouched g c = λ disk n asked is. c.run_script.ensures.untouched disk is
 
 pub returns-in-Some-Run-clause-sound : goal.returns-in-Some-Run-clause-sound
 returns-in-Some-Run-clause-sound g c = λ disk n asked is. c.run_script.ensures.sound disk is
@@ -177,8 +177,8 @@ returns-in-None-clause-format_ends g c = λ l asked. c.in-None.ensures.none (For
 pub returns-in-None-clause-run_ends : goal.returns-in-None-clause-run_ends
 returns-in-None-clause-run_ends g c = λ n asked. c.in-None.ensures.none (Run n) asked
 
-pub returns-in-None-clause-unchanged : goal.returns-in-None-clause-unchanged
-returns-in-None-clause-unchanged g c = λ disk n asked is. absurd (c.in-None.ensures.none (Run n) asked)
+pub returns-in-None-clause-untouched : goal.returns-in-None-clause-untouched
+returns-in-None-clause-untouched g c = λ disk n asked is. absurd (c.in-None.ensures.none (Run n) asked)
 
 pub returns-in-None-clause-format_unchanged : goal.returns-in-None-clause-format_unchanged
 returns-in-None-clause-format_unchanged g c = λ disk l asked some. absurd (c.in-None.ensures.none (Format l) asked)

@@ -4,7 +4,7 @@ use Rattle.rb_base.specs.Groups.{Patch}
 use Rattle.rb_base.specs.Moments.{LeavesOnly, weaker}
 use Rattle.rb_layout.specs.Regions.{shape_of}
 use Rattle.rb_layout.specs.declared.layout.Layout.{Layout}
-use Rattle.rb_log.specs.GroupSlots.{GroupLogState, GroupsAre, DroppedSome}
+use Rattle.rb_log.specs.GroupSlots.{LogState, GroupsAre, DroppedSome}
 use Rattle.rb_log.specs.Slots.{SameOutside}
 use Rattle.rb_store.specs.Laps.{IsLap, OpensTo}
 use Rattle.rb_store.proofs.LapLemmas.{same_identity}
@@ -18,8 +18,8 @@ returns-in-Ok-clause-opened g c =
     let all = h.groups ++ c.args.scan.now.waiting.items in
     let old = c.args.scan.now.log in
     let count : c.logged-kept.result ≡ length h.groups = c.logged-kept.ensures ∙ h.number in
-    let same : old.layout ≡ l = ap (λ (x : GroupLogState). x.layout) h.log_is in
-    let used : length all ≡ old.used = length-append h.groups c.args.scan.now.waiting.items ∙ sym (ap (λ (x : GroupLogState). x.used) h.log_is) in
+    let same : old.layout ≡ l = ap (λ (x : LogState). x.layout) h.log_is in
+    let used : length all ≡ old.used = length-append h.groups c.args.scan.now.waiting.items ∙ sym (ap (λ (x : LogState). x.used) h.log_is) in
     let lap = λ (t : g.D.Disk.tells).
     let log = subst (λ (m : Layout). GroupsAre m (g.D.Disk.content c.args.disk.now) 0 all) (sym same) (h.ends t) in
     let dropped = subst (λ (m : Layout). GroupsAre m (g.D.Disk.content c.drop_behind.new.disk) 0 (take c.logged-kept.result all)) same (c.in-Ok.ensures.dropped t all used log) in
@@ -30,7 +30,7 @@ returns-in-Ok-clause-opened g c =
     } in is in
     record {
       groups = h.groups;
-      log_is = c.in-Ok.ensures.shorter ∙ ap (λ (x : GroupLogState). record x { used = c.logged-kept.result }) h.log_is ∙ ap (λ (n : ℕ). record { layout = l; used = n; pending = []; scanned = true }) count;
+      log_is = c.in-Ok.ensures.shorter ∙ ap (λ (x : LogState). record x { used = c.logged-kept.result }) h.log_is ∙ ap (λ (n : ℕ). record { layout = l; used = n; pending = []; scanned = true }) count;
       shape_is = h.shape_is;
       number = h.number;
       blocks = h.blocks;
@@ -48,8 +48,8 @@ returns-in-Ok-clause-any_moment g c told =
     let all = h.groups ++ c.args.scan.now.waiting.items in
     let old = c.args.scan.now.log in
     let count : c.logged-kept.result ≡ length h.groups = c.logged-kept.ensures ∙ h.number in
-    let same : old.layout ≡ l = ap (λ (x : GroupLogState). x.layout) h.log_is in
-    let used : length all ≡ old.used = length-append h.groups c.args.scan.now.waiting.items ∙ sym (ap (λ (x : GroupLogState). x.used) h.log_is) in
+    let same : old.layout ≡ l = ap (λ (x : LogState). x.layout) h.log_is in
+    let used : length all ≡ old.used = length-append h.groups c.args.scan.now.waiting.items ∙ sym (ap (λ (x : LogState). x.used) h.log_is) in
     let log = subst (λ (m : Layout). GroupsAre m (g.D.Disk.content c.args.disk.now) 0 all) (sym same) (h.ends told) in
     let leaves = subst (λ (m : Layout). LeavesOnly g.D.Disk.moment g.D.Disk.image_since c.args.disk.now c.drop_behind.new.disk (DroppedSome (g.D.Disk.image c.args.disk.now) m all c.logged-kept.result)) same (c.drop_behind.ensures.any_moment told all used log) in
     weaker g.D.Disk.moment g.D.Disk.image_since c.args.disk.now c.drop_behind.new.disk _ (λ im. OpensTo l im c.args.scan.now.plain.blocks)
@@ -62,8 +62,8 @@ returns-in-Err-clause-any_moment g c told =
     let all = h.groups ++ c.args.scan.now.waiting.items in
     let old = c.args.scan.now.log in
     let count : c.logged-kept.result ≡ length h.groups = c.logged-kept.ensures ∙ h.number in
-    let same : old.layout ≡ l = ap (λ (x : GroupLogState). x.layout) h.log_is in
-    let used : length all ≡ old.used = length-append h.groups c.args.scan.now.waiting.items ∙ sym (ap (λ (x : GroupLogState). x.used) h.log_is) in
+    let same : old.layout ≡ l = ap (λ (x : LogState). x.layout) h.log_is in
+    let used : length all ≡ old.used = length-append h.groups c.args.scan.now.waiting.items ∙ sym (ap (λ (x : LogState). x.used) h.log_is) in
     let log = subst (λ (m : Layout). GroupsAre m (g.D.Disk.content c.args.disk.now) 0 all) (sym same) (h.ends told) in
     let leaves = subst (λ (m : Layout). LeavesOnly g.D.Disk.moment g.D.Disk.image_since c.args.disk.now c.drop_behind.new.disk (DroppedSome (g.D.Disk.image c.args.disk.now) m all c.logged-kept.result)) same (c.drop_behind.ensures.any_moment told all used log) in
     weaker g.D.Disk.moment g.D.Disk.image_since c.args.disk.now c.drop_behind.new.disk _ (λ im. OpensTo l im c.args.scan.now.plain.blocks)

@@ -1,5 +1,5 @@
 use Rattle.std.proofs.Common.{List, ℕ, length, refl, arith, ap, sym, subst}
-use Rattle.rb_log.specs.GroupSlots.{GroupLogState}
+use Rattle.rb_log.specs.GroupSlots.{LogState}
 use Rattle.rb_log.specs.Slots.{SameSlots}
 use Rattle.rb_store.proofs.lap.LapStore.open.Goals as goal
 
@@ -12,12 +12,12 @@ invariant_of-result g c =
     let h = c.in-Ok.ensures.opened in
     let l = c.in-Ok.parts.layout in
     let log = c.in-Ok.parts.scan.log in
-    let waiting = ap length (ap (λ (x : GroupLogState). x.pending) h.log_is) in (
+    let waiting = ap length (ap (λ (x : LogState). x.pending) h.log_is) in (
       record {
-        same_layout = ap (λ (x : GroupLogState). x.layout) h.log_is;
+        same_layout = ap (λ (x : LogState). x.layout) h.log_is;
         same_shape = h.shape_is;
-        ended = ap (λ (x : GroupLogState). x.scanned) h.log_is;
-        numbers = omega (arith, h.number, ap (λ (x : GroupLogState). x.used) h.log_is, waiting);
+        ended = ap (λ (x : LogState). x.scanned) h.log_is;
+        numbers = omega (arith, h.number, ap (λ (x : LogState). x.used) h.log_is, waiting);
       },
       λ told. (h.file told).identity.whole,
       λ told going im here. subst (λ (f : List ℕ). SameSlots l.log (g.D.Disk.content c.open_parts.new.disk) f) (sym (h.only told im here)) (same_file l.log (g.D.Disk.content c.open_parts.new.disk)),

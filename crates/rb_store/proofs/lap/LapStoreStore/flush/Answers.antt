@@ -2,7 +2,7 @@ use Rattle.std.proofs.Common.{◌≡◌, ◌+◌, ◌++◌, ℕ, List, length, r
 use Rattle.rb_base.specs.Groups.{Patch}
 use Rattle.rb_base.specs.Moments.{LeavesOnly}
 use Rattle.rb_layout.specs.declared.layout.Layout.{Layout}
-use Rattle.rb_log.specs.GroupSlots.{GroupLogState, GroupsAre, FlushedSome}
+use Rattle.rb_log.specs.GroupSlots.{LogState, GroupsAre, FlushedSome}
 use Rattle.rb_log.specs.Slots.{SameSlots}
 use Rattle.rb_store.proofs.LapLemmas.{flush_moments, flush_images, flush_opens, flush_stable}
 use Rattle.rb_store.proofs.lap.LapStoreStore.flush.Goals as goal
@@ -51,4 +51,4 @@ returns-in-Ok-clause-stable g c told b = rw (← c.self.view_is) (λ st ends.
     let written = subst (λ (l : Layout). GroupsAre l (g.D.Disk.content c.flush.new.disk) 0 (st.groups ++ a.log.pending)) step.same_layout (c.in-Ok.ensures.written told st.groups count log) in
     let durable = λ (im : List ℕ) (h : g.D.Disk.image c.flush.new.disk im). subst (λ (l : Layout). SameSlots l.log (g.D.Disk.content c.flush.new.disk) im) step.same_layout (c.in-Ok.ensures.durable told im h) in
     let images = flush_images g.D.Disk.content g.D.Disk.image g.D.Disk.moment g.D.Disk.image_since _ b c.flush.new.disk st leaves (λ im le h. g.met.D.Disk.now_counts c.flush.new.disk (g.D.Disk.moment a.disk) im told le h) written durable in
-    flush_stable g.D.Disk.content g.D.Disk.image _ _ b st ends refl refl (ap (λ (l : GroupLogState). l.pending) c.in-Ok.ensures.flushed) refl (images (g.D.Disk.content c.flush.new.disk) (g.met.D.Disk.reads_an_image c.flush.new.disk told)) images)
+    flush_stable g.D.Disk.content g.D.Disk.image _ _ b st ends refl refl (ap (λ (l : LogState). l.pending) c.in-Ok.ensures.flushed) refl (images (g.D.Disk.content c.flush.new.disk) (g.met.D.Disk.reads_an_image c.flush.new.disk told)) images)

@@ -1,0 +1,211 @@
+//! `Log`: the groups of patches in the log slots of a file. A store scans it at opening, and flushes to it what
+//! changes the blocks.
+ghost use Rattle.std.specs.Prelude.{◌≡◌, ◌≤◌, ◌<◌, ◌+◌, ◌++◌, ◌↔◌, [], ◌∷◌, ℕ, List, true, false, take, length, IsTrue, IsErrOf, slice_index_or, IfOk, IfErr, IfSome, IfNone, OnOk, OnErr};
+ghost use Rattle.rb_base.specs.Blocks.{AreWithin};
+ghost use Rattle.rb_base.specs.Counts.{IsCounted, Rose};
+ghost use Rattle.rb_base.specs.Fields.{overwritten};
+ghost use Rattle.rb_base.specs.Groups.{Patch, IsGroup};
+ghost use Rattle.rb_base.specs.Moments.{LeavesOnly};
+ghost use Rattle.rb_disk.specs.DiskModel.{Only};
+ghost use Rattle.rb_disk.specs.Moments.{Rests};
+ghost use Rattle.rb_layout.specs.Regions.{file_length, log_offset, shape_of};
+ghost use Rattle.rb_log.specs.GroupSlots.{HoldsGroup, GroupsAre, IsFaultyGroup, DroppedSome, FlushedSome, IsLoggable, group_unit};
+ghost use Rattle.rb_log.specs.Slots.{slot_at, SameSlots, SameOutside, SameBut, TornFrom};
+
+use crate::flush::write_groups;
+use crate::unit::read_group;
+use rb_base::{Failed, Group, Lsn, OpenFault, UNIT};
+use rb_disk::Disk;
+use rb_layout::{Head, Layout};
+use std::alloc::Global;
+use std::marker::Model;
+
+/// How many units one write of a flush has at most.
+const UNITS: usize = 32;
+
+/// The log of a file. It is scanned to its end first; from then on groups are appended, and flushed some at a time.
+#[derive(Drop)]
+pub struct Log {
+    layout: Layout,
+    used: u32,
+    // What waits for a flush. Its room is taken when the log is opened.
+    pending: Vec<Group>,
+    scanned: bool,
+    buffer: Vec<u8>,
+}
+
+impl Model for Log {
+    ghost use Rattle.std.specs.Prelude.{vec_capacity};
+    ghost use Rattle.rb_log.specs.GroupSlots.{LogState, IsLogMemory};
+
+    ghost Value = { LogState };
+
+    ghost view = { λ a. record { layout = a.layout; used = a.used; pending = a.pending.items; scanned = a.scanned } };
+
+    ghost invariant = { λ a. IsLogMemory a.layout a.used a.pending.items a.scanned a.buffer.items (vec_capacity a.pending) };
+}
+
+/// Closes a gate. From its sync on no image has what stands behind it in the log.
+fn close_gate<D: Disk>(disk: &mut D, at: u64) -> Result<(), Failed>
+    requires within { D.tells → at + 1 ≤ length (D.content disk.old) }
+    ensures written { D.tells → OnOk result (D.content disk.new ≡ overwritten (D.content disk.old) at (0 ∷ [])) }
+    ensures durable { D.tells → OnOk result (Only (D.content disk.new) (D.image disk.new)) }
+    ensures length { D.tells → length (D.content disk.new) ≡ length (D.content disk.old) }
+    ensures any_moment { D.tells → LeavesOnly D.moment D.image_since disk.old disk.new (TornFrom at 1 (D.image disk.old)) }
+    ensures counted { IsCounted (D.faults disk.old) (D.faults disk.new) result }
+{
+    disk.write_at(at, &[0])?;
+    disk.sync()
+}
+
+impl Log {
+    /// A log whose groups are yet to be scanned. It takes all the memory that the log needs, and doesn't touch the disk.
+    /// In this form the log begins in slot 0 with number 1.
+    pub fn open<D: Disk>(
+        alloc: Global,
+        _disk: &mut D,
+        layout: &Layout,
+        head: Head,
+    ) -> Result<Log, OpenFault>
+        requires slot { head.slot ≡ 0 }
+        requires number { head.number ≡ 1 }
+        ensures opened { IfOk result (λ log. log ≡ record { layout = layout.now; used = 0; pending = []; scanned = false }) }
+        ensures memory { IfErr result (λ e. e ≡ OpenFault.NoMemory) }
+        ensures untouched { _disk.new ≡ _disk.old }
+    {
+        let Ok(pending) = Vec::with_capacity(alloc, layout.log as usize) else {
+            return Err(OpenFault::NoMemory);
+        };
+        let Ok(buffer) = vec![in alloc; 0; UNITS * UNIT] else {
+            return Err(OpenFault::NoMemory);
+        };
+        Ok(Log {
+            layout: *layout,
+            used: 0,
+            pending,
+            scanned: false,
+            buffer,
+        })
+    }
+
+    /// The group of a number, one more than the last. None is the end: a closed gate, or the last slot, which stays
+    /// free. NotAStore is an open slot without such a group.
+    pub fn scan<D: Disk>(&mut self, disk: &mut D, next: Lsn) -> Result<Option<Group>, OpenFault>
+        requires before { self.old.scanned ≡ false }
+        requires next { next ≡ self.old.used + 1 }
+        requires whole { D.tells → length (D.content disk.old) ≡ file_length self.old.layout }
+        ensures found { D.tells → IfOk result (λ o. IfSome o (λ g. HoldsGroup self.old.layout (slot_at (D.content disk.old) self.old.used) next g)) }
+        ensures valid { IfOk result (λ o. IfSome o (λ g. IsLoggable self.old.layout g)) }
+        ensures more { IfOk result (λ o. IfSome o (λ g. self.old.used + 1 < self.old.layout.log)) }
+        ensures end { D.tells → IfOk result (λ o. IfNone o (GroupsAre self.old.layout (D.content disk.old) self.old.used [])) }
+        ensures faulty { D.tells → IsErrOf result OpenFault.NotAStore → IsFaultyGroup self.old.layout (D.content disk.old) self.old.used }
+        ensures failed { IsErrOf result OpenFault.Failed → Rose (D.faults disk.old) (D.faults disk.new) }
+        ensures no_memory { IsErrOf result OpenFault.NoMemory → ⊥ }
+        ensures counted { D.faults disk.old ≤ D.faults disk.new }
+        ensures one_more { IfOk result (λ o. IfSome o (λ g. self.new ≡ record self.old { used = self.old.used + 1 })) }
+        ensures ended { IfOk result (λ o. IfNone o (self.new ≡ record self.old { scanned = true })) }
+        ensures stays { OnErr result (self.new ≡ self.old) }
+        ensures same { D.tells → Rests D.content D.image D.moment D.image_since disk.old disk.new }
+        ensures untouched { self.old.used + 1 ≡ self.old.layout.log → disk.new ≡ disk.old }
+    {
+        if self.used + 1 == self.layout.log {
+            self.scanned = true;
+            return Ok(None);
+        }
+        let found = read_group(disk, &self.layout, self.used, next, &mut self.buffer)?;
+        let Some(group) = found else {
+            self.scanned = true;
+            return Ok(None);
+        };
+        self.used += 1;
+        Ok(Some(group))
+    }
+
+    /// How many slots hold groups that were scanned or flushed.
+    pub fn used(&self) -> u32
+        ensures used { result ≡ self.now.used }
+        ensures below { result + length self.now.pending < self.now.layout.log }
+    {
+        self.used
+    }
+
+    /// How many groups wait for a flush.
+    pub fn pending(&self) -> u32
+        ensures { result ≡ length self.now.pending }
+    {
+        self.pending.as_slice().len() as u32
+    }
+
+    /// Whether one more group has room: with it the slots in use stay fewer than all, so that the gate behind can be
+    /// closed.
+    pub fn room(&self) -> bool
+        ensures { IsTrue result ↔ (self.now.used + length self.now.pending + 1 < self.now.layout.log) }
+    {
+        self.used() + self.pending() + 1 < self.layout.log
+    }
+
+    /// Takes a copy of a group, which has a patch and whose blocks are those of the file. The next flush writes it.
+    pub fn append(&mut self, group: &Group)
+        requires scanned { self.old.scanned ≡ true }
+        requires room { self.old.used + length self.old.pending + 1 < self.old.layout.log }
+        requires some { 0 < length group.now }
+        requires within { AreWithin (shape_of self.old.layout) group.now }
+        ensures { self.new ≡ record self.old { pending = self.old.pending ++ group.now ∷ [] } }
+    {
+        // Its count says that it is a group.
+        let _ = group.patches();
+        self.pending.push_reserved(group.copied());
+    }
+
+    /// Writes the groups that wait behind those of the log, up to 32 as one run of slots, and one run after another. After
+    /// an Ok every image has all of them; a crash before leaves a number of whole runs.
+    pub fn flush<D: Disk>(&mut self, disk: &mut D) -> Result<(), Failed>
+        requires whole { D.tells → length (D.content disk.old) ≡ file_length self.old.layout }
+        requires synced { D.tells → (c : List ℕ) → D.image disk.old c → SameSlots self.old.layout.log (D.content disk.old) c }
+        ensures written { D.tells → OnOk result ((groups : List (List Patch)) → length groups ≡ self.old.used → GroupsAre self.old.layout (D.content disk.old) 0 groups → GroupsAre self.old.layout (D.content disk.new) 0 (groups ++ self.old.pending)) }
+        ensures units { D.tells → OnOk result ((k : ℕ) (d : List Patch) → k < length self.old.pending → slot_at (D.content disk.new) (self.old.used + k) ≡ group_unit 1 (self.old.used + k + 1) (slice_index_or self.old.pending k d)) }
+        ensures others { D.tells → OnOk result (SameBut (log_offset self.old.used) (log_offset (self.old.used + length self.old.pending) + 1) (D.content disk.old) (D.content disk.new)) }
+        ensures outside { D.tells → OnOk result (SameOutside self.old.layout.log (D.content disk.old) (D.content disk.new)) }
+        ensures durable { D.tells → OnOk result ((c : List ℕ) → D.image disk.new c → SameSlots self.old.layout.log (D.content disk.new) c) }
+        ensures whole { D.tells → length (D.content disk.new) ≡ file_length self.old.layout }
+        ensures any_moment { D.tells → (groups : List (List Patch)) → length groups ≡ self.old.used → GroupsAre self.old.layout (D.content disk.old) 0 groups → LeavesOnly D.moment D.image_since disk.old disk.new (FlushedSome (D.image disk.old) self.old.layout groups self.old.pending) }
+        ensures flushed { OnOk result (self.new ≡ record self.old { used = self.old.used + length self.old.pending; pending = [] }) }
+        ensures stays { OnErr result (self.new ≡ self.old) }
+        ensures counted { IsCounted (D.faults disk.old) (D.faults disk.new) result }
+    {
+        let count = self.pending();
+        write_groups(
+            disk,
+            &self.layout,
+            self.used,
+            &self.pending,
+            &mut self.buffer,
+        )?;
+        self.used += count;
+        self.pending.clear();
+        Ok(())
+    }
+
+    /// Forgets the groups behind the first `count`. After an Ok each image has those alone; a crash before leaves all or
+    /// those.
+    pub fn drop_behind<D: Disk>(&mut self, disk: &mut D, count: u32) -> Result<(), Failed>
+        requires scanned { self.old.scanned ≡ true }
+        requires none { self.old.pending ≡ [] }
+        requires fewer { count < self.old.used }
+        requires whole { D.tells → length (D.content disk.old) ≡ file_length self.old.layout }
+        requires synced { D.tells → (c : List ℕ) → D.image disk.old c → SameSlots self.old.layout.log (D.content disk.old) c }
+        ensures dropped { D.tells → OnOk result ((groups : List (List Patch)) → length groups ≡ self.old.used → GroupsAre self.old.layout (D.content disk.old) 0 groups → GroupsAre self.old.layout (D.content disk.new) 0 (take count groups)) }
+        ensures others { D.tells → OnOk result (SameBut (log_offset count) (log_offset count + 1) (D.content disk.old) (D.content disk.new)) }
+        ensures outside { D.tells → OnOk result (SameOutside self.old.layout.log (D.content disk.old) (D.content disk.new)) }
+        ensures durable { D.tells → OnOk result (Only (D.content disk.new) (D.image disk.new)) }
+        ensures whole { D.tells → length (D.content disk.new) ≡ file_length self.old.layout }
+        ensures any_moment { D.tells → (groups : List (List Patch)) → length groups ≡ self.old.used → GroupsAre self.old.layout (D.content disk.old) 0 groups → LeavesOnly D.moment D.image_since disk.old disk.new (DroppedSome (D.image disk.old) self.old.layout groups count) }
+        ensures shorter { OnOk result (self.new ≡ record self.old { used = count }) }
+        ensures stays { OnErr result (self.new ≡ self.old) }
+        ensures counted { IsCounted (D.faults disk.old) (D.faults disk.new) result }
+    {
+        close_gate(disk, self.layout.log_at(count))?;
+        self.used = count;
+        Ok(())
+    }
+}

@@ -1,0 +1,382 @@
+//! Engines over both stores under one list of calls: they answer alike, and as the list says.
+use crate::doubles::{CALLS, SCRIPT_ROOM};
+use arrayvec::ArrayVec;
+use rb_base::{Shape, Store};
+use rb_engine::Engine;
+use rb_layout::Layout;
+use rb_memdisk::MemDisk;
+use rb_model::{Fetched, Name, Op, Refusal, Row, Wrote};
+use rb_plainstore::PlainStore;
+use rb_store::{LapStore, format};
+use std::alloc::Global;
+use std::process::Abort;
+use std::test::Fail;
+
+// Two tables of two blocks, one segment and 64 log slots.
+const SHAPE: Shape = Shape {
+    tables: 2,
+    blocks: 2,
+    segments: 1,
+};
+
+const SLOTS: u32 = 64;
+
+/// A call of an engine: session, then what it is for.
+#[derive(Clone, Copy, Debug)]
+enum Call<'a> {
+    Write(u16, u16, u64, Op<'a>),
+    Commit(u16),
+    Open(u16, &'a [u8], u16, u64, u64),
+    Fetch(u16, &'a [u8]),
+    Close(u16, &'a [u8]),
+}
+
+/// What a call answers.
+#[derive(Clone, Copy, Debug, PartialEq, Eq)]
+enum Answer<'a> {
+    Done,
+    Waits(u16),
+    Numbered(u64),
+    Given(u64, &'a [u8]),
+    End,
+    Refused(Refusal),
+    /// The call has no name of a cursor.
+    Nameless,
+}
+
+// The answer of a write.
+fn answer_of_write(answer: Result<Wrote, Refusal>) -> Answer<'static> {
+    match answer {
+        Ok(Wrote::Done) => Answer::Done,
+        Ok(Wrote::Waits { on }) => Answer::Waits(on),
+        Err(why) => Answer::Refused(why),
+    }
+}
+
+// The answer of a commit.
+fn answer_of_commit(answer: Result<Option<u64>, Refusal>) -> Answer<'static> {
+    match answer {
+        Ok(Some(number)) => Answer::Numbered(number),
+        Ok(None) => Answer::Done,
+        Err(why) => Answer::Refused(why),
+    }
+}
+
+// The answer of a call that tells nothing but that it was done.
+fn answer_of_call(answer: Result<(), Refusal>) -> Answer<'static> {
+    match answer {
+        Ok(()) => Answer::Done,
+        Err(why) => Answer::Refused(why),
+    }
+}
+
+// The answer of a fetch, with the row that it filled.
+fn answer_of_fetch(answer: Result<Fetched, Refusal>, row: &Row) -> Answer<'_> {
+    match answer {
+        Ok(Fetched::Row) => Answer::Given(row.key, row.value.as_slice()),
+        Ok(Fetched::End) => Answer::End,
+        Err(why) => Answer::Refused(why),
+    }
+}
+
+// Calls an engine. A row is given into `row`.
+fn called<'a, S: Store>(engine: &mut Engine<S>, call: Call<'_>, row: &'a mut Row) -> Answer<'a> {
+    match call {
+        Call::Write(s, table, key, op) => answer_of_write(engine.write(s, table, key, op)),
+        Call::Commit(s) => answer_of_commit(engine.commit(s)),
+        Call::Open(s, name, table, lo, hi) => match Name::new(name) {
+            Some(name) => answer_of_call(engine.open_cursor(s, &name, table, lo, hi)),
+            None => Answer::Nameless,
+        },
+        Call::Fetch(s, name) => match Name::new(name) {
+            Some(name) => {
+                let answer = engine.fetch(s, &name, row);
+                answer_of_fetch(answer, row)
+            }
+            None => Answer::Nameless,
+        },
+        Call::Close(s, name) => match Name::new(name) {
+            Some(name) => answer_of_call(engine.close_cursor(s, &name)),
+            None => Answer::Nameless,
+        },
+    }
+}
+
+/// An engine over each store, with the rows that they fill.
+#[derive(Drop)]
+struct Both {
+    plain: Engine<PlainStore>,
+    plain_row: Row,
+    lap: Engine<LapStore<MemDisk>>,
+    lap_row: Row,
+}
+
+fn no_row() -> Row {
+    Row {
+        key: 0,
+        value: ArrayVec::new(),
+    }
+}
+
+// The engine over the store of a new file.
+fn lap_engine(alloc: Global) -> Result<Engine<LapStore<MemDisk>>, Fail> {
+    let Some(layout) = Layout::new(SHAPE.tables, SHAPE.blocks, SHAPE.segments, SLOTS) else {
+        return Err(Fail::new("no layout"));
+    };
+    let mut disk = MemDisk::new(alloc, b"", SCRIPT_ROOM, CALLS, &[])?;
+    if format(&mut disk, &layout).is_err() {
+        return Err(Fail::new("no file"));
+    }
+    let Ok(store) = LapStore::open(alloc, disk) else {
+        return Err(Fail::new("no store"));
+    };
+    let Ok(engine) = Engine::open(alloc, store) else {
+        return Err(Fail::new("no engine"));
+    };
+    Ok(engine)
+}
+
+// New engines.
+fn new_engines(alloc: Global) -> Result<Both, Fail> {
+    let Ok(plain) = Engine::open(alloc, PlainStore::new(alloc, SHAPE)?) else {
+        return Err(Fail::new("no engine"));
+    };
+    Ok(Both {
+        plain,
+        plain_row: no_row(),
+        lap: lap_engine(alloc)?,
+        lap_row: no_row(),
+    })
+}
+
+// Both engines answer a call so.
+fn check(rt: &impl Abort, both: &mut Both, call: Call<'_>, expected: Answer<'_>) {
+    let plain = called(&mut both.plain, call, &mut both.plain_row);
+    let lap = called(&mut both.lap, call, &mut both.lap_row);
+    assert_eq!(rt; plain, lap, "{call:?}");
+    assert_eq!(rt; plain, expected, "{call:?}");
+}
+
+fn check_all(rt: &impl Abort, both: &mut Both, rows: &[(Call<'_>, Answer<'_>)]) {
+    for (call, expected) in rows {
+        check(rt, both, *call, *expected);
+    }
+}
+
+// As long as a value may be, and a byte more.
+const LONGER: &[u8] =
+    b"vvvvvvvvvvvvvvvvvvvvvvvvvvvvvvvvvvvvvvvvvvvvvvvvvvvvvvvvvvvvvvvvvvvvvvvvvvvvvvvvv";
+
+#[test]
+fn one_list_of_writes(rt: HostRuntime) -> Result<(), Fail> {
+    let rows: [(Call<'_>, Answer<'_>); 26] = [
+        (Call::Commit(1), Answer::Done),
+        (Call::Commit(2), Answer::Refused(Refusal::NoSession)),
+        (
+            Call::Write(0, 1, 1, Op::Insert(b"a")),
+            Answer::Refused(Refusal::NoSession),
+        ),
+        (
+            Call::Write(2, 3, 1, Op::Delete),
+            Answer::Refused(Refusal::NoSession),
+        ),
+        (
+            Call::Write(1, 0, 1, Op::Insert(LONGER)),
+            Answer::Refused(Refusal::NoTable),
+        ),
+        (
+            Call::Write(1, 3, 1, Op::Delete),
+            Answer::Refused(Refusal::NoTable),
+        ),
+        (
+            Call::Write(1, 1, 1, Op::Insert(LONGER)),
+            Answer::Refused(Refusal::ValueTooLong),
+        ),
+        (
+            Call::Write(1, 1, 1, Op::Update(LONGER)),
+            Answer::Refused(Refusal::ValueTooLong),
+        ),
+        (
+            Call::Write(1, 1, 1, Op::Update(b"a")),
+            Answer::Refused(Refusal::NotFound),
+        ),
+        (
+            Call::Write(1, 1, 1, Op::Delete),
+            Answer::Refused(Refusal::NotFound),
+        ),
+        (Call::Write(1, 1, 1, Op::Insert(&LONGER[1..])), Answer::Done),
+        (
+            Call::Write(1, 1, 1, Op::Insert(b"b")),
+            Answer::Refused(Refusal::Duplicate),
+        ),
+        (
+            Call::Write(1, 2, 1, Op::Update(b"b")),
+            Answer::Refused(Refusal::NotFound),
+        ),
+        (
+            Call::Write(1, 1, 3, Op::Update(b"b")),
+            Answer::Refused(Refusal::NotFound),
+        ),
+        (Call::Commit(1), Answer::Numbered(1)),
+        (Call::Commit(1), Answer::Done),
+        (
+            Call::Write(1, 1, 1, Op::Insert(b"b")),
+            Answer::Refused(Refusal::Duplicate),
+        ),
+        (Call::Write(1, 1, 1, Op::Update(b"")), Answer::Done),
+        (Call::Write(1, 1, 1, Op::Update(b"c")), Answer::Done),
+        (Call::Write(1, 1, 1, Op::Delete), Answer::Done),
+        (
+            Call::Write(1, 1, 1, Op::Delete),
+            Answer::Refused(Refusal::NotFound),
+        ),
+        (Call::Write(1, 1, 1, Op::Insert(b"d")), Answer::Done),
+        (Call::Write(1, 2, 1, Op::Insert(b"e")), Answer::Done),
+        (Call::Commit(1), Answer::Numbered(2)),
+        (Call::Write(1, 2, 1, Op::Delete), Answer::Done),
+        (Call::Commit(1), Answer::Numbered(3)),
+    ];
+    let mut both = new_engines(rt.alloc())?;
+    check_all(&rt, &mut both, &rows);
+    Ok(())
+}
+
+// A cursor gives the rows of its opening: the even keys' home first, and then the odd ones'.
+#[test]
+fn one_list_of_cursors(rt: HostRuntime) -> Result<(), Fail> {
+    let rows: [(Call<'_>, Answer<'_>); 42] = [
+        (Call::Write(1, 1, 1, Op::Insert(b"a")), Answer::Done),
+        (Call::Write(1, 1, 2, Op::Insert(b"b")), Answer::Done),
+        (Call::Write(1, 2, 2, Op::Insert(b"c")), Answer::Done),
+        (Call::Commit(1), Answer::Numbered(1)),
+        (
+            Call::Open(2, b"early", 1, 0, 9),
+            Answer::Refused(Refusal::NoSession),
+        ),
+        (
+            Call::Open(1, b"early", 3, 0, 9),
+            Answer::Refused(Refusal::NoTable),
+        ),
+        (
+            Call::Open(1, b"early", 0, 0, 9),
+            Answer::Refused(Refusal::NoTable),
+        ),
+        (Call::Fetch(1, b"early"), Answer::Refused(Refusal::NoCursor)),
+        (Call::Close(1, b"early"), Answer::Refused(Refusal::NoCursor)),
+        (Call::Open(1, b"early", 1, 0, 9), Answer::Done),
+        (
+            Call::Open(1, b"early", 2, 0, 9),
+            Answer::Refused(Refusal::CursorThere),
+        ),
+        (
+            Call::Fetch(2, b"early"),
+            Answer::Refused(Refusal::NoSession),
+        ),
+        (
+            Call::Close(2, b"early"),
+            Answer::Refused(Refusal::NoSession),
+        ),
+        (Call::Fetch(1, b"early"), Answer::Given(2, b"b")),
+        (Call::Write(1, 1, 1, Op::Update(b"d")), Answer::Done),
+        (Call::Write(1, 1, 2, Op::Delete), Answer::Done),
+        (Call::Write(1, 1, 4, Op::Insert(b"e")), Answer::Done),
+        (Call::Open(1, b"own", 1, 0, 9), Answer::Done),
+        (Call::Write(1, 1, 4, Op::Delete), Answer::Done),
+        (Call::Write(1, 1, 2, Op::Insert(b"f")), Answer::Done),
+        (Call::Commit(1), Answer::Numbered(2)),
+        (Call::Fetch(1, b"early"), Answer::Given(1, b"a")),
+        (Call::Fetch(1, b"early"), Answer::End),
+        (Call::Fetch(1, b"early"), Answer::End),
+        (Call::Fetch(1, b"own"), Answer::Given(4, b"e")),
+        (Call::Fetch(1, b"own"), Answer::Given(1, b"d")),
+        (Call::Fetch(1, b"own"), Answer::End),
+        (Call::Open(1, b"late", 1, 0, 9), Answer::Done),
+        (Call::Fetch(1, b"late"), Answer::Given(2, b"f")),
+        (Call::Fetch(1, b"late"), Answer::Given(1, b"d")),
+        (Call::Fetch(1, b"late"), Answer::End),
+        (Call::Open(1, b"other", 2, 0, 9), Answer::Done),
+        (Call::Fetch(1, b"other"), Answer::Given(2, b"c")),
+        (Call::Fetch(1, b"other"), Answer::End),
+        (Call::Open(1, b"none", 1, 3, 2), Answer::Done),
+        (Call::Fetch(1, b"none"), Answer::End),
+        (Call::Close(1, b"early"), Answer::Done),
+        (Call::Fetch(1, b"early"), Answer::Refused(Refusal::NoCursor)),
+        (Call::Close(1, b"early"), Answer::Refused(Refusal::NoCursor)),
+        (Call::Open(1, b"early", 1, 1, 1), Answer::Done),
+        (Call::Fetch(1, b"early"), Answer::Given(1, b"d")),
+        (Call::Fetch(1, b"early"), Answer::End),
+    ];
+    let mut both = new_engines(rt.alloc())?;
+    check_all(&rt, &mut both, &rows);
+    Ok(())
+}
+
+// A home has sixteen keys, and a deleted one is in use until its commit.
+#[test]
+fn one_list_of_full_homes(rt: HostRuntime) -> Result<(), Fail> {
+    let rows: [(Call<'_>, Answer<'_>); 13] = [
+        (
+            Call::Write(1, 1, 32, Op::Insert(b"a")),
+            Answer::Refused(Refusal::BlockFull),
+        ),
+        (
+            Call::Write(1, 1, 30, Op::Insert(b"a")),
+            Answer::Refused(Refusal::Duplicate),
+        ),
+        (Call::Write(1, 1, 1, Op::Insert(b"a")), Answer::Done),
+        (Call::Write(1, 2, 32, Op::Insert(b"a")), Answer::Done),
+        (Call::Commit(1), Answer::Numbered(1)),
+        (
+            Call::Write(1, 1, 32, Op::Insert(b"a")),
+            Answer::Refused(Refusal::BlockFull),
+        ),
+        (Call::Write(1, 1, 0, Op::Delete), Answer::Done),
+        (
+            Call::Write(1, 1, 32, Op::Insert(b"a")),
+            Answer::Refused(Refusal::BlockFull),
+        ),
+        (Call::Write(1, 1, 0, Op::Insert(b"b")), Answer::Done),
+        (Call::Write(1, 1, 0, Op::Delete), Answer::Done),
+        (Call::Commit(1), Answer::Numbered(2)),
+        (Call::Write(1, 1, 32, Op::Insert(b"c")), Answer::Done),
+        (
+            Call::Write(1, 1, 0, Op::Insert(b"c")),
+            Answer::Refused(Refusal::BlockFull),
+        ),
+    ];
+    let mut both = new_engines(rt.alloc())?;
+    for key in 0..16 {
+        let insert = Call::Write(1, 1, 2 * key, Op::Insert(b"a"));
+        check(&rt, &mut both, insert, Answer::Done);
+    }
+    check_all(&rt, &mut both, &rows);
+    Ok(())
+}
+
+#[test]
+fn one_list_of_many_cursors(rt: HostRuntime) -> Result<(), Fail> {
+    let rows: [(Call<'_>, Answer<'_>); 6] = [
+        (
+            Call::Open(1, b"q", 1, 0, 9),
+            Answer::Refused(Refusal::TooManyCursors),
+        ),
+        (
+            Call::Open(1, b"p", 1, 0, 9),
+            Answer::Refused(Refusal::CursorThere),
+        ),
+        (Call::Close(1, b"c"), Answer::Done),
+        (Call::Open(1, b"q", 1, 0, 9), Answer::Done),
+        (
+            Call::Open(1, b"c", 1, 0, 9),
+            Answer::Refused(Refusal::TooManyCursors),
+        ),
+        (Call::Fetch(1, b"q"), Answer::End),
+    ];
+    let mut both = new_engines(rt.alloc())?;
+    for name in b'a'..=b'p' {
+        let open = Call::Open(1, &[name], 1, 0, 9);
+        check(&rt, &mut both, open, Answer::Done);
+    }
+    check_all(&rt, &mut both, &rows);
+    Ok(())
+}
