@@ -34,6 +34,12 @@ pub record CanOpen (shape : Shape) (blocks : List (List ℕ)) (number : ℕ) : T
   pub commits : commit_number shape blocks ≤ commit_logged shape blocks
   pub logged : commit_logged shape blocks ≤ number
 
+-- What it tests before it takes memory for the rows: all but the locks.
+pub record MayOpen (shape : Shape) (blocks : List (List ℕ)) (number : ℕ) : Type 0 where
+  pub sound : AreSound shape blocks
+  pub commits : commit_number shape blocks ≤ commit_logged shape blocks
+  pub logged : commit_logged shape blocks ≤ number
+
 -- the state that blocks open to: their commit number and their rows are its base
 pub record OpensAs (shape : Shape) (blocks : List (List ℕ)) (h : State) : Type 0 where
   pub number : ℕ

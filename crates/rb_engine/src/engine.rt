@@ -136,6 +136,7 @@ impl<T: Store> Engine<T> {
         ensures no_number { IfErr result (λ why. why ≢ Refusal.DiskFault → T.number self.new.store ≡ T.number self.old.store) }
         ensures shape { T.shape_of self.new.store ≡ T.shape_of self.old.store }
         ensures slots { T.slots self.new.store ≡ T.slots self.old.store }
+        ensures spare { self.new.spare + groups (call.Write 1 table key (action_of op.entry)) (write_answer result) ≡ self.old.spare }
         ensures cause { result ≡ Err Refusal.DiskFault → Rose (T.faults self.old.store) (T.faults self.new.store) }
         ensures counted { T.faults self.old.store ≤ T.faults self.new.store }
         ensures crash { T.tells → T.keeps → Stands T.Store self.old.state self.old.store → Survives T.Store (T.slots self.old.store) self.old.state self.new.state self.old.store self.new.store }
@@ -165,6 +166,7 @@ impl<T: Store> Engine<T> {
         ensures number { self.new.state.stopped ≡ false → T.number self.new.store ≡ T.number self.old.store + groups (call.Write s table key (action_of op.entry)) (write_answer result) }
         ensures shape { T.shape_of self.new.store ≡ T.shape_of self.old.store }
         ensures slots { T.slots self.new.store ≡ T.slots self.old.store }
+        ensures spare { self.new.spare + groups (call.Write s table key (action_of op.entry)) (write_answer result) ≡ self.old.spare }
         ensures fault { result ≡ Err Refusal.DiskFault → Rose (T.faults self.old.store) (T.faults self.new.store) }
         ensures counted { T.faults self.old.store ≤ T.faults self.new.store }
         ensures refused { T.tells → IfErr result (λ why. why ≢ Refusal.DiskFault → self.new.store ≡ self.old.store) }
@@ -191,6 +193,7 @@ impl<T: Store> Engine<T> {
         ensures number { OnOk result (T.number self.new.store ≡ T.number self.old.store + 1) }
         ensures shape { T.shape_of self.new.store ≡ T.shape_of self.old.store }
         ensures slots { T.slots self.new.store ≡ T.slots self.old.store }
+        ensures spare { self.new.spare ≡ self.old.spare }
         ensures cause { OnErr result (Rose (T.faults self.old.store) (T.faults self.new.store)) }
         ensures counted { T.faults self.old.store ≤ T.faults self.new.store }
         ensures crash { T.tells → T.keeps → Stands T.Store self.old.state self.old.store → Survives T.Store (T.slots self.old.store) self.old.state self.new.state self.old.store self.new.store }
@@ -213,6 +216,7 @@ impl<T: Store> Engine<T> {
         ensures number { self.new.state.stopped ≡ false → T.number self.new.store ≡ T.number self.old.store + groups (call.Commit s) (commit_answer result) }
         ensures shape { T.shape_of self.new.store ≡ T.shape_of self.old.store }
         ensures slots { T.slots self.new.store ≡ T.slots self.old.store }
+        ensures spare { self.new.spare ≡ self.old.spare }
         ensures fault { result ≡ Err Refusal.DiskFault → Rose (T.faults self.old.store) (T.faults self.new.store) }
         ensures counted { T.faults self.old.store ≤ T.faults self.new.store }
         ensures refused { IfErr result (λ why. why ≢ Refusal.DiskFault → self.new.store ≡ self.old.store) }
@@ -240,6 +244,7 @@ impl<T: Store> Engine<T> {
         ensures state { self.new.state ≡ after self.old.state (call.OpenCursor s (name_text name.now) table lo hi) (plain_answer result) }
         ensures stopped { self.new.state.stopped ≡ self.old.state.stopped }
         ensures store { self.new.store ≡ self.old.store }
+        ensures spare { self.new.spare ≡ self.old.spare }
         ensures crash { T.tells → T.keeps → Stands T.Store self.old.state self.old.store → Survives T.Store (T.slots self.old.store) self.old.state self.new.state self.old.store self.new.store }
     {
         self.state.open_cursor(s, name, table, lo, hi)
@@ -252,6 +257,7 @@ impl<T: Store> Engine<T> {
         ensures row { LeavesRow result row.old row.new }
         ensures stopped { self.new.state.stopped ≡ self.old.state.stopped }
         ensures store { self.new.store ≡ self.old.store }
+        ensures spare { self.new.spare ≡ self.old.spare }
         ensures commits { self.new.state.commits ≡ self.old.state.commits }
         ensures crash { T.tells → T.keeps → Stands T.Store self.old.state self.old.store → Survives T.Store (T.slots self.old.store) self.old.state self.new.state self.old.store self.new.store }
     {
@@ -264,6 +270,7 @@ impl<T: Store> Engine<T> {
         ensures state { self.new.state ≡ after self.old.state (call.CloseCursor s (name_text name.now)) (plain_answer result) }
         ensures stopped { self.new.state.stopped ≡ self.old.state.stopped }
         ensures store { self.new.store ≡ self.old.store }
+        ensures spare { self.new.spare ≡ self.old.spare }
         ensures crash { T.tells → T.keeps → Stands T.Store self.old.state self.old.store → Survives T.Store (T.slots self.old.store) self.old.state self.new.state self.old.store self.new.store }
     {
         self.state.close_cursor(s, name)

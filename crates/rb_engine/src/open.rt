@@ -1,5 +1,5 @@
 //! Opens a store: tests its blocks, and takes their rows into memory. `Engine` is made here.
-ghost use Rattle.std.specs.Prelude.{◌≡◌, ℕ, ◌+◌, ◌*◌, ◌-◌, ◌^◌, ◌<◌, ◌≤◌, List, [], map, take, length, true, false, Some, IfOk, IfErr, OnOk, IsErrOf};
+ghost use Rattle.std.specs.Prelude.{◌≡◌, ℕ, ◌+◌, ◌*◌, ◌-◌, ◌^◌, ◌<◌, ◌≤◌, List, [], map, take, length, true, false, None, Some, IfOk, IfErr, OnOk, IsErrOf};
 ghost use Rattle.std.specs.Result.{is_err};
 ghost use Rattle.rb_base.specs.Blocks.{block_of, commit_block, shape_blocks, table_blocks, AreBlocks, IsShape};
 ghost use Rattle.rb_base.specs.Counts.{Rose, IsCounted};
@@ -11,7 +11,7 @@ ghost use Rattle.rb_sound.specs.Loads.{OnlyLoads};
 ghost use Rattle.rb_sound.specs.Sound.{commit_number};
 ghost use Rattle.rb_engine.specs.Crash.{Stands};
 ghost use Rattle.rb_engine.specs.Found.{put_row, rows_found, table_of, table_row};
-ghost use Rattle.rb_engine.specs.Holds.{CanOpen, OpensAs, commit_logged};
+ghost use Rattle.rb_engine.specs.Holds.{CanOpen, MayOpen, OpensAs, commit_logged};
 
 use crate::engine::Engine;
 use crate::state::EngineState;
@@ -126,6 +126,8 @@ fn open_state<T: Store>(alloc: Global, store: &mut T) -> Result<EngineState, Ope
     ensures in_range { OnOk result (IsShape (T.shape_of store.old)) }
     ensures numbers { IfOk result (λ kept. kept.state.commits.base ≤ T.number store.old) }
     ensures enough { IfOk result (λ kept. (slots : ℕ) → T.slots store.old ≡ Some slots → slots - 1 - T.number store.old ≤ kept.spare) }
+    ensures ample { IfOk result (λ kept. T.slots store.old ≡ None → 2 ^ 16 ≤ kept.spare) }
+    ensures no_memory { T.tells → IsErrOf result OpenFault.NoMemory → MayOpen (T.shape_of store.old) (T.blocks store.old) (T.number store.old) }
     ensures only_loads { OnlyLoads T.Store store.old store.new }
     ensures failed { OnOk result (T.failed store.new ≡ false) }
     ensures counted { T.faults store.old ≤ T.faults store.new }
@@ -154,15 +156,18 @@ fn open_state<T: Store>(alloc: Global, store: &mut T) -> Result<EngineState, Ope
 
 impl<T: Store> Engine<T> {
     /// Opens a store: its blocks give the last commit's number and the rows. A refusal gives the store back: NotAStore
-    /// where the blocks aren't in order, Failed where a call of the store failed. Nothing of the store is changed.
+    /// where the blocks aren't in order, Failed where a call of the store failed, NoMemory behind all tests but that of
+    /// the locks. Nothing of the store is changed. Where its log has no end, there is room for 65,536 changes.
     pub fn open(alloc: Global, store: T) -> Result<Engine<T>, (OpenFault, T)>
         requires going { T.failed store ≡ false }
         requires few { T.number store ≤ 2 ^ 61 + 4096 }
         requires few_slots { (slots : ℕ) → T.slots store ≡ Some slots → slots ≤ 4096 }
         ensures opened { T.tells → IfOk result (λ e. OpensAs (T.shape_of store) (T.blocks store) e.state) }
         ensures going { IfOk result (λ e. e.state.stopped ≡ false) }
+        ensures ample { IfOk result (λ e. T.slots store ≡ None → 2 ^ 16 ≤ e.spare) }
         ensures sound { T.tells → OnOk result (CanOpen (T.shape_of store) (T.blocks store) (T.number store)) }
         ensures none { T.tells → IfErr result (λ r. r.0 ≡ OpenFault.NotAStore → CanOpen (T.shape_of store) (T.blocks store) (T.number store) → ⊥) }
+        ensures no_memory { T.tells → IfErr result (λ r. r.0 ≡ OpenFault.NoMemory → MayOpen (T.shape_of store) (T.blocks store) (T.number store)) }
         ensures failed { IfErr result (λ r. r.0 ≡ OpenFault.Failed → Rose (T.faults store) (T.faults r.1)) }
         ensures counted_ok { IfOk result (λ e. T.faults store ≤ T.faults e.store) }
         ensures counted_err { IfErr result (λ r. T.faults store ≤ T.faults r.1) }

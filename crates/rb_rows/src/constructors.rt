@@ -4,7 +4,7 @@ use crate::doubles::{FORMAT_SMALL, formatted};
 use rb_base::{Shape, Store};
 use rb_engine::Engine;
 use rb_layout::{Head, Layout};
-use rb_log::GroupLog;
+use rb_log::Log;
 use rb_memdisk::{MemDisk, Pick};
 use rb_model::{Op, Wrote};
 use rb_plainstore::PlainStore;
@@ -58,7 +58,7 @@ fn files_are_made(rt: HostRuntime) -> Result<(), Fail> {
         return Err(Fail::new("no layout"));
     };
     let head = Head { slot: 0, number: 1 };
-    let Ok(mut log) = GroupLog::open(rt.alloc(), &mut disk, &layout, head) else {
+    let Ok(mut log) = Log::open(rt.alloc(), &mut disk, &layout, head) else {
         return Err(Fail::new("no log"));
     };
     assert!(rt; matches!(log.scan(&mut disk, 1), Ok(None)));
