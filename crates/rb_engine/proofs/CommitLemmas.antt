@@ -1,8 +1,7 @@
 -- What blocks hold after a commit, and that the engine stays in step.
 use Rattle.std.proofs.Common.{◌≡◌, ◌⊎◌, ℕ, ◌+◌, ◌*◌, ◌^◌, ◌<◌, ◌≤◌, true, false, List, [], ◌∷◌, length, arith, refl, ap, sym, ◌∙◌, subst, Option}
-use Rattle.byteorder.specs.Endian.{big_bytes}
 use Rattle.rb_base.specs.Blocks.{after_group, commit_block, patches_block, AreBlocks, IsShape}
-use Rattle.rb_base.specs.Groups.{Patch, patch}
+use Rattle.rb_base.specs.Groups.{Patch}
 use Rattle.rb_base.specs.Moments.{LeavesOnly}
 use Rattle.rb_base.specs.declared.ids.Shape.{Shape}
 use Rattle.rb_base.specs.declared.store.Store.{Ghosts}
@@ -15,6 +14,7 @@ use Rattle.rb_model.specs.State.{State, Session, Cursor, fresh_session, session_
 use Rattle.rb_model.specs.Full.{used_keys}
 use Rattle.std.specs.Prelude.{slice_index_or, slice_set}
 use Rattle.std.proofs.Math.Nat.{mul-le-mul_right}
+use Rattle.rb_sound.specs.Sound.{number_patch}
 use Rattle.rb_sound.proofs.CommitWritten.{commit_next, commit_numbered, rows_kept, sound_with_commit}
 use Rattle.rb_write.specs.Values.{home_block, value_in, IsPlainHome}
 use Rattle.rb_write.proofs.Placed.{row_block}
@@ -28,12 +28,12 @@ use Rattle.rb_engine.proofs.UsedLemmas.{sessions_committed, the_one, used_after_
 
 -- the blocks with the number of one more commit
 abbrev pub with_commit : Shape → List (List ℕ) → ℕ → ℕ → List (List ℕ)
-with_commit shape blocks number n = after_group number (patch (commit_block shape) 48 (big_bytes 8 (n + 1)) ∷ []) blocks
+with_commit shape blocks number n = after_group number (number_patch shape (n + 1) ∷ []) blocks
 
 still_blocks : (shape : Shape) (blocks : List (List ℕ)) (number n : ℕ) → IsShape shape → AreBlocks shape blocks → AreBlocks shape (with_commit shape blocks number n)
 still_blocks shape blocks number n is are =
     let few : shape.tables * shape.blocks ≤ 16 * shape.blocks = mul-le-mul_right shape.blocks is.few_tables.1 in
-    group_are shape number (patch (commit_block shape) 48 (big_bytes 8 (n + 1)) ∷ []) blocks are (omega (arith, is.few_segments.0), tt)
+    group_are shape number (number_patch shape (n + 1) ∷ []) blocks are (omega (arith, is.few_segments.0), tt)
     (record { block_fits = omega (arith, few, is.few_blocks.1); some = omega arith; behind_head = omega arith; within_block = omega arith }, tt)
 
 -- They hold the same rows and the next number.
@@ -65,17 +65,17 @@ now_committed h alone = now_of_none (committed h 1) (none_own h alone) ∙ rows_
 
 -- the blocks of a store in step, with the commit of the session's changes
 pub holds_committed_now : {S : Type 0} (s : Ghosts S) (kept : Kept) (old : S) (number : ℕ) → kept.state.stopped ≡ false → number ≡ last_number kept.state.commits + 1 → s.number old ≤ 2 ^ 60 → s.tells → IsInStep s kept old
-    → Holds kept.state.shape (after_group (s.number old + 1) (patch (commit_block (s.shape_of old)) 48 (big_bytes 8 number) ∷ []) (s.blocks old)) (last_number kept.state.commits + 1) (rows_now kept.state 1)
+    → Holds kept.state.shape (after_group (s.number old + 1) (number_patch (s.shape_of old) number ∷ []) (s.blocks old)) (last_number kept.state.commits + 1) (rows_now kept.state 1)
 holds_committed_now s kept old number going is few told step =
     let h = kept.state in
     let lower = step.numbers going in
     let held = holds_with_commit h.shape (s.blocks old) (s.number old + 1) (last_number h.commits) (rows_now h 1) step.in_range (omega (arith, lower)) (omega (arith, few)) (step.holds told going) in
-    subst (λ (x : Shape). Holds h.shape (after_group (s.number old + 1) (patch (commit_block x) 48 (big_bytes 8 number) ∷ []) (s.blocks old)) (last_number h.commits + 1) (rows_now h 1)) (sym step.same_shape)
-    (subst (λ (n : ℕ). Holds h.shape (after_group (s.number old + 1) (patch (commit_block h.shape) 48 (big_bytes 8 n) ∷ []) (s.blocks old)) (last_number h.commits + 1) (rows_now h 1)) (sym is) held)
+    subst (λ (x : Shape). Holds h.shape (after_group (s.number old + 1) (number_patch x number ∷ []) (s.blocks old)) (last_number h.commits + 1) (rows_now h 1)) (sym step.same_shape)
+    (subst (λ (n : ℕ). Holds h.shape (after_group (s.number old + 1) (number_patch h.shape n ∷ []) (s.blocks old)) (last_number h.commits + 1) (rows_now h 1)) (sym is) held)
 
 pub in_step_committed : {S : Type 0} (s : Ghosts S) (kept kept2 : Kept) (old new : S) (number : ℕ) → kept.state.stopped ≡ false → number ≡ last_number kept.state.commits + 1 → kept2.state ≡ committed kept.state 1 → kept2.spare ≡ kept.spare
     → s.shape_of new ≡ s.shape_of old → s.slots new ≡ s.slots old → s.number new ≡ s.number old + 1 → s.failed new ≡ false → s.number old ≤ 2 ^ 60
-    → (s.tells → s.blocks new ≡ after_group (s.number old + 1) (patch (commit_block (s.shape_of old)) 48 (big_bytes 8 number) ∷ []) (s.blocks old)) → IsInStep s kept old → IsInStep s kept2 new
+    → (s.tells → s.blocks new ≡ after_group (s.number old + 1) (number_patch (s.shape_of old) number ∷ []) (s.blocks old)) → IsInStep s kept old → IsInStep s kept2 new
 in_step_committed s kept kept2 old new number going is state spare shape slots later goes few blocks step =
     let h = kept.state in
     let alone : length kept2.state.sessions ≡ 1 = ap (λ (g : State). length g.sessions) state ∙ sessions_committed h 1 ∙ step.alone in
@@ -106,7 +106,7 @@ module _ {S : Type 0} (s : Ghosts S) (left_opens : (store : S) (b : List (List �
     (counts : (store : S) (t : ℕ) (i : s.image) → t ≤ s.moment store → s.left store i → s.left_since store t i)
     (kept : Kept) (old new : S) (number : ℕ) (going : kept.state.stopped ≡ false) (is : number ≡ last_number kept.state.commits + 1) (few : s.number old ≤ 2 ^ 60) (told : s.tells) (step : IsInStep s kept old) where
   abbrev Made : List (List ℕ)
-  Made = after_group (s.number old + 1) (patch (commit_block (s.shape_of old)) 48 (big_bytes 8 number) ∷ []) (s.blocks old)
+  Made = after_group (s.number old + 1) (number_patch (s.shape_of old) number ∷ []) (s.blocks old)
 
   abbrev pub Written : Type 0
   Written = (b : List (List ℕ)) → s.stable old b → list_any (patches_block (commit_block (s.shape_of old))) (s.pending old) ≡ false

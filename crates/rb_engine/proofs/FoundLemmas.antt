@@ -24,13 +24,13 @@ use Rattle.rb_model.specs.Full.{has_home, has_key, once, used_keys}
 use Rattle.rb_model.specs.Reply.{rows_now}
 use Rattle.rb_model.specs.Rows.{TableRow, is_row_of, last_number, over, rows_at, row_before, value_of, with_row}
 use Rattle.rb_model.specs.State.{State, opened, session_of}
-use Rattle.rb_sound.specs.Sound.{commit_number, AreCellsSound, AreKeysApart, AreSound}
+use Rattle.rb_sound.specs.Sound.{commit_logged, commit_number, AreCellsSound, AreKeysApart, AreSound}
 use Rattle.rb_versions.proofs.Order.{row_same, same_other}
 use Rattle.rb_versions.proofs.RowLemmas.{ordered-over}
 use Rattle.rb_write.specs.Values.{home_at, home_block, value_at, value_in, ArePlain, IsPlainHome}
 use Rattle.rb_write.proofs.Placed.{row_block}
 use Rattle.rb_engine.specs.Found.{put_row, rows_below, rows_found, table_of, table_row}
-use Rattle.rb_engine.specs.Holds.{CanOpen, Holds, OpensAs, commit_logged}
+use Rattle.rb_engine.specs.Holds.{CanOpen, Holds, OpensAs}
 use Rattle.rb_engine.proofs.KeptLemmas.{over-append}
 
 -- the rows of a block, cell by cell

@@ -1,12 +1,13 @@
 -- Blocks that hold rows pass the tests of an opening.
-use Rattle.std.proofs.Common.{◌≡◌, ℕ, ◌≤◌, List, arith, ap, sym, ◌∙◌}
+use Rattle.std.proofs.Common.{ℕ, ◌≤◌, List, arith, ap, sym, ◌∙◌}
 use Rattle.rb_base.specs.Blocks.{block_of}
 use Rattle.rb_base.specs.declared.ids.Shape.{Shape}
 use Rattle.rb_cell.specs.declared.cell.Cell.{Cell}
 use Rattle.rb_heap.specs.Homes.{empty_cell}
 use Rattle.rb_heap.proofs.Reading.{cell_read}
 use Rattle.rb_model.specs.Rows.{TableRow}
-use Rattle.rb_engine.specs.Holds.{CanOpen, Holds, commit_logged}
+use Rattle.rb_engine.specs.Holds.{CanOpen, Holds}
+use Rattle.rb_sound.specs.Sound.{commit_logged}
 
 pub can_open_held : (shape : Shape) (blocks : List (List ℕ)) (n number : ℕ) (rows : List TableRow) → commit_logged shape blocks ≤ number → Holds shape blocks n rows → CanOpen shape blocks number
 can_open_held shape blocks n number rows last held = record {

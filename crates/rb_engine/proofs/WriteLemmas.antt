@@ -7,8 +7,7 @@ use Rattle.std.proofs.lemmas.Map.Keys.{IsDistinct-cons}
 use Rattle.std.proofs.lemmas.Nat.{mod-mul-add}
 use Rattle.std.proofs.Math.Nat.{mod-lt}
 use Rattle.std.specs.List.{All, AllByRecursion, IsDistinct}
-use Rattle.rb_base.specs.Blocks.{block_of, commit_block, table_blocks, AreBlocks}
-use Rattle.rb_base.specs.Fields.{number_at}
+use Rattle.rb_base.specs.Blocks.{block_of, table_blocks, AreBlocks}
 use Rattle.rb_base.specs.declared.ids.Shape.{Shape}
 use Rattle.rb_cell.specs.Cells.{cell_at, IsCell}
 use Rattle.rb_cell.specs.declared.cell.Cell.{Cell}
@@ -22,8 +21,8 @@ use Rattle.rb_model.specs.Rows.{TableRow, has_row, value_of, changed_by, last_nu
 use Rattle.rb_model.specs.State.{State, session_of}
 use Rattle.rb_model.specs.declared.op.Op.{Op}
 use Rattle.rb_model.specs.declared.op.Op.TheVariants.{Insert, Update, Delete}
-use Rattle.rb_sound.specs.Sound.{commit_number, AreKeysApart, AreSound}
-use Rattle.rb_sound.proofs.CellWritten.{sound_with_cell, commit_stays}
+use Rattle.rb_sound.specs.Sound.{commit_logged, commit_number, AreKeysApart, AreSound}
+use Rattle.rb_sound.proofs.CellWritten.{sound_with_cell, commit_stays, logged_stays}
 use Rattle.rb_versions.proofs.RowLemmas.{ordered-over}
 use Rattle.rb_write.specs.Values.{home_block, home_at, value_in, value_at, IsPlainHome, ArePlain}
 use Rattle.rb_write.specs.Writes.{adds, may_take, value_after, cell_after, IsShort, IsMade}
@@ -108,12 +107,13 @@ module _ (shape : Shape) (blocks : List (List ℕ)) (n : ℕ) (rows : List Table
       let sound = sound_with_cell shape blocks (number + 1) which place cell held.whole held.sound place_within made.first.within (cell_fits op key before fits short) (cell_state op key before) (cell_unlocked op key before) home
       (λ other few differ is. ap (λ (k : ℕ). is_keyed k (cell_at (block_of blocks which) other)) same_key ∙ others_apart (block_of blocks which) op key place apart made.first made.new_key other few differ) in
       let commit = commit_stays shape blocks (number + 1) which place cell place_within in
+      let stays = logged_stays shape blocks (number + 1) which place cell place_within in
       record {
         whole = whole;
         sound = subst (AreSound shape) (sym made.made) sound;
         plain = plain held.plain;
         number_is = ap (commit_number shape) made.made ∙ commit ∙ held.number_is;
-        logged = subst (λ (block : List ℕ). n ≤ number_at block 0 8) (sym (segments (commit_block shape) (omega arith))) held.logged;
+        logged = omega (arith, ap (commit_logged shape) made.made, stays, held.logged);
         values = λ t k low high.
             written plain_there t k low
             ∙ ap (λ (value : Option (List ℕ)). if (t == table) && (k == key) then value_after (Some op) value else value) (held.values t k low high)

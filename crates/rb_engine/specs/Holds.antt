@@ -1,18 +1,13 @@
 -- What the blocks of a file hold, in rows and a commit number, and what an opening tests on them.
 use Rattle.std.specs.Prelude.{◌≡◌, ℕ, ◌<◌, ◌≤◌, List}
 use Rattle.std.specs.List.{AllByRecursion}
-use Rattle.rb_base.specs.Blocks.{block_of, commit_block, table_blocks, AreBlocks}
-use Rattle.rb_base.specs.Fields.{number_at}
+use Rattle.rb_base.specs.Blocks.{block_of, table_blocks, AreBlocks}
 use Rattle.rb_base.specs.declared.ids.Shape.{Shape}
 use Rattle.rb_cell.specs.Cells.{cell_at}
 use Rattle.rb_model.specs.Rows.{TableRow, InOrder, value_of}
 use Rattle.rb_model.specs.State.{State, opened}
-use Rattle.rb_sound.specs.Sound.{commit_number, AreSound}
+use Rattle.rb_sound.specs.Sound.{commit_logged, commit_number, AreSound}
 use Rattle.rb_write.specs.Values.{value_at, ArePlain}
-
--- the log number in front of the block that each commit patches
-abbrev pub commit_logged : Shape → List (List ℕ) → ℕ
-commit_logged shape blocks = number_at (block_of blocks (commit_block shape)) 0 8
 
 -- The blocks are in order, and nothing in them is locked. They hold these rows and no others, each once, and this commit
 -- number, which isn't above the log number of the block that commits patch.

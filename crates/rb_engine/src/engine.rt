@@ -2,10 +2,8 @@
 ghost use Rattle.std.specs.Prelude.{◌≡◌, ◌≢◌, ◌⊎◌, ℕ, ◌+◌, ◌^◌, ◌<◌, ◌≤◌, [], ◌∷◌, List, length, IfOk, IfErr, IfSome, IfNone, IsErrOf, OnOk, OnErr, true, false, not};
 ghost use Rattle.std.specs.Result.{is_err};
 ghost use Rattle.std.specs.List.{list_any};
-ghost use Rattle.byteorder.specs.Endian.{big_bytes};
 ghost use Rattle.rb_base.specs.Blocks.{after_group, commit_block, patches_block, AreBlocks};
 ghost use Rattle.rb_base.specs.Counts.{Rose, IsCounted};
-ghost use Rattle.rb_base.specs.Groups.{patch};
 ghost use Rattle.rb_base.specs.Moments.{LeavesOnly};
 ghost use Rattle.rb_base.specs.Stores.{room_of, after_pending};
 ghost use Rattle.rb_model.specs.Answers.{action_of, write_answer, plain_answer, fetch_answer, commit_answer, LeavesRow};
@@ -15,21 +13,20 @@ ghost use Rattle.rb_model.specs.Reply.{adds, expected, first_of, log_tests, afte
 ghost use Rattle.rb_model.specs.Reply as call;
 ghost use Rattle.rb_model.specs.Rows.{has_row, last_number};
 ghost use Rattle.rb_model.specs.State.{session_of};
+ghost use Rattle.rb_sound.specs.Sound.{number_patch};
 ghost use Rattle.rb_write.specs.Writes.{IsShort};
 ghost use Rattle.rb_engine.specs.Crash.{Stands, Survives};
 ghost use Rattle.rb_engine.specs.Engine.{EngineView, refusal_of, room_left};
 
 use crate::state::EngineState;
-use rb_base::{Failed, Group, Scn, Shape, Store, put_u64};
+use rb_base::{Failed, Group, Scn, Shape, Store};
 use rb_model::{Fetched, Name, Op, Refusal, Row, Wrote};
+use rb_sound::commit_group;
 use rb_write::{Ask, AttemptFault, attempt};
 use std::marker::Model;
 
 /// As many groups, and the log numbers are used up.
 const WORN: u64 = 1 << 60;
-
-/// Where the block that each commit patches has the commit's number: the newest number of its first table slot.
-const NUMBER_AT: u16 = 48;
 
 /// One session over the blocks of a store. A call that answers `DiskFault` stops it for good; then the store is opened
 /// again.
@@ -73,22 +70,18 @@ fn write_number<T: Store>(store: &mut T, number: Scn) -> Result<(), Failed>
     requires going { T.failed store.old ≡ false }
     requires room { 1 ≤ room_of (T.slots store.old) (T.number store.old) }
     requires few { T.number store.old ≤ 2 ^ 60 }
-    ensures blocks { T.tells → OnOk result (T.blocks store.new ≡ after_group (T.number store.old + 1) (patch (commit_block (T.shape_of store.old)) 48 (big_bytes 8 number) ∷ []) (T.blocks store.old)) }
+    ensures blocks { T.tells → OnOk result (T.blocks store.new ≡ after_group (T.number store.old + 1) (number_patch (T.shape_of store.old) number ∷ []) (T.blocks store.old)) }
     ensures number { OnOk result (T.number store.new ≡ T.number store.old + 1) }
     ensures shape { T.shape_of store.new ≡ T.shape_of store.old }
     ensures slots { T.slots store.new ≡ T.slots store.old }
     ensures stable { T.tells → T.keeps → OnOk result ((b : List (List ℕ)) → T.stable store.old b → list_any (patches_block (commit_block (T.shape_of store.old))) (T.pending store.old) ≡ false → T.stable store.new (T.blocks store.new)) }
     ensures flushed { T.keeps → OnOk result (T.pending store.new ≡ []) }
     ensures any_moment { T.tells → T.keeps → (b : List (List ℕ)) → T.stable store.old b → list_any (patches_block (commit_block (T.shape_of store.old))) (T.pending store.old) ≡ false
-        → LeavesOnly T.moment T.left_since store.old store.new (λ i. (now : List (List ℕ)) × T.opens (T.shape_of store.old) (T.slots store.old) i now × ((now ≡ b) ⊎ (now ≡ after_group (T.number store.old + 1) (patch (commit_block (T.shape_of store.old)) 48 (big_bytes 8 number) ∷ []) (T.blocks store.old)))) }
+        → LeavesOnly T.moment T.left_since store.old store.new (λ i. (now : List (List ℕ)) × T.opens (T.shape_of store.old) (T.slots store.old) i now × ((now ≡ b) ⊎ (now ≡ after_group (T.number store.old + 1) (number_patch (T.shape_of store.old) number ∷ []) (T.blocks store.old)))) }
     ensures failed { T.failed store.new ≡ is_err result }
     ensures counted { IsCounted (T.faults store.old) (T.faults store.new) result }
 {
-    let shape = store.shape();
-    let mut bytes = [0; 8];
-    put_u64(&mut bytes, 0, number);
-    let mut group = Group::new();
-    group.push(shape.tables as u32 * shape.blocks, NUMBER_AT, &bytes);
+    let group = commit_group(store.shape(), number);
     store.apply(&group)?;
     store.flush()
 }

@@ -1,23 +1,23 @@
 //! Opens a store: tests its blocks, and takes their rows into memory. `Engine` is made here.
 ghost use Rattle.std.specs.Prelude.{◌≡◌, ℕ, ◌+◌, ◌*◌, ◌-◌, ◌^◌, ◌<◌, ◌≤◌, List, [], map, take, length, true, false, None, Some, IfOk, IfErr, OnOk, IsErrOf};
 ghost use Rattle.std.specs.Result.{is_err};
-ghost use Rattle.rb_base.specs.Blocks.{block_of, commit_block, shape_blocks, table_blocks, AreBlocks, IsShape};
+ghost use Rattle.rb_base.specs.Blocks.{block_of, shape_blocks, table_blocks, AreBlocks, IsShape};
 ghost use Rattle.rb_base.specs.Counts.{Rose, IsCounted};
 ghost use Rattle.rb_cell.specs.Cells.{cell_at};
 ghost use Rattle.rb_heap.specs.Homes.{home_of, home_rows};
 ghost use Rattle.rb_model.specs.Rows.{over};
 ghost use Rattle.rb_model.specs.State.{opened};
 ghost use Rattle.rb_sound.specs.Loads.{OnlyLoads};
-ghost use Rattle.rb_sound.specs.Sound.{commit_number};
+ghost use Rattle.rb_sound.specs.Sound.{commit_logged, commit_number};
 ghost use Rattle.rb_engine.specs.Crash.{Stands};
 ghost use Rattle.rb_engine.specs.Found.{put_row, rows_found, table_of, table_row};
-ghost use Rattle.rb_engine.specs.Holds.{CanOpen, MayOpen, OpensAs, commit_logged};
+ghost use Rattle.rb_engine.specs.Holds.{CanOpen, MayOpen, OpensAs};
 
 use crate::engine::Engine;
 use crate::state::EngineState;
-use rb_base::{BlockNo, Failed, OpenFault, Scn, Store, u64_at};
+use rb_base::{BlockNo, Failed, OpenFault, Scn, Store};
 use rb_cell::{ROW, cells};
-use rb_sound::{blocks_sound, commit_number_of};
+use rb_sound::{blocks_sound, commit_logged_of, commit_number_of};
 use std::alloc::Global;
 
 /// The most changes that are kept in memory, where the log has no end. A log of a file has at most 4,096 slots.
@@ -108,9 +108,7 @@ fn number_sound<T: Store>(store: &mut T, number: Scn) -> Result<bool, Failed>
     ensures failed { T.failed store.new ≡ is_err result }
     ensures counted { IsCounted (T.faults store.old) (T.faults store.new) result }
 {
-    let shape = store.shape();
-    store.load(u32::from(shape.tables) * shape.blocks)?;
-    let logged = u64_at(store.block(), 0);
+    let logged = commit_logged_of(store)?;
     Ok(number <= logged && logged <= store.logged())
 }
 

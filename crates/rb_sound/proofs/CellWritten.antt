@@ -5,7 +5,7 @@ use Rattle.std.proofs.lemmas.List.{drop-take, drop-drop}
 use Rattle.byteorder.specs.Endian.{big_bytes}
 use Rattle.byteorder.specs.Numbers.{big_from-take, big_number-reads_back}
 use Rattle.rb_base.specs.declared.ids.Shape.{Shape}
-use Rattle.rb_base.specs.Blocks.{block_of, patched, after_group, table_blocks, AreBlocks}
+use Rattle.rb_base.specs.Blocks.{block_of, patched, after_group, commit_block, table_blocks, AreBlocks}
 use Rattle.rb_base.specs.Fields.{number_at, AreApart}
 use Rattle.rb_itl.specs.declared.slots.Entry.{Entry}
 use Rattle.rb_itl.specs.declared.slots.TheConstants.{FREE}
@@ -15,7 +15,7 @@ use Rattle.rb_cell.specs.Cells.{cell_place, padded, cell_of, cell_at, cell_patch
 use Rattle.rb_cell.proofs.CellBytes.{length-cell, cell_read}
 use Rattle.rb_heap.specs.Homes.{is_keyed}
 use Rattle.rb_heap.proofs.Blocks.{block_long}
-use Rattle.rb_sound.specs.Sound.{header_block, commit_number, value_length, slot_wrap, wrap_at, IsEntrySound, IsLock, IsCellSound, IsSegment, IsHomeSound, AreSound}
+use Rattle.rb_sound.specs.Sound.{header_block, commit_logged, commit_number, value_length, slot_wrap, wrap_at, IsEntrySound, IsLock, IsCellSound, IsSegment, IsHomeSound, AreSound}
 use Rattle.rb_sound.proofs.Greatest.{commit_same}
 use Rattle.rb_sound.proofs.Kept.{all_kept, segment_later}
 use Rattle.rb_sound.proofs.Keys.{own_key}
@@ -148,3 +148,7 @@ sound_with_cell shape blocks number which c cell are sound lt few is_cell state 
 
 pub other_block : (blocks : List (List ℕ)) (number which c b : ℕ) (cell : Cell) → b ≢ which → block_of (after_group number (cell_patch which c cell ∷ []) blocks) b ≡ block_of blocks b
 other_block blocks number which c b cell differ = block_elsewhere blocks number b (cell_patch which c cell) differ
+
+-- nor is the block that commits patch
+pub logged_stays : (shape : Shape) (blocks : List (List ℕ)) (number which c : ℕ) (cell : Cell) → which < table_blocks shape → commit_logged shape (after_group number (cell_patch which c cell ∷ []) blocks) ≡ commit_logged shape blocks
+logged_stays shape blocks number which c cell lt = ap (λ (block : List ℕ). number_at block 0 8) (other_block blocks number which c (commit_block shape) cell (λ same. omega (arith, lt, same)))

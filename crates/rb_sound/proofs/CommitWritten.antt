@@ -9,7 +9,7 @@ use Rattle.rb_base.specs.Fields.{number_at, AreApart}
 use Rattle.rb_base.specs.Groups.{Patch, patch}
 use Rattle.rb_heap.proofs.Blocks.{block_long}
 use Rattle.rb_heap.proofs.Patching.{number_patched}
-use Rattle.rb_sound.specs.Sound.{header_block, slot_place, extent_place, slot_state, slot_wrap, slot_newest, slot_before, extent_ord, extent_newest, head_extent, head_records, lost_number, commit_number, wrap_at, IsRing, IsSegment, IsHomeSound, AreSound}
+use Rattle.rb_sound.specs.Sound.{header_block, slot_place, extent_place, slot_state, slot_wrap, slot_newest, slot_before, extent_ord, extent_newest, head_extent, head_records, lost_number, commit_logged, commit_number, number_patch, wrap_at, IsRing, IsSegment, IsHomeSound, AreSound}
 use Rattle.rb_sound.proofs.Greatest.{commit_above, commit_least}
 use Rattle.rb_sound.proofs.Kept.{all_kept, segment_later}
 use Rattle.rb_sound.proofs.Patched.{number_of_part, number_kept, byte_kept, part_there, block_there, block_elsewhere}
@@ -87,9 +87,9 @@ segment_kept commit later newest header now has le rises is = record {
   newest = λ e few. omega (arith, has.extents e, le, is.newest e few);
 }
 
--- the patch of a commit, and the blocks after it
+-- the patch of the next commit, and the blocks after it
 abbrev commit_patch : Shape → ℕ → Patch
-commit_patch shape n = patch (commit_block shape) 48 (big_bytes 8 (n + 1))
+commit_patch shape n = number_patch shape (n + 1)
 
 abbrev committed : Shape → List (List ℕ) → ℕ → ℕ → List (List ℕ)
 committed shape blocks number n = after_group number (commit_patch shape n ∷ []) blocks
@@ -117,7 +117,7 @@ header_elsewhere shape blocks number n g more = block_elsewhere blocks number (h
 pub rows_kept : (shape : Shape) (blocks : List (List ℕ)) (number n b : ℕ) → b < table_blocks shape → block_of (committed shape blocks number n) b ≡ block_of blocks b
 rows_kept shape blocks number n b lt = block_elsewhere blocks number b (commit_patch shape n) (λ same. omega (arith, lt, same))
 
-pub commit_numbered : (shape : Shape) (blocks : List (List ℕ)) (number n : ℕ) → IsShape shape → AreBlocks shape blocks → number < 2 ^ 64 → number_at (block_of (committed shape blocks number n) (commit_block shape)) 0 8 ≡ number
+pub commit_numbered : (shape : Shape) (blocks : List (List ℕ)) (number n : ℕ) → IsShape shape → AreBlocks shape blocks → number < 2 ^ 64 → commit_logged shape (committed shape blocks number n) ≡ number
 commit_numbered shape blocks number n is are fits =
     let at = commit_block shape in
     ap (λ (block : List ℕ). number_at block 0 8) (block_there shape blocks number (commit_patch shape n) are (within_file shape is)) ∙ number_patched (block_of blocks at) number (commit_patch shape n) fits

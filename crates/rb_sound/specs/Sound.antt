@@ -1,7 +1,9 @@
 -- What an opening tests on the blocks of a file: each header of a segment, and each block of rows.
 use Rattle.std.specs.Prelude.{◌≡◌, ◌≢◌, ℕ, zero, suc, ◌+◌, ◌-◌, ◌*◌, ◌%◌, ◌<◌, ◌≤◌, max, true, false, List, [], slice_index, slice_index_or}
-use Rattle.rb_base.specs.Blocks.{block_of, table_blocks}
+use Rattle.byteorder.specs.Endian.{big_bytes}
+use Rattle.rb_base.specs.Blocks.{block_of, commit_block, table_blocks}
 use Rattle.rb_base.specs.Fields.{number_at}
+use Rattle.rb_base.specs.Groups.{Patch, patch}
 use Rattle.rb_base.specs.declared.ids.Shape.{Shape}
 use Rattle.rb_cell.specs.declared.cell.Cell.{Cell}
 use Rattle.rb_cell.specs.declared.cell.TheConstants.{EMPTY}
@@ -92,6 +94,14 @@ header_newest header = greatest (slot_newest header) 16
 -- the commit number of a file, the greatest that a table slot has
 abbrev pub commit_number : Shape → List (List ℕ) → ℕ
 commit_number shape blocks = greatest (λ g. header_newest (block_of blocks (header_block shape g))) shape.segments
+
+-- the log number in front of the block that each commit patches
+abbrev pub commit_logged : Shape → List (List ℕ) → ℕ
+commit_logged shape blocks = number_at (block_of blocks (commit_block shape)) 0 8
+
+-- the patch of a commit of that number, which becomes the newest of the first table slot of the first segment
+abbrev pub number_patch : Shape → ℕ → Patch
+number_patch shape number = patch (commit_block shape) 48 (big_bytes 8 number)
 
 -- how often a slot of a segment had been taken, and the same in a table of them
 abbrev pub wrap_at : Shape → List (List ℕ) → ℕ → ℕ → ℕ

@@ -14,7 +14,7 @@ use rb_base::{BlockNo, Failed, Scn, Shape, Store};
 const SEGMENT_BLOCKS: u32 = 33;
 
 /// The block of the header of segment `g`, from 0 on.
-fn header_block(shape: Shape, g: u16) -> BlockNo
+pub(crate) fn header_block(shape: Shape, g: u16) -> BlockNo
     requires shape { IsShape shape }
     requires there { g < shape.segments }
     ensures number { result ≡ header_block shape g }

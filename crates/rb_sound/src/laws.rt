@@ -1,14 +1,11 @@
 //! What holds of every file, as clauses for proofs to cite. Nothing calls them.
 ghost use Rattle.std.specs.Prelude.{◌≡◌, ◌≢◌, ℕ, ◌+◌, ◌-◌, ◌*◌, ◌%◌, ◌^◌, ◌<◌, ◌≤◌, true, false, List, [], ◌∷◌};
-ghost use Rattle.byteorder.specs.Endian.{big_bytes};
 ghost use Rattle.rb_base.specs.declared.ids.Shape.{Shape};
-ghost use Rattle.rb_base.specs.Blocks.{block_of, after_group, commit_block, fresh_blocks, table_blocks, IsShape, AreBlocks};
-ghost use Rattle.rb_base.specs.Fields.{number_at};
-ghost use Rattle.rb_base.specs.Groups.{patch};
+ghost use Rattle.rb_base.specs.Blocks.{block_of, after_group, fresh_blocks, table_blocks, IsShape, AreBlocks};
 ghost use Rattle.rb_cell.specs.declared.cell.Cell.{Cell};
 ghost use Rattle.rb_cell.specs.Cells.{cell_at, cell_patch, IsCell};
 ghost use Rattle.rb_heap.specs.Homes.{is_keyed};
-ghost use Rattle.rb_sound.specs.Sound.{header_block, slot_newest, commit_number, IsHomeSound, AreHomesSound, AreSound};
+ghost use Rattle.rb_sound.specs.Sound.{header_block, slot_newest, commit_logged, commit_number, number_patch, IsHomeSound, AreHomesSound, AreSound};
 
 /// The commit number of a file is the least that no table slot's newest is above.
 pub fn commit_greatest()
@@ -28,12 +25,14 @@ pub fn fresh_sound()
 {}
 
 /// A cell written over one of a block of rows leaves all blocks in order, where it is unlocked, belongs in that block and
-/// has no key that another cell there has. The commit number and every other block stay.
+/// has no key that another cell there has. The commit number, the log number of the block that commits patch, and every
+/// other block stay.
 pub fn cell_written()
     ensures sound { (shape : Shape) (blocks : List (List ℕ)) (number which c : ℕ) (cell : Cell) → AreBlocks shape blocks → AreSound shape blocks → which < table_blocks shape → c < 16 → IsCell cell → cell.state ≤ 2 → cell.lock ≡ 0 → cell.key % shape.blocks ≡ which % shape.blocks
         → ((other : ℕ) → other < 16 → other ≢ c → is_keyed cell.key cell ≡ true → is_keyed cell.key (cell_at (block_of blocks which) other) ≡ false)
         → AreSound shape (after_group number (cell_patch which c cell ∷ []) blocks) }
     ensures commit { (shape : Shape) (blocks : List (List ℕ)) (number which c : ℕ) (cell : Cell) → which < table_blocks shape → commit_number shape (after_group number (cell_patch which c cell ∷ []) blocks) ≡ commit_number shape blocks }
+    ensures logged { (shape : Shape) (blocks : List (List ℕ)) (number which c : ℕ) (cell : Cell) → which < table_blocks shape → commit_logged shape (after_group number (cell_patch which c cell ∷ []) blocks) ≡ commit_logged shape blocks }
     ensures other { (blocks : List (List ℕ)) (number which c b : ℕ) (cell : Cell) → b ≢ which → block_of (after_group number (cell_patch which c cell ∷ []) blocks) b ≡ block_of blocks b }
 {}
 
@@ -41,10 +40,10 @@ pub fn cell_written()
 /// no block of rows changes.
 pub fn commit_written()
     ensures sound { (shape : Shape) (blocks : List (List ℕ)) (number n : ℕ) → IsShape shape → AreBlocks shape blocks → AreSound shape blocks → commit_number shape blocks ≡ n → n + 1 < 2 ^ 64
-        → AreSound shape (after_group number (patch (commit_block shape) 48 (big_bytes 8 (n + 1)) ∷ []) blocks) }
+        → AreSound shape (after_group number (number_patch shape (n + 1) ∷ []) blocks) }
     ensures commit { (shape : Shape) (blocks : List (List ℕ)) (number n : ℕ) → IsShape shape → AreBlocks shape blocks → commit_number shape blocks ≡ n → n + 1 < 2 ^ 64
-        → commit_number shape (after_group number (patch (commit_block shape) 48 (big_bytes 8 (n + 1)) ∷ []) blocks) ≡ n + 1 }
+        → commit_number shape (after_group number (number_patch shape (n + 1) ∷ []) blocks) ≡ n + 1 }
     ensures number { (shape : Shape) (blocks : List (List ℕ)) (number n : ℕ) → IsShape shape → AreBlocks shape blocks → number < 2 ^ 64
-        → number_at (block_of (after_group number (patch (commit_block shape) 48 (big_bytes 8 (n + 1)) ∷ []) blocks) (commit_block shape)) 0 8 ≡ number }
-    ensures rows { (shape : Shape) (blocks : List (List ℕ)) (number n b : ℕ) → b < table_blocks shape → block_of (after_group number (patch (commit_block shape) 48 (big_bytes 8 (n + 1)) ∷ []) blocks) b ≡ block_of blocks b }
+        → commit_logged shape (after_group number (number_patch shape (n + 1) ∷ []) blocks) ≡ number }
+    ensures rows { (shape : Shape) (blocks : List (List ℕ)) (number n b : ℕ) → b < table_blocks shape → block_of (after_group number (number_patch shape (n + 1) ∷ []) blocks) b ≡ block_of blocks b }
 {}
