@@ -21,7 +21,7 @@ use Rattle.rb_write.proofs.Placed.{row_block}
 use Rattle.std.specs.List.{list_any}
 use Rattle.rb_engine.specs.Crash.{Stands, Survives}
 use Rattle.rb_engine.specs.Engine.{IsInStep}
-use Rattle.rb_engine.specs.Holds.{Holds}
+use Rattle.rb_engine.specs.Holds.{Holds, AHEAD}
 use Rattle.rb_engine.specs.Kept.{Kept}
 use Rattle.rb_engine.proofs.CrashLemmas.{commit_done, commit_failed, holds_committed, number_committed, rows_committed}
 use Rattle.rb_engine.proofs.UsedLemmas.{sessions_committed, the_one, used_after_commit}
@@ -37,12 +37,12 @@ still_blocks shape blocks number n is are =
     (record { block_fits = omega (arith, few, is.few_blocks.1); some = omega arith; behind_head = omega arith; within_block = omega arith }, tt)
 
 -- They hold the same rows and the next number.
-pub holds_with_commit : (shape : Shape) (blocks : List (List ℕ)) (number n : ℕ) (rows : List TableRow) → IsShape shape → n + 1 ≤ number → number < 2 ^ 64 → Holds shape blocks n rows → Holds shape (with_commit shape blocks number n) (n + 1) rows
-holds_with_commit shape blocks number n rows is later fits held = record {
+pub holds_with_commit : (shape : Shape) (blocks : List (List ℕ)) (number n : ℕ) (rows : List TableRow) → IsShape shape → n + 1 ≤ number + AHEAD → n + 1 < 2 ^ 64 → number < 2 ^ 64 → Holds shape blocks n rows → Holds shape (with_commit shape blocks number n) (n + 1) rows
+holds_with_commit shape blocks number n rows is later next fits held = record {
   whole = still_blocks shape blocks number n is held.whole;
-  sound = sound_with_commit shape blocks number n is held.whole held.sound held.number_is (omega (arith, later, fits));
+  sound = sound_with_commit shape blocks number n is held.whole held.sound held.number_is next;
   plain = λ b lt. subst (λ (block : List ℕ). IsPlainHome (home_of block)) (sym (rows_kept shape blocks number n b lt)) (held.plain b lt);
-  number_is = commit_next shape blocks number n is held.whole held.number_is (omega (arith, later, fits));
+  number_is = commit_next shape blocks number n is held.whole held.number_is next;
   logged = let header = commit_numbered shape blocks number n is held.whole fits in omega (arith, later, header);
   values = λ table key low high.
       ap (λ (block : List ℕ). value_in (home_rows (home_of block)) key) (rows_kept shape blocks number n (home_block shape table key) (row_block shape table key is.few_blocks.0 low high)) ∙ held.values table key low high;
@@ -69,7 +69,7 @@ pub holds_committed_now : {S : Type 0} (s : Ghosts S) (kept : Kept) (old : S) (n
 holds_committed_now s kept old number going is few told step =
     let h = kept.state in
     let lower = step.numbers going in
-    let held = holds_with_commit h.shape (s.blocks old) (s.number old + 1) (last_number h.commits) (rows_now h 1) step.in_range (omega (arith, lower)) (omega (arith, few)) (step.holds told going) in
+    let held = holds_with_commit h.shape (s.blocks old) (s.number old + 1) (last_number h.commits) (rows_now h 1) step.in_range (omega (arith, lower)) (omega (arith, lower, few)) (omega (arith, few)) (step.holds told going) in
     subst (λ (x : Shape). Holds h.shape (after_group (s.number old + 1) (number_patch x number ∷ []) (s.blocks old)) (last_number h.commits + 1) (rows_now h 1)) (sym step.same_shape)
     (subst (λ (n : ℕ). Holds h.shape (after_group (s.number old + 1) (number_patch h.shape n ∷ []) (s.blocks old)) (last_number h.commits + 1) (rows_now h 1)) (sym is) held)
 

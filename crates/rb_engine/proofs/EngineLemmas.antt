@@ -22,7 +22,7 @@ use Rattle.rb_model.specs.Rows.{Commits, TableRow, last_number, rows_at}
 use Rattle.rb_model.specs.State.{State, session_of}
 use Rattle.rb_engine.specs.Crash.{Stands}
 use Rattle.rb_engine.specs.Engine.{IsInStep, refusal_of, room_left}
-use Rattle.rb_engine.specs.Holds.{Holds}
+use Rattle.rb_engine.specs.Holds.{Holds, AHEAD}
 use Rattle.rb_engine.specs.Kept.{Kept}
 use Rattle.rb_engine.proofs.UsedLemmas.{used_same, held_one, sessions_after, the_one}
 
@@ -44,7 +44,7 @@ in_step_still s kept kept2 store call answer state shape commits stopped own spa
       alone = alone;
       enough = λ go slots e. subst (λ (n : ℕ). slots - 1 - s.number store ≤ n) (sym spare) (step.enough (sym stopped ∙ go) slots e);
       going = λ go. step.going (sym stopped ∙ go);
-      numbers = λ go. subst (λ (c : Commits). last_number c ≤ s.number store) (sym commits) (step.numbers (sym stopped ∙ go));
+      numbers = λ go. subst (λ (c : Commits). last_number c ≤ s.number store + AHEAD) (sym commits) (step.numbers (sym stopped ∙ go));
       room = λ go some. step.room (sym stopped ∙ go) (subst (λ (x : List Change). 0 < length x) own some);
       few = λ go some. step.few (sym stopped ∙ go) (subst (λ (x : List Change). 0 < length x) own some);
       holds = λ told go. subst (λ (x : Shape). Holds x (s.blocks store) (last_number kept2.state.commits) (rows_now kept2.state 1)) (sym shape)

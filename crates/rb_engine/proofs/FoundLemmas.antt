@@ -30,7 +30,7 @@ use Rattle.rb_versions.proofs.RowLemmas.{ordered-over}
 use Rattle.rb_write.specs.Values.{home_at, home_block, value_at, value_in, ArePlain, IsPlainHome}
 use Rattle.rb_write.proofs.Placed.{row_block}
 use Rattle.rb_engine.specs.Found.{put_row, rows_below, rows_found, table_of, table_row}
-use Rattle.rb_engine.specs.Holds.{CanOpen, Holds, OpensAs}
+use Rattle.rb_engine.specs.Holds.{CanOpen, Holds, OpensAs, AHEAD}
 use Rattle.rb_engine.proofs.KeptLemmas.{over-append}
 
 -- the rows of a block, cell by cell
@@ -495,7 +495,7 @@ opened_now shape blocks h opens =
 -- start, and the others those at each test
 
 pub can_open : (shape a b k : Shape) (blocks ba bb bk : List (List ℕ)) (number last lb : ℕ) → a ≡ shape → ba ≡ blocks → b ≡ shape → bb ≡ blocks → lb ≡ last → k ≡ shape → bk ≡ blocks
-    → AreSound shape blocks → number ≡ commit_number a ba → (number ≤ commit_logged b bb) × (commit_logged b bb ≤ lb)
+    → AreSound shape blocks → number ≡ commit_number a ba → (number ≤ commit_logged b bb + AHEAD) × (commit_logged b bb ≤ lb)
     → ((i c : ℕ) → i < table_blocks k → c < 16 → (cell_at (block_of bk i) c).lock ≡ 0) → CanOpen shape blocks last
 can_open shape a b k blocks ba bb bk number last lb a_is ba_is b_is bb_is last_is k_is bk_is sound number_is logged unlocked =
     let number_same : number ≡ commit_number shape blocks = number_is ∙ ap (λ (x : Shape). commit_number x ba) a_is ∙ ap (commit_number shape) ba_is in
@@ -505,7 +505,7 @@ can_open shape a b k blocks ba bb bk number last lb a_is ba_is b_is bb_is last_i
       unlocked =
           subst (λ (x : Shape). (i c : ℕ) → i < table_blocks x → c < 16 → (cell_at (block_of blocks i) c).lock ≡ 0) k_is
           (subst (λ (there : List (List ℕ)). (i c : ℕ) → i < table_blocks k → c < 16 → (cell_at (block_of there i) c).lock ≡ 0) bk_is unlocked);
-      commits = subst (λ (n : ℕ). n ≤ commit_logged shape blocks) number_same (subst (λ (n : ℕ). number ≤ n) logged_same logged.0);
+      commits = subst (λ (n : ℕ). n ≤ commit_logged shape blocks + AHEAD) number_same (subst (λ (n : ℕ). number ≤ n + AHEAD) logged_same logged.0);
       logged = subst (λ (n : ℕ). commit_logged shape blocks ≤ n) last_is (subst (λ (n : ℕ). n ≤ lb) logged_same logged.1);
     }
 

@@ -1,5 +1,5 @@
 -- What a contract sees of the engine, and how its state goes together with its store.
-use Rattle.std.specs.Prelude.{◌≡◌, ℕ, ◌-◌, ◌^◌, ◌<◌, ◌≤◌, false, length, Option, None, Some}
+use Rattle.std.specs.Prelude.{◌≡◌, ℕ, ◌+◌, ◌-◌, ◌^◌, ◌<◌, ◌≤◌, false, length, Option, None, Some}
 use Rattle.rb_base.specs.Blocks.{IsShape}
 use Rattle.rb_base.specs.Stores.{room_of}
 use Rattle.rb_base.specs.declared.store.Store.{Ghosts}
@@ -11,7 +11,7 @@ use Rattle.rb_model.specs.declared.refusal.Refusal.{Refusal}
 use Rattle.rb_model.specs.declared.refusal.Refusal.TheVariants as refusals
 use Rattle.rb_write.specs.declared.ask.AttemptFault.{AttemptFault}
 use Rattle.rb_write.specs.declared.ask.AttemptFault.TheVariants as faults
-use Rattle.rb_engine.specs.Holds.{Holds}
+use Rattle.rb_engine.specs.Holds.{Holds, AHEAD}
 use Rattle.rb_engine.specs.Kept.{Kept}
 
 -- the machine's state, how many more changes the memory has room for, and the store
@@ -44,7 +44,7 @@ pub record IsInStep {S : Type 0} (s : Ghosts S) (kept : Kept) (store : S) : Type
   pub alone : length kept.state.sessions ≡ 1
   pub enough : kept.state.stopped ≡ false → (slots : ℕ) → s.slots store ≡ Some slots → slots - 1 - s.number store ≤ kept.spare
   pub going : kept.state.stopped ≡ false → s.failed store ≡ false
-  pub numbers : kept.state.stopped ≡ false → last_number kept.state.commits ≤ s.number store
+  pub numbers : kept.state.stopped ≡ false → last_number kept.state.commits ≤ s.number store + AHEAD
   pub room : kept.state.stopped ≡ false → 0 < length (session_of kept.state 1).own → 1 ≤ room_of (s.slots store) (s.number store)
   pub few : kept.state.stopped ≡ false → 0 < length (session_of kept.state 1).own → s.number store ≤ 2 ^ 60
   pub holds : s.tells → kept.state.stopped ≡ false → Holds kept.state.shape (s.blocks store) (last_number kept.state.commits) (rows_now kept.state 1)

@@ -1,5 +1,5 @@
 -- What the blocks of a file hold, in rows and a commit number, and what an opening tests on them.
-use Rattle.std.specs.Prelude.{◌≡◌, ℕ, ◌<◌, ◌≤◌, List}
+use Rattle.std.specs.Prelude.{◌≡◌, ℕ, ◌+◌, ◌^◌, ◌<◌, ◌≤◌, List}
 use Rattle.std.specs.List.{AllByRecursion}
 use Rattle.rb_base.specs.Blocks.{block_of, table_blocks, AreBlocks}
 use Rattle.rb_base.specs.declared.ids.Shape.{Shape}
@@ -9,30 +9,34 @@ use Rattle.rb_model.specs.State.{State, opened}
 use Rattle.rb_sound.specs.Sound.{commit_logged, commit_number, AreSound}
 use Rattle.rb_write.specs.Values.{value_at, ArePlain}
 
+-- How far a commit number may be above a log number: a commit has a next number as long as groups are logged.
+abbrev pub AHEAD : ℕ
+AHEAD = 2 ^ 63 + 2 ^ 62
+
 -- The blocks are in order, and nothing in them is locked. They hold these rows and no others, each once, and this commit
--- number, which isn't above the log number of the block that commits patch.
+-- number, which isn't too far above the log number of the block that commits patch.
 pub record Holds (shape : Shape) (blocks : List (List ℕ)) (number : ℕ) (rows : List TableRow) : Type 0 where
   pub whole : AreBlocks shape blocks
   pub sound : AreSound shape blocks
   pub plain : ArePlain shape blocks
   pub number_is : commit_number shape blocks ≡ number
-  pub logged : number ≤ commit_logged shape blocks
+  pub logged : number ≤ commit_logged shape blocks + AHEAD
   pub values : (table key : ℕ) → 1 ≤ table → table ≤ shape.tables → value_at shape blocks table key ≡ value_of table key rows
   pub tables : AllByRecursion (λ row. (1 ≤ row.table) × (row.table ≤ shape.tables)) rows
   pub order : InOrder shape.blocks rows
 
--- What an opening tests: the blocks are in order, nothing in them is locked, and the commit number isn't above the log
--- number of the block that commits patch, nor that above the last one given.
+-- What an opening tests: the blocks are in order, nothing in them is locked, the commit number isn't too far above the log
+-- number of the block that commits patch, and that isn't above the last one given.
 pub record CanOpen (shape : Shape) (blocks : List (List ℕ)) (number : ℕ) : Type 0 where
   pub sound : AreSound shape blocks
   pub unlocked : (b c : ℕ) → b < table_blocks shape → c < 16 → (cell_at (block_of blocks b) c).lock ≡ 0
-  pub commits : commit_number shape blocks ≤ commit_logged shape blocks
+  pub commits : commit_number shape blocks ≤ commit_logged shape blocks + AHEAD
   pub logged : commit_logged shape blocks ≤ number
 
 -- What it tests before it takes memory for the rows: all but the locks.
 pub record MayOpen (shape : Shape) (blocks : List (List ℕ)) (number : ℕ) : Type 0 where
   pub sound : AreSound shape blocks
-  pub commits : commit_number shape blocks ≤ commit_logged shape blocks
+  pub commits : commit_number shape blocks ≤ commit_logged shape blocks + AHEAD
   pub logged : commit_logged shape blocks ≤ number
 
 -- the state that blocks open to: their commit number and their rows are its base

@@ -76,7 +76,7 @@ pub record IsOpened (base base_length : ℕ) (ends : List ℕ) (count : ℕ) (c 
 -- The memory is in order, and has room for as many commits as changes, since each commit has a change.
 pub record IsKept (shape : Shape) (base base_length : ℕ) (ends : List ℕ) (changes : List RowChange) (cursors : List OpenCursor) (room ends_room : ℕ) : Type 0 where
   pub some_blocks : 0 < shape.blocks
-  pub few_before : base ≤ 2 ^ 62
+  pub few_before : base < 2 ^ 64 - 2 ^ 60
   pub few_changes : room ≤ 2 ^ 32
   pub in_order : Rising base_length ends
   pub within : last_end base_length ends ≤ length changes

@@ -11,7 +11,7 @@ ghost use Rattle.rb_sound.specs.Loads.{OnlyLoads};
 ghost use Rattle.rb_sound.specs.Sound.{commit_logged, commit_number};
 ghost use Rattle.rb_engine.specs.Crash.{Stands};
 ghost use Rattle.rb_engine.specs.Found.{put_row, rows_found, table_of, table_row};
-ghost use Rattle.rb_engine.specs.Holds.{CanOpen, MayOpen, OpensAs};
+ghost use Rattle.rb_engine.specs.Holds.{CanOpen, MayOpen, OpensAs, AHEAD};
 
 use crate::engine::Engine;
 use crate::state::EngineState;
@@ -22,6 +22,9 @@ use std::alloc::Global;
 
 /// The most changes that are kept in memory, where the log has no end. A log of a file has at most 4,096 slots.
 const CHANGES: u64 = 65_536;
+
+/// How far a commit number may be above a log number, so that there is a next one as long as groups are logged.
+const AHEAD: u64 = (1 << 63) + (1 << 62);
 
 /// The cells of a block.
 const CELLS: u8 = 16;
@@ -97,19 +100,20 @@ fn take_rows<T: Store>(state: &mut EngineState, store: &mut T) -> Result<bool, F
     Ok(true)
 }
 
-/// Whether a commit number is at most the log number of the block that commits patch, and that at most the last one given.
+/// Whether a commit number is at most `AHEAD` above the log number of the block that commits patch, and that at most the
+/// last one given.
 fn number_sound<T: Store>(store: &mut T, number: Scn) -> Result<bool, Failed>
     requires { T.failed store.old ≡ false }
-    ensures few { result ≡ Ok true → number ≤ T.number store.old }
-    ensures sound { T.tells → result ≡ Ok true → (number ≤ commit_logged (T.shape_of store.old) (T.blocks store.old)) × (commit_logged (T.shape_of store.old) (T.blocks store.old) ≤ T.number store.old) }
+    ensures few { result ≡ Ok true → number ≤ T.number store.old + AHEAD }
+    ensures sound { T.tells → result ≡ Ok true → (number ≤ commit_logged (T.shape_of store.old) (T.blocks store.old) + AHEAD) × (commit_logged (T.shape_of store.old) (T.blocks store.old) ≤ T.number store.old) }
     ensures whole { T.tells → OnOk result (AreBlocks (T.shape_of store.old) (T.blocks store.old)) }
-    ensures unsound { T.tells → result ≡ Ok false → number ≤ commit_logged (T.shape_of store.old) (T.blocks store.old) → commit_logged (T.shape_of store.old) (T.blocks store.old) ≤ T.number store.old → ⊥ }
+    ensures unsound { T.tells → result ≡ Ok false → number ≤ commit_logged (T.shape_of store.old) (T.blocks store.old) + AHEAD → commit_logged (T.shape_of store.old) (T.blocks store.old) ≤ T.number store.old → ⊥ }
     ensures only_loads { OnlyLoads T.Store store.old store.new }
     ensures failed { T.failed store.new ≡ is_err result }
     ensures counted { IsCounted (T.faults store.old) (T.faults store.new) result }
 {
     let logged = commit_logged_of(store)?;
-    Ok(number <= logged && logged <= store.logged())
+    Ok(number.saturating_sub(logged) <= AHEAD && logged <= store.logged())
 }
 
 /// The state that the blocks of a store open to.
@@ -122,7 +126,7 @@ fn open_state<T: Store>(alloc: Global, store: &mut T) -> Result<EngineState, Ope
     ensures sound { T.tells → OnOk result (CanOpen (T.shape_of store.old) (T.blocks store.old) (T.number store.old)) }
     ensures none { T.tells → IsErrOf result OpenFault.NotAStore → CanOpen (T.shape_of store.old) (T.blocks store.old) (T.number store.old) → ⊥ }
     ensures in_range { OnOk result (IsShape (T.shape_of store.old)) }
-    ensures numbers { IfOk result (λ kept. kept.state.commits.base ≤ T.number store.old) }
+    ensures numbers { IfOk result (λ kept. kept.state.commits.base ≤ T.number store.old + AHEAD) }
     ensures enough { IfOk result (λ kept. (slots : ℕ) → T.slots store.old ≡ Some slots → slots - 1 - T.number store.old ≤ kept.spare) }
     ensures ample { IfOk result (λ kept. T.slots store.old ≡ None → 2 ^ 16 ≤ kept.spare) }
     ensures no_memory { T.tells → IsErrOf result OpenFault.NoMemory → MayOpen (T.shape_of store.old) (T.blocks store.old) (T.number store.old) }

@@ -1,6 +1,6 @@
 //! The engine's state in memory: one session, its cursors, the rows found at opening and the changes since. The engine
 //! owns one.
-ghost use Rattle.std.specs.Prelude.{◌≡◌, ◌≢◌, ℕ, ◌+◌, ◌^◌, ◌<◌, ◌≤◌, false, [], ◌∷◌, ◌++◌, length, true, not, IsOk, IfOk, IfErr, IfSome, IfNone, slice_index_or, slice_set};
+ghost use Rattle.std.specs.Prelude.{◌≡◌, ◌≢◌, ℕ, ◌+◌, ◌-◌, ◌^◌, ◌<◌, ◌≤◌, false, [], ◌∷◌, ◌++◌, length, true, not, IsOk, IfOk, IfErr, IfSome, IfNone, slice_index_or, slice_set};
 ghost use Rattle.rb_model.specs.State.{opened, session_of};
 ghost use Rattle.rb_model.specs.Rows.{has_row, last_number, with_row};
 ghost use Rattle.rb_model.specs.Full.{full_block};
@@ -163,7 +163,7 @@ impl EngineState {
         room: usize,
     ) -> Result<EngineState, NoMemory>
         requires blocks { 0 < shape.blocks }
-        requires few_commits { number ≤ 2 ^ 62 }
+        requires few_commits { number < 2 ^ 64 - 2 ^ 60 }
         requires few_changes { room ≤ 2 ^ 32 }
         ensures state { IfOk result (λ kept. kept.state ≡ opened shape number []) }
         ensures spare { IfOk result (λ kept. kept.spare ≡ room) }
@@ -198,7 +198,7 @@ impl EngineState {
     /// The number of the last commit.
     pub fn number(&self) -> Scn
         ensures number { result ≡ last_number self.now.state.commits }
-        ensures few { result < 2 ^ 63 }
+        ensures few { result + 1 < 2 ^ 64 }
     {
         self.base + self.ends.as_slice().len() as u64
     }
