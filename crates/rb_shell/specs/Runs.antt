@@ -77,6 +77,11 @@ abbrev pub OpensSame : {D : Type 0} → (D → List ℕ) → (D → List ℕ →
 OpensSame {D} content image moment since old new =
     (l : Layout) (blocks : List (List ℕ)) → OpensTo l (content old) blocks → LeavesOnly moment since old new (λ c. image old c ⊎ OpensTo l c blocks)
 
+-- An opening was stopped: the images are as `OpensSame` says, and a file that opens to no blocks is as it was.
+pub record WasStopped {D : Type 0} (content : D → List ℕ) (image : D → List ℕ → Type 0) (moment : D → ℕ) (since : D → ℕ → List ℕ → Type 0) (old new : D) : Type 0 where
+  pub images : OpensSame content image moment since old new
+  pub none : ((l : Layout) (blocks : List (List ℕ)) → OpensTo l (content old) blocks → ⊥) → Rests content image moment since old new
+
 -- Nothing was done but an opening, which may take away what was logged behind the last commit: the file and each image
 -- open as before. A file that opens to no blocks is as it was.
 pub record LeftAlone {D : Type 0} (content : D → List ℕ) (image : D → List ℕ → Type 0) (moment : D → ℕ) (since : D → ℕ → List ℕ → Type 0) (old new : D) : Type 0 where

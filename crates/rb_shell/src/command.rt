@@ -7,7 +7,7 @@ ghost use Rattle.rb_layout.specs.declared.layout.Layout.{Layout};
 ghost use Rattle.rb_layout.specs.Regions.{fresh_file};
 ghost use Rattle.rb_lines.specs.Whole.{whole_lines};
 ghost use Rattle.rb_model.specs.Lines.{lines_of};
-ghost use Rattle.rb_shell.specs.Runs.{IsSound, HasRun, WasCutOff, Endures, LeftAlone, OpensSame, IsTaken, EndsRun, AsksScript, AsksNothing, IsDoneOrNoMemory};
+ghost use Rattle.rb_shell.specs.Runs.{IsSound, HasRun, WasCutOff, Endures, LeftAlone, WasStopped, IsTaken, EndsRun, AsksScript, AsksNothing, IsDoneOrNoMemory};
 ghost use Rattle.rb_shell.specs.Statuses.{EndsFormat};
 ghost use Rattle.rb_shell.specs.Words.{IsFormat, IsRun, IsUsage};
 
@@ -60,10 +60,10 @@ pub fn run<S: Source, K: Sink, D: Disk>(
         ((taken : List ℕ) × (length taken ≡ 1000000000) × IsTaken taken (S.left source.old) (S.left source.new)
         × HasRun (D.content disk) (whole_lines taken) K.tells (K.held sink.old) (K.held sink.new) false (Endures D.image D.moment D.image_since disk result.1)) }
 
-    // At a fault of the disk nothing was asked for and the file opens as before, or the reply that tells of it is the
-    // last; at one of the sink the replies are cut off.
+    // At a fault of the disk nothing was asked for and the file opens as before, or is as it was where it opens to
+    // nothing; or the reply that tells of it is the last. At one of the sink the replies are cut off.
     ensures disk_done { D.tells → S.tells → (n : ℕ) → IsRun words.now n → result.0 ≡ Status.DiskFault →
-        ((source.new ≡ source.old) × (sink.new ≡ sink.old) × OpensSame D.content D.image D.moment D.image_since disk result.1)
+        ((source.new ≡ source.old) × (sink.new ≡ sink.old) × WasStopped D.content D.image D.moment D.image_since disk result.1)
         ⊎ HasRun (D.content disk) (lines_of (S.left source.old)) K.tells (K.held sink.old) (K.held sink.new) true (Endures D.image D.moment D.image_since disk result.1) }
     ensures cut_off { D.tells → S.tells → K.tells → result.0 ≡ Status.SinkFault → WasCutOff (D.content disk) (lines_of (S.left source.old)) (K.held sink.old) (K.held sink.new) (Endures D.image D.moment D.image_since disk result.1) }
 

@@ -5,7 +5,7 @@ ghost use Rattle.rb_engine.specs.Crash.{Survives};
 ghost use Rattle.rb_lines.specs.Whole.{whole_lines};
 ghost use Rattle.rb_model.specs.Lines.{lines_of};
 ghost use Rattle.rb_model.specs.Out.{LineOut};
-ghost use Rattle.rb_shell.specs.Runs.{IsSound, HasDone, HasOpened, HasRun, WasCut, WasCutOff, Endures, LeftAlone, OpensSame, IsTaken, EndsRun, AsksScript, AsksNothing};
+ghost use Rattle.rb_shell.specs.Runs.{IsSound, HasDone, HasOpened, HasRun, WasCut, WasCutOff, Endures, LeftAlone, WasStopped, IsTaken, EndsRun, AsksScript, AsksNothing};
 ghost use Rattle.rb_shell.specs.Since.{StandsFor};
 ghost use Rattle.rb_shell.specs.Steps.{Steps, IsReady, logged, slots_of};
 
@@ -142,7 +142,7 @@ fn open_engine<D: Disk>(alloc: Global, disk: D) -> Result<Engine<LapStore<D>>, (
     ensures stands { D.tells → IfOk result (λ e. StandsFor ⟦<LapStore<D> as Store>⟧ e) }
     ensures none { D.tells → IfErr result (λ r. r.0 ≡ OpenFault.NotAStore → IsSound (D.content disk) → ⊥) }
     ensures failed { IfErr result (λ r. r.0 ≡ OpenFault.Failed → Rose (D.faults disk) (D.faults r.1)) }
-    ensures images { D.tells → IfErr result (λ r. OpensSame D.content D.image D.moment D.image_since disk r.1) }
+    ensures images { D.tells → IfErr result (λ r. WasStopped D.content D.image D.moment D.image_since disk r.1) }
     ensures left_alone { D.tells → IfErr result (λ r. r.0 ≢ OpenFault.Failed → LeftAlone D.content D.image D.moment D.image_since disk r.1) }
     ensures counted_ok { IfOk result (λ e. D.faults disk ≤ D.faults e.store.disk) }
     ensures counted_err { IfErr result (λ r. D.faults disk ≤ D.faults r.1) }
@@ -177,7 +177,7 @@ pub fn run_script<S: Source, K: Sink, D: Disk>(
         ((taken : List ℕ) × (length taken ≡ 1000000000) × IsTaken taken (S.left source.old) (S.left source.new)
         × HasRun (D.content disk) (whole_lines taken) K.tells (K.held sink.old) (K.held sink.new) false (Endures D.image D.moment D.image_since disk result.1)) }
     ensures disk_done { D.tells → S.tells → result.0 ≡ Status.DiskFault →
-        ((source.new ≡ source.old) × (sink.new ≡ sink.old) × OpensSame D.content D.image D.moment D.image_since disk result.1)
+        ((source.new ≡ source.old) × (sink.new ≡ sink.old) × WasStopped D.content D.image D.moment D.image_since disk result.1)
         ⊎ HasRun (D.content disk) (lines_of (S.left source.old)) K.tells (K.held sink.old) (K.held sink.new) true (Endures D.image D.moment D.image_since disk result.1) }
     ensures cut_off { D.tells → S.tells → K.tells → result.0 ≡ Status.SinkFault → WasCutOff (D.content disk) (lines_of (S.left source.old)) (K.held sink.old) (K.held sink.new) (Endures D.image D.moment D.image_since disk result.1) }
 

@@ -224,6 +224,7 @@ fn open_parts<D: Disk>(alloc: Global, disk: &mut D) -> Result<Parts, OpenFault>
     ensures any_moment { D.tells → (l : Layout) (b : List (List ℕ)) → OpensTo l (D.content disk.old) b → LeavesOnly D.moment D.image_since disk.old disk.new (λ c. D.image disk.old c ⊎ OpensTo l c b) }
     ensures not_a_store { D.tells → IsErrOf result OpenFault.NotAStore → Rests D.content D.image D.moment D.image_since disk.old disk.new }
     ensures no_memory { D.tells → IsErrOf result OpenFault.NoMemory → Rests D.content D.image D.moment D.image_since disk.old disk.new }
+    ensures nothing { D.tells → OnErr result (((l : Layout) (b : List (List ℕ)) → OpensTo l (D.content disk.old) b → ⊥) → Rests D.content D.image D.moment D.image_since disk.old disk.new) }
 {
     let layout = synced_layout(disk)?;
     let mut scan = scan_file(alloc, disk, &layout)?;
@@ -235,7 +236,7 @@ impl<D: Disk> LapStore<D> {
     /// Opens the store of a disk: the groups of its log up to the last commit make its blocks, and those behind it are
     /// dropped. It begins with a sync. An Err gives the disk back: NotAStore where the file is no store of this form,
     /// Failed where a call of the disk failed. Until the sync has answered, a crash leaves what it would have left before;
-    /// from then on a file that opens to the same blocks.
+    /// from then on a file that opens to the same blocks. A file that opens to none is left as it was.
     pub fn open(alloc: Global, disk: D) -> Result<LapStore<D>, (OpenFault, D)>
         ensures found { D.tells → IfOk result (λ s. OpensAt s.layout (D.content disk) s.blocks s.number) }
         ensures stable { D.tells → IfOk result (λ s. IsStable D.content D.image s s.blocks) }
@@ -250,6 +251,7 @@ impl<D: Disk> LapStore<D> {
         ensures any_moment_err { D.tells → IfErr result (λ r. (l : Layout) (b : List (List ℕ)) → OpensTo l (D.content disk) b → LeavesOnly D.moment D.image_since disk r.1 (λ c. D.image disk c ⊎ OpensTo l c b)) }
         ensures unchanged { D.tells → IfErr result (λ r. r.0 ≡ OpenFault.NotAStore → Rests D.content D.image D.moment D.image_since disk r.1) }
         ensures no_memory { D.tells → IfErr result (λ r. r.0 ≡ OpenFault.NoMemory → Rests D.content D.image D.moment D.image_since disk r.1) }
+        ensures nothing { D.tells → IfErr result (λ r. ((l : Layout) (b : List (List ℕ)) → OpensTo l (D.content disk) b → ⊥) → Rests D.content D.image D.moment D.image_since disk r.1) }
     {
         let mut disk = disk;
         match open_parts(alloc, &mut disk) {

@@ -1,6 +1,6 @@
 use Rattle.std.proofs.Common.{◌∙◌, ap, sym, subst, arith}
 use Rattle.rb_model.specs.State.{State}
-use Rattle.rb_shell.specs.Runs.{LeftAlone, OpensSame}
+use Rattle.rb_shell.specs.Runs.{LeftAlone, WasStopped}
 use Rattle.rb_shell.specs.Steps.{slots_of}
 use Rattle.rb_shell.proofs.RunLemmas.{Found, Loaded, has_opened, loads_alone, loads_leave, not_sound, no_opening, rests_alone, neither_failed}
 use Rattle.rb_shell.proofs.script.open_engine.Goals as goal
@@ -61,7 +61,10 @@ returns-in-Err-open-clause-images g c = λ told.
       later = c.in-Err-open.ensures.loads_err.later told;
       nothing_else = c.in-Err-open.ensures.loads_err.nothing_else told;
     } in
-    subst (λ d. OpensSame g.D.Disk.content g.D.Disk.image g.D.Disk.moment g.D.Disk.image_since c.args.disk d) (sym c.close.ensures) (loads_leave g.D.Disk.content g.D.Disk.image g.D.Disk.moment g.D.Disk.image_since c.args.disk c.in-Ok.store c.in-Err-open.store found loads)
+    subst (λ d. WasStopped g.D.Disk.content g.D.Disk.image g.D.Disk.moment g.D.Disk.image_since c.args.disk d) (sym c.close.ensures) (record {
+      images = loads_leave g.D.Disk.content g.D.Disk.image g.D.Disk.moment g.D.Disk.image_since c.args.disk c.in-Ok.store c.in-Err-open.store found loads;
+      none = λ nothing. absurd (nothing c.in-Ok.store.layout c.in-Ok.store.blocks found.opens.opens);
+    })
 
 pub returns-in-Err-open-clause-left_alone : goal.returns-in-Err-open-clause-left_alone
 returns-in-Err-open-clause-left_alone g c = λ told other.
@@ -82,6 +85,9 @@ returns-in-Err-open-clause-left_alone g c = λ told other.
 
 pub returns-in-Err-clause-none : goal.returns-in-Err-clause-none
 returns-in-Err-clause-none g c = λ told is sound. no_opening (g.D.Disk.content c.args.disk) (c.in-Err.ensures.none told is) sound
+
+pub returns-in-Err-clause-images : goal.returns-in-Err-clause-images
+returns-in-Err-clause-images g c = λ told. record { images = c.in-Err.ensures.any_moment_err told; none = c.in-Err.ensures.nothing told }
 
 pub returns-in-Err-clause-left_alone : goal.returns-in-Err-clause-left_alone
 returns-in-Err-clause-left_alone g c = λ told other.

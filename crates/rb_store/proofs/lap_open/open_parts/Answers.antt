@@ -1,10 +1,14 @@
-use Rattle.std.proofs.Common.{List, ℕ, sym, subst}
+use Rattle.std.proofs.Common.{List, ℕ, Result, Ok, Err, OnErr, refl, sym, subst}
 use Rattle.std.proofs.lemmas.Result.{err_from_is_err_and}
 use Rattle.rb_disk.specs.Moments.{rests_on}
 use Rattle.rb_log.specs.GroupSlots.{GroupsAre}
 use Rattle.rb_store.specs.Scanned.{HasScannedAll}
 use Rattle.rb_store.proofs.OpenLemmas.{log_for, open_leaves, scanned_opens}
 use Rattle.rb_store.proofs.lap_open.open_parts.Goals as goal
+
+on_err : {T E P : Type 0} (r : Result T E) → P → OnErr r P
+on_err (Ok value) p = tt
+on_err (Err fault) p = p
 
 pub returns-in_err-scan-clause-none : goal.returns-in_err-scan-clause-none
 returns-in_err-scan-clause-none g c told is l b opens =
@@ -23,6 +27,16 @@ returns-in_err-drop_uncommitted-clause-any_moment g c told l b opens =
     let found = subst (λ (f : List ℕ). HasScannedAll d.tells m f c.in_ok-scan.scan.plain c.in_ok-scan.scan.log c.in_ok-scan.scan.waiting.items) first.same c.in_ok-scan.ensures.found in
     open_leaves d.content d.image d.moment d.image_since d.tells old c.scan_file.new.disk c.drop_uncommitted.new.disk l m b c.in_ok-scan.scan.plain c.in_ok-scan.scan.log c.in_ok-scan.scan.waiting.items (λ im left. g.met.D.Disk.only_now old im told left)
     (rests_on d.content d.image d.moment d.image_since old c.synced_layout.new.disk c.scan_file.new.disk first (c.scan_file.ensures.same told)) (c.in_ok-layout.ensures.identity told) found told opens (c.drop_uncommitted.ensures.any_moment told)
+
+-- groups are dropped only behind a whole scan, and then the file opens
+pub returns-in_err-drop_uncommitted-clause-nothing : goal.returns-in_err-drop_uncommitted-clause-nothing
+returns-in_err-drop_uncommitted-clause-nothing g c told =
+    let m = c.in_ok-layout.layout in
+    let file = g.D.Disk.content c.args.disk.now in
+    let scan = c.in_ok-scan.scan in
+    let found = subst (λ (f : List ℕ). HasScannedAll g.D.Disk.tells m f scan.plain scan.log scan.waiting.items) (c.in_ok-layout.ensures.same told).same c.in_ok-scan.ensures.found in
+    let at = scanned_opens g.D.Disk.tells m file scan.plain scan.plain scan.log scan.waiting.items (c.in_ok-layout.ensures.identity told) found told refl in
+    on_err c.from_residual-in_err-drop_uncommitted.result (λ nothing. absurd (nothing m scan.plain.blocks at.opens))
 
 pub returns-clause-any_moment : goal.returns-clause-any_moment
 returns-clause-any_moment g c told l b opens =
