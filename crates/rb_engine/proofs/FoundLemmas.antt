@@ -27,7 +27,7 @@ use Rattle.rb_model.specs.State.{State, opened, session_of}
 use Rattle.rb_sound.specs.Sound.{commit_logged, commit_number, AreCellsSound, AreKeysApart, AreSound}
 use Rattle.rb_versions.proofs.Order.{row_same, same_other}
 use Rattle.rb_versions.proofs.RowLemmas.{ordered-over}
-use Rattle.rb_write.specs.Values.{home_at, home_block, value_at, value_in, ArePlain, IsPlainHome}
+use Rattle.rb_write.specs.Values.{home_at, home_block, value_at, value_in, LocksRows, ArePlain, IsPlainHome}
 use Rattle.rb_write.proofs.Placed.{row_block}
 use Rattle.rb_engine.specs.Found.{put_row, rows_below, rows_found, table_of, table_row}
 use Rattle.rb_engine.specs.Holds.{CanOpen, Holds, OpensAs, AHEAD}
@@ -226,9 +226,9 @@ rows_few (cell ∷ cells) =
 keyed : (key : ℕ) (cell : Cell) → cell.state ≡ ROW → cell.key ≡ key → is_keyed key cell ≡ true
 keyed key cell row is = and_from _ _ (or_left _ _ (eq-eqb cell.state ROW row)) (eq-eqb cell.key key is)
 
-plain_home : (block : List ℕ) → AreKeysApart block → ((c : ℕ) → c < 16 → (cell_at block c).lock ≡ 0) → IsPlainHome (home_of block)
+plain_home : (block : List ℕ) → AreKeysApart block → ((c : ℕ) → c < 16 → LocksRows (cell_at block c)) → IsPlainHome (home_of block)
 plain_home block keys unlocked = record {
-  unlocked = λ c few. ap (λ (x : Cell). x.lock) (cell_read block c empty_cell few) ∙ unlocked c few;
+  unlocked = λ c few. subst LocksRows (sym (cell_read block c empty_cell few)) (unlocked c few);
   apart = λ c k c_few k_few other row row_too same.
       let one = cell_read block c empty_cell c_few in
       let two = cell_read block k empty_cell k_few in
@@ -496,15 +496,15 @@ opened_now shape blocks h opens =
 
 pub can_open : (shape a b k : Shape) (blocks ba bb bk : List (List ℕ)) (number last lb : ℕ) → a ≡ shape → ba ≡ blocks → b ≡ shape → bb ≡ blocks → lb ≡ last → k ≡ shape → bk ≡ blocks
     → AreSound shape blocks → number ≡ commit_number a ba → (number ≤ commit_logged b bb + AHEAD) × (commit_logged b bb ≤ lb)
-    → ((i c : ℕ) → i < table_blocks k → c < 16 → (cell_at (block_of bk i) c).lock ≡ 0) → CanOpen shape blocks last
+    → ((i c : ℕ) → i < table_blocks k → c < 16 → LocksRows (cell_at (block_of bk i) c)) → CanOpen shape blocks last
 can_open shape a b k blocks ba bb bk number last lb a_is ba_is b_is bb_is last_is k_is bk_is sound number_is logged unlocked =
     let number_same : number ≡ commit_number shape blocks = number_is ∙ ap (λ (x : Shape). commit_number x ba) a_is ∙ ap (commit_number shape) ba_is in
     let logged_same : commit_logged b bb ≡ commit_logged shape blocks = ap (λ (x : Shape). commit_logged x bb) b_is ∙ ap (commit_logged shape) bb_is in
     record {
       sound = sound;
       unlocked =
-          subst (λ (x : Shape). (i c : ℕ) → i < table_blocks x → c < 16 → (cell_at (block_of blocks i) c).lock ≡ 0) k_is
-          (subst (λ (there : List (List ℕ)). (i c : ℕ) → i < table_blocks k → c < 16 → (cell_at (block_of there i) c).lock ≡ 0) bk_is unlocked);
+          subst (λ (x : Shape). (i c : ℕ) → i < table_blocks x → c < 16 → LocksRows (cell_at (block_of blocks i) c)) k_is
+          (subst (λ (there : List (List ℕ)). (i c : ℕ) → i < table_blocks k → c < 16 → LocksRows (cell_at (block_of there i) c)) bk_is unlocked);
       commits = subst (λ (n : ℕ). n ≤ commit_logged shape blocks + AHEAD) number_same (subst (λ (n : ℕ). number ≤ n + AHEAD) logged_same logged.0);
       logged = subst (λ (n : ℕ). commit_logged shape blocks ≤ n) last_is (subst (λ (n : ℕ). n ≤ lb) logged_same logged.1);
     }

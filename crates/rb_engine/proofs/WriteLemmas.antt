@@ -1,6 +1,6 @@
 -- What a write makes of the blocks and of the rows that they hold, and that a home without a free cell is full.
-use Rattle.std.proofs.Common.{◌≡◌, ◌≢◌, ℕ, suc, ◌+◌, ◌-◌, ◌*◌, ◌%◌, ◌^◌, ◌<◌, ◌≤◌, true, false, ◌&&◌, ◌||◌, ◌==◌, nat_eq, if◌then◌else◌, List, [], ◌∷◌, length, map, Option, None, Some, is_some, slice_index_or, refl, arith, ap, sym, subst, ◌∙◌}
-use Rattle.std.proofs.lemmas.Bool.{and_parts, and_from, eqb-true, eq-eqb, false_from_ne_true, false≢true}
+use Rattle.std.proofs.Common.{◌≡◌, ◌≢◌, inl, inr, ℕ, suc, ◌+◌, ◌-◌, ◌*◌, ◌%◌, ◌^◌, ◌<◌, ◌≤◌, true, false, ◌&&◌, ◌||◌, ◌==◌, nat_eq, if◌then◌else◌, List, [], ◌∷◌, length, map, Option, None, Some, is_some, slice_index_or, refl, arith, ap, sym, subst, ◌∙◌}
+use Rattle.std.proofs.lemmas.Bool.{and_parts, and_from, cases_eq, eqb-true, eq-eqb, false_from_ne_true, false≢true}
 use Rattle.std.proofs.lemmas.Bool.Decides.{nat_tests}
 use Rattle.std.proofs.lemmas.List.{length-map, get_or-map}
 use Rattle.std.proofs.lemmas.Map.Keys.{IsDistinct-cons}
@@ -165,13 +165,17 @@ all_keys P cells each = λ k d lt.
     let few : k < length cells = omega (arith, lt, length-map cells (λ (cell : Cell). cell.key)) in
     subst P (sym (get_or-map (λ (cell : Cell). cell.key) cells k empty_cell d few)) (each k few)
 
-row_by : (state lock : ℕ) → state ≤ 2 → lock ≡ 0 → ((state == EMPTY) || ((state == STUB) && (lock == 0))) ≡ false → state ≡ ROW
-row_by state lock few unlocked taken = grind (arith, nat_tests)
+row_by : (state lock : ℕ) → state ≤ 2 → (state ≢ ROW → lock ≡ 0) → ((state == EMPTY) || ((state == STUB) && (lock == 0))) ≡ false → state ≡ ROW
+row_by state lock few unlocked taken =
+    elim (cases_eq state ROW) [
+      | inl row ↦ row
+      | inr other ↦ let none = unlocked other in grind (arith, nat_tests)
+    ]
 
 unheld : (key : ℕ) (cell : Cell) → cell.key ≢ key → holds key cell ≡ false
 unheld key cell differ = false_from_ne_true (holds key cell) (λ is. differ (eqb-true cell.key key (and_parts (cell.state == ROW) (cell.key == key) is).1))
 
--- a home without a free cell, where nothing is locked
+-- a home without a free cell, where nothing but rows is locked
 module _ (shape : Shape) (blocks : List (List ℕ)) (n : ℕ) (rows : List TableRow) (table key : ℕ) (held : Holds shape blocks n rows) (some : 1 ≤ shape.blocks) (first : 1 ≤ table) (last : table ≤ shape.tables)
     (taken : IsNowhere is_free (home_at shape blocks table key).cells) where
   is_row : (c : ℕ) → c < 16 → (home_cell (home_at shape blocks table key) c).state ≡ ROW

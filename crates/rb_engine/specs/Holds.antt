@@ -7,13 +7,13 @@ use Rattle.rb_cell.specs.Cells.{cell_at}
 use Rattle.rb_model.specs.Rows.{TableRow, InOrder, value_of}
 use Rattle.rb_model.specs.State.{State, opened}
 use Rattle.rb_sound.specs.Sound.{commit_logged, commit_number, AreSound}
-use Rattle.rb_write.specs.Values.{value_at, ArePlain}
+use Rattle.rb_write.specs.Values.{value_at, LocksRows, ArePlain}
 
 -- How far a commit number may be above a log number: a commit has a next number as long as groups are logged.
 abbrev pub AHEAD : ℕ
 AHEAD = 2 ^ 63 + 2 ^ 62
 
--- The blocks are in order, and nothing in them is locked. They hold these rows and no others, each once, and this commit
+-- The blocks are in order, and nothing in them but rows is locked. They hold these rows and no others, each once, and this commit
 -- number, which isn't too far above the log number of the block that commits patch.
 pub record Holds (shape : Shape) (blocks : List (List ℕ)) (number : ℕ) (rows : List TableRow) : Type 0 where
   pub whole : AreBlocks shape blocks
@@ -25,11 +25,11 @@ pub record Holds (shape : Shape) (blocks : List (List ℕ)) (number : ℕ) (rows
   pub tables : AllByRecursion (λ row. (1 ≤ row.table) × (row.table ≤ shape.tables)) rows
   pub order : InOrder shape.blocks rows
 
--- What an opening tests: the blocks are in order, nothing in them is locked, the commit number isn't too far above the log
+-- What an opening tests: the blocks are in order, nothing in them but rows is locked, the commit number isn't too far above the log
 -- number of the block that commits patch, and that isn't above the last one given.
 pub record CanOpen (shape : Shape) (blocks : List (List ℕ)) (number : ℕ) : Type 0 where
   pub sound : AreSound shape blocks
-  pub unlocked : (b c : ℕ) → b < table_blocks shape → c < 16 → (cell_at (block_of blocks b) c).lock ≡ 0
+  pub unlocked : (b c : ℕ) → b < table_blocks shape → c < 16 → LocksRows (cell_at (block_of blocks b) c)
   pub commits : commit_number shape blocks ≤ commit_logged shape blocks + AHEAD
   pub logged : commit_logged shape blocks ≤ number
 

@@ -9,6 +9,7 @@ ghost use Rattle.rb_model.specs.Rows.{over};
 ghost use Rattle.rb_model.specs.State.{opened};
 ghost use Rattle.rb_sound.specs.Loads.{OnlyLoads};
 ghost use Rattle.rb_sound.specs.Sound.{commit_logged, commit_number};
+ghost use Rattle.rb_write.specs.Values.{LocksRows};
 ghost use Rattle.rb_engine.specs.Crash.{Stands};
 ghost use Rattle.rb_engine.specs.Found.{put_row, rows_found, table_of, table_row};
 ghost use Rattle.rb_engine.specs.Holds.{CanOpen, MayOpen, OpensAs, AHEAD};
@@ -29,7 +30,7 @@ const AHEAD: u64 = (1 << 63) + (1 << 62);
 /// The cells of a block.
 const CELLS: u8 = 16;
 
-/// Takes the rows of a table's block, and says whether none of its cells is locked.
+/// Takes the rows of a table's block, and says whether none of its other cells is locked.
 fn take_block(state: &mut EngineState, block: &[u8], table: u16) -> bool
     requires block { length block.now ≡ 2048 }
     requires room { 16 ≤ state.old.spare }
@@ -37,23 +38,22 @@ fn take_block(state: &mut EngineState, block: &[u8], table: u16) -> bool
     ensures state { result ≡ true → state.new.state ≡ opened state.old.state.shape state.old.state.commits.base (over state.old.state.shape.blocks state.old.state.commits.rows (map (λ row. put_row (table_row table row)) (home_rows (home_of block.now)))) }
     ensures shape { state.new.state.shape ≡ state.old.state.shape }
     ensures base { state.new.state.commits.base ≡ state.old.state.commits.base }
-    ensures unlocked { result ≡ true → (c : ℕ) → c < 16 → (cell_at block.now c).lock ≡ 0 }
-    ensures locked { result ≡ false → ((c : ℕ) → c < 16 → (cell_at block.now c).lock ≡ 0) → ⊥ }
+    ensures unlocked { result ≡ true → (c : ℕ) → c < 16 → LocksRows (cell_at block.now c) }
+    ensures locked { result ≡ false → ((c : ℕ) → c < 16 → LocksRows (cell_at block.now c)) → ⊥ }
     ensures spare { state.old.spare ≤ state.new.spare + 16 }
 {
     for c in 0..CELLS {
         let cell = cells(block, c);
-        if cell.lock != 0 {
-            return false;
-        }
         if cell.state == ROW {
             state.found(table, cell.key, cell.value.as_slice());
+        } else if cell.lock != 0 {
+            return false;
         }
     }
     true
 }
 
-/// Takes the rows of block `no` of the tables, and says whether none of its cells is locked.
+/// Takes the rows of block `no` of the tables, and says whether none of its other cells is locked.
 fn take_one<T: Store>(state: &mut EngineState, store: &mut T, no: BlockNo) -> Result<bool, Failed>
     requires going { T.failed store.old ≡ false }
     requires shape { state.old.state.shape ≡ T.shape_of store.old }
@@ -64,8 +64,8 @@ fn take_one<T: Store>(state: &mut EngineState, store: &mut T, no: BlockNo) -> Re
     ensures base { OnOk result (state.new.state.commits.base ≡ state.old.state.commits.base) }
     ensures opening { result ≡ Ok true → state.new.state ≡ opened state.new.state.shape state.new.state.commits.base state.new.state.commits.rows }
     ensures rows { T.tells → result ≡ Ok true → state.new.state.commits.rows ≡ over state.old.state.shape.blocks state.old.state.commits.rows (map (λ row. put_row (table_row (table_of state.old.state.shape no) row)) (home_rows (home_of (block_of (T.blocks store.old) no)))) }
-    ensures unlocked { T.tells → result ≡ Ok true → (c : ℕ) → c < 16 → (cell_at (block_of (T.blocks store.old) no) c).lock ≡ 0 }
-    ensures locked { T.tells → result ≡ Ok false → ((c : ℕ) → c < 16 → (cell_at (block_of (T.blocks store.old) no) c).lock ≡ 0) → ⊥ }
+    ensures unlocked { T.tells → result ≡ Ok true → (c : ℕ) → c < 16 → LocksRows (cell_at (block_of (T.blocks store.old) no) c) }
+    ensures locked { T.tells → result ≡ Ok false → ((c : ℕ) → c < 16 → LocksRows (cell_at (block_of (T.blocks store.old) no) c)) → ⊥ }
     ensures spare { state.old.spare ≤ state.new.spare + 16 }
     ensures only_loads { OnlyLoads T.Store store.old store.new }
     ensures failed { T.failed store.new ≡ is_err result }
@@ -76,7 +76,7 @@ fn take_one<T: Store>(state: &mut EngineState, store: &mut T, no: BlockNo) -> Re
     Ok(take_block(state, store.block(), table as u16))
 }
 
-/// Takes the rows of all blocks, and says whether no cell is locked.
+/// Takes the rows of all blocks, and says whether no other cell is locked.
 fn take_rows<T: Store>(state: &mut EngineState, store: &mut T) -> Result<bool, Failed>
     requires going { T.failed store.old ≡ false }
     requires shape { state.old.state.shape ≡ T.shape_of store.old }
@@ -84,8 +84,8 @@ fn take_rows<T: Store>(state: &mut EngineState, store: &mut T) -> Result<bool, F
     requires opening { state.old.state ≡ opened state.old.state.shape state.old.state.commits.base [] }
     ensures opening { result ≡ Ok true → state.new.state ≡ opened state.old.state.shape state.old.state.commits.base state.new.state.commits.rows }
     ensures rows { T.tells → result ≡ Ok true → state.new.state.commits.rows ≡ rows_found state.old.state.shape (T.blocks store.old) (table_blocks state.old.state.shape) }
-    ensures unlocked { T.tells → result ≡ Ok true → (b c : ℕ) → b < table_blocks state.old.state.shape → c < 16 → (cell_at (block_of (T.blocks store.old) b) c).lock ≡ 0 }
-    ensures locked { T.tells → result ≡ Ok false → ((b c : ℕ) → b < table_blocks state.old.state.shape → c < 16 → (cell_at (block_of (T.blocks store.old) b) c).lock ≡ 0) → ⊥ }
+    ensures unlocked { T.tells → result ≡ Ok true → (b c : ℕ) → b < table_blocks state.old.state.shape → c < 16 → LocksRows (cell_at (block_of (T.blocks store.old) b) c) }
+    ensures locked { T.tells → result ≡ Ok false → ((b c : ℕ) → b < table_blocks state.old.state.shape → c < 16 → LocksRows (cell_at (block_of (T.blocks store.old) b) c)) → ⊥ }
     ensures spare { state.old.spare ≤ state.new.spare + 16 * table_blocks state.old.state.shape }
     ensures only_loads { OnlyLoads T.Store store.old store.new }
     ensures failed { T.failed store.new ≡ is_err result }

@@ -6,7 +6,7 @@ use Rattle.std.proofs.lemmas.Grind.{get_or-set_at}
 use Rattle.rb_cell.specs.declared.cell.Cell.{Cell}
 use Rattle.rb_cell.specs.declared.cell.TheConstants.{EMPTY, ROW, STUB}
 use Rattle.rb_heap.specs.Homes.{Home, home_cell, home_rows, rows_in, with_home_cell, empty_cell, is_keyed, is_free, IsFirst, IsNowhere}
-use Rattle.rb_write.specs.Values.{value_in, IsPlainHome}
+use Rattle.rb_write.specs.Values.{value_in, LocksRows, IsPlainHome}
 use Rattle.rb_write.specs.Writes.{adds, may_take, value_after, cell_after, TakesWrite, HasPlace}
 use Rattle.rb_model.specs.declared.op.Op.{Op}
 use Rattle.rb_model.specs.declared.op.Op.TheVariants.{Insert, Update, Delete}
@@ -32,9 +32,6 @@ held_by true locked same no_lock is = is
 held_by false true same no_lock is = absurd cc
 held_by false false same no_lock is = is
 
-held : (key : ℕ) (cell : Cell) → cell.lock ≡ 0 → is_keyed key cell ≡ true → holds key cell ≡ true
-held key cell no_lock is = held_by (cell.state == ROW) (not (cell.lock == 0)) (cell.key == key) (ap not (eq-eqb cell.lock 0 no_lock)) is
-
 keyed_key : (key : ℕ) (cell : Cell) → is_keyed key cell ≡ true → cell.key ≡ key
 keyed_key key cell is = eqb-true cell.key key (both_right ((cell.state == ROW) || not (cell.lock == 0)) (cell.key == key) is)
 
@@ -46,6 +43,13 @@ held_key key cell is = eqb-true cell.key key (both_right (cell.state == ROW) (ce
 
 row_held : (key : ℕ) (cell : Cell) → cell.state ≡ ROW → cell.key ≡ key → holds key cell ≡ true
 row_held key cell row same = rw (eq-eqb cell.state ROW row) (eq-eqb cell.key key same)
+
+held : (key : ℕ) (cell : Cell) → LocksRows cell → is_keyed key cell ≡ true → holds key cell ≡ true
+held key cell no_lock is =
+    elim (cases_eq cell.state ROW) [
+      | inl row ↦ row_held key cell row (keyed_key key cell is)
+      | inr other ↦ held_by (cell.state == ROW) (not (cell.lock == 0)) (cell.key == key) (ap not (eq-eqb cell.lock 0 (no_lock other))) is
+    ]
 
 other_unheld : (key : ℕ) (cell : Cell) → cell.key ≢ key → holds key cell ≡ false
 other_unheld key cell differ =
@@ -87,11 +91,11 @@ AreApart one two = one.state ≡ ROW → two.state ≡ ROW → one.key ≢ two.k
 turned : (one two : Cell) → AreApart one two → AreApart two one
 turned one two apart row row_too same = apart row_too row (sym same)
 
-new_unlocked : (op : Option Op) (key : ℕ) (cell : Cell) → cell.lock ≡ 0 → (cell_after op key cell).lock ≡ 0
-new_unlocked (Some (Insert value)) key cell unlocked = refl
-new_unlocked (Some (Update value)) key cell unlocked = refl
-new_unlocked (Some Delete) key cell unlocked = refl
-new_unlocked None key cell unlocked = unlocked
+new_unlocked : (op : Option Op) (key : ℕ) (cell : Cell) → LocksRows cell → LocksRows (cell_after op key cell)
+new_unlocked (Some (Insert value)) key cell unlocked other = refl
+new_unlocked (Some (Update value)) key cell unlocked other = refl
+new_unlocked (Some Delete) key cell unlocked other = refl
+new_unlocked None key cell unlocked other = unlocked other
 
 module _ (home : Home) (count : length home.cells ≡ 16) where
   pub home_missing : (key : ℕ) → IsNowhere (is_keyed key) home.cells → value_in (home_rows home) key ≡ None
@@ -168,10 +172,14 @@ module _ (home : Home) (count : length home.cells ≡ 16) where
       let other : (k : ℕ) → k ≢ c → home_cell now k ≡ home_cell home k = λ k differ. get_or-set_other home.cells c k new empty_cell differ in
       let apart = new_apart op key c in
       record {
-        unlocked = λ k few.
+        unlocked = λ k few no_row.
             elim (cases_eq k c) [
-              | inl same ↦ ap (λ (cell : Cell). cell.lock) (there k same) ∙ new_unlocked op key (home_cell home c) (plain.unlocked c first.within)
-              | inr differ ↦ ap (λ (cell : Cell). cell.lock) (other k differ) ∙ plain.unlocked k few
+              | inl same ↦
+                  let is = there k same in
+                  ap (λ (cell : Cell). cell.lock) is ∙ new_unlocked op key (home_cell home c) (plain.unlocked c first.within) (λ row. no_row (ap (λ (cell : Cell). cell.state) is ∙ row))
+              | inr differ ↦
+                  let is = other k differ in
+                  ap (λ (cell : Cell). cell.lock) is ∙ plain.unlocked k few (λ row. no_row (ap (λ (cell : Cell). cell.state) is ∙ row))
             ];
         apart = λ i k i_few k_few differ.
             elim (cases_eq i c) [

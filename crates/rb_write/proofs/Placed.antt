@@ -36,7 +36,7 @@ empty_read k few = get_or-replicate 16 k empty_cell empty_cell few
 
 empty_plain : IsPlainHome empty_home
 empty_plain = record {
-  unlocked = λ c few. ap (λ (cell : Cell). cell.lock) (empty_read c few);
+  unlocked = λ c few other. ap (λ (cell : Cell). cell.lock) (empty_read c few);
   apart = λ c k c_few k_few differ row row_too same. let never : 0 ≡ 1 = sym (ap (λ (cell : Cell). cell.state) (empty_read c c_few)) ∙ row in omega (arith, never);
 }
 

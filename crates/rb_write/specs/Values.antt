@@ -2,6 +2,7 @@
 use Rattle.std.specs.Prelude.{◌≡◌, ◌≢◌, ℕ, ◌+◌, ◌-◌, ◌*◌, ◌%◌, ◌<◌, ◌==◌, if◌then◌else◌, List, [], ◌∷◌, Option, None, Some}
 use Rattle.rb_base.specs.Blocks.{block_of, table_blocks}
 use Rattle.rb_base.specs.declared.ids.Shape.{Shape}
+use Rattle.rb_cell.specs.declared.cell.Cell.{Cell}
 use Rattle.rb_cell.specs.declared.cell.TheConstants.{ROW}
 use Rattle.rb_heap.specs.Homes.{Home, CellRow, home_of, home_cell, home_rows}
 
@@ -22,9 +23,13 @@ value_in (row ∷ rows) key = if row.key == key then Some row.value else value_i
 abbrev pub value_at : Shape → List (List ℕ) → ℕ → ℕ → Option (List ℕ)
 value_at shape blocks table key = value_in (home_rows (home_at shape blocks table key)) key
 
--- nothing has a cell locked, and no two rows have one key
+-- the cell isn't locked, or is a row
+abbrev pub LocksRows : Cell → Type 0
+LocksRows cell = cell.state ≢ ROW → cell.lock ≡ 0
+
+-- only rows are locked, and no two have one key
 pub record IsPlainHome (home : Home) : Type 0 where
-  pub unlocked : (c : ℕ) → c < 16 → (home_cell home c).lock ≡ 0
+  pub unlocked : (c : ℕ) → c < 16 → LocksRows (home_cell home c)
   pub apart : (c k : ℕ) → c < 16 → k < 16 → c ≢ k → (home_cell home c).state ≡ ROW → (home_cell home k).state ≡ ROW → (home_cell home c).key ≢ (home_cell home k).key
 
 -- the homes of all tables are plain

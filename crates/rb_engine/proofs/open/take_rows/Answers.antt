@@ -8,6 +8,7 @@ use Rattle.rb_heap.specs.Homes.{home_of, home_rows}
 use Rattle.rb_model.specs.Rows.{TableRow, over}
 use Rattle.rb_model.specs.State.{State, opened}
 use Rattle.rb_sound.specs.Loads.{more_loads}
+use Rattle.rb_write.specs.Values.{LocksRows}
 use Rattle.rb_engine.specs.Found.{table_of}
 use Rattle.rb_engine.proofs.FoundLemmas.{block_taken, puts}
 use Rattle.rb_engine.proofs.open.take_rows.Goals as goal
@@ -38,8 +39,8 @@ loop-no-preserved g c =
           ∙ ap (λ (rows : List TableRow). over shape.blocks rows (puts (table_of shape no) (home_rows (home_of (block_of (s.blocks old) no))))) (inv.rows told)
           ∙ sym (block_taken shape (s.blocks old) no);
       unlocked = λ told.
-          below_more (λ (b : ℕ). (cell : ℕ) → cell < 16 → (cell_at (block_of (s.blocks old) b) cell).lock ≡ 0) no (inv.unlocked told)
-          (subst (λ (b : List (List ℕ)). (cell : ℕ) → cell < 16 → (cell_at (block_of b no) cell).lock ≡ 0) (inv.loads.same_blocks told) (call.unlocked told done));
+          below_more (λ (b : ℕ). (cell : ℕ) → cell < 16 → LocksRows (cell_at (block_of (s.blocks old) b) cell)) no (inv.unlocked told)
+          (subst (λ (b : List (List ℕ)). (cell : ℕ) → cell < 16 → LocksRows (cell_at (block_of b no) cell)) (inv.loads.same_blocks told) (call.unlocked told done));
       spare = omega (arith, inv.spare, call.spare);
       loads = more_loads s old c.loop-no.store c.take_one.new.store inv.loads call.only_loads;
       going = call.failed ∙ ap is_err c.in_ok-take_one.was;
