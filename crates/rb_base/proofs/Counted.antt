@@ -5,6 +5,7 @@ use Rattle.std.proofs.lemmas.List.{length-append, nil_from_length, flat_map_more
 use Rattle.std.proofs.lemmas.List.Sums.{sum_by-cons}
 use Rattle.std.specs.List.{flat_map, sum_by, AllByRecursion}
 use Rattle.byteorder.specs.Endian.{big_bytes}
+pub use Rattle.rb_base.proofs.Each.{all_push}
 use Rattle.rb_base.proofs.Fronts.{number_apart}
 
 -- no spelling begins another
@@ -24,10 +25,6 @@ length_spelled spell size is (x ∷ xs) =
     let l = length-append (spell x) (flat_map spell xs) in
     let s = sum_by-cons size x xs in
     omega (arith, e, f, l, s)
-
-pub all_push : {X : Type 0} (P : X → Type 0) (xs : List X) (x : X) → AllByRecursion P xs → P x → AllByRecursion P (xs ++ x ∷ [])
-all_push P [] x h p = (p, tt)
-all_push P (y ∷ ys) x h p = (h.0, all_push P ys x h.1 p)
 
 -- things that go on behind others
 pub record GoesOn {X : Type 0} (spell : X → List ℕ) (Is : X → Type 0) (front xs : List X) (rest : List ℕ) : Type 0 where

@@ -1,10 +1,11 @@
 -- The number at the front of bytes, read and spelled again.
-use Rattle.std.proofs.Common.{◌≡◌, ℕ, ◌+◌, ◌^◌, ◌<◌, ◌≤◌, List, ◌++◌, length, take, drop, refl, arith, ap, sym, ◌∙◌, get_or, inl, inr}
+use Rattle.std.proofs.Common.{◌≡◌, ℕ, ◌+◌, ◌^◌, ◌<◌, ◌≤◌, List, ◌++◌, length, take, drop, refl, arith, ap, sym, ◌∙◌, get_or, slice_index, inl, inr}
 use Rattle.std.proofs.lemmas.Bool.{cases_lt}
-use Rattle.std.proofs.lemmas.List.{length-take-le, take-append-drop, get_or_append_left, get_or_past, get_or-drop, take_at, drop_at}
+use Rattle.std.proofs.lemmas.List.{length-take-le, take-append-drop, get_or_append_left, get_or_past, get_or-drop, get_or-take, take_at, drop_at}
 use Rattle.std.proofs.lemmas.Nat.{be_bytes_2, be_bytes_4, be_bytes_8}
 use Rattle.byteorder.specs.Endian.{big_bytes, big_number, big_from}
 use Rattle.byteorder.specs.Numbers.{big_from-take, big_number-reads_back, length-bytes_high_first}
+use Rattle.rb_base.specs.Fields.{part, number_at}
 
 abbrev pub IsBytes : List ℕ → Type 0
 IsBytes bytes = (i : ℕ) → get_or bytes i 0 < 256
@@ -46,6 +47,13 @@ front_4 bytes fits long = front_of 4 bytes fits long four
 
 pub front_8 : (bytes : List ℕ) → IsBytes bytes → 8 ≤ length bytes → bytes ≡ big_bytes 8 (big_number 8 bytes) ++ drop 8 bytes
 front_8 bytes fits long = front_of 8 bytes fits long eight
+
+-- a number, and a byte, by the part of the bytes that it stands in
+pub number_of_part : (bytes : List ℕ) (at count : ℕ) → number_at (part bytes at count) 0 count ≡ number_at bytes at count
+number_of_part bytes at count = big_from-take 0 count count (drop at bytes) (omega arith)
+
+pub byte_of_part : (bytes : List ℕ) (at count : ℕ) → 0 < count → slice_index (part bytes at count) 0 ≡ slice_index bytes at
+byte_of_part bytes at count some = get_or-take count (drop at bytes) 0 0 some ∙ get_or-drop at bytes 0 0 ∙ ap (slice_index bytes) (omega arith)
 
 -- a number of n bytes in front of each of two equal lists is the same number
 pub number_apart : (n x y : ℕ) (s t : List ℕ) → x < 256 ^ n → y < 256 ^ n → big_bytes n x ++ s ≡ big_bytes n y ++ t → (x ≡ y) × (s ≡ t)

@@ -4,7 +4,7 @@ use Rattle.std.proofs.lemmas.List.{take_all, drop_at, take-append-le, drop-appen
 use Rattle.std.proofs.lemmas.List.Sums.{sum_by_push}
 use Rattle.std.specs.List.{AllByRecursion}
 use Rattle.rb_base.specs.Fields.{part}
-use Rattle.rb_base.proofs.Counted.{all_push}
+use Rattle.rb_base.proofs.Each.{all_push, all_so}
 use Rattle.rb_base.specs.Groups.{Patch, patch, patch_length, group_length, IsPatch, IsGroup}
 use Rattle.rb_base.specs.Heads.{patch_of, patches_of, IsWithin, IsKept}
 use Rattle.rb_base.specs.declared.group.Head.{Head}
@@ -22,8 +22,7 @@ patches_stay bytes more (head ∷ heads) h =
     cc
 
 within_more : (bytes more : List ℕ) (heads : List Head) → AllByRecursion (IsWithin bytes) heads → AllByRecursion (IsWithin (bytes ++ more)) heads
-within_more bytes more [] h = tt
-within_more bytes more (head ∷ heads) h = (omega (arith, h.0, length-append bytes more), within_more bytes more heads h.1)
+within_more bytes more heads h = all_so (IsWithin bytes) (IsWithin (bytes ++ more)) heads (λ head within. omega (arith, within, length-append bytes more)) h
 
 part_behind : (bytes more : List ℕ) (at count : ℕ) → at ≡ length bytes → count ≡ length more → part (bytes ++ more) at count ≡ more
 part_behind bytes more at count e f = ap (take count) (drop_at bytes more at (omega (arith, e))) ∙ take_all count more (omega (arith, f))

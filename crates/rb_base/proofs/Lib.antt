@@ -1,6 +1,8 @@
+pub mod Blocks
 pub mod Commits
 pub mod Counted
 pub mod Decimals
+pub mod Each
 pub mod Fronts
 pub mod Groups
 pub mod Overwriting

@@ -5,8 +5,8 @@ use Rattle.rb_base.specs.Groups.{Patch}
 use Rattle.rb_base.specs.Moments.{LeavesOnly}
 use Rattle.rb_base.specs.declared.ids.Shape.{Shape}
 use Rattle.rb_base.specs.declared.store.Store.{Ghosts}
+use Rattle.rb_base.proofs.Blocks.{group_keeps}
 use Rattle.rb_heap.specs.Homes.{home_of, home_rows}
-use Rattle.rb_heap.proofs.Blocks.{group_are}
 use Rattle.rb_model.specs.Change.{Change}
 use Rattle.rb_model.specs.Reply.{committed, is_empty, rows_now}
 use Rattle.rb_model.specs.Rows.{TableRow, last_number, rows_at}
@@ -33,7 +33,7 @@ with_commit shape blocks number n = after_group number (number_patch shape (n + 
 still_blocks : (shape : Shape) (blocks : List (List ℕ)) (number n : ℕ) → IsShape shape → AreBlocks shape blocks → AreBlocks shape (with_commit shape blocks number n)
 still_blocks shape blocks number n is are =
     let few : shape.tables * shape.blocks ≤ 16 * shape.blocks = mul-le-mul_right shape.blocks is.few_tables.1 in
-    group_are shape number (number_patch shape (n + 1) ∷ []) blocks are (omega (arith, is.few_segments.0), tt)
+    group_keeps shape number (number_patch shape (n + 1) ∷ []) blocks are
     (record { block_fits = omega (arith, few, is.few_blocks.1); some = omega arith; behind_head = omega arith; within_block = omega arith }, tt)
 
 -- They hold the same rows and the next number.

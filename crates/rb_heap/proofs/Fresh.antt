@@ -1,11 +1,12 @@
 -- A block of a new file has an empty home.
-use Rattle.std.proofs.Common.{◌≡◌, ℕ, zero, suc, ◌+◌, ◌-◌, ◌%◌, ◌==◌, ◌<◌, ◌≤◌, Bool, if◌then◌else◌, List, ◌++◌, length, take, drop, replicate, refl, arith, ap, sym, ◌∙◌}
+use Rattle.std.proofs.Common.{◌≡◌, ℕ, ◌+◌, ◌-◌, ◌%◌, ◌==◌, ◌<◌, ◌≤◌, Bool, if◌then◌else◌, List, ◌++◌, length, take, drop, replicate, refl, arith, ap, sym, ◌∙◌}
 use Rattle.std.proofs.lemmas.Bool.{lt-ltb}
 use Rattle.std.proofs.lemmas.List.{drop_at, drop-drop, drop-replicate, take-replicate, get_or-replicate}
 use Rattle.std.proofs.lemmas.List.FromFn.{fill_by_all}
 use Rattle.rb_base.specs.declared.ids.Shape.{Shape}
-use Rattle.rb_base.specs.Blocks.{block_of, block_kind, fresh_head, fresh_rest, fresh_block, fresh_from, fresh_blocks, table_blocks, shape_blocks}
+use Rattle.rb_base.specs.Blocks.{block_of, block_kind, fresh_head, fresh_rest, fresh_block, fresh_blocks, table_blocks, shape_blocks}
 use Rattle.rb_base.specs.Fields.{part}
+use Rattle.rb_base.proofs.Blocks.{fresh_at}
 use Rattle.rb_cell.specs.Cells.{cell_place, cell_of, cell_at}
 use Rattle.rb_itl.specs.Entries.{entry_place, entry_of, entry_at, free_entry}
 use Rattle.rb_heap.specs.Homes.{home_of, empty_cell, empty_home}
@@ -33,11 +34,6 @@ of_rows shape which lt = ap (λ (b : Bool). if b then 1 else if (which - table_b
 
 pub fresh_empty : (shape : Shape) (which : ℕ) → which < table_blocks shape → home_of (fresh_block shape which) ≡ empty_home
 fresh_empty shape which lt = ap (λ (kind : ℕ). home_of (fresh_head kind which ++ fresh_rest kind)) (of_rows shape which lt) ∙ empty_behind (fresh_head 1 which) refl
-
-fresh_at : (shape : Shape) (first count i : ℕ) → i < count → block_of (fresh_from shape first count) i ≡ fresh_block shape (first + i)
-fresh_at shape first zero i lt = absurd (omega arith)
-fresh_at shape first (suc count) zero lt = ap (fresh_block shape) (omega arith)
-fresh_at shape first (suc count) (suc i) lt = fresh_at shape (first + 1) count i (omega arith) ∙ ap (fresh_block shape) (omega arith)
 
 pub new_empty : (shape : Shape) (which : ℕ) → which < table_blocks shape → home_of (block_of (fresh_blocks shape) which) ≡ empty_home
 new_empty shape which lt = ap home_of (fresh_at shape 0 (shape_blocks shape) which (omega arith) ∙ ap (fresh_block shape) (omega arith)) ∙ fresh_empty shape which lt

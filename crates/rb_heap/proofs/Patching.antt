@@ -1,11 +1,11 @@
 -- What a patch makes of a block's home, and of the head in front.
 use Rattle.std.proofs.Common.{◌≡◌, ◌≢◌, ℕ, ◌+◌, ◌^◌, ◌<◌, ◌≤◌, List, length, drop, refl, arith, ap, sym, ◌∙◌, inl, inr, slice_index, slice_set}
-use Rattle.std.proofs.lemmas.List.{get_or-drop, get_or-take}
 use Rattle.byteorder.specs.Endian.{big_bytes}
-use Rattle.byteorder.specs.Numbers.{big_number-reads_back, big_from-take}
+use Rattle.byteorder.specs.Numbers.{big_number-reads_back}
 use Rattle.rb_base.specs.Blocks.{patched}
 use Rattle.rb_base.specs.Fields.{part, number_at, overwritten, with_number}
 use Rattle.rb_base.specs.Groups.{Patch, IsPatch}
+use Rattle.rb_base.proofs.Fronts.{number_of_part, byte_of_part}
 use Rattle.rb_base.proofs.Overwriting.{length-overwritten, part_apart}
 use Rattle.rb_cell.specs.declared.cell.Cell.{Cell}
 use Rattle.rb_cell.specs.Cells.{cell_place, cell_of, cell_at, cell_patch, lock_patch, with_cell, with_lock, locked_by, IsCell}
@@ -81,12 +81,6 @@ lock_patched block number which c lock long few = numbered (with_lock block c lo
 pub entry_patched : (block : List ℕ) (number which i : ℕ) (entry : Entry) → length block ≡ 2048 → i < 8 → IsEntry entry → home_of (patched number (entry_patch which i entry) block) ≡ with_home_entry (home_of block) i entry
 entry_patched block number which i entry long few sound = numbered (with_entry block i entry) number (length_kept block i entry long few) ∙ entry_written block i entry long few sound
 
--- a patch within its block
-pub size_patched : (block : List ℕ) (number : ℕ) (p : Patch) → length block ≡ 2048 → p.at + length p.bytes ≤ 2048 → length (patched number p block) ≡ 2048
-size_patched block number p long within =
-    let size = length-overwritten block p.at p.bytes (omega (arith, long)) in
-    length-overwritten (overwritten block p.at p.bytes) 0 (big_bytes 8 number) (omega (arith, long, size)) ∙ size ∙ long
-
 pub number_patched : (block : List ℕ) (number : ℕ) (p : Patch) → number < 2 ^ 64 → number_at (patched number p block) 0 8 ≡ number
 number_patched block number p fits = big_number-reads_back 8 number (drop 8 (overwritten block p.at p.bytes)) fits
 
@@ -99,20 +93,14 @@ head_patched block number at count p long sound behind within =
     behind_number (overwritten block p.at p.bytes) number at count (size ∙ long) behind
     ∙ part_apart block p.at p.bytes at count (length p.bytes) (omega (arith, long, inside)) refl (inl (omega (arith, within, before)))
 
-front_of_part : (bytes : List ℕ) (at : ℕ) → slice_index (part bytes at 1) 0 ≡ slice_index bytes at
-front_of_part bytes at = get_or-take 1 (drop at bytes) 0 0 (omega arith) ∙ get_or-drop at bytes 0 0 ∙ ap (slice_index bytes) (omega arith)
-
-number_of_part : (bytes : List ℕ) (at : ℕ) → number_at (part bytes at 4) 0 4 ≡ number_at bytes at 4
-number_of_part bytes at = big_from-take 0 4 4 (drop at bytes) (omega arith)
-
 pub kind_patched : (block : List ℕ) (number : ℕ) (p : Patch) → length block ≡ 2048 → IsPatch p → slice_index (patched number p block) 8 ≡ slice_index block 8
 kind_patched block number p long sound =
-    sym (front_of_part (patched number p block) 8)
+    sym (byte_of_part (patched number p block) 8 1 (omega arith))
     ∙ ap (λ (l : List ℕ). slice_index l 0) (head_patched block number 8 1 p long sound (omega arith) (omega arith))
-    ∙ front_of_part block 8
+    ∙ byte_of_part block 8 1 (omega arith)
 
 pub own_patched : (block : List ℕ) (number : ℕ) (p : Patch) → length block ≡ 2048 → IsPatch p → number_at (patched number p block) 12 4 ≡ number_at block 12 4
 own_patched block number p long sound =
-    sym (number_of_part (patched number p block) 12)
+    sym (number_of_part (patched number p block) 12 4)
     ∙ ap (λ (l : List ℕ). number_at l 0 4) (head_patched block number 12 4 p long sound (omega arith) (omega arith))
-    ∙ number_of_part block 12
+    ∙ number_of_part block 12 4

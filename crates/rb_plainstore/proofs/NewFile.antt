@@ -6,6 +6,7 @@ use Rattle.std.specs.List.{AllByRecursion}
 use Rattle.rb_base.specs.Blocks.{fresh_head, fresh_segment, fresh_rest, fresh_block, fresh_from, fresh_blocks, block_kind, shape_blocks, AreBlocks}
 use Rattle.rb_base.specs.Fields.{with_number}
 use Rattle.rb_base.specs.declared.ids.Shape.{Shape}
+use Rattle.rb_base.proofs.Blocks.{fresh_count}
 
 -- one block more
 pub from_more : (shape : Shape) (first count : ℕ) → fresh_from shape first (count + 1) ≡ fresh_from shape first count ++ fresh_block shape (first + count) ∷ []
@@ -16,10 +17,6 @@ from_more shape first (suc count) =
     ap (fresh_from shape first) more
     ∙ ap (λ (l : List (List ℕ)). fresh_block shape first ∷ l) (from_more shape (first + 1) count)
     ∙ ap (λ (n : ℕ). fresh_block shape first ∷ (fresh_from shape (first + 1) count ++ fresh_block shape n ∷ [])) next
-
-pub from_count : (shape : Shape) (first count : ℕ) → length (fresh_from shape first count) ≡ count
-from_count shape first zero = refl
-from_count shape first (suc count) = let e = from_count shape (first + 1) count in omega (arith, e)
 
 length-segment : length fresh_segment ≡ 2016
 length-segment = refl
@@ -41,7 +38,7 @@ from_units shape first (suc count) = (fresh_unit shape first, from_units shape (
 
 -- the blocks of a new file are as many as it has, each of a unit
 pub fresh_are_blocks : (shape : Shape) → AreBlocks shape (fresh_blocks shape)
-fresh_are_blocks shape = record { count = from_count shape 0 (shape_blocks shape); each = from_units shape 0 (shape_blocks shape) }
+fresh_are_blocks shape = record { count = fresh_count shape 0 (shape_blocks shape); each = from_units shape 0 (shape_blocks shape) }
 
 -- two extents written over zeros
 pub turns_put : (rest : List ℕ) → rest ≡ replicate 2016 0 → with_number (with_number rest 1024 8 2) 1056 8 1 ≡ fresh_segment

@@ -1,10 +1,11 @@
 -- The blocks of a new file are in order.
-use Rattle.std.proofs.Common.{◌≡◌, ◌⊎◌, ℕ, zero, suc, ◌+◌, ◌-◌, ◌*◌, ◌%◌, ◌<◌, ◌≤◌, ◌==◌, ◌&&◌, Bool, true, if◌then◌else◌, List, ◌++◌, refl, arith, ap, sym, subst, ◌∙◌, inl, inr, slice_index_or}
+use Rattle.std.proofs.Common.{◌≡◌, ◌⊎◌, ℕ, ◌-◌, ◌*◌, ◌%◌, ◌<◌, ◌≤◌, ◌==◌, ◌&&◌, Bool, true, if◌then◌else◌, List, ◌++◌, refl, arith, ap, sym, subst, ◌∙◌, inl, inr, slice_index_or}
 use Rattle.std.proofs.lemmas.Bool.{cases_lt, le-ltb, lt-ltb, false≢true, eqb-true, ne_eqb, and_parts, agree_below_at}
 use Rattle.std.proofs.lemmas.List.{get_or-replicate}
 use Rattle.std.proofs.Math.Nat.{mul-mod_right}
 use Rattle.rb_base.specs.declared.ids.Shape.{Shape}
-use Rattle.rb_base.specs.Blocks.{block_of, block_kind, fresh_head, fresh_rest, fresh_block, fresh_from, fresh_blocks, fresh_segment, table_blocks, shape_blocks}
+use Rattle.rb_base.specs.Blocks.{block_of, block_kind, fresh_head, fresh_rest, fresh_block, fresh_blocks, fresh_segment, table_blocks, shape_blocks}
+use Rattle.rb_base.proofs.Blocks.{fresh_at}
 use Rattle.rb_itl.specs.Entries.{entry_at, free_entry}
 use Rattle.rb_heap.specs.Homes.{Home, home_of, is_keyed, empty_cell, empty_home}
 use Rattle.rb_heap.proofs.Fresh.{new_empty}
@@ -12,11 +13,6 @@ use Rattle.rb_heap.proofs.Reading.{entry_read, cell_read}
 use Rattle.rb_cell.specs.declared.cell.Cell.{Cell}
 use Rattle.rb_cell.specs.Cells.{cell_at}
 use Rattle.rb_sound.specs.Sound.{header_block, slot_state, slot_before, extent_ord, extent_newest, head_extent, head_records, lost_number, value_length, IsRing, IsSegment, IsEntrySound, IsCellSound, IsLock, IsHomeSound}
-
-fresh_at : (shape : Shape) (first count i : ℕ) → i < count → block_of (fresh_from shape first count) i ≡ fresh_block shape (first + i)
-fresh_at shape first zero i lt = absurd (omega arith)
-fresh_at shape first (suc count) zero lt = ap (fresh_block shape) (omega arith)
-fresh_at shape first (suc count) (suc i) lt = fresh_at shape (first + 1) count i (omega arith) ∙ ap (fresh_block shape) (omega arith)
 
 -- the header of a segment in a new file, as block n
 abbrev header_of : ℕ → List ℕ

@@ -1,21 +1,13 @@
 -- What a patch leaves of its block's bytes, and what a group of one leaves of a file's blocks.
-use Rattle.std.proofs.Common.{◌≡◌, ◌≢◌, ℕ, ◌+◌, ◌<◌, ◌≤◌, List, [], ◌∷◌, length, drop, refl, arith, ap, sym, ◌∙◌, inr, slice_index}
-use Rattle.std.proofs.lemmas.List.{get_or-drop, get_or-take, get_or-set_same}
+use Rattle.std.proofs.Common.{◌≡◌, ◌≢◌, ℕ, ◌+◌, ◌<◌, ◌≤◌, List, [], ◌∷◌, length, refl, arith, ap, sym, ◌∙◌, inr, slice_index}
 use Rattle.byteorder.specs.Endian.{big_bytes}
-use Rattle.byteorder.specs.Numbers.{big_from-take}
 use Rattle.rb_base.specs.declared.ids.Shape.{Shape}
 use Rattle.rb_base.specs.Blocks.{block_of, patched, after_group, shape_blocks, AreBlocks}
 use Rattle.rb_base.specs.Fields.{part, number_at, overwritten, AreApart}
 use Rattle.rb_base.specs.Groups.{Patch}
+use Rattle.rb_base.proofs.Blocks.{patch_own, patch_others}
+use Rattle.rb_base.proofs.Fronts.{number_of_part, byte_of_part}
 use Rattle.rb_base.proofs.Overwriting.{length-overwritten, part_written, part_apart}
-use Rattle.rb_heap.proofs.Blocks.{group_others}
-
--- a number, and a byte, by the part of the bytes that it stands in
-pub number_of_part : (bytes : List ℕ) (at count : ℕ) → number_at (part bytes at count) 0 count ≡ number_at bytes at count
-number_of_part bytes at count = big_from-take 0 count count (drop at bytes) (omega arith)
-
-byte_of_part : (bytes : List ℕ) (at : ℕ) → slice_index (part bytes at 1) 0 ≡ slice_index bytes at
-byte_of_part bytes at = get_or-take 1 (drop at bytes) 0 0 (omega arith) ∙ get_or-drop at bytes 0 0 ∙ ap (slice_index bytes) (omega arith)
 
 module _ (block : List ℕ) (number size : ℕ) (p : Patch) (long : length block ≡ 2048) (within : p.at + size ≤ 2048) (size_is : length p.bytes ≡ size) where
   -- what is behind the log number in front
@@ -32,7 +24,7 @@ module _ (block : List ℕ) (number size : ℕ) (p : Patch) (long : length block
   number_kept at count behind apart = sym (number_of_part (patched number p block) at count) ∙ ap (λ (l : List ℕ). number_at l 0 count) (part_kept at count behind apart) ∙ number_of_part block at count
 
   pub byte_kept : (at : ℕ) → 8 ≤ at → AreApart at 1 p.at size → slice_index (patched number p block) at ≡ slice_index block at
-  byte_kept at behind apart = sym (byte_of_part (patched number p block) at) ∙ ap (λ (l : List ℕ). slice_index l 0) (part_kept at 1 behind apart) ∙ byte_of_part block at
+  byte_kept at behind apart = sym (byte_of_part (patched number p block) at 1 (omega arith)) ∙ ap (λ (l : List ℕ). slice_index l 0) (part_kept at 1 behind apart) ∙ byte_of_part block at 1 (omega arith)
 
   -- the patch itself
   pub part_there : 8 ≤ p.at → part (patched number p block) p.at size ≡ p.bytes
@@ -40,7 +32,7 @@ module _ (block : List ℕ) (number size : ℕ) (p : Patch) (long : length block
 
 -- the patched block of a file, and every other one
 pub block_there : (shape : Shape) (blocks : List (List ℕ)) (number : ℕ) (p : Patch) → AreBlocks shape blocks → p.block < shape_blocks shape → block_of (after_group number (p ∷ []) blocks) p.block ≡ patched number p (block_of blocks p.block)
-block_there shape blocks number p are lt = let count = are.count in get_or-set_same blocks p.block (patched number p (block_of blocks p.block)) [] (omega (arith, count, lt))
+block_there shape blocks number p are lt = patch_own number p blocks (omega (arith, are.count, lt))
 
 pub block_elsewhere : (blocks : List (List ℕ)) (number b : ℕ) (p : Patch) → b ≢ p.block → block_of (after_group number (p ∷ []) blocks) b ≡ block_of blocks b
-block_elsewhere blocks number b p differ = group_others number b (p ∷ []) blocks ((λ same. differ (sym same)), tt)
+block_elsewhere blocks number b p differ = patch_others number p blocks b differ

@@ -7,11 +7,12 @@ use Rattle.std.proofs.Math.Nat.{mod-lt, mul-le-mul_right}
 use Rattle.rb_base.specs.declared.ids.Shape.{Shape}
 use Rattle.rb_base.specs.Blocks.{block_of, after_group, fresh_blocks, table_blocks, shape_blocks, AreBlocks}
 use Rattle.rb_base.specs.Groups.{IsPatch}
+use Rattle.rb_base.proofs.Blocks.{patch_others, group_keeps}
 use Rattle.rb_cell.specs.declared.cell.Cell.{Cell}
 use Rattle.rb_cell.specs.Cells.{cell_patch, IsCell}
 use Rattle.rb_cell.proofs.CellBytes.{length-cell}
 use Rattle.rb_heap.specs.Homes.{Home, home_of, empty_cell, empty_home, home_cell, home_rows, with_home_cell, is_keyed, IsFirst, IsNowhere}
-use Rattle.rb_heap.proofs.Blocks.{cell_alone, group_others, group_are}
+use Rattle.rb_heap.proofs.Blocks.{cell_alone}
 use Rattle.rb_heap.proofs.Fresh.{new_empty}
 use Rattle.rb_heap.proofs.Reading.{cells_counted}
 use Rattle.rb_write.specs.Values.{home_block, home_at, value_in, value_at, IsPlainHome, ArePlain}
@@ -83,8 +84,8 @@ writes shape op table key which c number cell old new place are lt fits first ne
     record {
       home = subst (λ (b : ℕ). ChangesHome op key (home_of (block_of old b)) (home_of (block_of new b))) place (record { place = c; first = first; made = made });
       new_key = subst (λ (b : ℕ). adds op ≡ true → IsNowhere (is_keyed key) (home_of (block_of old b)).cells) place new_key;
-      others = λ b differ. ap (λ (blocks : List (List ℕ)). block_of blocks b) patched ∙ group_others number b (cell_patch which c cell ∷ []) old ((λ same. differ (sym same ∙ place)), tt);
-      whole = subst (AreBlocks shape) (sym patched) (group_are shape number (cell_patch which c cell ∷ []) old are (lt, tt) (cell_is_patch which c cell fits first.within sound, tt));
+      others = λ b differ. ap (λ (blocks : List (List ℕ)). block_of blocks b) patched ∙ patch_others number (cell_patch which c cell) old b (λ same. differ (same ∙ place));
+      whole = subst (AreBlocks shape) (sym patched) (group_keeps shape number (cell_patch which c cell ∷ []) old are (cell_is_patch which c cell fits first.within sound, tt));
     }
 
 -- what was patched, said of the key's block

@@ -1,8 +1,9 @@
-use Rattle.rb_heap.proofs.Patching.{size_patched, number_patched, kind_patched, own_patched}
+use Rattle.rb_base.proofs.Blocks.{patched_long}
+use Rattle.rb_heap.proofs.Patching.{number_patched, kind_patched, own_patched}
 use Rattle.rb_heap.proofs.laws.head_patched.Goals as goal
 
 pub returns-clause-size : goal.returns-clause-size
-returns-clause-size c block number p long sound = size_patched block number p long sound.within_block
+returns-clause-size c block number p long sound = patched_long number p block long sound.within_block
 
 pub returns-clause-number : goal.returns-clause-number
 returns-clause-number c = number_patched

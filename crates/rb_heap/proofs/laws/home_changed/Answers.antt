@@ -1,4 +1,5 @@
-use Rattle.rb_heap.proofs.Blocks.{cell_alone, lock_alone, entry_alone, both_changed, group_others, group_are}
+use Rattle.rb_base.proofs.Blocks.{group_others, group_keeps}
+use Rattle.rb_heap.proofs.Blocks.{cell_alone, lock_alone, entry_alone, both_changed}
 use Rattle.rb_heap.proofs.laws.home_changed.Goals as goal
 
 pub returns-clause-change : goal.returns-clause-change
@@ -17,4 +18,4 @@ pub returns-clause-entry : goal.returns-clause-entry
 returns-clause-entry c = entry_alone
 
 pub returns-clause-blocks : goal.returns-clause-blocks
-returns-clause-blocks c = group_are
+returns-clause-blocks c shape number group blocks are within sound = group_keeps shape number group blocks are sound

@@ -1,12 +1,13 @@
 use Rattle.std.proofs.Common.{◌≡◌, ◌+◌, arith, ap, sym, ◌∙◌, List, ℕ, ◌++◌, ◌∷◌, [], length}
 use Rattle.rb_base.specs.Blocks.{fresh_block, fresh_from}
-use Rattle.rb_plainstore.proofs.NewFile.{from_more, from_count}
+use Rattle.rb_base.proofs.Blocks.{fresh_count}
+use Rattle.rb_plainstore.proofs.NewFile.{from_more}
 use Rattle.rb_plainstore.proofs.fresh.fresh_blocks.Goals as goal
 
 pub push_reserved-requires : goal.push_reserved-requires
 push_reserved-requires c =
     let blocks = c.loop-no.blocks in
-    omega (arith, blocks.ok.0, ap length c.loop-no.invariant.made, from_count c.args.shape 0 c.loop-no.no, c.loop-no.invariant.room, c.loop-no-test.true)
+    omega (arith, blocks.ok.0, ap length c.loop-no.invariant.made, fresh_count c.args.shape 0 c.loop-no.no, c.loop-no.invariant.room, c.loop-no-test.true)
 
 pub loop-no-preserved : goal.loop-no-preserved
 loop-no-preserved c =

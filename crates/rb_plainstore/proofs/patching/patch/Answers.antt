@@ -2,7 +2,8 @@ use Rattle.std.proofs.Common.{◌≡◌, ◌<◌, length, take, get_or, List, �
 use Rattle.std.proofs.lemmas.List.{take_more}
 use Rattle.rb_base.specs.Blocks.{after_patch, after_group}
 use Rattle.rb_base.specs.Groups.{Patch, patch, IsPatch}
-use Rattle.rb_plainstore.proofs.Blocks.{all_at, group_append}
+use Rattle.rb_base.proofs.Blocks.{group_append}
+use Rattle.rb_base.proofs.Each.{all_at}
 use Rattle.rb_plainstore.proofs.patching.patch.Goals as goal
 
 -- a patch of these parts is the one at that place
