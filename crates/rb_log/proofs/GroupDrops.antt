@@ -1,16 +1,18 @@
 -- Which log a file has after its groups are cut off at a slot.
-use Rattle.std.proofs.Common.{◌≡◌, ◌≢◌, ◌⊎◌, inl, inr, ⊎_elim, ℕ, ◌+◌, ◌≤◌, ◌<◌, List, [], ◌∷◌, length, take, drop, get_or, slice_index, sym, ◌∙◌, ap, subst, arith}
+use Rattle.std.proofs.Common.{◌≡◌, ◌≢◌, ◌⊎◌, inl, inr, ⊎_elim, ℕ, ◌+◌, ◌≤◌, ◌<◌, List, [], ◌∷◌, length, take, drop, get_or, slice_index, refl, sym, ◌∙◌, ap, subst, arith}
 use Rattle.std.proofs.lemmas.Bool.{cases_eq, cases_lt}
-use Rattle.std.proofs.lemmas.List.{drop_more, get_or-take, get_or-drop, length-take-le}
+use Rattle.std.proofs.lemmas.List.{drop_more, length-take-le}
 use Rattle.rb_base.specs.Fields.{part, overwritten}
 use Rattle.rb_base.specs.Groups.{Patch}
+use Rattle.rb_base.proofs.Fronts.{byte_of_part}
+use Rattle.rb_base.proofs.Overwriting.{part_written}
 use Rattle.rb_disk.specs.DiskModel.{Torn}
 use Rattle.rb_layout.specs.declared.layout.Layout.{Layout}
 use Rattle.rb_layout.specs.Regions.{log_offset, file_length}
 use Rattle.rb_log.specs.GroupSlots.{GroupsAre, DroppedSome}
 use Rattle.rb_log.specs.GroupLaws.{same_slot, begins_same, same_units_log, begins_end_group, cut_log}
 use Rattle.rb_log.specs.Slots.{slot_at, TornFrom, SameSlots, SameOutside, SameBut}
-use Rattle.rb_log.proofs.Writes.{gate_at, torn_outside, part_below, part_beyond, part_written, written_torn}
+use Rattle.rb_log.proofs.Writes.{gate_at, torn_outside, part_below, part_beyond, written_torn}
 
 -- each slot of these groups is open, and none is the last
 opened_at : (l : Layout) (f : List ℕ) (slot k : ℕ) (groups : List (List Patch)) → GroupsAre l f slot groups → slot ≤ k → k < slot + length groups → (k + 1 < l.log) × (slice_index (slot_at f k) 0 ≡ 1)
@@ -49,9 +51,8 @@ module _ (l : Layout) (f : List ℕ) (groups : List (List Patch)) (used count : 
       let at = log_offset count in
       let fits : at + 1 ≤ length f = omega (arith, whole, within.0) in
       let torn : Torn at 1 f c = subst (λ (g : List ℕ). Torn at 1 f g) (sym is) (written_torn f (0 ∷ []) at fits) in
-      let gate : part c at 1 ≡ 0 ∷ [] = ap (λ (g : List ℕ). part g at 1) is ∙ part_written f (0 ∷ []) at (omega (arith, fits)) in
-      let byte : get_or (part c at 1) 0 0 ≡ get_or c at 0 = get_or-take 1 (drop at c) 0 0 (omega arith) ∙ get_or-drop at c 0 0 ∙ ap (λ (i : ℕ). get_or c i 0) (omega arith) in
-      let zero_there : slice_index (slot_at c count) 0 ≡ 0 = gate_at c count ∙ sym byte ∙ ap (λ (g : List ℕ). get_or g 0 0) gate in
+      let gate : part c at 1 ≡ 0 ∷ [] = ap (λ (g : List ℕ). part g at 1) is ∙ part_written f at (0 ∷ []) 1 fits refl in
+      let zero_there : slice_index (slot_at c count) 0 ≡ 0 = gate_at c count ∙ sym (byte_of_part c at 1 (omega arith)) ∙ ap (λ (g : List ℕ). get_or g 0 0) gate in
       cut_off c (λ k lt. part_below c f at (log_offset k) 2048 torn.before (omega (arith, lt))) (λ one. absurd (omega (arith, one, zero_there)))
 
   -- whatever the gate is

@@ -1,9 +1,11 @@
 -- A flush of groups: what it writes, and what a crash in it may leave.
 use Rattle.std.proofs.Common.{◌≡◌, ⊎_elim, ℕ, ◌+◌, ◌-◌, ◌*◌, ◌≤◌, ◌<◌, List, [], ◌∷◌, ◌++◌, length, drop, get_or, sym, ◌∙◌, ap, subst, arith, refl}
-use Rattle.std.proofs.lemmas.List.{get_or-take, get_or-drop, append-nil, take_all, length-take-le, length-drop}
+use Rattle.std.proofs.lemmas.List.{append-nil, take_all, length-take-le, length-drop}
 use Rattle.std.specs.List.{AllByRecursion}
 use Rattle.rb_base.specs.Fields.{part, overwritten}
 use Rattle.rb_base.specs.Groups.{Patch}
+use Rattle.rb_base.proofs.Fronts.{byte_of_part}
+use Rattle.rb_base.proofs.Overwriting.{part_written}
 use Rattle.rb_disk.specs.DiskModel.{Torn, Only}
 use Rattle.rb_layout.specs.Regions.{log_offset, file_length}
 use Rattle.rb_layout.specs.declared.layout.Layout.{Layout}
@@ -11,7 +13,7 @@ use Rattle.rb_log.specs.GroupSlots.{IsLoggable, GroupsAre, FlushedSome, group_un
 use Rattle.rb_log.specs.Slots.{slot_at, TornFrom, SameSlots, SameOutside}
 use Rattle.rb_log.proofs.GroupUnits.{AreSideBySide}
 use Rattle.rb_log.proofs.LogLemmas.{groups_same, groups_kept, StagedRun, staged_run, run_still, run_outside, run_units, run_log}
-use Rattle.rb_log.proofs.Writes.{part_written, written_torn, torn_outside}
+use Rattle.rb_log.proofs.Writes.{written_torn, torn_outside}
 
 -- an image whose log is that of before, and one that has the pending groups of one run too
 pub none_more : (image : List ℕ → Type 0) (l : Layout) (before pending : List (List Patch)) (c d : List ℕ) → image d → SameOutside l.log d c → GroupsAre l c 0 before → FlushedSome image l before pending c
@@ -75,9 +77,8 @@ module _ (l : Layout) (end at : ℕ) (groups : List (List Patch)) (buffer body f
   opened m c was is =
       let le : at + 1 ≤ length m = omega (arith, was.long, plan.place, plan.room, plan.fits) in
       let torn : Torn at 1 m c = subst (λ (b : List ℕ). Torn at 1 m b) (sym is) (written_torn m (1 ∷ []) at le) in
-      let gate : part c at 1 ≡ 1 ∷ [] = ap (λ (b : List ℕ). part b at 1) is ∙ part_written m (1 ∷ []) at (omega (arith, le)) in
-      let byte : get_or (part c at 1) 0 0 ≡ get_or c at 0 = get_or-take 1 (drop at c) 0 0 (omega arith) ∙ get_or-drop at c 0 0 ∙ ap (λ (i : ℕ). get_or c i 0) (omega arith) in
-      (torn_now m c was torn, ap (λ (i : ℕ). get_or c i 0) (sym plan.place) ∙ sym byte ∙ ap (λ (b : List ℕ). get_or b 0 0) gate)
+      let gate : part c at 1 ≡ 1 ∷ [] = ap (λ (b : List ℕ). part b at 1) is ∙ part_written m at (1 ∷ []) 1 le refl in
+      (torn_now m c was torn, ap (λ (i : ℕ). get_or c i 0) (sym plan.place) ∙ sym (byte_of_part c at 1 (omega arith)) ∙ ap (λ (b : List ℕ). get_or b 0 0) gate)
 
   pub flushed_outside : (c : List ℕ) → StagedRun end groups f c → SameOutside l.log f c
   flushed_outside c was = run_outside l.log end groups f c plan.room was

@@ -1,8 +1,6 @@
--- A group in its unit, and the patches that are tried one by one.
-use Rattle.std.proofs.Common.{◌≡◌, ℕ, ◌+◌, ◌<◌, ◌≤◌, List, [], ◌∷◌, length, take, drop, get_or, zero, suc, sym, ◌∙◌, ap, subst, arith, length-drop}
-use Rattle.std.proofs.lemmas.List.{take_more, length-take-le}
-use Rattle.std.specs.List.{AllByRecursion}
-use Rattle.rb_base.proofs.Counted.{all_push}
+-- A group in its unit.
+use Rattle.std.proofs.Common.{◌≡◌, ℕ, ◌≤◌, List, length, drop, sym, ◌∙◌, ap, subst, arith, length-drop}
+use Rattle.std.proofs.lemmas.List.{length-take-le}
 use Rattle.rb_base.specs.Blocks.{AreWithin}
 use Rattle.rb_base.specs.Fields.{part, number_at}
 use Rattle.rb_base.specs.Groups.{Patch}
@@ -11,15 +9,6 @@ use Rattle.rb_group.specs.Spelling.{Spells}
 use Rattle.rb_layout.specs.declared.layout.Layout.{Layout}
 use Rattle.rb_layout.specs.Regions.{shape_of}
 use Rattle.rb_log.specs.GroupSlots.{HasGroup}
-
--- one item more has P, and each of those that have it
-pub all_more : {X : Type 0} (P : X → Type 0) (xs : List X) (i : ℕ) (d : X) → i < length xs → AllByRecursion P (take i xs) → P (get_or xs i d) → AllByRecursion P (take (i + 1) xs)
-all_more P xs i d lt all this = subst (λ ys. AllByRecursion P ys) (sym (take_more xs i d lt)) (all_push P (take i xs) (get_or xs i d) all this)
-
-pub all_at : {X : Type 0} (P : X → Type 0) (xs : List X) (i : ℕ) (d : X) → AllByRecursion P xs → i < length xs → P (get_or xs i d)
-all_at P [] i d all lt = absurd (omega (arith, lt))
-all_at P (x ∷ xs) zero d all lt = all.0
-all_at P (x ∷ xs) (suc i) d all lt = all_at P xs i d all.1 (omega (arith, lt))
 
 -- the group that its bytes spell
 pub found_group : (l : Layout) (unit bytes : List ℕ) (n number : ℕ) (group : List Patch) → length unit ≡ 2048 → bytes ≡ part unit 16 n → n ≡ number_at unit 2 2 → n ≤ 2000 → number_at unit 8 8 ≡ number

@@ -1,9 +1,8 @@
 -- How far a flush of several runs has come.
-use Rattle.std.proofs.Common.{◌≡◌, inl, inr, ℕ, zero, suc, ◌+◌, ◌-◌, ◌*◌, ◌≤◌, ◌<◌, min, List, [], ◌∷◌, ◌++◌, length, take, drop, get_or, sym, ◌∙◌, ap, subst, arith, refl, append_assoc}
+use Rattle.std.proofs.Common.{◌≡◌, inl, inr, ℕ, ◌+◌, ◌-◌, ◌*◌, ◌≤◌, ◌<◌, min, List, ◌++◌, length, take, drop, get_or, sym, ◌∙◌, ap, subst, arith, refl, append_assoc}
 use Rattle.std.proofs.Math.Seq.{take-add}
 use Rattle.std.proofs.lemmas.Bool.{cases_lt}
 use Rattle.std.proofs.lemmas.List.{append-nil, take_all, take_min, length-append, length-take-le, length-drop, get_or-take, get_or-drop}
-use Rattle.std.specs.List.{AllByRecursion}
 use Rattle.rb_base.specs.Groups.{Patch}
 use Rattle.rb_base.specs.Moments.{LeavesOnly, begun, weaker, joined}
 use Rattle.rb_disk.specs.DiskModel.{Only}
@@ -13,16 +12,6 @@ use Rattle.rb_log.specs.GroupSlots.{GroupsAre, FlushedSome, group_unit}
 use Rattle.rb_log.specs.Slots.{slot_at, SameSlots, SameOutside, SameBut}
 use Rattle.rb_log.proofs.GroupFlush.{nothing_flushed}
 use Rattle.rb_log.proofs.Writes.{take_below, drop_beyond, part_below}
-
-pub all_taken : {X : Type 0} (P : X → Type 0) (n : ℕ) (xs : List X) → AllByRecursion P xs → AllByRecursion P (take n xs)
-all_taken P zero xs each = tt
-all_taken P (suc n) [] each = tt
-all_taken P (suc n) (x ∷ xs) each = (each.0, all_taken P n xs each.1)
-
-pub all_dropped : {X : Type 0} (P : X → Type 0) (n : ℕ) (xs : List X) → AllByRecursion P xs → AllByRecursion P (drop n xs)
-all_dropped P zero xs each = each
-all_dropped P (suc n) [] each = tt
-all_dropped P (suc n) (x ∷ xs) each = all_dropped P n xs each.1
 
 pub outside_on : (slots : ℕ) (f g h : List ℕ) → SameOutside slots f g → SameOutside slots g h → SameOutside slots f h
 outside_on slots f g h first second = record {

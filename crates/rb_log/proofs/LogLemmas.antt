@@ -1,10 +1,12 @@
 -- Which groups the log of a file has after writes to a run of its slots.
 use Rattle.std.proofs.Common.{◌≡◌, ◌≢◌, ◌⊎◌, inl, inr, ⊎_elim, ℕ, suc, ◌+◌, ◌-◌, ◌*◌, ◌≤◌, ◌<◌, List, [], ◌∷◌, ◌++◌, length, take, drop, get_or, slice_index, sym, ◌∙◌, ap, subst, arith, refl}
 use Rattle.std.proofs.lemmas.Bool.{cases_eq, cases_lt}
-use Rattle.std.proofs.lemmas.List.{drop_more, get_or-take, get_or-drop, append-nil, drop-drop, drop-take, take-take}
+use Rattle.std.proofs.lemmas.List.{drop_more, get_or-take, append-nil, drop-drop, drop-take, take-take}
 use Rattle.std.specs.List.{AllByRecursion}
 use Rattle.rb_base.specs.Fields.{part, overwritten}
 use Rattle.rb_base.specs.Groups.{Patch}
+use Rattle.rb_base.proofs.Fronts.{byte_of_part}
+use Rattle.rb_base.proofs.Overwriting.{part_written}
 use Rattle.rb_disk.specs.DiskModel.{Torn}
 use Rattle.rb_layout.specs.Regions.{log_offset}
 use Rattle.rb_layout.specs.declared.layout.Layout.{Layout}
@@ -12,7 +14,7 @@ use Rattle.rb_log.specs.GroupSlots.{IsLoggable, HoldsGroup, HasGroup, GroupsAre,
 use Rattle.rb_log.specs.Slots.{slot_at, SameSlots, SameOutside, SameBut}
 use Rattle.rb_log.specs.GroupLaws.{same_slot}
 use Rattle.rb_log.proofs.GroupUnits.{AreSideBySide, group_has}
-use Rattle.rb_log.proofs.Writes.{gate_at, take_below, drop_beyond, part_below, part_beyond, part_written, written_torn}
+use Rattle.rb_log.proofs.Writes.{gate_at, take_below, drop_beyond, part_below, part_beyond, written_torn}
 
 -- what ends the log behind these groups
 groups_end : (l : Layout) (f : List ℕ) (slot end : ℕ) (groups : List (List Patch)) → slot + length groups ≡ end → GroupsAre l f slot groups → GroupsAre l f end []
@@ -93,15 +95,15 @@ staged_run end groups f buffer body m some long fits cut filled is =
     let second = written_torn one (0 ∷ []) (at + 1 + length body) (omega (arith, long_one, stop, fits)) in
     let inside : (k count : ℕ) → k + count ≤ length body → part two (at + 1 + k) count ≡ part buffer (1 + k) count =
     λ k count within. part_below two one (at + 1 + length body) (at + 1 + k) count second.before (omega arith)
-    ∙ sym (part_inside one (at + 1) (length body) k count within) ∙ ap (λ (b : List ℕ). part b k count) (part_written f body (at + 1) (omega (arith, stop, fits)) ∙ cut) ∙ part_inside buffer 1 (length body) k count within in
+    ∙ sym (part_inside one (at + 1) (length body) k count within) ∙ ap (λ (b : List ℕ). part b k count) (part_written f (at + 1) body (length body) (omega (arith, stop, fits)) refl ∙ cut) ∙ part_inside buffer 1 (length body) k count within in
     let moved : StagedRun end groups f two = record {
       front = take_below two one (at + 1 + length body) at second.before (omega arith) ∙ take_below one f (at + 1) at first.before (omega arith);
       first = λ d. ap (λ (i : ℕ). part two i 2047) (omega arith) ∙ inside 0 2047 (omega (arith, long, some)) ∙ sym (drop-take 1 2047 buffer) ∙ ap (drop 1) (filled 0 d some) ∙ ap (λ (i : ℕ). drop 1 (group_unit 0 i (get_or groups 0 d))) (omega arith);
       others = λ k d more below.
           ap (λ (i : ℕ). part two i 2048) (omega (arith, more)) ∙ inside (2048 * k - 1) 2048 (omega (arith, long, below, more)) ∙ ap (λ (i : ℕ). part buffer i 2048) (omega (arith, more)) ∙ filled k d below
           ∙ ap (λ (gate : ℕ). group_unit gate (end + 1 + k) (get_or groups k d)) (omega (arith, more)) ∙ ap (λ (i : ℕ). group_unit 1 i (get_or groups k d)) (omega arith);
-      shut = gate_at two (end + n) ∙ ap (λ (i : ℕ). get_or two i 0) (omega (arith, stop)) ∙ sym (get_or-drop (at + 1 + length body) two 0 0) ∙ sym (get_or-take 1 (drop (at + 1 + length body) two) 0 0 (omega arith))
-          ∙ ap (λ (b : List ℕ). get_or b 0 0) (part_written one (0 ∷ []) (at + 1 + length body) (omega (arith, long_one, stop, fits)));
+      shut = gate_at two (end + n) ∙ ap (λ (i : ℕ). get_or two i 0) (omega (arith, stop)) ∙ sym (byte_of_part two (at + 1 + length body) 1 (omega arith))
+          ∙ ap (λ (b : List ℕ). get_or b 0 0) (part_written one (at + 1 + length body) (0 ∷ []) 1 (omega (arith, long_one, stop, fits)) refl);
       back = drop_beyond two one (at + 1 + length body + 1) (log_offset (end + n) + 1) second.behind (omega (arith, stop)) ∙ drop_beyond one f (at + 1 + length body) (log_offset (end + n) + 1) first.behind (omega (arith, stop));
       long = omega (arith, second.no_shorter, second.no_longer, long_one, stop, fits);
     } in

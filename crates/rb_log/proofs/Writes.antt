@@ -1,7 +1,8 @@
 -- What one write changes, and two writes one behind the other, in a file and in its log slots.
-use Rattle.std.proofs.Common.{◌≡◌, ℕ, ◌+◌, ◌-◌, ◌≤◌, List, ◌++◌, length, take, drop, get_or, slice_index, sym, ◌∙◌, ap, arith, refl, length-append, length-drop}
-use Rattle.std.proofs.lemmas.List.{take_at, drop_at, drop-drop, append_assoc, drop-take, take-take, length-take-le, get_or-take, get_or-drop}
+use Rattle.std.proofs.Common.{◌≡◌, ℕ, ◌+◌, ◌-◌, ◌≤◌, List, ◌++◌, length, take, drop, get_or, slice_index, sym, ◌∙◌, ap, arith, length-append, length-drop}
+use Rattle.std.proofs.lemmas.List.{take_at, drop_at, drop-drop, append_assoc, drop-take, take-take, length-take-le}
 use Rattle.rb_base.specs.Fields.{part, overwritten}
+use Rattle.rb_base.proofs.Fronts.{byte_of_part}
 use Rattle.rb_disk.specs.DiskModel.{Torn, Follows}
 use Rattle.rb_layout.specs.Regions.{log_offset}
 use Rattle.rb_log.specs.Slots.{slot_at, SameOutside, TornFrom}
@@ -49,13 +50,6 @@ both_torn at count more old mid new first second c left =
     let later = second c left in
     let from = first later.0 later.1 in (from.0, from.1, torn_both at count more from.0 later.0 c from.2 later.2)
 
--- what stands in the range of a write
-pub part_written : (f bytes : List ℕ) (at : ℕ) → at ≤ length f → part (overwritten f at bytes) at (length bytes) ≡ bytes
-part_written f bytes at le =
-    let rest = drop (at + length bytes) f in
-    let long : length (take at f) ≡ at = length-take-le at f le in
-    ap (λ (l : List ℕ). take (length bytes) (drop at l)) (append_assoc (take at f) bytes rest) ∙ ap (take (length bytes)) (drop_at (take at f) (bytes ++ rest) at long) ∙ take_at bytes rest (length bytes) refl
-
 -- a write within a file is a torn one
 pub written_torn : (f bytes : List ℕ) (at : ℕ) → at + length bytes ≤ length f → Torn at (length bytes) f (overwritten f at bytes)
 written_torn f bytes at le =
@@ -71,7 +65,7 @@ written_torn f bytes at le =
 
 -- the gate of a slot is a byte of the file
 pub gate_at : (f : List ℕ) (slot : ℕ) → slice_index (slot_at f slot) 0 ≡ get_or f (log_offset slot) 0
-gate_at f slot = get_or-take 2048 (drop (log_offset slot) f) 0 0 (omega arith) ∙ get_or-drop (log_offset slot) f 0 0 ∙ ap (λ (i : ℕ). get_or f i 0) (omega arith)
+gate_at f slot = byte_of_part f (log_offset slot) 2048 (omega arith)
 
 -- a torn write within the log leaves the rest of the file
 pub torn_outside : (slots : ℕ) (f g : List ℕ) (at count : ℕ) → log_offset 0 ≤ at → at + count ≤ log_offset slots → log_offset slots ≤ length f → Torn at count f g → SameOutside slots f g

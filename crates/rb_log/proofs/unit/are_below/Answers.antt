@@ -1,6 +1,6 @@
 use Rattle.std.proofs.Common.{◌<◌, [], arith, rules}
 use Rattle.rb_base.specs.Groups.{Patch, patch}
-use Rattle.rb_log.proofs.GroupReading.{all_more, all_at}
+use Rattle.rb_base.proofs.Each.{all_at, all_take_more}
 use Rattle.rb_log.proofs.unit.are_below.Goals as goal
 
 pub returns-then-from-blocks : goal.returns-then-from-blocks
@@ -13,4 +13,4 @@ pub loop-i-preserved : goal.loop-i-preserved
 loop-i-preserved c =
     let blocks = c.args.blocks in
     let d = patch 0 0 [] in
-    all_more (λ (p : Patch). p.block < blocks) c.args.group.now c.loop-i.i d (omega (arith, c.patches-i-end.ensures.count, c.loop-i-test.true)) c.loop-i.invariant (omega (arith, c.patch_block.ensures d, c.from.ensures, c.if-from-blocks.false))
+    all_take_more (λ (p : Patch). p.block < blocks) c.args.group.now c.loop-i.i d (omega (arith, c.patches-i-end.ensures.count, c.loop-i-test.true)) c.loop-i.invariant (omega (arith, c.patch_block.ensures d, c.from.ensures, c.if-from-blocks.false))

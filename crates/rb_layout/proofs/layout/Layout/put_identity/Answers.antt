@@ -1,6 +1,6 @@
-use Rattle.std.proofs.Common.{ℕ, List, ◌++◌, drop, codes, refl, ap}
+use Rattle.std.proofs.Common.{List, ℕ, ◌++◌, drop, codes, refl, arith, ap}
 use Rattle.byteorder.specs.Endian.{big_bytes}
-use Rattle.rb_layout.proofs.Fields.{put_next}
+use Rattle.rb_base.proofs.Written.{Written, number_next}
 use Rattle.rb_layout.proofs.layout.Layout.put_identity.Goals as goal
 
 pub returns-clause-bytes : goal.returns-clause-bytes
@@ -8,8 +8,10 @@ returns-clause-bytes c =
     let mark = codes "RBS7FILE" in
     let l = c.args.self.now in
     let a = c.args.into.now in
-    let version = put_next _ _ mark a 8 4 102 (ap (λ (l : List ℕ). l ++ drop 8 a) c.copy_from_slice.ensures.after) refl c.put_u32.ensures in
-    let tables = put_next _ _ (mark ++ big_bytes 4 102) a 12 2 l.tables version refl c.put_u16.ensures in
-    let segments = put_next _ _ (mark ++ big_bytes 4 102 ++ big_bytes 2 l.tables) a 14 2 l.segments tables refl c.put_u16-2.ensures in
-    let blocks = put_next _ _ (mark ++ big_bytes 4 102 ++ big_bytes 2 l.tables ++ big_bytes 2 l.segments) a 16 4 l.blocks segments refl c.put_u32-2.ensures in
-    put_next _ _ (mark ++ big_bytes 4 102 ++ big_bytes 2 l.tables ++ big_bytes 2 l.segments ++ big_bytes 4 l.blocks) a 20 4 l.log blocks refl c.put_u32-3.ensures
+    let long = c.requires in
+    let marked : Written a _ mark 8 = record { whole = ap (λ (l : List ℕ). l ++ drop 8 a) c.copy_from_slice.ensures.after; long = refl; within = omega (arith, long) } in
+    let version = number_next a _ mark _ 8 4 102 marked c.put_u32.ensures (omega (arith, long)) in
+    let tables = number_next a _ (mark ++ big_bytes 4 102) _ 12 2 l.tables version c.put_u16.ensures (omega (arith, long)) in
+    let segments = number_next a _ (mark ++ big_bytes 4 102 ++ big_bytes 2 l.tables) _ 14 2 l.segments tables c.put_u16-2.ensures (omega (arith, long)) in
+    let blocks = number_next a _ (mark ++ big_bytes 4 102 ++ big_bytes 2 l.tables ++ big_bytes 2 l.segments) _ 16 4 l.blocks segments c.put_u32-2.ensures (omega (arith, long)) in
+    (number_next a _ (mark ++ big_bytes 4 102 ++ big_bytes 2 l.tables ++ big_bytes 2 l.segments ++ big_bytes 4 l.blocks) _ 20 4 l.log blocks c.put_u32-3.ensures (omega (arith, long))).whole
