@@ -6,12 +6,11 @@ use Rattle.std.proofs.lemmas.Cmp.{nat_eq_equiv}
 use Rattle.std.proofs.lemmas.Grind.{flat_map-append}
 use Rattle.std.proofs.lemmas.List.{append-nil, map-append}
 use Rattle.std.proofs.lemmas.List.FromFn.{map-range_with_len_more}
-use Rattle.std.proofs.lemmas.Map.Keys.{IsDistinct-cons}
 use Rattle.std.proofs.lemmas.Map.Made.{length-le_from_is_member}
 use Rattle.std.proofs.lemmas.Nat.{div-mul-add, div-add-mod'}
 use Rattle.std.proofs.Math.Nat.{mod-lt, div-lt_iff_lt-mul}
 use Rattle.std.proofs.Math.Seq.{take-nil}
-use Rattle.std.specs.List.{AllByRecursion, IsDistinct, flat_map, list_any, range_with_len}
+use Rattle.std.specs.List.{AllByRecursion, flat_map, list_any, range_with_len}
 use Rattle.rb_base.specs.Blocks.{block_of, table_blocks, AreBlocks, IsShape}
 use Rattle.rb_base.specs.declared.ids.Shape.{Shape}
 use Rattle.rb_cell.specs.declared.cell.Cell.{Cell}
@@ -22,16 +21,18 @@ use Rattle.rb_heap.proofs.Reading.{cells_counted, cell_read}
 use Rattle.rb_model.specs.Change.{Change}
 use Rattle.rb_model.specs.Full.{has_home, has_key, once, used_keys}
 use Rattle.rb_model.specs.Reply.{rows_now}
-use Rattle.rb_model.specs.Rows.{TableRow, is_row_of, last_number, over, rows_at, row_before, value_of, with_row}
+use Rattle.rb_model.specs.Rows.{TableRow, is_row_of, last_number, over, rows_at, value_of, with_row}
 use Rattle.rb_model.specs.State.{State, opened, session_of}
 use Rattle.rb_sound.specs.Sound.{commit_logged, commit_number, AreCellsSound, AreKeysApart, AreSound}
-use Rattle.rb_versions.proofs.Order.{row_same, same_other}
-use Rattle.rb_versions.proofs.RowLemmas.{ordered-over}
+use Rattle.rb_versions.proofs.Order.{row_same}
+use Rattle.rb_versions.proofs.RowLemmas.{all-with_row, ordered-over}
 use Rattle.rb_write.specs.Values.{home_at, home_block, value_at, value_in, LocksRows, ArePlain, IsPlainHome}
 use Rattle.rb_write.proofs.Placed.{row_block}
 use Rattle.rb_engine.specs.Found.{put_row, rows_below, rows_found, table_of, table_row}
 use Rattle.rb_engine.specs.Holds.{CanOpen, Holds, OpensAs, AHEAD}
+use Rattle.rb_engine.proofs.FullLemmas.{distinct_once}
 use Rattle.rb_engine.proofs.KeptLemmas.{over-append}
+use Rattle.rb_engine.proofs.ValueLemmas.{value-with_row}
 
 -- the rows of a block, cell by cell
 
@@ -101,47 +102,9 @@ block_taken shape blocks n =
     ∙ ap (over shape.blocks (rows_found shape blocks n)) (map_twice (table_of shape n) (home_rows (home_of (block_of blocks n))))
 
 -- what holds of each row that is put holds of all
-
-all-with_row : (A : TableRow → Type 0) (blocks : ℕ) (row : TableRow) (rows : List TableRow) → A row → AllByRecursion A rows → AllByRecursion A (with_row blocks row rows)
-all-with_row A blocks row [] is all = (is, tt)
-all-with_row A blocks row (r ∷ rows) is all =
-    cond_both (is_row_of row.table row.key r) (row ∷ rows) (cond (row_before blocks row r) (row ∷ r ∷ rows) (r ∷ with_row blocks row rows))
-    (AllByRecursion A)
-    (λ same. (is, all.1))
-    (λ other. cond_both (row_before blocks row r) (row ∷ r ∷ rows) (r ∷ with_row blocks row rows) (AllByRecursion A)
-    (λ before. (is, all))
-    (λ behind. (all.0, all-with_row A blocks row rows is all.1)))
-
 all-over : (A : TableRow → Type 0) (blocks : ℕ) (rows news : List TableRow) → AllByRecursion A rows → AllByRecursion A news → AllByRecursion A (over blocks rows (map put_row news))
 all-over A blocks rows [] all each = all
 all-over A blocks rows (row ∷ news) all each = all-over A blocks (with_row blocks row rows) news (all-with_row A blocks row rows each.0 all) each.1
-
--- the value of a key, where rows are put
-
-replaced : (m q : Bool) (value other : List ℕ) (rest : Option (List ℕ)) → q ≡ m → cond m (Some value) rest ≡ cond m (Some value) (cond q (Some other) rest)
-replaced true q value other rest e = refl
-replaced false q value other rest e = rw e refl
-
-swapped : (m q : Bool) (value other : List ℕ) (rest : Option (List ℕ)) → (q ≡ true → m ≡ false) → cond q (Some other) (cond m (Some value) rest) ≡ cond m (Some value) (cond q (Some other) rest)
-swapped true true value other rest h = absurd (false≢true (sym (h refl)))
-swapped true false value other rest h = refl
-swapped false true value other rest h = refl
-swapped false false value other rest h = refl
-
-same_row : (table key : ℕ) (row r : TableRow) → is_row_of row.table row.key r ≡ true → is_row_of table key r ≡ is_row_of table key row
-same_row table key row r h = let s = row_same row.table row.key r h in rw (s.0, s.1) refl
-
-value-with_row : (blocks table key : ℕ) (row : TableRow) (rows : List TableRow) → value_of table key (with_row blocks row rows) ≡ cond (is_row_of table key row) (Some row.value) (value_of table key rows)
-value-with_row blocks table key row [] = refl
-value-with_row blocks table key row (r ∷ rows) =
-    cond_both (is_row_of row.table row.key r) (row ∷ rows) (cond (row_before blocks row r) (row ∷ r ∷ rows) (r ∷ with_row blocks row rows))
-    (λ (xs : List TableRow). value_of table key xs ≡ cond (is_row_of table key row) (Some row.value) (cond (is_row_of table key r) (Some r.value) (value_of table key rows)))
-    (λ same. replaced (is_row_of table key row) (is_row_of table key r) row.value r.value (value_of table key rows) (same_row table key row r same))
-    (λ other. cond_both (row_before blocks row r) (row ∷ r ∷ rows) (r ∷ with_row blocks row rows)
-    (λ (xs : List TableRow). value_of table key xs ≡ cond (is_row_of table key row) (Some row.value) (cond (is_row_of table key r) (Some r.value) (value_of table key rows)))
-    (λ before. refl)
-    (λ behind. ap (λ (o : Option (List ℕ)). cond (is_row_of table key r) (Some r.value) o) (value-with_row blocks table key row rows)
-    ∙ swapped (is_row_of table key row) (is_row_of table key r) row.value r.value (value_of table key rows) (same_other row.table row.key r.table r.key table key other)))
 
 -- the value of a key after these rows are put, which was that before
 abbrev last_value : ℕ → ℕ → List TableRow → Option (List ℕ) → Option (List ℕ)
@@ -371,24 +334,6 @@ is_in_once key (k ∷ keys) is =
     (or_cases (nat_eq key k) (is_in key (once keys)) (sym (ap (is_in key) (cond-false (has_key k (once keys)) (once keys) (k ∷ once keys) no)) ∙ is)))
     (cases_Bool (has_key k (once keys)))
 
-no_key : (key : ℕ) (keys : List ℕ) → has_key key keys ≡ false → AllByRecursion (λ (k : ℕ). nat_eq key k ≡ false) keys
-no_key key [] none = tt
-no_key key (k ∷ keys) none = (
-  false_from_ne_true (nat_eq key k) (λ yes. false≢true (sym none ∙ or_left (k == key) (has_key key keys) (eq-eqb k key (sym (eqb-true key k yes))))),
-  no_key key keys (false_from_ne_true (has_key key keys) (λ yes. false≢true (sym none ∙ or_right (k == key) (has_key key keys) yes))),
-)
-
-distinct_none : IsDistinct nat_eq []
-unfolding IsDistinct
-distinct_none = tt
-
-once_distinct : (keys : List ℕ) → IsDistinct nat_eq (once keys)
-once_distinct [] = distinct_none
-once_distinct (key ∷ keys) =
-    cond_both (has_key key (once keys)) (once keys) (key ∷ once keys) (IsDistinct nat_eq)
-    (λ yes. once_distinct keys)
-    (λ no. IsDistinct-cons nat_eq key (once keys) (no_key key (once keys) no) (once_distinct keys))
-
 -- the keys of the rows of a home
 abbrev keys_of_home : ℕ → ℕ → ℕ → List TableRow → List ℕ
 keys_of_home blocks table key rows = map (λ (row : TableRow). row.key) (filter (λ (row : TableRow). has_home blocks table key row.table row.key) rows)
@@ -458,7 +403,7 @@ keys_few shape blocks number rows table key holds =
     let here : value_in (home_rows home) k ≡ Some there.value =
     ap (λ (r : ℕ). value_in (home_rows (home_of (block_of blocks ((table - 1) * shape.blocks + r)))) k) (sym there.home) ∙ holds.values table k there.first there.few ∙ there.is in
     key_there k there.value (home_rows home) here in
-    let most = length-le_from_is_member nat_eq_equiv (once (keys_of_home shape.blocks table key rows)) keys (once_distinct (keys_of_home shape.blocks table key rows)) member in
+    let most = length-le_from_is_member nat_eq_equiv (once (keys_of_home shape.blocks table key rows)) keys (distinct_once (keys_of_home shape.blocks table key rows)) member in
     let long = as_many (home_rows home) in
     let few = rows_few home.cells in
     let sixteen = cells_counted (block_of blocks (home_block shape table key)) in

@@ -10,6 +10,7 @@ use Rattle.std.proofs.lemmas.Map.Keys.{IsDistinct-cons}
 use Rattle.std.proofs.lemmas.Map.Made.{length-le_from_is_member, All-is_member}
 use Rattle.std.specs.List.{list_any, All, AllByRecursion, IsDistinct}
 use Rattle.rb_base.specs.declared.ids.Shape.{Shape}
+use Rattle.rb_base.proofs.Each.{all_take}
 use Rattle.rb_model.specs.Change.{Change}
 use Rattle.rb_model.specs.Rows.{TableRow, has_row, last_number, over, rows_at}
 use Rattle.rb_model.specs.State.{State}
@@ -17,6 +18,7 @@ use Rattle.rb_model.specs.Full.{has_key, once, has_home, held, used_keys, full_b
 use Rattle.rb_versions.specs.declared.change.RowChange.{RowChange}
 use Rattle.rb_versions.specs.Changes.{changes_of, is_change_of}
 use Rattle.rb_versions.specs.Homes.{is_in_use, IsFull}
+use Rattle.rb_versions.proofs.HomeLemmas.{distinct_none}
 use Rattle.rb_engine.specs.declared.cursor.OpenCursor.{OpenCursor}
 use Rattle.rb_engine.specs.Kept.{last_end, Rising, state_view}
 use Rattle.rb_engine.proofs.KeptLemmas.{rows_committed}
@@ -57,10 +59,6 @@ or_right x y e = grind arith
 apart : (key : ℕ) (keys : List ℕ) → has_key key keys ≡ false → AllByRecursion (λ y. nat_eq key y ≡ false) keys
 apart key [] none = tt
 apart key (k ∷ keys) none = (other_number k key (or_left (k == key) (has_key key keys) none), apart key keys (or_right (k == key) (has_key key keys) none))
-
-distinct_none : IsDistinct nat_eq []
-unfolding IsDistinct
-distinct_none = tt
 
 pub distinct_once : (keys : List ℕ) → IsDistinct nat_eq (once keys)
 distinct_once [] = distinct_none
@@ -162,11 +160,6 @@ pub distinct_used : (h : State) (t k : ℕ) → IsDistinct nat_eq (used_keys h t
 distinct_used h t k = distinct_once (map (λ row. row.key) (filter (λ row. has_home h.shape.blocks t k row.table row.key) (rows_last h)) ++ map (λ change. change.key) (filter (λ change. has_home h.shape.blocks t k change.table change.key) (held h)))
 
 -- a full home, in both words
-
-all_take : (P : ℕ → Type 0) (n : ℕ) (keys : List ℕ) → AllByRecursion P keys → AllByRecursion P (take n keys)
-all_take P zero keys all = tt
-all_take P (suc n) [] all = tt
-all_take P (suc n) (k ∷ keys) all = (all.0, all_take P n keys all.1)
 
 distinct_take : (n : ℕ) (keys : List ℕ) → IsDistinct nat_eq keys → IsDistinct nat_eq (take n keys)
 unfolding IsDistinct

@@ -7,6 +7,7 @@ use Rattle.std.proofs.lemmas.Bool.{cond-true, cond-false}
 use Rattle.std.specs.Str.{bytes_eq}
 use Rattle.std.specs.List.{flat_map, AllByRecursion}
 use Rattle.rb_base.specs.declared.ids.Shape.{Shape}
+use Rattle.rb_base.proofs.Each.{all_so}
 use Rattle.rb_model.specs.Change.{Change, put}
 use Rattle.rb_model.specs.Rows.{TableRow, over, rows_at, changed_by, with_row}
 use Rattle.rb_model.specs.State.{State, Cursor, cursor_rows, with_taken, without_cursor, opened}
@@ -191,12 +192,10 @@ cursors-commit blocks base base_length ends n changes (c ∷ cursors) all =
     rw (e, cursors-commit blocks base base_length ends n changes cursors all.1) refl
 
 pub opened-commit : (base base_length : ℕ) (ends : List ℕ) (n count : ℕ) (cursors : List OpenCursor) → AllByRecursion (IsOpened base base_length ends count) cursors → AllByRecursion (IsOpened base base_length (ends ++ n ∷ []) count) cursors
-opened-commit base base_length ends n count [] all = tt
-opened-commit base base_length ends n count (c ∷ cursors) all =
-    let e = end_at-push base base_length ends n c.number all.0.no_earlier all.0.no_later in (
-      record { no_earlier = all.0.no_earlier; no_later = let l = length-append ends (n ∷ []) in omega (arith, all.0.no_later, l); sees_commits = rw e all.0.sees_commits; within = all.0.within },
-      opened-commit base base_length ends n count cursors all.1,
-    )
+opened-commit base base_length ends n count cursors all =
+    all_so (IsOpened base base_length ends count) (IsOpened base base_length (ends ++ n ∷ []) count) cursors
+    (λ c is. let e = end_at-push base base_length ends n c.number is.no_earlier is.no_later in
+    record { no_earlier = is.no_earlier; no_later = let l = length-append ends (n ∷ []) in omega (arith, is.no_later, l); sees_commits = rw e is.sees_commits; within = is.within }) all
 
 pub view-commit : (shape : Shape) (base base_length : ℕ) (ends : List ℕ) (changes : List RowChange) (cursors : List OpenCursor) (stopped : Bool)
     → AllByRecursion (IsOpened base base_length ends (length changes)) cursors
@@ -260,12 +259,6 @@ removed_at_place blocks base base_length ends changes name (c ∷ cursors) zero 
 removed_at_place blocks base base_length ends changes name (c ∷ cursors) (suc i) h =
     cond-false (has_name name c) _ _ h.0 ∙ ap (λ xs. cursor_view blocks base base_length ends changes c ∷ xs) (removed_at_place blocks base base_length ends changes name cursors i h.1)
 
-pub all-remove : {X : Type 0} (P : X → Type 0) (xs : List X) (i : ℕ) → AllByRecursion P xs → AllByRecursion P (remove xs i)
-all-remove P [] zero all = all
-all-remove P [] (suc i) all = all
-all-remove P (x ∷ xs) zero all = all.1
-all-remove P (x ∷ xs) (suc i) all = (all.0, all-remove P xs i all.1)
-
 last_step : (n : ℕ) → suc (suc n) - 1 ≡ suc (suc n - 1)
 last_step n = omega arith
 
@@ -276,11 +269,9 @@ last_end_is start (x ∷ []) e h = cc
 last_end_is start (x ∷ y ∷ ends) e h = last_end_is x (y ∷ ends) e (subst (λ n. slice_get (x ∷ y ∷ ends) n ≡ Some e) (last_step (length ends)) h)
 
 opened-push : (base base_length : ℕ) (ends : List ℕ) (count more : ℕ) (cursors : List OpenCursor) → count ≤ more → AllByRecursion (IsOpened base base_length ends count) cursors → AllByRecursion (IsOpened base base_length ends more) cursors
-opened-push base base_length ends count more [] le all = tt
-opened-push base base_length ends count more (c ∷ cursors) le all = (
-  record { no_earlier = all.0.no_earlier; no_later = all.0.no_later; sees_commits = all.0.sees_commits; within = omega (arith, all.0.within, le) },
-  opened-push base base_length ends count more cursors le all.1,
-)
+opened-push base base_length ends count more cursors le all =
+    all_so (IsOpened base base_length ends count) (IsOpened base base_length ends more) cursors
+    (λ c is. record { no_earlier = is.no_earlier; no_later = is.no_later; sees_commits = is.sees_commits; within = omega (arith, is.within, le) }) all
 
 -- the memory stays in order with one more change
 pub kept-push : (shape : Shape) (base base_length : ℕ) (ends : List ℕ) (changes : List RowChange) (cursors : List OpenCursor) (old_room new_room ends_room : ℕ) (p : RowChange) (more : List RowChange)
@@ -314,22 +305,6 @@ after_other_refusal h WornOut other = refl
 after_other_refusal h DiskFault other = absurd (other refl)
 after_other_refusal h Stopped other = refl
 after_other_refusal h LogFull other = refl
-
--- lists of which each element has a fact
-
-pub all-push : {X : Type 0} (P : X → Type 0) (xs : List X) (x : X) → AllByRecursion P xs → P x → AllByRecursion P (xs ++ x ∷ [])
-all-push P [] x all h = (h, tt)
-all-push P (y ∷ xs) x all h = (all.0, all-push P xs x all.1 h)
-
-pub all_at : {X : Type 0} (P : X → Type 0) (xs : List X) (i : ℕ) (d : X) → AllByRecursion P xs → i < length xs → P (get_or xs i d)
-all_at P [] i d all l = absurd (omega arith)
-all_at P (x ∷ xs) zero d all l = all.0
-all_at P (x ∷ xs) (suc i) d all l = all_at P xs i d all.1 (omega arith)
-
-pub all-set : {X : Type 0} (P : X → Type 0) (xs : List X) (i : ℕ) (x : X) → AllByRecursion P xs → P x → AllByRecursion P (set xs i x)
-all-set P [] i x all h = tt
-all-set P (y ∷ xs) zero x all h = (h, all.1)
-all-set P (y ∷ xs) (suc i) x all h = (all.0, all-set P xs i x all.1 h)
 
 -- a cursor that is opened now is in order
 pub opened_now : (base base_length : ℕ) (ends : List ℕ) (changes : List RowChange) (c : OpenCursor) → last_end base_length ends ≤ length changes → c.number ≡ base + length ends → c.visible ≡ length changes → IsOpened base base_length ends (length changes) c

@@ -5,6 +5,7 @@ use Rattle.std.proofs.lemmas.List.{length-map, map_push, take_all}
 use Rattle.std.proofs.lemmas.Bool.{le-leb, and_parts, not-true, cond-false}
 use Rattle.std.specs.List.{AllByRecursion}
 use Rattle.std.specs.Prelude.{slice_get, remove}
+use Rattle.rb_base.proofs.Each.{all_at}
 use Rattle.rb_model.specs.Rows.{TableRow, last_number, has_row, over}
 use Rattle.rb_model.specs.State.{State, Cursor, is_session, is_table, session_of, cursor_of, cursor_rows, with_taken, without_cursor}
 use Rattle.rb_model.specs.Reply as call
@@ -23,7 +24,7 @@ use Rattle.rb_engine.specs.Kept.{Kept, cursor_view, state_view, rows_of, cut, la
 use Rattle.rb_versions.proofs.RowLemmas.{ordered-rows}
 use Rattle.rb_versions.proofs.GivenLemmas.{next_is_wanted, given_one_more}
 use Rattle.rb_engine.proofs.FullLemmas.{full_view}
-use Rattle.rb_engine.proofs.KeptLemmas.{find_at_place, none_named, cursor_rows_view, rows_now_view, taken_at_place, removed_at_place, fresh_view, all_at}
+use Rattle.rb_engine.proofs.KeptLemmas.{find_at_place, none_named, cursor_rows_view, rows_now_view, taken_at_place, removed_at_place, fresh_view}
 
 -- the tests of a call, each with its outcome
 

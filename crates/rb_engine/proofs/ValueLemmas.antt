@@ -1,8 +1,9 @@
 -- The value of a key, and the tables of all rows, after a change of the rows.
-use Rattle.std.proofs.Common.{◌≡◌, ℕ, ◌≤◌, Bool, true, false, not, ◌&&◌, ◌||◌, ◌==◌, cond, if◌then◌else◌, List, [], ◌∷◌, ◌++◌, length, filter, Option, None, Some, is_some, refl, arith, ap, ◌∙◌, ⊎_elim}
+use Rattle.std.proofs.Common.{◌≡◌, ℕ, ◌≤◌, Bool, true, false, not, ◌&&◌, ◌||◌, ◌==◌, cond, if◌then◌else◌, List, [], ◌∷◌, ◌++◌, length, Option, None, Some, is_some, refl, arith, ap, ◌∙◌, ⊎_elim}
 use Rattle.std.proofs.lemmas.Bool.{cases_Bool, cond_both, cond-true, cond-false}
 use Rattle.std.proofs.lemmas.Bool.Decides.{nat_tests}
 use Rattle.std.specs.List.{AllByRecursion}
+use Rattle.rb_base.proofs.Each.{all_filter}
 use Rattle.rb_model.specs.Answers.{action_of}
 use Rattle.rb_model.specs.Change.{Change, Kind, Put, Gone, Held}
 use Rattle.rb_model.specs.Reply.{Action, Insert, Update, Delete, Write, adds, change_by, after_grant, rows_now}
@@ -12,6 +13,7 @@ use Rattle.rb_model.specs.declared.op.Op.{Op}
 use Rattle.rb_model.specs.declared.op.Op.TheVariants as op
 use Rattle.rb_write.specs.Writes as write
 use Rattle.rb_versions.proofs.Order.{row_same, same_other, same_apart}
+use Rattle.rb_versions.proofs.RowLemmas.{all-with_row}
 use Rattle.rb_engine.proofs.KeptLemmas.{over-append}
 use Rattle.rb_engine.proofs.UsedLemmas.{the_one}
 
@@ -46,7 +48,7 @@ swapped true false new old rest h = refl
 swapped false true new old rest h = refl
 swapped false false new old rest h = refl
 
-value-with_row : (blocks t k : ℕ) (row : TableRow) (rows : List TableRow) → value_of t k (with_row blocks row rows) ≡ cond (is_row_of t k row) (Some row.value) (value_of t k rows)
+pub value-with_row : (blocks t k : ℕ) (row : TableRow) (rows : List TableRow) → value_of t k (with_row blocks row rows) ≡ cond (is_row_of t k row) (Some row.value) (value_of t k rows)
 value-with_row blocks t k row [] = refl
 value-with_row blocks t k row (r ∷ rows) =
     let new : Option (List ℕ) = Some row.value in
@@ -106,29 +108,12 @@ value_changed blocks t k table key (Put value) rows =
 value_changed blocks t k table key Gone rows = value-without_row t k table key rows ∙ ap (λ is. cond is None (value_of t k rows)) (turned t k table key)
 value_changed blocks t k table key Held rows = unchanged ((t == table) && (k == key)) (value_of t k rows)
 
--- what holds of all rows, and of one that is put
-
-all-with_row : (P : TableRow → Type 0) (blocks : ℕ) (row : TableRow) (rows : List TableRow) → P row → AllByRecursion P rows → AllByRecursion P (with_row blocks row rows)
-all-with_row P blocks row [] is all = (is, tt)
-all-with_row P blocks row (r ∷ rows) is all =
-    cond_both (is_row_of row.table row.key r) (row ∷ rows) (cond (row_before blocks row r) (row ∷ r ∷ rows) (r ∷ with_row blocks row rows)) (AllByRecursion P)
-    (λ same. (is, all.1))
-    (λ other. cond_both (row_before blocks row r) (row ∷ r ∷ rows) (r ∷ with_row blocks row rows) (AllByRecursion P)
-    (λ before. (is, all))
-    (λ behind. (all.0, all-with_row P blocks row rows is all.1)))
-
-all-filter : (P : TableRow → Type 0) (p : TableRow → Bool) (rows : List TableRow) → AllByRecursion P rows → AllByRecursion P (filter p rows)
-all-filter P p [] all = tt
-all-filter P p (r ∷ rows) all =
-    let rest = all-filter P p rows all.1 in
-    cond_both (p r) (r ∷ filter p rows) (filter p rows) (AllByRecursion P) (λ yes. (all.0, rest)) (λ no. rest)
-
 -- the rows stay in the tables that there are
 pub tables_changed : (n blocks table key : ℕ) (kind : Kind) (rows : List TableRow) → 1 ≤ table → table ≤ n
     → AllByRecursion (λ row. (1 ≤ row.table) × (row.table ≤ n)) rows → AllByRecursion (λ row. (1 ≤ row.table) × (row.table ≤ n)) (changed_by blocks table key kind rows)
 tables_changed n blocks table key (Put value) rows low high all =
     all-with_row (λ row. (1 ≤ row.table) × (row.table ≤ n)) blocks (record { table = table; key = key; value = value }) rows (low, high) all
-tables_changed n blocks table key Gone rows low high all = all-filter (λ row. (1 ≤ row.table) × (row.table ≤ n)) (λ row. not (is_row_of table key row)) rows all
+tables_changed n blocks table key Gone rows low high all = all_filter (λ row. (1 ≤ row.table) × (row.table ≤ n)) (λ row. not (is_row_of table key row)) rows all
 tables_changed n blocks table key Held rows low high all = all
 
 -- the words of a write and those of the machine

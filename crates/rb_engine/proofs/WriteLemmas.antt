@@ -23,6 +23,7 @@ use Rattle.rb_model.specs.declared.op.Op.{Op}
 use Rattle.rb_model.specs.declared.op.Op.TheVariants.{Insert, Update, Delete}
 use Rattle.rb_sound.specs.Sound.{commit_logged, commit_number, AreKeysApart, AreSound}
 use Rattle.rb_sound.proofs.CellWritten.{sound_with_cell, commit_stays, logged_stays}
+use Rattle.rb_versions.proofs.HomeLemmas.{distinct_none}
 use Rattle.rb_versions.proofs.RowLemmas.{ordered-over}
 use Rattle.rb_write.specs.Values.{home_block, home_at, value_in, value_at, IsPlainHome, ArePlain}
 use Rattle.rb_write.specs.Writes.{adds, may_take, value_after, cell_after, IsShort, IsMade}
@@ -142,10 +143,6 @@ holds_after_write h h2 shape blocks now number table key op same alone is held s
 
 other_key : (x y : ℕ) → y ≢ x → nat_eq x y ≡ false
 other_key x y e = grind (arith, nat_tests)
-
-distinct_none : IsDistinct nat_eq []
-unfolding IsDistinct
-distinct_none = tt
 
 abbrev keys_of : List Cell → List ℕ
 keys_of cells = map (λ (cell : Cell). cell.key) cells

@@ -1,5 +1,5 @@
 -- Keys of one home in their order, and how many of them are in use.
-use Rattle.std.proofs.Common.{◌≡◌, ℕ, zero, suc, ◌+◌, ◌%◌, ◌<◌, ◌≤◌, ◌^◌, Bool, true, false, ◌&&◌, ◌||◌, nat_le, nat_eq, ◌==◌, List, [], ◌∷◌, length, get_or, None, Some, refl, arith, ap, sym, ◌∙◌, subst, ⊎_elim, min}
+use Rattle.std.proofs.Common.{◌≡◌, ℕ, ◌+◌, ◌%◌, ◌<◌, ◌≤◌, ◌^◌, Bool, true, false, ◌&&◌, ◌||◌, nat_le, nat_eq, ◌==◌, List, [], ◌∷◌, length, get_or, None, Some, refl, arith, ap, sym, ◌∙◌, subst, ⊎_elim, min}
 use Rattle.std.proofs.lemmas.Bool.{cases_Bool, cases_lt, false≢true, and_parts, and_from}
 use Rattle.std.proofs.lemmas.Bool.Decides.{nat_tests}
 use Rattle.std.proofs.lemmas.List.Folds.{list_any_none, list_any_at}
@@ -10,6 +10,7 @@ use Rattle.std.proofs.lemmas.Map.Keys.{IsDistinct-cons}
 use Rattle.std.proofs.lemmas.Map.Made.{length-le_from_is_member}
 use Rattle.std.proofs.Math.Nat.{mod-le, mod-mod}
 use Rattle.std.specs.List.{list_any, All, AllByRecursion, IsDistinct}
+use Rattle.rb_base.proofs.Each.{all_at, all_so}
 use Rattle.rb_model.specs.Rows.{is_asked}
 use Rattle.rb_versions.specs.declared.change.RowChange.{RowChange}
 use Rattle.rb_versions.specs.declared.entry.Entry.{Entry}
@@ -170,7 +171,7 @@ eq_same a b e = grind (arith, nat_tests)
 lt_other : (a b : ℕ) → b < a → nat_eq a b ≡ false
 lt_other a b h = grind (arith, nat_tests)
 
-distinct_none : IsDistinct nat_eq []
+pub distinct_none : IsDistinct nat_eq []
 unfolding IsDistinct
 distinct_none = tt
 
@@ -206,12 +207,10 @@ counted_one blocks p home is passes = record {
 }
 
 others_below : (next last : ℕ) (keys : List ℕ) → last < next → AllByRecursion (λ k. k ≤ last) keys → AllByRecursion (λ y. nat_eq next y ≡ false) keys
-others_below next last [] h low = tt
-others_below next last (k ∷ keys) h low = let u = low.0 in (lt_other next k (omega (arith, u, h)), others_below next last keys h low.1)
+others_below next last keys h low = all_so (λ k. k ≤ last) (λ k. nat_eq next k ≡ false) keys (λ k le. lt_other next k (omega (arith, le, h))) low
 
 lower : (last next : ℕ) (keys : List ℕ) → last < next → AllByRecursion (λ k. k ≤ last) keys → AllByRecursion (λ k. k ≤ next) keys
-lower last next [] h low = tt
-lower last next (k ∷ keys) h low = let u = low.0 in (omega (arith, u, h), lower last next keys h low.1)
+lower last next keys h low = all_so (λ k. k ≤ last) (λ k. k ≤ next) keys (λ k le. omega (arith, le, h)) low
 
 or_true : (a : Bool) → (a || true) ≡ true
 or_true true = refl
@@ -236,23 +235,19 @@ counted_more blocks p home last used next counted is = record {
       (cases_lt last k);
 }
 
-all_at : (P : ℕ → Type 0) (keys : List ℕ) → AllByRecursion P keys → All P keys
-all_at P [] all k d h = let bad : ⊥ = omega (arith, h) in absurd bad
-all_at P (x ∷ keys) all zero d h = all.0
-all_at P (x ∷ keys) all (suc k) d h = all_at P keys all.1 k d (omega (arith, h))
-
 -- sixteen keys of a home are in use
 pub full : (blocks : ℕ) (changes : List RowChange) (committed table key last : ℕ) → is_in_use blocks changes committed table key ≡ false → Counted blocks (is_in_use blocks changes committed table) (key % blocks) last 16
     → IsFull blocks changes committed table key
 full blocks changes committed table key last unused counted =
-    let in_use = all_at (λ k. is_in_use blocks changes committed table k ≡ true) counted.keys counted.passing in
+    let in_use : All (λ k. is_in_use blocks changes committed table k ≡ true) counted.keys =
+    λ k d lt. all_at (λ q. is_in_use blocks changes committed table q ≡ true) counted.keys k d counted.passing lt in
     record {
       unused = unused;
       others = counted.keys;
       sixteen = counted.many;
       different = counted.different;
       not_the_key = λ k d h same. false≢true (sym unused ∙ ap (is_in_use blocks changes committed table) (sym same) ∙ in_use k d h);
-      of_its_home = all_at (λ k. k % blocks ≡ key % blocks) counted.keys counted.of_home;
+      of_its_home = λ k d lt. all_at (λ q. q % blocks ≡ key % blocks) counted.keys k d counted.of_home lt;
       in_use = in_use;
     }
 

@@ -3,6 +3,7 @@ use Rattle.std.proofs.Common.{◌≡◌, ℕ, zero, suc, ◌<◌, ◌≤◌, Boo
 use Rattle.std.proofs.lemmas.Bool.{cond_both, cases_Bool, cond-true, cond-false, false≢true, cases_eq}
 use Rattle.std.proofs.lemmas.List.{take_more}
 use Rattle.std.specs.List.{AllByRecursion}
+use Rattle.rb_base.proofs.Each.{all_filter, all_so}
 use Rattle.rb_model.specs.Change.{Change, Kind}
 use Rattle.rb_model.specs.Change as model
 use Rattle.rb_model.specs.Rows.{TableRow, row_before, is_row_of, has_row, with_row, without_row, changed_by, over, InOrder}
@@ -18,16 +19,15 @@ use Rattle.rb_versions.proofs.Order.{row_trans, row_total, row_same, row_asym, r
 abbrev pub AllBefore : ℕ → TableRow → List TableRow → Type 0
 AllBefore blocks r rows = AllByRecursion (λ x. row_before blocks r x ≡ true) rows
 
--- what comes before all of the rows and before one more comes before all with it
-all-with_row : (blocks : ℕ) (r row : TableRow) (rows : List TableRow) → row_before blocks r row ≡ true → AllBefore blocks r rows → AllBefore blocks r (with_row blocks row rows)
-all-with_row blocks r row [] h all = (h, tt)
-all-with_row blocks r row (x ∷ rows) h all =
-    cond_both (is_row_of row.table row.key x) (row ∷ rows) (cond (row_before blocks row x) (row ∷ x ∷ rows) (x ∷ with_row blocks row rows))
-    (AllBefore blocks r)
-    (λ same. (h, all.1))
-    (λ other. cond_both (row_before blocks row x) (row ∷ x ∷ rows) (x ∷ with_row blocks row rows) (AllBefore blocks r)
-    (λ before. (h, (all.0, all.1)))
-    (λ behind. (all.0, all-with_row blocks r row rows h all.1)))
+-- what holds of all rows, and of one that is put
+pub all-with_row : (P : TableRow → Type 0) (blocks : ℕ) (row : TableRow) (rows : List TableRow) → P row → AllByRecursion P rows → AllByRecursion P (with_row blocks row rows)
+all-with_row P blocks row [] is all = (is, tt)
+all-with_row P blocks row (r ∷ rows) is all =
+    cond_both (is_row_of row.table row.key r) (row ∷ rows) (cond (row_before blocks row r) (row ∷ r ∷ rows) (r ∷ with_row blocks row rows)) (AllByRecursion P)
+    (λ same. (is, all.1))
+    (λ other. cond_both (row_before blocks row r) (row ∷ r ∷ rows) (r ∷ with_row blocks row rows) (AllByRecursion P)
+    (λ before. (is, all))
+    (λ behind. (all.0, all-with_row P blocks row rows is all.1)))
 
 -- what comes before a row comes before all that the row comes before
 all_before_trans : (blocks : ℕ) (x y : TableRow) (rows : List TableRow) → row_before blocks x y ≡ true → AllBefore blocks y rows → AllBefore blocks x rows
@@ -47,21 +47,14 @@ ordered-with_row blocks row (r ∷ rows) o =
     (λ same. let s = row_same row.table row.key r same in (all_before_same blocks row r rows s.0 s.1 o.0, o.1))
     (λ other. cond_both (row_before blocks row r) (row ∷ r ∷ rows) (r ∷ with_row blocks row rows) (InOrder blocks)
     (λ before. ((before, all_before_trans blocks row r rows before o.0), (o.0, o.1)))
-    (λ behind. (all-with_row blocks r row rows (row_total blocks row r behind other) o.0, ordered-with_row blocks row rows o.1)))
-
--- what holds of all rows holds of those that are left
-all-filter : (A : TableRow → Type 0) (p : TableRow → Bool) (rows : List TableRow) → AllByRecursion A rows → AllByRecursion A (filter p rows)
-all-filter A p [] all = tt
-all-filter A p (x ∷ rows) all =
-    let rest = all-filter A p rows all.1 in
-    cond_both (p x) (x ∷ filter p rows) (filter p rows) (AllByRecursion A) (λ yes. (all.0, rest)) (λ no. rest)
+    (λ behind. (all-with_row (λ x. row_before blocks r x ≡ true) blocks row rows (row_total blocks row r behind other) o.0, ordered-with_row blocks row rows o.1)))
 
 ordered-filter : (blocks : ℕ) (p : TableRow → Bool) (rows : List TableRow) → InOrder blocks rows → InOrder blocks (filter p rows)
 ordered-filter blocks p [] o = tt
 ordered-filter blocks p (x ∷ rows) o =
     let rest = ordered-filter blocks p rows o.1 in
     cond_both (p x) (x ∷ filter p rows) (filter p rows) (InOrder blocks)
-    (λ yes. (all-filter (λ y. row_before blocks x y ≡ true) p rows o.0, rest))
+    (λ yes. (all_filter (λ y. row_before blocks x y ≡ true) p rows o.0, rest))
     (λ no. rest)
 
 ordered-changed : (blocks table key : ℕ) (kind : Kind) (rows : List TableRow) → InOrder blocks rows → InOrder blocks (changed_by blocks table key kind rows)
@@ -247,10 +240,6 @@ each_there : (blocks : ℕ) (rows : List TableRow) → InOrder blocks rows → A
 each_there blocks [] o = tt
 each_there blocks (x ∷ rows) o =
     (cond-true (is_row_of x.table x.key x) (Some x) (key_row x.table x.key rows) (same_itself x.table x.key), each_later blocks x rows rows o.0 (each_there blocks rows o.1))
-
-all_so : (A B : TableRow → Type 0) (rows : List TableRow) → ((r : TableRow) → A r → B r) → AllByRecursion A rows → AllByRecursion B rows
-all_so A B [] so all = tt
-all_so A B (x ∷ rows) so all = (so x all.0, all_so A B rows so all.1)
 
 find_agree : (P Q : TableRow → Bool) (rows : List TableRow) → AllByRecursion (λ r. P r ≡ Q r) rows → find P rows ≡ find Q rows
 find_agree P Q [] all = refl

@@ -1,8 +1,9 @@
 use Rattle.std.proofs.Common.{length, is_none, ap, sym, subst}
 use Rattle.std.specs.List.{AllByRecursion}
+use Rattle.rb_base.proofs.Each.{all_remove}
 use Rattle.rb_model.specs.Names.{name_text}
 use Rattle.rb_engine.specs.Kept.{IsOpened}
-use Rattle.rb_engine.proofs.KeptLemmas.{kept-cursors, all-remove}
+use Rattle.rb_engine.proofs.KeptLemmas.{kept-cursors}
 use Rattle.rb_engine.proofs.StateLemmas.{close_tests, view-close, going, one_session, cursor_there, found_none, found_place, any_cursor}
 use Rattle.rb_engine.proofs.state.EngineState.close_cursor.Goals as goal
 
@@ -11,7 +12,7 @@ invariant_of-self c =
     let a = c.self.inside in (
       kept-cursors a.shape a.base a.base_length a.ends.items a.versions.changes a.cursors.items c.remove.new.self.items _ _ c.self.invariant.0
           (subst (AllByRecursion (IsOpened a.base a.base_length a.ends.items (length a.versions.changes))) (sym c.remove.ensures.items)
-          (all-remove (IsOpened a.base a.base_length a.ends.items (length a.versions.changes)) a.cursors.items c.in-Some.place c.self.invariant.0.each_cursor)),
+          (all_remove (IsOpened a.base a.base_length a.ends.items (length a.versions.changes)) a.cursors.items c.in-Some.place c.self.invariant.0.each_cursor)),
       c.self.invariant.1,
     )
 

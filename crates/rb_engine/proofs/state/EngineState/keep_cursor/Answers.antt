@@ -1,9 +1,10 @@
 use Rattle.std.proofs.Common.{◌≡◌, ◌+◌, length, refl, ap, sym, ◌∙◌, subst}
 use Rattle.std.specs.List.{AllByRecursion}
+use Rattle.rb_base.proofs.Each.{all_push}
 use Rattle.rb_model.specs.Rows.{last_number}
 use Rattle.rb_model.specs.Names.{name_text}
 use Rattle.rb_engine.specs.Kept.{Kept, IsOpened}
-use Rattle.rb_engine.proofs.KeptLemmas.{kept-cursors, opened_now, all-push, length-cut}
+use Rattle.rb_engine.proofs.KeptLemmas.{kept-cursors, opened_now, length-cut}
 use Rattle.rb_engine.proofs.StateLemmas.{view-open}
 use Rattle.rb_engine.proofs.state.EngineState.keep_cursor.Goals as goal
 
@@ -14,7 +15,7 @@ invariant_of-self c =
     c.number.ensures.number ∙ ap (λ (k : Kept). last_number k.state.commits) (sym c.self.view_is) ∙ ap (λ n. a.base + n) (length-cut a.base_length a.ends.items a.versions.changes) in (
       kept-cursors a.shape a.base a.base_length a.ends.items a.versions.changes a.cursors.items c.push.new.self.items _ _ c.self.invariant.0
           (subst (AllByRecursion (IsOpened a.base a.base_length a.ends.items (length a.versions.changes))) (sym c.push.ensures.items)
-          (all-push (IsOpened a.base a.base_length a.ends.items (length a.versions.changes)) a.cursors.items _ c.self.invariant.0.each_cursor
+          (all_push (IsOpened a.base a.base_length a.ends.items (length a.versions.changes)) a.cursors.items _ c.self.invariant.0.each_cursor
           (opened_now a.base a.base_length a.ends.items a.versions.changes _ c.self.invariant.0.within number (ap length c.changes.ensures)))),
       c.self.invariant.1,
     )
