@@ -2,8 +2,6 @@
 use Rattle.std.proofs.Common.{◌≡◌, ◌∙◌, ◌⊎◌, inl, inr, ⊎_elim, ap, sym, subst, refl, arith, ℕ, Bool, ◌+◌, ◌<◌, ◌≤◌, List, [], ◌++◌, length, Some}
 use Rattle.std.specs.List.{flat_map}
 use Rattle.std.proofs.lemmas.List.{length-append, take_all}
-use Rattle.rb_base.specs.Blocks.{after_groups, fresh_blocks}
-use Rattle.rb_base.specs.Groups.{Patch}
 use Rattle.rb_base.specs.Moments.{LeavesOnly, joined, weaker}
 use Rattle.rb_base.specs.declared.faults.OpenFault.{OpenFault}
 use Rattle.rb_base.specs.declared.faults.OpenFault.TheVariants.{Failed}
@@ -24,8 +22,9 @@ use Rattle.rb_shell.specs.Runs.{IsSound, HasDone, HasOpened, HasRun, WasCut, Was
 use Rattle.rb_shell.specs.Statuses.{EndsFormat}
 use Rattle.rb_shell.specs.declared.status.Status.{Status}
 use Rattle.rb_shell.specs.declared.status.Status.TheVariants.{Done, Usage, SourceFault, DiskFault, SinkFault, NotAStore, NoMemory, NotEmpty, TooLong}
-use Rattle.rb_store.specs.OneOpening.{one_opening, one_number, opens_moves}
-use Rattle.rb_store.specs.Laps.{LapState, IsLap, IsStable, Opens, OpensTo, OpensAt}
+use Rattle.rb_store.specs.OneOpening.{one_opening, one_number, opens_alike, opens_moves}
+use Rattle.rb_store.specs.LapLaws.{stable_opens}
+use Rattle.rb_store.specs.Laps.{LapState, IsStable, Opens, OpensTo, OpensAt}
 
 -- an image that opens to the blocks of a state has its rows
 
@@ -78,15 +77,11 @@ pub record Found {D : Type 0} (content : D → List ℕ) (image : D → List ℕ
   pub only_now : (c : List ℕ) → since s.disk (moment s.disk) c → image s.disk c
 
 module _ {D : Type 0} (content : D → List ℕ) (image : D → List ℕ → Type 0) (moment : D → ℕ) (since : D → ℕ → List ℕ → Type 0) (old : D) where
-  stable_opens : (s : LapState D) (b : List (List ℕ)) (c : List ℕ) (st : IsStable content image s b) → IsLap s.layout st.groups c → OpensTo s.layout c b
-  stable_opens s b c st lap = record { groups = st.groups; lap = lap; made = st.made ∙ ap (λ (gs : List (List Patch)). after_groups 1 gs (fresh_blocks (shape_of s.layout))) (sym st.whole) }
-
   -- loads behind an opening leave what it left
   pub loads_leave : (s new : LapState D) → Found content image moment since old s → Loaded content image moment since s new → OpensSame content image moment since old new.disk
   loads_leave s new found loads = λ l blocks opens.
-      let agree = one_opening s.layout l (content old) s.blocks blocks found.opens.opens opens in
       let here : (c : List ℕ) → image s.disk c → image old c ⊎ OpensTo l c blocks =
-      λ c is. inr (subst (λ (b : List (List ℕ)). OpensTo l c b) agree.blocks (opens_moves s.layout l c s.blocks agree.numbers (stable_opens s s.blocks c found.stable (found.stable.images c is)))) in
+      λ c is. inr (opens_alike s.layout l (content old) c s.blocks blocks found.opens.opens opens (stable_opens content image s s.blocks c found.stable (found.stable.images c is))) in
       joined moment since old s.disk new.disk (λ c. image old c ⊎ OpensTo l c blocks) (found.any_moment l blocks opens) (record {
         later = loads.later;
         each = λ c left. ⊎_elim (λ was. here c (found.only_now c was)) (here c) (loads.nothing_else (moment s.disk) c (omega arith) left);
@@ -97,10 +92,9 @@ module _ {D : Type 0} (content : D → List ℕ) (image : D → List ℕ → Typ
   file_stays : (s new : LapState D) → Found content image moment since old s → Loaded content image moment since s new
       → (l : Layout) (blocks : List (List ℕ)) → OpensTo l (content old) blocks → OpensTo l (content new.disk) blocks
   file_stays s new found loads l blocks opens =
-      let agree = one_opening s.layout l (content old) s.blocks blocks found.opens.opens opens in
       let st = loads.stable s.blocks found.stable in
-      let here = opens_moves new.layout s.layout (content new.disk) s.blocks (numbers_of new.layout s.layout loads.shape loads.log) (stable_opens new s.blocks (content new.disk) st st.file) in
-      subst (λ (b : List (List ℕ)). OpensTo l (content new.disk) b) agree.blocks (opens_moves s.layout l (content new.disk) s.blocks agree.numbers here)
+      let here = opens_moves new.layout s.layout (content new.disk) s.blocks (numbers_of new.layout s.layout loads.shape loads.log) (stable_opens content image new s.blocks (content new.disk) st st.file) in
+      opens_alike s.layout l (content old) (content new.disk) s.blocks blocks found.opens.opens opens here
 
   pub loads_alone : (s new : LapState D) → Found content image moment since old s → Loaded content image moment since s new → LeftAlone content image moment since old new.disk
   loads_alone s new found loads = record {

@@ -99,18 +99,6 @@ module _ {D : Type 0} (content : D → List ℕ) (image : D → List ℕ → Typ
     images = λ c here. subst (λ (l : Layout). IsLap l st.groups c) (sym layout) (st.images c (subst (λ (d : D). image d c) disk here));
   }
 
-  -- another block loaded
-  pub load_stable : (s new : LapState D) (b : List (List ℕ)) → IsStable content image s b → new.layout ≡ s.layout → new.blocks ≡ s.blocks → new.pending ≡ s.pending → new.number ≡ s.number → new.disk ≡ s.disk → IsStable content image new b
-  load_stable s new b st layout blocks pending number disk = record {
-    groups = st.groups;
-    count = let p = ap length pending in omega (arith, p, number, st.count);
-    whole = ap (λ (l : Layout). committed_groups (shape_of l) st.groups) layout ∙ st.whole;
-    made = st.made ∙ ap (λ (l : Layout). after_groups 1 st.groups (fresh_blocks (shape_of l))) (sym layout);
-    patched = blocks ∙ st.patched ∙ ap (λ (gs : List (List Patch)). after_groups (length st.groups + 1) gs b) (sym pending);
-    file = subst (λ (l : Layout). IsLap l st.groups (content new.disk)) (sym layout) (subst (λ (d : D). IsLap s.layout st.groups (content d)) (sym disk) st.file);
-    images = λ c here. subst (λ (l : Layout). IsLap l st.groups c) (sym layout) (st.images c (subst (λ (d : D). image d c) disk here));
-  }
-
   module _ (moment : D → ℕ) (since : D → ℕ → List ℕ → Type 0) where
     -- the same of the disk's moments
     pub flush_moments : (s new : LapState D) (b : List (List ℕ)) → (st : IsStable content image s b) → LeavesOnly moment since s.disk new.disk (FlushedSome (image s.disk) s.layout st.groups s.pending)

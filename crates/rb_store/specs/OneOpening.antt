@@ -66,6 +66,12 @@ one_opening l m file first second one two =
           ∙ ap (λ (gs : List (List Patch)). after_groups 1 (committed_groups (shape_of m) gs) (fresh_blocks (shape_of m))) (same_groups l m file first second one two) ∙ sym two.made;
     }
 
+-- what opens to the blocks of one of them opens to those of the other
+pub opens_alike : (l m : Layout) (file other : List ℕ) (first second : List (List ℕ)) → OpensTo l file first → OpensTo m file second → OpensTo l other first → OpensTo m other second
+opens_alike l m file other first second one two at =
+    let agree = one_opening l m file first second one two in
+    subst (λ (blocks : List (List ℕ)). OpensTo m other blocks) agree.blocks (opens_moves l m other first agree.numbers at)
+
 pub one_number : (l m : Layout) (file : List ℕ) (first second : List (List ℕ)) (n k : ℕ) → OpensAt l file first n → OpensAt m file second k → n ≡ k
 one_number l m file first second n k one two =
     sym one.last ∙ ap (λ (s : Shape). length (committed_groups s one.opens.groups)) (one_opening l m file first second one.opens two.opens).shape

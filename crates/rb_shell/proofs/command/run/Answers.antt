@@ -1,8 +1,20 @@
-use Rattle.std.proofs.Common.{◌∙◌, refl, arith}
+use Rattle.std.proofs.Common.{◌∙◌, ℕ, refl, arith}
+use Rattle.rb_layout.specs.declared.layout.Layout.{Layout}
+use Rattle.rb_shell.specs.Words.{IsFormat, IsRun}
 use Rattle.rb_shell.specs.declared.words.Request.TheVariants.{Format, Run}
 use Rattle.rb_shell.proofs.RunLemmas.{complete_format, complete_run, not_longer}
 use Rattle.rb_shell.proofs.Spelling.{same_file, not_both}
+use Rattle.rb_shell.proofs.command.run.Given.{Over}
+use Rattle.rb_shell.proofs.command.run.Goals.{After-run_format, After-run_script}
 use Rattle.rb_shell.proofs.command.run.Goals as goal
+
+-- words that ask for a new file ask for no run
+no_run : (g : Over) (c : After-run_format g) (n : ℕ) → IsRun c.args.words.now n → ⊥
+no_run g c n asked = not_both c.args.words.now c.in-Some-Format.layout n (rw c.in-Some-Format.field-0-is at c.in-Some-Format.ensures.found) asked
+
+-- nor the other way round
+no_format : (g : Over) (c : After-run_script g) (l : Layout) → IsFormat c.args.words.now l → ⊥
+no_format g c l asked = not_both c.args.words.now l c.in-Some-Run.field-0-0 asked (rw c.in-Some-Run.field-0-is at c.in-Some-Run.ensures.found)
 
 pub returns-in-Some-Format-clause-usage : goal.returns-in-Some-Format-clause-usage
 returns-in-Some-Format-clause-usage g c = (λ is. absurd (rw is at c.run_format.ensures.ends), λ none. absurd (none.0 c.in-Some-Format.layout (rw c.in-Some-Format.field-0-is at c.in-Some-Format.ensures.found)))
@@ -14,7 +26,7 @@ pub returns-in-Some-Format-clause-format_ends : goal.returns-in-Some-Format-clau
 returns-in-Some-Format-clause-format_ends g c = λ l asked. c.run_format.ensures.ends
 
 pub returns-in-Some-Format-clause-run_ends : goal.returns-in-Some-Format-clause-run_ends
-returns-in-Some-Format-clause-run_ends g c = λ n asked. absurd (not_both c.args.words.now c.in-Some-Format.layout n (rw c.in-Some-Format.field-0-is at c.in-Some-Format.ensures.found) asked)
+returns-in-Some-Format-clause-run_ends g c = λ n asked. absurd (no_run g c n asked)
 
 pub returns-in-Some-Format-clause-formatted : goal.returns-in-Some-Format-clause-formatted
 returns-in-Some-Format-clause-formatted g c = λ told l asked done.
@@ -34,13 +46,13 @@ pub returns-in-Some-Format-clause-format_unchanged : goal.returns-in-Some-Format
 returns-in-Some-Format-clause-format_unchanged g c = λ told l asked. c.run_format.ensures.unchanged told
 
 pub returns-in-Some-Format-clause-replies : goal.returns-in-Some-Format-clause-replies
-returns-in-Some-Format-clause-replies g c = λ disk told n asked is. absurd (not_both c.args.words.now c.in-Some-Format.layout n (rw c.in-Some-Format.field-0-is at c.in-Some-Format.ensures.found) asked)
+returns-in-Some-Format-clause-replies g c = λ disk told n asked is. absurd (no_run g c n asked)
 
 pub returns-in-Some-Format-clause-at_end : goal.returns-in-Some-Format-clause-at_end
-returns-in-Some-Format-clause-at_end g c = λ told n asked is. absurd (not_both c.args.words.now c.in-Some-Format.layout n (rw c.in-Some-Format.field-0-is at c.in-Some-Format.ensures.found) asked)
+returns-in-Some-Format-clause-at_end g c = λ told n asked is. absurd (no_run g c n asked)
 
 pub returns-in-Some-Format-clause-few : goal.returns-in-Some-Format-clause-few
-returns-in-Some-Format-clause-few g c = λ told n asked is. absurd (not_both c.args.words.now c.in-Some-Format.layout n (rw c.in-Some-Format.field-0-is at c.in-Some-Format.ensures.found) asked)
+returns-in-Some-Format-clause-few g c = λ told n asked is. absurd (no_run g c n asked)
 
 pub returns-in-Some-Format-clause-source_done : goal.returns-in-Some-Format-clause-source_done
 returns-in-Some-Format-clause-source_done g c = λ disk told is. absurd (rw is at c.run_format.ensures.ends)
@@ -49,19 +61,19 @@ pub returns-in-Some-Format-clause-too_long : goal.returns-in-Some-Format-clause-
 returns-in-Some-Format-clause-too_long g c = λ disk told is. absurd (rw is at c.run_format.ensures.ends)
 
 pub returns-in-Some-Format-clause-disk_done : goal.returns-in-Some-Format-clause-disk_done
-returns-in-Some-Format-clause-disk_done g c = λ disk told n asked is. absurd (not_both c.args.words.now c.in-Some-Format.layout n (rw c.in-Some-Format.field-0-is at c.in-Some-Format.ensures.found) asked)
+returns-in-Some-Format-clause-disk_done g c = λ disk told n asked is. absurd (no_run g c n asked)
 
 pub returns-in-Some-Format-clause-cut_off : goal.returns-in-Some-Format-clause-cut_off
 returns-in-Some-Format-clause-cut_off g c = λ disk told tells is. absurd (rw is at c.run_format.ensures.ends)
 
 pub returns-in-Some-Format-clause-untouched : goal.returns-in-Some-Format-clause-untouched
-returns-in-Some-Format-clause-untouched g c = λ disk n asked is. absurd (not_both c.args.words.now c.in-Some-Format.layout n (rw c.in-Some-Format.field-0-is at c.in-Some-Format.ensures.found) asked)
+returns-in-Some-Format-clause-untouched g c = λ disk n asked is. absurd (no_run g c n asked)
 
 pub returns-in-Some-Format-clause-not_a_store : goal.returns-in-Some-Format-clause-not_a_store
 returns-in-Some-Format-clause-not_a_store g c = λ disk is. absurd (rw is at c.run_format.ensures.ends)
 
 pub returns-in-Some-Format-clause-sound : goal.returns-in-Some-Format-clause-sound
-returns-in-Some-Format-clause-sound g c = λ disk n asked is. absurd (not_both c.args.words.now c.in-Some-Format.layout n (rw c.in-Some-Format.field-0-is at c.in-Some-Format.ensures.found) asked)
+returns-in-Some-Format-clause-sound g c = λ disk n asked is. absurd (no_run g c n asked)
 
 pub returns-in-Some-Format-clause-source_fault : goal.returns-in-Some-Format-clause-source_fault
 returns-in-Some-Format-clause-source_fault g c = λ is. absurd (rw is at c.run_format.ensures.ends)
@@ -77,7 +89,7 @@ returns-in-Some-Format-clause-complete_format g c = λ told l asked empty same.
     complete_format c.run_format.result.0 c.run_format.ensures.ends (λ is. same (c.run_format.ensures.disk_fault is)) (λ is. absurd (omega (arith, empty, c.run_format.ensures.not_empty told is)))
 
 pub returns-in-Some-Format-clause-complete : goal.returns-in-Some-Format-clause-complete
-returns-in-Some-Format-clause-complete g c = λ disk told n asked sound few a b d. absurd (not_both c.args.words.now c.in-Some-Format.layout n (rw c.in-Some-Format.field-0-is at c.in-Some-Format.ensures.found) asked)
+returns-in-Some-Format-clause-complete g c = λ disk told n asked sound few a b d. absurd (no_run g c n asked)
 
 pub returns-in-Some-Run-clause-usage : goal.returns-in-Some-Run-clause-usage
 returns-in-Some-Run-clause-usage g c = (λ is. absurd (rw is at c.run_script.ensures.ends), λ none. absurd (none.1 c.in-Some-Run.field-0-0 (rw c.in-Some-Run.field-0-is at c.in-Some-Run.ensures.found)))
@@ -86,25 +98,25 @@ pub returns-in-Some-Run-clause-usage_disk : goal.returns-in-Some-Run-clause-usag
 returns-in-Some-Run-clause-usage_disk g c = λ is. absurd (rw is at c.run_script.ensures.ends)
 
 pub returns-in-Some-Run-clause-format_ends : goal.returns-in-Some-Run-clause-format_ends
-returns-in-Some-Run-clause-format_ends g c = λ l asked. absurd (not_both c.args.words.now l c.in-Some-Run.field-0-0 asked (rw c.in-Some-Run.field-0-is at c.in-Some-Run.ensures.found))
+returns-in-Some-Run-clause-format_ends g c = λ l asked. absurd (no_format g c l asked)
 
 pub returns-in-Some-Run-clause-run_ends : goal.returns-in-Some-Run-clause-run_ends
 returns-in-Some-Run-clause-run_ends g c = λ n asked. c.run_script.ensures.ends
 
 pub returns-in-Some-Run-clause-formatted : goal.returns-in-Some-Run-clause-formatted
-returns-in-Some-Run-clause-formatted g c = λ told l asked is. absurd (not_both c.args.words.now l c.in-Some-Run.field-0-0 asked (rw c.in-Some-Run.field-0-is at c.in-Some-Run.ensures.found))
+returns-in-Some-Run-clause-formatted g c = λ told l asked is. absurd (no_format g c l asked)
 
 pub returns-in-Some-Run-clause-durable : goal.returns-in-Some-Run-clause-durable
-returns-in-Some-Run-clause-durable g c = λ told l asked is. absurd (not_both c.args.words.now l c.in-Some-Run.field-0-0 asked (rw c.in-Some-Run.field-0-is at c.in-Some-Run.ensures.found))
+returns-in-Some-Run-clause-durable g c = λ told l asked is. absurd (no_format g c l asked)
 
 pub returns-in-Some-Run-clause-was_empty : goal.returns-in-Some-Run-clause-was_empty
-returns-in-Some-Run-clause-was_empty g c = λ told l asked is. absurd (not_both c.args.words.now l c.in-Some-Run.field-0-0 asked (rw c.in-Some-Run.field-0-is at c.in-Some-Run.ensures.found))
+returns-in-Some-Run-clause-was_empty g c = λ told l asked is. absurd (no_format g c l asked)
 
 pub returns-in-Some-Run-clause-not_empty : goal.returns-in-Some-Run-clause-not_empty
 returns-in-Some-Run-clause-not_empty g c = λ told is. absurd (rw is at c.run_script.ensures.ends)
 
 pub returns-in-Some-Run-clause-format_unchanged : goal.returns-in-Some-Run-clause-format_unchanged
-returns-in-Some-Run-clause-format_unchanged g c = λ told l asked some. absurd (not_both c.args.words.now l c.in-Some-Run.field-0-0 asked (rw c.in-Some-Run.field-0-is at c.in-Some-Run.ensures.found))
+returns-in-Some-Run-clause-format_unchanged g c = λ told l asked some. absurd (no_format g c l asked)
 
 pub returns-in-Some-Run-clause-format_source : goal.returns-in-Some-Run-clause-format_source
 returns-in-Some-Run-clause-format_source g c = λ none. absurd (none c.in-Some-Run.field-0-0 (rw c.in-Some-Run.field-0-is at c.in-Some-Run.ensures.found))
@@ -158,7 +170,7 @@ pub returns-in-Some-Run-clause-sound : goal.returns-in-Some-Run-clause-sound
 returns-in-Some-Run-clause-sound g c = λ disk n asked is. c.run_script.ensures.sound disk is
 
 pub returns-in-Some-Run-clause-complete_format : goal.returns-in-Some-Run-clause-complete_format
-returns-in-Some-Run-clause-complete_format g c = λ told l asked some same. absurd (not_both c.args.words.now l c.in-Some-Run.field-0-0 asked (rw c.in-Some-Run.field-0-is at c.in-Some-Run.ensures.found))
+returns-in-Some-Run-clause-complete_format g c = λ told l asked some same. absurd (no_format g c l asked)
 
 pub returns-in-Some-Run-clause-complete : goal.returns-in-Some-Run-clause-complete
 returns-in-Some-Run-clause-complete g c = λ disk told n asked sound few same_source same_disk same_sink. complete_run c.run_script.result.0 c.run_script.ensures.ends

@@ -3,9 +3,13 @@ use Rattle.std.proofs.Common.{ℕ, List, [], refl, ap, sym, ◌∙◌, subst}
 use Rattle.rb_model.specs.Lines.{bad_line_text, Spells, SpellsNone, is_remark}
 use Rattle.rb_model.specs.Out.{LineOut, CommandOut, too_long, skipped, bad, command}
 use Rattle.rb_script.specs.Commands.{command_of}
+use Rattle.rb_engine.specs.Crash.{Survives}
+use Rattle.rb_engine.specs.Engine.{EngineView}
 use Rattle.rb_engine.proofs.CrashLemmas.{survives_still}
+use Rattle.rb_shell.specs.Since.{StandsFor}
 use Rattle.rb_shell.specs.Steps.{logged}
 use Rattle.rb_shell.proofs.StepLemmas.{steps_weaker, bad_steps}
+use Rattle.rb_shell.proofs.line.step.Given.{Over}
 use Rattle.rb_shell.proofs.line.step.Goals as goal
 
 pub returns-then-line-gt-LINE_BYTES-clause-steps : goal.returns-then-line-gt-LINE_BYTES-clause-steps
@@ -40,17 +44,16 @@ returns-in-Some-clause-steps g c = λ told slots is.
     (λ out h did. command c.if-line-gt-LINE_BYTES.false (command_of c.in-Some.command) (subst (λ (text : List ℕ). Spells text (command_of c.in-Some.command)) c.without_return-text.ensures c.in-Some.ensures.found) did)
     (c.run_command.ensures.steps told slots is)
 
-pub returns-then-line-gt-LINE_BYTES-clause-crash : goal.returns-then-line-gt-LINE_BYTES-clause-crash
-returns-then-line-gt-LINE_BYTES-clause-crash g c = λ told kept st.
-    let e = c.args.engine.now in
+-- where no call is made, the store stays
+still : (g : Over) (e : EngineView g.row.T.Denot) → g.T.Store.keeps → StandsFor g.T.Store e → Survives g.T.Store (g.T.Store.slots e.store) e.state e.state e.store e.store
+still g e kept st =
     survives_still g.T.Store (record { left_opens = λ store b i stands here. g.met.T.Store.stable_left store b i kept stands here; read_patched = λ store i left. g.met.T.Store.only_now store i kept left }) e.state e.state e.store e.store st.same_shape refl refl refl st.stands
+
+pub returns-then-line-gt-LINE_BYTES-clause-crash : goal.returns-then-line-gt-LINE_BYTES-clause-crash
+returns-then-line-gt-LINE_BYTES-clause-crash g c = λ told kept st. still g c.args.engine.now kept st
 
 pub returns-then-is_remark-clause-crash : goal.returns-then-is_remark-clause-crash
-returns-then-is_remark-clause-crash g c = λ told kept st.
-    let e = c.args.engine.now in
-    survives_still g.T.Store (record { left_opens = λ store b i stands here. g.met.T.Store.stable_left store b i kept stands here; read_patched = λ store i left. g.met.T.Store.only_now store i kept left }) e.state e.state e.store e.store st.same_shape refl refl refl st.stands
+returns-then-is_remark-clause-crash g c = λ told kept st. still g c.args.engine.now kept st
 
 pub returns-in-None-clause-crash : goal.returns-in-None-clause-crash
-returns-in-None-clause-crash g c = λ told kept st.
-    let e = c.args.engine.now in
-    survives_still g.T.Store (record { left_opens = λ store b i stands here. g.met.T.Store.stable_left store b i kept stands here; read_patched = λ store i left. g.met.T.Store.only_now store i kept left }) e.state e.state e.store e.store st.same_shape refl refl refl st.stands
+returns-in-None-clause-crash g c = λ told kept st. still g c.args.engine.now kept st

@@ -1,6 +1,5 @@
-use Rattle.std.proofs.Common.{sym, ◌∙◌}
-use Rattle.rb_store.proofs.OpenLemmas.{opens_once}
+use Rattle.rb_store.specs.OneOpening.{one_opening as opens_once}
 use Rattle.rb_store.proofs.laws.one_opening.Goals as goal
 
 pub returns : goal.returns
-returns c = λ l file first second one two. opens_once l l file first two.groups one two.lap ∙ sym two.made
+returns c = λ l file first second one two. (opens_once l l file first second one two).blocks

@@ -1,54 +1,61 @@
-use Rattle.std.proofs.Common.{◌≡◌, ◌+◌, ◌++◌, ℕ, List, length, refl, ap, sym, subst, arith}
-use Rattle.rb_base.specs.Groups.{Patch}
+use Rattle.std.proofs.Common.{◌≡◌, ◌++◌, ℕ, List, length, ap, sym, subst, refl, arith}
 use Rattle.rb_base.specs.Moments.{LeavesOnly}
 use Rattle.rb_layout.specs.declared.layout.Layout.{Layout}
 use Rattle.rb_log.specs.GroupSlots.{LogState, GroupsAre, FlushedSome}
 use Rattle.rb_log.specs.Slots.{SameSlots}
+use Rattle.rb_store.specs.Laps.{IsLap, IsStable, LapState}
 use Rattle.rb_store.proofs.LapLemmas.{flush_moments, flush_images, flush_opens, flush_stable}
+use Rattle.rb_store.proofs.lap.LapStoreStore.flush.Given.{Over}
+use Rattle.rb_store.proofs.lap.LapStoreStore.flush.Goals.{After-flush, In-Ok}
 use Rattle.rb_store.proofs.lap.LapStoreStore.flush.Goals as goal
 
--- as many groups as the log has, and the log has them
-counted : (groups : List (List Patch)) (pending number used : ℕ) → length groups + pending ≡ number → number ≡ used + pending → length groups ≡ used
-counted groups pending number used e f = omega (arith, e, f)
+module _ (g : Over) (c : After-flush g) where
+  -- the store that is flushed
+  abbrev store : LapState g.row.D.Denot
+  store =
+      let a = c.self.inside in
+      record { layout = a.layout; blocks = a.plain.blocks; pending = a.log.pending; number = a.plain.number; loaded = a.plain.loaded; failed = a.failed; disk = a.disk }
+
+  -- the log has the stable groups
+  used : (b : List (List ℕ)) (st : IsStable g.D.Disk.content g.D.Disk.image store b) → length st.groups ≡ c.self.inside.log.used
+  used b st = omega (arith, st.count, c.self.invariant.0.numbers)
+
+  held : (b : List (List ℕ)) (st : IsStable g.D.Disk.content g.D.Disk.image store b) → GroupsAre c.self.inside.log.layout (g.D.Disk.content c.self.inside.disk) 0 st.groups
+  held b st = subst (λ (l : Layout). GroupsAre l (g.D.Disk.content c.self.inside.disk) 0 st.groups) (sym c.self.invariant.0.same_layout) st.file.log
+
+  -- what its flush leaves, done or not
+  left : g.D.Disk.tells → (b : List (List ℕ)) (st : IsStable g.D.Disk.content g.D.Disk.image store b)
+      → LeavesOnly g.D.Disk.moment g.D.Disk.image_since c.self.inside.disk c.flush.new.disk (FlushedSome (g.D.Disk.image c.self.inside.disk) c.self.inside.layout st.groups c.self.inside.log.pending)
+  left told b st =
+      let a = c.self.inside in
+      subst (λ (l : Layout). LeavesOnly g.D.Disk.moment g.D.Disk.image_since a.disk c.flush.new.disk (FlushedSome (g.D.Disk.image a.disk) l st.groups a.log.pending)) c.self.invariant.0.same_layout
+      (c.flush.ensures.any_moment told st.groups (used b st) (held b st))
+
+-- each image then has all groups
+images : (g : Over) (c : In-Ok g) → g.D.Disk.tells → (b : List (List ℕ)) (st : IsStable g.D.Disk.content g.D.Disk.image (store g (goal.at.returns-in-Ok-clause-stable g c).After-flush) b)
+    → (im : List ℕ) → g.D.Disk.image c.flush.new.disk im → IsLap c.self.inside.layout (st.groups ++ c.self.inside.log.pending) im
+images g c told b st =
+    let a = c.self.inside in
+    let new = c.flush.new.disk in
+    let same = c.self.invariant.0.same_layout in
+    let flushing = (goal.at.returns-in-Ok-clause-stable g c).After-flush in
+    let written = subst (λ (l : Layout). GroupsAre l (g.D.Disk.content new) 0 (st.groups ++ a.log.pending)) same (c.in-Ok.ensures.written told st.groups (used g flushing b st) (held g flushing b st)) in
+    let durable = λ (im : List ℕ) (h : g.D.Disk.image new im). subst (λ (l : Layout). SameSlots l.log (g.D.Disk.content new) im) same (c.in-Ok.ensures.durable told im h) in
+    flush_images g.D.Disk.content g.D.Disk.image g.D.Disk.moment g.D.Disk.image_since (store g flushing) b new st (left g flushing told b st) (λ im le h. g.met.D.Disk.now_counts new (g.D.Disk.moment a.disk) im told le h) written durable
 
 pub returns-in-Ok-clause-any_moment : goal.returns-in-Ok-clause-any_moment
 returns-in-Ok-clause-any_moment g c told b = rw (← c.self.view_is) (λ st.
-    let a = c.self.inside in
-    let step = c.self.invariant.0 in
-    let count = counted st.groups (length a.log.pending) a.plain.number a.log.used st.count step.numbers in
-    let log = subst (λ (l : Layout). GroupsAre l (g.D.Disk.content a.disk) 0 st.groups) (sym step.same_layout) st.file.log in
-    let leaves = subst (λ (l : Layout). LeavesOnly g.D.Disk.moment g.D.Disk.image_since a.disk c.flush.new.disk (FlushedSome (g.D.Disk.image a.disk) l st.groups a.log.pending)) step.same_layout (c.flush.ensures.any_moment told st.groups count log) in
-    flush_moments g.D.Disk.content g.D.Disk.image g.D.Disk.moment g.D.Disk.image_since _ _ b st leaves)
+    flush_moments g.D.Disk.content g.D.Disk.image g.D.Disk.moment g.D.Disk.image_since _ _ b st (left g (goal.at.returns-in-Ok-clause-any_moment g c).After-flush told b st))
 
 pub returns-in-Err-clause-any_moment : goal.returns-in-Err-clause-any_moment
 returns-in-Err-clause-any_moment g c told b = rw (← c.self.view_is) (λ st.
-    let a = c.self.inside in
-    let step = c.self.invariant.0 in
-    let count = counted st.groups (length a.log.pending) a.plain.number a.log.used st.count step.numbers in
-    let log = subst (λ (l : Layout). GroupsAre l (g.D.Disk.content a.disk) 0 st.groups) (sym step.same_layout) st.file.log in
-    let leaves = subst (λ (l : Layout). LeavesOnly g.D.Disk.moment g.D.Disk.image_since a.disk c.flush.new.disk (FlushedSome (g.D.Disk.image a.disk) l st.groups a.log.pending)) step.same_layout (c.flush.ensures.any_moment told st.groups count log) in
-    flush_moments g.D.Disk.content g.D.Disk.image g.D.Disk.moment g.D.Disk.image_since _ _ b st leaves)
+    flush_moments g.D.Disk.content g.D.Disk.image g.D.Disk.moment g.D.Disk.image_since _ _ b st (left g (goal.at.returns-in-Err-clause-any_moment g c).After-flush told b st))
 
 pub returns-in-Ok-clause-kept : goal.returns-in-Ok-clause-kept
-returns-in-Ok-clause-kept g c told b = rw (← c.self.view_is) (λ st i here.
-    let a = c.self.inside in
-    let step = c.self.invariant.0 in
-    let count = counted st.groups (length a.log.pending) a.plain.number a.log.used st.count step.numbers in
-    let log = subst (λ (l : Layout). GroupsAre l (g.D.Disk.content a.disk) 0 st.groups) (sym step.same_layout) st.file.log in
-    let leaves = subst (λ (l : Layout). LeavesOnly g.D.Disk.moment g.D.Disk.image_since a.disk c.flush.new.disk (FlushedSome (g.D.Disk.image a.disk) l st.groups a.log.pending)) step.same_layout (c.flush.ensures.any_moment told st.groups count log) in
-    let written = subst (λ (l : Layout). GroupsAre l (g.D.Disk.content c.flush.new.disk) 0 (st.groups ++ a.log.pending)) step.same_layout (c.in-Ok.ensures.written told st.groups count log) in
-    let durable = λ (im : List ℕ) (h : g.D.Disk.image c.flush.new.disk im). subst (λ (l : Layout). SameSlots l.log (g.D.Disk.content c.flush.new.disk) im) step.same_layout (c.in-Ok.ensures.durable told im h) in
-    flush_opens g.D.Disk.content g.D.Disk.image _ b i st
-    (flush_images g.D.Disk.content g.D.Disk.image g.D.Disk.moment g.D.Disk.image_since _ b c.flush.new.disk st leaves (λ im le h. g.met.D.Disk.now_counts c.flush.new.disk (g.D.Disk.moment a.disk) im told le h) written durable i here))
+returns-in-Ok-clause-kept g c told b = rw (← c.self.view_is) (λ st i here. flush_opens g.D.Disk.content g.D.Disk.image _ b i st (images g c told b st i here))
 
 pub returns-in-Ok-clause-stable : goal.returns-in-Ok-clause-stable
 returns-in-Ok-clause-stable g c told b = rw (← c.self.view_is) (λ st ends.
-    let a = c.self.inside in
-    let step = c.self.invariant.0 in
-    let count = counted st.groups (length a.log.pending) a.plain.number a.log.used st.count step.numbers in
-    let log = subst (λ (l : Layout). GroupsAre l (g.D.Disk.content a.disk) 0 st.groups) (sym step.same_layout) st.file.log in
-    let leaves = subst (λ (l : Layout). LeavesOnly g.D.Disk.moment g.D.Disk.image_since a.disk c.flush.new.disk (FlushedSome (g.D.Disk.image a.disk) l st.groups a.log.pending)) step.same_layout (c.flush.ensures.any_moment told st.groups count log) in
-    let written = subst (λ (l : Layout). GroupsAre l (g.D.Disk.content c.flush.new.disk) 0 (st.groups ++ a.log.pending)) step.same_layout (c.in-Ok.ensures.written told st.groups count log) in
-    let durable = λ (im : List ℕ) (h : g.D.Disk.image c.flush.new.disk im). subst (λ (l : Layout). SameSlots l.log (g.D.Disk.content c.flush.new.disk) im) step.same_layout (c.in-Ok.ensures.durable told im h) in
-    let images = flush_images g.D.Disk.content g.D.Disk.image g.D.Disk.moment g.D.Disk.image_since _ b c.flush.new.disk st leaves (λ im le h. g.met.D.Disk.now_counts c.flush.new.disk (g.D.Disk.moment a.disk) im told le h) written durable in
-    flush_stable g.D.Disk.content g.D.Disk.image _ _ b st ends refl refl (ap (λ (l : LogState). l.pending) c.in-Ok.ensures.flushed) refl (images (g.D.Disk.content c.flush.new.disk) (g.met.D.Disk.reads_an_image c.flush.new.disk told)) images)
+    let new = c.flush.new.disk in
+    flush_stable g.D.Disk.content g.D.Disk.image _ _ b st ends refl refl (ap (λ (l : LogState). l.pending) c.in-Ok.ensures.flushed) refl
+    (images g c told b st (g.D.Disk.content new) (g.met.D.Disk.reads_an_image new told)) (images g c told b st))
