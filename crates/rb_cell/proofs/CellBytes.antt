@@ -39,7 +39,7 @@ cell_there block c cell long few sound =
     cell_read (with_cell block c cell) c cell sound (part_written block (cell_place c) (cell_bytes cell) 92 (within block c cell long few sound) (length-cell cell sound))
 
 -- a range within one cell has no byte of another
-apart : (c other start count : ℕ) → cell_place c ≤ start → start + count ≤ cell_place c + 92 → other ≢ c → AreApart (cell_place other) 92 start count
+pub apart : (c other start count : ℕ) → cell_place c ≤ start → start + count ≤ cell_place c + 92 → other ≢ c → AreApart (cell_place other) 92 start count
 apart c other start count from to differ =
     elim (cases_lt other c) [
       | inl lt ↦ inl (omega arith)

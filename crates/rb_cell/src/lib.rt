@@ -9,7 +9,7 @@ mod write;
 
 pub use cell::{Cell, EMPTY, ROW, STUB};
 pub use laws::{cell_in_block, lock_in_block};
-pub use read::cells;
+pub use read::{CellFront, cells, front};
 pub use write::{put_cell, put_lock};
 
 #[cfg(test)]

@@ -211,13 +211,6 @@ impl EngineState {
         self.versions.spare()
     }
 
-    /// Whether a call of the engine's store has failed.
-    pub fn is_stopped(&self) -> bool
-        ensures { result ≡ self.now.state.stopped }
-    {
-        self.stopped
-    }
-
     /// Why the session, the table or the value stands in the way of a write, where it does.
     fn early_refusal(&self, s: u16, table: u16, op: Op<'_>) -> Option<Refusal>
         ensures refused { IfSome result (λ why. (logged room key : ℕ) → call.Refused why ≡ expected self.now.state logged room (call.Write s table key (action_of op.entry))) }

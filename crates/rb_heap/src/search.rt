@@ -3,42 +3,10 @@ ghost use Rattle.std.specs.Prelude.{◌≡◌, ◌<◌, length, IfSome, IfNone};
 ghost use Rattle.rb_cell.specs.Cells.{cell_at};
 ghost use Rattle.rb_heap.specs.Homes.{home_of, is_keyed, is_free, IsFirst, IsNowhere};
 
-use rb_base::u64_at;
-use rb_cell::{EMPTY, ROW, STUB};
+use rb_cell::{EMPTY, ROW, STUB, front};
 
 /// The cells of a block.
 const CELLS: u8 = 16;
-
-/// The bytes in front of a block's cells.
-const HEAD_BYTES: usize = 416;
-
-/// The bytes of a cell.
-const CELL_BYTES: usize = 92;
-
-/// What a search looks at in a cell. The value isn't copied.
-#[derive(Clone, Copy)]
-struct Front {
-    state: u8,
-    lock: u8,
-    key: u64,
-}
-
-/// The front of cell `c`, 0 to 15.
-fn front_of(block: &[u8], c: u8) -> Front
-    requires block { length block.now ≡ 2048 }
-    requires within { c < 16 }
-    ensures state { result.state ≡ (cell_at block.now c).state }
-    ensures lock { result.lock ≡ (cell_at block.now c).lock }
-    ensures key { result.key ≡ (cell_at block.now c).key }
-{
-    let at = HEAD_BYTES + CELL_BYTES * c as usize;
-    let bytes = &block[at..at + CELL_BYTES];
-    Front {
-        state: bytes[0],
-        lock: bytes[1],
-        key: u64_at(bytes, 4),
-    }
-}
 
 /// Whether cell `c`, 0 to 15, is a row or locked, and has that key.
 fn has_key(block: &[u8], c: u8, key: u64) -> bool
@@ -46,7 +14,7 @@ fn has_key(block: &[u8], c: u8, key: u64) -> bool
     requires within { c < 16 }
     ensures { result ≡ is_keyed key (cell_at block.now c) }
 {
-    let cell = front_of(block, c);
+    let cell = front(block, c);
     (cell.state == ROW || cell.lock != 0) && cell.key == key
 }
 
@@ -56,7 +24,7 @@ fn has_room(block: &[u8], c: u8) -> bool
     requires within { c < 16 }
     ensures { result ≡ is_free (cell_at block.now c) }
 {
-    let cell = front_of(block, c);
+    let cell = front(block, c);
     cell.state == EMPTY || cell.state == STUB && cell.lock == 0
 }
 

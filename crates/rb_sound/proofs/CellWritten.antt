@@ -1,6 +1,6 @@
 -- A good cell written into a block of rows that is in order.
 use Rattle.std.proofs.Common.{◌≡◌, ◌≢◌, ℕ, ◌+◌, ◌-◌, ◌%◌, ◌<◌, ◌≤◌, true, false, List, [], ◌∷◌, ◌++◌, length, drop, arith, ap, sym, subst, ◌∙◌, inl, inr}
-use Rattle.std.proofs.lemmas.Bool.{cases_lt, cases_eq, false≢true}
+use Rattle.std.proofs.lemmas.Bool.{cases_eq, false≢true}
 use Rattle.std.proofs.lemmas.List.{drop-take, drop-drop}
 use Rattle.byteorder.specs.Endian.{big_bytes}
 use Rattle.byteorder.specs.Numbers.{big_from-take, big_number-reads_back}
@@ -12,7 +12,7 @@ use Rattle.rb_itl.specs.declared.slots.TheConstants.{FREE}
 use Rattle.rb_itl.specs.Entries.{entry_place, entry_of, entry_at}
 use Rattle.rb_cell.specs.declared.cell.Cell.{Cell}
 use Rattle.rb_cell.specs.Cells.{cell_place, padded, cell_of, cell_at, cell_patch, IsCell}
-use Rattle.rb_cell.proofs.CellBytes.{length-cell, cell_read}
+use Rattle.rb_cell.proofs.CellBytes.{length-cell, cell_read, apart}
 use Rattle.rb_heap.specs.Homes.{is_keyed}
 use Rattle.rb_heap.proofs.Blocks.{block_long}
 use Rattle.rb_sound.specs.Sound.{header_block, commit_logged, commit_number, value_length, slot_wrap, wrap_at, IsEntrySound, IsLock, IsCellSound, IsSegment, IsHomeSound, AreSound}
@@ -29,15 +29,12 @@ record HasCell (block now : List ℕ) (c : ℕ) (cell : Cell) : Type 0 where
   count : value_length now c ≡ length cell.value.items
   counts : (k : ℕ) → k ≢ c → value_length now k ≡ value_length block k
 
--- bytes within those of another cell
-apart : (c other start count : ℕ) → cell_place other ≤ start → start + count ≤ cell_place other + 92 → other ≢ c → AreApart start count (cell_place c) 92
-apart c other start count from to differ =
-    elim (cases_lt other c) [
-      | inl lt ↦ inl (omega arith)
-      | inr le ↦ elim (cases_lt c other) [
-        | inl lt ↦ inr (omega arith)
-        | inr ge ↦ absurd (differ (omega arith))
-      ]
+-- a cell has no byte of the length of another one's value
+length_apart : (c other : ℕ) → other ≢ c → AreApart (cell_place other + 2) 2 (cell_place c) 92
+length_apart c other differ =
+    elim (apart other c (cell_place other + 2) 2 (omega arith) (omega arith) (λ same. differ (sym same))) [
+      | inl before ↦ inr before
+      | inr behind ↦ inl behind
     ]
 
 has_cell : (block : List ℕ) (number which c : ℕ) (cell : Cell) → length block ≡ 2048 → c < 16 → IsCell cell → HasCell block (patched number (cell_patch which c cell) block) c cell
@@ -51,14 +48,14 @@ has_cell block number which c cell long few sound =
     let count = big_number-reads_back 2 (length cell.value.items) (big_bytes 8 cell.key ++ padded cell.value.items) (omega (arith, sound.short_value)) in
     record {
       own = cell_read now c cell sound there;
-      others = λ k differ. ap cell_of (part_kept block number 92 p long within size (cell_place k) 92 (omega arith) (apart c k (cell_place k) 92 (omega arith) (omega arith) differ));
+      others = λ k differ. ap cell_of (part_kept block number 92 p long within size (cell_place k) 92 (omega arith) (apart c k (cell_place c) 92 (omega arith) (omega arith) differ));
       entries = λ i lt. ap entry_of (part_kept block number 92 p long within size (entry_place i) 48 (omega arith) (inl (omega arith)));
       count = sym (ap (λ (l : List ℕ). number_at l 0 2) (drop-drop 2 (cell_place c) now))
           ∙ sym (big_from-take 0 2 90 (drop 2 (drop (cell_place c) now)) (omega arith))
           ∙ sym (ap (λ (l : List ℕ). number_at l 0 2) (drop-take 2 90 (drop (cell_place c) now)))
           ∙ ap (λ (l : List ℕ). number_at l 2 2) there
           ∙ count;
-      counts = λ k differ. number_kept block number 92 p long within size (cell_place k + 2) 2 (omega arith) (apart c k (cell_place k + 2) 2 (omega arith) (omega arith) differ);
+      counts = λ k differ. number_kept block number 92 p long within size (cell_place k + 2) 2 (omega arith) (length_apart c k differ);
     }
 
 lock_kept : (block now : List ℕ) (lock : ℕ) → ((i : ℕ) → i < 8 → entry_at now i ≡ entry_at block i) → IsLock block lock → IsLock now lock

@@ -7,7 +7,7 @@ ghost use Rattle.rb_heap.specs.Homes.{is_keyed};
 ghost use Rattle.rb_sound.specs.Sound.{wrap_in, value_length, IsTaken, IsEntrySound, IsLock, IsCellSound, AreCellsSound, IsHomeSound, IsFirstKeyed, AreKeysApart};
 
 use rb_base::{Scn, Shape, u16_at};
-use rb_cell::{Cell, EMPTY, ROW, STUB, cells};
+use rb_cell::{Cell, EMPTY, ROW, STUB, cells, front};
 use rb_heap::find;
 use rb_itl::{BOUND, Entry, FREE, entry};
 
@@ -141,18 +141,21 @@ fn locks_sound(block: &[u8]) -> bool
     ensures { result ≡ true ↔ ((c : ℕ) → c < 16 → IsLock block.now (cell_at block.now c).lock) }
 {
     for c in 0..CELLS {
-        if !lock_sound(block, cells(block, c).lock) {
+        if !lock_sound(block, front(block, c).lock) {
             return false;
         }
     }
     true
 }
 
-/// Whether a cell is a row or locked, so that no other one may have its key.
-fn has_own_key(cell: &Cell) -> bool
-    ensures { result ≡ is_keyed cell.now.key cell.now }
+/// Whether cell `c`, 0 to 15, is a row or locked, so that no other one may have its key.
+fn has_own_key(block: &[u8], c: u8) -> bool
+    requires block { length block.now ≡ 2048 }
+    requires place { c < 16 }
+    ensures { result ≡ is_keyed (cell_at block.now c).key (cell_at block.now c) }
 {
-    cell.state == ROW || cell.lock != 0
+    let front = front(block, c);
+    front.state == ROW || front.lock != 0
 }
 
 /// Whether cell `c`, 0 to 15, is neither a row nor locked, or is the first one of those that are with its key.
@@ -161,8 +164,7 @@ fn key_is_first(block: &[u8], c: u8) -> bool
     requires place { c < 16 }
     ensures { result ≡ true ↔ IsFirstKeyed block.now c }
 {
-    let cell = cells(block, c);
-    !has_own_key(&cell) || find(block, cell.key) == Some(c)
+    !has_own_key(block, c) || find(block, front(block, c).key) == Some(c)
 }
 
 /// Whether of the cells that are rows or locked no two have one key.
