@@ -1,5 +1,5 @@
-use Rattle.rb_store.specs.OneOpening.{one_opening as opens_once}
+use Rattle.rb_store.specs.OneOpening.{one_opening}
 use Rattle.rb_store.proofs.laws.one_opening.Goals as goal
 
 pub returns : goal.returns
-returns c = λ l file first second one two. (opens_once l l file first second one two).blocks
+returns c = λ l file first second one two. (one_opening l l file first second one two).blocks

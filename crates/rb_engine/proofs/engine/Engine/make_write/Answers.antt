@@ -1,4 +1,4 @@
-use Rattle.std.proofs.Common.{◌≡◌, ◌≢◌, ◌≤◌, List, length, true, false, not, refl, arith, ap, sym, ◌∙◌, subst}
+use Rattle.std.proofs.Common.{◌≡◌, ◌≢◌, ◌≤◌, List, length, is_some, true, false, not, refl, arith, ap, sym, ◌∙◌, subst}
 use Rattle.std.specs.Prelude.{Err}
 use Rattle.std.proofs.lemmas.Bool.{false≢true}
 use Rattle.std.specs.List.{list_any}
@@ -6,6 +6,7 @@ use Rattle.rb_base.specs.Blocks.{commit_block, patches_block, IsShape}
 use Rattle.rb_base.specs.Groups.{Patch}
 use Rattle.rb_base.specs.declared.ids.Shape.{Shape}
 use Rattle.rb_base.specs.declared.ids.Xid.{Xid}
+use Rattle.rb_write.specs.Values.{home_at, value_at, IsPlainHome}
 use Rattle.rb_write.specs.Writes.{has_failed}
 use Rattle.rb_model.specs.Answers.{action_of}
 use Rattle.rb_model.specs.Full.{used_keys}
@@ -75,37 +76,35 @@ invariant_of-self-in-Err g c =
     in_step_refused g.T.Store c.self.inside.state c.refuse.new.state c.self.inside.store c.attempt.new.store c.in-Err.fault c.refuse.result c.refuse.ensures.why c.refuse.ensures.state c.refuse.ensures.spare
     c.attempt.ensures.shape c.attempt.ensures.slots c.in-Err.ensures.refused_number c.in-Err.ensures.failed c.in-Err.ensures.refused_blocks c.self.invariant
 
+-- the blocks have a row of the key just where the write adds none
+there : (g : Over) (c : goal.After-refuse g) → g.T.Store.tells → IsPlainHome (home_at (g.T.Store.shape_of c.self.inside.store) (g.T.Store.blocks c.self.inside.store) c.args.table c.args.key)
+    × (is_some (value_at (g.T.Store.shape_of c.self.inside.store) (g.T.Store.blocks c.self.inside.store) c.args.table c.args.key) ≡ not (adds (action_of c.args.op)))
+there g c told =
+    let shape = g.T.Store.shape_of c.self.inside.store in
+    let blocks = g.T.Store.blocks c.self.inside.store in
+    let step = c.self.invariant in
+    let h = c.self.inside.state.state in
+    let going = rw (← c.self.view_is) at c.requires.going in
+    let table = rw (← c.self.view_is) at c.requires.table in
+    let row = rw (← c.self.view_is) at c.requires.row in
+    let held = subst (λ (x : Shape). Holds x blocks (last_number h.commits) (rows_now h 1)) (sym step.same_shape) (step.holds told going) in
+    let first = subst (λ (x : Shape). 1 ≤ x.blocks) (sym step.same_shape) step.in_range.few_blocks.0 in
+    let last = subst (λ (x : Shape). c.args.table ≤ x.tables) (sym step.same_shape) table.1 in (
+      plain_there shape blocks (last_number h.commits) (rows_now h 1) c.args.table c.args.key held first table.0 last,
+      row_there shape blocks (last_number h.commits) (rows_now h 1) c.args.table c.args.key held first table.0 last ∙ row,
+    )
+
 -- over blocks that hold the rows, nothing but a call that failed stands in the way
 failed : (g : Over) (c : goal.After-refuse g) (fault : AttemptFault) → fault ≡ c.in-Err.fault → g.T.Store.tells → fault ≡ Failed
 failed g c Failed is told = refl
 failed g c Duplicate is told =
-    let s = g.T.Store in
-    let step = c.self.invariant in
-    let h = c.self.inside.state.state in
-    let going = rw (← c.self.view_is) at c.requires.going in
-    let table = rw (← c.self.view_is) at c.requires.table in
-    let row = rw (← c.self.view_is) at c.requires.row in
-    let held = subst (λ (x : Shape). Holds x (s.blocks c.self.inside.store) (last_number h.commits) (rows_now h 1)) (sym step.same_shape) (step.holds told going) in
-    let first = subst (λ (x : Shape). 1 ≤ x.blocks) (sym step.same_shape) step.in_range.few_blocks.0 in
-    let last = subst (λ (x : Shape). c.args.table ≤ x.tables) (sym step.same_shape) table.1 in
-    let refused = c.in-Err.ensures.duplicate told (plain_there (s.shape_of c.self.inside.store) (s.blocks c.self.inside.store) (last_number h.commits) (rows_now h 1) c.args.table c.args.key held first table.0 last) (ap Err (sym is)) in
+    let refused = c.in-Err.ensures.duplicate told (there g c told).0 (ap Err (sym is)) in
     let inserts : adds (action_of c.args.op) ≡ true = sym (adds_same c.args.op) ∙ refused.0 in
-    let there = row_there (s.shape_of c.self.inside.store) (s.blocks c.self.inside.store) (last_number h.commits) (rows_now h 1) c.args.table c.args.key held first table.0 last in
-    absurd (false≢true (sym (row ∙ ap not inserts) ∙ sym there ∙ refused.1))
+    absurd (false≢true (sym (ap not inserts) ∙ sym (there g c told).1 ∙ refused.1))
 failed g c NotFound is told =
-    let s = g.T.Store in
-    let step = c.self.invariant in
-    let h = c.self.inside.state.state in
-    let going = rw (← c.self.view_is) at c.requires.going in
-    let table = rw (← c.self.view_is) at c.requires.table in
-    let row = rw (← c.self.view_is) at c.requires.row in
-    let held = subst (λ (x : Shape). Holds x (s.blocks c.self.inside.store) (last_number h.commits) (rows_now h 1)) (sym step.same_shape) (step.holds told going) in
-    let first = subst (λ (x : Shape). 1 ≤ x.blocks) (sym step.same_shape) step.in_range.few_blocks.0 in
-    let last = subst (λ (x : Shape). c.args.table ≤ x.tables) (sym step.same_shape) table.1 in
     let refused = c.in-Err.ensures.not_found told (ap Err (sym is)) in
     let other : adds (action_of c.args.op) ≡ false = sym (adds_same c.args.op) ∙ refused.0 in
-    let there = row_there (s.shape_of c.self.inside.store) (s.blocks c.self.inside.store) (last_number h.commits) (rows_now h 1) c.args.table c.args.key held first table.0 last in
-    absurd (false≢true (sym refused.1 ∙ there ∙ row ∙ ap not other))
+    absurd (false≢true (sym refused.1 ∙ (there g c told).1 ∙ ap not other))
 failed g c BlockFull is told =
     let s = g.T.Store in
     let step = c.self.invariant in
