@@ -37,7 +37,7 @@ group_others number other [] blocks apart = refl
 group_others number other (p ∷ group) blocks apart = group_others number other group (after_patch number p blocks) apart.1 ∙ patch_others number p blocks other (λ same. apart.0 (sym same))
 
 -- a patch leaves as many blocks, and so does a group, whatever it patches
-patch_count : (number : ℕ) (p : Patch) (blocks : List (List ℕ)) → length (after_patch number p blocks) ≡ length blocks
+pub patch_count : (number : ℕ) (p : Patch) (blocks : List (List ℕ)) → length (after_patch number p blocks) ≡ length blocks
 patch_count number p blocks = length-set blocks p.block (patched number p (block_of blocks p.block))
 
 pub group_count : (number : ℕ) (group : List Patch) (blocks : List (List ℕ)) → length (after_group number group blocks) ≡ length blocks

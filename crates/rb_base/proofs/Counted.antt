@@ -5,7 +5,7 @@ use Rattle.std.proofs.lemmas.List.{length-append, nil_from_length, flat_map_more
 use Rattle.std.proofs.lemmas.List.Sums.{sum_by-cons}
 use Rattle.std.specs.List.{flat_map, sum_by, AllByRecursion}
 use Rattle.byteorder.specs.Endian.{big_bytes}
-pub use Rattle.rb_base.proofs.Each.{all_push}
+use Rattle.rb_base.proofs.Each.{all_push}
 use Rattle.rb_base.proofs.Fronts.{number_apart}
 
 -- no spelling begins another

@@ -219,12 +219,3 @@ module _ {S : Type 0} (s : Ghosts S) (slots : Option ℕ) (h : State) (old new :
           (λ (r : Restarts (opens_of s slots) h i). whole (restarts_same (opens_of s slots) h (record h { stopped = true }) i refl refl r))
           (λ (r : Restarts (opens_of s slots) (committed h 1) i). one_more 1 refl some (restarts_same (opens_of s slots) (committed h 1) (committed (record h { stopped = true }) 1) i refl refl r))
           (which i cut)
-
--- over calls, and then others, as their clauses tell it
-pub survives_after : {S : Type 0} (s : Ghosts S) (slots slots2 : Option ℕ) (h m h2 : State) (old mid new : S) → slots2 ≡ slots → m.stopped ≡ false
-    → (Stands s h old → Survives s slots h m old mid) → (Stands s m mid → Survives s slots2 m h2 mid new)
-    → Stands s h old → Survives s slots h h2 old new
-survives_after s slots slots2 h m h2 old mid new same going first second stands =
-    let a = first stands in
-    survives_on s slots h m h2 old mid new going a
-    (subst (λ (x : Option ℕ). Survives s x m h2 mid new) same (second (a.stands going)))

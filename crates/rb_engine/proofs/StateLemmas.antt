@@ -210,7 +210,3 @@ view-close a kept s name i cs v e place f =
     rw (cursors) refl
     ∙ ap (λ (k : Kept). after_grant k.state (call.CloseCursor 1 name)) v
     ∙ ap (λ n. after_grant kept.state (call.CloseCursor n name)) (sym e)
-
--- a cursor in order stays so
-pub mark_opened : (base base_length : ℕ) (ends : List ℕ) (count : ℕ) (c : OpenCursor) (last : Option ℕ) → IsOpened base base_length ends count c → IsOpened base base_length ends count (record c { last = last })
-mark_opened base base_length ends count c last o = record { no_earlier = o.no_earlier; no_later = o.no_later; sees_commits = o.sees_commits; within = o.within }

@@ -20,9 +20,6 @@ use Rattle.rb_engine.proofs.FullLemmas.{distinct_within, is_of, rows_last, uses,
 pub used_same : (h g : State) (t k : ℕ) → h.shape ≡ g.shape → h.commits ≡ g.commits → held h ≡ held g → used_keys h t k ≡ used_keys g t k
 used_same h g t k shape commits own = rw (shape, commits, own) refl
 
-pub full_same : (h g : State) (t k : ℕ) → h.shape ≡ g.shape → h.commits ≡ g.commits → held h ≡ held g → full_block h t k ≡ full_block g t k
-full_same h g t k shape commits own = rw (used_same h g t k shape commits own) refl
-
 -- what one session holds
 pub held_one : (h : State) (s : Session) → h.sessions ≡ s ∷ [] → held h ≡ (session_of h 1).own
 held_one h s one = rw (one) (append-nil s.own)

@@ -2,7 +2,7 @@
 use Rattle.std.proofs.Common.{◌≡◌, ℕ, ◌<◌, List, [], ◌∷◌, arith, ap, ◌∙◌}
 use Rattle.rb_base.specs.declared.ids.Shape.{Shape}
 use Rattle.rb_base.specs.Blocks.{block_of, after_patch, after_group, shape_blocks, AreBlocks}
-pub use Rattle.rb_base.proofs.Blocks.{block_long}
+use Rattle.rb_base.proofs.Blocks.{block_long}
 use Rattle.rb_base.proofs.Blocks.{patch_own, patch_keeps}
 use Rattle.rb_cell.specs.declared.cell.Cell.{Cell}
 use Rattle.rb_cell.specs.Cells.{cell_patch, lock_patch, IsCell}

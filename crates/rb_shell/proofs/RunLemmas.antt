@@ -111,9 +111,6 @@ module _ {D : Type 0} (content : D → List ℕ) (image : D → List ℕ → Typ
     none = λ nothing. still;
   }
 
-  pub no_call : Rests content image moment since old old
-  no_call = record { same = refl; no_more = λ c now. now; later = omega arith; nothing_else = λ t c le left. inl left }
-
   -- an engine over it
   pub has_opened : (s : LapState D) (e : EngineView (LapState D)) → Found content image moment since old s → Loaded content image moment since s e.store → OpensAs (shape_of s.layout) s.blocks e.state
       → CanOpen (shape_of s.layout) s.blocks s.number → e.store.number ≡ s.number → HasOpened content image moment since old e

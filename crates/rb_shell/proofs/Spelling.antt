@@ -143,13 +143,6 @@ same_file version words l m asked also =
     let same = same_layout words l m asked also in
     rw (same.0, same.1, same.2, same.3) refl
 
--- the same words ask for one run
-pub same_run : (words : List (String Global)) (m n : ℕ) → IsRun words m → IsRun words n → m ≡ n
-same_run words m n asked also =
-    let both : run_words asked.file m ≡ run_words also.file n = (sym asked.spelled ∙ also.spelled) in
-    let behind : codes "frames=" ++ decimal m ≡ codes "frames=" ++ decimal n = cc in
-    same_number (codes "frames=" ++ decimal m) (codes "frames=") m n (omega (arith, asked.few.1)) (omega (arith, also.few.1)) refl behind
-
 -- no words ask for both
 pub not_both : (words : List (String Global)) (l : Layout) (n : ℕ) → IsFormat words l → IsRun words n → ⊥
 not_both words l n asked also =

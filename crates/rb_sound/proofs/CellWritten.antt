@@ -14,7 +14,7 @@ use Rattle.rb_cell.specs.declared.cell.Cell.{Cell}
 use Rattle.rb_cell.specs.Cells.{cell_place, padded, cell_of, cell_at, cell_patch, IsCell}
 use Rattle.rb_cell.proofs.CellBytes.{length-cell, cell_read, apart}
 use Rattle.rb_heap.specs.Homes.{is_keyed}
-use Rattle.rb_heap.proofs.Blocks.{block_long}
+use Rattle.rb_base.proofs.Blocks.{block_long}
 use Rattle.rb_sound.specs.Sound.{header_block, commit_logged, commit_number, value_length, slot_wrap, wrap_at, IsEntrySound, IsLock, IsCellSound, IsSegment, IsHomeSound, AreSound}
 use Rattle.rb_sound.proofs.Greatest.{commit_same}
 use Rattle.rb_sound.proofs.Kept.{all_kept, segment_later}

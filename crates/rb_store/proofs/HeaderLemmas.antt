@@ -1,13 +1,13 @@
 -- Each commit writes its log number in front of the block that all commits patch.
-use Rattle.std.proofs.Common.{◌≡◌, ◌||◌, ⊎_elim, inl, inr, ℕ, zero, suc, ◌+◌, ◌<◌, ◌≤◌, ◌==◌, Bool, true, false, cond, List, [], ◌∷◌, length, refl, arith, ap, sym, ◌∙◌}
+use Rattle.std.proofs.Common.{◌≡◌, ◌||◌, ⊎_elim, inl, inr, ℕ, ◌+◌, ◌<◌, ◌≤◌, ◌==◌, Bool, true, false, cond, List, [], ◌∷◌, length, refl, arith, ap, sym, ◌∙◌}
 use Rattle.std.specs.List.{list_any}
 use Rattle.std.proofs.lemmas.Bool.{eqb-true, cases_Bool, cases_eq}
-use Rattle.std.proofs.lemmas.List.{length-set, get_or-set_other}
 use Rattle.std.proofs.lemmas.Grind.{get_or-set_at}
-use Rattle.rb_base.specs.Blocks.{block_of, commit_block, patched, after_patch, after_group, after_groups, patches_block, up_to_last, fresh_block, fresh_from, fresh_blocks, shape_blocks}
+use Rattle.rb_base.specs.Blocks.{block_of, commit_block, patched, after_patch, after_group, after_groups, patches_block, up_to_last, fresh_block, fresh_blocks, shape_blocks}
 use Rattle.rb_base.specs.Fields.{number_at}
 use Rattle.rb_base.specs.Groups.{Patch}
 use Rattle.rb_base.specs.declared.ids.Shape.{Shape}
+use Rattle.rb_base.proofs.Blocks.{patch_count, patch_others, group_count, fresh_count, fresh_at}
 use Rattle.rb_base.proofs.Commits.{cut_twice}
 use Rattle.rb_layout.specs.Regions.{shape_of}
 use Rattle.rb_layout.specs.declared.layout.Layout.{Layout}
@@ -20,18 +20,12 @@ patch_here : (number : ℕ) (p : Patch) (blocks : List (List ℕ)) (which : ℕ)
 patch_here number p blocks which few lt is =
     ap (λ (block : List ℕ). number_at block 0 8) (get_or-set_at blocks p.block which (patched number p (block_of blocks p.block)) [] (sym is) (omega (arith, lt, is))) ∙ patched_number number p (block_of blocks p.block) few
 
-patch_there : (number : ℕ) (p : Patch) (blocks : List (List ℕ)) (which : ℕ) → (p.block ≡ which → ⊥) → block_of (after_patch number p blocks) which ≡ block_of blocks which
-patch_there number p blocks which other = get_or-set_other blocks p.block which (patched number p (block_of blocks p.block)) [] (λ is. other (sym is))
-
-patch_count : (number : ℕ) (p : Patch) (blocks : List (List ℕ)) → length (after_patch number p blocks) ≡ length blocks
-patch_count number p blocks = length-set blocks p.block (patched number p (block_of blocks p.block))
-
 -- what is there already stays
 group_keeps : (number : ℕ) (group : List Patch) (blocks : List (List ℕ)) (which : ℕ) → number ≤ 4096 → which < length blocks → number_at (block_of blocks which) 0 8 ≡ number → number_at (block_of (after_group number group blocks) which) 0 8 ≡ number
 group_keeps number [] blocks which few lt is = is
 group_keeps number (p ∷ patches) blocks which few lt is =
     group_keeps number patches (after_patch number p blocks) which few (omega (arith, lt, patch_count number p blocks))
-    (⊎_elim (λ here. patch_here number p blocks which few lt here) (λ other. ap (λ (block : List ℕ). number_at block 0 8) (patch_there number p blocks which other) ∙ is) (cases_eq p.block which))
+    (⊎_elim (λ here. patch_here number p blocks which few lt here) (λ other. ap (λ (block : List ℕ). number_at block 0 8) (patch_others number p blocks which (λ is. other (sym is))) ∙ is) (cases_eq p.block which))
 
 -- a group that patches the block leaves its number there
 group_numbers : (number : ℕ) (group : List Patch) (blocks : List (List ℕ)) (which : ℕ) → number ≤ 4096 → which < length blocks → patches_block which group ≡ true → number_at (block_of (after_group number group blocks) which) 0 8 ≡ number
@@ -43,10 +37,6 @@ group_numbers number (p ∷ patches) blocks which few lt commits =
       | inl e ↦ group_keeps number patches now which few below (patch_here number p blocks which few lt (eqb-true p.block which e))
       | inr e ↦ group_numbers number patches now which few below (sym (ap (λ (b : Bool). b || list_any (λ (q : Patch). q.block == which) patches) e) ∙ commits)
     ]
-
-group_count : (number : ℕ) (group : List Patch) (blocks : List (List ℕ)) → length (after_group number group blocks) ≡ length blocks
-group_count number [] blocks = refl
-group_count number (p ∷ patches) blocks = group_count number patches (after_patch number p blocks) ∙ patch_count number p blocks
 
 -- groups up to a last commit leave its number there
 whole_any : (which : ℕ) (group : List Patch) (kept groups : List (List Patch)) (any : Bool) → cond any (group ∷ kept) [] ≡ group ∷ groups → (any ≡ true) × (kept ≡ groups)
@@ -67,17 +57,8 @@ groups_number first group (next ∷ groups) blocks which few lt whole =
     groups_number (first + 1) next groups (after_group first group blocks) which (omega (arith, few)) (omega (arith, lt, group_count first group blocks)) any.1 ∙ omega arith
 
 -- no block of a new file has a number
-fresh_at : (shape : Shape) (first count i : ℕ) → i < count → block_of (fresh_from shape first count) i ≡ fresh_block shape (first + i)
-fresh_at shape first zero i lt = absurd (omega arith)
-fresh_at shape first (suc count) zero lt = ap (fresh_block shape) (omega arith)
-fresh_at shape first (suc count) (suc i) lt = fresh_at shape (first + 1) count i (omega arith) ∙ ap (fresh_block shape) (omega arith)
-
 fresh_number : (shape : Shape) (which : ℕ) → number_at (fresh_block shape which) 0 8 ≡ 0
 fresh_number shape which = refl
-
-fresh_count : (shape : Shape) (first count : ℕ) → length (fresh_from shape first count) ≡ count
-fresh_count shape first zero = refl
-fresh_count shape first (suc count) = let e = fresh_count shape (first + 1) count in omega (arith, e)
 
 -- there are fewer groups than slots
 log_count : (l : Layout) (file : List ℕ) (slot : ℕ) (groups : List (List Patch)) → slot < l.log → GroupsAre l file slot groups → slot + length groups < l.log

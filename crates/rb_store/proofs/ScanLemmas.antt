@@ -5,7 +5,7 @@ use Rattle.std.specs.List.{AllByRecursion}
 use Rattle.rb_base.specs.Blocks.{after_groups, commit_block, fresh_blocks, patches_block}
 use Rattle.rb_base.specs.Groups.{Patch}
 use Rattle.rb_base.proofs.Commits.{after_joined, commit_behind, other_behind}
-use Rattle.rb_base.proofs.Counted.{all_push}
+use Rattle.rb_base.proofs.Each.{all_push}
 use Rattle.rb_layout.specs.Regions.{shape_of}
 use Rattle.rb_layout.specs.declared.layout.Layout.{Layout}
 use Rattle.rb_log.specs.GroupLaws.{begins_more_group, begins_end_group}
