@@ -1,5 +1,6 @@
 pub mod Cuts
+pub mod Dids
 pub mod Outs
-pub mod Runs
-pub mod Pieces
 pub mod Parts
+pub mod Pieces
+pub mod Runs

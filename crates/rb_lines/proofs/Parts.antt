@@ -1,100 +1,173 @@
 -- What a run has done with the bytes taken so far.
-use Rattle.std.proofs.Common.{◌≡◌, ℕ, ◌+◌, ◌-◌, ◌≤◌, false, List, [], ◌++◌, length, take, Result, Err, refl, sym, ◌∙◌, ap, subst, arith, append_assoc, append-nil, length-append}
+use Rattle.std.proofs.Common.{◌≡◌, ℕ, ◌+◌, ◌-◌, ◌≤◌, false, true, List, [], ◌++◌, length, take, Result, Ok, Err, refl, sym, ◌∙◌, ap, subst, arith, append_assoc, append-nil, length-append}
 use Rattle.rb_model.specs.Lines.{lines_of}
 use Rattle.rb_model.specs.Out.{Logged}
-use Rattle.rb_lines.specs.declared.machine.StepFault.{StepFault}
-use Rattle.rb_lines.specs.Ran.{Ran, RanAs}
+use Rattle.rb_lines.specs.declared.runner.StepFault.{StepFault}
+use Rattle.rb_lines.specs.declared.runner.StepFault.TheVariants.{Disk, Sink}
+use Rattle.rb_lines.specs.Ends.{Halted, WholeRan}
+use Rattle.rb_lines.specs.Ran.{Did, Ran, RanAs, CutOff}
 use Rattle.rb_lines.specs.Pieces.{lines_from, rest_from, last_of}
 use Rattle.rb_lines.specs.Whole.{whole_lines}
 use Rattle.rb_lines.proofs.Cuts.{lines-append, rest-append, lines_of-parts, whole_lines-pieces}
+use Rattle.rb_lines.proofs.Dids.{did_as, did_on}
 use Rattle.rb_lines.proofs.Runs.{ran_none, ran-append, as-append, as_more}
 
--- `room` more bytes may be taken of a thousand million; `kept` is the front of the line under way
-pub record Part (slots : ℕ) (before now : Logged) (tells : Type 0) (held_before held_now left_before left_now kept : List ℕ) (room : ℕ) : Type 0 where
-  pub taken : List ℕ
-  pub size : length taken + room ≡ 1000000000
-  pub split : left_before ≡ taken ++ left_now
-  pub rest : kept ≡ take 513 (rest_from [] taken)
-  pub ran : Ran slots before now (lines_from [] taken) tells held_before held_now
+-- all lines of the bytes of which one piece was taken and then another
+lines_of_pieces : (first piece left : List ℕ)
+    → lines_of (first ++ (piece ++ left)) ≡ (lines_from [] first ++ lines_from (rest_from [] first) piece)
+    ++ (lines_from (rest_from (rest_from [] first) piece) left ++ last_of (rest_from (rest_from (rest_from [] first) piece) left))
+lines_of_pieces first piece left =
+    let rest : List ℕ = rest_from [] first in
+    let bytes : first ++ (piece ++ left) ≡ (first ++ piece) ++ left = sym (append_assoc first piece left) in
+    let restis : rest_from [] (first ++ piece) ≡ rest_from rest piece = rest-append [] first piece in
+    let linesare : lines_from [] ((first ++ piece) ++ left) ≡ (lines_from [] first ++ lines_from rest piece) ++ lines_from (rest_from rest piece) left =
+    lines-append [] (first ++ piece) left
+    ∙ ap (λ (l : List ℕ). lines_from [] (first ++ piece) ++ lines_from l left) restis
+    ∙ ap (λ (ls : List (List ℕ)). ls ++ lines_from (rest_from rest piece) left) (lines-append [] first piece) in
+    let lastis : rest_from [] ((first ++ piece) ++ left) ≡ rest_from (rest_from rest piece) left =
+    rest-append [] (first ++ piece) left ∙ ap (λ (l : List ℕ). rest_from l left) restis in
+    ap lines_of bytes ∙ lines_of-parts ((first ++ piece) ++ left)
+    ∙ ap (λ (l : List ℕ). lines_from [] ((first ++ piece) ++ left) ++ last_of l) lastis
+    ∙ ap (λ (ls : List (List ℕ)). ls ++ last_of (rest_from (rest_from rest piece) left)) linesare
+    ∙ append_assoc (lines_from [] first ++ lines_from rest piece) (lines_from (rest_from rest piece) left) (last_of (rest_from (rest_from rest piece) left))
 
-pub part_start : (slots : ℕ) (h : Logged) (tells : Type 0) (held left kept : List ℕ) → kept ≡ [] → Part slots h h tells held held left left kept 1000000000
-part_start slots h tells held left kept e = record {
-  taken = [];
-  size = omega arith;
-  split = refl;
-  rest = e;
-  ran = ran_none slots h tells held;
-}
+module _ {M : Type 0} (stands : M → Logged → Type 0) (since : M → M → Logged → Logged → Type 0) where
+  -- `room` more bytes may be taken of a thousand million; `kept` is the front of the line under way
+  pub record Part (old new : M) (slots : ℕ) (tells : Type 0) (held_before held_now left_before left_now kept : List ℕ) (room : ℕ) : Type 0 where
+    pub taken : List ℕ
+    pub size : length taken + room ≡ 1000000000
+    pub split : left_before ≡ taken ++ left_now
+    pub rest : kept ≡ take 513 (rest_from [] taken)
+    pub did : (m : Logged) → stands old m → m.state.stopped ≡ false
+        → Did stands since old new m (λ now. RanAs slots m now (lines_from [] taken) tells held_before held_now (Ok tt))
 
--- one more piece of n bytes
-pub part_more : (slots slots1 : ℕ) (h m h2 : Logged) (tells : Type 0) (held held1 held2 left left1 left2 kept kept2 : List ℕ) (room n : ℕ) (piece : List ℕ)
-    → (p : Part slots h m tells held held1 left left1 kept room) → m.state.stopped ≡ false → slots1 ≡ slots
-    → n ≤ room → length piece ≡ n → left1 ≡ piece ++ left2
-    → Ran slots1 m h2 (lines_from (rest_from [] p.taken) piece) tells held1 held2
-    → kept2 ≡ take 513 (rest_from (rest_from [] p.taken) piece)
-    → Part slots h h2 tells held held2 left left2 kept2 (room - n)
-part_more slots slots1 h m h2 tells held held1 held2 left left1 left2 kept kept2 room n piece p going same le size split ran rest = record {
-  taken = p.taken ++ piece;
-  size = omega (arith, p.size, length-append p.taken piece);
-  split = p.split ∙ ap (λ (l : List ℕ). p.taken ++ l) split ∙ sym (append_assoc p.taken piece left2);
-  rest = rest ∙ ap (λ (l : List ℕ). take 513 l) (sym (rest-append [] p.taken piece));
-  ran = subst (λ (ls : List (List ℕ)). Ran slots h h2 ls tells held held2) (sym (lines-append [] p.taken piece))
-      (ran-append slots h m h2 _ _ tells held held1 held2 p.ran going
-      (subst (λ (s : ℕ). Ran s m h2 (lines_from (rest_from [] p.taken) piece) tells held1 held2) same ran));
-}
+  pub part_start : (old : M) (slots : ℕ) (tells : Type 0) (held left kept : List ℕ) → ((m : Logged) → stands old m → m.state.stopped ≡ false → since old old m m)
+      → kept ≡ [] → Part old old slots tells held held left left kept 1000000000
+  part_start old slots tells held left kept same e = record {
+    taken = [];
+    size = omega arith;
+    split = refl;
+    rest = e;
+    did = λ m is going. record { now = m; reached = is; passed = same m is going; ran = (ran_none slots m tells held, going) };
+  }
 
--- the end of the input, with its last line
-pub part_end : (slots slots1 : ℕ) (h m h2 : Logged) (tells : Type 0) (held held1 held2 left left1 kept : List ℕ) (room : ℕ) (r1 r : Result (Unit {0}) StepFault)
-    → (p : Part slots h m tells held held1 left left1 kept room) → m.state.stopped ≡ false → slots1 ≡ slots → left1 ≡ [] → r1 ≡ r
-    → RanAs slots1 m h2 (last_of (rest_from [] p.taken)) tells held1 held2 r1
-    → RanAs slots h h2 (lines_of left) tells held held2 r
-part_end slots slots1 h m h2 tells held held1 held2 left left1 kept room r1 r p going same none is ran =
-    let whole : left ≡ p.taken = p.split ∙ ap (λ (l : List ℕ). p.taken ++ l) none ∙ append-nil p.taken in
-    subst (λ (ls : List (List ℕ)). RanAs slots h h2 ls tells held held2 r) (sym (ap lines_of whole ∙ lines_of-parts p.taken))
-    (as-append slots h m h2 _ _ tells held held1 held2 r p.ran going
-    (subst (λ (s : ℕ). RanAs s m h2 (last_of (rest_from [] p.taken)) tells held1 held2 r) same
-    (subst (λ (x : Result (Unit {0}) StepFault). RanAs slots1 m h2 (last_of (rest_from [] p.taken)) tells held1 held2 x) is ran)))
+  -- one more piece of n bytes
+  pub part_more : (old mid new : M) (slots slots1 : ℕ) (tells : Type 0) (held held1 held2 left left1 left2 kept kept2 : List ℕ) (room n : ℕ) (piece : List ℕ)
+      → ((a b c : M) (h n k : Logged) → n.state.stopped ≡ false → since a b h n → since b c n k → since a c h k)
+      → (p : Part old mid slots tells held held1 left left1 kept room) → slots1 ≡ slots
+      → n ≤ room → length piece ≡ n → left1 ≡ piece ++ left2
+      → ((m : Logged) → stands mid m → m.state.stopped ≡ false
+      → Did stands since mid new m (λ now. RanAs slots1 m now (lines_from (rest_from [] p.taken) piece) tells held1 held2 (Ok tt)))
+      → kept2 ≡ take 513 (rest_from (rest_from [] p.taken) piece)
+      → Part old new slots tells held held2 left left2 kept2 (room - n)
+  part_more old mid new slots slots1 tells held held1 held2 left left1 left2 kept kept2 room n piece joined p same le size split more rest = record {
+    taken = p.taken ++ piece;
+    size = omega (arith, p.size, length-append p.taken piece);
+    split = p.split ∙ ap (λ (l : List ℕ). p.taken ++ l) split ∙ sym (append_assoc p.taken piece left2);
+    rest = rest ∙ ap (λ (l : List ℕ). take 513 l) (sym (rest-append [] p.taken piece));
+    did = λ m is going. did_on old mid new m _ _ _ joined (p.did m is going) (λ k so_far. so_far.1) more
+        (λ k h2 so_far next. subst (λ (ls : List (List ℕ)). RanAs slots m h2 ls tells held held2 (Ok tt)) (sym (lines-append [] p.taken piece))
+        (as-append slots m k h2 _ _ tells held held1 held2 (Ok tt) so_far.0 so_far.1
+        (subst (λ (s : ℕ). RanAs s k h2 (lines_from (rest_from [] p.taken) piece) tells held1 held2 (Ok tt)) same next)));
+  }
 
--- a fault in a piece
-pub part_fault : (slots slots1 : ℕ) (h m h2 : Logged) (tells : Type 0) (held held1 held2 left left1 left2 kept : List ℕ) (room : ℕ) (piece : List ℕ) (fault1 fault : StepFault)
-    → (p : Part slots h m tells held held1 left left1 kept room) → h.state.stopped ≡ false → m.state.stopped ≡ false → slots1 ≡ slots → left1 ≡ piece ++ left2 → fault1 ≡ fault
-    → RanAs slots1 m h2 (lines_from (rest_from [] p.taken) piece) tells held1 held2 (Err fault1)
-    → RanAs slots h h2 (lines_of left) tells held held2 (Err fault)
-part_fault slots slots1 h m h2 tells held held1 held2 left left1 left2 kept room piece fault1 fault p begun going same split is ran =
-    let rest : List ℕ = rest_from [] p.taken in
-    let more : List (List ℕ) = lines_from (rest_from rest piece) left2 ++ last_of (rest_from (rest_from rest piece) left2) in
-    let here : RanAs slots h h2 (lines_from [] p.taken ++ lines_from rest piece) tells held held2 (Err fault) =
-    as-append slots h m h2 _ _ tells held held1 held2 (Err fault) p.ran going
-    (subst (λ (s : ℕ). RanAs s m h2 (lines_from rest piece) tells held1 held2 (Err fault)) same
-    (subst (λ (x : StepFault). RanAs slots1 m h2 (lines_from rest piece) tells held1 held2 (Err x)) is ran)) in
-    let bytes : left ≡ (p.taken ++ piece) ++ left2 =
-    p.split ∙ ap (λ (l : List ℕ). p.taken ++ l) split ∙ sym (append_assoc p.taken piece left2) in
-    let restis : rest_from [] (p.taken ++ piece) ≡ rest_from rest piece = rest-append [] p.taken piece in
-    let linesare : lines_from [] ((p.taken ++ piece) ++ left2) ≡ (lines_from [] p.taken ++ lines_from rest piece) ++ lines_from (rest_from rest piece) left2 =
-    lines-append [] (p.taken ++ piece) left2
-    ∙ ap (λ (l : List ℕ). lines_from [] (p.taken ++ piece) ++ lines_from l left2) restis
-    ∙ ap (λ (ls : List (List ℕ)). ls ++ lines_from (rest_from rest piece) left2) (lines-append [] p.taken piece) in
-    let lastis : rest_from [] ((p.taken ++ piece) ++ left2) ≡ rest_from (rest_from rest piece) left2 =
-    rest-append [] (p.taken ++ piece) left2 ∙ ap (λ (l : List ℕ). rest_from l left2) restis in
-    let all : lines_of left ≡ (lines_from [] p.taken ++ lines_from rest piece) ++ more =
-    ap lines_of bytes ∙ lines_of-parts ((p.taken ++ piece) ++ left2)
-    ∙ ap (λ (l : List ℕ). lines_from [] ((p.taken ++ piece) ++ left2) ++ last_of l) lastis
-    ∙ ap (λ (ls : List (List ℕ)). ls ++ last_of (rest_from (rest_from rest piece) left2)) linesare
-    ∙ append_assoc (lines_from [] p.taken ++ lines_from rest piece) (lines_from (rest_from rest piece) left2) (last_of (rest_from (rest_from rest piece) left2)) in
-    subst (λ (ls : List (List ℕ)). RanAs slots h h2 ls tells held held2 (Err fault)) (sym all)
-    (as_more slots h h2 _ more tells held held2 fault begun here)
+  -- the end of the input, with its last line
+  pub part_end : (old mid new : M) (m : Logged) (slots slots1 : ℕ) (tells : Type 0) (held held1 held2 left left1 kept : List ℕ) (room : ℕ) (r : Result (Unit {0}) StepFault)
+      → ((a b c : M) (h n k : Logged) → n.state.stopped ≡ false → since a b h n → since b c n k → since a c h k)
+      → (p : Part old mid slots tells held held1 left left1 kept room) → slots1 ≡ slots → left1 ≡ [] → stands old m → m.state.stopped ≡ false
+      → ((k : Logged) → stands mid k → k.state.stopped ≡ false → Did stands since mid new k (λ now. RanAs slots1 k now (last_of (rest_from [] p.taken)) tells held1 held2 r))
+      → Did stands since old new m (λ now. RanAs slots m now (lines_of left) tells held held2 r)
+  part_end old mid new m slots slots1 tells held held1 held2 left left1 kept room r joined p same none is going more =
+      let whole : left ≡ p.taken = p.split ∙ ap (λ (l : List ℕ). p.taken ++ l) none ∙ append-nil p.taken in
+      did_on old mid new m _ _ _ joined (p.did m is going) (λ k so_far. so_far.1) more
+      (λ k h2 so_far next. subst (λ (ls : List (List ℕ)). RanAs slots m h2 ls tells held held2 r) (sym (ap lines_of whole ∙ lines_of-parts p.taken))
+      (as-append slots m k h2 _ _ tells held held1 held2 r so_far.0 so_far.1
+      (subst (λ (s : ℕ). RanAs s k h2 (last_of (rest_from [] p.taken)) tells held1 held2 r) same next)))
 
--- the whole lines among the bytes taken
-pub part_whole : (slots : ℕ) (h m : Logged) (tells : Type 0) (held held1 left left1 kept : List ℕ) (room : ℕ)
-    → (p : Part slots h m tells held held1 left left1 kept room)
-    → Ran slots h m (whole_lines p.taken) tells held held1
-part_whole slots h m tells held held1 left left1 kept room p =
-    subst (λ (ls : List (List ℕ)). Ran slots h m ls tells held held1) (whole_lines-pieces p.taken) p.ran
+  -- with a fault of the disk in its last line
+  pub part_halts : (old mid new : M) (m : Logged) (slots slots1 most : ℕ) (tells : Type 0) (held held1 held2 left left1 left2 kept : List ℕ) (room : ℕ)
+      → ((a b c : M) (h n k : Logged) → n.state.stopped ≡ false → since a b h n → since b c n k → since a c h k)
+      → (p : Part old mid slots tells held held1 left left1 kept room) → slots1 ≡ slots → left1 ≡ [] → left1 ≡ left2 → stands old m → m.state.stopped ≡ false
+      → ((k : Logged) → stands mid k → k.state.stopped ≡ false → Did stands since mid new k (λ now. RanAs slots1 k now (last_of (rest_from [] p.taken)) tells held1 held2 (Err Disk)))
+      → Did stands since old new m (λ now. Halted slots most m now left left2 tells held held2)
+  part_halts old mid new m slots slots1 most tells held held1 held2 left left1 left2 kept room joined p same none stays is going more =
+      let whole : left ≡ p.taken = p.split ∙ ap (λ (l : List ℕ). p.taken ++ l) none ∙ append-nil p.taken in
+      did_on old mid new m _ _ _ joined (p.did m is going) (λ k so_far. so_far.1) more
+      (λ k h2 so_far next.
+      let last = subst (λ (s : ℕ). RanAs s k h2 (last_of (rest_from [] p.taken)) tells held1 held2 (Err Disk)) same next in
+      record {
+        taken = p.taken;
+        piece = [];
+        few = omega arith;
+        split = p.split ∙ ap (λ (l : List ℕ). p.taken ++ l) stays;
+        middle = k;
+        held = held1;
+        done = subst (λ (ls : List (List ℕ)). Ran slots m k ls tells held held1) (whole_lines-pieces p.taken) so_far.0;
+        going = so_far.1;
+        rest = last_of (rest_from [] p.taken);
+        lines = ap lines_of whole ∙ lines_of-parts p.taken ∙ ap (λ (ls : List (List ℕ)). ls ++ last_of (rest_from [] p.taken)) (whole_lines-pieces p.taken);
+        fault = last.0;
+        stopped = last.1;
+      })
 
--- a piece that was taken, and what it leaves
-pub part_took : (slots : ℕ) (h m : Logged) (tells : Type 0) (held held1 left left1 left2 kept : List ℕ) (room : ℕ) (piece : List ℕ)
-    → Part slots h m tells held held1 left left1 kept room → length piece ≤ room → left1 ≡ piece ++ left2
-    → (taken : List ℕ) × (length taken ≤ 1000000000) × (left ≡ taken ++ left2)
-part_took slots h m tells held held1 left left1 left2 kept room piece p le split =
-    let bound : length (p.taken ++ piece) ≤ 1000000000 = omega (arith, p.size, length-append p.taken piece) in
-    (p.taken ++ piece, bound, p.split ∙ ap (λ (l : List ℕ). p.taken ++ l) split ∙ sym (append_assoc p.taken piece left2))
+  -- a fault of the sink in a piece
+  pub part_cut : (old mid new : M) (m : Logged) (slots slots1 : ℕ) (tells : Type 0) (held held1 held2 left left1 left2 kept : List ℕ) (room : ℕ) (piece : List ℕ)
+      → ((a b c : M) (h n k : Logged) → n.state.stopped ≡ false → since a b h n → since b c n k → since a c h k)
+      → (p : Part old mid slots tells held held1 left left1 kept room) → slots1 ≡ slots → left1 ≡ piece ++ left2 → stands old m → m.state.stopped ≡ false
+      → ((k : Logged) → stands mid k → k.state.stopped ≡ false → Did stands since mid new k (λ now. RanAs slots1 k now (lines_from (rest_from [] p.taken) piece) tells held1 held2 (Err Sink)))
+      → Did stands since old new m (λ now. RanAs slots m now (lines_of left) tells held held2 (Err Sink))
+  part_cut old mid new m slots slots1 tells held held1 held2 left left1 left2 kept room piece joined p same split is going more =
+      let bytes : left ≡ p.taken ++ (piece ++ left2) = p.split ∙ ap (λ (l : List ℕ). p.taken ++ l) split in
+      did_on old mid new m _ _ _ joined (p.did m is going) (λ k so_far. so_far.1) more
+      (λ k h2 so_far next. subst (λ (ls : List (List ℕ)). RanAs slots m h2 ls tells held held2 (Err Sink)) (sym (ap lines_of bytes ∙ lines_of_pieces p.taken piece left2))
+      (as_more slots m h2 _ _ tells held held2 Sink going
+      (as-append slots m k h2 _ _ tells held held1 held2 (Err Sink) so_far.0 so_far.1
+      (subst (λ (s : ℕ). RanAs s k h2 (lines_from (rest_from [] p.taken) piece) tells held1 held2 (Err Sink)) same next))))
+
+  -- a fault of the disk in a piece
+  pub part_fault : (old mid new : M) (m : Logged) (slots slots1 most : ℕ) (tells : Type 0) (held held1 held2 left left1 left2 kept : List ℕ) (room : ℕ) (piece : List ℕ)
+      → ((a b c : M) (h n k : Logged) → n.state.stopped ≡ false → since a b h n → since b c n k → since a c h k)
+      → (p : Part old mid slots tells held held1 left left1 kept room) → slots1 ≡ slots → length piece ≤ most → left1 ≡ piece ++ left2 → stands old m → m.state.stopped ≡ false
+      → ((k : Logged) → stands mid k → k.state.stopped ≡ false → Did stands since mid new k (λ now. RanAs slots1 k now (lines_from (rest_from [] p.taken) piece) tells held1 held2 (Err Disk)))
+      → Did stands since old new m (λ now. Halted slots most m now left left2 tells held held2)
+  part_fault old mid new m slots slots1 most tells held held1 held2 left left1 left2 kept room piece joined p same few split is going more =
+      let bytes : left ≡ p.taken ++ (piece ++ left2) = p.split ∙ ap (λ (l : List ℕ). p.taken ++ l) split in
+      let here : List (List ℕ) = lines_from (rest_from [] p.taken) piece in
+      let later : List (List ℕ) = lines_from (rest_from (rest_from [] p.taken) piece) left2 ++ last_of (rest_from (rest_from (rest_from [] p.taken) piece) left2) in
+      did_on old mid new m _ _ _ joined (p.did m is going) (λ k so_far. so_far.1) more
+      (λ k h2 so_far next.
+      let last = as_more slots k h2 here later tells held1 held2 Disk so_far.1 (subst (λ (s : ℕ). RanAs s k h2 here tells held1 held2 (Err Disk)) same next) in
+      record {
+        taken = p.taken;
+        piece = piece;
+        few = few;
+        split = bytes;
+        middle = k;
+        held = held1;
+        done = subst (λ (ls : List (List ℕ)). Ran slots m k ls tells held held1) (whole_lines-pieces p.taken) so_far.0;
+        going = so_far.1;
+        rest = here ++ later;
+        lines = ap lines_of bytes ∙ lines_of_pieces p.taken piece left2 ∙ append_assoc (lines_from [] p.taken) here later
+            ∙ ap (λ (ls : List (List ℕ)). ls ++ (here ++ later)) (whole_lines-pieces p.taken);
+        fault = last.0;
+        stopped = last.1;
+      })
+
+  -- the whole lines among the bytes taken
+  pub part_whole : (old mid : M) (m : Logged) (slots : ℕ) (tells : Type 0) (held held1 left left1 left2 kept : List ℕ) (room : ℕ)
+      → (p : Part old mid slots tells held held1 left left1 kept room) → left2 ≡ left1 → stands old m → m.state.stopped ≡ false
+      → Did stands since old mid m (λ now. WholeRan slots m now p.taken left left2 tells held held1)
+  part_whole old mid m slots tells held held1 left left1 left2 kept room p stays is going =
+      did_as old mid m _ _ (λ k so_far. record {
+        split = p.split ∙ ap (λ (l : List ℕ). p.taken ++ l) (sym stays);
+        ran = subst (λ (ls : List (List ℕ)). Ran slots m k ls tells held held1) (whole_lines-pieces p.taken) so_far.0;
+        going = so_far.1;
+      }) (p.did m is going)
+
+  -- a piece that was taken, and what it leaves
+  pub part_took : (old mid : M) (slots : ℕ) (tells : Type 0) (held held1 left left1 left2 kept : List ℕ) (room : ℕ) (piece : List ℕ)
+      → Part old mid slots tells held held1 left left1 kept room → length piece ≤ room → left1 ≡ piece ++ left2
+      → (taken : List ℕ) × (length taken ≤ 1000000000) × (left ≡ taken ++ left2)
+  part_took old mid slots tells held held1 left left1 left2 kept room piece p le split =
+      let bound : length (p.taken ++ piece) ≤ 1000000000 = omega (arith, p.size, length-append p.taken piece) in
+      (p.taken ++ piece, bound, p.split ∙ ap (λ (l : List ℕ). p.taken ++ l) split ∙ sym (append_assoc p.taken piece left2))

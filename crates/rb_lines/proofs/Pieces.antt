@@ -2,7 +2,7 @@
 use Rattle.std.proofs.Common.{◌≡◌, ℕ, ◌+◌, ◌<◌, false, List, [], ◌∷◌, ◌++◌, length, take, drop, get_or, Result, Err, sym, ◌∙◌, ap, subst}
 use Rattle.std.proofs.lemmas.List.{take_more, take-append-drop}
 use Rattle.rb_model.specs.Out.{Logged}
-use Rattle.rb_lines.specs.declared.machine.StepFault.{StepFault}
+use Rattle.rb_lines.specs.declared.runner.StepFault.{StepFault}
 use Rattle.rb_lines.specs.Ran.{Ran, RanAs}
 use Rattle.rb_lines.specs.Pieces.{lines_from, rest_from}
 use Rattle.rb_lines.proofs.Cuts.{lines-append, rest-append}

@@ -1,19 +1,18 @@
--- What a machine did with lines, one piece after another.
+-- What a line runner did with lines, one piece after another.
 use Rattle.std.proofs.Common.{◌≡◌, ℕ, ◌+◌, true, false, List, [], ◌∷◌, ◌++◌, length, take, min, Result, Ok, Err, refl, sym, ◌∙◌, ap, subst, arith, append_assoc, append-nil}
 use Rattle.std.proofs.lemmas.List.{take-append-le, take_min}
-use Rattle.std.specs.Prelude.{OnOk, IsErrOf}
 use Rattle.std.proofs.Math.Seq.{take-append-add}
 use Rattle.rb_model.specs.Out.{Logged, Out}
-use Rattle.rb_lines.specs.declared.machine.StepFault.{StepFault}
-use Rattle.rb_lines.specs.declared.machine.StepFault.TheVariants.{Disk, Sink}
-use Rattle.rb_lines.specs.Ran.{LineRan, LineCutOff, Ran, CutOff, RanAs}
+use Rattle.rb_lines.specs.declared.runner.StepFault.{StepFault}
+use Rattle.rb_lines.specs.declared.runner.StepFault.TheVariants.{Disk, Sink}
+use Rattle.rb_lines.specs.Ran.{LineRan, LineRanAs, LineCutOff, Ran, CutOff, RanAs}
 use Rattle.rb_lines.proofs.Outs.{front_out, one_out, append_out, stopped_out}
 
 -- no line
 pub ran_none : (slots : ℕ) (h : Logged) (tells : Type 0) (held : List ℕ) → Ran slots h h [] tells held held
 ran_none slots h tells held = record { out = []; replies = (refl, refl); written = λ t. sym (append-nil held) }
 
--- a line of which the machine had the front
+-- a line of which the runner had the front
 pub ran_one : (slots : ℕ) (h h2 : Logged) (line front : List ℕ) (tells : Type 0) (held held2 : List ℕ)
     → front ≡ take 513 line → LineRan slots h h2 front tells held held2 → Ran slots h h2 (line ∷ []) tells held held2
 ran_one slots h h2 line front tells held held2 e r = record {
@@ -73,19 +72,13 @@ cut_more slots h h2 xs ys held held2 r =
       written = r.written;
     }
 
--- A step over the front of a line, as its clauses tell it.
+-- A step over the front of a line, as its clause tells it.
 pub step_as : (slots : ℕ) (h h2 : Logged) (line front : List ℕ) (tells : Type 0) (held held2 : List ℕ) (result : Result (Unit {0}) StepFault)
-    → front ≡ take 513 line
-    → OnOk result (LineRan slots h h2 front tells held held2) → OnOk result (h2.state.stopped ≡ false)
-    → (IsErrOf result Disk → LineRan slots h h2 front tells held held2) → (IsErrOf result Disk → h2.state.stopped ≡ true)
-    → (IsErrOf result Sink → tells → LineCutOff slots h h2 front held held2)
+    → front ≡ take 513 line → LineRanAs slots h h2 front tells held held2 result
     → RanAs slots h h2 (line ∷ []) tells held held2 result
-step_as slots h h2 line front tells held held2 (Ok done) e ran going disk stopped sink =
-    (ran_one slots h h2 line front tells held held2 e ran, going)
-step_as slots h h2 line front tells held held2 (Err Disk) e ran going disk stopped sink =
-    (ran_one slots h h2 line front tells held held2 e (disk refl), stopped refl)
-step_as slots h h2 line front tells held held2 (Err Sink) e ran going disk stopped sink =
-    λ t. cut_one slots h h2 line front held held2 e (sink refl t)
+step_as slots h h2 line front tells held held2 (Ok done) e ran = (ran_one slots h h2 line front tells held held2 e ran.0, ran.1)
+step_as slots h h2 line front tells held held2 (Err Disk) e ran = (ran_one slots h h2 line front tells held held2 e ran.0, ran.1)
+step_as slots h h2 line front tells held held2 (Err Sink) e cut = λ t. cut_one slots h h2 line front held held2 e (cut t)
 
 -- lines that were done, and then more of them
 pub as-append : (slots : ℕ) (h m h2 : Logged) (xs ys : List (List ℕ)) (tells : Type 0) (held held1 held2 : List ℕ) (result : Result (Unit {0}) StepFault)

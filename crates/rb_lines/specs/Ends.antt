@@ -1,11 +1,68 @@
--- How a run of lines ends.
+-- How a run of lines ends, and what it did with the bytes of its source by then.
+use Rattle.std.specs.Prelude.{◌≡◌, ℕ, ◌≤◌, Bool, true, false, List, ◌++◌, length}
+use Rattle.rb_model.specs.Lines.{lines_of}
+use Rattle.rb_model.specs.Out.{Logged}
+use Rattle.rb_lines.specs.Ran.{Ran, CutOff}
+use Rattle.rb_lines.specs.Whole.{whole_lines}
 use Rattle.rb_lines.specs.declared.lines.LinesEnd.{LinesEnd}
 use Rattle.rb_lines.specs.declared.lines.LinesEnd.TheVariants.{Done, SourceFault, DiskFault, SinkFault, TooLong}
 
--- no step failed
-abbrev pub IsUnbroken : LinesEnd → Type 0
-IsUnbroken Done = Unit {0}
-IsUnbroken SourceFault = Unit {0}
-IsUnbroken DiskFault = ⊥
-IsUnbroken SinkFault = ⊥
-IsUnbroken TooLong = Unit {0}
+abbrev pub by_source : LinesEnd → Bool
+by_source Done = false
+by_source SourceFault = true
+by_source DiskFault = false
+by_source SinkFault = false
+by_source TooLong = false
+
+abbrev pub by_disk : LinesEnd → Bool
+by_disk Done = false
+by_disk SourceFault = false
+by_disk DiskFault = true
+by_disk SinkFault = false
+by_disk TooLong = false
+
+abbrev pub by_sink : LinesEnd → Bool
+by_sink Done = false
+by_sink SourceFault = false
+by_sink DiskFault = false
+by_sink SinkFault = true
+by_sink TooLong = false
+
+-- The whole lines of these bytes were done, and nothing else was taken.
+pub record WholeRan (slots : ℕ) (before now : Logged) (taken left_before left_now : List ℕ) (tells : Type 0)
+    (held_before held_now : List ℕ) : Type 0 where
+  pub split : left_before ≡ taken ++ left_now
+  pub ran : Ran slots before now (whole_lines taken) tells held_before held_now
+  pub going : now.state.stopped ≡ false
+
+-- A fault of the disk ended the lines. When the last piece of at most `most` bytes was asked for, no call had failed, and
+-- the lines that were whole had been done: so nothing was asked for after the reply that tells of the fault.
+pub record Halted (slots most : ℕ) (before now : Logged) (left_before left_now : List ℕ) (tells : Type 0)
+    (held_before held_now : List ℕ) : Type 0 where
+  pub taken : List ℕ
+  pub piece : List ℕ
+  pub few : length piece ≤ most
+  pub split : left_before ≡ taken ++ (piece ++ left_now)
+  pub middle : Logged
+  pub held : List ℕ
+  pub done : Ran slots before middle (whole_lines taken) tells held_before held
+  pub going : middle.state.stopped ≡ false
+  -- the lines that were not whole then, up to the fault
+  pub rest : List (List ℕ)
+  pub lines : lines_of left_before ≡ whole_lines taken ++ rest
+  pub fault : Ran slots middle now rest tells held held_now
+  pub stopped : now.state.stopped ≡ true
+
+-- What was done by the end of a run. A fault of the sink cuts the replies off.
+abbrev pub EndsAs : ℕ → ℕ → Logged → Logged → List ℕ → List ℕ → Type 0 → List ℕ → List ℕ → LinesEnd → Type 0
+EndsAs slots most before now left_before left_now tells held_before held_now Done =
+    Ran slots before now (lines_of left_before) tells held_before held_now × (now.state.stopped ≡ false)
+EndsAs slots most before now left_before left_now tells held_before held_now SourceFault =
+    (taken : List ℕ) × WholeRan slots before now taken left_before left_now tells held_before held_now
+EndsAs slots most before now left_before left_now tells held_before held_now DiskFault =
+    Halted slots most before now left_before left_now tells held_before held_now
+EndsAs slots most before now left_before left_now tells held_before held_now SinkFault =
+    tells → CutOff slots before now (lines_of left_before) held_before held_now
+EndsAs slots most before now left_before left_now tells held_before held_now TooLong =
+    (taken : List ℕ) × (length taken ≡ 1000000000)
+    × WholeRan slots before now taken left_before left_now tells held_before held_now

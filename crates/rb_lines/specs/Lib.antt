@@ -1,4 +1,5 @@
 pub mod Ends
+pub mod Faults
 pub mod Pieces
 pub mod Ran
 pub mod Whole

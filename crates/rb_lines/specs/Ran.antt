@@ -1,9 +1,9 @@
--- What a machine did with lines.
+-- What a line runner did with lines.
 use Rattle.std.specs.Prelude.{◌≡◌, ℕ, true, false, List, ◌++◌, length, take, Result, Ok, Err}
 use Rattle.rb_model.specs.State.{session_of}
 use Rattle.rb_model.specs.Out.{Logged, LineOut, Out}
-use Rattle.rb_lines.specs.declared.machine.StepFault.{StepFault}
-use Rattle.rb_lines.specs.declared.machine.StepFault.TheVariants.{Disk, Sink}
+use Rattle.rb_lines.specs.declared.runner.StepFault.{StepFault}
+use Rattle.rb_lines.specs.declared.runner.StepFault.TheVariants.{Disk, Sink}
 
 -- It did a line: its replies, the state after them, and that the sink holds them then, where it tells.
 pub record LineRan (slots : ℕ) (before now : Logged) (line : List ℕ) (tells : Type 0) (held_before held_now : List ℕ) : Type 0 where
@@ -55,3 +55,20 @@ RanAs slots before now lines tells held_before held_now (Err Disk) =
     Ran slots before now lines tells held_before held_now × (now.state.stopped ≡ true)
 RanAs slots before now lines tells held_before held_now (Err Sink) =
     tells → CutOff slots before now lines held_before held_now
+
+-- What it did with one line, by the answer, as `RanAs` of several.
+abbrev pub LineRanAs : ℕ → Logged → Logged → List ℕ → Type 0 → List ℕ → List ℕ → Result (Unit {0}) StepFault → Type 0
+LineRanAs slots before now line tells held_before held_now (Ok done) =
+    LineRan slots before now line tells held_before held_now × (now.state.stopped ≡ false)
+LineRanAs slots before now line tells held_before held_now (Err Disk) =
+    LineRan slots before now line tells held_before held_now × (now.state.stopped ≡ true)
+LineRanAs slots before now line tells held_before held_now (Err Sink) =
+    tells → LineCutOff slots before now line held_before held_now
+
+-- From a state that a runner stood for it came to another, which it stands for now, and did on the way what `As` says.
+pub record Did {M : Type 0} (stands : M → Logged → Type 0) (since : M → M → Logged → Logged → Type 0) (old new : M)
+    (before : Logged) (As : Logged → Type 0) : Type 0 where
+  pub now : Logged
+  pub reached : stands new now
+  pub passed : since old new before now
+  pub ran : As now

@@ -1,10 +1,12 @@
-//! The line under way: the bytes that came for it, fed to a machine where it ends. `run_lines` calls it.
-ghost use Rattle.std.specs.Prelude.{ℕ, ◌≡◌, ◌≤◌, false, true, List, [], ◌∷◌, ◌++◌, take, OnOk, IsErrOf};
-ghost use Rattle.rb_base.specs.Counts.{Rose};
-ghost use Rattle.rb_lines.specs.Ran.{RanAs};
+//! The line under way: the bytes that came for it, fed to a line runner where it ends. `run_lines` calls it.
+ghost use Rattle.std.specs.Prelude.{ℕ, ◌≡◌, ◌≤◌, false, List, [], ◌∷◌, ◌++◌, take, OnOk};
+ghost use Rattle.rb_base.specs.Counts.{IsCountedAs, err_is};
+ghost use Rattle.rb_model.specs.Out.{Logged};
+ghost use Rattle.rb_lines.specs.Faults.{is_disk, is_sink};
+ghost use Rattle.rb_lines.specs.Ran.{Did, RanAs};
 ghost use Rattle.rb_lines.specs.Pieces.{lines_from, rest_from, last_of};
 
-use crate::{Machine, StepFault};
+use crate::{LineRunner, StepFault};
 use arrayvec::ArrayVec;
 use rb_stream::Sink;
 
@@ -20,86 +22,67 @@ fn keep(pending: &mut Pending, byte: u8)
 }
 
 // Does the line under way where the byte ends it, and else adds the byte to it.
-fn feed_byte<M: Machine, K: Sink>(
-    machine: &mut M,
+fn feed_byte<M: LineRunner, K: Sink>(
+    runner: &mut M,
     sink: &mut K,
     pending: &mut Pending,
     byte: u8,
 ) -> Result<(), StepFault>
-    requires ready { M.ready machine.old }
-    requires going { (M.reached machine.old).state.stopped ≡ false }
-    ensures ready { OnOk result (M.ready machine.new) }
-    ensures ran { (line : List ℕ) → pending.old.items ≡ take 513 line →
-        RanAs (M.slots machine.old) (M.reached machine.old) (M.reached machine.new) (lines_from line (byte ∷ [])) K.tells (K.held sink.old) (K.held sink.new) result }
-    ensures going { OnOk result ((M.reached machine.new).state.stopped ≡ false) }
-    ensures stopped { IsErrOf result StepFault.Disk → (M.reached machine.new).state.stopped ≡ true }
-    ensures kept { OnOk result ((line : List ℕ) → pending.old.items ≡ take 513 line → pending.new.items ≡ take 513 (rest_from line (byte ∷ []))) }
-    ensures slots { M.slots machine.new ≡ M.slots machine.old }
-    ensures since { M.since machine.old machine.new }
-    ensures disk { IsErrOf result StepFault.Disk → Rose (M.faults machine.old) (M.faults machine.new) }
-    ensures sink { IsErrOf result StepFault.Sink → Rose (K.faults sink.old) (K.faults sink.new) }
-    ensures counted { M.faults machine.old ≤ M.faults machine.new }
-    ensures sink_counted { K.faults sink.old ≤ K.faults sink.new }
+    ensures did { (m : Logged) (line : List ℕ) → M.stands runner.old m → m.state.stopped ≡ false
+        → pending.old.items ≡ take 513 line → Did M.stands M.since runner.old runner.new m
+            (λ now. RanAs (M.slots runner.old) m now (lines_from line (byte ∷ [])) K.tells (K.held sink.old) (K.held sink.new) result) }
+    ensures kept { OnOk result ((line : List ℕ) → pending.old.items ≡ take 513 line
+        → pending.new.items ≡ take 513 (rest_from line (byte ∷ []))) }
+    ensures slots { M.slots runner.new ≡ M.slots runner.old }
+    ensures disk { IsCountedAs (M.faults runner.old) (M.faults runner.new) (err_is is_disk result) }
+    ensures sink { IsCountedAs (K.faults sink.old) (K.faults sink.new) (err_is is_sink result) }
 {
     if byte != b'\n' {
         keep(pending, byte);
         return Ok(());
     }
-    machine.step(pending.as_slice(), sink)?;
+    runner.step(pending.as_slice(), sink)?;
     pending.clear();
     Ok(())
 }
 
 /// Does each line that the bytes end, and keeps the one under way.
-pub fn feed<M: Machine, K: Sink>(
-    machine: &mut M,
+pub fn feed<M: LineRunner, K: Sink>(
+    runner: &mut M,
     sink: &mut K,
     pending: &mut Pending,
     bytes: &[u8],
 ) -> Result<(), StepFault>
-    requires ready { M.ready machine.old }
-    requires going { (M.reached machine.old).state.stopped ≡ false }
-    ensures ready { OnOk result (M.ready machine.new) }
-    ensures ran { (line : List ℕ) → pending.old.items ≡ take 513 line →
-        RanAs (M.slots machine.old) (M.reached machine.old) (M.reached machine.new) (lines_from line bytes.now) K.tells (K.held sink.old) (K.held sink.new) result }
-    ensures going { OnOk result ((M.reached machine.new).state.stopped ≡ false) }
-    ensures stopped { IsErrOf result StepFault.Disk → (M.reached machine.new).state.stopped ≡ true }
-    ensures kept { OnOk result ((line : List ℕ) → pending.old.items ≡ take 513 line → pending.new.items ≡ take 513 (rest_from line bytes.now)) }
-    ensures slots { M.slots machine.new ≡ M.slots machine.old }
-    ensures since { M.since machine.old machine.new }
-    ensures disk { IsErrOf result StepFault.Disk → Rose (M.faults machine.old) (M.faults machine.new) }
-    ensures sink { IsErrOf result StepFault.Sink → Rose (K.faults sink.old) (K.faults sink.new) }
-    ensures counted { M.faults machine.old ≤ M.faults machine.new }
-    ensures sink_counted { K.faults sink.old ≤ K.faults sink.new }
+    ensures did { (m : Logged) (line : List ℕ) → M.stands runner.old m → m.state.stopped ≡ false
+        → pending.old.items ≡ take 513 line → Did M.stands M.since runner.old runner.new m
+            (λ now. RanAs (M.slots runner.old) m now (lines_from line bytes.now) K.tells (K.held sink.old) (K.held sink.new) result) }
+    ensures kept { OnOk result ((line : List ℕ) → pending.old.items ≡ take 513 line
+        → pending.new.items ≡ take 513 (rest_from line bytes.now)) }
+    ensures slots { M.slots runner.new ≡ M.slots runner.old }
+    ensures disk { IsCountedAs (M.faults runner.old) (M.faults runner.new) (err_is is_disk result) }
+    ensures sink { IsCountedAs (K.faults sink.old) (K.faults sink.new) (err_is is_sink result) }
 {
     for byte in bytes {
-        feed_byte(machine, sink, pending, *byte)?;
+        feed_byte(runner, sink, pending, *byte)?;
     }
     Ok(())
 }
 
 /// Does the line under way as the input's last one, where it has any bytes.
-pub fn finish<M: Machine, K: Sink>(
-    machine: &mut M,
+pub fn finish<M: LineRunner, K: Sink>(
+    runner: &mut M,
     sink: &mut K,
     pending: &Pending,
 ) -> Result<(), StepFault>
-    requires ready { M.ready machine.old }
-    requires going { (M.reached machine.old).state.stopped ≡ false }
-    ensures ready { OnOk result (M.ready machine.new) }
-    ensures ran { (line : List ℕ) → pending.now.items ≡ take 513 line →
-        RanAs (M.slots machine.old) (M.reached machine.old) (M.reached machine.new) (last_of line) K.tells (K.held sink.old) (K.held sink.new) result }
-    ensures going { OnOk result ((M.reached machine.new).state.stopped ≡ false) }
-    ensures stopped { IsErrOf result StepFault.Disk → (M.reached machine.new).state.stopped ≡ true }
-    ensures slots { M.slots machine.new ≡ M.slots machine.old }
-    ensures since { M.since machine.old machine.new }
-    ensures disk { IsErrOf result StepFault.Disk → Rose (M.faults machine.old) (M.faults machine.new) }
-    ensures sink { IsErrOf result StepFault.Sink → Rose (K.faults sink.old) (K.faults sink.new) }
-    ensures counted { M.faults machine.old ≤ M.faults machine.new }
-    ensures sink_counted { K.faults sink.old ≤ K.faults sink.new }
+    ensures did { (m : Logged) (line : List ℕ) → M.stands runner.old m → m.state.stopped ≡ false
+        → pending.now.items ≡ take 513 line → Did M.stands M.since runner.old runner.new m
+            (λ now. RanAs (M.slots runner.old) m now (last_of line) K.tells (K.held sink.old) (K.held sink.new) result) }
+    ensures slots { M.slots runner.new ≡ M.slots runner.old }
+    ensures disk { IsCountedAs (M.faults runner.old) (M.faults runner.new) (err_is is_disk result) }
+    ensures sink { IsCountedAs (K.faults sink.old) (K.faults sink.new) (err_is is_sink result) }
 {
     if pending.is_empty() {
         return Ok(());
     }
-    machine.step(pending.as_slice(), sink)
+    runner.step(pending.as_slice(), sink)
 }
