@@ -1,7 +1,7 @@
 -- What is written for a script, line by line.
 use Rattle.std.specs.Prelude.{◌≡◌, ℕ, zero, suc, ◌+◌, ◌-◌, ◌<◌, ◌≤◌, Bool, true, false, MatchBool, List, [], ◌∷◌, ◌++◌, length}
 use Rattle.rb_model.specs.State.{State}
-use Rattle.rb_model.specs.Reply.{Call, Write, Commit, OpenCursor, Fetch, CloseCursor, Answer, Done, Waits, Numbered, Given, End, Refused, Reply, after, groups}
+use Rattle.rb_model.specs.Reply.{Call, Write, Commit, OpenCursor, Fetch, CloseCursor, Answer, Done, Waits, Numbered, Given, End, Refused, Reply, after, Grows}
 use Rattle.rb_model.specs.Lines.{Command, WriteLine, CommitLine, OpenLine, FetchLine, CloseLine, Spells, SpellsNone, without_return, is_remark, reply_text, bad_line_text}
 
 -- a state, and the last log number that was given
@@ -19,7 +19,9 @@ pub record CallOut (m : Logged) (slots : ℕ) (s : ℕ) (call : Call) (out : Lis
   pub reply : Reply m.state m.number (room slots m.number) call answer
   pub text : out ≡ reply_text s answer
   pub state : m2.state ≡ after m.state call answer
-  pub number : m2.state.stopped ≡ false → m2.number ≡ m.number + groups call answer
+  pub groups : ℕ
+  pub grows : m2.state.stopped ≡ false → Grows m.state call answer groups
+  pub number : m2.state.stopped ≡ false → m2.number ≡ m.number + groups
 
 abbrev pub is_given : Answer → Bool
 is_given Done = false
@@ -29,18 +31,23 @@ is_given (Given key value) = true
 is_given End = false
 is_given (Refused why) = false
 
--- after a fetch with that answer, which makes no group
-abbrev pub fetched : Logged → ℕ → List ℕ → Answer → Logged
-fetched m s name r = record { state = after m.state (Fetch s name) r; number = m.number }
+-- after a fetch with that answer, which gave the log so many groups
+abbrev pub fetched : Logged → ℕ → List ℕ → Answer → ℕ → Logged
+fetched m s name r groups = record { state = after m.state (Fetch s name) r; number = m.number + groups }
+
+-- one fetch of a line that has this answer
+pub record FetchOnce (m : Logged) (slots s : ℕ) (name : List ℕ) (r : Answer) (m2 : Logged) : Type 0 where
+  pub reply : Reply m.state m.number (room slots m.number) (Fetch s name) r
+  pub groups : ℕ
+  pub grows : Grows m.state (Fetch s name) r groups
+  pub after : m2 ≡ fetched m s name r groups
 
 -- Up to `count` fetches, which end at the first answer that is no row.
 abbrev pub FetchOut : Logged → ℕ → ℕ → List ℕ → ℕ → List ℕ → Logged → Type 0
 FetchOut m slots s name zero out m2 = (out ≡ []) × (m2 ≡ m)
 FetchOut m slots s name (suc count) out m2 =
-    (r : Answer) × (rest : List ℕ) × Reply m.state m.number (room slots m.number) (Fetch s name) r × (out ≡ reply_text s r ++ rest)
-    × MatchBool (is_given r)
-    (FetchOut (fetched m s name r) slots s name count rest m2)
-    ((rest ≡ []) × (m2 ≡ fetched m s name r))
+    (r : Answer) × (rest : List ℕ) × (middle : Logged) × FetchOnce m slots s name r middle × (out ≡ reply_text s r ++ rest)
+    × MatchBool (is_given r) (FetchOut middle slots s name count rest m2) ((rest ≡ []) × (m2 ≡ middle))
 
 abbrev pub CommandOut : Logged → ℕ → Command → List ℕ → Logged → Type 0
 CommandOut m slots (WriteLine s table key action) out m2 = CallOut m slots s (Write s table key action) out m2

@@ -60,33 +60,33 @@ abbrev pub is_empty : List Change → Bool
 is_empty [] = true
 is_empty (c ∷ changes) = false
 
--- The tests of a call in their order, each with what it refuses. After the early ones the disk may have failed.
-abbrev pub early_tests : State → Call → List (Bool × Refusal)
+-- The tests of a call in their order, each with the answer that it gives. After the early ones the disk may have failed.
+abbrev pub early_tests : State → Call → List (Bool × Answer)
 early_tests h (Write s table key action) =
-    (h.stopped, Stopped) ∷ (not (is_session h s), NoSession) ∷ (not (is_table h table), NoTable)
-    ∷ (is_too_long action, ValueTooLong) ∷ []
-early_tests h (Commit s) = (h.stopped, Stopped) ∷ (not (is_session h s), NoSession) ∷ []
+    (h.stopped, Refused Stopped) ∷ (not (is_session h s), Refused NoSession) ∷ (not (is_table h table), Refused NoTable)
+    ∷ (is_too_long action, Refused ValueTooLong) ∷ []
+early_tests h (Commit s) = (h.stopped, Refused Stopped) ∷ (not (is_session h s), Refused NoSession) ∷ []
 early_tests h (OpenCursor s name table lo hi) =
-    (h.stopped, Stopped) ∷ (not (is_session h s), NoSession) ∷ (not (is_table h table), NoTable) ∷ []
-early_tests h (Fetch s name) = (h.stopped, Stopped) ∷ (not (is_session h s), NoSession) ∷ []
-early_tests h (CloseCursor s name) = (h.stopped, Stopped) ∷ (not (is_session h s), NoSession) ∷ []
+    (h.stopped, Refused Stopped) ∷ (not (is_session h s), Refused NoSession) ∷ (not (is_table h table), Refused NoTable) ∷ []
+early_tests h (Fetch s name) = (h.stopped, Refused Stopped) ∷ (not (is_session h s), Refused NoSession) ∷ []
+early_tests h (CloseCursor s name) = (h.stopped, Refused Stopped) ∷ (not (is_session h s), Refused NoSession) ∷ []
 
 -- the tests of a write that ask the log: its numbers are used up, or it has no room for the write and its commit
-abbrev pub log_tests : ℕ → ℕ → List (Bool × Refusal)
-log_tests logged room = (nat_le (2 ^ 60) logged, WornOut) ∷ (nat_lt room 2, LogFull) ∷ []
+abbrev pub log_tests : ℕ → ℕ → List (Bool × Answer)
+log_tests logged room = (nat_le (2 ^ 60) logged, Refused WornOut) ∷ (nat_lt room 2, Refused LogFull) ∷ []
 
 -- logged: the last log number given; room: how many more groups the log has room for
-abbrev pub later_tests : State → ℕ → ℕ → Call → List (Bool × Refusal)
+abbrev pub later_tests : State → ℕ → ℕ → Call → List (Bool × Answer)
 later_tests h logged room (Write s table key action) =
-    (adds action && has_row table key (rows_now h s), Duplicate)
-    ∷ (not (adds action) && not (has_row table key (rows_now h s)), NotFound)
-    ∷ (adds action && full_block h table key, BlockFull)
+    (adds action && has_row table key (rows_now h s), Refused Duplicate)
+    ∷ (not (adds action) && not (has_row table key (rows_now h s)), Refused NotFound)
+    ∷ (adds action && full_block h table key, Refused BlockFull)
     ∷ log_tests logged room
 later_tests h logged room (Commit s) = []
 later_tests h logged room (OpenCursor s name table lo hi) =
-    (is_some (cursor_of h s name), CursorThere) ∷ (nat_le 16 (length (session_of h s).cursors), TooManyCursors) ∷ []
-later_tests h logged room (Fetch s name) = (is_none (cursor_of h s name), NoCursor) ∷ []
-later_tests h logged room (CloseCursor s name) = (is_none (cursor_of h s name), NoCursor) ∷ []
+    (is_some (cursor_of h s name), Refused CursorThere) ∷ (nat_le 16 (length (session_of h s).cursors), Refused TooManyCursors) ∷ []
+later_tests h logged room (Fetch s name) = (is_none (cursor_of h s name), Refused NoCursor) ∷ []
+later_tests h logged room (CloseCursor s name) = (is_none (cursor_of h s name), Refused NoCursor) ∷ []
 
 -- a row as the answer to a fetch, or the end
 abbrev pub given : Option TableRow → Answer
@@ -106,17 +106,17 @@ granted h (OpenCursor s name table lo hi) = Done
 granted h (Fetch s name) = next_row h (cursor_of h s name)
 granted h (CloseCursor s name) = Done
 
--- the first test that applies, or else the good answer
-abbrev pub first_of : List (Bool × Refusal) → Answer → Answer
+-- the answer of the first test that applies, or else the good one
+abbrev pub first_of : List (Bool × Answer) → Answer → Answer
 first_of [] good = good
-first_of (test ∷ tests) good = if test.0 then Refused test.1 else first_of tests good
+first_of (test ∷ tests) good = if test.0 then test.1 else first_of tests good
 
 -- no test applies
-abbrev pub none_applies : List (Bool × Refusal) → Bool
+abbrev pub none_applies : List (Bool × Answer) → Bool
 none_applies [] = true
 none_applies (test ∷ tests) = not test.0 && none_applies tests
 
--- the first test that applies, or else the good answer
+-- the answer of the first test that applies, or else the good one
 abbrev pub expected : State → ℕ → ℕ → Call → Answer
 expected h logged room call = first_of (early_tests h call ++ later_tests h logged room call) (granted h call)
 
@@ -137,21 +137,34 @@ with_cursors h s cursors = with_session h s (record { own = (session_of h s).own
 abbrev pub committed : State → ℕ → State
 committed h s = record (with_own h s []) { commits = record h.commits { list = h.commits.list ++ (session_of h s).own ∷ [] } }
 
+-- the one refusal after which nothing goes on
+abbrev pub is_disk_fault : Refusal → Bool
+is_disk_fault DiskFault = true
+is_disk_fault NoSession = false
+is_disk_fault NoTable = false
+is_disk_fault ValueTooLong = false
+is_disk_fault Duplicate = false
+is_disk_fault NotFound = false
+is_disk_fault BlockFull = false
+is_disk_fault NoCursor = false
+is_disk_fault CursorThere = false
+is_disk_fault TooManyCursors = false
+is_disk_fault WornOut = false
+is_disk_fault Stopped = false
+is_disk_fault LogFull = false
+
+-- the answer tells of a fault of the disk
+abbrev pub is_fault : Answer → Bool
+is_fault Done = false
+is_fault (Waits on) = false
+is_fault (Numbered n) = false
+is_fault (Given key value) = false
+is_fault End = false
+is_fault (Refused why) = is_disk_fault why
+
 -- A refusal changes nothing, but a fault of the disk stops.
 abbrev pub after_refusal : State → Refusal → State
-after_refusal h DiskFault = record h { stopped = true }
-after_refusal h NoSession = h
-after_refusal h NoTable = h
-after_refusal h ValueTooLong = h
-after_refusal h Duplicate = h
-after_refusal h NotFound = h
-after_refusal h BlockFull = h
-after_refusal h NoCursor = h
-after_refusal h CursorThere = h
-after_refusal h TooManyCursors = h
-after_refusal h WornOut = h
-after_refusal h Stopped = h
-after_refusal h LogFull = h
+after_refusal h why = if is_disk_fault why then record h { stopped = true } else h
 
 -- the state after a call that did what it was asked for
 abbrev pub after_grant : State → Call → State
@@ -202,3 +215,7 @@ groups (Commit s) r = if is_numbered r then 1 else 0
 groups (OpenCursor s name table lo hi) r = 0
 groups (Fetch s name) r = 0
 groups (CloseCursor s name) r = 0
+
+-- After a call with that answer the log may have this many groups more.
+abbrev pub Grows : State → Call → Answer → ℕ → Type 0
+Grows h call r n = n ≡ groups call r

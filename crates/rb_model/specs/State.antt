@@ -1,5 +1,5 @@
 -- The state that the sessions share, as the abstract machine sees it.
-use Rattle.std.specs.Prelude.{ℕ, suc, ◌-◌, Bool, false, ◌&&◌, nat_le, cond, List, [], ◌∷◌, length, slice_index_or, slice_set, find, Option}
+use Rattle.std.specs.Prelude.{ℕ, suc, ◌-◌, Bool, false, ◌&&◌, nat_le, cond, List, [], ◌∷◌, length, replicate, slice_index_or, slice_set, find, Option}
 use Rattle.std.specs.Str.{bytes_eq}
 use Rattle.rb_base.specs.declared.ids.Shape.{Shape}
 use Rattle.rb_model.specs.Change.{Change}
@@ -30,6 +30,10 @@ pub record State : Type 0 where
   pub sessions : List Session
   -- a call has answered that the disk failed
   pub stopped : Bool
+
+-- how many sessions there are
+abbrev pub session_count : ℕ
+session_count = 1
 
 abbrev pub fresh_session : Session
 fresh_session = record { own = []; cursors = [] }
@@ -74,6 +78,6 @@ abbrev pub opened : Shape → ℕ → List TableRow → State
 opened shape number rows = record {
   shape = shape;
   commits = record { base = number; rows = rows; list = [] };
-  sessions = fresh_session ∷ [];
+  sessions = replicate session_count fresh_session;
   stopped = false;
 }

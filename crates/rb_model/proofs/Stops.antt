@@ -1,0 +1,80 @@
+-- When a state is stopped: after a fault of the disk, and else where it was before.
+use Rattle.std.proofs.Common.{◌≡◌, ◌≢◌, ◌∙◌, ⊎_elim, refl, sym, ℕ, Bool, true, false, List, length}
+use Rattle.std.proofs.lemmas.Bool.{cond_both, cases_Bool, false≢true}
+use Rattle.std.proofs.lemmas.List.{length-set}
+use Rattle.rb_model.specs.State.{State, session_of}
+use Rattle.rb_model.specs.Reply.{Call, Write, Commit, OpenCursor, Fetch, CloseCursor, Answer, Done, Waits, Numbered, Given, End, Refused, after, after_grant, after_refusal, committed, is_disk_fault, is_empty, is_fault}
+use Rattle.rb_model.specs.declared.refusal.Refusal.{Refusal}
+use Rattle.rb_model.specs.declared.refusal.Refusal.TheVariants.{NoSession, NoTable, ValueTooLong, Duplicate, NotFound, BlockFull, NoCursor, CursorThere, TooManyCursors, WornOut, DiskFault, Stopped, LogFull}
+
+-- there is one fault of the disk
+pub other_refusal : (why : Refusal) → why ≢ DiskFault → is_disk_fault why ≡ false
+other_refusal DiskFault other = absurd (other refl)
+other_refusal NoSession other = refl
+other_refusal NoTable other = refl
+other_refusal ValueTooLong other = refl
+other_refusal Duplicate other = refl
+other_refusal NotFound other = refl
+other_refusal BlockFull other = refl
+other_refusal NoCursor other = refl
+other_refusal CursorThere other = refl
+other_refusal TooManyCursors other = refl
+other_refusal WornOut other = refl
+other_refusal Stopped other = refl
+other_refusal LogFull other = refl
+
+pub the_fault : (why : Refusal) → is_disk_fault why ≡ true → why ≡ DiskFault
+the_fault DiskFault is = refl
+the_fault NoSession is = absurd (false≢true is)
+the_fault NoTable is = absurd (false≢true is)
+the_fault ValueTooLong is = absurd (false≢true is)
+the_fault Duplicate is = absurd (false≢true is)
+the_fault NotFound is = absurd (false≢true is)
+the_fault BlockFull is = absurd (false≢true is)
+the_fault NoCursor is = absurd (false≢true is)
+the_fault CursorThere is = absurd (false≢true is)
+the_fault TooManyCursors is = absurd (false≢true is)
+the_fault WornOut is = absurd (false≢true is)
+the_fault Stopped is = absurd (false≢true is)
+the_fault LogFull is = absurd (false≢true is)
+
+-- any other refusal leaves the state
+pub refused_same : (h : State) (why : Refusal) → is_disk_fault why ≡ false → after_refusal h why ≡ h
+refused_same h why is = rw is refl
+
+pub refused_stops : (h : State) (why : Refusal) → is_disk_fault why ≡ true → after_refusal h why ≡ record h { stopped = true }
+refused_stops h why is = rw is refl
+
+-- no call takes a session away
+pub sessions_refused : (h : State) (why : Refusal) → length (after_refusal h why).sessions ≡ length h.sessions
+sessions_refused h why = cond_both (is_disk_fault why) (record h { stopped = true }) h (λ (x : State). length x.sessions ≡ length h.sessions) (λ is. refl) (λ is. refl)
+
+granted_same_stop : (h : State) (c : Call) → (after_grant h c).stopped ≡ h.stopped
+granted_same_stop h (Write s table key action) = refl
+granted_same_stop h (Commit s) = cond_both (is_empty (session_of h s).own) h (committed h s) (λ (x : State). x.stopped ≡ h.stopped) (λ w. refl) (λ w. refl)
+granted_same_stop h (OpenCursor s name table lo hi) = refl
+granted_same_stop h (Fetch s name) = refl
+granted_same_stop h (CloseCursor s name) = refl
+
+pub after_same_stop : (h : State) (c : Call) (r : Answer) → is_fault r ≡ false → (after h c r).stopped ≡ h.stopped
+after_same_stop h c Done is = granted_same_stop h c
+after_same_stop h c (Waits on) is = refl
+after_same_stop h c (Numbered n) is = granted_same_stop h c
+after_same_stop h c (Given key value) is = granted_same_stop h c
+after_same_stop h c End is = refl
+after_same_stop h c (Refused why) is = rw is refl
+
+pub after_stops : (h : State) (c : Call) (r : Answer) → is_fault r ≡ true → (after h c r).stopped ≡ true
+after_stops h c Done is = absurd (false≢true is)
+after_stops h c (Waits on) is = absurd (false≢true is)
+after_stops h c (Numbered n) is = absurd (false≢true is)
+after_stops h c (Given key value) is = absurd (false≢true is)
+after_stops h c End is = absurd (false≢true is)
+after_stops h c (Refused why) is = rw is refl
+
+-- what goes on after a call went on before it, and the call told of no fault
+pub went_on : (h : State) (c : Call) (r : Answer) → (after h c r).stopped ≡ false → h.stopped ≡ false
+went_on h c r going = ⊎_elim
+    (λ (is : is_fault r ≡ true). absurd (false≢true (sym going ∙ after_stops h c r is)))
+    (λ (is : is_fault r ≡ false). sym (after_same_stop h c r is) ∙ going)
+    (cases_Bool (is_fault r))
