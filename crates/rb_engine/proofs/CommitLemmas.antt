@@ -19,7 +19,7 @@ use Rattle.rb_sound.proofs.CommitWritten.{commit_next, commit_numbered, rows_kep
 use Rattle.rb_write.specs.Values.{home_block, value_in, IsPlainHome}
 use Rattle.rb_write.proofs.Placed.{row_block}
 use Rattle.std.specs.List.{list_any}
-use Rattle.rb_engine.specs.Crash.{Stands, Survives}
+use Rattle.rb_engine.specs.Crash.{IsDurable, Survives}
 use Rattle.rb_engine.specs.Engine.{IsInStep}
 use Rattle.rb_engine.specs.Holds.{Holds, AHEAD}
 use Rattle.rb_engine.specs.Kept.{Kept}
@@ -112,13 +112,13 @@ module _ {S : Type 0} (s : Ghosts S) (left_opens : (store : S) (b : List (List �
   Written = (b : List (List ℕ)) → s.stable old b → list_any (patches_block (commit_block (s.shape_of old))) (s.pending old) ≡ false
       → LeavesOnly s.moment s.left_since old new (λ i. (x : List (List ℕ)) × s.opens (s.shape_of old) (s.slots old) i x × ((x ≡ b) ⊎ (x ≡ Made)))
 
-  pub none_waits : Stands s kept.state old → list_any (patches_block (commit_block (s.shape_of old))) (s.pending old) ≡ false
+  pub none_waits : IsDurable s kept.state old → list_any (patches_block (commit_block (s.shape_of old))) (s.pending old) ≡ false
   none_waits st = subst (λ (x : Shape). list_any (patches_block (commit_block x)) (s.pending old) ≡ false) (sym step.same_shape) st.quiet
 
-  written : (st : Stands s kept.state old) → Written → LeavesOnly s.moment s.left_since old new (λ i. (x : List (List ℕ)) × s.opens kept.state.shape (s.slots old) i x × ((x ≡ st.base) ⊎ (x ≡ Made)))
+  written : (st : IsDurable s kept.state old) → Written → LeavesOnly s.moment s.left_since old new (λ i. (x : List (List ℕ)) × s.opens kept.state.shape (s.slots old) i x × ((x ≡ st.base) ⊎ (x ≡ Made)))
   written st any = subst (λ (k : Shape). LeavesOnly s.moment s.left_since old new (λ i. (x : List (List ℕ)) × s.opens k (s.slots old) i x × ((x ≡ st.base) ⊎ (x ≡ Made)))) step.same_shape (any st.base st.stable (none_waits st))
 
-  pub survives_committed : s.shape_of new ≡ s.shape_of old → s.slots new ≡ s.slots old → s.blocks new ≡ Made → s.stable new (s.blocks new) → s.pending new ≡ [] → Written → Stands s kept.state old → Survives s (s.slots old) kept.state (committed kept.state 1) old new
+  pub survives_committed : s.shape_of new ≡ s.shape_of old → s.slots new ≡ s.slots old → s.blocks new ≡ Made → s.stable new (s.blocks new) → s.pending new ≡ [] → Written → IsDurable s kept.state old → Survives s (s.slots old) kept.state (committed kept.state 1) old new
   survives_committed shape slots blocks stable flushed any st =
       let held = holds_committed_now s kept old number going is few told step in
       let now_stable = subst (s.stable new) blocks stable in
@@ -131,7 +131,7 @@ module _ {S : Type 0} (s : Ghosts S) (left_opens : (store : S) (b : List (List �
         quiet = subst (λ (gs : List (List Patch)). list_any (patches_block (commit_block kept.state.shape)) gs ≡ false) (sym flushed) refl;
       })
 
-  pub survives_failed : is_empty (session_of kept.state 1).own ≡ false → Written → Stands s kept.state old → Survives s (s.slots old) kept.state (record kept.state { stopped = true }) old new
+  pub survives_failed : is_empty (session_of kept.state 1).own ≡ false → Written → IsDurable s kept.state old → Survives s (s.slots old) kept.state (record kept.state { stopped = true }) old new
   survives_failed some any st =
       commit_failed s (s.slots old) kept.state old new st.base Made st.holds (holds_committed_now s kept old number going is few told step) (written st any) (λ i le here. counts new (s.moment old) i le here) some
 

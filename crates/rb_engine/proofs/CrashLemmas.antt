@@ -12,7 +12,7 @@ use Rattle.rb_model.specs.Reply.{is_empty, committed, rows_now}
 use Rattle.rb_model.specs.Rows.{Commits, TableRow, last_number, rows_at, over}
 use Rattle.rb_model.specs.State.{State, session_of}
 use Rattle.rb_engine.specs.Holds.{Holds}
-use Rattle.rb_engine.specs.Crash.{RestartsAt, Restarts, Stands, AtEnd, whole, one_more, OnTheWay, reached, at_end, Extends, Survives, opens_of}
+use Rattle.rb_engine.specs.Crash.{RestartsAt, Restarts, IsDurable, AtEnd, whole, one_more, OnTheWay, reached, at_end, Extends, Survives, opens_of}
 use Rattle.rb_engine.proofs.KeptLemmas.{over-append}
 
 -- commits are only added
@@ -89,12 +89,12 @@ module _ {S : Type 0} (s : Ghosts S) (slots : Option ℕ) where
         (weaker s.moment s.left_since old mid (OnTheWay (opens_of s slots) h m) (OnTheWay (opens_of s slots) h h2) (λ i w. way_further (opens_of s slots) h m h2 i a.extends b.extends going w) a.any_moment)
         (weaker s.moment s.left_since mid new (OnTheWay (opens_of s slots) m h2) (OnTheWay (opens_of s slots) h h2) (λ i w. way_longer (opens_of s slots) h m h2 i a.extends w) b.any_moment);
     now_only = b.now_only;
-    stands = b.stands;
+    durable = b.durable;
   }
 
 -- the same commits and rows, as the state says it
-stands_same : {S : Type 0} (s : Ghosts S) (h h2 : State) (store : S) → h2.shape ≡ h.shape → h2.commits ≡ h.commits → Stands s h store → Stands s h2 store
-stands_same s h h2 store shape e st = record {
+durable_same : {S : Type 0} (s : Ghosts S) (h h2 : State) (store : S) → h2.shape ≡ h.shape → h2.commits ≡ h.commits → IsDurable s h store → IsDurable s h2 store
+durable_same s h h2 store shape e st = record {
   base = st.base;
   stable = st.stable;
   holds = subst (λ (n : ℕ). Holds h2.shape st.base n (rows_at h2.shape.blocks h2.commits n)) (ap last_number (sym e)) (holds_later h h2 st.base (last_number h.commits) (extends_same h h2 shape e) (omega arith) st.holds);
@@ -108,7 +108,7 @@ pub record Laws {S : Type 0} (s : Ghosts S) : Type 0 where
 
 module _ {S : Type 0} (s : Ghosts S) (laws : Laws s) where
   -- each image of a store that stands for a state opens to its rows
-  pub left_restarts : (h : State) (store : S) (i : s.image) → s.shape_of store ≡ h.shape → Stands s h store → s.left store i → Restarts (opens_of s (s.slots store)) h i
+  pub left_restarts : (h : State) (store : S) (i : s.image) → s.shape_of store ≡ h.shape → IsDurable s h store → s.left store i → Restarts (opens_of s (s.slots store)) h i
   left_restarts h store i shape st here = record {
     blocks = st.base;
     opening = subst (λ (x : Shape). s.opens x (s.slots store) i st.base) shape (laws.left_opens store st.base i st.stable here);
@@ -116,12 +116,12 @@ module _ {S : Type 0} (s : Ghosts S) (laws : Laws s) where
   }
 
   -- over a call that leaves the store and the commits
-  pub survives_still : (h h2 : State) (old new : S) → s.shape_of old ≡ h.shape → new ≡ old → h2.shape ≡ h.shape → h2.commits ≡ h.commits → Stands s h old → Survives s (s.slots old) h h2 old new
+  pub survives_still : (h h2 : State) (old new : S) → s.shape_of old ≡ h.shape → new ≡ old → h2.shape ≡ h.shape → h2.commits ≡ h.commits → IsDurable s h old → Survives s (s.slots old) h h2 old new
   survives_still h h2 old new shape same shapes commits st = subst (λ (d : S). Survives s (s.slots old) h h2 old d) (sym same) (record {
     extends = extends_same h h2 shapes commits;
     any_moment = begun s.moment s.left_since old (OnTheWay (opens_of s (s.slots old)) h h2) (λ i left. at_end (whole (ends i (laws.read_patched old i left))));
     now_only = λ i here. whole (ends i here);
-    stands = λ going. stands_same s h h2 old shapes commits st;
+    durable = λ going. durable_same s h h2 old shapes commits st;
   })
     where
       ends : (i : s.image) → s.left old i → Restarts (opens_of s (s.slots old)) h2 i
@@ -131,14 +131,14 @@ module _ {S : Type 0} (s : Ghosts S) (laws : Laws s) where
   -- stands for then is told apart.
   pub survives_more : (h h2 : State) (old new : S) → s.shape_of old ≡ h.shape → h2.shape ≡ h.shape → h2.commits ≡ h.commits → NoMore (s.left old) (s.left new)
       → Passes (s.moment old) (s.moment new) (s.left_since old) (s.left_since new) (s.left new)
-      → (h2.stopped ≡ false → Stands s h2 new) → Stands s h old → Survives s (s.slots old) h h2 old new
+      → (h2.stopped ≡ false → IsDurable s h2 new) → IsDurable s h old → Survives s (s.slots old) h h2 old new
   survives_more h h2 old new shape shapes commits fewer passes after st = record {
     extends = extends_same h h2 shapes commits;
     any_moment = goes_on s.moment s.left_since old old new (OnTheWay (opens_of s (s.slots old)) h h2) (s.left new)
         (begun s.moment s.left_since old (OnTheWay (opens_of s (s.slots old)) h h2) (λ i left. at_end (whole (ends i (laws.read_patched old i left)))))
         passes (λ i here. at_end (whole (ends i (fewer i here))));
     now_only = λ i here. whole (ends i (fewer i here));
-    stands = after;
+    durable = after;
   }
     where
       ends : (i : s.image) → s.left old i → Restarts (opens_of s (s.slots old)) h2 i
@@ -192,7 +192,7 @@ module _ {S : Type 0} (s : Ghosts S) (slots : Option ℕ) (h : State) (old new :
       either
 
   -- that answered its number
-  pub commit_done : ((i : s.image) → s.left new i → s.opens h.shape slots i now) → Stands s (committed h 1) new → Survives s slots h (committed h 1) old new
+  pub commit_done : ((i : s.image) → s.left new i → s.opens h.shape slots i now) → IsDurable s (committed h 1) new → Survives s slots h (committed h 1) old new
   commit_done kept stands = record {
     extends = extends_committed h;
     any_moment = weaker s.moment s.left_since old new _ (OnTheWay (opens_of s slots) h (committed h 1))
@@ -202,7 +202,7 @@ module _ {S : Type 0} (s : Ghosts S) (slots : Option ℕ) (h : State) (old new :
         (which i cut))
         flush;
     now_only = λ i here. whole (with_it i (kept i here));
-    stands = λ going. stands;
+    durable = λ going. stands;
   }
 
   -- that answered a fault of the store
@@ -211,7 +211,7 @@ module _ {S : Type 0} (s : Ghosts S) (slots : Option ℕ) (h : State) (old new :
     extends = extends_same h (record h { stopped = true }) refl refl;
     any_moment = weaker s.moment s.left_since old new _ (OnTheWay (opens_of s slots) h (record h { stopped = true })) (λ i cut. at_end (left i cut)) flush;
     now_only = λ i here. left i (flush.each i (now_counts i flush.later here));
-    stands = λ going. absurd (false≢true (sym going));
+    durable = λ going. absurd (false≢true (sym going));
   }
     where
       left : (i : s.image) → (b : List (List ℕ)) × s.opens h.shape slots i b × ((b ≡ before) ⊎ (b ≡ now)) → AtEnd (opens_of s slots) (record h { stopped = true }) i

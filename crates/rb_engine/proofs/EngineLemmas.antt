@@ -20,7 +20,7 @@ use Rattle.rb_write.specs.declared.ask.AttemptFault.{AttemptFault}
 use Rattle.rb_write.specs.declared.ask.AttemptFault.TheVariants.{Failed, Duplicate, NotFound, BlockFull, WornOut, LogFull}
 use Rattle.rb_model.specs.Rows.{Commits, TableRow, last_number, rows_at}
 use Rattle.rb_model.specs.State.{State, session_of}
-use Rattle.rb_engine.specs.Crash.{Stands}
+use Rattle.rb_engine.specs.Crash.{IsDurable}
 use Rattle.rb_engine.specs.Engine.{IsInStep, refusal_of, room_left}
 use Rattle.rb_engine.specs.Holds.{Holds, AHEAD}
 use Rattle.rb_engine.specs.Kept.{Kept}
@@ -111,7 +111,7 @@ room_before None number spare enough = omega arith
 room_before (Some n) number spare enough = enough
 
 -- what is stable stands for a state of the same commits, where no more groups than others wait
-pub stands_moved : {S : Type 0} (s : Ghosts S) (h h2 : State) (old new : S) (st : Stands s h old) → h2.shape ≡ h.shape → h2.commits ≡ h.commits → s.stable new st.base → list_any (patches_block (commit_block h.shape)) (s.pending new) ≡ false → Stands s h2 new
+pub stands_moved : {S : Type 0} (s : Ghosts S) (h h2 : State) (old new : S) (st : IsDurable s h old) → h2.shape ≡ h.shape → h2.commits ≡ h.commits → s.stable new st.base → list_any (patches_block (commit_block h.shape)) (s.pending new) ≡ false → IsDurable s h2 new
 stands_moved s h h2 old new st shape commits stable quiet = record {
   base = st.base;
   stable = stable;

@@ -14,6 +14,7 @@ use Rattle.rb_model.specs.State.{State, Cursor, cursor_rows, with_taken, without
 use Rattle.rb_model.specs.Reply.{rows_now, with_own, committed, after_refusal}
 use Rattle.rb_model.specs.declared.refusal.Refusal.{Refusal}
 use Rattle.rb_model.specs.declared.refusal.Refusal.TheVariants.{NoSession, NoTable, ValueTooLong, Duplicate, NotFound, BlockFull, NoCursor, CursorThere, TooManyCursors, WornOut, DiskFault, Stopped, LogFull}
+use Rattle.rb_model.proofs.Stops.{other_refusal, refused_same}
 use Rattle.rb_engine.specs.declared.cursor.OpenCursor.{OpenCursor}
 use Rattle.rb_versions.specs.declared.change.RowChange.{RowChange}
 use Rattle.rb_versions.specs.Changes.{changes_of, change_of}
@@ -292,19 +293,7 @@ kept-push shape base base_length ends changes cursors old_room new_room ends_roo
 
 -- a refusal but a fault of the disk leaves the state
 pub after_other_refusal : (h : State) (why : Refusal) → why ≢ DiskFault → after_refusal h why ≡ h
-after_other_refusal h NoSession other = refl
-after_other_refusal h NoTable other = refl
-after_other_refusal h ValueTooLong other = refl
-after_other_refusal h Duplicate other = refl
-after_other_refusal h NotFound other = refl
-after_other_refusal h BlockFull other = refl
-after_other_refusal h NoCursor other = refl
-after_other_refusal h CursorThere other = refl
-after_other_refusal h TooManyCursors other = refl
-after_other_refusal h WornOut other = refl
-after_other_refusal h DiskFault other = absurd (other refl)
-after_other_refusal h Stopped other = refl
-after_other_refusal h LogFull other = refl
+after_other_refusal h why other = refused_same h why (other_refusal why other)
 
 -- a cursor that is opened now is in order
 pub opened_now : (base base_length : ℕ) (ends : List ℕ) (changes : List RowChange) (c : OpenCursor) → last_end base_length ends ≤ length changes → c.number ≡ base + length ends → c.visible ≡ length changes → IsOpened base base_length ends (length changes) c

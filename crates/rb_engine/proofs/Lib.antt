@@ -1,5 +1,6 @@
 pub mod CommitLemmas
 pub mod CrashLemmas
+pub mod DoesLemmas
 pub mod EngineLemmas
 pub mod FoundLemmas
 pub mod FullLemmas

@@ -55,11 +55,11 @@ own_empty zero (p ∷ changes) some = refl
 own_empty (suc start) (p ∷ changes) some = own_empty start changes (omega (arith, some))
 
 -- where no test of the first ones applies, the others tell
-tests_behind : (tests more : List (Bool × Refusal)) (good : Answer) → none_applies tests ≡ true → first_of (tests ++ more) good ≡ first_of more good
+tests_behind : (tests more : List (Bool × Answer)) (good : Answer) → none_applies tests ≡ true → first_of (tests ++ more) good ≡ first_of more good
 tests_behind [] more good none = refl
 tests_behind (test ∷ tests) more good none =
     let parts = and_parts (not test.0) (none_applies tests) none in
-    cond-false test.0 (Refused test.1) (first_of (tests ++ more) good) (not-true test.0 parts.0) ∙ tests_behind tests more good parts.1
+    cond-false test.0 test.1 (first_of (tests ++ more) good) (not-true test.0 parts.0) ∙ tests_behind tests more good parts.1
 
 -- a write behind its early tests
 pub write_tests : (h : State) (logged room s table key : ℕ) (action : Action) (adding there full : Bool) → none_applies (early_tests h (Write s table key action)) ≡ true → s ≡ 1

@@ -13,6 +13,7 @@ use Rattle.rb_model.specs.Full.{has_key, held, used_keys, full_block}
 use Rattle.rb_model.specs.Reply.{Action, Insert, Update, Delete, Call, Write, Commit, OpenCursor, Fetch, CloseCursor, Answer, Done, Waits, Numbered, Given, End, Refused, adds, change_by, is_empty, rows_now, after, after_grant, after_refusal, committed}
 use Rattle.rb_model.specs.declared.refusal.Refusal.{Refusal}
 use Rattle.rb_model.specs.declared.refusal.Refusal.TheVariants.{NoSession, NoTable, ValueTooLong, Duplicate, NotFound, BlockFull, NoCursor, CursorThere, TooManyCursors, WornOut, DiskFault, Stopped, LogFull}
+use Rattle.rb_model.proofs.Stops.{sessions_refused}
 use Rattle.rb_engine.proofs.KeptLemmas.{over-append}
 use Rattle.rb_engine.proofs.FullLemmas.{distinct_within, is_of, rows_last, uses, used_has, used_home, distinct_used}
 
@@ -278,21 +279,6 @@ sessions_granted h (Commit n) = cond_both (is_empty (session_of h n).own) h (com
 sessions_granted h (OpenCursor n name table lo hi) = length-set h.sessions (n - 1) _
 sessions_granted h (Fetch n name) = length-set h.sessions (n - 1) _
 sessions_granted h (CloseCursor n name) = length-set h.sessions (n - 1) _
-
-sessions_refused : (h : State) (why : Refusal) → length (after_refusal h why).sessions ≡ length h.sessions
-sessions_refused h NoSession = refl
-sessions_refused h NoTable = refl
-sessions_refused h ValueTooLong = refl
-sessions_refused h Duplicate = refl
-sessions_refused h NotFound = refl
-sessions_refused h BlockFull = refl
-sessions_refused h NoCursor = refl
-sessions_refused h CursorThere = refl
-sessions_refused h TooManyCursors = refl
-sessions_refused h WornOut = refl
-sessions_refused h DiskFault = refl
-sessions_refused h Stopped = refl
-sessions_refused h LogFull = refl
 
 pub sessions_after : (h : State) (call : Call) (answer : Answer) → length (after h call answer).sessions ≡ length h.sessions
 sessions_after h call Done = sessions_granted h call

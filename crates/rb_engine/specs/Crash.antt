@@ -42,9 +42,8 @@ pub record Extends (before now : State) : Type 0 where
   pub more : List (List Change)
   pub list : now.commits.list ≡ before.commits.list ++ more
 
--- The store stands for the state: what is stable in it holds the rows after all commits, and no group that waits is a
--- commit.
-pub record Stands {S : Type 0} (s : Ghosts S) (h : State) (store : S) : Type 0 where
+-- What is stable in the store holds the rows after all commits of the state, and no group that waits is a commit.
+pub record IsDurable {S : Type 0} (s : Ghosts S) (h : State) (store : S) : Type 0 where
   pub base : List (List ℕ)
   pub stable : s.stable store base
   pub holds : Holds h.shape base (last_number h.commits) (rows_at h.shape.blocks h.commits (last_number h.commits))
@@ -54,10 +53,10 @@ pub record Stands {S : Type 0} (s : Ghosts S) (h : State) (store : S) : Type 0 w
 abbrev pub opens_of : {S : Type 0} → (s : Ghosts S) → Option ℕ → Shape → s.image → List (List ℕ) → Type 0
 opens_of {S} s slots shape i blocks = s.opens shape slots i blocks
 
--- What a crash may leave at any moment since an earlier store, and what it may leave now. A store that goes on stands for
--- the later state.
+-- What a crash may leave at any moment since an earlier store, and what it may leave now. A store that goes on keeps the
+-- later state.
 pub record Survives {S : Type 0} (s : Ghosts S) (slots : Option ℕ) (before now : State) (old new : S) : Type 0 where
   pub extends : Extends before now
   pub any_moment : LeavesOnly s.moment s.left_since old new (OnTheWay (opens_of s slots) before now)
   pub now_only : (i : s.image) → s.left new i → AtEnd (opens_of s slots) now i
-  pub stands : now.stopped ≡ false → Stands s now new
+  pub durable : now.stopped ≡ false → IsDurable s now new

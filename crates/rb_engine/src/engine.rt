@@ -15,7 +15,7 @@ ghost use Rattle.rb_model.specs.Rows.{has_row, last_number};
 ghost use Rattle.rb_model.specs.State.{session_of};
 ghost use Rattle.rb_sound.specs.Sound.{number_patch};
 ghost use Rattle.rb_write.specs.Writes.{IsShort};
-ghost use Rattle.rb_engine.specs.Crash.{Stands, Survives};
+ghost use Rattle.rb_engine.specs.Crash.{IsDurable, Survives};
 ghost use Rattle.rb_engine.specs.Engine.{EngineView, refusal_of, room_left};
 
 use crate::state::EngineState;
@@ -132,7 +132,7 @@ impl<T: Store> Engine<T> {
         ensures spare { self.new.spare + groups (call.Write 1 table key (action_of op.entry)) (write_answer result) ≡ self.old.spare }
         ensures cause { result ≡ Err Refusal.DiskFault → Rose (T.faults self.old.store) (T.faults self.new.store) }
         ensures counted { T.faults self.old.store ≤ T.faults self.new.store }
-        ensures crash { T.tells → T.keeps → Stands T.Store self.old.state self.old.store → Survives T.Store (T.slots self.old.store) self.old.state self.new.state self.old.store self.new.store }
+        ensures crash { T.tells → T.keeps → IsDurable T.Store self.old.state self.old.store → Survives T.Store (T.slots self.old.store) self.old.state self.new.state self.old.store self.new.store }
     {
         let ask = Ask {
             own: None,
@@ -153,7 +153,7 @@ impl<T: Store> Engine<T> {
 
     /// Inserts, updates or deletes the row of a key. It may be refused, and then nothing is changed, unless a call of the
     /// store failed.
-    pub fn write(&mut self, s: u16, table: u16, key: u64, op: Op<'_>) -> Result<Wrote, Refusal>
+    pub(crate) fn do_write(&mut self, s: u16, table: u16, key: u64, op: Op<'_>) -> Result<Wrote, Refusal>
         ensures answer { T.tells → Reply self.old.state (T.number self.old.store) (room_left (T.slots self.old.store) (T.number self.old.store) self.old.spare) (call.Write s table key (action_of op.entry)) (write_answer result) }
         ensures state { self.new.state ≡ after self.old.state (call.Write s table key (action_of op.entry)) (write_answer result) }
         ensures number { self.new.state.stopped ≡ false → T.number self.new.store ≡ T.number self.old.store + groups (call.Write s table key (action_of op.entry)) (write_answer result) }
@@ -164,7 +164,7 @@ impl<T: Store> Engine<T> {
         ensures counted { T.faults self.old.store ≤ T.faults self.new.store }
         ensures refused { T.tells → IfErr result (λ why. why ≢ Refusal.DiskFault → self.new.store ≡ self.old.store) }
         // At any moment each image has the commits of before.
-        ensures crash { T.tells → T.keeps → Stands T.Store self.old.state self.old.store → Survives T.Store (T.slots self.old.store) self.old.state self.new.state self.old.store self.new.store }
+        ensures crash { T.tells → T.keeps → IsDurable T.Store self.old.state self.old.store → Survives T.Store (T.slots self.old.store) self.old.state self.new.state self.old.store self.new.store }
     {
         if let Some(why) = self.state.write_refusal(s, table, key, op) {
             return Err(why);
@@ -189,7 +189,7 @@ impl<T: Store> Engine<T> {
         ensures spare { self.new.spare ≡ self.old.spare }
         ensures cause { OnErr result (Rose (T.faults self.old.store) (T.faults self.new.store)) }
         ensures counted { T.faults self.old.store ≤ T.faults self.new.store }
-        ensures crash { T.tells → T.keeps → Stands T.Store self.old.state self.old.store → Survives T.Store (T.slots self.old.store) self.old.state self.new.state self.old.store self.new.store }
+        ensures crash { T.tells → T.keeps → IsDurable T.Store self.old.state self.old.store → Survives T.Store (T.slots self.old.store) self.old.state self.new.state self.old.store self.new.store }
     {
         let number = self.state.number() + 1;
         match write_number(&mut self.store, number) {
@@ -203,7 +203,7 @@ impl<T: Store> Engine<T> {
 
     /// Makes the session's changes one more commit, which is in the file in every image once its number is answered.
     /// Without changes it answers None.
-    pub fn commit(&mut self, s: u16) -> Result<Option<u64>, Refusal>
+    pub(crate) fn do_commit(&mut self, s: u16) -> Result<Option<u64>, Refusal>
         ensures answer { (room : ℕ) → Reply self.old.state (T.number self.old.store) room (call.Commit s) (commit_answer result) }
         ensures state { self.new.state ≡ after self.old.state (call.Commit s) (commit_answer result) }
         ensures number { self.new.state.stopped ≡ false → T.number self.new.store ≡ T.number self.old.store + groups (call.Commit s) (commit_answer result) }
@@ -215,7 +215,7 @@ impl<T: Store> Engine<T> {
         ensures refused { IfErr result (λ why. why ≢ Refusal.DiskFault → self.new.store ≡ self.old.store) }
         ensures nothing { result ≡ Ok None → self.new.store ≡ self.old.store }
         // At any moment each image has the commits of before, or at the end this one too.
-        ensures crash { T.tells → T.keeps → Stands T.Store self.old.state self.old.store → Survives T.Store (T.slots self.old.store) self.old.state self.new.state self.old.store self.new.store }
+        ensures crash { T.tells → T.keeps → IsDurable T.Store self.old.state self.old.store → Survives T.Store (T.slots self.old.store) self.old.state self.new.state self.old.store self.new.store }
     {
         match self.state.check_commit(s) {
             Ok(true) => self.make_commit(),
@@ -225,7 +225,7 @@ impl<T: Store> Engine<T> {
     }
 
     /// Opens a cursor over the rows as the session sees them now.
-    pub fn open_cursor(
+    pub(crate) fn do_open_cursor(
         &mut self,
         s: u16,
         name: &Name,
@@ -238,13 +238,13 @@ impl<T: Store> Engine<T> {
         ensures stopped { self.new.state.stopped ≡ self.old.state.stopped }
         ensures store { self.new.store ≡ self.old.store }
         ensures spare { self.new.spare ≡ self.old.spare }
-        ensures crash { T.tells → T.keeps → Stands T.Store self.old.state self.old.store → Survives T.Store (T.slots self.old.store) self.old.state self.new.state self.old.store self.new.store }
+        ensures crash { T.tells → T.keeps → IsDurable T.Store self.old.state self.old.store → Survives T.Store (T.slots self.old.store) self.old.state self.new.state self.old.store self.new.store }
     {
         self.state.open_cursor(s, name, table, lo, hi)
     }
 
     /// Gives the next row of a cursor into `row`, or the end.
-    pub fn fetch(&mut self, s: u16, name: &Name, row: &mut Row) -> Result<Fetched, Refusal>
+    pub(crate) fn do_fetch(&mut self, s: u16, name: &Name, row: &mut Row) -> Result<Fetched, Refusal>
         ensures answer { (logged room : ℕ) → fetch_answer result row.new ≡ expected self.old.state logged room (call.Fetch s (name_text name.now)) }
         ensures state { self.new.state ≡ after self.old.state (call.Fetch s (name_text name.now)) (fetch_answer result row.new) }
         ensures row { LeavesRow result row.old row.new }
@@ -252,19 +252,19 @@ impl<T: Store> Engine<T> {
         ensures store { self.new.store ≡ self.old.store }
         ensures spare { self.new.spare ≡ self.old.spare }
         ensures commits { self.new.state.commits ≡ self.old.state.commits }
-        ensures crash { T.tells → T.keeps → Stands T.Store self.old.state self.old.store → Survives T.Store (T.slots self.old.store) self.old.state self.new.state self.old.store self.new.store }
+        ensures crash { T.tells → T.keeps → IsDurable T.Store self.old.state self.old.store → Survives T.Store (T.slots self.old.store) self.old.state self.new.state self.old.store self.new.store }
     {
         self.state.fetch(s, name, row)
     }
 
     /// Closes the session's cursor of a name.
-    pub fn close_cursor(&mut self, s: u16, name: &Name) -> Result<(), Refusal>
+    pub(crate) fn do_close_cursor(&mut self, s: u16, name: &Name) -> Result<(), Refusal>
         ensures answer { (logged room : ℕ) → plain_answer result ≡ expected self.old.state logged room (call.CloseCursor s (name_text name.now)) }
         ensures state { self.new.state ≡ after self.old.state (call.CloseCursor s (name_text name.now)) (plain_answer result) }
         ensures stopped { self.new.state.stopped ≡ self.old.state.stopped }
         ensures store { self.new.store ≡ self.old.store }
         ensures spare { self.new.spare ≡ self.old.spare }
-        ensures crash { T.tells → T.keeps → Stands T.Store self.old.state self.old.store → Survives T.Store (T.slots self.old.store) self.old.state self.new.state self.old.store self.new.store }
+        ensures crash { T.tells → T.keeps → IsDurable T.Store self.old.state self.old.store → Survives T.Store (T.slots self.old.store) self.old.state self.new.state self.old.store self.new.store }
     {
         self.state.close_cursor(s, name)
     }

@@ -2,6 +2,7 @@
 //! shell runs the lines of a script by it.
 #![tactic(auto)]
 
+mod calls;
 mod cursor;
 mod engine;
 mod laws;

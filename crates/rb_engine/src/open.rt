@@ -10,7 +10,7 @@ ghost use Rattle.rb_model.specs.State.{opened};
 ghost use Rattle.rb_sound.specs.Loads.{OnlyLoads};
 ghost use Rattle.rb_sound.specs.Sound.{commit_logged, commit_number};
 ghost use Rattle.rb_write.specs.Values.{LocksRows};
-ghost use Rattle.rb_engine.specs.Crash.{Stands};
+ghost use Rattle.rb_engine.specs.Does.{StandsOpened};
 ghost use Rattle.rb_engine.specs.Found.{put_row, rows_found, table_of, table_row};
 ghost use Rattle.rb_engine.specs.Holds.{CanOpen, MayOpen, OpensAs, AHEAD};
 
@@ -164,8 +164,9 @@ impl<T: Store> Engine<T> {
         requires going { T.failed store ≡ false }
         requires few { T.number store ≤ 2 ^ 61 + 4096 }
         requires few_slots { (slots : ℕ) → T.slots store ≡ Some slots → slots ≤ 4096 }
-        ensures opened { T.tells → IfOk result (λ e. OpensAs (T.shape_of store) (T.blocks store) e.state) }
-        ensures going { IfOk result (λ e. e.state.stopped ≡ false) }
+        // Over a store of which nothing waits the engine stands for the state to which its blocks open.
+        ensures stands { T.tells → (T.keeps → (T.pending store ≡ []) × T.stable store (T.blocks store))
+            → IfOk result (λ e. StandsOpened T.Store (T.shape_of store) (T.blocks store) e) }
         ensures ample { IfOk result (λ e. T.slots store ≡ None → 2 ^ 16 ≤ e.spare) }
         ensures sound { T.tells → OnOk result (CanOpen (T.shape_of store) (T.blocks store) (T.number store)) }
         ensures none { T.tells → IfErr result (λ r. r.0 ≡ OpenFault.NotAStore → CanOpen (T.shape_of store) (T.blocks store) (T.number store) → ⊥) }
@@ -175,7 +176,6 @@ impl<T: Store> Engine<T> {
         ensures counted_err { IfErr result (λ r. T.faults store ≤ T.faults r.1) }
         ensures loads_ok { IfOk result (λ e. OnlyLoads T.Store store e.store) }
         ensures loads_err { IfErr result (λ r. OnlyLoads T.Store store r.1) }
-        ensures stands { T.tells → T.keeps → T.pending store ≡ [] → T.stable store (T.blocks store) → IfOk result (λ e. Stands T.Store e.state e.store) }
     {
         let mut store = store;
         match open_state(alloc, &mut store) {

@@ -1,20 +1,14 @@
-use Rattle.std.proofs.Common.{refl}
+use Rattle.std.proofs.Common.{inl, ap, sym, ◌∙◌}
 use Rattle.rb_model.specs.Answers.{plain_answer}
 use Rattle.rb_model.specs.Names.{name_text}
 use Rattle.rb_model.specs.Reply as call
-use Rattle.rb_engine.proofs.CrashLemmas.{survives_still}
-use Rattle.rb_engine.proofs.EngineLemmas.{in_step_still}
+use Rattle.rb_engine.specs.Engine.{room_left}
+use Rattle.rb_engine.proofs.DoesLemmas.{does_by, plus_none}
 use Rattle.rb_engine.proofs.engine.Engine.open_cursor.Goals as goal
 
-pub invariant_of-self : goal.invariant_of-self
-invariant_of-self g c =
-    in_step_still g.T.Store c.self.inside.state c.open_cursor.new.self c.self.inside.store (call.OpenCursor c.args.s (name_text c.args.name.now) c.args.table c.args.lo c.args.hi) (plain_answer c.open_cursor.result) c.open_cursor.ensures.state c.open_cursor.ensures.shape c.open_cursor.ensures.commits
-    c.open_cursor.ensures.stopped c.open_cursor.ensures.own c.open_cursor.ensures.spare c.self.invariant
-
-pub returns-clause-answer : goal.returns-clause-answer
-returns-clause-answer g c = rw (← c.self.view_is) (λ logged room. c.open_cursor.ensures.answer logged room)
-
-pub returns-clause-crash : goal.returns-clause-crash
-returns-clause-crash g c = rw (← c.self.view_is) (λ told keeps st.
-    survives_still g.T.Store (record { left_opens = λ store b i. g.met.T.Store.stable_left store b i keeps; read_patched = λ store i. g.met.T.Store.only_now store i keeps })
-    c.self.inside.state.state c.open_cursor.new.self.state c.self.inside.store c.self.inside.store c.self.invariant.same_shape refl c.open_cursor.ensures.shape c.open_cursor.ensures.commits st)
+pub returns-clause-did : goal.returns-clause-did
+returns-clause-did g c = λ h st.
+    let s = g.T.Store in
+    let e = c.do_open_cursor.ensures in
+    does_by s h (call.OpenCursor c.args.s (name_text c.args.name.now) c.args.table c.args.lo c.args.hi) (plain_answer c.do_open_cursor.result) c.args.self.now c.do_open_cursor.new.self st
+    (λ told. inl (e.answer (s.number c.args.self.now.store) (room_left (s.slots c.args.self.now.store) (s.number c.args.self.now.store) c.args.self.now.spare))) e.state (λ going. ap s.number e.store ∙ sym (plus_none _)) (λ told kept durable. e.crash told kept durable)

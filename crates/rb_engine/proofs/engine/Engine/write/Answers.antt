@@ -1,18 +1,14 @@
-use Rattle.std.proofs.Common.{refl}
-use Rattle.rb_engine.proofs.CrashLemmas.{survives_still}
-use Rattle.rb_engine.proofs.EngineLemmas.{groups_of_write}
+use Rattle.std.proofs.Common.{inl, ap, sym, ◌∙◌}
+use Rattle.rb_model.specs.Answers.{write_answer, action_of}
+use Rattle.rb_model.specs.Names.{name_text}
+use Rattle.rb_model.specs.Reply as call
+use Rattle.rb_engine.specs.Engine.{room_left}
+use Rattle.rb_engine.proofs.DoesLemmas.{does_by, plus_none}
 use Rattle.rb_engine.proofs.engine.Engine.write.Goals as goal
 
-pub returns-in-Some-log_refusal-clause-crash : goal.returns-in-Some-log_refusal-clause-crash
-returns-in-Some-log_refusal-clause-crash g c = rw (← c.self.view_is) (λ told keeps st.
-    survives_still g.T.Store (record { left_opens = λ store b i. g.met.T.Store.stable_left store b i keeps; read_patched = λ store i. g.met.T.Store.only_now store i keeps })
-    c.self.inside.state.state c.self.inside.state.state c.self.inside.store c.self.inside.store c.self.invariant.same_shape refl refl refl st)
-
-pub returns-clause-number : goal.returns-clause-number
-returns-clause-number g c = λ going. groups_of_write c.args.self.now.state 1 c.args.table c.args.key _ c.make_write.result c.make_write.new.self.state (g.T.Store.number c.args.self.now.store) (g.T.Store.number c.make_write.new.self.store)
-    c.make_write.ensures.state c.make_write.ensures.done c.make_write.ensures.number c.make_write.ensures.no_number going
-
-pub returns-in-Some-clause-crash : goal.returns-in-Some-clause-crash
-returns-in-Some-clause-crash g c = rw (← c.self.view_is) (λ told keeps st.
-    survives_still g.T.Store (record { left_opens = λ store b i. g.met.T.Store.stable_left store b i keeps; read_patched = λ store i. g.met.T.Store.only_now store i keeps })
-    c.self.inside.state.state c.self.inside.state.state c.self.inside.store c.self.inside.store c.self.invariant.same_shape refl refl refl st)
+pub returns-clause-did : goal.returns-clause-did
+returns-clause-did g c = λ h st.
+    let s = g.T.Store in
+    let e = c.do_write.ensures in
+    does_by s h (call.Write c.args.s c.args.table c.args.key (action_of c.args.op)) (write_answer c.do_write.result) c.args.self.now c.do_write.new.self st
+    (λ told. e.answer told) e.state (λ going. e.number going) (λ told kept durable. e.crash told kept durable)
