@@ -2,6 +2,8 @@
 use Rattle.std.specs.Prelude.{◌≡◌, ℕ, Option, None, Some, Result, Ok, Err}
 use Rattle.rb_model.specs.Reply.{Action, Answer, Waits, Numbered, Given, Refused}
 use Rattle.rb_model.specs.Reply as reply
+use Rattle.rb_model.specs.declared.answer.Answer as code
+use Rattle.rb_model.specs.declared.answer.Answer.TheVariants as answers
 use Rattle.rb_model.specs.declared.op.Op.{Op}
 use Rattle.rb_model.specs.declared.op.Op.TheVariants as op
 use Rattle.rb_model.specs.declared.refusal.Refusal.{Refusal}
@@ -51,3 +53,12 @@ abbrev pub LeavesRow : Result Fetched Refusal → Row → Row → Type 0
 LeavesRow (Ok fetched.Row) old new = Unit {0}
 LeavesRow (Ok fetched.End) old new = new ≡ old
 LeavesRow (Err why) old new = new ≡ old
+
+-- the code's answer, with the row as the call leaves it
+abbrev pub answer_of : code.Answer → Row → Answer
+answer_of answers.Done row = reply.Done
+answer_of (answers.Waits on) row = Waits on
+answer_of (answers.Committed number) row = Numbered number
+answer_of answers.Row row = Given row.key row.value.items
+answer_of answers.End row = reply.End
+answer_of (answers.Refused why) row = Refused why

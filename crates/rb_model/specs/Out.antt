@@ -13,11 +13,9 @@ pub record Logged : Type 0 where
 abbrev pub room : ℕ → ℕ → ℕ
 room slots number = slots - 1 - number
 
--- One call of a session and its reply line. The log number goes up by the groups of the call, unless the disk has failed.
-pub record CallOut (m : Logged) (slots : ℕ) (s : ℕ) (call : Call) (out : List ℕ) (m2 : Logged) : Type 0 where
-  pub answer : Answer
+-- One call with that answer. The log number goes up by the groups of the call, unless the disk has failed.
+pub record CallOut (m : Logged) (slots : ℕ) (call : Call) (answer : Answer) (m2 : Logged) : Type 0 where
   pub reply : Reply m.state m.number (room slots m.number) call answer
-  pub text : out ≡ reply_text s answer
   pub state : m2.state ≡ after m.state call answer
   pub groups : ℕ
   pub grows : m2.state.stopped ≡ false → Grows m.state call answer groups
@@ -31,30 +29,39 @@ is_given (Given key value) = true
 is_given End = false
 is_given (Refused why) = false
 
--- after a fetch with that answer, which gave the log so many groups
-abbrev pub fetched : Logged → ℕ → List ℕ → Answer → ℕ → Logged
-fetched m s name r groups = record { state = after m.state (Fetch s name) r; number = m.number + groups }
+-- Up to `count` calls, each with its reply line to session s. They end at the first answer that is no row.
+abbrev pub CallsOut : Logged → ℕ → ℕ → Call → ℕ → List ℕ → Logged → Type 0
+CallsOut m slots s call zero out m2 = (out ≡ []) × (m2 ≡ m)
+CallsOut m slots s call (suc count) out m2 =
+    (r : Answer) × (rest : List ℕ) × (middle : Logged) × CallOut m slots call r middle × (out ≡ reply_text s r ++ rest)
+    × MatchBool (is_given r) (CallsOut middle slots s call count rest m2) ((rest ≡ []) × (m2 ≡ middle))
 
--- one fetch of a line that has this answer
-pub record FetchOnce (m : Logged) (slots s : ℕ) (name : List ℕ) (r : Answer) (m2 : Logged) : Type 0 where
-  pub reply : Reply m.state m.number (room slots m.number) (Fetch s name) r
-  pub groups : ℕ
-  pub grows : Grows m.state (Fetch s name) r groups
-  pub after : m2 ≡ fetched m s name r groups
+-- what a command calls
+abbrev pub call_of : Command → Call
+call_of (WriteLine s table key action) = Write s table key action
+call_of (CommitLine s) = Commit s
+call_of (OpenLine s name table lo hi) = OpenCursor s name table lo hi
+call_of (FetchLine s name count) = Fetch s name
+call_of (CloseLine s name) = CloseCursor s name
 
--- Up to `count` fetches, which end at the first answer that is no row.
-abbrev pub FetchOut : Logged → ℕ → ℕ → List ℕ → ℕ → List ℕ → Logged → Type 0
-FetchOut m slots s name zero out m2 = (out ≡ []) × (m2 ≡ m)
-FetchOut m slots s name (suc count) out m2 =
-    (r : Answer) × (rest : List ℕ) × (middle : Logged) × FetchOnce m slots s name r middle × (out ≡ reply_text s r ++ rest)
-    × MatchBool (is_given r) (FetchOut middle slots s name count rest m2) ((rest ≡ []) × (m2 ≡ middle))
+-- and how often at most
+abbrev pub most_calls : Command → ℕ
+most_calls (WriteLine s table key action) = 1
+most_calls (CommitLine s) = 1
+most_calls (OpenLine s name table lo hi) = 1
+most_calls (FetchLine s name count) = count
+most_calls (CloseLine s name) = 1
+
+-- the session that it names, to which the replies are
+abbrev pub caller : Command → ℕ
+caller (WriteLine s table key action) = s
+caller (CommitLine s) = s
+caller (OpenLine s name table lo hi) = s
+caller (FetchLine s name count) = s
+caller (CloseLine s name) = s
 
 abbrev pub CommandOut : Logged → ℕ → Command → List ℕ → Logged → Type 0
-CommandOut m slots (WriteLine s table key action) out m2 = CallOut m slots s (Write s table key action) out m2
-CommandOut m slots (CommitLine s) out m2 = CallOut m slots s (Commit s) out m2
-CommandOut m slots (OpenLine s name table lo hi) out m2 = CallOut m slots s (OpenCursor s name table lo hi) out m2
-CommandOut m slots (FetchLine s name count) out m2 = FetchOut m slots s name count out m2
-CommandOut m slots (CloseLine s name) out m2 = CallOut m slots s (CloseCursor s name) out m2
+CommandOut m slots c out m2 = CallsOut m slots (caller c) (call_of c) (most_calls c) out m2
 
 -- What one line does. A line of more than 512 bytes is bad whatever it has; one CR at its end doesn't count.
 pub data LineOut (m : Logged) (slots : ℕ) (line out : List ℕ) (m2 : Logged) : Type 0 where

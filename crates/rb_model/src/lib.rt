@@ -1,12 +1,14 @@
 //! The abstract machine of numbered commits, in `specs/`, and the plain types of the engine's calls.
 #![tactic(auto)]
 
+mod answer;
 mod name;
 mod op;
 mod refusal;
 mod row;
 mod wrote;
 
+pub use answer::Answer;
 pub use name::Name;
 pub use op::Op;
 pub use refusal::Refusal;
