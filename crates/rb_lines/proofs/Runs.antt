@@ -2,10 +2,10 @@
 use Rattle.std.proofs.Common.{◌≡◌, ℕ, ◌+◌, true, false, List, [], ◌∷◌, ◌++◌, length, take, min, Result, Ok, Err, refl, sym, ◌∙◌, ap, subst, arith, append_assoc, append-nil}
 use Rattle.std.proofs.lemmas.List.{take-append-le, take_min}
 use Rattle.std.proofs.Math.Seq.{take-append-add}
-use Rattle.rb_model.specs.Out.{Logged, Out}
+use Rattle.rb_model.specs.Out.{Logged, LineOut, Out}
 use Rattle.rb_lines.specs.declared.runner.StepFault.{StepFault}
 use Rattle.rb_lines.specs.declared.runner.StepFault.TheVariants.{Disk, Sink}
-use Rattle.rb_lines.specs.Ran.{LineRan, LineRanAs, LineCutOff, Ran, CutOff, RanAs}
+use Rattle.rb_lines.specs.Ran.{Replied, CutShort, LineRanAs, Ran, CutOff, RanAs}
 use Rattle.rb_lines.proofs.Outs.{front_out, one_out, append_out, stopped_out}
 
 -- no line
@@ -14,7 +14,7 @@ ran_none slots h tells held = record { out = []; replies = (refl, refl); written
 
 -- a line of which the runner had the front
 pub ran_one : (slots : ℕ) (h h2 : Logged) (line front : List ℕ) (tells : Type 0) (held held2 : List ℕ)
-    → front ≡ take 513 line → LineRan slots h h2 front tells held held2 → Ran slots h h2 (line ∷ []) tells held held2
+    → front ≡ take 513 line → Replied (LineOut h slots front) h2 tells held held2 → Ran slots h h2 (line ∷ []) tells held held2
 ran_one slots h h2 line front tells held held2 e r = record {
   out = r.out;
   replies = one_out h slots line r.out h2 (front_out h slots line front r.out h2 e r.reply);
@@ -22,7 +22,7 @@ ran_one slots h h2 line front tells held held2 e r = record {
 }
 
 pub cut_one : (slots : ℕ) (h h2 : Logged) (line front : List ℕ) (held held2 : List ℕ)
-    → front ≡ take 513 line → LineCutOff slots h h2 front held held2 → CutOff slots h h2 (line ∷ []) held held2
+    → front ≡ take 513 line → CutShort (LineOut h slots front) h2 held held2 → CutOff slots h h2 (line ∷ []) held held2
 cut_one slots h h2 line front held held2 e r = record {
   count = 1;
   out = r.out;
