@@ -13,6 +13,7 @@ use Rattle.rb_engine.specs.Holds.{OpensAs}
 pub record Stands {S : Type 0} (s : Ghosts S) (h : State) (e : EngineView S) : Type 0 where
   pub told : s.tells
   pub memory : h ≡ e.state
+  pub shape : s.shape_of e.store ≡ h.shape
   pub durable : h.stopped ≡ false → s.keeps → IsDurable s h e.store
 
 -- A call with that answer on an engine that stood for h: the machine allows the answer, and the engine stands for the

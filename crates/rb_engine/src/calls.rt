@@ -20,7 +20,7 @@ impl<T: Store> Engine<T> {
             (call.Write s table key (action_of op.entry)) (write_answer result) self.old self.new }
         ensures same { SameStore T.Store self.old.store self.new.store }
         ensures refused { T.tells → IfErr result (λ why. why ≢ Refusal.DiskFault → self.new.store ≡ self.old.store) }
-        ensures disk { T.tells → IsCountedAs (T.faults self.old.store) (T.faults self.new.store)
+        ensures disk { IsCountedAs (T.faults self.old.store) (T.faults self.new.store)
             (is_fault (write_answer result)) }
     {
         self.do_write(s, table, key, op)

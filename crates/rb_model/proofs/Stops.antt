@@ -78,3 +78,19 @@ went_on h c r going = ⊎_elim
     (λ (is : is_fault r ≡ true). absurd (false≢true (sym going ∙ after_stops h c r is)))
     (λ (is : is_fault r ≡ false). sym (after_same_stop h c r is) ∙ going)
     (cases_Bool (is_fault r))
+
+-- no call changes the shape
+granted_shape : (h : State) (c : Call) → (after_grant h c).shape ≡ h.shape
+granted_shape h (Write s table key action) = refl
+granted_shape h (Commit s) = cond_both (is_empty (session_of h s).own) h (committed h s) (λ (x : State). x.shape ≡ h.shape) (λ w. refl) (λ w. refl)
+granted_shape h (OpenCursor s name table lo hi) = refl
+granted_shape h (Fetch s name) = refl
+granted_shape h (CloseCursor s name) = refl
+
+pub after_shape : (h : State) (c : Call) (r : Answer) → (after h c r).shape ≡ h.shape
+after_shape h c Done = granted_shape h c
+after_shape h c (Waits on) = refl
+after_shape h c (Numbered n) = granted_shape h c
+after_shape h c (Given key value) = granted_shape h c
+after_shape h c End = refl
+after_shape h c (Refused why) = cond_both (is_disk_fault why) (record h { stopped = true }) h (λ (x : State). x.shape ≡ h.shape) (λ is. refl) (λ is. refl)

@@ -1,58 +1,18 @@
--- What a step of the shell writes and leaves.
-use Rattle.std.specs.Prelude.{◌≡◌, ℕ, ◌+◌, Bool, true, false, List, ◌++◌, take, Option, None, Some, Result, Ok, Err}
-use Rattle.rb_base.specs.declared.store.Store.{Ghosts}
-use Rattle.rb_engine.specs.Engine.{EngineView}
+-- What a line's calls and replies leave, while some of the replies wait to be sent.
+use Rattle.std.specs.Prelude.{◌≡◌, ◌⊎◌, ℕ, ◌+◌, ◌≤◌, Bool, true, false, List, ◌++◌, length, take, drop, Result, Ok, Err}
+use Rattle.rb_lines.specs.Ran.{CutShort}
+use Rattle.rb_lines.specs.declared.runner.StepFault.{StepFault}
+use Rattle.rb_lines.specs.declared.runner.StepFault.TheVariants.{Disk, Sink}
+use Rattle.rb_model.specs.Answers.{answer_of}
 use Rattle.rb_model.specs.Lines.{reply_text}
-use Rattle.rb_model.specs.Out.{Logged, room, is_given, fetched, FetchOut}
-use Rattle.rb_model.specs.Reply.{Answer, Done, Waits, Numbered, Given, End, Refused, Fetch}
-use Rattle.rb_model.specs.Reply as call
-use Rattle.rb_model.specs.declared.refusal.Refusal.{Refusal}
-use Rattle.rb_model.specs.declared.refusal.Refusal.TheVariants.{NoSession, NoTable, ValueTooLong, Duplicate, NotFound, BlockFull, NoCursor, CursorThere, TooManyCursors, WornOut, DiskFault, Stopped, LogFull}
-use Rattle.rb_lines.specs.Ran.{SameButCursors}
-use Rattle.rb_lines.specs.declared.machine.StepFault.{StepFault}
-use Rattle.rb_lines.specs.declared.machine.StepFault.TheVariants.{Disk, Sink}
+use Rattle.rb_model.specs.Out.{Logged, CallOut, CallsOut}
+use Rattle.rb_model.specs.Reply.{Answer, Call, is_disk_fault}
+use Rattle.rb_model.specs.declared.answer.Answer as code
+use Rattle.rb_model.specs.declared.row.Row.{Row}
 use Rattle.rb_script.specs.declared.reply.Reply.{Reply}
 use Rattle.rb_script.specs.declared.reply.Reply.TheVariants as replies
 
--- an engine's state, and the last log number of its store
-abbrev pub logged : {S : Type 0} → (s : Ghosts S) → EngineView S → Logged
-logged {S} s e = record { state = e.state; number = s.number e.store }
-
--- the slots of a log, where there is an end of it
-abbrev pub slots_of : Option ℕ → ℕ
-slots_of None = 0
-slots_of (Some slots) = slots
-
--- The engine can do lines: its store tells its blocks, and its log has an end.
-pub record IsReady {S : Type 0} (s : Ghosts S) (e : EngineView S) : Type 0 where
-  pub told : s.tells
-  pub slots : s.slots e.store ≡ Some (slots_of (s.slots e.store))
-
-abbrev pub is_disk_fault : Refusal → Bool
-is_disk_fault DiskFault = true
-is_disk_fault NoSession = false
-is_disk_fault NoTable = false
-is_disk_fault ValueTooLong = false
-is_disk_fault Duplicate = false
-is_disk_fault NotFound = false
-is_disk_fault BlockFull = false
-is_disk_fault NoCursor = false
-is_disk_fault CursorThere = false
-is_disk_fault TooManyCursors = false
-is_disk_fault WornOut = false
-is_disk_fault Stopped = false
-is_disk_fault LogFull = false
-
--- the answer tells of a fault of the disk
-abbrev pub is_fault : Answer → Bool
-is_fault Done = false
-is_fault (Waits on) = false
-is_fault (Numbered n) = false
-is_fault (Given key value) = false
-is_fault End = false
-is_fault (Refused why) = is_disk_fault why
-
--- so does the reply
+-- a reply tells of a fault of the disk
 abbrev pub tells_fault : Reply → Bool
 tells_fault (replies.Done s) = false
 tells_fault (replies.Committed s number) = false
@@ -62,53 +22,66 @@ tells_fault (replies.Waits s on) = false
 tells_fault (replies.Refused s why) = is_disk_fault why
 tells_fault replies.BadLine = false
 
--- A text was put: whole, or a front of it where the sink failed. A reply that tells of a fault of the disk ends
--- the step with that fault.
-abbrev pub Told : List ℕ → Bool → Type 0 → List ℕ → List ℕ → Result (Unit {0}) StepFault → Type 0
-Told text fault tells before now (Ok done) = (fault ≡ false) × (tells → now ≡ before ++ text)
-Told text fault tells before now (Err Disk) = (fault ≡ true) × (tells → now ≡ before ++ text)
-Told text fault tells before now (Err Sink) = tells → (n : ℕ) × (now ≡ before ++ take n text)
+-- A text was added to what waits. It waits with it, or all that waited before was sent.
+abbrev pub Added : List ℕ → Type 0 → (held_before waiting_before held_now waiting_now : List ℕ) → Type 0
+Added text tells held_before waiting_before held_now waiting_now =
+    ((waiting_now ≡ waiting_before ++ text) × (tells → held_now ≡ held_before))
+    ⊎ ((waiting_now ≡ text) × (tells → held_now ≡ held_before ++ waiting_before))
 
--- replies as a relation allows them, the state after them, and that the sink holds them then, where it tells
-pub record Replied (allows : List ℕ → Logged → Type 0) (state : Logged) (tells : Type 0) (before now : List ℕ) : Type 0 where
+-- The sink failed: it holds a front of what waited.
+abbrev pub Lost : Type 0 → (held_before waiting_before held_now : List ℕ) → Type 0
+Lost tells held_before waiting_before held_now = tells → (n : ℕ) × (held_now ≡ held_before ++ take n waiting_before)
+
+-- A reply was added, or lost. One that tells of a fault of the disk ends the step with that fault.
+abbrev pub Told : List ℕ → Bool → Type 0 → (held_before waiting_before held_now waiting_now : List ℕ) → Result (Unit {0}) StepFault → Type 0
+Told text fault tells held_before waiting_before held_now waiting_now (Ok done) =
+    (fault ≡ false) × Added text tells held_before waiting_before held_now waiting_now
+Told text fault tells held_before waiting_before held_now waiting_now (Err Disk) =
+    (fault ≡ true) × Added text tells held_before waiting_before held_now waiting_now
+Told text fault tells held_before waiting_before held_now waiting_now (Err Sink) =
+    Lost tells held_before waiting_before held_now
+
+-- One call of a session was made, and its reply added.
+pub record CalledOnce (m : Logged) (slots s : ℕ) (call : Call) (answer : Answer) (now : Logged) (tells : Type 0)
+    (held_before waiting_before held_now waiting_now : List ℕ) : Type 0 where
+  pub made : CallOut m slots call answer now
+  pub added : Added (reply_text s answer) tells held_before waiting_before held_now waiting_now
+
+-- One call by its end: its answer, a fault of the disk, or its reply was lost.
+abbrev pub Calls : (m : Logged) (slots s : ℕ) (call : Call) (row : Row) (now : Logged) (tells : Type 0)
+    (held_before waiting_before held_now waiting_now : List ℕ) → Result code.Answer StepFault → Type 0
+Calls m slots s call row now tells held_before waiting_before held_now waiting_now (Ok answer) =
+    CalledOnce m slots s call (answer_of answer row) now tells held_before waiting_before held_now waiting_now
+    × (now.state.stopped ≡ false)
+Calls m slots s call row now tells held_before waiting_before held_now waiting_now (Err Disk) =
+    (answer : Answer) × CalledOnce m slots s call answer now tells held_before waiting_before held_now waiting_now
+    × (now.state.stopped ≡ true)
+Calls m slots s call row now tells held_before waiting_before held_now waiting_now (Err Sink) =
+    (answer : Answer) × CallOut m slots call answer now × Lost tells held_before waiting_before held_now
+
+-- Replies as a relation allows them, and the state after them. The first `sent` bytes were sent, and the others wait.
+pub record Said (allows : List ℕ → Logged → Type 0) (now : Logged) (tells : Type 0) (before held waiting : List ℕ) : Type 0 where
   pub out : List ℕ
-  pub reply : allows out state
-  pub written : tells → now ≡ before ++ out
+  pub reply : allows out now
+  pub sent : ℕ
+  pub few : sent ≤ length out
+  pub holds : tells → held ≡ before ++ take sent out
+  pub waits : waiting ≡ drop sent out
 
--- A front of replies as a relation allows them. They may go on where a fetch was cut off, so the state after them may
--- have other cursors than the one that the step leaves.
-pub record CutShort (allows : List ℕ → Logged → Type 0) (left : Logged) (before now : List ℕ) : Type 0 where
+-- the same by the end of a step, as `RepliedAs` says it of what was sent
+abbrev pub SaidAs : (List ℕ → Logged → Type 0) → Logged → Type 0 → (before held waiting : List ℕ) → Result (Unit {0}) StepFault → Type 0
+SaidAs allows now tells before held waiting (Ok done) = Said allows now tells before held waiting × (now.state.stopped ≡ false)
+SaidAs allows now tells before held waiting (Err Disk) = Said allows now tells before held waiting × (now.state.stopped ≡ true)
+SaidAs allows now tells before held waiting (Err Sink) = tells → CutShort allows now before held
+
+-- So many calls were made, each with a row for an answer: what goes on from here goes on from the start.
+pub record SaidSoFar (start : Logged) (slots s : ℕ) (call : Call) (count : ℕ) (now : Logged) (tells : Type 0)
+    (before held waiting : List ℕ) : Type 0 where
   pub out : List ℕ
-  pub state : Logged
-  pub reply : allows out state
-  pub same : SameButCursors state left
-  pub size : ℕ
-  pub written : now ≡ before ++ take size out
-
--- What a step did, by its result: at a fault of the disk the replies end with it and the state is stopped, else it is
--- stopped where it was before.
-abbrev pub Steps : (List ℕ → Logged → Type 0) → Bool → Logged → Type 0 → List ℕ → List ℕ → Result (Unit {0}) StepFault → Type 0
-Steps allows was state tells before now (Ok done) = Replied allows state tells before now × (state.state.stopped ≡ was)
-Steps allows was state tells before now (Err Disk) = Replied allows state tells before now × (state.state.stopped ≡ true)
-Steps allows was state tells before now (Err Sink) = tells → CutShort allows state before now
-
--- one fetch and its reply line
-pub record FetchOnce (h : Logged) (slots s : ℕ) (name : List ℕ) (gave : Bool) (out : List ℕ) (h2 : Logged) : Type 0 where
-  pub answer : Answer
-  pub reply : call.Reply h.state h.number (room slots h.number) (Fetch s name) answer
-  pub gives : is_given answer ≡ gave
-  pub text : out ≡ reply_text s answer
-  pub state : h2 ≡ fetched h s name answer
-
--- What one fetch did, by its result: whether it gave a row.
-abbrev pub FetchSteps : Logged → ℕ → ℕ → List ℕ → Logged → Type 0 → List ℕ → List ℕ → Result Bool StepFault → Type 0
-FetchSteps h slots s name state tells before now (Ok gave) = Replied (FetchOnce h slots s name gave) state tells before now × (state.state.stopped ≡ h.state.stopped)
-FetchSteps h slots s name state tells before now (Err Disk) = Replied (FetchOnce h slots s name false) state tells before now × (state.state.stopped ≡ true)
-FetchSteps h slots s name state tells before now (Err Sink) = tells → (gave : Bool) × CutShort (FetchOnce h slots s name gave) state before now
-
--- After so many fetches that each gave a row: what goes on from here goes on from the start.
-pub record FetchedSoFar (start : Logged) (slots s : ℕ) (name : List ℕ) (count : ℕ) (h : Logged) (tells : Type 0) (before now : List ℕ) : Type 0 where
-  pub out : List ℕ
-  pub goes_on : (more : ℕ) (rest : List ℕ) (h2 : Logged) → FetchOut h slots s name more rest h2 → FetchOut start slots s name (count + more) (out ++ rest) h2
-  pub written : tells → now ≡ before ++ out
-  pub stopped : h.state.stopped ≡ start.state.stopped
+  pub goes_on : (more : ℕ) (rest : List ℕ) (end : Logged) → CallsOut now slots s call more rest end
+      → CallsOut start slots s call (count + more) (out ++ rest) end
+  pub sent : ℕ
+  pub few : sent ≤ length out
+  pub holds : tells → held ≡ before ++ take sent out
+  pub waits : waiting ≡ drop sent out
+  pub going : now.state.stopped ≡ false

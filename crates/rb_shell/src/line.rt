@@ -1,25 +1,28 @@
-//! `step`: one line through the engine to the sink. `Interpreter` does each line of a script by it.
-ghost use Rattle.std.specs.Prelude.{◌≡◌, ◌≤◌, ℕ, List, Some, false, true, length, IsTrue, IsErrOf, IfOk, [], ◌++◌};
-ghost use Rattle.rb_base.specs.Counts.{Rose, IsCounted};
-ghost use Rattle.rb_stream.specs.StreamModel.{Puts};
+//! `step`: one line through the engine to the sink. The run of a script does each line by `do_line`.
+ghost use Rattle.std.specs.Prelude.{◌≡◌, ℕ, Some, false, [], OnOk};
+ghost use Rattle.rb_base.specs.Counts.{IsCountedAs, err_is};
+ghost use Rattle.rb_engine.specs.Does.{Does, SameStore, Stands};
+ghost use Rattle.rb_lines.specs.Faults.{is_disk, is_sink};
+ghost use Rattle.rb_lines.specs.Ran.{Did, LineRanAs};
+ghost use Rattle.rb_model.specs.Answers.{answer_of};
 ghost use Rattle.rb_model.specs.Lines as lines;
-ghost use Rattle.rb_model.specs.Names.{name_text};
-ghost use Rattle.rb_model.specs.Out.{CallOut, CommandOut, FetchOut, LineOut, is_given};
-ghost use Rattle.rb_model.specs.Reply as call;
-ghost use Rattle.rb_model.specs.Answers.{action_of, write_answer, plain_answer, commit_answer, fetch_answer};
+ghost use Rattle.rb_model.specs.Out.{Logged, CommandOut, LineOut, call_of, caller, most_calls};
+ghost use Rattle.rb_model.specs.Reply.{is_fault};
+ghost use Rattle.rb_model.specs.State.{State};
 ghost use Rattle.rb_script.specs.Commands.{command_of};
-ghost use Rattle.rb_script.specs.Replies.{text_of_reply, FitsALine};
-ghost use Rattle.rb_engine.specs.Crash.{Survives};
-ghost use Rattle.rb_shell.specs.Since.{StandsFor};
-ghost use Rattle.rb_shell.specs.Steps.{Told, Steps, FetchSteps, logged, tells_fault};
-ghost use Rattle.rb_shell.specs.Steps.{is_fault as is_fault_answer};
+ghost use Rattle.rb_shell.specs.Since.{IsSince, StandsAs, slots_of};
+ghost use Rattle.rb_shell.specs.Steps.{Calls, SaidAs};
 
+use crate::replies::{
+    Waiting, answer_to_call, answer_to_commit, answer_to_fetch, answer_to_write, reply_of, send,
+    tell,
+};
 use arrayvec::ArrayVec;
-use rb_base::{Failed, Store};
+use rb_base::Store;
 use rb_engine::Engine;
 use rb_lines::StepFault;
-use rb_model::{Fetched, Name, Op, Refusal, Row, Wrote};
-use rb_script::{Command, Reply, parse, print};
+use rb_model::{Answer, Row};
+use rb_script::{Command, Reply, parse};
 use rb_stream::Sink;
 
 /// The most bytes of a line, without its LF.
@@ -45,300 +48,167 @@ fn is_remark(line: &[u8]) -> bool
     }
 }
 
-/// Puts the text of a reply.
-fn put_reply<K: Sink>(reply: &Reply<'_>, sink: &mut K) -> Result<(), Failed>
-    requires { FitsALine reply.now }
-    ensures put { K.tells → Puts (K.held sink.old) (K.held sink.new) (text_of_reply reply.now) result }
-    ensures counted { IsCounted (K.faults sink.old) (K.faults sink.new) result }
+/// The session that a command names.
+fn caller_of(command: &Command<'_>) -> u16
+    ensures { result ≡ caller (command_of command.now) }
 {
-    let mut text = ArrayVec::new();
-    print(reply, &mut text);
-    sink.put(text.as_slice())
-}
-
-/// Whether the reply tells of a fault of the disk.
-fn is_fault(reply: &Reply<'_>) -> bool
-    ensures { result ≡ tells_fault reply.now }
-{
-    match reply {
-        Reply::Refused { s: _, why } => *why == Refusal::DiskFault,
-        _ => false,
+    match command {
+        Command::Write { s, t: _, k: _, op: _ } => *s,
+        Command::Commit { s } => *s,
+        Command::OpenCursor { s, name: _, t: _, lo: _, hi: _ } => *s,
+        Command::Fetch { s, name: _, n: _ } => *s,
+        Command::CloseCursor { s, name: _ } => *s,
     }
 }
 
-/// Puts a reply, and ends the step where it tells of a fault of the disk.
-fn tell<K: Sink>(reply: &Reply<'_>, sink: &mut K) -> Result<(), StepFault>
-    requires { FitsALine reply.now }
-    ensures told { Told (text_of_reply reply.now) (tells_fault reply.now) K.tells (K.held sink.old) (K.held sink.new) result }
-    ensures sink { IsErrOf result StepFault.Sink → Rose (K.faults sink.old) (K.faults sink.new) }
-    ensures counted { K.faults sink.old ≤ K.faults sink.new }
+/// How many calls a command makes at most.
+fn calls_of(command: &Command<'_>) -> u32
+    ensures { result ≡ most_calls (command_of command.now) }
 {
-    if put_reply(reply, sink).is_err() {
-        return Err(StepFault::Sink);
-    }
-    if is_fault(reply) {
-        return Err(StepFault::Disk);
-    }
-    Ok(())
-}
-
-/// The reply to a write.
-fn reply_to_write(s: u16, answer: Result<Wrote, Refusal>) -> Reply<'static>
-    ensures text { text_of_reply result ≡ lines.reply_text s (write_answer answer) }
-    ensures fault { tells_fault result ≡ is_fault_answer (write_answer answer) }
-    ensures fits { FitsALine result }
-{
-    match answer {
-        Ok(Wrote::Done) => Reply::Done { s },
-        Ok(Wrote::Waits { on }) => Reply::Waits { s, on },
-        Err(why) => Reply::Refused { s, why },
+    match command {
+        Command::Fetch { s: _, name: _, n } => *n,
+        _ => 1,
     }
 }
 
-/// The reply to a commit.
-fn reply_to_commit(s: u16, answer: Result<Option<u64>, Refusal>) -> Reply<'static>
-    ensures text { text_of_reply result ≡ lines.reply_text s (commit_answer answer) }
-    ensures fault { tells_fault result ≡ is_fault_answer (commit_answer answer) }
-    ensures fits { FitsALine result }
+/// Makes a command's call once. A row that it gives is in `row` then.
+fn answer<T: Store>(engine: &mut Engine<T>, command: &Command<'_>, row: &mut Row) -> Answer
+    ensures did { (h : State) → Stands T.Store h engine.old → Does T.Store h
+        (call_of (command_of command.now)) (answer_of result row.new) engine.old engine.new }
+    ensures same { SameStore T.Store engine.old.store engine.new.store }
+    ensures disk { IsCountedAs (T.faults engine.old.store) (T.faults engine.new.store)
+        (is_fault (answer_of result row.new)) }
 {
-    match answer {
-        Ok(None) => Reply::Done { s },
-        Ok(Some(number)) => Reply::Committed { s, number },
-        Err(why) => Reply::Refused { s, why },
+    match command {
+        Command::Write { s, t, k, op } => answer_to_write(engine.write(*s, *t, *k, *op)),
+        Command::Commit { s } => answer_to_commit(engine.commit(*s)),
+        Command::OpenCursor { s, name, t, lo, hi } => {
+            answer_to_call(engine.open_cursor(*s, name, *t, *lo, *hi))
+        }
+        Command::Fetch { s, name, n: _ } => answer_to_fetch(engine.fetch(*s, name, row)),
+        Command::CloseCursor { s, name } => answer_to_call(engine.close_cursor(*s, name)),
     }
 }
 
-/// The reply to a call that tells nothing but that it was done.
-fn reply_to_call(s: u16, answer: Result<(), Refusal>) -> Reply<'static>
-    ensures text { text_of_reply result ≡ lines.reply_text s (plain_answer answer) }
-    ensures fault { tells_fault result ≡ is_fault_answer (plain_answer answer) }
-    ensures fits { FitsALine result }
-{
-    match answer {
-        Ok(()) => Reply::Done { s },
-        Err(why) => Reply::Refused { s, why },
-    }
-}
-
-/// The reply to a fetch.
-fn reply_to_fetch(s: u16, answer: Result<Fetched, Refusal>, row: &Row) -> Reply<'_>
-    ensures text { text_of_reply result ≡ lines.reply_text s (fetch_answer answer row.now) }
-    ensures fault { tells_fault result ≡ is_fault_answer (fetch_answer answer row.now) }
-    ensures fits { FitsALine result }
-{
-    match answer {
-        Ok(Fetched::Row) => Reply::Row {
-            s,
-            key: row.key,
-            value: row.value.as_slice(),
-        },
-        Ok(Fetched::End) => Reply::End { s },
-        Err(why) => Reply::Refused { s, why },
-    }
-}
-
-/// Does an `insert`, `update` or `delete` line.
-fn write_line<T: Store, K: Sink>(
+/// Makes a command's call once, and tells its answer.
+fn call_once<T: Store, K: Sink>(
     engine: &mut Engine<T>,
-    s: u16,
-    table: u16,
-    key: u64,
-    op: Op<'_>,
-    sink: &mut K,
-) -> Result<(), StepFault>
-    ensures steps { T.tells → (slots : ℕ) → T.slots engine.old.store ≡ Some slots → Steps (CallOut (logged T.Store engine.old) slots s (call.Write s table key (action_of op.entry))) engine.old.state.stopped (logged T.Store engine.new) K.tells (K.held sink.old) (K.held sink.new) result }
-    ensures slots { T.slots engine.new.store ≡ T.slots engine.old.store }
-    ensures shape { T.shape_of engine.new.store ≡ T.shape_of engine.old.store }
-    ensures crash { T.tells → T.keeps → StandsFor T.Store engine.old → Survives T.Store (T.slots engine.old.store) engine.old.state engine.new.state engine.old.store engine.new.store }
-    ensures disk { IsErrOf result StepFault.Disk → Rose (T.faults engine.old.store) (T.faults engine.new.store) }
-    ensures counted { T.faults engine.old.store ≤ T.faults engine.new.store }
-    ensures sink { IsErrOf result StepFault.Sink → Rose (K.faults sink.old) (K.faults sink.new) }
-    ensures sink_counted { K.faults sink.old ≤ K.faults sink.new }
-{
-    let answer = engine.write(s, table, key, op);
-    tell(&reply_to_write(s, answer), sink)
-}
-
-/// Does a `commit` line.
-fn commit_line<T: Store, K: Sink>(
-    engine: &mut Engine<T>,
-    s: u16,
-    sink: &mut K,
-) -> Result<(), StepFault>
-    ensures steps { T.tells → (slots : ℕ) → T.slots engine.old.store ≡ Some slots → Steps (CallOut (logged T.Store engine.old) slots s (call.Commit s)) engine.old.state.stopped (logged T.Store engine.new) K.tells (K.held sink.old) (K.held sink.new) result }
-    ensures slots { T.slots engine.new.store ≡ T.slots engine.old.store }
-    ensures shape { T.shape_of engine.new.store ≡ T.shape_of engine.old.store }
-    ensures crash { T.tells → T.keeps → StandsFor T.Store engine.old → Survives T.Store (T.slots engine.old.store) engine.old.state engine.new.state engine.old.store engine.new.store }
-    ensures disk { IsErrOf result StepFault.Disk → Rose (T.faults engine.old.store) (T.faults engine.new.store) }
-    ensures counted { T.faults engine.old.store ≤ T.faults engine.new.store }
-    ensures sink { IsErrOf result StepFault.Sink → Rose (K.faults sink.old) (K.faults sink.new) }
-    ensures sink_counted { K.faults sink.old ≤ K.faults sink.new }
-{
-    let answer = engine.commit(s);
-    tell(&reply_to_commit(s, answer), sink)
-}
-
-/// Does an `open` line.
-fn open_line<T: Store, K: Sink>(
-    engine: &mut Engine<T>,
-    s: u16,
-    name: &Name,
-    table: u16,
-    lo: u64,
-    hi: u64,
-    sink: &mut K,
-) -> Result<(), StepFault>
-    ensures steps { T.tells → (slots : ℕ) → T.slots engine.old.store ≡ Some slots → Steps (CallOut (logged T.Store engine.old) slots s (call.OpenCursor s (name_text name.now) table lo hi)) engine.old.state.stopped (logged T.Store engine.new) K.tells (K.held sink.old) (K.held sink.new) result }
-    ensures slots { T.slots engine.new.store ≡ T.slots engine.old.store }
-    ensures shape { T.shape_of engine.new.store ≡ T.shape_of engine.old.store }
-    ensures crash { T.tells → T.keeps → StandsFor T.Store engine.old → Survives T.Store (T.slots engine.old.store) engine.old.state engine.new.state engine.old.store engine.new.store }
-    ensures disk { IsErrOf result StepFault.Disk → Rose (T.faults engine.old.store) (T.faults engine.new.store) }
-    ensures counted { T.faults engine.old.store ≤ T.faults engine.new.store }
-    ensures sink { IsErrOf result StepFault.Sink → Rose (K.faults sink.old) (K.faults sink.new) }
-    ensures sink_counted { K.faults sink.old ≤ K.faults sink.new }
-{
-    let answer = engine.open_cursor(s, name, table, lo, hi);
-    tell(&reply_to_call(s, answer), sink)
-}
-
-/// Whether a fetch gave a row.
-fn gives_row(answer: Result<Fetched, Refusal>) -> bool
-    ensures { (row : Row) → is_given (fetch_answer answer row) ≡ result }
-{
-    match answer {
-        Ok(Fetched::Row) => true,
-        Ok(Fetched::End) => false,
-        Err(_) => false,
-    }
-}
-
-/// Does one fetch, and says whether it gave a row.
-fn fetch_one<T: Store, K: Sink>(
-    engine: &mut Engine<T>,
-    s: u16,
-    name: &Name,
+    command: &Command<'_>,
     row: &mut Row,
+    waiting: &mut Waiting,
     sink: &mut K,
-) -> Result<bool, StepFault>
-    ensures steps { T.tells → (slots : ℕ) → T.slots engine.old.store ≡ Some slots → FetchSteps (logged T.Store engine.old) slots s (name_text name.now) (logged T.Store engine.new) K.tells (K.held sink.old) (K.held sink.new) result }
-    ensures store { engine.new.store ≡ engine.old.store }
-    ensures state_shape { engine.new.state.shape ≡ engine.old.state.shape }
-    ensures commits { engine.new.state.commits ≡ engine.old.state.commits }
-    ensures disk { IsErrOf result StepFault.Disk → ⊥ }
-    ensures sink { IsErrOf result StepFault.Sink → Rose (K.faults sink.old) (K.faults sink.new) }
-    ensures sink_counted { K.faults sink.old ≤ K.faults sink.new }
+) -> Result<Answer, StepFault>
+    ensures did { (m : Logged) → StandsAs T.Store engine.old m → m.state.stopped ≡ false
+        → Did (StandsAs T.Store) (IsSince T.Store) engine.old engine.new m (λ now. Calls m
+            (slots_of (T.slots engine.old.store)) (caller (command_of command.now)) (call_of (command_of command.now))
+            row.new now K.tells (K.held sink.old) waiting.old.items (K.held sink.new) waiting.new.items result) }
+    ensures same { SameStore T.Store engine.old.store engine.new.store }
+    ensures disk { IsCountedAs (T.faults engine.old.store) (T.faults engine.new.store) (err_is is_disk result) }
+    ensures sink { IsCountedAs (K.faults sink.old) (K.faults sink.new) (err_is is_sink result) }
 {
-    let answer = engine.fetch(s, name, row);
-    match tell(&reply_to_fetch(s, answer, row), sink) {
-        Ok(()) => Ok(gives_row(answer)),
-        Err(fault) => Err(fault),
-    }
+    let answer = answer(engine, command, row);
+    tell(&reply_of(caller_of(command), answer, row), waiting, sink)?;
+    Ok(answer)
 }
 
-/// Does a `fetch` line: up to `count` fetches, which end at the first answer that is no row.
-fn fetch_line<T: Store, K: Sink>(
+/// Makes a command's calls and tells their answers. They end at the first that is no row.
+fn run_command<T: Store, K: Sink>(
     engine: &mut Engine<T>,
-    s: u16,
-    name: &Name,
-    count: u32,
+    command: &Command<'_>,
+    waiting: &mut Waiting,
     sink: &mut K,
 ) -> Result<(), StepFault>
-    ensures steps { T.tells → (slots : ℕ) → T.slots engine.old.store ≡ Some slots → Steps (FetchOut (logged T.Store engine.old) slots s (name_text name.now) count) engine.old.state.stopped (logged T.Store engine.new) K.tells (K.held sink.old) (K.held sink.new) result }
-    ensures slots { T.slots engine.new.store ≡ T.slots engine.old.store }
-    ensures shape { T.shape_of engine.new.store ≡ T.shape_of engine.old.store }
-    ensures crash { T.tells → T.keeps → StandsFor T.Store engine.old → Survives T.Store (T.slots engine.old.store) engine.old.state engine.new.state engine.old.store engine.new.store }
-    ensures disk { IsErrOf result StepFault.Disk → Rose (T.faults engine.old.store) (T.faults engine.new.store) }
-    ensures counted { T.faults engine.old.store ≤ T.faults engine.new.store }
-    ensures sink { IsErrOf result StepFault.Sink → Rose (K.faults sink.old) (K.faults sink.new) }
-    ensures sink_counted { K.faults sink.old ≤ K.faults sink.new }
+    requires { waiting.old.items ≡ [] }
+    ensures did { (m : Logged) → StandsAs T.Store engine.old m → m.state.stopped ≡ false
+        → Did (StandsAs T.Store) (IsSince T.Store) engine.old engine.new m (λ now. SaidAs (CommandOut m
+            (slots_of (T.slots engine.old.store)) (command_of command.now)) now K.tells (K.held sink.old)
+            (K.held sink.new) waiting.new.items result) }
+    ensures same { SameStore T.Store engine.old.store engine.new.store }
+    ensures disk { IsCountedAs (T.faults engine.old.store) (T.faults engine.new.store) (err_is is_disk result) }
+    ensures sink { IsCountedAs (K.faults sink.old) (K.faults sink.new) (err_is is_sink result) }
 {
     let mut row = Row {
         key: 0,
         value: ArrayVec::new(),
     };
-    for _ in 0..count {
-        match fetch_one(engine, s, name, &mut row, sink) {
-            Ok(true) => {}
-            Ok(false) => return Ok(()),
-            Err(fault) => return Err(fault),
+    for _ in 0..calls_of(command) {
+        match call_once(engine, command, &mut row, waiting, sink)? {
+            Answer::Row => {}
+            _ => return Ok(()),
         }
     }
     Ok(())
 }
 
-/// Does a `close` line.
-fn close_line<T: Store, K: Sink>(
-    engine: &mut Engine<T>,
-    s: u16,
-    name: &Name,
-    sink: &mut K,
-) -> Result<(), StepFault>
-    ensures steps { T.tells → (slots : ℕ) → T.slots engine.old.store ≡ Some slots → Steps (CallOut (logged T.Store engine.old) slots s (call.CloseCursor s (name_text name.now))) engine.old.state.stopped (logged T.Store engine.new) K.tells (K.held sink.old) (K.held sink.new) result }
-    ensures slots { T.slots engine.new.store ≡ T.slots engine.old.store }
-    ensures shape { T.shape_of engine.new.store ≡ T.shape_of engine.old.store }
-    ensures crash { T.tells → T.keeps → StandsFor T.Store engine.old → Survives T.Store (T.slots engine.old.store) engine.old.state engine.new.state engine.old.store engine.new.store }
-    ensures disk { IsErrOf result StepFault.Disk → Rose (T.faults engine.old.store) (T.faults engine.new.store) }
-    ensures counted { T.faults engine.old.store ≤ T.faults engine.new.store }
-    ensures sink { IsErrOf result StepFault.Sink → Rose (K.faults sink.old) (K.faults sink.new) }
-    ensures sink_counted { K.faults sink.old ≤ K.faults sink.new }
-{
-    let answer = engine.close_cursor(s, name);
-    tell(&reply_to_call(s, answer), sink)
-}
-
-/// Does a command.
-fn run_command<T: Store, K: Sink>(
-    engine: &mut Engine<T>,
-    command: &Command<'_>,
-    sink: &mut K,
-) -> Result<(), StepFault>
-    ensures steps { T.tells → (slots : ℕ) → T.slots engine.old.store ≡ Some slots → Steps (CommandOut (logged T.Store engine.old) slots (command_of command.now)) engine.old.state.stopped (logged T.Store engine.new) K.tells (K.held sink.old) (K.held sink.new) result }
-    ensures slots { T.slots engine.new.store ≡ T.slots engine.old.store }
-    ensures shape { T.shape_of engine.new.store ≡ T.shape_of engine.old.store }
-    ensures crash { T.tells → T.keeps → StandsFor T.Store engine.old → Survives T.Store (T.slots engine.old.store) engine.old.state engine.new.state engine.old.store engine.new.store }
-    ensures disk { IsErrOf result StepFault.Disk → Rose (T.faults engine.old.store) (T.faults engine.new.store) }
-    ensures counted { T.faults engine.old.store ≤ T.faults engine.new.store }
-    ensures sink { IsErrOf result StepFault.Sink → Rose (K.faults sink.old) (K.faults sink.new) }
-    ensures sink_counted { K.faults sink.old ≤ K.faults sink.new }
-{
-    match command {
-        Command::Write { s, t, k, op } => write_line(engine, *s, *t, *k, *op, sink),
-        Command::Commit { s } => commit_line(engine, *s, sink),
-        Command::OpenCursor { s, name, t, lo, hi } => {
-            open_line(engine, *s, name, *t, *lo, *hi, sink)
-        }
-        Command::Fetch { s, name, n } => fetch_line(engine, *s, name, *n, sink),
-        Command::CloseCursor { s, name } => close_line(engine, *s, name, sink),
-    }
-}
-
-/// Does one line of a script, which comes without its LF, and puts its replies. Of a line of more than 512 bytes
-/// any 513 or more of its first bytes serve.
-pub fn step<T: Store, K: Sink>(
+/// Does one line, and leaves the last of its replies waiting.
+fn say_line<T: Store, K: Sink>(
     engine: &mut Engine<T>,
     line: &[u8],
+    waiting: &mut Waiting,
     sink: &mut K,
 ) -> Result<(), StepFault>
-    // The replies to the line, and the state after them; at a fault of the disk they end with it. A crash may leave no
-    // more than these states.
-    ensures steps { T.tells → (slots : ℕ) → T.slots engine.old.store ≡ Some slots → Steps (LineOut (logged T.Store engine.old) slots line.now) engine.old.state.stopped (logged T.Store engine.new) K.tells (K.held sink.old) (K.held sink.new) result }
-    ensures slots { T.slots engine.new.store ≡ T.slots engine.old.store }
-    ensures shape { T.shape_of engine.new.store ≡ T.shape_of engine.old.store }
-    ensures crash { T.tells → T.keeps → StandsFor T.Store engine.old → Survives T.Store (T.slots engine.old.store) engine.old.state engine.new.state engine.old.store engine.new.store }
-    ensures disk { IsErrOf result StepFault.Disk → Rose (T.faults engine.old.store) (T.faults engine.new.store) }
-    ensures counted { T.faults engine.old.store ≤ T.faults engine.new.store }
-    ensures sink { IsErrOf result StepFault.Sink → Rose (K.faults sink.old) (K.faults sink.new) }
-    ensures sink_counted { K.faults sink.old ≤ K.faults sink.new }
+    requires { waiting.old.items ≡ [] }
+    ensures did { (m : Logged) → StandsAs T.Store engine.old m → m.state.stopped ≡ false
+        → Did (StandsAs T.Store) (IsSince T.Store) engine.old engine.new m (λ now. SaidAs (LineOut m
+            (slots_of (T.slots engine.old.store)) line.now) now K.tells (K.held sink.old)
+            (K.held sink.new) waiting.new.items result) }
+    ensures same { SameStore T.Store engine.old.store engine.new.store }
+    ensures disk { IsCountedAs (T.faults engine.old.store) (T.faults engine.new.store) (err_is is_disk result) }
+    ensures sink { IsCountedAs (K.faults sink.old) (K.faults sink.new) (err_is is_sink result) }
 {
     if line.len() > LINE_BYTES {
-        return tell(&Reply::BadLine, sink);
+        return tell(&Reply::BadLine, waiting, sink);
     }
     let text = without_return(line);
     if is_remark(text) {
         return Ok(());
     }
     match parse(text) {
-        None => tell(&Reply::BadLine, sink),
-        Some(command) => run_command(engine, &command, sink),
+        None => tell(&Reply::BadLine, waiting, sink),
+        Some(command) => run_command(engine, &command, waiting, sink),
     }
+}
+
+/// Does one line of a script, and puts its replies. What an earlier line that failed left waiting is dropped.
+pub fn do_line<T: Store, K: Sink>(
+    engine: &mut Engine<T>,
+    line: &[u8],
+    waiting: &mut Waiting,
+    sink: &mut K,
+) -> Result<(), StepFault>
+    ensures did { (m : Logged) → StandsAs T.Store engine.old m → m.state.stopped ≡ false
+        → Did (StandsAs T.Store) (IsSince T.Store) engine.old engine.new m (λ now. LineRanAs
+            (slots_of (T.slots engine.old.store)) m now line.now K.tells (K.held sink.old) (K.held sink.new) result) }
+    ensures same { SameStore T.Store engine.old.store engine.new.store }
+    ensures disk { IsCountedAs (T.faults engine.old.store) (T.faults engine.new.store) (err_is is_disk result) }
+    ensures sink { IsCountedAs (K.faults sink.old) (K.faults sink.new) (err_is is_sink result) }
+{
+    waiting.clear();
+    let said = say_line(engine, line, waiting, sink);
+    if let Err(StepFault::Sink) = said {
+        return said;
+    }
+    if send(waiting, sink).is_err() {
+        return Err(StepFault::Sink);
+    }
+    said
+}
+
+/// Does one line of a script, which comes without its LF, and puts its replies when it is done. Of a line of more than
+/// 512 bytes any 513 or more of its first bytes serve.
+pub fn step<T: Store, K: Sink>(
+    engine: &mut Engine<T>,
+    line: &[u8],
+    sink: &mut K,
+) -> Result<(), StepFault>
+    // For every state that the engine stands for: the replies to the line, and the state after them. At a fault of the
+    // disk they end with it. A crash may leave no more than these states.
+    ensures did { (m : Logged) → StandsAs T.Store engine.old m → m.state.stopped ≡ false
+        → Did (StandsAs T.Store) (IsSince T.Store) engine.old engine.new m (λ now. LineRanAs
+            (slots_of (T.slots engine.old.store)) m now line.now K.tells (K.held sink.old) (K.held sink.new) result) }
+    ensures same { SameStore T.Store engine.old.store engine.new.store }
+    ensures disk { IsCountedAs (T.faults engine.old.store) (T.faults engine.new.store) (err_is is_disk result) }
+    ensures sink { IsCountedAs (K.faults sink.old) (K.faults sink.new) (err_is is_sink result) }
+{
+    do_line(engine, line, &mut ArrayVec::new(), sink)
 }

@@ -1,0 +1,152 @@
+//! The replies of a line, which wait until it is done and are put in few pieces. `line` tells them.
+ghost use Rattle.std.specs.Prelude.{◌≡◌, ◌+◌, ◌≤◌, ◌++◌, List, length, [], IsTrue, OnOk, OnErr, ◌↔◌};
+ghost use Rattle.arrayvec.specs.ArrayVec.{array_vec_len};
+ghost use Rattle.rb_base.specs.Counts.{IsCounted, IsCountedAs, err_is};
+ghost use Rattle.rb_lines.specs.Faults.{is_sink};
+ghost use Rattle.rb_model.specs.Answers.{answer_of, write_answer, plain_answer, commit_answer, fetch_answer};
+ghost use Rattle.rb_model.specs.Lines.{reply_text};
+ghost use Rattle.rb_model.specs.Reply.{is_fault};
+ghost use Rattle.rb_script.specs.Replies.{text_of_reply, FitsALine};
+ghost use Rattle.rb_shell.specs.Steps.{Added, Lost, Told, tells_fault};
+ghost use Rattle.rb_stream.specs.StreamModel.{Puts};
+
+use arrayvec::ArrayVec;
+use rb_base::Failed;
+use rb_lines::StepFault;
+use rb_model::{Answer, Fetched, Refusal, Row, Wrote};
+use rb_script::{Reply, print};
+use rb_stream::Sink;
+
+/// The most bytes of one reply.
+const REPLY_BYTES: usize = 512;
+
+/// What waits to be put: at most 64 KiB.
+pub type Waiting = ArrayVec<u8, 65_536>;
+
+/// The answer of a write.
+pub fn answer_to_write(outcome: Result<Wrote, Refusal>) -> Answer
+    ensures { (row : Row) → answer_of result row ≡ write_answer outcome }
+{
+    match outcome {
+        Ok(Wrote::Done) => Answer::Done,
+        Ok(Wrote::Waits { on }) => Answer::Waits { on },
+        Err(why) => Answer::Refused { why },
+    }
+}
+
+/// The answer of a commit.
+pub fn answer_to_commit(outcome: Result<Option<u64>, Refusal>) -> Answer
+    ensures { (row : Row) → answer_of result row ≡ commit_answer outcome }
+{
+    match outcome {
+        Ok(None) => Answer::Done,
+        Ok(Some(number)) => Answer::Committed { number },
+        Err(why) => Answer::Refused { why },
+    }
+}
+
+/// The answer of a call that gives nothing but that it was done.
+pub fn answer_to_call(outcome: Result<(), Refusal>) -> Answer
+    ensures { (row : Row) → answer_of result row ≡ plain_answer outcome }
+{
+    match outcome {
+        Ok(()) => Answer::Done,
+        Err(why) => Answer::Refused { why },
+    }
+}
+
+/// The answer of a fetch, beside its row.
+pub fn answer_to_fetch(outcome: Result<Fetched, Refusal>) -> Answer
+    ensures { (row : Row) → answer_of result row ≡ fetch_answer outcome row }
+{
+    match outcome {
+        Ok(Fetched::Row) => Answer::Row,
+        Ok(Fetched::End) => Answer::End,
+        Err(why) => Answer::Refused { why },
+    }
+}
+
+/// The reply to session `s`.
+pub fn reply_of(s: u16, answer: Answer, row: &Row) -> Reply<'_>
+    ensures text { text_of_reply result ≡ reply_text s (answer_of answer row.now) }
+    ensures fault { tells_fault result ≡ is_fault (answer_of answer row.now) }
+    ensures fits { FitsALine result }
+{
+    match answer {
+        Answer::Done => Reply::Done { s },
+        Answer::Waits { on } => Reply::Waits { s, on },
+        Answer::Committed { number } => Reply::Committed { s, number },
+        Answer::Row => Reply::Row {
+            s,
+            key: row.key,
+            value: row.value.as_slice(),
+        },
+        Answer::End => Reply::End { s },
+        Answer::Refused { why } => Reply::Refused { s, why },
+    }
+}
+
+/// Whether a reply tells of a fault of the disk.
+fn is_disk_fault(reply: &Reply<'_>) -> bool
+    ensures { result ≡ tells_fault reply.now }
+{
+    match reply {
+        Reply::Refused { s: _, why } => *why == Refusal::DiskFault,
+        _ => false,
+    }
+}
+
+/// Puts what waits, as one piece. Where nothing waits, the sink isn't called.
+pub fn send<K: Sink>(waiting: &mut Waiting, sink: &mut K) -> Result<(), Failed>
+    ensures sent { K.tells → Puts (K.held sink.old) (K.held sink.new) waiting.old.items result }
+    ensures none { OnOk result (waiting.new.items ≡ []) }
+    ensures counted { IsCounted (K.faults sink.old) (K.faults sink.new) result }
+{
+    if waiting.is_empty() {
+        return Ok(());
+    }
+    sink.put(waiting.as_slice())?;
+    waiting.clear();
+    Ok(())
+}
+
+/// Whether one more reply has room.
+fn has_room(waiting: &Waiting) -> bool
+    ensures { IsTrue result ↔ (array_vec_len waiting.now + 512 ≤ 65536) }
+{
+    waiting.len() + REPLY_BYTES <= waiting.capacity()
+}
+
+/// Adds the text of a reply to what waits, which is sent first where it leaves no room.
+fn add<K: Sink>(reply: &Reply<'_>, waiting: &mut Waiting, sink: &mut K) -> Result<(), Failed>
+    requires { FitsALine reply.now }
+    ensures added { OnOk result (Added (text_of_reply reply.now) K.tells (K.held sink.old) waiting.old.items
+        (K.held sink.new) waiting.new.items) }
+    ensures lost { OnErr result (Lost K.tells (K.held sink.old) waiting.old.items (K.held sink.new)) }
+    ensures counted { IsCounted (K.faults sink.old) (K.faults sink.new) result }
+{
+    let mut text = ArrayVec::new();
+    print(reply, &mut text);
+    if !has_room(waiting) {
+        send(waiting, sink)?;
+    }
+    let fits = waiting.try_extend_from_slice(text.as_slice()).is_ok();
+    prove!(fits);
+    Ok(())
+}
+
+/// Tells a reply, and ends the step where it is one of a fault of the disk.
+pub fn tell<K: Sink>(reply: &Reply<'_>, waiting: &mut Waiting, sink: &mut K) -> Result<(), StepFault>
+    requires { FitsALine reply.now }
+    ensures told { Told (text_of_reply reply.now) (tells_fault reply.now) K.tells (K.held sink.old) waiting.old.items
+        (K.held sink.new) waiting.new.items result }
+    ensures sink { IsCountedAs (K.faults sink.old) (K.faults sink.new) (err_is is_sink result) }
+{
+    if add(reply, waiting, sink).is_err() {
+        return Err(StepFault::Sink);
+    }
+    if is_disk_fault(reply) {
+        return Err(StepFault::Disk);
+    }
+    Ok(())
+}
