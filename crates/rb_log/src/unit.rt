@@ -3,7 +3,7 @@
 ghost use Rattle.std.specs.Prelude.{◌≡◌, ◌≢◌, ◌≤◌, ◌<◌, ◌+◌, ◌↔◌, ℕ, List, [], length, slice_index, IsTrue, IsErrOf, IfOk, IfSome, IfNone};
 ghost use Rattle.std.specs.List.{AllByRecursion};
 ghost use Rattle.rb_base.specs.Blocks.{shape_blocks};
-ghost use Rattle.rb_base.specs.Counts.{Rose};
+ghost use Rattle.rb_base.specs.Counts.{IsCountedAs, err_is, is_failed};
 ghost use Rattle.rb_base.specs.Groups.{Patch};
 ghost use Rattle.rb_disk.specs.Moments.{Rests};
 ghost use Rattle.rb_layout.specs.Regions.{file_length};
@@ -84,9 +84,8 @@ pub fn read_group<D: Disk>(
     ensures shut { D.tells → IfOk result (λ o. IfNone o (slice_index (slot_at (D.content disk.old) slot) 0 ≢ 1)) }
     ensures opened { D.tells → IsErrOf result OpenFault.NotAStore → slice_index (slot_at (D.content disk.old) slot) 0 ≡ 1 }
     ensures faulty { D.tells → IsErrOf result OpenFault.NotAStore → (group : List Patch) → HasGroup layout.now (slot_at (D.content disk.old) slot) number group → ⊥ }
-    ensures failed { IsErrOf result OpenFault.Failed → Rose (D.faults disk.old) (D.faults disk.new) }
     ensures no_memory { IsErrOf result OpenFault.NoMemory → ⊥ }
-    ensures counted { D.faults disk.old ≤ D.faults disk.new }
+    ensures counted { IsCountedAs (D.faults disk.old) (D.faults disk.new) (err_is is_failed result) }
     ensures same { D.tells → Rests D.content D.image D.moment D.image_since disk.old disk.new }
 {
     let at = layout.log_at(slot);

@@ -1,4 +1,4 @@
-use Rattle.std.proofs.Common.{◌+◌, ◌-◌, take, drop, refl, arith}
+use Rattle.std.proofs.Common.{◌+◌, ◌-◌, take, drop, refl, ◌∙◌, arith}
 use Rattle.rb_log.proofs.GroupRuns.{NextRun, no_run, runs_more, run_moment, run_done}
 use Rattle.rb_log.proofs.flush.write_groups.Given.{Over}
 use Rattle.rb_log.proofs.flush.write_groups.Goals.{After-write_run}
@@ -8,7 +8,7 @@ pub loop-done-init : goal.loop-done-init
 loop-done-init g c = record {
   runs = (0, omega arith);
   so_far = λ told. no_run g.D.Disk.content g.D.Disk.image g.D.Disk.moment g.D.Disk.image_since c.args.layout.now c.args.used c.args.groups.now c.args.disk.now (λ f left. g.met.D.Disk.only_now c.args.disk.now f told left) (c.requires.synced told) (c.requires.whole told);
-  counted = omega arith;
+  still = refl;
 }
 
 -- the run that is written
@@ -34,5 +34,5 @@ loop-done-preserved g c =
       so_far = λ told.
           run_done g.D.Disk.content g.D.Disk.image g.D.Disk.moment g.D.Disk.image_since c.args.layout.now c.args.used c.args.groups.now _ c.loop-done.done c.min-end.result c.loop-done.invariant.runs.0 here c.args.disk.now c.loop-done.disk c.write_run.new.disk
           (c.loop-done.invariant.so_far told) (g.met.D.Disk.reads_an_image c.args.disk.now told) (did.written told) (did.units told) (did.others told) (did.outside told) (did.durable told) (did.whole told) (did.any_moment told);
-      counted = omega (arith, c.loop-done.invariant.counted, did.counted.no_less);
+      still = did.counted.still ∙ c.loop-done.invariant.still;
     }

@@ -10,12 +10,12 @@ write_at-requires-in-loop-unit g c = λ told.
 pub loop-unit-init : goal.loop-unit-init
 loop-unit-init g c = record {
   written = λ told. first_written (g.D.Disk.content c.args.disk.now) (g.D.Disk.content c.write_at.new.self) c.first_unit.result (c.requires told) (c.in_ok-write_at.ensures.written told) ∙ c.first_unit.ensures;
-  no_less = c.write_at.ensures.counted.no_less;
+  still = c.in_ok-write_at.ensures.counted.still;
 }
 
 pub loop-unit-preserved : goal.loop-unit-preserved
 loop-unit-preserved g c = record {
   written = λ told. zeros_written 102 (g.D.Disk.content c.loop-unit.disk) (g.D.Disk.content c.write_at-in-loop-unit.new.self) c.empty_unit-empty.result c.args.layout.now
       (c.loop-unit.unit * 2048) (2048 * c.loop-unit.unit - 24) 2048 (2048 * (c.loop-unit.unit + 1) - 24) (c.loop-unit.invariant.written told) (omega arith) c.empty_unit-empty.ensures (c.in_ok-write_at-2.ensures.written told) (omega arith);
-  no_less = omega (arith, c.loop-unit.invariant.no_less, c.write_at-in-loop-unit.ensures.counted.no_less);
+  still = c.in_ok-write_at-2.ensures.counted.still ∙ c.loop-unit.invariant.still;
 }
