@@ -1,9 +1,9 @@
 //! The calls of `Engine`, as the abstract machine sees them. The shell makes one for each command.
 ghost use Rattle.std.specs.Prelude.{◌≡◌, ◌≢◌, IfErr};
-ghost use Rattle.rb_base.specs.Counts.{IsCountedAs};
+ghost use Rattle.rb_base.specs.Counts.{IsCountedAs, err_is};
 ghost use Rattle.rb_model.specs.Answers.{action_of, write_answer, plain_answer, fetch_answer, commit_answer, LeavesRow};
 ghost use Rattle.rb_model.specs.Names.{name_text};
-ghost use Rattle.rb_model.specs.Reply.{is_fault};
+ghost use Rattle.rb_model.specs.Reply.{is_disk_fault};
 ghost use Rattle.rb_model.specs.Reply as call;
 ghost use Rattle.rb_model.specs.State.{State};
 ghost use Rattle.rb_engine.specs.Does.{Does, SameStore, Stands};
@@ -21,7 +21,7 @@ impl<T: Store> Engine<T> {
         ensures same { SameStore T.Store self.old.store self.new.store }
         ensures refused { T.tells → IfErr result (λ why. why ≢ Refusal.DiskFault → self.new.store ≡ self.old.store) }
         ensures disk { IsCountedAs (T.faults self.old.store) (T.faults self.new.store)
-            (is_fault (write_answer result)) }
+            (err_is is_disk_fault result) }
     {
         self.do_write(s, table, key, op)
     }
@@ -35,7 +35,7 @@ impl<T: Store> Engine<T> {
         ensures refused { IfErr result (λ why. why ≢ Refusal.DiskFault → self.new.store ≡ self.old.store) }
         ensures nothing { result ≡ Ok None → self.new.store ≡ self.old.store }
         ensures disk { IsCountedAs (T.faults self.old.store) (T.faults self.new.store)
-            (is_fault (commit_answer result)) }
+            (err_is is_disk_fault result) }
     {
         self.do_commit(s)
     }
@@ -53,7 +53,7 @@ impl<T: Store> Engine<T> {
             (call.OpenCursor s (name_text name.now) table lo hi) (plain_answer result) self.old self.new }
         ensures same { SameStore T.Store self.old.store self.new.store }
         ensures disk { IsCountedAs (T.faults self.old.store) (T.faults self.new.store)
-            (is_fault (plain_answer result)) }
+            (err_is is_disk_fault result) }
     {
         self.do_open_cursor(s, name, table, lo, hi)
     }
@@ -65,7 +65,7 @@ impl<T: Store> Engine<T> {
         ensures row { LeavesRow result row.old row.new }
         ensures same { SameStore T.Store self.old.store self.new.store }
         ensures disk { IsCountedAs (T.faults self.old.store) (T.faults self.new.store)
-            (is_fault (fetch_answer result row.new)) }
+            (err_is is_disk_fault result) }
     {
         self.do_fetch(s, name, row)
     }
@@ -76,7 +76,7 @@ impl<T: Store> Engine<T> {
             (call.CloseCursor s (name_text name.now)) (plain_answer result) self.old self.new }
         ensures same { SameStore T.Store self.old.store self.new.store }
         ensures disk { IsCountedAs (T.faults self.old.store) (T.faults self.new.store)
-            (is_fault (plain_answer result)) }
+            (err_is is_disk_fault result) }
     {
         self.do_close_cursor(s, name)
     }

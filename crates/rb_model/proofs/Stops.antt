@@ -1,9 +1,17 @@
 -- When a state is stopped: after a fault of the disk, and else where it was before.
-use Rattle.std.proofs.Common.{◌≡◌, ◌≢◌, ◌∙◌, ⊎_elim, refl, sym, ℕ, Bool, true, false, List, length}
+use Rattle.std.proofs.Common.{◌≡◌, ◌≢◌, ◌∙◌, ⊎_elim, refl, sym, ap, ℕ, Bool, true, false, List, [], ◌∷◌, ◌++◌, ◌+◌, length, Option, None, Some, Result, Ok, Err}
+use Rattle.std.specs.List.{AllByRecursion}
+use Rattle.std.specs.Prelude.{slice_get}
 use Rattle.std.proofs.lemmas.Bool.{cond_both, cases_Bool, false≢true}
 use Rattle.std.proofs.lemmas.List.{length-set}
-use Rattle.rb_model.specs.State.{State, session_of}
-use Rattle.rb_model.specs.Reply.{Call, Write, Commit, OpenCursor, Fetch, CloseCursor, Answer, Done, Waits, Numbered, Given, End, Refused, after, after_grant, after_refusal, committed, is_disk_fault, is_empty, is_fault}
+use Rattle.rb_base.specs.Counts.{err_is}
+use Rattle.rb_model.specs.Answers.{fetch_answer, plain_answer}
+use Rattle.rb_model.specs.Rows.{TableRow, last_number}
+use Rattle.rb_model.specs.State.{State, Cursor, session_of, cursor_of, cursor_rows}
+use Rattle.rb_model.specs.Reply.{Call, Write, Commit, OpenCursor, Fetch, CloseCursor, Answer, Done, Waits, Numbered, Given, End, Refused, after, after_grant, after_refusal, committed, early_tests, expected, first_of, given, granted, is_disk_fault, is_empty, is_fault, later_tests, next_row}
+use Rattle.rb_model.specs.declared.row.Row.{Row}
+use Rattle.rb_model.specs.declared.row.Fetched.{Fetched}
+use Rattle.rb_model.specs.declared.row.Fetched.TheVariants as fetched
 use Rattle.rb_model.specs.declared.refusal.Refusal.{Refusal}
 use Rattle.rb_model.specs.declared.refusal.Refusal.TheVariants.{NoSession, NoTable, ValueTooLong, Duplicate, NotFound, BlockFull, NoCursor, CursorThere, TooManyCursors, WornOut, DiskFault, Stopped, LogFull}
 
@@ -94,3 +102,43 @@ after_shape h c (Numbered n) = granted_shape h c
 after_shape h c (Given key value) = granted_shape h c
 after_shape h c End = refl
 after_shape h c (Refused why) = cond_both (is_disk_fault why) (record h { stopped = true }) h (λ (x : State). x.shape ≡ h.shape) (λ is. refl) (λ is. refl)
+
+-- what is expected of a call is no fault of the disk
+
+given_fine : (o : Option TableRow) → is_fault (given o) ≡ false
+given_fine None = refl
+given_fine (Some row) = refl
+
+next_fine : (h : State) (o : Option Cursor) → is_fault (next_row h o) ≡ false
+next_fine h None = refl
+next_fine h (Some cursor) = given_fine (slice_get (cursor_rows h cursor) cursor.taken)
+
+first_fine : (tests : List (Bool × Answer)) (good : Answer) → AllByRecursion (λ test. is_fault test.1 ≡ false) tests → is_fault good ≡ false → is_fault (first_of tests good) ≡ false
+first_fine [] good all fine = fine
+first_fine (test ∷ tests) good all fine = cond_both test.0 test.1 (first_of tests good) (λ r. is_fault r ≡ false) (λ w. all.0) (λ w. first_fine tests good all.1 fine)
+
+pub expected_fine : (h : State) (number more : ℕ) (c : Call) → is_fault (expected h number more c) ≡ false
+expected_fine h number more (Write s table key action) = first_fine (early_tests h (Write s table key action) ++ later_tests h number more (Write s table key action)) Done (refl, (refl, (refl, (refl, (refl, (refl, (refl, (refl, (refl, tt))))))))) refl
+expected_fine h number more (Commit s) =
+    first_fine (early_tests h (Commit s) ++ later_tests h number more (Commit s)) (granted h (Commit s)) (refl, (refl, tt))
+    (cond_both (is_empty (session_of h s).own) Done (Numbered (last_number h.commits + 1)) (λ r. is_fault r ≡ false) (λ w. refl) (λ w. refl))
+expected_fine h number more (OpenCursor s name table lo hi) = first_fine (early_tests h (OpenCursor s name table lo hi) ++ later_tests h number more (OpenCursor s name table lo hi)) Done (refl, (refl, (refl, (refl, (refl, tt))))) refl
+expected_fine h number more (Fetch s name) = first_fine (early_tests h (Fetch s name) ++ later_tests h number more (Fetch s name)) (next_row h (cursor_of h s name)) (refl, (refl, (refl, tt))) (next_fine h (cursor_of h s name))
+expected_fine h number more (CloseCursor s name) = first_fine (early_tests h (CloseCursor s name) ++ later_tests h number more (CloseCursor s name)) Done (refl, (refl, (refl, tt))) refl
+
+-- so no call that answers what is expected answers one
+
+fault_of_plain : (r : Result (Unit {0}) Refusal) → err_is is_disk_fault r ≡ is_fault (plain_answer r)
+fault_of_plain (Ok done) = refl
+fault_of_plain (Err why) = refl
+
+fault_of_fetch : (r : Result Fetched Refusal) (row : Row) → err_is is_disk_fault r ≡ is_fault (fetch_answer r row)
+fault_of_fetch (Ok fetched.Row) row = refl
+fault_of_fetch (Ok fetched.End) row = refl
+fault_of_fetch (Err why) row = refl
+
+pub plain_fine : (r : Result (Unit {0}) Refusal) (h : State) (number more : ℕ) (c : Call) → plain_answer r ≡ expected h number more c → err_is is_disk_fault r ≡ false
+plain_fine r h number more c e = fault_of_plain r ∙ ap is_fault e ∙ expected_fine h number more c
+
+pub fetch_fine : (r : Result Fetched Refusal) (row : Row) (h : State) (number more : ℕ) (c : Call) → fetch_answer r row ≡ expected h number more c → err_is is_disk_fault r ≡ false
+fetch_fine r row h number more c e = fault_of_fetch r row ∙ ap is_fault e ∙ expected_fine h number more c

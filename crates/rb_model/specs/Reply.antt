@@ -140,18 +140,7 @@ committed h s = record (with_own h s []) { commits = record h.commits { list = h
 -- the one refusal after which nothing goes on
 abbrev pub is_disk_fault : Refusal → Bool
 is_disk_fault DiskFault = true
-is_disk_fault NoSession = false
-is_disk_fault NoTable = false
-is_disk_fault ValueTooLong = false
-is_disk_fault Duplicate = false
-is_disk_fault NotFound = false
-is_disk_fault BlockFull = false
-is_disk_fault NoCursor = false
-is_disk_fault CursorThere = false
-is_disk_fault TooManyCursors = false
-is_disk_fault WornOut = false
-is_disk_fault Stopped = false
-is_disk_fault LogFull = false
+is_disk_fault _ = false
 
 -- the answer tells of a fault of the disk
 abbrev pub is_fault : Answer → Bool

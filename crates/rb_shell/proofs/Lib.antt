@@ -1,3 +1,3 @@
 pub mod RunLemmas
+pub mod SaidLemmas
 pub mod Spelling
-pub mod StepLemmas

@@ -20,7 +20,7 @@ use Rattle.rb_model.specs.Out.{Logged, room, CallOut, CallsOut, is_given}
 use Rattle.rb_model.specs.Reply.{Answer, Call, Write, Commit, OpenCursor, Fetch, CloseCursor, Done, Waits, Numbered, Given, End, Refused, Reply, after, after_grant, early_tests, expected, first_of, given, granted, groups, is_empty, is_fault, later_tests, next_row}
 use Rattle.rb_model.specs.Rows.{TableRow, last_number}
 use Rattle.rb_model.specs.State.{State, Session, Cursor, fresh_session, session_of, cursor_of, cursor_rows, with_taken}
-use Rattle.rb_model.proofs.Stops.{after_same_stop, after_stops, refused_same}
+use Rattle.rb_model.proofs.Stops.{after_same_stop, after_stops, expected_fine, refused_same}
 use Rattle.rb_shell.specs.Since.{IsSince, StandsAs, slots_of}
 use Rattle.rb_shell.specs.Steps.{Added, CalledOnce, Calls, Lost, Said, SaidAs, SaidSoFar, Told}
 
@@ -49,24 +49,6 @@ fetch_same h n s name (Numbered k) e = taken_same h s name n
 fetch_same h n s name (Given key value) e = taken_same h s name n
 fetch_same h n s name End e = itself (record { state = h; number = n })
 fetch_same h n s name (Refused why) e = subst (λ (x : State). SameButCursors (record { state = x; number = n }) (record { state = h; number = n })) (sym (refused_same h why e)) (itself (record { state = h; number = n }))
-
--- what is expected of a fetch is no fault
-
-given_fine : (o : Option TableRow) → is_fault (given o) ≡ false
-given_fine None = refl
-given_fine (Some row) = refl
-
-next_fine : (h : State) (o : Option Cursor) → is_fault (next_row h o) ≡ false
-next_fine h None = refl
-next_fine h (Some cursor) = given_fine (slice_get (cursor_rows h cursor) cursor.taken)
-
-first_fine : (tests : List (Bool × Answer)) (good : Answer) → AllByRecursion (λ test. is_fault test.1 ≡ false) tests → is_fault good ≡ false → is_fault (first_of tests good) ≡ false
-first_fine [] good all fine = fine
-first_fine (test ∷ tests) good all fine = cond_both test.0 test.1 (first_of tests good) (λ r. is_fault r ≡ false) (λ w. all.0) (λ w. first_fine tests good all.1 fine)
-
-expected_fine : (h : State) (number more s : ℕ) (name : List ℕ) → is_fault (expected h number more (Fetch s name)) ≡ false
-expected_fine h number more s name =
-    first_fine (early_tests h (Fetch s name) ++ later_tests h number more (Fetch s name)) (granted h (Fetch s name)) (refl, (refl, (refl, tt))) (next_fine h (cursor_of h s name))
 
 -- only a fetch gives a row
 
@@ -109,7 +91,7 @@ some_fetches (suc more) m slots s t name =
     let r = expected m.state m.number (room slots m.number) (Fetch t name) in
     let mid : Logged = record { state = after m.state (Fetch t name) r; number = m.number } in
     let rest = some_fetches more mid slots s t name in
-    let same : SameButCursors mid m = fetch_same m.state m.number t name r (expected_fine m.state m.number (room slots m.number) t name) in
+    let same : SameButCursors mid m = fetch_same m.state m.number t name r (expected_fine m.state m.number (room slots m.number) (Fetch t name)) in
     let once : CallOut m slots (Fetch t name) r mid = record { reply = inl refl; state = refl; groups = 0; grows = λ going. refl; number = λ going. omega arith } in
     ⊎_elim
     (λ g. (reply_text s r ++ rest.0, rest.1, same_joined rest.1 mid m rest.2 same, once_more m mid rest.1 slots s (Fetch t name) more r rest.0 once g rest.3))

@@ -1,16 +1,22 @@
 -- What a run of a script over a file does.
-use Rattle.std.specs.Prelude.{◌≡◌, ◌⊎◌, ℕ, Bool, List, ◌++◌, Some}
+use Rattle.std.specs.Prelude.{◌≡◌, ◌⊎◌, ℕ, Bool, true, List, ◌++◌, Some}
 use Rattle.rb_base.specs.Moments.{LeavesOnly}
 use Rattle.rb_base.specs.declared.ids.Shape.{Shape}
 use Rattle.rb_disk.specs.Moments.{Rests}
-use Rattle.rb_engine.specs.Crash.{AtEnd, OnTheWay, Restarts}
+use Rattle.rb_engine.specs.Crash.{AtEnd, OnTheWay, Restarts, Survives}
+use Rattle.rb_base.specs.declared.store.Store.{Ghosts}
 use Rattle.rb_engine.specs.Engine.{EngineView}
 use Rattle.rb_engine.specs.Holds.{CanOpen, OpensAs}
 use Rattle.rb_layout.specs.Regions.{shape_of}
 use Rattle.rb_layout.specs.declared.layout.Layout.{Layout}
+use Rattle.rb_lines.specs.Ends.{EndsAs, Halted}
 use Rattle.rb_lines.specs.Ran.{Ran, CutOff}
+use Rattle.rb_lines.specs.declared.lines.LinesEnd.{LinesEnd}
 use Rattle.rb_model.specs.Out.{Logged}
+use Rattle.rb_model.specs.Lines.{lines_of}
 use Rattle.rb_model.specs.State.{State}
+use Rattle.rb_shell.specs.Since.{StandsAs}
+use Rattle.rb_shell.specs.Statuses.{status_of}
 use Rattle.rb_shell.specs.declared.status.Status.{Status}
 use Rattle.rb_shell.specs.declared.status.Status.TheVariants.{Done, Usage, SourceFault, DiskFault, SinkFault, NotAStore, NoMemory, NotEmpty, TooLong}
 use Rattle.rb_store.specs.Laps.{LapState, Opens, OpensTo, OpensAt}
@@ -35,12 +41,6 @@ pub record HasDone (slots : ℕ) (before : Logged) (lines : List (List ℕ)) (te
   pub end : now.state.stopped ≡ stopped
   pub kept : keeps now.state
 
--- It was cut off in one of these lines, in some state, of which `keeps` holds.
-pub record WasCut (slots : ℕ) (before : Logged) (lines : List (List ℕ)) (held_before held_now : List ℕ) (keeps : State → Type 0) : Type 0 where
-  pub now : Logged
-  pub cut : CutOff slots before now lines held_before held_now
-  pub kept : keeps now.state
-
 -- The machine that opened with the file's rows did these lines: the sink holds the replies then, where it tells. Of
 -- the states before and after them `keeps` holds.
 pub record HasRun (file : List ℕ) (lines : List (List ℕ)) (tells : Type 0) (before now : List ℕ) (stopped : Bool) (keeps : Layout → State → State → Type 0) : Type 0 where
@@ -50,11 +50,20 @@ pub record HasRun (file : List ℕ) (lines : List (List ℕ)) (tells : Type 0) (
   pub did : HasDone sound.layout.log (record { state = state; number = sound.number }) lines tells before now stopped (keeps sound.layout state)
 
 -- It was cut off in one of these lines: the sink holds a front of replies that the lines may have.
-pub record WasCutOff (file : List ℕ) (lines : List (List ℕ)) (before now : List ℕ) (keeps : Layout → State → State → Type 0) : Type 0 where
+pub record WasCutOff (file : List ℕ) (lines : List (List ℕ)) (before now_held : List ℕ) (keeps : Layout → State → State → Type 0) : Type 0 where
   pub sound : IsSound file
   pub state : State
   pub opening : OpensAs (shape_of sound.layout) sound.blocks state
-  pub cut : WasCut sound.layout.log (record { state = state; number = sound.number }) lines before now (keeps sound.layout state)
+  pub now : Logged
+  pub cut : CutOff sound.layout.log (record { state = state; number = sound.number }) now lines before now_held
+  pub kept : keeps sound.layout state now.state
+
+-- A fault of the disk ended the lines: its reply is the last, and nothing was asked for after it. The script was asked for in
+-- pieces of at most 65,536 bytes.
+pub record HasHalted (file left_before left_now : List ℕ) (tells : Type 0) (before now : List ℕ) (keeps : Layout → State → State → Type 0) : Type 0 where
+  pub run : HasRun file (lines_of left_before) tells before now true keeps
+  pub halted : Halted run.sound.layout.log 65536 (record { state = run.state; number = run.sound.number }) run.did.now
+      left_before left_now tells before now
 
 -- What a crash may leave over a run, which opens the file first: at any moment since its start an image that the disk
 -- had at the start, or a file on the way from the state opened; and at its end all commits of the state.
@@ -62,14 +71,25 @@ pub record Endures {D : Type 0} (image : D → List ℕ → Type 0) (moment : D 
   pub any_moment : LeavesOnly moment since old new (λ c. image old c ⊎ OnTheWay (file_opens l) before now c)
   pub now_only : (c : List ℕ) → image new c → AtEnd (file_opens l) now c
 
--- An engine was opened over the file of a disk, whose log it goes on with. At any moment since the start a crash leaves
--- an image that the disk had at the start, or one that opens to the engine's rows.
-pub record HasOpened {D : Type 0} (content : D → List ℕ) (image : D → List ℕ → Type 0) (moment : D → ℕ) (since : D → ℕ → List ℕ → Type 0) (old : D) (e : EngineView (LapState D)) : Type 0 where
+-- An engine was opened over the file of a disk, whose log it goes on with, and stands for the state to which the file opens.
+-- At any moment since the start a crash leaves an image that the disk had at the start, or one that opens to its rows.
+pub record HasOpened {D : Type 0} (content : D → List ℕ) (image : D → List ℕ → Type 0) (moment : D → ℕ)
+    (since : D → ℕ → List ℕ → Type 0) (s : Ghosts (LapState D)) (old : D) (e : EngineView (LapState D)) : Type 0 where
   pub sound : IsSound (content old)
-  pub opening : OpensAs (shape_of sound.layout) sound.blocks e.state
+  pub state : State
+  pub opening : OpensAs (shape_of sound.layout) sound.blocks state
   pub slots : e.store.layout.log ≡ sound.layout.log
-  pub number : e.store.number ≡ sound.number
-  pub any_moment : LeavesOnly moment since old e.store.disk (λ c. image old c ⊎ Restarts (file_opens sound.layout) e.state c)
+  pub stands : StandsAs s e (record { state = state; number = sound.number })
+  pub any_moment : LeavesOnly moment since old e.store.disk (λ c. image old c ⊎ Restarts (file_opens sound.layout) state c)
+
+-- Lines were done over a store, from one state to another. They ended as a status says.
+pub record RanOn {S : Type 0} (s : Ghosts S) (old new : S) (slots most : ℕ) (before : Logged) (left_before left_now : List ℕ)
+    (tells : Type 0) (held_before held_now : List ℕ) (status : Status) : Type 0 where
+  pub now : Logged
+  pub crash : s.keeps → Survives s (s.slots old) before.state now.state old new
+  pub end : LinesEnd
+  pub is : status ≡ status_of end
+  pub ends : EndsAs slots most before now left_before left_now tells held_before held_now end
 
 -- At any moment since the start a crash leaves an image that the disk had at the start, or one that opens to the blocks
 -- to which the file opened.

@@ -1,5 +1,9 @@
 -- The numbers and names of the ends of a run.
-use Rattle.std.specs.Prelude.{ℕ, List, codes}
+use Rattle.std.specs.Prelude.{ℕ, Bool, true, false, List, codes}
+use Rattle.rb_base.specs.declared.faults.OpenFault.{OpenFault}
+use Rattle.rb_base.specs.declared.faults.OpenFault.TheVariants as faults
+use Rattle.rb_lines.specs.declared.lines.LinesEnd.{LinesEnd}
+use Rattle.rb_lines.specs.declared.lines.LinesEnd.TheVariants as ends
 use Rattle.rb_shell.specs.declared.status.Status.{Status}
 use Rattle.rb_shell.specs.declared.status.Status.TheVariants.{Done, Usage, SourceFault, DiskFault, SinkFault, NotAStore, NoMemory, NotEmpty, TooLong}
 
@@ -36,3 +40,31 @@ EndsFormat SinkFault = ⊥
 EndsFormat NotAStore = ⊥
 EndsFormat NoMemory = ⊥
 EndsFormat TooLong = ⊥
+
+-- the status of lines that ended so
+abbrev pub status_of : LinesEnd → Status
+status_of ends.Done = Done
+status_of ends.SourceFault = SourceFault
+status_of ends.DiskFault = DiskFault
+status_of ends.SinkFault = SinkFault
+status_of ends.TooLong = TooLong
+
+-- the status of a store that wasn't opened
+abbrev pub status_of_opening : OpenFault → Status
+status_of_opening faults.Failed = DiskFault
+status_of_opening faults.NotAStore = NotAStore
+status_of_opening faults.NoMemory = NoMemory
+
+-- by which fault a run ended
+
+abbrev pub by_source : Status → Bool
+by_source SourceFault = true
+by_source _ = false
+
+abbrev pub by_disk : Status → Bool
+by_disk DiskFault = true
+by_disk _ = false
+
+abbrev pub by_sink : Status → Bool
+by_sink SinkFault = true
+by_sink _ = false

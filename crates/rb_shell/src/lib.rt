@@ -5,6 +5,7 @@
 mod command;
 mod laws;
 mod line;
+mod replies;
 mod script;
 mod status;
 mod words;

@@ -5,7 +5,7 @@ ghost use Rattle.rb_base.specs.Counts.{IsCounted, IsCountedAs, err_is};
 ghost use Rattle.rb_lines.specs.Faults.{is_sink};
 ghost use Rattle.rb_model.specs.Answers.{answer_of, write_answer, plain_answer, commit_answer, fetch_answer};
 ghost use Rattle.rb_model.specs.Lines.{reply_text};
-ghost use Rattle.rb_model.specs.Reply.{is_fault};
+ghost use Rattle.rb_model.specs.Reply.{is_disk_fault as is_fault_of_disk, is_fault};
 ghost use Rattle.rb_script.specs.Replies.{text_of_reply, FitsALine};
 ghost use Rattle.rb_shell.specs.Steps.{Added, Lost, Told, tells_fault};
 ghost use Rattle.rb_stream.specs.StreamModel.{Puts};
@@ -25,7 +25,8 @@ pub type Waiting = ArrayVec<u8, 65_536>;
 
 /// The answer of a write.
 pub fn answer_to_write(outcome: Result<Wrote, Refusal>) -> Answer
-    ensures { (row : Row) → answer_of result row ≡ write_answer outcome }
+    ensures answer { (row : Row) → answer_of result row ≡ write_answer outcome }
+    ensures fault { (row : Row) → is_fault (answer_of result row) ≡ err_is is_fault_of_disk outcome }
 {
     match outcome {
         Ok(Wrote::Done) => Answer::Done,
@@ -36,7 +37,8 @@ pub fn answer_to_write(outcome: Result<Wrote, Refusal>) -> Answer
 
 /// The answer of a commit.
 pub fn answer_to_commit(outcome: Result<Option<u64>, Refusal>) -> Answer
-    ensures { (row : Row) → answer_of result row ≡ commit_answer outcome }
+    ensures answer { (row : Row) → answer_of result row ≡ commit_answer outcome }
+    ensures fault { (row : Row) → is_fault (answer_of result row) ≡ err_is is_fault_of_disk outcome }
 {
     match outcome {
         Ok(None) => Answer::Done,
@@ -47,7 +49,8 @@ pub fn answer_to_commit(outcome: Result<Option<u64>, Refusal>) -> Answer
 
 /// The answer of a call that gives nothing but that it was done.
 pub fn answer_to_call(outcome: Result<(), Refusal>) -> Answer
-    ensures { (row : Row) → answer_of result row ≡ plain_answer outcome }
+    ensures answer { (row : Row) → answer_of result row ≡ plain_answer outcome }
+    ensures fault { (row : Row) → is_fault (answer_of result row) ≡ err_is is_fault_of_disk outcome }
 {
     match outcome {
         Ok(()) => Answer::Done,
@@ -57,7 +60,8 @@ pub fn answer_to_call(outcome: Result<(), Refusal>) -> Answer
 
 /// The answer of a fetch, beside its row.
 pub fn answer_to_fetch(outcome: Result<Fetched, Refusal>) -> Answer
-    ensures { (row : Row) → answer_of result row ≡ fetch_answer outcome row }
+    ensures answer { (row : Row) → answer_of result row ≡ fetch_answer outcome row }
+    ensures fault { (row : Row) → is_fault (answer_of result row) ≡ err_is is_fault_of_disk outcome }
 {
     match outcome {
         Ok(Fetched::Row) => Answer::Row,

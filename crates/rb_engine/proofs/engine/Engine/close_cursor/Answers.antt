@@ -1,4 +1,6 @@
-use Rattle.std.proofs.Common.{inl, ap, sym, ◌∙◌}
+use Rattle.std.proofs.Common.{◌≡◌, arith, inl, ap, sym, ◌∙◌}
+use Rattle.std.proofs.lemmas.Bool.{false≢true}
+use Rattle.rb_model.proofs.Stops.{plain_fine}
 use Rattle.rb_model.specs.Answers.{plain_answer}
 use Rattle.rb_model.specs.Names.{name_text}
 use Rattle.rb_model.specs.Reply as call
@@ -12,3 +14,12 @@ returns-clause-did g c = λ h st.
     let e = c.do_close_cursor.ensures in
     does_by s h (call.CloseCursor c.args.s (name_text c.args.name.now)) (plain_answer c.do_close_cursor.result) c.args.self.now c.do_close_cursor.new.self st
     (λ told. inl (e.answer (s.number c.args.self.now.store) (room_left (s.slots c.args.self.now.store) (s.number c.args.self.now.store) c.args.self.now.spare))) e.state (ap s.shape_of e.store) (λ going. ap s.number e.store ∙ sym (plus_none _)) (λ told kept durable. e.crash told kept durable)
+
+pub returns-clause-disk : goal.returns-clause-disk
+returns-clause-disk g c =
+    let same : g.T.Store.faults c.do_close_cursor.new.self.store ≡ g.T.Store.faults c.args.self.now.store = ap g.T.Store.faults c.do_close_cursor.ensures.store in
+    record {
+      no_less = omega (arith, same);
+      cause = λ fault. absurd (false≢true (sym (plain_fine c.do_close_cursor.result c.args.self.now.state 0 0 (call.CloseCursor c.args.s (name_text c.args.name.now)) (c.do_close_cursor.ensures.answer 0 0)) ∙ fault));
+      still = λ other. same;
+    }
