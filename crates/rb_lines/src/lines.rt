@@ -3,6 +3,7 @@ ghost use Rattle.std.specs.Prelude.{ℕ, ◌≡◌, ◌≤◌, ◌<◌, false, L
 ghost use Rattle.rb_base.specs.Counts.{IsCounted, IsCountedAs};
 ghost use Rattle.rb_model.specs.Out.{Logged};
 ghost use Rattle.rb_lines.specs.Ends.{EndsAs, by_disk, by_sink, by_source};
+ghost use Rattle.rb_lines.specs.Faults.{IsCountedBeside};
 ghost use Rattle.rb_lines.specs.Ran.{Did};
 
 use crate::pending::{Pending, feed, finish};
@@ -65,9 +66,9 @@ pub fn run_lines<M: LineRunner, S: Source, K: Sink>(
         → ((taken : List ℕ) × (length taken ≤ 1000000000) × (S.left source.old ≡ taken ++ S.left source.new)) }
     ensures slots { M.slots runner.new ≡ M.slots runner.old }
 
-    // It ends by a fault exactly where that count rose.
+    // It ends by a fault only where that count rose, and else the count is as before.
     ensures source { IsCountedAs (S.faults source.old) (S.faults source.new) (by_source result) }
-    ensures disk { IsCountedAs (M.faults runner.old) (M.faults runner.new) (by_disk result) }
+    ensures disk { IsCountedBeside (M.faults runner.old) (M.faults runner.new) (by_disk result) (by_sink result) }
     ensures sink { IsCountedAs (K.faults sink.old) (K.faults sink.new) (by_sink result) }
 {
     let mut pending = ArrayVec::new();

@@ -2,7 +2,7 @@
 ghost use Rattle.std.specs.Prelude.{ℕ, ◌≡◌, ◌≤◌, false, List, [], ◌∷◌, ◌++◌, take, OnOk};
 ghost use Rattle.rb_base.specs.Counts.{IsCountedAs, err_is};
 ghost use Rattle.rb_model.specs.Out.{Logged};
-ghost use Rattle.rb_lines.specs.Faults.{is_disk, is_sink};
+ghost use Rattle.rb_lines.specs.Faults.{IsCountedBeside, is_disk, is_sink};
 ghost use Rattle.rb_lines.specs.Ran.{Did, RanAs};
 ghost use Rattle.rb_lines.specs.Pieces.{lines_from, rest_from, last_of};
 
@@ -34,7 +34,7 @@ fn feed_byte<M: LineRunner, K: Sink>(
     ensures kept { OnOk result ((line : List ℕ) → pending.old.items ≡ take 513 line
         → pending.new.items ≡ take 513 (rest_from line (byte ∷ []))) }
     ensures slots { M.slots runner.new ≡ M.slots runner.old }
-    ensures disk { IsCountedAs (M.faults runner.old) (M.faults runner.new) (err_is is_disk result) }
+    ensures disk { IsCountedBeside (M.faults runner.old) (M.faults runner.new) (err_is is_disk result) (err_is is_sink result) }
     ensures sink { IsCountedAs (K.faults sink.old) (K.faults sink.new) (err_is is_sink result) }
 {
     if byte != b'\n' {
@@ -59,7 +59,7 @@ pub fn feed<M: LineRunner, K: Sink>(
     ensures kept { OnOk result ((line : List ℕ) → pending.old.items ≡ take 513 line
         → pending.new.items ≡ take 513 (rest_from line bytes.now)) }
     ensures slots { M.slots runner.new ≡ M.slots runner.old }
-    ensures disk { IsCountedAs (M.faults runner.old) (M.faults runner.new) (err_is is_disk result) }
+    ensures disk { IsCountedBeside (M.faults runner.old) (M.faults runner.new) (err_is is_disk result) (err_is is_sink result) }
     ensures sink { IsCountedAs (K.faults sink.old) (K.faults sink.new) (err_is is_sink result) }
 {
     for byte in bytes {
@@ -78,7 +78,7 @@ pub fn finish<M: LineRunner, K: Sink>(
         → pending.now.items ≡ take 513 line → Did M.stands M.since runner.old runner.new m
             (λ now. RanAs (M.slots runner.old) m now (last_of line) K.tells (K.held sink.old) (K.held sink.new) result) }
     ensures slots { M.slots runner.new ≡ M.slots runner.old }
-    ensures disk { IsCountedAs (M.faults runner.old) (M.faults runner.new) (err_is is_disk result) }
+    ensures disk { IsCountedBeside (M.faults runner.old) (M.faults runner.new) (err_is is_disk result) (err_is is_sink result) }
     ensures sink { IsCountedAs (K.faults sink.old) (K.faults sink.new) (err_is is_sink result) }
 {
     if pending.is_empty() {

@@ -2,7 +2,7 @@
 ghost use Rattle.std.specs.Prelude.{ℕ, ◌≡◌, ◌≤◌, false, true};
 ghost use Rattle.rb_base.specs.Counts.{IsCountedAs, err_is};
 ghost use Rattle.rb_model.specs.Out.{Logged};
-ghost use Rattle.rb_lines.specs.Faults.{is_disk, is_sink};
+ghost use Rattle.rb_lines.specs.Faults.{IsCountedBeside, is_disk, is_sink};
 ghost use Rattle.rb_lines.specs.Ran.{Did, LineRanAs};
 
 use rb_stream::Sink;
@@ -40,7 +40,7 @@ pub trait LineRunner {
         ensures did { (m : Logged) → stands self.old m → m.state.stopped ≡ false → Did stands since self.old self.new m
             (λ now. LineRanAs (slots self.old) m now line.now K.tells (K.held sink.old) (K.held sink.new) result) }
         ensures slots { slots self.new ≡ slots self.old }
-        ensures disk { IsCountedAs (faults self.old) (faults self.new) (err_is is_disk result) }
+        ensures disk { IsCountedBeside (faults self.old) (faults self.new) (err_is is_disk result) (err_is is_sink result) }
         ensures sink { IsCountedAs (K.faults sink.old) (K.faults sink.new) (err_is is_sink result) };
 
     /// Where nothing is done, nothing becomes of it.

@@ -1,3 +1,5 @@
+pub mod Returns
 pub mod RunLemmas
 pub mod SaidLemmas
 pub mod Spelling
+pub mod StatusLemmas

@@ -1,5 +1,5 @@
 -- From the engine that an opening made to the run over the file that it opened.
-use Rattle.std.proofs.Common.{◌≡◌, ◌∙◌, ◌⊎◌, inl, inr, ⊎_elim, ap, sym, subst, refl, arith, ℕ, Bool, ◌+◌, ◌<◌, ◌≤◌, List, [], ◌++◌, length, Some}
+use Rattle.std.proofs.Common.{◌≡◌, ◌∙◌, ◌⊎◌, inl, inr, ⊎_elim, ap, sym, subst, refl, arith, ℕ, Bool, true, ◌+◌, ◌<◌, ◌≤◌, List, [], ◌++◌, length, Some}
 use Rattle.std.specs.List.{flat_map}
 use Rattle.std.proofs.lemmas.List.{length-append, take_all}
 use Rattle.rb_base.specs.Moments.{LeavesOnly, joined, weaker}
@@ -7,6 +7,7 @@ use Rattle.rb_base.specs.declared.faults.OpenFault.{OpenFault}
 use Rattle.rb_base.specs.declared.faults.OpenFault.TheVariants.{Failed}
 use Rattle.rb_base.specs.declared.faults.OpenFault.TheVariants as faults
 use Rattle.rb_base.specs.declared.ids.Shape.{Shape}
+use Rattle.rb_base.specs.declared.store.Store.{Ghosts}
 use Rattle.rb_disk.specs.Moments.{Rests, rests_leave}
 use Rattle.rb_engine.specs.Crash.{AtEnd, Extends, OnTheWay, reached, Restarts}
 use Rattle.rb_engine.specs.Engine.{EngineView}
@@ -15,16 +16,27 @@ use Rattle.rb_engine.proofs.CrashLemmas.{extends_later, rows_stay}
 use Rattle.rb_layout.specs.OneLayout.{SameNumbers}
 use Rattle.rb_layout.specs.Regions.{shape_of}
 use Rattle.rb_layout.specs.declared.layout.Layout.{Layout}
+use Rattle.rb_lines.specs.Ends.{Halted}
+use Rattle.rb_lines.specs.Ran.{Ran, CutOff}
+use Rattle.rb_lines.proofs.Runs.{ran-append}
+use Rattle.rb_model.specs.Lines.{lines_of}
 use Rattle.rb_model.specs.Out.{Logged}
 use Rattle.rb_model.specs.Rows.{TableRow, last_number, over, rows_at}
 use Rattle.rb_model.specs.State.{State, opened}
-use Rattle.rb_shell.specs.Runs.{IsSound, HasDone, HasOpened, HasRun, WasCut, WasCutOff, Endures, LeftAlone, OpensSame, EndsRun, IsDoneOrNoMemory, file_opens}
+use Rattle.rb_shell.specs.Runs.{IsSound, HasDone, HasHalted, HasOpened, HasRun, WasCutOff, Endures, LeftAlone, OpensSame, EndsRun, IsDoneOrNoMemory, file_opens}
+use Rattle.rb_shell.specs.Since.{StandsAs}
 use Rattle.rb_shell.specs.Statuses.{EndsFormat}
 use Rattle.rb_shell.specs.declared.status.Status.{Status}
 use Rattle.rb_shell.specs.declared.status.Status.TheVariants.{Done, Usage, SourceFault, DiskFault, SinkFault, NotAStore, NoMemory, NotEmpty, TooLong}
 use Rattle.rb_store.specs.OneOpening.{one_opening, one_number, opens_alike, opens_moves}
 use Rattle.rb_store.specs.LapLaws.{stable_opens}
 use Rattle.rb_store.specs.Laps.{LapState, IsStable, Opens, OpensTo, OpensAt}
+
+-- the lines before a fault of the disk, and the one in which it came
+all_ran : (slots most : ℕ) (m now : Logged) (left left2 : List ℕ) (tells : Type 0) (before held : List ℕ) → Halted slots most m now left left2 tells before held → Ran slots m now (lines_of left) tells before held
+all_ran slots most m now left left2 tells before held halted =
+    subst (λ (ls : List (List ℕ)). Ran slots m now ls tells before held) (sym halted.lines)
+    (ran-append slots m halted.middle now _ _ tells before halted.held held halted.done halted.going halted.fault)
 
 -- an image that opens to the blocks of a state has its rows
 
@@ -112,15 +124,16 @@ module _ {D : Type 0} (content : D → List ℕ) (image : D → List ℕ → Typ
   }
 
   -- an engine over it
-  pub has_opened : (s : LapState D) (e : EngineView (LapState D)) → Found content image moment since old s → Loaded content image moment since s e.store → OpensAs (shape_of s.layout) s.blocks e.state
-      → CanOpen (shape_of s.layout) s.blocks s.number → e.store.number ≡ s.number → HasOpened content image moment since old e
-  has_opened s e found loads opening sound number = record {
+  pub has_opened : (d : Ghosts (LapState D)) (s : LapState D) (e : EngineView (LapState D)) (h : State) → Found content image moment since old s → Loaded content image moment since s e.store → OpensAs (shape_of s.layout) s.blocks h
+      → CanOpen (shape_of s.layout) s.blocks s.number → StandsAs d e (record { state = h; number = s.number }) → HasOpened content image moment since d old e
+  has_opened d s e h found loads opening sound stands = record {
     sound = record { layout = s.layout; blocks = s.blocks; number = s.number; opens = found.opens; can_open = sound };
+    state = h;
     opening = opening;
     slots = loads.log;
-    number = number;
-    any_moment = weaker moment since old e.store.disk (λ c. image old c ⊎ OpensTo s.layout c s.blocks) (λ c. image old c ⊎ Restarts (file_opens s.layout) e.state c)
-        (λ c p. ⊎_elim (λ was. inl was) (λ to. inr (opened_restarts s.layout s.blocks e.state c opening to)) p)
+    stands = stands;
+    any_moment = weaker moment since old e.store.disk (λ c. image old c ⊎ OpensTo s.layout c s.blocks) (λ c. image old c ⊎ Restarts (file_opens s.layout) h c)
+        (λ c p. ⊎_elim (λ was. inl was) (λ to. inr (opened_restarts s.layout s.blocks h c opening to)) p)
         (loads_leave s e.store found loads s.layout s.blocks found.opens.opens);
   }
 
@@ -133,50 +146,52 @@ module _ {D : Type 0} (content : D → List ℕ) (image : D → List ℕ → Typ
       (subst (λ (b : List (List ℕ)). CanOpen (shape_of s.layout) b sound.number) agree.blocks
       (subst (λ (shape : Shape). CanOpen shape sound.blocks sound.number) agree.shape sound.can_open)))
 
-  -- an opening, and the lines behind it
-  pub endures : (e : EngineView (LapState D)) (h2 : State) (new : D) (o : HasOpened content image moment since old e) → Extends e.state h2
-      → LeavesOnly moment since e.store.disk new (λ c. OnTheWay (images_open e.store.layout.log) e.state h2 c) → ((c : List ℕ) → image new c → AtEnd (images_open e.store.layout.log) h2 c)
-      → Endures image moment since old new o.sound.layout e.state h2
-  endures e h2 new o extends any end =
+  -- an opening, and the lines after it
+  pub endures : (d : Ghosts (LapState D)) (e : EngineView (LapState D)) (h2 : State) (new : D) (o : HasOpened content image moment since d old e) → Extends o.state h2
+      → LeavesOnly moment since e.store.disk new (λ c. OnTheWay (images_open e.store.layout.log) o.state h2 c) → ((c : List ℕ) → image new c → AtEnd (images_open e.store.layout.log) h2 c)
+      → Endures image moment since old new o.sound.layout o.state h2
+  endures d e h2 new o extends any end =
       let l = o.sound.layout in
       record {
-        any_moment = joined moment since old e.store.disk new (λ c. image old c ⊎ OnTheWay (file_opens l) e.state h2 c)
-            (weaker moment since old e.store.disk (λ c. image old c ⊎ Restarts (file_opens l) e.state c) (λ c. image old c ⊎ OnTheWay (file_opens l) e.state h2 c)
-            (λ c p. ⊎_elim (λ was. inl was) (λ r. inr (restarts_on_the_way l e.state h2 c extends r)) p) o.any_moment)
-            (weaker moment since e.store.disk new (λ c. OnTheWay (images_open e.store.layout.log) e.state h2 c) (λ c. image old c ⊎ OnTheWay (file_opens l) e.state h2 c)
-            (λ c way. inr (subst (λ (k : ℕ). OnTheWay (images_open k) e.state h2 c) o.slots way)) any);
+        any_moment = joined moment since old e.store.disk new (λ c. image old c ⊎ OnTheWay (file_opens l) o.state h2 c)
+            (weaker moment since old e.store.disk (λ c. image old c ⊎ Restarts (file_opens l) o.state c) (λ c. image old c ⊎ OnTheWay (file_opens l) o.state h2 c)
+            (λ c p. ⊎_elim (λ was. inl was) (λ r. inr (restarts_on_the_way l o.state h2 c extends r)) p) o.any_moment)
+            (weaker moment since e.store.disk new (λ c. OnTheWay (images_open e.store.layout.log) o.state h2 c) (λ c. image old c ⊎ OnTheWay (file_opens l) o.state h2 c)
+            (λ c way. inr (subst (λ (k : ℕ). OnTheWay (images_open k) o.state h2 c) o.slots way)) any);
         now_only = λ c here. subst (λ (k : ℕ). AtEnd (images_open k) h2 c) o.slots (end c here);
       }
 
   -- what was done over the engine was done over the file
-  pub has_run : (e : EngineView (LapState D)) (lines : List (List ℕ)) (tells : Type 0) (before now : List ℕ) (stopped : Bool) (keeps : Layout → State → State → Type 0) (o : HasOpened content image moment since old e)
-      → HasDone e.store.layout.log (record { state = e.state; number = e.store.number }) lines tells before now stopped (keeps o.sound.layout e.state) → HasRun (content old) lines tells before now stopped keeps
-  has_run e lines tells before now stopped keeps o did = record {
-    sound = o.sound;
-    state = e.state;
-    opening = o.opening;
-    did = subst (λ (n : ℕ). HasDone o.sound.layout.log (record { state = e.state; number = n }) lines tells before now stopped (keeps o.sound.layout e.state)) o.number
-        (subst (λ (k : ℕ). HasDone k (record { state = e.state; number = e.store.number }) lines tells before now stopped (keeps o.sound.layout e.state)) o.slots did);
-  }
+  module _ (d : Ghosts (LapState D)) (e : EngineView (LapState D)) (o : HasOpened content image moment since d old e) where
+    abbrev start : Logged
+    start = record { state = o.state; number = o.sound.number }
 
-  pub was_cut_off : (e : EngineView (LapState D)) (lines : List (List ℕ)) (before now : List ℕ) (keeps : Layout → State → State → Type 0) (o : HasOpened content image moment since old e)
-      → WasCut e.store.layout.log (record { state = e.state; number = e.store.number }) lines before now (keeps o.sound.layout e.state) → WasCutOff (content old) lines before now keeps
-  was_cut_off e lines before now keeps o was = record {
-    sound = o.sound;
-    state = e.state;
-    opening = o.opening;
-    cut = subst (λ (n : ℕ). WasCut o.sound.layout.log (record { state = e.state; number = n }) lines before now (keeps o.sound.layout e.state)) o.number
-        (subst (λ (k : ℕ). WasCut k (record { state = e.state; number = e.store.number }) lines before now (keeps o.sound.layout e.state)) o.slots was);
-  }
+    abbrev pub has_run : (now : Logged) (lines : List (List ℕ)) (tells : Type 0) (before held : List ℕ) (stopped : Bool) (keeps : Layout → State → State → Type 0)
+        → Ran e.store.layout.log start now lines tells before held → now.state.stopped ≡ stopped → keeps o.sound.layout o.state now.state → HasRun (content old) lines tells before held stopped keeps
+    has_run now lines tells before held stopped keeps ran end kept = record {
+      sound = o.sound;
+      state = o.state;
+      opening = o.opening;
+      did = record { now = now; ran = subst (λ (k : ℕ). Ran k start now lines tells before held) o.slots ran; end = end; kept = kept };
+    }
 
--- what is kept of the state is told otherwise
-pub done_keeps : (slots : ℕ) (h : Logged) (lines : List (List ℕ)) (tells : Type 0) (before now : List ℕ) (stopped : Bool) (keeps other : State → Type 0) → ((h2 : State) → keeps h2 → other h2)
-    → HasDone slots h lines tells before now stopped keeps → HasDone slots h lines tells before now stopped other
-done_keeps slots h lines tells before now stopped keeps other so did = record { now = did.now; ran = did.ran; end = did.end; kept = so did.now.state did.kept }
+    pub has_halted : (now : Logged) (left left2 : List ℕ) (tells : Type 0) (before held : List ℕ) (keeps : Layout → State → State → Type 0)
+        → Halted e.store.layout.log 65536 start now left left2 tells before held → keeps o.sound.layout o.state now.state → HasHalted (content old) left left2 tells before held keeps
+    has_halted now left left2 tells before held keeps halted kept = record {
+      run = has_run now (lines_of left) tells before held true keeps (all_ran e.store.layout.log 65536 start now left left2 tells before held halted) halted.stopped kept;
+      halted = subst (λ (k : ℕ). Halted k 65536 start now left left2 tells before held) o.slots halted;
+    }
 
-pub cut_keeps : (slots : ℕ) (h : Logged) (lines : List (List ℕ)) (before now : List ℕ) (keeps other : State → Type 0) → ((h2 : State) → keeps h2 → other h2)
-    → WasCut slots h lines before now keeps → WasCut slots h lines before now other
-cut_keeps slots h lines before now keeps other so was = record { now = was.now; cut = was.cut; kept = so was.now.state was.kept }
+    pub was_cut_off : (now : Logged) (lines : List (List ℕ)) (before held : List ℕ) (keeps : Layout → State → State → Type 0)
+        → CutOff e.store.layout.log start now lines before held → keeps o.sound.layout o.state now.state → WasCutOff (content old) lines before held keeps
+    was_cut_off now lines before held keeps cut kept = record {
+      sound = o.sound;
+      state = o.state;
+      opening = o.opening;
+      now = now;
+      cut = subst (λ (k : ℕ). CutOff k start now lines before held) o.slots cut;
+      kept = kept;
+    }
 
 -- a file that opens to nothing isn't sound
 pub no_opening : (file : List ℕ) → ((l : Layout) (blocks : List (List ℕ)) → OpensTo l file blocks → ⊥) → IsSound file → ⊥

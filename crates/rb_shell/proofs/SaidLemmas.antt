@@ -5,7 +5,7 @@ use Rattle.std.proofs.lemmas.List.{append-nil, length-append, length-set, drop-a
 use Rattle.std.proofs.Math.Seq.{drop-append_seam, take-add, take-nil}
 use Rattle.std.specs.Bool.{MatchBool}
 use Rattle.std.specs.List.{AllByRecursion}
-use Rattle.std.specs.Prelude.{Option, None, Some, slice_get}
+use Rattle.std.specs.Prelude.{IfErr, OnErr, OnOk, Option, Some}
 use Rattle.rb_base.specs.declared.store.Store.{Ghosts}
 use Rattle.rb_engine.specs.Does.{Does, SameStore}
 use Rattle.rb_engine.specs.Engine.{EngineView, room_left}
@@ -14,6 +14,7 @@ use Rattle.rb_lines.specs.declared.runner.StepFault.{StepFault}
 use Rattle.rb_lines.specs.declared.runner.StepFault.TheVariants.{Disk, Sink}
 use Rattle.rb_model.specs.Answers.{answer_of}
 use Rattle.rb_model.specs.declared.answer.Answer as code
+use Rattle.rb_model.specs.declared.answer.Answer.TheVariants as answers
 use Rattle.rb_model.specs.declared.row.Row.{Row}
 use Rattle.rb_model.specs.Lines.{reply_text}
 use Rattle.rb_model.specs.Out.{Logged, room, CallOut, CallsOut, is_given}
@@ -104,7 +105,7 @@ take_within : (n : ℕ) (text more : List ℕ) → take (min n (length text)) (t
 take_within n text more = take-append-le (min n (length text)) text more (omega arith) ∙ take_min n text
 
 -- the sink holds the first of them
-Holds : Type 0 → (before held waiting out : List ℕ) → ℕ → Type 0
+abbrev Holds : Type 0 → (before held waiting out : List ℕ) → ℕ → Type 0
 Holds tells before held waiting out sent = (sent ≤ length out) × (tells → held ≡ before ++ take sent out) × (waiting ≡ drop sent out)
 
 added_holds : (tells : Type 0) (before held waiting held2 waiting2 out text : List ℕ) (sent : ℕ) → sent ≤ length out → (tells → held ≡ before ++ take sent out) → waiting ≡ drop sent out
@@ -112,13 +113,13 @@ added_holds : (tells : Type 0) (before held waiting held2 waiting2 out text : Li
 added_holds tells before held waiting held2 waiting2 out text sent few holds waits added =
     let long = length-append out text in
     ⊎_elim
-    (λ a. (sent, omega (arith, few, long),
+    (λ a. (sent, (omega (arith, few, long),
     (λ t. a.1 t ∙ holds t ∙ ap (λ (xs : List ℕ). before ++ xs) (sym (take-append-le sent out text few))),
-    a.0 ∙ ap (λ (xs : List ℕ). xs ++ text) waits ∙ sym (drop-append-le sent out text few)))
-    (λ a. (length out, omega (arith, long),
+    a.0 ∙ ap (λ (xs : List ℕ). xs ++ text) waits ∙ sym (drop-append-le sent out text few))))
+    (λ a. (length out, (omega (arith, long),
     (λ t. a.1 t ∙ ap (λ (xs : List ℕ). xs ++ waiting) (holds t) ∙ ap (λ (xs : List ℕ). (before ++ take sent out) ++ xs) waits
     ∙ append_assoc before (take sent out) (drop sent out) ∙ ap (λ (xs : List ℕ). before ++ xs) (take-append-drop sent out ∙ sym (take-append-le (length out) out text (omega arith) ∙ take_all (length out) out (omega arith)))),
-    a.0 ∙ sym (drop-append_seam out text)))
+    a.0 ∙ sym (drop-append_seam out text))))
     added
 
 -- what was lost was some of what waited
@@ -153,9 +154,9 @@ so_far_more start m mid slots s c count r tells before held waiting held2 waitin
           (subst (λ (xs : List ℕ). CallsOut start slots s c (count + suc more) xs end) (sym (append_assoc so.out (reply_text s r) rest))
           (so.goes_on (suc more) (reply_text s r ++ rest) end (once_more m mid end slots s c more r rest once.made gives f)));
       sent = a.0;
-      few = a.1;
-      holds = a.2;
-      waits = a.3;
+      few = a.1.0;
+      holds = a.1.1;
+      waits = a.1.2;
       going = going;
     }
 
@@ -169,7 +170,7 @@ pub so_far_stop : (start m mid : Logged) (slots s : ℕ) (c : Call) (count all :
     → CalledOnce m slots s c r mid tells held waiting held2 waiting2 → is_given r ≡ false → Said (CallsOut start slots s c all) mid tells before held2 waiting2
 so_far_stop start m mid slots s c count all r tells before held waiting held2 waiting2 so lt once gives =
     let a = added_holds tells before held waiting held2 waiting2 so.out (reply_text s r) so.sent so.few so.holds so.waits once.added in
-    record { out = so.out ++ reply_text s r; reply = so_far_last start m mid slots s c count all r tells before held waiting so lt once.made gives; sent = a.0; few = a.1; holds = a.2; waits = a.3 }
+    record { out = so.out ++ reply_text s r; reply = so_far_last start m mid slots s c count all r tells before held waiting so lt once.made gives; sent = a.0; few = a.1.0; holds = a.1.1; waits = a.1.2 }
 
 -- all did
 pub so_far_all : (start m : Logged) (slots s : ℕ) (c : Call) (count : ℕ) (tells : Type 0) (before held waiting : List ℕ) → SaidSoFar start slots s c count m tells before held waiting → Said (CallsOut start slots s c count) m tells before held waiting
@@ -221,7 +222,7 @@ pub bad_said : (R : List ℕ → Logged → Type 0) (m : Logged) (text : List �
     → Told text false tells held waiting held2 waiting2 result → SaidAs R m tells held held2 waiting2 result
 bad_said R m text tells held waiting held2 waiting2 (Ok done) r going none told =
     let a = added_holds tells held held waiting held2 waiting2 [] text 0 (omega arith) (λ t. sym (append-nil held)) none told.1 in
-    (record { out = text; reply = r; sent = a.0; few = a.1; holds = a.2; waits = a.3 }, going)
+    (record { out = text; reply = r; sent = a.0; few = a.1.0; holds = a.1.1; waits = a.1.2 }, going)
 bad_said R m text tells held waiting held2 waiting2 (Err Disk) r going none told = absurd (false≢true told.0)
 bad_said R m text tells held waiting held2 waiting2 (Err Sink) r going none told = λ t.
     let l = lost_holds tells held held waiting held2 [] 0 (λ t. sym (append-nil held)) none told t in
@@ -244,23 +245,25 @@ all_sent R now tells before held waiting held2 said sent = record {
       ∙ append_assoc before (take said.sent said.out) (drop said.sent said.out) ∙ ap (λ (xs : List ℕ). before ++ xs) (take-append-drop said.sent said.out);
 }
 
-pub said_sent : (R : List ℕ → Logged → Type 0) (now : Logged) (tells : Type 0) (before held waiting held2 : List ℕ) (result : Result (Unit {0}) StepFault) → (result ≡ Err Sink → ⊥) → SaidAs R now tells before held waiting result
-    → (tells → held2 ≡ held ++ waiting) → RepliedAs R now tells before held2 result
-said_sent R now tells before held waiting held2 (Ok done) other (said, going) sent = (all_sent R now tells before held waiting held2 said sent, going)
-said_sent R now tells before held waiting held2 (Err Disk) other (said, stopped) sent = (all_sent R now tells before held waiting held2 said sent, stopped)
-said_sent R now tells before held waiting held2 (Err Sink) other cut sent = absurd (other refl)
-
 -- and where the sink fails then, some of it is
 some_sent : (R : List ℕ → Logged → Type 0) (now : Logged) (tells : Type 0) (before held waiting held2 : List ℕ) → Said R now tells before held waiting → Lost tells held waiting held2 → tells → CutShort R now before held2
 some_sent R now tells before held waiting held2 said lost t =
     let l = lost_holds tells before held waiting held2 said.out said.sent said.holds said.waits lost t in
     record { out = said.out; state = now; reply = said.reply; same = itself now; size = l.0; written = l.1 }
 
-pub said_lost : (R : List ℕ → Logged → Type 0) (now : Logged) (tells : Type 0) (before held waiting held2 : List ℕ) (result : Result (Unit {0}) StepFault) → (result ≡ Err Sink → ⊥) → SaidAs R now tells before held waiting result
-    → Lost tells held waiting held2 → RepliedAs R now tells before held2 (Err Sink)
-said_lost R now tells before held waiting held2 (Ok done) other (said, going) lost = some_sent R now tells before held waiting held2 said lost
-said_lost R now tells before held waiting held2 (Err Disk) other (said, stopped) lost = some_sent R now tells before held waiting held2 said lost
-said_lost R now tells before held waiting held2 (Err Sink) other cut lost = absurd (other refl)
+-- by the end of the line
+
+pub ok_sent : (R : List ℕ → Logged → Type 0) (now : Logged) (tells : Type 0) (before held waiting held2 : List ℕ) (result : Result (Unit {0}) StepFault) → SaidAs R now tells before held waiting (Ok tt)
+    → OnOk result (tells → held2 ≡ held ++ waiting) → OnErr result (Lost tells held waiting held2) → IfErr result (λ fault. fault ≡ Sink) → RepliedAs R now tells before held2 result
+ok_sent R now tells before held waiting held2 (Ok done) (said, going) sent lost by = (all_sent R now tells before held waiting held2 said sent, going)
+ok_sent R now tells before held waiting held2 (Err Disk) (said, going) sent lost by = cc
+ok_sent R now tells before held waiting held2 (Err Sink) (said, going) sent lost by = some_sent R now tells before held waiting held2 said lost
+
+pub disk_sent : (R : List ℕ → Logged → Type 0) (now : Logged) (tells : Type 0) (before held waiting held2 : List ℕ) → SaidAs R now tells before held waiting (Err Disk) → (tells → held2 ≡ held ++ waiting) → RepliedAs R now tells before held2 (Err Disk)
+disk_sent R now tells before held waiting held2 (said, stopped) sent = (all_sent R now tells before held waiting held2 said sent, stopped)
+
+pub disk_lost : (R : List ℕ → Logged → Type 0) (now : Logged) (tells : Type 0) (before held waiting held2 : List ℕ) → SaidAs R now tells before held waiting (Err Disk) → Lost tells held waiting held2 → RepliedAs R now tells before held2 (Err Sink)
+disk_lost R now tells before held waiting held2 (said, stopped) lost = some_sent R now tells before held waiting held2 said lost
 
 -- one call, as the engine tells it
 
@@ -285,7 +288,7 @@ module _ {S : Type 0} (s : Ghosts S) where
       }
 
 -- what a call ends with, by what became of its reply
-pub MatchTold : Result (Unit {0}) StepFault → code.Answer → Result code.Answer StepFault → Type 0
+abbrev pub MatchTold : Result (Unit {0}) StepFault → code.Answer → Result code.Answer StepFault → Type 0
 MatchTold (Ok done) answer result = result ≡ Ok answer
 MatchTold (Err fault) answer result = result ≡ Err fault
 
@@ -301,3 +304,50 @@ calls_as m now slots t c answer row text fault tells held waiting held2 waiting2
     (answer_of answer row, record { made = once; added = subst (λ (xs : List ℕ). Added xs tells held waiting held2 waiting2) is added }, ap (λ (x : State). x.stopped) state ∙ after_stops m.state c (answer_of answer row) (sym f ∙ fine))
 calls_as m now slots t c answer row text fault tells held waiting held2 waiting2 (Err Sink) state going once is f lost result e =
     subst (λ (x : Result code.Answer StepFault). Calls m slots t c row now tells held waiting held2 waiting2 x) (sym e) (answer_of answer row, once, lost)
+
+-- calls as they end
+
+not_given : (answer : code.Answer) (row : Row) → (answer ≡ answers.Row → ⊥) → is_given (answer_of answer row) ≡ false
+not_given answers.Done row other = refl
+not_given (answers.Waits on) row other = refl
+not_given (answers.Committed number) row other = refl
+not_given answers.Row row other = absurd (other refl)
+not_given answers.End row other = refl
+not_given (answers.Refused why) row other = refl
+
+given_no_fault : (r : Answer) → is_given r ≡ true → is_fault r ≡ false
+given_no_fault Done e = refl
+given_no_fault (Waits on) e = refl
+given_no_fault (Numbered n) e = refl
+given_no_fault (Given key value) e = refl
+given_no_fault End e = refl
+given_no_fault (Refused why) e = absurd (false≢true e)
+
+module _ (start m now : Logged) (slots slots1 s : ℕ) (c : Call) (count : ℕ) (row : Row) (tells : Type 0) (before held waiting held2 waiting2 : List ℕ)
+    (so : SaidSoFar start slots s c count m tells before held waiting) (same : slots1 ≡ slots) where
+  pub calls_more : Calls m slots1 s c row now tells held waiting held2 waiting2 (Ok answers.Row) → SaidSoFar start slots s c (count + 1) now tells before held2 waiting2
+  calls_more calls =
+      let here = subst (λ (k : ℕ). Calls m k s c row now tells held waiting held2 waiting2 (Ok answers.Row)) same calls in
+      so_far_more start m now slots s c count (answer_of answers.Row row) tells before held waiting held2 waiting2 so here.0 refl here.1
+
+  pub calls_stop : (all : ℕ) (answer : code.Answer) → count < all → (answer ≡ answers.Row → ⊥) → Calls m slots1 s c row now tells held waiting held2 waiting2 (Ok answer)
+      → SaidAs (CallsOut start slots s c all) now tells before held2 waiting2 (Ok tt)
+  calls_stop all answer lt other calls =
+      let here = subst (λ (k : ℕ). Calls m k s c row now tells held waiting held2 waiting2 (Ok answer)) same calls in
+      (so_far_stop start m now slots s c count all (answer_of answer row) tells before held waiting held2 waiting2 so lt here.0 (not_given answer row other), here.1)
+
+  pub calls_fault : (all : ℕ) (fault : StepFault) → count < all → Calls m slots1 s c row now tells held waiting held2 waiting2 (Err fault) → SaidAs (CallsOut start slots s c all) now tells before held2 waiting2 (Err fault)
+  calls_fault all Disk lt calls =
+      let here = subst (λ (k : ℕ). Calls m k s c row now tells held waiting held2 waiting2 (Err Disk)) same calls in
+      let r = here.0 in
+      ⊎_elim
+      (λ (gives : is_given r ≡ true). absurd (false≢true (sym (ap (λ (x : State). x.stopped) here.1.made.state ∙ after_same_stop m.state c r (given_no_fault r gives) ∙ so.going) ∙ here.2)))
+      (λ (gives : is_given r ≡ false). (so_far_stop start m now slots s c count all r tells before held waiting held2 waiting2 so lt here.1 gives, here.2))
+      (cases_Bool (is_given r))
+  calls_fault all Sink lt calls = λ t.
+      let here = subst (λ (k : ℕ). Calls m k s c row now tells held waiting held2 waiting2 (Err Sink)) same calls in
+      so_far_cut start m now slots s c count all here.0 tells before held waiting held2 so lt here.1 here.2 t
+
+pub calls_end : (start m : Logged) (slots s : ℕ) (c : Call) (count all : ℕ) (tells : Type 0) (before held waiting : List ℕ) → count ≡ all → SaidSoFar start slots s c count m tells before held waiting → SaidAs (CallsOut start slots s c all) m tells before held waiting (Ok tt)
+calls_end start m slots s c count all tells before held waiting is so =
+    (subst (λ (n : ℕ). Said (CallsOut start slots s c n) m tells before held waiting) is (so_far_all start m slots s c count tells before held waiting so), so.going)

@@ -5,6 +5,7 @@ ghost use Rattle.rb_disk.specs.DiskModel.{Only};
 ghost use Rattle.rb_disk.specs.Moments.{Rests};
 ghost use Rattle.rb_layout.specs.declared.layout.Layout.{Layout};
 ghost use Rattle.rb_layout.specs.Regions.{fresh_file};
+ghost use Rattle.rb_lines.specs.Faults.{IsCountedBeside};
 ghost use Rattle.rb_lines.specs.Whole.{whole_lines};
 ghost use Rattle.rb_model.specs.Lines.{lines_of};
 ghost use Rattle.rb_shell.specs.Runs.{IsSound, HasHalted, HasRun, WasCutOff, Endures, LeftAlone, WasStopped, IsTaken, EndsRun, AsksScript, AsksNothing, IsDoneOrNoMemory};
@@ -81,9 +82,10 @@ pub fn run<S: Source, K: Sink, D: Disk>(
     ensures not_a_store { D.tells → result.0 ≡ Status.NotAStore → ¬ IsSound (D.content disk) }
     ensures sound { D.tells → (n : ℕ) → IsRun words.now n → AsksScript result.0 → IsSound (D.content disk) }
 
-    // It ends by a fault exactly where that count rose. Where none rises, all is done.
+    // It ends by a fault only where that count rose, and else the count is as before. A fault of the sink may hide one
+    // of the disk. Where none rises, all is done.
     ensures source { IsCountedAs (S.faults source.old) (S.faults source.new) (by_source result.0) }
-    ensures disk { IsCountedAs (D.faults disk) (D.faults result.1) (by_disk result.0) }
+    ensures disk { IsCountedBeside (D.faults disk) (D.faults result.1) (by_disk result.0) (by_sink result.0) }
     ensures sink { IsCountedAs (K.faults sink.old) (K.faults sink.new) (by_sink result.0) }
     ensures complete_format { D.tells → (l : Layout) → IsFormat words.now l → length (D.content disk) ≡ 0 → ¬ Rose (D.faults disk) (D.faults result.1) → result.0 ≡ Status.Done }
     ensures complete { D.tells → S.tells → (n : ℕ) → IsRun words.now n → IsSound (D.content disk) → length (S.left source.old) < 1000000000

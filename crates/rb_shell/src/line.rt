@@ -1,8 +1,8 @@
 //! `step`: one line through the engine to the sink. The run of a script does each line by `do_line`.
-ghost use Rattle.std.specs.Prelude.{◌≡◌, ℕ, Some, false, [], OnOk};
-ghost use Rattle.rb_base.specs.Counts.{IsCountedAs, err_is};
+ghost use Rattle.std.specs.Prelude.{◌≡◌, ◌++◌, ℕ, false, [], IfErr, OnErr, OnOk};
+ghost use Rattle.rb_base.specs.Counts.{IsCounted, IsCountedAs, err_is};
 ghost use Rattle.rb_engine.specs.Does.{Does, SameStore, Stands};
-ghost use Rattle.rb_lines.specs.Faults.{is_disk, is_sink};
+ghost use Rattle.rb_lines.specs.Faults.{IsCountedBeside, is_disk, is_sink};
 ghost use Rattle.rb_lines.specs.Ran.{Did, LineRanAs};
 ghost use Rattle.rb_model.specs.Answers.{answer_of};
 ghost use Rattle.rb_model.specs.Lines as lines;
@@ -11,7 +11,7 @@ ghost use Rattle.rb_model.specs.Reply.{is_fault};
 ghost use Rattle.rb_model.specs.State.{State};
 ghost use Rattle.rb_script.specs.Commands.{command_of};
 ghost use Rattle.rb_shell.specs.Since.{IsSince, StandsAs, slots_of};
-ghost use Rattle.rb_shell.specs.Steps.{Calls, SaidAs};
+ghost use Rattle.rb_shell.specs.Steps.{Calls, Lost, SaidAs};
 
 use crate::replies::{
     Waiting, answer_to_call, answer_to_commit, answer_to_fetch, answer_to_write, reply_of, send,
@@ -103,7 +103,8 @@ fn call_once<T: Store, K: Sink>(
             (slots_of (T.slots engine.old.store)) (caller (command_of command.now)) (call_of (command_of command.now))
             row.new now K.tells (K.held sink.old) waiting.old.items (K.held sink.new) waiting.new.items result) }
     ensures same { SameStore T.Store engine.old.store engine.new.store }
-    ensures disk { IsCountedAs (T.faults engine.old.store) (T.faults engine.new.store) (err_is is_disk result) }
+    ensures disk { IsCountedBeside (T.faults engine.old.store) (T.faults engine.new.store) (err_is is_disk result)
+        (err_is is_sink result) }
     ensures sink { IsCountedAs (K.faults sink.old) (K.faults sink.new) (err_is is_sink result) }
 {
     let answer = answer(engine, command, row);
@@ -124,7 +125,8 @@ fn run_command<T: Store, K: Sink>(
             (slots_of (T.slots engine.old.store)) (command_of command.now)) now K.tells (K.held sink.old)
             (K.held sink.new) waiting.new.items result) }
     ensures same { SameStore T.Store engine.old.store engine.new.store }
-    ensures disk { IsCountedAs (T.faults engine.old.store) (T.faults engine.new.store) (err_is is_disk result) }
+    ensures disk { IsCountedBeside (T.faults engine.old.store) (T.faults engine.new.store) (err_is is_disk result)
+        (err_is is_sink result) }
     ensures sink { IsCountedAs (K.faults sink.old) (K.faults sink.new) (err_is is_sink result) }
 {
     let mut row = Row {
@@ -153,7 +155,8 @@ fn say_line<T: Store, K: Sink>(
             (slots_of (T.slots engine.old.store)) line.now) now K.tells (K.held sink.old)
             (K.held sink.new) waiting.new.items result) }
     ensures same { SameStore T.Store engine.old.store engine.new.store }
-    ensures disk { IsCountedAs (T.faults engine.old.store) (T.faults engine.new.store) (err_is is_disk result) }
+    ensures disk { IsCountedBeside (T.faults engine.old.store) (T.faults engine.new.store) (err_is is_disk result)
+        (err_is is_sink result) }
     ensures sink { IsCountedAs (K.faults sink.old) (K.faults sink.new) (err_is is_sink result) }
 {
     if line.len() > LINE_BYTES {
@@ -169,6 +172,19 @@ fn say_line<T: Store, K: Sink>(
     }
 }
 
+/// Puts the replies that wait at the end of a line.
+fn send_last<K: Sink>(waiting: &mut Waiting, sink: &mut K) -> Result<(), StepFault>
+    ensures sent { OnOk result (K.tells → K.held sink.new ≡ K.held sink.old ++ waiting.old.items) }
+    ensures lost { OnErr result (Lost K.tells (K.held sink.old) waiting.old.items (K.held sink.new)) }
+    ensures by_sink { IfErr result (λ fault. fault ≡ StepFault.Sink) }
+    ensures counted { IsCounted (K.faults sink.old) (K.faults sink.new) result }
+{
+    match send(waiting, sink) {
+        Ok(()) => Ok(()),
+        Err(_) => Err(StepFault::Sink),
+    }
+}
+
 /// Does one line of a script, and puts its replies. What an earlier line that failed left waiting is dropped.
 pub fn do_line<T: Store, K: Sink>(
     engine: &mut Engine<T>,
@@ -180,18 +196,19 @@ pub fn do_line<T: Store, K: Sink>(
         → Did (StandsAs T.Store) (IsSince T.Store) engine.old engine.new m (λ now. LineRanAs
             (slots_of (T.slots engine.old.store)) m now line.now K.tells (K.held sink.old) (K.held sink.new) result) }
     ensures same { SameStore T.Store engine.old.store engine.new.store }
-    ensures disk { IsCountedAs (T.faults engine.old.store) (T.faults engine.new.store) (err_is is_disk result) }
+    ensures disk { IsCountedBeside (T.faults engine.old.store) (T.faults engine.new.store) (err_is is_disk result)
+        (err_is is_sink result) }
     ensures sink { IsCountedAs (K.faults sink.old) (K.faults sink.new) (err_is is_sink result) }
 {
     waiting.clear();
-    let said = say_line(engine, line, waiting, sink);
-    if let Err(StepFault::Sink) = said {
-        return said;
+    match say_line(engine, line, waiting, sink) {
+        Ok(()) => send_last(waiting, sink),
+        Err(StepFault::Disk) => {
+            send_last(waiting, sink)?;
+            Err(StepFault::Disk)
+        }
+        Err(StepFault::Sink) => Err(StepFault::Sink),
     }
-    if send(waiting, sink).is_err() {
-        return Err(StepFault::Sink);
-    }
-    said
 }
 
 /// Does one line of a script, which comes without its LF, and puts its replies when it is done. Of a line of more than
@@ -207,7 +224,8 @@ pub fn step<T: Store, K: Sink>(
         → Did (StandsAs T.Store) (IsSince T.Store) engine.old engine.new m (λ now. LineRanAs
             (slots_of (T.slots engine.old.store)) m now line.now K.tells (K.held sink.old) (K.held sink.new) result) }
     ensures same { SameStore T.Store engine.old.store engine.new.store }
-    ensures disk { IsCountedAs (T.faults engine.old.store) (T.faults engine.new.store) (err_is is_disk result) }
+    ensures disk { IsCountedBeside (T.faults engine.old.store) (T.faults engine.new.store) (err_is is_disk result)
+        (err_is is_sink result) }
     ensures sink { IsCountedAs (K.faults sink.old) (K.faults sink.new) (err_is is_sink result) }
 {
     do_line(engine, line, &mut ArrayVec::new(), sink)

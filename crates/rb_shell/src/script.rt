@@ -1,6 +1,7 @@
 //! Runs a script over a store: its lines, one after another, through the engine to the sink. `run` calls it.
 ghost use Rattle.std.specs.Prelude.{◌≡◌, ◌≢◌, ◌⊎◌, ℕ, ◌<◌, ◌≤◌, List, [], ◌++◌, length, false, true, IfErr, IfOk};
 ghost use Rattle.rb_base.specs.Counts.{IsCountedAs, is_failed};
+ghost use Rattle.rb_lines.specs.Faults.{IsCountedBeside};
 ghost use Rattle.rb_lines.specs.Whole.{whole_lines};
 ghost use Rattle.rb_model.specs.Lines.{lines_of};
 ghost use Rattle.rb_model.specs.Out.{Logged};
@@ -56,7 +57,15 @@ impl<T: Store> LineRunner for Interpreter<T> {
 
 /// The status of a store that wasn't opened.
 fn status_of_fault(fault: OpenFault) -> Status
-    ensures { result ≡ status_of_opening fault }
+    ensures is { result ≡ status_of_opening fault }
+    ensures ends { EndsRun result }
+    ensures no_script { AsksScript result → ⊥ }
+    ensures asks_nothing { result ≢ Status.DiskFault → AsksNothing result }
+    ensures not_asked { fault ≡ OpenFault.Failed → AsksNothing result → ⊥ }
+    ensures none { result ≡ Status.NotAStore → fault ≡ OpenFault.NotAStore }
+    ensures by_disk { by_disk result ≡ is_failed fault }
+    ensures by_source { by_source result ≡ false }
+    ensures by_sink { by_sink result ≡ false }
 {
     match fault {
         OpenFault::Failed => Status::DiskFault,
@@ -67,7 +76,9 @@ fn status_of_fault(fault: OpenFault) -> Status
 
 /// The status of a script that was asked for.
 fn status_of_end(end: LinesEnd) -> Status
-    ensures { result ≡ status_of end }
+    ensures is { result ≡ status_of end }
+    ensures ends { EndsRun result }
+    ensures asks { AsksNothing result → ⊥ }
 {
     match end {
         LinesEnd::Done => Status::Done,
@@ -85,15 +96,16 @@ fn run_engine<S: Source, K: Sink, T: Store>(
     sink: &mut K,
     buffer: &mut [u8],
 ) -> (Status, T)
-    requires buffer { 0 < length buffer.old }
+    requires buffer { length buffer.old ≡ 65536 }
     ensures did { S.tells → (m : Logged) → StandsAs T.Store engine m → m.state.stopped ≡ false
-        → RanOn T.Store engine.store result.1 (slots_of (T.slots engine.store)) (length buffer.old) m (S.left source.old)
+        → RanOn T.Store engine.store result.1 (slots_of (T.slots engine.store)) 65536 m (S.left source.old)
             (S.left source.new) K.tells (K.held sink.old) (K.held sink.new) result.0 }
-    ensures ends { (end : LinesEnd) × (result.0 ≡ status_of end) }
+    ensures ends { EndsRun result.0 }
+    ensures asks { AsksNothing result.0 → ⊥ }
     ensures at_end { result.0 ≡ Status.Done → S.tells → S.left source.new ≡ [] }
     ensures few { result.0 ≡ Status.Done → S.tells → length (S.left source.old) < 1000000000 }
     ensures source { IsCountedAs (S.faults source.old) (S.faults source.new) (by_source result.0) }
-    ensures disk { IsCountedAs (T.faults engine.store) (T.faults result.1) (by_disk result.0) }
+    ensures disk { IsCountedBeside (T.faults engine.store) (T.faults result.1) (by_disk result.0) (by_sink result.0) }
     ensures sink { IsCountedAs (K.faults sink.old) (K.faults sink.new) (by_sink result.0) }
 {
     let mut interpreter = Interpreter {
@@ -164,9 +176,10 @@ pub fn run_script<S: Source, K: Sink, D: Disk>(
     ensures not_a_store { D.tells → result.0 ≡ Status.NotAStore → IsSound (D.content disk) → ⊥ }
     ensures sound { D.tells → AsksScript result.0 → IsSound (D.content disk) }
 
-    // It ends by a fault exactly where that count rose.
+    // It ends by a fault only where that count rose, and else the count is as before. A fault of the sink may hide one
+    // of the disk.
     ensures source { IsCountedAs (S.faults source.old) (S.faults source.new) (by_source result.0) }
-    ensures disk { IsCountedAs (D.faults disk) (D.faults result.1) (by_disk result.0) }
+    ensures disk { IsCountedBeside (D.faults disk) (D.faults result.1) (by_disk result.0) (by_sink result.0) }
     ensures sink { IsCountedAs (K.faults sink.old) (K.faults sink.new) (by_sink result.0) }
 {
     let Ok(mut buffer) = vec![in alloc; 0; BUFFER_BYTES] else {

@@ -67,7 +67,7 @@ loop-room-preserved g c =
           (λ k reached on. f.did k (rest_from [] p.taken) reached on p.rest) (f.kept (rest_from [] p.taken) p.rest);
       slots = f.slots ∙ i.slots;
       source = o.counted.still ∙ i.source;
-      disk = f.disk.still refl ∙ i.disk;
+      disk = f.disk.still refl refl ∙ i.disk;
       sink = f.sink.still refl ∙ i.sink;
     }
 

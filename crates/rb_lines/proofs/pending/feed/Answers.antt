@@ -45,7 +45,7 @@ loop-byte-preserved g c =
           (λ n k so_far next. as_byte (g.M.LineRunner.slots c.args.runner.now) _ m n k line c.args.bytes.now c.loop-byte.byte-index g.K.Sink.tells _ _ _ (Ok tt) within i.slots so_far.0 so_far.1 next);
       kept = λ line e. o.kept _ (i.kept line e) ∙ ap (λ (b : List ℕ). take 513 b) (rest_more line c.args.bytes.now c.loop-byte.byte-index within);
       slots = o.slots ∙ i.slots;
-      disk = o.disk.still refl ∙ i.disk;
+      disk = o.disk.still refl refl ∙ i.disk;
       sink = o.sink.still refl ∙ i.sink;
     }
 

@@ -1,9 +1,11 @@
-use Rattle.std.proofs.Common.{◌∙◌, ℕ, refl, arith}
+use Rattle.std.proofs.Common.{◌∙◌, ℕ, refl, ap, arith}
 use Rattle.rb_layout.specs.declared.layout.Layout.{Layout}
 use Rattle.rb_shell.specs.Words.{IsFormat, IsRun}
 use Rattle.rb_shell.specs.declared.words.Request.TheVariants.{Format, Run}
 use Rattle.rb_shell.proofs.RunLemmas.{complete_format, complete_run, not_longer}
 use Rattle.rb_shell.proofs.Spelling.{same_file, not_both}
+use Rattle.rb_shell.proofs.StatusLemmas.{beside, format_sink, format_source, uncounted}
+use Rattle.rb_shell.specs.Statuses.{by_disk, by_sink, by_source}
 use Rattle.rb_shell.proofs.command.run.Given.{Over}
 use Rattle.rb_shell.proofs.command.run.Goals.{After-run_format, After-run_script}
 use Rattle.rb_shell.proofs.command.run.Goals as goal
@@ -75,18 +77,9 @@ returns-in-Some-Format-clause-not_a_store g c = λ disk is. absurd (rw is at c.r
 pub returns-in-Some-Format-clause-sound : goal.returns-in-Some-Format-clause-sound
 returns-in-Some-Format-clause-sound g c = λ disk n asked is. absurd (no_run g c n asked)
 
-pub returns-in-Some-Format-clause-source_fault : goal.returns-in-Some-Format-clause-source_fault
-returns-in-Some-Format-clause-source_fault g c = λ is. absurd (rw is at c.run_format.ensures.ends)
-
-pub returns-in-Some-Format-clause-sink_fault : goal.returns-in-Some-Format-clause-sink_fault
-returns-in-Some-Format-clause-sink_fault g c = λ is. absurd (rw is at c.run_format.ensures.ends)
-
-pub returns-in-Some-Format-clause-disk_fault : goal.returns-in-Some-Format-clause-disk_fault
-returns-in-Some-Format-clause-disk_fault g c = λ is. c.run_format.ensures.disk_fault is
-
 pub returns-in-Some-Format-clause-complete_format : goal.returns-in-Some-Format-clause-complete_format
 returns-in-Some-Format-clause-complete_format g c = λ told l asked empty same.
-    complete_format c.run_format.result.0 c.run_format.ensures.ends (λ is. same (c.run_format.ensures.disk_fault is)) (λ is. absurd (omega (arith, empty, c.run_format.ensures.not_empty told is)))
+    complete_format c.run_format.result.0 c.run_format.ensures.ends (λ is. same (c.run_format.ensures.disk.cause (ap by_disk is))) (λ is. absurd (omega (arith, empty, c.run_format.ensures.not_empty told is)))
 
 pub returns-in-Some-Format-clause-complete : goal.returns-in-Some-Format-clause-complete
 returns-in-Some-Format-clause-complete g c = λ disk told n asked sound few a b d. absurd (no_run g c n asked)
@@ -142,23 +135,14 @@ returns-in-Some-Run-clause-too_long g c = λ disk told is. c.run_script.ensures.
 pub returns-in-Some-Run-clause-cut_off : goal.returns-in-Some-Run-clause-cut_off
 returns-in-Some-Run-clause-cut_off g c = λ disk told tells is. c.run_script.ensures.cut_off disk told tells is
 
-pub returns-in-Some-Run-clause-source : goal.returns-in-Some-Run-clause-source
-returns-in-Some-Run-clause-source g c = λ is. c.run_script.ensures.source is
+pub returns-in-Some-Run-clause-source_same : goal.returns-in-Some-Run-clause-source_same
+returns-in-Some-Run-clause-source_same g c = λ is. c.run_script.ensures.source_same is
 
-pub returns-in-Some-Run-clause-sink : goal.returns-in-Some-Run-clause-sink
-returns-in-Some-Run-clause-sink g c = λ is. c.run_script.ensures.sink is
+pub returns-in-Some-Run-clause-sink_same : goal.returns-in-Some-Run-clause-sink_same
+returns-in-Some-Run-clause-sink_same g c = λ is. c.run_script.ensures.sink_same is
 
 pub returns-in-Some-Run-clause-not_a_store : goal.returns-in-Some-Run-clause-not_a_store
 returns-in-Some-Run-clause-not_a_store g c = λ disk is. c.run_script.ensures.not_a_store disk is
-
-pub returns-in-Some-Run-clause-source_fault : goal.returns-in-Some-Run-clause-source_fault
-returns-in-Some-Run-clause-source_fault g c = λ is. c.run_script.ensures.source_fault is
-
-pub returns-in-Some-Run-clause-disk_fault : goal.returns-in-Some-Run-clause-disk_fault
-returns-in-Some-Run-clause-disk_fault g c = λ is. c.run_script.ensures.disk_fault is
-
-pub returns-in-Some-Run-clause-sink_fault : goal.returns-in-Some-Run-clause-sink_fault
-returns-in-Some-Run-clause-sink_fault g c = λ is. c.run_script.ensures.sink_fault is
 
 pub returns-in-Some-Run-clause-disk_done : goal.returns-in-Some-Run-clause-disk_done
 returns-in-Some-Run-clause-disk_done g c = λ disk told n asked is. c.run_script.ensures.disk_done disk told is
@@ -174,9 +158,9 @@ returns-in-Some-Run-clause-complete_format g c = λ told l asked some same. absu
 
 pub returns-in-Some-Run-clause-complete : goal.returns-in-Some-Run-clause-complete
 returns-in-Some-Run-clause-complete g c = λ disk told n asked sound few same_source same_disk same_sink. complete_run c.run_script.result.0 c.run_script.ensures.ends
-    (λ is. same_source (c.run_script.ensures.source_fault is))
-    (λ is. same_disk (c.run_script.ensures.disk_fault is))
-    (λ is. same_sink (c.run_script.ensures.sink_fault is))
+    (λ is. same_source (c.run_script.ensures.source.cause (ap by_source is)))
+    (λ is. same_disk (c.run_script.ensures.disk.cause (ap by_disk is)))
+    (λ is. same_sink (c.run_script.ensures.sink.cause (ap by_sink is)))
     (λ is. c.run_script.ensures.not_a_store disk is sound)
     (λ is. let all = c.run_script.ensures.too_long disk told is in not_longer all.0 _ _ all.2 all.1 few)
 
@@ -200,3 +184,21 @@ returns-in-None-clause-complete_format g c = λ disk l asked some same. absurd (
 
 pub returns-in-None-clause-complete : goal.returns-in-None-clause-complete
 returns-in-None-clause-complete g c = λ disk told n asked sound few a b d. absurd (c.in-None.ensures.none (Run n) asked)
+
+pub returns-in-Some-Format-clause-source : goal.returns-in-Some-Format-clause-source
+returns-in-Some-Format-clause-source g c = uncounted _ _ _ (format_source c.run_format.result.0 c.run_format.ensures.ends) refl
+
+pub returns-in-Some-Format-clause-sink : goal.returns-in-Some-Format-clause-sink
+returns-in-Some-Format-clause-sink g c = uncounted _ _ _ (format_sink c.run_format.result.0 c.run_format.ensures.ends) refl
+
+pub returns-in-Some-Format-clause-disk : goal.returns-in-Some-Format-clause-disk
+returns-in-Some-Format-clause-disk g c = beside _ _ _ _ c.run_format.ensures.disk
+
+pub returns-in-Some-Run-clause-source : goal.returns-in-Some-Run-clause-source
+returns-in-Some-Run-clause-source g c = c.run_script.ensures.source
+
+pub returns-in-Some-Run-clause-sink : goal.returns-in-Some-Run-clause-sink
+returns-in-Some-Run-clause-sink g c = c.run_script.ensures.sink
+
+pub returns-in-Some-Run-clause-disk : goal.returns-in-Some-Run-clause-disk
+returns-in-Some-Run-clause-disk g c = c.run_script.ensures.disk

@@ -1,7 +1,7 @@
 use Rattle.std.proofs.Common.{sym, ◌∙◌, ap}
 use Rattle.std.proofs.lemmas.Bool.{ne_eqb}
 use Rattle.rb_model.specs.Lines.{without_return}
-use Rattle.rb_shell.proofs.StepLemmas.{return_goes, other_stays}
+use Rattle.rb_shell.proofs.Returns.{return_goes, other_stays}
 use Rattle.rb_shell.proofs.line.without_return.Goals as goal
 
 pub returns-in-Some : goal.returns-in-Some

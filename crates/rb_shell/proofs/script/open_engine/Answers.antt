@@ -1,7 +1,7 @@
-use Rattle.std.proofs.Common.{◌∙◌, ap, sym, subst, arith}
+use Rattle.std.proofs.Common.{◌∙◌, ap, sym, subst, arith, refl}
 use Rattle.rb_model.specs.State.{State}
 use Rattle.rb_shell.specs.Runs.{LeftAlone}
-use Rattle.rb_shell.specs.Steps.{slots_of}
+use Rattle.rb_shell.specs.Since.{slots_of}
 use Rattle.rb_shell.proofs.RunLemmas.{Found, has_opened, loads_alone, not_sound, no_opening, rests_alone, neither_failed}
 use Rattle.rb_shell.proofs.script.open_engine.Given.{Over}
 use Rattle.rb_shell.proofs.script.open_engine.Goals.{In-Ok, After-close}
@@ -32,27 +32,14 @@ alone g c told =
 pub returns-in-Ok-open-clause-opened : goal.returns-in-Ok-open-clause-opened
 returns-in-Ok-open-clause-opened g c = λ told.
     let call = c.in-Ok-open.ensures in
-    has_opened g.D.Disk.content g.D.Disk.image g.D.Disk.moment g.D.Disk.image_since c.args.disk c.in-Ok.store c.in-Ok-open.engine (found g (goal.at.returns-in-Ok-open-clause-opened g c).In-Ok told) (record {
+    let opened = call.stands tt (λ kept. (c.in-Ok.ensures.pending, c.in-Ok.ensures.stable told)) in
+    has_opened g.D.Disk.content g.D.Disk.image g.D.Disk.moment g.D.Disk.image_since c.args.disk _ c.in-Ok.store c.in-Ok-open.engine opened.state (found g (goal.at.returns-in-Ok-open-clause-opened g c).In-Ok told) (record {
       shape = call.loads_ok.same_shape;
       log = ap slots_of call.loads_ok.same_slots;
       stable = call.loads_ok.still_stable told;
       later = call.loads_ok.later told;
       nothing_else = call.loads_ok.nothing_else told;
-    }) (call.opened tt) (call.sound tt) call.loads_ok.same_number
-
-pub returns-in-Ok-open-clause-stands : goal.returns-in-Ok-open-clause-stands
-returns-in-Ok-open-clause-stands g c = λ told.
-    let opening = c.in-Ok-open.ensures.opened tt in
-    record {
-      same_shape = c.in-Ok-open.ensures.loads_ok.same_shape ∙ ap (λ (h : State). h.shape) (sym opening.state);
-      stands = c.in-Ok-open.ensures.stands tt told c.in-Ok.ensures.pending (c.in-Ok.ensures.stable told);
-    }
-
-pub returns-in-Ok-open-clause-going : goal.returns-in-Ok-open-clause-going
-returns-in-Ok-open-clause-going g c = c.in-Ok-open.ensures.going
-
-pub returns-in-Ok-open-clause-counted_ok : goal.returns-in-Ok-open-clause-counted_ok
-returns-in-Ok-open-clause-counted_ok g c = omega (arith, c.in-Ok.ensures.counted_ok, c.in-Ok-open.ensures.counted_ok)
+    }) opened.opening (call.sound tt) (record { engine = opened.stands; number = sym call.loads_ok.same_number; ended = refl })
 
 pub returns-in-Err-open-clause-none : goal.returns-in-Err-open-clause-none
 returns-in-Err-open-clause-none g c = λ told is sound.

@@ -1,45 +1,37 @@
-use Rattle.std.proofs.Common.{sym, subst}
+use Rattle.std.proofs.Common.{◌∙◌, ap, sym, subst, ℕ}
+use Rattle.rb_lines.specs.Ends.{EndsAs}
+use Rattle.rb_shell.specs.Since.{slots_of}
+use Rattle.rb_lines.specs.Faults.{IsCountedBeside}
+use Rattle.rb_lines.specs.Ends as lines
+use Rattle.rb_shell.specs.Statuses.{by_disk, by_sink, by_source}
 use Rattle.rb_engine.specs.Crash.{Survives}
-use Rattle.rb_lines.specs.Ends.{IsUnbroken}
-use Rattle.rb_shell.specs.Since.{StandsFor}
-use Rattle.rb_shell.specs.Steps.{logged}
-use Rattle.rb_shell.proofs.script.run_engine.Given.{Over}
-use Rattle.rb_shell.proofs.script.run_engine.Goals.{After-close}
+use Rattle.rb_shell.proofs.StatusLemmas.{counted_as, counted_beside, disk_of, done_of, sink_of, source_of}
 use Rattle.rb_shell.proofs.script.run_engine.Goals as goal
 
--- what the lines left of the store that is given back
-left : (g : Over) (c : After-close g) → g.T.Store.keeps → StandsFor g.T.Store c.args.engine → Survives g.T.Store (g.T.Store.slots c.args.engine.store) c.args.engine.state c.run_lines-end.new.machine.engine.state c.args.engine.store c.close.result
-left g c keeps stands =
-    subst (λ d. Survives g.T.Store (g.T.Store.slots c.args.engine.store) c.args.engine.state c.run_lines-end.new.machine.engine.state c.args.engine.store d) (sym c.close.ensures)
-    (c.run_lines-end.ensures.since.crash c.requires.ready.told keeps stands)
-
-pub returns-clause-done : goal.returns-clause-done
-returns-clause-done g c = λ is told. record { now = logged g.T.Store c.run_lines-end.new.machine.engine; ran = c.run_lines-end.ensures.done (c.status_of_end.ensures.done is) told; end = c.run_lines-end.ensures.going (subst IsUnbroken (sym (c.status_of_end.ensures.done is)) tt); kept = left g c }
+pub returns-clause-did : goal.returns-clause-did
+returns-clause-did g c = λ t m is going.
+    let d = c.run_lines-end.ensures.did t m is going in
+    record {
+      now = d.now;
+      crash = λ kept. subst (λ store. Survives g.T.Store (g.T.Store.slots c.args.engine.store) m.state d.now.state c.args.engine.store store) (sym c.close.ensures) (d.passed.crash kept);
+      end = c.run_lines-end.result;
+      is = c.status_of_end.ensures.is;
+      ends = subst (λ (n : ℕ). EndsAs (slots_of (g.T.Store.slots c.args.engine.store)) n m d.now (g.S.Source.left c.args.source.now) (g.S.Source.left c.run_lines-end.new.source) g.K.Sink.tells (g.K.Sink.held c.args.sink.now) (g.K.Sink.held c.run_lines-end.new.sink) c.run_lines-end.result) c.requires.buffer d.ran;
+    }
 
 pub returns-clause-at_end : goal.returns-clause-at_end
-returns-clause-at_end g c = λ is told. c.run_lines-end.ensures.at_end (c.status_of_end.ensures.done is) told
+returns-clause-at_end g c = λ is told. c.run_lines-end.ensures.at_end (done_of c.run_lines-end.result (sym c.status_of_end.ensures.is ∙ is)) told
 
 pub returns-clause-few : goal.returns-clause-few
-returns-clause-few g c = λ is told. c.run_lines-end.ensures.few (c.status_of_end.ensures.done is) told
+returns-clause-few g c = λ is told. c.run_lines-end.ensures.few (done_of c.run_lines-end.result (sym c.status_of_end.ensures.is ∙ is)) told
 
-pub returns-clause-source_done : goal.returns-clause-source_done
-returns-clause-source_done g c = λ is told.
-    let all = c.run_lines-end.ensures.source_done (c.status_of_end.ensures.source_fault is) told in
-    (all.0, all.1, record { now = logged g.T.Store c.run_lines-end.new.machine.engine; ran = all.2; end = c.run_lines-end.ensures.going (subst IsUnbroken (sym (c.status_of_end.ensures.source_fault is)) tt); kept = left g c })
+pub returns-clause-source : goal.returns-clause-source
+returns-clause-source g c = counted_as _ _ _ _ (source_of c.run_lines-end.result ∙ ap by_source (sym c.status_of_end.ensures.is)) c.run_lines-end.ensures.source
 
-pub returns-clause-too_long : goal.returns-clause-too_long
-returns-clause-too_long g c = λ is told.
-    let all = c.run_lines-end.ensures.too_long (c.status_of_end.ensures.too_long is) told in
-    (all.0, all.1, all.2, record { now = logged g.T.Store c.run_lines-end.new.machine.engine; ran = all.3; end = c.run_lines-end.ensures.going (subst IsUnbroken (sym (c.status_of_end.ensures.too_long is)) tt); kept = left g c })
+pub returns-clause-sink : goal.returns-clause-sink
+returns-clause-sink g c = counted_as _ _ _ _ (sink_of c.run_lines-end.result ∙ ap by_sink (sym c.status_of_end.ensures.is)) c.run_lines-end.ensures.sink
 
-pub returns-clause-disk_done : goal.returns-clause-disk_done
-returns-clause-disk_done g c = λ is told. record { now = logged g.T.Store c.run_lines-end.new.machine.engine; ran = c.run_lines-end.ensures.disk_done (c.status_of_end.ensures.disk_fault is) told; end = c.run_lines-end.ensures.stopped (c.status_of_end.ensures.disk_fault is); kept = left g c }
-
-pub returns-clause-cut_off : goal.returns-clause-cut_off
-returns-clause-cut_off g c = λ is told tells. record { now = logged g.T.Store c.run_lines-end.new.machine.engine; cut = c.run_lines-end.ensures.cut_off (c.status_of_end.ensures.sink_fault is) told tells; kept = left g c }
-
-pub returns-clause-source_fault : goal.returns-clause-source_fault
-returns-clause-source_fault g c = λ is. c.run_lines-end.ensures.source_fault (c.status_of_end.ensures.source_fault is)
-
-pub returns-clause-sink_fault : goal.returns-clause-sink_fault
-returns-clause-sink_fault g c = λ is. c.run_lines-end.ensures.sink_fault (c.status_of_end.ensures.sink_fault is)
+pub returns-clause-disk : goal.returns-clause-disk
+returns-clause-disk g c =
+    counted_beside _ _ _ _ _ _ (disk_of c.run_lines-end.result ∙ ap by_disk (sym c.status_of_end.ensures.is)) (sink_of c.run_lines-end.result ∙ ap by_sink (sym c.status_of_end.ensures.is))
+    (subst (λ store. IsCountedBeside (g.T.Store.faults c.args.engine.store) (g.T.Store.faults store) (lines.by_disk c.run_lines-end.result) (lines.by_sink c.run_lines-end.result)) (sym c.close.ensures) c.run_lines-end.ensures.disk)

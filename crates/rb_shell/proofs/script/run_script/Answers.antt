@@ -1,65 +1,95 @@
-use Rattle.std.proofs.Common.{ℕ, Bool, List, Some, inr, sym, subst}
+use Rattle.std.proofs.Common.{◌≡◌, ◌∙◌, ℕ, Bool, List, Some, inr, sym, ap, subst, refl, false}
 use Rattle.rb_engine.specs.Crash.{Survives}
+use Rattle.rb_engine.specs.Holds.{OpensAs}
+use Rattle.rb_lines.specs.Ends.{EndsAs}
+use Rattle.rb_lines.specs.Faults.{IsCountedBeside}
+use Rattle.rb_lines.specs.Ran.{Ran}
+use Rattle.rb_lines.specs.declared.lines.LinesEnd.{LinesEnd}
+use Rattle.rb_lines.specs.declared.lines.LinesEnd.TheVariants as ends
 use Rattle.rb_model.specs.State.{State}
 use Rattle.rb_store.specs.contracts.lap.LapStoreStore.TheImpl.{ghosts}
-use Rattle.rb_shell.specs.Runs.{Endures, HasDone, HasRun}
-use Rattle.rb_shell.specs.Since.{StandsFor}
-use Rattle.rb_shell.proofs.RunLemmas.{has_run, was_cut_off, endures, done_keeps, cut_keeps}
+use Rattle.rb_shell.specs.Runs.{AsksNothing, AsksScript, Endures, EndsRun, HasOpened, HasRun, RanOn}
+use Rattle.rb_shell.specs.Since.{StandsAs}
+use Rattle.rb_shell.specs.Statuses.{by_disk, by_sink, by_source}
+use Rattle.rb_shell.specs.declared.status.Status.{Status}
+use Rattle.rb_shell.proofs.RunLemmas.{endures, has_halted, has_run, was_cut_off}
+use Rattle.rb_shell.proofs.StatusLemmas.{beside, counted_as, disk_fault_of, done_of, sink_fault_of, source_fault_of, too_long_of, uncounted}
 use Rattle.rb_shell.proofs.script.run_script.Given.{Over}
 use Rattle.rb_shell.proofs.script.run_script.Goals.{After-close}
 use Rattle.rb_shell.proofs.script.run_script.Goals as goal
 
-module _ (g : Over) (c : After-close g) where
-  -- what the lines have left of the store
-  abbrev Left : State → Type 0
-  Left h =
-      let s = ghosts g.row.D g.D.Disk g.D.Disk-dict in
-      let e = c.in-Ok-open_engine.engine in
-      g.D.Disk.tells → StandsFor s e → Survives s (Some e.store.layout.log) e.state h e.store c.run_engine-status.result.1
+module _ (g : Over) (c : After-close g) (disk : g.D.Disk.tells) (told : g.S.Source.tells) where
+  opened : HasOpened g.D.Disk.content g.D.Disk.image g.D.Disk.moment g.D.Disk.image_since (ghosts g.row.D g.D.Disk g.D.Disk-dict) c.args.disk c.in-Ok-open_engine.engine
+  opened = c.in-Ok-open_engine.ensures.opened disk
+
+  did : RanOn (ghosts g.row.D g.D.Disk g.D.Disk-dict) c.in-Ok-open_engine.engine.store c.run_engine-status.result.1 c.in-Ok-open_engine.engine.store.layout.log 65536 (record { state = opened.state; number = opened.sound.number })
+      (g.S.Source.left c.args.source.now) (g.S.Source.left c.run_engine-status.new.source) g.K.Sink.tells (g.K.Sink.held c.args.sink.now) (g.K.Sink.held c.run_engine-status.new.sink) c.run_engine-status.result.0
+  did = c.run_engine-status.ensures.did told (record { state = opened.state; number = opened.sound.number }) opened.stands (ap (λ (h : State). h.stopped) opened.opening.state)
 
   -- it endures
-  endured : (disk : g.D.Disk.tells) (h : State) → Left h
-      → Endures g.D.Disk.image g.D.Disk.moment g.D.Disk.image_since c.args.disk c.close.result (c.in-Ok-open_engine.ensures.opened disk).sound.layout c.in-Ok-open_engine.engine.state h
-  endured disk h left =
-      let o = c.in-Ok-open_engine.ensures.opened disk in
-      let e = c.in-Ok-open_engine.engine in
-      let v = left disk (c.in-Ok-open_engine.ensures.stands disk) in
-      subst (λ d. Endures g.D.Disk.image g.D.Disk.moment g.D.Disk.image_since c.args.disk d o.sound.layout e.state h) (sym c.close.ensures)
-      (endures g.D.Disk.content g.D.Disk.image g.D.Disk.moment g.D.Disk.image_since c.args.disk e h c.run_engine-status.result.1.disk o v.extends (record { later = v.any_moment.later; each = v.any_moment.each; earlier = v.any_moment.earlier }) v.now_only)
+  endured : (h : State) → (g.D.Disk.tells → Survives (ghosts g.row.D g.D.Disk g.D.Disk-dict) (Some c.in-Ok-open_engine.engine.store.layout.log) opened.state h c.in-Ok-open_engine.engine.store c.run_engine-status.result.1)
+      → Endures g.D.Disk.image g.D.Disk.moment g.D.Disk.image_since c.args.disk c.close.result opened.sound.layout opened.state h
+  endured h survives =
+      let v = survives disk in
+      subst (λ d. Endures g.D.Disk.image g.D.Disk.moment g.D.Disk.image_since c.args.disk d opened.sound.layout opened.state h) (sym c.close.ensures)
+      (endures g.D.Disk.content g.D.Disk.image g.D.Disk.moment g.D.Disk.image_since c.args.disk (ghosts g.row.D g.D.Disk g.D.Disk-dict) c.in-Ok-open_engine.engine h c.run_engine-status.result.1.disk opened v.extends (record { later = v.any_moment.later; each = v.any_moment.each; earlier = v.any_moment.earlier }) v.now_only)
+
+  -- how the lines ended
+  ended : (end : LinesEnd) → did.end ≡ end
+      → EndsAs c.in-Ok-open_engine.engine.store.layout.log 65536 (record { state = opened.state; number = opened.sound.number }) did.now (g.S.Source.left c.args.source.now) (g.S.Source.left c.run_engine-status.new.source) g.K.Sink.tells (g.K.Sink.held c.args.sink.now) (g.K.Sink.held c.run_engine-status.new.sink) end
+  ended end is = subst (λ (e : LinesEnd). EndsAs c.in-Ok-open_engine.engine.store.layout.log 65536 (record { state = opened.state; number = opened.sound.number }) did.now (g.S.Source.left c.args.source.now) (g.S.Source.left c.run_engine-status.new.source) g.K.Sink.tells (g.K.Sink.held c.args.sink.now) (g.K.Sink.held c.run_engine-status.new.sink) e) is did.ends
 
   -- what was done over the engine was done over the file
-  ran : (disk : g.D.Disk.tells) (lines : List (List ℕ)) (tells : Type 0) (before now : List ℕ) (stopped : Bool)
-      → HasDone c.in-Ok-open_engine.engine.store.layout.log (record { state = c.in-Ok-open_engine.engine.state; number = c.in-Ok-open_engine.engine.store.number }) lines tells before now stopped Left
-      → HasRun (g.D.Disk.content c.args.disk) lines tells before now stopped (Endures g.D.Disk.image g.D.Disk.moment g.D.Disk.image_since c.args.disk c.close.result)
-  ran disk lines tells before now stopped did =
-      let o = c.in-Ok-open_engine.ensures.opened disk in
-      let e = c.in-Ok-open_engine.engine in
-      has_run g.D.Disk.content g.D.Disk.image g.D.Disk.moment g.D.Disk.image_since c.args.disk e lines tells before now stopped (Endures g.D.Disk.image g.D.Disk.moment g.D.Disk.image_since c.args.disk c.close.result) o
-      (done_keeps e.store.layout.log _ lines tells before now stopped Left _ (endured disk) did)
+  ran : (lines : List (List ℕ)) → Ran c.in-Ok-open_engine.engine.store.layout.log (record { state = opened.state; number = opened.sound.number }) did.now lines g.K.Sink.tells (g.K.Sink.held c.args.sink.now) (g.K.Sink.held c.run_engine-status.new.sink) → did.now.state.stopped ≡ false
+      → HasRun (g.D.Disk.content c.args.disk) lines g.K.Sink.tells (g.K.Sink.held c.args.sink.now) (g.K.Sink.held c.run_engine-status.new.sink) false (Endures g.D.Disk.image g.D.Disk.moment g.D.Disk.image_since c.args.disk c.close.result)
+  ran lines r going = has_run g.D.Disk.content g.D.Disk.image g.D.Disk.moment g.D.Disk.image_since c.args.disk (ghosts g.row.D g.D.Disk g.D.Disk-dict) c.in-Ok-open_engine.engine opened did.now lines g.K.Sink.tells _ _ false _ r going (endured did.now.state did.crash)
 
 pub returns-in-Ok-open_engine-clause-done : goal.returns-in-Ok-open_engine-clause-done
-returns-in-Ok-open_engine-clause-done g c = λ disk told is. ran g (goal.at.returns-in-Ok-open_engine-clause-done g c).After-close disk _ _ _ _ _ (c.run_engine-status.ensures.done is told)
+returns-in-Ok-open_engine-clause-done g c = λ disk told is.
+    let a = (goal.at.returns-in-Ok-open_engine-clause-done g c).After-close in
+    let e = ended g a disk told ends.Done (done_of (did g a disk told).end (sym (did g a disk told).is ∙ is)) in
+    ran g a disk told _ e.0 e.1
 
 pub returns-in-Ok-open_engine-clause-source_done : goal.returns-in-Ok-open_engine-clause-source_done
 returns-in-Ok-open_engine-clause-source_done g c = λ disk told is.
-    let all = c.run_engine-status.ensures.source_done is told in (all.0, all.1, ran g (goal.at.returns-in-Ok-open_engine-clause-source_done g c).After-close disk _ _ _ _ _ all.2)
+    let a = (goal.at.returns-in-Ok-open_engine-clause-source_done g c).After-close in
+    let e = ended g a disk told ends.SourceFault (source_fault_of (did g a disk told).end (sym (did g a disk told).is ∙ is)) in
+    (e.0, e.1.split, ran g a disk told _ e.1.ran e.1.going)
 
 pub returns-in-Ok-open_engine-clause-too_long : goal.returns-in-Ok-open_engine-clause-too_long
 returns-in-Ok-open_engine-clause-too_long g c = λ disk told is.
-    let all = c.run_engine-status.ensures.too_long is told in (all.0, all.1, all.2, ran g (goal.at.returns-in-Ok-open_engine-clause-too_long g c).After-close disk _ _ _ _ _ all.3)
+    let a = (goal.at.returns-in-Ok-open_engine-clause-too_long g c).After-close in
+    let e = ended g a disk told ends.TooLong (too_long_of (did g a disk told).end (sym (did g a disk told).is ∙ is)) in
+    (e.0, e.1, e.2.split, ran g a disk told _ e.2.ran e.2.going)
 
 pub returns-in-Ok-open_engine-clause-disk_done : goal.returns-in-Ok-open_engine-clause-disk_done
-returns-in-Ok-open_engine-clause-disk_done g c = λ disk told is. inr (ran g (goal.at.returns-in-Ok-open_engine-clause-disk_done g c).After-close disk _ _ _ _ _ (c.run_engine-status.ensures.disk_done is told))
+returns-in-Ok-open_engine-clause-disk_done g c = λ disk told is.
+    let a = (goal.at.returns-in-Ok-open_engine-clause-disk_done g c).After-close in
+    let e = ended g a disk told ends.DiskFault (disk_fault_of (did g a disk told).end (sym (did g a disk told).is ∙ is)) in
+    inr (has_halted g.D.Disk.content g.D.Disk.image g.D.Disk.moment g.D.Disk.image_since c.args.disk (ghosts g.row.D g.D.Disk g.D.Disk-dict) c.in-Ok-open_engine.engine (opened g a disk told) (did g a disk told).now _ _ g.K.Sink.tells _ _ _ e (endured g a disk told (did g a disk told).now.state (did g a disk told).crash))
 
 pub returns-in-Ok-open_engine-clause-cut_off : goal.returns-in-Ok-open_engine-clause-cut_off
 returns-in-Ok-open_engine-clause-cut_off g c = λ disk told tells is.
-    let o = c.in-Ok-open_engine.ensures.opened disk in
-    let e = c.in-Ok-open_engine.engine in
-    was_cut_off g.D.Disk.content g.D.Disk.image g.D.Disk.moment g.D.Disk.image_since c.args.disk e _ _ _ (Endures g.D.Disk.image g.D.Disk.moment g.D.Disk.image_since c.args.disk c.close.result) o
-    (cut_keeps e.store.layout.log _ _ _ _ _ _ (endured g (goal.at.returns-in-Ok-open_engine-clause-cut_off g c).After-close disk) (c.run_engine-status.ensures.cut_off is told tells))
+    let a = (goal.at.returns-in-Ok-open_engine-clause-cut_off g c).After-close in
+    let e = ended g a disk told ends.SinkFault (sink_fault_of (did g a disk told).end (sym (did g a disk told).is ∙ is)) in
+    was_cut_off g.D.Disk.content g.D.Disk.image g.D.Disk.moment g.D.Disk.image_since c.args.disk (ghosts g.row.D g.D.Disk g.D.Disk-dict) c.in-Ok-open_engine.engine (opened g a disk told) (did g a disk told).now _ _ _ _ (e tells) (endured g a disk told (did g a disk told).now.state (did g a disk told).crash)
 
 pub returns-in-Ok-open_engine-clause-sound : goal.returns-in-Ok-open_engine-clause-sound
 returns-in-Ok-open_engine-clause-sound g c = λ disk asks. let o = c.in-Ok-open_engine.ensures.opened disk in o.sound
+
+pub returns-in-Ok-open_engine-clause-ends : goal.returns-in-Ok-open_engine-clause-ends
+returns-in-Ok-open_engine-clause-ends g c = c.run_engine-status.ensures.ends
+
+pub returns-in-Ok-open_engine-clause-source : goal.returns-in-Ok-open_engine-clause-source
+returns-in-Ok-open_engine-clause-source g c = c.run_engine-status.ensures.source
+
+pub returns-in-Ok-open_engine-clause-sink : goal.returns-in-Ok-open_engine-clause-sink
+returns-in-Ok-open_engine-clause-sink g c = c.run_engine-status.ensures.sink
+
+pub returns-in-Ok-open_engine-clause-disk : goal.returns-in-Ok-open_engine-clause-disk
+returns-in-Ok-open_engine-clause-disk g c =
+    subst (λ d. IsCountedBeside (g.D.Disk.faults c.args.disk) (g.D.Disk.faults d) (by_disk c.run_engine-status.result.0) (by_sink c.run_engine-status.result.0)) (sym c.close.ensures)
+    (subst (λ (n : ℕ). IsCountedBeside n (g.D.Disk.faults c.run_engine-status.result.1.disk) (by_disk c.run_engine-status.result.0) (by_sink c.run_engine-status.result.0)) c.in-Ok-open_engine.ensures.counted_ok c.run_engine-status.ensures.disk)
 
 pub returns-clause-done : goal.returns-clause-done
 returns-clause-done g c = λ disk told is. absurd (c.status_of_fault.ensures.no_script (rw is tt))
@@ -79,12 +109,6 @@ returns-clause-too_long g c = λ disk told is. absurd (c.status_of_fault.ensures
 pub returns-clause-cut_off : goal.returns-clause-cut_off
 returns-clause-cut_off g c = λ disk told tells is. absurd (c.status_of_fault.ensures.no_script (rw is tt))
 
-pub returns-clause-source_fault : goal.returns-clause-source_fault
-returns-clause-source_fault g c = λ is. absurd (c.status_of_fault.ensures.no_script (rw is tt))
-
-pub returns-clause-sink_fault : goal.returns-clause-sink_fault
-returns-clause-sink_fault g c = λ is. absurd (c.status_of_fault.ensures.no_script (rw is tt))
-
 pub returns-clause-untouched : goal.returns-clause-untouched
 returns-clause-untouched g c = λ disk asks. c.in-Err.ensures.left_alone disk (λ is. c.status_of_fault.ensures.not_asked is asks)
 
@@ -94,5 +118,11 @@ returns-clause-not_a_store g c = λ disk is sound. c.in-Err.ensures.none disk (c
 pub returns-clause-sound : goal.returns-clause-sound
 returns-clause-sound g c = λ disk asks. absurd (c.status_of_fault.ensures.no_script asks)
 
-pub returns-clause-disk_fault : goal.returns-clause-disk_fault
-returns-clause-disk_fault g c = λ is. c.in-Err.ensures.failed (c.status_of_fault.ensures.failed is)
+pub returns-clause-source : goal.returns-clause-source
+returns-clause-source g c = uncounted _ _ _ c.status_of_fault.ensures.by_source refl
+
+pub returns-clause-sink : goal.returns-clause-sink
+returns-clause-sink g c = uncounted _ _ _ c.status_of_fault.ensures.by_sink refl
+
+pub returns-clause-disk : goal.returns-clause-disk
+returns-clause-disk g c = beside _ _ _ _ (counted_as _ _ _ _ (sym c.status_of_fault.ensures.by_disk) c.in-Err.ensures.counted_err)

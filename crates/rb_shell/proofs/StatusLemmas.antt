@@ -1,0 +1,117 @@
+-- Which status comes of which end.
+use Rattle.std.proofs.lemmas.Bool.{false≢true}
+use Rattle.std.proofs.Common.{arith, ◌≡◌, ◌≢◌, ◌∙◌, refl, sym, ap, subst, ℕ, Bool, true, false}
+use Rattle.rb_base.specs.Counts.{IsCountedAs, is_failed}
+use Rattle.rb_base.specs.declared.faults.OpenFault.{OpenFault}
+use Rattle.rb_base.specs.declared.faults.OpenFault.TheVariants as faults
+use Rattle.rb_lines.specs.declared.lines.LinesEnd.{LinesEnd}
+use Rattle.rb_lines.specs.declared.lines.LinesEnd.TheVariants as ends
+use Rattle.rb_lines.specs.Ends as lines
+use Rattle.rb_lines.specs.Faults.{IsCountedBeside}
+use Rattle.rb_shell.specs.Runs.{AsksNothing, AsksScript, EndsRun}
+use Rattle.rb_shell.specs.Statuses.{EndsFormat, by_disk, by_sink, by_source, status_of}
+use Rattle.rb_shell.specs.declared.status.Status.{Status}
+use Rattle.rb_shell.specs.declared.status.Status.TheVariants.{Done, Usage, SourceFault, DiskFault, SinkFault, NotAStore, NoMemory, NotEmpty, TooLong}
+
+-- lines that were done
+
+pub done_of : (e : LinesEnd) → status_of e ≡ Done → e ≡ ends.Done
+done_of ends.Done is = refl
+done_of ends.SourceFault is = cc
+done_of ends.DiskFault is = cc
+done_of ends.SinkFault is = cc
+done_of ends.TooLong is = cc
+
+pub source_fault_of : (e : LinesEnd) → status_of e ≡ SourceFault → e ≡ ends.SourceFault
+source_fault_of ends.Done is = cc
+source_fault_of ends.SourceFault is = refl
+source_fault_of ends.DiskFault is = cc
+source_fault_of ends.SinkFault is = cc
+source_fault_of ends.TooLong is = cc
+
+pub disk_fault_of : (e : LinesEnd) → status_of e ≡ DiskFault → e ≡ ends.DiskFault
+disk_fault_of ends.Done is = cc
+disk_fault_of ends.SourceFault is = cc
+disk_fault_of ends.DiskFault is = refl
+disk_fault_of ends.SinkFault is = cc
+disk_fault_of ends.TooLong is = cc
+
+pub sink_fault_of : (e : LinesEnd) → status_of e ≡ SinkFault → e ≡ ends.SinkFault
+sink_fault_of ends.Done is = cc
+sink_fault_of ends.SourceFault is = cc
+sink_fault_of ends.DiskFault is = cc
+sink_fault_of ends.SinkFault is = refl
+sink_fault_of ends.TooLong is = cc
+
+pub too_long_of : (e : LinesEnd) → status_of e ≡ TooLong → e ≡ ends.TooLong
+too_long_of ends.Done is = cc
+too_long_of ends.SourceFault is = cc
+too_long_of ends.DiskFault is = cc
+too_long_of ends.SinkFault is = cc
+too_long_of ends.TooLong is = refl
+
+pub source_of : (e : LinesEnd) → lines.by_source e ≡ by_source (status_of e)
+source_of ends.Done = refl
+source_of ends.SourceFault = refl
+source_of ends.DiskFault = refl
+source_of ends.SinkFault = refl
+source_of ends.TooLong = refl
+
+pub disk_of : (e : LinesEnd) → lines.by_disk e ≡ by_disk (status_of e)
+disk_of ends.Done = refl
+disk_of ends.SourceFault = refl
+disk_of ends.DiskFault = refl
+disk_of ends.SinkFault = refl
+disk_of ends.TooLong = refl
+
+pub sink_of : (e : LinesEnd) → lines.by_sink e ≡ by_sink (status_of e)
+sink_of ends.Done = refl
+sink_of ends.SourceFault = refl
+sink_of ends.DiskFault = refl
+sink_of ends.SinkFault = refl
+sink_of ends.TooLong = refl
+
+-- a new file is made without a source or a sink
+
+pub format_source : (s : Status) → EndsFormat s → by_source s ≡ false
+format_source Done ends = refl
+format_source DiskFault ends = refl
+format_source NotEmpty ends = refl
+format_source Usage ends = absurd ends
+format_source SourceFault ends = absurd ends
+format_source SinkFault ends = absurd ends
+format_source NotAStore ends = absurd ends
+format_source NoMemory ends = absurd ends
+format_source TooLong ends = absurd ends
+
+pub format_sink : (s : Status) → EndsFormat s → by_sink s ≡ false
+format_sink Done ends = refl
+format_sink DiskFault ends = refl
+format_sink NotEmpty ends = refl
+format_sink Usage ends = absurd ends
+format_sink SourceFault ends = absurd ends
+format_sink SinkFault ends = absurd ends
+format_sink NotAStore ends = absurd ends
+format_sink NoMemory ends = absurd ends
+format_sink TooLong ends = absurd ends
+
+-- the same count by the same tests
+
+pub counted_as : (before now : ℕ) (a b : Bool) → a ≡ b → IsCountedAs before now a → IsCountedAs before now b
+counted_as before now a b same counted = subst (λ (x : Bool). IsCountedAs before now x) same counted
+
+pub counted_beside : (before now : ℕ) (a b hidden hidden2 : Bool) → a ≡ b → hidden ≡ hidden2 → IsCountedBeside before now a hidden → IsCountedBeside before now b hidden2
+counted_beside before now a b hidden hidden2 same same2 counted =
+    subst (λ (x : Bool). IsCountedBeside before now b x) same2 (subst (λ (x : Bool). IsCountedBeside before now x hidden) same counted)
+
+-- nothing hides it
+pub beside : (before now : ℕ) (a hidden : Bool) → IsCountedAs before now a → IsCountedBeside before now a hidden
+beside before now a hidden counted = record { no_less = counted.no_less; cause = counted.cause; still = λ other open_. counted.still other }
+
+-- a count that nothing touched
+pub uncounted : (before now : ℕ) (a : Bool) → a ≡ false → now ≡ before → IsCountedAs before now a
+uncounted before now a none same = record {
+  no_less = omega (arith, same);
+  cause = λ fault. absurd (false≢true (sym none ∙ fault));
+  still = λ other. same;
+}

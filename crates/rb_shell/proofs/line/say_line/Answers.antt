@@ -1,0 +1,53 @@
+use Rattle.std.proofs.Common.{◌≡◌, false, ℕ, List, [], refl, ap, sym, ◌∙◌, subst}
+use Rattle.rb_model.specs.Lines.{bad_line_text, Spells, SpellsNone, is_remark}
+use Rattle.rb_model.specs.Out.{LineOut, CommandOut, Logged, too_long, skipped, bad, command}
+use Rattle.rb_lines.proofs.Dids.{did_as}
+use Rattle.rb_script.specs.Commands.{command_of}
+use Rattle.rb_engine.specs.Engine.{EngineView}
+use Rattle.rb_shell.specs.Since.{IsSince, StandsAs, slots_of, since_same}
+use Rattle.rb_shell.proofs.SaidLemmas.{bad_said, said_nothing, said_weaker}
+use Rattle.rb_shell.proofs.line.say_line.Given.{Over}
+use Rattle.rb_shell.proofs.line.say_line.Goals as goal
+
+-- where no call is made, the store stays
+still : (g : Over) (e : EngineView g.row.T.Denot) (m : Logged) → StandsAs g.T.Store e m → m.state.stopped ≡ false → IsSince g.T.Store e e m m
+still g e m is going = since_same e m (λ kept. record {
+  left_opens = λ store b i stands here. g.met.T.Store.stable_left store b i kept stands here;
+  read_patched = λ store i left. g.met.T.Store.only_now store i kept left;
+}) is going
+
+pub returns-then-line-gt-LINE_BYTES-clause-did : goal.returns-then-line-gt-LINE_BYTES-clause-did
+returns-then-line-gt-LINE_BYTES-clause-did g c = λ m is going. record {
+  now = m;
+  reached = is;
+  passed = still g c.args.engine.now m is going;
+  ran = bad_said (LineOut m (slots_of (g.T.Store.slots c.args.engine.now.store)) c.args.line.now) m bad_line_text g.K.Sink.tells _ _ _ _ c.tell.result
+      (too_long c.if-line-gt-LINE_BYTES.true refl refl) going c.requires c.tell.ensures.told;
+}
+
+pub returns-then-is_remark-clause-did : goal.returns-then-is_remark-clause-did
+returns-then-is_remark-clause-did g c = λ m is going. record {
+  now = m;
+  reached = is;
+  passed = still g c.args.engine.now m is going;
+  ran = (said_nothing (LineOut m (slots_of (g.T.Store.slots c.args.engine.now.store)) c.args.line.now) m g.K.Sink.tells _ _
+      (skipped c.if-line-gt-LINE_BYTES.false (ap is_remark (sym c.without_return-text.ensures) ∙ sym c.is_remark.ensures ∙ c.if-is_remark.true) refl refl) c.requires, going);
+}
+
+pub returns-in-None-clause-did : goal.returns-in-None-clause-did
+returns-in-None-clause-did g c = λ m is going. record {
+  now = m;
+  reached = is;
+  passed = still g c.args.engine.now m is going;
+  ran = bad_said (LineOut m (slots_of (g.T.Store.slots c.args.engine.now.store)) c.args.line.now) m bad_line_text g.K.Sink.tells _ _ _ _ c.tell-in-None.result
+      (bad c.if-line-gt-LINE_BYTES.false (ap is_remark (sym c.without_return-text.ensures) ∙ sym c.is_remark.ensures ∙ c.if-is_remark.false)
+      (subst SpellsNone c.without_return-text.ensures c.in-None.ensures.none) refl refl) going c.requires c.tell-in-None.ensures.told;
+}
+
+pub returns-in-Some-clause-did : goal.returns-in-Some-clause-did
+returns-in-Some-clause-did g c = λ m is going.
+    let slots = slots_of (g.T.Store.slots c.args.engine.now.store) in
+    did_as _ _ m _ _
+    (λ n said. said_weaker (CommandOut m slots (command_of c.in-Some.command)) (LineOut m slots c.args.line.now) n g.K.Sink.tells _ _ _ c.run_command.result
+    (λ out h did. command c.if-line-gt-LINE_BYTES.false (command_of c.in-Some.command) (subst (λ (text : List ℕ). Spells text (command_of c.in-Some.command)) c.without_return-text.ensures c.in-Some.ensures.found) did) said)
+    (c.run_command.ensures.did m is going)
