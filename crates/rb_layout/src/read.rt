@@ -1,6 +1,6 @@
 //! Which layout a file has, by its first unit and its length. Every opening begins here.
-ghost use Rattle.std.specs.Prelude.{◌≡◌, ◌≤◌, ℕ, List, length, IfOk, IfSome, IfNone, IsErrOf};
-ghost use Rattle.rb_base.specs.Counts.{IsCounted, IsCountedAs, err_is, is_failed};
+ghost use Rattle.std.specs.Prelude.{◌≡◌, ℕ, List, length, IfOk, IfSome, IfNone, IsErrOf};
+ghost use Rattle.rb_base.specs.Counts.{IsCountedAs, err_is, is_failed};
 ghost use Rattle.rb_base.specs.declared.faults.OpenFault.TheVariants.{NoMemory, NotAStore};
 ghost use Rattle.rb_disk.specs.Moments.{Rests};
 ghost use Rattle.rb_layout.specs.declared.layout.Layout.{Layout};

@@ -1,5 +1,5 @@
 //! `format`: writes a new file of a layout. The shell calls it for the command of that name.
-ghost use Rattle.std.specs.Prelude.{◌≡◌, ◌+◌, ◌-◌, ◌<◌, ◌≤◌, ◌++◌, length, replicate, OnOk, OnErr, IsErrOf};
+ghost use Rattle.std.specs.Prelude.{◌≡◌, ◌+◌, ◌-◌, ◌<◌, ◌++◌, length, replicate, OnOk, IsErrOf};
 ghost use Rattle.rb_base.specs.Counts.{IsCounted, IsCountedAs, err_is};
 ghost use Rattle.rb_disk.specs.DiskModel.{Only};
 ghost use Rattle.rb_disk.specs.Moments.{Rests};
