@@ -1,12 +1,13 @@
 -- What the log slots of a file hold where groups of patches are logged. A slot has a unit as in `Slots`.
-use Rattle.std.specs.Prelude.{◌≡◌, ◌≢◌, ◌⊎◌, ℕ, ◌+◌, ◌-◌, ◌*◌, ◌<◌, ◌≤◌, List, [], ◌∷◌, ◌++◌, length, take, replicate, slice_index, Bool, false}
+use Rattle.std.specs.Prelude.{◌≡◌, ◌≢◌, ◌⊎◌, ℕ, ◌+◌, ◌-◌, ◌*◌, ◌<◌, ◌≤◌, List, [], ◌∷◌, ◌++◌, length, take, drop, replicate, get_or, slice_index, Bool, false}
 use Rattle.std.specs.List.{AllByRecursion}
 use Rattle.byteorder.specs.Endian.{big_bytes}
 use Rattle.rb_base.specs.Blocks.{AreWithin}
 use Rattle.rb_base.specs.Fields.{part, number_at}
 use Rattle.rb_base.specs.Groups.{Patch, group_length, IsGroup}
 use Rattle.rb_group.specs.Spelling.{group_bytes, Spells}
-use Rattle.rb_layout.specs.Regions.{shape_of}
+use Rattle.rb_disk.specs.Ranges.{SameBut}
+use Rattle.rb_layout.specs.Regions.{log_offset, shape_of}
 use Rattle.rb_layout.specs.declared.layout.Layout.{Layout}
 use Rattle.rb_log.specs.Slots.{slot_at, SameOutside}
 
@@ -51,6 +52,19 @@ abbrev pub group_unit : ℕ → ℕ → List Patch → List ℕ
 group_unit gate number group =
     gate ∷ 0 ∷ big_bytes 2 (group_length group) ++ 0 ∷ 0 ∷ 0 ∷ 0 ∷ big_bytes 8 number ++ group_bytes group
     ++ replicate (2032 - group_length group) 0
+
+-- Groups are written to the slots of a file from `end` on, in runs of 32. Each body is there, each gate within a run is
+-- open, and the gate after the last group is closed. The first gate of each run has any byte, all else stays.
+pub record AreStaged (end : ℕ) (groups : List (List Patch)) (file c : List ℕ) : Type 0 where
+  pub others : SameBut (log_offset end) (log_offset (end + length groups) + 1) file c
+  pub bodies : (k : ℕ) (d : List Patch) → k < length groups
+      → part c (log_offset (end + k) + 1) 2047 ≡ drop 1 (group_unit 0 (end + k + 1) (get_or groups k d))
+  pub within : (j i : ℕ) → 0 < i → i < 32 → 32 * j + i < length groups → slice_index c (log_offset (end + (32 * j + i))) ≡ 1
+  pub after : slice_index c (log_offset (end + length groups)) ≡ 0
+
+-- the first gate of each run of so many groups from `end` on is open
+abbrev pub AreOpen : ℕ → ℕ → List ℕ → Type 0
+AreOpen end count c = (j : ℕ) → 32 * j < count → slice_index c (log_offset (end + 32 * j)) ≡ 1
 
 -- An image of a flush: its log has the groups of before and those of some number of its first units, 32 to a unit and the
 -- last with fewer. Outside the log it is as an image of before.

@@ -1,21 +1,21 @@
 //! `Log`: the groups of patches in the log slots of a file. A store scans it at opening, and flushes to it what
 //! changes the blocks.
-ghost use Rattle.std.specs.Prelude.{◌≡◌, ◌≤◌, ◌<◌, ◌+◌, ◌++◌, ◌↔◌, [], ◌∷◌, ℕ, List, true, false, take, length, IsTrue, IsErrOf, slice_index_or, IfOk, IfErr, IfSome, IfNone, OnOk, OnErr};
+ghost use Rattle.std.specs.Prelude.{◌≡◌, ◌≤◌, ◌<◌, ◌+◌, ◌++◌, ◌↔◌, [], ◌∷◌, ℕ, List, true, false, take, length, IsTrue, IsErrOf, slice_index, slice_index_or, IfOk, IfErr, IfSome, IfNone, OnOk, OnErr};
 ghost use Rattle.rb_base.specs.Blocks.{AreWithin};
 ghost use Rattle.rb_base.specs.Counts.{IsCounted, Rose};
-ghost use Rattle.rb_base.specs.Fields.{overwritten};
 ghost use Rattle.rb_base.specs.Groups.{Patch, IsGroup};
 ghost use Rattle.rb_base.specs.Moments.{LeavesOnly};
 ghost use Rattle.rb_disk.specs.DiskModel.{Only};
 ghost use Rattle.rb_disk.specs.Moments.{Rests};
+ghost use Rattle.rb_disk.specs.Ranges.{SameBut};
 ghost use Rattle.rb_layout.specs.Regions.{file_length, log_offset, shape_of};
 ghost use Rattle.rb_log.specs.GroupSlots.{HoldsGroup, GroupsAre, IsFaultyGroup, DroppedSome, FlushedSome, IsLoggable, group_unit};
-ghost use Rattle.rb_log.specs.Slots.{slot_at, SameSlots, SameOutside, SameBut, TornFrom};
+ghost use Rattle.rb_log.specs.Slots.{slot_at, SameSlots, SameOutside};
 
 use crate::flush::write_groups;
 use crate::unit::read_group;
 use rb_base::{Failed, Group, Lsn, OpenFault, UNIT};
-use rb_disk::Disk;
+use rb_disk::{Disk, write_synced};
 use rb_layout::{Head, Layout};
 use std::alloc::Global;
 use std::marker::Model;
@@ -43,19 +43,6 @@ impl Model for Log {
     ghost view = { λ a. record { layout = a.layout; used = a.used; pending = a.pending.items; scanned = a.scanned } };
 
     ghost invariant = { λ a. IsLogMemory a.layout a.used a.pending.items a.scanned a.buffer.items (vec_capacity a.pending) };
-}
-
-/// Closes a gate. From its sync on no image has what stands behind it in the log.
-fn close_gate<D: Disk>(disk: &mut D, at: u64) -> Result<(), Failed>
-    requires within { D.tells → at + 1 ≤ length (D.content disk.old) }
-    ensures written { D.tells → OnOk result (D.content disk.new ≡ overwritten (D.content disk.old) at (0 ∷ [])) }
-    ensures durable { D.tells → OnOk result (Only (D.content disk.new) (D.image disk.new)) }
-    ensures length { D.tells → length (D.content disk.new) ≡ length (D.content disk.old) }
-    ensures any_moment { D.tells → LeavesOnly D.moment D.image_since disk.old disk.new (TornFrom at 1 (D.image disk.old)) }
-    ensures counted { IsCounted (D.faults disk.old) (D.faults disk.new) result }
-{
-    disk.write_at(at, &[0])?;
-    disk.sync()
 }
 
 impl Log {
@@ -157,13 +144,14 @@ impl Log {
         self.pending.push_reserved(group.copied());
     }
 
-    /// Writes the groups that wait behind those of the log, up to 32 as one run of slots, and one run after another. After
-    /// an Ok every image has all of them; a crash before leaves a number of whole runs.
+    /// Writes the groups that wait behind those of the log, in runs of up to 32 slots, with two syncs. After an Ok every
+    /// image has all of them; a crash before leaves a number of whole runs. Where none waits it makes no call.
     pub fn flush<D: Disk>(&mut self, disk: &mut D) -> Result<(), Failed>
         requires whole { D.tells → length (D.content disk.old) ≡ file_length self.old.layout }
         requires synced { D.tells → (c : List ℕ) → D.image disk.old c → SameSlots self.old.layout.log (D.content disk.old) c }
         ensures written { D.tells → OnOk result ((groups : List (List Patch)) → length groups ≡ self.old.used → GroupsAre self.old.layout (D.content disk.old) 0 groups → GroupsAre self.old.layout (D.content disk.new) 0 (groups ++ self.old.pending)) }
         ensures units { D.tells → OnOk result ((k : ℕ) (d : List Patch) → k < length self.old.pending → slot_at (D.content disk.new) (self.old.used + k) ≡ group_unit 1 (self.old.used + k + 1) (slice_index_or self.old.pending k d)) }
+        ensures closed { D.tells → OnOk result (0 < length self.old.pending → slice_index (slot_at (D.content disk.new) (self.old.used + length self.old.pending)) 0 ≡ 0) }
         ensures others { D.tells → OnOk result (SameBut (log_offset self.old.used) (log_offset (self.old.used + length self.old.pending) + 1) (D.content disk.old) (D.content disk.new)) }
         ensures outside { D.tells → OnOk result (SameOutside self.old.layout.log (D.content disk.old) (D.content disk.new)) }
         ensures durable { D.tells → OnOk result ((c : List ℕ) → D.image disk.new c → SameSlots self.old.layout.log (D.content disk.new) c) }
@@ -195,6 +183,7 @@ impl Log {
         requires whole { D.tells → length (D.content disk.old) ≡ file_length self.old.layout }
         requires synced { D.tells → (c : List ℕ) → D.image disk.old c → SameSlots self.old.layout.log (D.content disk.old) c }
         ensures dropped { D.tells → OnOk result ((groups : List (List Patch)) → length groups ≡ self.old.used → GroupsAre self.old.layout (D.content disk.old) 0 groups → GroupsAre self.old.layout (D.content disk.new) 0 (take count groups)) }
+        ensures closed { D.tells → OnOk result (slice_index (slot_at (D.content disk.new) count) 0 ≡ 0) }
         ensures others { D.tells → OnOk result (SameBut (log_offset count) (log_offset count + 1) (D.content disk.old) (D.content disk.new)) }
         ensures outside { D.tells → OnOk result (SameOutside self.old.layout.log (D.content disk.old) (D.content disk.new)) }
         ensures durable { D.tells → OnOk result (Only (D.content disk.new) (D.image disk.new)) }
@@ -204,7 +193,7 @@ impl Log {
         ensures stays { OnErr result (self.new ≡ self.old) }
         ensures counted { IsCounted (D.faults disk.old) (D.faults disk.new) result }
     {
-        close_gate(disk, self.layout.log_at(count))?;
+        write_synced(disk, self.layout.log_at(count), &[0])?;
         self.used = count;
         Ok(())
     }
