@@ -5,4 +5,5 @@ pub mod GroupReading
 pub mod GroupRuns
 pub mod GroupUnits
 pub mod LogLemmas
+pub mod ReadAhead
 pub mod Writes

@@ -1,5 +1,5 @@
 -- What the log slots of a file hold where groups of patches are logged. A slot has a unit as in `Slots`.
-use Rattle.std.specs.Prelude.{◌≡◌, ◌≢◌, ◌⊎◌, ℕ, ◌+◌, ◌-◌, ◌*◌, ◌<◌, ◌≤◌, List, [], ◌∷◌, ◌++◌, length, take, drop, replicate, get_or, slice_index, Bool, false}
+use Rattle.std.specs.Prelude.{◌≡◌, ◌≢◌, ◌⊎◌, ℕ, ◌+◌, ◌-◌, ◌*◌, ◌<◌, ◌≤◌, List, [], ◌∷◌, ◌++◌, length, take, drop, replicate, get_or, slice_index, Bool, true, false}
 use Rattle.std.specs.List.{AllByRecursion}
 use Rattle.byteorder.specs.Endian.{big_bytes}
 use Rattle.rb_base.specs.Blocks.{AreWithin}
@@ -79,6 +79,10 @@ pub record DroppedSome (image : List ℕ → Type 0) (l : Layout) (groups : List
   pub outside : (d : List ℕ) × image d × SameOutside l.log d c
   pub log : GroupsAre l c 0 groups ⊎ GroupsAre l c 0 (take count groups)
 
+-- bytes are those of a file from a slot on
+abbrev pub AreFrom : List ℕ → ℕ → List ℕ → Type 0
+AreFrom file slot bytes = bytes ≡ part file (log_offset slot) (length bytes)
+
 -- what a log of groups is at a moment
 pub record LogState : Type 0 where
   pub layout : Layout
@@ -88,11 +92,17 @@ pub record LogState : Type 0 where
   pub pending : List (List Patch)
   -- whether a scan has found the end
   pub scanned : Bool
+  -- what a scan has read ahead: bytes of the units from slot `used` on
+  pub ahead : List ℕ
 
--- What the log has in memory: room for as many groups as there are slots, of which one stays free, and 32 units.
-pub record IsLogMemory (l : Layout) (used : ℕ) (pending : List (List Patch)) (scanned : Bool) (buffer : List ℕ) (room : ℕ) : Type 0 where
+-- What the log has in memory: room for as many groups as there are slots, of which one stays free, and 32 units, the last
+-- of which are read ahead before the end is found.
+pub record IsLogMemory (l : Layout) (used : ℕ) (pending : List (List Patch)) (scanned : Bool) (buffer : List ℕ) (ahead room : ℕ) : Type 0 where
   pub below : used + length pending < l.log
   pub enough : l.log ≤ room
   pub each : AllByRecursion (IsLoggable l) pending
   pub none : scanned ≡ false → pending ≡ []
   pub units : length buffer ≡ 65536
+  pub few : ahead ≤ 32
+  pub within : used + ahead < l.log
+  pub ended : scanned ≡ true → ahead ≡ 0

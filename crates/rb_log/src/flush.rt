@@ -141,7 +141,8 @@ fn open_gates<D: Disk>(
 
 /// Writes these groups to the log's slots from `used` on, one of which stays free behind them, in runs of up to 32. Each
 /// group has a patch, and its blocks are those of the file. After an Ok every image has all of them, and a crash before
-/// leaves a number of whole runs. The buffer has 65,536 bytes, and what they are is no matter.
+/// leaves a number of whole runs. The buffer has 65,536 bytes, and what they are is no matter; where there is no group it
+/// keeps them.
 pub(crate) fn write_groups<D: Disk>(
     disk: &mut D,
     layout: &Layout,
@@ -162,6 +163,7 @@ pub(crate) fn write_groups<D: Disk>(
     ensures durable { D.tells → OnOk result ((c : List ℕ) → D.image disk.new c → SameSlots layout.now.log (D.content disk.new) c) }
     ensures whole { D.tells → length (D.content disk.new) ≡ file_length layout.now }
     ensures any_moment { D.tells → (before : List (List Patch)) → length before ≡ used → GroupsAre layout.now (D.content disk.old) 0 before → LeavesOnly D.moment D.image_since disk.old disk.new (FlushedSome (D.image disk.old) layout.now before groups.now) }
+    ensures kept { groups.now ≡ [] → buffer.new ≡ buffer.old }
     ensures buffer { length buffer.new ≡ 65536 }
     ensures counted { IsCounted (D.faults disk.old) (D.faults disk.new) result }
 {
