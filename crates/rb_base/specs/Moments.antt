@@ -8,10 +8,11 @@ abbrev pub NoMore : {X : Type 0} → (X → Type 0) → (X → Type 0) → Type 
 NoMore {X} before now = (c : X) → now c → before c
 
 -- Time goes on: what a crash may have left at some moment since t is what it may have left by the call's
--- start, or what it may leave now.
+-- start, or what it may leave now. Nothing is forgotten: what it may have left by then, it may have left still.
 pub record Passes {X : Type 0} (before now : ℕ) (since_before since_now : ℕ → X → Type 0) (image : X → Type 0) : Type 0 where
   pub later : before ≤ now
   pub splits : (t : ℕ) (c : X) → t ≤ before → since_now t c → since_before t c ⊎ image c
+  pub stay : (t : ℕ) (c : X) → t ≤ before → since_before t c → since_now t c
 
 -- Each image that a crash at some moment since `old` may have left has P.
 pub record LeavesOnly {D X : Type 0} (moment : D → ℕ) (since : D → ℕ → X → Type 0) (old new : D) (P : X → Type 0) : Type 0 where

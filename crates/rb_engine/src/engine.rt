@@ -3,10 +3,10 @@ ghost use Rattle.std.specs.Prelude.{◌≡◌, ◌≢◌, ◌⊎◌, ℕ, ◌+�
 ghost use Rattle.std.specs.Result.{is_err};
 ghost use Rattle.std.specs.List.{list_any};
 ghost use Rattle.rb_base.specs.Blocks.{after_group, commit_block, patches_block, AreBlocks};
-ghost use Rattle.rb_base.specs.Counts.{Rose, IsCounted};
+ghost use Rattle.rb_base.specs.Counts.{IsCounted, IsCountedAs, err_is};
 ghost use Rattle.rb_base.specs.Moments.{LeavesOnly};
 ghost use Rattle.rb_base.specs.Stores.{room_of, after_pending};
-ghost use Rattle.rb_model.specs.Answers.{action_of, write_answer, plain_answer, fetch_answer, commit_answer, LeavesRow};
+ghost use Rattle.rb_model.specs.Answers.{action_of, write_answer, plain_answer, fetch_answer, commit_answer, is_disk_fault, LeavesRow};
 ghost use Rattle.rb_model.specs.Full.{full_block};
 ghost use Rattle.rb_model.specs.Names.{name_text};
 ghost use Rattle.rb_model.specs.Reply.{adds, expected, first_of, log_tests, after, after_refusal, committed, groups, Reply, rows_now};
@@ -130,8 +130,7 @@ impl<T: Store> Engine<T> {
         ensures shape { T.shape_of self.new.store ≡ T.shape_of self.old.store }
         ensures slots { T.slots self.new.store ≡ T.slots self.old.store }
         ensures spare { self.new.spare + groups (call.Write 1 table key (action_of op.entry)) (write_answer result) ≡ self.old.spare }
-        ensures cause { result ≡ Err Refusal.DiskFault → Rose (T.faults self.old.store) (T.faults self.new.store) }
-        ensures counted { T.faults self.old.store ≤ T.faults self.new.store }
+        ensures counted { IsCountedAs (T.faults self.old.store) (T.faults self.new.store) (err_is is_disk_fault result) }
         ensures crash { T.tells → T.keeps → Stands T.Store self.old.state self.old.store → Survives T.Store (T.slots self.old.store) self.old.state self.new.state self.old.store self.new.store }
     {
         let ask = Ask {
@@ -160,8 +159,7 @@ impl<T: Store> Engine<T> {
         ensures shape { T.shape_of self.new.store ≡ T.shape_of self.old.store }
         ensures slots { T.slots self.new.store ≡ T.slots self.old.store }
         ensures spare { self.new.spare + groups (call.Write s table key (action_of op.entry)) (write_answer result) ≡ self.old.spare }
-        ensures fault { result ≡ Err Refusal.DiskFault → Rose (T.faults self.old.store) (T.faults self.new.store) }
-        ensures counted { T.faults self.old.store ≤ T.faults self.new.store }
+        ensures counted { IsCountedAs (T.faults self.old.store) (T.faults self.new.store) (err_is is_disk_fault result) }
         ensures refused { T.tells → IfErr result (λ why. why ≢ Refusal.DiskFault → self.new.store ≡ self.old.store) }
         // At any moment each image has the commits of before.
         ensures crash { T.tells → T.keeps → Stands T.Store self.old.state self.old.store → Survives T.Store (T.slots self.old.store) self.old.state self.new.state self.old.store self.new.store }
@@ -187,8 +185,7 @@ impl<T: Store> Engine<T> {
         ensures shape { T.shape_of self.new.store ≡ T.shape_of self.old.store }
         ensures slots { T.slots self.new.store ≡ T.slots self.old.store }
         ensures spare { self.new.spare ≡ self.old.spare }
-        ensures cause { OnErr result (Rose (T.faults self.old.store) (T.faults self.new.store)) }
-        ensures counted { T.faults self.old.store ≤ T.faults self.new.store }
+        ensures counted { IsCounted (T.faults self.old.store) (T.faults self.new.store) result }
         ensures crash { T.tells → T.keeps → Stands T.Store self.old.state self.old.store → Survives T.Store (T.slots self.old.store) self.old.state self.new.state self.old.store self.new.store }
     {
         let number = self.state.number() + 1;
@@ -210,8 +207,7 @@ impl<T: Store> Engine<T> {
         ensures shape { T.shape_of self.new.store ≡ T.shape_of self.old.store }
         ensures slots { T.slots self.new.store ≡ T.slots self.old.store }
         ensures spare { self.new.spare ≡ self.old.spare }
-        ensures fault { result ≡ Err Refusal.DiskFault → Rose (T.faults self.old.store) (T.faults self.new.store) }
-        ensures counted { T.faults self.old.store ≤ T.faults self.new.store }
+        ensures counted { IsCountedAs (T.faults self.old.store) (T.faults self.new.store) (err_is is_disk_fault result) }
         ensures refused { IfErr result (λ why. why ≢ Refusal.DiskFault → self.new.store ≡ self.old.store) }
         ensures nothing { result ≡ Ok None → self.new.store ≡ self.old.store }
         // At any moment each image has the commits of before, or at the end this one too.

@@ -2,7 +2,7 @@
 ghost use Rattle.std.specs.Prelude.{◌≡◌, ℕ, ◌+◌, ◌*◌, ◌-◌, ◌^◌, ◌<◌, ◌≤◌, List, [], map, take, length, true, false, None, Some, IfOk, IfErr, OnOk, IsErrOf};
 ghost use Rattle.std.specs.Result.{is_err};
 ghost use Rattle.rb_base.specs.Blocks.{block_of, shape_blocks, table_blocks, AreBlocks, IsShape};
-ghost use Rattle.rb_base.specs.Counts.{Rose, IsCounted};
+ghost use Rattle.rb_base.specs.Counts.{IsCounted, IsCountedAs, err_is, is_failed};
 ghost use Rattle.rb_cell.specs.Cells.{cell_at};
 ghost use Rattle.rb_heap.specs.Homes.{home_of, home_rows};
 ghost use Rattle.rb_model.specs.Rows.{over};
@@ -132,8 +132,7 @@ fn open_state<T: Store>(alloc: Global, store: &mut T) -> Result<EngineState, Ope
     ensures no_memory { T.tells → IsErrOf result OpenFault.NoMemory → MayOpen (T.shape_of store.old) (T.blocks store.old) (T.number store.old) }
     ensures only_loads { OnlyLoads T.Store store.old store.new }
     ensures failed { OnOk result (T.failed store.new ≡ false) }
-    ensures counted { T.faults store.old ≤ T.faults store.new }
-    ensures fault { IsErrOf result OpenFault.Failed → Rose (T.faults store.old) (T.faults store.new) }
+    ensures counted { IsCountedAs (T.faults store.old) (T.faults store.new) (err_is is_failed result) }
 {
     let sound = blocks_sound(store).map_err(|_| OpenFault::Failed)?;
     let number = commit_number_of(store).map_err(|_| OpenFault::Failed)?;
@@ -170,9 +169,8 @@ impl<T: Store> Engine<T> {
         ensures sound { T.tells → OnOk result (CanOpen (T.shape_of store) (T.blocks store) (T.number store)) }
         ensures none { T.tells → IfErr result (λ r. r.0 ≡ OpenFault.NotAStore → CanOpen (T.shape_of store) (T.blocks store) (T.number store) → ⊥) }
         ensures no_memory { T.tells → IfErr result (λ r. r.0 ≡ OpenFault.NoMemory → MayOpen (T.shape_of store) (T.blocks store) (T.number store)) }
-        ensures failed { IfErr result (λ r. r.0 ≡ OpenFault.Failed → Rose (T.faults store) (T.faults r.1)) }
-        ensures counted_ok { IfOk result (λ e. T.faults store ≤ T.faults e.store) }
-        ensures counted_err { IfErr result (λ r. T.faults store ≤ T.faults r.1) }
+        ensures counted_ok { IfOk result (λ e. T.faults e.store ≡ T.faults store) }
+        ensures counted_err { IfErr result (λ r. IsCountedAs (T.faults store) (T.faults r.1) (is_failed r.0)) }
         ensures loads_ok { IfOk result (λ e. OnlyLoads T.Store store e.store) }
         ensures loads_err { IfErr result (λ r. OnlyLoads T.Store store r.1) }
         ensures stands { T.tells → T.keeps → T.pending store ≡ [] → T.stable store (T.blocks store) → IfOk result (λ e. Stands T.Store e.state e.store) }

@@ -1,7 +1,7 @@
 //! Which layout a file has, by its first unit and its length. Every opening begins here.
 ghost use Rattle.std.specs.Prelude.{◌≡◌, ◌≤◌, ℕ, List, length, IfOk, IfSome, IfNone, IsErrOf};
-ghost use Rattle.rb_base.specs.Counts.{IsCounted, Rose};
-ghost use Rattle.rb_base.specs.declared.faults.OpenFault.TheVariants.{NoMemory, Failed, NotAStore};
+ghost use Rattle.rb_base.specs.Counts.{IsCounted, IsCountedAs, err_is, is_failed};
+ghost use Rattle.rb_base.specs.declared.faults.OpenFault.TheVariants.{NoMemory, NotAStore};
 ghost use Rattle.rb_disk.specs.Moments.{Rests};
 ghost use Rattle.rb_layout.specs.declared.layout.Layout.{Layout};
 ghost use Rattle.rb_layout.specs.Regions.{identity, HasIdentity};
@@ -17,9 +17,8 @@ impl Layout {
     pub fn read<D: Disk>(disk: &mut D) -> Result<Layout, OpenFault>
         ensures found { D.tells → IfOk result (λ l. HasIdentity VERSION l (D.content disk.old)) }
         ensures none { D.tells → IsErrOf result NotAStore → (l : Layout) → HasIdentity VERSION l (D.content disk.old) → ⊥ }
-        ensures failed { IsErrOf result Failed → Rose (D.faults disk.old) (D.faults disk.new) }
         ensures no_memory { IsErrOf result NoMemory → ⊥ }
-        ensures counted { D.faults disk.old ≤ D.faults disk.new }
+        ensures counted { IsCountedAs (D.faults disk.old) (D.faults disk.new) (err_is is_failed result) }
         ensures same { D.tells → Rests D.content D.image D.moment D.image_since disk.old disk.new }
     {
         let Ok(length) = disk.len() else {

@@ -2,7 +2,7 @@
 //! changes the blocks.
 ghost use Rattle.std.specs.Prelude.{◌≡◌, ◌≤◌, ◌<◌, ◌+◌, ◌++◌, ◌↔◌, [], ◌∷◌, ℕ, List, true, false, take, length, IsTrue, IsErrOf, slice_index, slice_index_or, IfOk, IfErr, IfSome, IfNone, OnOk, OnErr};
 ghost use Rattle.rb_base.specs.Blocks.{AreWithin};
-ghost use Rattle.rb_base.specs.Counts.{IsCounted, Rose};
+ghost use Rattle.rb_base.specs.Counts.{IsCounted, IsCountedAs, err_is, is_failed};
 ghost use Rattle.rb_base.specs.Groups.{Patch, IsGroup};
 ghost use Rattle.rb_base.specs.Moments.{LeavesOnly};
 ghost use Rattle.rb_disk.specs.DiskModel.{Only};
@@ -88,9 +88,8 @@ impl Log {
         ensures more { IfOk result (λ o. IfSome o (λ g. self.old.used + 1 < self.old.layout.log)) }
         ensures end { D.tells → IfOk result (λ o. IfNone o (GroupsAre self.old.layout (D.content disk.old) self.old.used [])) }
         ensures faulty { D.tells → IsErrOf result OpenFault.NotAStore → IsFaultyGroup self.old.layout (D.content disk.old) self.old.used }
-        ensures failed { IsErrOf result OpenFault.Failed → Rose (D.faults disk.old) (D.faults disk.new) }
         ensures no_memory { IsErrOf result OpenFault.NoMemory → ⊥ }
-        ensures counted { D.faults disk.old ≤ D.faults disk.new }
+        ensures counted { IsCountedAs (D.faults disk.old) (D.faults disk.new) (err_is is_failed result) }
         ensures one_more { IfOk result (λ o. IfSome o (λ g. self.new ≡ record self.old { used = self.old.used + 1; ahead = self.new.ahead })) }
         ensures ahead { D.tells → AreFrom (D.content disk.old) self.new.used self.new.ahead }
         ensures ended { IfOk result (λ o. IfNone o (self.new ≡ record self.old { scanned = true; ahead = [] })) }

@@ -40,7 +40,7 @@ undone_images images file (Sync false) c undone here = here
 pub by_none : (old : MemDisk) (call : Call) → IsUndone (bytes_of old) call → GoesOnBy old old call
 by_none old call undone = record {
   images = λ c left. undone_images (Leaves old) (bytes_of old) call c undone left;
-  time = record { later = omega arith; splits = λ t c le since. inl since };
+  time = record { later = omega arith; splits = λ t c le since. inl since; stay = λ t c le since. since };
 }
 
 -- The ghost fields after a call that is recorded and brings these bytes.

@@ -192,6 +192,14 @@ images_all_longer images file (call ∷ calls) written more c ok left =
     images_all_longer (images_after images file call) (read_after file call written) calls (left_after call written) more c both.1
     (rw (read_longer file call written more both.0, left_longer file call written more both.0) at left)
 
+images_all_shorter : (images : List ℕ → Type 0) (file : List ℕ) (calls : List Call) (written more c : List ℕ) → fits file calls written ≡ true
+    → images_after_all images file calls written c → images_after_all images file calls (written ++ more) c
+images_all_shorter images file [] written more c ok left = left
+images_all_shorter images file (call ∷ calls) written more c ok left =
+    let both = and_parts _ _ ok in
+    rw (read_longer file call written more both.0, left_longer file call written more both.0)
+    (images_all_shorter (images_after images file call) (read_after file call written) calls (left_after call written) more c both.1 left)
+
 -- a call more at the end
 read_all_more : (file : List ℕ) (calls : List Call) (call : Call) (written : List ℕ) → read_after_all file (calls ++ call ∷ []) written ≡ read_after (read_after_all file calls written) call (left_after_all calls written)
 read_all_more file [] call written = refl
@@ -251,6 +259,12 @@ module _ (first : List ℕ) (calls : List Call) (written : List ℕ) (call : Cal
       images_all_longer (λ d. d ≡ first) first (take k calls) written bytes c (fits_front first calls written k on.fitting)
       (rw (on.calls_is, on.written_is, take-append-le k calls (call ∷ []) le) at left)
 
+  -- it stays one
+  pub earlier_stay : (k : ℕ) (c : List ℕ) → k ≤ length calls → MayLeave first calls written k c → MayLeave first calls_now written_now k c
+  earlier_stay k c le left =
+      rw (on.calls_is, on.written_is, take-append-le k calls (call ∷ []) le)
+      (images_all_shorter (λ d. d ≡ first) first (take k calls) written bytes c (fits_front first calls written k on.fitting) left)
+
   more_calls : length calls_now ≡ length calls + 1
   more_calls = ap length on.calls_is ∙ length-append calls (call ∷ [])
 
@@ -277,6 +291,7 @@ module _ (first : List ℕ) (calls : List Call) (written : List ℕ) (call : Cal
         let same : since.0 ≡ length calls_now = omega (arith, now, since.2, more_calls) in
         inr (subst (λ (k : ℕ). MayLeave first calls_now written_now k c) same since.3))
         (cases_lt since.0 (length calls + 1));
+    stay = λ t c le since. (since.0, since.1, omega (arith, since.2, more_calls), earlier_stay since.0 c since.2 since.3);
   }
 
 -- a call writes nothing to this place

@@ -290,7 +290,6 @@ impl Disk for MemDisk {
         // It fails exactly where the disk was told to, or can't record it.
         ensures refused { IsErr result ↔ IsRefused self.old }
         ensures faulted { OnErr result (faults_of self.new ≡ one_more (faults_of self.old)) }
-        ensures no_fault { OnOk result (faults_of self.new ≡ faults_of self.old) }
         ensures record { record_of self.new ≡ recorded self.old Call.Length }
         ensures unwritten { IsUnwritten self.old self.new }
     {
@@ -312,7 +311,6 @@ impl Disk for MemDisk {
         // It fails exactly where the disk was told to, or can't record it, and then leaves the buffer.
         ensures refused { IsErr result ↔ IsRefused self.old }
         ensures faulted { OnErr result (faults_of self.new ≡ one_more (faults_of self.old)) }
-        ensures no_fault { OnOk result (faults_of self.new ≡ faults_of self.old) }
         ensures record { record_of self.new ≡ recorded self.old Call.Read }
         ensures unwritten { IsUnwritten self.old self.new }
         ensures unread { OnErr result (into.new ≡ into.old) }
@@ -337,7 +335,6 @@ impl Disk for MemDisk {
         // It fails exactly where the disk was told to, can't record it or has no room, and then writes nothing.
         ensures refused { IsErr result ↔ (IsRefused self.old ⊎ PassesRoom self.old (length bytes.now)) }
         ensures faulted { OnErr result (faults_of self.new ≡ one_more (faults_of self.old)) }
-        ensures no_fault { OnOk result (faults_of self.new ≡ faults_of self.old) }
         ensures record { record_of self.new ≡ recorded self.old (Call.Write at (length bytes.now) (is_ok result)) }
         ensures setup { IsSameSetup self.old self.new }
         ensures added { OnOk result (written_of self.new ≡ written_of self.old ++ bytes.now) }
@@ -365,7 +362,6 @@ impl Disk for MemDisk {
         // It fails exactly where the disk was told to, or can't record it.
         ensures refused { IsErr result ↔ IsRefused self.old }
         ensures faulted { OnErr result (faults_of self.new ≡ one_more (faults_of self.old)) }
-        ensures no_fault { OnOk result (faults_of self.new ≡ faults_of self.old) }
         ensures record { record_of self.new ≡ recorded self.old (Call.Sync (is_ok result)) }
         ensures unwritten { IsUnwritten self.old self.new }
     {

@@ -1,10 +1,11 @@
 -- What the arguments and results of the engine's calls are as the machine's actions and answers.
-use Rattle.std.specs.Prelude.{◌≡◌, ℕ, Option, None, Some, Result, Ok, Err}
+use Rattle.std.specs.Prelude.{◌≡◌, ℕ, Bool, true, false, Option, None, Some, Result, Ok, Err}
 use Rattle.rb_model.specs.Reply.{Action, Answer, Waits, Numbered, Given, Refused}
 use Rattle.rb_model.specs.Reply as reply
 use Rattle.rb_model.specs.declared.op.Op.{Op}
 use Rattle.rb_model.specs.declared.op.Op.TheVariants as op
 use Rattle.rb_model.specs.declared.refusal.Refusal.{Refusal}
+use Rattle.rb_model.specs.declared.refusal.Refusal.TheVariants.{DiskFault}
 use Rattle.rb_model.specs.declared.wrote.Wrote.{Wrote}
 use Rattle.rb_model.specs.declared.wrote.Wrote.TheVariants as wrote
 use Rattle.rb_model.specs.declared.row.Row.{Row}
@@ -51,3 +52,8 @@ abbrev pub LeavesRow : Result Fetched Refusal → Row → Row → Type 0
 LeavesRow (Ok fetched.Row) old new = Unit {0}
 LeavesRow (Ok fetched.End) old new = new ≡ old
 LeavesRow (Err why) old new = new ≡ old
+
+-- a call was refused as the disk failed
+abbrev pub is_disk_fault : Refusal → Bool
+is_disk_fault DiskFault = true
+is_disk_fault _ = false

@@ -1,3 +1,4 @@
+pub mod Formats
 pub mod Lap
 pub mod LapLaws
 pub mod Laps

@@ -1,9 +1,10 @@
 //! `format`: writes a new file of a layout. The shell calls it for the command of that name.
 ghost use Rattle.std.specs.Prelude.{◌≡◌, ◌+◌, ◌-◌, ◌<◌, ◌≤◌, ◌++◌, length, replicate, OnOk, OnErr, IsErrOf};
-ghost use Rattle.rb_base.specs.Counts.{IsCounted, Rose};
+ghost use Rattle.rb_base.specs.Counts.{IsCounted, IsCountedAs, err_is};
 ghost use Rattle.rb_disk.specs.DiskModel.{Only};
 ghost use Rattle.rb_disk.specs.Moments.{Rests};
 ghost use Rattle.rb_layout.specs.Regions.{identity, fresh_file};
+ghost use Rattle.rb_store.specs.Formats.{is_format_failed};
 
 use rb_base::{Failed, UNIT};
 use rb_disk::Disk;
@@ -32,8 +33,7 @@ pub fn format<D: Disk>(disk: &mut D, layout: &Layout) -> Result<(), FormatFault>
     ensures was_empty { D.tells → OnOk result (length (D.content disk.old) ≡ 0) }
     ensures not_empty { D.tells → IsErrOf result FormatFault.NotEmpty → 0 < length (D.content disk.old) }
     ensures unchanged { D.tells → 0 < length (D.content disk.old) → Rests D.content D.image D.moment D.image_since disk.old disk.new }
-    ensures failed { IsErrOf result FormatFault.Failed → Rose (D.faults disk.old) (D.faults disk.new) }
-    ensures counted { D.faults disk.old ≤ D.faults disk.new }
+    ensures counted { IsCountedAs (D.faults disk.old) (D.faults disk.new) (err_is is_format_failed result) }
 {
     let Ok(length) = disk.len() else {
         return Err(FormatFault::Failed);

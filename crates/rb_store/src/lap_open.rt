@@ -3,7 +3,7 @@
 ghost use Rattle.std.specs.Prelude.{◌≡◌, ◌⊎◌, ◌+◌, ◌≤◌, ◌<◌, [], ◌++◌, ◌∷◌, ℕ, List, length, true, false, vec_capacity, IfOk, IfErr, OnOk, OnErr, IsOk, IsErrOf};
 ghost use Rattle.std.specs.List.{AllByRecursion};
 ghost use Rattle.rb_base.specs.Blocks.{after_groups, fresh_blocks, patches_block, commit_block};
-ghost use Rattle.rb_base.specs.Counts.{Rose};
+ghost use Rattle.rb_base.specs.Counts.{IsCounted, IsCountedAs, err_is, is_failed};
 ghost use Rattle.rb_base.specs.Groups.{Patch};
 ghost use Rattle.rb_base.specs.Moments.{LeavesOnly};
 ghost use Rattle.rb_disk.specs.DiskModel.{Only};
@@ -117,9 +117,8 @@ fn scan_one<D: Disk>(scan: &mut Scan, disk: &mut D, layout: &Layout) -> Result<b
     ensures end { result ≡ Ok false → HasScannedAll D.tells layout.now (D.content disk.old) scan.new.plain scan.new.log scan.new.waiting.items }
     ensures room { layout.now.log ≤ vec_capacity scan.new.waiting }
     ensures none { D.tells → IsErrOf result OpenFault.NotAStore → (groups : List (List Patch)) → GroupsAre layout.now (D.content disk.old) 0 groups → ⊥ }
-    ensures failed { IsErrOf result OpenFault.Failed → Rose (D.faults disk.old) (D.faults disk.new) }
     ensures no_memory { IsErrOf result OpenFault.NoMemory → ⊥ }
-    ensures counted { D.faults disk.old ≤ D.faults disk.new }
+    ensures counted { IsCountedAs (D.faults disk.old) (D.faults disk.new) (err_is is_failed result) }
     ensures same { D.tells → Rests D.content D.image D.moment D.image_since disk.old disk.new }
 {
     let next = u64::from(scan.log.used()) + 1;
@@ -137,9 +136,8 @@ fn scan_all<D: Disk>(scan: &mut Scan, disk: &mut D, layout: &Layout) -> Result<(
     requires whole { D.tells → length (D.content disk.old) ≡ file_length layout.now }
     ensures found { OnOk result (HasScannedAll D.tells layout.now (D.content disk.old) scan.new.plain scan.new.log scan.new.waiting.items) }
     ensures none { D.tells → IsErrOf result OpenFault.NotAStore → (groups : List (List Patch)) → GroupsAre layout.now (D.content disk.old) 0 groups → ⊥ }
-    ensures failed { IsErrOf result OpenFault.Failed → Rose (D.faults disk.old) (D.faults disk.new) }
     ensures no_memory { IsErrOf result OpenFault.NoMemory → ⊥ }
-    ensures counted { D.faults disk.old ≤ D.faults disk.new }
+    ensures counted { IsCountedAs (D.faults disk.old) (D.faults disk.new) (err_is is_failed result) }
     ensures same { D.tells → Rests D.content D.image D.moment D.image_since disk.old disk.new }
 {
     for _ in 0..layout.log {
@@ -163,9 +161,8 @@ fn drop_uncommitted<D: Disk>(
     ensures opened { OnOk result (HasOpened D.tells D.content D.image layout.now scan.new.plain scan.new.log disk.new) }
     ensures blocks { scan.new.plain ≡ scan.old.plain }
     ensures any_moment { D.tells → LeavesOnly D.moment D.image_since disk.old disk.new (λ c. OpensTo layout.now c scan.old.plain.blocks) }
-    ensures failed { OnErr result (Rose (D.faults disk.old) (D.faults disk.new)) }
     ensures fault { IfErr result (λ e. e ≡ OpenFault.Failed) }
-    ensures counted { D.faults disk.old ≤ D.faults disk.new }
+    ensures counted { IsCounted (D.faults disk.old) (D.faults disk.new) result }
 {
     let kept = scan.plain.logged() as u32;
     if kept == scan.log.used() {
@@ -182,8 +179,7 @@ fn scan_file<D: Disk>(alloc: Global, disk: &mut D, layout: &Layout) -> Result<Sc
     requires whole { D.tells → length (D.content disk.old) ≡ file_length layout.now }
     ensures found { IfOk result (λ s. HasScannedAll D.tells layout.now (D.content disk.old) s.plain s.log s.waiting.items) }
     ensures none { D.tells → IsErrOf result OpenFault.NotAStore → (groups : List (List Patch)) → GroupsAre layout.now (D.content disk.old) 0 groups → ⊥ }
-    ensures failed { IsErrOf result OpenFault.Failed → Rose (D.faults disk.old) (D.faults disk.new) }
-    ensures counted { D.faults disk.old ≤ D.faults disk.new }
+    ensures counted { IsCountedAs (D.faults disk.old) (D.faults disk.new) (err_is is_failed result) }
     ensures same { D.tells → Rests D.content D.image D.moment D.image_since disk.old disk.new }
 {
     let mut scan = fresh_scan(alloc, disk, layout)?;
@@ -195,9 +191,8 @@ fn scan_file<D: Disk>(alloc: Global, disk: &mut D, layout: &Layout) -> Result<Sc
 fn synced_layout<D: Disk>(disk: &mut D) -> Result<Layout, OpenFault>
     ensures identity { D.tells → IfOk result (λ l. HasIdentity VERSION l (D.content disk.old)) }
     ensures none { D.tells → IsErrOf result OpenFault.NotAStore → (l : Layout) → HasIdentity VERSION l (D.content disk.old) → ⊥ }
-    ensures failed { IsErrOf result OpenFault.Failed → Rose (D.faults disk.old) (D.faults disk.new) }
     ensures no_memory { IsErrOf result OpenFault.NoMemory → ⊥ }
-    ensures counted { D.faults disk.old ≤ D.faults disk.new }
+    ensures counted { IsCountedAs (D.faults disk.old) (D.faults disk.new) (err_is is_failed result) }
     ensures same { D.tells → Rests D.content D.image D.moment D.image_since disk.old disk.new }
     ensures durable { D.tells → OnOk result (Only (D.content disk.old) (D.image disk.new)) }
 {
@@ -219,8 +214,7 @@ fn open_parts<D: Disk>(alloc: Global, disk: &mut D) -> Result<Parts, OpenFault>
     ensures opened { IfOk result (λ p. HasOpened D.tells D.content D.image p.layout p.scan.plain p.scan.log disk.new) }
     ensures found { D.tells → IfOk result (λ p. OpensAt p.layout (D.content disk.old) p.scan.plain.blocks p.scan.plain.number) }
     ensures none { D.tells → IsErrOf result OpenFault.NotAStore → (l : Layout) (b : List (List ℕ)) → OpensTo l (D.content disk.old) b → ⊥ }
-    ensures failed { IsErrOf result OpenFault.Failed → Rose (D.faults disk.old) (D.faults disk.new) }
-    ensures counted { D.faults disk.old ≤ D.faults disk.new }
+    ensures counted { IsCountedAs (D.faults disk.old) (D.faults disk.new) (err_is is_failed result) }
     ensures any_moment { D.tells → (l : Layout) (b : List (List ℕ)) → OpensTo l (D.content disk.old) b → LeavesOnly D.moment D.image_since disk.old disk.new (λ c. D.image disk.old c ⊎ OpensTo l c b) }
     ensures not_a_store { D.tells → IsErrOf result OpenFault.NotAStore → Rests D.content D.image D.moment D.image_since disk.old disk.new }
     ensures no_memory { D.tells → IsErrOf result OpenFault.NoMemory → Rests D.content D.image D.moment D.image_since disk.old disk.new }
@@ -244,9 +238,8 @@ impl<D: Disk> LapStore<D> {
         ensures few { IfOk result (λ s. s.number < s.layout.log) }
         ensures going { IfOk result (λ s. s.failed ≡ false) }
         ensures none { D.tells → IfErr result (λ r. r.0 ≡ OpenFault.NotAStore → (l : Layout) (b : List (List ℕ)) → OpensTo l (D.content disk) b → ⊥) }
-        ensures failed { IfErr result (λ r. r.0 ≡ OpenFault.Failed → Rose (D.faults disk) (D.faults r.1)) }
-        ensures counted_ok { IfOk result (λ s. D.faults disk ≤ D.faults s.disk) }
-        ensures counted_err { IfErr result (λ r. D.faults disk ≤ D.faults r.1) }
+        ensures counted_ok { IfOk result (λ s. D.faults s.disk ≡ D.faults disk) }
+        ensures counted_err { IfErr result (λ r. IsCountedAs (D.faults disk) (D.faults r.1) (is_failed r.0)) }
         ensures any_moment_ok { D.tells → IfOk result (λ s. (l : Layout) (b : List (List ℕ)) → OpensTo l (D.content disk) b → LeavesOnly D.moment D.image_since disk s.disk (λ c. D.image disk c ⊎ OpensTo l c b)) }
         ensures any_moment_err { D.tells → IfErr result (λ r. (l : Layout) (b : List (List ℕ)) → OpensTo l (D.content disk) b → LeavesOnly D.moment D.image_since disk r.1 (λ c. D.image disk c ⊎ OpensTo l c b)) }
         ensures unchanged { D.tells → IfErr result (λ r. r.0 ≡ OpenFault.NotAStore → Rests D.content D.image D.moment D.image_since disk r.1) }

@@ -61,7 +61,6 @@ impl<R: Read> Source for StdSource<R> {
         ensures within { IfOk result (λ n. n ≤ length into.old) }
         ensures bytes { ReadConsumes self.old.known self.new.known result into.new }
         ensures counted { IsCounted self.old.faults self.new.faults result }
-        ensures ok { OnOk result (self.new.faults ≡ self.old.faults) }
         ensures err { OnErr result (self.new.faults ≡ next_count self.old.faults) }
     {
         let taken = read_once(&mut self.reader, into);
@@ -131,7 +130,6 @@ impl<W: Write> Sink for StdSink<W> {
     fn put(&mut self, bytes: &[u8]) -> Result<(), Failed>
         ensures bytes { OnOk result (Appends self.old.known self.new.known bytes.now) }
         ensures counted { IsCounted self.old.faults self.new.faults result }
-        ensures ok { OnOk result (self.new.faults ≡ self.old.faults) }
         ensures err { OnErr result (self.new.faults ≡ next_count self.old.faults) }
     {
         let put = write_through(&mut self.writer, bytes);

@@ -52,7 +52,7 @@ fn sink_of_std(rt: HostRuntime) {
     assert_eq!(rt; held.as_slice(), b"abc".as_slice());
 }
 
-// A reader that is interrupted at its first call, gives a byte at the second, and fails then.
+// A reader that is interrupted at its first call, fails at the third, and gives a byte at each other.
 #[derive(Drop)]
 struct Shaky {
     reads: u32,
@@ -64,7 +64,7 @@ impl Read for Shaky {
         if self.reads == 1 {
             return Err(io::Error::from(ErrorKind::Interrupted));
         }
-        if self.reads > 2 || into.is_empty() {
+        if self.reads == 3 || into.is_empty() {
             return Err(io::Error::from(ErrorKind::NotFound));
         }
         into[0] = b'a';
@@ -78,10 +78,12 @@ fn interrupted_source_of_std(rt: HostRuntime) {
     let mut into = [0; 2];
     assert_eq!(rt; source.take(&mut into), Ok(1));
     assert_eq!(rt; into, *b"a\0");
+    // A call that failed is answered as one, and isn't made again.
     assert_eq!(rt; source.take(&mut into), Err(Failed));
+    assert_eq!(rt; source.take(&mut into), Ok(1));
 }
 
-// A writer whose flush is interrupted at its first call, succeeds at the second, and fails then.
+// A writer whose flush is interrupted at its first call, fails at the third, and succeeds at each other.
 #[derive(Drop)]
 struct Held {
     flushes: u32,
@@ -96,8 +98,8 @@ impl Write for Held {
         self.flushes = self.flushes.saturating_add(1);
         match self.flushes {
             1 => Err(io::Error::from(ErrorKind::Interrupted)),
-            2 => Ok(()),
-            _ => Err(io::Error::from(ErrorKind::NotFound)),
+            3 => Err(io::Error::from(ErrorKind::NotFound)),
+            _ => Ok(()),
         }
     }
 }

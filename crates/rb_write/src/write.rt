@@ -1,7 +1,7 @@
 //! One attempt of a write: what stands in its way, and the group that makes it. The engine calls it.
 ghost use Rattle.std.specs.Prelude.{◌≡◌, ◌≢◌, ◌⊎◌, ◌+◌, ◌^◌, ◌<◌, ◌≤◌, ◌==◌, ◌&&◌, if◌then◌else◌, [], ◌∷◌, ◌++◌, ℕ, List, true, false, is_some, length, IfOk, IfErr, OnOk, OnErr, IsErrOf};
 ghost use Rattle.rb_base.specs.Blocks.{block_of, commit_block, table_blocks, shape_blocks, patches_block, AreBlocks};
-ghost use Rattle.rb_base.specs.Counts.{Rose};
+ghost use Rattle.rb_base.specs.Counts.{IsCountedAs};
 ghost use Rattle.rb_base.specs.Groups.{Patch};
 ghost use Rattle.rb_base.specs.Moments.{NoMore, Passes};
 ghost use Rattle.rb_base.specs.Stores.{room_of};
@@ -60,8 +60,7 @@ fn prepared<S: Store>(store: &mut S, no: BlockNo, ask: &Ask<'_>) -> Result<(u8, 
     ensures images { S.keeps → NoMore (S.left store.old) (S.left store.new) }
     ensures time { S.keeps → Passes (S.moment store.old) (S.moment store.new) (S.left_since store.old) (S.left_since store.new) (S.left store.new) }
     ensures failed { S.failed store.new ≡ has_failed result }
-    ensures counted { S.faults store.old ≤ S.faults store.new }
-    ensures fault { IsErrOf result AttemptFault.Failed → Rose (S.faults store.old) (S.faults store.new) }
+    ensures counted { IsCountedAs (S.faults store.old) (S.faults store.new) (has_failed result) }
 {
     let Ok(()) = store.load(no) else {
         return Err(AttemptFault::Failed);
@@ -117,8 +116,7 @@ pub fn attempt<S: Store>(
     ensures shape { S.shape_of store.new ≡ S.shape_of store.old }
     ensures slots { S.slots store.new ≡ S.slots store.old }
     ensures failed { S.failed store.new ≡ has_failed result }
-    ensures counted { S.faults store.old ≤ S.faults store.new }
-    ensures fault { IsErrOf result AttemptFault.Failed → Rose (S.faults store.old) (S.faults store.new) }
+    ensures counted { IsCountedAs (S.faults store.old) (S.faults store.new) (has_failed result) }
     ensures answer { IfOk result (λ xid. xid ≡ record { seg = 0; slot = 0; wrap = 0 }) }
 {
     let no = home_block(store.shape(), ask.table, ask.key);

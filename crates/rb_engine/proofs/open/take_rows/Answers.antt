@@ -44,5 +44,5 @@ loop-no-preserved g c =
       spare = omega (arith, inv.spare, call.spare);
       loads = more_loads s old c.loop-no.store c.take_one.new.store inv.loads call.only_loads;
       going = call.failed ∙ ap is_err c.in_ok-take_one.was;
-      no_less = omega (arith, inv.no_less, call.counted.no_less);
+      still = c.in_ok-take_one.ensures.counted.still ∙ inv.still;
     }

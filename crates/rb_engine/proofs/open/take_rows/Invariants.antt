@@ -15,5 +15,5 @@ invariant-loop-no g l = record {
   spare : l.fn.state.spare ≤ l.state.spare + 16 * l.no;
   loads : OnlyLoads g.T.Store l.fn.store l.store;
   going : g.T.Store.failed l.store ≡ false;
-  no_less : g.T.Store.faults l.fn.store ≤ g.T.Store.faults l.store;
+  still : g.T.Store.faults l.store ≡ g.T.Store.faults l.fn.store;
 }

@@ -1,4 +1,4 @@
-use Rattle.std.proofs.Common.{◌+◌, ◌∙◌, [], ◌∷◌, ℕ, ap, arith, subst}
+use Rattle.std.proofs.Common.{◌+◌, ◌∙◌, [], ◌∷◌, ℕ, refl, ap, arith, subst}
 use Rattle.rb_base.specs.Fields.{overwritten}
 use Rattle.rb_base.specs.Moments.{goes_on}
 use Rattle.rb_disk.specs.DiskModel.{Torn, Follows}
@@ -11,7 +11,7 @@ loop-done-init g c = record {
   runs = (0, omega arith);
   so_far = λ told.
       none_opened g.D.Disk.content g.D.Disk.image g.D.Disk.moment g.D.Disk.image_since c.args.layout.now c.args.used c.args.groups.now c.args.disk.now (λ f left. g.met.D.Disk.only_now c.args.disk.now f told left) (c.requires.synced told) (c.requires.whole told);
-  counted = omega arith;
+  still = refl;
 }
 
 pub returns-in_err-write_at-clause-any_moment : goal.returns-in_err-write_at-clause-any_moment
@@ -34,7 +34,7 @@ loop-done-preserved g c =
           opened_more g.D.Disk.content g.D.Disk.image g.D.Disk.moment g.D.Disk.image_since c.args.layout.now c.args.used c.args.groups.now c.loop-done.done inv.runs.0 inv.runs.1 c.loop-done-test.true c.requires.room c.args.disk.now mid new (c.requires.whole told)
           (inv.so_far told) (subst (λ (at : ℕ). Follows (Torn at 1) (g.D.Disk.image mid) (g.D.Disk.image new)) c.log_at.ensures (did.images told)) (did.time told)
           (did.written told ∙ ap (λ (at : ℕ). overwritten (g.D.Disk.content mid) at (1 ∷ [])) c.log_at.ensures);
-      counted = omega (arith, inv.counted, did.counted.no_less);
+      still = did.counted.still ∙ inv.still;
     }
 
 pub returns-clause-any_moment : goal.returns-clause-any_moment

@@ -12,7 +12,7 @@ pub loop-done-init : goal.loop-done-init
 loop-done-init g c = record {
   runs = (0, omega arith);
   so_far = λ told. none_staged g.D.Disk.content g.D.Disk.image g.D.Disk.moment g.D.Disk.image_since c.args.layout.now c.args.used c.args.groups.now c.args.disk.now (λ f left. g.met.D.Disk.only_now c.args.disk.now f told left) (c.requires.whole told);
-  counted = omega arith;
+  still = refl;
 }
 
 -- the run that is written
@@ -38,7 +38,7 @@ loop-done-preserved g c =
       so_far = λ told.
           more_staged g.D.Disk.content g.D.Disk.image g.D.Disk.moment g.D.Disk.image_since c.args.layout.now c.args.used c.args.groups.now _ c.loop-done.done c.min-end.result c.loop-done.invariant.runs.0 here c.args.disk.now c.loop-done.disk c.write_run.new.disk
           (c.loop-done.invariant.so_far told) (did.images told) (did.time told) (did.written told) (did.others told) (did.whole told);
-      counted = omega (arith, c.loop-done.invariant.counted, did.counted.no_less);
+      still = did.counted.still ∙ c.loop-done.invariant.still;
     }
 
 pub returns-clause-staged : goal.returns-clause-staged

@@ -1,4 +1,4 @@
-use Rattle.std.proofs.Common.{ℕ, List, arith, sym, ap, ◌∙◌}
+use Rattle.std.proofs.Common.{ℕ, List, refl, sym, ap, ◌∙◌}
 use Rattle.std.specs.Result.{is_err}
 use Rattle.rb_base.specs.Blocks.{block_of}
 use Rattle.rb_base.specs.declared.ids.Shape.{Shape}
@@ -13,7 +13,7 @@ loop-g-init g c =
     record {
       loads = no_load s c.args.store.now;
       going = c.requires;
-      no_less = omega arith;
+      still = refl;
       so_far = λ told. sym (greatest-zero (λ (k : ℕ). header_newest (block_of (s.blocks c.args.store.now) (header_block (s.shape_of c.args.store.now) k))));
     }
 
@@ -26,7 +26,7 @@ loop-g-preserved g c =
     record {
       loads = more_loads s old c.loop-g.store c.header_newest.new.store inv.loads call.only_loads;
       going = call.failed ∙ ap is_err c.in_ok-header_newest.was;
-      no_less = omega (arith, inv.no_less, call.counted.no_less);
+      still = c.in_ok-header_newest.ensures.counted.still ∙ inv.still;
       so_far = λ told.
           greatest_next (λ (k : ℕ). header_newest (block_of (s.blocks old) (header_block (s.shape_of old) k))) c.loop-g.g c.loop-g.commit c.in_ok-header_newest.field-0 c.max-commit.result
           (inv.so_far told)

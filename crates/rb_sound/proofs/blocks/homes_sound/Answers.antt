@@ -1,4 +1,4 @@
-use Rattle.std.proofs.Common.{ℕ, ◌%◌, List, arith, subst, ap, ◌∙◌}
+use Rattle.std.proofs.Common.{ℕ, ◌%◌, List, subst, ap, ◌∙◌}
 use borrow.Author.Count.{below_more}
 use Rattle.std.specs.Result.{is_err}
 use Rattle.rb_base.specs.Blocks.{block_of}
@@ -16,7 +16,7 @@ loop-no-preserved g c =
     record {
       loads = more_loads s old c.loop-no.store c.rows_sound.new.store inv.loads call.only_loads;
       going = call.failed ∙ ap is_err c.in_ok-rows_sound.was;
-      no_less = omega (arith, inv.no_less, call.counted.no_less);
+      still = c.in_ok-rows_sound.ensures.counted.still ∙ inv.still;
       so_far = λ told.
           let here = (c.in_ok-rows_sound.ensures.told told).0 c.if-not-branch.false in
           below_more (λ (k : ℕ). IsHomeSound limits.shape limits.commit (wrap_in limits.wraps) (k % limits.shape.blocks) (block_of (s.blocks old) k)) c.loop-no.no (inv.so_far told)

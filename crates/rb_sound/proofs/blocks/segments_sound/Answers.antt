@@ -1,4 +1,4 @@
-use Rattle.std.proofs.Common.{ℕ, List, arith, subst, ap, ◌∙◌}
+use Rattle.std.proofs.Common.{ℕ, List, subst, ap, ◌∙◌}
 use borrow.Author.Count.{below_more}
 use Rattle.std.specs.Result.{is_err}
 use Rattle.rb_base.specs.Blocks.{block_of}
@@ -17,7 +17,7 @@ loop-g-preserved g c =
     record {
       loads = more_loads s old c.loop-g.store c.header_sound.new.store inv.loads call.only_loads;
       going = call.failed ∙ ap is_err c.in_ok-header_sound.was;
-      no_less = omega (arith, inv.no_less, call.counted.no_less);
+      still = c.in_ok-header_sound.ensures.counted.still ∙ inv.still;
       so_far = λ told.
           let here = (c.in_ok-header_sound.ensures.told told).0 c.if-not-branch.false in
           let of_old = subst (λ (b : List (List ℕ)). IsSegment c.args.commit (block_of b (header_block c.shape-shape.result c.loop-g.g))) (inv.loads.same_blocks told) here in

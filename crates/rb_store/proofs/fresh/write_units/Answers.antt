@@ -8,7 +8,7 @@ loop-at-init g c = record {
   begun = omega arith;
   within = omega arith;
   written = λ told. first_written (g.D.Disk.content c.args.disk.now) (g.D.Disk.content c.write_at.new.self) c.first_unit.result (c.requires told) (c.in_ok-write_at.ensures.written told) ∙ c.first_unit.ensures;
-  no_less = c.write_at.ensures.counted.no_less;
+  still = c.in_ok-write_at.ensures.counted.still;
 }
 
 pub loop-at-preserved : goal.loop-at-preserved
@@ -20,5 +20,5 @@ loop-at-preserved g c =
       within = omega (arith, c.min-count.ensures, c.length-end.ensures, inv.within);
       written = λ told. zeros_written 102 (g.D.Disk.content c.loop-at.disk) (g.D.Disk.content c.write_at-in-loop-at.new.self) (take count (replicate 65536 0)) c.args.layout.now at (at - 24) count (at + count - 24)
           (inv.written told) (omega (arith, inv.begun)) (take-replicate count 65536 0 (omega (arith, c.min-count.ensures))) (c.in_ok-write_at-2.ensures.written told) (omega (arith, inv.begun));
-      no_less = omega (arith, inv.no_less, c.write_at-in-loop-at.ensures.counted.no_less);
+      still = c.in_ok-write_at-2.ensures.counted.still ∙ inv.still;
     }

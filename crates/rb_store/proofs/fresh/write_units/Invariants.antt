@@ -7,7 +7,7 @@ invariant-loop-at g l = record {
   begun : 2048 ≤ l.at;
   within : l.at ≤ file_length l.layout;
   written : g.D.Disk.tells → g.D.Disk.content l.disk ≡ identity 102 l.layout ++ replicate (l.at - 24) 0;
-  no_less : g.D.Disk.faults l.fn.disk ≤ g.D.Disk.faults l.disk;
+  still : g.D.Disk.faults l.disk ≡ g.D.Disk.faults l.fn.disk;
 }
 
 abbrev pub decreases-loop-at : goal.decreases-loop-at

@@ -1,4 +1,4 @@
-use Rattle.std.proofs.Common.{◌≤◌, vec_capacity}
+use Rattle.std.proofs.Common.{◌≡◌, ◌≤◌, vec_capacity}
 use Rattle.rb_disk.specs.Moments.{Rests}
 use Rattle.rb_store.specs.Scanned.{HasScanned}
 use Rattle.rb_store.proofs.lap_open.scan_all.Given as goal
@@ -8,6 +8,6 @@ invariant-loop g l = record {
   so_far : HasScanned g.D.Disk.tells l.layout (g.D.Disk.content l.fn.disk) l.scan.plain l.scan.log l.scan.waiting.items;
   turns : l.counter ≤ l.scan.log.used;
   room : l.layout.log ≤ vec_capacity l.scan.waiting;
-  counted : g.D.Disk.faults l.fn.disk ≤ g.D.Disk.faults l.disk;
+  still : g.D.Disk.faults l.disk ≡ g.D.Disk.faults l.fn.disk;
   same : g.D.Disk.tells → Rests g.D.Disk.content g.D.Disk.image g.D.Disk.moment g.D.Disk.image_since l.fn.disk l.disk;
 }
