@@ -59,7 +59,8 @@ pub record AreStaged (end : ℕ) (groups : List (List Patch)) (file c : List ℕ
   pub others : SameBut (log_offset end) (log_offset (end + length groups) + 1) file c
   pub bodies : (k : ℕ) (d : List Patch) → k < length groups
       → part c (log_offset (end + k) + 1) 2047 ≡ drop 1 (group_unit 0 (end + k + 1) (get_or groups k d))
-  pub within : (j i : ℕ) → 0 < i → i < 32 → 32 * j + i < length groups → slice_index c (log_offset (end + (32 * j + i))) ≡ 1
+  pub within : (j i : ℕ) → 0 < i → i < 32 → 32 * j + i < length groups
+      → slice_index c (log_offset (end + (32 * j + i))) ≡ 1
   pub after : slice_index c (log_offset (end + length groups)) ≡ 0
 
 -- the first gate of each run of so many groups from `end` on is open
@@ -95,8 +96,8 @@ pub record LogState : Type 0 where
   -- what a scan has read ahead: bytes of the units from slot `used` on
   pub ahead : List ℕ
 
--- What the log has in memory: room for as many groups as there are slots, of which one stays free, and 32 units, the last
--- of which are read ahead before the end is found.
+-- What the log has in memory: room for as many groups as there are slots, of which one stays free, and 32 units. Before
+-- the end is found the last of them are read ahead.
 pub record IsLogMemory (l : Layout) (used : ℕ) (pending : List (List Patch)) (scanned : Bool) (buffer : List ℕ) (ahead room : ℕ) : Type 0 where
   pub below : used + length pending < l.log
   pub enough : l.log ≤ room

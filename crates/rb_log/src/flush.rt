@@ -1,5 +1,5 @@
-//! Groups of patches written to the log slots of a file, each there whole or not at all after a crash. The log of groups
-//! calls it.
+//! Groups of patches written to the log slots of a file, each there whole or not at all after a crash. The log calls
+//! it.
 ghost use Rattle.std.specs.Prelude.{◌≡◌, ◌⊎◌, ◌+◌, ◌-◌, ◌*◌, ◌++◌, ◌<◌, ◌≤◌, ◌^◌, [], ◌∷◌, ℕ, List, drop, length, min, slice_index, slice_index_or, OnOk};
 ghost use Rattle.std.specs.List.{AllByRecursion};
 ghost use Rattle.rb_base.specs.Counts.{IsCounted};
@@ -35,8 +35,8 @@ fn put_body(bytes: &mut [u8], number: u64, group: &Group, next: u8)
     put_u64(bytes, NUMBER - 1, number);
 }
 
-/// Fills a buffer with what is written of a run of groups, of which the first has that number: each group's unit but for
-/// its gate, and the gate of the slot after it. That is open where a group of the run follows.
+/// Fills a buffer with what is written of a run of groups, of which the first has that number: each group's unit but
+/// for its gate, and the gate of the slot after it, which is open where a group of the run follows.
 fn fill_run(buffer: &mut [u8], number: u64, groups: &[Group])
     requires buffer { length buffer.old ≡ 65536 }
     requires few { length groups.now ≤ 32 }
@@ -57,7 +57,8 @@ fn fill_run(buffer: &mut [u8], number: u64, groups: &[Group])
     }
 }
 
-/// Writes a run of up to 32 groups from a slot on, but for its first gate, and a closed gate after it. Nothing is synced.
+/// Writes a run of up to 32 groups from a slot on, but for its first gate, and a closed gate after it, in one piece.
+/// It doesn't sync.
 fn write_run<D: Disk>(
     disk: &mut D,
     layout: &Layout,
@@ -82,8 +83,9 @@ fn write_run<D: Disk>(
     disk.write_at(layout.log_at(slot) + 1, &buffer[..UNIT * groups.len()])
 }
 
-/// Step one of a flush: writes the groups, run by run, each with its first gate closed, and syncs. Only then may a first
-/// gate be opened, since a crash may leave any part of what isn't synced. The gate of the slot `used` isn't touched.
+/// Step one of a flush: writes the groups, run by run, each with its first gate closed, and syncs. Only then may a
+/// first gate be opened, since a crash may leave any part of what isn't synced. The gate of the slot `used`, which is
+/// closed already, isn't touched.
 fn stage<D: Disk>(
     disk: &mut D,
     layout: &Layout,
@@ -139,10 +141,9 @@ fn open_gates<D: Disk>(
     disk.sync()
 }
 
-/// Writes these groups to the log's slots from `used` on, one of which stays free behind them, in runs of up to 32. Each
-/// group has a patch, and its blocks are those of the file. After an Ok every image has all of them, and a crash before
-/// leaves a number of whole runs. The buffer has 65,536 bytes, and what they are is no matter; where there is no group it
-/// keeps them.
+/// Writes these groups to the log's slots from `used` on, in runs of up to 32; one slot stays free after them. Each group
+/// has a patch, and its blocks are those of the file. After an Ok every image has all of them, and a crash before leaves
+/// a number of whole runs. The buffer has 65,536 bytes, and what they are is no matter; without a group it keeps them.
 pub(crate) fn write_groups<D: Disk>(
     disk: &mut D,
     layout: &Layout,

@@ -153,8 +153,8 @@ impl Log {
         self.pending.push_reserved(group.copied());
     }
 
-    /// Writes the groups that wait behind those of the log, in runs of up to 32 slots, with two syncs. After an Ok every
-    /// image has all of them; a crash before leaves a number of whole runs. Where none waits it makes no call.
+    /// Writes the groups that wait behind those of the log, in runs of up to 32 slots, with two syncs. After an Ok
+    /// every image has all of them; a crash before leaves a number of whole runs. Where none waits it makes no call.
     pub fn flush<D: Disk>(&mut self, disk: &mut D) -> Result<(), Failed>
         requires whole { D.tells → length (D.content disk.old) ≡ file_length self.old.layout }
         requires synced { D.tells → (c : List ℕ) → D.image disk.old c → SameSlots self.old.layout.log (D.content disk.old) c }

@@ -70,8 +70,8 @@ fn group_in(layout: &Layout, unit: &[u8], number: Lsn) -> Option<Group>
     }
 }
 
-/// The group of that number in a slot's unit, or None where its gate is closed. NotAStore is an open unit without such a
-/// group.
+/// The group of that number in a slot's unit, or None where its gate is closed. NotAStore is an open unit without such
+/// a group.
 pub fn group_of(layout: &Layout, unit: &[u8], number: Lsn) -> Result<Option<Group>, OpenFault>
     requires unit { length unit.now ≡ 2048 }
     ensures found { IfOk result (λ o. IfSome o (HoldsGroup layout.now unit.now number)) }
