@@ -1,3 +1,4 @@
 pub mod DiskModel
 pub mod Moments
+pub mod Ranges
 pub mod Writes

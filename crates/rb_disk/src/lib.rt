@@ -2,5 +2,7 @@
 #![tactic(auto)]
 
 mod disk;
+mod range;
 
 pub use disk::Disk;
+pub use range::write_synced;

@@ -11,7 +11,8 @@ use Rattle.rb_layout.specs.declared.layout.Layout.{Layout}
 use Rattle.rb_layout.specs.Regions.{log_offset, file_length}
 use Rattle.rb_log.specs.GroupSlots.{GroupsAre, DroppedSome}
 use Rattle.rb_log.specs.GroupLaws.{same_slot, begins_same, same_units_log, begins_end_group, cut_log}
-use Rattle.rb_log.specs.Slots.{slot_at, TornFrom, SameSlots, SameOutside, SameBut}
+use Rattle.rb_disk.specs.Ranges.{SameBut, TornFrom}
+use Rattle.rb_log.specs.Slots.{slot_at, SameSlots, SameOutside}
 use Rattle.rb_log.proofs.Writes.{gate_at, torn_outside, part_below, part_beyond, written_torn}
 
 -- each slot of these groups is open, and none is the last

@@ -1,26 +1,45 @@
--- How far a flush of several runs has come.
-use Rattle.std.proofs.Common.{◌≡◌, inl, inr, ℕ, ◌+◌, ◌-◌, ◌*◌, ◌≤◌, ◌<◌, min, List, ◌++◌, length, take, drop, get_or, sym, ◌∙◌, ap, subst, arith, refl, append_assoc}
-use Rattle.std.proofs.Math.Seq.{take-add}
+-- Step one of a flush: what a run leaves in a file, and how far several have come.
+use Rattle.std.proofs.Common.{◌≡◌, inl, inr, ℕ, zero, suc, ◌+◌, ◌-◌, ◌*◌, ◌≤◌, ◌<◌, min, List, [], ◌∷◌, ◌++◌, length, take, drop, get_or, slice_index, refl, sym, ◌∙◌, ap, subst, arith}
 use Rattle.std.proofs.lemmas.Bool.{cases_lt}
-use Rattle.std.proofs.lemmas.List.{append-nil, take_all, take_min, length-append, length-take-le, length-drop, get_or-take, get_or-drop}
+use Rattle.std.proofs.lemmas.List.{length-take-le, length-drop, get_or-take, get_or-drop, take-take, take_at}
+use Rattle.std.specs.List.{AllByRecursion}
+use Rattle.rb_base.specs.Fields.{part, overwritten}
 use Rattle.rb_base.specs.Groups.{Patch}
-use Rattle.rb_base.specs.Moments.{LeavesOnly, begun, weaker, joined}
-use Rattle.rb_disk.specs.DiskModel.{Only}
+use Rattle.rb_base.specs.Moments.{LeavesOnly, Passes, begun, goes_on}
+use Rattle.rb_base.proofs.Each.{all_at}
+use Rattle.rb_base.proofs.Overwriting.{part_written}
+use Rattle.rb_disk.specs.DiskModel.{Torn, Follows}
+use Rattle.rb_disk.specs.Ranges.{SameBut, TornFrom}
+use Rattle.rb_disk.specs.Writes.{none_is_torn}
 use Rattle.rb_layout.specs.Regions.{file_length, log_offset}
 use Rattle.rb_layout.specs.declared.layout.Layout.{Layout}
-use Rattle.rb_log.specs.GroupSlots.{GroupsAre, FlushedSome, group_unit}
-use Rattle.rb_log.specs.Slots.{slot_at, SameSlots, SameOutside, SameBut}
-use Rattle.rb_log.proofs.GroupFlush.{nothing_flushed}
-use Rattle.rb_log.proofs.Writes.{take_below, drop_beyond, part_below}
+use Rattle.rb_log.specs.GroupSlots.{IsLoggable, AreStaged, group_unit}
+use Rattle.rb_log.proofs.GroupUnits.{AreSideBySide, piece, length-body}
+use Rattle.rb_log.proofs.Writes.{take_below, drop_beyond, part_below, part_inside, byte_inside, both_torn, torn_wider, written_torn}
 
-pub outside_on : (slots : ℕ) (f g h : List ℕ) → SameOutside slots f g → SameOutside slots g h → SameOutside slots f h
-outside_on slots f g h first second = record {
-  long = second.long ∙ first.long;
-  before = second.before ∙ first.before;
-  behind = second.behind ∙ first.behind;
-}
+-- a buffer's units in a file
+pub run_written : (slot : ℕ) (groups : List (List Patch)) (f buffer bytes m : List ℕ) → bytes ≡ part buffer 0 (2048 * length groups) → length bytes ≡ 2048 * length groups → log_offset (slot + length groups) + 1 ≤ length f
+    → AreSideBySide (slot + 1) groups buffer (length groups) → m ≡ overwritten f (log_offset slot + 1) bytes
+    → (k : ℕ) (d : List Patch) → k < length groups → part m (log_offset (slot + k) + 1) 2048 ≡ piece (slot + k + 1) (get_or groups k d) (min 1 (length groups - (k + 1)))
+run_written slot groups f buffer bytes m cut long fits filled is k d lt =
+    let at = log_offset slot + 1 in
+    let n = 2048 * length groups in
+    let next = min 1 (length groups - (k + 1)) in
+    ap (λ (i : ℕ). part m i 2048) (omega arith) ∙ sym (part_inside m at n (2048 * k) 2048 (omega (arith, lt)))
+    ∙ ap (λ (b : List ℕ). part b (2048 * k) 2048) (ap (λ (g : List ℕ). part g at n) is ∙ part_written f at bytes n (omega (arith, long, fits)) long ∙ cut) ∙ part_inside buffer 0 n (2048 * k) 2048 (omega (arith, lt))
+    ∙ ap (λ (i : ℕ). part buffer i 2048) (omega arith) ∙ filled k d lt ∙ ap (λ (i : ℕ). piece i (get_or groups k d) next) (omega arith)
 
-pub but_on : (first middle end last : ℕ) (f g h : List ℕ) → first ≤ middle → end ≤ last → SameBut first end f g → SameBut middle last g h → SameBut first last f h
+pub run_others : (slot count : ℕ) (f bytes m : List ℕ) → length bytes ≡ 2048 * count → log_offset (slot + count) + 1 ≤ length f → m ≡ overwritten f (log_offset slot + 1) bytes
+    → SameBut (log_offset slot + 1) (log_offset (slot + count) + 1) f m
+run_others slot count f bytes m long fits is =
+    let torn = written_torn f bytes (log_offset slot + 1) (omega (arith, long, fits)) in
+    subst (λ (g : List ℕ). SameBut (log_offset slot + 1) (log_offset (slot + count) + 1) f g) (sym is) (record {
+      long = omega (arith, torn.no_shorter, torn.no_longer, long, fits);
+      before = torn.before;
+      behind = drop_beyond (overwritten f (log_offset slot + 1) bytes) f (log_offset slot + 1 + length bytes) (log_offset (slot + count) + 1) torn.behind (omega (arith, long));
+    })
+
+but_on : (first middle end last : ℕ) (f g h : List ℕ) → first ≤ middle → end ≤ last → SameBut first end f g → SameBut middle last g h → SameBut first last f h
 but_on first middle end last f g h low high one two = record {
   long = two.long ∙ one.long;
   before = take_below h g middle first two.before low ∙ one.before;
@@ -30,114 +49,139 @@ but_on first middle end last f g h low high one two = record {
 -- the run behind those that are written
 pub record NextRun (groups run : List (List Patch)) (done end runs : ℕ) : Type 0 where
   pub behind : done < length groups
-  pub whole : done ≡ min (32 * runs) (length groups)
+  pub whole : done ≡ 32 * runs
   pub stop : end ≡ min (length groups) (done + 32)
   pub run_is : run ≡ take (end - done) (drop done groups)
 
-pub run_length : (groups run : List (List Patch)) (done end runs : ℕ) → NextRun groups run done end runs → (length run ≡ end - done) × (0 < length run) × (length run ≤ 32) × (done + length run ≡ end) × (end ≤ length groups)
+run_length : (groups run : List (List Patch)) (done end runs : ℕ) → NextRun groups run done end runs → length run ≡ min 32 (length groups - done)
 run_length groups run done end runs next =
-    let size : length run ≡ end - done = ap length next.run_is ∙ length-take-le (end - done) (drop done groups) (omega (arith, length-drop done groups, next.stop)) in
-    (size, omega (arith, size, next.behind, next.stop), omega (arith, size, next.stop), omega (arith, size, next.behind, next.stop), omega (arith, next.stop))
+    ap length next.run_is ∙ length-take-le (end - done) (drop done groups) (omega (arith, length-drop done groups, next.stop)) ∙ omega (arith, next.stop, next.behind)
 
--- the groups up to the end of the run
-pub run_joins : (groups run : List (List Patch)) (done end runs : ℕ) → NextRun groups run done end runs → take done groups ++ run ≡ take end groups
-run_joins groups run done end runs next =
-    ap (λ (gs : List (List Patch)). take done groups ++ gs) next.run_is ∙ sym (take-add done (end - done) groups) ∙ ap (λ (n : ℕ). take n groups) (omega (arith, next.behind, next.stop))
+-- so many runs of the groups are written
+pub record RunsStaged (end : ℕ) (groups : List (List Patch)) (runs : ℕ) (f c : List ℕ) : Type 0 where
+  pub others : SameBut (log_offset end + 1) (log_offset (end + min (32 * runs) (length groups)) + 1) f c
+  pub pieces : (j i : ℕ) (d : List Patch) → j < runs → i < 32 → 32 * j + i < length groups
+      → part c (log_offset (end + (32 * j + i)) + 1) 2048 ≡ piece (end + (32 * j + i) + 1) (get_or groups (32 * j + i) d) (min 1 (min (31 - i) (length groups - (32 * j + i + 1))))
 
-pub runs_more : (groups run : List (List Patch)) (done end runs : ℕ) → NextRun groups run done end runs → end ≡ min (32 * (runs + 1)) (length groups)
-runs_more groups run done end runs next = omega (arith, next.behind, next.whole, next.stop)
+pub one_more : (slot : ℕ) (groups run : List (List Patch)) (done end runs : ℕ) (f m c : List ℕ) → NextRun groups run done end runs → RunsStaged slot groups runs f m
+    → ((k : ℕ) (d : List Patch) → k < length run → part c (log_offset (slot + done + k) + 1) 2048 ≡ piece (slot + done + k + 1) (get_or run k d) (min 1 (length run - (k + 1))))
+    → SameBut (log_offset (slot + done) + 1) (log_offset (slot + done + length run) + 1) m c → RunsStaged slot groups (runs + 1) f c
+one_more slot groups run done end runs f m c next was written others =
+    let n = length groups in
+    let size = run_length groups run done end runs next in record {
+      others = but_on (log_offset slot + 1) (log_offset (slot + done) + 1) (log_offset (slot + min (32 * runs) n) + 1) (log_offset (slot + min (32 * (runs + 1)) n) + 1) f m c (omega arith) (omega arith) was.others
+          (subst (λ (i : ℕ). SameBut (log_offset (slot + done) + 1) (log_offset i + 1) m c) (omega (arith, size, next.whole, next.behind)) others);
+      pieces = λ j i d below few lt.
+          elim (cases_lt j runs) [
+            | inl before ↦ part_below c m (log_offset (slot + done) + 1) (log_offset (slot + (32 * j + i)) + 1) 2048 others.before (omega (arith, before, few, next.whole)) ∙ was.pieces j i d before few lt
+            | inr later ↦
+                let same : j ≡ runs = omega (arith, below, later) in
+                let at : slot + done + i ≡ slot + (32 * j + i) = omega (arith, same, next.whole) in
+                let within : i < length run = omega (arith, size, lt, few, same, next.whole) in
+                let group : get_or run i d ≡ get_or groups (32 * j + i) d =
+                ap (λ (gs : List (List Patch)). get_or gs i d) next.run_is ∙ get_or-take (end - done) (drop done groups) i d (omega (arith, next.stop, lt, few, same, next.whole)) ∙ get_or-drop done groups i d ∙ ap (λ (k : ℕ). get_or groups k d) (omega (arith, same, next.whole)) in
+                let gate : min 1 (length run - (i + 1)) ≡ min 1 (min (31 - i) (n - (32 * j + i + 1))) = omega (arith, size, same, next.whole, lt, few) in
+                ap (λ (k : ℕ). part c (log_offset k + 1) 2048) (sym at) ∙ written i d within ∙ ap (λ (k : ℕ). piece (k + 1) (get_or run i d) (min 1 (length run - (i + 1)))) at
+                ∙ ap (λ (g : List Patch). piece (slot + (32 * j + i) + 1) g (min 1 (length run - (i + 1)))) group ∙ ap (piece (slot + (32 * j + i) + 1) (get_or groups (32 * j + i) d)) gate
+          ];
+    }
 
--- An image of a flush of the run is one of the whole flush.
-pub run_widened : (old mid : List ℕ → Type 0) (l : Layout) (before groups run : List (List Patch)) (done end runs : ℕ) → NextRun groups run done end runs → ((c : List ℕ) → mid c → (d : List ℕ) × old d × SameOutside l.log d c)
-    → (c : List ℕ) → FlushedSome mid l (before ++ take done groups) run c → FlushedSome old l before groups c
-run_widened old mid l before groups run done end runs next from c some =
-    let was = from some.outside.0 some.outside.1 in
-    let outside = outside_on l.log was.0 some.outside.0 c was.2 some.outside.2 in
-    let size = run_length groups run done end runs next in
-    let all : (n : ℕ) → take (min n (length groups)) groups ≡ take n groups = λ n. take_min n groups in
-    let logged : (n : ℕ) → take done groups ++ take (32 * some.units) run ≡ take (32 * n) groups → GroupsAre l c 0 (before ++ take (32 * n) groups) =
-    λ n same. subst (λ (gs : List (List Patch)). GroupsAre l c 0 gs) (append_assoc before (take done groups) (take (32 * some.units) run) ∙ ap (λ (gs : List (List Patch)). before ++ gs) same) some.log in
-    elim (cases_lt 0 some.units) [
-      | inl more ↦ record {
-        outside = (was.0, was.1, outside);
-        units = runs + 1;
-        log = logged (runs + 1) (ap (λ (gs : List (List Patch)). take done groups ++ gs) (take_all (32 * some.units) run (omega (arith, size.2, more))) ∙ run_joins groups run done end runs next
-            ∙ ap (λ (n : ℕ). take n groups) (runs_more groups run done end runs next) ∙ all (32 * (runs + 1)));
-      }
-      | inr none ↦
-          let zero_is : some.units ≡ 0 = omega (arith, none) in
-          record {
-            outside = (was.0, was.1, outside);
-            units = runs;
-            log = logged runs (ap (λ (n : ℕ). take done groups ++ take (32 * n) run) zero_is ∙ append-nil (take done groups) ∙ ap (λ (n : ℕ). take n groups) next.whole ∙ all (32 * runs));
-          }
+-- a place among runs of 32
+pub parted : (k : ℕ) → (j : ℕ) × (i : ℕ) × (i < 32) × (32 * j + i ≡ k)
+parted zero = (0, 0, omega arith, refl)
+parted (suc k) =
+    let p = parted k in
+    elim (cases_lt (p.1 + 1) 32) [
+      | inl lt ↦ (p.0, p.1 + 1, lt, omega (arith, p.3))
+      | inr le ↦ (p.0 + 1, 0, omega arith, omega (arith, le, p.2, p.3))
     ]
 
-module _ {D : Type 0} (content : D → List ℕ) (image : D → List ℕ → Type 0) (moment : D → ℕ) (since : D → ℕ → List ℕ → Type 0) where
-  -- The first groups are written since, and every image has them.
-  pub record RunsFlushed (l : Layout) (used : ℕ) (groups : List (List Patch)) (done : ℕ) (old new : D) : Type 0 where
-    pub written : (before : List (List Patch)) → length before ≡ used → GroupsAre l (content old) 0 before → GroupsAre l (content new) 0 (before ++ take done groups)
-    pub units : (k : ℕ) (d : List Patch) → k < done → slot_at (content new) (used + k) ≡ group_unit 1 (used + k + 1) (get_or groups k d)
-    pub others : SameBut (log_offset used) (log_offset (used + done) + 1) (content old) (content new)
-    pub outside : SameOutside l.log (content old) (content new)
-    pub durable : (c : List ℕ) → image new c → SameSlots l.log (content new) c
-    pub from : (c : List ℕ) → image new c → (d : List ℕ) × image old d × SameOutside l.log d c
-    pub whole : length (content new) ≡ file_length l
-    pub any_moment : (before : List (List Patch)) → length before ≡ used → GroupsAre l (content old) 0 before → LeavesOnly moment since old new (FlushedSome (image old) l before groups)
+-- All runs are written: what each gate and each body is then.
+module _ (l : Layout) (end : ℕ) (groups : List (List Patch)) (runs : ℕ) (f c : List ℕ) (all : length groups ≤ 32 * runs) (some : 0 < length groups) (each : AllByRecursion (IsLoggable l) groups) (was : RunsStaged end groups runs f c) where
+  body_at : (k : ℕ) (d : List Patch) → k < length groups → length (drop 1 (group_unit 0 (end + k + 1) (get_or groups k d))) ≡ 2047
+  body_at k d lt = let logged = all_at (IsLoggable l) groups k d each lt in length-body (end + k + 1) (get_or groups k d) logged.valid
 
-  pub no_run : (l : Layout) (used : ℕ) (groups : List (List Patch)) (disk : D) → ((c : List ℕ) → since disk (moment disk) c → image disk c) → ((c : List ℕ) → image disk c → SameSlots l.log (content disk) c) → length (content disk) ≡ file_length l
-      → RunsFlushed l used groups 0 disk disk
-  no_run l used groups disk only_now synced whole = record {
-    written = λ before counts log. subst (λ (gs : List (List Patch)). GroupsAre l (content disk) 0 gs) (sym (append-nil before)) log;
-    units = λ k d below. absurd (omega (arith, below));
-    others = record { long = refl; before = refl; behind = refl };
-    outside = record { long = refl; before = refl; behind = refl };
-    durable = synced;
-    from = λ c here. (c, here, record { long = refl; before = refl; behind = refl });
-    whole = whole;
-    any_moment = λ before counts log. begun moment since disk (FlushedSome (image disk) l before groups) (λ c left. nothing_flushed l (content disk) (image disk) before groups synced log c (only_now c left));
+  gate_after : (j i next : ℕ) → i < 32 → 32 * j + i < length groups → min 1 (min (31 - i) (length groups - (32 * j + i + 1))) ≡ next → slice_index c (log_offset (end + (32 * j + i)) + 2048) ≡ next
+  gate_after j i next few lt is =
+      let k = 32 * j + i in
+      let at = log_offset (end + k) + 1 in
+      let gate = min 1 (min (31 - i) (length groups - (k + 1))) in
+      let body = drop 1 (group_unit 0 (end + k + 1) (get_or groups k [])) in
+      let long : length body ≡ 2047 = body_at k [] lt in
+      let place : log_offset (end + k) + 2048 ≡ at + 2047 = omega arith in
+      let there : get_or (body ++ gate ∷ []) 2047 0 ≡ gate = ap (λ (x : ℕ). get_or (body ++ gate ∷ []) x 0) (sym long) ∙ last body gate in
+      ap (slice_index c) place ∙ sym (byte_inside c at 2048 2047 (omega arith)) ∙ ap (λ (b : List ℕ). get_or b 2047 0) (was.pieces j i [] (omega (arith, all, lt)) few lt) ∙ there ∙ is
+    where
+      last : (bytes : List ℕ) (byte : ℕ) → get_or (bytes ++ byte ∷ []) (length bytes) 0 ≡ byte
+      last [] byte = refl
+      last (b ∷ bytes) byte = last bytes byte
+
+  pub all_closed : (j : ℕ) → 0 < j → 32 * j < length groups → slice_index c (log_offset (end + 32 * j)) ≡ 0
+  all_closed j more lt = ap (slice_index c) (omega (arith, more)) ∙ gate_after (j - 1) 31 0 (omega arith) (omega (arith, more, lt)) (omega arith)
+
+  pub all_staged : AreStaged end groups f c
+  all_staged = record {
+    others = record {
+      long = was.others.long;
+      before = take_below c f (log_offset end + 1) (log_offset end) was.others.before (omega arith);
+      behind = subst (λ (i : ℕ). drop (log_offset (end + i) + 1) c ≡ drop (log_offset (end + i) + 1) f) (omega (arith, all)) was.others.behind;
+    };
+    bodies = λ k d lt.
+        let p = parted k in
+        let body = drop 1 (group_unit 0 (end + k + 1) (get_or groups k d)) in
+        let at = log_offset (end + k) + 1 in
+        let gate = min 1 (min (31 - p.1) (length groups - (k + 1))) in
+        let there : part c at 2048 ≡ body ++ gate ∷ [] =
+        subst (λ (i : ℕ). part c (log_offset (end + i) + 1) 2048 ≡ piece (end + i + 1) (get_or groups i d) (min 1 (min (31 - p.1) (length groups - (i + 1))))) p.3 (was.pieces p.0 p.1 d (omega (arith, all, lt, p.3)) p.2 (omega (arith, lt, p.3))) in
+        sym (take-take 2047 2048 (drop at c) (omega arith)) ∙ ap (take 2047) there ∙ take_at body (gate ∷ []) 2047 (body_at k d lt);
+    within = λ j i more few lt. ap (slice_index c) (omega (arith, more)) ∙ gate_after j (i - 1) 1 (omega (arith, few)) (omega (arith, lt)) (omega (arith, more, few, lt));
+    after =
+        let p = parted (length groups - 1) in
+        ap (slice_index c) (omega (arith, some, p.3)) ∙ gate_after p.0 p.1 0 p.2 (omega (arith, some, p.3)) (omega (arith, some, p.3));
   }
 
-  module _ (l : Layout) (used : ℕ) (groups run : List (List Patch)) (done end runs : ℕ) (next : NextRun groups run done end runs) (old mid new : D) (so_far : RunsFlushed l used groups done old mid) where
-    -- the groups in front of the run
-    fronted : (before : List (List Patch)) → length before ≡ used → length (before ++ take done groups) ≡ used + done
-    fronted before counts = omega (arith, counts, length-append before (take done groups), length-take-le done groups (omega (arith, next.behind)))
+torn_to : (at count total : ℕ) (f g : List ℕ) → count ≤ total → Torn at count f g → Torn at total f g
+torn_to at count total f g le torn = subst (λ (n : ℕ). Torn at n f g) (omega (arith, le)) (torn_wider at count (total - count) f g torn)
 
-    -- what a crash in the next run leaves
-    pub run_moment : ((before : List (List Patch)) → length before ≡ used + done → GroupsAre l (content mid) 0 before → LeavesOnly moment since mid new (FlushedSome (image mid) l before run))
-        → (before : List (List Patch)) → length before ≡ used → GroupsAre l (content old) 0 before → LeavesOnly moment since old new (FlushedSome (image old) l before groups)
-    run_moment leaves before counts log =
-        let front = before ++ take done groups in
-        let later = leaves front (fronted before counts) (so_far.written before counts log) in
-        joined moment since old mid new (FlushedSome (image old) l before groups) (so_far.any_moment before counts log)
-        (weaker moment since mid new (FlushedSome (image mid) l front run) (FlushedSome (image old) l before groups) (run_widened (image old) (image mid) l before groups run done end runs next so_far.from) later)
+module _ {D : Type 0} (content : D → List ℕ) (image : D → List ℕ → Type 0) (moment : D → ℕ) (since : D → ℕ → List ℕ → Type 0) where
+  -- Step one has come so far on a disk.
+  pub record StagedSome (l : Layout) (used : ℕ) (groups : List (List Patch)) (runs : ℕ) (old new : D) : Type 0 where
+    pub file : RunsStaged used groups runs (content old) (content new)
+    pub images : (c : List ℕ) → image new c → TornFrom (log_offset used + 1) (2048 * min (32 * runs) (length groups)) (image old) c
+    pub any_moment : LeavesOnly moment since old new (TornFrom (log_offset used + 1) (2048 * length groups) (image old))
+    pub whole : length (content new) ≡ file_length l
 
-    -- one run more
-    pub run_done : image old (content old) → ((before : List (List Patch)) → length before ≡ used + done → GroupsAre l (content mid) 0 before → GroupsAre l (content new) 0 (before ++ run))
-        → ((k : ℕ) (d : List Patch) → k < length run → slot_at (content new) (used + done + k) ≡ group_unit 1 (used + done + k + 1) (get_or run k d)) → SameBut (log_offset (used + done)) (log_offset (used + done + length run) + 1) (content mid) (content new)
-        → SameOutside l.log (content mid) (content new) → Only (content new) (image new) → length (content new) ≡ file_length l
-        → ((before : List (List Patch)) → length before ≡ used + done → GroupsAre l (content mid) 0 before → LeavesOnly moment since mid new (FlushedSome (image mid) l before run)) → RunsFlushed l used groups end old new
-    run_done here written units others outside durable whole leaves =
+  pub none_staged : (l : Layout) (used : ℕ) (groups : List (List Patch)) (disk : D) → ((c : List ℕ) → since disk (moment disk) c → image disk c) → length (content disk) ≡ file_length l → StagedSome l used groups 0 disk disk
+  none_staged l used groups disk only_now whole = record {
+    file = record {
+      others = record { long = refl; before = refl; behind = refl };
+      pieces = λ j i d below few lt. absurd (omega (arith, below));
+    };
+    images = λ c here. (c, here, none_is_torn (log_offset used + 1) (2048 * min (32 * 0) (length groups)) c);
+    any_moment = begun moment since disk (TornFrom (log_offset used + 1) (2048 * length groups) (image disk)) (λ c left. (c, only_now c left, none_is_torn (log_offset used + 1) (2048 * length groups) c));
+    whole = whole;
+  }
+
+  module _ (l : Layout) (used : ℕ) (groups run : List (List Patch)) (done end runs : ℕ) (next : NextRun groups run done end runs) (old mid new : D) (so_far : StagedSome l used groups runs old mid)
+      (follows : Follows (Torn (log_offset (used + done) + 1) (2048 * length run)) (image mid) (image new)) (time : Passes (moment mid) (moment new) (since mid) (since new) (image new)) where
+    more_torn : (c : List ℕ) → image new c → TornFrom (log_offset used + 1) (2048 * min (32 * (runs + 1)) (length groups)) (image old) c
+    more_torn c left =
         let size = run_length groups run done end runs next in
-        let all_outside = outside_on l.log (content old) (content mid) (content new) so_far.outside outside in record {
-          written = λ before counts log.
-              subst (λ (gs : List (List Patch)). GroupsAre l (content new) 0 gs) (append_assoc before (take done groups) run ∙ ap (λ (gs : List (List Patch)). before ++ gs) (run_joins groups run done end runs next))
-              (written (before ++ take done groups) (fronted before counts) (so_far.written before counts log));
-          units = λ k d below.
-              elim (cases_lt k done) [
-                | inl first ↦ part_below (content new) (content mid) (log_offset (used + done)) (log_offset (used + k)) 2048 others.before (omega (arith, first)) ∙ so_far.units k d first
-                | inr later ↦
-                    let at : used + done + (k - done) ≡ used + k = omega (arith, later) in
-                    let within : k - done < length run = omega (arith, size.0, below, later) in
-                    let group : get_or run (k - done) d ≡ get_or groups k d =
-                    ap (λ (gs : List (List Patch)). get_or gs (k - done) d) next.run_is ∙ get_or-take (end - done) (drop done groups) (k - done) d (omega (arith, below, later)) ∙ get_or-drop done groups (k - done) d ∙ ap (λ (i : ℕ). get_or groups i d) (omega (arith, later)) in
-                    ap (λ (i : ℕ). slot_at (content new) i) (sym at) ∙ units (k - done) d within ∙ ap (λ (i : ℕ). group_unit 1 (i + 1) (get_or run (k - done) d)) at ∙ ap (group_unit 1 (used + k + 1)) group
-              ];
-          others = subst (λ (n : ℕ). SameBut (log_offset used) (log_offset n + 1) (content old) (content new)) (omega (arith, size.3))
-              (but_on (log_offset used) (log_offset (used + done)) (log_offset (used + done) + 1) (log_offset (used + done + length run) + 1) (content old) (content mid) (content new) (omega arith) (omega arith) so_far.others others);
-          outside = all_outside;
-          durable = λ c left. subst (λ (f : List ℕ). SameSlots l.log (content new) f) (sym (durable c left)) (record { long = refl; slots_are = refl });
-          from = λ c left. (content old, here, subst (λ (f : List ℕ). SameOutside l.log (content old) f) (sym (durable c left)) all_outside);
-          whole = whole;
-          any_moment = run_moment leaves;
-        }
+        let count = 2048 * min (32 * runs) (length groups) in
+        let here : Follows (Torn (log_offset used + 1 + count) (2048 * length run)) (image mid) (image new) = subst (λ (i : ℕ). Follows (Torn i (2048 * length run)) (image mid) (image new)) (omega (arith, next.whole, next.behind)) follows in
+        subst (λ (n : ℕ). TornFrom (log_offset used + 1) n (image old) c) (omega (arith, size, next.whole, next.behind)) (both_torn (log_offset used + 1) count (2048 * length run) (image old) (image mid) (image new) so_far.images here c left)
+
+    -- what a crash leaves after one run more
+    pub more_moment : LeavesOnly moment since old new (TornFrom (log_offset used + 1) (2048 * length groups) (image old))
+    more_moment =
+        goes_on moment since old mid new (TornFrom (log_offset used + 1) (2048 * length groups) (image old)) (image new) so_far.any_moment time
+        (λ c left. let from = more_torn c left in (from.0, from.1, torn_to (log_offset used + 1) (2048 * min (32 * (runs + 1)) (length groups)) (2048 * length groups) from.0 c (omega arith) from.2))
+
+    pub more_staged : ((k : ℕ) (d : List Patch) → k < length run → part (content new) (log_offset (used + done + k) + 1) 2048 ≡ piece (used + done + k + 1) (get_or run k d) (min 1 (length run - (k + 1))))
+        → SameBut (log_offset (used + done) + 1) (log_offset (used + done + length run) + 1) (content mid) (content new) → length (content new) ≡ file_length l → StagedSome l used groups (runs + 1) old new
+    more_staged written others whole = record {
+      file = one_more used groups run done end runs (content old) (content mid) (content new) next so_far.file written others;
+      images = more_torn;
+      any_moment = more_moment;
+      whole = whole;
+    }

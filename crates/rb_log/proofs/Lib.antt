@@ -1,7 +1,9 @@
 pub mod GroupDrops
 pub mod GroupFlush
-pub mod LogLemmas
+pub mod GroupGates
 pub mod GroupReading
 pub mod GroupRuns
 pub mod GroupUnits
+pub mod LogLemmas
+pub mod ReadAhead
 pub mod Writes

@@ -1,11 +1,12 @@
 -- What one write changes, and two writes one behind the other, in a file and in its log slots.
-use Rattle.std.proofs.Common.{◌≡◌, ℕ, ◌+◌, ◌-◌, ◌≤◌, List, ◌++◌, length, take, drop, get_or, slice_index, sym, ◌∙◌, ap, arith, length-append, length-drop}
-use Rattle.std.proofs.lemmas.List.{take_at, drop_at, drop-drop, append_assoc, drop-take, take-take, length-take-le}
+use Rattle.std.proofs.Common.{◌≡◌, ℕ, ◌+◌, ◌-◌, ◌≤◌, ◌<◌, List, ◌++◌, length, take, drop, get_or, slice_index, sym, ◌∙◌, ap, arith, length-append, length-drop}
+use Rattle.std.proofs.lemmas.List.{take_at, drop_at, drop-drop, append_assoc, drop-take, take-take, length-take-le, get_or-take, get_or-drop}
 use Rattle.rb_base.specs.Fields.{part, overwritten}
 use Rattle.rb_base.proofs.Fronts.{byte_of_part}
 use Rattle.rb_disk.specs.DiskModel.{Torn, Follows}
 use Rattle.rb_layout.specs.Regions.{log_offset}
-use Rattle.rb_log.specs.Slots.{slot_at, SameOutside, TornFrom}
+use Rattle.rb_disk.specs.Ranges.{TornFrom}
+use Rattle.rb_log.specs.Slots.{slot_at, SameOutside}
 
 -- files with the same front, or the same end
 pub take_below : (f g : List ℕ) (n k : ℕ) → take n f ≡ take n g → k ≤ n → take k f ≡ take k g
@@ -40,12 +41,8 @@ torn_both at count more f g h first second = record {
   no_longer = omega (arith, first.no_longer, second.no_longer);
 }
 
--- the images of the first write, and of both
-pub first_torn : (at count more : ℕ) (old new : List ℕ → Type 0) → Follows (Torn at count) old new → (c : List ℕ) → new c → TornFrom at (count + more) old c
-first_torn at count more old new follows c left =
-    let from = follows c left in (from.0, from.1, torn_wider at count more from.0 c from.2)
-
-pub both_torn : (at count more : ℕ) (old mid new : List ℕ → Type 0) → Follows (Torn at count) old mid → Follows (Torn (at + count) more) mid new → (c : List ℕ) → new c → TornFrom at (count + more) old c
+-- the images of a write behind others
+pub both_torn : (at count more : ℕ) (old mid new : List ℕ → Type 0) → ((c : List ℕ) → mid c → TornFrom at count old c) → Follows (Torn (at + count) more) mid new → (c : List ℕ) → new c → TornFrom at (count + more) old c
 both_torn at count more old mid new first second c left =
     let later = second c left in
     let from = first later.0 later.1 in (from.0, from.1, torn_both at count more from.0 later.0 c from.2 later.2)
@@ -62,6 +59,16 @@ written_torn f bytes at le =
       no_shorter = omega (arith, whole);
       no_longer = omega (arith, whole);
     }
+
+-- a part of a part
+pub part_inside : (xs : List ℕ) (a n k m : ℕ) → k + m ≤ n → part (part xs a n) k m ≡ part xs (a + k) m
+part_inside xs a n k m le =
+    let all = drop a xs in
+    sym (drop-take k m (take n all)) ∙ ap (drop k) (take-take (k + m) n all le) ∙ drop-take k m all ∙ ap (take m) (drop-drop k a xs)
+
+-- a byte of a part
+pub byte_inside : (xs : List ℕ) (a n k : ℕ) → k < n → get_or (part xs a n) k 0 ≡ get_or xs (a + k) 0
+byte_inside xs a n k lt = get_or-take n (drop a xs) k 0 lt ∙ get_or-drop a xs k 0
 
 -- the gate of a slot is a byte of the file
 pub gate_at : (f : List ℕ) (slot : ℕ) → slice_index (slot_at f slot) 0 ≡ get_or f (log_offset slot) 0

@@ -1,5 +1,5 @@
 -- What follows from the definitions on groups in log slots, for the crates above.
-use Rattle.std.specs.Prelude.{◌≡◌, ℕ, ◌+◌, ◌*◌, ◌<◌, ◌≤◌, zero, suc, List, [], ◌∷◌, ◌++◌, length, take, drop, slice_index}
+use Rattle.std.specs.Prelude.{◌≡◌, ℕ, ◌+◌, ◌-◌, ◌*◌, ◌<◌, ◌≤◌, zero, suc, List, [], ◌∷◌, ◌++◌, length, take, drop, slice_index}
 use Rattle.std.proofs.Common.{inl, inr, ⊎_elim, sym, ◌∙◌, ap, subst, refl, arith}
 use Rattle.std.proofs.lemmas.List.{append-nil, drop-drop, drop-take, take-take}
 use Rattle.byteorder.specs.Numbers.{big_number-reads_back}
@@ -14,12 +14,15 @@ use Rattle.rb_log.specs.GroupSlots.{HasGroup, HoldsGroup, GroupsAre, BeginsWithG
 
 -- a slot's unit lies among the bytes of the log
 pub same_slot : (slots : ℕ) (file other : List ℕ) → SameSlots slots file other → (k : ℕ) → k < slots → slot_at other k ≡ slot_at file k
-same_slot slots file other same k lt = sym (among other) ∙ ap (λ (l : List ℕ). take 2048 (drop (2048 * k) l)) same.slots_are ∙ among file
+same_slot slots file other both k lt = sym (among other) ∙ ap (λ (l : List ℕ). take 2048 (drop (2048 * k) l)) both.same ∙ among file
   where
-    among : (h : List ℕ) → take 2048 (drop (2048 * k) (part h (log_offset 0) (2048 * slots))) ≡ slot_at h k
+    size : ℕ
+    size = log_offset slots - log_offset 0
+
+    among : (h : List ℕ) → take 2048 (drop (2048 * k) (part h (log_offset 0) size)) ≡ slot_at h k
     among h =
         let all = drop (log_offset 0) h in
-        sym (drop-take (2048 * k) 2048 (take (2048 * slots) all)) ∙ ap (drop (2048 * k)) (take-take (2048 * k + 2048) (2048 * slots) all (omega arith)) ∙ drop-take (2048 * k) 2048 all
+        sym (drop-take (2048 * k) 2048 (take size all)) ∙ ap (drop (2048 * k)) (take-take (2048 * k + 2048) size all (omega (arith, lt))) ∙ drop-take (2048 * k) 2048 all
         ∙ ap (take 2048) (drop-drop (2048 * k) (log_offset 0) h ∙ ap (λ (i : ℕ). drop i h) (omega arith))
 
 -- one group more, as a scan finds it

@@ -1,12 +1,13 @@
 -- What the log slots of a file hold where groups of patches are logged. A slot has a unit as in `Slots`.
-use Rattle.std.specs.Prelude.{◌≡◌, ◌≢◌, ◌⊎◌, ℕ, ◌+◌, ◌-◌, ◌*◌, ◌<◌, ◌≤◌, List, [], ◌∷◌, ◌++◌, length, take, replicate, slice_index, Bool, false}
+use Rattle.std.specs.Prelude.{◌≡◌, ◌≢◌, ◌⊎◌, ℕ, ◌+◌, ◌-◌, ◌*◌, ◌<◌, ◌≤◌, List, [], ◌∷◌, ◌++◌, length, take, drop, replicate, get_or, slice_index, Bool, true, false}
 use Rattle.std.specs.List.{AllByRecursion}
 use Rattle.byteorder.specs.Endian.{big_bytes}
 use Rattle.rb_base.specs.Blocks.{AreWithin}
 use Rattle.rb_base.specs.Fields.{part, number_at}
 use Rattle.rb_base.specs.Groups.{Patch, group_length, IsGroup}
 use Rattle.rb_group.specs.Spelling.{group_bytes, Spells}
-use Rattle.rb_layout.specs.Regions.{shape_of}
+use Rattle.rb_disk.specs.Ranges.{SameBut}
+use Rattle.rb_layout.specs.Regions.{log_offset, shape_of}
 use Rattle.rb_layout.specs.declared.layout.Layout.{Layout}
 use Rattle.rb_log.specs.Slots.{slot_at, SameOutside}
 
@@ -52,6 +53,20 @@ group_unit gate number group =
     gate ∷ 0 ∷ big_bytes 2 (group_length group) ++ 0 ∷ 0 ∷ 0 ∷ 0 ∷ big_bytes 8 number ++ group_bytes group
     ++ replicate (2032 - group_length group) 0
 
+-- Groups are written to the slots of a file from `end` on, in runs of 32. Each body is there, each gate within a run is
+-- open, and the gate after the last group is closed. The first gate of each run has any byte, all else stays.
+pub record AreStaged (end : ℕ) (groups : List (List Patch)) (file c : List ℕ) : Type 0 where
+  pub others : SameBut (log_offset end) (log_offset (end + length groups) + 1) file c
+  pub bodies : (k : ℕ) (d : List Patch) → k < length groups
+      → part c (log_offset (end + k) + 1) 2047 ≡ drop 1 (group_unit 0 (end + k + 1) (get_or groups k d))
+  pub within : (j i : ℕ) → 0 < i → i < 32 → 32 * j + i < length groups
+      → slice_index c (log_offset (end + (32 * j + i))) ≡ 1
+  pub after : slice_index c (log_offset (end + length groups)) ≡ 0
+
+-- the first gate of each run of so many groups from `end` on is open
+abbrev pub AreOpen : ℕ → ℕ → List ℕ → Type 0
+AreOpen end count c = (j : ℕ) → 32 * j < count → slice_index c (log_offset (end + 32 * j)) ≡ 1
+
 -- An image of a flush: its log has the groups of before and those of some number of its first units, 32 to a unit and the
 -- last with fewer. Outside the log it is as an image of before.
 pub record FlushedSome (image : List ℕ → Type 0) (l : Layout) (groups pending : List (List Patch)) (c : List ℕ) : Type 0 where
@@ -65,6 +80,10 @@ pub record DroppedSome (image : List ℕ → Type 0) (l : Layout) (groups : List
   pub outside : (d : List ℕ) × image d × SameOutside l.log d c
   pub log : GroupsAre l c 0 groups ⊎ GroupsAre l c 0 (take count groups)
 
+-- bytes are those of a file from a slot on
+abbrev pub AreFrom : List ℕ → ℕ → List ℕ → Type 0
+AreFrom file slot bytes = bytes ≡ part file (log_offset slot) (length bytes)
+
 -- what a log of groups is at a moment
 pub record LogState : Type 0 where
   pub layout : Layout
@@ -74,11 +93,17 @@ pub record LogState : Type 0 where
   pub pending : List (List Patch)
   -- whether a scan has found the end
   pub scanned : Bool
+  -- what a scan has read ahead: bytes of the units from slot `used` on
+  pub ahead : List ℕ
 
--- What the log has in memory: room for as many groups as there are slots, of which one stays free, and 32 units.
-pub record IsLogMemory (l : Layout) (used : ℕ) (pending : List (List Patch)) (scanned : Bool) (buffer : List ℕ) (room : ℕ) : Type 0 where
+-- What the log has in memory: room for as many groups as there are slots, of which one stays free, and 32 units. Before
+-- the end is found the last of them are read ahead.
+pub record IsLogMemory (l : Layout) (used : ℕ) (pending : List (List Patch)) (scanned : Bool) (buffer : List ℕ) (ahead room : ℕ) : Type 0 where
   pub below : used + length pending < l.log
   pub enough : l.log ≤ room
   pub each : AllByRecursion (IsLoggable l) pending
   pub none : scanned ≡ false → pending ≡ []
   pub units : length buffer ≡ 65536
+  pub few : ahead ≤ 32
+  pub within : used + ahead < l.log
+  pub ended : scanned ≡ true → ahead ≡ 0

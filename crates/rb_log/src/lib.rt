@@ -3,7 +3,6 @@
 
 mod flush;
 mod log;
-mod steps;
 mod unit;
 
 pub use log::Log;

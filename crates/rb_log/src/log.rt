@@ -1,27 +1,24 @@
 //! `Log`: the groups of patches in the log slots of a file. A store scans it at opening, and flushes to it what
 //! changes the blocks.
-ghost use Rattle.std.specs.Prelude.{◌≡◌, ◌≤◌, ◌<◌, ◌+◌, ◌++◌, ◌↔◌, [], ◌∷◌, ℕ, List, true, false, take, length, IsTrue, IsErrOf, slice_index_or, IfOk, IfErr, IfSome, IfNone, OnOk, OnErr};
+ghost use Rattle.std.specs.Prelude.{◌≡◌, ◌≤◌, ◌<◌, ◌+◌, ◌++◌, ◌↔◌, [], ◌∷◌, ℕ, List, true, false, take, length, IsTrue, IsErrOf, slice_index, slice_index_or, IfOk, IfErr, IfSome, IfNone, OnOk, OnErr};
 ghost use Rattle.rb_base.specs.Blocks.{AreWithin};
 ghost use Rattle.rb_base.specs.Counts.{IsCounted, IsCountedAs, err_is, is_failed};
-ghost use Rattle.rb_base.specs.Fields.{overwritten};
 ghost use Rattle.rb_base.specs.Groups.{Patch, IsGroup};
 ghost use Rattle.rb_base.specs.Moments.{LeavesOnly};
 ghost use Rattle.rb_disk.specs.DiskModel.{Only};
 ghost use Rattle.rb_disk.specs.Moments.{Rests};
+ghost use Rattle.rb_disk.specs.Ranges.{SameBut};
 ghost use Rattle.rb_layout.specs.Regions.{file_length, log_offset, shape_of};
-ghost use Rattle.rb_log.specs.GroupSlots.{HoldsGroup, GroupsAre, IsFaultyGroup, DroppedSome, FlushedSome, IsLoggable, group_unit};
-ghost use Rattle.rb_log.specs.Slots.{slot_at, SameSlots, SameOutside, SameBut, TornFrom};
+ghost use Rattle.rb_log.specs.GroupSlots.{AreFrom, HoldsGroup, GroupsAre, IsFaultyGroup, DroppedSome, FlushedSome, IsLoggable, group_unit};
+ghost use Rattle.rb_log.specs.Slots.{slot_at, SameSlots, SameOutside};
 
 use crate::flush::write_groups;
-use crate::unit::read_group;
+use crate::unit::{UNITS, group_of, read_ahead};
 use rb_base::{Failed, Group, Lsn, OpenFault, UNIT};
-use rb_disk::Disk;
+use rb_disk::{Disk, write_synced};
 use rb_layout::{Head, Layout};
 use std::alloc::Global;
 use std::marker::Model;
-
-/// How many units one write of a flush has at most.
-const UNITS: usize = 32;
 
 /// The log of a file. It is scanned to its end first; from then on groups are appended, and flushed some at a time.
 #[derive(Drop)]
@@ -31,31 +28,21 @@ pub struct Log {
     // What waits for a flush. Its room is taken when the log is opened.
     pending: Vec<Group>,
     scanned: bool,
+    // Units for the calls of a scan or a flush.
     buffer: Vec<u8>,
+    // How many units at the buffer's end are read ahead, from slot `used` on.
+    ahead: u32,
 }
 
 impl Model for Log {
-    ghost use Rattle.std.specs.Prelude.{vec_capacity};
+    ghost use Rattle.std.specs.Prelude.{◌-◌, ◌*◌, drop, vec_capacity};
     ghost use Rattle.rb_log.specs.GroupSlots.{LogState, IsLogMemory};
 
     ghost Value = { LogState };
 
-    ghost view = { λ a. record { layout = a.layout; used = a.used; pending = a.pending.items; scanned = a.scanned } };
+    ghost view = { λ a. record { layout = a.layout; used = a.used; pending = a.pending.items; scanned = a.scanned; ahead = drop (65536 - 2048 * a.ahead) a.buffer.items } };
 
-    ghost invariant = { λ a. IsLogMemory a.layout a.used a.pending.items a.scanned a.buffer.items (vec_capacity a.pending) };
-}
-
-/// Closes a gate. From its sync on no image has what stands behind it in the log.
-fn close_gate<D: Disk>(disk: &mut D, at: u64) -> Result<(), Failed>
-    requires within { D.tells → at + 1 ≤ length (D.content disk.old) }
-    ensures written { D.tells → OnOk result (D.content disk.new ≡ overwritten (D.content disk.old) at (0 ∷ [])) }
-    ensures durable { D.tells → OnOk result (Only (D.content disk.new) (D.image disk.new)) }
-    ensures length { D.tells → length (D.content disk.new) ≡ length (D.content disk.old) }
-    ensures any_moment { D.tells → LeavesOnly D.moment D.image_since disk.old disk.new (TornFrom at 1 (D.image disk.old)) }
-    ensures counted { IsCounted (D.faults disk.old) (D.faults disk.new) result }
-{
-    disk.write_at(at, &[0])?;
-    disk.sync()
+    ghost invariant = { λ a. IsLogMemory a.layout a.used a.pending.items a.scanned a.buffer.items a.ahead (vec_capacity a.pending) };
 }
 
 impl Log {
@@ -69,7 +56,7 @@ impl Log {
     ) -> Result<Log, OpenFault>
         requires slot { head.slot ≡ 0 }
         requires number { head.number ≡ 1 }
-        ensures opened { IfOk result (λ log. log ≡ record { layout = layout.now; used = 0; pending = []; scanned = false }) }
+        ensures opened { IfOk result (λ log. log ≡ record { layout = layout.now; used = 0; pending = []; scanned = false; ahead = [] }) }
         ensures memory { IfErr result (λ e. e ≡ OpenFault.NoMemory) }
         ensures untouched { _disk.new ≡ _disk.old }
     {
@@ -85,15 +72,17 @@ impl Log {
             pending,
             scanned: false,
             buffer,
+            ahead: 0,
         })
     }
 
     /// The group of a number, one more than the last. None is the end: a closed gate, or the last slot, which stays
-    /// free. NotAStore is an open slot without such a group.
+    /// free. NotAStore is an open slot without such a group. It reads units ahead, which must be those of this file.
     pub fn scan<D: Disk>(&mut self, disk: &mut D, next: Lsn) -> Result<Option<Group>, OpenFault>
         requires before { self.old.scanned ≡ false }
         requires next { next ≡ self.old.used + 1 }
         requires whole { D.tells → length (D.content disk.old) ≡ file_length self.old.layout }
+        requires ahead { D.tells → AreFrom (D.content disk.old) self.old.used self.old.ahead }
         ensures found { D.tells → IfOk result (λ o. IfSome o (λ g. HoldsGroup self.old.layout (slot_at (D.content disk.old) self.old.used) next g)) }
         ensures valid { IfOk result (λ o. IfSome o (λ g. IsLoggable self.old.layout g)) }
         ensures more { IfOk result (λ o. IfSome o (λ g. self.old.used + 1 < self.old.layout.log)) }
@@ -101,21 +90,29 @@ impl Log {
         ensures faulty { D.tells → IsErrOf result OpenFault.NotAStore → IsFaultyGroup self.old.layout (D.content disk.old) self.old.used }
         ensures no_memory { IsErrOf result OpenFault.NoMemory → ⊥ }
         ensures counted { IsCountedAs (D.faults disk.old) (D.faults disk.new) (err_is is_failed result) }
-        ensures one_more { IfOk result (λ o. IfSome o (λ g. self.new ≡ record self.old { used = self.old.used + 1 })) }
-        ensures ended { IfOk result (λ o. IfNone o (self.new ≡ record self.old { scanned = true })) }
+        ensures one_more { IfOk result (λ o. IfSome o (λ g. self.new ≡ record self.old { used = self.old.used + 1; ahead = self.new.ahead })) }
+        ensures ahead { D.tells → AreFrom (D.content disk.old) self.new.used self.new.ahead }
+        ensures ended { IfOk result (λ o. IfNone o (self.new ≡ record self.old { scanned = true; ahead = [] })) }
         ensures stays { OnErr result (self.new ≡ self.old) }
         ensures same { D.tells → Rests D.content D.image D.moment D.image_since disk.old disk.new }
         ensures untouched { self.old.used + 1 ≡ self.old.layout.log → disk.new ≡ disk.old }
     {
         if self.used + 1 == self.layout.log {
             self.scanned = true;
+            self.ahead = 0;
             return Ok(None);
         }
-        let found = read_group(disk, &self.layout, self.used, next, &mut self.buffer)?;
-        let Some(group) = found else {
+        let Ok(ahead) = read_ahead(disk, &self.layout, self.used, &mut self.buffer, self.ahead)
+        else {
+            return Err(OpenFault::Failed);
+        };
+        let at = UNIT * (UNITS - ahead as usize);
+        let Some(group) = group_of(&self.layout, &self.buffer[at..at + UNIT], next)? else {
             self.scanned = true;
+            self.ahead = 0;
             return Ok(None);
         };
+        self.ahead = ahead - 1;
         self.used += 1;
         Ok(Some(group))
     }
@@ -156,13 +153,14 @@ impl Log {
         self.pending.push_reserved(group.copied());
     }
 
-    /// Writes the groups that wait behind those of the log, up to 32 as one run of slots, and one run after another. After
-    /// an Ok every image has all of them; a crash before leaves a number of whole runs.
+    /// Writes the groups that wait behind those of the log, in runs of up to 32 slots, with two syncs. After an Ok
+    /// every image has all of them; a crash before leaves a number of whole runs. Where none waits it makes no call.
     pub fn flush<D: Disk>(&mut self, disk: &mut D) -> Result<(), Failed>
         requires whole { D.tells → length (D.content disk.old) ≡ file_length self.old.layout }
         requires synced { D.tells → (c : List ℕ) → D.image disk.old c → SameSlots self.old.layout.log (D.content disk.old) c }
         ensures written { D.tells → OnOk result ((groups : List (List Patch)) → length groups ≡ self.old.used → GroupsAre self.old.layout (D.content disk.old) 0 groups → GroupsAre self.old.layout (D.content disk.new) 0 (groups ++ self.old.pending)) }
         ensures units { D.tells → OnOk result ((k : ℕ) (d : List Patch) → k < length self.old.pending → slot_at (D.content disk.new) (self.old.used + k) ≡ group_unit 1 (self.old.used + k + 1) (slice_index_or self.old.pending k d)) }
+        ensures closed { D.tells → OnOk result (0 < length self.old.pending → slice_index (slot_at (D.content disk.new) (self.old.used + length self.old.pending)) 0 ≡ 0) }
         ensures others { D.tells → OnOk result (SameBut (log_offset self.old.used) (log_offset (self.old.used + length self.old.pending) + 1) (D.content disk.old) (D.content disk.new)) }
         ensures outside { D.tells → OnOk result (SameOutside self.old.layout.log (D.content disk.old) (D.content disk.new)) }
         ensures durable { D.tells → OnOk result ((c : List ℕ) → D.image disk.new c → SameSlots self.old.layout.log (D.content disk.new) c) }
@@ -194,6 +192,7 @@ impl Log {
         requires whole { D.tells → length (D.content disk.old) ≡ file_length self.old.layout }
         requires synced { D.tells → (c : List ℕ) → D.image disk.old c → SameSlots self.old.layout.log (D.content disk.old) c }
         ensures dropped { D.tells → OnOk result ((groups : List (List Patch)) → length groups ≡ self.old.used → GroupsAre self.old.layout (D.content disk.old) 0 groups → GroupsAre self.old.layout (D.content disk.new) 0 (take count groups)) }
+        ensures closed { D.tells → OnOk result (slice_index (slot_at (D.content disk.new) count) 0 ≡ 0) }
         ensures others { D.tells → OnOk result (SameBut (log_offset count) (log_offset count + 1) (D.content disk.old) (D.content disk.new)) }
         ensures outside { D.tells → OnOk result (SameOutside self.old.layout.log (D.content disk.old) (D.content disk.new)) }
         ensures durable { D.tells → OnOk result (Only (D.content disk.new) (D.image disk.new)) }
@@ -203,7 +202,7 @@ impl Log {
         ensures stays { OnErr result (self.new ≡ self.old) }
         ensures counted { IsCounted (D.faults disk.old) (D.faults disk.new) result }
     {
-        close_gate(disk, self.layout.log_at(count))?;
+        write_synced(disk, self.layout.log_at(count), &[0])?;
         self.used = count;
         Ok(())
     }

@@ -9,7 +9,7 @@ use Rattle.rb_base.proofs.Each.{all_push}
 use Rattle.rb_layout.specs.Regions.{shape_of}
 use Rattle.rb_layout.specs.declared.layout.Layout.{Layout}
 use Rattle.rb_log.specs.GroupLaws.{begins_more_group, begins_end_group}
-use Rattle.rb_log.specs.GroupSlots.{LogState, GroupsAre, BeginsWithGroups, HoldsGroup, IsLoggable}
+use Rattle.rb_log.specs.GroupSlots.{LogState, AreFrom, GroupsAre, BeginsWithGroups, HoldsGroup, IsLoggable}
 use Rattle.rb_log.specs.Slots.{slot_at}
 use Rattle.rb_plainstore.specs.Plain.{PlainState}
 use Rattle.rb_store.specs.Laps.{committed_groups}
@@ -24,14 +24,14 @@ stands_behind l file groups waiting used group e lt holds begins =
 
 -- it waits
 scan_waits : (told : Type 0) (l : Layout) (file : List ℕ) (before now : PlainState) (old new : LogState) (waiting left : List (List Patch)) (group : List Patch) → (scanned : HasScanned told l file before old waiting) → old.used ≡ length scanned.groups + length waiting
-    → new ≡ record old { used = old.used + 1 } → old.used + 1 < l.log → IsLoggable l group → (told → HoldsGroup l (slot_at file old.used) (old.used + 1) group) → patches_block (commit_block (shape_of l)) group ≡ false → now ≡ before → left ≡ waiting ++ group ∷ []
+    → new ≡ record old { used = old.used + 1; ahead = new.ahead } → (told → AreFrom file new.used new.ahead) → old.used + 1 < l.log → IsLoggable l group → (told → HoldsGroup l (slot_at file old.used) (old.used + 1) group) → patches_block (commit_block (shape_of l)) group ≡ false → now ≡ before → left ≡ waiting ++ group ∷ []
     → HasScanned told l file now new left
-scan_waits told l file before now old new waiting left group h used log lt valid holds other same more =
+scan_waits told l file before now old new waiting left group h used log ahead lt valid holds other same more =
     let count = length-append waiting (group ∷ []) in
     let long = ap length more in
     record {
       groups = h.groups;
-      log_is = log ∙ ap (λ (x : LogState). record x { used = x.used + 1 }) h.log_is ∙ ap (λ (n : ℕ). record { layout = l; used = n; pending = []; scanned = false }) (omega (arith, count, long));
+      log_is = log ∙ ap (λ (x : LogState). record x { used = x.used + 1; ahead = new.ahead }) h.log_is ∙ ap (λ (n : ℕ). record { layout = l; used = n; pending = []; scanned = false; ahead = new.ahead }) (omega (arith, count, long));
       shape_is = ap (λ (p : PlainState). p.shape) same ∙ h.shape_is;
       number = ap (λ (p : PlainState). p.number) same ∙ h.number;
       blocks = ap (λ (p : PlainState). p.blocks) same ∙ h.blocks;
@@ -41,13 +41,14 @@ scan_waits told l file before now old new waiting left group h used log lt valid
       few = omega (arith, count, long, used, lt);
       each = subst (λ (gs : List (List Patch)). AllByRecursion (IsLoggable l) gs) (sym more) (all_push (IsLoggable l) waiting group h.each valid);
       begins = λ t. subst (λ (gs : List (List Patch)). BeginsWithGroups l file 0 (h.groups ++ gs)) (sym more) (stands_behind l file h.groups waiting old.used group used lt (holds t) (h.begins t));
+      ahead = ahead;
     }
 
 -- it is a commit, and all that wait are put into the blocks
 scan_commits : (told : Type 0) (l : Layout) (file : List ℕ) (before now : PlainState) (old new : LogState) (waiting left : List (List Patch)) (group : List Patch) → (scanned : HasScanned told l file before old waiting) → old.used ≡ length scanned.groups + length waiting
-    → new ≡ record old { used = old.used + 1 } → old.used + 1 < l.log → (told → HoldsGroup l (slot_at file old.used) (old.used + 1) group) → patches_block (commit_block (shape_of l)) group ≡ true → now.shape ≡ before.shape
+    → new ≡ record old { used = old.used + 1; ahead = new.ahead } → (told → AreFrom file new.used new.ahead) → old.used + 1 < l.log → (told → HoldsGroup l (slot_at file old.used) (old.used + 1) group) → patches_block (commit_block (shape_of l)) group ≡ true → now.shape ≡ before.shape
     → now.blocks ≡ after_groups (before.number + 1) (waiting ++ group ∷ []) before.blocks → now.number ≡ before.number + length waiting + 1 → left ≡ [] → HasScanned told l file now new left
-scan_commits told l file before now old new waiting left group h used log lt holds commit shape blocks number none =
+scan_commits told l file before now old new waiting left group h used log ahead lt holds commit shape blocks number none =
     let all = h.groups ++ (waiting ++ group ∷ []) in
     let behind = length-append waiting (group ∷ []) in
     let count = length-append h.groups (waiting ++ group ∷ []) in
@@ -55,7 +56,7 @@ scan_commits told l file before now old new waiting left group h used log lt hol
     let whole_all : all ++ left ≡ all = ap (λ (gs : List (List Patch)). all ++ gs) none ∙ append-nil all in
     record {
       groups = all;
-      log_is = log ∙ ap (λ (x : LogState). record x { used = x.used + 1 }) h.log_is ∙ ap (λ (n : ℕ). record { layout = l; used = n; pending = []; scanned = false }) (omega (arith, count, behind, nothing));
+      log_is = log ∙ ap (λ (x : LogState). record x { used = x.used + 1; ahead = new.ahead }) h.log_is ∙ ap (λ (n : ℕ). record { layout = l; used = n; pending = []; scanned = false; ahead = new.ahead }) (omega (arith, count, behind, nothing));
       shape_is = shape ∙ h.shape_is;
       number = omega (arith, number, h.number, count, behind);
       blocks = blocks ∙ ap (λ (n : ℕ). after_groups (n + 1) (waiting ++ group ∷ []) before.blocks) h.number ∙ ap (λ (b : List (List ℕ)). after_groups (length h.groups + 1) (waiting ++ group ∷ []) b) h.blocks
@@ -65,27 +66,28 @@ scan_commits told l file before now old new waiting left group h used log lt hol
       few = omega (arith, count, behind, nothing, used, lt);
       each = subst (λ (gs : List (List Patch)). AllByRecursion (IsLoggable l) gs) (sym none) tt;
       begins = λ t. subst (λ (gs : List (List Patch)). BeginsWithGroups l file 0 gs) (sym whole_all) (stands_behind l file h.groups waiting old.used group used lt (holds t) (h.begins t));
+      ahead = ahead;
     }
 
 -- one group more
 pub scan_more : (told : Type 0) (l : Layout) (file : List ℕ) (before now : PlainState) (old new : LogState) (waiting left : List (List Patch)) (group : List Patch) → HasScanned told l file before old waiting
-    → new ≡ record old { used = old.used + 1 } → old.used + 1 < l.log → IsLoggable l group → (told → HoldsGroup l (slot_at file old.used) (old.used + 1) group) → now.shape ≡ before.shape → Takes (commit_block (shape_of l)) before now waiting group left
+    → new ≡ record old { used = old.used + 1; ahead = new.ahead } → (told → AreFrom file new.used new.ahead) → old.used + 1 < l.log → IsLoggable l group → (told → HoldsGroup l (slot_at file old.used) (old.used + 1) group) → now.shape ≡ before.shape → Takes (commit_block (shape_of l)) before now waiting group left
     → HasScanned told l file now new left
-scan_more told l file before now old new waiting left group h log lt valid holds shape takes = from (patches_block (commit_block (shape_of l)) group) refl
+scan_more told l file before now old new waiting left group h log ahead lt valid holds shape takes = from (patches_block (commit_block (shape_of l)) group) refl
   where
     used : old.used ≡ length h.groups + length waiting
     used = ap (λ (x : LogState). x.used) h.log_is
 
     from : (b : Bool) → patches_block (commit_block (shape_of l)) group ≡ b → HasScanned told l file now new left
-    from true e = scan_commits told l file before now old new waiting left group h used log lt holds e shape (takes.blocks e) (takes.number e) (takes.none_left e)
-    from false e = scan_waits told l file before now old new waiting left group h used log lt valid holds e (takes.waits e).0 (takes.waits e).1
+    from true e = scan_commits told l file before now old new waiting left group h used log ahead lt holds e shape (takes.blocks e) (takes.number e) (takes.none_left e)
+    from false e = scan_waits told l file before now old new waiting left group h used log ahead lt valid holds e (takes.waits e).0 (takes.waits e).1
 
 -- the end of the log
-pub scan_end : (told : Type 0) (l : Layout) (file : List ℕ) (plain : PlainState) (old new : LogState) (waiting : List (List Patch)) → HasScanned told l file plain old waiting → new ≡ record old { scanned = true } → (told → GroupsAre l file old.used [])
+pub scan_end : (told : Type 0) (l : Layout) (file : List ℕ) (plain : PlainState) (old new : LogState) (waiting : List (List Patch)) → HasScanned told l file plain old waiting → new ≡ record old { scanned = true; ahead = [] } → (told → GroupsAre l file old.used [])
     → HasScannedAll told l file plain new waiting
 scan_end told l file plain old new waiting h log ended = record {
   groups = h.groups;
-  log_is = log ∙ ap (λ (x : LogState). record x { scanned = true }) h.log_is;
+  log_is = log ∙ ap (λ (x : LogState). record x { scanned = true; ahead = [] }) h.log_is;
   shape_is = h.shape_is;
   number = h.number;
   blocks = h.blocks;

@@ -6,7 +6,7 @@ use Rattle.rb_base.specs.Groups.{Patch}
 use Rattle.rb_disk.specs.DiskModel.{Only}
 use Rattle.rb_layout.specs.Regions.{shape_of}
 use Rattle.rb_layout.specs.declared.layout.Layout.{Layout}
-use Rattle.rb_log.specs.GroupSlots.{LogState, GroupsAre, BeginsWithGroups, IsLoggable}
+use Rattle.rb_log.specs.GroupSlots.{LogState, AreFrom, GroupsAre, BeginsWithGroups, IsLoggable}
 use Rattle.rb_plainstore.specs.Plain.{PlainState}
 use Rattle.rb_store.specs.Laps.{IsLap, committed_groups}
 
@@ -14,7 +14,7 @@ use Rattle.rb_store.specs.Laps.{IsLap, committed_groups}
 -- it wait. The file begins with them all, where it is told.
 pub record HasScanned (told : Type 0) (l : Layout) (file : List ℕ) (plain : PlainState) (log : LogState) (waiting : List (List Patch)) : Type 0 where
   pub groups : List (List Patch)
-  pub log_is : log ≡ record { layout = l; used = length groups + length waiting; pending = []; scanned = false }
+  pub log_is : log ≡ record { layout = l; used = length groups + length waiting; pending = []; scanned = false; ahead = log.ahead }
   pub shape_is : plain.shape ≡ shape_of l
   pub number : plain.number ≡ length groups
   pub blocks : plain.blocks ≡ after_groups 1 groups (fresh_blocks (shape_of l))
@@ -22,6 +22,7 @@ pub record HasScanned (told : Type 0) (l : Layout) (file : List ℕ) (plain : Pl
   pub few : length groups + length waiting < l.log
   pub each : AllByRecursion (IsLoggable l) waiting
   pub begins : told → BeginsWithGroups l file 0 (groups ++ waiting)
+  pub ahead : told → AreFrom file log.used log.ahead
 
 -- One more group was taken: it waits, or, being a commit, all that wait are put into the blocks.
 pub record Takes (commit : ℕ) (before now : PlainState) (waiting : List (List Patch)) (group : List Patch) (left : List (List Patch)) : Type 0 where
@@ -33,7 +34,7 @@ pub record Takes (commit : ℕ) (before now : PlainState) (waiting : List (List 
 -- The log is scanned to its end, as `HasScanned` says: the file has these groups and no more.
 pub record HasScannedAll (told : Type 0) (l : Layout) (file : List ℕ) (plain : PlainState) (log : LogState) (waiting : List (List Patch)) : Type 0 where
   pub groups : List (List Patch)
-  pub log_is : log ≡ record { layout = l; used = length groups + length waiting; pending = []; scanned = true }
+  pub log_is : log ≡ record { layout = l; used = length groups + length waiting; pending = []; scanned = true; ahead = [] }
   pub shape_is : plain.shape ≡ shape_of l
   pub number : plain.number ≡ length groups
   pub blocks : plain.blocks ≡ after_groups 1 groups (fresh_blocks (shape_of l))
@@ -44,7 +45,7 @@ pub record HasScannedAll (told : Type 0) (l : Layout) (file : List ℕ) (plain :
 -- The file and each image have these groups, of which the last is a commit, and the blocks are those after them.
 pub record HasOpened {D : Type 0} (told : Type 0) (content : D → List ℕ) (image : D → List ℕ → Type 0) (l : Layout) (plain : PlainState) (log : LogState) (disk : D) : Type 0 where
   pub groups : List (List Patch)
-  pub log_is : log ≡ record { layout = l; used = length groups; pending = []; scanned = true }
+  pub log_is : log ≡ record { layout = l; used = length groups; pending = []; scanned = true; ahead = [] }
   pub shape_is : plain.shape ≡ shape_of l
   pub number : plain.number ≡ length groups
   pub blocks : plain.blocks ≡ after_groups 1 groups (fresh_blocks (shape_of l))

@@ -11,6 +11,9 @@ use rb_disk::Disk;
 use rb_layout::{Layout, VERSION};
 use thiserror::Error;
 
+// How many bytes one write has at most.
+const PIECE: usize = 32 * UNIT;
+
 /// Why a file wasn't made.
 #[derive(Clone, Copy, Debug, PartialEq, Eq, Error)]
 pub enum FormatFault {
@@ -47,16 +50,20 @@ pub fn format<D: Disk>(disk: &mut D, layout: &Layout) -> Result<(), FormatFault>
     Ok(())
 }
 
-// Writes all units of a new file into an empty one, in order.
+// Writes all units of a new file into an empty one, in order: the first, and then zeros in pieces.
 fn write_units<D: Disk>(disk: &mut D, layout: &Layout) -> Result<(), Failed>
     requires { D.tells → length (D.content disk.old) ≡ 0 }
     ensures written { D.tells → OnOk result (D.content disk.new ≡ fresh_file VERSION layout.now) }
     ensures counted { IsCounted (D.faults disk.old) (D.faults disk.new) result }
 {
     disk.write_at(0, &first_unit(layout))?;
-    let empty = empty_unit();
-    for unit in 1..layout.length() / UNIT as u64 {
-        disk.write_at(unit * UNIT as u64, &empty)?;
+    let empty = [0; PIECE];
+    let end = layout.length();
+    let mut at = UNIT as u64;
+    while at < end {
+        let count = (end - at).min(PIECE as u64);
+        disk.write_at(at, &empty[..count as usize])?;
+        at += count;
     }
     Ok(())
 }

@@ -3,15 +3,15 @@ ghost use Rattle.std.specs.Prelude.{◌≡◌, ◌≤◌, [], ◌∷◌, replica
 ghost use Rattle.rb_base.specs.Counts.{IsCounted};
 ghost use Rattle.rb_base.specs.Groups.{patch};
 
-use super::{fill_run, put_group, write_groups};
+use super::{fill_run, put_body, write_groups};
 use rb_base::{Failed, Group};
 use rb_disk::Disk;
 use rb_layout::Layout;
 use std::test::Fail;
 
-/// What stands in front of the zeros: gate 1, 11 bytes, number 7, and one patch of block 0, the byte 1 at 416.
-const UNIT_BYTES: &[u8; 27] =
-    b"\x01\0\0\x0b\0\0\0\0\0\0\0\0\0\0\0\x07\0\x01\0\0\0\0\x01\xa0\0\x01\x01";
+/// What stands in front of the zeros: 11 bytes, number 7, and one patch of block 0, the byte 1 at 416. The unit's gate
+/// isn't among them.
+const BODY: &[u8; 26] = b"\0\0\x0b\0\0\0\0\0\0\0\0\0\0\0\x07\0\x01\0\0\0\0\x01\xa0\0\x01\x01";
 
 /// The group of one patch of block 0.
 fn one_patch(byte: u8) -> Group
@@ -94,21 +94,22 @@ impl Disk for Calls {
 }
 
 #[test]
-fn unit_of_one_patch(rt: HostRuntime) {
-    let mut unit = [9; 2048];
-    put_group(&mut unit, 1, 7, &one_patch(1));
-    assert_eq!(rt; &unit[..27], UNIT_BYTES.as_slice());
-    assert_eq!(rt; &unit[27..], [0; 2021].as_slice());
+fn body_of_one_patch(rt: HostRuntime) {
+    let mut bytes = [9; 2048];
+    put_body(&mut bytes, 7, &one_patch(1), 1);
+    assert_eq!(rt; &bytes[..26], BODY.as_slice());
+    assert_eq!(rt; &bytes[26..2047], [0; 2021].as_slice());
+    assert_eq!(rt; bytes[2047], 1);
 }
 
 #[test]
 fn gates_of_a_run(rt: HostRuntime) -> Result<(), Fail> {
     let mut buffer = vec![in rt.alloc(); 9; 65536]?;
     fill_run(&mut buffer, 5, &[one_patch(1), one_patch(2), one_patch(3)]);
-    // The gate, the number, the byte of the patch and the end of each unit, and what lies behind them.
-    let first = [(0, 0), (15, 5), (26, 1), (2047, 0)];
-    let second = [(2048, 1), (2063, 6), (2074, 2), (4095, 0)];
-    let third = [(4096, 1), (4111, 7), (4122, 3), (6143, 0)];
+    // The number, the byte of the patch, the end of each unit and the gate after it, and what lies behind them.
+    let first = [(14, 5), (25, 1), (2046, 0), (2047, 1)];
+    let second = [(2062, 6), (2073, 2), (4094, 0), (4095, 1)];
+    let third = [(4110, 7), (4121, 3), (6142, 0), (6143, 0)];
     for row in [
         first,
         second,
@@ -151,25 +152,21 @@ fn flush_of(rt: &HostRuntime, count: u8, fails_at: usize) -> Result<(Calls, bool
 }
 
 /// The calls of a flush of 34 groups.
-const TWO_RUNS: [Call; 10] = [
-    Call::Write(14337, 65535, 0),
-    Call::Write(79872, 1, 0),
+const TWO_RUNS: [Call; 6] = [
+    Call::Write(14337, 65536, 0),
+    Call::Write(79873, 4096, 0),
     Call::Sync,
     Call::Write(14336, 1, 1),
-    Call::Sync,
-    Call::Write(79873, 4095, 0),
-    Call::Write(83968, 1, 0),
-    Call::Sync,
     Call::Write(79872, 1, 1),
     Call::Sync,
 ];
 
 #[test]
 fn two_runs_in_order(rt: HostRuntime) -> Result<(), Fail> {
-    for fails_at in 0..11 {
+    for fails_at in 0..7 {
         let (disk, is_ok) = flush_of(&rt, 34, fails_at)?;
-        assert_eq!(rt; is_ok, fails_at == 10);
-        let made = 10.min(fails_at + 1);
+        assert_eq!(rt; is_ok, fails_at == 6);
+        let made = 6.min(fails_at + 1);
         assert_eq!(rt; disk.count, made);
         assert_eq!(rt; &disk.made[..made], &TWO_RUNS[..made]);
     }
@@ -178,7 +175,7 @@ fn two_runs_in_order(rt: HostRuntime) -> Result<(), Fail> {
 
 #[test]
 fn whole_runs_and_none(rt: HostRuntime) -> Result<(), Fail> {
-    for (count, calls) in [(0, 0), (1, 5), (32, 5), (33, 10)] {
+    for (count, calls) in [(0, 0), (1, 4), (32, 4), (33, 6), (60, 6)] {
         let (disk, is_ok) = flush_of(&rt, count, 10)?;
         assert!(rt; is_ok);
         assert_eq!(rt; disk.count, calls);

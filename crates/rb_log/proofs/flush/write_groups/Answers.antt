@@ -1,38 +1,77 @@
-use Rattle.std.proofs.Common.{◌+◌, ◌-◌, take, drop, refl, ◌∙◌, arith}
-use Rattle.rb_log.proofs.GroupRuns.{NextRun, no_run, runs_more, run_moment, run_done}
+use Rattle.std.proofs.Common.{Result, Ok, Err, ◌+◌, ◌∙◌, length, arith}
+use Rattle.std.proofs.lemmas.Bool.Decides.{nat_tests}
+use Rattle.std.proofs.lemmas.Result.{on_ok_weaker}
+use Rattle.std.specs.Result.{OnOk}
+use Rattle.rb_base.specs.Moments.{begun, weaker, joined}
+use Rattle.rb_log.specs.GroupSlots.{AreStaged, AreOpen}
+use Rattle.rb_log.proofs.GroupFlush.{FlushPlan, nothing_flushed, flushed_outside, flushed_units, flushed_log, one_interrupted, two_interrupted}
+use Rattle.rb_log.proofs.Writes.{gate_at}
 use Rattle.rb_log.proofs.flush.write_groups.Given.{Over}
-use Rattle.rb_log.proofs.flush.write_groups.Goals.{After-write_run}
+use Rattle.rb_log.proofs.flush.write_groups.Goals.{After-stage}
 use Rattle.rb_log.proofs.flush.write_groups.Goals as goal
 
-pub loop-done-init : goal.loop-done-init
-loop-done-init g c = record {
-  runs = (0, omega arith);
-  so_far = λ told. no_run g.D.Disk.content g.D.Disk.image g.D.Disk.moment g.D.Disk.image_since c.args.layout.now c.args.used c.args.groups.now c.args.disk.now (λ f left. g.met.D.Disk.only_now c.args.disk.now f told left) (c.requires.synced told) (c.requires.whole told);
-  still = refl;
+pub returns-then-is_empty-clause-any_moment : goal.returns-then-is_empty-clause-any_moment
+returns-then-is_empty-clause-any_moment g c told before counts log =
+    let disk = c.args.disk.now in
+    begun g.D.Disk.moment g.D.Disk.image_since disk _
+    (λ d left. nothing_flushed c.args.layout.now (g.D.Disk.content disk) (g.D.Disk.image disk) before c.args.groups.now (c.requires.synced told) log d (g.met.D.Disk.only_now disk d told left))
+
+-- what is written where
+planned : (g : Over) (c : After-stage g) → g.D.Disk.tells → FlushPlan c.args.layout.now c.args.used c.args.groups.now (g.D.Disk.content c.args.disk.now)
+planned g c told = record {
+  room = c.requires.room;
+  some = grind (arith, nat_tests, c.is_empty.ensures, c.if-is_empty.false);
+  each = c.requires.each;
+  whole = c.requires.whole told;
 }
 
--- the run that is written
-next : (g : Over) (c : After-write_run g) → NextRun c.args.groups.now (take (c.min-end.result - c.loop-done.done) (drop c.loop-done.done c.args.groups.now)) c.loop-done.done c.min-end.result c.loop-done.invariant.runs.0
-next g c = record {
-  behind = c.loop-done-test.true;
-  whole = c.loop-done.invariant.runs.1;
-  stop = omega (arith, c.min-end.ensures);
-  run_is = refl;
-}
+pub returns-in_err-stage-clause-any_moment : goal.returns-in_err-stage-clause-any_moment
+returns-in_err-stage-clause-any_moment g c told before counts log =
+    let disk = c.args.disk.now in
+    let plan = planned g (goal.at.returns-in_err-stage-clause-any_moment g c).After-stage told in
+    let one = one_interrupted _ _ _ _ plan before counts log (g.D.Disk.image disk) (c.requires.synced told) in
+    weaker g.D.Disk.moment g.D.Disk.image_since disk c.stage.new.disk _ _ one (c.stage.ensures.any_moment told)
 
-pub returns-in_err-write_run-clause-any_moment : goal.returns-in_err-write_run-clause-any_moment
-returns-in_err-write_run-clause-any_moment g c told =
-    let here = next g (goal.at.returns-in_err-write_run-clause-any_moment g c).After-write_run in
-    run_moment g.D.Disk.content g.D.Disk.image g.D.Disk.moment g.D.Disk.image_since c.args.layout.now c.args.used c.args.groups.now _ c.loop-done.done c.min-end.result c.loop-done.invariant.runs.0 here c.args.disk.now c.loop-done.disk c.write_run.new.disk
-    (c.loop-done.invariant.so_far told) (c.write_run.ensures.any_moment told)
+-- step two opens each first gate or doesn't
+pub returns-clause-any_moment : goal.returns-clause-any_moment
+returns-clause-any_moment g c told before counts log =
+    let disk = c.args.disk.now in
+    let mid = c.stage.new.disk in
+    let new = c.open_gates.new.disk in
+    let image = g.D.Disk.image disk in
+    let file = g.D.Disk.content disk in
+    let plan = planned g (goal.at.returns-clause-any_moment g c).After-stage told in
+    let one = one_interrupted _ _ _ _ plan before counts log image (c.requires.synced told) in
+    let two = two_interrupted _ _ _ _ plan before counts log image (g.met.D.Disk.reads_an_image disk told) in
+    let first = weaker g.D.Disk.moment g.D.Disk.image_since disk mid _ _ one (c.stage.ensures.any_moment told) in
+    let second = weaker g.D.Disk.moment g.D.Disk.image_since mid new _ _ two (c.open_gates.ensures.any_moment told file (c.in_ok-stage.ensures.staged told)) in
+    joined g.D.Disk.moment g.D.Disk.image_since disk mid new _ first second
 
-pub loop-done-preserved : goal.loop-done-preserved
-loop-done-preserved g c =
-    let here = next g (goal.at.loop-done-preserved g c).After-write_run in
-    let did = c.in_ok-write_run.ensures in record {
-      runs = (c.loop-done.invariant.runs.0 + 1, runs_more c.args.groups.now _ c.loop-done.done c.min-end.result c.loop-done.invariant.runs.0 here);
-      so_far = λ told.
-          run_done g.D.Disk.content g.D.Disk.image g.D.Disk.moment g.D.Disk.image_since c.args.layout.now c.args.used c.args.groups.now _ c.loop-done.done c.min-end.result c.loop-done.invariant.runs.0 here c.args.disk.now c.loop-done.disk c.write_run.new.disk
-          (c.loop-done.invariant.so_far told) (g.met.D.Disk.reads_an_image c.args.disk.now told) (did.written told) (did.units told) (did.others told) (did.outside told) (did.durable told) (did.whole told) (did.any_moment told);
-      still = did.counted.still ∙ c.loop-done.invariant.still;
-    }
+on_ok_both : {T E P Q R : Type 0} (r : Result T E) → (P → Q → R) → OnOk r P → OnOk r Q → OnOk r R
+on_ok_both (Ok x) both p q = both p q
+on_ok_both (Err e) both p q = tt
+
+-- after both all gates are open
+ended : (g : Over) (c : goal.After-open_gates g) → g.D.Disk.tells
+    → OnOk c.open_gates.result (AreStaged c.args.used c.args.groups.now (g.D.Disk.content c.args.disk.now) (g.D.Disk.content c.open_gates.new.disk) × AreOpen c.args.used (length c.args.groups.now) (g.D.Disk.content c.open_gates.new.disk))
+ended g c told = on_ok_both c.open_gates.result (λ staged opened. (staged (g.D.Disk.content c.args.disk.now) (c.in_ok-stage.ensures.staged told), opened)) (c.open_gates.ensures.staged told) (c.open_gates.ensures.opened told)
+
+pub returns-clause-written : goal.returns-clause-written
+returns-clause-written g c told =
+    let plan = planned g (goal.at.returns-clause-written g c).After-stage told in
+    on_ok_weaker c.open_gates.result (λ now before counts log. flushed_log _ _ _ _ plan before counts log (g.D.Disk.content c.open_gates.new.disk) now.0 now.1) (ended g c told)
+
+pub returns-clause-units : goal.returns-clause-units
+returns-clause-units g c told =
+    let plan = planned g (goal.at.returns-clause-units g c).After-stage told in
+    on_ok_weaker c.open_gates.result (λ now. flushed_units _ _ _ _ plan (g.D.Disk.content c.open_gates.new.disk) now.0 now.1) (ended g c told)
+
+pub returns-clause-closed : goal.returns-clause-closed
+returns-clause-closed g c told =
+    let new = g.D.Disk.content c.open_gates.new.disk in
+    on_ok_weaker c.open_gates.result (λ now some. gate_at new (c.args.used + length c.args.groups.now) ∙ now.0.after) (ended g c told)
+
+pub returns-clause-outside : goal.returns-clause-outside
+returns-clause-outside g c told =
+    let plan = planned g (goal.at.returns-clause-outside g c).After-stage told in
+    on_ok_weaker c.open_gates.result (λ now. flushed_outside _ _ _ _ plan (g.D.Disk.content c.open_gates.new.disk) now.0) (ended g c told)

@@ -1,9 +1,14 @@
-use Rattle.std.proofs.Common.{◌≡◌, ◌-◌, ◌*◌, ◌++◌, replicate}
-use Rattle.rb_layout.specs.Regions.{identity}
+use Rattle.std.proofs.Common.{◌≡◌, ◌-◌, ◌≤◌, ◌++◌, replicate}
+use Rattle.rb_layout.specs.Regions.{identity, file_length}
 use Rattle.rb_store.proofs.fresh.write_units.Given as goal
 
-abbrev pub invariant-loop-unit : goal.invariant-loop-unit
-invariant-loop-unit g l = record {
-  written : g.D.Disk.tells → g.D.Disk.content l.disk ≡ identity 102 l.layout ++ replicate (2048 * l.unit - 24) 0;
+abbrev pub invariant-loop-at : goal.invariant-loop-at
+invariant-loop-at g l = record {
+  begun : 2048 ≤ l.at;
+  within : l.at ≤ file_length l.layout;
+  written : g.D.Disk.tells → g.D.Disk.content l.disk ≡ identity 102 l.layout ++ replicate (l.at - 24) 0;
   still : g.D.Disk.faults l.disk ≡ g.D.Disk.faults l.fn.disk;
 }
+
+abbrev pub decreases-loop-at : goal.decreases-loop-at
+decreases-loop-at g l = file_length l.layout - l.at

@@ -59,7 +59,7 @@ returns-in-Ok-clause-opened g c =
     } in is in
     record {
       groups = h.groups;
-      log_is = c.in-Ok.ensures.shorter ∙ ap (λ (x : LogState). record x { used = c.logged-kept.result }) h.log_is ∙ ap (λ (n : ℕ). record { layout = l; used = n; pending = []; scanned = true }) (count g dropping);
+      log_is = c.in-Ok.ensures.shorter ∙ ap (λ (x : LogState). record x { used = c.logged-kept.result }) h.log_is ∙ ap (λ (n : ℕ). record { layout = l; used = n; pending = []; scanned = true; ahead = [] }) (count g dropping);
       shape_is = h.shape_is;
       number = h.number;
       blocks = h.blocks;

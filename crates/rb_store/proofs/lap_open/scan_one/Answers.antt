@@ -1,8 +1,8 @@
-use Rattle.std.proofs.Common.{◌≡◌, ◌+◌, ◌<◌, ℕ, [], length, arith, ap, ◌∙◌, subst, IfNone}
+use Rattle.std.proofs.Common.{◌≡◌, ◌+◌, ◌<◌, ℕ, List, [], length, arith, ap, sym, ◌∙◌, subst, IfNone}
 use Rattle.std.proofs.lemmas.Result.{err_from_is_err_and}
 use Rattle.std.proofs.lemmas.List.{length-append}
 use Rattle.rb_layout.specs.declared.layout.Layout.{Layout}
-use Rattle.rb_log.specs.GroupSlots.{LogState, GroupsAre, HoldsGroup, IsFaultyGroup, IsLoggable}
+use Rattle.rb_log.specs.GroupSlots.{LogState, AreFrom, GroupsAre, HoldsGroup, IsFaultyGroup, IsLoggable}
 use Rattle.rb_log.specs.GroupLaws.{faulty_none_group}
 use Rattle.rb_log.specs.Slots.{slot_at}
 use Rattle.rb_store.proofs.ScanLemmas.{scan_more, scan_end}
@@ -40,5 +40,6 @@ returns-clause-more g c _ =
     let holds = λ (t : g.D.Disk.tells).
     let found = rw c.in-Some.is at (c.in_ok-group.ensures.found t) in
     subst (λ (m : Layout). HoldsGroup m (slot_at file old.used) (old.used + 1) c.in-Some.group) same (subst (λ (n : ℕ). HoldsGroup old.layout (slot_at file old.used) n c.in-Some.group) (omega (arith, c.used.ensures.used)) found) in
-    scan_more g.D.Disk.tells l file c.args.scan.now.plain c.take_group.new.scan.plain old c.take_group.new.scan.log c.args.scan.now.waiting.items c.take_group.new.scan.waiting.items c.in-Some.group h (c.take_group.ensures.log ∙ on) lt
+    scan_more g.D.Disk.tells l file c.args.scan.now.plain c.take_group.new.scan.plain old c.take_group.new.scan.log c.args.scan.now.waiting.items c.take_group.new.scan.waiting.items c.in-Some.group h (c.take_group.ensures.log ∙ on ∙ ap (λ (bytes : List ℕ). record old { used = old.used + 1; ahead = bytes }) (sym (ap (λ (x : LogState). x.ahead) c.take_group.ensures.log)))
+    (λ t. subst (λ (x : LogState). AreFrom file x.used x.ahead) (sym c.take_group.ensures.log) (c.in_ok-group.ensures.ahead t)) lt
     (subst (λ (m : Layout). IsLoggable m c.in-Some.group) same valid) holds c.take_group.ensures.shape c.take_group.ensures.taken

@@ -14,4 +14,7 @@ invariant_of-result g c =
       each = subst (λ (gs : List (List Patch)). AllByRecursion (IsLoggable layout) gs) (sym c.in-Ok.ensures.items) tt;
       none = λ is. c.in-Ok.ensures.items;
       units = omega (arith, c.in-Ok-vec.ensures.len);
+      few = omega arith;
+      within = omega (arith, few);
+      ended = λ is. omega arith;
     }

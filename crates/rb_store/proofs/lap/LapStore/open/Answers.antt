@@ -5,7 +5,7 @@ use Rattle.rb_store.proofs.lap.LapStore.open.Goals as goal
 
 -- each file has its own slots
 same_file : (slots : ℕ) (file : List ℕ) → SameSlots slots file file
-same_file slots file = record { long = refl; slots_are = refl }
+same_file slots file = record { long = refl; same = refl }
 
 pub invariant_of-result : goal.invariant_of-result
 invariant_of-result g c =
