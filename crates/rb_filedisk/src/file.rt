@@ -75,8 +75,8 @@ where
         )
     }
 
-    // Where nothing was written past the length of the last sync, the file's data is all that there is to sync. Else the
-    // file may be new, and its folder's entry of it is written too.
+    // Where nothing was written past the length of the last sync, the file's data is all that there is to sync. Where
+    // something was, the file may be new, and its folder has to keep its name too.
     fn flush(&mut self) -> io::Result<()>
         ensures faults { faults_of self.new ≡ faults_of self.old }
         ensures kept { unsynced_of self.new ≡ unsynced_of self.old }

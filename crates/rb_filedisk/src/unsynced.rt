@@ -8,14 +8,16 @@ const PIECE: usize = 4096;
 /// The bytes from the first to the furthest one written, and those between.
 #[derive(Clone, Copy)]
 pub struct Unsynced {
+    /// The offset of the first byte, or 2^64 - 1 where nothing was written.
     pub first: u64,
-    /// Just past the furthest byte, or 0 where nothing was written.
+    /// The offset just past the furthest byte, or 0 where nothing was written.
     pub end: u64,
 }
 
 impl Unsynced {
     ghost use Rattle.rb_filedisk.specs.Unsynced.{IsNothing, IsWith};
 
+    /// No byte.
     pub const fn nothing() -> Self
         ensures { IsNothing result }
     {
@@ -25,6 +27,7 @@ impl Unsynced {
         }
     }
 
+    /// Takes in so many bytes from an offset on.
     pub fn add(&mut self, at: u64, count: usize)
         ensures { IsWith at count self.old self.new }
     {
@@ -43,8 +46,7 @@ impl Unsynced {
         let mut at = self.first;
         while at < end {
             let count = (end - at).min(PIECE as u64) as usize;
-            // A piece that can't be read is in no memory that a later run could take for the device's, so the others
-            // go on.
+            // What can't be read isn't in the system's memory either, so no run takes it for what the device has.
             if file.read_exact_at(&mut piece[..count], at).is_ok() {
                 let _ = file.write_all_at(&piece[..count], at);
             }
