@@ -1,4 +1,7 @@
 //! How the file of a path is opened, and how its name is made durable. `FileDisk` calls it.
+ghost use Rattle.std.specs.Prelude.{◌≡◌};
+ghost use Rattle.rb_filedisk.specs.Folders.{folder_name};
+
 use crate::Hold;
 use std::fs::{Files, OpenFile, OpenOptions};
 use std::io;
@@ -31,9 +34,11 @@ pub fn sync_folder<R: Files>(runtime: &R, path: &str) -> io::Result<()> {
     options.open(runtime, folder_of(path))?.sync_all()
 }
 
-fn folder_of(path: &str) -> &str {
+fn folder_of(path: &str) -> &str
+    ensures { result.now ≡ folder_name path.now }
+{
     match Path::new(path).parent() {
-        Some(folder) if folder.as_str().len() > 0 => folder.as_str(),
+        Some(folder) if !folder.as_str().is_empty() => folder.as_str(),
         _ => ".",
     }
 }
