@@ -45,7 +45,7 @@ pub fn run<S: Source, K: Sink, D: Disk>(
     ensures format_source { ((n : ℕ) → ¬ IsRun words.now n) → source.new ≡ source.old }
     ensures format_sink { ((n : ℕ) → ¬ IsRun words.now n) → sink.new ≡ sink.old }
 
-    // A run to its end: the replies are those that the machine opened with the file's records allows for the lines
+    // A run to its end: the replies are those that the machine opened with the file's rows allows for the lines
     // of the whole source. Here and below `Endures` says what a crash may leave at any moment of the run, and at its
     // end.
     ensures replies { D.tells → S.tells → (n : ℕ) → IsRun words.now n → result.0 ≡ Status.Done → HasRun (D.content disk) (lines_of (S.left source.old)) K.tells (K.held sink.old) (K.held sink.new) false (Endures D.image D.moment D.image_since disk result.1) }
