@@ -1,5 +1,5 @@
-"""Starts the built program over a file, line by line or with a whole script. The tools beside it, demo/crash, tests/ and
-bench/run use it."""
+"""Starts the built program over a file, line by line or with a whole script. The tools beside it, demo/crash, tests/
+and bench/run use it."""
 import os
 import pathlib
 import select
@@ -81,6 +81,12 @@ class Ended:
             raise Wrong(f"standard error has {self.err[:200]!r} at status {status}")
         if out is not None and self.out != out:
             raise Wrong(f"replies {shortened(self.out)} in place of {shortened(out)}")
+        return self
+
+    def wants_status(self, status):
+        """Fails unless the run ended with the status, whatever it wrote."""
+        if self.status != status:
+            raise Wrong(f"status {self.status} in place of {status}: {shortened(self.out + self.err)}")
         return self
 
 
