@@ -1,6 +1,7 @@
 """Reads a file of the store by docs/FORMAT.md, and never writes. tools/inspect and tools/copy use it.
 
 It is a second reading of the format: nothing of it is shared with the program."""
+import os
 import struct
 
 UNIT = 2048
@@ -20,6 +21,14 @@ PATCHES, GROUP_BYTES, BLOCK_HEAD = 40, 2000, 32
 
 class NotAStore(Exception):
     """What in the file is not as docs/FORMAT.md says."""
+
+
+def bytes_of(file, most=-1):
+    """The bytes of a regular file, or the first ones of them."""
+    if os.path.exists(file) and not os.path.isfile(file):
+        raise NotAStore("it is no regular file")
+    with open(file, "rb") as opened:
+        return opened.read(most)
 
 
 class Identity:
@@ -139,8 +148,7 @@ class Store:
 
     @classmethod
     def read(cls, file):
-        with open(file, "rb") as opened:
-            return cls(opened.read())
+        return cls(bytes_of(file))
 
     @property
     def kept(self):
