@@ -1,4 +1,5 @@
-//! Readers and writers of the big-endian fields of a unit. Layout, log and records are built of them.
+//! Readers and writers of the big-endian fields of a unit. The identity, log slots, groups and
+//! blocks are built of them.
 ghost use Rattle.std.specs.Prelude.{◌≡◌, ◌+◌, ◌≤◌, length};
 ghost use Rattle.rb_base.specs.Fields.{number_at, with_number};
 

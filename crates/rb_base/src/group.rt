@@ -1,5 +1,5 @@
-//! A group of patches: bytes that take the place of others in blocks. The next stage makes one for each change of its
-//! blocks, and rb_group writes and reads them.
+//! A group of patches: bytes that take the place of others in blocks. rb_write makes one for each write of a row,
+//! and rb_sound for each commit; rb_group writes and reads their bytes.
 ghost use Rattle.std.specs.Prelude.{◌≡◌, ◌↔◌, ◌+◌, ◌<◌, ◌≤◌, [], ◌∷◌, ◌++◌, length, true, slice_index_or};
 ghost use Rattle.rb_base.specs.Groups.{Patch, patch, patch_length, group_length, IsGroup};
 

@@ -1,5 +1,5 @@
-//! `LapStore`: the blocks of a file in memory, with the log of one lap that makes them last. The engine over blocks
-//! stands on it.
+//! `LapStore`: the blocks of a file in memory, with the log of one lap that makes them last. The engine of a run is
+//! over it.
 ghost use Rattle.std.specs.Prelude.{◌≡◌, ℕ, List, false, [], IfOk, IfErr};
 ghost use Rattle.rb_base.specs.Counts.{Rose};
 ghost use Rattle.rb_disk.specs.Moments.{Rests};

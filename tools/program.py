@@ -1,4 +1,5 @@
-"""Starts the built program over a file, line by line or with a whole script. tests/real_file and bench/run use it."""
+"""Starts the built program over a file, line by line or with a whole script. The tools beside it, demo/crash, tests/
+and bench/run use it."""
 import os
 import pathlib
 import select
@@ -37,8 +38,17 @@ def find_program():
     return str(BUILT)
 
 
+def built_program():
+    """The program that RBSH names, else the repository's; ends with a word where it wasn't built."""
+    program = os.environ.get("RBSH") or str(BUILT)
+    if not os.access(program, os.X_OK):
+        sys.exit(f"no program at {program}: build it by demo/run, or name another one by RBSH=PROGRAM")
+    return os.path.abspath(program)
+
+
 def build():
     """Proves and builds the program, as demo/run does."""
+    print("proving and building rbsh: ten minutes or more the first time", file=sys.stderr)
     with tempfile.TemporaryDirectory() as folder:
         words = [f"{folder}/made.rb", "format", "tables=1", "blocks=1", "segments=1", "log=64"]
         built = subprocess.run(["rt", "run", "--", *words], cwd=CRATE, stdout=subprocess.PIPE, stderr=subprocess.STDOUT)
@@ -71,6 +81,12 @@ class Ended:
             raise Wrong(f"standard error has {self.err[:200]!r} at status {status}")
         if out is not None and self.out != out:
             raise Wrong(f"replies {shortened(self.out)} in place of {shortened(out)}")
+        return self
+
+    def wants_status(self, status):
+        """Fails unless the run ended with the status, whatever it wrote."""
+        if self.status != status:
+            raise Wrong(f"status {self.status} in place of {status}: {shortened(self.out + self.err)}")
         return self
 
 
