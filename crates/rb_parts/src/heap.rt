@@ -1,8 +1,8 @@
 //! Cells found by the bytes of a block, and a change's two patches by theirs.
-use crate::{change, find, free_cell};
 use arrayvec::ArrayVec;
 use rb_base::{Group, Uba, Xid};
 use rb_cell::{Cell, EMPTY, ROW, STUB};
+use rb_heap::{change, find, free_cell};
 use rb_itl::{Entry, OPEN};
 
 /// The bytes in front of the zeros of a row: its key in 8 bytes behind the length 3.

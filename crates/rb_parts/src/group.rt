@@ -1,6 +1,6 @@
 //! Groups by their bytes, and bytes that are those of no group.
-use crate::{decode, encode};
 use rb_base::Group;
+use rb_group::{decode, encode};
 
 /// One patch of block 0: the byte 1 at 416.
 const ONE: &[u8; 11] = b"\0\x01\0\0\0\0\x01\xa0\0\x01\x01";
