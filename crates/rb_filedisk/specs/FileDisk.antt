@@ -1,6 +1,7 @@
 -- What a file disk is seen as.
 use Rattle.std.specs.Prelude.{ℕ, List}
 use Rattle.rb_filedisk.specs.declared.file.FileDisk.{FileDisk}
+use Rattle.rb_filedisk.specs.declared.unsynced.Unsynced.{Unsynced}
 
 -- how often it has failed
 abbrev pub faults_of : {R F D : Type 0} → FileDisk R F D → ℕ
@@ -9,3 +10,7 @@ faults_of disk = disk.faults
 -- the bytes of its file's path
 abbrev pub path_of : {R F D : Type 0} → FileDisk R F D → List ℕ
 path_of disk = disk.path.now
+
+-- what a sync that fails writes again
+abbrev pub unsynced_of : {R F D : Type 0} → FileDisk R F D → Unsynced
+unsynced_of disk = disk.unsynced

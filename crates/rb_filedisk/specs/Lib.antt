@@ -1,1 +1,3 @@
 pub mod FileDisk
+pub mod Folders
+pub mod Unsynced

@@ -1,51 +1,59 @@
-//! `FileDisk`: a file that is opened at its first call. The shell passes it where a disk is asked for.
-ghost use Rattle.std.specs.Prelude.{◌≡◌, ◌+◌, ◌-◌, ◌^◌, min, [], OnOk, OnErr};
+//! `FileDisk`: a file that is opened at its first call, for this run alone. The program's `main` makes it.
+ghost use Rattle.std.specs.Prelude.{◌≡◌, ◌↔◌, ◌+◌, ◌-◌, ◌^◌, min, max, [], length, IsOk, OnOk, OnErr};
 ghost use Rattle.rb_base.specs.Counts.{IsCounted};
 
+use crate::Hold;
+use crate::open::{open_held, sync_folder};
+use crate::unsynced::Unsynced;
 use rb_base::Failed;
 use rb_disk::Disk;
-use std::fs::{Files, OpenFile, OpenOptions};
+use std::fs::{Files, OpenFile};
 use std::io;
 use std::os::unix::fs::FileExt;
 
-/// The file of a path. It tells nothing of its bytes: what a file gives or keeps is outside of any proof.
+/// The file of a path, which no second run may have. It tells nothing of its bytes: what a file gives or keeps is
+/// outside of any proof.
 #[derive(Drop)]
 pub struct FileDisk<'a, R: Files> {
     runtime: &'a R,
     path: &'a str,
     file: Option<R::File>,
-    // The length at the last sync, if there was one, and where the furthest write ended.
+    // The length at the last sync that succeeded, if there was one, and what was written since.
     synced: Option<u64>,
-    written: u64,
+    unsynced: Unsynced,
     faults: u64,
 }
 
 impl<'a, R: Files> FileDisk<'a, R>
 where
-    R::File: FileExt,
+    R::File: FileExt + Hold,
 {
-    ghost use Rattle.rb_filedisk.specs.FileDisk.{faults_of, path_of};
+    ghost use Rattle.rb_filedisk.specs.FileDisk.{faults_of, path_of, unsynced_of};
+    ghost use Rattle.rb_filedisk.specs.Unsynced.{IsNothing};
 
     /// The file of this path, which its first call opens, and makes if it isn't there.
     pub fn at(runtime: &'a R, path: &'a str) -> Self
         ensures path { path_of result ≡ path.now }
         ensures faults { faults_of result ≡ 0 }
+        ensures unsynced { IsNothing (unsynced_of result) }
     {
         FileDisk {
             runtime,
             path,
             file: None,
             synced: None,
-            written: 0,
+            unsynced: Unsynced::nothing(),
             faults: 0,
         }
     }
 
     // Counts a fault where the answer is one.
     fn counted<T>(&mut self, answer: io::Result<T>) -> Result<T, Failed>
+        ensures same { IsOk result ↔ IsOk answer }
         ensures counted { IsCounted (faults_of self.old) (faults_of self.new) result }
         ensures faulted { OnErr result (faults_of self.new ≡ min (faults_of self.old + 1) (2 ^ 64 - 1)) }
         ensures no_fault { OnOk result (faults_of self.new ≡ faults_of self.old) }
+        ensures kept { unsynced_of self.new ≡ unsynced_of self.old }
     {
         match answer {
             Ok(value) => Ok(value),
@@ -57,7 +65,8 @@ where
     }
 
     fn length(&mut self) -> io::Result<u64>
-        ensures { faults_of self.new ≡ faults_of self.old }
+        ensures faults { faults_of self.new ≡ faults_of self.old }
+        ensures kept { unsynced_of self.new ≡ unsynced_of self.old }
     {
         Ok(
             opened(self.runtime, self.path, &mut self.file)?
@@ -66,18 +75,23 @@ where
         )
     }
 
-    // Where nothing was written past the length of the last sync, the file's data is all that there is to sync.
+    // Where nothing was written past the length of the last sync, the file's data is all that there is to sync. Where
+    // something was, the file may be new, and its folder has to keep its name too.
     fn flush(&mut self) -> io::Result<()>
-        ensures { faults_of self.new ≡ faults_of self.old }
+        ensures faults { faults_of self.new ≡ faults_of self.old }
+        ensures kept { unsynced_of self.new ≡ unsynced_of self.old }
     {
         let file = opened(self.runtime, self.path, &mut self.file)?;
         if let Some(len) = self.synced
-            && self.written <= len
+            && self.unsynced.end <= len
         {
             return file.sync_data();
         }
         let len = file.metadata()?.len();
         file.sync_all()?;
+        if self.unsynced.end > 0 {
+            sync_folder(self.runtime, self.path)?;
+        }
         self.synced = Some(len);
         Ok(())
     }
@@ -88,15 +102,12 @@ fn opened<'f, R: Files>(
     runtime: &R,
     path: &str,
     file: &'f mut Option<R::File>,
-) -> io::Result<&'f R::File> {
+) -> io::Result<&'f R::File>
+where
+    R::File: Hold,
+{
     if file.is_none() {
-        let mut options = OpenOptions::new();
-        options.read(true);
-        options.write(true);
-        options.create(true);
-        // A closed standard stream leaves its number free, and the first opening would take it: replies would go into
-        // the store. The copy's number is above theirs.
-        *file = Some(options.open(runtime, path)?.try_clone()?);
+        *file = Some(open_held(runtime, path)?);
     }
     match file {
         Some(file) => Ok(file),
@@ -106,9 +117,10 @@ fn opened<'f, R: Files>(
 
 impl<'a, R: Files> Disk for FileDisk<'a, R>
 where
-    R::File: FileExt,
+    R::File: FileExt + Hold,
 {
-    ghost use Rattle.rb_filedisk.specs.FileDisk.{faults_of};
+    ghost use Rattle.rb_filedisk.specs.FileDisk.{faults_of, unsynced_of};
+    ghost use Rattle.rb_filedisk.specs.Unsynced.{IsNothing, IsWith};
 
     ghost tells = { ⊥ };
 
@@ -132,6 +144,7 @@ where
         ensures counted { IsCounted (faults_of self.old) (faults_of self.new) result }
         ensures faulted { OnErr result (faults_of self.new ≡ min (faults_of self.old + 1) (2 ^ 64 - 1)) }
         ensures no_fault { OnOk result (faults_of self.new ≡ faults_of self.old) }
+        ensures kept { unsynced_of self.new ≡ unsynced_of self.old }
     {
         let answer = self.length();
         self.counted(answer)
@@ -141,6 +154,7 @@ where
         ensures counted { IsCounted (faults_of self.old) (faults_of self.new) result }
         ensures faulted { OnErr result (faults_of self.new ≡ min (faults_of self.old + 1) (2 ^ 64 - 1)) }
         ensures no_fault { OnOk result (faults_of self.new ≡ faults_of self.old) }
+        ensures kept { unsynced_of self.new ≡ unsynced_of self.old }
     {
         let answer = opened(self.runtime, self.path, &mut self.file).and_then(
             |file| file.read_exact_at(into, at),
@@ -152,9 +166,9 @@ where
         ensures counted { IsCounted (faults_of self.old) (faults_of self.new) result }
         ensures faulted { OnErr result (faults_of self.new ≡ min (faults_of self.old + 1) (2 ^ 64 - 1)) }
         ensures no_fault { OnOk result (faults_of self.new ≡ faults_of self.old) }
+        ensures remembered { IsWith at (length bytes.now) (unsynced_of self.old) (unsynced_of self.new) }
     {
-        let end = at.saturating_add(bytes.len() as u64);
-        self.written = self.written.max(end);
+        self.unsynced.add(at, bytes.len());
         let answer = opened(self.runtime, self.path, &mut self.file).and_then(
             |file| file.write_all_at(bytes, at),
         );
@@ -165,8 +179,15 @@ where
         ensures counted { IsCounted (faults_of self.old) (faults_of self.new) result }
         ensures faulted { OnErr result (faults_of self.new ≡ min (faults_of self.old + 1) (2 ^ 64 - 1)) }
         ensures no_fault { OnOk result (faults_of self.new ≡ faults_of self.old) }
+        ensures forgotten { OnOk result (IsNothing (unsynced_of self.new)) }
+        ensures kept { OnErr result (unsynced_of self.new ≡ unsynced_of self.old) }
     {
         let answer = self.flush();
+        if answer.is_ok() {
+            self.unsynced = Unsynced::nothing();
+        } else if let Some(file) = &self.file {
+            self.unsynced.write_again(file);
+        }
         self.counted(answer)
     }
 }

@@ -2,7 +2,11 @@
 #![tactic(auto)]
 
 mod file;
+mod hold;
+mod open;
 #[cfg(test)]
 mod tests;
+mod unsynced;
 
 pub use file::FileDisk;
+pub use hold::Hold;
