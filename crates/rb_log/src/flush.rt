@@ -122,6 +122,3 @@ pub(crate) fn write_groups<D: Disk>(
     }
     Ok(())
 }
-
-#[cfg(test)]
-mod tests;

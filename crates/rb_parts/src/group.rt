@@ -77,7 +77,7 @@ fn longest_patch(rt: HostRuntime) {
     assert!(rt; decode(&long).is_none());
 }
 
-/// The bytes of 41 patches, each of one byte, behind a count.
+/// The bytes of 41 patches, each of one byte, after a count.
 fn small_patches(count: u8) -> [u8; 371] {
     let mut bytes = [0; 371];
     bytes[1] = count;

@@ -7,6 +7,8 @@ mod base;
 #[cfg(test)]
 mod cell;
 #[cfg(test)]
+mod filedisk;
+#[cfg(test)]
 mod group;
 #[cfg(test)]
 mod heap;
@@ -14,6 +16,8 @@ mod heap;
 mod itl;
 #[cfg(test)]
 mod layout;
+#[cfg(test)]
+mod log;
 #[cfg(test)]
 mod memdisk;
 #[cfg(test)]
