@@ -15,6 +15,3 @@ pub use fields::{put_u16, put_u32, put_u64, u16_at, u32_at, u64_at};
 pub use group::Group;
 pub use ids::{BlockNo, Lsn, Scn, Shape, UNIT, Uba, Xid};
 pub use store::Store;
-
-#[cfg(test)]
-mod tests;

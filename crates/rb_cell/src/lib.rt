@@ -11,6 +11,3 @@ pub use cell::{Cell, EMPTY, ROW, STUB};
 pub use laws::{cell_in_block, lock_in_block};
 pub use read::{CellFront, cells, front};
 pub use write::{put_cell, put_lock};
-
-#[cfg(test)]
-mod tests;

@@ -4,8 +4,6 @@
 mod file;
 mod hold;
 mod open;
-#[cfg(test)]
-mod tests;
 mod unsynced;
 
 pub use file::FileDisk;

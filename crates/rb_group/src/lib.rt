@@ -6,6 +6,3 @@ mod write;
 
 pub use read::{decode, one_spelling};
 pub use write::encode;
-
-#[cfg(test)]
-mod tests;

@@ -9,6 +9,3 @@ mod write;
 pub use laws::{head_patched, home_changed, home_listed, home_patched, home_read, home_searched};
 pub use search::{find, free_cell};
 pub use write::change;
-
-#[cfg(test)]
-mod tests;

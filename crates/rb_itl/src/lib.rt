@@ -11,6 +11,3 @@ pub use laws::entries_apart;
 pub use read::entry;
 pub use slots::{BOUND, EXACT, Entry, FREE, OPEN};
 pub use write::put_entry;
-
-#[cfg(test)]
-mod tests;

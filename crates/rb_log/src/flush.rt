@@ -174,6 +174,3 @@ pub(crate) fn write_groups<D: Disk>(
     stage(disk, layout, used, groups, buffer)?;
     open_gates(disk, layout, used, groups)
 }
-
-#[cfg(test)]
-mod tests;

@@ -5,8 +5,6 @@
 mod call;
 mod memory;
 mod pick;
-#[cfg(test)]
-mod tests;
 
 pub use call::Call;
 pub use memory::MemDisk;

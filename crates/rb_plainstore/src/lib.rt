@@ -9,6 +9,3 @@ mod plain;
 
 pub use laws::never_fails;
 pub use plain::PlainStore;
-
-#[cfg(test)]
-mod tests;

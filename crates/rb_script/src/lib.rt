@@ -9,6 +9,3 @@ mod words;
 pub use command::{Command, one_spelling};
 pub use grammar::parse;
 pub use reply::{Reply, print};
-
-#[cfg(test)]
-mod tests;

@@ -13,6 +13,3 @@ pub use commit::{commit_group, commit_logged_of};
 pub use home::{Limits, home_sound};
 pub use laws::{cell_written, commit_greatest, commit_written, fresh_sound, homes_by_table};
 pub use segment::segment_sound;
-
-#[cfg(test)]
-mod tests;

@@ -9,6 +9,3 @@ mod stream;
 pub use memory::{MemSink, MemSource};
 pub use standard::{StdSink, StdSource};
 pub use stream::{Sink, Source};
-
-#[cfg(test)]
-mod tests;

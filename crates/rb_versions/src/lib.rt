@@ -13,6 +13,3 @@ mod search;
 pub use change::{RowChange, RowKind};
 pub use index::Versions;
 pub use query::Query;
-
-#[cfg(test)]
-mod tests;

@@ -11,6 +11,3 @@ pub use ask::{Ask, AttemptFault};
 pub use laws::{value_read, values_placed};
 pub use place::home_block;
 pub use write::attempt;
-
-#[cfg(test)]
-mod tests;

@@ -1,11 +1,11 @@
 //! Cells found by the bytes of a block, and a change's two patches by theirs.
-use crate::{change, find, free_cell};
 use arrayvec::ArrayVec;
 use rb_base::{Group, Uba, Xid};
 use rb_cell::{Cell, EMPTY, ROW, STUB};
+use rb_heap::{change, find, free_cell};
 use rb_itl::{Entry, OPEN};
 
-/// The bytes in front of the zeros of a row: its key in 8 bytes behind the length 3.
+/// The bytes in front of the zeros of a row: its key in 8 bytes after the length 3.
 const ROW_BYTES: &[u8; 15] = b"\x01\0\0\x03\x01\x02\x03\x04\x05\x06\x07\x08abc";
 
 /// The same of a deleted row that entry 7 has locked.

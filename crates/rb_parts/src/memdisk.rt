@@ -1,7 +1,7 @@
 //! What `MemDisk` leaves of a written file, call by call, and where it fails.
-use crate::{MemDisk, Pick};
 use rb_base::{Failed, NoMemory};
 use rb_disk::Disk;
+use rb_memdisk::{MemDisk, Pick};
 use std::alloc::Global;
 use std::test::Fail;
 

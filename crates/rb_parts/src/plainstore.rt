@@ -3,8 +3,8 @@ ghost use Rattle.std.specs.Prelude.{◌≡◌, ◌+◌, ◌<◌, ◌≤◌, ◌^
 ghost use Rattle.rb_base.specs.Blocks.{AreWithin};
 ghost use Rattle.rb_base.specs.Stores.{room_of};
 
-use crate::PlainStore;
 use rb_base::{BlockNo, Failed, Group, Lsn, Shape, Store, UNIT};
+use rb_plainstore::PlainStore;
 use std::test::Fail;
 
 /// A table of one block, 0, and a segment: its header, 1, and undo blocks 2 to 33.

@@ -2,9 +2,7 @@
 //! away; and full homes.
 ghost use Rattle.std.specs.Prelude.{◌≡◌, ◌<◌, [], length, IfOk};
 
-use crate::change::{RowChange, RowKind};
-use crate::index::Versions;
-use crate::query::Query;
+use rb_versions::{Query, RowChange, RowKind, Versions};
 use std::alloc::Global;
 use std::test::Fail;
 

@@ -1,6 +1,6 @@
 //! Each stream on its happy path, failing calls, a sink past its room, and streams of std that are interrupted.
-use super::*;
 use rb_base::{Failed, NoMemory};
+use rb_stream::{MemSink, MemSource, Sink, Source, StdSink, StdSource};
 use std::io::{self, ErrorKind, Read, Write};
 
 #[test]

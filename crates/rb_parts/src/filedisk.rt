@@ -1,6 +1,6 @@
 //! A file disk over a real file, in the folder that the test runs in.
-use crate::FileDisk;
 use rb_disk::Disk;
+use rb_filedisk::FileDisk;
 use std::fs;
 use std::test::Fail;
 

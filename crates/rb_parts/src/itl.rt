@@ -1,6 +1,6 @@
 //! Entries by their bytes, worked by hand.
-use crate::{BOUND, EXACT, Entry, FREE, OPEN, entry, put_entry};
 use rb_base::{Group, Uba, Xid};
+use rb_itl::{BOUND, EXACT, Entry, FREE, OPEN, entry, put_entry};
 
 /// Segment 2, slot 15, the 7th transaction there: open, with 3 records, the newest in block 0x01020304 at place 9.
 const OPEN_ENTRY: Entry = Entry {

@@ -1,5 +1,5 @@
 use Rattle.std.proofs.Common.{◌≡◌, length}
-use Rattle.rb_versions.proofs.tests.one_home.Given as goal
+use Rattle.rb_parts.proofs.versions.one_home.Given as goal
 
 abbrev pub invariant-loop-step : goal.invariant-loop-step
 invariant-loop-step l = record {

@@ -1,5 +1,5 @@
 //! Texts that are numbers and texts that are none, and each field written and read again.
-use super::*;
+use rb_base::{Group, parse_decimal, put_u16, put_u32, put_u64, u16_at, u32_at, u64_at};
 
 #[test]
 fn decimals(rt: HostRuntime) {

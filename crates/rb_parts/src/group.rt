@@ -1,6 +1,6 @@
 //! Groups by their bytes, and bytes that are those of no group.
-use crate::{decode, encode};
 use rb_base::Group;
+use rb_group::{decode, encode};
 
 /// One patch of block 0: the byte 1 at 416.
 const ONE: &[u8; 11] = b"\0\x01\0\0\0\0\x01\xa0\0\x01\x01";
@@ -77,7 +77,7 @@ fn longest_patch(rt: HostRuntime) {
     assert!(rt; decode(&long).is_none());
 }
 
-/// The bytes of 41 patches, each of one byte, behind a count.
+/// The bytes of 41 patches, each of one byte, after a count.
 fn small_patches(count: u8) -> [u8; 371] {
     let mut bytes = [0; 371];
     bytes[1] = count;

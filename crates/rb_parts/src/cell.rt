@@ -1,9 +1,9 @@
 //! Cells by their bytes, written out by hand.
-use crate::{Cell, EMPTY, ROW, STUB, cells, put_cell, put_lock};
 use arrayvec::ArrayVec;
 use rb_base::Group;
+use rb_cell::{Cell, EMPTY, ROW, STUB, cells, put_cell, put_lock};
 
-/// The bytes in front of the zeros of an unlocked row: its key in 8 bytes behind the length 3.
+/// The bytes in front of the zeros of an unlocked row: its key in 8 bytes after the length 3.
 const ROW_BYTES: &[u8; 15] = b"\x01\0\0\x03\x01\x02\x03\x04\x05\x06\x07\x08abc";
 
 /// The same of a deleted row that entry 7 has locked.

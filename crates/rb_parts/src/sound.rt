@@ -1,9 +1,9 @@
 //! Headers and blocks of rows by their bytes, written by hand, each with one byte changed; and the blocks of a store.
 ghost use Rattle.std.specs.Prelude.{◌≡◌, ◌≤◌, ◌<◌, false, OnOk};
 
-use crate::{Limits, blocks_sound, commit_number_of, home_sound, segment_sound};
 use rb_base::{BlockNo, Failed, Group, Shape, Store};
 use rb_plainstore::PlainStore;
+use rb_sound::{Limits, blocks_sound, commit_number_of, home_sound, segment_sound};
 use std::test::Fail;
 
 const SHAPE: Shape = Shape {

@@ -1,7 +1,7 @@
 //! Lines and replies, worked by hand.
-use crate::{Command, Reply, parse, print};
 use arrayvec::ArrayVec;
 use rb_model::{Op, Refusal};
+use rb_script::{Command, Reply, parse, print};
 
 #[test]
 fn lines_that_spell_no_command(rt: HostRuntime) {

@@ -2,11 +2,11 @@
 ghost use Rattle.std.specs.Prelude.{◌≡◌, false};
 ghost use Rattle.rb_write.specs.Writes.{IsShort};
 
-use crate::{Ask, AttemptFault, attempt, home_block};
 use rb_base::{BlockNo, Failed, Group, Shape, Store};
 use rb_cell::{Cell, EMPTY, ROW, STUB, cells};
 use rb_model::Op;
 use rb_plainstore::PlainStore;
+use rb_write::{Ask, AttemptFault, attempt, home_block};
 use std::test::Fail;
 
 /// Two tables of two blocks, 0 to 3.

@@ -1,0 +1,34 @@
+//! The lower crates by worked values: bytes, lines and calls, and what each part makes of them. It has tests alone, one
+//! module for a crate, and nothing calls it.
+#![tactic(auto)]
+
+#[cfg(test)]
+mod base;
+#[cfg(test)]
+mod cell;
+#[cfg(test)]
+mod filedisk;
+#[cfg(test)]
+mod group;
+#[cfg(test)]
+mod heap;
+#[cfg(test)]
+mod itl;
+#[cfg(test)]
+mod layout;
+#[cfg(test)]
+mod log;
+#[cfg(test)]
+mod memdisk;
+#[cfg(test)]
+mod plainstore;
+#[cfg(test)]
+mod script;
+#[cfg(test)]
+mod sound;
+#[cfg(test)]
+mod stream;
+#[cfg(test)]
+mod versions;
+#[cfg(test)]
+mod write;
