@@ -152,7 +152,13 @@ impl<T: Store> Engine<T> {
 
     /// Inserts, updates or deletes the row of a key. It may be refused, and then nothing is changed, unless a call of the
     /// store failed.
-    pub(crate) fn do_write(&mut self, s: u16, table: u16, key: u64, op: Op<'_>) -> Result<Wrote, Refusal>
+    pub(crate) fn do_write(
+        &mut self,
+        s: u16,
+        table: u16,
+        key: u64,
+        op: Op<'_>,
+    ) -> Result<Wrote, Refusal>
         ensures answer { T.tells → Reply self.old.state (T.number self.old.store) (room_left (T.slots self.old.store) (T.number self.old.store) self.old.spare) (call.Write s table key (action_of op.entry)) (write_answer result) }
         ensures state { self.new.state ≡ after self.old.state (call.Write s table key (action_of op.entry)) (write_answer result) }
         ensures number { self.new.state.stopped ≡ false → T.number self.new.store ≡ T.number self.old.store + groups (call.Write s table key (action_of op.entry)) (write_answer result) }
@@ -240,7 +246,12 @@ impl<T: Store> Engine<T> {
     }
 
     /// Gives the next row of a cursor into `row`, or the end.
-    pub(crate) fn do_fetch(&mut self, s: u16, name: &Name, row: &mut Row) -> Result<Fetched, Refusal>
+    pub(crate) fn do_fetch(
+        &mut self,
+        s: u16,
+        name: &Name,
+        row: &mut Row,
+    ) -> Result<Fetched, Refusal>
         ensures answer { (logged room : ℕ) → fetch_answer result row.new ≡ expected self.old.state logged room (call.Fetch s (name_text name.now)) }
         ensures state { self.new.state ≡ after self.old.state (call.Fetch s (name_text name.now)) (fetch_answer result row.new) }
         ensures row { LeavesRow result row.old row.new }

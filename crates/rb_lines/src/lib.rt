@@ -2,8 +2,8 @@
 #![tactic(auto)]
 
 mod lines;
-mod runner;
 mod pending;
+mod runner;
 
 pub use lines::{LinesEnd, run_lines};
 pub use runner::{LineRunner, StepFault};

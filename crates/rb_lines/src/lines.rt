@@ -57,7 +57,7 @@ pub fn run_lines<M: LineRunner, S: Source, K: Sink>(
     // Which lines were done, and what became of the runner's file.
     ensures did { S.tells → (m : Logged) → M.stands runner.old m → m.state.stopped ≡ false
         → Did M.stands M.since runner.old runner.new m (λ now. EndsAs (M.slots runner.old) (length buffer.old) m now
-            (S.left source.old) (S.left source.new) K.tells (K.held sink.old) (K.held sink.new) result) }
+        (S.left source.old) (S.left source.new) K.tells (K.held sink.old) (K.held sink.new) result) }
     ensures at_end { result ≡ LinesEnd.Done → S.tells → S.left source.new ≡ [] }
     ensures few { result ≡ LinesEnd.Done → S.tells → length (S.left source.old) < 1000000000 }
 

@@ -3,6 +3,8 @@
 #![tactic(auto)]
 
 #[cfg(test)]
+mod command;
+#[cfg(test)]
 mod commits;
 #[cfg(test)]
 mod constructors;

@@ -113,22 +113,34 @@ added_holds : (tells : Type 0) (before held waiting held2 waiting2 out text : Li
 added_holds tells before held waiting held2 waiting2 out text sent few holds waits added =
     let long = length-append out text in
     ⊎_elim
-    (λ a. (sent, (omega (arith, few, long),
-    (λ t. a.1 t ∙ holds t ∙ ap (λ (xs : List ℕ). before ++ xs) (sym (take-append-le sent out text few))),
-    a.0 ∙ ap (λ (xs : List ℕ). xs ++ text) waits ∙ sym (drop-append-le sent out text few))))
-    (λ a. (length out, (omega (arith, long),
-    (λ t. a.1 t ∙ ap (λ (xs : List ℕ). xs ++ waiting) (holds t) ∙ ap (λ (xs : List ℕ). (before ++ take sent out) ++ xs) waits
-    ∙ append_assoc before (take sent out) (drop sent out) ∙ ap (λ (xs : List ℕ). before ++ xs) (take-append-drop sent out ∙ sym (take-append-le (length out) out text (omega arith) ∙ take_all (length out) out (omega arith)))),
-    a.0 ∙ sym (drop-append_seam out text))))
+    (λ a. (
+      sent,
+      (
+        omega (arith, few, long),
+        (λ t. a.1 t ∙ holds t ∙ ap (λ (xs : List ℕ). before ++ xs) (sym (take-append-le sent out text few))),
+        a.0 ∙ ap (λ (xs : List ℕ). xs ++ text) waits ∙ sym (drop-append-le sent out text few),
+      ),
+    ))
+    (λ a. (
+      length out,
+      (
+        omega (arith, long),
+        (λ t. a.1 t ∙ ap (λ (xs : List ℕ). xs ++ waiting) (holds t) ∙ ap (λ (xs : List ℕ). (before ++ take sent out) ++ xs) waits
+            ∙ append_assoc before (take sent out) (drop sent out) ∙ ap (λ (xs : List ℕ). before ++ xs) (take-append-drop sent out ∙ sym (take-append-le (length out) out text (omega arith) ∙ take_all (length out) out (omega arith)))),
+        a.0 ∙ sym (drop-append_seam out text),
+      ),
+    ))
     added
 
 -- what was lost was some of what waited
 lost_holds : (tells : Type 0) (before held waiting held2 out : List ℕ) (sent : ℕ) → (tells → held ≡ before ++ take sent out) → waiting ≡ drop sent out
     → Lost tells held waiting held2 → tells → (size : ℕ) × (held2 ≡ before ++ take size out)
 lost_holds tells before held waiting held2 out sent holds waits lost t =
-    let l = lost t in
-    (sent + l.0, l.1 ∙ ap (λ (xs : List ℕ). xs ++ take l.0 waiting) (holds t) ∙ ap (λ (xs : List ℕ). (before ++ take sent out) ++ take l.0 xs) waits
-    ∙ append_assoc before (take sent out) (take l.0 (drop sent out)) ∙ ap (λ (xs : List ℕ). before ++ xs) (sym (take-add sent l.0 out)))
+    let l = lost t in (
+      sent + l.0,
+      l.1 ∙ ap (λ (xs : List ℕ). xs ++ take l.0 waiting) (holds t) ∙ ap (λ (xs : List ℕ). (before ++ take sent out) ++ take l.0 xs) waits
+          ∙ append_assoc before (take sent out) (take l.0 (drop sent out)) ∙ ap (λ (xs : List ℕ). before ++ xs) (sym (take-add sent l.0 out)),
+    )
 
 -- calls of a line, each with a row
 

@@ -51,7 +51,7 @@ pub fn run<S: Source, K: Sink, D: Disk>(
     // end.
     ensures replies { D.tells → S.tells → (n : ℕ) → IsRun words.now n → result.0 ≡ Status.Done →
         HasRun (D.content disk) (lines_of (S.left source.old)) K.tells (K.held sink.old) (K.held sink.new) false
-            (Endures D.image D.moment D.image_since disk result.1) }
+        (Endures D.image D.moment D.image_since disk result.1) }
     ensures at_end { S.tells → (n : ℕ) → IsRun words.now n → result.0 ≡ Status.Done → S.left source.new ≡ [] }
     ensures few { S.tells → (n : ℕ) → IsRun words.now n → result.0 ≡ Status.Done → length (S.left source.old) < 1000000000 }
 
@@ -68,12 +68,12 @@ pub fn run<S: Source, K: Sink, D: Disk>(
     // replies are cut off.
     ensures disk_done { D.tells → S.tells → (n : ℕ) → IsRun words.now n → result.0 ≡ Status.DiskFault →
         ((source.new ≡ source.old) × (sink.new ≡ sink.old)
-            × WasStopped D.content D.image D.moment D.image_since disk result.1)
+        × WasStopped D.content D.image D.moment D.image_since disk result.1)
         ⊎ HasHalted (D.content disk) (S.left source.old) (S.left source.new) K.tells (K.held sink.old) (K.held sink.new)
-            (Endures D.image D.moment D.image_since disk result.1) }
+        (Endures D.image D.moment D.image_since disk result.1) }
     ensures cut_off { D.tells → S.tells → K.tells → result.0 ≡ Status.SinkFault →
         WasCutOff (D.content disk) (lines_of (S.left source.old)) (K.held sink.old) (K.held sink.new)
-            (Endures D.image D.moment D.image_since disk result.1) }
+        (Endures D.image D.moment D.image_since disk result.1) }
 
     // Where the script isn't asked for, the file opens as before. It is asked for just where the file is a store.
     ensures source_same { AsksNothing result.0 → source.new ≡ source.old }

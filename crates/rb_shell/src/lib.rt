@@ -16,5 +16,3 @@ pub use line::step;
 pub use rb_engine::Engine;
 pub use status::Status;
 
-#[cfg(test)]
-mod tests;

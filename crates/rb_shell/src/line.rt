@@ -53,9 +53,20 @@ fn caller_of(command: &Command<'_>) -> u16
     ensures { result ≡ caller (command_of command.now) }
 {
     match command {
-        Command::Write { s, t: _, k: _, op: _ } => *s,
+        Command::Write {
+            s,
+            t: _,
+            k: _,
+            op: _,
+        } => *s,
         Command::Commit { s } => *s,
-        Command::OpenCursor { s, name: _, t: _, lo: _, hi: _ } => *s,
+        Command::OpenCursor {
+            s,
+            name: _,
+            t: _,
+            lo: _,
+            hi: _,
+        } => *s,
         Command::Fetch { s, name: _, n: _ } => *s,
         Command::CloseCursor { s, name: _ } => *s,
     }
@@ -100,8 +111,8 @@ fn call_once<T: Store, K: Sink>(
 ) -> Result<Answer, StepFault>
     ensures did { (m : Logged) → StandsAs T.Store engine.old m → m.state.stopped ≡ false
         → Did (StandsAs T.Store) (IsSince T.Store) engine.old engine.new m (λ now. Calls m
-            (slots_of (T.slots engine.old.store)) (caller (command_of command.now)) (call_of (command_of command.now))
-            row.new now K.tells (K.held sink.old) waiting.old.items (K.held sink.new) waiting.new.items result) }
+        (slots_of (T.slots engine.old.store)) (caller (command_of command.now)) (call_of (command_of command.now))
+        row.new now K.tells (K.held sink.old) waiting.old.items (K.held sink.new) waiting.new.items result) }
     ensures same { SameStore T.Store engine.old.store engine.new.store }
     ensures disk { IsCountedBeside (T.faults engine.old.store) (T.faults engine.new.store) (err_is is_disk result)
         (err_is is_sink result) }
@@ -122,8 +133,8 @@ fn run_command<T: Store, K: Sink>(
     requires { waiting.old.items ≡ [] }
     ensures did { (m : Logged) → StandsAs T.Store engine.old m → m.state.stopped ≡ false
         → Did (StandsAs T.Store) (IsSince T.Store) engine.old engine.new m (λ now. SaidAs (CommandOut m
-            (slots_of (T.slots engine.old.store)) (command_of command.now)) now K.tells (K.held sink.old)
-            (K.held sink.new) waiting.new.items result) }
+        (slots_of (T.slots engine.old.store)) (command_of command.now)) now K.tells (K.held sink.old)
+        (K.held sink.new) waiting.new.items result) }
     ensures same { SameStore T.Store engine.old.store engine.new.store }
     ensures disk { IsCountedBeside (T.faults engine.old.store) (T.faults engine.new.store) (err_is is_disk result)
         (err_is is_sink result) }
@@ -152,8 +163,8 @@ fn say_line<T: Store, K: Sink>(
     requires { waiting.old.items ≡ [] }
     ensures did { (m : Logged) → StandsAs T.Store engine.old m → m.state.stopped ≡ false
         → Did (StandsAs T.Store) (IsSince T.Store) engine.old engine.new m (λ now. SaidAs (LineOut m
-            (slots_of (T.slots engine.old.store)) line.now) now K.tells (K.held sink.old)
-            (K.held sink.new) waiting.new.items result) }
+        (slots_of (T.slots engine.old.store)) line.now) now K.tells (K.held sink.old)
+        (K.held sink.new) waiting.new.items result) }
     ensures same { SameStore T.Store engine.old.store engine.new.store }
     ensures disk { IsCountedBeside (T.faults engine.old.store) (T.faults engine.new.store) (err_is is_disk result)
         (err_is is_sink result) }
@@ -194,7 +205,7 @@ pub fn do_line<T: Store, K: Sink>(
 ) -> Result<(), StepFault>
     ensures did { (m : Logged) → StandsAs T.Store engine.old m → m.state.stopped ≡ false
         → Did (StandsAs T.Store) (IsSince T.Store) engine.old engine.new m (λ now. LineRanAs
-            (slots_of (T.slots engine.old.store)) m now line.now K.tells (K.held sink.old) (K.held sink.new) result) }
+        (slots_of (T.slots engine.old.store)) m now line.now K.tells (K.held sink.old) (K.held sink.new) result) }
     ensures same { SameStore T.Store engine.old.store engine.new.store }
     ensures disk { IsCountedBeside (T.faults engine.old.store) (T.faults engine.new.store) (err_is is_disk result)
         (err_is is_sink result) }
@@ -222,7 +233,7 @@ pub fn step<T: Store, K: Sink>(
     // disk they end with it. A crash may leave no more than these states.
     ensures did { (m : Logged) → StandsAs T.Store engine.old m → m.state.stopped ≡ false
         → Did (StandsAs T.Store) (IsSince T.Store) engine.old engine.new m (λ now. LineRanAs
-            (slots_of (T.slots engine.old.store)) m now line.now K.tells (K.held sink.old) (K.held sink.new) result) }
+        (slots_of (T.slots engine.old.store)) m now line.now K.tells (K.held sink.old) (K.held sink.new) result) }
     ensures same { SameStore T.Store engine.old.store engine.new.store }
     ensures disk { IsCountedBeside (T.faults engine.old.store) (T.faults engine.new.store) (err_is is_disk result)
         (err_is is_sink result) }

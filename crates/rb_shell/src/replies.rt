@@ -140,7 +140,11 @@ fn add<K: Sink>(reply: &Reply<'_>, waiting: &mut Waiting, sink: &mut K) -> Resul
 }
 
 /// Tells a reply, and ends the step where it is one of a fault of the disk.
-pub fn tell<K: Sink>(reply: &Reply<'_>, waiting: &mut Waiting, sink: &mut K) -> Result<(), StepFault>
+pub fn tell<K: Sink>(
+    reply: &Reply<'_>,
+    waiting: &mut Waiting,
+    sink: &mut K,
+) -> Result<(), StepFault>
     requires { FitsALine reply.now }
     ensures told { Told (text_of_reply reply.now) (tells_fault reply.now) K.tells (K.held sink.old) waiting.old.items
         (K.held sink.new) waiting.new.items result }

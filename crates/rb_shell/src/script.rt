@@ -49,8 +49,7 @@ impl<T: Store> LineRunner for Interpreter<T> {
 
     ghost since_joined = { λ a b c m n k. since_joined a.engine b.engine c.engine m n k };
 
-    fn step<K: Sink>(&mut self, line: &[u8], sink: &mut K) -> Result<(), StepFault>
-    {
+    fn step<K: Sink>(&mut self, line: &[u8], sink: &mut K) -> Result<(), StepFault> {
         do_line(&mut self.engine, line, &mut self.waiting, sink)
     }
 }
@@ -99,7 +98,7 @@ fn run_engine<S: Source, K: Sink, T: Store>(
     requires buffer { length buffer.old ≡ 65536 }
     ensures did { S.tells → (m : Logged) → StandsAs T.Store engine m → m.state.stopped ≡ false
         → RanOn T.Store engine.store result.1 (slots_of (T.slots engine.store)) 65536 m (S.left source.old)
-            (S.left source.new) K.tells (K.held sink.old) (K.held sink.new) result.0 }
+        (S.left source.new) K.tells (K.held sink.old) (K.held sink.new) result.0 }
     ensures ends { EndsRun result.0 }
     ensures asks { AsksNothing result.0 → ⊥ }
     ensures at_end { result.0 ≡ Status.Done → S.tells → S.left source.new ≡ [] }
@@ -155,16 +154,16 @@ pub fn run_script<S: Source, K: Sink, D: Disk>(
     ensures source_done { D.tells → S.tells → result.0 ≡ Status.SourceFault →
         ((taken : List ℕ) × IsTaken taken (S.left source.old) (S.left source.new)
         × HasRun (D.content disk) (whole_lines taken) K.tells (K.held sink.old) (K.held sink.new) false
-            (Endures D.image D.moment D.image_since disk result.1)) }
+        (Endures D.image D.moment D.image_since disk result.1)) }
     ensures too_long { D.tells → S.tells → result.0 ≡ Status.TooLong →
         ((taken : List ℕ) × (length taken ≡ 1000000000) × IsTaken taken (S.left source.old) (S.left source.new)
         × HasRun (D.content disk) (whole_lines taken) K.tells (K.held sink.old) (K.held sink.new) false
-            (Endures D.image D.moment D.image_since disk result.1)) }
+        (Endures D.image D.moment D.image_since disk result.1)) }
     ensures disk_done { D.tells → S.tells → result.0 ≡ Status.DiskFault →
         ((source.new ≡ source.old) × (sink.new ≡ sink.old)
-            × WasStopped D.content D.image D.moment D.image_since disk result.1)
+        × WasStopped D.content D.image D.moment D.image_since disk result.1)
         ⊎ HasHalted (D.content disk) (S.left source.old) (S.left source.new) K.tells (K.held sink.old) (K.held sink.new)
-            (Endures D.image D.moment D.image_since disk result.1) }
+        (Endures D.image D.moment D.image_since disk result.1) }
     ensures cut_off { D.tells → S.tells → K.tells → result.0 ≡ Status.SinkFault → WasCutOff (D.content disk)
         (lines_of (S.left source.old)) (K.held sink.old) (K.held sink.new)
         (Endures D.image D.moment D.image_since disk result.1) }

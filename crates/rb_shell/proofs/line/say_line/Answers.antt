@@ -30,8 +30,11 @@ returns-then-is_remark-clause-did g c = λ m is going. record {
   now = m;
   reached = is;
   passed = still g c.args.engine.now m is going;
-  ran = (said_nothing (LineOut m (slots_of (g.T.Store.slots c.args.engine.now.store)) c.args.line.now) m g.K.Sink.tells _ _
-      (skipped c.if-line-gt-LINE_BYTES.false (ap is_remark (sym c.without_return-text.ensures) ∙ sym c.is_remark.ensures ∙ c.if-is_remark.true) refl refl) c.requires, going);
+  ran = (
+    said_nothing (LineOut m (slots_of (g.T.Store.slots c.args.engine.now.store)) c.args.line.now) m g.K.Sink.tells _ _
+        (skipped c.if-line-gt-LINE_BYTES.false (ap is_remark (sym c.without_return-text.ensures) ∙ sym c.is_remark.ensures ∙ c.if-is_remark.true) refl refl) c.requires,
+    going,
+  );
 }
 
 pub returns-in-None-clause-did : goal.returns-in-None-clause-did

@@ -1,5 +1,5 @@
 //! Command lines over a disk in memory: one that makes a file, and those that end otherwise.
-use crate::{Status, run};
+use rb_shell::{Status, run};
 use rb_base::NoMemory;
 use rb_memdisk::MemDisk;
 use rb_stream::{MemSink, MemSource};
@@ -50,7 +50,7 @@ fn ends_otherwise(rt: HostRuntime) -> Result<(), Fail> {
         assert_eq!(rt; status.code(), code);
         assert_eq!(rt; kept.bytes(), b"x".as_slice());
     }
-    let disk = MemDisk::new(rt.alloc(), b"", 227_328, 113, &[113])?;
+    let disk = MemDisk::new(rt.alloc(), b"", 227_328, 113, &[7])?;
     let (status, _unsynced) = ended(rt.alloc(), format, disk)?;
     assert_eq!(rt; status.name(), "DiskFault");
     Ok(())
