@@ -14,6 +14,3 @@ pub use laws::restarts_sound;
 pub use line::step;
 pub use rb_engine::Engine;
 pub use status::Status;
-
-#[cfg(test)]
-mod tests;
