@@ -57,7 +57,8 @@ fn split(alloc: Global, line: &str) -> Result<Vec<String>, AllocError> {
     Ok(words)
 }
 
-fn run_on(
+/// Runs a line over a disk, with a script.
+pub fn run_on(
     alloc: Global,
     line: &str,
     script: &[u8],

@@ -3,11 +3,13 @@
 #![tactic(auto)]
 
 #[cfg(test)]
-mod command;
+mod command_lines;
 #[cfg(test)]
 mod commits;
 #[cfg(test)]
 mod constructors;
+#[cfg(test)]
+mod dialogues;
 #[cfg(test)]
 mod doubles;
 #[cfg(test)]

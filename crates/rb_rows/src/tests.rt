@@ -1,6 +1,8 @@
-//! The worked rows. What is expected stands in the rows, and is no output of the program.
+//! The worked rows: dialogues, and what a run leaves for the next one. What is expected stands in the rows, and is no
+//! output of the program.
 use crate::commits::image;
-use crate::doubles::{Ended, FORMAT_LARGE, FORMAT_SMALL, Failing, NONE, RUN, formatted, run_over};
+use crate::dialogues::{check, check_each, replies_of};
+use crate::doubles::{FORMAT_LARGE, FORMAT_SMALL, Failing, NONE, RUN, formatted, run_over};
 use rb_base::NoMemory;
 use rb_engine::Engine;
 use rb_memdisk::{MemDisk, Pick};
@@ -9,245 +11,220 @@ use rb_store::LapStore;
 use std::alloc::Global;
 use std::test::Fail;
 
-// Scripts over a fresh file each, and their replies.
+// Over a fresh file each. The last line of a script may lack its end, and its reply stands above it then.
 #[test]
 fn replies(rt: HostRuntime) -> Result<(), Fail> {
-    let rows: [(&str, &[u8], &[u8]); 7] = [
-        ("empty script", b"", b""),
+    let rows: [(&str, &[u8]); 7] = [
+        ("empty script", b""),
         (
             "insert, commit, fetch",
             b"\
 insert 1 1 1 a
+#> 1 ok
 commit 1
+#> 1 committed 1
 open 1 c 1 0 9
+#> 1 ok
 fetch 1 c 5
+#> 1 row 1 a
+#> 1 end
 commit 1
+#> 1 ok
 close 1 c
-",
-            b"\
-1 ok
-1 committed 1
-1 ok
-1 row 1 a
-1 end
-1 ok
-1 ok
+#> 1 ok
 ",
         ),
         (
             "closed cursors",
             b"\
 insert 1 1 1 a
+#> 1 ok
 open 1 first 1 0 9
+#> 1 ok
 open 1 second 1 0 9
+#> 1 ok
 close 1 first
+#> 1 ok
 fetch 1 first 1
+#> 1 no cursor
 close 1 first
+#> 1 no cursor
 fetch 1 second 1
+#> 1 row 1 a
 close 2 second
+#> 2 no session
 open 1 first 1 0 9
+#> 1 ok
 fetch 1 first 1
-",
-            b"\
-1 ok
-1 ok
-1 ok
-1 ok
-1 no cursor
-1 no cursor
-1 row 1 a
-2 no session
-1 ok
-1 row 1 a
+#> 1 row 1 a
 ",
         ),
         (
             "frozen own changes",
             b"\
 insert 1 1 1 a
+#> 1 ok
 open 1 c 1 0 9
+#> 1 ok
 insert 1 1 2 b
+#> 1 ok
 fetch 1 c 5
-",
-            b"\
-1 ok
-1 ok
-1 ok
-1 row 1 a
-1 end
+#> 1 row 1 a
+#> 1 end
 ",
         ),
         (
             "last line without its end",
-            b"insert 1 1 1 a\ncommit 1",
-            b"1 ok\n1 committed 1\n",
+            b"\
+insert 1 1 1 a
+#> 1 ok
+#> 1 committed 1
+commit 1",
         ),
         (
             "one row at a time",
             b"\
 insert 1 1 1 a
+#> 1 ok
 open 1 c 1 0 9
+#> 1 ok
 fetch 1 c 1
+#> 1 row 1 a
 fetch 1 c 1
+#> 1 end
 fetch 1 c 1
+#> 1 end
 open 1 d 1 5 4
+#> 1 ok
 fetch 1 d 1
-",
-            b"\
-1 ok
-1 ok
-1 row 1 a
-1 end
-1 end
-1 ok
-1 end
+#> 1 end
 ",
         ),
-        (
-            "line bounds",
-            LINE_BOUNDS,
-            b"\
-1 ok
-1 value too long
-bad line
-bad line
-bad line
-bad line
-1 committed 1
-",
-        ),
+        ("line bounds", LINE_BOUNDS),
     ];
     let file = formatted(rt.alloc(), FORMAT_LARGE)?;
-    for (name, script, replies) in rows {
-        let end = run_over(rt.alloc(), RUN, &file, script, NONE)?;
-        assert_eq!(rt; end.status.code(), 0, "{name}");
-        assert_eq!(rt; end.sink.bytes(), replies, "{name}");
-    }
+    check_each(&rt, rt.alloc(), &file, &rows)?;
     Ok(())
 }
 
 // Values of 80 and 81 bytes.
 const LINE_BOUNDS: &[u8] = b"\
 insert 1 1 18446744073709551615 vvvvvvvvvvvvvvvvvvvvvvvvvvvvvvvvvvvvvvvvvvvvvvvvvvvvvvvvvvvvvvvvvvvvvvvvvvvvvvvv
+#> 1 ok
 insert 1 1 2 vvvvvvvvvvvvvvvvvvvvvvvvvvvvvvvvvvvvvvvvvvvvvvvvvvvvvvvvvvvvvvvvvvvvvvvvvvvvvvvvv
+#> 1 value too long
 insert 1 1 18446744073709551616 a
+#> bad line
 insert 1 1 01 a
+#> bad line
 insert 1  1 1 a
+#> bad line
 INSERT 1 1 1 a
+#> bad line
 commit 1\r
+#> 1 committed 1
 ";
 
-// Scripts of refusals, over a fresh file each.
+// Refusals, over a fresh file each.
 #[test]
 fn refusals(rt: HostRuntime) -> Result<(), Fail> {
-    let rows: [(&str, &[u8], &[u8]); 3] = [
+    let rows: [(&str, &[u8]); 3] = [
         (
             "sessions and tables",
             b"\
 commit 65535
+#> 65535 no session
 commit 0
+#> 0 no session
 commit 2
+#> 2 no session
 insert 2 1 1 a
+#> 2 no session
 open 2 c 1 0 9
+#> 2 no session
 fetch 2 c 1
+#> 2 no session
 update 2 1 1 a
+#> 2 no session
 delete 2 1 1
+#> 2 no session
 close 2 c
+#> 2 no session
 insert 1 2 1 a
+#> 1 no table
 insert 1 0 1 a
+#> 1 no table
 update 1 2 1 a
+#> 1 no table
 delete 1 2 1
+#> 1 no table
 open 1 c 2 0 9
-",
-            b"\
-65535 no session
-0 no session
-2 no session
-2 no session
-2 no session
-2 no session
-2 no session
-2 no session
-2 no session
-1 no table
-1 no table
-1 no table
-1 no table
-1 no table
+#> 1 no table
 ",
         ),
         (
             "keys and cursors",
             b"\
 insert 1 1 1 a
+#> 1 ok
 insert 1 1 1 b
+#> 1 duplicate
 fetch 1 c 1
+#> 1 no cursor
 open 1 c 1 0 9
+#> 1 ok
 open 1 c 1 0 9
+#> 1 cursor there
 open 1 c 2 0 9
+#> 1 no table
 commit 1
+#> 1 committed 1
 insert 1 1 1 b
-",
-            b"\
-1 ok
-1 duplicate
-1 no cursor
-1 ok
-1 cursor there
-1 no table
-1 committed 1
-1 duplicate
+#> 1 duplicate
 ",
         ),
-        ("sixteen cursors", SEVENTEEN_CURSORS, SIXTEEN_OPEN),
+        ("sixteen cursors", SEVENTEEN_CURSORS),
     ];
     let file = formatted(rt.alloc(), FORMAT_SMALL)?;
-    for (name, script, replies) in rows {
-        let end = run_over(rt.alloc(), RUN, &file, script, NONE)?;
-        assert_eq!(rt; end.status.code(), 0, "{name}");
-        assert_eq!(rt; end.sink.bytes(), replies, "{name}");
-    }
+    check_each(&rt, rt.alloc(), &file, &rows)?;
     Ok(())
 }
 
 const SEVENTEEN_CURSORS: &[u8] = b"\
 open 1 a 1 0 9
+#> 1 ok
 open 1 b 1 0 9
+#> 1 ok
 open 1 c 1 0 9
+#> 1 ok
 open 1 d 1 0 9
+#> 1 ok
 open 1 e 1 0 9
+#> 1 ok
 open 1 f 1 0 9
+#> 1 ok
 open 1 g 1 0 9
+#> 1 ok
 open 1 h 1 0 9
+#> 1 ok
 open 1 i 1 0 9
+#> 1 ok
 open 1 j 1 0 9
+#> 1 ok
 open 1 k 1 0 9
+#> 1 ok
 open 1 l 1 0 9
+#> 1 ok
 open 1 m 1 0 9
+#> 1 ok
 open 1 n 1 0 9
+#> 1 ok
 open 1 o 1 0 9
+#> 1 ok
 open 1 p 1 0 9
+#> 1 ok
 open 1 q 1 0 9
-";
-
-const SIXTEEN_OPEN: &[u8] = b"\
-1 ok
-1 ok
-1 ok
-1 ok
-1 ok
-1 ok
-1 ok
-1 ok
-1 ok
-1 ok
-1 ok
-1 ok
-1 ok
-1 ok
-1 ok
-1 ok
-1 too many cursors
+#> 1 too many cursors
 ";
 
 // Each line is a bad one.
@@ -293,24 +270,25 @@ const OTHER_LINES: &[u8] = b"\
 #
 # x\r
 insert 1 1 1 #
+#> 1 ok
 open 1 abcdefghijklmnop 1 0 9
+#> 1 ok
 open 1 _0 1 0 9
+#> 1 ok
 fetch 1 c 1000000
+#> 1 no cursor
 ";
 
 #[test]
 fn bad_lines(rt: HostRuntime) -> Result<(), Fail> {
+    let mut dialogue = Vec::new(rt.alloc());
+    for line in BAD_LINES.split_inclusive(|byte| *byte == b'\n') {
+        dialogue.extend_from_slice(line)?;
+        dialogue.extend_from_slice(b"#> bad line\n")?;
+    }
     let file = formatted(rt.alloc(), FORMAT_SMALL)?;
-    let bad = run_over(rt.alloc(), RUN, &file, BAD_LINES, NONE)?;
-    let replies = repeated(rt.alloc(), b"bad line\n", 32)?;
-    assert_eq!(rt; bad.status.code(), 0);
-    assert_eq!(rt; bad.sink.bytes(), replies.as_slice());
-    let others = run_over(rt.alloc(), RUN, &file, OTHER_LINES, NONE)?;
-    assert_eq!(rt; others.status.code(), 0);
-    assert_eq!(rt;
-        others.sink.bytes(),
-        b"1 ok\n1 ok\n1 ok\n1 no cursor\n".as_slice()
-    );
+    let _ = check(&rt, rt.alloc(), "bad lines", &file, &dialogue)?;
+    let _ = check(&rt, rt.alloc(), "other lines", &file, OTHER_LINES)?;
     Ok(())
 }
 
@@ -322,23 +300,22 @@ fn repeated(alloc: Global, piece: &[u8], count: usize) -> Result<Vec<u8>, NoMemo
     Ok(bytes)
 }
 
-// A line has at most 512 bytes, its CR among them.
+// A line has at most 512 bytes, its CR among them. Here the reply stands above the line, which may have no end.
 #[test]
 fn long_lines(rt: HostRuntime) -> Result<(), Fail> {
-    let rows: [(usize, &[u8], &[u8]); 5] = [
-        (511, b"\r\n", b""),
-        (512, b"\n", b""),
-        (512, b"\r\n", b"bad line\n"),
-        (513, b"\n", b"bad line\n"),
-        (100_000, b"", b"bad line\n"),
+    let rows: [(&str, &[u8], usize, &[u8]); 5] = [
+        ("511, CR", b"", 511, b"\r\n"),
+        ("512", b"", 512, b"\n"),
+        ("512, CR", b"#> bad line\n", 512, b"\r\n"),
+        ("513", b"#> bad line\n", 513, b"\n"),
+        ("100,000", b"#> bad line\n", 100_000, b""),
     ];
     let file = formatted(rt.alloc(), FORMAT_SMALL)?;
-    for (count, tail, replies) in rows {
-        let mut script = repeated(rt.alloc(), b"#", count)?;
-        script.extend_from_slice(tail)?;
-        let end = run_over(rt.alloc(), RUN, &file, &script, NONE)?;
-        assert_eq!(rt; end.status.code(), 0, "{count}");
-        assert_eq!(rt; end.sink.bytes(), replies, "{count}");
+    for (name, reply, count, end) in rows {
+        let mut dialogue = reply.to_vec(rt.alloc())?;
+        dialogue.extend_from_slice(&repeated(rt.alloc(), b"#", count)?)?;
+        dialogue.extend_from_slice(end)?;
+        let _ = check(&rt, rt.alloc(), name, &file, &dialogue)?;
     }
     Ok(())
 }
@@ -346,337 +323,414 @@ fn long_lines(rt: HostRuntime) -> Result<(), Fail> {
 // Rows come by the remainder of their keys.
 #[test]
 fn two_blocks(rt: HostRuntime) -> Result<(), Fail> {
-    let script = b"\
+    let dialogue = b"\
 insert 1 1 3 c
+#> 1 ok
 insert 1 1 0 a
+#> 1 ok
 commit 1
+#> 1 committed 1
 insert 1 1 2 d
+#> 1 ok
 insert 1 1 1 b
+#> 1 ok
 open 1 c 1 0 9
+#> 1 ok
 fetch 1 c 9
+#> 1 row 0 a
+#> 1 row 2 d
+#> 1 row 1 b
+#> 1 row 3 c
+#> 1 end
 open 1 d 1 1 2
+#> 1 ok
 fetch 1 d 9
-";
-    let replies = b"\
-1 ok
-1 ok
-1 committed 1
-1 ok
-1 ok
-1 ok
-1 row 0 a
-1 row 2 d
-1 row 1 b
-1 row 3 c
-1 end
-1 ok
-1 row 2 d
-1 row 1 b
-1 end
+#> 1 row 2 d
+#> 1 row 1 b
+#> 1 end
 ";
     let format = "f format tables=1 blocks=2 segments=1 log=64";
     let file = formatted(rt.alloc(), format)?;
-    let end = run_over(rt.alloc(), RUN, &file, script, NONE)?;
-    assert_eq!(rt; end.status.code(), 0);
-    assert_eq!(rt; end.sink.bytes(), replies.as_slice());
+    let _ = check(&rt, rt.alloc(), "two blocks", &file, dialogue)?;
     Ok(())
 }
 
-// Scripts of updates and deletes, over a fresh file each.
+// Updates and deletes, over a fresh file each.
 #[test]
 fn updates_and_deletes(rt: HostRuntime) -> Result<(), Fail> {
-    let rows: [(&str, &[u8], &[u8]); 7] = [
+    let rows: [(&str, &[u8]); 7] = [
         (
             "keys without a row",
             b"\
 update 1 1 1 a
+#> 1 not found
 delete 1 1 1
+#> 1 not found
 insert 1 1 1 a
+#> 1 ok
 insert 1 1 1 b
+#> 1 duplicate
 delete 1 1 1
+#> 1 ok
 update 1 1 1 b
+#> 1 not found
 delete 1 1 1
+#> 1 not found
 commit 1
+#> 1 committed 1
 update 1 1 1 b
+#> 1 not found
 delete 1 1 1
-",
-            b"\
-1 not found
-1 not found
-1 ok
-1 duplicate
-1 ok
-1 not found
-1 not found
-1 committed 1
-1 not found
-1 not found
+#> 1 not found
 ",
         ),
         (
             "an update, and a new cursor",
             b"\
 insert 1 1 1 a
+#> 1 ok
 commit 1
+#> 1 committed 1
 update 1 1 1 b
+#> 1 ok
 open 1 own 1 0 9
+#> 1 ok
 commit 1
+#> 1 committed 2
 open 1 late 1 0 9
+#> 1 ok
 fetch 1 own 5
+#> 1 row 1 b
+#> 1 end
 fetch 1 late 5
-",
-            b"\
-1 ok
-1 committed 1
-1 ok
-1 ok
-1 committed 2
-1 ok
-1 row 1 b
-1 end
-1 row 1 b
-1 end
+#> 1 row 1 b
+#> 1 end
 ",
         ),
         (
             "a delete, and a new cursor",
             b"\
 insert 1 1 1 a
+#> 1 ok
 insert 1 1 2 b
+#> 1 ok
 commit 1
+#> 1 committed 1
 delete 1 1 1
+#> 1 ok
 open 1 own 1 0 9
+#> 1 ok
 commit 1
+#> 1 committed 2
 open 1 late 1 0 9
+#> 1 ok
 fetch 1 own 5
+#> 1 row 2 b
+#> 1 end
 fetch 1 late 5
-",
-            b"\
-1 ok
-1 ok
-1 committed 1
-1 ok
-1 ok
-1 committed 2
-1 ok
-1 row 2 b
-1 end
-1 row 2 b
-1 end
+#> 1 row 2 b
+#> 1 end
 ",
         ),
         (
             "a cursor opened before them",
             b"\
 insert 1 1 1 a
+#> 1 ok
 insert 1 1 2 b
+#> 1 ok
 commit 1
+#> 1 committed 1
 open 1 early 1 0 9
+#> 1 ok
 fetch 1 early 1
+#> 1 row 1 a
 update 1 1 1 c
+#> 1 ok
 delete 1 1 2
+#> 1 ok
 insert 1 1 3 d
+#> 1 ok
 fetch 1 early 1
+#> 1 row 2 b
 commit 1
+#> 1 committed 2
 fetch 1 early 1
+#> 1 end
 close 1 early
+#> 1 ok
 open 1 early 1 0 9
+#> 1 ok
 fetch 1 early 5
-",
-            b"\
-1 ok
-1 ok
-1 committed 1
-1 ok
-1 row 1 a
-1 ok
-1 ok
-1 ok
-1 row 2 b
-1 committed 2
-1 end
-1 ok
-1 ok
-1 row 1 c
-1 row 3 d
-1 end
+#> 1 row 1 c
+#> 1 row 3 d
+#> 1 end
 ",
         ),
         (
             "a key deleted and made again",
             b"\
 insert 1 1 1 a
+#> 1 ok
 commit 1
+#> 1 committed 1
 open 1 early 1 0 9
+#> 1 ok
 delete 1 1 1
+#> 1 ok
 open 1 between 1 0 9
+#> 1 ok
 insert 1 1 1 b
+#> 1 ok
 insert 1 1 1 c
+#> 1 duplicate
 open 1 own 1 0 9
+#> 1 ok
 commit 1
+#> 1 committed 2
 fetch 1 early 5
+#> 1 row 1 a
+#> 1 end
 fetch 1 between 5
+#> 1 end
 fetch 1 own 5
-",
-            b"\
-1 ok
-1 committed 1
-1 ok
-1 ok
-1 ok
-1 ok
-1 duplicate
-1 ok
-1 committed 2
-1 row 1 a
-1 end
-1 end
-1 row 1 b
-1 end
+#> 1 row 1 b
+#> 1 end
 ",
         ),
         (
             "changes of one transaction that cancel out",
             b"\
 insert 1 1 1 a
+#> 1 ok
 delete 1 1 1
+#> 1 ok
 open 1 c 1 0 9
+#> 1 ok
 fetch 1 c 5
+#> 1 end
 commit 1
+#> 1 committed 1
 commit 1
-",
-            b"\
-1 ok
-1 ok
-1 ok
-1 end
-1 committed 1
-1 ok
+#> 1 ok
 ",
         ),
-        ("values", LONG_UPDATES, LONG_REPLIES),
+        ("values", LONG_UPDATES),
     ];
     let file = formatted(rt.alloc(), FORMAT_SMALL)?;
-    for (name, script, replies) in rows {
-        let end = run_over(rt.alloc(), RUN, &file, script, NONE)?;
-        assert_eq!(rt; end.status.code(), 0, "{name}");
-        assert_eq!(rt; end.sink.bytes(), replies, "{name}");
-    }
+    check_each(&rt, rt.alloc(), &file, &rows)?;
     Ok(())
 }
 
 // Values of 80 and 81 bytes. That a value is too long is told before whether there is a row.
 const LONG_UPDATES: &[u8] = b"\
 update 1 1 1 vvvvvvvvvvvvvvvvvvvvvvvvvvvvvvvvvvvvvvvvvvvvvvvvvvvvvvvvvvvvvvvvvvvvvvvvvvvvvvvvv
+#> 1 value too long
 insert 1 1 1 a
+#> 1 ok
 update 1 1 1 vvvvvvvvvvvvvvvvvvvvvvvvvvvvvvvvvvvvvvvvvvvvvvvvvvvvvvvvvvvvvvvvvvvvvvvvvvvvvvvvv
+#> 1 value too long
 update 1 1 1 vvvvvvvvvvvvvvvvvvvvvvvvvvvvvvvvvvvvvvvvvvvvvvvvvvvvvvvvvvvvvvvvvvvvvvvvvvvvvvvv
+#> 1 ok
 open 1 long 1 0 9
+#> 1 ok
 update 1 1 1 b
+#> 1 ok
 open 1 short 1 0 9
+#> 1 ok
 fetch 1 long 5
+#> 1 row 1 vvvvvvvvvvvvvvvvvvvvvvvvvvvvvvvvvvvvvvvvvvvvvvvvvvvvvvvvvvvvvvvvvvvvvvvvvvvvvvvv
+#> 1 end
 fetch 1 short 5
-";
-
-const LONG_REPLIES: &[u8] = b"\
-1 value too long
-1 ok
-1 value too long
-1 ok
-1 ok
-1 ok
-1 ok
-1 row 1 vvvvvvvvvvvvvvvvvvvvvvvvvvvvvvvvvvvvvvvvvvvvvvvvvvvvvvvvvvvvvvvvvvvvvvvvvvvvvvvv
-1 end
-1 row 1 b
-1 end
+#> 1 row 1 b
+#> 1 end
 ";
 
 // What a first run leaves for a second one.
 #[test]
 fn second_runs(rt: HostRuntime) -> Result<(), Fail> {
-    let fetch = b"open 1 c 1 0 9\nfetch 1 c 5\n".as_slice();
-    let rows: [(&[u8], &[u8], &[u8]); 7] = [
-        (b"", fetch, b"1 ok\n1 end\n"),
-        (b"insert 1 1 1 a\n", fetch, b"1 ok\n1 end\n"),
+    let rows: [(&str, &[u8], &[u8]); 7] = [
         (
-            b"insert 1 1 1 a\ncommit 1\ninsert 1 1 2 b\n",
-            fetch,
-            b"1 ok\n1 row 1 a\n1 end\n",
+            "nothing",
+            b"",
+            b"\
+open 1 c 1 0 9
+#> 1 ok
+fetch 1 c 5
+#> 1 end
+",
         ),
         (
-            b"insert 1 1 1 a\ncommit 1\n",
-            b"insert 1 1 1 b\ninsert 1 1 2 b\ncommit 1\n",
-            b"1 duplicate\n1 ok\n1 committed 2\n",
+            "a row without its commit",
+            b"\
+insert 1 1 1 a
+#> 1 ok
+",
+            b"\
+open 1 c 1 0 9
+#> 1 ok
+fetch 1 c 5
+#> 1 end
+",
         ),
         (
-            b"insert 1 1 1 a\ninsert 1 1 2 b\ncommit 1\nupdate 1 1 1 c\ndelete 1 1 2\ncommit 1\n",
-            fetch,
-            b"1 ok\n1 row 1 c\n1 end\n",
+            "a row, and one without its commit",
+            b"\
+insert 1 1 1 a
+#> 1 ok
+commit 1
+#> 1 committed 1
+insert 1 1 2 b
+#> 1 ok
+",
+            b"\
+open 1 c 1 0 9
+#> 1 ok
+fetch 1 c 5
+#> 1 row 1 a
+#> 1 end
+",
         ),
         (
-            b"insert 1 1 1 a\ninsert 1 1 2 b\ncommit 1\nupdate 1 1 1 c\ndelete 1 1 2\n",
-            fetch,
-            b"1 ok\n1 row 1 a\n1 row 2 b\n1 end\n",
+            "a key that is there",
+            b"\
+insert 1 1 1 a
+#> 1 ok
+commit 1
+#> 1 committed 1
+",
+            b"\
+insert 1 1 1 b
+#> 1 duplicate
+insert 1 1 2 b
+#> 1 ok
+commit 1
+#> 1 committed 2
+",
         ),
         (
-            b"insert 1 1 1 a\ncommit 1\ndelete 1 1 1\ncommit 1\n",
-            b"update 1 1 1 b\ninsert 1 1 1 b\ncommit 1\n",
-            b"1 not found\n1 ok\n1 committed 3\n",
+            "an update and a delete",
+            b"\
+insert 1 1 1 a
+#> 1 ok
+insert 1 1 2 b
+#> 1 ok
+commit 1
+#> 1 committed 1
+update 1 1 1 c
+#> 1 ok
+delete 1 1 2
+#> 1 ok
+commit 1
+#> 1 committed 2
+",
+            b"\
+open 1 c 1 0 9
+#> 1 ok
+fetch 1 c 5
+#> 1 row 1 c
+#> 1 end
+",
+        ),
+        (
+            "an update and a delete without their commit",
+            b"\
+insert 1 1 1 a
+#> 1 ok
+insert 1 1 2 b
+#> 1 ok
+commit 1
+#> 1 committed 1
+update 1 1 1 c
+#> 1 ok
+delete 1 1 2
+#> 1 ok
+",
+            b"\
+open 1 c 1 0 9
+#> 1 ok
+fetch 1 c 5
+#> 1 row 1 a
+#> 1 row 2 b
+#> 1 end
+",
+        ),
+        (
+            "a key that is gone",
+            b"\
+insert 1 1 1 a
+#> 1 ok
+commit 1
+#> 1 committed 1
+delete 1 1 1
+#> 1 ok
+commit 1
+#> 1 committed 2
+",
+            b"\
+update 1 1 1 b
+#> 1 not found
+insert 1 1 1 b
+#> 1 ok
+commit 1
+#> 1 committed 3
+",
         ),
     ];
     let file = formatted(rt.alloc(), FORMAT_SMALL)?;
-    for (first, second, replies) in rows {
-        let left = run_over(rt.alloc(), RUN, &file, first, NONE)?;
-        let end = run_over(rt.alloc(), RUN, left.disk.bytes(), second, NONE)?;
-        assert_eq!(rt; end.status.code(), 0);
-        assert_eq!(rt; end.sink.bytes(), replies);
+    for (name, first, second) in rows {
+        let left = check(&rt, rt.alloc(), name, &file, first)?;
+        let _ = check(&rt, rt.alloc(), name, left.bytes(), second)?;
     }
     Ok(())
 }
 
-// Commits of one group and its number each, and what they answer. With 31 of them 62 slots of a small file are used.
-fn one_row_commits(alloc: Global) -> Result<(String, String), NoMemory> {
-    let mut script = String::from_str(alloc, "insert 1 1 1 a\ncommit 1\n").map_err(|_| NoMemory)?;
-    let mut replies = String::from_str(alloc, "1 ok\n1 committed 1\n").map_err(|_| NoMemory)?;
+// Commits of one group and its number each. With 31 of them 62 slots of a small file are used.
+fn one_row_commits(alloc: Global) -> Result<String, NoMemory> {
+    let first = "insert 1 1 1 a\n#> 1 ok\ncommit 1\n#> 1 committed 1\n";
+    let mut dialogue = String::from_str(alloc, first).map_err(|_| NoMemory)?;
     for number in 2..=31 {
-        script
-            .push_str("update 1 1 1 a\ncommit 1\n")
-            .map_err(|_| NoMemory)?;
-        write!(replies, "1 ok\n1 committed {number}\n").map_err(|_| NoMemory)?;
+        write!(
+            dialogue,
+            "update 1 1 1 a\n#> 1 ok\ncommit 1\n#> 1 committed {number}\n"
+        )
+        .map_err(|_| NoMemory)?;
     }
-    Ok((script, replies))
+    Ok(dialogue)
 }
 
 // One slot has room still, and a write asks for two: its own and its commit's. What asks for none goes on.
 #[test]
 fn log_full_by_room(rt: HostRuntime) -> Result<(), Fail> {
     let file = formatted(rt.alloc(), FORMAT_SMALL)?;
-    let (mut script, mut replies) = one_row_commits(rt.alloc())?;
-    script.push_str("update 1 1 1 a\n")?;
-    replies.push_str("1 log full\n")?;
-    script.push_str("delete 1 1 1\ninsert 1 1 2 a\nupdate 1 1 2 a\ncommit 1\n")?;
-    replies.push_str("1 log full\n1 log full\n1 not found\n1 ok\n")?;
-    let end = run_over(rt.alloc(), RUN, &file, script.as_bytes(), NONE)?;
-    assert_eq!(rt; end.status.code(), 0);
-    assert_eq!(rt; end.sink.bytes(), replies.as_bytes());
+    let mut dialogue = one_row_commits(rt.alloc())?;
+    dialogue.push_str(
+        "\
+update 1 1 1 a
+#> 1 log full
+delete 1 1 1
+#> 1 log full
+insert 1 1 2 a
+#> 1 log full
+update 1 1 2 a
+#> 1 not found
+commit 1
+#> 1 ok
+",
+    )?;
+    let _ = check(&rt, rt.alloc(), "log full", &file, dialogue.as_bytes())?;
     Ok(())
 }
 
+// The file is readable still.
 #[test]
 fn log_full_by_room_second_run(rt: HostRuntime) -> Result<(), Fail> {
     let file = formatted(rt.alloc(), FORMAT_SMALL)?;
-    let (script, replies) = one_row_commits(rt.alloc())?;
-    let first = run_over(rt.alloc(), RUN, &file, script.as_bytes(), NONE)?;
-    assert_eq!(rt; first.status.code(), 0);
-    assert_eq!(rt; first.sink.bytes(), replies.as_bytes());
-    let again = b"update 1 1 1 a\n";
-    let second = run_over(rt.alloc(), RUN, first.disk.bytes(), again, NONE)?;
-    assert_eq!(rt; second.status.code(), 0);
-    assert_eq!(rt; second.sink.bytes(), b"1 log full\n".as_slice());
-    // The file is readable still.
-    let found = rows_of(rt.alloc(), second.disk.bytes())?;
-    assert_eq!(rt; found.as_slice(), b"1 ok\n1 row 1 a\n1 end\n".as_slice());
+    let commits = one_row_commits(rt.alloc())?;
+    let again = b"update 1 1 1 a\n#> 1 log full\n";
+    let first = check(&rt, rt.alloc(), "commits", &file, commits.as_bytes())?;
+    let second = check(&rt, rt.alloc(), "again", first.bytes(), again)?;
+    let _ = check(&rt, rt.alloc(), "rows", second.bytes(), ONE_ROW)?;
     Ok(())
 }
 
@@ -684,17 +738,21 @@ fn log_full_by_room_second_run(rt: HostRuntime) -> Result<(), Fail> {
 #[test]
 fn log_full_within_a_transaction(rt: HostRuntime) -> Result<(), Fail> {
     let file = formatted(rt.alloc(), FORMAT_SMALL)?;
-    let mut script = b"insert 1 1 1 a\n".to_vec(rt.alloc())?;
-    let updates = repeated(rt.alloc(), b"update 1 1 1 b\n", 62)?;
-    script.extend_from_slice(&updates)?;
-    script.extend_from_slice(b"commit 1\nupdate 1 1 1 c\n")?;
-    let mut replies = repeated(rt.alloc(), b"1 ok\n", 62)?;
-    replies.extend_from_slice(b"1 log full\n1 committed 1\n1 log full\n")?;
-    let end = run_over(rt.alloc(), RUN, &file, &script, NONE)?;
-    assert_eq!(rt; end.status.code(), 0);
-    assert_eq!(rt; end.sink.bytes(), replies.as_slice());
-    let found = rows_of(rt.alloc(), end.disk.bytes())?;
-    assert_eq!(rt; found.as_slice(), b"1 ok\n1 row 1 b\n1 end\n".as_slice());
+    let mut dialogue = b"insert 1 1 1 b\n#> 1 ok\n".to_vec(rt.alloc())?;
+    let updates = repeated(rt.alloc(), b"update 1 1 1 a\n#> 1 ok\n", 61)?;
+    dialogue.extend_from_slice(&updates)?;
+    dialogue.extend_from_slice(
+        b"\
+update 1 1 1 b
+#> 1 log full
+commit 1
+#> 1 committed 1
+update 1 1 1 c
+#> 1 log full
+",
+    )?;
+    let left = check(&rt, rt.alloc(), "log full", &file, &dialogue)?;
+    let _ = check(&rt, rt.alloc(), "rows", left.bytes(), ONE_ROW)?;
     Ok(())
 }
 
@@ -702,16 +760,25 @@ fn log_full_within_a_transaction(rt: HostRuntime) -> Result<(), Fail> {
 #[test]
 fn block_full_until_commit(rt: HostRuntime) -> Result<(), Fail> {
     let file = formatted(rt.alloc(), FORMAT_LARGE)?;
-    let mut script = String::new(rt.alloc());
+    let mut dialogue = String::new(rt.alloc());
     for key in 0..16 {
-        write!(script, "insert 1 1 {key} a\n")?;
+        write!(dialogue, "insert 1 1 {key} a\n#> 1 ok\n")?;
     }
-    script.push_str("commit 1\ndelete 1 1 0\ninsert 1 1 16 a\ncommit 1\ninsert 1 1 16 a\n")?;
-    let mut replies = repeated(rt.alloc(), b"1 ok\n", 16)?;
-    replies.extend_from_slice(b"1 committed 1\n1 ok\n1 block full\n1 committed 2\n1 ok\n")?;
-    let end = run_over(rt.alloc(), RUN, &file, script.as_bytes(), NONE)?;
-    assert_eq!(rt; end.status.code(), 0);
-    assert_eq!(rt; end.sink.bytes(), replies.as_slice());
+    dialogue.push_str(
+        "\
+commit 1
+#> 1 committed 1
+delete 1 1 0
+#> 1 ok
+insert 1 1 16 a
+#> 1 block full
+commit 1
+#> 1 committed 2
+insert 1 1 16 a
+#> 1 ok
+",
+    )?;
+    let _ = check(&rt, rt.alloc(), "block full", &file, dialogue.as_bytes())?;
     Ok(())
 }
 
@@ -761,23 +828,42 @@ fn bad_files_and_words(rt: HostRuntime) -> Result<(), Fail> {
     Ok(())
 }
 
-// One commit over a small file. Its last five calls are the run of groups, the gate behind it, a sync, the run's first
-// gate and a sync.
-fn committed(alloc: Global, file: &[u8], failing: Failing<'_>) -> Result<Ended, NoMemory> {
-    run_over(
-        alloc,
-        RUN,
-        file,
-        b"insert 1 1 1 a\ncommit 1\ncommit 1\n",
-        failing,
-    )
-}
+// Shows the row of key 1, whose value is a.
+const ONE_ROW: &[u8] = b"\
+open 1 c 1 0 9
+#> 1 ok
+fetch 1 c 5
+#> 1 row 1 a
+#> 1 end
+";
 
-// The rows that a file has.
-fn rows_of(alloc: Global, file: &[u8]) -> Result<Vec<u8>, NoMemory> {
-    let end = run_over(alloc, RUN, file, b"open 1 c 1 0 9\nfetch 1 c 5\n", NONE)?;
-    end.sink.bytes().to_vec(alloc).map_err(|_| NoMemory)
-}
+// Shows that there is no row.
+const NO_ROW: &[u8] = b"\
+open 1 c 1 0 9
+#> 1 ok
+fetch 1 c 5
+#> 1 end
+";
+
+// One commit over a small file. Its last three calls are a sync of the groups, the gate that makes them count, and a
+// sync.
+const ONE_COMMIT: &[u8] = b"\
+insert 1 1 1 a
+#> 1 ok
+commit 1
+#> 1 committed 1
+commit 1
+#> 1 ok
+";
+
+// The same lines, where the disk fails in the commit.
+const FAULTY_COMMIT: &[u8] = b"\
+insert 1 1 1 a
+#> 1 ok
+commit 1
+#> 1 disk fault
+commit 1
+";
 
 // The engine over the store of a disk.
 fn opened(alloc: Global, disk: MemDisk) -> Result<Engine<LapStore<MemDisk>>, Fail> {
@@ -794,17 +880,17 @@ fn opened(alloc: Global, disk: MemDisk) -> Result<Engine<LapStore<MemDisk>>, Fai
 #[test]
 fn failed_sync(rt: HostRuntime) -> Result<(), Fail> {
     let file = formatted(rt.alloc(), FORMAT_SMALL)?;
-    let good = committed(rt.alloc(), &file, NONE)?;
-    let sync = [good.disk.calls().saturating_sub(2)];
+    let good = check(&rt, rt.alloc(), "no fault", &file, ONE_COMMIT)?;
+    let sync = [good.calls().saturating_sub(2)];
     let failing = Failing {
         disk: &sync,
         ..NONE
     };
-    let end = committed(rt.alloc(), &file, failing)?;
+    let end = run_over(rt.alloc(), RUN, &file, FAULTY_COMMIT, failing)?;
+    let replies = replies_of(rt.alloc(), FAULTY_COMMIT)?;
     assert_eq!(rt; end.status.code(), 3);
-    assert_eq!(rt; end.sink.bytes(), b"1 ok\n1 disk fault\n".as_slice());
-    let found = rows_of(rt.alloc(), end.disk.bytes())?;
-    assert_eq!(rt; found.as_slice(), b"1 ok\n1 end\n".as_slice());
+    assert_eq!(rt; end.sink.bytes(), replies.as_slice());
+    let _ = check(&rt, rt.alloc(), "rows", end.disk.bytes(), NO_ROW)?;
     let room = file.len() as u64 + 10_000;
     let disk = MemDisk::new(rt.alloc(), &file, room, 1_000, &sync)?;
     let mut engine = opened(rt.alloc(), disk)?;
@@ -820,18 +906,17 @@ fn failed_sync(rt: HostRuntime) -> Result<(), Fail> {
 #[test]
 fn gate_images(rt: HostRuntime) -> Result<(), Fail> {
     let file = formatted(rt.alloc(), FORMAT_SMALL)?;
-    let good = committed(rt.alloc(), &file, NONE)?;
-    let before_sync = good.disk.calls().saturating_sub(1);
-    let rows: [(Pick, &[u8]); 4] = [
-        (Pick::New, b"1 ok\n1 row 1 a\n1 end\n"),
-        (Pick::Fill(1), b"1 ok\n1 row 1 a\n1 end\n"),
-        (Pick::Fill(0x7f), b"1 ok\n1 end\n"),
-        (Pick::Old, b"1 ok\n1 end\n"),
+    let good = check(&rt, rt.alloc(), "one commit", &file, ONE_COMMIT)?;
+    let before_sync = good.calls().saturating_sub(1);
+    let rows: [(&str, Pick, &[u8]); 4] = [
+        ("the new gate", Pick::New, ONE_ROW),
+        ("an open gate", Pick::Fill(1), ONE_ROW),
+        ("a closed gate", Pick::Fill(0x7f), NO_ROW),
+        ("the old gate", Pick::Old, NO_ROW),
     ];
-    for (pick, replies) in rows {
-        let stopped = image(rt.alloc(), &good.disk, before_sync, pick)?;
-        let found = rows_of(rt.alloc(), &stopped)?;
-        assert_eq!(rt; found.as_slice(), replies);
+    for (name, pick, found) in rows {
+        let stopped = image(rt.alloc(), &good, before_sync, pick)?;
+        let _ = check(&rt, rt.alloc(), name, &stopped, found)?;
     }
     Ok(())
 }

@@ -15,4 +15,3 @@ pub use laws::restarts_sound;
 pub use line::step;
 pub use rb_engine::Engine;
 pub use status::Status;
-
