@@ -121,7 +121,7 @@ module _ (shape : Shape) (blocks : List (List ℕ)) (n : ℕ) (rows : List Table
             ∙ ap (λ (value : Option (List ℕ)). if (t == table) && (k == key) then value else value_of t k rows) (value_after_same table key op (value_of t k rows))
             ∙ sym (value_changed shape.blocks t k table key kind rows);
         tables = tables_changed shape.tables shape.blocks table key kind rows first last held.tables;
-        order = ordered-over shape.blocks rows (record { table = table; key = key; kind = kind } ∷ []) held.order;
+        order = ordered-over shape.blocks rows (record { table = table; key = key; kind = kind; place = None } ∷ []) held.order;
       }
 
 -- of a state with one session: what its blocks hold after a write
