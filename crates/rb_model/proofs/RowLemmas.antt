@@ -70,15 +70,15 @@ key_row table key rows = find (is_row_of table key) rows
 pub same_row : (table key : ℕ) (row r : TableRow) → is_row_of row.table row.key r ≡ true → is_row_of table key r ≡ is_row_of table key row
 same_row table key row r h = let s = row_same row.table row.key r h in rw (s.0, s.1) refl
 
-pub replaced : (m q : Bool) (row r : TableRow) (rest : Option TableRow) → q ≡ m → cond m (Some row) rest ≡ cond m (Some row) (cond q (Some r) rest)
-replaced true q row r rest e = refl
-replaced false q row r rest e = rw e refl
+pub replaced : {A : Type 0} (m q : Bool) (new old rest : Option A) → q ≡ m → cond m new rest ≡ cond m new (cond q old rest)
+replaced true q new old rest e = refl
+replaced false q new old rest e = rw e refl
 
-pub swapped : (m q : Bool) (row r : TableRow) (rest : Option TableRow) → (q ≡ true → m ≡ false) → cond q (Some r) (cond m (Some row) rest) ≡ cond m (Some row) (cond q (Some r) rest)
-swapped true true row r rest h = absurd (false≢true (sym (h refl)))
-swapped true false row r rest h = refl
-swapped false true row r rest h = refl
-swapped false false row r rest h = refl
+pub swapped : {A : Type 0} (m q : Bool) (new old rest : Option A) → (q ≡ true → m ≡ false) → cond q old (cond m new rest) ≡ cond m new (cond q old rest)
+swapped true true new old rest h = absurd (false≢true (sym (h refl)))
+swapped true false new old rest h = refl
+swapped false true new old rest h = refl
+swapped false false new old rest h = refl
 
 -- the row of a key, where a row is put in its place
 pub row-with_row : (blocks table key : ℕ) (row : TableRow) (rows : List TableRow) → key_row table key (with_row blocks row rows) ≡ cond (is_row_of table key row) (Some row) (key_row table key rows)
@@ -86,22 +86,22 @@ row-with_row blocks table key row [] = refl
 row-with_row blocks table key row (r ∷ rows) =
     cond_both (is_row_of row.table row.key r) (row ∷ rows) (cond (row_before blocks row r) (row ∷ r ∷ rows) (r ∷ with_row blocks row rows))
     (λ xs. key_row table key xs ≡ cond (is_row_of table key row) (Some row) (cond (is_row_of table key r) (Some r) (key_row table key rows)))
-    (λ same. replaced (is_row_of table key row) (is_row_of table key r) row r (key_row table key rows) (same_row table key row r same))
+    (λ same. replaced (is_row_of table key row) (is_row_of table key r) (Some row) (Some r) (key_row table key rows) (same_row table key row r same))
     (λ other. cond_both (row_before blocks row r) (row ∷ r ∷ rows) (r ∷ with_row blocks row rows)
     (λ xs. key_row table key xs ≡ cond (is_row_of table key row) (Some row) (cond (is_row_of table key r) (Some r) (key_row table key rows)))
     (λ before. refl)
     (λ behind. ap (λ o. cond (is_row_of table key r) (Some r) o) (row-with_row blocks table key row rows)
-    ∙ swapped (is_row_of table key row) (is_row_of table key r) row r (key_row table key rows) (same_other row.table row.key r.table r.key table key other)))
+    ∙ swapped (is_row_of table key row) (is_row_of table key r) (Some row) (Some r) (key_row table key rows) (same_other row.table row.key r.table r.key table key other)))
 
-pub emptied : (m g : Bool) (r : TableRow) (rest : Option TableRow) → m ≡ g → cond g None rest ≡ cond g None (cond m (Some r) rest)
-emptied m true r rest e = refl
-emptied m false r rest e = rw e refl
+pub emptied : {A : Type 0} (m g : Bool) (old rest : Option A) → m ≡ g → cond g None rest ≡ cond g None (cond m old rest)
+emptied m true old rest e = refl
+emptied m false old rest e = rw e refl
 
-pub left_out : (m g : Bool) (r : TableRow) (rest : Option TableRow) → (g ≡ true → m ≡ false) → cond m (Some r) (cond g None rest) ≡ cond g None (cond m (Some r) rest)
-left_out true true r rest h = absurd (false≢true (sym (h refl)))
-left_out true false r rest h = refl
-left_out false true r rest h = refl
-left_out false false r rest h = refl
+pub left_out : {A : Type 0} (m g : Bool) (old rest : Option A) → (g ≡ true → m ≡ false) → cond m old (cond g None rest) ≡ cond g None (cond m old rest)
+left_out true true old rest h = absurd (false≢true (sym (h refl)))
+left_out true false old rest h = refl
+left_out false true old rest h = refl
+left_out false false old rest h = refl
 
 pub of_key : (table key t k : ℕ) (r : TableRow) → is_row_of t k r ≡ true → is_row_of table key r ≡ (t == table && k == key)
 of_key table key t k r h = let s = row_same t k r h in rw (s.0, s.1) refl
@@ -114,10 +114,10 @@ row-without_row table key t k (r ∷ rows) =
     let this : Bool = is_row_of t k r in
     ⊎_elim
     (λ yes. ap (key_row table key) (cond-false (not this) (r ∷ without_row t k rows) (without_row t k rows) (ap not yes))
-    ∙ rest ∙ emptied (is_row_of table key r) (t == table && k == key) r (key_row table key rows) (of_key table key t k r yes))
+    ∙ rest ∙ emptied (is_row_of table key r) (t == table && k == key) (Some r) (key_row table key rows) (of_key table key t k r yes))
     (λ no. ap (key_row table key) (cond-true (not this) (r ∷ without_row t k rows) (without_row t k rows) (ap not no))
     ∙ ap (λ o. cond (is_row_of table key r) (Some r) o) rest
-    ∙ left_out (is_row_of table key r) (t == table && k == key) r (key_row table key rows) (λ same. same_apart t k r.table r.key table key no same))
+    ∙ left_out (is_row_of table key r) (t == table && k == key) (Some r) (key_row table key rows) (λ same. same_apart t k r.table r.key table key no same))
     (cases_Bool this)
 
 pub none_is_some : (b : TableRow) → None ≡ Some b → ⊥
