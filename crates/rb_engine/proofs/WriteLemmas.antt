@@ -21,7 +21,8 @@ use Rattle.rb_model.specs.Rows.{TableRow, has_row, value_of, changed_by, last_nu
 use Rattle.rb_model.specs.State.{State, session_of}
 use Rattle.rb_model.specs.declared.op.Op.{Op}
 use Rattle.rb_model.specs.declared.op.Op.TheVariants.{Insert, Update, Delete}
-use Rattle.rb_sound.specs.Sound.{commit_logged, commit_number, AreKeysApart, AreSound}
+use Rattle.rb_heap.specs.Soundness.{AreKeysApart}
+use Rattle.rb_sound.specs.Sound.{commit_logged, commit_number, AreSound}
 use Rattle.rb_sound.proofs.CellWritten.{sound_with_cell, commit_stays, logged_stays}
 use Rattle.rb_versions.proofs.HomeLemmas.{distinct_none}
 use Rattle.rb_model.proofs.RowLemmas.{ordered-over}
