@@ -1,6 +1,6 @@
 //! A group of patches: bytes that take the place of others in blocks. rb_write makes one for each write of a row,
 //! and rb_sound for each commit; rb_group writes and reads their bytes.
-ghost use Rattle.std.specs.Prelude.{◌≡◌, ◌↔◌, ◌+◌, ◌<◌, ◌≤◌, [], ◌∷◌, ◌++◌, length, true, slice_index_or};
+ghost use Rattle.std.specs.Prelude.{IsTrue, ◌≡◌, ◌↔◌, ◌+◌, ◌<◌, ◌≤◌, [], ◌∷◌, ◌++◌, length, true, slice_index_or};
 ghost use Rattle.rb_base.specs.Groups.{Patch, patch, patch_length, group_length, IsGroup};
 
 use crate::ids::BlockNo;
@@ -84,7 +84,7 @@ impl Group {
 
     /// Whether one more patch of `len` bytes has room.
     pub fn fits(&self, len: usize) -> bool
-        ensures { result ≡ true ↔ ((length self.now < 40) × (group_length self.now + (8 + len) ≤ 2000)) }
+        ensures { IsTrue result ↔ ((length self.now < 40) × (group_length self.now + (8 + len) ≤ 2000)) }
     {
         let count = self.heads.len();
         let used = COUNT_BYTES + HEAD_BYTES * count + self.bytes.len();

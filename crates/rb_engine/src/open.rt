@@ -39,7 +39,7 @@ fn take_block(state: &mut EngineState, block: &[u8], table: u16) -> bool
     ensures shape { state.new.state.shape ≡ state.old.state.shape }
     ensures base { state.new.state.commits.base ≡ state.old.state.commits.base }
     ensures unlocked { result ≡ true → (c : ℕ) → c < 16 → LocksRows (cell_at block.now c) }
-    ensures locked { result ≡ false → ((c : ℕ) → c < 16 → LocksRows (cell_at block.now c)) → ⊥ }
+    ensures locked { result ≡ false → ¬ ((c : ℕ) → c < 16 → LocksRows (cell_at block.now c)) }
     ensures spare { state.old.spare ≤ state.new.spare + 16 }
 {
     for c in 0..CELLS {
@@ -65,7 +65,7 @@ fn take_one<T: Store>(state: &mut EngineState, store: &mut T, no: BlockNo) -> Re
     ensures opening { result ≡ Ok true → state.new.state ≡ opened state.new.state.shape state.new.state.commits.base state.new.state.commits.rows }
     ensures rows { T.tells → result ≡ Ok true → state.new.state.commits.rows ≡ over state.old.state.shape.blocks state.old.state.commits.rows (map (λ row. put_row (table_row (table_of state.old.state.shape no) row)) (home_rows (home_of (block_of (T.blocks store.old) no)))) }
     ensures unlocked { T.tells → result ≡ Ok true → (c : ℕ) → c < 16 → LocksRows (cell_at (block_of (T.blocks store.old) no) c) }
-    ensures locked { T.tells → result ≡ Ok false → ((c : ℕ) → c < 16 → LocksRows (cell_at (block_of (T.blocks store.old) no) c)) → ⊥ }
+    ensures locked { T.tells → result ≡ Ok false → ¬ ((c : ℕ) → c < 16 → LocksRows (cell_at (block_of (T.blocks store.old) no) c)) }
     ensures spare { state.old.spare ≤ state.new.spare + 16 }
     ensures only_loads { OnlyLoads T.Store store.old store.new }
     ensures failed { T.failed store.new ≡ is_err result }
@@ -85,7 +85,7 @@ fn take_rows<T: Store>(state: &mut EngineState, store: &mut T) -> Result<bool, F
     ensures opening { result ≡ Ok true → state.new.state ≡ opened state.old.state.shape state.old.state.commits.base state.new.state.commits.rows }
     ensures rows { T.tells → result ≡ Ok true → state.new.state.commits.rows ≡ rows_found state.old.state.shape (T.blocks store.old) (table_blocks state.old.state.shape) }
     ensures unlocked { T.tells → result ≡ Ok true → (b c : ℕ) → b < table_blocks state.old.state.shape → c < 16 → LocksRows (cell_at (block_of (T.blocks store.old) b) c) }
-    ensures locked { T.tells → result ≡ Ok false → ((b c : ℕ) → b < table_blocks state.old.state.shape → c < 16 → LocksRows (cell_at (block_of (T.blocks store.old) b) c)) → ⊥ }
+    ensures locked { T.tells → result ≡ Ok false → ¬ ((b c : ℕ) → b < table_blocks state.old.state.shape → c < 16 → LocksRows (cell_at (block_of (T.blocks store.old) b) c)) }
     ensures spare { state.old.spare ≤ state.new.spare + 16 * table_blocks state.old.state.shape }
     ensures only_loads { OnlyLoads T.Store store.old store.new }
     ensures failed { T.failed store.new ≡ is_err result }
@@ -107,7 +107,7 @@ fn number_sound<T: Store>(store: &mut T, number: Scn) -> Result<bool, Failed>
     ensures few { result ≡ Ok true → number ≤ T.number store.old + AHEAD }
     ensures sound { T.tells → result ≡ Ok true → (number ≤ commit_logged (T.shape_of store.old) (T.blocks store.old) + AHEAD) × (commit_logged (T.shape_of store.old) (T.blocks store.old) ≤ T.number store.old) }
     ensures whole { T.tells → OnOk result (AreBlocks (T.shape_of store.old) (T.blocks store.old)) }
-    ensures unsound { T.tells → result ≡ Ok false → number ≤ commit_logged (T.shape_of store.old) (T.blocks store.old) + AHEAD → commit_logged (T.shape_of store.old) (T.blocks store.old) ≤ T.number store.old → ⊥ }
+    ensures unsound { T.tells → result ≡ Ok false → number ≤ commit_logged (T.shape_of store.old) (T.blocks store.old) + AHEAD → ¬ (commit_logged (T.shape_of store.old) (T.blocks store.old) ≤ T.number store.old) }
     ensures only_loads { OnlyLoads T.Store store.old store.new }
     ensures failed { T.failed store.new ≡ is_err result }
     ensures counted { IsCounted (T.faults store.old) (T.faults store.new) result }
@@ -124,7 +124,7 @@ fn open_state<T: Store>(alloc: Global, store: &mut T) -> Result<EngineState, Ope
     ensures opened { T.tells → IfOk result (λ kept. OpensAs (T.shape_of store.old) (T.blocks store.old) kept.state) }
     ensures base { IfOk result (λ kept. kept.state ≡ opened (T.shape_of store.old) kept.state.commits.base kept.state.commits.rows) }
     ensures sound { T.tells → OnOk result (CanOpen (T.shape_of store.old) (T.blocks store.old) (T.number store.old)) }
-    ensures none { T.tells → IsErrOf result OpenFault.NotAStore → CanOpen (T.shape_of store.old) (T.blocks store.old) (T.number store.old) → ⊥ }
+    ensures none { T.tells → IsErrOf result OpenFault.NotAStore → ¬ CanOpen (T.shape_of store.old) (T.blocks store.old) (T.number store.old) }
     ensures in_range { OnOk result (IsShape (T.shape_of store.old)) }
     ensures numbers { IfOk result (λ kept. kept.state.commits.base ≤ T.number store.old + AHEAD) }
     ensures enough { IfOk result (λ kept. (slots : ℕ) → T.slots store.old ≡ Some slots → slots - 1 - T.number store.old ≤ kept.spare) }

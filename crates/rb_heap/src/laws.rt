@@ -61,7 +61,7 @@ pub fn home_changed()
 pub fn home_searched()
     ensures by_cells { (test : Cell → Bool) (home other : Home) (c k : ℕ) → home.cells ≡ other.cells → IsFirst test home.cells c → IsFirst test other.cells k → c ≡ k }
     ensures entry_apart { (home : Home) (i : ℕ) (entry : Entry) → (with_home_entry home i entry).cells ≡ home.cells }
-    ensures one_or_none { (test : Cell → Bool) (cells : List Cell) (c : ℕ) → IsFirst test cells c → IsNowhere test cells → ⊥ }
+    ensures one_or_none { (test : Cell → Bool) (cells : List Cell) (c : ℕ) → IsFirst test cells c → ¬ IsNowhere test cells }
     ensures with_cell { (home : Home) (c : ℕ) (cell : Cell) → IsHome home → IsCell cell → IsHome (with_home_cell home c cell) }
     ensures with_entry { (home : Home) (i : ℕ) (entry : Entry) → IsHome home → IsEntry entry → IsHome (with_home_entry home i entry) }
 {}

@@ -16,8 +16,8 @@ impl Layout {
     /// NotAStore where there is none. Only a call of the disk can fail.
     pub fn read<D: Disk>(disk: &mut D) -> Result<Layout, OpenFault>
         ensures found { D.tells → IfOk result (λ l. HasIdentity VERSION l (D.content disk.old)) }
-        ensures none { D.tells → IsErrOf result NotAStore → (l : Layout) → HasIdentity VERSION l (D.content disk.old) → ⊥ }
-        ensures no_memory { IsErrOf result NoMemory → ⊥ }
+        ensures none { D.tells → IsErrOf result NotAStore → (l : Layout) → ¬ HasIdentity VERSION l (D.content disk.old) }
+        ensures no_memory { ¬ IsErrOf result NoMemory }
         ensures counted { IsCountedAs (D.faults disk.old) (D.faults disk.new) (err_is is_failed result) }
         ensures same { D.tells → Rests D.content D.image D.moment D.image_since disk.old disk.new }
     {

@@ -88,7 +88,7 @@ impl Log {
         ensures more { IfOk result (λ o. IfSome o (λ g. self.old.used + 1 < self.old.layout.log)) }
         ensures end { D.tells → IfOk result (λ o. IfNone o (GroupsAre self.old.layout (D.content disk.old) self.old.used [])) }
         ensures faulty { D.tells → IsErrOf result OpenFault.NotAStore → IsFaultyGroup self.old.layout (D.content disk.old) self.old.used }
-        ensures no_memory { IsErrOf result OpenFault.NoMemory → ⊥ }
+        ensures no_memory { ¬ IsErrOf result OpenFault.NoMemory }
         ensures counted { IsCountedAs (D.faults disk.old) (D.faults disk.new) (err_is is_failed result) }
         ensures one_more { IfOk result (λ o. IfSome o (λ g. self.new ≡ record self.old { used = self.old.used + 1; ahead = self.new.ahead })) }
         ensures ahead { D.tells → AreFrom (D.content disk.old) self.new.used self.new.ahead }

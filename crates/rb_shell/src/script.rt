@@ -58,9 +58,9 @@ impl<T: Store> LineRunner for Interpreter<T> {
 fn status_of_fault(fault: OpenFault) -> Status
     ensures is { result ≡ status_of_opening fault }
     ensures ends { EndsRun result }
-    ensures no_script { AsksScript result → ⊥ }
+    ensures no_script { ¬ AsksScript result }
     ensures asks_nothing { result ≢ Status.DiskFault → AsksNothing result }
-    ensures not_asked { fault ≡ OpenFault.Failed → AsksNothing result → ⊥ }
+    ensures not_asked { fault ≡ OpenFault.Failed → ¬ AsksNothing result }
     ensures none { result ≡ Status.NotAStore → fault ≡ OpenFault.NotAStore }
     ensures by_disk { by_disk result ≡ is_failed fault }
     ensures by_source { by_source result ≡ false }
@@ -77,7 +77,7 @@ fn status_of_fault(fault: OpenFault) -> Status
 fn status_of_end(end: LinesEnd) -> Status
     ensures is { result ≡ status_of end }
     ensures ends { EndsRun result }
-    ensures asks { AsksNothing result → ⊥ }
+    ensures asks { ¬ AsksNothing result }
 {
     match end {
         LinesEnd::Done => Status::Done,
@@ -100,7 +100,7 @@ fn run_engine<S: Source, K: Sink, T: Store>(
         → RanOn T.Store engine.store result.1 (slots_of (T.slots engine.store)) 65536 m (S.left source.old)
         (S.left source.new) K.tells (K.held sink.old) (K.held sink.new) result.0 }
     ensures ends { EndsRun result.0 }
-    ensures asks { AsksNothing result.0 → ⊥ }
+    ensures asks { ¬ AsksNothing result.0 }
     ensures at_end { result.0 ≡ Status.Done → S.tells → S.left source.new ≡ [] }
     ensures few { result.0 ≡ Status.Done → S.tells → length (S.left source.old) < 1000000000 }
     ensures source { IsCountedAs (S.faults source.old) (S.faults source.new) (by_source result.0) }
@@ -172,7 +172,7 @@ pub fn run_script<S: Source, K: Sink, D: Disk>(
     ensures source_same { AsksNothing result.0 → source.new ≡ source.old }
     ensures sink_same { AsksNothing result.0 → sink.new ≡ sink.old }
     ensures untouched { D.tells → AsksNothing result.0 → LeftAlone D.content D.image D.moment D.image_since disk result.1 }
-    ensures not_a_store { D.tells → result.0 ≡ Status.NotAStore → IsSound (D.content disk) → ⊥ }
+    ensures not_a_store { D.tells → result.0 ≡ Status.NotAStore → ¬ IsSound (D.content disk) }
     ensures sound { D.tells → AsksScript result.0 → IsSound (D.content disk) }
 
     // It ends by a fault only where that count rose, and else the count is as before. A fault of the sink may hide one

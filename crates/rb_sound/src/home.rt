@@ -1,5 +1,5 @@
 //! Tests a block of rows. `blocks` calls it for each one of a file.
-ghost use Rattle.std.specs.Prelude.{◌≡◌, ◌≢◌, ◌↔◌, ℕ, ◌+◌, ◌<◌, ◌≤◌, true, false, length};
+ghost use Rattle.std.specs.Prelude.{IsTrue, ◌≡◌, ◌≢◌, ◌↔◌, ℕ, ◌+◌, ◌<◌, ◌≤◌, true, false, length};
 ghost use Rattle.rb_base.specs.Blocks.{IsShape};
 ghost use Rattle.rb_cell.specs.Cells.{cell_at};
 ghost use Rattle.rb_itl.specs.Entries.{entry_at};
@@ -41,7 +41,7 @@ pub struct Limits {
 /// Whether what an entry names is there, and its numbers are ones that were given.
 fn entry_taken(entry: &Entry, limits: &Limits) -> bool
     requires { IsShape limits.now.shape }
-    ensures { result ≡ true ↔ IsTaken limits.now.shape limits.now.commit (wrap_in limits.now.wraps) entry.now }
+    ensures { IsTrue result ↔ IsTaken limits.now.shape limits.now.commit (wrap_in limits.now.wraps) entry.now }
 {
     let xid = entry.xid;
     if xid.seg >= limits.shape.segments || xid.slot >= SLOTS {
@@ -58,7 +58,7 @@ fn entry_taken(entry: &Entry, limits: &Limits) -> bool
 /// Whether an entry is in order.
 fn entry_sound(entry: &Entry, limits: &Limits) -> bool
     requires { IsShape limits.now.shape }
-    ensures { result ≡ true ↔ IsEntrySound limits.now.shape limits.now.commit (wrap_in limits.now.wraps) entry.now }
+    ensures { IsTrue result ↔ IsEntrySound limits.now.shape limits.now.commit (wrap_in limits.now.wraps) entry.now }
 {
     entry.kind <= BOUND && (entry.kind == FREE || entry_taken(entry, limits))
 }
@@ -67,7 +67,7 @@ fn entry_sound(entry: &Entry, limits: &Limits) -> bool
 fn entries_sound(block: &[u8], limits: &Limits) -> bool
     requires block { length block.now ≡ 2048 }
     requires shape { IsShape limits.now.shape }
-    ensures { result ≡ true ↔ ((i : ℕ) → i < 8 → IsEntrySound limits.now.shape limits.now.commit (wrap_in limits.now.wraps) (entry_at block.now i)) }
+    ensures { IsTrue result ↔ ((i : ℕ) → i < 8 → IsEntrySound limits.now.shape limits.now.commit (wrap_in limits.now.wraps) (entry_at block.now i)) }
 {
     for i in 0..ENTRIES {
         if !entry_sound(&entry(block, i), limits) {
@@ -80,7 +80,7 @@ fn entries_sound(block: &[u8], limits: &Limits) -> bool
 /// Whether a cell is in order, but for its value and its lock.
 fn cell_sound(cell: &Cell, shape: Shape, home: u32) -> bool
     requires { IsShape shape }
-    ensures { result ≡ true ↔ IsCellSound shape home cell.now }
+    ensures { IsTrue result ↔ IsCellSound shape home cell.now }
 {
     if cell.state == EMPTY {
         return cell.lock == 0;
@@ -92,7 +92,7 @@ fn cell_sound(cell: &Cell, shape: Shape, home: u32) -> bool
 fn cells_sound(block: &[u8], shape: Shape, home: u32) -> bool
     requires block { length block.now ≡ 2048 }
     requires shape { IsShape shape }
-    ensures { result ≡ true ↔ ((c : ℕ) → c < 16 → IsCellSound shape home (cell_at block.now c)) }
+    ensures { IsTrue result ↔ ((c : ℕ) → c < 16 → IsCellSound shape home (cell_at block.now c)) }
 {
     for c in 0..CELLS {
         if !cell_sound(&cells(block, c), shape, home) {
@@ -115,7 +115,7 @@ fn value_length(block: &[u8], c: u8) -> u16
 /// Whether there is room for each cell's value.
 fn values_sound(block: &[u8]) -> bool
     requires { length block.now ≡ 2048 }
-    ensures { result ≡ true ↔ ((c : ℕ) → c < 16 → value_length block.now c ≤ 80) }
+    ensures { IsTrue result ↔ ((c : ℕ) → c < 16 → value_length block.now c ≤ 80) }
 {
     for c in 0..CELLS {
         if value_length(block, c) > VALUE_BYTES {
@@ -128,7 +128,7 @@ fn values_sound(block: &[u8]) -> bool
 /// Whether a lock is none, or that of an entry that isn't free.
 fn lock_sound(block: &[u8], lock: u8) -> bool
     requires { length block.now ≡ 2048 }
-    ensures { result ≡ true ↔ IsLock block.now lock }
+    ensures { IsTrue result ↔ IsLock block.now lock }
 {
     if lock == 0 {
         return true;
@@ -139,7 +139,7 @@ fn lock_sound(block: &[u8], lock: u8) -> bool
 /// Whether each cell's lock is.
 fn locks_sound(block: &[u8]) -> bool
     requires { length block.now ≡ 2048 }
-    ensures { result ≡ true ↔ ((c : ℕ) → c < 16 → IsLock block.now (cell_at block.now c).lock) }
+    ensures { IsTrue result ↔ ((c : ℕ) → c < 16 → IsLock block.now (cell_at block.now c).lock) }
 {
     for c in 0..CELLS {
         if !lock_sound(block, front(block, c).lock) {
@@ -163,7 +163,7 @@ fn has_own_key(block: &[u8], c: u8) -> bool
 fn key_is_first(block: &[u8], c: u8) -> bool
     requires block { length block.now ≡ 2048 }
     requires place { c < 16 }
-    ensures { result ≡ true ↔ IsFirstKeyed block.now c }
+    ensures { IsTrue result ↔ IsFirstKeyed block.now c }
 {
     !has_own_key(block, c) || find(block, front(block, c).key) == Some(c)
 }
@@ -171,7 +171,7 @@ fn key_is_first(block: &[u8], c: u8) -> bool
 /// Whether of the cells that are rows or locked no two have one key.
 fn keys_apart(block: &[u8]) -> bool
     requires { length block.now ≡ 2048 }
-    ensures { result ≡ true ↔ AreKeysApart block.now }
+    ensures { IsTrue result ↔ AreKeysApart block.now }
 {
     for c in 0..CELLS {
         if !key_is_first(block, c) {
@@ -185,7 +185,7 @@ fn keys_apart(block: &[u8]) -> bool
 fn all_cells_sound(block: &[u8], shape: Shape, home: u32) -> bool
     requires block { length block.now ≡ 2048 }
     requires shape { IsShape shape }
-    ensures { result ≡ true ↔ AreCellsSound shape home block.now }
+    ensures { IsTrue result ↔ AreCellsSound shape home block.now }
 {
     cells_sound(block, shape, home)
         && values_sound(block)
@@ -197,7 +197,7 @@ fn all_cells_sound(block: &[u8], shape: Shape, home: u32) -> bool
 pub fn home_sound(block: &[u8], home: u32, limits: &Limits) -> bool
     requires block { length block.now ≡ 2048 }
     requires shape { IsShape limits.now.shape }
-    ensures { result ≡ true ↔ IsHomeSound limits.now.shape limits.now.commit (wrap_in limits.now.wraps) home block.now }
+    ensures { IsTrue result ↔ IsHomeSound limits.now.shape limits.now.commit (wrap_in limits.now.wraps) home block.now }
 {
     entries_sound(block, limits) && all_cells_sound(block, limits.shape, home)
 }

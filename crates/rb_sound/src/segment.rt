@@ -1,5 +1,5 @@
 //! Tests the header of a segment. `blocks` calls it for each segment of a file.
-ghost use Rattle.std.specs.Prelude.{◌≡◌, ◌≢◌, ◌↔◌, ℕ, ◌+◌, ◌<◌, ◌≤◌, true, length, slice_index};
+ghost use Rattle.std.specs.Prelude.{IsTrue, ◌≡◌, ◌≢◌, ◌↔◌, ℕ, ◌+◌, ◌<◌, ◌≤◌, true, length, slice_index};
 ghost use Rattle.rb_sound.specs.Sound.{slot_state, slot_wrap, slot_newest, slot_before, slot_place, extent_place, extent_ord, extent_newest, head_extent, head_records, lost_number, header_newest, IsSlot, IsNear, IsRing, IsSegment};
 
 use rb_base::{Scn, u16_at, u64_at};
@@ -123,7 +123,7 @@ fn lost_number(header: &[u8]) -> Scn
 fn slot_sound(header: &[u8], i: u8) -> bool
     requires header { length header.now ≡ 2048 }
     requires place { i < 16 }
-    ensures { result ≡ true ↔ IsSlot header.now i }
+    ensures { IsTrue result ↔ IsSlot header.now i }
 {
     slot_state(header, i) <= ENDED && slot_before(header, i) <= slot_newest(header, i)
 }
@@ -131,7 +131,7 @@ fn slot_sound(header: &[u8], i: u8) -> bool
 /// Whether each table slot is in order.
 fn slots_sound(header: &[u8]) -> bool
     requires { length header.now ≡ 2048 }
-    ensures { result ≡ true ↔ ((i : ℕ) → i < 16 → IsSlot header.now i) }
+    ensures { IsTrue result ↔ ((i : ℕ) → i < 16 → IsSlot header.now i) }
 {
     for i in 0..SLOTS {
         if !slot_sound(header, i) {
@@ -144,7 +144,7 @@ fn slots_sound(header: &[u8]) -> bool
 /// Whether no extent's newest commit number is above `commit`.
 fn extents_sound(header: &[u8], commit: Scn) -> bool
     requires { length header.now ≡ 2048 }
-    ensures { result ≡ true ↔ ((e : ℕ) → e < 8 → extent_newest header.now e ≤ commit) }
+    ensures { IsTrue result ↔ ((e : ℕ) → e < 8 → extent_newest header.now e ≤ commit) }
 {
     for e in 0..EXTENTS {
         if extent_newest(header, e) > commit {
@@ -173,7 +173,7 @@ fn ring_length(header: &[u8]) -> u8
 fn others_out(header: &[u8], first: u8) -> bool
     requires header { length header.now ≡ 2048 }
     requires within { first ≤ 8 }
-    ensures { result ≡ true ↔ ((e : ℕ) → first ≤ e → e < 8 → extent_ord header.now e ≡ 0) }
+    ensures { IsTrue result ↔ ((e : ℕ) → first ≤ e → e < 8 → extent_ord header.now e ≡ 0) }
 {
     for e in first..EXTENTS {
         if extent_ord(header, e) != 0 {
@@ -187,7 +187,7 @@ fn others_out(header: &[u8], first: u8) -> bool
 fn number_near(header: &[u8], e: u8, extents: u8, newest: u64) -> bool
     requires header { length header.now ≡ 2048 }
     requires within { e < 8 }
-    ensures { result ≡ true ↔ IsNear extents newest (extent_ord header.now e) }
+    ensures { IsTrue result ↔ IsNear extents newest (extent_ord header.now e) }
 {
     let ord = extent_ord(header, e);
     ord <= newest && newest - ord < extents as u64
@@ -197,7 +197,7 @@ fn number_near(header: &[u8], e: u8, extents: u8, newest: u64) -> bool
 fn numbers_near(header: &[u8], extents: u8, newest: u64) -> bool
     requires header { length header.now ≡ 2048 }
     requires within { extents ≤ 8 }
-    ensures { result ≡ true ↔ ((e : ℕ) → e < extents → IsNear extents newest (extent_ord header.now e)) }
+    ensures { IsTrue result ↔ ((e : ℕ) → e < extents → IsNear extents newest (extent_ord header.now e)) }
 {
     for e in 0..extents {
         if !number_near(header, e, extents, newest) {
@@ -211,7 +211,7 @@ fn numbers_near(header: &[u8], extents: u8, newest: u64) -> bool
 fn number_is_first(header: &[u8], e: u8) -> bool
     requires header { length header.now ≡ 2048 }
     requires within { e < 8 }
-    ensures { result ≡ true ↔ ((lower : ℕ) → lower < e → extent_ord header.now lower ≢ extent_ord header.now e) }
+    ensures { IsTrue result ↔ ((lower : ℕ) → lower < e → extent_ord header.now lower ≢ extent_ord header.now e) }
 {
     let ord = extent_ord(header, e);
     for lower in 0..e {
@@ -226,7 +226,7 @@ fn number_is_first(header: &[u8], e: u8) -> bool
 fn numbers_apart(header: &[u8], extents: u8) -> bool
     requires header { length header.now ≡ 2048 }
     requires within { extents ≤ 8 }
-    ensures { result ≡ true ↔ ((e : ℕ) → e < extents → (lower : ℕ) → lower < e → extent_ord header.now lower ≢ extent_ord header.now e) }
+    ensures { IsTrue result ↔ ((e : ℕ) → e < extents → (lower : ℕ) → lower < e → extent_ord header.now lower ≢ extent_ord header.now e) }
 {
     for e in 0..extents {
         if !number_is_first(header, e) {
@@ -239,7 +239,7 @@ fn numbers_apart(header: &[u8], extents: u8) -> bool
 /// Whether the extents that have a number make a ring, with its head where the header says.
 fn ring_sound(header: &[u8]) -> bool
     requires { length header.now ≡ 2048 }
-    ensures { result ≡ true ↔ ((k : ℕ) × IsRing (extent_ord header.now) (head_extent header.now) k) }
+    ensures { IsTrue result ↔ ((k : ℕ) × IsRing (extent_ord header.now) (head_extent header.now) k) }
 {
     let extents = ring_length(header);
     let head = head_extent(header);
@@ -255,7 +255,7 @@ fn ring_sound(header: &[u8]) -> bool
 /// Whether the header of a segment, 2,048 bytes, is in order, in a file of that commit number.
 pub fn segment_sound(header: &[u8], commit: Scn) -> bool
     requires { length header.now ≡ 2048 }
-    ensures { result ≡ true ↔ IsSegment commit header.now }
+    ensures { IsTrue result ↔ IsSegment commit header.now }
 {
     ring_sound(header)
         && head_records(header) <= EXTENT_RECORDS

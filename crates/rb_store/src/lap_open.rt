@@ -116,8 +116,8 @@ fn scan_one<D: Disk>(scan: &mut Scan, disk: &mut D, layout: &Layout) -> Result<b
     ensures used { result ≡ Ok true → scan.new.log.used ≡ scan.old.log.used + 1 }
     ensures end { result ≡ Ok false → HasScannedAll D.tells layout.now (D.content disk.old) scan.new.plain scan.new.log scan.new.waiting.items }
     ensures room { layout.now.log ≤ vec_capacity scan.new.waiting }
-    ensures none { D.tells → IsErrOf result OpenFault.NotAStore → (groups : List (List Patch)) → GroupsAre layout.now (D.content disk.old) 0 groups → ⊥ }
-    ensures no_memory { IsErrOf result OpenFault.NoMemory → ⊥ }
+    ensures none { D.tells → IsErrOf result OpenFault.NotAStore → (groups : List (List Patch)) → ¬ GroupsAre layout.now (D.content disk.old) 0 groups }
+    ensures no_memory { ¬ IsErrOf result OpenFault.NoMemory }
     ensures counted { IsCountedAs (D.faults disk.old) (D.faults disk.new) (err_is is_failed result) }
     ensures same { D.tells → Rests D.content D.image D.moment D.image_since disk.old disk.new }
 {
@@ -135,8 +135,8 @@ fn scan_all<D: Disk>(scan: &mut Scan, disk: &mut D, layout: &Layout) -> Result<(
     requires room { layout.now.log ≤ vec_capacity scan.old.waiting }
     requires whole { D.tells → length (D.content disk.old) ≡ file_length layout.now }
     ensures found { OnOk result (HasScannedAll D.tells layout.now (D.content disk.old) scan.new.plain scan.new.log scan.new.waiting.items) }
-    ensures none { D.tells → IsErrOf result OpenFault.NotAStore → (groups : List (List Patch)) → GroupsAre layout.now (D.content disk.old) 0 groups → ⊥ }
-    ensures no_memory { IsErrOf result OpenFault.NoMemory → ⊥ }
+    ensures none { D.tells → IsErrOf result OpenFault.NotAStore → (groups : List (List Patch)) → ¬ GroupsAre layout.now (D.content disk.old) 0 groups }
+    ensures no_memory { ¬ IsErrOf result OpenFault.NoMemory }
     ensures counted { IsCountedAs (D.faults disk.old) (D.faults disk.new) (err_is is_failed result) }
     ensures same { D.tells → Rests D.content D.image D.moment D.image_since disk.old disk.new }
 {
@@ -178,7 +178,7 @@ fn drop_uncommitted<D: Disk>(
 fn scan_file<D: Disk>(alloc: Global, disk: &mut D, layout: &Layout) -> Result<Scan, OpenFault>
     requires whole { D.tells → length (D.content disk.old) ≡ file_length layout.now }
     ensures found { IfOk result (λ s. HasScannedAll D.tells layout.now (D.content disk.old) s.plain s.log s.waiting.items) }
-    ensures none { D.tells → IsErrOf result OpenFault.NotAStore → (groups : List (List Patch)) → GroupsAre layout.now (D.content disk.old) 0 groups → ⊥ }
+    ensures none { D.tells → IsErrOf result OpenFault.NotAStore → (groups : List (List Patch)) → ¬ GroupsAre layout.now (D.content disk.old) 0 groups }
     ensures counted { IsCountedAs (D.faults disk.old) (D.faults disk.new) (err_is is_failed result) }
     ensures same { D.tells → Rests D.content D.image D.moment D.image_since disk.old disk.new }
 {
@@ -190,8 +190,8 @@ fn scan_file<D: Disk>(alloc: Global, disk: &mut D, layout: &Layout) -> Result<Sc
 /// Which layout the file has, once a sync has made the file the only one that a crash may leave.
 fn synced_layout<D: Disk>(disk: &mut D) -> Result<Layout, OpenFault>
     ensures identity { D.tells → IfOk result (λ l. HasIdentity VERSION l (D.content disk.old)) }
-    ensures none { D.tells → IsErrOf result OpenFault.NotAStore → (l : Layout) → HasIdentity VERSION l (D.content disk.old) → ⊥ }
-    ensures no_memory { IsErrOf result OpenFault.NoMemory → ⊥ }
+    ensures none { D.tells → IsErrOf result OpenFault.NotAStore → (l : Layout) → ¬ HasIdentity VERSION l (D.content disk.old) }
+    ensures no_memory { ¬ IsErrOf result OpenFault.NoMemory }
     ensures counted { IsCountedAs (D.faults disk.old) (D.faults disk.new) (err_is is_failed result) }
     ensures same { D.tells → Rests D.content D.image D.moment D.image_since disk.old disk.new }
     ensures durable { D.tells → OnOk result (Only (D.content disk.old) (D.image disk.new)) }
@@ -213,7 +213,7 @@ struct Parts {
 fn open_parts<D: Disk>(alloc: Global, disk: &mut D) -> Result<Parts, OpenFault>
     ensures opened { IfOk result (λ p. HasOpened D.tells D.content D.image p.layout p.scan.plain p.scan.log disk.new) }
     ensures found { D.tells → IfOk result (λ p. OpensAt p.layout (D.content disk.old) p.scan.plain.blocks p.scan.plain.number) }
-    ensures none { D.tells → IsErrOf result OpenFault.NotAStore → (l : Layout) (b : List (List ℕ)) → OpensTo l (D.content disk.old) b → ⊥ }
+    ensures none { D.tells → IsErrOf result OpenFault.NotAStore → (l : Layout) (b : List (List ℕ)) → ¬ OpensTo l (D.content disk.old) b }
     ensures counted { IsCountedAs (D.faults disk.old) (D.faults disk.new) (err_is is_failed result) }
     ensures any_moment { D.tells → (l : Layout) (b : List (List ℕ)) → OpensTo l (D.content disk.old) b → LeavesOnly D.moment D.image_since disk.old disk.new (λ c. D.image disk.old c ⊎ OpensTo l c b) }
     ensures not_a_store { D.tells → IsErrOf result OpenFault.NotAStore → Rests D.content D.image D.moment D.image_since disk.old disk.new }

@@ -13,7 +13,7 @@ impl Versions {
     /// the first `committed` changes, or if one of the changes behind those is of it.
     pub fn is_full(&self, table: u16, key: u64, committed: usize) -> bool
         ensures full { result ≡ true → IsFull self.now.blocks self.now.changes committed table key }
-        ensures room { result ≡ false → IsFull self.now.blocks self.now.changes committed table key → ⊥ }
+        ensures room { result ≡ false → ¬ IsFull self.now.blocks self.now.changes committed table key }
     {
         if self.is_in_use(table, key, committed) {
             return false;
