@@ -1,5 +1,5 @@
 -- The blocks of a file in their order, and what groups of patches make of them.
-use Rattle.std.specs.Prelude.{◌≡◌, ℕ, ◌+◌, ◌*◌, ◌-◌, ◌%◌, ◌<◌, ◌≤◌, zero, suc, Bool, ◌==◌, nat_lt, cond, if◌then◌else◌, List, [], ◌∷◌, ◌++◌, length, replicate, slice_index_or, slice_set}
+use Rattle.std.specs.Prelude.{◌≡◌, ℕ, ◌+◌, ◌*◌, ◌-◌, ◌%◌, ◌<◌, ◌≤◌, zero, suc, Bool, ◌==◌, nat_lt, max, cond, if◌then◌else◌, List, [], ◌∷◌, ◌++◌, length, replicate, slice_index_or, slice_set}
 use Rattle.std.specs.List.{list_any, AllByRecursion}
 use Rattle.byteorder.specs.Endian.{big_bytes}
 use Rattle.rb_base.specs.Fields.{overwritten, with_number}
@@ -19,6 +19,10 @@ table_blocks shape = shape.tables * shape.blocks
 -- a segment has a header and eight extents of four blocks
 abbrev pub shape_blocks : Shape → ℕ
 shape_blocks shape = table_blocks shape + 33 * shape.segments
+
+-- the block of the header of segment g
+abbrev pub header_block : Shape → ℕ → ℕ
+header_block shape g = table_blocks shape + 33 * g
 
 -- The block that each commit patches: the header of the first segment, where the commit's number is kept.
 abbrev pub commit_block : Shape → ℕ
@@ -89,3 +93,8 @@ fresh_from shape first (suc count) = fresh_block shape first ∷ fresh_from shap
 -- the blocks of a new file
 abbrev pub fresh_blocks : Shape → List (List ℕ)
 fresh_blocks shape = fresh_from shape 0 (shape_blocks shape)
+
+-- the greatest of f 0 to f (n - 1), and 0 of none
+unfoldable pub greatest : (ℕ → ℕ) → ℕ → ℕ
+greatest f zero = 0
+greatest f (suc n) = max (greatest f n) (f n)

@@ -23,9 +23,10 @@ use Rattle.rb_model.specs.Full.{has_home, has_key, once, used_keys}
 use Rattle.rb_model.specs.Reply.{rows_now}
 use Rattle.rb_model.specs.Rows.{TableRow, is_row_of, last_number, over, rows_at, value_of, with_row}
 use Rattle.rb_model.specs.State.{State, opened, session_of}
-use Rattle.rb_sound.specs.Sound.{commit_logged, commit_number, AreCellsSound, AreKeysApart, AreSound}
-use Rattle.rb_versions.proofs.Order.{row_same}
-use Rattle.rb_versions.proofs.RowLemmas.{all-with_row, ordered-over}
+use Rattle.rb_heap.specs.Soundness.{AreCellsSound, AreKeysApart}
+use Rattle.rb_sound.specs.Sound.{commit_logged, commit_number, AreSound}
+use Rattle.rb_model.proofs.Order.{row_same}
+use Rattle.rb_model.proofs.RowLemmas.{all-with_row, ordered-over}
 use Rattle.rb_write.specs.Values.{home_at, home_block, value_at, value_in, LocksRows, ArePlain, IsPlainHome}
 use Rattle.rb_write.proofs.Placed.{row_block}
 use Rattle.rb_engine.specs.Found.{put_row, rows_below, rows_found, table_of, table_row}

@@ -4,8 +4,8 @@ use Rattle.std.proofs.lemmas.Bool.{cases_Bool, cond-true, cond-false, false≢tr
 use Rattle.std.specs.List.{AllByRecursion}
 use Rattle.rb_base.specs.declared.ids.Shape.{Shape}
 use Rattle.rb_model.specs.Rows.{TableRow, row_before, is_row_of, value_of, InOrder}
-use Rattle.rb_versions.proofs.Order.{row_same, row_asym, row_apart, same_itself, same_apart}
-use Rattle.rb_versions.proofs.RowLemmas.{AllBefore}
+use Rattle.rb_model.proofs.Order.{row_same, row_asym, row_apart, same_itself, same_apart}
+use Rattle.rb_model.proofs.RowLemmas.{AllBefore}
 use Rattle.rb_engine.specs.Holds.{Holds}
 
 none_is_some : (value : List ℕ) → None ≡ Some value → ⊥

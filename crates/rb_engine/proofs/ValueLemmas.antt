@@ -12,8 +12,8 @@ use Rattle.rb_model.specs.State.{State, Session, session_of}
 use Rattle.rb_model.specs.declared.op.Op.{Op}
 use Rattle.rb_model.specs.declared.op.Op.TheVariants as op
 use Rattle.rb_write.specs.Writes as write
-use Rattle.rb_versions.proofs.Order.{row_same, same_other, same_apart}
-use Rattle.rb_versions.proofs.RowLemmas.{all-with_row}
+use Rattle.rb_model.proofs.Order.{row_same, same_other, same_apart}
+use Rattle.rb_model.proofs.RowLemmas.{all-with_row, emptied, left_out, of_key, replaced, same_row, swapped}
 use Rattle.rb_engine.proofs.KeptLemmas.{over-append}
 use Rattle.rb_engine.proofs.UsedLemmas.{the_one}
 
@@ -35,19 +35,6 @@ value_by Held before = before
 
 -- the values of all keys after a row is put in its place
 
-same_row : (t k : ℕ) (row r : TableRow) → is_row_of row.table row.key r ≡ true → is_row_of t k r ≡ is_row_of t k row
-same_row t k row r h = let s = row_same row.table row.key r h in rw (s.0, s.1) refl
-
-replaced : (m q : Bool) (new old rest : Option (List ℕ)) → q ≡ m → cond m new rest ≡ cond m new (cond q old rest)
-replaced true q new old rest e = refl
-replaced false q new old rest e = rw e refl
-
-swapped : (m q : Bool) (new old rest : Option (List ℕ)) → (q ≡ true → m ≡ false) → cond q old (cond m new rest) ≡ cond m new (cond q old rest)
-swapped true true new old rest h = let never = h refl in absurd cc
-swapped true false new old rest h = refl
-swapped false true new old rest h = refl
-swapped false false new old rest h = refl
-
 pub value-with_row : (blocks t k : ℕ) (row : TableRow) (rows : List TableRow) → value_of t k (with_row blocks row rows) ≡ cond (is_row_of t k row) (Some row.value) (value_of t k rows)
 value-with_row blocks t k row [] = refl
 value-with_row blocks t k row (r ∷ rows) =
@@ -64,19 +51,6 @@ value-with_row blocks t k row (r ∷ rows) =
     ∙ swapped (is_row_of t k row) (is_row_of t k r) new old rest (same_other row.table row.key r.table r.key t k other)))
 
 -- and after a row is taken away
-
-emptied : (m g : Bool) (old rest : Option (List ℕ)) → m ≡ g → cond g None rest ≡ cond g None (cond m old rest)
-emptied m true old rest e = refl
-emptied m false old rest e = rw e refl
-
-left_out : (m g : Bool) (old rest : Option (List ℕ)) → (g ≡ true → m ≡ false) → cond m old (cond g None rest) ≡ cond g None (cond m old rest)
-left_out true true old rest h = let never = h refl in absurd cc
-left_out true false old rest h = refl
-left_out false true old rest h = refl
-left_out false false old rest h = refl
-
-of_key : (t k table key : ℕ) (r : TableRow) → is_row_of table key r ≡ true → is_row_of t k r ≡ (table == t && key == k)
-of_key t k table key r h = let s = row_same table key r h in rw (s.0, s.1) refl
 
 value-without_row : (t k table key : ℕ) (rows : List TableRow) → value_of t k (without_row table key rows) ≡ cond (table == t && key == k) None (value_of t k rows)
 value-without_row t k table key [] = cond_both (table == t && key == k) None None (λ o. None ≡ o) (λ yes. refl) (λ no. refl)

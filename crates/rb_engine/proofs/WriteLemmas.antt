@@ -21,10 +21,11 @@ use Rattle.rb_model.specs.Rows.{TableRow, has_row, value_of, changed_by, last_nu
 use Rattle.rb_model.specs.State.{State, session_of}
 use Rattle.rb_model.specs.declared.op.Op.{Op}
 use Rattle.rb_model.specs.declared.op.Op.TheVariants.{Insert, Update, Delete}
-use Rattle.rb_sound.specs.Sound.{commit_logged, commit_number, AreKeysApart, AreSound}
+use Rattle.rb_heap.specs.Soundness.{AreKeysApart}
+use Rattle.rb_sound.specs.Sound.{commit_logged, commit_number, AreSound}
 use Rattle.rb_sound.proofs.CellWritten.{sound_with_cell, commit_stays, logged_stays}
 use Rattle.rb_versions.proofs.HomeLemmas.{distinct_none}
-use Rattle.rb_versions.proofs.RowLemmas.{ordered-over}
+use Rattle.rb_model.proofs.RowLemmas.{ordered-over}
 use Rattle.rb_write.specs.Values.{home_block, home_at, value_in, value_at, IsPlainHome, ArePlain}
 use Rattle.rb_write.specs.Writes.{adds, may_take, value_after, cell_after, IsShort, IsMade}
 use Rattle.rb_write.specs.declared.ask.Ask.{Ask}
@@ -121,7 +122,7 @@ module _ (shape : Shape) (blocks : List (List ℕ)) (n : ℕ) (rows : List Table
             ∙ ap (λ (value : Option (List ℕ)). if (t == table) && (k == key) then value else value_of t k rows) (value_after_same table key op (value_of t k rows))
             ∙ sym (value_changed shape.blocks t k table key kind rows);
         tables = tables_changed shape.tables shape.blocks table key kind rows first last held.tables;
-        order = ordered-over shape.blocks rows (record { table = table; key = key; kind = kind } ∷ []) held.order;
+        order = ordered-over shape.blocks rows (record { table = table; key = key; kind = kind; place = None } ∷ []) held.order;
       }
 
 -- of a state with one session: what its blocks hold after a write

@@ -4,6 +4,10 @@ use Rattle.byteorder.specs.Endian.{big_bytes}
 use Rattle.rb_base.specs.declared.ids.Shape.{Shape}
 use Rattle.rb_layout.specs.declared.layout.Layout.{Layout}
 
+-- the version of this form of file
+abbrev pub file_version : ℕ
+file_version = 102
+
 abbrev pub shape_of : Layout → Shape
 shape_of l = record { tables = l.tables; blocks = l.blocks; segments = l.segments }
 

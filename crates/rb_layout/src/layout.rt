@@ -49,7 +49,7 @@ pub struct Head {
 impl Layout {
     ghost use Rattle.rb_layout.specs.Ranges.{InRange};
     ghost use Rattle.rb_base.specs.Blocks.{IsShape};
-    ghost use Rattle.rb_layout.specs.Regions.{file_length, log_offset, twin_offset, block_count, block_offset, identity, shape_of};
+    ghost use Rattle.rb_layout.specs.Regions.{file_version, file_length, log_offset, twin_offset, block_count, block_offset, identity, shape_of};
 
     /// A layout of these numbers, or None where one is out of its range.
     pub fn new(tables: u16, blocks: u32, segments: u16, log: u32) -> Option<Layout>
@@ -128,7 +128,7 @@ impl Layout {
     pub fn put_identity(&self, into: &mut [u8])
         requires { 24 ≤ length into.old }
         ensures bytes { into.new ≡ identity VERSION self.now ++ drop 24 into.old }
-        ensures version { VERSION ≡ 102 }
+        ensures version { VERSION ≡ file_version }
     {
         into[..8].copy_from_slice(&MARK);
         put_u32(into, 8, VERSION);

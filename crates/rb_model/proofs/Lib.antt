@@ -1,2 +1,4 @@
 mod Worked
+pub mod Order
+pub mod RowLemmas
 pub mod Stops

@@ -1,5 +1,5 @@
 -- The definitions computed on worked rows.
-use Rattle.std.proofs.Common.{◌≡◌, ℕ, List, [], ◌∷◌, map, false, refl}
+use Rattle.std.proofs.Common.{◌≡◌, ℕ, List, [], ◌∷◌, map, false, refl, None}
 use Rattle.std.specs.List.{range_with_len}
 use Rattle.rb_model.specs.Change.{put, Gone, Held}
 use Rattle.rb_model.specs.Rows.{over, answer}
@@ -62,7 +62,7 @@ in_scan_order : answer 2 (record { base = 0; rows = []; list = (put 1 1 a ∷ pu
 in_scan_order = refl
 
 -- a row that is gone is not answered, and one that is held stays
-gone_and_held : over 2 [] (put 1 1 a ∷ put 1 2 b ∷ record { table = 1; key = 1; kind = Gone } ∷ record { table = 1; key = 2; kind = Held } ∷ [])
+gone_and_held : over 2 [] (put 1 1 a ∷ put 1 2 b ∷ record { table = 1; key = 1; kind = Gone; place = None } ∷ record { table = 1; key = 2; kind = Held; place = None } ∷ [])
     ≡ record { table = 1; key = 2; value = b } ∷ []
 gone_and_held = refl
 

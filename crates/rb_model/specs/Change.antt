@@ -1,5 +1,5 @@
 -- What a commit is made of.
-use Rattle.std.specs.Prelude.{ℕ, List}
+use Rattle.std.specs.Prelude.{ℕ, List, Option, None}
 
 pub data Kind : Type 0 where
   -- the row has this value from now on
@@ -9,15 +9,22 @@ pub data Kind : Type 0 where
   -- the row stays as it is, and is held
   Held : Kind
 
+-- which undo record of a segment keeps what was before a change, counted from 1
+pub record Place : Type 0 where
+  pub seg : ℕ
+  pub index : ℕ
+
 pub record Change : Type 0 where
   pub table : ℕ
   pub key : ℕ
   pub kind : Kind
+  -- where what was before it is kept, if anywhere
+  pub place : Option Place
 
 -- the change that gives a key a value
 abbrev pub put : ℕ → ℕ → List ℕ → Change
-put table key value = record { table = table; key = key; kind = Put value }
+put table key value = record { table = table; key = key; kind = Put value; place = None }
 
 -- the change that takes a key's row away
 abbrev pub gone : ℕ → ℕ → Change
-gone table key = record { table = table; key = key; kind = Gone }
+gone table key = record { table = table; key = key; kind = Gone; place = None }

@@ -15,7 +15,9 @@ use Rattle.rb_cell.specs.Cells.{cell_place, padded, cell_of, cell_at, cell_patch
 use Rattle.rb_cell.proofs.CellBytes.{length-cell, cell_read, apart}
 use Rattle.rb_heap.specs.Homes.{is_keyed}
 use Rattle.rb_base.proofs.Blocks.{block_long}
-use Rattle.rb_sound.specs.Sound.{header_block, commit_logged, commit_number, value_length, slot_wrap, wrap_at, IsEntrySound, IsLock, IsCellSound, IsSegment, IsHomeSound, AreSound}
+use Rattle.rb_base.specs.Blocks.{header_block}
+use Rattle.rb_heap.specs.Soundness.{value_length, IsEntrySound, IsLock, IsCellSound, IsHomeSound}
+use Rattle.rb_sound.specs.Sound.{commit_logged, commit_number, slot_wrap, wrap_at, IsSegment, AreSound}
 use Rattle.rb_sound.proofs.Greatest.{commit_same}
 use Rattle.rb_sound.proofs.Kept.{all_kept, segment_later}
 use Rattle.rb_sound.proofs.Keys.{own_key}

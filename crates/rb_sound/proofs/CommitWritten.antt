@@ -10,7 +10,9 @@ use Rattle.rb_base.specs.Groups.{Patch, patch}
 use Rattle.rb_base.proofs.Blocks.{block_long}
 use Rattle.rb_base.proofs.Fronts.{number_of_part}
 use Rattle.rb_heap.proofs.Patching.{number_patched}
-use Rattle.rb_sound.specs.Sound.{header_block, slot_place, extent_place, slot_state, slot_wrap, slot_newest, slot_before, extent_ord, extent_newest, head_extent, head_records, lost_number, commit_logged, commit_number, number_patch, wrap_at, IsRing, IsSegment, IsHomeSound, AreSound}
+use Rattle.rb_base.specs.Blocks.{header_block}
+use Rattle.rb_heap.specs.Soundness.{IsHomeSound}
+use Rattle.rb_sound.specs.Sound.{slot_place, extent_place, slot_state, slot_wrap, slot_newest, slot_before, extent_ord, extent_newest, head_extent, head_records, lost_number, commit_logged, commit_number, number_patch, wrap_at, IsRing, IsSegment, AreSound}
 use Rattle.rb_sound.proofs.Greatest.{commit_above, commit_least}
 use Rattle.rb_sound.proofs.Kept.{all_kept, segment_later}
 use Rattle.rb_sound.proofs.Patched.{number_kept, byte_kept, part_there, block_there, block_elsewhere}

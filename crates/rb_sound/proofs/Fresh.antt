@@ -12,7 +12,9 @@ use Rattle.rb_heap.proofs.Fresh.{new_empty}
 use Rattle.rb_heap.proofs.Reading.{entry_read, cell_read}
 use Rattle.rb_cell.specs.declared.cell.Cell.{Cell}
 use Rattle.rb_cell.specs.Cells.{cell_at}
-use Rattle.rb_sound.specs.Sound.{header_block, slot_state, slot_before, extent_ord, extent_newest, head_extent, head_records, lost_number, value_length, IsRing, IsSegment, IsEntrySound, IsCellSound, IsLock, IsHomeSound}
+use Rattle.rb_base.specs.Blocks.{header_block}
+use Rattle.rb_heap.specs.Soundness.{value_length, IsEntrySound, IsCellSound, IsLock, IsHomeSound}
+use Rattle.rb_sound.specs.Sound.{slot_state, slot_before, extent_ord, extent_newest, head_extent, head_records, lost_number, IsRing, IsSegment}
 
 -- the header of a segment in a new file, as block n
 abbrev header_of : ℕ → List ℕ

@@ -3,7 +3,8 @@ use Rattle.std.proofs.Common.{◌≡◌, ℕ, zero, suc, ◌+◌, ◌<◌, ◌�
 use Rattle.std.proofs.lemmas.Bool.{cases_lt}
 use Rattle.rb_base.specs.declared.ids.Shape.{Shape}
 use Rattle.rb_base.specs.Blocks.{block_of}
-use Rattle.rb_sound.specs.Sound.{greatest, header_block, slot_newest, header_newest, commit_number}
+use Rattle.rb_base.specs.Blocks.{greatest, header_block}
+use Rattle.rb_sound.specs.Sound.{slot_newest, header_newest, commit_number}
 
 pub greatest-zero : (f : ℕ → ℕ) → greatest f 0 ≡ 0
 unfolding greatest

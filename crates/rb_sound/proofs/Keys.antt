@@ -7,7 +7,7 @@ use Rattle.rb_cell.specs.declared.cell.TheConstants.{ROW}
 use Rattle.rb_cell.specs.Cells.{cell_at}
 use Rattle.rb_heap.specs.Homes.{home_of, is_keyed, empty_cell, IsFirst, IsNowhere}
 use Rattle.rb_heap.proofs.Reading.{cell_read}
-use Rattle.rb_sound.specs.Sound.{IsFirstKeyed, AreKeysApart}
+use Rattle.rb_heap.specs.Soundness.{IsFirstKeyed, AreKeysApart}
 
 two_firsts : (block : List ℕ) (key c other : ℕ) → c < other → IsFirstKeyed block other → is_keyed key (cell_at block c) ≡ true → is_keyed key (cell_at block other) ≡ true → ⊥
 two_firsts block key c other lt first has has_too =

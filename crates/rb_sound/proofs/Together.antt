@@ -2,7 +2,8 @@
 use Rattle.std.proofs.Common.{◌≡◌, ◌↔◌, ℕ, ◌<◌, Bool, true, List, subst, sym, arith}
 use Rattle.rb_base.specs.declared.ids.Shape.{Shape}
 use Rattle.rb_itl.specs.declared.slots.Entry.{Entry}
-use Rattle.rb_sound.specs.Sound.{commit_number, wrap_at, IsTaken, AreSegmentsSound, AreHomesSound, AreSound}
+use Rattle.rb_heap.specs.Soundness.{IsTaken}
+use Rattle.rb_sound.specs.Sound.{commit_number, wrap_at, AreSegmentsSound, AreHomesSound, AreSound}
 
 -- the two are alike at each slot of the segments of a file
 abbrev pub AreAlike : Shape → (ℕ → ℕ → ℕ) → (ℕ → ℕ → ℕ) → Type 0

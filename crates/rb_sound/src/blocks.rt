@@ -4,7 +4,9 @@ ghost use Rattle.std.specs.Result.{is_err};
 ghost use Rattle.rb_base.specs.Blocks.{block_of, shape_blocks, table_blocks, IsShape};
 ghost use Rattle.rb_base.specs.Counts.{IsCounted};
 ghost use Rattle.rb_sound.specs.Loads.{OnlyLoads};
-ghost use Rattle.rb_sound.specs.Sound.{header_block, header_newest, commit_number, slot_wrap, wrap_at, wrap_in, IsSegment, IsHomeSound, AreSegmentsSound, AreHomesSound, AreSound};
+ghost use Rattle.rb_base.specs.Blocks.{header_block};
+ghost use Rattle.rb_heap.specs.Soundness.{IsHomeSound};
+ghost use Rattle.rb_sound.specs.Sound.{header_newest, commit_number, slot_wrap, wrap_at, wrap_in, IsSegment, AreSegmentsSound, AreHomesSound, AreSound};
 
 use crate::home::{Limits, home_sound};
 use crate::segment::{newest_in, segment_sound, wraps_in};

@@ -4,7 +4,8 @@ ghost use Rattle.rb_base.specs.Blocks.{IsShape};
 ghost use Rattle.rb_cell.specs.Cells.{cell_at};
 ghost use Rattle.rb_itl.specs.Entries.{entry_at};
 ghost use Rattle.rb_heap.specs.Homes.{is_keyed};
-ghost use Rattle.rb_sound.specs.Sound.{wrap_in, value_length, IsTaken, IsEntrySound, IsLock, IsCellSound, AreCellsSound, IsHomeSound, IsFirstKeyed, AreKeysApart};
+ghost use Rattle.rb_heap.specs.Soundness.{value_length, IsTaken, IsEntrySound, IsLock, IsCellSound, AreCellsSound, IsHomeSound, IsFirstKeyed, AreKeysApart};
+ghost use Rattle.rb_sound.specs.Sound.{wrap_in};
 
 use rb_base::{Scn, Shape, u16_at};
 use rb_cell::{Cell, EMPTY, ROW, STUB, cells, front};
@@ -102,7 +103,7 @@ fn cells_sound(block: &[u8], shape: Shape, home: u32) -> bool
 }
 
 /// The length of the value of cell `c`, 0 to 15, as the block says it.
-#[tactic(auto, unfolding(crate::specs::Sound::value_length))]
+#[tactic(auto, unfolding(rb_heap::specs::Soundness::value_length))]
 fn value_length(block: &[u8], c: u8) -> u16
     requires block { length block.now ≡ 2048 }
     requires place { c < 16 }

@@ -5,7 +5,9 @@ ghost use Rattle.rb_base.specs.Blocks.{block_of, after_group, fresh_blocks, tabl
 ghost use Rattle.rb_cell.specs.declared.cell.Cell.{Cell};
 ghost use Rattle.rb_cell.specs.Cells.{cell_at, cell_patch, IsCell};
 ghost use Rattle.rb_heap.specs.Homes.{is_keyed};
-ghost use Rattle.rb_sound.specs.Sound.{header_block, slot_newest, commit_logged, commit_number, number_patch, IsHomeSound, AreHomesSound, AreSound};
+ghost use Rattle.rb_base.specs.Blocks.{header_block};
+ghost use Rattle.rb_heap.specs.Soundness.{IsHomeSound};
+ghost use Rattle.rb_sound.specs.Sound.{slot_newest, commit_logged, commit_number, number_patch, AreHomesSound, AreSound};
 
 /// The commit number of a file is the least that no table slot's newest is above.
 pub fn commit_greatest()

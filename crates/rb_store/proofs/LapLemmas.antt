@@ -5,7 +5,7 @@ use Rattle.rb_base.specs.Blocks.{after_group, after_groups, commit_block, fresh_
 use Rattle.rb_base.specs.Groups.{Patch}
 use Rattle.rb_base.specs.Stores.{AfterSome, after_kept}
 use Rattle.rb_base.proofs.Commits.{behind_commit, after_joined}
-use Rattle.rb_layout.specs.Regions.{HasIdentity, log_offset, shape_of}
+use Rattle.rb_layout.specs.Regions.{file_version, HasIdentity, log_offset, shape_of}
 use Rattle.rb_layout.specs.declared.layout.Layout.{Layout}
 use Rattle.rb_log.specs.Slots.{SameOutside, SameSlots}
 use Rattle.rb_log.specs.GroupSlots.{GroupsAre, FlushedSome}
@@ -14,7 +14,7 @@ use Rattle.rb_base.specs.Moments.{LeavesOnly, weaker}
 use Rattle.rb_store.specs.Laps.{IsLap, OpensTo, Opens, LapState, IsStable, committed_groups}
 
 -- a file that differs in its log slots alone has the same identity
-pub same_identity : (l : Layout) (d c : List ℕ) → SameOutside l.log d c → HasIdentity 102 l d → HasIdentity 102 l c
+pub same_identity : (l : Layout) (d c : List ℕ) → SameOutside l.log d c → HasIdentity file_version l d → HasIdentity file_version l c
 same_identity l d c same id = record {
   front = sym (take-take 24 (log_offset 0) c (omega arith)) ∙ ap (take 24) same.before ∙ take-take 24 (log_offset 0) d (omega arith) ∙ id.front;
   whole = same.long ∙ id.whole;

@@ -9,7 +9,7 @@ use Rattle.rb_base.proofs.Commits.{cut_twice}
 use Rattle.rb_disk.specs.DiskModel.{Only}
 use Rattle.rb_disk.specs.Moments.{Rests, rests_leave}
 use Rattle.rb_layout.specs.OneLayout.{one_layout}
-use Rattle.rb_layout.specs.Regions.{HasIdentity, shape_of}
+use Rattle.rb_layout.specs.Regions.{file_version, HasIdentity, shape_of}
 use Rattle.rb_layout.specs.declared.layout.Layout.{Layout}
 use Rattle.rb_log.specs.GroupSlots.{LogState, GroupsAre, DroppedSome}
 use Rattle.rb_plainstore.specs.Plain.{PlainState}
@@ -24,19 +24,19 @@ pub whole_kept : (shape : Shape) (groups waiting : List (List Patch)) → commit
 whole_kept shape groups waiting e = ap (committed_groups shape) (sym e) ∙ cut_twice (commit_block shape) (groups ++ waiting) ∙ e
 
 -- what was scanned to its end is what the file opens to
-pub scanned_opens : (told : Type 0) (l : Layout) (file : List ℕ) (plain : PlainState) (log : LogState) (waiting : List (List Patch)) → HasIdentity 102 l file → HasScannedAll told l file plain log waiting → told → OpensAt l file plain.blocks plain.number
+pub scanned_opens : (told : Type 0) (l : Layout) (file : List ℕ) (plain : PlainState) (log : LogState) (waiting : List (List Patch)) → HasIdentity file_version l file → HasScannedAll told l file plain log waiting → told → OpensAt l file plain.blocks plain.number
 scanned_opens told l file plain log waiting id h t = record {
   opens = kept_opens l file (h.groups ++ waiting) h.groups plain.blocks (record { identity = id; log = h.ends t }) h.whole h.blocks;
   last = ap length h.whole ∙ sym h.number;
 }
 
 -- an image of a drop opens to what is kept
-pub dropped_opens : (l : Layout) (image : List ℕ → Type 0) (file c : List ℕ) (groups waiting : List (List Patch)) (b : List (List ℕ)) (count : ℕ) → HasIdentity 102 l file → Only file image → committed_groups (shape_of l) (groups ++ waiting) ≡ groups
+pub dropped_opens : (l : Layout) (image : List ℕ → Type 0) (file c : List ℕ) (groups waiting : List (List Patch)) (b : List (List ℕ)) (count : ℕ) → HasIdentity file_version l file → Only file image → committed_groups (shape_of l) (groups ++ waiting) ≡ groups
     → b ≡ after_groups 1 groups (fresh_blocks (shape_of l)) → count ≡ length groups → DroppedSome image l (groups ++ waiting) count c → OpensTo l c b
 dropped_opens l image file c groups waiting b count id only whole made counts some = ⊎_elim all fewer some.log
   where
-    identity : HasIdentity 102 l c
-    identity = same_identity l some.outside.0 c some.outside.2 (subst (λ (d : List ℕ). HasIdentity 102 l d) (sym (only some.outside.0 some.outside.1)) id)
+    identity : HasIdentity file_version l c
+    identity = same_identity l some.outside.0 c some.outside.2 (subst (λ (d : List ℕ). HasIdentity file_version l d) (sym (only some.outside.0 some.outside.1)) id)
 
     all : GroupsAre l c 0 (groups ++ waiting) → OpensTo l c b
     all log = kept_opens l c (groups ++ waiting) groups b (record { identity = identity; log = log }) whole made
@@ -47,9 +47,9 @@ dropped_opens l image file c groups waiting b count id only whole made counts so
         kept_opens l c groups groups b (record { identity = identity; log = kept }) (whole_kept (shape_of l) groups waiting whole) made
 
 -- where a file opens, its log is there for each of its layouts
-pub log_for : (l m : Layout) (file : List ℕ) (b : List (List ℕ)) → OpensTo l file b → HasIdentity 102 m file → (groups : List (List Patch)) × GroupsAre m file 0 groups
+pub log_for : (l m : Layout) (file : List ℕ) (b : List (List ℕ)) → OpensTo l file b → HasIdentity file_version m file → (groups : List (List Patch)) × GroupsAre m file 0 groups
 log_for l m file b opens id =
-    let moved = opens_moves l m file b (one_layout 102 l m file opens.lap.identity id) opens in
+    let moved = opens_moves l m file b (one_layout file_version l m file opens.lap.identity id) opens in
     (moved.groups, moved.lap.log)
 
 module _ {D : Type 0} (content : D → List ℕ) (image : D → List ℕ → Type 0) (moment : D → ℕ) (since : D → ℕ → List ℕ → Type 0) where

@@ -3,13 +3,13 @@ use Rattle.std.specs.Prelude.{◌≡◌, ℕ, ◌+◌, Bool, List, length, Optio
 use Rattle.rb_base.specs.Blocks.{after_groups, up_to_last, commit_block, fresh_blocks}
 use Rattle.rb_base.specs.Groups.{Patch}
 use Rattle.rb_base.specs.declared.ids.Shape.{Shape}
-use Rattle.rb_layout.specs.Regions.{HasIdentity, shape_of}
+use Rattle.rb_layout.specs.Regions.{file_version, HasIdentity, shape_of}
 use Rattle.rb_layout.specs.declared.layout.Layout.{Layout}
 use Rattle.rb_log.specs.GroupSlots.{GroupsAre}
 
 -- the file has this layout, and its log has these groups
 pub record IsLap (l : Layout) (groups : List (List Patch)) (file : List ℕ) : Type 0 where
-  pub identity : HasIdentity 102 l file
+  pub identity : HasIdentity file_version l file
   pub log : GroupsAre l file 0 groups
 
 -- the groups of a file of that shape up to the last commit

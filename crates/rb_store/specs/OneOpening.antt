@@ -4,7 +4,7 @@ use Rattle.rb_base.specs.Blocks.{AreWithin, after_groups, fresh_blocks}
 use Rattle.rb_base.specs.Groups.{Patch}
 use Rattle.rb_base.specs.declared.ids.Shape.{Shape}
 use Rattle.rb_layout.specs.OneLayout.{SameNumbers, one_layout}
-use Rattle.rb_layout.specs.Regions.{identity, file_length, shape_of}
+use Rattle.rb_layout.specs.Regions.{file_version, identity, file_length, shape_of}
 use Rattle.rb_layout.specs.declared.layout.Layout.{Layout}
 use Rattle.rb_log.specs.GroupLaws.{one_group_log}
 use Rattle.rb_log.specs.GroupSlots.{GroupsAre, HoldsGroup}
@@ -30,7 +30,7 @@ log_moves l m file slot (g ∷ groups) same slots log =
 lap_moves : (l m : Layout) (groups : List (List Patch)) (file : List ℕ) → SameNumbers l m → IsLap l groups file → IsLap m groups file
 lap_moves l m groups file same lap =
     let t = same.tables in let b = same.blocks in let s = same.segments in let k = same.log in
-    let ids : identity 102 l ≡ identity 102 m = cc in
+    let ids : identity file_version l ≡ identity file_version m = cc in
     let lengths : file_length l ≡ file_length m = cc in
     record {
       identity = record { front = lap.identity.front ∙ ids; whole = lap.identity.whole ∙ lengths };
@@ -52,12 +52,12 @@ pub record Agree (l m : Layout) (first second : List (List ℕ)) : Type 0 where
 
 same_groups : (l m : Layout) (file : List ℕ) (first second : List (List ℕ)) (one : OpensTo l file first) (two : OpensTo m file second) → one.groups ≡ two.groups
 same_groups l m file first second one two =
-    let same = one_layout 102 l m file one.lap.identity two.lap.identity in
+    let same = one_layout file_version l m file one.lap.identity two.lap.identity in
     one_group_log m file 0 one.groups two.groups (log_moves l m file 0 one.groups (same_shape l m same) same.log one.lap.log) two.lap.log
 
 pub one_opening : (l m : Layout) (file : List ℕ) (first second : List (List ℕ)) → OpensTo l file first → OpensTo m file second → Agree l m first second
 one_opening l m file first second one two =
-    let same = one_layout 102 l m file one.lap.identity two.lap.identity in
+    let same = one_layout file_version l m file one.lap.identity two.lap.identity in
     let shape = same_shape l m same in
     record {
       numbers = same;

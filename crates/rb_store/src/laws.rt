@@ -3,13 +3,13 @@ ghost use Rattle.std.specs.Prelude.{◌≡◌, ℕ, List};
 ghost use Rattle.rb_base.specs.Blocks.{block_of, commit_block, fresh_blocks};
 ghost use Rattle.rb_base.specs.Fields.{number_at};
 ghost use Rattle.rb_layout.specs.declared.layout.Layout.{Layout};
-ghost use Rattle.rb_layout.specs.Regions.{fresh_file, shape_of};
+ghost use Rattle.rb_layout.specs.Regions.{file_version, fresh_file, shape_of};
 ghost use Rattle.rb_store.specs.Laps.{OpensTo, OpensAt};
 
 /// A new file of groups opens to the blocks of a new file, and has no log number yet.
 pub fn fresh_lap()
-    ensures opens { (l : Layout) → OpensTo l (fresh_file 102 l) (fresh_blocks (shape_of l)) }
-    ensures at { (l : Layout) → OpensAt l (fresh_file 102 l) (fresh_blocks (shape_of l)) 0 }
+    ensures opens { (l : Layout) → OpensTo l (fresh_file file_version l) (fresh_blocks (shape_of l)) }
+    ensures at { (l : Layout) → OpensAt l (fresh_file file_version l) (fresh_blocks (shape_of l)) 0 }
 {}
 
 /// The last log number of what a file opens to is the one in front of the block that each commit patches.

@@ -13,8 +13,9 @@ use Rattle.rb_versions.specs.Changes.{changes_of, is_change_of, row_of, row_of_k
 use Rattle.rb_versions.specs.Next.{next_of, is_wanted, is_after}
 use Rattle.rb_versions.specs.Entries.{wants}
 use Rattle.rb_versions.specs.Index.{Precedes, IsFirst}
-use Rattle.rb_versions.proofs.Order.{key_trans, key_same, key_total, same_place, same_itself, row_before_in_table}
-use Rattle.rb_versions.proofs.RowLemmas.{key_row, rows_of, ordered-rows, row-newest, row-named, agree_in_rows, none_in_rows, first_in_rows, none_is_some, some_same}
+use Rattle.rb_model.proofs.Order.{key_trans, key_same, key_total, same_place, same_itself, row_before_in_table}
+use Rattle.rb_model.proofs.RowLemmas.{key_row, agree_in_rows, none_in_rows, first_in_rows, none_is_some, some_same}
+use Rattle.rb_versions.proofs.RowLemmas.{rows_of, ordered-rows, row-newest, row-named}
 
 same_key_before : (blocks x y z : ℕ) → y ≡ x → key_before blocks x z ≡ true → key_before blocks y z ≡ true
 same_key_before blocks x y z e h = rw e h

@@ -19,7 +19,7 @@ use Rattle.rb_versions.specs.Changes.{is_change_of}
 use Rattle.rb_versions.specs.Entries.{wants}
 use Rattle.rb_versions.specs.Index.{IsIndex, IsFirst, Precedes}
 use Rattle.rb_versions.specs.Homes.{IsLeast, NoneBehind, IsFull, is_in_use}
-use Rattle.rb_versions.proofs.Order.{lex, same_place, same_itself}
+use Rattle.rb_model.proofs.Order.{lex, same_place, same_itself}
 use Rattle.rb_versions.proofs.RunLemmas.{no_entry}
 use Rattle.rb_versions.proofs.FirstLemmas.{wanted_table}
 

@@ -1,10 +1,9 @@
-pub mod Order
-pub mod RowLemmas
 pub mod EntryLemmas
 pub mod FirstLemmas
-pub mod SortLemmas
-pub mod RunLemmas
+pub mod GivenLemmas
+pub mod HomeLemmas
 pub mod JoinLemmas
 pub mod NewestLemmas
-pub mod HomeLemmas
-pub mod GivenLemmas
+pub mod RowLemmas
+pub mod RunLemmas
+pub mod SortLemmas

@@ -11,7 +11,8 @@ use Rattle.rb_versions.specs.declared.change.RowKind.TheVariants.{Gone}
 use Rattle.rb_versions.specs.Changes.{changes_of, is_change_of, row_of, makes_row}
 use Rattle.rb_versions.specs.Index.{IsNewest}
 use Rattle.rb_versions.specs.Homes.{is_in_use}
-use Rattle.rb_versions.proofs.RowLemmas.{key_row, rows_of, row-newest, row-none, has_row-some, has_row-none}
+use Rattle.rb_model.proofs.RowLemmas.{key_row, has_row-some, has_row-none}
+use Rattle.rb_versions.proofs.RowLemmas.{rows_of, row-newest, row-none}
 use Rattle.rb_versions.proofs.FirstLemmas.{seen_changes, kind_made, kind_unmade}
 
 no_change : RowChange

@@ -1,3 +1,4 @@
+use Rattle.rb_layout.specs.Regions.{file_version}
 use Rattle.std.proofs.Common.{◌∙◌, ℕ, refl, ap, arith}
 use Rattle.rb_layout.specs.declared.layout.Layout.{Layout}
 use Rattle.rb_shell.specs.Words.{IsFormat, IsRun}
@@ -32,11 +33,11 @@ returns-in-Some-Format-clause-run_ends g c = λ n asked. absurd (no_run g c n as
 
 pub returns-in-Some-Format-clause-formatted : goal.returns-in-Some-Format-clause-formatted
 returns-in-Some-Format-clause-formatted g c = λ told l asked done.
-    c.run_format.ensures.formatted told done ∙ same_file 102 c.args.words.now c.in-Some-Format.layout l (rw c.in-Some-Format.field-0-is at c.in-Some-Format.ensures.found) asked
+    c.run_format.ensures.formatted told done ∙ same_file file_version c.args.words.now c.in-Some-Format.layout l (rw c.in-Some-Format.field-0-is at c.in-Some-Format.ensures.found) asked
 
 pub returns-in-Some-Format-clause-durable : goal.returns-in-Some-Format-clause-durable
 returns-in-Some-Format-clause-durable g c = λ told l asked done image left.
-    c.run_format.ensures.durable told done image left ∙ same_file 102 c.args.words.now c.in-Some-Format.layout l (rw c.in-Some-Format.field-0-is at c.in-Some-Format.ensures.found) asked
+    c.run_format.ensures.durable told done image left ∙ same_file file_version c.args.words.now c.in-Some-Format.layout l (rw c.in-Some-Format.field-0-is at c.in-Some-Format.ensures.found) asked
 
 pub returns-in-Some-Format-clause-was_empty : goal.returns-in-Some-Format-clause-was_empty
 returns-in-Some-Format-clause-was_empty g c = λ told l asked is. c.run_format.ensures.was_empty told is

@@ -3,7 +3,8 @@ use Rattle.std.specs.Result.{is_err}
 use Rattle.rb_base.specs.Blocks.{block_of}
 use Rattle.rb_base.specs.declared.ids.Shape.{Shape}
 use Rattle.rb_sound.specs.Loads.{no_load, more_loads}
-use Rattle.rb_sound.specs.Sound.{header_block, header_newest}
+use Rattle.rb_base.specs.Blocks.{header_block}
+use Rattle.rb_sound.specs.Sound.{header_newest}
 use Rattle.rb_sound.proofs.Greatest.{greatest-zero, greatest_next}
 use Rattle.rb_sound.proofs.blocks.commit_number_of.Goals as goal
 

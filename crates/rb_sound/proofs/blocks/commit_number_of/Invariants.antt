@@ -1,7 +1,8 @@
 use Rattle.std.proofs.Common.{◌≡◌, ℕ, false}
 use Rattle.rb_base.specs.Blocks.{block_of}
 use Rattle.rb_sound.specs.Loads.{OnlyLoads}
-use Rattle.rb_sound.specs.Sound.{greatest, header_block, header_newest}
+use Rattle.rb_base.specs.Blocks.{greatest, header_block}
+use Rattle.rb_sound.specs.Sound.{header_newest}
 use Rattle.rb_sound.proofs.blocks.commit_number_of.Given as goal
 
 abbrev pub invariant-loop-g : goal.invariant-loop-g

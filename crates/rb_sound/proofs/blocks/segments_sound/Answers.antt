@@ -4,7 +4,8 @@ use Rattle.std.specs.Result.{is_err}
 use Rattle.rb_base.specs.Blocks.{block_of}
 use Rattle.rb_base.specs.declared.ids.Shape.{Shape}
 use Rattle.rb_sound.specs.Loads.{more_loads}
-use Rattle.rb_sound.specs.Sound.{header_block, IsSegment}
+use Rattle.rb_base.specs.Blocks.{header_block}
+use Rattle.rb_sound.specs.Sound.{IsSegment}
 use Rattle.rb_sound.proofs.blocks.segments_sound.Goals as goal
 
 pub loop-g-preserved : goal.loop-g-preserved

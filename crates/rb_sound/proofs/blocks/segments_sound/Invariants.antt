@@ -1,7 +1,8 @@
 use Rattle.std.proofs.Common.{◌≡◌, ℕ, ◌<◌, false}
 use Rattle.rb_base.specs.Blocks.{block_of}
 use Rattle.rb_sound.specs.Loads.{OnlyLoads}
-use Rattle.rb_sound.specs.Sound.{header_block, IsSegment}
+use Rattle.rb_base.specs.Blocks.{header_block}
+use Rattle.rb_sound.specs.Sound.{IsSegment}
 use Rattle.rb_sound.proofs.blocks.segments_sound.Given as goal
 
 abbrev pub invariant-loop-g : goal.invariant-loop-g

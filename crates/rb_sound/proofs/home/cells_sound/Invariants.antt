@@ -1,6 +1,6 @@
 use Rattle.std.proofs.Common.{ℕ, ◌<◌}
 use Rattle.rb_cell.specs.Cells.{cell_at}
-use Rattle.rb_sound.specs.Sound.{IsCellSound}
+use Rattle.rb_heap.specs.Soundness.{IsCellSound}
 use Rattle.rb_sound.proofs.home.cells_sound.Given as goal
 
 abbrev pub invariant-loop-c : goal.invariant-loop-c

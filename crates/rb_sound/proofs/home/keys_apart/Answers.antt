@@ -1,7 +1,7 @@
 use Rattle.std.proofs.Common.{◌≡◌, true, false, refl, arith}
 use borrow.Author.Count.{below_more}
 use Rattle.std.proofs.lemmas.Bool.{iff_false, false≢true}
-use Rattle.rb_sound.specs.Sound.{IsFirstKeyed}
+use Rattle.rb_heap.specs.Soundness.{IsFirstKeyed}
 use Rattle.rb_sound.proofs.Keys.{apart_of_firsts, first_of_apart}
 use Rattle.rb_sound.proofs.home.keys_apart.Goals as goal
 

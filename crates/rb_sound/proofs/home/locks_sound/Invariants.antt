@@ -1,6 +1,6 @@
 use Rattle.std.proofs.Common.{ℕ, ◌<◌}
 use Rattle.rb_cell.specs.Cells.{cell_at}
-use Rattle.rb_sound.specs.Sound.{IsLock}
+use Rattle.rb_heap.specs.Soundness.{IsLock}
 use Rattle.rb_sound.proofs.home.locks_sound.Given as goal
 
 abbrev pub invariant-loop-c : goal.invariant-loop-c

@@ -2,7 +2,7 @@ use Rattle.std.proofs.Common.{◌≡◌, ℕ, ◌+◌, ◌-◌, ◌*◌, ◌<◌
 use Rattle.std.proofs.Math.Nat.{mul-le-mul_right, suc-mul}
 use Rattle.std.proofs.lemmas.Nat.{mod-mul-add}
 use Rattle.rb_base.specs.Blocks.{block_of}
-use Rattle.rb_sound.specs.Sound.{IsHomeSound}
+use Rattle.rb_heap.specs.Soundness.{IsHomeSound}
 use Rattle.rb_sound.proofs.laws.homes_by_table.Goals as goal
 
 within : (a tables b h : ℕ) → a + 1 ≤ tables → h < b → a * b + h < tables * b

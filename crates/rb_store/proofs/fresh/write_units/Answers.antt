@@ -1,3 +1,4 @@
+use Rattle.rb_layout.specs.Regions.{file_version}
 use Rattle.std.proofs.Common.{◌+◌, ◌-◌, ◌∙◌, take, replicate, arith}
 use Rattle.std.proofs.lemmas.List.{take-replicate}
 use Rattle.rb_store.proofs.Units.{first_written, zeros_written}
@@ -18,7 +19,7 @@ loop-at-preserved g c =
     let inv = c.loop-at.invariant in record {
       begun = omega (arith, inv.begun);
       within = omega (arith, c.min-count.ensures, c.length-end.ensures, inv.within);
-      written = λ told. zeros_written 102 (g.D.Disk.content c.loop-at.disk) (g.D.Disk.content c.write_at-in-loop-at.new.self) (take count (replicate 65536 0)) c.args.layout.now at (at - 24) count (at + count - 24)
+      written = λ told. zeros_written file_version (g.D.Disk.content c.loop-at.disk) (g.D.Disk.content c.write_at-in-loop-at.new.self) (take count (replicate 65536 0)) c.args.layout.now at (at - 24) count (at + count - 24)
           (inv.written told) (omega (arith, inv.begun)) (take-replicate count 65536 0 (omega (arith, c.min-count.ensures))) (c.in_ok-write_at-2.ensures.written told) (omega (arith, inv.begun));
       still = c.in_ok-write_at-2.ensures.counted.still ∙ inv.still;
     }
