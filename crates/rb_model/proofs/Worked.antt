@@ -1,11 +1,13 @@
 -- The definitions computed on worked rows.
-use Rattle.std.proofs.Common.{◌≡◌, ℕ, List, [], ◌∷◌, map, false, refl, None}
+use Rattle.std.proofs.Common.{◌≡◌, ℕ, List, [], ◌∷◌, map, false, refl, arith, None}
+use Rattle.std.specs.Prelude.{codes}
+use Rattle.std.proofs.lemmas.Fmt.{decimal_digit}
 use Rattle.std.specs.List.{range_with_len}
 use Rattle.rb_model.specs.Change.{put, Gone, Held}
 use Rattle.rb_model.specs.Rows.{over, answer}
 use Rattle.rb_model.specs.State.{State, fresh_session}
 use Rattle.rb_model.specs.Reply.{Call, Insert, Update, Delete, Write, Commit, OpenCursor, Fetch, Done, Numbered, Given, End, Refused, granted, first_of, early_tests, later_tests, after, groups}
-use Rattle.rb_model.specs.Lines.{lines_of, without_return}
+use Rattle.rb_model.specs.Lines.{WriteLine, OpenLine, spelling, lines_of, without_return}
 use Rattle.rb_model.specs.declared.refusal.Refusal.TheVariants.{Duplicate, NotFound, BlockFull, NoSession, LogFull}
 
 -- a fresh file of one table with two homes
@@ -121,3 +123,10 @@ cut = refl
 
 one_return : without_return (97 ∷ 13 ∷ 13 ∷ []) ≡ 97 ∷ 13 ∷ []
 one_return = refl
+
+-- a command is spelled by its word, and a space and its text for each field
+inserted_line : spelling (WriteLine 1 2 3 (Insert a)) ≡ codes "insert 1 2 3 a"
+inserted_line = rw (decimal_digit 1 (omega arith), decimal_digit 2 (omega arith), decimal_digit 3 (omega arith)) refl
+
+opened_line : spelling (OpenLine 1 c 2 0 9) ≡ codes "open 1 c 2 0 9"
+opened_line = rw (decimal_digit 1 (omega arith), decimal_digit 2 (omega arith), decimal_digit 0 (omega arith), decimal_digit 9 (omega arith)) refl

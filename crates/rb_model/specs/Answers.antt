@@ -1,5 +1,5 @@
 -- What the arguments and results of the engine's calls are as the machine's actions and answers.
-use Rattle.std.specs.Prelude.{◌≡◌, ℕ, Bool, true, false, Option, None, Some, Result, Ok, Err}
+use Rattle.std.specs.Prelude.{◌≡◌, ℕ, Option, None, Some, Result, Ok, Err}
 use Rattle.rb_model.specs.Reply.{Action, Answer, Waits, Numbered, Given, Refused}
 use Rattle.rb_model.specs.Reply as reply
 use Rattle.rb_model.specs.declared.answer.Answer as code

@@ -1,6 +1,6 @@
 -- How a script is cut into lines, which command a line spells, and the texts of the replies.
 use Rattle.std.specs.Prelude.{◌≡◌, ◌≢◌, ℕ, ◌^◌, ◌<◌, ◌≤◌, Bool, true, ◌==◌, ◌&&◌, nat_le, if◌then◌else◌, IsTrue, List, [], ◌∷◌, ◌++◌, length, codes}
-use Rattle.std.specs.List.{list_all}
+use Rattle.std.specs.List.{list_all, AllByRecursion}
 use Rattle.std.specs.Fmt.{decimal}
 use Rattle.rb_model.specs.NameTest.{is_name}
 use Rattle.rb_model.specs.Reply.{Action, Insert, Update, Delete, Answer, Done, Waits, Numbered, Given, End, Refused}
@@ -40,44 +40,82 @@ pub data Command : Type 0 where
 abbrev pub number : ℕ → List ℕ
 number n = 32 ∷ decimal n
 
--- the word of a write
-abbrev pub action_word : Action → List ℕ
-action_word (Insert value) = codes "insert"
-action_word (Update value) = codes "update"
-action_word Delete = codes "delete"
+-- the first word of a command's line
+pub data Word : Type 0 where
+  InsertWord : Word
+  UpdateWord : Word
+  DeleteWord : Word
+  CommitWord : Word
+  OpenWord : Word
+  FetchWord : Word
+  CloseWord : Word
 
--- what stands behind its key
-abbrev pub action_rest : Action → List ℕ
-action_rest (Insert value) = 32 ∷ value
-action_rest (Update value) = 32 ∷ value
-action_rest Delete = []
+abbrev pub word_text : Word → List ℕ
+word_text InsertWord = codes "insert"
+word_text UpdateWord = codes "update"
+word_text DeleteWord = codes "delete"
+word_text CommitWord = codes "commit"
+word_text OpenWord = codes "open"
+word_text FetchWord = codes "fetch"
+word_text CloseWord = codes "close"
 
--- the one spelling of a command
+abbrev pub word_of : Command → Word
+word_of (WriteLine s table key (Insert value)) = InsertWord
+word_of (WriteLine s table key (Update value)) = UpdateWord
+word_of (WriteLine s table key Delete) = DeleteWord
+word_of (CommitLine s) = CommitWord
+word_of (OpenLine s name table lo hi) = OpenWord
+word_of (FetchLine s name count) = FetchWord
+word_of (CloseLine s name) = CloseWord
+
+-- a field after the word: the number of a session or a table, a key, how many rows, the name of a cursor, the value of a row
+pub data Field : Type 0 where
+  Id : (n : ℕ) → Field
+  Key : (n : ℕ) → Field
+  Count : (n : ℕ) → Field
+  Named : (name : List ℕ) → Field
+  Valued : (value : List ℕ) → Field
+
+abbrev pub fields_of : Command → List Field
+fields_of (WriteLine s table key (Insert value)) = Id s ∷ Id table ∷ Key key ∷ Valued value ∷ []
+fields_of (WriteLine s table key (Update value)) = Id s ∷ Id table ∷ Key key ∷ Valued value ∷ []
+fields_of (WriteLine s table key Delete) = Id s ∷ Id table ∷ Key key ∷ []
+fields_of (CommitLine s) = Id s ∷ []
+fields_of (OpenLine s name table lo hi) = Id s ∷ Named name ∷ Id table ∷ Key lo ∷ Key hi ∷ []
+fields_of (FetchLine s name count) = Id s ∷ Named name ∷ Count count ∷ []
+fields_of (CloseLine s name) = Id s ∷ Named name ∷ []
+
+abbrev pub field_text : Field → List ℕ
+field_text (Id n) = decimal n
+field_text (Key n) = decimal n
+field_text (Count n) = decimal n
+field_text (Named name) = name
+field_text (Valued value) = value
+
+-- a space before each field
+abbrev pub fields_text : List Field → List ℕ
+fields_text [] = []
+fields_text (field ∷ fields) = 32 ∷ field_text field ++ fields_text fields
+
+-- the one spelling of a command: its word and its fields
 abbrev pub spelling : Command → List ℕ
-spelling (WriteLine s table key action) = action_word action ++ number s ++ number table ++ number key ++ action_rest action
-spelling (CommitLine s) = codes "commit" ++ number s
-spelling (OpenLine s name table lo hi) = codes "open" ++ number s ++ 32 ∷ name ++ number table ++ number lo ++ number hi
-spelling (FetchLine s name count) = codes "fetch" ++ number s ++ 32 ∷ name ++ number count
-spelling (CloseLine s name) = codes "close" ++ number s ++ 32 ∷ name
+spelling command = word_text (word_of command) ++ fields_text (fields_of command)
 
 -- one or more visible bytes
 abbrev pub is_value : List ℕ → Bool
 is_value value = nat_le 1 (length value) && list_all (λ b. nat_le 33 b && nat_le b 126) value
 
--- the value of a write, where it has one, is visible
-abbrev pub IsAction : Action → Type 0
-IsAction (Insert value) = IsTrue (is_value value)
-IsAction (Update value) = IsTrue (is_value value)
-IsAction Delete = Unit {0}
+-- what the field holds is in range
+abbrev pub IsField : Field → Type 0
+IsField (Id n) = n < 2 ^ 16
+IsField (Key n) = n < 2 ^ 64
+IsField (Count n) = (1 ≤ n) × (n ≤ 1000000)
+IsField (Named name) = IsTrue (is_name name)
+IsField (Valued value) = IsTrue (is_value value)
 
 -- the parts of a command are in range
 abbrev pub IsCommand : Command → Type 0
-IsCommand (WriteLine s table key action) = (s < 2 ^ 16) × (table < 2 ^ 16) × (key < 2 ^ 64) × IsAction action
-IsCommand (CommitLine s) = s < 2 ^ 16
-IsCommand (OpenLine s name table lo hi) =
-    (s < 2 ^ 16) × IsTrue (is_name name) × (table < 2 ^ 16) × (lo < 2 ^ 64) × (hi < 2 ^ 64)
-IsCommand (FetchLine s name count) = (s < 2 ^ 16) × IsTrue (is_name name) × (1 ≤ count) × (count ≤ 1000000)
-IsCommand (CloseLine s name) = (s < 2 ^ 16) × IsTrue (is_name name)
+IsCommand command = AllByRecursion IsField (fields_of command)
 
 -- the text spells this command
 abbrev pub Spells : List ℕ → Command → Type 0

@@ -1,46 +1,61 @@
 //! Why a call of the engine was refused. The engine answers it, and the shell prints it.
+ghost use Rattle.std.specs.Prelude.{◌≡◌, ◌≤◌, length};
+ghost use Rattle.rb_model.specs.Lines.{refusal_text};
+
 use thiserror::Error;
 
 /// A refused call changes nothing that its caller sees, but for `DiskFault`, which stops the engine.
 #[derive(Clone, Copy, Debug, PartialEq, Eq, Error)]
+#[error("refused")]
 pub enum Refusal {
     /// The number isn't that of a session.
-    #[error("no session")]
     NoSession,
     /// The number isn't that of a table of the file.
-    #[error("no table")]
     NoTable,
     /// The value has more than 80 bytes.
-    #[error("value too long")]
     ValueTooLong,
     /// The key is there already.
-    #[error("duplicate")]
     Duplicate,
     /// The key has no row.
-    #[error("not found")]
     NotFound,
     /// Sixteen other keys of the key's block are in use.
-    #[error("block full")]
     BlockFull,
     /// No open cursor of the session has that name.
-    #[error("no cursor")]
     NoCursor,
     /// A cursor of that name is open.
-    #[error("cursor there")]
     CursorThere,
     /// Sixteen cursors of the session are open.
-    #[error("too many cursors")]
     TooManyCursors,
     /// 2^60 groups or more are logged.
-    #[error("worn out")]
     WornOut,
     /// A call of the disk failed. The engine is stopped.
-    #[error("disk fault")]
     DiskFault,
     /// An earlier call answered `DiskFault`.
-    #[error("stopped")]
     Stopped,
     /// The log has no room for it.
-    #[error("log full")]
     LogFull,
+}
+
+impl Refusal {
+    /// Its text in a reply, at most 32 bytes.
+    pub fn text(self) -> &'static [u8]
+        ensures text { result.now ≡ refusal_text self }
+        ensures short { length result.now ≤ 32 }
+    {
+        match self {
+            Refusal::NoSession => b"no session",
+            Refusal::NoTable => b"no table",
+            Refusal::ValueTooLong => b"value too long",
+            Refusal::Duplicate => b"duplicate",
+            Refusal::NotFound => b"not found",
+            Refusal::BlockFull => b"block full",
+            Refusal::NoCursor => b"no cursor",
+            Refusal::CursorThere => b"cursor there",
+            Refusal::TooManyCursors => b"too many cursors",
+            Refusal::WornOut => b"worn out",
+            Refusal::DiskFault => b"disk fault",
+            Refusal::Stopped => b"stopped",
+            Refusal::LogFull => b"log full",
+        }
+    }
 }

@@ -1,2 +1,3 @@
 pub mod Spaced
+pub mod Fields
 pub mod Spellings

@@ -1,5 +1,5 @@
 -- A text with a space is one word, the space and the rest, in one way only.
-use Rattle.std.proofs.Common.{Option, IfNone, Result, Ok, Err, ◌≡◌, ℕ, ◌+◌, ◌<◌, ◌≤◌, ◌^◌, ◌%◌, true, false, not, List, [], ◌∷◌, ◌++◌, refl, sym, subst, ◌∙◌, arith}
+use Rattle.std.proofs.Common.{Option, None, Some, IfNone, Result, Ok, Err, ◌≡◌, ℕ, ◌+◌, ◌<◌, ◌≤◌, ◌^◌, ◌%◌, Bool, true, false, not, List, [], ◌∷◌, ◌++◌, refl, ap, sym, subst, drop, ◌∙◌, arith}
 use Rattle.std.specs.Prelude.{◌==◌}
 use Rattle.std.specs.Result.{OkIff, result_ok}
 use Rattle.std.specs.List.{list_all}
@@ -10,21 +10,31 @@ use Rattle.std.proofs.lemmas.Bool.Decides.{nat_tests}
 use Rattle.rb_model.specs.NameTest.{is_name, is_name_byte}
 use Rattle.rb_script.specs.Words.{is_word}
 
-pub same_parts : (a b x y : List ℕ) → is_word a ≡ true → is_word b ≡ true → a ++ 32 ∷ x ≡ b ++ 32 ∷ y → (a ≡ b) × (x ≡ y)
-same_parts [] [] x y p q e = (refl, cc)
-same_parts [] (d ∷ b) x y p q e =
-    let head : 32 ≡ d = cc in
+-- what may stand after a word: nothing, or a space and more
+abbrev pub is_tail : List ℕ → Bool
+is_tail [] = true
+is_tail (b ∷ text) = b == 32
+
+pub same_front : (a b x y : List ℕ) → is_word a ≡ true → is_word b ≡ true → is_tail x ≡ true → is_tail y ≡ true → a ++ x ≡ b ++ y → (a ≡ b) × (x ≡ y)
+same_front [] [] x y p q s t e = (refl, e)
+same_front [] (d ∷ b) [] y p q s t e = absurd (cc)
+same_front [] (d ∷ b) (h ∷ x) y p q s t e =
+    let head : h ≡ d = cc in
     absurd (grind (arith, nat_tests))
-same_parts (c ∷ a) [] x y p q e =
-    let head : c ≡ 32 = cc in
+same_front (c ∷ a) [] x [] p q s t e = absurd (cc)
+same_front (c ∷ a) [] x (h ∷ y) p q s t e =
+    let head : c ≡ h = cc in
     absurd (grind (arith, nat_tests))
-same_parts (c ∷ a) (d ∷ b) x y p q e =
+same_front (c ∷ a) (d ∷ b) x y p q s t e =
     let head : c ≡ d = cc in
-    let tail : a ++ 32 ∷ x ≡ b ++ 32 ∷ y = cc in
+    let tail : a ++ x ≡ b ++ y = cc in
     let p_tail : is_word a ≡ true = grind (arith, nat_tests) in
     let q_tail : is_word b ≡ true = grind (arith, nat_tests) in
-    let k = same_parts a b x y p_tail q_tail tail in
+    let k = same_front a b x y p_tail q_tail s t tail in
     (cc (head, k.0), k.1)
+
+pub same_parts : (a b x y : List ℕ) → is_word a ≡ true → is_word b ≡ true → a ++ 32 ∷ x ≡ b ++ 32 ∷ y → (a ≡ b) × (x ≡ y)
+same_parts a b x y p q e = let k = same_front a b (32 ∷ x) (32 ∷ y) p q refl refl e in (k.0, ap (drop 1) k.1)
 
 -- a word with a space behind it is no word
 pub spaced_is_no_word : (a x : List ℕ) → is_word (a ++ 32 ∷ x) ≡ false
@@ -83,3 +93,8 @@ pub no_smaller : {E : Type 0} (text : List ℕ) (m limit : ℕ) (r : Result ℕ 
 no_smaller text m limit (Ok x) o small top e k is = rw is tt
 no_smaller text m limit (Err x) o small top e k is =
     rw is (λ n below f. k (subst (λ (i : ℕ). i < limit) (sym (decimal_injective m n small (omega arith) (sym e ∙ f))) below))
+
+-- where nothing is found, for any answer
+pub if_none : {A P : Type 0} (o : Option A) → P → IfNone o P
+if_none None p = p
+if_none (Some x) p = tt

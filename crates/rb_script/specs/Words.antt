@@ -1,12 +1,35 @@
--- Words of a line, and the fields of a write.
-use Rattle.std.specs.Prelude.{ℕ, Bool, not, ◌==◌, List, ◌∷◌, ◌++◌}
-use Rattle.std.specs.List.{list_all}
-use Rattle.std.specs.Fmt.{decimal}
+-- Words of a line, and the kinds of its fields.
+use Rattle.std.specs.Prelude.{◌≡◌, ◌≢◌, ℕ, Bool, not, ◌==◌, List, [], ◌∷◌, map}
+use Rattle.std.specs.List.{list_all, AllByRecursion}
+use Rattle.rb_model.specs.Lines.{Field, Id, Key, Count, Named, Valued, IsField, fields_text}
 
 -- no byte is a space
 abbrev pub is_word : List ℕ → Bool
 is_word text = list_all (λ b. not (b == 32)) text
 
--- a session, a table, a key and a value, with a space between each two
-abbrev pub write_fields : ℕ → ℕ → ℕ → List ℕ → List ℕ
-write_fields s t k value = decimal s ++ 32 ∷ (decimal t ++ 32 ∷ (decimal k ++ 32 ∷ value))
+-- a field without what it holds
+pub data Kind : Type 0 where
+  IdKind : Kind
+  KeyKind : Kind
+  CountKind : Kind
+  NameKind : Kind
+  ValueKind : Kind
+
+abbrev pub kind_of : Field → Kind
+kind_of (Id n) = IdKind
+kind_of (Key n) = KeyKind
+kind_of (Count n) = CountKind
+kind_of (Named name) = NameKind
+kind_of (Valued value) = ValueKind
+
+-- the text is no fields of these kinds
+abbrev pub NoFields : List Kind → List ℕ → Type 0
+NoFields kinds text =
+    (fields : List Field) → map kind_of fields ≡ kinds → AllByRecursion IsField fields → text ≢ fields_text fields
+
+-- the fields of a write that has a value
+abbrev pub row_fields : ℕ → ℕ → ℕ → List ℕ → List Field
+row_fields s t k value = Id s ∷ Id t ∷ Key k ∷ Valued value ∷ []
+
+abbrev pub row_kinds : List Kind
+row_kinds = IdKind ∷ IdKind ∷ KeyKind ∷ ValueKind ∷ []

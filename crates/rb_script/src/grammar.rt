@@ -1,8 +1,9 @@
 //! Which command a line spells. The shell calls it for each line that is neither empty nor a remark.
-ghost use Rattle.std.specs.Prelude.{ℕ, List, ◌≡◌, ◌≢◌, ◌∷◌, ◌++◌, ◌<◌, ◌^◌, IsTrue, IfSome, IfNone, codes};
-ghost use Rattle.rb_model.specs.Lines.{Spells, SpellsNone, is_value};
+ghost use Rattle.std.specs.Prelude.{◌≡◌, ◌∷◌, ◌++◌, IfSome, IfNone, codes};
+ghost use Rattle.std.specs.List.{AllByRecursion};
+ghost use Rattle.rb_model.specs.Lines.{Spells, SpellsNone, IsField, fields_text};
 ghost use Rattle.rb_script.specs.Commands.{command_of};
-ghost use Rattle.rb_script.specs.Words.{write_fields};
+ghost use Rattle.rb_script.specs.Words.{NoFields, row_fields, row_kinds};
 
 use crate::command::Command;
 use crate::words::{count_of, id_and_rest, id_of, is_visible, key_and_rest, name_and_rest, split};
@@ -11,19 +12,13 @@ use rb_model::{Name, Op};
 
 // the session, the table, the key and the value that these fields are
 fn write_of(fields: &[u8]) -> Option<(u16, u16, u64, &[u8])>
-    ensures found { IfSome result (λ parts. fields.now ≡ write_fields parts.0 parts.1 parts.2 parts.3.now) }
-    ensures valid { IfSome result (λ parts. IsTrue (is_value parts.3.now)) }
-    ensures none { IfNone result ((s t k : ℕ) (value : List ℕ) → s < 2 ^ 16 → t < 2 ^ 16 → k < 2 ^ 64 → IsTrue (is_value value) → fields.now ≢ write_fields s t k value) }
+    ensures found { IfSome result (λ parts. 32 ∷ fields.now ≡ fields_text (row_fields parts.0 parts.1 parts.2 parts.3.now)) }
+    ensures valid { IfSome result (λ parts. AllByRecursion IsField (row_fields parts.0 parts.1 parts.2 parts.3.now)) }
+    ensures none { IfNone result (NoFields row_kinds (32 ∷ fields.now)) }
 {
-    let Some((s, fields)) = id_and_rest(fields) else {
-        return None;
-    };
-    let Some((t, fields)) = id_and_rest(fields) else {
-        return None;
-    };
-    let Some((k, value)) = key_and_rest(fields) else {
-        return None;
-    };
+    let (s, fields) = id_and_rest(fields)?;
+    let (t, fields) = id_and_rest(fields)?;
+    let (k, value) = key_and_rest(fields)?;
     if !is_visible(value) {
         return None;
     }
@@ -35,9 +30,7 @@ fn insert_of(fields: &[u8]) -> Option<Command<'_>>
     ensures found { IfSome result (λ command. Spells (codes "insert" ++ 32 ∷ fields.now) (command_of command)) }
     ensures none { IfNone result (SpellsNone (codes "insert" ++ 32 ∷ fields.now)) }
 {
-    let Some((s, t, k, value)) = write_of(fields) else {
-        return None;
-    };
+    let (s, t, k, value) = write_of(fields)?;
     let op = Op::Insert(value);
     Some(Command::Write { s, t, k, op })
 }
@@ -47,9 +40,7 @@ fn update_of(fields: &[u8]) -> Option<Command<'_>>
     ensures found { IfSome result (λ command. Spells (codes "update" ++ 32 ∷ fields.now) (command_of command)) }
     ensures none { IfNone result (SpellsNone (codes "update" ++ 32 ∷ fields.now)) }
 {
-    let Some((s, t, k, value)) = write_of(fields) else {
-        return None;
-    };
+    let (s, t, k, value) = write_of(fields)?;
     let op = Op::Update(value);
     Some(Command::Write { s, t, k, op })
 }
@@ -59,15 +50,9 @@ fn delete_of(fields: &[u8]) -> Option<Command<'_>>
     ensures found { IfSome result (λ command. Spells (codes "delete" ++ 32 ∷ fields.now) (command_of command)) }
     ensures none { IfNone result (SpellsNone (codes "delete" ++ 32 ∷ fields.now)) }
 {
-    let Some((s, fields)) = id_and_rest(fields) else {
-        return None;
-    };
-    let Some((t, fields)) = id_and_rest(fields) else {
-        return None;
-    };
-    let Some(k) = parse_decimal(fields) else {
-        return None;
-    };
+    let (s, fields) = id_and_rest(fields)?;
+    let (t, fields) = id_and_rest(fields)?;
+    let k = parse_decimal(fields)?;
     let op = Op::Delete;
     Some(Command::Write { s, t, k, op })
 }
@@ -77,9 +62,7 @@ fn commit_of(fields: &[u8]) -> Option<Command<'_>>
     ensures found { IfSome result (λ command. Spells (codes "commit" ++ 32 ∷ fields.now) (command_of command)) }
     ensures none { IfNone result (SpellsNone (codes "commit" ++ 32 ∷ fields.now)) }
 {
-    let Some(s) = id_of(fields) else {
-        return None;
-    };
+    let s = id_of(fields)?;
     Some(Command::Commit { s })
 }
 
@@ -88,21 +71,11 @@ fn open_of(fields: &[u8]) -> Option<Command<'_>>
     ensures found { IfSome result (λ command. Spells (codes "open" ++ 32 ∷ fields.now) (command_of command)) }
     ensures none { IfNone result (SpellsNone (codes "open" ++ 32 ∷ fields.now)) }
 {
-    let Some((s, fields)) = id_and_rest(fields) else {
-        return None;
-    };
-    let Some((name, fields)) = name_and_rest(fields) else {
-        return None;
-    };
-    let Some((t, fields)) = id_and_rest(fields) else {
-        return None;
-    };
-    let Some((lo, fields)) = key_and_rest(fields) else {
-        return None;
-    };
-    let Some(hi) = parse_decimal(fields) else {
-        return None;
-    };
+    let (s, fields) = id_and_rest(fields)?;
+    let (name, fields) = name_and_rest(fields)?;
+    let (t, fields) = id_and_rest(fields)?;
+    let (lo, fields) = key_and_rest(fields)?;
+    let hi = parse_decimal(fields)?;
     Some(Command::OpenCursor { s, name, t, lo, hi })
 }
 
@@ -111,15 +84,9 @@ fn fetch_of(fields: &[u8]) -> Option<Command<'_>>
     ensures found { IfSome result (λ command. Spells (codes "fetch" ++ 32 ∷ fields.now) (command_of command)) }
     ensures none { IfNone result (SpellsNone (codes "fetch" ++ 32 ∷ fields.now)) }
 {
-    let Some((s, fields)) = id_and_rest(fields) else {
-        return None;
-    };
-    let Some((name, fields)) = name_and_rest(fields) else {
-        return None;
-    };
-    let Some(n) = count_of(fields) else {
-        return None;
-    };
+    let (s, fields) = id_and_rest(fields)?;
+    let (name, fields) = name_and_rest(fields)?;
+    let n = count_of(fields)?;
     Some(Command::Fetch { s, name, n })
 }
 
@@ -128,12 +95,8 @@ fn close_of(fields: &[u8]) -> Option<Command<'_>>
     ensures found { IfSome result (λ command. Spells (codes "close" ++ 32 ∷ fields.now) (command_of command)) }
     ensures none { IfNone result (SpellsNone (codes "close" ++ 32 ∷ fields.now)) }
 {
-    let Some((s, fields)) = id_and_rest(fields) else {
-        return None;
-    };
-    let Some(name) = Name::new(fields) else {
-        return None;
-    };
+    let (s, fields) = id_and_rest(fields)?;
+    let name = Name::new(fields)?;
     Some(Command::CloseCursor { s, name })
 }
 
@@ -142,9 +105,7 @@ pub fn parse(line: &[u8]) -> Option<Command<'_>>
     ensures found { IfSome result (λ command. Spells line.now (command_of command)) }
     ensures none { IfNone result (SpellsNone line.now) }
 {
-    let Some((word, fields)) = split(line) else {
-        return None;
-    };
+    let (word, fields) = split(line)?;
     if word == b"insert".as_slice() {
         return insert_of(fields);
     }

@@ -3,7 +3,6 @@ ghost use Rattle.std.specs.Prelude.{◌≡◌, [], ◌∷◌, ◌++◌, ◌+◌,
 ghost use Rattle.std.specs.Fmt.{decimal};
 ghost use Rattle.arrayvec.specs.ArrayVec.{array_vec_len};
 ghost use Rattle.rb_script.specs.Replies.{text_of_reply, FitsALine};
-ghost use Rattle.rb_model.specs.Lines.{refusal_text};
 
 use arrayvec::ArrayVec;
 use itoa::Buffer;
@@ -48,28 +47,6 @@ fn put_number(number: u64, into: &mut Line)
     put(Buffer::new().format(number).as_bytes(), into);
 }
 
-// what a refusal is called
-fn refusal_word(why: Refusal) -> &'static [u8]
-    ensures text { result.now ≡ refusal_text why }
-    ensures short { length result.now ≤ 16 }
-{
-    match why {
-        Refusal::NoSession => b"no session",
-        Refusal::NoTable => b"no table",
-        Refusal::ValueTooLong => b"value too long",
-        Refusal::Duplicate => b"duplicate",
-        Refusal::NotFound => b"not found",
-        Refusal::BlockFull => b"block full",
-        Refusal::NoCursor => b"no cursor",
-        Refusal::CursorThere => b"cursor there",
-        Refusal::TooManyCursors => b"too many cursors",
-        Refusal::WornOut => b"worn out",
-        Refusal::DiskFault => b"disk fault",
-        Refusal::Stopped => b"stopped",
-        Refusal::LogFull => b"log full",
-    }
-}
-
 // all but the LF
 fn put_reply(reply: &Reply<'_>, into: &mut Line)
     requires empty { into.old.items ≡ [] }
@@ -106,7 +83,7 @@ fn put_reply(reply: &Reply<'_>, into: &mut Line)
         Reply::Refused { s, why } => {
             put_number(u64::from(s), into);
             put(b" ", into);
-            put(refusal_word(why), into);
+            put(why.text(), into);
         }
         Reply::BadLine => put(b"bad line", into),
     }

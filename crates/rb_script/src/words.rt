@@ -28,9 +28,7 @@ pub fn id_of(text: &[u8]) -> Option<u16>
     ensures found { IfSome result (λ n. text.now ≡ decimal n) }
     ensures none { IfNone result ((n : ℕ) → n < 2 ^ 16 → text.now ≢ decimal n) }
 {
-    let Some(number) = parse_decimal(text) else {
-        return None;
-    };
+    let number = parse_decimal(text)?;
     u16::try_from(number).ok()
 }
 
@@ -45,9 +43,7 @@ pub fn count_of(text: &[u8]) -> Option<u32>
     ensures found { IfSome result (λ n. (text.now ≡ decimal n) × (1 ≤ n) × (n ≤ 1000000)) }
     ensures none { IfNone result ((n : ℕ) → 1 ≤ n → n ≤ 1000000 → text.now ≢ decimal n) }
 {
-    let Some(number) = parse_decimal(text) else {
-        return None;
-    };
+    let number = parse_decimal(text)?;
     if !is_count(number) {
         return None;
     }
@@ -60,12 +56,8 @@ pub fn id_and_rest(text: &[u8]) -> Option<(u16, &[u8])>
     ensures range { IfSome result (λ parts. parts.0 < 2 ^ 16) }
     ensures none { IfNone result ((n : ℕ) (rest : List ℕ) → n < 2 ^ 16 → text.now ≢ decimal n ++ 32 ∷ rest) }
 {
-    let Some((front, rest)) = split(text) else {
-        return None;
-    };
-    let Some(id) = id_of(front) else {
-        return None;
-    };
+    let (front, rest) = split(text)?;
+    let id = id_of(front)?;
     Some((id, rest))
 }
 
@@ -75,12 +67,8 @@ pub fn key_and_rest(text: &[u8]) -> Option<(u64, &[u8])>
     ensures range { IfSome result (λ parts. parts.0 < 2 ^ 64) }
     ensures none { IfNone result ((n : ℕ) (rest : List ℕ) → n < 2 ^ 64 → text.now ≢ decimal n ++ 32 ∷ rest) }
 {
-    let Some((front, rest)) = split(text) else {
-        return None;
-    };
-    let Some(key) = parse_decimal(front) else {
-        return None;
-    };
+    let (front, rest) = split(text)?;
+    let key = parse_decimal(front)?;
     Some((key, rest))
 }
 
@@ -90,12 +78,8 @@ pub fn name_and_rest(text: &[u8]) -> Option<(Name, &[u8])>
     ensures valid { IfSome result (λ parts. IsTrue (is_name (name_text parts.0))) }
     ensures none { IfNone result ((name rest : List ℕ) → IsTrue (is_name name) → text.now ≢ name ++ 32 ∷ rest) }
 {
-    let Some((front, rest)) = split(text) else {
-        return None;
-    };
-    let Some(name) = Name::new(front) else {
-        return None;
-    };
+    let (front, rest) = split(text)?;
+    let name = Name::new(front)?;
     Some((name, rest))
 }
 

@@ -1,17 +1,17 @@
-use Rattle.std.proofs.Common.{arith}
-use Rattle.rb_script.proofs.Spaced.{same_number}
-use Rattle.rb_script.proofs.Spellings.{delete_none}
+use Rattle.rb_model.specs.Lines.{DeleteWord, Id}
+use Rattle.rb_script.proofs.Spaced.{if_none}
+use Rattle.rb_script.specs.Words.{IdKind, KeyKind}
+use Rattle.rb_script.proofs.Fields.{none_after, none_first, none_last}
+use Rattle.rb_script.proofs.Spellings.{no_fields}
 use Rattle.rb_script.proofs.grammar.delete_of.Goals as goal
 
-pub returns-in_default-id_and_rest-clause-none : goal.returns-in_default-id_and_rest-clause-none
-returns-in_default-id_and_rest-clause-none c =
-    delete_none c.args.fields.now (λ s t k s_fits t_fits k_fits e.
-    let after_s = same_number c.args.fields.now c.in-Some.s s c.in-Some.fields.now _ (omega (arith, c.in-Some.ensures.range)) (omega arith) c.in-Some.ensures.found e in
-    c.in_default-id_and_rest.ensures.none t _ t_fits after_s.1)
+pub returns-in_err-t-clause-none : goal.returns-in_err-t-clause-none
+returns-in_err-t-clause-none c = if_none c.from_residual-in_err-t.result (no_fields DeleteWord c.args.fields.now
+    (none_after (Id c.in_ok-s.s) c.in_ok-s.ensures.range c.in_ok-s.ensures.found
+    (none_first IdKind KeyKind (λ n bytes. c.in_err-t.ensures.none n))))
 
-pub returns-in_default-parse_decimal-clause-none : goal.returns-in_default-parse_decimal-clause-none
-returns-in_default-parse_decimal-clause-none c =
-    delete_none c.args.fields.now (λ s t k s_fits t_fits k_fits e.
-    let after_s = same_number c.args.fields.now c.in-Some.s s c.in-Some.fields.now _ (omega (arith, c.in-Some.ensures.range)) (omega arith) c.in-Some.ensures.found e in
-    let after_t = same_number c.in-Some.fields.now c.in-Some-id_and_rest.t t c.in-Some-id_and_rest.fields.now _ (omega (arith, c.in-Some-id_and_rest.ensures.range)) (omega arith) c.in-Some-id_and_rest.ensures.found after_s.1 in
-    c.in_default-parse_decimal.ensures.none k k_fits after_t.1)
+pub returns-in_err-k-clause-none : goal.returns-in_err-k-clause-none
+returns-in_err-k-clause-none c = if_none c.from_residual-in_err-k.result (no_fields DeleteWord c.args.fields.now
+    (none_after (Id c.in_ok-s.s) c.in_ok-s.ensures.range c.in_ok-s.ensures.found
+    (none_after (Id c.in_ok-t.t) c.in_ok-t.ensures.range c.in_ok-t.ensures.found
+    (none_last KeyKind (λ n bytes. c.in_err-k.ensures.none n)))))
