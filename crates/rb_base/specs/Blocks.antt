@@ -1,5 +1,7 @@
 -- The blocks of a file in their order, and what groups of patches make of them.
-use Rattle.std.specs.Prelude.{◌≡◌, ℕ, ◌+◌, ◌*◌, ◌-◌, ◌%◌, ◌<◌, ◌≤◌, zero, suc, Bool, ◌==◌, nat_lt, max, cond, if◌then◌else◌, List, [], ◌∷◌, ◌++◌, length, replicate, slice_index_or, slice_set}
+use Rattle.std.specs.Prelude.{◌≡◌, ℕ, ◌+◌, ◌*◌, ◌-◌, ◌%◌, ◌<◌, ◌≤◌, zero, suc, Bool}
+use Rattle.std.specs.Prelude.{◌==◌, nat_lt, max, cond, if◌then◌else◌, List, [], ◌∷◌, ◌++◌, length}
+use Rattle.std.specs.Prelude.{replicate, slice_index_or, slice_set}
 use Rattle.std.specs.List.{list_any, AllByRecursion}
 use Rattle.byteorder.specs.Endian.{big_bytes}
 use Rattle.rb_base.specs.Fields.{overwritten, with_number}
@@ -54,7 +56,8 @@ patches_block which group = list_any (λ p. p.block == which) group
 -- the groups up to the last one that patches that block
 abbrev pub up_to_last : ℕ → List (List Patch) → List (List Patch)
 up_to_last which [] = []
-up_to_last which (group ∷ groups) = cond (list_any (patches_block which) (group ∷ groups)) (group ∷ up_to_last which groups) []
+up_to_last which (group ∷ groups) = cond (list_any (patches_block which) (group ∷ groups))
+    (group ∷ up_to_last which groups) []
 
 -- each patch of the group is of a block of the file
 abbrev pub AreWithin : Shape → List Patch → Type 0
@@ -67,13 +70,15 @@ pub record AreBlocks (shape : Shape) (blocks : List (List ℕ)) : Type 0 where
 
 -- 1 a block of rows, 2 the header of a segment, 3 a block of undo
 abbrev pub block_kind : Shape → ℕ → ℕ
-block_kind shape which = if nat_lt which (table_blocks shape) then 1 else if (which - table_blocks shape) % 33 == 0 then 2 else 3
+block_kind shape which = if nat_lt which (table_blocks shape) then 1 else if (which - table_blocks shape) % 33 == 0 then
+    2 else 3
 
 -- the 32 bytes in front of a block that no group has patched: no log number yet, the kind and the block's own number
 abbrev pub fresh_head : ℕ → ℕ → List ℕ
 fresh_head kind which = replicate 8 0 ++ kind ∷ replicate 3 0 ++ big_bytes 4 which ++ replicate 16 0
 
--- An extent is a number of its turn and a commit number. In a fresh segment extent 0 has turn 2 and extent 1 turn 1, behind
+-- An extent is a number of its turn and a commit number. In a fresh segment extent 0 has turn 2 and extent 1 turn 1,
+-- behind
 -- sixteen table slots of 64 bytes.
 abbrev pub fresh_segment : List ℕ
 fresh_segment = replicate 1024 0 ++ big_bytes 8 2 ++ replicate 24 0 ++ big_bytes 8 1 ++ replicate 952 0

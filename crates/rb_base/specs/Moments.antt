@@ -1,4 +1,5 @@
--- What a crash may leave of an object, now or at some moment since a stated one, and how that goes on over several calls.
+-- What a crash may leave of an object, now or at some moment since a stated one, and how that goes on over several
+-- calls.
 -- An image is what is left: the bytes of a file, say.
 use Rattle.std.specs.Prelude.{◌⊎◌, ℕ, ◌≤◌}
 use Rattle.std.proofs.Common.{inl, inr, ⊎_elim, arith}
@@ -9,13 +10,15 @@ NoMore {X} before now = (c : X) → now c → before c
 
 -- Time goes on: what a crash may have left at some moment since t is what it may have left by the call's
 -- start, or what it may leave now. Nothing is forgotten: what it may have left by then, it may have left still.
-pub record Passes {X : Type 0} (before now : ℕ) (since_before since_now : ℕ → X → Type 0) (image : X → Type 0) : Type 0 where
+pub record Passes {X : Type 0} (before now : ℕ) (since_before since_now : ℕ → X → Type 0) (image : X
+    → Type 0) : Type 0 where
   pub later : before ≤ now
   pub splits : (t : ℕ) (c : X) → t ≤ before → since_now t c → since_before t c ⊎ image c
   pub stay : (t : ℕ) (c : X) → t ≤ before → since_before t c → since_now t c
 
 -- Each image that a crash at some moment since `old` may have left has P.
-pub record LeavesOnly {D X : Type 0} (moment : D → ℕ) (since : D → ℕ → X → Type 0) (old new : D) (P : X → Type 0) : Type 0 where
+pub record LeavesOnly {D X : Type 0} (moment : D → ℕ) (since : D → ℕ → X → Type 0) (old new : D) (P : X
+    → Type 0) : Type 0 where
   pub later : moment old ≤ moment new
   pub each : (c : X) → since new (moment old) c → P c
   -- for a call that began earlier
@@ -23,20 +26,24 @@ pub record LeavesOnly {D X : Type 0} (moment : D → ℕ) (since : D → ℕ →
 
 module _ {D X : Type 0} (moment : D → ℕ) (since : D → ℕ → X → Type 0) where
   -- before the first call; the premise is that each image now has P
-  pub begun : (disk : D) (P : X → Type 0) → ((c : X) → since disk (moment disk) c → P c) → LeavesOnly moment since disk disk P
+  pub begun : (disk : D) (P : X → Type 0) → ((c : X) → since disk (moment disk) c → P c)
+      → LeavesOnly moment since disk disk P
   begun disk P here = record { later = omega arith; each = here; earlier = λ t c le left. inl left }
 
   -- one call more, after which each image has P
-  pub goes_on : (old mid new : D) (P image : X → Type 0) → LeavesOnly moment since old mid P → Passes (moment mid) (moment new) (since mid) (since new) image
+  pub goes_on : (old mid new : D) (P image : X → Type 0) → LeavesOnly moment since old mid P
+      → Passes (moment mid) (moment new) (since mid) (since new) image
       → ((c : X) → image c → P c) → LeavesOnly moment since old new P
   goes_on old mid new P image so_far time here = record {
     later = omega (arith, so_far.later, time.later);
     each = λ c left. ⊎_elim (so_far.each c) (here c) (time.splits (moment old) c so_far.later left);
-    earlier = λ t c le left. ⊎_elim (so_far.earlier t c le) (λ now. inr (here c now)) (time.splits t c (omega (arith, le, so_far.later)) left);
+    earlier = λ t c le left. ⊎_elim (so_far.earlier t c le) (λ now. inr (here c now))
+        (time.splits t c (omega (arith, le, so_far.later)) left);
   }
 
   -- what follows from P
-  pub weaker : (old new : D) (P Q : X → Type 0) → ((c : X) → P c → Q c) → LeavesOnly moment since old new P → LeavesOnly moment since old new Q
+  pub weaker : (old new : D) (P Q : X → Type 0) → ((c : X) → P c → Q c) → LeavesOnly moment since old new P
+      → LeavesOnly moment since old new Q
   weaker old new P Q so leaves = record {
     later = leaves.later;
     each = λ c left. so c (leaves.each c left);
@@ -44,9 +51,11 @@ module _ {D X : Type 0} (moment : D → ℕ) (since : D → ℕ → X → Type 0
   }
 
   -- several calls after several others
-  pub joined : (old mid new : D) (P : X → Type 0) → LeavesOnly moment since old mid P → LeavesOnly moment since mid new P → LeavesOnly moment since old new P
+  pub joined : (old mid new : D) (P : X → Type 0) → LeavesOnly moment since old mid P
+      → LeavesOnly moment since mid new P → LeavesOnly moment since old new P
   joined old mid new P first second = record {
     later = omega (arith, first.later, second.later);
     each = λ c left. ⊎_elim (first.each c) (λ has. has) (second.earlier (moment old) c first.later left);
-    earlier = λ t c le left. ⊎_elim (first.earlier t c le) (λ has. inr has) (second.earlier t c (omega (arith, le, first.later)) left);
+    earlier = λ t c le left. ⊎_elim (first.earlier t c le) (λ has. inr has)
+        (second.earlier t c (omega (arith, le, first.later)) left);
   }

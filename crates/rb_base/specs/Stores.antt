@@ -16,7 +16,8 @@ after_pending number pending blocks = after_groups (number + 1 - length pending)
 abbrev pub after_kept : ℕ → ℕ → List (List Patch) → List (List ℕ) → List (List ℕ)
 after_kept commit number pending blocks = after_groups (number + 1 - length pending) (up_to_last commit pending) blocks
 
--- The blocks after some of the groups that wait for a flush, of which the last has that number: the first `count`, up to
+-- The blocks after some of the groups that wait for a flush, of which the last has that number: the first `count`, up
+-- to
 -- their last commit.
 pub record AfterSome (commit number : ℕ) (pending : List (List Patch)) (before now : List (List ℕ)) : Type 0 where
   pub count : ℕ

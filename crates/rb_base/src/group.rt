@@ -1,6 +1,7 @@
 //! A group of patches: bytes that take the place of others in blocks. rb_write makes one for each write of a row,
 //! and rb_sound for each commit; rb_group writes and reads their bytes.
-ghost use Rattle.std.specs.Prelude.{IsTrue, ◌≡◌, ◌↔◌, ◌+◌, ◌<◌, ◌≤◌, [], ◌∷◌, ◌++◌, length, true, slice_index_or};
+ghost use Rattle.std.specs.Prelude.{IsTrue, ◌≡◌, ◌↔◌, ◌+◌, ◌<◌, ◌≤◌, [], ◌∷◌, ◌++◌};
+ghost use Rattle.std.specs.Prelude.{length, true, slice_index_or};
 ghost use Rattle.rb_base.specs.Groups.{Patch, patch, patch_length, group_length, IsGroup};
 
 use crate::ids::BlockNo;
@@ -93,7 +94,8 @@ impl Group {
             && len <= GROUP_BYTES - HEAD_BYTES - used
     }
 
-    /// Puts one more patch at the end, which has room (`fits`): these bytes, one at least, go into a block from its byte
+    /// Puts one more patch at the end, which has room (`fits`): these bytes, one at least, go into a block from its
+    /// byte
     /// `at` on, behind the block's first 32 bytes and within its 2,048.
     pub fn push(&mut self, block: BlockNo, at: u16, bytes: &[u8])
         requires count { length self.old < 40 }

@@ -1,7 +1,9 @@
 //! `Store`: the blocks of a file, read and patched by groups, as the engine and what it stands on call them.
-ghost use Rattle.std.specs.Prelude.{◌≡◌, ◌+◌, ◌^◌, ◌<◌, ◌≤◌, [], ◌∷◌, ◌++◌, ℕ, Bool, List, length, true, false, is_some, Option, Some, OnOk};
+ghost use Rattle.std.specs.Prelude.{◌≡◌, ◌+◌, ◌^◌, ◌<◌, ◌≤◌, [], ◌∷◌, ◌++◌, ℕ};
+ghost use Rattle.std.specs.Prelude.{Bool, List, length, true, false, is_some, Option, Some, OnOk};
 ghost use Rattle.std.specs.Result.{is_err};
-ghost use Rattle.rb_base.specs.Blocks.{block_of, after_group, up_to_last, commit_block, shape_blocks, AreBlocks, AreWithin, IsShape};
+ghost use Rattle.rb_base.specs.Blocks.{block_of, after_group, up_to_last, commit_block, shape_blocks, AreBlocks};
+ghost use Rattle.rb_base.specs.Blocks.{AreWithin, IsShape};
 ghost use Rattle.rb_base.specs.Counts.{IsCounted};
 ghost use Rattle.rb_base.specs.Groups.{Patch};
 ghost use Rattle.rb_base.specs.Moments.{NoMore, Passes, LeavesOnly};
@@ -12,8 +14,10 @@ use crate::faults::Failed;
 use crate::group::Group;
 use crate::ids::{BlockNo, Lsn, Shape};
 
-/// The blocks of a file. Each change of them is a group of patches, which has the next log number. A group waits until a
-/// flush; from then on a crash leaves it, if it is a commit or a commit is behind it. A store of which a call has failed
+/// The blocks of a file. Each change of them is a group of patches, which has the next log number. A group waits until
+/// a
+/// flush; from then on a crash leaves it, if it is a commit or a commit is behind it. A store of which a call has
+/// failed
 /// is no more to be called.
 pub trait Store {
     /// Whether it tells its blocks.
@@ -61,7 +65,8 @@ pub trait Store {
     /// To which blocks an image opens, in a file of that shape and as many slots.
     ghost opens: { Shape → Option ℕ → image → List (List ℕ) → Type 0 };
 
-    /// These blocks are stable: each image that a crash now may leave opens to them, and patched by the groups that wait
+    /// These blocks are stable: each image that a crash now may leave opens to them, and patched by the groups that
+    /// wait
     /// they are those that it reads.
     ghost stable: { Self → List (List ℕ) → Type 0 };
 
@@ -83,15 +88,18 @@ pub trait Store {
         ensures pending { keeps → pending self.new ≡ pending self.old }
         ensures stable { keeps → (b : List (List ℕ)) → stable self.old b → stable self.new b }
         ensures images { keeps → NoMore (left self.old) (left self.new) }
-        ensures time { keeps → Passes (moment self.old) (moment self.new) (left_since self.old) (left_since self.new) (left self.new) }
+        ensures time { keeps → Passes (moment self.old) (moment self.new) (left_since self.old) (left_since self.new)
+            (left self.new) }
         ensures failed { failed self.new ≡ is_err result }
         ensures counted { IsCounted (faults self.old) (faults self.new) result };
 
-    /// The block that was loaded, 2,048 bytes. The last of the calls that change the store was a `load` that answered Ok.
+    /// The block that was loaded, 2,048 bytes. The last of the calls that change the store was a `load` that answered
+    /// Ok.
     fn block(&self) -> &[u8]
         requires loaded { is_some (loaded self.now) ≡ true }
         ensures length { length result.now ≡ 2048 }
-        ensures block { tells → (no : ℕ) → loaded self.now ≡ Some no → result.now ≡ block_of (blocks self.now) no };
+        ensures block { tells → (no : ℕ) → loaded self.now ≡ Some no
+            → result.now ≡ block_of (blocks self.now) no };
 
     /// Patches blocks of the file by a group, to which it gives the next log number. A crash doesn't leave it yet.
     fn apply(&mut self, group: &Group) -> Result<(), Failed>
@@ -101,26 +109,35 @@ pub trait Store {
         requires room { 1 ≤ room_of (slots self.old) (number self.old) }
         requires few { number self.old < 2 ^ 62 }
         ensures number { OnOk result (number self.new ≡ number self.old + 1) }
-        ensures blocks { tells → OnOk result (blocks self.new ≡ after_group (number self.old + 1) group.now (blocks self.old)) }
+        ensures blocks { tells → OnOk result (blocks self.new
+            ≡ after_group (number self.old + 1) group.now (blocks self.old)) }
         ensures pending { keeps → OnOk result (pending self.new ≡ pending self.old ++ group.now ∷ []) }
         ensures shape { shape_of self.new ≡ shape_of self.old }
         ensures slots { slots self.new ≡ slots self.old }
         ensures stable { keeps → OnOk result ((b : List (List ℕ)) → stable self.old b → stable self.new b) }
         ensures images { keeps → NoMore (left self.old) (left self.new) }
-        ensures time { keeps → Passes (moment self.old) (moment self.new) (left_since self.old) (left_since self.new) (left self.new) }
+        ensures time { keeps → Passes (moment self.old) (moment self.new) (left_since self.old) (left_since self.new)
+            (left self.new) }
         ensures failed { failed self.new ≡ is_err result }
         ensures counted { IsCounted (faults self.old) (faults self.new) result };
 
-    /// Makes the groups that wait last. After an Ok none waits, and a crash leaves those up to the last commit. Where it is
+    /// Makes the groups that wait last. After an Ok none waits, and a crash leaves those up to the last commit. Where
+    /// it is
     /// stopped, a crash leaves some of them, in order from the first and up to a commit.
     fn flush(&mut self) -> Result<(), Failed>
         requires going { failed self.old ≡ false }
         ensures flushed { keeps → OnOk result (pending self.new ≡ []) }
-        ensures kept { keeps → OnOk result ((b : List (List ℕ)) → stable self.old b → (i : image) → left self.new i
-            → opens (shape_of self.new) (slots self.new) i (after_kept (commit_block (shape_of self.old)) (number self.old) (pending self.old) b)) }
-        ensures stable { keeps → OnOk result ((b : List (List ℕ)) → stable self.old b → up_to_last (commit_block (shape_of self.old)) (pending self.old) ≡ pending self.old → stable self.new (blocks self.new)) }
-        ensures any_moment { keeps → (b : List (List ℕ)) → stable self.old b → LeavesOnly moment left_since self.old self.new
-            (λ i. (now : List (List ℕ)) × opens (shape_of self.new) (slots self.new) i now × AfterSome (commit_block (shape_of self.old)) (number self.old) (pending self.old) b now) }
+        ensures kept { keeps → OnOk result ((b : List (List ℕ)) → stable self.old b → (i : image)
+            → left self.new i
+            → opens (shape_of self.new) (slots self.new) i
+            (after_kept (commit_block (shape_of self.old)) (number self.old) (pending self.old) b)) }
+        ensures stable { keeps → OnOk result ((b : List (List ℕ)) → stable self.old b
+            → up_to_last (commit_block (shape_of self.old)) (pending self.old) ≡ pending self.old
+            → stable self.new (blocks self.new)) }
+        ensures any_moment { keeps → (b : List (List ℕ)) → stable self.old b
+            → LeavesOnly moment left_since self.old self.new
+            (λ i. (now : List (List ℕ)) × opens (shape_of self.new) (slots self.new) i now
+            × AfterSome (commit_block (shape_of self.old)) (number self.old) (pending self.old) b now) }
         ensures shape { shape_of self.new ≡ shape_of self.old }
         ensures slots { slots self.new ≡ slots self.old }
         ensures number { number self.new ≡ number self.old }
@@ -132,11 +149,17 @@ pub trait Store {
     fn checkpoint(&mut self) -> Result<(), Failed>
         requires going { failed self.old ≡ false }
         ensures flushed { keeps → OnOk result (pending self.new ≡ []) }
-        ensures kept { keeps → OnOk result ((b : List (List ℕ)) → stable self.old b → (i : image) → left self.new i
-            → opens (shape_of self.new) (slots self.new) i (after_kept (commit_block (shape_of self.old)) (number self.old) (pending self.old) b)) }
-        ensures stable { keeps → OnOk result ((b : List (List ℕ)) → stable self.old b → up_to_last (commit_block (shape_of self.old)) (pending self.old) ≡ pending self.old → stable self.new (blocks self.new)) }
-        ensures any_moment { keeps → (b : List (List ℕ)) → stable self.old b → LeavesOnly moment left_since self.old self.new
-            (λ i. (now : List (List ℕ)) × opens (shape_of self.new) (slots self.new) i now × AfterSome (commit_block (shape_of self.old)) (number self.old) (pending self.old) b now) }
+        ensures kept { keeps → OnOk result ((b : List (List ℕ)) → stable self.old b → (i : image)
+            → left self.new i
+            → opens (shape_of self.new) (slots self.new) i
+            (after_kept (commit_block (shape_of self.old)) (number self.old) (pending self.old) b)) }
+        ensures stable { keeps → OnOk result ((b : List (List ℕ)) → stable self.old b
+            → up_to_last (commit_block (shape_of self.old)) (pending self.old) ≡ pending self.old
+            → stable self.new (blocks self.new)) }
+        ensures any_moment { keeps → (b : List (List ℕ)) → stable self.old b
+            → LeavesOnly moment left_since self.old self.new
+            (λ i. (now : List (List ℕ)) × opens (shape_of self.new) (slots self.new) i now
+            × AfterSome (commit_block (shape_of self.old)) (number self.old) (pending self.old) b now) }
         ensures shape { shape_of self.new ≡ shape_of self.old }
         ensures slots { slots self.new ≡ slots self.old }
         ensures number { number self.new ≡ number self.old }
@@ -153,13 +176,16 @@ pub trait Store {
         ensures { result ≡ room_of (slots self.now) (number self.now) };
 
     /// An image that a crash now may leave opens to the blocks that are stable.
-    ghost stable_left: { (store : Self) (b : List (List ℕ)) (i : image) → keeps → stable store b → left store i → opens (shape_of store) (slots store) i b };
+    ghost stable_left: { (store : Self) (b : List (List ℕ)) (i : image) → keeps → stable store b → left store i
+        → opens (shape_of store) (slots store) i b };
 
     /// Those blocks, patched by the groups that wait, are the ones that it reads.
-    ghost stable_patched: { (store : Self) (b : List (List ℕ)) → keeps → stable store b → blocks store ≡ after_pending (number store) (pending store) b };
+    ghost stable_patched: { (store : Self) (b : List (List ℕ)) → keeps → stable store b
+        → blocks store ≡ after_pending (number store) (pending store) b };
 
     /// This moment is one of those since an earlier one.
-    ghost now_counts: { (store : Self) (t : ℕ) (i : image) → keeps → t ≤ moment store → left store i → left_since store t i };
+    ghost now_counts: { (store : Self) (t : ℕ) (i : image) → keeps → t ≤ moment store → left store i
+        → left_since store t i };
 
     /// Since this moment there is no other.
     ghost only_now: { (store : Self) (i : image) → keeps → left_since store (moment store) i → left store i };

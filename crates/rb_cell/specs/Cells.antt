@@ -1,5 +1,6 @@
 -- The cells of a heap block: what their bytes say, and what a patch of one makes of its block.
-use Rattle.std.specs.Prelude.{ℕ, ◌+◌, ◌*◌, ◌-◌, ◌^◌, ◌<◌, ◌≤◌, List, [], ◌∷◌, ◌++◌, length, take, drop, replicate, slice_index}
+use Rattle.std.specs.Prelude.{ℕ, ◌+◌, ◌*◌, ◌-◌, ◌^◌, ◌<◌, ◌≤◌, List, [], ◌∷◌}
+use Rattle.std.specs.Prelude.{◌++◌, length, take, drop, replicate, slice_index}
 use Rattle.byteorder.specs.Endian.{big_bytes}
 use Rattle.rb_base.specs.Fields.{part, number_at, overwritten}
 use Rattle.rb_base.specs.Groups.{Patch, patch}
@@ -20,7 +21,8 @@ padded value = value ++ replicate (80 - length value) 0
 
 -- the 92 bytes of a cell: the state, the lock, the value's length, the key and the value
 abbrev pub cell_bytes : Cell → List ℕ
-cell_bytes cell = cell.state ∷ cell.lock ∷ (big_bytes 2 (length cell.value.items) ++ (big_bytes 8 cell.key ++ padded cell.value.items))
+cell_bytes cell = cell.state ∷ cell.lock ∷ (big_bytes 2 (length cell.value.items)
+    ++ (big_bytes 8 cell.key ++ padded cell.value.items))
 
 -- The cell that 92 bytes say. A length above 80 takes the 80 bytes that there are.
 abbrev pub cell_of : List ℕ → Cell

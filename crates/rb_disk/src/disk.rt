@@ -34,7 +34,8 @@ pub trait Disk {
         ensures value { tells → IfOk result (λ n. n ≡ length (content self.old)) }
         ensures content { tells → content self.new ≡ content self.old }
         ensures images { tells → NoMore (image self.old) (image self.new) }
-        ensures time { tells → Passes (moment self.old) (moment self.new) (image_since self.old) (image_since self.new) (image self.new) }
+        ensures time { tells → Passes (moment self.old) (moment self.new) (image_since self.old)
+            (image_since self.new) (image self.new) }
         ensures counted { IsCounted (faults self.old) (faults self.new) result };
 
     /// Reads as many bytes as `into` has, from `at`. They lie within the length.
@@ -43,7 +44,8 @@ pub trait Disk {
         ensures value { tells → OnOk result (into.new ≡ part (content self.old) at (length into.old)) }
         ensures content { tells → content self.new ≡ content self.old }
         ensures images { tells → NoMore (image self.old) (image self.new) }
-        ensures time { tells → Passes (moment self.old) (moment self.new) (image_since self.old) (image_since self.new) (image self.new) }
+        ensures time { tells → Passes (moment self.old) (moment self.new) (image_since self.old)
+            (image_since self.new) (image self.new) }
         ensures counted { IsCounted (faults self.old) (faults self.new) result };
 
     /// Writes over what is there and past the end. It begins within the length or at it. Until a sync answers
@@ -53,7 +55,8 @@ pub trait Disk {
         ensures written { tells → OnOk result (content self.new ≡ overwritten (content self.old) at bytes.now) }
         ensures torn { tells → OnErr result (Torn at (length bytes.now) (content self.old) (content self.new)) }
         ensures images { tells → Follows (Torn at (length bytes.now)) (image self.old) (image self.new) }
-        ensures time { tells → Passes (moment self.old) (moment self.new) (image_since self.old) (image_since self.new) (image self.new) }
+        ensures time { tells → Passes (moment self.old) (moment self.new) (image_since self.old)
+            (image_since self.new) (image self.new) }
         ensures counted { IsCounted (faults self.old) (faults self.new) result };
 
     /// After an Ok a crash leaves what is read.
@@ -61,14 +64,16 @@ pub trait Disk {
         ensures durable { tells → OnOk result (Only (content self.old) (image self.new)) }
         ensures content { tells → content self.new ≡ content self.old }
         ensures images { tells → NoMore (image self.old) (image self.new) }
-        ensures time { tells → Passes (moment self.old) (moment self.new) (image_since self.old) (image_since self.new) (image self.new) }
+        ensures time { tells → Passes (moment self.old) (moment self.new) (image_since self.old)
+            (image_since self.new) (image self.new) }
         ensures counted { IsCounted (faults self.old) (faults self.new) result };
 
     /// What it reads as is one of its images.
     ghost reads_an_image: { (disk : Self) → tells → image disk (content disk) };
 
     /// This moment is one of those since an earlier one.
-    ghost now_counts: { (disk : Self) (t : ℕ) (c : List ℕ) → tells → t ≤ moment disk → image disk c → image_since disk t c };
+    ghost now_counts: { (disk : Self) (t : ℕ) (c : List ℕ) → tells → t ≤ moment disk → image disk c
+        → image_since disk t c };
 
     /// Since this moment there is no other.
     ghost only_now: { (disk : Self) (c : List ℕ) → tells → image_since disk (moment disk) c → image disk c };

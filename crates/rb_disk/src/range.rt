@@ -17,7 +17,8 @@ pub fn write_synced<D: Disk>(disk: &mut D, at: u64, bytes: &[u8]) -> Result<(), 
     ensures torn { D.tells → Torn at (length bytes.now) (D.content disk.old) (D.content disk.new) }
     ensures durable { D.tells → OnOk result (Only (D.content disk.new) (D.image disk.new)) }
     ensures length { D.tells → length (D.content disk.new) ≡ length (D.content disk.old) }
-    ensures any_moment { D.tells → LeavesOnly D.moment D.image_since disk.old disk.new (TornFrom at (length bytes.now) (D.image disk.old)) }
+    ensures any_moment { D.tells → LeavesOnly D.moment D.image_since disk.old disk.new
+        (TornFrom at (length bytes.now) (D.image disk.old)) }
     ensures counted { IsCounted (D.faults disk.old) (D.faults disk.new) result }
 {
     disk.write_at(at, bytes)?;

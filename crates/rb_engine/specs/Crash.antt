@@ -1,4 +1,5 @@
--- What a crash may leave of a store, by the states of the engine over it. An image is what is left; `opens` says to which
+-- What a crash may leave of a store, by the states of the engine over it. An image is what is left; `opens` says to
+-- which
 -- blocks it opens, in a file of that shape.
 use Rattle.std.specs.Prelude.{◌≡◌, ℕ, ◌≤◌, true, false, List, ◌++◌, Option}
 use Rattle.std.specs.List.{list_any}
@@ -13,7 +14,8 @@ use Rattle.rb_model.specs.State.{State, session_of}
 use Rattle.rb_engine.specs.Holds.{Holds}
 
 -- An image opens to blocks that hold the number n and the rows after the commits of h up to n.
-pub record RestartsAt {I : Type 0} (opens : Shape → I → List (List ℕ) → Type 0) (h : State) (n : ℕ) (i : I) : Type 0 where
+pub record RestartsAt {I : Type 0} (opens : Shape → I → List (List ℕ)
+    → Type 0) (h : State) (n : ℕ) (i : I) : Type 0 where
   pub blocks : List (List ℕ)
   pub opening : opens h.shape i blocks
   pub holds : Holds h.shape blocks n (rows_at h.shape.blocks h.commits n)
@@ -25,12 +27,15 @@ Restarts {I} opens h i = RestartsAt opens h (last_number h.commits) i
 -- An image of an engine that is in that state. A commit that answered a fault of the disk may be in it or not.
 pub data AtEnd {I : Type 0} (opens : Shape → I → List (List ℕ) → Type 0) (h : State) (i : I) : Type 0 where
   whole : Restarts opens h i → AtEnd opens h i
-  one_more : (s : ℕ) → h.stopped ≡ true → is_empty (session_of h s).own ≡ false → Restarts opens (committed h s) i
+  one_more : (s : ℕ) → h.stopped ≡ true → is_empty (session_of h s).own ≡ false
+      → Restarts opens (committed h s) i
       → AtEnd opens h i
 
 -- An image at some moment on the way from a state to a later one: it has a number in between, and the rows at it.
-pub data OnTheWay {I : Type 0} (opens : Shape → I → List (List ℕ) → Type 0) (before now : State) (i : I) : Type 0 where
-  reached : (n : ℕ) → last_number before.commits ≤ n → n ≤ last_number now.commits → RestartsAt opens now n i
+pub data OnTheWay {I : Type 0} (opens : Shape → I → List (List ℕ)
+    → Type 0) (before now : State) (i : I) : Type 0 where
+  reached : (n : ℕ) → last_number before.commits ≤ n → n ≤ last_number now.commits
+      → RestartsAt opens now n i
       → OnTheWay opens before now i
   at_end : AtEnd opens now i → OnTheWay opens before now i
 
@@ -50,10 +55,12 @@ pub record IsDurable {S : Type 0} (s : Ghosts S) (h : State) (store : S) : Type 
   pub quiet : list_any (patches_block (commit_block h.shape)) (s.pending store) ≡ false
 
 -- What images of a store of so many log slots open to.
-abbrev pub opens_of : {S : Type 0} → (s : Ghosts S) → Option ℕ → Shape → s.image → List (List ℕ) → Type 0
+abbrev pub opens_of : {S : Type 0} → (s : Ghosts S) → Option ℕ → Shape → s.image → List (List ℕ)
+    → Type 0
 opens_of {S} s slots shape i blocks = s.opens shape slots i blocks
 
--- What a crash may leave at any moment since an earlier store, and what it may leave now. A store that goes on keeps the
+-- What a crash may leave at any moment since an earlier store, and what it may leave now. A store that goes on keeps
+-- the
 -- later state.
 pub record Survives {S : Type 0} (s : Ghosts S) (slots : Option ℕ) (before now : State) (old new : S) : Type 0 where
   pub extends : Extends before now

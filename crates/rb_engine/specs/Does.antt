@@ -19,7 +19,8 @@ pub record Stands {S : Type 0} (s : Ghosts S) (h : State) (e : EngineView S) : T
 -- A call with that answer on an engine that stood for h: the machine allows the answer, and the engine stands for the
 -- state after it. Unless it is stopped then, the log has so many groups more. A crash in it leaves no more than the
 -- states before and after it.
-pub record Does {S : Type 0} (s : Ghosts S) (h : State) (call : Call) (answer : Answer) (old new : EngineView S) : Type 0 where
+pub record Does {S : Type 0} (s : Ghosts S) (h : State) (call : Call) (answer : Answer) (old new : EngineView S) : Type
+    0 where
   pub reply : Reply h (s.number old.store) (room_left (s.slots old.store) (s.number old.store) old.spare) call answer
   pub stands : Stands s (after h call answer) new
   pub groups : ℕ
@@ -34,7 +35,8 @@ pub record SameStore {S : Type 0} (s : Ghosts S) (old new : S) : Type 0 where
   pub slots : s.slots new ≡ s.slots old
 
 -- An engine that was opened over these blocks stands for the state to which they open.
-pub record StandsOpened {S : Type 0} (s : Ghosts S) (shape : Shape) (blocks : List (List ℕ)) (e : EngineView S) : Type 0 where
+pub record StandsOpened {S : Type 0} (s : Ghosts S) (shape : Shape) (blocks : List (List ℕ)) (e : EngineView S) : Type
+    0 where
   pub state : State
   pub opening : OpensAs shape blocks state
   pub stands : Stands s state e

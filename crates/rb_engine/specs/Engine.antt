@@ -1,5 +1,6 @@
 -- What a contract sees of the engine, and how its state goes together with its store.
-use Rattle.std.specs.Prelude.{◌≡◌, ℕ, ◌+◌, ◌-◌, ◌^◌, ◌<◌, ◌≤◌, false, length, Option, None, Some}
+use Rattle.std.specs.Prelude.{◌≡◌, ℕ, ◌+◌, ◌-◌, ◌^◌, ◌<◌, ◌≤◌, false, length, Option}
+use Rattle.std.specs.Prelude.{None, Some}
 use Rattle.rb_base.specs.Blocks.{IsShape}
 use Rattle.rb_base.specs.Stores.{room_of}
 use Rattle.rb_base.specs.declared.store.Store.{Ghosts}
@@ -29,23 +30,30 @@ refusal_of faults.BlockFull = refusals.BlockFull
 refusal_of faults.WornOut = refusals.WornOut
 refusal_of faults.LogFull = refusals.LogFull
 
--- How many more groups an engine takes: as many as its store's log has room for, behind that number. Where the log has no
+-- How many more groups an engine takes: as many as its store's log has room for, behind that number. Where the log has
+-- no
 -- end, as many changes as the memory has room for.
 abbrev pub room_left : Option ℕ → ℕ → ℕ → ℕ
 room_left None number spare = spare
 room_left (Some slots) number spare = slots - 1 - number
 
--- There is one session. Unless the engine is stopped, its store goes on and holds the rows that the session sees; the memory
--- has room for what the log has room for; the log has room for the group of a commit where the session has changes; and no
+-- There is one session. Unless the engine is stopped, its store goes on and holds the rows that the session sees; the
+-- memory
+-- has room for what the log has room for; the log has room for the group of a commit where the session has changes; and
+-- no
 -- home has more keys in use than it has cells.
 pub record IsInStep {S : Type 0} (s : Ghosts S) (kept : Kept) (store : S) : Type 0 where
   pub same_shape : s.shape_of store ≡ kept.state.shape
   pub in_range : IsShape kept.state.shape
   pub alone : length kept.state.sessions ≡ 1
-  pub enough : kept.state.stopped ≡ false → (slots : ℕ) → s.slots store ≡ Some slots → slots - 1 - s.number store ≤ kept.spare
+  pub enough : kept.state.stopped ≡ false → (slots : ℕ) → s.slots store ≡ Some slots
+      → slots - 1 - s.number store ≤ kept.spare
   pub going : kept.state.stopped ≡ false → s.failed store ≡ false
   pub numbers : kept.state.stopped ≡ false → last_number kept.state.commits ≤ s.number store + AHEAD
-  pub room : kept.state.stopped ≡ false → 0 < length (session_of kept.state 1).own → 1 ≤ room_of (s.slots store) (s.number store)
+  pub room : kept.state.stopped ≡ false → 0 < length (session_of kept.state 1).own
+      → 1 ≤ room_of (s.slots store) (s.number store)
   pub few : kept.state.stopped ≡ false → 0 < length (session_of kept.state 1).own → s.number store ≤ 2 ^ 60
-  pub holds : s.tells → kept.state.stopped ≡ false → Holds kept.state.shape (s.blocks store) (last_number kept.state.commits) (rows_now kept.state 1)
-  pub used : s.tells → kept.state.stopped ≡ false → (table key : ℕ) → length (used_keys kept.state table key) ≤ 16
+  pub holds : s.tells → kept.state.stopped ≡ false → Holds kept.state.shape (s.blocks store)
+      (last_number kept.state.commits) (rows_now kept.state 1)
+  pub used : s.tells → kept.state.stopped ≡ false → (table key : ℕ)
+      → length (used_keys kept.state table key) ≤ 16

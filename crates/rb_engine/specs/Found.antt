@@ -21,7 +21,8 @@ table_of shape which = which / shape.blocks + 1
 -- the rows of the first n blocks, in the order of the blocks and their cells
 abbrev pub rows_below : Shape → List (List ℕ) → ℕ → List TableRow
 rows_below shape blocks zero = []
-rows_below shape blocks (suc n) = rows_below shape blocks n ++ map (table_row (table_of shape n)) (home_rows (home_of (block_of blocks n)))
+rows_below shape blocks (suc n) = rows_below shape blocks n
+    ++ map (table_row (table_of shape n)) (home_rows (home_of (block_of blocks n)))
 
 -- the same rows in scan order
 abbrev pub rows_found : Shape → List (List ℕ) → ℕ → List TableRow

@@ -13,7 +13,8 @@ use Rattle.rb_write.specs.Values.{value_at, LocksRows, ArePlain}
 abbrev pub AHEAD : ℕ
 AHEAD = 2 ^ 63 + 2 ^ 62
 
--- The blocks are in order, and nothing in them but rows is locked. They hold these rows and no others, each once, and this commit
+-- The blocks are in order, and nothing in them but rows is locked. They hold these rows and no others, each once, and
+-- this commit
 -- number, which isn't too far above the log number of the block that commits patch.
 pub record Holds (shape : Shape) (blocks : List (List ℕ)) (number : ℕ) (rows : List TableRow) : Type 0 where
   pub whole : AreBlocks shape blocks
@@ -21,11 +22,13 @@ pub record Holds (shape : Shape) (blocks : List (List ℕ)) (number : ℕ) (rows
   pub plain : ArePlain shape blocks
   pub number_is : commit_number shape blocks ≡ number
   pub logged : number ≤ commit_logged shape blocks + AHEAD
-  pub values : (table key : ℕ) → 1 ≤ table → table ≤ shape.tables → value_at shape blocks table key ≡ value_of table key rows
+  pub values : (table key : ℕ) → 1 ≤ table → table ≤ shape.tables
+      → value_at shape blocks table key ≡ value_of table key rows
   pub tables : AllByRecursion (λ row. (1 ≤ row.table) × (row.table ≤ shape.tables)) rows
   pub order : InOrder shape.blocks rows
 
--- What an opening tests: the blocks are in order, nothing in them but rows is locked, the commit number isn't too far above the log
+-- What an opening tests: the blocks are in order, nothing in them but rows is locked, the commit number isn't too far
+-- above the log
 -- number of the block that commits patch, and that isn't above the last one given.
 pub record CanOpen (shape : Shape) (blocks : List (List ℕ)) (number : ℕ) : Type 0 where
   pub sound : AreSound shape blocks

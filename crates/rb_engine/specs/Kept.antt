@@ -1,5 +1,6 @@
 -- What the machine sees of the engine's memory.
-use Rattle.std.specs.Prelude.{◌≡◌, ℕ, zero, suc, ◌+◌, ◌-◌, ◌^◌, ◌<◌, ◌≤◌, Bool, true, false, List, [], ◌∷◌, length, take, drop, map}
+use Rattle.std.specs.Prelude.{◌≡◌, ℕ, zero, suc, ◌+◌, ◌-◌, ◌^◌, ◌<◌, ◌≤◌, Bool, true}
+use Rattle.std.specs.Prelude.{false, List, [], ◌∷◌, length, take, drop, map}
 use Rattle.std.specs.List.{AllByRecursion}
 use Rattle.std.specs.Str.{bytes_eq}
 use Rattle.rb_base.specs.declared.ids.Shape.{Shape}
@@ -58,7 +59,11 @@ cursor_view blocks base base_length ends changes c = record {
 abbrev pub state_view : Shape → ℕ → ℕ → List ℕ → List RowChange → List OpenCursor → Bool → State
 state_view shape base base_length ends changes cursors stopped = record {
   shape = shape;
-  commits = record { base = base; rows = rows_of shape.blocks base_length changes; list = cut base_length ends changes };
+  commits = record {
+    base = base;
+    rows = rows_of shape.blocks base_length changes;
+    list = cut base_length ends changes;
+  };
   sessions = record {
     own = changes_of (drop (last_end base_length ends) changes);
     cursors = map (cursor_view shape.blocks base base_length ends changes) cursors;
@@ -74,7 +79,8 @@ pub record IsOpened (base base_length : ℕ) (ends : List ℕ) (count : ℕ) (c 
   pub within : c.visible ≤ count
 
 -- The memory is in order, and has room for as many commits as changes, since each commit has a change.
-pub record IsKept (shape : Shape) (base base_length : ℕ) (ends : List ℕ) (changes : List RowChange) (cursors : List OpenCursor) (room ends_room : ℕ) : Type 0 where
+pub record IsKept (shape : Shape) (base base_length : ℕ) (ends : List ℕ) (changes : List RowChange)
+    (cursors : List OpenCursor) (room ends_room : ℕ) : Type 0 where
   pub some_blocks : 0 < shape.blocks
   pub few_before : base < 2 ^ 64 - 2 ^ 60
   pub few_changes : room ≤ 2 ^ 32

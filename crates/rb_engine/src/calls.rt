@@ -13,13 +13,15 @@ use rb_base::Store;
 use rb_model::{Fetched, Name, Op, Refusal, Row, Wrote};
 
 impl<T: Store> Engine<T> {
-    /// Inserts, updates or deletes the row of a key. It may be refused, and then nothing is changed, unless a call of the
+    /// Inserts, updates or deletes the row of a key. It may be refused, and then nothing is changed, unless a call of
+    /// the
     /// store failed.
     pub fn write(&mut self, s: u16, table: u16, key: u64, op: Op<'_>) -> Result<Wrote, Refusal>
         ensures did { (h : State) → Stands T.Store h self.old → Does T.Store h
             (call.Write s table key (action_of op.entry)) (write_answer result) self.old self.new }
         ensures same { SameStore T.Store self.old.store self.new.store }
-        ensures refused { T.tells → IfErr result (λ why. why ≢ Refusal.DiskFault → self.new.store ≡ self.old.store) }
+        ensures refused { T.tells → IfErr result (λ why. why ≢ Refusal.DiskFault
+            → self.new.store ≡ self.old.store) }
         ensures disk { IsCountedAs (T.faults self.old.store) (T.faults self.new.store)
             (err_is is_disk_fault result) }
     {

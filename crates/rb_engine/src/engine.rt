@@ -1,5 +1,7 @@
 //! `Engine`: the state in memory with the store that makes it last. The shell runs lines through it.
-ghost use Rattle.std.specs.Prelude.{◌≡◌, ◌≢◌, ◌⊎◌, ℕ, ◌+◌, ◌^◌, ◌<◌, ◌≤◌, [], ◌∷◌, List, length, IfOk, IfErr, IfSome, IfNone, IsErrOf, OnOk, OnErr, true, false, not};
+ghost use Rattle.std.specs.Prelude.{◌≡◌, ◌≢◌, ◌⊎◌, ℕ, ◌+◌, ◌^◌, ◌<◌, ◌≤◌, []};
+ghost use Rattle.std.specs.Prelude.{◌∷◌, List, length, IfOk, IfErr, IfSome, IfNone, IsErrOf, OnOk, OnErr, true};
+ghost use Rattle.std.specs.Prelude.{false, not};
 ghost use Rattle.std.specs.Result.{is_err};
 ghost use Rattle.std.specs.List.{list_any};
 ghost use Rattle.rb_base.specs.Blocks.{after_group, commit_block, patches_block, AreBlocks};
@@ -9,7 +11,8 @@ ghost use Rattle.rb_base.specs.Stores.{room_of, after_pending};
 ghost use Rattle.rb_model.specs.Answers.{action_of, write_answer, plain_answer, fetch_answer, commit_answer, LeavesRow};
 ghost use Rattle.rb_model.specs.Full.{full_block};
 ghost use Rattle.rb_model.specs.Names.{name_text};
-ghost use Rattle.rb_model.specs.Reply.{adds, expected, first_of, log_tests, after, after_refusal, committed, groups, is_disk_fault, Reply, rows_now};
+ghost use Rattle.rb_model.specs.Reply.{adds, expected, first_of, log_tests, after, after_refusal, committed, groups};
+ghost use Rattle.rb_model.specs.Reply.{is_disk_fault, Reply, rows_now};
 ghost use Rattle.rb_model.specs.Reply as call;
 ghost use Rattle.rb_model.specs.Rows.{has_row, last_number};
 ghost use Rattle.rb_model.specs.State.{session_of};
@@ -70,14 +73,22 @@ fn write_number<T: Store>(store: &mut T, number: Scn) -> Result<(), Failed>
     requires going { T.failed store.old ≡ false }
     requires room { 1 ≤ room_of (T.slots store.old) (T.number store.old) }
     requires few { T.number store.old ≤ 2 ^ 60 }
-    ensures blocks { T.tells → OnOk result (T.blocks store.new ≡ after_group (T.number store.old + 1) (number_patch (T.shape_of store.old) number ∷ []) (T.blocks store.old)) }
+    ensures blocks { T.tells → OnOk result (T.blocks store.new
+        ≡ after_group (T.number store.old + 1) (number_patch (T.shape_of store.old) number ∷ [])
+        (T.blocks store.old)) }
     ensures number { OnOk result (T.number store.new ≡ T.number store.old + 1) }
     ensures shape { T.shape_of store.new ≡ T.shape_of store.old }
     ensures slots { T.slots store.new ≡ T.slots store.old }
-    ensures stable { T.tells → T.keeps → OnOk result ((b : List (List ℕ)) → T.stable store.old b → list_any (patches_block (commit_block (T.shape_of store.old))) (T.pending store.old) ≡ false → T.stable store.new (T.blocks store.new)) }
+    ensures stable { T.tells → T.keeps → OnOk result ((b : List (List ℕ)) → T.stable store.old b
+        → list_any (patches_block (commit_block (T.shape_of store.old))) (T.pending store.old) ≡ false
+        → T.stable store.new (T.blocks store.new)) }
     ensures flushed { T.keeps → OnOk result (T.pending store.new ≡ []) }
-    ensures any_moment { T.tells → T.keeps → (b : List (List ℕ)) → T.stable store.old b → list_any (patches_block (commit_block (T.shape_of store.old))) (T.pending store.old) ≡ false
-        → LeavesOnly T.moment T.left_since store.old store.new (λ i. (now : List (List ℕ)) × T.opens (T.shape_of store.old) (T.slots store.old) i now × ((now ≡ b) ⊎ (now ≡ after_group (T.number store.old + 1) (number_patch (T.shape_of store.old) number ∷ []) (T.blocks store.old)))) }
+    ensures any_moment { T.tells → T.keeps → (b : List (List ℕ)) → T.stable store.old b
+        → list_any (patches_block (commit_block (T.shape_of store.old))) (T.pending store.old) ≡ false
+        → LeavesOnly T.moment T.left_since store.old store.new (λ i. (now : List (List ℕ))
+        × T.opens (T.shape_of store.old) (T.slots store.old) i now
+        × ((now ≡ b) ⊎ (now ≡ after_group (T.number store.old + 1)
+        (number_patch (T.shape_of store.old) number ∷ []) (T.blocks store.old)))) }
     ensures failed { T.failed store.new ≡ is_err result }
     ensures counted { IsCounted (T.faults store.old) (T.faults store.new) result }
 {
@@ -98,11 +109,15 @@ impl<T: Store> Engine<T> {
     /// Why the log takes no write more, where it doesn't.
     fn log_refusal(&self) -> Option<Refusal>
         requires going { self.now.state.stopped ≡ false }
-        ensures refused { IfSome result (λ why. call.Refused why ≡ first_of (log_tests (T.number self.now.store) (room_left (T.slots self.now.store) (T.number self.now.store) self.now.spare)) call.Done) }
+        ensures refused { IfSome result (λ why. call.Refused why
+            ≡ first_of (log_tests (T.number self.now.store)
+            (room_left (T.slots self.now.store) (T.number self.now.store) self.now.spare)) call.Done) }
         ensures other { IfSome result (λ why. why ≢ Refusal.DiskFault) }
-        ensures granted { IfNone result (first_of (log_tests (T.number self.now.store) (room_left (T.slots self.now.store) (T.number self.now.store) self.now.spare)) call.Done ≡ call.Done) }
+        ensures granted { IfNone result (first_of (log_tests (T.number self.now.store)
+            (room_left (T.slots self.now.store) (T.number self.now.store) self.now.spare)) call.Done ≡ call.Done) }
         ensures few { IfNone result (T.number self.now.store < 2 ^ 60) }
-        ensures room { IfNone result (2 ≤ room_left (T.slots self.now.store) (T.number self.now.store) self.now.spare) }
+        ensures room { IfNone result (2 ≤ room_left (T.slots self.now.store) (T.number self.now.store) self.now.spare)
+            }
     {
         if self.store.logged() >= WORN {
             return Some(Refusal::WornOut);
@@ -124,14 +139,19 @@ impl<T: Store> Engine<T> {
         requires room { 2 ≤ room_left (T.slots self.old.store) (T.number self.old.store) self.old.spare }
         ensures done { IfOk result (λ wrote. wrote ≡ Wrote.Done) }
         ensures fault { T.tells → IfErr result (λ why. why ≡ Refusal.DiskFault) }
-        ensures state { self.new.state ≡ after self.old.state (call.Write 1 table key (action_of op.entry)) (write_answer result) }
+        ensures state { self.new.state ≡ after self.old.state (call.Write 1 table key (action_of op.entry))
+            (write_answer result) }
         ensures number { OnOk result (T.number self.new.store ≡ T.number self.old.store + 1) }
-        ensures no_number { IfErr result (λ why. why ≢ Refusal.DiskFault → T.number self.new.store ≡ T.number self.old.store) }
+        ensures no_number { IfErr result (λ why. why ≢ Refusal.DiskFault
+            → T.number self.new.store ≡ T.number self.old.store) }
         ensures shape { T.shape_of self.new.store ≡ T.shape_of self.old.store }
         ensures slots { T.slots self.new.store ≡ T.slots self.old.store }
-        ensures spare { self.new.spare + groups (call.Write 1 table key (action_of op.entry)) (write_answer result) ≡ self.old.spare }
-        ensures counted { IsCountedAs (T.faults self.old.store) (T.faults self.new.store) (err_is is_disk_fault result) }
-        ensures crash { T.tells → T.keeps → IsDurable T.Store self.old.state self.old.store → Survives T.Store (T.slots self.old.store) self.old.state self.new.state self.old.store self.new.store }
+        ensures spare { self.new.spare + groups (call.Write 1 table key (action_of op.entry)) (write_answer result)
+            ≡ self.old.spare }
+        ensures counted { IsCountedAs (T.faults self.old.store) (T.faults self.new.store) (err_is is_disk_fault result)
+            }
+        ensures crash { T.tells → T.keeps → IsDurable T.Store self.old.state self.old.store
+            → Survives T.Store (T.slots self.old.store) self.old.state self.new.state self.old.store self.new.store }
     {
         let ask = Ask {
             own: None,
@@ -150,7 +170,8 @@ impl<T: Store> Engine<T> {
         }
     }
 
-    /// Inserts, updates or deletes the row of a key. It may be refused, and then nothing is changed, unless a call of the
+    /// Inserts, updates or deletes the row of a key. It may be refused, and then nothing is changed, unless a call of
+    /// the
     /// store failed.
     pub(crate) fn do_write(
         &mut self,
@@ -159,16 +180,25 @@ impl<T: Store> Engine<T> {
         key: u64,
         op: Op<'_>,
     ) -> Result<Wrote, Refusal>
-        ensures answer { T.tells → Reply self.old.state (T.number self.old.store) (room_left (T.slots self.old.store) (T.number self.old.store) self.old.spare) (call.Write s table key (action_of op.entry)) (write_answer result) }
-        ensures state { self.new.state ≡ after self.old.state (call.Write s table key (action_of op.entry)) (write_answer result) }
-        ensures number { self.new.state.stopped ≡ false → T.number self.new.store ≡ T.number self.old.store + groups (call.Write s table key (action_of op.entry)) (write_answer result) }
+        ensures answer { T.tells → Reply self.old.state (T.number self.old.store)
+            (room_left (T.slots self.old.store) (T.number self.old.store) self.old.spare)
+            (call.Write s table key (action_of op.entry)) (write_answer result) }
+        ensures state { self.new.state ≡ after self.old.state (call.Write s table key (action_of op.entry))
+            (write_answer result) }
+        ensures number { self.new.state.stopped ≡ false
+            → T.number self.new.store ≡ T.number self.old.store + groups
+            (call.Write s table key (action_of op.entry)) (write_answer result) }
         ensures shape { T.shape_of self.new.store ≡ T.shape_of self.old.store }
         ensures slots { T.slots self.new.store ≡ T.slots self.old.store }
-        ensures spare { self.new.spare + groups (call.Write s table key (action_of op.entry)) (write_answer result) ≡ self.old.spare }
-        ensures counted { IsCountedAs (T.faults self.old.store) (T.faults self.new.store) (err_is is_disk_fault result) }
-        ensures refused { T.tells → IfErr result (λ why. why ≢ Refusal.DiskFault → self.new.store ≡ self.old.store) }
+        ensures spare { self.new.spare + groups (call.Write s table key (action_of op.entry)) (write_answer result)
+            ≡ self.old.spare }
+        ensures counted { IsCountedAs (T.faults self.old.store) (T.faults self.new.store) (err_is is_disk_fault result)
+            }
+        ensures refused { T.tells → IfErr result (λ why. why ≢ Refusal.DiskFault
+            → self.new.store ≡ self.old.store) }
         // At any moment each image has the commits of before.
-        ensures crash { T.tells → T.keeps → IsDurable T.Store self.old.state self.old.store → Survives T.Store (T.slots self.old.store) self.old.state self.new.state self.old.store self.new.store }
+        ensures crash { T.tells → T.keeps → IsDurable T.Store self.old.state self.old.store
+            → Survives T.Store (T.slots self.old.store) self.old.state self.new.state self.old.store self.new.store }
     {
         if let Some(why) = self.state.write_refusal(s, table, key, op) {
             return Err(why);
@@ -192,7 +222,8 @@ impl<T: Store> Engine<T> {
         ensures slots { T.slots self.new.store ≡ T.slots self.old.store }
         ensures spare { self.new.spare ≡ self.old.spare }
         ensures counted { IsCounted (T.faults self.old.store) (T.faults self.new.store) result }
-        ensures crash { T.tells → T.keeps → IsDurable T.Store self.old.state self.old.store → Survives T.Store (T.slots self.old.store) self.old.state self.new.state self.old.store self.new.store }
+        ensures crash { T.tells → T.keeps → IsDurable T.Store self.old.state self.old.store
+            → Survives T.Store (T.slots self.old.store) self.old.state self.new.state self.old.store self.new.store }
     {
         let number = self.state.number() + 1;
         match write_number(&mut self.store, number) {
@@ -207,17 +238,21 @@ impl<T: Store> Engine<T> {
     /// Makes the session's changes one more commit, which is in the file in every image once its number is answered.
     /// Without changes it answers None.
     pub(crate) fn do_commit(&mut self, s: u16) -> Result<Option<u64>, Refusal>
-        ensures answer { (room : ℕ) → Reply self.old.state (T.number self.old.store) room (call.Commit s) (commit_answer result) }
+        ensures answer { (room : ℕ) → Reply self.old.state (T.number self.old.store) room (call.Commit s)
+            (commit_answer result) }
         ensures state { self.new.state ≡ after self.old.state (call.Commit s) (commit_answer result) }
-        ensures number { self.new.state.stopped ≡ false → T.number self.new.store ≡ T.number self.old.store + groups (call.Commit s) (commit_answer result) }
+        ensures number { self.new.state.stopped ≡ false
+            → T.number self.new.store ≡ T.number self.old.store + groups (call.Commit s) (commit_answer result) }
         ensures shape { T.shape_of self.new.store ≡ T.shape_of self.old.store }
         ensures slots { T.slots self.new.store ≡ T.slots self.old.store }
         ensures spare { self.new.spare ≡ self.old.spare }
-        ensures counted { IsCountedAs (T.faults self.old.store) (T.faults self.new.store) (err_is is_disk_fault result) }
+        ensures counted { IsCountedAs (T.faults self.old.store) (T.faults self.new.store) (err_is is_disk_fault result)
+            }
         ensures refused { IfErr result (λ why. why ≢ Refusal.DiskFault → self.new.store ≡ self.old.store) }
         ensures nothing { result ≡ Ok None → self.new.store ≡ self.old.store }
         // At any moment each image has the commits of before, or at the end this one too.
-        ensures crash { T.tells → T.keeps → IsDurable T.Store self.old.state self.old.store → Survives T.Store (T.slots self.old.store) self.old.state self.new.state self.old.store self.new.store }
+        ensures crash { T.tells → T.keeps → IsDurable T.Store self.old.state self.old.store
+            → Survives T.Store (T.slots self.old.store) self.old.state self.new.state self.old.store self.new.store }
     {
         match self.state.check_commit(s) {
             Ok(true) => self.make_commit(),
@@ -235,12 +270,15 @@ impl<T: Store> Engine<T> {
         lo: u64,
         hi: u64,
     ) -> Result<(), Refusal>
-        ensures answer { (logged room : ℕ) → plain_answer result ≡ expected self.old.state logged room (call.OpenCursor s (name_text name.now) table lo hi) }
-        ensures state { self.new.state ≡ after self.old.state (call.OpenCursor s (name_text name.now) table lo hi) (plain_answer result) }
+        ensures answer { (logged room : ℕ) → plain_answer result
+            ≡ expected self.old.state logged room (call.OpenCursor s (name_text name.now) table lo hi) }
+        ensures state { self.new.state ≡ after self.old.state (call.OpenCursor s (name_text name.now) table lo hi)
+            (plain_answer result) }
         ensures stopped { self.new.state.stopped ≡ self.old.state.stopped }
         ensures store { self.new.store ≡ self.old.store }
         ensures spare { self.new.spare ≡ self.old.spare }
-        ensures crash { T.tells → T.keeps → IsDurable T.Store self.old.state self.old.store → Survives T.Store (T.slots self.old.store) self.old.state self.new.state self.old.store self.new.store }
+        ensures crash { T.tells → T.keeps → IsDurable T.Store self.old.state self.old.store
+            → Survives T.Store (T.slots self.old.store) self.old.state self.new.state self.old.store self.new.store }
     {
         self.state.open_cursor(s, name, table, lo, hi)
     }
@@ -252,26 +290,32 @@ impl<T: Store> Engine<T> {
         name: &Name,
         row: &mut Row,
     ) -> Result<Fetched, Refusal>
-        ensures answer { (logged room : ℕ) → fetch_answer result row.new ≡ expected self.old.state logged room (call.Fetch s (name_text name.now)) }
-        ensures state { self.new.state ≡ after self.old.state (call.Fetch s (name_text name.now)) (fetch_answer result row.new) }
+        ensures answer { (logged room : ℕ) → fetch_answer result row.new
+            ≡ expected self.old.state logged room (call.Fetch s (name_text name.now)) }
+        ensures state { self.new.state ≡ after self.old.state (call.Fetch s (name_text name.now))
+            (fetch_answer result row.new) }
         ensures row { LeavesRow result row.old row.new }
         ensures stopped { self.new.state.stopped ≡ self.old.state.stopped }
         ensures store { self.new.store ≡ self.old.store }
         ensures spare { self.new.spare ≡ self.old.spare }
         ensures commits { self.new.state.commits ≡ self.old.state.commits }
-        ensures crash { T.tells → T.keeps → IsDurable T.Store self.old.state self.old.store → Survives T.Store (T.slots self.old.store) self.old.state self.new.state self.old.store self.new.store }
+        ensures crash { T.tells → T.keeps → IsDurable T.Store self.old.state self.old.store
+            → Survives T.Store (T.slots self.old.store) self.old.state self.new.state self.old.store self.new.store }
     {
         self.state.fetch(s, name, row)
     }
 
     /// Closes the session's cursor of a name.
     pub(crate) fn do_close_cursor(&mut self, s: u16, name: &Name) -> Result<(), Refusal>
-        ensures answer { (logged room : ℕ) → plain_answer result ≡ expected self.old.state logged room (call.CloseCursor s (name_text name.now)) }
-        ensures state { self.new.state ≡ after self.old.state (call.CloseCursor s (name_text name.now)) (plain_answer result) }
+        ensures answer { (logged room : ℕ) → plain_answer result
+            ≡ expected self.old.state logged room (call.CloseCursor s (name_text name.now)) }
+        ensures state { self.new.state ≡ after self.old.state (call.CloseCursor s (name_text name.now))
+            (plain_answer result) }
         ensures stopped { self.new.state.stopped ≡ self.old.state.stopped }
         ensures store { self.new.store ≡ self.old.store }
         ensures spare { self.new.spare ≡ self.old.spare }
-        ensures crash { T.tells → T.keeps → IsDurable T.Store self.old.state self.old.store → Survives T.Store (T.slots self.old.store) self.old.state self.new.state self.old.store self.new.store }
+        ensures crash { T.tells → T.keeps → IsDurable T.Store self.old.state self.old.store
+            → Survives T.Store (T.slots self.old.store) self.old.state self.new.state self.old.store self.new.store }
     {
         self.state.close_cursor(s, name)
     }

@@ -6,5 +6,6 @@ ghost use Rattle.rb_engine.specs.Holds.{Holds};
 
 /// Blocks hold one commit number and one list of rows.
 pub fn one_holding()
-    ensures { (shape : Shape) (blocks : List (List ℕ)) (n k : ℕ) (first second : List TableRow) → Holds shape blocks n first → Holds shape blocks k second → (n ≡ k) × (first ≡ second) }
+    ensures { (shape : Shape) (blocks : List (List ℕ)) (n k : ℕ) (first second : List TableRow)
+        → Holds shape blocks n first → Holds shape blocks k second → (n ≡ k) × (first ≡ second) }
 {}

@@ -1,5 +1,6 @@
 //! Opens a store: tests its blocks, and takes their rows into memory. `Engine` is made here.
-ghost use Rattle.std.specs.Prelude.{◌≡◌, ℕ, ◌+◌, ◌*◌, ◌-◌, ◌^◌, ◌<◌, ◌≤◌, List, [], map, take, length, true, false, None, Some, IfOk, IfErr, OnOk, IsErrOf};
+ghost use Rattle.std.specs.Prelude.{◌≡◌, ℕ, ◌+◌, ◌*◌, ◌-◌, ◌^◌, ◌<◌, ◌≤◌, List, []};
+ghost use Rattle.std.specs.Prelude.{map, take, length, true, false, None, Some, IfOk, IfErr, OnOk, IsErrOf};
 ghost use Rattle.std.specs.Result.{is_err};
 ghost use Rattle.rb_base.specs.Blocks.{block_of, shape_blocks, table_blocks, AreBlocks, IsShape};
 ghost use Rattle.rb_base.specs.Counts.{IsCounted, IsCountedAs, err_is, is_failed};
@@ -34,8 +35,11 @@ const CELLS: u8 = 16;
 fn take_block(state: &mut EngineState, block: &[u8], table: u16) -> bool
     requires block { length block.now ≡ 2048 }
     requires room { 16 ≤ state.old.spare }
-    requires opening { state.old.state ≡ opened state.old.state.shape state.old.state.commits.base state.old.state.commits.rows }
-    ensures state { result ≡ true → state.new.state ≡ opened state.old.state.shape state.old.state.commits.base (over state.old.state.shape.blocks state.old.state.commits.rows (map (λ row. put_row (table_row table row)) (home_rows (home_of block.now)))) }
+    requires opening { state.old.state ≡ opened state.old.state.shape state.old.state.commits.base
+        state.old.state.commits.rows }
+    ensures state { result ≡ true → state.new.state ≡ opened state.old.state.shape state.old.state.commits.base
+        (over state.old.state.shape.blocks state.old.state.commits.rows
+        (map (λ row. put_row (table_row table row)) (home_rows (home_of block.now)))) }
     ensures shape { state.new.state.shape ≡ state.old.state.shape }
     ensures base { state.new.state.commits.base ≡ state.old.state.commits.base }
     ensures unlocked { result ≡ true → (c : ℕ) → c < 16 → LocksRows (cell_at block.now c) }
@@ -59,13 +63,20 @@ fn take_one<T: Store>(state: &mut EngineState, store: &mut T, no: BlockNo) -> Re
     requires shape { state.old.state.shape ≡ T.shape_of store.old }
     requires there { no < table_blocks state.old.state.shape }
     requires room { 16 ≤ state.old.spare }
-    requires opening { state.old.state ≡ opened state.old.state.shape state.old.state.commits.base state.old.state.commits.rows }
+    requires opening { state.old.state ≡ opened state.old.state.shape state.old.state.commits.base
+        state.old.state.commits.rows }
     ensures shape { OnOk result (state.new.state.shape ≡ state.old.state.shape) }
     ensures base { OnOk result (state.new.state.commits.base ≡ state.old.state.commits.base) }
-    ensures opening { result ≡ Ok true → state.new.state ≡ opened state.new.state.shape state.new.state.commits.base state.new.state.commits.rows }
-    ensures rows { T.tells → result ≡ Ok true → state.new.state.commits.rows ≡ over state.old.state.shape.blocks state.old.state.commits.rows (map (λ row. put_row (table_row (table_of state.old.state.shape no) row)) (home_rows (home_of (block_of (T.blocks store.old) no)))) }
-    ensures unlocked { T.tells → result ≡ Ok true → (c : ℕ) → c < 16 → LocksRows (cell_at (block_of (T.blocks store.old) no) c) }
-    ensures locked { T.tells → result ≡ Ok false → ¬ ((c : ℕ) → c < 16 → LocksRows (cell_at (block_of (T.blocks store.old) no) c)) }
+    ensures opening { result ≡ Ok true → state.new.state
+        ≡ opened state.new.state.shape state.new.state.commits.base state.new.state.commits.rows }
+    ensures rows { T.tells → result ≡ Ok true → state.new.state.commits.rows
+        ≡ over state.old.state.shape.blocks state.old.state.commits.rows
+        (map (λ row. put_row (table_row (table_of state.old.state.shape no) row))
+        (home_rows (home_of (block_of (T.blocks store.old) no)))) }
+    ensures unlocked { T.tells → result ≡ Ok true → (c : ℕ) → c < 16
+        → LocksRows (cell_at (block_of (T.blocks store.old) no) c) }
+    ensures locked { T.tells → result ≡ Ok false → ¬ ((c : ℕ) → c < 16
+        → LocksRows (cell_at (block_of (T.blocks store.old) no) c)) }
     ensures spare { state.old.spare ≤ state.new.spare + 16 }
     ensures only_loads { OnlyLoads T.Store store.old store.new }
     ensures failed { T.failed store.new ≡ is_err result }
@@ -82,10 +93,14 @@ fn take_rows<T: Store>(state: &mut EngineState, store: &mut T) -> Result<bool, F
     requires shape { state.old.state.shape ≡ T.shape_of store.old }
     requires room { 16 * table_blocks state.old.state.shape ≤ state.old.spare }
     requires opening { state.old.state ≡ opened state.old.state.shape state.old.state.commits.base [] }
-    ensures opening { result ≡ Ok true → state.new.state ≡ opened state.old.state.shape state.old.state.commits.base state.new.state.commits.rows }
-    ensures rows { T.tells → result ≡ Ok true → state.new.state.commits.rows ≡ rows_found state.old.state.shape (T.blocks store.old) (table_blocks state.old.state.shape) }
-    ensures unlocked { T.tells → result ≡ Ok true → (b c : ℕ) → b < table_blocks state.old.state.shape → c < 16 → LocksRows (cell_at (block_of (T.blocks store.old) b) c) }
-    ensures locked { T.tells → result ≡ Ok false → ¬ ((b c : ℕ) → b < table_blocks state.old.state.shape → c < 16 → LocksRows (cell_at (block_of (T.blocks store.old) b) c)) }
+    ensures opening { result ≡ Ok true → state.new.state
+        ≡ opened state.old.state.shape state.old.state.commits.base state.new.state.commits.rows }
+    ensures rows { T.tells → result ≡ Ok true → state.new.state.commits.rows
+        ≡ rows_found state.old.state.shape (T.blocks store.old) (table_blocks state.old.state.shape) }
+    ensures unlocked { T.tells → result ≡ Ok true → (b c : ℕ) → b < table_blocks state.old.state.shape
+        → c < 16 → LocksRows (cell_at (block_of (T.blocks store.old) b) c) }
+    ensures locked { T.tells → result ≡ Ok false → ¬ ((b c : ℕ) → b < table_blocks state.old.state.shape
+        → c < 16 → LocksRows (cell_at (block_of (T.blocks store.old) b) c)) }
     ensures spare { state.old.spare ≤ state.new.spare + 16 * table_blocks state.old.state.shape }
     ensures only_loads { OnlyLoads T.Store store.old store.new }
     ensures failed { T.failed store.new ≡ is_err result }
@@ -100,14 +115,19 @@ fn take_rows<T: Store>(state: &mut EngineState, store: &mut T) -> Result<bool, F
     Ok(true)
 }
 
-/// Whether a commit number is at most `AHEAD` above the log number of the block that commits patch, and that at most the
+/// Whether a commit number is at most `AHEAD` above the log number of the block that commits patch, and that at most
+/// the
 /// last one given.
 fn number_sound<T: Store>(store: &mut T, number: Scn) -> Result<bool, Failed>
     requires { T.failed store.old ≡ false }
     ensures few { result ≡ Ok true → number ≤ T.number store.old + AHEAD }
-    ensures sound { T.tells → result ≡ Ok true → (number ≤ commit_logged (T.shape_of store.old) (T.blocks store.old) + AHEAD) × (commit_logged (T.shape_of store.old) (T.blocks store.old) ≤ T.number store.old) }
+    ensures sound { T.tells → result ≡ Ok true → (number
+        ≤ commit_logged (T.shape_of store.old) (T.blocks store.old) + AHEAD)
+        × (commit_logged (T.shape_of store.old) (T.blocks store.old) ≤ T.number store.old) }
     ensures whole { T.tells → OnOk result (AreBlocks (T.shape_of store.old) (T.blocks store.old)) }
-    ensures unsound { T.tells → result ≡ Ok false → number ≤ commit_logged (T.shape_of store.old) (T.blocks store.old) + AHEAD → ¬ (commit_logged (T.shape_of store.old) (T.blocks store.old) ≤ T.number store.old) }
+    ensures unsound { T.tells → result ≡ Ok false → number
+        ≤ commit_logged (T.shape_of store.old) (T.blocks store.old) + AHEAD
+        → ¬ (commit_logged (T.shape_of store.old) (T.blocks store.old) ≤ T.number store.old) }
     ensures only_loads { OnlyLoads T.Store store.old store.new }
     ensures failed { T.failed store.new ≡ is_err result }
     ensures counted { IsCounted (T.faults store.old) (T.faults store.new) result }
@@ -122,14 +142,18 @@ fn open_state<T: Store>(alloc: Global, store: &mut T) -> Result<EngineState, Ope
     requires few { T.number store.old ≤ 2 ^ 61 + 4096 }
     requires few_slots { (slots : ℕ) → T.slots store.old ≡ Some slots → slots ≤ 4096 }
     ensures opened { T.tells → IfOk result (λ kept. OpensAs (T.shape_of store.old) (T.blocks store.old) kept.state) }
-    ensures base { IfOk result (λ kept. kept.state ≡ opened (T.shape_of store.old) kept.state.commits.base kept.state.commits.rows) }
+    ensures base { IfOk result (λ kept. kept.state ≡ opened (T.shape_of store.old) kept.state.commits.base
+        kept.state.commits.rows) }
     ensures sound { T.tells → OnOk result (CanOpen (T.shape_of store.old) (T.blocks store.old) (T.number store.old)) }
-    ensures none { T.tells → IsErrOf result OpenFault.NotAStore → ¬ CanOpen (T.shape_of store.old) (T.blocks store.old) (T.number store.old) }
+    ensures none { T.tells → IsErrOf result OpenFault.NotAStore
+        → ¬ CanOpen (T.shape_of store.old) (T.blocks store.old) (T.number store.old) }
     ensures in_range { OnOk result (IsShape (T.shape_of store.old)) }
     ensures numbers { IfOk result (λ kept. kept.state.commits.base ≤ T.number store.old + AHEAD) }
-    ensures enough { IfOk result (λ kept. (slots : ℕ) → T.slots store.old ≡ Some slots → slots - 1 - T.number store.old ≤ kept.spare) }
+    ensures enough { IfOk result (λ kept. (slots : ℕ) → T.slots store.old ≡ Some slots
+        → slots - 1 - T.number store.old ≤ kept.spare) }
     ensures ample { IfOk result (λ kept. T.slots store.old ≡ None → 2 ^ 16 ≤ kept.spare) }
-    ensures no_memory { T.tells → IsErrOf result OpenFault.NoMemory → MayOpen (T.shape_of store.old) (T.blocks store.old) (T.number store.old) }
+    ensures no_memory { T.tells → IsErrOf result OpenFault.NoMemory
+        → MayOpen (T.shape_of store.old) (T.blocks store.old) (T.number store.old) }
     ensures only_loads { OnlyLoads T.Store store.old store.new }
     ensures failed { OnOk result (T.failed store.new ≡ false) }
     ensures counted { IsCountedAs (T.faults store.old) (T.faults store.new) (err_is is_failed result) }
@@ -168,8 +192,10 @@ impl<T: Store> Engine<T> {
             → IfOk result (λ e. StandsOpened T.Store (T.shape_of store) (T.blocks store) e) }
         ensures ample { IfOk result (λ e. T.slots store ≡ None → 2 ^ 16 ≤ e.spare) }
         ensures sound { T.tells → OnOk result (CanOpen (T.shape_of store) (T.blocks store) (T.number store)) }
-        ensures none { T.tells → IfErr result (λ r. r.0 ≡ OpenFault.NotAStore → CanOpen (T.shape_of store) (T.blocks store) (T.number store) → ⊥) }
-        ensures no_memory { T.tells → IfErr result (λ r. r.0 ≡ OpenFault.NoMemory → MayOpen (T.shape_of store) (T.blocks store) (T.number store)) }
+        ensures none { T.tells → IfErr result (λ r. r.0 ≡ OpenFault.NotAStore
+            → CanOpen (T.shape_of store) (T.blocks store) (T.number store) → ⊥) }
+        ensures no_memory { T.tells → IfErr result (λ r. r.0 ≡ OpenFault.NoMemory
+            → MayOpen (T.shape_of store) (T.blocks store) (T.number store)) }
         ensures counted_ok { IfOk result (λ e. T.faults e.store ≡ T.faults store) }
         ensures counted_err { IfErr result (λ r. IsCountedAs (T.faults store) (T.faults r.1) (is_failed r.0)) }
         ensures loads_ok { IfOk result (λ e. OnlyLoads T.Store store e.store) }

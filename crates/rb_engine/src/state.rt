@@ -1,10 +1,13 @@
 //! The engine's state in memory: one session, its cursors, the rows found at opening and the changes since. The engine
 //! owns one.
-ghost use Rattle.std.specs.Prelude.{◌≡◌, ◌≢◌, ℕ, ◌+◌, ◌-◌, ◌^◌, ◌<◌, ◌≤◌, false, [], ◌∷◌, ◌++◌, length, true, not, IsOk, IfOk, IfErr, IfSome, IfNone, slice_index_or, slice_set};
+ghost use Rattle.std.specs.Prelude.{◌≡◌, ◌≢◌, ℕ, ◌+◌, ◌-◌, ◌^◌, ◌<◌, ◌≤◌, false};
+ghost use Rattle.std.specs.Prelude.{[], ◌∷◌, ◌++◌, length, true, not, IsOk, IfOk, IfErr, IfSome, IfNone};
+ghost use Rattle.std.specs.Prelude.{slice_index_or, slice_set};
 ghost use Rattle.rb_model.specs.State.{opened, session_of};
 ghost use Rattle.rb_model.specs.Rows.{has_row, last_number, with_row};
 ghost use Rattle.rb_model.specs.Full.{full_block};
-ghost use Rattle.rb_model.specs.Reply.{adds, change_by, expected, after, after_grant, committed, first_of, log_tests, rows_now};
+ghost use Rattle.rb_model.specs.Reply.{adds, change_by, expected, after, after_grant, committed, first_of, log_tests};
+ghost use Rattle.rb_model.specs.Reply.{rows_now};
 ghost use Rattle.rb_model.specs.Reply as call;
 ghost use Rattle.rb_model.specs.Answers.{action_of, plain_answer, fetch_answer, LeavesRow};
 ghost use Rattle.rb_model.specs.Names.{name_text};
@@ -29,7 +32,8 @@ const CURSORS: usize = 16;
 /// The most bytes of a value.
 const VALUE_BYTES: usize = 80;
 
-/// One session over the rows found at opening and the commits since. Its room is taken when it is made, so no later call
+/// One session over the rows found at opening and the commits since. Its room is taken when it is made, so no later
+/// call
 /// takes memory.
 #[derive(Drop)]
 pub struct EngineState {
@@ -51,9 +55,14 @@ impl Model for EngineState {
 
     ghost Value = { Kept };
 
-    ghost view = { λ a. record { state = state_view a.shape a.base a.base_length a.ends.items a.versions.changes a.cursors.items a.stopped; spare = a.versions.room - length a.versions.changes } };
+    ghost view = { λ a. record {
+      state = state_view a.shape a.base a.base_length a.ends.items a.versions.changes
+          a.cursors.items a.stopped;
+      spare = a.versions.room - length a.versions.changes;
+    } };
 
-    ghost invariant = { λ a. IsKept a.shape a.base a.base_length a.ends.items a.versions.changes a.cursors.items a.versions.room (vec_capacity a.ends)
+    ghost invariant = { λ a. IsKept a.shape a.base a.base_length a.ends.items a.versions.changes a.cursors.items
+        a.versions.room (vec_capacity a.ends)
         × (a.versions.blocks ≡ a.shape.blocks) };
 }
 
@@ -61,7 +70,8 @@ impl Model for EngineState {
 fn position_of(cursors: &[OpenCursor], name: &[u8]) -> Option<usize>
     ensures found { IfSome result (λ i. IsPlace (has_name name.now) cursors.now i) }
     ensures within { IfSome result (λ i. i < length cursors.now) }
-    ensures none { IfNone result ((d : OpenCursor) (k : ℕ) → k < length cursors.now → has_name name.now (slice_index_or cursors.now k d) ≡ false) }
+    ensures none { IfNone result ((d : OpenCursor) (k : ℕ) → k < length cursors.now
+        → has_name name.now (slice_index_or cursors.now k d) ≡ false) }
 {
     for (i, cursor) in cursors.iter().enumerate() {
         if cursor.name.as_slice() == name {
@@ -85,7 +95,12 @@ fn name_bytes(name: &Name) -> ArrayVec<u8, 16>
 /// Puts a change's key and value into the caller's row, where it makes a row.
 fn fill(row: &mut Row, change: &RowChange)
     requires { makes_row change.now ≡ true }
-    ensures { row_of change.now ≡ Some (record { table = change.now.table; key = row.new.key; value = row.new.value.items }) }
+    ensures { row_of change.now ≡ Some (record {
+      table = change.now.table;
+      key = row.new.key;
+      value =
+          row.new.value.items;
+    }) }
 {
     let RowKind::Put(value) = &change.kind else {
         unreachable!()
@@ -100,7 +115,8 @@ fn fill(row: &mut Row, change: &RowChange)
 /// Notes the key of the last row that a cursor gave.
 fn mark_given(cursors: &mut [OpenCursor], place: usize, key: u64)
     requires { place < length cursors.old }
-    ensures { (d : OpenCursor) → cursors.new ≡ slice_set cursors.old place (record (slice_index_or cursors.old place d) { last = Some key }) }
+    ensures { (d : OpenCursor) → cursors.new ≡ slice_set cursors.old place
+        (record (slice_index_or cursors.old place d) { last = Some key }) }
 {
     cursors[place].last = Some(key);
 }
@@ -187,8 +203,11 @@ impl EngineState {
     pub fn found(&mut self, table: u16, key: u64, value: &[u8])
         requires short { length value.now ≤ 80 }
         requires room { 0 < self.old.spare }
-        requires opening { self.old.state ≡ opened self.old.state.shape self.old.state.commits.base self.old.state.commits.rows }
-        ensures state { self.new.state ≡ opened self.old.state.shape self.old.state.commits.base (with_row self.old.state.shape.blocks (record { table = table; key = key; value = value.now }) self.old.state.commits.rows) }
+        requires opening { self.old.state ≡ opened self.old.state.shape self.old.state.commits.base
+            self.old.state.commits.rows }
+        ensures state { self.new.state ≡ opened self.old.state.shape self.old.state.commits.base
+            (with_row self.old.state.shape.blocks (record { table = table; key = key; value = value.now })
+            self.old.state.commits.rows) }
         ensures spare { self.new.spare + 1 ≡ self.old.spare }
     {
         self.versions.push(RowChange::put(table, key, value), &[]);
@@ -213,8 +232,11 @@ impl EngineState {
 
     /// Why the session, the table or the value stands in the way of a write, where it does.
     fn early_refusal(&self, s: u16, table: u16, op: Op<'_>) -> Option<Refusal>
-        ensures refused { IfSome result (λ why. (logged room key : ℕ) → call.Refused why ≡ expected self.now.state logged room (call.Write s table key (action_of op.entry))) }
-        ensures granted { IfNone result ((key : ℕ) → call.none_applies (call.early_tests self.now.state (call.Write s table key (action_of op.entry))) ≡ true) }
+        ensures refused { IfSome result (λ why. (logged room key : ℕ)
+            → call.Refused why ≡ expected self.now.state logged room (call.Write s table key (action_of op.entry)))
+                }
+        ensures granted { IfNone result ((key : ℕ) → call.none_applies
+            (call.early_tests self.now.state (call.Write s table key (action_of op.entry))) ≡ true) }
         ensures other { IfSome result (λ why. why ≢ Refusal.DiskFault) }
         ensures session { IfNone result (s ≡ 1) }
         ensures table { IfNone result ((1 ≤ table) × (table ≤ self.now.state.shape.tables)) }
@@ -238,16 +260,23 @@ impl EngineState {
 
     /// Why a write is refused, whatever the log: its tests but the last two.
     pub fn write_refusal(&self, s: u16, table: u16, key: u64, op: Op<'_>) -> Option<Refusal>
-        ensures refused { IfSome result (λ why. (logged room : ℕ) → call.Refused why ≡ expected self.now.state logged room (call.Write s table key (action_of op.entry))) }
-        ensures granted { IfNone result ((logged room : ℕ) → expected self.now.state logged room (call.Write s table key (action_of op.entry)) ≡ first_of (log_tests logged room) call.Done) }
-        ensures early { IfNone result (call.none_applies (call.early_tests self.now.state (call.Write s table key (action_of op.entry))) ≡ true) }
+        ensures refused { IfSome result (λ why. (logged room : ℕ)
+            → call.Refused why ≡ expected self.now.state logged room (call.Write s table key (action_of op.entry)))
+                }
+        ensures granted { IfNone result ((logged room : ℕ)
+            → expected self.now.state logged room (call.Write s table key (action_of op.entry))
+            ≡ first_of (log_tests logged room) call.Done) }
+        ensures early { IfNone result (call.none_applies
+            (call.early_tests self.now.state (call.Write s table key (action_of op.entry))) ≡ true) }
         ensures other { IfSome result (λ why. why ≢ Refusal.DiskFault) }
         ensures session { IfNone result (s ≡ 1) }
         ensures table { IfNone result ((1 ≤ table) × (table ≤ self.now.state.shape.tables)) }
         ensures short { IfNone result (IsShort (Some op.entry)) }
         ensures going { IfNone result (self.now.state.stopped ≡ false) }
-        ensures row { IfNone result (has_row table key (rows_now self.now.state 1) ≡ not (adds (action_of op.entry))) }
-        ensures room { IfNone result (adds (action_of op.entry) ≡ true → full_block self.now.state table key ≡ false) }
+        ensures row { IfNone result (has_row table key (rows_now self.now.state 1)
+            ≡ not (adds (action_of op.entry))) }
+        ensures room { IfNone result (adds (action_of op.entry) ≡ true
+            → full_block self.now.state table key ≡ false) }
     {
         if let Some(why) = self.early_refusal(s, table, op) {
             return Some(why);
@@ -280,7 +309,8 @@ impl EngineState {
         ensures shape { self.new.state.shape ≡ self.old.state.shape }
         ensures commits { self.new.state.commits ≡ self.old.state.commits }
         ensures stopped { self.new.state.stopped ≡ self.old.state.stopped }
-        ensures own { (session_of self.new.state 1).own ≡ (session_of self.old.state 1).own ++ change_by table key (action_of op.entry) ∷ [] }
+        ensures own { (session_of self.new.state 1).own ≡ (session_of self.old.state 1).own
+            ++ change_by table key (action_of op.entry) ∷ [] }
         ensures spare { self.new.spare + 1 ≡ self.old.spare }
     {
         let kept = seen_counts(self.cursors.as_slice());
@@ -289,8 +319,12 @@ impl EngineState {
 
     /// Why a cursor isn't opened, where it isn't.
     fn open_refusal(&self, s: u16, name: &Name, table: u16) -> Option<Refusal>
-        ensures refused { IfSome result (λ why. (logged room lo hi : ℕ) → call.Refused why ≡ expected self.now.state logged room (call.OpenCursor s (name_text name.now) table lo hi)) }
-        ensures granted { IfNone result ((logged room lo hi : ℕ) → call.Done ≡ expected self.now.state logged room (call.OpenCursor s (name_text name.now) table lo hi)) }
+        ensures refused { IfSome result (λ why. (logged room lo hi : ℕ)
+            → call.Refused why ≡ expected self.now.state logged room
+            (call.OpenCursor s (name_text name.now) table lo hi)) }
+        ensures granted { IfNone result ((logged room lo hi : ℕ)
+            → call.Done ≡ expected self.now.state logged room (call.OpenCursor s (name_text name.now) table lo hi))
+                }
         ensures other { IfSome result (λ why. why ≢ Refusal.DiskFault) }
         ensures session { IfNone result (s ≡ 1) }
         ensures few { IfNone result (length (session_of self.now.state 1).cursors < 16) }
@@ -322,8 +356,10 @@ impl EngineState {
         lo: u64,
         hi: u64,
     ) -> Result<(), Refusal>
-        ensures answer { (logged room : ℕ) → plain_answer result ≡ expected self.old.state logged room (call.OpenCursor s (name_text name.now) table lo hi) }
-        ensures state { self.new.state ≡ after self.old.state (call.OpenCursor s (name_text name.now) table lo hi) (plain_answer result) }
+        ensures answer { (logged room : ℕ) → plain_answer result
+            ≡ expected self.old.state logged room (call.OpenCursor s (name_text name.now) table lo hi) }
+        ensures state { self.new.state ≡ after self.old.state (call.OpenCursor s (name_text name.now) table lo hi)
+            (plain_answer result) }
         ensures shape { self.new.state.shape ≡ self.old.state.shape }
         ensures commits { self.new.state.commits ≡ self.old.state.commits }
         ensures stopped { self.new.state.stopped ≡ self.old.state.stopped }
@@ -340,7 +376,8 @@ impl EngineState {
     /// Adds a cursor that has given no row.
     fn keep_cursor(&mut self, name: &Name, table: u16, lo: u64, hi: u64)
         requires { length (session_of self.old.state 1).cursors < 16 }
-        ensures state { self.new.state ≡ after_grant self.old.state (call.OpenCursor 1 (name_text name.now) table lo hi) }
+        ensures state { self.new.state ≡ after_grant self.old.state
+            (call.OpenCursor 1 (name_text name.now) table lo hi) }
         ensures shape { self.new.state.shape ≡ self.old.state.shape }
         ensures commits { self.new.state.commits ≡ self.old.state.commits }
         ensures stopped { self.new.state.stopped ≡ self.old.state.stopped }
@@ -361,8 +398,10 @@ impl EngineState {
 
     /// Gives the next row of a cursor into `row`, or the end. It may be refused, and then nothing is changed.
     pub fn fetch(&mut self, s: u16, name: &Name, row: &mut Row) -> Result<Fetched, Refusal>
-        ensures answer { (logged room : ℕ) → fetch_answer result row.new ≡ expected self.old.state logged room (call.Fetch s (name_text name.now)) }
-        ensures state { self.new.state ≡ after self.old.state (call.Fetch s (name_text name.now)) (fetch_answer result row.new) }
+        ensures answer { (logged room : ℕ) → fetch_answer result row.new
+            ≡ expected self.old.state logged room (call.Fetch s (name_text name.now)) }
+        ensures state { self.new.state ≡ after self.old.state (call.Fetch s (name_text name.now))
+            (fetch_answer result row.new) }
         ensures row { LeavesRow result row.old row.new }
         ensures shape { self.new.state.shape ≡ self.old.state.shape }
         ensures commits { self.new.state.commits ≡ self.old.state.commits }
@@ -396,8 +435,10 @@ impl EngineState {
 
     /// Closes the cursor of a name. It may be refused, and then nothing is changed.
     pub fn close_cursor(&mut self, s: u16, name: &Name) -> Result<(), Refusal>
-        ensures answer { (logged room : ℕ) → plain_answer result ≡ expected self.old.state logged room (call.CloseCursor s (name_text name.now)) }
-        ensures state { self.new.state ≡ after self.old.state (call.CloseCursor s (name_text name.now)) (plain_answer result) }
+        ensures answer { (logged room : ℕ) → plain_answer result
+            ≡ expected self.old.state logged room (call.CloseCursor s (name_text name.now)) }
+        ensures state { self.new.state ≡ after self.old.state (call.CloseCursor s (name_text name.now))
+            (plain_answer result) }
         ensures shape { self.new.state.shape ≡ self.old.state.shape }
         ensures commits { self.new.state.commits ≡ self.old.state.commits }
         ensures stopped { self.new.state.stopped ≡ self.old.state.stopped }
@@ -419,10 +460,14 @@ impl EngineState {
 
     /// Whether a commit of the session has changes to keep, or why it is refused.
     pub fn check_commit(&self, s: u16) -> Result<bool, Refusal>
-        ensures refused { IfErr result (λ why. (logged room : ℕ) → call.Refused why ≡ expected self.now.state logged room (call.Commit s)) }
+        ensures refused { IfErr result (λ why. (logged room : ℕ)
+            → call.Refused why ≡ expected self.now.state logged room (call.Commit s)) }
         ensures other { IfErr result (λ why. why ≢ Refusal.DiskFault) }
-        ensures nothing { result ≡ Ok false → (logged room : ℕ) → call.Done ≡ expected self.now.state logged room (call.Commit s) }
-        ensures changes { result ≡ Ok true → (logged room : ℕ) → call.Numbered (last_number self.now.state.commits + 1) ≡ expected self.now.state logged room (call.Commit s) }
+        ensures nothing { result ≡ Ok false → (logged room : ℕ)
+            → call.Done ≡ expected self.now.state logged room (call.Commit s) }
+        ensures changes { result ≡ Ok true → (logged room : ℕ)
+            → call.Numbered (last_number self.now.state.commits + 1)
+            ≡ expected self.now.state logged room (call.Commit s) }
         ensures session { IsOk result → s ≡ 1 }
         ensures going { IsOk result → self.now.state.stopped ≡ false }
         ensures some { result ≡ Ok true → 0 < length (session_of self.now.state 1).own }

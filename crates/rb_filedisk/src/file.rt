@@ -1,5 +1,6 @@
 //! `FileDisk`: a file that is opened at its first call, for this run alone. The program's `main` makes it.
-ghost use Rattle.std.specs.Prelude.{◌≡◌, ◌↔◌, ◌+◌, ◌-◌, ◌^◌, min, max, [], length, IsOk, OnOk, OnErr};
+ghost use Rattle.std.specs.Prelude.{◌≡◌, ◌↔◌, ◌+◌, ◌-◌, ◌^◌, min, max, [], length, IsOk, OnOk};
+ghost use Rattle.std.specs.Prelude.{OnErr};
 ghost use Rattle.rb_base.specs.Counts.{IsCounted};
 
 use crate::Hold;

@@ -28,7 +28,8 @@ struct Found<'a> {
 /// The patch at the front of the bytes, and the bytes behind it.
 fn read_patch(bytes: &[u8]) -> Option<(Found<'_>, &[u8])>
     ensures valid { IfSome result (λ parts. IsPatch (patch parts.0.block parts.0.at parts.0.bytes.now)) }
-    ensures found { IfSome result (λ parts. bytes.now ≡ patch_bytes (patch parts.0.block parts.0.at parts.0.bytes.now) ++ parts.1.now) }
+    ensures found { IfSome result (λ parts. bytes.now ≡ patch_bytes
+        (patch parts.0.block parts.0.at parts.0.bytes.now) ++ parts.1.now) }
     ensures none { IfNone result ((p : Patch) (rest : List ℕ) → IsPatch p → bytes.now ≢ patch_bytes p ++ rest) }
 {
     if bytes.len() < PATCH_BYTES {
@@ -76,7 +77,9 @@ pub fn decode(bytes: &[u8]) -> Option<Group>
 /// No two groups have one spelling, and no spelling is the front of another. Each has as many bytes as its group's
 /// length says.
 pub fn one_spelling()
-    ensures same { (patches others : List Patch) → IsGroup patches → IsGroup others → group_bytes patches ≡ group_bytes others → patches ≡ others }
-    ensures prefix { (patches others : List Patch) (rest : List ℕ) → IsGroup patches → IsGroup others → group_bytes patches ++ rest ≡ group_bytes others → rest ≡ [] }
+    ensures same { (patches others : List Patch) → IsGroup patches → IsGroup others
+        → group_bytes patches ≡ group_bytes others → patches ≡ others }
+    ensures prefix { (patches others : List Patch) (rest : List ℕ) → IsGroup patches → IsGroup others
+        → group_bytes patches ++ rest ≡ group_bytes others → rest ≡ [] }
     ensures length { (patches : List Patch) → length (group_bytes patches) ≡ group_length patches }
 {}

@@ -1,6 +1,9 @@
--- A heap block's bytes as one value, its home: eight slot entries and sixteen cells. What stands on heap blocks speaks of
+-- A heap block's bytes as one value, its home: eight slot entries and sixteen cells. What stands on heap blocks speaks
+-- of
 -- homes.
-use Rattle.std.specs.Prelude.{◌≡◌, ℕ, ◌<◌, Bool, false, true, not, ◌&&◌, ◌||◌, ◌==◌, if◌then◌else◌, List, [], ◌∷◌, length, map, replicate, slice_index_or, slice_set}
+use Rattle.std.specs.Prelude.{◌≡◌, ℕ, ◌<◌, Bool, false, true, not, ◌&&◌, ◌||◌, ◌==◌}
+use Rattle.std.specs.Prelude.{if◌then◌else◌, List, [], ◌∷◌, length, map, replicate, slice_index_or}
+use Rattle.std.specs.Prelude.{slice_set}
 use Rattle.std.specs.List.{All, flat_map, range_with_len}
 use Rattle.rb_base.specs.Groups.{Patch, patch}
 use Rattle.rb_cell.specs.declared.cell.Cell.{Cell}
@@ -15,7 +18,11 @@ pub record Home : Type 0 where
 
 -- what a block's bytes say of its eight entries and its sixteen cells
 unfoldable pub home_of : List ℕ → Home
-home_of block = record { entries = map (entry_at block) (range_with_len 0 8); cells = map (cell_at block) (range_with_len 0 16) }
+home_of block = record {
+  entries = map (entry_at block) (range_with_len 0 8);
+  cells = map (cell_at block)
+      (range_with_len 0 16);
+}
 
 -- the cell that holds nothing, and has never held a row
 abbrev pub empty_cell : Cell

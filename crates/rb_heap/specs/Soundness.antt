@@ -1,5 +1,6 @@
 -- What an opening tests on a heap block: its entries and its cells, and how they go together.
-use Rattle.std.specs.Prelude.{◌≡◌, ◌≢◌, ℕ, ◌+◌, ◌-◌, ◌%◌, ◌<◌, ◌≤◌, true, false, List}
+use Rattle.std.specs.Prelude.{◌≡◌, ◌≢◌, ℕ, ◌+◌, ◌-◌, ◌%◌, ◌<◌, ◌≤◌, true, false}
+use Rattle.std.specs.Prelude.{List}
 use Rattle.rb_base.specs.Fields.{number_at}
 use Rattle.rb_base.specs.declared.ids.Shape.{Shape}
 use Rattle.rb_cell.specs.declared.cell.Cell.{Cell}
@@ -39,11 +40,13 @@ value_length block c = number_at block (cell_place c + 2) 2
 
 -- no cell below cell c has a key that cell c has, where a cell has its key if it is a row or locked
 pub record IsFirstKeyed (block : List ℕ) (c : ℕ) : Type 0 where
-  pub lower : (key k : ℕ) → k < c → is_keyed key (cell_at block c) ≡ true → is_keyed key (cell_at block k) ≡ false
+  pub lower : (key k : ℕ) → k < c → is_keyed key (cell_at block c) ≡ true
+      → is_keyed key (cell_at block k) ≡ false
 
 -- each key is that of one cell at most
 pub record AreKeysApart (block : List ℕ) : Type 0 where
-  pub one : (key c other : ℕ) → c < 16 → other < 16 → is_keyed key (cell_at block c) ≡ true → is_keyed key (cell_at block other) ≡ true → c ≡ other
+  pub one : (key c other : ℕ) → c < 16 → other < 16 → is_keyed key (cell_at block c) ≡ true
+      → is_keyed key (cell_at block other) ≡ true → c ≡ other
 
 -- the cells of the block of that home are in order
 pub record AreCellsSound (shape : Shape) (home : ℕ) (block : List ℕ) : Type 0 where
@@ -53,6 +56,7 @@ pub record AreCellsSound (shape : Shape) (home : ℕ) (block : List ℕ) : Type 
   pub keys : AreKeysApart block
 
 -- the block of rows of that home is in order
-pub record IsHomeSound (shape : Shape) (commit : ℕ) (wrap_of : ℕ → ℕ → ℕ) (home : ℕ) (block : List ℕ) : Type 0 where
+pub record IsHomeSound (shape : Shape) (commit : ℕ) (wrap_of : ℕ → ℕ
+    → ℕ) (home : ℕ) (block : List ℕ) : Type 0 where
   pub entries : (i : ℕ) → i < 8 → IsEntrySound shape commit wrap_of (entry_at block i)
   pub cells : AreCellsSound shape home block

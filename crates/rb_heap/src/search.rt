@@ -43,7 +43,8 @@ pub fn find(block: &[u8], key: u64) -> Option<u8>
     None
 }
 
-/// The lowest cell, 0 to 15, of a block of 2,048 bytes that is empty, or a stub that nothing has locked. An empty cell's
+/// The lowest cell, 0 to 15, of a block of 2,048 bytes that is empty, or a stub that nothing has locked. An empty
+/// cell's
 /// lock isn't looked at. None exactly where none is.
 pub fn free_cell(block: &[u8]) -> Option<u8>
     requires { length block.now ≡ 2048 }

@@ -9,7 +9,8 @@ use rb_base::{BlockNo, Group};
 use rb_cell::{Cell, put_cell};
 use rb_itl::{Entry, put_entry};
 
-/// The entry as it is. By value its fields are known to be numbers of their types, and who reads the patch asks for that.
+/// The entry as it is. By value its fields are known to be numbers of their types, and who reads the patch asks for
+/// that.
 fn in_range(entry: Entry) -> Entry
     ensures same { result ≡ entry }
     ensures sound { IsEntry entry }

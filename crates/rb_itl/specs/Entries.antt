@@ -1,5 +1,6 @@
 -- The bytes of a slot entry, and where in a block it stands.
-use Rattle.std.specs.Prelude.{◌≡◌, ◌≢◌, ◌⊎◌, ℕ, ◌+◌, ◌*◌, ◌^◌, ◌<◌, ◌≤◌, List, ◌∷◌, ◌++◌, length, drop, replicate, slice_index}
+use Rattle.std.specs.Prelude.{◌≡◌, ◌≢◌, ◌⊎◌, ℕ, ◌+◌, ◌*◌, ◌^◌, ◌<◌, ◌≤◌, List}
+use Rattle.std.specs.Prelude.{◌∷◌, ◌++◌, length, drop, replicate, slice_index}
 use Rattle.byteorder.specs.Endian.{big_bytes}
 use Rattle.rb_base.specs.Fields.{part, number_at, overwritten}
 use Rattle.rb_base.specs.declared.ids.Uba.{Uba}
@@ -19,7 +20,8 @@ uba_bytes u = big_bytes 4 u.block ++ big_bytes 2 u.rec ++ replicate 2 0 ++ big_b
 
 -- the 48 bytes of an entry
 abbrev pub entry_bytes : Entry → List ℕ
-entry_bytes e = e.kind ∷ replicate 3 0 ++ xid_bytes e.xid ++ big_bytes 8 e.number ++ uba_bytes e.newest ++ big_bytes 4 e.length ++ replicate 4 0
+entry_bytes e = e.kind ∷ replicate 3 0 ++ xid_bytes e.xid ++ big_bytes 8 e.number ++ uba_bytes e.newest
+    ++ big_bytes 4 e.length ++ replicate 4 0
 
 -- what the 48 bytes of an entry say
 abbrev pub entry_of : List ℕ → Entry
@@ -70,20 +72,26 @@ IsFreeEmpty = entry_bytes free_entry ≡ replicate 48 0
 
 -- an entry that was written is read at its place
 abbrev pub ReadsOwn : Type 0
-ReadsOwn = (block : List ℕ) (i : ℕ) (e : Entry) → length block ≡ 2048 → i < 8 → IsEntry e → entry_at (with_entry block i e) i ≡ e
+ReadsOwn = (block : List ℕ) (i : ℕ) (e : Entry) → length block ≡ 2048 → i < 8 → IsEntry e
+    → entry_at (with_entry block i e) i ≡ e
 
 -- every other entry is read as before
 abbrev pub KeepsOthers : Type 0
-KeepsOthers = (block : List ℕ) (i j : ℕ) (e : Entry) → length block ≡ 2048 → i < 8 → j < 8 → j ≢ i → entry_at (with_entry block i e) j ≡ entry_at block j
+KeepsOthers = (block : List ℕ) (i j : ℕ) (e : Entry) → length block ≡ 2048 → i < 8 → j < 8 → j ≢ i
+    → entry_at (with_entry block i e) j ≡ entry_at block j
 
 -- every part of the block before the entry's 48 bytes or behind them is as it was
 abbrev pub KeepsOutside : Type 0
 KeepsOutside =
-    (block : List ℕ) (i at count : ℕ) (e : Entry) → length block ≡ 2048 → i < 8 → (at + count ≤ entry_place i) ⊎ (entry_place i + 48 ≤ at) → part (with_entry block i e) at count ≡ part block at count
+    (block : List ℕ) (i at count : ℕ) (e : Entry) → length block ≡ 2048 → i < 8
+    → (at + count ≤ entry_place i) ⊎ (entry_place i + 48 ≤ at)
+    → part (with_entry block i e) at count ≡ part block at count
 
 -- so is all behind the eight entries
 abbrev pub KeepsCells : Type 0
-KeepsCells = (block : List ℕ) (i : ℕ) (e : Entry) → length block ≡ 2048 → i < 8 → drop 416 (with_entry block i e) ≡ drop 416 block
+KeepsCells = (block : List ℕ) (i : ℕ) (e : Entry) → length block ≡ 2048 → i < 8
+    → drop 416 (with_entry block i e) ≡ drop 416 block
 
 abbrev pub KeepsLength : Type 0
-KeepsLength = (block : List ℕ) (i : ℕ) (e : Entry) → length block ≡ 2048 → i < 8 → length (with_entry block i e) ≡ 2048
+KeepsLength = (block : List ℕ) (i : ℕ) (e : Entry) → length block ≡ 2048 → i < 8
+    → length (with_entry block i e) ≡ 2048

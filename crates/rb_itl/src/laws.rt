@@ -1,5 +1,6 @@
 //! What holds of every entry and every block, as clauses for proofs to cite. Nothing calls it.
-ghost use Rattle.rb_itl.specs.Entries.{ReadsBack, IsFreeEmpty, ReadsOwn, KeepsOthers, KeepsOutside, KeepsCells, KeepsLength};
+ghost use Rattle.rb_itl.specs.Entries.{ReadsBack, IsFreeEmpty, ReadsOwn, KeepsOthers, KeepsOutside, KeepsCells};
+ghost use Rattle.rb_itl.specs.Entries.{KeepsLength};
 
 /// An entry's bytes say what it is, and a free one's are 0. Written over those of its place in a block, they are read
 /// there, and every other entry and every byte that isn't of this place stay as they were.

@@ -24,7 +24,8 @@ pub record SameNumbers (l m : Layout) : Type 0 where
   pub segments : l.segments ≡ m.segments
   pub log : l.log ≡ m.log
 
-pub one_layout : (version : ℕ) (l m : Layout) (file : List ℕ) → HasIdentity version l file → HasIdentity version m file → SameNumbers l m
+pub one_layout : (version : ℕ) (l m : Layout) (file : List ℕ) → HasIdentity version l file
+    → HasIdentity version m file → SameNumbers l m
 one_layout version l m file one two =
     let same : identity version l ≡ identity version m = sym one.front ∙ two.front in
     record {

@@ -1,5 +1,6 @@
 //! `Layout`: the four numbers of a file and the offsets that they give. The log, the shell and `format` ask it.
-ghost use Rattle.std.specs.Prelude.{◌≡◌, ◌+◌, ◌*◌, ◌<◌, ◌≤◌, ◌↔◌, ◌++◌, length, drop, IsSome, IfSome};
+ghost use Rattle.std.specs.Prelude.{◌≡◌, ◌+◌, ◌*◌, ◌<◌, ◌≤◌, ◌↔◌, ◌++◌, length, drop};
+ghost use Rattle.std.specs.Prelude.{IsSome, IfSome};
 
 use rb_base::{Shape, UNIT, put_u16, put_u32};
 
@@ -49,7 +50,8 @@ pub struct Head {
 impl Layout {
     ghost use Rattle.rb_layout.specs.Ranges.{InRange};
     ghost use Rattle.rb_base.specs.Blocks.{IsShape};
-    ghost use Rattle.rb_layout.specs.Regions.{file_version, file_length, log_offset, twin_offset, block_count, block_offset, identity, shape_of};
+    ghost use Rattle.rb_layout.specs.Regions.{file_version, file_length, log_offset, twin_offset, block_count};
+    ghost use Rattle.rb_layout.specs.Regions.{block_offset, identity, shape_of};
 
     /// A layout of these numbers, or None where one is out of its range.
     pub fn new(tables: u16, blocks: u32, segments: u16, log: u32) -> Option<Layout>

@@ -16,7 +16,8 @@ impl Layout {
     /// NotAStore where there is none. Only a call of the disk can fail.
     pub fn read<D: Disk>(disk: &mut D) -> Result<Layout, OpenFault>
         ensures found { D.tells → IfOk result (λ l. HasIdentity VERSION l (D.content disk.old)) }
-        ensures none { D.tells → IsErrOf result NotAStore → (l : Layout) → ¬ HasIdentity VERSION l (D.content disk.old) }
+        ensures none { D.tells → IsErrOf result NotAStore → (l : Layout)
+            → ¬ HasIdentity VERSION l (D.content disk.old) }
         ensures no_memory { ¬ IsErrOf result NoMemory }
         ensures counted { IsCountedAs (D.faults disk.old) (D.faults disk.new) (err_is is_failed result) }
         ensures same { D.tells → Rests D.content D.image D.moment D.image_since disk.old disk.new }
@@ -65,5 +66,6 @@ fn layout_of(front: &[u8]) -> Option<Layout>
 
 /// A file has one layout: its identity and its length are those of no other numbers.
 pub fn one_layout()
-    ensures { (version : ℕ) (l m : Layout) (file : List ℕ) → HasIdentity version l file → HasIdentity version m file → SameNumbers l m }
+    ensures { (version : ℕ) (l m : Layout) (file : List ℕ) → HasIdentity version l file
+        → HasIdentity version m file → SameNumbers l m }
 {}

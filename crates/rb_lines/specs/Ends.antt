@@ -35,7 +35,8 @@ pub record WholeRan (slots : ℕ) (before now : Logged) (taken left_before left_
   pub ran : Ran slots before now (whole_lines taken) tells held_before held_now
   pub going : now.state.stopped ≡ false
 
--- A fault of the disk ended the lines. When the last piece of at most `most` bytes was asked for, no call had failed, and
+-- A fault of the disk ended the lines. When the last piece of at most `most` bytes was asked for, no call had failed,
+-- and
 -- the lines that were whole had been done: so nothing was asked for after the reply that tells of the fault.
 pub record Halted (slots most : ℕ) (before now : Logged) (left_before left_now : List ℕ) (tells : Type 0)
     (held_before held_now : List ℕ) : Type 0 where
@@ -54,7 +55,8 @@ pub record Halted (slots most : ℕ) (before now : Logged) (left_before left_now
   pub stopped : now.state.stopped ≡ true
 
 -- What was done by the end of a run. A fault of the sink cuts the replies off.
-abbrev pub EndsAs : ℕ → ℕ → Logged → Logged → List ℕ → List ℕ → Type 0 → List ℕ → List ℕ → LinesEnd → Type 0
+abbrev pub EndsAs : ℕ → ℕ → Logged → Logged → List ℕ → List ℕ → Type 0 → List ℕ → List ℕ
+    → LinesEnd → Type 0
 EndsAs slots most before now left_before left_now tells held_before held_now Done =
     Ran slots before now (lines_of left_before) tells held_before held_now × (now.state.stopped ≡ false)
 EndsAs slots most before now left_before left_now tells held_before held_now SourceFault =

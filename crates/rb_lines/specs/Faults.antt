@@ -12,7 +12,8 @@ abbrev pub is_sink : StepFault → Bool
 is_sink Disk = false
 is_sink Sink = true
 
--- The count of a disk whose fault may be hidden by one of the sink, as where the reply that tells of it is lost: a fault is
+-- The count of a disk whose fault may be hidden by one of the sink, as where the reply that tells of it is lost: a
+-- fault is
 -- answered only where the count rose, and anything else but what hides it only where the count is as before.
 pub record IsCountedBeside (before now : ℕ) (fault hidden : Bool) : Type 0 where
   pub no_less : before ≤ now

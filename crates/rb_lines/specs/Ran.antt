@@ -6,7 +6,8 @@ use Rattle.rb_lines.specs.declared.runner.StepFault.{StepFault}
 use Rattle.rb_lines.specs.declared.runner.StepFault.TheVariants.{Disk, Sink}
 
 -- Replies as a relation allows them, the state after them, and that the sink holds them then, where it tells.
-pub record Replied (allows : List ℕ → Logged → Type 0) (now : Logged) (tells : Type 0) (held_before held_now : List ℕ) : Type 0 where
+pub record Replied (allows : List ℕ → Logged → Type 0) (now : Logged) (tells : Type 0)
+    (held_before held_now : List ℕ) : Type 0 where
   pub out : List ℕ
   pub reply : allows out now
   pub written : tells → held_now ≡ held_before ++ out
@@ -22,16 +23,19 @@ pub record SameButCursors (h other : Logged) : Type 0 where
 
 -- A front of replies as a relation allows them. They may go on where a fetch was cut off, so the state after them may
 -- have other cursors than the one that is left.
-pub record CutShort (allows : List ℕ → Logged → Type 0) (left : Logged) (held_before held_now : List ℕ) : Type 0 where
-  pub out : List ℕ
-  pub state : Logged
-  pub reply : allows out state
-  pub same : SameButCursors state left
-  pub size : ℕ
-  pub written : held_now ≡ held_before ++ take size out
+pub record CutShort (allows : List ℕ → Logged → Type 0) (left : Logged) (held_before held_now : List ℕ) : Type 0
+  where
+    pub out : List ℕ
+    pub state : Logged
+    pub reply : allows out state
+    pub same : SameButCursors state left
+    pub size : ℕ
+    pub written : held_now ≡ held_before ++ take size out
 
--- What was replied, by the answer: after a fault of the disk the state is stopped, and one of the sink cuts the replies off.
-abbrev pub RepliedAs : (List ℕ → Logged → Type 0) → Logged → Type 0 → List ℕ → List ℕ → Result (Unit {0}) StepFault → Type 0
+-- What was replied, by the answer: after a fault of the disk the state is stopped, and one of the sink cuts the replies
+-- off.
+abbrev pub RepliedAs : (List ℕ → Logged → Type 0) → Logged → Type 0 → List ℕ → List ℕ
+    → Result (Unit {0}) StepFault → Type 0
 RepliedAs allows now tells held_before held_now (Ok done) =
     Replied allows now tells held_before held_now × (now.state.stopped ≡ false)
 RepliedAs allows now tells held_before held_now (Err Disk) =
@@ -39,19 +43,22 @@ RepliedAs allows now tells held_before held_now (Err Disk) =
 RepliedAs allows now tells held_before held_now (Err Sink) = tells → CutShort allows now held_before held_now
 
 -- the same of one line
-abbrev pub LineRanAs : ℕ → Logged → Logged → List ℕ → Type 0 → List ℕ → List ℕ → Result (Unit {0}) StepFault → Type 0
+abbrev pub LineRanAs : ℕ → Logged → Logged → List ℕ → Type 0 → List ℕ → List ℕ
+    → Result (Unit {0}) StepFault → Type 0
 LineRanAs slots before now line tells held_before held_now result =
     RepliedAs (LineOut before slots line) now tells held_before held_now result
 
 -- It did these lines one after another.
-pub record Ran (slots : ℕ) (before now : Logged) (lines : List (List ℕ)) (tells : Type 0) (held_before held_now : List ℕ) : Type 0 where
+pub record Ran (slots : ℕ) (before now : Logged) (lines : List (List ℕ)) (tells : Type 0)
+    (held_before held_now : List ℕ) : Type 0 where
   pub out : List ℕ
   pub replies : Out before slots lines out now
   pub written : tells → held_now ≡ held_before ++ out
 
 -- It was cut off in one of these lines: the sink holds a front of replies that the lines up to that one may have. The
 -- state after them has all but the cursors of the runner's, as in `CutShort`.
-pub record CutOff (slots : ℕ) (before now : Logged) (lines : List (List ℕ)) (held_before held_now : List ℕ) : Type 0 where
+pub record CutOff (slots : ℕ) (before now : Logged) (lines : List (List ℕ)) (held_before held_now : List ℕ) : Type
+    0 where
   pub count : ℕ
   pub out : List ℕ
   pub state : Logged
@@ -61,7 +68,8 @@ pub record CutOff (slots : ℕ) (before now : Logged) (lines : List (List ℕ)) 
   pub written : held_now ≡ held_before ++ take size out
 
 -- What it did with lines, by the answer. After a fault of the disk it is stopped, so that nothing follows.
-abbrev pub RanAs : ℕ → Logged → Logged → List (List ℕ) → Type 0 → List ℕ → List ℕ → Result (Unit {0}) StepFault → Type 0
+abbrev pub RanAs : ℕ → Logged → Logged → List (List ℕ) → Type 0 → List ℕ → List ℕ
+    → Result (Unit {0}) StepFault → Type 0
 RanAs slots before now lines tells held_before held_now (Ok done) =
     Ran slots before now lines tells held_before held_now × (now.state.stopped ≡ false)
 RanAs slots before now lines tells held_before held_now (Err Disk) =
@@ -70,7 +78,8 @@ RanAs slots before now lines tells held_before held_now (Err Sink) =
     tells → CutOff slots before now lines held_before held_now
 
 -- From a state that a runner stood for it came to another, which it stands for now, and did on the way what `As` says.
-pub record Did {M : Type 0} (stands : M → Logged → Type 0) (since : M → M → Logged → Logged → Type 0) (old new : M)
+pub record Did {M : Type 0} (stands : M → Logged → Type 0) (since : M → M → Logged → Logged
+    → Type 0) (old new : M)
     (before : Logged) (As : Logged → Type 0) : Type 0 where
   pub now : Logged
   pub reached : stands new now

@@ -1,5 +1,6 @@
 //! The run over a whole source. The shell's `run` calls it with the script.
-ghost use Rattle.std.specs.Prelude.{ℕ, ◌≡◌, ◌≤◌, ◌<◌, false, List, [], ◌++◌, length, take, IfOk, OnErr};
+ghost use Rattle.std.specs.Prelude.{ℕ, ◌≡◌, ◌≤◌, ◌<◌, false, List, [], ◌++◌, length, take, IfOk};
+ghost use Rattle.std.specs.Prelude.{OnErr};
 ghost use Rattle.rb_base.specs.Counts.{IsCounted, IsCountedAs};
 ghost use Rattle.rb_model.specs.Out.{Logged};
 ghost use Rattle.rb_lines.specs.Ends.{EndsAs, by_disk, by_sink, by_source};
@@ -63,7 +64,8 @@ pub fn run_lines<M: LineRunner, S: Source, K: Sink>(
 
     // However it ends, at most 1,000,000,000 bytes were taken.
     ensures took { S.tells
-        → ((taken : List ℕ) × (length taken ≤ 1000000000) × (S.left source.old ≡ taken ++ S.left source.new)) }
+        → ((taken : List ℕ) × (length taken ≤ 1000000000)
+        × (S.left source.old ≡ taken ++ S.left source.new)) }
     ensures slots { M.slots runner.new ≡ M.slots runner.old }
 
     // It ends by a fault only where that count rose, and else the count is as before.

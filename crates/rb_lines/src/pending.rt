@@ -14,7 +14,8 @@ use rb_stream::Sink;
 pub type Pending = ArrayVec<u8, 513>;
 
 fn keep(pending: &mut Pending, byte: u8)
-    ensures { (line : List ℕ) → pending.old.items ≡ take 513 line → pending.new.items ≡ take 513 (line ++ byte ∷ []) }
+    ensures { (line : List ℕ) → pending.old.items ≡ take 513 line
+        → pending.new.items ≡ take 513 (line ++ byte ∷ []) }
 {
     if !pending.is_full() {
         pending.push(byte);
@@ -30,11 +31,13 @@ fn feed_byte<M: LineRunner, K: Sink>(
 ) -> Result<(), StepFault>
     ensures did { (m : Logged) (line : List ℕ) → M.stands runner.old m → m.state.stopped ≡ false
         → pending.old.items ≡ take 513 line → Did M.stands M.since runner.old runner.new m
-        (λ now. RanAs (M.slots runner.old) m now (lines_from line (byte ∷ [])) K.tells (K.held sink.old) (K.held sink.new) result) }
+        (λ now. RanAs (M.slots runner.old) m now (lines_from line (byte ∷ [])) K.tells (K.held sink.old)
+        (K.held sink.new) result) }
     ensures kept { OnOk result ((line : List ℕ) → pending.old.items ≡ take 513 line
         → pending.new.items ≡ take 513 (rest_from line (byte ∷ []))) }
     ensures slots { M.slots runner.new ≡ M.slots runner.old }
-    ensures disk { IsCountedBeside (M.faults runner.old) (M.faults runner.new) (err_is is_disk result) (err_is is_sink result) }
+    ensures disk { IsCountedBeside (M.faults runner.old) (M.faults runner.new) (err_is is_disk result)
+        (err_is is_sink result) }
     ensures sink { IsCountedAs (K.faults sink.old) (K.faults sink.new) (err_is is_sink result) }
 {
     if byte != b'\n' {
@@ -55,11 +58,13 @@ pub fn feed<M: LineRunner, K: Sink>(
 ) -> Result<(), StepFault>
     ensures did { (m : Logged) (line : List ℕ) → M.stands runner.old m → m.state.stopped ≡ false
         → pending.old.items ≡ take 513 line → Did M.stands M.since runner.old runner.new m
-        (λ now. RanAs (M.slots runner.old) m now (lines_from line bytes.now) K.tells (K.held sink.old) (K.held sink.new) result) }
+        (λ now. RanAs (M.slots runner.old) m now (lines_from line bytes.now) K.tells (K.held sink.old)
+        (K.held sink.new) result) }
     ensures kept { OnOk result ((line : List ℕ) → pending.old.items ≡ take 513 line
         → pending.new.items ≡ take 513 (rest_from line bytes.now)) }
     ensures slots { M.slots runner.new ≡ M.slots runner.old }
-    ensures disk { IsCountedBeside (M.faults runner.old) (M.faults runner.new) (err_is is_disk result) (err_is is_sink result) }
+    ensures disk { IsCountedBeside (M.faults runner.old) (M.faults runner.new) (err_is is_disk result)
+        (err_is is_sink result) }
     ensures sink { IsCountedAs (K.faults sink.old) (K.faults sink.new) (err_is is_sink result) }
 {
     for byte in bytes {
@@ -78,7 +83,8 @@ pub fn finish<M: LineRunner, K: Sink>(
         → pending.now.items ≡ take 513 line → Did M.stands M.since runner.old runner.new m
         (λ now. RanAs (M.slots runner.old) m now (last_of line) K.tells (K.held sink.old) (K.held sink.new) result) }
     ensures slots { M.slots runner.new ≡ M.slots runner.old }
-    ensures disk { IsCountedBeside (M.faults runner.old) (M.faults runner.new) (err_is is_disk result) (err_is is_sink result) }
+    ensures disk { IsCountedBeside (M.faults runner.old) (M.faults runner.new) (err_is is_disk result)
+        (err_is is_sink result) }
     ensures sink { IsCountedAs (K.faults sink.old) (K.faults sink.new) (err_is is_sink result) }
 {
     if pending.is_empty() {

@@ -37,16 +37,19 @@ pub trait LineRunner {
     /// Does one line and puts its replies. The line comes without its LF. Of a line of more than 512 bytes any
     /// 513 or more of its first bytes serve. A fault of the disk is the line's last reply.
     fn step<K: Sink>(&mut self, line: &[u8], sink: &mut K) -> Result<(), StepFault>
-        ensures did { (m : Logged) → stands self.old m → m.state.stopped ≡ false → Did stands since self.old self.new m
+        ensures did { (m : Logged) → stands self.old m → m.state.stopped ≡ false
+            → Did stands since self.old self.new m
             (λ now. LineRanAs (slots self.old) m now line.now K.tells (K.held sink.old) (K.held sink.new) result) }
         ensures slots { slots self.new ≡ slots self.old }
-        ensures disk { IsCountedBeside (faults self.old) (faults self.new) (err_is is_disk result) (err_is is_sink result) }
+        ensures disk { IsCountedBeside (faults self.old) (faults self.new) (err_is is_disk result)
+            (err_is is_sink result) }
         ensures sink { IsCountedAs (K.faults sink.old) (K.faults sink.new) (err_is is_sink result) };
 
     /// Where nothing is done, nothing becomes of it.
     ghost since_same: { (a : Self) (m : Logged) → stands a m → m.state.stopped ≡ false → since a a m m };
 
     /// What becomes of it over some lines and then over others. A stopped runner does no line more.
-    ghost since_joined: { (a b c : Self) (m n k : Logged) → n.state.stopped ≡ false → since a b m n → since b c n k
+    ghost since_joined: { (a b c : Self) (m n k : Logged) → n.state.stopped ≡ false → since a b m n
+        → since b c n k
         → since a c m k };
 }

@@ -1,5 +1,7 @@
 -- What the log slots of a file hold where groups of patches are logged. A slot has a unit as in `Slots`.
-use Rattle.std.specs.Prelude.{◌≡◌, ◌≢◌, ◌⊎◌, ℕ, ◌+◌, ◌-◌, ◌*◌, ◌<◌, ◌≤◌, List, [], ◌∷◌, ◌++◌, length, take, drop, replicate, get_or, slice_index, Bool, true, false}
+use Rattle.std.specs.Prelude.{◌≡◌, ◌≢◌, ◌⊎◌, ℕ, ◌+◌, ◌-◌, ◌*◌, ◌<◌, ◌≤◌, List}
+use Rattle.std.specs.Prelude.{[], ◌∷◌, ◌++◌, length, take, drop, replicate, get_or, slice_index, Bool, true}
+use Rattle.std.specs.Prelude.{false}
 use Rattle.std.specs.List.{AllByRecursion}
 use Rattle.byteorder.specs.Endian.{big_bytes}
 use Rattle.rb_base.specs.Blocks.{AreWithin}
@@ -29,7 +31,8 @@ pub record HoldsGroup (l : Layout) (unit : List ℕ) (number : ℕ) (group : Lis
   pub opened : slice_index unit 0 ≡ 1
   pub body : HasGroup l unit number group
 
--- The log of a file from a slot on: these groups in order, with consecutive numbers, up to a closed gate or the last slot.
+-- The log of a file from a slot on: these groups in order, with consecutive numbers, up to a closed gate or the last
+-- slot.
 abbrev pub GroupsAre : Layout → List ℕ → ℕ → List (List Patch) → Type 0
 GroupsAre l file slot [] = (slot + 1 ≡ l.log) ⊎ (slice_index (slot_at file slot) 0 ≢ 1)
 GroupsAre l file slot (group ∷ groups) =
@@ -67,16 +70,19 @@ pub record AreStaged (end : ℕ) (groups : List (List Patch)) (file c : List ℕ
 abbrev pub AreOpen : ℕ → ℕ → List ℕ → Type 0
 AreOpen end count c = (j : ℕ) → 32 * j < count → slice_index c (log_offset (end + 32 * j)) ≡ 1
 
--- An image of a flush: its log has the groups of before and those of some number of its first units, 32 to a unit and the
+-- An image of a flush: its log has the groups of before and those of some number of its first units, 32 to a unit and
+-- the
 -- last with fewer. Outside the log it is as an image of before.
-pub record FlushedSome (image : List ℕ → Type 0) (l : Layout) (groups pending : List (List Patch)) (c : List ℕ) : Type 0 where
+pub record FlushedSome (image : List ℕ → Type 0) (l : Layout) (groups pending : List (List Patch)) (c : List ℕ) :
+    Type 0 where
   pub outside : (d : List ℕ) × image d × SameOutside l.log d c
   pub units : ℕ
   pub log : GroupsAre l c 0 (groups ++ take (32 * units) pending)
 
 -- An image while the groups behind the first `count` are dropped: its log has all or those. Outside the log it is as an
 -- image of before.
-pub record DroppedSome (image : List ℕ → Type 0) (l : Layout) (groups : List (List Patch)) (count : ℕ) (c : List ℕ) : Type 0 where
+pub record DroppedSome (image : List ℕ → Type 0) (l : Layout) (groups : List (List Patch)) (count : ℕ)
+    (c : List ℕ) : Type 0 where
   pub outside : (d : List ℕ) × image d × SameOutside l.log d c
   pub log : GroupsAre l c 0 groups ⊎ GroupsAre l c 0 (take count groups)
 
@@ -98,7 +104,8 @@ pub record LogState : Type 0 where
 
 -- What the log has in memory: room for as many groups as there are slots, of which one stays free, and 32 units. Before
 -- the end is found the last of them are read ahead.
-pub record IsLogMemory (l : Layout) (used : ℕ) (pending : List (List Patch)) (scanned : Bool) (buffer : List ℕ) (ahead room : ℕ) : Type 0 where
+pub record IsLogMemory (l : Layout) (used : ℕ) (pending : List (List Patch)) (scanned : Bool) (buffer : List ℕ)
+    (ahead room : ℕ) : Type 0 where
   pub below : used + length pending < l.log
   pub enough : l.log ≤ room
   pub each : AllByRecursion (IsLoggable l) pending

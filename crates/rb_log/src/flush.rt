@@ -1,6 +1,8 @@
 //! Groups of patches written to the log slots of a file, each there whole or not at all after a crash. The log calls
 //! it.
-ghost use Rattle.std.specs.Prelude.{◌≡◌, ◌⊎◌, ◌+◌, ◌-◌, ◌*◌, ◌++◌, ◌<◌, ◌≤◌, ◌^◌, [], ◌∷◌, ℕ, List, drop, length, min, slice_index, slice_index_or, OnOk};
+ghost use Rattle.std.specs.Prelude.{◌≡◌, ◌⊎◌, ◌+◌, ◌-◌, ◌*◌, ◌++◌, ◌<◌, ◌≤◌};
+ghost use Rattle.std.specs.Prelude.{◌^◌, [], ◌∷◌, ℕ, List, drop, length, min, slice_index, slice_index_or};
+ghost use Rattle.std.specs.Prelude.{OnOk};
 ghost use Rattle.std.specs.List.{AllByRecursion};
 ghost use Rattle.rb_base.specs.Counts.{IsCounted};
 ghost use Rattle.rb_base.specs.Fields.{part};
@@ -43,7 +45,9 @@ fn fill_run(buffer: &mut [u8], number: u64, groups: &[Group])
     requires number { number + 32 < 2 ^ 64 }
     requires valid { AllByRecursion IsGroup groups.now }
     requires some { AllByRecursion (λ group. 0 < length group) groups.now }
-    ensures { (k : ℕ) (d : List Patch) → k < length groups.now → part buffer.new (2048 * k) 2048 ≡ drop 1 (group_unit 0 (number + k) (slice_index_or groups.now k d)) ++ min 1 (length groups.now - (k + 1)) ∷ [] }
+    ensures { (k : ℕ) (d : List Patch) → k < length groups.now
+        → part buffer.new (2048 * k) 2048 ≡ drop 1 (group_unit 0 (number + k) (slice_index_or groups.now k d))
+        ++ min 1 (length groups.now - (k + 1)) ∷ [] }
 {
     for i in 0..groups.len() {
         let at = UNIT * i;
@@ -71,11 +75,17 @@ fn write_run<D: Disk>(
     requires few { length groups.now ≤ 32 }
     requires each { AllByRecursion (IsLoggable layout.now) groups.now }
     requires buffer { length buffer.old ≡ 65536 }
-    ensures written { D.tells → OnOk result ((k : ℕ) (d : List Patch) → k < length groups.now → part (D.content disk.new) (log_offset (slot + k) + 1) 2048 ≡ drop 1 (group_unit 0 (slot + k + 1) (slice_index_or groups.now k d)) ++ min 1 (length groups.now - (k + 1)) ∷ []) }
-    ensures others { D.tells → OnOk result (SameBut (log_offset slot + 1) (log_offset (slot + length groups.now) + 1) (D.content disk.old) (D.content disk.new)) }
+    ensures written { D.tells → OnOk result ((k : ℕ) (d : List Patch) → k < length groups.now
+        → part (D.content disk.new) (log_offset (slot + k) + 1) 2048
+        ≡ drop 1 (group_unit 0 (slot + k + 1) (slice_index_or groups.now k d))
+        ++ min 1 (length groups.now - (k + 1)) ∷ []) }
+    ensures others { D.tells → OnOk result (SameBut (log_offset slot + 1) (log_offset (slot + length groups.now) + 1)
+        (D.content disk.old) (D.content disk.new)) }
     ensures whole { D.tells → length (D.content disk.new) ≡ file_length layout.now }
-    ensures images { D.tells → Follows (Torn (log_offset slot + 1) (2048 * length groups.now)) (D.image disk.old) (D.image disk.new) }
-    ensures time { D.tells → Passes (D.moment disk.old) (D.moment disk.new) (D.image_since disk.old) (D.image_since disk.new) (D.image disk.new) }
+    ensures images { D.tells → Follows (Torn (log_offset slot + 1) (2048 * length groups.now)) (D.image disk.old)
+        (D.image disk.new) }
+    ensures time { D.tells → Passes (D.moment disk.old) (D.moment disk.new) (D.image_since disk.old)
+        (D.image_since disk.new) (D.image disk.new) }
     ensures buffer { length buffer.new ≡ 65536 }
     ensures counted { IsCounted (D.faults disk.old) (D.faults disk.new) result }
 {
@@ -99,10 +109,12 @@ fn stage<D: Disk>(
     requires each { AllByRecursion (IsLoggable layout.now) groups.now }
     requires buffer { length buffer.old ≡ 65536 }
     ensures staged { D.tells → OnOk result (AreStaged used groups.now (D.content disk.old) (D.content disk.new)) }
-    ensures closed { D.tells → OnOk result ((j : ℕ) → 0 < j → 32 * j < length groups.now → slice_index (slot_at (D.content disk.new) (used + 32 * j)) 0 ≡ 0) }
+    ensures closed { D.tells → OnOk result ((j : ℕ) → 0 < j → 32 * j < length groups.now
+        → slice_index (slot_at (D.content disk.new) (used + 32 * j)) 0 ≡ 0) }
     ensures durable { D.tells → OnOk result (Only (D.content disk.new) (D.image disk.new)) }
     ensures whole { D.tells → length (D.content disk.new) ≡ file_length layout.now }
-    ensures any_moment { D.tells → LeavesOnly D.moment D.image_since disk.old disk.new (TornFrom (log_offset used + 1) (2048 * length groups.now) (D.image disk.old)) }
+    ensures any_moment { D.tells → LeavesOnly D.moment D.image_since disk.old disk.new
+        (TornFrom (log_offset used + 1) (2048 * length groups.now) (D.image disk.old)) }
     ensures buffer { length buffer.new ≡ 65536 }
     ensures counted { IsCounted (D.faults disk.old) (D.faults disk.new) result }
 {
@@ -126,11 +138,13 @@ fn open_gates<D: Disk>(
     requires whole { D.tells → length (D.content disk.old) ≡ file_length layout.now }
     requires room { used + length groups.now < layout.now.log }
     requires synced { D.tells → Only (D.content disk.old) (D.image disk.old) }
-    ensures staged { D.tells → OnOk result ((file : List ℕ) → AreStaged used groups.now file (D.content disk.old) → AreStaged used groups.now file (D.content disk.new)) }
+    ensures staged { D.tells → OnOk result ((file : List ℕ) → AreStaged used groups.now file (D.content disk.old)
+        → AreStaged used groups.now file (D.content disk.new)) }
     ensures opened { D.tells → OnOk result (AreOpen used (length groups.now) (D.content disk.new)) }
     ensures durable { D.tells → OnOk result (Only (D.content disk.new) (D.image disk.new)) }
     ensures whole { D.tells → length (D.content disk.new) ≡ file_length layout.now }
-    ensures any_moment { D.tells → (file : List ℕ) → AreStaged used groups.now file (D.content disk.old) → LeavesOnly D.moment D.image_since disk.old disk.new (AreStaged used groups.now file) }
+    ensures any_moment { D.tells → (file : List ℕ) → AreStaged used groups.now file (D.content disk.old)
+        → LeavesOnly D.moment D.image_since disk.old disk.new (AreStaged used groups.now file) }
     ensures counted { IsCounted (D.faults disk.old) (D.faults disk.new) result }
 {
     let mut done = 0;
@@ -141,8 +155,10 @@ fn open_gates<D: Disk>(
     disk.sync()
 }
 
-/// Writes these groups to the log's slots from `used` on, in runs of up to 32; one slot stays free after them. Each group
-/// has a patch, and its blocks are those of the file. After an Ok every image has all of them, and a crash before leaves
+/// Writes these groups to the log's slots from `used` on, in runs of up to 32; one slot stays free after them. Each
+/// group
+/// has a patch, and its blocks are those of the file. After an Ok every image has all of them, and a crash before
+/// leaves
 /// a number of whole runs. The buffer has 65,536 bytes, and what they are is no matter; without a group it keeps them.
 pub(crate) fn write_groups<D: Disk>(
     disk: &mut D,
@@ -155,15 +171,25 @@ pub(crate) fn write_groups<D: Disk>(
     requires room { used + length groups.now < layout.now.log }
     requires each { AllByRecursion (IsLoggable layout.now) groups.now }
     requires buffer { length buffer.old ≡ 65536 }
-    requires synced { D.tells → (c : List ℕ) → D.image disk.old c → SameSlots layout.now.log (D.content disk.old) c }
-    ensures written { D.tells → OnOk result ((before : List (List Patch)) → length before ≡ used → GroupsAre layout.now (D.content disk.old) 0 before → GroupsAre layout.now (D.content disk.new) 0 (before ++ groups.now)) }
-    ensures units { D.tells → OnOk result ((k : ℕ) (d : List Patch) → k < length groups.now → slot_at (D.content disk.new) (used + k) ≡ group_unit 1 (used + k + 1) (slice_index_or groups.now k d)) }
-    ensures closed { D.tells → OnOk result (0 < length groups.now → slice_index (slot_at (D.content disk.new) (used + length groups.now)) 0 ≡ 0) }
-    ensures others { D.tells → OnOk result (SameBut (log_offset used) (log_offset (used + length groups.now) + 1) (D.content disk.old) (D.content disk.new)) }
+    requires synced { D.tells → (c : List ℕ) → D.image disk.old c
+        → SameSlots layout.now.log (D.content disk.old) c }
+    ensures written { D.tells → OnOk result ((before : List (List Patch)) → length before ≡ used
+        → GroupsAre layout.now (D.content disk.old) 0 before
+        → GroupsAre layout.now (D.content disk.new) 0 (before ++ groups.now)) }
+    ensures units { D.tells → OnOk result ((k : ℕ) (d : List Patch) → k < length groups.now
+        → slot_at (D.content disk.new) (used + k) ≡ group_unit 1 (used + k + 1) (slice_index_or groups.now k d)) }
+    ensures closed { D.tells → OnOk result (0 < length groups.now
+        → slice_index (slot_at (D.content disk.new) (used + length groups.now)) 0 ≡ 0) }
+    ensures others { D.tells → OnOk result (SameBut (log_offset used) (log_offset (used + length groups.now) + 1)
+        (D.content disk.old) (D.content disk.new)) }
     ensures outside { D.tells → OnOk result (SameOutside layout.now.log (D.content disk.old) (D.content disk.new)) }
-    ensures durable { D.tells → OnOk result ((c : List ℕ) → D.image disk.new c → SameSlots layout.now.log (D.content disk.new) c) }
+    ensures durable { D.tells → OnOk result ((c : List ℕ) → D.image disk.new c
+        → SameSlots layout.now.log (D.content disk.new) c) }
     ensures whole { D.tells → length (D.content disk.new) ≡ file_length layout.now }
-    ensures any_moment { D.tells → (before : List (List Patch)) → length before ≡ used → GroupsAre layout.now (D.content disk.old) 0 before → LeavesOnly D.moment D.image_since disk.old disk.new (FlushedSome (D.image disk.old) layout.now before groups.now) }
+    ensures any_moment { D.tells → (before : List (List Patch)) → length before ≡ used
+        → GroupsAre layout.now (D.content disk.old) 0 before
+        → LeavesOnly D.moment D.image_since disk.old disk.new
+        (FlushedSome (D.image disk.old) layout.now before groups.now) }
     ensures kept { groups.now ≡ [] → buffer.new ≡ buffer.old }
     ensures buffer { length buffer.new ≡ 65536 }
     ensures counted { IsCounted (D.faults disk.old) (D.faults disk.new) result }

@@ -1,6 +1,8 @@
 //! `Log`: the groups of patches in the log slots of a file. A store scans it at opening, and flushes to it what
 //! changes the blocks.
-ghost use Rattle.std.specs.Prelude.{◌≡◌, ◌≤◌, ◌<◌, ◌+◌, ◌++◌, ◌↔◌, [], ◌∷◌, ℕ, List, true, false, take, length, IsTrue, IsErrOf, slice_index, slice_index_or, IfOk, IfErr, IfSome, IfNone, OnOk, OnErr};
+ghost use Rattle.std.specs.Prelude.{◌≡◌, ◌≤◌, ◌<◌, ◌+◌, ◌++◌, ◌↔◌, [], ◌∷◌, ℕ};
+ghost use Rattle.std.specs.Prelude.{List, true, false, take, length, IsTrue, IsErrOf, slice_index, slice_index_or};
+ghost use Rattle.std.specs.Prelude.{IfOk, IfErr, IfSome, IfNone, OnOk, OnErr};
 ghost use Rattle.rb_base.specs.Blocks.{AreWithin};
 ghost use Rattle.rb_base.specs.Counts.{IsCounted, IsCountedAs, err_is, is_failed};
 ghost use Rattle.rb_base.specs.Groups.{Patch, IsGroup};
@@ -9,7 +11,8 @@ ghost use Rattle.rb_disk.specs.DiskModel.{Only};
 ghost use Rattle.rb_disk.specs.Moments.{Rests};
 ghost use Rattle.rb_disk.specs.Ranges.{SameBut};
 ghost use Rattle.rb_layout.specs.Regions.{file_length, log_offset, shape_of};
-ghost use Rattle.rb_log.specs.GroupSlots.{AreFrom, HoldsGroup, GroupsAre, IsFaultyGroup, DroppedSome, FlushedSome, IsLoggable, group_unit};
+ghost use Rattle.rb_log.specs.GroupSlots.{AreFrom, HoldsGroup, GroupsAre, IsFaultyGroup, DroppedSome, FlushedSome};
+ghost use Rattle.rb_log.specs.GroupSlots.{IsLoggable, group_unit};
 ghost use Rattle.rb_log.specs.Slots.{slot_at, SameSlots, SameOutside};
 
 use crate::flush::write_groups;
@@ -40,13 +43,21 @@ impl Model for Log {
 
     ghost Value = { LogState };
 
-    ghost view = { λ a. record { layout = a.layout; used = a.used; pending = a.pending.items; scanned = a.scanned; ahead = drop (65536 - 2048 * a.ahead) a.buffer.items } };
+    ghost view = { λ a. record {
+      layout = a.layout;
+      used = a.used;
+      pending = a.pending.items;
+      scanned = a.scanned;
+      ahead = drop (65536 - 2048 * a.ahead) a.buffer.items;
+    } };
 
-    ghost invariant = { λ a. IsLogMemory a.layout a.used a.pending.items a.scanned a.buffer.items a.ahead (vec_capacity a.pending) };
+    ghost invariant = { λ a. IsLogMemory a.layout a.used a.pending.items a.scanned a.buffer.items a.ahead
+        (vec_capacity a.pending) };
 }
 
 impl Log {
-    /// A log whose groups are yet to be scanned. It takes all the memory that the log needs, and doesn't touch the disk.
+    /// A log whose groups are yet to be scanned. It takes all the memory that the log needs, and doesn't touch the
+    /// disk.
     /// In this form the log begins in slot 0 with number 1.
     pub fn open<D: Disk>(
         alloc: Global,
@@ -56,7 +67,8 @@ impl Log {
     ) -> Result<Log, OpenFault>
         requires slot { head.slot ≡ 0 }
         requires number { head.number ≡ 1 }
-        ensures opened { IfOk result (λ log. log ≡ record { layout = layout.now; used = 0; pending = []; scanned = false; ahead = [] }) }
+        ensures opened { IfOk result (λ log. log ≡ record
+            { layout = layout.now; used = 0; pending = []; scanned = false; ahead = [] }) }
         ensures memory { IfErr result (λ e. e ≡ OpenFault.NoMemory) }
         ensures untouched { _disk.new ≡ _disk.old }
     {
@@ -83,14 +95,18 @@ impl Log {
         requires next { next ≡ self.old.used + 1 }
         requires whole { D.tells → length (D.content disk.old) ≡ file_length self.old.layout }
         requires ahead { D.tells → AreFrom (D.content disk.old) self.old.used self.old.ahead }
-        ensures found { D.tells → IfOk result (λ o. IfSome o (λ g. HoldsGroup self.old.layout (slot_at (D.content disk.old) self.old.used) next g)) }
+        ensures found { D.tells → IfOk result (λ o. IfSome o
+            (λ g. HoldsGroup self.old.layout (slot_at (D.content disk.old) self.old.used) next g)) }
         ensures valid { IfOk result (λ o. IfSome o (λ g. IsLoggable self.old.layout g)) }
         ensures more { IfOk result (λ o. IfSome o (λ g. self.old.used + 1 < self.old.layout.log)) }
-        ensures end { D.tells → IfOk result (λ o. IfNone o (GroupsAre self.old.layout (D.content disk.old) self.old.used [])) }
-        ensures faulty { D.tells → IsErrOf result OpenFault.NotAStore → IsFaultyGroup self.old.layout (D.content disk.old) self.old.used }
+        ensures end { D.tells → IfOk result (λ o. IfNone o
+            (GroupsAre self.old.layout (D.content disk.old) self.old.used [])) }
+        ensures faulty { D.tells → IsErrOf result OpenFault.NotAStore
+            → IsFaultyGroup self.old.layout (D.content disk.old) self.old.used }
         ensures no_memory { ¬ IsErrOf result OpenFault.NoMemory }
         ensures counted { IsCountedAs (D.faults disk.old) (D.faults disk.new) (err_is is_failed result) }
-        ensures one_more { IfOk result (λ o. IfSome o (λ g. self.new ≡ record self.old { used = self.old.used + 1; ahead = self.new.ahead })) }
+        ensures one_more { IfOk result (λ o. IfSome o (λ g. self.new
+            ≡ record self.old { used = self.old.used + 1; ahead = self.new.ahead })) }
         ensures ahead { D.tells → AreFrom (D.content disk.old) self.new.used self.new.ahead }
         ensures ended { IfOk result (λ o. IfNone o (self.new ≡ record self.old { scanned = true; ahead = [] })) }
         ensures stays { OnErr result (self.new ≡ self.old) }
@@ -157,16 +173,29 @@ impl Log {
     /// every image has all of them; a crash before leaves a number of whole runs. Where none waits it makes no call.
     pub fn flush<D: Disk>(&mut self, disk: &mut D) -> Result<(), Failed>
         requires whole { D.tells → length (D.content disk.old) ≡ file_length self.old.layout }
-        requires synced { D.tells → (c : List ℕ) → D.image disk.old c → SameSlots self.old.layout.log (D.content disk.old) c }
-        ensures written { D.tells → OnOk result ((groups : List (List Patch)) → length groups ≡ self.old.used → GroupsAre self.old.layout (D.content disk.old) 0 groups → GroupsAre self.old.layout (D.content disk.new) 0 (groups ++ self.old.pending)) }
-        ensures units { D.tells → OnOk result ((k : ℕ) (d : List Patch) → k < length self.old.pending → slot_at (D.content disk.new) (self.old.used + k) ≡ group_unit 1 (self.old.used + k + 1) (slice_index_or self.old.pending k d)) }
-        ensures closed { D.tells → OnOk result (0 < length self.old.pending → slice_index (slot_at (D.content disk.new) (self.old.used + length self.old.pending)) 0 ≡ 0) }
-        ensures others { D.tells → OnOk result (SameBut (log_offset self.old.used) (log_offset (self.old.used + length self.old.pending) + 1) (D.content disk.old) (D.content disk.new)) }
-        ensures outside { D.tells → OnOk result (SameOutside self.old.layout.log (D.content disk.old) (D.content disk.new)) }
-        ensures durable { D.tells → OnOk result ((c : List ℕ) → D.image disk.new c → SameSlots self.old.layout.log (D.content disk.new) c) }
+        requires synced { D.tells → (c : List ℕ) → D.image disk.old c
+            → SameSlots self.old.layout.log (D.content disk.old) c }
+        ensures written { D.tells → OnOk result ((groups : List (List Patch)) → length groups ≡ self.old.used
+            → GroupsAre self.old.layout (D.content disk.old) 0 groups
+            → GroupsAre self.old.layout (D.content disk.new) 0 (groups ++ self.old.pending)) }
+        ensures units { D.tells → OnOk result ((k : ℕ) (d : List Patch) → k < length self.old.pending
+            → slot_at (D.content disk.new) (self.old.used + k)
+            ≡ group_unit 1 (self.old.used + k + 1) (slice_index_or self.old.pending k d)) }
+        ensures closed { D.tells → OnOk result (0 < length self.old.pending
+            → slice_index (slot_at (D.content disk.new) (self.old.used + length self.old.pending)) 0 ≡ 0) }
+        ensures others { D.tells → OnOk result (SameBut (log_offset self.old.used)
+            (log_offset (self.old.used + length self.old.pending) + 1) (D.content disk.old) (D.content disk.new)) }
+        ensures outside { D.tells → OnOk result (SameOutside self.old.layout.log (D.content disk.old)
+            (D.content disk.new)) }
+        ensures durable { D.tells → OnOk result ((c : List ℕ) → D.image disk.new c
+            → SameSlots self.old.layout.log (D.content disk.new) c) }
         ensures whole { D.tells → length (D.content disk.new) ≡ file_length self.old.layout }
-        ensures any_moment { D.tells → (groups : List (List Patch)) → length groups ≡ self.old.used → GroupsAre self.old.layout (D.content disk.old) 0 groups → LeavesOnly D.moment D.image_since disk.old disk.new (FlushedSome (D.image disk.old) self.old.layout groups self.old.pending) }
-        ensures flushed { OnOk result (self.new ≡ record self.old { used = self.old.used + length self.old.pending; pending = [] }) }
+        ensures any_moment { D.tells → (groups : List (List Patch)) → length groups ≡ self.old.used
+            → GroupsAre self.old.layout (D.content disk.old) 0 groups
+            → LeavesOnly D.moment D.image_since disk.old disk.new
+            (FlushedSome (D.image disk.old) self.old.layout groups self.old.pending) }
+        ensures flushed { OnOk result (self.new ≡ record self.old
+            { used = self.old.used + length self.old.pending; pending = [] }) }
         ensures stays { OnErr result (self.new ≡ self.old) }
         ensures counted { IsCounted (D.faults disk.old) (D.faults disk.new) result }
     {
@@ -183,21 +212,30 @@ impl Log {
         Ok(())
     }
 
-    /// Forgets the groups behind the first `count`. After an Ok each image has those alone; a crash before leaves all or
+    /// Forgets the groups behind the first `count`. After an Ok each image has those alone; a crash before leaves all
+    /// or
     /// those.
     pub fn drop_behind<D: Disk>(&mut self, disk: &mut D, count: u32) -> Result<(), Failed>
         requires scanned { self.old.scanned ≡ true }
         requires none { self.old.pending ≡ [] }
         requires fewer { count < self.old.used }
         requires whole { D.tells → length (D.content disk.old) ≡ file_length self.old.layout }
-        requires synced { D.tells → (c : List ℕ) → D.image disk.old c → SameSlots self.old.layout.log (D.content disk.old) c }
-        ensures dropped { D.tells → OnOk result ((groups : List (List Patch)) → length groups ≡ self.old.used → GroupsAre self.old.layout (D.content disk.old) 0 groups → GroupsAre self.old.layout (D.content disk.new) 0 (take count groups)) }
+        requires synced { D.tells → (c : List ℕ) → D.image disk.old c
+            → SameSlots self.old.layout.log (D.content disk.old) c }
+        ensures dropped { D.tells → OnOk result ((groups : List (List Patch)) → length groups ≡ self.old.used
+            → GroupsAre self.old.layout (D.content disk.old) 0 groups
+            → GroupsAre self.old.layout (D.content disk.new) 0 (take count groups)) }
         ensures closed { D.tells → OnOk result (slice_index (slot_at (D.content disk.new) count) 0 ≡ 0) }
-        ensures others { D.tells → OnOk result (SameBut (log_offset count) (log_offset count + 1) (D.content disk.old) (D.content disk.new)) }
-        ensures outside { D.tells → OnOk result (SameOutside self.old.layout.log (D.content disk.old) (D.content disk.new)) }
+        ensures others { D.tells → OnOk result (SameBut (log_offset count) (log_offset count + 1) (D.content disk.old)
+            (D.content disk.new)) }
+        ensures outside { D.tells → OnOk result (SameOutside self.old.layout.log (D.content disk.old)
+            (D.content disk.new)) }
         ensures durable { D.tells → OnOk result (Only (D.content disk.new) (D.image disk.new)) }
         ensures whole { D.tells → length (D.content disk.new) ≡ file_length self.old.layout }
-        ensures any_moment { D.tells → (groups : List (List Patch)) → length groups ≡ self.old.used → GroupsAre self.old.layout (D.content disk.old) 0 groups → LeavesOnly D.moment D.image_since disk.old disk.new (DroppedSome (D.image disk.old) self.old.layout groups count) }
+        ensures any_moment { D.tells → (groups : List (List Patch)) → length groups ≡ self.old.used
+            → GroupsAre self.old.layout (D.content disk.old) 0 groups
+            → LeavesOnly D.moment D.image_since disk.old disk.new
+            (DroppedSome (D.image disk.old) self.old.layout groups count) }
         ensures shorter { OnOk result (self.new ≡ record self.old { used = count }) }
         ensures stays { OnErr result (self.new ≡ self.old) }
         ensures counted { IsCounted (D.faults disk.old) (D.faults disk.new) result }

@@ -1,6 +1,8 @@
 //! A log slot's unit with a group: how units are read, how a group is found in one, and whether its blocks are those of
 //! the file. `Log` calls it, and the flush of groups takes the places.
-ghost use Rattle.std.specs.Prelude.{◌≡◌, ◌≢◌, ◌≤◌, ◌<◌, ◌+◌, ◌-◌, ◌*◌, ◌↔◌, ℕ, List, [], drop, length, slice_index, IsTrue, IfOk, IfErr, IfSome, IfNone, OnErr};
+ghost use Rattle.std.specs.Prelude.{◌≡◌, ◌≢◌, ◌≤◌, ◌<◌, ◌+◌, ◌-◌, ◌*◌, ◌↔◌};
+ghost use Rattle.std.specs.Prelude.{ℕ, List, [], drop, length, slice_index, IsTrue, IfOk, IfErr, IfSome, IfNone};
+ghost use Rattle.std.specs.Prelude.{OnErr};
 ghost use Rattle.std.specs.List.{AllByRecursion};
 ghost use Rattle.rb_base.specs.Blocks.{shape_blocks};
 ghost use Rattle.rb_base.specs.Counts.{IsCounted};
@@ -104,11 +106,13 @@ pub fn read_ahead<D: Disk>(
     requires below { slot + ahead < layout.now.log }
     requires buffer { length buffer.old ≡ 65536 }
     requires whole { D.tells → length (D.content disk.old) ≡ file_length layout.now }
-    requires ahead { D.tells → drop (65536 - 2048 * ahead) buffer.old ≡ part (D.content disk.old) (log_offset slot) (2048 * ahead) }
+    requires ahead { D.tells → drop (65536 - 2048 * ahead) buffer.old
+        ≡ part (D.content disk.old) (log_offset slot) (2048 * ahead) }
     ensures some { IfOk result (λ n. 0 < n) }
     ensures few { IfOk result (λ n. n ≤ 32) }
     ensures below { IfOk result (λ n. slot + n < layout.now.log) }
-    ensures ahead { D.tells → IfOk result (λ n. drop (65536 - 2048 * n) buffer.new ≡ part (D.content disk.old) (log_offset slot) (2048 * n)) }
+    ensures ahead { D.tells → IfOk result (λ n. drop (65536 - 2048 * n) buffer.new
+        ≡ part (D.content disk.old) (log_offset slot) (2048 * n)) }
     ensures kept { 0 < ahead → buffer.new ≡ buffer.old }
     ensures buffer { length buffer.new ≡ 65536 }
     ensures counted { IsCounted (D.faults disk.old) (D.faults disk.new) result }

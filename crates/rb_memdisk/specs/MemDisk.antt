@@ -1,5 +1,6 @@
 -- What a memory disk is seen as.
-use Rattle.std.specs.Prelude.{◌≡◌, ◌⊎◌, ℕ, ◌+◌, ◌-◌, ◌^◌, ◌<◌, ◌≤◌, min, List, [], ◌∷◌, ◌++◌, length, Contains, if◌then◌else◌, nat_lt}
+use Rattle.std.specs.Prelude.{◌≡◌, ◌⊎◌, ℕ, ◌+◌, ◌-◌, ◌^◌, ◌<◌, ◌≤◌, min, List, []}
+use Rattle.std.specs.Prelude.{◌∷◌, ◌++◌, length, Contains, if◌then◌else◌, nat_lt}
 use Rattle.rb_base.specs.Moments.{Passes}
 use Rattle.rb_memdisk.specs.declared.call.Call.{Call}
 use Rattle.rb_memdisk.specs.declared.memory.MemDisk.{MemDisk}

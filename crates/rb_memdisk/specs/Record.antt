@@ -1,6 +1,7 @@
 -- What a record of calls means: what is read after them, which images a crash may leave, and the picked one.
 -- `file` is what was read before the calls, and `written` has the bytes of the writes that were done, in a row.
-use Rattle.std.specs.Prelude.{◌≡◌, ℕ, Bool, true, false, List, [], ◌∷◌, length, take, drop, replicate, nat_le, ◌&&◌, ◌≤◌}
+use Rattle.std.specs.Prelude.{◌≡◌, ℕ, Bool, true, false, List, [], ◌∷◌, length, take, drop, replicate}
+use Rattle.std.specs.Prelude.{nat_le, ◌&&◌, ◌≤◌}
 use Rattle.rb_base.specs.Fields.{overwritten}
 use Rattle.rb_disk.specs.DiskModel.{Torn}
 use Rattle.rb_memdisk.specs.declared.call.Call.{Call}
@@ -27,7 +28,8 @@ left_after (Sync done) written = written
 -- what is read after all of them
 abbrev pub read_after_all : List ℕ → List Call → List ℕ → List ℕ
 read_after_all file [] written = file
-read_after_all file (call ∷ calls) written = read_after_all (read_after file call written) calls (left_after call written)
+read_after_all file (call ∷ calls) written = read_after_all (read_after file call written) calls
+    (left_after call written)
 
 -- the written bytes that none of them took
 abbrev pub left_after_all : List Call → List ℕ → List ℕ
@@ -45,7 +47,8 @@ fits_one file (Sync done) written = true
 -- each of them does
 abbrev pub fits : List ℕ → List Call → List ℕ → Bool
 fits file [] written = true
-fits file (call ∷ calls) written = fits_one file call written && fits (read_after file call written) calls (left_after call written)
+fits file (call ∷ calls) written = fits_one file call written && fits (read_after file call written) calls
+    (left_after call written)
 
 -- The images that a crash after a call may leave, where `images` are those before it: a write, done or not, may
 -- tear each of them, and a sync that succeeded leaves only what is read.
@@ -77,7 +80,8 @@ picked_after (Fill byte) image (Sync false) file = image
 abbrev pub picked_after_all : Pick → List ℕ → List ℕ → List Call → List ℕ → List ℕ
 picked_after_all pick image file [] written = image
 picked_after_all pick image file (call ∷ calls) written =
-    picked_after_all pick (picked_after pick image call (read_after file call written)) (read_after file call written) calls (left_after call written)
+    picked_after_all pick (picked_after pick image call (read_after file call written)) (read_after file call written)
+    calls (left_after call written)
 
 -- of a disk that began with the bytes `first`, all of them synced: the images after the first k calls
 abbrev pub MayLeave : List ℕ → List Call → List ℕ → ℕ → List ℕ → Type 0
@@ -85,7 +89,8 @@ MayLeave first calls written k c = images_after_all (λ d. d ≡ first) first (t
 
 -- and those after the first k calls for some k from t on
 abbrev pub MayLeaveSince : List ℕ → List Call → List ℕ → ℕ → List ℕ → Type 0
-MayLeaveSince first calls written t c = (k : ℕ) × (t ≤ k) × (k ≤ length calls) × MayLeave first calls written k c
+MayLeaveSince first calls written t c = (k : ℕ) × (t ≤ k) × (k ≤ length calls)
+    × MayLeave first calls written k c
 
 -- whether a call is a sync
 abbrev pub is_sync : Call → Bool
@@ -100,7 +105,8 @@ IsIdle file (Write at count true) = ⊥
 IsIdle file (Write at count false) = at ≤ length file
 IsIdle file (Sync done) = Unit {0}
 
--- a call that leaves the images of before as they were, or more of them: neither a write that was done nor a sync that succeeded
+-- a call that leaves the images of before as they were, or more of them: neither a write that was done nor a sync that
+-- succeeded
 abbrev pub IsUndone : List ℕ → Call → Type 0
 IsUndone file Length = Unit {0}
 IsUndone file Read = Unit {0}

@@ -1,10 +1,14 @@
 //! `MemDisk`: a disk in memory. Tests of the layout, the log and the shell stand on it.
-ghost use Rattle.std.specs.Prelude.{◌≡◌, ◌+◌, ◌<◌, ◌≤◌, ◌⊎◌, ◌↔◌, ℕ, true, [], ◌∷◌, ◌++◌, length, take, drop, count_by, vec_len, vec_capacity, max, IsTrue, IsOk, IsErr, IfOk, OnOk, OnErr, is_ok};
+ghost use Rattle.std.specs.Prelude.{◌≡◌, ◌+◌, ◌<◌, ◌≤◌, ◌⊎◌, ◌↔◌, ℕ, true, []};
+ghost use Rattle.std.specs.Prelude.{◌∷◌, ◌++◌, length, take, drop, count_by, vec_len, vec_capacity, max};
+ghost use Rattle.std.specs.Prelude.{IsTrue, IsOk, IsErr, IfOk, OnOk, OnErr, is_ok};
 ghost use Rattle.rb_base.specs.Counts.{IsCounted, Rose};
 ghost use Rattle.rb_base.specs.Fields.{part, overwritten};
 ghost use Rattle.rb_base.specs.Moments.{NoMore, Passes};
 ghost use Rattle.rb_disk.specs.DiskModel.{Torn, Follows, Only};
-ghost use Rattle.rb_memdisk.specs.Record.{read_after_all, left_after_all, fits, fits_one, read_after, left_after, picked_after, picked_after_all, MayLeave, MayLeaveSince, IsIdle, IsUndone, CanFill, is_sync};
+ghost use Rattle.rb_memdisk.specs.Record.{read_after_all, left_after_all, fits, fits_one, read_after, left_after};
+ghost use Rattle.rb_memdisk.specs.Record.{picked_after, picked_after_all, MayLeave, MayLeaveSince, IsIdle, IsUndone};
+ghost use Rattle.rb_memdisk.specs.Record.{CanFill, is_sync};
 ghost use Rattle.rb_memdisk.specs.Replays.{reads_now, now_counts, only_now};
 
 use crate::{Call, Pick};
@@ -35,7 +39,9 @@ pub struct MemDisk {
 }
 
 impl MemDisk {
-    ghost use Rattle.rb_memdisk.specs.MemDisk.{bytes_of, first_of, record_of, written_of, room_of, limit_of, failing_of, faults_of, made, IsRefused, PassesRoom, recorded, one_more, IsSameSetup, IsUnwritten, GoesOnBy};
+    ghost use Rattle.rb_memdisk.specs.MemDisk.{bytes_of, first_of, record_of, written_of, room_of, limit_of};
+    ghost use Rattle.rb_memdisk.specs.MemDisk.{failing_of, faults_of, made, IsRefused, PassesRoom, recorded, one_more};
+    ghost use Rattle.rb_memdisk.specs.MemDisk.{IsSameSetup, IsUnwritten, GoesOnBy};
 
     /// A disk that holds these bytes, all of them synced. `room` bounds their number and that of all bytes that
     /// are written, `calls` how many calls it can record, and `failing` lists the numbers of the calls that fail.
@@ -73,8 +79,11 @@ impl MemDisk {
     /// An image that a crash after call `k` may leave.
     pub fn image(&self, alloc: Global, k: u64, pick: Pick) -> Result<Vec<u8>, NoMemory>
         requires { k ≤ made self.now }
-        ensures picked { IfOk result (λ image. image.items ≡ picked_after_all pick (first_of self.now) (first_of self.now) (take k (record_of self.now)) (written_of self.now)) }
-        ensures possible { IfOk result (λ image. MayLeave (first_of self.now) (record_of self.now) (written_of self.now) k image.items) }
+        ensures picked { IfOk result (λ image. image.items
+            ≡ picked_after_all pick (first_of self.now) (first_of self.now) (take k (record_of self.now))
+            (written_of self.now)) }
+        ensures possible { IfOk result (λ image. MayLeave (first_of self.now) (record_of self.now)
+            (written_of self.now) k image.items) }
     {
         self.replayed(alloc, k as usize, pick).map_err(|_| NoMemory)
     }
@@ -105,7 +114,9 @@ impl MemDisk {
 
     fn replayed(&self, alloc: Global, k: usize, pick: Pick) -> Result<Vec<u8>, AllocError>
         requires { k ≤ made self.now }
-        ensures picked { IfOk result (λ image. image.items ≡ picked_after_all pick (first_of self.now) (first_of self.now) (take k (record_of self.now)) (written_of self.now)) }
+        ensures picked { IfOk result (λ image. image.items
+            ≡ picked_after_all pick (first_of self.now) (first_of self.now) (take k (record_of self.now))
+            (written_of self.now)) }
     {
         let mut file = self.first.to_vec(alloc)?;
         let mut image = self.first.to_vec(alloc)?;
@@ -175,7 +186,8 @@ impl MemDisk {
     fn store(&mut self, at: usize, piece: &[u8])
         requires begins { at ≤ length (bytes_of self.old) }
         requires place { made self.old < limit_of self.old }
-        requires room { length (first_of self.old) + length (written_of self.old) + length piece.now ≤ room_of self.old }
+        requires room { length (first_of self.old) + length (written_of self.old) + length piece.now
+            ≤ room_of self.old }
         ensures setup { IsSameSetup self.old self.new }
         ensures bytes { bytes_of self.new ≡ overwritten (bytes_of self.old) at piece.now }
         ensures written { written_of self.new ≡ written_of self.old ++ piece.now }
@@ -220,7 +232,8 @@ fn overwrite(file: &mut Vec<u8>, at: usize, piece: &[u8]) -> Result<(), AllocErr
 fn replay(file: &mut Vec<u8>, call: Call, written: &[u8]) -> Result<usize, AllocError>
     requires { fits_one file.old.items call written.now ≡ true }
     ensures read { OnOk result (file.new.items ≡ read_after file.old.items call written.now) }
-    ensures left { IfOk result (λ n. (n ≤ length written.now) × (drop n written.now ≡ left_after call written.now)) }
+    ensures left { IfOk result (λ n. (n ≤ length written.now)
+        × (drop n written.now ≡ left_after call written.now)) }
 {
     match call {
         Call::Write {
@@ -260,13 +273,15 @@ fn pick_on(
 }
 
 impl Disk for MemDisk {
-    ghost use Rattle.rb_memdisk.specs.MemDisk.{bytes_of, record_of, written_of, faults_of, made, Leaves, LeavesSince, IsRefused, PassesRoom, recorded, one_more, IsSameSetup, IsUnwritten};
+    ghost use Rattle.rb_memdisk.specs.MemDisk.{bytes_of, record_of, written_of, faults_of, made, Leaves, LeavesSince};
+    ghost use Rattle.rb_memdisk.specs.MemDisk.{IsRefused, PassesRoom, recorded, one_more, IsSameSetup, IsUnwritten};
 
     ghost tells = { Unit {0} };
 
     ghost content = { λ disk. disk.bytes.items };
 
-    ghost image = { λ disk c. MayLeave disk.first.items disk.calls.items disk.written.items (length disk.calls.items) c };
+    ghost image = { λ disk c. MayLeave disk.first.items disk.calls.items disk.written.items (length disk.calls.items) c
+        };
 
     ghost moment = { λ disk. length disk.calls.items };
 
@@ -274,9 +289,11 @@ impl Disk for MemDisk {
 
     ghost faults = { λ disk. disk.faults };
 
-    ghost reads_an_image = { λ disk told. reads_now disk.first.items disk.bytes.items disk.calls.items disk.written.items disk.reads disk.fitting };
+    ghost reads_an_image = { λ disk told. reads_now disk.first.items disk.bytes.items disk.calls.items
+        disk.written.items disk.reads disk.fitting };
 
-    ghost now_counts = { λ disk t c told le here. now_counts disk.first.items disk.calls.items disk.written.items t c le here };
+    ghost now_counts = { λ disk t c told le here. now_counts disk.first.items disk.calls.items disk.written.items t c
+        le here };
 
     ghost only_now = { λ disk c told since. only_now disk.first.items disk.calls.items disk.written.items c since };
 
@@ -284,7 +301,8 @@ impl Disk for MemDisk {
         ensures value { IfOk result (λ n. n ≡ length (bytes_of self.old)) }
         ensures content { bytes_of self.new ≡ bytes_of self.old }
         ensures images { NoMore (Leaves self.old) (Leaves self.new) }
-        ensures time { Passes (made self.old) (made self.new) (LeavesSince self.old) (LeavesSince self.new) (Leaves self.new) }
+        ensures time { Passes (made self.old) (made self.new) (LeavesSince self.old) (LeavesSince self.new)
+            (Leaves self.new) }
         ensures counted { IsCounted (faults_of self.old) (faults_of self.new) result }
 
         // It fails exactly where the disk was told to, or can't record it.
@@ -305,7 +323,8 @@ impl Disk for MemDisk {
         ensures value { OnOk result (into.new ≡ part (bytes_of self.old) at (length into.old)) }
         ensures content { bytes_of self.new ≡ bytes_of self.old }
         ensures images { NoMore (Leaves self.old) (Leaves self.new) }
-        ensures time { Passes (made self.old) (made self.new) (LeavesSince self.old) (LeavesSince self.new) (Leaves self.new) }
+        ensures time { Passes (made self.old) (made self.new) (LeavesSince self.old) (LeavesSince self.new)
+            (Leaves self.new) }
         ensures counted { IsCounted (faults_of self.old) (faults_of self.new) result }
 
         // It fails exactly where the disk was told to, or can't record it, and then leaves the buffer.
@@ -329,7 +348,8 @@ impl Disk for MemDisk {
         ensures written { OnOk result (bytes_of self.new ≡ overwritten (bytes_of self.old) at bytes.now) }
         ensures torn { OnErr result (Torn at (length bytes.now) (bytes_of self.old) (bytes_of self.new)) }
         ensures images { Follows (Torn at (length bytes.now)) (Leaves self.old) (Leaves self.new) }
-        ensures time { Passes (made self.old) (made self.new) (LeavesSince self.old) (LeavesSince self.new) (Leaves self.new) }
+        ensures time { Passes (made self.old) (made self.new) (LeavesSince self.old) (LeavesSince self.new)
+            (Leaves self.new) }
         ensures counted { IsCounted (faults_of self.old) (faults_of self.new) result }
 
         // It fails exactly where the disk was told to, can't record it or has no room, and then writes nothing.
@@ -356,7 +376,8 @@ impl Disk for MemDisk {
         ensures durable { OnOk result (Only (bytes_of self.old) (Leaves self.new)) }
         ensures content { bytes_of self.new ≡ bytes_of self.old }
         ensures images { NoMore (Leaves self.old) (Leaves self.new) }
-        ensures time { Passes (made self.old) (made self.new) (LeavesSince self.old) (LeavesSince self.new) (Leaves self.new) }
+        ensures time { Passes (made self.old) (made self.new) (LeavesSince self.old) (LeavesSince self.new)
+            (Leaves self.new) }
         ensures counted { IsCounted (faults_of self.old) (faults_of self.new) result }
 
         // It fails exactly where the disk was told to, or can't record it.

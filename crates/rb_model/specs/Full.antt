@@ -1,5 +1,6 @@
 -- When a home has no room for one more key.
-use Rattle.std.specs.Prelude.{ℕ, ◌%◌, Bool, not, ◌&&◌, ◌==◌, nat_le, if◌then◌else◌, List, [], ◌∷◌, ◌++◌, length, map, filter}
+use Rattle.std.specs.Prelude.{ℕ, ◌%◌, Bool, not, ◌&&◌, ◌==◌, nat_le, if◌then◌else◌, List, []}
+use Rattle.std.specs.Prelude.{◌∷◌, ◌++◌, length, map, filter}
 use Rattle.std.specs.List.{flat_map, list_any}
 use Rattle.rb_model.specs.Change.{Change}
 use Rattle.rb_model.specs.Rows.{last_number, rows_at}
@@ -24,8 +25,10 @@ held h = flat_map (λ session. session.own) h.sessions
 -- The keys of a home that are in use: those that have a row at the last commit, and those that a session holds.
 abbrev pub used_keys : State → ℕ → ℕ → List ℕ
 used_keys h table key =
-    once (map (λ row. row.key) (filter (λ row. has_home h.shape.blocks table key row.table row.key) (rows_at h.shape.blocks h.commits (last_number h.commits)))
-    ++ map (λ change. change.key) (filter (λ change. has_home h.shape.blocks table key change.table change.key) (held h)))
+    once (map (λ row. row.key) (filter (λ row. has_home h.shape.blocks table key row.table row.key)
+    (rows_at h.shape.blocks h.commits (last_number h.commits)))
+    ++ map (λ change. change.key) (filter (λ change. has_home h.shape.blocks table key change.table change.key)
+    (held h)))
 
 -- sixteen other keys of its home are in use, and the key isn't
 abbrev pub full_block : State → ℕ → ℕ → Bool

@@ -1,8 +1,11 @@
 -- What is written for a script, line by line.
-use Rattle.std.specs.Prelude.{◌≡◌, ℕ, zero, suc, ◌+◌, ◌-◌, ◌<◌, ◌≤◌, Bool, true, false, MatchBool, List, [], ◌∷◌, ◌++◌, length}
+use Rattle.std.specs.Prelude.{◌≡◌, ℕ, zero, suc, ◌+◌, ◌-◌, ◌<◌, ◌≤◌, Bool, true, false}
+use Rattle.std.specs.Prelude.{MatchBool, List, [], ◌∷◌, ◌++◌, length}
 use Rattle.rb_model.specs.State.{State}
-use Rattle.rb_model.specs.Reply.{Call, Write, Commit, OpenCursor, Fetch, CloseCursor, Answer, Done, Waits, Numbered, Given, End, Refused, Reply, after, Grows}
-use Rattle.rb_model.specs.Lines.{Command, WriteLine, CommitLine, OpenLine, FetchLine, CloseLine, Spells, SpellsNone, without_return, is_remark, reply_text, bad_line_text}
+use Rattle.rb_model.specs.Reply.{Call, Write, Commit, OpenCursor, Fetch, CloseCursor, Answer, Done, Waits, Numbered}
+use Rattle.rb_model.specs.Reply.{Given, End, Refused, Reply, after, Grows}
+use Rattle.rb_model.specs.Lines.{Command, WriteLine, CommitLine, OpenLine, FetchLine, CloseLine, Spells, SpellsNone}
+use Rattle.rb_model.specs.Lines.{without_return, is_remark, reply_text, bad_line_text}
 
 -- a state, and the last log number that was given
 pub record Logged : Type 0 where
@@ -33,7 +36,8 @@ is_given (Refused why) = false
 abbrev pub CallsOut : Logged → ℕ → ℕ → Call → ℕ → List ℕ → Logged → Type 0
 CallsOut m slots s call zero out m2 = (out ≡ []) × (m2 ≡ m)
 CallsOut m slots s call (suc count) out m2 =
-    (r : Answer) × (rest : List ℕ) × (middle : Logged) × CallOut m slots call r middle × (out ≡ reply_text s r ++ rest)
+    (r : Answer) × (rest : List ℕ) × (middle : Logged) × CallOut m slots call r middle
+    × (out ≡ reply_text s r ++ rest)
     × MatchBool (is_given r) (CallsOut middle slots s call count rest m2) ((rest ≡ []) × (m2 ≡ middle))
 
 -- what a command calls
@@ -66,7 +70,8 @@ CommandOut m slots c out m2 = CallsOut m slots (caller c) (call_of c) (most_call
 -- What one line does. A line of more than 512 bytes is bad whatever it has; one CR at its end doesn't count.
 pub data LineOut (m : Logged) (slots : ℕ) (line out : List ℕ) (m2 : Logged) : Type 0 where
   too_long : 512 < length line → out ≡ bad_line_text → m2 ≡ m → LineOut m slots line out m2
-  skipped : length line ≤ 512 → is_remark (without_return line) ≡ true → out ≡ [] → m2 ≡ m → LineOut m slots line out m2
+  skipped : length line ≤ 512 → is_remark (without_return line) ≡ true → out ≡ [] → m2 ≡ m
+      → LineOut m slots line out m2
   bad : length line ≤ 512 → is_remark (without_return line) ≡ false → SpellsNone (without_return line)
       → out ≡ bad_line_text → m2 ≡ m → LineOut m slots line out m2
   command : length line ≤ 512 → (c : Command) → Spells (without_return line) c → CommandOut m slots c out m2
@@ -76,5 +81,6 @@ pub data LineOut (m : Logged) (slots : ℕ) (line out : List ℕ) (m2 : Logged) 
 abbrev pub Out : Logged → ℕ → List (List ℕ) → List ℕ → Logged → Type 0
 Out m slots [] out m2 = (out ≡ []) × (m2 ≡ m)
 Out m slots (line ∷ lines) out m2 =
-    (first : List ℕ) × (rest : List ℕ) × (middle : Logged) × LineOut m slots line first middle × (out ≡ first ++ rest)
+    (first : List ℕ) × (rest : List ℕ) × (middle : Logged) × LineOut m slots line first middle
+    × (out ≡ first ++ rest)
     × MatchBool middle.state.stopped ((rest ≡ []) × (m2 ≡ middle)) (Out middle slots lines rest m2)

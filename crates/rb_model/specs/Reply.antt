@@ -1,11 +1,16 @@
 -- Which answers a call may have, and the state after it.
-use Rattle.std.specs.Prelude.{◌≡◌, ◌⊎◌, ℕ, ◌+◌, ◌^◌, Bool, true, false, not, ◌&&◌, nat_lt, nat_le, if◌then◌else◌, is_some, is_none, List, [], ◌∷◌, ◌++◌, length, slice_get, Option, None, Some}
+use Rattle.std.specs.Prelude.{◌≡◌, ◌⊎◌, ℕ, ◌+◌, ◌^◌, Bool, true, false, not, ◌&&◌, nat_lt}
+use Rattle.std.specs.Prelude.{nat_le, if◌then◌else◌, is_some, is_none, List, [], ◌∷◌, ◌++◌, length}
+use Rattle.std.specs.Prelude.{slice_get, Option, None, Some}
 use Rattle.rb_model.specs.Change.{Change, put, gone}
 use Rattle.rb_model.specs.Full.{full_block}
 use Rattle.rb_model.specs.Rows.{TableRow, last_number, rows_at, over, has_row}
-use Rattle.rb_model.specs.State.{State, Cursor, is_session, is_table, session_of, with_session, cursor_of, cursor_rows, with_taken, without_cursor}
+use Rattle.rb_model.specs.State.{State, Cursor, is_session, is_table, session_of, with_session, cursor_of, cursor_rows}
+use Rattle.rb_model.specs.State.{with_taken, without_cursor}
 use Rattle.rb_model.specs.declared.refusal.Refusal.{Refusal}
-use Rattle.rb_model.specs.declared.refusal.Refusal.TheVariants.{NoSession, NoTable, ValueTooLong, Duplicate, NotFound, BlockFull, NoCursor, CursorThere, TooManyCursors, WornOut, DiskFault, Stopped, LogFull}
+use Rattle.rb_model.specs.declared.refusal.Refusal.TheVariants.{NoSession, NoTable, ValueTooLong, Duplicate, NotFound}
+use Rattle.rb_model.specs.declared.refusal.Refusal.TheVariants.{BlockFull, NoCursor, CursorThere, TooManyCursors}
+use Rattle.rb_model.specs.declared.refusal.Refusal.TheVariants.{WornOut, DiskFault, Stopped, LogFull}
 
 -- what a write does to its key
 pub data Action : Type 0 where
@@ -60,14 +65,17 @@ abbrev pub is_empty : List Change → Bool
 is_empty [] = true
 is_empty (c ∷ changes) = false
 
--- The tests of a call in their order, each with the answer that it gives. After the early ones the disk may have failed.
+-- The tests of a call in their order, each with the answer that it gives. After the early ones the disk may have
+-- failed.
 abbrev pub early_tests : State → Call → List (Bool × Answer)
 early_tests h (Write s table key action) =
-    (h.stopped, Refused Stopped) ∷ (not (is_session h s), Refused NoSession) ∷ (not (is_table h table), Refused NoTable)
+    (h.stopped, Refused Stopped) ∷ (not (is_session h s), Refused NoSession) ∷
+    (not (is_table h table), Refused NoTable)
     ∷ (is_too_long action, Refused ValueTooLong) ∷ []
 early_tests h (Commit s) = (h.stopped, Refused Stopped) ∷ (not (is_session h s), Refused NoSession) ∷ []
 early_tests h (OpenCursor s name table lo hi) =
-    (h.stopped, Refused Stopped) ∷ (not (is_session h s), Refused NoSession) ∷ (not (is_table h table), Refused NoTable) ∷ []
+    (h.stopped, Refused Stopped) ∷ (not (is_session h s), Refused NoSession) ∷
+    (not (is_table h table), Refused NoTable) ∷ []
 early_tests h (Fetch s name) = (h.stopped, Refused Stopped) ∷ (not (is_session h s), Refused NoSession) ∷ []
 early_tests h (CloseCursor s name) = (h.stopped, Refused Stopped) ∷ (not (is_session h s), Refused NoSession) ∷ []
 
@@ -84,7 +92,8 @@ later_tests h logged room (Write s table key action) =
     ∷ log_tests logged room
 later_tests h logged room (Commit s) = []
 later_tests h logged room (OpenCursor s name table lo hi) =
-    (is_some (cursor_of h s name), Refused CursorThere) ∷ (nat_le 16 (length (session_of h s).cursors), Refused TooManyCursors) ∷ []
+    (is_some (cursor_of h s name), Refused CursorThere) ∷
+    (nat_le 16 (length (session_of h s).cursors), Refused TooManyCursors) ∷ []
 later_tests h logged room (Fetch s name) = (is_none (cursor_of h s name), Refused NoCursor) ∷ []
 later_tests h logged room (CloseCursor s name) = (is_none (cursor_of h s name), Refused NoCursor) ∷ []
 
@@ -135,7 +144,12 @@ with_cursors h s cursors = with_session h s (record { own = (session_of h s).own
 
 -- the state with a session's changes as one more commit
 abbrev pub committed : State → ℕ → State
-committed h s = record (with_own h s []) { commits = record h.commits { list = h.commits.list ++ (session_of h s).own ∷ [] } }
+committed h s = record (with_own h s []) {
+  commits = record h.commits {
+    list = h.commits.list
+        ++ (session_of h s).own ∷ [];
+  };
+}
 
 -- the one refusal after which nothing goes on
 abbrev pub is_disk_fault : Refusal → Bool
@@ -197,7 +211,8 @@ is_numbered (Given key value) = false
 is_numbered End = false
 is_numbered (Refused why) = false
 
--- How many groups a call with that answer gives the log: a write that is done one, and a commit that takes a number one.
+-- How many groups a call with that answer gives the log: a write that is done one, and a commit that takes a number
+-- one.
 abbrev pub groups : Call → Answer → ℕ
 groups (Write s table key action) r = if is_done r then 1 else 0
 groups (Commit s) r = if is_numbered r then 1 else 0

@@ -1,5 +1,7 @@
 -- Rows as a list in scan order, and what changes and commits make of them.
-use Rattle.std.specs.Prelude.{◌≡◌, ℕ, ◌+◌, ◌-◌, ◌%◌, Bool, true, not, ◌&&◌, ◌||◌, ◌==◌, nat_lt, nat_le, if◌then◌else◌, List, [], ◌∷◌, length, take, filter, Option, None, Some}
+use Rattle.std.specs.Prelude.{◌≡◌, ℕ, ◌+◌, ◌-◌, ◌%◌, Bool, true, not, ◌&&◌, ◌||◌, ◌==◌}
+use Rattle.std.specs.Prelude.{nat_lt, nat_le, if◌then◌else◌, List, [], ◌∷◌, length, take, filter, Option}
+use Rattle.std.specs.Prelude.{None, Some}
 use Rattle.std.specs.List.{flat_map, list_any, AllByRecursion}
 use Rattle.rb_model.specs.Change.{Change, Kind, Put, Gone, Held}
 
@@ -33,7 +35,8 @@ value_of table key (row ∷ rows) = if is_row_of table key row then Some row.val
 -- the rows stand in scan order, each key once
 abbrev pub InOrder : ℕ → List TableRow → Type 0
 InOrder blocks [] = Unit {0}
-InOrder blocks (row ∷ rows) = AllByRecursion (λ other. row_before blocks row other ≡ true) rows × InOrder blocks rows
+InOrder blocks (row ∷ rows) = AllByRecursion (λ other. row_before blocks row other ≡ true) rows
+    × InOrder blocks rows
 
 -- the rows with this one in its place
 abbrev pub with_row : ℕ → TableRow → List TableRow → List TableRow
@@ -70,7 +73,8 @@ last_number commits = commits.base + length commits.list
 
 -- the rows after the commits up to n
 abbrev pub rows_at : ℕ → Commits → ℕ → List TableRow
-rows_at blocks commits n = over blocks commits.rows (flat_map (λ changes. changes) (take (n - commits.base) commits.list))
+rows_at blocks commits n = over blocks commits.rows (flat_map (λ changes. changes)
+    (take (n - commits.base) commits.list))
 
 -- the row is of this table and its key in the range
 abbrev pub is_asked : ℕ → ℕ → ℕ → TableRow → Bool

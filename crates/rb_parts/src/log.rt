@@ -178,7 +178,8 @@ fn unit_of_one_patch(rt: HostRuntime) -> Result<(), Fail> {
 fn gates_of_a_run(rt: HostRuntime) -> Result<(), Fail> {
     let (disk, is_ok) = flush_of(&rt, 4, 3, 10)?;
     assert!(rt; is_ok);
-    // The gate, the number, the byte of the patch and the end of each unit; then the closed gate, and what isn't touched.
+    // The gate, the number, the byte of the patch and the end of each unit; then the closed gate, and what isn't
+    // touched.
     let first = [(8192, 1), (8207, 5), (8218, 1), (10239, 0)];
     let second = [(10240, 1), (10255, 6), (10266, 2), (12287, 0)];
     let third = [(12288, 1), (12303, 7), (12314, 3), (14335, 0)];

@@ -12,7 +12,8 @@ const SHAPE: Shape = Shape {
     segments: 2,
 };
 
-/// A ring of extents 0 to 2 with the numbers 5, 3 and 4 and 40 records in the head, and table slot 15 as it stands after
+/// A ring of extents 0 to 2 with the numbers 5, 3 and 4 and 40 records in the head, and table slot 15 as it stands
+/// after
 /// two commits, at 6 and at 7.
 fn header() -> [u8; 2048] {
     let mut header = [0; 2048];
@@ -29,7 +30,8 @@ fn header() -> [u8; 2048] {
     header
 }
 
-/// A block of home 3 with an open entry at 0 and a committed one at 7, a row of key 13 in cell 0, which entry 7 has locked,
+/// A block of home 3 with an open entry at 0 and a committed one at 7, a row of key 13 in cell 0, which entry 7 has
+/// locked,
 /// and a deleted one of the same key in cell 15.
 fn rows() -> [u8; 2048] {
     let mut block = [0; 2048];
@@ -160,7 +162,8 @@ fn patch<S: Store>(store: &mut S, no: BlockNo, at: u16, byte: u8) -> Result<(), 
     store.apply(&group)
 }
 
-// A new file is in order. Its commit number is what the last header says, and a cell of an unknown state isn't in order.
+// A new file is in order. Its commit number is what the last header says, and a cell of an unknown state isn't in
+// order.
 #[test]
 fn blocks_of_a_store(rt: HostRuntime) -> Result<(), Fail> {
     let mut store = PlainStore::new(rt.alloc(), SHAPE)?;

@@ -1,4 +1,5 @@
-//! The index against a search by hand: some hundred changes over seven homes and three tables, a fifth of which take a row
+//! The index against a search by hand: some hundred changes over seven homes and three tables, a fifth of which take a
+//! row
 //! away; and full homes.
 ghost use Rattle.std.specs.Prelude.{◌≡◌, ◌<◌, [], length, IfOk};
 

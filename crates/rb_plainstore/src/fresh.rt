@@ -1,6 +1,7 @@
 //! The blocks of a new file. `PlainStore::new` makes them.
 ghost use Rattle.std.specs.Prelude.{◌≡◌, replicate, IfOk};
-ghost use Rattle.rb_base.specs.Blocks.{IsShape, shape_blocks, block_kind, fresh_rest, fresh_block as fresh_block_of, fresh_blocks as fresh_blocks_of, fresh_head as fresh_head_of};
+ghost use Rattle.rb_base.specs.Blocks.{IsShape, shape_blocks, block_kind, fresh_rest, fresh_block as fresh_block_of};
+ghost use Rattle.rb_base.specs.Blocks.{fresh_blocks as fresh_blocks_of, fresh_head as fresh_head_of};
 ghost use Rattle.rb_plainstore.specs.Kinds.{kind_number};
 
 use rb_base::{BlockNo, NoMemory, Shape, UNIT, put_u32, put_u64};
@@ -62,7 +63,8 @@ fn fresh_head(kind: BlockKind, no: BlockNo) -> [u8; HEAD_BYTES]
     head
 }
 
-/// Writes what a fresh block of this kind has behind its head, over zeros: in a segment the turns of its first two extents.
+/// Writes what a fresh block of this kind has behind its head, over zeros: in a segment the turns of its first two
+/// extents.
 fn put_rest(rest: &mut [u8], kind: BlockKind)
     requires { rest.old ≡ replicate 2016 0 }
     ensures { rest.new ≡ fresh_rest (kind_number kind) }

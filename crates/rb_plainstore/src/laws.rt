@@ -9,5 +9,7 @@ use rb_base::Store;
 
 /// No call of a `PlainStore` answers `Failed`: it counts no fault, so the clause *counted* of each call leaves only Ok.
 pub fn never_fails()
-    ensures { (old new : PlainState) (result : Result (Unit {0}) Failed) → IsCounted (⟦<PlainStore as Store>⟧.faults old) (⟦<PlainStore as Store>⟧.faults new) result → IsOk result }
+    ensures { (old new : PlainState) (result : Result (Unit {0}) Failed)
+        → IsCounted (⟦<PlainStore as Store>⟧.faults old) (⟦<PlainStore as Store>⟧.faults new) result
+        → IsOk result }
 {}

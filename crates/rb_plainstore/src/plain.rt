@@ -12,7 +12,8 @@ use std::marker::Model;
 /// How many more groups a store without an end has room for.
 const ROOM: u64 = 1 << 63;
 
-/// The blocks of a file in memory, which nothing keeps. All its memory is taken when it is made, and no call of it fails.
+/// The blocks of a file in memory, which nothing keeps. All its memory is taken when it is made, and no call of it
+/// fails.
 #[derive(Drop)]
 pub struct PlainStore {
     shape: Shape,
@@ -35,7 +36,12 @@ impl PlainStore {
     /// The blocks of a new file, of which none is loaded. It takes 2,048 bytes for each.
     pub fn new(alloc: Global, shape: Shape) -> Result<PlainStore, NoMemory>
         requires { IsShape shape }
-        ensures { IfOk result (λ store. store ≡ record { shape = shape; blocks = fresh_blocks_of shape; number = 0; loaded = None }) }
+        ensures { IfOk result (λ store. store ≡ record {
+          shape = shape;
+          blocks = fresh_blocks_of shape;
+          number = 0;
+          loaded = None;
+        }) }
     {
         Ok(PlainStore {
             shape,

@@ -25,7 +25,8 @@ kind_of (Valued value) = ValueKind
 -- the text is no fields of these kinds
 abbrev pub NoFields : List Kind → List ℕ → Type 0
 NoFields kinds text =
-    (fields : List Field) → map kind_of fields ≡ kinds → AllByRecursion IsField fields → text ≢ fields_text fields
+    (fields : List Field) → map kind_of fields ≡ kinds → AllByRecursion IsField fields
+    → text ≢ fields_text fields
 
 -- the fields of a write that has a value
 abbrev pub row_fields : ℕ → ℕ → ℕ → List ℕ → List Field

@@ -4,7 +4,8 @@ ghost use Rattle.rb_model.specs.Lines as lines;
 
 use rb_model::{Name, Op};
 
-/// A command, with its parts in range. `s` is the number of a session, `t` that of a table; `k`, `lo` and `hi` are keys.
+/// A command, with its parts in range. `s` is the number of a session, `t` that of a table; `k`, `lo` and `hi` are
+/// keys.
 #[derive(Debug, Drop)]
 pub enum Command<'a> {
     /// `insert S T K V`, `update S T K V` or `delete S T K`.
@@ -41,5 +42,6 @@ pub enum Command<'a> {
 
 /// No two commands have one spelling.
 pub fn one_spelling()
-    ensures { (a b : lines.Command) → lines.IsCommand a → lines.IsCommand b → lines.spelling a ≡ lines.spelling b → a ≡ b }
+    ensures { (a b : lines.Command) → lines.IsCommand a → lines.IsCommand b
+        → lines.spelling a ≡ lines.spelling b → a ≡ b }
 {}

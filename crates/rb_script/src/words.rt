@@ -1,5 +1,6 @@
 //! The words of a line, from the left. The readers of the commands call it.
-ghost use Rattle.std.specs.Prelude.{ℕ, List, ◌≡◌, ◌≢◌, ◌∷◌, ◌++◌, ◌<◌, ◌≤◌, ◌^◌, IsTrue, IfSome, IfNone, ◌&&◌, nat_le, ◌↔◌};
+ghost use Rattle.std.specs.Prelude.{ℕ, List, ◌≡◌, ◌≢◌, ◌∷◌, ◌++◌, ◌<◌, ◌≤◌, ◌^◌};
+ghost use Rattle.std.specs.Prelude.{IsTrue, IfSome, IfNone, ◌&&◌, nat_le, ◌↔◌};
 ghost use Rattle.std.specs.List.{list_all};
 ghost use Rattle.std.specs.Fmt.{decimal};
 ghost use Rattle.rb_model.specs.NameTest.{is_name};
@@ -12,7 +13,8 @@ use rb_model::Name;
 
 /// What stands before and behind the first space.
 pub fn split(text: &[u8]) -> Option<(&[u8], &[u8])>
-    ensures found { IfSome result (λ parts. (text.now ≡ parts.0.now ++ 32 ∷ parts.1.now) × IsTrue (is_word parts.0.now)) }
+    ensures found { IfSome result (λ parts. (text.now ≡ parts.0.now ++ 32 ∷ parts.1.now)
+        × IsTrue (is_word parts.0.now)) }
     ensures none { IfNone result (IsTrue (is_word text.now)) }
 {
     for (at, byte) in text.iter().enumerate() {
@@ -54,7 +56,8 @@ pub fn count_of(text: &[u8]) -> Option<u32>
 pub fn id_and_rest(text: &[u8]) -> Option<(u16, &[u8])>
     ensures found { IfSome result (λ parts. text.now ≡ decimal parts.0 ++ 32 ∷ parts.1.now) }
     ensures range { IfSome result (λ parts. parts.0 < 2 ^ 16) }
-    ensures none { IfNone result ((n : ℕ) (rest : List ℕ) → n < 2 ^ 16 → text.now ≢ decimal n ++ 32 ∷ rest) }
+    ensures none { IfNone result ((n : ℕ) (rest : List ℕ) → n < 2 ^ 16
+        → text.now ≢ decimal n ++ 32 ∷ rest) }
 {
     let (front, rest) = split(text)?;
     let id = id_of(front)?;
@@ -65,7 +68,8 @@ pub fn id_and_rest(text: &[u8]) -> Option<(u16, &[u8])>
 pub fn key_and_rest(text: &[u8]) -> Option<(u64, &[u8])>
     ensures found { IfSome result (λ parts. text.now ≡ decimal parts.0 ++ 32 ∷ parts.1.now) }
     ensures range { IfSome result (λ parts. parts.0 < 2 ^ 64) }
-    ensures none { IfNone result ((n : ℕ) (rest : List ℕ) → n < 2 ^ 64 → text.now ≢ decimal n ++ 32 ∷ rest) }
+    ensures none { IfNone result ((n : ℕ) (rest : List ℕ) → n < 2 ^ 64
+        → text.now ≢ decimal n ++ 32 ∷ rest) }
 {
     let (front, rest) = split(text)?;
     let key = parse_decimal(front)?;
@@ -76,7 +80,8 @@ pub fn key_and_rest(text: &[u8]) -> Option<(u64, &[u8])>
 pub fn name_and_rest(text: &[u8]) -> Option<(Name, &[u8])>
     ensures found { IfSome result (λ parts. text.now ≡ name_text parts.0 ++ 32 ∷ parts.1.now) }
     ensures valid { IfSome result (λ parts. IsTrue (is_name (name_text parts.0))) }
-    ensures none { IfNone result ((name rest : List ℕ) → IsTrue (is_name name) → text.now ≢ name ++ 32 ∷ rest) }
+    ensures none { IfNone result ((name rest : List ℕ) → IsTrue (is_name name)
+        → text.now ≢ name ++ 32 ∷ rest) }
 {
     let (front, rest) = split(text)?;
     let name = Name::new(front)?;

@@ -18,7 +18,8 @@ use Rattle.rb_model.specs.State.{State}
 use Rattle.rb_shell.specs.Since.{StandsAs}
 use Rattle.rb_shell.specs.Statuses.{status_of}
 use Rattle.rb_shell.specs.declared.status.Status.{Status}
-use Rattle.rb_shell.specs.declared.status.Status.TheVariants.{Done, Usage, SourceFault, DiskFault, SinkFault, NotAStore, NoMemory, NotEmpty, TooLong}
+use Rattle.rb_shell.specs.declared.status.Status.TheVariants.{Done, Usage, SourceFault, DiskFault, SinkFault, NotAStore}
+use Rattle.rb_shell.specs.declared.status.Status.TheVariants.{NoMemory, NotEmpty, TooLong}
 use Rattle.rb_store.specs.Laps.{LapState, Opens, OpensTo, OpensAt}
 
 -- The file is a store of some layout: its log gives these blocks and that last log number, and they are in order.
@@ -35,7 +36,8 @@ file_opens l shape image blocks = Opens shape (Some l.log) image blocks
 
 -- From a state and log number it did these lines, and came to others. Of the state `keeps` holds. It is stopped where
 -- the last reply is `disk fault`.
-pub record HasDone (slots : ℕ) (before : Logged) (lines : List (List ℕ)) (tells : Type 0) (held_before held_now : List ℕ) (stopped : Bool) (keeps : State → Type 0) : Type 0 where
+pub record HasDone (slots : ℕ) (before : Logged) (lines : List (List ℕ)) (tells : Type 0)
+    (held_before held_now : List ℕ) (stopped : Bool) (keeps : State → Type 0) : Type 0 where
   pub now : Logged
   pub ran : Ran slots before now lines tells held_before held_now
   pub end : now.state.stopped ≡ stopped
@@ -43,14 +45,17 @@ pub record HasDone (slots : ℕ) (before : Logged) (lines : List (List ℕ)) (te
 
 -- The machine that opened with the file's rows did these lines: the sink holds the replies then, where it tells. Of
 -- the states before and after them `keeps` holds.
-pub record HasRun (file : List ℕ) (lines : List (List ℕ)) (tells : Type 0) (before now : List ℕ) (stopped : Bool) (keeps : Layout → State → State → Type 0) : Type 0 where
+pub record HasRun (file : List ℕ) (lines : List (List ℕ)) (tells : Type 0) (before now : List ℕ) (stopped : Bool)
+    (keeps : Layout → State → State → Type 0) : Type 0 where
   pub sound : IsSound file
   pub state : State
   pub opening : OpensAs (shape_of sound.layout) sound.blocks state
-  pub did : HasDone sound.layout.log (record { state = state; number = sound.number }) lines tells before now stopped (keeps sound.layout state)
+  pub did : HasDone sound.layout.log (record { state = state; number = sound.number }) lines tells before now stopped
+      (keeps sound.layout state)
 
 -- It was cut off in one of these lines: the sink holds a front of replies that the lines may have.
-pub record WasCutOff (file : List ℕ) (lines : List (List ℕ)) (before now_held : List ℕ) (keeps : Layout → State → State → Type 0) : Type 0 where
+pub record WasCutOff (file : List ℕ) (lines : List (List ℕ)) (before now_held : List ℕ) (keeps : Layout → State
+    → State → Type 0) : Type 0 where
   pub sound : IsSound file
   pub state : State
   pub opening : OpensAs (shape_of sound.layout) sound.blocks state
@@ -58,32 +63,39 @@ pub record WasCutOff (file : List ℕ) (lines : List (List ℕ)) (before now_hel
   pub cut : CutOff sound.layout.log (record { state = state; number = sound.number }) now lines before now_held
   pub kept : keeps sound.layout state now.state
 
--- A fault of the disk ended the lines: its reply is the last, and nothing was asked for after it. The script was asked for in
+-- A fault of the disk ended the lines: its reply is the last, and nothing was asked for after it. The script was asked
+-- for in
 -- pieces of at most 65,536 bytes.
-pub record HasHalted (file left_before left_now : List ℕ) (tells : Type 0) (before now : List ℕ) (keeps : Layout → State → State → Type 0) : Type 0 where
+pub record HasHalted (file left_before left_now : List ℕ) (tells : Type 0) (before now : List ℕ) (keeps : Layout
+    → State → State → Type 0) : Type 0 where
   pub run : HasRun file (lines_of left_before) tells before now true keeps
   pub halted : Halted run.sound.layout.log 65536 (record { state = run.state; number = run.sound.number }) run.did.now
       left_before left_now tells before now
 
 -- What a crash may leave over a run, which opens the file first: at any moment since its start an image that the disk
 -- had at the start, or a file on the way from the state opened; and at its end all commits of the state.
-pub record Endures {D : Type 0} (image : D → List ℕ → Type 0) (moment : D → ℕ) (since : D → ℕ → List ℕ → Type 0) (old new : D) (l : Layout) (before now : State) : Type 0 where
+pub record Endures {D : Type 0} (image : D → List ℕ → Type 0) (moment : D → ℕ) (since : D → ℕ → List ℕ
+    → Type 0) (old new : D) (l : Layout) (before now : State) : Type 0 where
   pub any_moment : LeavesOnly moment since old new (λ c. image old c ⊎ OnTheWay (file_opens l) before now c)
   pub now_only : (c : List ℕ) → image new c → AtEnd (file_opens l) now c
 
--- An engine was opened over the file of a disk, whose log it goes on with, and stands for the state to which the file opens.
+-- An engine was opened over the file of a disk, whose log it goes on with, and stands for the state to which the file
+-- opens.
 -- At any moment since the start a crash leaves an image that the disk had at the start, or one that opens to its rows.
 pub record HasOpened {D : Type 0} (content : D → List ℕ) (image : D → List ℕ → Type 0) (moment : D → ℕ)
-    (since : D → ℕ → List ℕ → Type 0) (s : Ghosts (LapState D)) (old : D) (e : EngineView (LapState D)) : Type 0 where
+    (since : D → ℕ → List ℕ → Type 0) (s : Ghosts (LapState D)) (old : D) (e : EngineView (LapState D)) : Type
+    0 where
   pub sound : IsSound (content old)
   pub state : State
   pub opening : OpensAs (shape_of sound.layout) sound.blocks state
   pub slots : e.store.layout.log ≡ sound.layout.log
   pub stands : StandsAs s e (record { state = state; number = sound.number })
-  pub any_moment : LeavesOnly moment since old e.store.disk (λ c. image old c ⊎ Restarts (file_opens sound.layout) state c)
+  pub any_moment : LeavesOnly moment since old e.store.disk (λ c. image old c
+      ⊎ Restarts (file_opens sound.layout) state c)
 
 -- Lines were done over a store, from one state to another. They ended as a status says.
-pub record RanOn {S : Type 0} (s : Ghosts S) (old new : S) (slots most : ℕ) (before : Logged) (left_before left_now : List ℕ)
+pub record RanOn {S : Type 0} (s : Ghosts S) (old new : S) (slots most : ℕ) (before : Logged)
+    (left_before left_now : List ℕ)
     (tells : Type 0) (held_before held_now : List ℕ) (status : Status) : Type 0 where
   pub now : Logged
   pub crash : s.keeps → Survives s (s.slots old) before.state now.state old new
@@ -93,21 +105,28 @@ pub record RanOn {S : Type 0} (s : Ghosts S) (old new : S) (slots most : ℕ) (b
 
 -- At any moment since the start a crash leaves an image that the disk had at the start, or one that opens to the blocks
 -- to which the file opened.
-abbrev pub OpensSame : {D : Type 0} → (D → List ℕ) → (D → List ℕ → Type 0) → (D → ℕ) → (D → ℕ → List ℕ → Type 0) → D → D → Type 0
+abbrev pub OpensSame : {D : Type 0} → (D → List ℕ) → (D → List ℕ → Type 0) → (D → ℕ)
+    → (D → ℕ → List ℕ → Type 0) → D → D → Type 0
 OpensSame {D} content image moment since old new =
-    (l : Layout) (blocks : List (List ℕ)) → OpensTo l (content old) blocks → LeavesOnly moment since old new (λ c. image old c ⊎ OpensTo l c blocks)
+    (l : Layout) (blocks : List (List ℕ)) → OpensTo l (content old) blocks
+    → LeavesOnly moment since old new (λ c. image old c ⊎ OpensTo l c blocks)
 
 -- An opening was stopped: the images are as `OpensSame` says, and a file that opens to no blocks is as it was.
-pub record WasStopped {D : Type 0} (content : D → List ℕ) (image : D → List ℕ → Type 0) (moment : D → ℕ) (since : D → ℕ → List ℕ → Type 0) (old new : D) : Type 0 where
+pub record WasStopped {D : Type 0} (content : D → List ℕ) (image : D → List ℕ → Type 0) (moment : D
+    → ℕ) (since : D → ℕ → List ℕ → Type 0) (old new : D) : Type 0 where
   pub images : OpensSame content image moment since old new
-  pub none : ((l : Layout) (blocks : List (List ℕ)) → OpensTo l (content old) blocks → ⊥) → Rests content image moment since old new
+  pub none : ((l : Layout) (blocks : List (List ℕ)) → OpensTo l (content old) blocks → ⊥)
+      → Rests content image moment since old new
 
 -- Nothing was done but an opening, which may take away what was logged behind the last commit: the file and each image
 -- open as before. A file that opens to no blocks is as it was.
-pub record LeftAlone {D : Type 0} (content : D → List ℕ) (image : D → List ℕ → Type 0) (moment : D → ℕ) (since : D → ℕ → List ℕ → Type 0) (old new : D) : Type 0 where
-  pub file : (l : Layout) (blocks : List (List ℕ)) → OpensTo l (content old) blocks → OpensTo l (content new) blocks
+pub record LeftAlone {D : Type 0} (content : D → List ℕ) (image : D → List ℕ → Type 0) (moment : D
+    → ℕ) (since : D → ℕ → List ℕ → Type 0) (old new : D) : Type 0 where
+  pub file : (l : Layout) (blocks : List (List ℕ)) → OpensTo l (content old) blocks
+      → OpensTo l (content new) blocks
   pub images : OpensSame content image moment since old new
-  pub none : ((l : Layout) (blocks : List (List ℕ)) → OpensTo l (content old) blocks → ⊥) → Rests content image moment since old new
+  pub none : ((l : Layout) (blocks : List (List ℕ)) → OpensTo l (content old) blocks → ⊥)
+      → Rests content image moment since old new
 
 -- these bytes were taken from what was left, and nothing else
 abbrev pub IsTaken : List ℕ → List ℕ → List ℕ → Type 0

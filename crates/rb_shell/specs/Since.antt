@@ -25,15 +25,18 @@ pub record IsSince {S : Type 0} (s : Ghosts S) (old new : EngineView S) (before 
   pub crash : s.keeps → Survives s (s.slots old.store) before.state now.state old.store new.store
 
 module _ {S : Type 0} {s : Ghosts S} where
-  pub since_same : (e : EngineView S) (m : Logged) → (s.keeps → Laws s) → StandsAs s e m → m.state.stopped ≡ false → IsSince s e e m m
+  pub since_same : (e : EngineView S) (m : Logged) → (s.keeps → Laws s) → StandsAs s e m
+      → m.state.stopped ≡ false → IsSince s e e m m
   since_same e m laws is going = record {
     same = record { shape = refl; slots = refl };
     crash = λ kept. stands_still s (laws kept) m.state e is.engine going kept;
   }
 
-  pub since_joined : (a b c : EngineView S) (m n k : Logged) → n.state.stopped ≡ false → IsSince s a b m n → IsSince s b c n k → IsSince s a c m k
+  pub since_joined : (a b c : EngineView S) (m n k : Logged) → n.state.stopped ≡ false → IsSince s a b m n
+      → IsSince s b c n k → IsSince s a c m k
   since_joined a b c m n k going x y = record {
     same = record { shape = y.same.shape ∙ x.same.shape; slots = y.same.slots ∙ x.same.slots };
-    crash = λ kept. survives_on s (s.slots a.store) m.state n.state k.state a.store b.store c.store going (x.crash kept)
+    crash = λ kept. survives_on s (s.slots a.store) m.state n.state k.state a.store b.store c.store going
+        (x.crash kept)
         (subst (λ (slots : Option ℕ). Survives s slots n.state k.state b.store c.store) x.same.slots (y.crash kept));
   }

@@ -1,5 +1,6 @@
 -- What a line's calls and replies leave, while some of the replies wait to be sent.
-use Rattle.std.specs.Prelude.{◌≡◌, ◌⊎◌, ℕ, ◌+◌, ◌≤◌, Bool, true, false, List, ◌++◌, length, take, drop, Result, Ok, Err}
+use Rattle.std.specs.Prelude.{◌≡◌, ◌⊎◌, ℕ, ◌+◌, ◌≤◌, Bool, true, false, List, ◌++◌, length}
+use Rattle.std.specs.Prelude.{take, drop, Result, Ok, Err}
 use Rattle.rb_lines.specs.Ran.{CutShort}
 use Rattle.rb_lines.specs.declared.runner.StepFault.{StepFault}
 use Rattle.rb_lines.specs.declared.runner.StepFault.TheVariants.{Disk, Sink}
@@ -30,10 +31,12 @@ Added text tells held_before waiting_before held_now waiting_now =
 
 -- The sink failed: it holds a front of what waited.
 abbrev pub Lost : Type 0 → (held_before waiting_before held_now : List ℕ) → Type 0
-Lost tells held_before waiting_before held_now = tells → (n : ℕ) × (held_now ≡ held_before ++ take n waiting_before)
+Lost tells held_before waiting_before held_now = tells → (n : ℕ)
+    × (held_now ≡ held_before ++ take n waiting_before)
 
 -- A reply was added, or lost. One that tells of a fault of the disk ends the step with that fault.
-abbrev pub Told : List ℕ → Bool → Type 0 → (held_before waiting_before held_now waiting_now : List ℕ) → Result (Unit {0}) StepFault → Type 0
+abbrev pub Told : List ℕ → Bool → Type 0 → (held_before waiting_before held_now waiting_now : List ℕ)
+    → Result (Unit {0}) StepFault → Type 0
 Told text fault tells held_before waiting_before held_now waiting_now (Ok done) =
     (fault ≡ false) × Added text tells held_before waiting_before held_now waiting_now
 Told text fault tells held_before waiting_before held_now waiting_now (Err Disk) =
@@ -60,7 +63,8 @@ Calls m slots s call row now tells held_before waiting_before held_now waiting_n
     (answer : Answer) × CallOut m slots call answer now × Lost tells held_before waiting_before held_now
 
 -- Replies as a relation allows them, and the state after them. The first `sent` bytes were sent, and the others wait.
-pub record Said (allows : List ℕ → Logged → Type 0) (now : Logged) (tells : Type 0) (before held waiting : List ℕ) : Type 0 where
+pub record Said (allows : List ℕ → Logged → Type 0) (now : Logged) (tells : Type 0)
+    (before held waiting : List ℕ) : Type 0 where
   pub out : List ℕ
   pub reply : allows out now
   pub sent : ℕ
@@ -69,9 +73,12 @@ pub record Said (allows : List ℕ → Logged → Type 0) (now : Logged) (tells 
   pub waits : waiting ≡ drop sent out
 
 -- the same by the end of a step, as `RepliedAs` says it of what was sent
-abbrev pub SaidAs : (List ℕ → Logged → Type 0) → Logged → Type 0 → (before held waiting : List ℕ) → Result (Unit {0}) StepFault → Type 0
-SaidAs allows now tells before held waiting (Ok done) = Said allows now tells before held waiting × (now.state.stopped ≡ false)
-SaidAs allows now tells before held waiting (Err Disk) = Said allows now tells before held waiting × (now.state.stopped ≡ true)
+abbrev pub SaidAs : (List ℕ → Logged → Type 0) → Logged → Type 0 → (before held waiting : List ℕ)
+    → Result (Unit {0}) StepFault → Type 0
+SaidAs allows now tells before held waiting (Ok done) = Said allows now tells before held waiting
+    × (now.state.stopped ≡ false)
+SaidAs allows now tells before held waiting (Err Disk) = Said allows now tells before held waiting
+    × (now.state.stopped ≡ true)
 SaidAs allows now tells before held waiting (Err Sink) = tells → CutShort allows now before held
 
 -- So many calls were made, each with a row for an answer: what goes on from here goes on from the start.

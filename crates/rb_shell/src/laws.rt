@@ -8,10 +8,13 @@ ghost use Rattle.rb_model.specs.Rows.{rows_at};
 ghost use Rattle.rb_model.specs.State.{State, opened};
 ghost use Rattle.rb_shell.specs.Runs.{IsSound, file_opens};
 
-/// An image of which `Endures` says that it restarts at a number is sound. A run over it opens with that number and with
+/// An image of which `Endures` says that it restarts at a number is sound. A run over it opens with that number and
+/// with
 /// the rows after the commits up to it, and with no others.
 pub fn restarts_sound()
-    ensures sound { (l : Layout) (h : State) (n : ℕ) (image : List ℕ) → RestartsAt (file_opens l) h n image → IsSound image }
-    ensures state { (l : Layout) (h : State) (n : ℕ) (image : List ℕ) → RestartsAt (file_opens l) h n image → (sound : IsSound image) (state : State) → OpensAs (shape_of sound.layout) sound.blocks state
+    ensures sound { (l : Layout) (h : State) (n : ℕ) (image : List ℕ) → RestartsAt (file_opens l) h n image
+        → IsSound image }
+    ensures state { (l : Layout) (h : State) (n : ℕ) (image : List ℕ) → RestartsAt (file_opens l) h n image
+        → (sound : IsSound image) (state : State) → OpensAs (shape_of sound.layout) sound.blocks state
         → state ≡ opened h.shape n (rows_at h.shape.blocks h.commits n) }
 {}

@@ -1,5 +1,6 @@
 //! The replies of a line, which wait until it is done and are put in few pieces. `line` tells them.
-ghost use Rattle.std.specs.Prelude.{◌≡◌, ◌+◌, ◌≤◌, ◌++◌, List, length, [], IsTrue, OnOk, OnErr, ◌↔◌};
+ghost use Rattle.std.specs.Prelude.{◌≡◌, ◌+◌, ◌≤◌, ◌++◌, List, length, [], IsTrue, OnOk, OnErr};
+ghost use Rattle.std.specs.Prelude.{◌↔◌};
 ghost use Rattle.arrayvec.specs.ArrayVec.{array_vec_len};
 ghost use Rattle.rb_base.specs.Counts.{IsCounted, IsCountedAs, err_is};
 ghost use Rattle.rb_lines.specs.Faults.{is_sink};

@@ -1,11 +1,13 @@
 //! Runs a script over a store: its lines, one after another, through the engine to the sink. `run` calls it.
-ghost use Rattle.std.specs.Prelude.{◌≡◌, ◌≢◌, ◌⊎◌, ℕ, ◌<◌, ◌≤◌, List, [], ◌++◌, length, false, true, IfErr, IfOk};
+ghost use Rattle.std.specs.Prelude.{◌≡◌, ◌≢◌, ◌⊎◌, ℕ, ◌<◌, ◌≤◌, List, [], ◌++◌};
+ghost use Rattle.std.specs.Prelude.{length, false, true, IfErr, IfOk};
 ghost use Rattle.rb_base.specs.Counts.{IsCountedAs, is_failed};
 ghost use Rattle.rb_lines.specs.Faults.{IsCountedBeside};
 ghost use Rattle.rb_lines.specs.Whole.{whole_lines};
 ghost use Rattle.rb_model.specs.Lines.{lines_of};
 ghost use Rattle.rb_model.specs.Out.{Logged};
-ghost use Rattle.rb_shell.specs.Runs.{IsSound, HasHalted, HasOpened, HasRun, RanOn, WasCutOff, Endures, LeftAlone, WasStopped, IsTaken, EndsRun, AsksScript, AsksNothing};
+ghost use Rattle.rb_shell.specs.Runs.{IsSound, HasHalted, HasOpened, HasRun, RanOn, WasCutOff, Endures, LeftAlone};
+ghost use Rattle.rb_shell.specs.Runs.{WasStopped, IsTaken, EndsRun, AsksScript, AsksNothing};
 ghost use Rattle.rb_shell.specs.Since.{IsSince, StandsAs, slots_of};
 ghost use Rattle.rb_shell.specs.Statuses.{by_disk, by_sink, by_source, status_of, status_of_opening};
 
@@ -147,7 +149,8 @@ pub fn run_script<S: Source, K: Sink, D: Disk>(
     ensures ends { EndsRun result.0 }
 
     // The script was done to its end, to a fault, or as far as it may be long.
-    ensures done { D.tells → S.tells → result.0 ≡ Status.Done → HasRun (D.content disk) (lines_of (S.left source.old))
+    ensures done { D.tells → S.tells → result.0 ≡ Status.Done
+        → HasRun (D.content disk) (lines_of (S.left source.old))
         K.tells (K.held sink.old) (K.held sink.new) false (Endures D.image D.moment D.image_since disk result.1) }
     ensures at_end { S.tells → result.0 ≡ Status.Done → S.left source.new ≡ [] }
     ensures few { S.tells → result.0 ≡ Status.Done → length (S.left source.old) < 1000000000 }
@@ -162,7 +165,8 @@ pub fn run_script<S: Source, K: Sink, D: Disk>(
     ensures disk_done { D.tells → S.tells → result.0 ≡ Status.DiskFault →
         ((source.new ≡ source.old) × (sink.new ≡ sink.old)
         × WasStopped D.content D.image D.moment D.image_since disk result.1)
-        ⊎ HasHalted (D.content disk) (S.left source.old) (S.left source.new) K.tells (K.held sink.old) (K.held sink.new)
+        ⊎ HasHalted (D.content disk) (S.left source.old) (S.left source.new) K.tells (K.held sink.old)
+        (K.held sink.new)
         (Endures D.image D.moment D.image_since disk result.1) }
     ensures cut_off { D.tells → S.tells → K.tells → result.0 ≡ Status.SinkFault → WasCutOff (D.content disk)
         (lines_of (S.left source.old)) (K.held sink.old) (K.held sink.new)
@@ -171,7 +175,8 @@ pub fn run_script<S: Source, K: Sink, D: Disk>(
     // Nothing was asked for.
     ensures source_same { AsksNothing result.0 → source.new ≡ source.old }
     ensures sink_same { AsksNothing result.0 → sink.new ≡ sink.old }
-    ensures untouched { D.tells → AsksNothing result.0 → LeftAlone D.content D.image D.moment D.image_since disk result.1 }
+    ensures untouched { D.tells → AsksNothing result.0 → LeftAlone D.content D.image D.moment D.image_since disk
+        result.1 }
     ensures not_a_store { D.tells → result.0 ≡ Status.NotAStore → ¬ IsSound (D.content disk) }
     ensures sound { D.tells → AsksScript result.0 → IsSound (D.content disk) }
 

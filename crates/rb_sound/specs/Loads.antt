@@ -15,7 +15,8 @@ pub record OnlyLoads {S : Type 0} (s : Ghosts S) (old new : S) : Type 0 where
   pub still_stable : s.keeps → (b : List (List ℕ)) → s.stable old b → s.stable new b
   pub no_more : s.keeps → NoMore (s.left old) (s.left new)
   pub later : s.keeps → s.moment old ≤ s.moment new
-  pub nothing_else : s.keeps → (t : ℕ) (i : s.image) → t ≤ s.moment old → s.left_since new t i → s.left_since old t i ⊎ s.left old i
+  pub nothing_else : s.keeps → (t : ℕ) (i : s.image) → t ≤ s.moment old → s.left_since new t i
+      → s.left_since old t i ⊎ s.left old i
 
 module _ {S : Type 0} (s : Ghosts S) where
   -- no call at all
@@ -44,5 +45,6 @@ module _ {S : Type 0} (s : Ghosts S) where
     no_more = λ kept. λ i now. first.no_more kept i (second.no_more kept i now);
     later = λ kept. omega (arith, first.later kept, second.later kept);
     nothing_else = λ kept. λ t i le was.
-        ⊎_elim (first.nothing_else kept t i le) (λ now. inr (first.no_more kept i now)) (second.nothing_else kept t i (omega (arith, le, first.later kept)) was);
+        ⊎_elim (first.nothing_else kept t i le) (λ now. inr (first.no_more kept i now))
+        (second.nothing_else kept t i (omega (arith, le, first.later kept)) was);
   }

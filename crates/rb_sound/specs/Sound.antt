@@ -1,5 +1,6 @@
 -- What an opening tests on the blocks of a file: each header of a segment, and each block of rows.
-use Rattle.std.specs.Prelude.{◌≡◌, ◌≢◌, ℕ, ◌+◌, ◌-◌, ◌*◌, ◌%◌, ◌<◌, ◌≤◌, true, false, List, [], slice_index, slice_index_or}
+use Rattle.std.specs.Prelude.{◌≡◌, ◌≢◌, ℕ, ◌+◌, ◌-◌, ◌*◌, ◌%◌, ◌<◌, ◌≤◌, true}
+use Rattle.std.specs.Prelude.{false, List, [], slice_index, slice_index_or}
 use Rattle.byteorder.specs.Endian.{big_bytes}
 use Rattle.rb_base.specs.Blocks.{block_of, commit_block, greatest, header_block, table_blocks}
 use Rattle.rb_base.specs.Fields.{number_at}
@@ -14,7 +15,8 @@ slot_place i = 32 + 64 * i
 abbrev pub extent_place : ℕ → ℕ
 extent_place e = 1056 + 32 * e
 
--- what a header's bytes say of table slot i: the state, how often it had been taken, the greatest commit number given in
+-- what a header's bytes say of table slot i: the state, how often it had been taken, the greatest commit number given
+-- in
 -- it, and the one before
 unfoldable pub slot_state : List ℕ → ℕ → ℕ
 slot_state header i = slice_index header (slot_place i)
@@ -97,11 +99,13 @@ wrap_in wraps seg slot = slice_index (slice_index_or wraps seg []) slot
 
 -- each segment's header is in order
 abbrev pub AreSegmentsSound : Shape → ℕ → List (List ℕ) → Type 0
-AreSegmentsSound shape commit blocks = (g : ℕ) → g < shape.segments → IsSegment commit (block_of blocks (header_block shape g))
+AreSegmentsSound shape commit blocks = (g : ℕ) → g < shape.segments
+    → IsSegment commit (block_of blocks (header_block shape g))
 
 -- each block of rows is in order; those of a table stand by their homes, from 0 on
 abbrev pub AreHomesSound : Shape → ℕ → (ℕ → ℕ → ℕ) → List (List ℕ) → Type 0
-AreHomesSound shape commit wrap_of blocks = (which : ℕ) → which < table_blocks shape → IsHomeSound shape commit wrap_of (which % shape.blocks) (block_of blocks which)
+AreHomesSound shape commit wrap_of blocks = (which : ℕ) → which < table_blocks shape
+    → IsHomeSound shape commit wrap_of (which % shape.blocks) (block_of blocks which)
 
 -- the blocks of a file are in order
 pub record AreSound (shape : Shape) (blocks : List (List ℕ)) : Type 0 where

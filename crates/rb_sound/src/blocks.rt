@@ -1,12 +1,14 @@
 //! Tests the blocks of a file. The engine's opening calls it.
-ghost use Rattle.std.specs.Prelude.{◌≡◌, ◌↔◌, ℕ, ◌%◌, ◌<◌, true, false, Some, IfOk, OnOk, slice_index};
+ghost use Rattle.std.specs.Prelude.{◌≡◌, ◌↔◌, ℕ, ◌%◌, ◌<◌, true, false, Some, IfOk, OnOk};
+ghost use Rattle.std.specs.Prelude.{slice_index};
 ghost use Rattle.std.specs.Result.{is_err};
 ghost use Rattle.rb_base.specs.Blocks.{block_of, shape_blocks, table_blocks, IsShape};
 ghost use Rattle.rb_base.specs.Counts.{IsCounted};
 ghost use Rattle.rb_sound.specs.Loads.{OnlyLoads};
 ghost use Rattle.rb_base.specs.Blocks.{header_block};
 ghost use Rattle.rb_heap.specs.Soundness.{IsHomeSound};
-ghost use Rattle.rb_sound.specs.Sound.{header_newest, commit_number, slot_wrap, wrap_at, wrap_in, IsSegment, AreSegmentsSound, AreHomesSound, AreSound};
+ghost use Rattle.rb_sound.specs.Sound.{header_newest, commit_number, slot_wrap, wrap_at, wrap_in, IsSegment};
+ghost use Rattle.rb_sound.specs.Sound.{AreSegmentsSound, AreHomesSound, AreSound};
 
 use crate::home::{Limits, home_sound};
 use crate::segment::{newest_in, segment_sound, wraps_in};
@@ -43,7 +45,8 @@ fn header_newest<S: Store>(store: &mut S, shape: Shape, g: u16) -> Result<Scn, F
     requires shape { shape ≡ S.shape_of store.old }
     requires in_range { IsShape shape }
     requires there { g < shape.segments }
-    ensures told { S.tells → IfOk result (λ newest. newest ≡ header_newest (block_of (S.blocks store.old) (header_block shape g))) }
+    ensures told { S.tells → IfOk result (λ newest. newest
+        ≡ header_newest (block_of (S.blocks store.old) (header_block shape g))) }
     ensures only_loads { OnlyLoads S.Store store.old store.new }
     ensures failed { S.failed store.new ≡ is_err result }
     ensures counted { IsCounted (S.faults store.old) (S.faults store.new) result }
@@ -55,7 +58,8 @@ fn header_newest<S: Store>(store: &mut S, shape: Shape, g: u16) -> Result<Scn, F
 /// The greatest commit number that a table slot of the file has.
 pub fn commit_number_of<S: Store>(store: &mut S) -> Result<Scn, Failed>
     requires { S.failed store.old ≡ false }
-    ensures told { S.tells → IfOk result (λ commit. commit ≡ commit_number (S.shape_of store.old) (S.blocks store.old)) }
+    ensures told { S.tells → IfOk result (λ commit. commit
+        ≡ commit_number (S.shape_of store.old) (S.blocks store.old)) }
     ensures only_loads { OnlyLoads S.Store store.old store.new }
     ensures failed { S.failed store.new ≡ is_err result }
     ensures counted { IsCounted (S.faults store.old) (S.faults store.new) result }
@@ -74,7 +78,8 @@ fn header_wraps<S: Store>(store: &mut S, shape: Shape, g: u16) -> Result<[u64; 1
     requires shape { shape ≡ S.shape_of store.old }
     requires in_range { IsShape shape }
     requires there { g < shape.segments }
-    ensures told { S.tells → IfOk result (λ wraps. (i : ℕ) → i < 16 → slice_index wraps i ≡ wrap_at shape (S.blocks store.old) g i) }
+    ensures told { S.tells → IfOk result (λ wraps. (i : ℕ) → i < 16
+        → slice_index wraps i ≡ wrap_at shape (S.blocks store.old) g i) }
     ensures only_loads { OnlyLoads S.Store store.old store.new }
     ensures failed { S.failed store.new ≡ is_err result }
     ensures counted { IsCounted (S.faults store.old) (S.faults store.new) result }
@@ -86,7 +91,8 @@ fn header_wraps<S: Store>(store: &mut S, shape: Shape, g: u16) -> Result<[u64; 1
 /// How often each table slot of each segment had been taken, with zeros behind the segments that there are.
 fn wraps_of<S: Store>(store: &mut S) -> Result<[[u64; 16]; 16], Failed>
     requires { S.failed store.old ≡ false }
-    ensures told { S.tells → IfOk result (λ wraps. (seg slot : ℕ) → seg < (S.shape_of store.old).segments → slot < 16 → wrap_in wraps seg slot ≡ wrap_at (S.shape_of store.old) (S.blocks store.old) seg slot) }
+    ensures told { S.tells → IfOk result (λ wraps. (seg slot : ℕ) → seg < (S.shape_of store.old).segments
+        → slot < 16 → wrap_in wraps seg slot ≡ wrap_at (S.shape_of store.old) (S.blocks store.old) seg slot) }
     ensures only_loads { OnlyLoads S.Store store.old store.new }
     ensures failed { S.failed store.new ≡ is_err result }
     ensures counted { IsCounted (S.faults store.old) (S.faults store.new) result }
@@ -105,7 +111,8 @@ fn header_sound<S: Store>(store: &mut S, shape: Shape, g: u16, commit: Scn) -> R
     requires shape { shape ≡ S.shape_of store.old }
     requires in_range { IsShape shape }
     requires there { g < shape.segments }
-    ensures told { S.tells → IfOk result (λ sound. sound ≡ true ↔ IsSegment commit (block_of (S.blocks store.old) (header_block shape g))) }
+    ensures told { S.tells → IfOk result (λ sound. sound ≡ true
+        ↔ IsSegment commit (block_of (S.blocks store.old) (header_block shape g))) }
     ensures only_loads { OnlyLoads S.Store store.old store.new }
     ensures failed { S.failed store.new ≡ is_err result }
     ensures counted { IsCounted (S.faults store.old) (S.faults store.new) result }
@@ -117,7 +124,8 @@ fn header_sound<S: Store>(store: &mut S, shape: Shape, g: u16, commit: Scn) -> R
 /// Whether the header of each segment is in order, in a file of that commit number.
 fn segments_sound<S: Store>(store: &mut S, commit: Scn) -> Result<bool, Failed>
     requires { S.failed store.old ≡ false }
-    ensures told { S.tells → IfOk result (λ sound. sound ≡ true ↔ AreSegmentsSound (S.shape_of store.old) commit (S.blocks store.old)) }
+    ensures told { S.tells → IfOk result (λ sound. sound ≡ true
+        ↔ AreSegmentsSound (S.shape_of store.old) commit (S.blocks store.old)) }
     ensures only_loads { OnlyLoads S.Store store.old store.new }
     ensures failed { S.failed store.new ≡ is_err result }
     ensures counted { IsCounted (S.faults store.old) (S.faults store.new) result }
@@ -137,7 +145,9 @@ fn rows_sound<S: Store>(store: &mut S, no: BlockNo, limits: &Limits) -> Result<b
     requires shape { limits.now.shape ≡ S.shape_of store.old }
     requires in_range { IsShape limits.now.shape }
     requires there { no < table_blocks limits.now.shape }
-    ensures told { S.tells → IfOk result (λ sound. sound ≡ true ↔ IsHomeSound limits.now.shape limits.now.commit (wrap_in limits.now.wraps) (no % limits.now.shape.blocks) (block_of (S.blocks store.old) no)) }
+    ensures told { S.tells → IfOk result (λ sound. sound ≡ true
+        ↔ IsHomeSound limits.now.shape limits.now.commit (wrap_in limits.now.wraps) (no % limits.now.shape.blocks)
+        (block_of (S.blocks store.old) no)) }
     ensures only_loads { OnlyLoads S.Store store.old store.new }
     ensures failed { S.failed store.new ≡ is_err result }
     ensures counted { IsCounted (S.faults store.old) (S.faults store.new) result }
@@ -151,7 +161,8 @@ fn homes_sound<S: Store>(store: &mut S, limits: &Limits) -> Result<bool, Failed>
     requires going { S.failed store.old ≡ false }
     requires shape { limits.now.shape ≡ S.shape_of store.old }
     requires in_range { IsShape limits.now.shape }
-    ensures told { S.tells → IfOk result (λ sound. sound ≡ true ↔ AreHomesSound limits.now.shape limits.now.commit (wrap_in limits.now.wraps) (S.blocks store.old)) }
+    ensures told { S.tells → IfOk result (λ sound. sound ≡ true
+        ↔ AreHomesSound limits.now.shape limits.now.commit (wrap_in limits.now.wraps) (S.blocks store.old)) }
     ensures only_loads { OnlyLoads S.Store store.old store.new }
     ensures failed { S.failed store.new ≡ is_err result }
     ensures counted { IsCounted (S.faults store.old) (S.faults store.new) result }
@@ -167,7 +178,8 @@ fn homes_sound<S: Store>(store: &mut S, limits: &Limits) -> Result<bool, Failed>
 /// Whether the blocks of the file are in order: the header of each segment, and each block of rows.
 pub fn blocks_sound<S: Store>(store: &mut S) -> Result<bool, Failed>
     requires { S.failed store.old ≡ false }
-    ensures told { S.tells → IfOk result (λ sound. sound ≡ true ↔ AreSound (S.shape_of store.old) (S.blocks store.old)) }
+    ensures told { S.tells → IfOk result (λ sound. sound ≡ true
+        ↔ AreSound (S.shape_of store.old) (S.blocks store.old)) }
     ensures only_loads { OnlyLoads S.Store store.old store.new }
     ensures failed { S.failed store.new ≡ is_err result }
     ensures counted { IsCounted (S.faults store.old) (S.faults store.new) result }

@@ -28,7 +28,8 @@ pub fn commit_group(shape: Shape, number: Scn) -> Group
 /// The log number of the block that each commit patches.
 pub fn commit_logged_of<S: Store>(store: &mut S) -> Result<Lsn, Failed>
     requires { S.failed store.old ≡ false }
-    ensures told { S.tells → IfOk result (λ logged. logged ≡ commit_logged (S.shape_of store.old) (S.blocks store.old)) }
+    ensures told { S.tells → IfOk result (λ logged. logged
+        ≡ commit_logged (S.shape_of store.old) (S.blocks store.old)) }
     ensures whole { S.tells → OnOk result (AreBlocks (S.shape_of store.old) (S.blocks store.old)) }
     ensures only_loads { OnlyLoads S.Store store.old store.new }
     ensures failed { S.failed store.new ≡ is_err result }

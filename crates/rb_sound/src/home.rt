@@ -1,10 +1,12 @@
 //! Tests a block of rows. `blocks` calls it for each one of a file.
-ghost use Rattle.std.specs.Prelude.{IsTrue, ◌≡◌, ◌≢◌, ◌↔◌, ℕ, ◌+◌, ◌<◌, ◌≤◌, true, false, length};
+ghost use Rattle.std.specs.Prelude.{IsTrue, ◌≡◌, ◌≢◌, ◌↔◌, ℕ, ◌+◌, ◌<◌, ◌≤◌, true};
+ghost use Rattle.std.specs.Prelude.{false, length};
 ghost use Rattle.rb_base.specs.Blocks.{IsShape};
 ghost use Rattle.rb_cell.specs.Cells.{cell_at};
 ghost use Rattle.rb_itl.specs.Entries.{entry_at};
 ghost use Rattle.rb_heap.specs.Homes.{is_keyed};
-ghost use Rattle.rb_heap.specs.Soundness.{value_length, IsTaken, IsEntrySound, IsLock, IsCellSound, AreCellsSound, IsHomeSound, IsFirstKeyed, AreKeysApart};
+ghost use Rattle.rb_heap.specs.Soundness.{value_length, IsTaken, IsEntrySound, IsLock, IsCellSound, AreCellsSound};
+ghost use Rattle.rb_heap.specs.Soundness.{IsHomeSound, IsFirstKeyed, AreKeysApart};
 ghost use Rattle.rb_sound.specs.Sound.{wrap_in};
 
 use rb_base::{Scn, Shape, u16_at};
@@ -67,7 +69,8 @@ fn entry_sound(entry: &Entry, limits: &Limits) -> bool
 fn entries_sound(block: &[u8], limits: &Limits) -> bool
     requires block { length block.now ≡ 2048 }
     requires shape { IsShape limits.now.shape }
-    ensures { IsTrue result ↔ ((i : ℕ) → i < 8 → IsEntrySound limits.now.shape limits.now.commit (wrap_in limits.now.wraps) (entry_at block.now i)) }
+    ensures { IsTrue result ↔ ((i : ℕ) → i < 8 → IsEntrySound limits.now.shape limits.now.commit
+        (wrap_in limits.now.wraps) (entry_at block.now i)) }
 {
     for i in 0..ENTRIES {
         if !entry_sound(&entry(block, i), limits) {
@@ -197,7 +200,8 @@ fn all_cells_sound(block: &[u8], shape: Shape, home: u32) -> bool
 pub fn home_sound(block: &[u8], home: u32, limits: &Limits) -> bool
     requires block { length block.now ≡ 2048 }
     requires shape { IsShape limits.now.shape }
-    ensures { IsTrue result ↔ IsHomeSound limits.now.shape limits.now.commit (wrap_in limits.now.wraps) home block.now }
+    ensures { IsTrue result ↔ IsHomeSound limits.now.shape limits.now.commit (wrap_in limits.now.wraps) home block.now
+        }
 {
     entries_sound(block, limits) && all_cells_sound(block, limits.shape, home)
 }

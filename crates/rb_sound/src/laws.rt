@@ -1,5 +1,6 @@
 //! What holds of every file, as clauses for proofs to cite. Nothing calls them.
-ghost use Rattle.std.specs.Prelude.{◌≡◌, ◌≢◌, ℕ, ◌+◌, ◌-◌, ◌*◌, ◌%◌, ◌^◌, ◌<◌, ◌≤◌, true, false, List, [], ◌∷◌};
+ghost use Rattle.std.specs.Prelude.{◌≡◌, ◌≢◌, ℕ, ◌+◌, ◌-◌, ◌*◌, ◌%◌, ◌^◌, ◌<◌};
+ghost use Rattle.std.specs.Prelude.{◌≤◌, true, false, List, [], ◌∷◌};
 ghost use Rattle.rb_base.specs.declared.ids.Shape.{Shape};
 ghost use Rattle.rb_base.specs.Blocks.{block_of, after_group, fresh_blocks, table_blocks, IsShape, AreBlocks};
 ghost use Rattle.rb_cell.specs.declared.cell.Cell.{Cell};
@@ -7,17 +8,22 @@ ghost use Rattle.rb_cell.specs.Cells.{cell_at, cell_patch, IsCell};
 ghost use Rattle.rb_heap.specs.Homes.{is_keyed};
 ghost use Rattle.rb_base.specs.Blocks.{header_block};
 ghost use Rattle.rb_heap.specs.Soundness.{IsHomeSound};
-ghost use Rattle.rb_sound.specs.Sound.{slot_newest, commit_logged, commit_number, number_patch, AreHomesSound, AreSound};
+ghost use Rattle.rb_sound.specs.Sound.{slot_newest, commit_logged, commit_number, number_patch, AreHomesSound};
+ghost use Rattle.rb_sound.specs.Sound.{AreSound};
 
 /// The commit number of a file is the least that no table slot's newest is above.
 pub fn commit_greatest()
-    ensures none_above { (shape : Shape) (blocks : List (List ℕ)) (g i : ℕ) → g < shape.segments → i < 16 → slot_newest (block_of blocks (header_block shape g)) i ≤ commit_number shape blocks }
-    ensures least { (shape : Shape) (blocks : List (List ℕ)) (n : ℕ) → ((g i : ℕ) → g < shape.segments → i < 16 → slot_newest (block_of blocks (header_block shape g)) i ≤ n) → commit_number shape blocks ≤ n }
+    ensures none_above { (shape : Shape) (blocks : List (List ℕ)) (g i : ℕ) → g < shape.segments → i < 16
+        → slot_newest (block_of blocks (header_block shape g)) i ≤ commit_number shape blocks }
+    ensures least { (shape : Shape) (blocks : List (List ℕ)) (n : ℕ)
+        → ((g i : ℕ) → g < shape.segments → i < 16 → slot_newest (block_of blocks (header_block shape g)) i
+        ≤ n) → commit_number shape blocks ≤ n }
 {}
 
 /// Where all blocks of rows are in order, so is the block of each home of each table, which are counted from 1.
 pub fn homes_by_table()
-    ensures { (shape : Shape) (commit : ℕ) (wrap_of : ℕ → ℕ → ℕ) (blocks : List (List ℕ)) (t h : ℕ) → AreHomesSound shape commit wrap_of blocks → 1 ≤ t → t ≤ shape.tables → h < shape.blocks
+    ensures { (shape : Shape) (commit : ℕ) (wrap_of : ℕ → ℕ → ℕ) (blocks : List (List ℕ)) (t h : ℕ)
+        → AreHomesSound shape commit wrap_of blocks → 1 ≤ t → t ≤ shape.tables → h < shape.blocks
         → IsHomeSound shape commit wrap_of h (block_of blocks ((t - 1) * shape.blocks + h)) }
 {}
 
@@ -26,26 +32,39 @@ pub fn fresh_sound()
     ensures { (shape : Shape) → AreSound shape (fresh_blocks shape) }
 {}
 
-/// A cell written over one of a block of rows leaves all blocks in order, where it is unlocked, belongs in that block and
+/// A cell written over one of a block of rows leaves all blocks in order, where it is unlocked, belongs in that block
+/// and
 /// has no key that another cell there has. The commit number, the log number of the block that commits patch, and every
 /// other block stay.
 pub fn cell_written()
-    ensures sound { (shape : Shape) (blocks : List (List ℕ)) (number which c : ℕ) (cell : Cell) → AreBlocks shape blocks → AreSound shape blocks → which < table_blocks shape → c < 16 → IsCell cell → cell.state ≤ 2 → cell.lock ≡ 0 → cell.key % shape.blocks ≡ which % shape.blocks
-        → ((other : ℕ) → other < 16 → other ≢ c → is_keyed cell.key cell ≡ true → is_keyed cell.key (cell_at (block_of blocks which) other) ≡ false)
+    ensures sound { (shape : Shape) (blocks : List (List ℕ)) (number which c : ℕ) (cell : Cell)
+        → AreBlocks shape blocks → AreSound shape blocks → which < table_blocks shape → c < 16 → IsCell cell
+        → cell.state ≤ 2 → cell.lock ≡ 0 → cell.key % shape.blocks ≡ which % shape.blocks
+        → ((other : ℕ) → other < 16 → other ≢ c → is_keyed cell.key cell ≡ true
+        → is_keyed cell.key (cell_at (block_of blocks which) other) ≡ false)
         → AreSound shape (after_group number (cell_patch which c cell ∷ []) blocks) }
-    ensures commit { (shape : Shape) (blocks : List (List ℕ)) (number which c : ℕ) (cell : Cell) → which < table_blocks shape → commit_number shape (after_group number (cell_patch which c cell ∷ []) blocks) ≡ commit_number shape blocks }
-    ensures logged { (shape : Shape) (blocks : List (List ℕ)) (number which c : ℕ) (cell : Cell) → which < table_blocks shape → commit_logged shape (after_group number (cell_patch which c cell ∷ []) blocks) ≡ commit_logged shape blocks }
-    ensures other { (blocks : List (List ℕ)) (number which c b : ℕ) (cell : Cell) → b ≢ which → block_of (after_group number (cell_patch which c cell ∷ []) blocks) b ≡ block_of blocks b }
+    ensures commit { (shape : Shape) (blocks : List (List ℕ)) (number which c : ℕ) (cell : Cell)
+        → which < table_blocks shape → commit_number shape
+        (after_group number (cell_patch which c cell ∷ []) blocks) ≡ commit_number shape blocks }
+    ensures logged { (shape : Shape) (blocks : List (List ℕ)) (number which c : ℕ) (cell : Cell)
+        → which < table_blocks shape → commit_logged shape
+        (after_group number (cell_patch which c cell ∷ []) blocks) ≡ commit_logged shape blocks }
+    ensures other { (blocks : List (List ℕ)) (number which c b : ℕ) (cell : Cell) → b ≢ which
+        → block_of (after_group number (cell_patch which c cell ∷ []) blocks) b ≡ block_of blocks b }
 {}
 
 /// A commit writes the next commit number into the first table slot of the first segment. The blocks stay in order, and
 /// no block of rows changes.
 pub fn commit_written()
-    ensures sound { (shape : Shape) (blocks : List (List ℕ)) (number n : ℕ) → IsShape shape → AreBlocks shape blocks → AreSound shape blocks → commit_number shape blocks ≡ n → n + 1 < 2 ^ 64
+    ensures sound { (shape : Shape) (blocks : List (List ℕ)) (number n : ℕ) → IsShape shape
+        → AreBlocks shape blocks → AreSound shape blocks → commit_number shape blocks ≡ n → n + 1 < 2 ^ 64
         → AreSound shape (after_group number (number_patch shape (n + 1) ∷ []) blocks) }
-    ensures commit { (shape : Shape) (blocks : List (List ℕ)) (number n : ℕ) → IsShape shape → AreBlocks shape blocks → commit_number shape blocks ≡ n → n + 1 < 2 ^ 64
+    ensures commit { (shape : Shape) (blocks : List (List ℕ)) (number n : ℕ) → IsShape shape
+        → AreBlocks shape blocks → commit_number shape blocks ≡ n → n + 1 < 2 ^ 64
         → commit_number shape (after_group number (number_patch shape (n + 1) ∷ []) blocks) ≡ n + 1 }
-    ensures number { (shape : Shape) (blocks : List (List ℕ)) (number n : ℕ) → IsShape shape → AreBlocks shape blocks → number < 2 ^ 64
+    ensures number { (shape : Shape) (blocks : List (List ℕ)) (number n : ℕ) → IsShape shape
+        → AreBlocks shape blocks → number < 2 ^ 64
         → commit_logged shape (after_group number (number_patch shape (n + 1) ∷ []) blocks) ≡ number }
-    ensures rows { (shape : Shape) (blocks : List (List ℕ)) (number n b : ℕ) → b < table_blocks shape → block_of (after_group number (number_patch shape (n + 1) ∷ []) blocks) b ≡ block_of blocks b }
+    ensures rows { (shape : Shape) (blocks : List (List ℕ)) (number n b : ℕ) → b < table_blocks shape
+        → block_of (after_group number (number_patch shape (n + 1) ∷ []) blocks) b ≡ block_of blocks b }
 {}

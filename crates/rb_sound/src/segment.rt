@@ -1,6 +1,9 @@
 //! Tests the header of a segment. `blocks` calls it for each segment of a file.
-ghost use Rattle.std.specs.Prelude.{IsTrue, ◌≡◌, ◌≢◌, ◌↔◌, ℕ, ◌+◌, ◌<◌, ◌≤◌, true, length, slice_index};
-ghost use Rattle.rb_sound.specs.Sound.{slot_state, slot_wrap, slot_newest, slot_before, slot_place, extent_place, extent_ord, extent_newest, head_extent, head_records, lost_number, header_newest, IsSlot, IsNear, IsRing, IsSegment};
+ghost use Rattle.std.specs.Prelude.{IsTrue, ◌≡◌, ◌≢◌, ◌↔◌, ℕ, ◌+◌, ◌<◌, ◌≤◌, true};
+ghost use Rattle.std.specs.Prelude.{length, slice_index};
+ghost use Rattle.rb_sound.specs.Sound.{slot_state, slot_wrap, slot_newest, slot_before, slot_place, extent_place};
+ghost use Rattle.rb_sound.specs.Sound.{extent_ord, extent_newest, head_extent, head_records, lost_number};
+ghost use Rattle.rb_sound.specs.Sound.{header_newest, IsSlot, IsNear, IsRing, IsSegment};
 
 use rb_base::{Scn, u16_at, u64_at};
 
@@ -211,7 +214,8 @@ fn numbers_near(header: &[u8], extents: u8, newest: u64) -> bool
 fn number_is_first(header: &[u8], e: u8) -> bool
     requires header { length header.now ≡ 2048 }
     requires within { e < 8 }
-    ensures { IsTrue result ↔ ((lower : ℕ) → lower < e → extent_ord header.now lower ≢ extent_ord header.now e) }
+    ensures { IsTrue result ↔ ((lower : ℕ) → lower < e → extent_ord header.now lower ≢ extent_ord header.now
+        e) }
 {
     let ord = extent_ord(header, e);
     for lower in 0..e {
@@ -226,7 +230,8 @@ fn number_is_first(header: &[u8], e: u8) -> bool
 fn numbers_apart(header: &[u8], extents: u8) -> bool
     requires header { length header.now ≡ 2048 }
     requires within { extents ≤ 8 }
-    ensures { IsTrue result ↔ ((e : ℕ) → e < extents → (lower : ℕ) → lower < e → extent_ord header.now lower ≢ extent_ord header.now e) }
+    ensures { IsTrue result ↔ ((e : ℕ) → e < extents → (lower : ℕ) → lower < e
+        → extent_ord header.now lower ≢ extent_ord header.now e) }
 {
     for e in 0..extents {
         if !number_is_first(header, e) {

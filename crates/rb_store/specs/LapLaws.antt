@@ -8,7 +8,9 @@ use Rattle.rb_layout.specs.declared.layout.Layout.{Layout}
 use Rattle.rb_store.specs.Laps.{IsLap, Opens, OpensTo, LapState, IsStable, committed_groups}
 
 -- a file opens to the blocks that the kept groups of its log make
-abbrev pub kept_opens : (l : Layout) (file : List ℕ) (groups kept : List (List Patch)) (blocks : List (List ℕ)) → IsLap l groups file → committed_groups (shape_of l) groups ≡ kept → blocks ≡ after_groups 1 kept (fresh_blocks (shape_of l)) → OpensTo l file blocks
+abbrev pub kept_opens : (l : Layout) (file : List ℕ) (groups kept : List (List Patch)) (blocks : List (List ℕ))
+    → IsLap l groups file → committed_groups (shape_of l) groups ≡ kept
+    → blocks ≡ after_groups 1 kept (fresh_blocks (shape_of l)) → OpensTo l file blocks
 kept_opens l file groups kept blocks lap whole made = record {
   groups = groups;
   lap = lap;
@@ -17,11 +19,13 @@ kept_opens l file groups kept blocks lap whole made = record {
 
 module _ {D : Type 0} (content : D → List ℕ) (image : D → List ℕ → Type 0) where
   -- a file of the stable groups opens to what is stable
-  pub stable_opens : (s : LapState D) (b : List (List ℕ)) (c : List ℕ) → (st : IsStable content image s b) → IsLap s.layout st.groups c → OpensTo s.layout c b
+  pub stable_opens : (s : LapState D) (b : List (List ℕ)) (c : List ℕ) → (st : IsStable content image s b)
+      → IsLap s.layout st.groups c → OpensTo s.layout c b
   stable_opens s b c st lap = kept_opens s.layout c st.groups st.groups b lap st.whole st.made
 
   -- an image is such a file
-  pub stable_left : (s : LapState D) (b : List (List ℕ)) (c : List ℕ) → IsStable content image s b → image s.disk c → Opens (shape_of s.layout) (Some s.layout.log) c b
+  pub stable_left : (s : LapState D) (b : List (List ℕ)) (c : List ℕ) → IsStable content image s b
+      → image s.disk c → Opens (shape_of s.layout) (Some s.layout.log) c b
   stable_left s b c st here = record {
     layout = s.layout;
     shape_is = refl;
@@ -30,5 +34,6 @@ module _ {D : Type 0} (content : D → List ℕ) (image : D → List ℕ → Typ
   }
 
   -- and patched by the groups that wait it is what is read
-  pub stable_patched : (s : LapState D) (b : List (List ℕ)) → IsStable content image s b → s.blocks ≡ after_pending s.number s.pending b
+  pub stable_patched : (s : LapState D) (b : List (List ℕ)) → IsStable content image s b
+      → s.blocks ≡ after_pending s.number s.pending b
   stable_patched s b st = st.patched ∙ ap (λ (n : ℕ). after_groups n s.pending b) (omega (arith, st.count))

@@ -48,7 +48,8 @@ pub record LapState (D : Type 0) : Type 0 where
 
 -- The file and each image have the same groups, of which the last is a commit. Those that wait are behind them. The
 -- blocks are those after all of them.
-pub record IsStable {D : Type 0} (content : D → List ℕ) (image : D → List ℕ → Type 0) (s : LapState D) (blocks : List (List ℕ)) : Type 0 where
+pub record IsStable {D : Type 0} (content : D → List ℕ) (image : D → List ℕ
+    → Type 0) (s : LapState D) (blocks : List (List ℕ)) : Type 0 where
   pub groups : List (List Patch)
   pub count : length groups + length s.pending ≡ s.number
   pub whole : committed_groups (shape_of s.layout) groups ≡ groups

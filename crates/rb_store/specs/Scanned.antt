@@ -10,11 +10,20 @@ use Rattle.rb_log.specs.GroupSlots.{LogState, AreFrom, GroupsAre, BeginsWithGrou
 use Rattle.rb_plainstore.specs.Plain.{PlainState}
 use Rattle.rb_store.specs.Laps.{IsLap, committed_groups}
 
--- The log is scanned up to some slot. The blocks are those after the groups up to the last commit, and the groups behind
+-- The log is scanned up to some slot. The blocks are those after the groups up to the last commit, and the groups
+-- behind
 -- it wait. The file begins with them all, where it is told.
-pub record HasScanned (told : Type 0) (l : Layout) (file : List ℕ) (plain : PlainState) (log : LogState) (waiting : List (List Patch)) : Type 0 where
+pub record HasScanned (told : Type 0) (l : Layout) (file : List ℕ) (plain : PlainState) (log : LogState)
+    (waiting : List (List Patch)) : Type 0 where
   pub groups : List (List Patch)
-  pub log_is : log ≡ record { layout = l; used = length groups + length waiting; pending = []; scanned = false; ahead = log.ahead }
+  pub log_is : log ≡ record {
+    layout = l;
+    used = length groups + length waiting;
+    pending = [];
+    scanned = false;
+    ahead
+        = log.ahead;
+  }
   pub shape_is : plain.shape ≡ shape_of l
   pub number : plain.number ≡ length groups
   pub blocks : plain.blocks ≡ after_groups 1 groups (fresh_blocks (shape_of l))
@@ -25,16 +34,26 @@ pub record HasScanned (told : Type 0) (l : Layout) (file : List ℕ) (plain : Pl
   pub ahead : told → AreFrom file log.used log.ahead
 
 -- One more group was taken: it waits, or, being a commit, all that wait are put into the blocks.
-pub record Takes (commit : ℕ) (before now : PlainState) (waiting : List (List Patch)) (group : List Patch) (left : List (List Patch)) : Type 0 where
+pub record Takes (commit : ℕ) (before now : PlainState) (waiting : List (List Patch)) (group : List Patch)
+    (left : List (List Patch)) : Type 0 where
   pub waits : patches_block commit group ≡ false → (now ≡ before) × (left ≡ waiting ++ group ∷ [])
-  pub blocks : patches_block commit group ≡ true → now.blocks ≡ after_groups (before.number + 1) (waiting ++ group ∷ []) before.blocks
+  pub blocks : patches_block commit group ≡ true → now.blocks
+      ≡ after_groups (before.number + 1) (waiting ++ group ∷ []) before.blocks
   pub number : patches_block commit group ≡ true → now.number ≡ before.number + length waiting + 1
   pub none_left : patches_block commit group ≡ true → left ≡ []
 
 -- The log is scanned to its end, as `HasScanned` says: the file has these groups and no more.
-pub record HasScannedAll (told : Type 0) (l : Layout) (file : List ℕ) (plain : PlainState) (log : LogState) (waiting : List (List Patch)) : Type 0 where
+pub record HasScannedAll (told : Type 0) (l : Layout) (file : List ℕ) (plain : PlainState) (log : LogState)
+    (waiting : List (List Patch)) : Type 0 where
   pub groups : List (List Patch)
-  pub log_is : log ≡ record { layout = l; used = length groups + length waiting; pending = []; scanned = true; ahead = [] }
+  pub log_is : log ≡ record {
+    layout = l;
+    used = length groups + length waiting;
+    pending = [];
+    scanned = true;
+    ahead =
+        [];
+  }
   pub shape_is : plain.shape ≡ shape_of l
   pub number : plain.number ≡ length groups
   pub blocks : plain.blocks ≡ after_groups 1 groups (fresh_blocks (shape_of l))
@@ -43,7 +62,8 @@ pub record HasScannedAll (told : Type 0) (l : Layout) (file : List ℕ) (plain :
   pub ends : told → GroupsAre l file 0 (groups ++ waiting)
 
 -- The file and each image have these groups, of which the last is a commit, and the blocks are those after them.
-pub record HasOpened {D : Type 0} (told : Type 0) (content : D → List ℕ) (image : D → List ℕ → Type 0) (l : Layout) (plain : PlainState) (log : LogState) (disk : D) : Type 0 where
+pub record HasOpened {D : Type 0} (told : Type 0) (content : D → List ℕ) (image : D → List ℕ
+    → Type 0) (l : Layout) (plain : PlainState) (log : LogState) (disk : D) : Type 0 where
   pub groups : List (List Patch)
   pub log_is : log ≡ record { layout = l; used = length groups; pending = []; scanned = true; ahead = [] }
   pub shape_is : plain.shape ≡ shape_of l

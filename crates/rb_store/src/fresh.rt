@@ -32,7 +32,8 @@ pub fn format<D: Disk>(disk: &mut D, layout: &Layout) -> Result<(), FormatFault>
     ensures durable { D.tells → OnOk result (Only (fresh_file VERSION layout.now) (D.image disk.new)) }
     ensures was_empty { D.tells → OnOk result (length (D.content disk.old) ≡ 0) }
     ensures not_empty { D.tells → IsErrOf result FormatFault.NotEmpty → 0 < length (D.content disk.old) }
-    ensures unchanged { D.tells → 0 < length (D.content disk.old) → Rests D.content D.image D.moment D.image_since disk.old disk.new }
+    ensures unchanged { D.tells → 0 < length (D.content disk.old)
+        → Rests D.content D.image D.moment D.image_since disk.old disk.new }
     ensures counted { IsCountedAs (D.faults disk.old) (D.faults disk.new) (err_is is_format_failed result) }
 {
     let Ok(length) = disk.len() else {

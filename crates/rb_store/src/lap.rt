@@ -15,7 +15,8 @@ use rb_log::Log;
 use rb_plainstore::PlainStore;
 use std::marker::Model;
 
-/// The blocks of a file of groups in memory, and its log. The log begins in its first slot and doesn't go round: what has
+/// The blocks of a file of groups in memory, and its log. The log begins in its first slot and doesn't go round: what
+/// has
 /// no room in it is not taken.
 #[derive(Drop)]
 pub struct LapStore<D: Disk> {
@@ -35,11 +36,21 @@ impl<D: Disk> Model for LapStore<D> {
 
     ghost Value = { LapState D };
 
-    ghost view = { λ s. record { layout = s.layout; blocks = s.plain.blocks; pending = s.log.pending; number = s.plain.number; loaded = s.plain.loaded; failed = s.failed; disk = s.disk } };
+    ghost view = { λ s. record {
+      layout = s.layout;
+      blocks = s.plain.blocks;
+      pending = s.log.pending;
+      number =
+          s.plain.number;
+      loaded = s.plain.loaded;
+      failed = s.failed;
+      disk = s.disk;
+    } };
 
     ghost invariant = { λ s. IsInStep s.layout s.plain s.log
         × (D.tells → length (D.content s.disk) ≡ file_length s.layout)
-        × (D.tells → s.failed ≡ false → (c : List ℕ) → D.image s.disk c → SameSlots s.layout.log (D.content s.disk) c) };
+        × (D.tells → s.failed ≡ false → (c : List ℕ) → D.image s.disk c
+        → SameSlots s.layout.log (D.content s.disk) c) };
 }
 
 impl<D: Disk> LapStore<D> {

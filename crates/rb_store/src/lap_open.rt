@@ -1,6 +1,7 @@
 //! Opens a file of groups: scans its log into blocks in memory, and drops the groups behind the last commit. `LapStore`
 //! is made here.
-ghost use Rattle.std.specs.Prelude.{◌≡◌, ◌⊎◌, ◌+◌, ◌≤◌, ◌<◌, [], ◌++◌, ◌∷◌, ℕ, List, length, true, false, vec_capacity, IfOk, IfErr, OnOk, OnErr, IsOk, IsErrOf};
+ghost use Rattle.std.specs.Prelude.{◌≡◌, ◌⊎◌, ◌+◌, ◌≤◌, ◌<◌, [], ◌++◌, ◌∷◌, ℕ};
+ghost use Rattle.std.specs.Prelude.{List, length, true, false, vec_capacity, IfOk, IfErr, OnOk, OnErr, IsOk, IsErrOf};
 ghost use Rattle.std.specs.List.{AllByRecursion};
 ghost use Rattle.rb_base.specs.Blocks.{after_groups, fresh_blocks, patches_block, commit_block};
 ghost use Rattle.rb_base.specs.Counts.{IsCounted, IsCountedAs, err_is, is_failed};
@@ -61,7 +62,8 @@ fn apply_all(plain: &mut PlainStore, groups: &[Group], layout: &Layout)
 
 /// Takes all the memory that a store of this layout needs. Nothing is read yet.
 fn fresh_scan<D: Disk>(alloc: Global, disk: &mut D, layout: &Layout) -> Result<Scan, OpenFault>
-    ensures scanned { IfOk result (λ s. (file : List ℕ) → HasScanned D.tells layout.now file s.plain s.log s.waiting.items) }
+    ensures scanned { IfOk result (λ s. (file : List ℕ)
+        → HasScanned D.tells layout.now file s.plain s.log s.waiting.items) }
     ensures room { IfOk result (λ s. layout.now.log ≤ vec_capacity s.waiting) }
     ensures memory { IfErr result (λ fault. fault ≡ OpenFault.NoMemory) }
     ensures untouched { disk.new ≡ disk.old }
@@ -96,7 +98,8 @@ fn take_group(scan: &mut Scan, group: Group, layout: &Layout)
     requires room { layout.now.log ≤ vec_capacity scan.old.waiting }
     ensures log { scan.new.log ≡ scan.old.log }
     ensures shape { scan.new.plain.shape ≡ scan.old.plain.shape }
-    ensures taken { Takes (commit_block (shape_of layout.now)) scan.old.plain scan.new.plain scan.old.waiting.items group scan.new.waiting.items }
+    ensures taken { Takes (commit_block (shape_of layout.now)) scan.old.plain scan.new.plain scan.old.waiting.items
+        group scan.new.waiting.items }
     ensures room { layout.now.log ≤ vec_capacity scan.new.waiting }
 {
     let commit = is_commit(&group, commit_block_of(layout));
@@ -109,14 +112,18 @@ fn take_group(scan: &mut Scan, group: Group, layout: &Layout)
 
 /// Reads the group behind those that were read, if there is one, and says whether there was.
 fn scan_one<D: Disk>(scan: &mut Scan, disk: &mut D, layout: &Layout) -> Result<bool, OpenFault>
-    requires so_far { HasScanned D.tells layout.now (D.content disk.old) scan.old.plain scan.old.log scan.old.waiting.items }
+    requires so_far { HasScanned D.tells layout.now (D.content disk.old) scan.old.plain scan.old.log
+        scan.old.waiting.items }
     requires room { layout.now.log ≤ vec_capacity scan.old.waiting }
     requires whole { D.tells → length (D.content disk.old) ≡ file_length layout.now }
-    ensures more { result ≡ Ok true → HasScanned D.tells layout.now (D.content disk.old) scan.new.plain scan.new.log scan.new.waiting.items }
+    ensures more { result ≡ Ok true → HasScanned D.tells layout.now (D.content disk.old) scan.new.plain scan.new.log
+        scan.new.waiting.items }
     ensures used { result ≡ Ok true → scan.new.log.used ≡ scan.old.log.used + 1 }
-    ensures end { result ≡ Ok false → HasScannedAll D.tells layout.now (D.content disk.old) scan.new.plain scan.new.log scan.new.waiting.items }
+    ensures end { result ≡ Ok false → HasScannedAll D.tells layout.now (D.content disk.old) scan.new.plain
+        scan.new.log scan.new.waiting.items }
     ensures room { layout.now.log ≤ vec_capacity scan.new.waiting }
-    ensures none { D.tells → IsErrOf result OpenFault.NotAStore → (groups : List (List Patch)) → ¬ GroupsAre layout.now (D.content disk.old) 0 groups }
+    ensures none { D.tells → IsErrOf result OpenFault.NotAStore → (groups : List (List Patch))
+        → ¬ GroupsAre layout.now (D.content disk.old) 0 groups }
     ensures no_memory { ¬ IsErrOf result OpenFault.NoMemory }
     ensures counted { IsCountedAs (D.faults disk.old) (D.faults disk.new) (err_is is_failed result) }
     ensures same { D.tells → Rests D.content D.image D.moment D.image_since disk.old disk.new }
@@ -131,11 +138,14 @@ fn scan_one<D: Disk>(scan: &mut Scan, disk: &mut D, layout: &Layout) -> Result<b
 
 /// Reads the groups of the log up to its end.
 fn scan_all<D: Disk>(scan: &mut Scan, disk: &mut D, layout: &Layout) -> Result<(), OpenFault>
-    requires so_far { HasScanned D.tells layout.now (D.content disk.old) scan.old.plain scan.old.log scan.old.waiting.items }
+    requires so_far { HasScanned D.tells layout.now (D.content disk.old) scan.old.plain scan.old.log
+        scan.old.waiting.items }
     requires room { layout.now.log ≤ vec_capacity scan.old.waiting }
     requires whole { D.tells → length (D.content disk.old) ≡ file_length layout.now }
-    ensures found { OnOk result (HasScannedAll D.tells layout.now (D.content disk.old) scan.new.plain scan.new.log scan.new.waiting.items) }
-    ensures none { D.tells → IsErrOf result OpenFault.NotAStore → (groups : List (List Patch)) → ¬ GroupsAre layout.now (D.content disk.old) 0 groups }
+    ensures found { OnOk result (HasScannedAll D.tells layout.now (D.content disk.old) scan.new.plain scan.new.log
+        scan.new.waiting.items) }
+    ensures none { D.tells → IsErrOf result OpenFault.NotAStore → (groups : List (List Patch))
+        → ¬ GroupsAre layout.now (D.content disk.old) 0 groups }
     ensures no_memory { ¬ IsErrOf result OpenFault.NoMemory }
     ensures counted { IsCountedAs (D.faults disk.old) (D.faults disk.new) (err_is is_failed result) }
     ensures same { D.tells → Rests D.content D.image D.moment D.image_since disk.old disk.new }
@@ -155,12 +165,14 @@ fn drop_uncommitted<D: Disk>(
     disk: &mut D,
     layout: &Layout,
 ) -> Result<(), OpenFault>
-    requires all { HasScannedAll D.tells layout.now (D.content disk.old) scan.old.plain scan.old.log scan.old.waiting.items }
+    requires all { HasScannedAll D.tells layout.now (D.content disk.old) scan.old.plain scan.old.log
+        scan.old.waiting.items }
     requires identity { D.tells → HasIdentity VERSION layout.now (D.content disk.old) }
     requires synced { D.tells → Only (D.content disk.old) (D.image disk.old) }
     ensures opened { OnOk result (HasOpened D.tells D.content D.image layout.now scan.new.plain scan.new.log disk.new) }
     ensures blocks { scan.new.plain ≡ scan.old.plain }
-    ensures any_moment { D.tells → LeavesOnly D.moment D.image_since disk.old disk.new (λ c. OpensTo layout.now c scan.old.plain.blocks) }
+    ensures any_moment { D.tells → LeavesOnly D.moment D.image_since disk.old disk.new
+        (λ c. OpensTo layout.now c scan.old.plain.blocks) }
     ensures fault { IfErr result (λ e. e ≡ OpenFault.Failed) }
     ensures counted { IsCounted (D.faults disk.old) (D.faults disk.new) result }
 {
@@ -177,8 +189,10 @@ fn drop_uncommitted<D: Disk>(
 /// Reads the log of a file of this layout, which a sync has made the only one that a crash may leave.
 fn scan_file<D: Disk>(alloc: Global, disk: &mut D, layout: &Layout) -> Result<Scan, OpenFault>
     requires whole { D.tells → length (D.content disk.old) ≡ file_length layout.now }
-    ensures found { IfOk result (λ s. HasScannedAll D.tells layout.now (D.content disk.old) s.plain s.log s.waiting.items) }
-    ensures none { D.tells → IsErrOf result OpenFault.NotAStore → (groups : List (List Patch)) → ¬ GroupsAre layout.now (D.content disk.old) 0 groups }
+    ensures found { IfOk result (λ s. HasScannedAll D.tells layout.now (D.content disk.old) s.plain s.log
+        s.waiting.items) }
+    ensures none { D.tells → IsErrOf result OpenFault.NotAStore → (groups : List (List Patch))
+        → ¬ GroupsAre layout.now (D.content disk.old) 0 groups }
     ensures counted { IsCountedAs (D.faults disk.old) (D.faults disk.new) (err_is is_failed result) }
     ensures same { D.tells → Rests D.content D.image D.moment D.image_since disk.old disk.new }
 {
@@ -190,7 +204,8 @@ fn scan_file<D: Disk>(alloc: Global, disk: &mut D, layout: &Layout) -> Result<Sc
 /// Which layout the file has, once a sync has made the file the only one that a crash may leave.
 fn synced_layout<D: Disk>(disk: &mut D) -> Result<Layout, OpenFault>
     ensures identity { D.tells → IfOk result (λ l. HasIdentity VERSION l (D.content disk.old)) }
-    ensures none { D.tells → IsErrOf result OpenFault.NotAStore → (l : Layout) → ¬ HasIdentity VERSION l (D.content disk.old) }
+    ensures none { D.tells → IsErrOf result OpenFault.NotAStore → (l : Layout)
+        → ¬ HasIdentity VERSION l (D.content disk.old) }
     ensures no_memory { ¬ IsErrOf result OpenFault.NoMemory }
     ensures counted { IsCountedAs (D.faults disk.old) (D.faults disk.new) (err_is is_failed result) }
     ensures same { D.tells → Rests D.content D.image D.moment D.image_since disk.old disk.new }
@@ -212,13 +227,19 @@ struct Parts {
 /// Opens the file: its layout, its groups, and none behind the last commit.
 fn open_parts<D: Disk>(alloc: Global, disk: &mut D) -> Result<Parts, OpenFault>
     ensures opened { IfOk result (λ p. HasOpened D.tells D.content D.image p.layout p.scan.plain p.scan.log disk.new) }
-    ensures found { D.tells → IfOk result (λ p. OpensAt p.layout (D.content disk.old) p.scan.plain.blocks p.scan.plain.number) }
-    ensures none { D.tells → IsErrOf result OpenFault.NotAStore → (l : Layout) (b : List (List ℕ)) → ¬ OpensTo l (D.content disk.old) b }
+    ensures found { D.tells → IfOk result (λ p. OpensAt p.layout (D.content disk.old) p.scan.plain.blocks
+        p.scan.plain.number) }
+    ensures none { D.tells → IsErrOf result OpenFault.NotAStore → (l : Layout) (b : List (List ℕ))
+        → ¬ OpensTo l (D.content disk.old) b }
     ensures counted { IsCountedAs (D.faults disk.old) (D.faults disk.new) (err_is is_failed result) }
-    ensures any_moment { D.tells → (l : Layout) (b : List (List ℕ)) → OpensTo l (D.content disk.old) b → LeavesOnly D.moment D.image_since disk.old disk.new (λ c. D.image disk.old c ⊎ OpensTo l c b) }
-    ensures not_a_store { D.tells → IsErrOf result OpenFault.NotAStore → Rests D.content D.image D.moment D.image_since disk.old disk.new }
-    ensures no_memory { D.tells → IsErrOf result OpenFault.NoMemory → Rests D.content D.image D.moment D.image_since disk.old disk.new }
-    ensures nothing { D.tells → OnErr result (((l : Layout) (b : List (List ℕ)) → OpensTo l (D.content disk.old) b → ⊥) → Rests D.content D.image D.moment D.image_since disk.old disk.new) }
+    ensures any_moment { D.tells → (l : Layout) (b : List (List ℕ)) → OpensTo l (D.content disk.old) b
+        → LeavesOnly D.moment D.image_since disk.old disk.new (λ c. D.image disk.old c ⊎ OpensTo l c b) }
+    ensures not_a_store { D.tells → IsErrOf result OpenFault.NotAStore
+        → Rests D.content D.image D.moment D.image_since disk.old disk.new }
+    ensures no_memory { D.tells → IsErrOf result OpenFault.NoMemory
+        → Rests D.content D.image D.moment D.image_since disk.old disk.new }
+    ensures nothing { D.tells → OnErr result (((l : Layout) (b : List (List ℕ)) → OpensTo l (D.content disk.old) b
+        → ⊥) → Rests D.content D.image D.moment D.image_since disk.old disk.new) }
 {
     let layout = synced_layout(disk)?;
     let mut scan = scan_file(alloc, disk, &layout)?;
@@ -229,7 +250,8 @@ fn open_parts<D: Disk>(alloc: Global, disk: &mut D) -> Result<Parts, OpenFault>
 impl<D: Disk> LapStore<D> {
     /// Opens the store of a disk: the groups of its log up to the last commit make its blocks, and those behind it are
     /// dropped. It begins with a sync. An Err gives the disk back: NotAStore where the file is no store of this form,
-    /// Failed where a call of the disk failed. Until the sync has answered, a crash leaves what it would have left before;
+    /// Failed where a call of the disk failed. Until the sync has answered, a crash leaves what it would have left
+    /// before;
     /// from then on a file that opens to the same blocks. A file that opens to none is left as it was.
     pub fn open(alloc: Global, disk: D) -> Result<LapStore<D>, (OpenFault, D)>
         ensures found { D.tells → IfOk result (λ s. OpensAt s.layout (D.content disk) s.blocks s.number) }
@@ -237,14 +259,22 @@ impl<D: Disk> LapStore<D> {
         ensures pending { IfOk result (λ s. s.pending ≡ []) }
         ensures few { IfOk result (λ s. s.number < s.layout.log) }
         ensures going { IfOk result (λ s. s.failed ≡ false) }
-        ensures none { D.tells → IfErr result (λ r. r.0 ≡ OpenFault.NotAStore → (l : Layout) (b : List (List ℕ)) → OpensTo l (D.content disk) b → ⊥) }
+        ensures none { D.tells → IfErr result (λ r. r.0 ≡ OpenFault.NotAStore
+            → (l : Layout) (b : List (List ℕ)) → OpensTo l (D.content disk) b → ⊥) }
         ensures counted_ok { IfOk result (λ s. D.faults s.disk ≡ D.faults disk) }
         ensures counted_err { IfErr result (λ r. IsCountedAs (D.faults disk) (D.faults r.1) (is_failed r.0)) }
-        ensures any_moment_ok { D.tells → IfOk result (λ s. (l : Layout) (b : List (List ℕ)) → OpensTo l (D.content disk) b → LeavesOnly D.moment D.image_since disk s.disk (λ c. D.image disk c ⊎ OpensTo l c b)) }
-        ensures any_moment_err { D.tells → IfErr result (λ r. (l : Layout) (b : List (List ℕ)) → OpensTo l (D.content disk) b → LeavesOnly D.moment D.image_since disk r.1 (λ c. D.image disk c ⊎ OpensTo l c b)) }
-        ensures unchanged { D.tells → IfErr result (λ r. r.0 ≡ OpenFault.NotAStore → Rests D.content D.image D.moment D.image_since disk r.1) }
-        ensures no_memory { D.tells → IfErr result (λ r. r.0 ≡ OpenFault.NoMemory → Rests D.content D.image D.moment D.image_since disk r.1) }
-        ensures nothing { D.tells → IfErr result (λ r. ((l : Layout) (b : List (List ℕ)) → OpensTo l (D.content disk) b → ⊥) → Rests D.content D.image D.moment D.image_since disk r.1) }
+        ensures any_moment_ok { D.tells → IfOk result (λ s. (l : Layout) (b : List (List ℕ))
+            → OpensTo l (D.content disk) b → LeavesOnly D.moment D.image_since disk s.disk (λ c. D.image disk c
+            ⊎ OpensTo l c b)) }
+        ensures any_moment_err { D.tells → IfErr result (λ r. (l : Layout) (b : List (List ℕ))
+            → OpensTo l (D.content disk) b → LeavesOnly D.moment D.image_since disk r.1 (λ c. D.image disk c
+            ⊎ OpensTo l c b)) }
+        ensures unchanged { D.tells → IfErr result (λ r. r.0 ≡ OpenFault.NotAStore
+            → Rests D.content D.image D.moment D.image_since disk r.1) }
+        ensures no_memory { D.tells → IfErr result (λ r. r.0 ≡ OpenFault.NoMemory
+            → Rests D.content D.image D.moment D.image_since disk r.1) }
+        ensures nothing { D.tells → IfErr result (λ r. ((l : Layout) (b : List (List ℕ))
+            → OpensTo l (D.content disk) b → ⊥) → Rests D.content D.image D.moment D.image_since disk r.1) }
     {
         let mut disk = disk;
         match open_parts(alloc, &mut disk) {

@@ -14,10 +14,12 @@ pub fn fresh_lap()
 
 /// The last log number of what a file opens to is the one in front of the block that each commit patches.
 pub fn last_header()
-    ensures { (l : Layout) (file : List ℕ) (blocks : List (List ℕ)) (number : ℕ) → OpensAt l file blocks number → number_at (block_of blocks (commit_block (shape_of l))) 0 8 ≡ number }
+    ensures { (l : Layout) (file : List ℕ) (blocks : List (List ℕ)) (number : ℕ) → OpensAt l file blocks number
+        → number_at (block_of blocks (commit_block (shape_of l))) 0 8 ≡ number }
 {}
 
 /// A file of a layout opens to one list of blocks.
 pub fn one_opening()
-    ensures { (l : Layout) (file : List ℕ) (first second : List (List ℕ)) → OpensTo l file first → OpensTo l file second → first ≡ second }
+    ensures { (l : Layout) (file : List ℕ) (first second : List (List ℕ)) → OpensTo l file first
+        → OpensTo l file second → first ≡ second }
 {}

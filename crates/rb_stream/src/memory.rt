@@ -1,5 +1,6 @@
 //! A source and a sink in memory, whose calls fail where they are told to. Tests and models of the shell use them.
-ghost use Rattle.std.specs.Prelude.{ℕ, ◌≡◌, ◌≤◌, ◌+◌, ◌↔◌, [], ◌++◌, length, take, drop, min, IsErr, IfOk, OnOk, OnErr};
+ghost use Rattle.std.specs.Prelude.{ℕ, ◌≡◌, ◌≤◌, ◌+◌, ◌↔◌, [], ◌++◌, length, take, drop};
+ghost use Rattle.std.specs.Prelude.{min, IsErr, IfOk, OnOk, OnErr};
 ghost use Rattle.rb_base.specs.Counts.{IsCounted};
 ghost use Rattle.rb_stream.specs.FaultPlan.{unused, IsFailing, called, faulted};
 ghost use Rattle.rb_stream.specs.MemoryModel.{Refuses};

@@ -1,5 +1,6 @@
 -- Which keys are in use, and when a home is full.
-use Rattle.std.specs.Prelude.{◌≡◌, ◌≢◌, ℕ, ◌<◌, ◌%◌, Bool, true, false, ◌||◌, nat_eq, List, [], length, take, drop, Option, None, Some}
+use Rattle.std.specs.Prelude.{◌≡◌, ◌≢◌, ℕ, ◌<◌, ◌%◌, Bool, true, false, ◌||◌, nat_eq, List}
+use Rattle.std.specs.Prelude.{[], length, take, drop, Option, None, Some}
 use Rattle.std.specs.List.{All, IsDistinct, list_any}
 use Rattle.rb_model.specs.Rows.{has_row, over}
 use Rattle.rb_versions.specs.declared.change.RowChange.{RowChange}
@@ -23,7 +24,8 @@ pub record IsFull (blocks : ℕ) (changes : List RowChange) (committed table key
 
 -- of the keys in the home of `last` behind it, none below `end` passes a test
 abbrev pub NoneBetween : ℕ → (ℕ → Bool) → ℕ → ℕ → Type 0
-NoneBetween blocks p last end = (key : ℕ) → key % blocks ≡ last % blocks → last < key → key < end → p key ≡ false
+NoneBetween blocks p last end = (key : ℕ) → key % blocks ≡ last % blocks → last < key → key < end
+    → p key ≡ false
 
 -- of the keys in the home of `last` behind it, none passes a test
 abbrev pub NoneBehind : ℕ → (ℕ → Bool) → ℕ → Type 0

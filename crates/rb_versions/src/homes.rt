@@ -9,7 +9,8 @@ use crate::index::Versions;
 const KEYS: u8 = 16;
 
 impl Versions {
-    /// Whether sixteen other keys of the key's home are in use, and the key isn't. A key is in use if it has a row after
+    /// Whether sixteen other keys of the key's home are in use, and the key isn't. A key is in use if it has a row
+    /// after
     /// the first `committed` changes, or if one of the changes behind those is of it.
     pub fn is_full(&self, table: u16, key: u64, committed: usize) -> bool
         ensures full { result ≡ true → IsFull self.now.blocks self.now.changes committed table key }
@@ -40,7 +41,8 @@ impl Versions {
 
     /// The least key behind `last` in its home that is in use.
     fn next_in_use(&self, table: u16, last: u64, committed: usize) -> Option<u64>
-        ensures { IsLeastBehind self.now.blocks (homes.is_in_use self.now.blocks self.now.changes committed table) last result }
+        ensures { IsLeastBehind self.now.blocks (homes.is_in_use self.now.blocks self.now.changes committed table) last
+            result }
     {
         let mut at = last;
         while let Some(named) = self.next_named(table, at) {

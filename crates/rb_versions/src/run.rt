@@ -1,5 +1,6 @@
 //! The search in one run of the index: entries in order. The index searches each of its runs.
-ghost use Rattle.std.specs.Prelude.{◌≡◌, ℕ, ◌+◌, ◌<◌, ◌≤◌, length, true, false, IfSome, IfNone, slice_index_or};
+ghost use Rattle.std.specs.Prelude.{◌≡◌, ℕ, ◌+◌, ◌<◌, ◌≤◌, length, true, false, IfSome, IfNone};
+ghost use Rattle.std.specs.Prelude.{slice_index_or};
 ghost use Rattle.std.specs.List.{All};
 ghost use Rattle.rb_versions.specs.Entries.{HasHome, IsRun, IsFirstPlace, NonePasses, is_found, is_of};
 ghost use Rattle.rb_versions.specs.Entries as entries;
@@ -12,8 +13,10 @@ use crate::query::{Query, wants};
 fn lower_bound(run: &[Entry], spot: Spot) -> usize
     requires { IsRun run.now }
     ensures within { result ≤ length run.now }
-    ensures before { (k : ℕ) (d : Entry) → k < result → entries.is_before spot (slice_index_or run.now k d) ≡ true }
-    ensures behind { (k : ℕ) (d : Entry) → result ≤ k → k < length run.now → entries.is_before spot (slice_index_or run.now k d) ≡ false }
+    ensures before { (k : ℕ) (d : Entry) → k < result → entries.is_before spot (slice_index_or run.now k d)
+        ≡ true }
+    ensures behind { (k : ℕ) (d : Entry) → result ≤ k → k < length run.now
+        → entries.is_before spot (slice_index_or run.now k d) ≡ false }
 {
     run.partition_point(|entry| entry.is_before(spot))
 }
@@ -21,7 +24,8 @@ fn lower_bound(run: &[Entry], spot: Spot) -> usize
 /// The place behind a key of a table.
 fn behind_key(blocks: u32, table: u16, key: u64) -> Spot
     requires { 0 < blocks }
-    ensures { (e : Entry) → HasHome blocks e → entries.is_before result e ≡ true → e.table ≡ table → rows.key_before blocks key e.key ≡ false }
+    ensures { (e : Entry) → HasHome blocks e → entries.is_before result e ≡ true → e.table ≡ table
+        → rows.key_before blocks key e.key ≡ false }
 {
     let home = key % blocks as u64;
     match key.checked_add(1) {
@@ -37,7 +41,8 @@ fn behind_key(blocks: u32, table: u16, key: u64) -> Spot
 /// Where a query goes on: it wants none of the rows before.
 fn first_spot(blocks: u32, query: Query) -> Spot
     requires { 0 < blocks }
-    ensures { (e : Entry) → HasHome blocks e → entries.is_before result e ≡ true → entries.wants blocks query e.table e.key ≡ false }
+    ensures { (e : Entry) → HasHome blocks e → entries.is_before result e ≡ true
+        → entries.wants blocks query e.table e.key ≡ false }
 {
     match query.last {
         None => Spot {
@@ -58,7 +63,8 @@ fn skip(blocks: u32, run: &[Entry], at: usize, query: Query) -> usize
     requires at { at < length run.now }
     ensures within { result ≤ length run.now }
     ensures further { at < result }
-    ensures skipped { (k : ℕ) (d : Entry) → at < k → k < result → entries.wants blocks query (slice_index_or run.now k d).table (slice_index_or run.now k d).key ≡ false }
+    ensures skipped { (k : ℕ) (d : Entry) → at < k → k < result
+        → entries.wants blocks query (slice_index_or run.now k d).table (slice_index_or run.now k d).key ≡ false }
 {
     let Entry {
         table,

@@ -17,7 +17,9 @@ fn better(
     requires some_blocks { 0 < blocks }
     requires best { IfSome best (λ place. place < length changes.now) }
     requires found { IfSome found (λ place. place < length changes.now) }
-    ensures { (q : _) (start middle end : ℕ) → start ≤ middle → middle ≤ end → IsFirst blocks q changes.now start middle best → IsFirst blocks q changes.now middle end found → IsFirst blocks q changes.now start end result }
+    ensures { (q : _) (start middle end : ℕ) → start ≤ middle → middle ≤ end
+        → IsFirst blocks q changes.now start middle best → IsFirst blocks q changes.now middle end found
+        → IsFirst blocks q changes.now start end result }
 {
     let Some(newer) = found else {
         return best;

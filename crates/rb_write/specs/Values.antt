@@ -1,5 +1,6 @@
 -- The values that a file's blocks hold, by table and key.
-use Rattle.std.specs.Prelude.{◌≡◌, ◌≢◌, ℕ, ◌+◌, ◌-◌, ◌*◌, ◌%◌, ◌<◌, ◌==◌, if◌then◌else◌, List, [], ◌∷◌, Option, None, Some}
+use Rattle.std.specs.Prelude.{◌≡◌, ◌≢◌, ℕ, ◌+◌, ◌-◌, ◌*◌, ◌%◌, ◌<◌, ◌==◌}
+use Rattle.std.specs.Prelude.{if◌then◌else◌, List, [], ◌∷◌, Option, None, Some}
 use Rattle.rb_base.specs.Blocks.{block_of, table_blocks}
 use Rattle.rb_base.specs.declared.ids.Shape.{Shape}
 use Rattle.rb_cell.specs.declared.cell.Cell.{Cell}
@@ -30,7 +31,8 @@ LocksRows cell = cell.state ≢ ROW → cell.lock ≡ 0
 -- only rows are locked, and no two have one key
 pub record IsPlainHome (home : Home) : Type 0 where
   pub unlocked : (c : ℕ) → c < 16 → LocksRows (home_cell home c)
-  pub apart : (c k : ℕ) → c < 16 → k < 16 → c ≢ k → (home_cell home c).state ≡ ROW → (home_cell home k).state ≡ ROW → (home_cell home c).key ≢ (home_cell home k).key
+  pub apart : (c k : ℕ) → c < 16 → k < 16 → c ≢ k → (home_cell home c).state ≡ ROW
+      → (home_cell home k).state ≡ ROW → (home_cell home c).key ≢ (home_cell home k).key
 
 -- the homes of all tables are plain
 abbrev pub ArePlain : Shape → List (List ℕ) → Type 0

@@ -1,5 +1,6 @@
 -- What a write of one key makes of its home, and what it is refused for.
-use Rattle.std.specs.Prelude.{◌≡◌, ℕ, ◌+◌, ◌^◌, ◌<◌, ◌≤◌, Bool, false, true, not, List, [], ◌∷◌, length, Option, None, Some, is_some, Result, Ok, Err, ⊤}
+use Rattle.std.specs.Prelude.{◌≡◌, ℕ, ◌+◌, ◌^◌, ◌<◌, ◌≤◌, Bool, false, true, not, List, []}
+use Rattle.std.specs.Prelude.{◌∷◌, length, Option, None, Some, is_some, Result, Ok, Err, ⊤}
 use Rattle.rb_base.specs.Blocks.{after_group}
 use Rattle.rb_base.specs.declared.ids.Shape.{Shape}
 use Rattle.rb_cell.specs.declared.cell.Cell.{Cell}
@@ -9,7 +10,8 @@ use Rattle.rb_heap.specs.Homes.{Home, home_cell, home_rows, with_home_cell, is_k
 use Rattle.rb_write.specs.Values.{home_block, home_at, value_in}
 use Rattle.rb_write.specs.declared.ask.Ask.{Ask}
 use Rattle.rb_write.specs.declared.ask.AttemptFault.{AttemptFault}
-use Rattle.rb_write.specs.declared.ask.AttemptFault.TheVariants.{Failed, Duplicate, NotFound, BlockFull, WornOut, LogFull}
+use Rattle.rb_write.specs.declared.ask.AttemptFault.TheVariants.{Failed, Duplicate, NotFound, BlockFull, WornOut}
+use Rattle.rb_write.specs.declared.ask.AttemptFault.TheVariants.{LogFull}
 use Rattle.rb_model.specs.declared.op.Op.{Op}
 use Rattle.rb_model.specs.declared.op.Op.TheVariants.{Insert, Update, Delete}
 
@@ -36,8 +38,20 @@ value_after None before = before
 
 -- what it leaves of its cell: a deleted row's cell keeps the key as a stub
 abbrev pub cell_after : Option Op → ℕ → Cell → Cell
-cell_after (Some (Insert value)) key before = record { state = ROW; lock = 0; key = key; value = record { items = value.now } }
-cell_after (Some (Update value)) key before = record { state = ROW; lock = 0; key = key; value = record { items = value.now } }
+cell_after (Some (Insert value)) key before = record {
+  state = ROW;
+  lock = 0;
+  key = key;
+  value = record
+      { items = value.now };
+}
+cell_after (Some (Update value)) key before = record {
+  state = ROW;
+  lock = 0;
+  key = key;
+  value = record
+      { items = value.now };
+}
 cell_after (Some Delete) key before = record { state = STUB; lock = 0; key = key; value = record { items = [] } }
 cell_after None key before = before
 
@@ -71,13 +85,15 @@ pub record IsMade (shape : Shape) (ask : Ask) (number : ℕ) (before now : List 
   pub place : ℕ
   pub first : IsFirst (may_take ask.op ask.key) (home_at shape before ask.table ask.key).cells place
   pub new_key : adds ask.op ≡ true → IsNowhere (is_keyed ask.key) (home_at shape before ask.table ask.key).cells
-  pub made : now ≡ after_group (number + 1) (cell_patch (home_block shape ask.table ask.key) place (cell_after ask.op ask.key (home_cell (home_at shape before ask.table ask.key) place)) ∷ []) before
+  pub made : now ≡ after_group (number + 1) (cell_patch (home_block shape ask.table ask.key) place
+      (cell_after ask.op ask.key (home_cell (home_at shape before ask.table ask.key) place)) ∷ []) before
 
 -- why a home refuses a write, by its cells
 abbrev pub HomeRefuses : AttemptFault → Option Op → ℕ → Home → Type 0
 HomeRefuses Duplicate op key home = (adds op ≡ true) × ((c : ℕ) × IsFirst (is_keyed key) home.cells c)
 HomeRefuses NotFound op key home = (adds op ≡ false) × IsNowhere (is_keyed key) home.cells
-HomeRefuses BlockFull op key home = (adds op ≡ true) × IsNowhere (is_keyed key) home.cells × IsNowhere is_free home.cells
+HomeRefuses BlockFull op key home = (adds op ≡ true) × IsNowhere (is_keyed key) home.cells
+    × IsNowhere is_free home.cells
 HomeRefuses Failed op key home = ⊥
 HomeRefuses WornOut op key home = ⊥
 HomeRefuses LogFull op key home = ⊥

@@ -68,7 +68,8 @@ fn new_cell(key: u64, op: Option<Op<'_>>, old: Cell) -> Cell
 fn place_for(block: &[u8], key: u64, op: Option<Op<'_>>) -> Result<u8, AttemptFault>
     requires { length block.now ≡ 2048 }
     ensures first { IfOk result (λ c. IsFirst (may_take op.entry key) (home_of block.now).cells c) }
-    ensures new_key { IfOk result (λ c. adds op.entry ≡ true → IsNowhere (is_keyed key) (home_of block.now).cells) }
+    ensures new_key { IfOk result (λ c. adds op.entry ≡ true
+        → IsNowhere (is_keyed key) (home_of block.now).cells) }
     ensures refused { IfErr result (λ fault. HomeRefuses fault op.entry key (home_of block.now)) }
 {
     match (op, find(block, key)) {
@@ -88,7 +89,8 @@ pub(crate) fn cell_for(
     requires short { IsShort op }
     ensures first { IfOk result (λ r. IsFirst (may_take op.entry key) (home_of block.now).cells r.0) }
     ensures cell { IfOk result (λ r. r.1 ≡ cell_after op.entry key (home_cell (home_of block.now) r.0)) }
-    ensures new_key { IfOk result (λ r. adds op.entry ≡ true → IsNowhere (is_keyed key) (home_of block.now).cells) }
+    ensures new_key { IfOk result (λ r. adds op.entry ≡ true
+        → IsNowhere (is_keyed key) (home_of block.now).cells) }
     ensures refused { IfErr result (λ fault. HomeRefuses fault op.entry key (home_of block.now)) }
 {
     let c = place_for(block, key, op)?;

@@ -1,5 +1,7 @@
 //! One attempt of a write: what stands in its way, and the group that makes it. The engine calls it.
-ghost use Rattle.std.specs.Prelude.{◌≡◌, ◌≢◌, ◌⊎◌, ◌+◌, ◌^◌, ◌<◌, ◌≤◌, ◌==◌, ◌&&◌, if◌then◌else◌, [], ◌∷◌, ◌++◌, ℕ, List, true, false, is_some, length, IfOk, IfErr, OnOk, OnErr, IsErrOf};
+ghost use Rattle.std.specs.Prelude.{◌≡◌, ◌≢◌, ◌⊎◌, ◌+◌, ◌^◌, ◌<◌, ◌≤◌, ◌==◌};
+ghost use Rattle.std.specs.Prelude.{◌&&◌, if◌then◌else◌, [], ◌∷◌, ◌++◌, ℕ, List, true, false};
+ghost use Rattle.std.specs.Prelude.{is_some, length, IfOk, IfErr, OnOk, OnErr, IsErrOf};
 ghost use Rattle.rb_base.specs.Blocks.{block_of, commit_block, table_blocks, shape_blocks, patches_block, AreBlocks};
 ghost use Rattle.rb_base.specs.Counts.{IsCountedAs};
 ghost use Rattle.rb_base.specs.Groups.{Patch};
@@ -9,7 +11,8 @@ ghost use Rattle.rb_cell.specs.Cells.{cell_patch};
 ghost use Rattle.rb_cell.specs.declared.cell.Cell.{Cell};
 ghost use Rattle.rb_heap.specs.Homes.{home_of, home_cell, is_keyed, is_free, IsFirst, IsNowhere};
 ghost use Rattle.rb_write.specs.Values.{home_block as home_block_of, home_at, value_at, IsPlainHome, ArePlain};
-ghost use Rattle.rb_write.specs.Writes.{adds, may_take, value_after, cell_after, has_failed, IsShort, HomeRefuses, LogRefuses, ChangesHome, IsMade, TakesWrite, HasPlace};
+ghost use Rattle.rb_write.specs.Writes.{adds, may_take, value_after, cell_after, has_failed, IsShort, HomeRefuses};
+ghost use Rattle.rb_write.specs.Writes.{LogRefuses, ChangesHome, IsMade, TakesWrite, HasPlace};
 
 use crate::ask::{Ask, AttemptFault};
 use crate::place::{cell_for, home_block};
@@ -21,8 +24,10 @@ const WORN: u64 = 1 << 60;
 
 /// Tests that the log takes one more group, and still has room for another.
 fn check_room<S: Store>(store: &S) -> Result<(), AttemptFault>
-    ensures room { OnOk result ((S.number store.now < 2 ^ 60) × (2 ≤ room_of (S.slots store.now) (S.number store.now))) }
-    ensures refused { IfErr result (λ fault. LogRefuses fault (S.number store.now) (room_of (S.slots store.now) (S.number store.now))) }
+    ensures room { OnOk result ((S.number store.now < 2 ^ 60)
+        × (2 ≤ room_of (S.slots store.now) (S.number store.now))) }
+    ensures refused { IfErr result (λ fault. LogRefuses fault (S.number store.now)
+        (room_of (S.slots store.now) (S.number store.now))) }
 {
     if store.logged() >= WORN {
         return Err(AttemptFault::WornOut);
@@ -33,23 +38,34 @@ fn check_room<S: Store>(store: &S) -> Result<(), AttemptFault>
     Ok(())
 }
 
-/// The cell that the write makes in block `no`, and its place, 0 to 15. The store is as before but for the block that is
+/// The cell that the write makes in block `no`, and its place, 0 to 15. The store is as before but for the block that
+/// is
 /// loaded.
 fn prepared<S: Store>(store: &mut S, no: BlockNo, ask: &Ask<'_>) -> Result<(u8, Cell), AttemptFault>
     requires going { S.failed store.old ≡ false }
     requires there { no < shape_blocks (S.shape_of store.old) }
     requires short { IsShort ask.now.op }
-    ensures first { S.tells → IfOk result (λ r. IsFirst (may_take ask.now.op ask.now.key) (home_of (block_of (S.blocks store.old) no)).cells r.0) }
-    ensures cell { S.tells → IfOk result (λ r. r.1 ≡ cell_after ask.now.op ask.now.key (home_cell (home_of (block_of (S.blocks store.old) no)) r.0)) }
-    ensures new_key { S.tells → IfOk result (λ _. adds ask.now.op ≡ true → IsNowhere (is_keyed ask.now.key) (home_of (block_of (S.blocks store.old) no)).cells) }
+    ensures first { S.tells → IfOk result (λ r. IsFirst (may_take ask.now.op ask.now.key)
+        (home_of (block_of (S.blocks store.old) no)).cells r.0) }
+    ensures cell { S.tells → IfOk result (λ r. r.1 ≡ cell_after ask.now.op ask.now.key
+        (home_cell (home_of (block_of (S.blocks store.old) no)) r.0)) }
+    ensures new_key { S.tells → IfOk result (λ _. adds ask.now.op ≡ true
+        → IsNowhere (is_keyed ask.now.key) (home_of (block_of (S.blocks store.old) no)).cells) }
     ensures within { IfOk result (λ r. r.0 < 16) }
-    ensures room { OnOk result ((S.number store.old < 2 ^ 60) × (2 ≤ room_of (S.slots store.old) (S.number store.old))) }
-    ensures duplicate { S.tells → IsErrOf result AttemptFault.Duplicate → HomeRefuses AttemptFault.Duplicate ask.now.op ask.now.key (home_of (block_of (S.blocks store.old) no)) }
-    ensures not_found { S.tells → IsErrOf result AttemptFault.NotFound → HomeRefuses AttemptFault.NotFound ask.now.op ask.now.key (home_of (block_of (S.blocks store.old) no)) }
-    ensures block_full { S.tells → IsErrOf result AttemptFault.BlockFull → HomeRefuses AttemptFault.BlockFull ask.now.op ask.now.key (home_of (block_of (S.blocks store.old) no)) }
-    ensures worn_out { IsErrOf result AttemptFault.WornOut → LogRefuses AttemptFault.WornOut (S.number store.old) (room_of (S.slots store.old) (S.number store.old)) }
-    ensures log_full { IsErrOf result AttemptFault.LogFull → LogRefuses AttemptFault.LogFull (S.number store.old) (room_of (S.slots store.old) (S.number store.old)) }
-    ensures late { S.tells → IsErrOf result AttemptFault.WornOut ⊎ IsErrOf result AttemptFault.LogFull → HasPlace ask.now.op ask.now.key (home_of (block_of (S.blocks store.old) no)) }
+    ensures room { OnOk result ((S.number store.old < 2 ^ 60)
+        × (2 ≤ room_of (S.slots store.old) (S.number store.old))) }
+    ensures duplicate { S.tells → IsErrOf result AttemptFault.Duplicate
+        → HomeRefuses AttemptFault.Duplicate ask.now.op ask.now.key (home_of (block_of (S.blocks store.old) no)) }
+    ensures not_found { S.tells → IsErrOf result AttemptFault.NotFound
+        → HomeRefuses AttemptFault.NotFound ask.now.op ask.now.key (home_of (block_of (S.blocks store.old) no)) }
+    ensures block_full { S.tells → IsErrOf result AttemptFault.BlockFull
+        → HomeRefuses AttemptFault.BlockFull ask.now.op ask.now.key (home_of (block_of (S.blocks store.old) no)) }
+    ensures worn_out { IsErrOf result AttemptFault.WornOut
+        → LogRefuses AttemptFault.WornOut (S.number store.old) (room_of (S.slots store.old) (S.number store.old)) }
+    ensures log_full { IsErrOf result AttemptFault.LogFull
+        → LogRefuses AttemptFault.LogFull (S.number store.old) (room_of (S.slots store.old) (S.number store.old)) }
+    ensures late { S.tells → IsErrOf result AttemptFault.WornOut ⊎ IsErrOf result AttemptFault.LogFull
+        → HasPlace ask.now.op ask.now.key (home_of (block_of (S.blocks store.old) no)) }
     ensures shape { S.shape_of store.new ≡ S.shape_of store.old }
     ensures slots { S.slots store.new ≡ S.slots store.old }
     ensures number { S.number store.new ≡ S.number store.old }
@@ -58,7 +74,8 @@ fn prepared<S: Store>(store: &mut S, no: BlockNo, ask: &Ask<'_>) -> Result<(u8, 
     ensures pending { S.keeps → S.pending store.new ≡ S.pending store.old }
     ensures stable { S.keeps → (b : List (List ℕ)) → S.stable store.old b → S.stable store.new b }
     ensures images { S.keeps → NoMore (S.left store.old) (S.left store.new) }
-    ensures time { S.keeps → Passes (S.moment store.old) (S.moment store.new) (S.left_since store.old) (S.left_since store.new) (S.left store.new) }
+    ensures time { S.keeps → Passes (S.moment store.old) (S.moment store.new) (S.left_since store.old)
+        (S.left_since store.new) (S.left store.new) }
     ensures failed { S.failed store.new ≡ has_failed result }
     ensures counted { IsCountedAs (S.faults store.old) (S.faults store.new) (has_failed result) }
 {
@@ -71,7 +88,8 @@ fn prepared<S: Store>(store: &mut S, no: BlockNo, ask: &Ask<'_>) -> Result<(u8, 
 }
 
 /// Writes row `key` of a table by one group of one patch, or refuses to and logs none. What `group` holds afterwards is
-/// open. The tests come in this order: whether the key has a row, a free cell for an insert, the log's numbers, its room.
+/// open. The tests come in this order: whether the key has a row, a free cell for an insert, the log's numbers, its
+/// room.
 /// Failed where a call of the store failed.
 pub fn attempt<S: Store>(
     store: &mut S,
@@ -81,38 +99,65 @@ pub fn attempt<S: Store>(
     requires going { S.failed store.old ≡ false }
     requires table { (1 ≤ ask.now.table) × (ask.now.table ≤ (S.shape_of store.old).tables) }
     requires short { IsShort ask.now.op }
-    ensures duplicate { S.tells → IsPlainHome (home_at (S.shape_of store.old) (S.blocks store.old) ask.now.table ask.now.key) → IsErrOf result AttemptFault.Duplicate
-        → (adds ask.now.op ≡ true) × (is_some (value_at (S.shape_of store.old) (S.blocks store.old) ask.now.table ask.now.key) ≡ true) }
+    ensures duplicate { S.tells → IsPlainHome (home_at (S.shape_of store.old) (S.blocks store.old) ask.now.table
+        ask.now.key) → IsErrOf result AttemptFault.Duplicate
+        → (adds ask.now.op ≡ true) × (is_some (value_at (S.shape_of store.old) (S.blocks store.old) ask.now.table
+        ask.now.key) ≡ true) }
     ensures not_found { S.tells → IsErrOf result AttemptFault.NotFound
-        → (adds ask.now.op ≡ false) × (is_some (value_at (S.shape_of store.old) (S.blocks store.old) ask.now.table ask.now.key) ≡ false) }
+        → (adds ask.now.op ≡ false) × (is_some (value_at (S.shape_of store.old) (S.blocks store.old) ask.now.table
+        ask.now.key) ≡ false) }
     ensures block_full { S.tells → IsErrOf result AttemptFault.BlockFull
-        → (adds ask.now.op ≡ true) × (is_some (value_at (S.shape_of store.old) (S.blocks store.old) ask.now.table ask.now.key) ≡ false)
+        → (adds ask.now.op ≡ true) × (is_some (value_at (S.shape_of store.old) (S.blocks store.old) ask.now.table
+        ask.now.key) ≡ false)
         × IsNowhere is_free (home_at (S.shape_of store.old) (S.blocks store.old) ask.now.table ask.now.key).cells }
     ensures worn_out { IsErrOf result AttemptFault.WornOut → 2 ^ 60 ≤ S.number store.old }
-    ensures log_full { IsErrOf result AttemptFault.LogFull → (S.number store.old < 2 ^ 60) × (room_of (S.slots store.old) (S.number store.old) < 2) }
-    ensures late { S.tells → IsPlainHome (home_at (S.shape_of store.old) (S.blocks store.old) ask.now.table ask.now.key) → IsErrOf result AttemptFault.WornOut ⊎ IsErrOf result AttemptFault.LogFull
-        → TakesWrite ask.now.op ask.now.key (home_at (S.shape_of store.old) (S.blocks store.old) ask.now.table ask.now.key) }
-    ensures taken { S.tells → IsPlainHome (home_at (S.shape_of store.old) (S.blocks store.old) ask.now.table ask.now.key)
-        → OnOk result (TakesWrite ask.now.op ask.now.key (home_at (S.shape_of store.old) (S.blocks store.old) ask.now.table ask.now.key)) }
-    ensures room { OnOk result ((S.number store.old < 2 ^ 60) × (2 ≤ room_of (S.slots store.old) (S.number store.old))) }
-    ensures written { S.tells → IsPlainHome (home_at (S.shape_of store.old) (S.blocks store.old) ask.now.table ask.now.key) → OnOk result ((table key : ℕ) → 1 ≤ table
+    ensures log_full { IsErrOf result AttemptFault.LogFull
+        → (S.number store.old < 2 ^ 60) × (room_of (S.slots store.old) (S.number store.old) < 2) }
+    ensures late { S.tells → IsPlainHome (home_at (S.shape_of store.old) (S.blocks store.old) ask.now.table
+        ask.now.key) → IsErrOf result AttemptFault.WornOut ⊎ IsErrOf result AttemptFault.LogFull
+        → TakesWrite ask.now.op ask.now.key (home_at (S.shape_of store.old) (S.blocks store.old) ask.now.table
+        ask.now.key) }
+    ensures taken { S.tells → IsPlainHome (home_at (S.shape_of store.old) (S.blocks store.old) ask.now.table
+        ask.now.key)
+        → OnOk result (TakesWrite ask.now.op ask.now.key
+        (home_at (S.shape_of store.old) (S.blocks store.old) ask.now.table ask.now.key)) }
+    ensures room { OnOk result ((S.number store.old < 2 ^ 60)
+        × (2 ≤ room_of (S.slots store.old) (S.number store.old))) }
+    ensures written { S.tells → IsPlainHome (home_at (S.shape_of store.old) (S.blocks store.old) ask.now.table
+        ask.now.key) → OnOk result ((table key : ℕ) → 1 ≤ table
         → value_at (S.shape_of store.old) (S.blocks store.new) table key
-        ≡ (if (table == ask.now.table) && (key == ask.now.key) then value_after ask.now.op (value_at (S.shape_of store.old) (S.blocks store.old) table key) else value_at (S.shape_of store.old) (S.blocks store.old) table key)) }
-    ensures plain { S.tells → ArePlain (S.shape_of store.old) (S.blocks store.old) → OnOk result (ArePlain (S.shape_of store.old) (S.blocks store.new)) }
-    ensures made { S.tells → OnOk result (IsMade (S.shape_of store.old) ask.now (S.number store.old) (S.blocks store.old) (S.blocks store.new)) }
-    ensures home { S.tells → OnOk result (ChangesHome ask.now.op ask.now.key (home_at (S.shape_of store.old) (S.blocks store.old) ask.now.table ask.now.key) (home_at (S.shape_of store.old) (S.blocks store.new) ask.now.table ask.now.key)) }
-    ensures other { S.tells → OnOk result ((b : ℕ) → b ≢ home_block_of (S.shape_of store.old) ask.now.table ask.now.key → block_of (S.blocks store.new) b ≡ block_of (S.blocks store.old) b) }
-    ensures segments { S.tells → OnOk result ((b : ℕ) → table_blocks (S.shape_of store.old) ≤ b → block_of (S.blocks store.new) b ≡ block_of (S.blocks store.old) b) }
+        ≡ (if (table == ask.now.table) && (key == ask.now.key) then value_after ask.now.op
+        (value_at (S.shape_of store.old) (S.blocks store.old) table key) else value_at (S.shape_of store.old)
+        (S.blocks store.old) table key)) }
+    ensures plain { S.tells → ArePlain (S.shape_of store.old) (S.blocks store.old)
+        → OnOk result (ArePlain (S.shape_of store.old) (S.blocks store.new)) }
+    ensures made { S.tells → OnOk result (IsMade (S.shape_of store.old) ask.now (S.number store.old)
+        (S.blocks store.old) (S.blocks store.new)) }
+    ensures home { S.tells → OnOk result (ChangesHome ask.now.op ask.now.key
+        (home_at (S.shape_of store.old) (S.blocks store.old) ask.now.table ask.now.key)
+        (home_at (S.shape_of store.old) (S.blocks store.new) ask.now.table ask.now.key)) }
+    ensures other { S.tells → OnOk result ((b : ℕ) → b ≢ home_block_of (S.shape_of store.old) ask.now.table
+        ask.now.key → block_of (S.blocks store.new) b ≡ block_of (S.blocks store.old) b) }
+    ensures segments { S.tells → OnOk result ((b : ℕ) → table_blocks (S.shape_of store.old) ≤ b
+        → block_of (S.blocks store.new) b ≡ block_of (S.blocks store.old) b) }
     ensures whole { S.tells → OnOk result (AreBlocks (S.shape_of store.old) (S.blocks store.new)) }
     ensures number { OnOk result (S.number store.new ≡ S.number store.old + 1) }
-    ensures group { S.keeps → OnOk result ((patches : List Patch) × (S.pending store.new ≡ S.pending store.old ++ patches ∷ []) × (patches_block (commit_block (S.shape_of store.old)) patches ≡ false)) }
-    ensures patch { S.keeps → OnOk result ((c : ℕ) × (cell : Cell) × (S.pending store.new ≡ S.pending store.old ++ (cell_patch (home_block_of (S.shape_of store.old) ask.now.table ask.now.key) c cell ∷ []) ∷ [])) }
-    ensures stable { S.keeps → has_failed result ≡ false → (b : List (List ℕ)) → S.stable store.old b → S.stable store.new b }
-    ensures refused_blocks { S.tells → has_failed result ≡ false → OnErr result (S.blocks store.new ≡ S.blocks store.old) }
+    ensures group { S.keeps → OnOk result ((patches : List Patch)
+        × (S.pending store.new ≡ S.pending store.old ++ patches ∷ [])
+        × (patches_block (commit_block (S.shape_of store.old)) patches ≡ false)) }
+    ensures patch { S.keeps → OnOk result ((c : ℕ) × (cell : Cell)
+        × (S.pending store.new ≡ S.pending store.old ++
+        (cell_patch (home_block_of (S.shape_of store.old) ask.now.table ask.now.key) c cell ∷ []) ∷ [])) }
+    ensures stable { S.keeps → has_failed result ≡ false → (b : List (List ℕ)) → S.stable store.old b
+        → S.stable store.new b }
+    ensures refused_blocks { S.tells → has_failed result ≡ false
+        → OnErr result (S.blocks store.new ≡ S.blocks store.old) }
     ensures refused_number { has_failed result ≡ false → OnErr result (S.number store.new ≡ S.number store.old) }
-    ensures refused_pending { S.keeps → has_failed result ≡ false → OnErr result (S.pending store.new ≡ S.pending store.old) }
+    ensures refused_pending { S.keeps → has_failed result ≡ false
+        → OnErr result (S.pending store.new ≡ S.pending store.old) }
     ensures images { S.keeps → NoMore (S.left store.old) (S.left store.new) }
-    ensures time { S.keeps → Passes (S.moment store.old) (S.moment store.new) (S.left_since store.old) (S.left_since store.new) (S.left store.new) }
+    ensures time { S.keeps → Passes (S.moment store.old) (S.moment store.new) (S.left_since store.old)
+        (S.left_since store.new) (S.left store.new) }
     ensures shape { S.shape_of store.new ≡ S.shape_of store.old }
     ensures slots { S.slots store.new ≡ S.slots store.old }
     ensures failed { S.failed store.new ≡ has_failed result }
