@@ -1,10 +1,12 @@
 //! The commands of a script. `parse` makes them of lines, and the shell runs them.
 ghost use Rattle.std.specs.Prelude.{◌≡◌};
 ghost use Rattle.rb_model.specs.Lines as lines;
+ghost use Rattle.rb_model.specs.Lines.{IsCommand, spelling};
 
 use rb_model::{Name, Op};
 
-/// A command, with its parts in range. `s` is the number of a session, `t` that of a table; `k`, `lo` and `hi` are keys.
+/// A command, with its parts in range. `s` is the number of a session, `t` that of a table; `k`, `lo` and `hi` are
+/// keys.
 #[derive(Debug, Drop)]
 pub enum Command<'a> {
     /// `insert S T K V`, `update S T K V` or `delete S T K`.
@@ -41,5 +43,5 @@ pub enum Command<'a> {
 
 /// No two commands have one spelling.
 pub fn one_spelling()
-    ensures { (a b : lines.Command) → lines.IsCommand a → lines.IsCommand b → lines.spelling a ≡ lines.spelling b → a ≡ b }
+    ensures { (a b : lines.Command) → IsCommand a → IsCommand b → spelling a ≡ spelling b → a ≡ b }
 {}
