@@ -12,38 +12,15 @@ use Rattle.rb_model.specs.declared.row.Row.{Row}
 use Rattle.rb_model.specs.declared.row.Fetched.{Fetched}
 use Rattle.rb_model.specs.declared.row.Fetched.TheVariants as fetched
 use Rattle.rb_model.specs.declared.refusal.Refusal.{Refusal}
-use Rattle.rb_model.specs.declared.refusal.Refusal.TheVariants.{NoSession, NoTable, ValueTooLong, Duplicate, NotFound, BlockFull, NoCursor, CursorThere, TooManyCursors, WornOut, DiskFault, Stopped, LogFull}
+use Rattle.rb_model.specs.declared.refusal.Refusal.TheVariants.{DiskFault}
 
 -- there is one fault of the disk
-pub other_refusal : (why : Refusal) → why ≢ DiskFault → is_disk_fault why ≡ false
-other_refusal DiskFault other = absurd (other refl)
-other_refusal NoSession other = refl
-other_refusal NoTable other = refl
-other_refusal ValueTooLong other = refl
-other_refusal Duplicate other = refl
-other_refusal NotFound other = refl
-other_refusal BlockFull other = refl
-other_refusal NoCursor other = refl
-other_refusal CursorThere other = refl
-other_refusal TooManyCursors other = refl
-other_refusal WornOut other = refl
-other_refusal Stopped other = refl
-other_refusal LogFull other = refl
-
 pub the_fault : (why : Refusal) → is_disk_fault why ≡ true → why ≡ DiskFault
 the_fault DiskFault is = refl
-the_fault NoSession is = absurd (false≢true is)
-the_fault NoTable is = absurd (false≢true is)
-the_fault ValueTooLong is = absurd (false≢true is)
-the_fault Duplicate is = absurd (false≢true is)
-the_fault NotFound is = absurd (false≢true is)
-the_fault BlockFull is = absurd (false≢true is)
-the_fault NoCursor is = absurd (false≢true is)
-the_fault CursorThere is = absurd (false≢true is)
-the_fault TooManyCursors is = absurd (false≢true is)
-the_fault WornOut is = absurd (false≢true is)
-the_fault Stopped is = absurd (false≢true is)
-the_fault LogFull is = absurd (false≢true is)
+the_fault _ is = absurd (false≢true is)
+
+pub other_refusal : (why : Refusal) → why ≢ DiskFault → is_disk_fault why ≡ false
+other_refusal why other = ⊎_elim (λ is. absurd (other (the_fault why is))) (λ is. is) (cases_Bool (is_disk_fault why))
 
 -- any other refusal leaves the state
 pub refused_same : (h : State) (why : Refusal) → is_disk_fault why ≡ false → after_refusal h why ≡ h

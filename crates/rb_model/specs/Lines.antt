@@ -1,14 +1,16 @@
 -- How a script is cut into lines, which command a line spells, and the texts of the replies.
 use Rattle.std.specs.Prelude.{◌≡◌, ◌≢◌, ℕ, ◌^◌, ◌<◌, ◌≤◌, Bool, true, ◌==◌, ◌&&◌}
-use Rattle.std.specs.Prelude.{nat_le, if◌then◌else◌, IsTrue, List, [], ◌∷◌, ◌++◌, length, codes}
+use Rattle.std.specs.Prelude.{nat_le}
+use Rattle.std.specs.Prelude.{if◌then◌else◌, IsTrue, List, [], ◌∷◌, ◌++◌, length, codes}
 use Rattle.std.specs.List.{list_all, AllByRecursion}
 use Rattle.std.specs.Fmt.{decimal}
 use Rattle.rb_model.specs.NameTest.{is_name}
 use Rattle.rb_model.specs.Reply.{Action, Insert, Update, Delete, Answer, Done, Waits, Numbered, Given, End, Refused}
 use Rattle.rb_model.specs.declared.refusal.Refusal.{Refusal}
 use Rattle.rb_model.specs.declared.refusal.Refusal.TheVariants.{NoSession, NoTable, ValueTooLong, Duplicate, NotFound}
-use Rattle.rb_model.specs.declared.refusal.Refusal.TheVariants.{BlockFull, NoCursor, CursorThere, TooManyCursors}
-use Rattle.rb_model.specs.declared.refusal.Refusal.TheVariants.{WornOut, DiskFault, Stopped, LogFull}
+use Rattle.rb_model.specs.declared.refusal.Refusal.TheVariants.{BlockFull}
+use Rattle.rb_model.specs.declared.refusal.Refusal.TheVariants.{NoCursor, CursorThere, TooManyCursors, WornOut}
+use Rattle.rb_model.specs.declared.refusal.Refusal.TheVariants.{DiskFault, Stopped, LogFull}
 
 -- a byte at the front of the first line
 abbrev pub onto_first : ℕ → List (List ℕ) → List (List ℕ)
@@ -71,8 +73,8 @@ word_of (OpenLine s name table lo hi) = OpenWord
 word_of (FetchLine s name count) = FetchWord
 word_of (CloseLine s name) = CloseWord
 
--- a field after the word: the number of a session or a table, a key, how many rows, the name of a cursor, the value of
--- a row
+-- A field after the word: the number of a session or a table, a key, how many rows, the name of a cursor, or the value
+-- of a row.
 pub data Field : Type 0 where
   Id : (n : ℕ) → Field
   Key : (n : ℕ) → Field

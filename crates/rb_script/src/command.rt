@@ -1,6 +1,7 @@
 //! The commands of a script. `parse` makes them of lines, and the shell runs them.
 ghost use Rattle.std.specs.Prelude.{◌≡◌};
 ghost use Rattle.rb_model.specs.Lines as lines;
+ghost use Rattle.rb_model.specs.Lines.{IsCommand, spelling};
 
 use rb_model::{Name, Op};
 
@@ -42,6 +43,5 @@ pub enum Command<'a> {
 
 /// No two commands have one spelling.
 pub fn one_spelling()
-    ensures { (a b : lines.Command) → lines.IsCommand a → lines.IsCommand b
-        → lines.spelling a ≡ lines.spelling b → a ≡ b }
+    ensures { (a b : lines.Command) → IsCommand a → IsCommand b → spelling a ≡ spelling b → a ≡ b }
 {}

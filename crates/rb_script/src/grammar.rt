@@ -12,9 +12,8 @@ use rb_model::{Name, Op};
 
 // the session, the table, the key and the value that these fields are
 fn write_of(fields: &[u8]) -> Option<(u16, u16, u64, &[u8])>
-    ensures found { IfSome result (λ parts. 32 ∷ fields.now
-        ≡ fields_text (row_fields parts.0 parts.1 parts.2 parts.3.now)) }
-    ensures valid { IfSome result (λ parts. AllByRecursion IsField (row_fields parts.0 parts.1 parts.2 parts.3.now)) }
+    ensures found { IfSome result (λ p. 32 ∷ fields.now ≡ fields_text (row_fields p.0 p.1 p.2 p.3.now)) }
+    ensures valid { IfSome result (λ p. AllByRecursion IsField (row_fields p.0 p.1 p.2 p.3.now)) }
     ensures none { IfNone result (NoFields row_kinds (32 ∷ fields.now)) }
 {
     let (s, fields) = id_and_rest(fields)?;

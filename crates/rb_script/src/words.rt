@@ -11,10 +11,9 @@ ghost use Rattle.rb_script.specs.Words.{is_word};
 use rb_base::parse_decimal;
 use rb_model::Name;
 
-/// What stands before and behind the first space.
+/// What stands before and after the first space.
 pub fn split(text: &[u8]) -> Option<(&[u8], &[u8])>
-    ensures found { IfSome result (λ parts. (text.now ≡ parts.0.now ++ 32 ∷ parts.1.now)
-        × IsTrue (is_word parts.0.now)) }
+    ensures found { IfSome result (λ p. (text.now ≡ p.0.now ++ 32 ∷ p.1.now) × IsTrue (is_word p.0.now)) }
     ensures none { IfNone result (IsTrue (is_word text.now)) }
 {
     for (at, byte) in text.iter().enumerate() {
@@ -52,7 +51,7 @@ pub fn count_of(text: &[u8]) -> Option<u32>
     u32::try_from(number).ok()
 }
 
-/// The number of a session or a table in front of a space, and what stands behind the space.
+/// The number of a session or a table in front of a space, and what stands after the space.
 pub fn id_and_rest(text: &[u8]) -> Option<(u16, &[u8])>
     ensures found { IfSome result (λ parts. text.now ≡ decimal parts.0 ++ 32 ∷ parts.1.now) }
     ensures range { IfSome result (λ parts. parts.0 < 2 ^ 16) }
@@ -64,7 +63,7 @@ pub fn id_and_rest(text: &[u8]) -> Option<(u16, &[u8])>
     Some((id, rest))
 }
 
-/// The key, below 2^64, in front of a space, and what stands behind the space.
+/// The key, below 2^64, in front of a space, and what stands after the space.
 pub fn key_and_rest(text: &[u8]) -> Option<(u64, &[u8])>
     ensures found { IfSome result (λ parts. text.now ≡ decimal parts.0 ++ 32 ∷ parts.1.now) }
     ensures range { IfSome result (λ parts. parts.0 < 2 ^ 64) }
@@ -76,7 +75,7 @@ pub fn key_and_rest(text: &[u8]) -> Option<(u64, &[u8])>
     Some((key, rest))
 }
 
-/// The name in front of a space, and what stands behind the space.
+/// The name in front of a space, and what stands after the space.
 pub fn name_and_rest(text: &[u8]) -> Option<(Name, &[u8])>
     ensures found { IfSome result (λ parts. text.now ≡ name_text parts.0 ++ 32 ∷ parts.1.now) }
     ensures valid { IfSome result (λ parts. IsTrue (is_name (name_text parts.0))) }
