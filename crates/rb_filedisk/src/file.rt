@@ -83,13 +83,13 @@ where
     {
         let file = opened(self.runtime, self.path, &mut self.file)?;
         if let Some(len) = self.synced
-            && self.unsynced.end <= len
+            && self.unsynced.is_within(len)
         {
             return file.sync_data();
         }
         let len = file.metadata()?.len();
         file.sync_all()?;
-        if self.unsynced.end > 0 {
+        if !self.unsynced.is_within(0) {
             sync_folder(self.runtime, self.path)?;
         }
         self.synced = Some(len);
@@ -184,7 +184,7 @@ where
     {
         let answer = self.flush();
         if answer.is_ok() {
-            self.unsynced = Unsynced::nothing();
+            self.unsynced.forget();
         } else if let Some(file) = &self.file {
             self.unsynced.write_again(file);
         }
