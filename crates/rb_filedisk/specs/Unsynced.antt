@@ -1,5 +1,5 @@
 -- The bytes written since a sync, as ranges in the order of their writes.
-use Rattle.std.specs.Prelude.{◌≡◌, ℕ, ◌+◌, ◌-◌, ◌^◌, min, max, Bool, cond, ◌&&◌, ◌||◌, nat_le, ◌==◌, List, [], ◌∷◌, length}
+use Rattle.std.specs.Prelude.{◌≡◌, ℕ, ◌+◌, ◌-◌, ◌^◌, ◌<◌, ◌≤◌, min, max, Bool, cond, ◌&&◌, ◌||◌, nat_le, ◌==◌, ◌⊎◌, List, [], ◌∷◌, length}
 use Rattle.rb_filedisk.specs.declared.unsynced.Range.{Range}
 use Rattle.rb_filedisk.specs.declared.unsynced.Unsynced.{Unsynced}
 
@@ -10,6 +10,14 @@ ranges_of unsynced = unsynced.ranges.items
 -- so many bytes from an offset on. Offsets end at 2^64 - 1.
 abbrev pub written : ℕ → ℕ → Range
 written at count = record { start = at; end = min (at + count) (2 ^ 64 - 1) }
+
+-- A byte is in a range, or in one of some ranges.
+abbrev pub Has : Range → ℕ → Type 0
+Has range byte = (range.start ≤ byte) × (byte < range.end)
+
+abbrev pub HasOne : List Range → ℕ → Type 0
+HasOne [] byte = ⊥
+HasOne (range ∷ ranges) byte = Has range byte ⊎ HasOne ranges byte
 
 -- whether no byte lies between two ranges
 abbrev pub touches : Range → Range → Bool
@@ -33,3 +41,13 @@ IsNothing unsynced = ranges_of unsynced ≡ []
 abbrev pub IsWith : (at count : ℕ) (before now : Unsynced) → Type 0
 IsWith at count before now =
     ranges_of now ≡ with_range (length (ranges_of before) == 128) (written at count) (ranges_of before)
+
+-- Every byte of them is remembered with those of before, and where there is room for one more range no other byte is.
+abbrev pub RemembersAll : (at count : ℕ) (before now : Unsynced) → Type 0
+RemembersAll at count before now =
+    (byte : ℕ) → HasOne (written at count ∷ ranges_of before) byte → HasOne (ranges_of now) byte
+
+abbrev pub RemembersNoOther : (at count : ℕ) (before now : Unsynced) → Type 0
+RemembersNoOther at count before now =
+    length (ranges_of before) < 128
+    → (byte : ℕ) → HasOne (ranges_of now) byte → HasOne (written at count ∷ ranges_of before) byte

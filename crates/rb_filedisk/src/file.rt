@@ -120,7 +120,7 @@ where
     R::File: FileExt + Hold,
 {
     ghost use Rattle.rb_filedisk.specs.FileDisk.{faults_of, unsynced_of};
-    ghost use Rattle.rb_filedisk.specs.Unsynced.{IsNothing, IsWith};
+    ghost use Rattle.rb_filedisk.specs.Unsynced.{IsNothing, IsWith, RemembersAll, RemembersNoOther};
 
     ghost tells = { ⊥ };
 
@@ -167,6 +167,8 @@ where
         ensures faulted { OnErr result (faults_of self.new ≡ min (faults_of self.old + 1) (2 ^ 64 - 1)) }
         ensures no_fault { OnOk result (faults_of self.new ≡ faults_of self.old) }
         ensures remembered { IsWith at (length bytes.now) (unsynced_of self.old) (unsynced_of self.new) }
+        ensures every { RemembersAll at (length bytes.now) (unsynced_of self.old) (unsynced_of self.new) }
+        ensures no_other { RemembersNoOther at (length bytes.now) (unsynced_of self.old) (unsynced_of self.new) }
     {
         self.unsynced.add(at, bytes.len());
         let answer = opened(self.runtime, self.path, &mut self.file).and_then(
