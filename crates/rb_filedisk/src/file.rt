@@ -84,13 +84,13 @@ where
     {
         let file = opened(self.runtime, self.path, &mut self.file)?;
         if let Some(len) = self.synced
-            && self.unsynced.end <= len
+            && self.unsynced.is_within(len)
         {
             return file.sync_data();
         }
         let len = file.metadata()?.len();
         file.sync_all()?;
-        if self.unsynced.end > 0 {
+        if !self.unsynced.is_within(0) {
             sync_folder(self.runtime, self.path)?;
         }
         self.synced = Some(len);
@@ -121,7 +121,7 @@ where
     R::File: FileExt + Hold,
 {
     ghost use Rattle.rb_filedisk.specs.FileDisk.{faults_of, unsynced_of};
-    ghost use Rattle.rb_filedisk.specs.Unsynced.{IsNothing, IsWith};
+    ghost use Rattle.rb_filedisk.specs.Unsynced.{IsNothing, IsWith, RemembersAll, RemembersNoOther};
 
     ghost tells = { ⊥ };
 
@@ -168,6 +168,8 @@ where
         ensures faulted { OnErr result (faults_of self.new ≡ min (faults_of self.old + 1) (2 ^ 64 - 1)) }
         ensures no_fault { OnOk result (faults_of self.new ≡ faults_of self.old) }
         ensures remembered { IsWith at (length bytes.now) (unsynced_of self.old) (unsynced_of self.new) }
+        ensures every { RemembersAll at (length bytes.now) (unsynced_of self.old) (unsynced_of self.new) }
+        ensures no_other { RemembersNoOther at (length bytes.now) (unsynced_of self.old) (unsynced_of self.new) }
     {
         self.unsynced.add(at, bytes.len());
         let answer = opened(self.runtime, self.path, &mut self.file).and_then(
@@ -185,7 +187,7 @@ where
     {
         let answer = self.flush();
         if answer.is_ok() {
-            self.unsynced = Unsynced::nothing();
+            self.unsynced.forget();
         } else if let Some(file) = &self.file {
             self.unsynced.write_again(file);
         }
