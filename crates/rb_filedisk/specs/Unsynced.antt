@@ -1,5 +1,6 @@
 -- The bytes written since a sync, as ranges in the order of their writes.
-use Rattle.std.specs.Prelude.{◌≡◌, ℕ, ◌+◌, ◌-◌, ◌^◌, ◌<◌, ◌≤◌, min, max, Bool, cond, ◌&&◌, ◌||◌, nat_le, ◌==◌, ◌⊎◌, List, [], ◌∷◌, length}
+use Rattle.std.specs.Prelude.{◌≡◌, ℕ, ◌+◌, ◌-◌, ◌^◌, ◌<◌, ◌≤◌, min, max, Bool, cond}
+use Rattle.std.specs.Prelude.{◌&&◌, ◌||◌, nat_le, ◌==◌, ◌⊎◌, List, [], ◌∷◌, length}
 use Rattle.rb_filedisk.specs.declared.unsynced.Range.{Range}
 use Rattle.rb_filedisk.specs.declared.unsynced.Unsynced.{Unsynced}
 
