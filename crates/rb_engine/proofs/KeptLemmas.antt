@@ -13,7 +13,7 @@ use Rattle.rb_model.specs.Rows.{TableRow, over, rows_at, changed_by, with_row}
 use Rattle.rb_model.specs.State.{State, Cursor, cursor_rows, with_taken, without_cursor, opened}
 use Rattle.rb_model.specs.Reply.{rows_now, with_own, committed, after_refusal}
 use Rattle.rb_model.specs.declared.refusal.Refusal.{Refusal}
-use Rattle.rb_model.specs.declared.refusal.Refusal.TheVariants.{NoSession, NoTable, ValueTooLong, Duplicate, NotFound, BlockFull, NoCursor, CursorThere, TooManyCursors, WornOut, DiskFault, Stopped, LogFull}
+use Rattle.rb_model.specs.declared.refusal.Refusal.TheVariants.{DiskFault}
 use Rattle.rb_model.proofs.Stops.{other_refusal, refused_same}
 use Rattle.rb_engine.specs.declared.cursor.OpenCursor.{OpenCursor}
 use Rattle.rb_versions.specs.declared.change.RowChange.{RowChange}

@@ -10,9 +10,7 @@ use Rattle.rb_model.specs.Change.{Change, Kind, Put, Gone, Held}
 use Rattle.rb_model.specs.Rows.{TableRow, row_before, is_row_of, has_row, with_row, changed_by, over, rows_at}
 use Rattle.rb_model.specs.State.{State, Session, session_of, fresh_session}
 use Rattle.rb_model.specs.Full.{has_key, held, used_keys, full_block}
-use Rattle.rb_model.specs.Reply.{Action, Insert, Update, Delete, Call, Write, Commit, OpenCursor, Fetch, CloseCursor, Answer, Done, Waits, Numbered, Given, End, Refused, adds, change_by, is_empty, rows_now, after, after_grant, after_refusal, committed}
-use Rattle.rb_model.specs.declared.refusal.Refusal.{Refusal}
-use Rattle.rb_model.specs.declared.refusal.Refusal.TheVariants.{NoSession, NoTable, ValueTooLong, Duplicate, NotFound, BlockFull, NoCursor, CursorThere, TooManyCursors, WornOut, DiskFault, Stopped, LogFull}
+use Rattle.rb_model.specs.Reply.{Action, Insert, Update, Delete, Call, Write, Commit, OpenCursor, Fetch, CloseCursor, Answer, Done, Waits, Numbered, Given, End, Refused, adds, change_by, is_empty, rows_now, after, after_grant, committed}
 use Rattle.rb_model.proofs.Stops.{sessions_refused}
 use Rattle.rb_engine.proofs.KeptLemmas.{over-append}
 use Rattle.rb_engine.proofs.FullLemmas.{distinct_within, is_of, rows_last, uses, used_has, used_home, distinct_used}

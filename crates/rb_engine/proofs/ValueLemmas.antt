@@ -12,7 +12,7 @@ use Rattle.rb_model.specs.State.{State, Session, session_of}
 use Rattle.rb_model.specs.declared.op.Op.{Op}
 use Rattle.rb_model.specs.declared.op.Op.TheVariants as op
 use Rattle.rb_write.specs.Writes as write
-use Rattle.rb_model.proofs.Order.{row_same, same_other, same_apart}
+use Rattle.rb_model.proofs.Order.{same_other, same_apart}
 use Rattle.rb_model.proofs.RowLemmas.{all-with_row, emptied, left_out, of_key, replaced, same_row, swapped}
 use Rattle.rb_engine.proofs.KeptLemmas.{over-append}
 use Rattle.rb_engine.proofs.UsedLemmas.{the_one}

@@ -1,16 +1,15 @@
 -- What a run has done with the bytes taken so far.
-use Rattle.std.proofs.Common.{◌≡◌, ℕ, ◌+◌, ◌-◌, ◌≤◌, false, true, List, [], ◌++◌, length, take, Result, Ok, Err, refl, sym, ◌∙◌, ap, subst, arith, append_assoc, append-nil, length-append}
+use Rattle.std.proofs.Common.{◌≡◌, ℕ, ◌+◌, ◌-◌, ◌≤◌, false, List, [], ◌++◌, length, take, Result, Ok, Err, refl, sym, ◌∙◌, ap, subst, arith, append_assoc, append-nil, length-append}
 use Rattle.rb_model.specs.Lines.{lines_of}
 use Rattle.rb_model.specs.Out.{Logged}
 use Rattle.rb_lines.specs.declared.runner.StepFault.{StepFault}
 use Rattle.rb_lines.specs.declared.runner.StepFault.TheVariants.{Disk, Sink}
 use Rattle.rb_lines.specs.Ends.{Halted, WholeRan}
-use Rattle.rb_lines.specs.Ran.{Did, Ran, RanAs, CutOff}
+use Rattle.rb_lines.specs.Ran.{Did, Ran, RanAs}
 use Rattle.rb_lines.specs.Pieces.{lines_from, rest_from, last_of}
-use Rattle.rb_lines.specs.Whole.{whole_lines}
 use Rattle.rb_lines.proofs.Cuts.{lines-append, rest-append, lines_of-parts, whole_lines-pieces}
 use Rattle.rb_lines.proofs.Dids.{did_as, did_on}
-use Rattle.rb_lines.proofs.Runs.{ran_none, ran-append, as-append, as_more}
+use Rattle.rb_lines.proofs.Runs.{ran_none, as-append, as_more}
 
 -- all lines of the bytes of which one piece was taken and then another
 lines_of_pieces : (first piece left : List ℕ)

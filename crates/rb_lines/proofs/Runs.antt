@@ -1,5 +1,5 @@
 -- What a line runner did with lines, one piece after another.
-use Rattle.std.proofs.Common.{◌≡◌, ℕ, ◌+◌, true, false, List, [], ◌∷◌, ◌++◌, length, take, min, Result, Ok, Err, refl, sym, ◌∙◌, ap, subst, arith, append_assoc, append-nil}
+use Rattle.std.proofs.Common.{◌≡◌, ℕ, ◌+◌, false, List, [], ◌∷◌, ◌++◌, length, take, min, Result, Ok, Err, refl, sym, ◌∙◌, ap, subst, arith, append_assoc, append-nil}
 use Rattle.std.proofs.lemmas.List.{take-append-le, take_min}
 use Rattle.std.proofs.Math.Seq.{take-append-add}
 use Rattle.rb_model.specs.Out.{Logged, LineOut, Out}

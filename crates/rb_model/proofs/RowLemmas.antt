@@ -1,7 +1,6 @@
 -- Rows in scan order: what is put among them and taken from them, and which of them is the first that passes a test.
-use Rattle.std.proofs.Common.{◌≡◌, ℕ, zero, suc, ◌<◌, ◌≤◌, Bool, true, false, not, ◌&&◌, ◌||◌, cond, ◌==◌, List, [], ◌∷◌, ◌++◌, length, take, get_or, filter, find, Option, None, Some, refl, ap, sym, ◌∙◌, subst, ⊎_elim, arith, add-one, ◌⊎◌}
-use Rattle.std.proofs.lemmas.Bool.{cond_both, cases_Bool, cond-true, cond-false, false≢true, cases_eq}
-use Rattle.std.proofs.lemmas.List.{take_more}
+use Rattle.std.proofs.Common.{◌≡◌, ℕ, Bool, true, false, not, ◌&&◌, ◌||◌, cond, ◌==◌, List, [], ◌∷◌, filter, find, Option, None, Some, refl, ap, sym, ◌∙◌, subst, ⊎_elim, ◌⊎◌}
+use Rattle.std.proofs.lemmas.Bool.{cond_both, cases_Bool, cond-true, cond-false, false≢true}
 use Rattle.std.specs.List.{AllByRecursion}
 use Rattle.rb_base.proofs.Each.{all_filter, all_so}
 use Rattle.rb_model.specs.Change.{Change, Kind}

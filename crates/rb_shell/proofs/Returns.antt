@@ -1,5 +1,5 @@
 -- A line with and without the CR that ends it.
-use Rattle.std.proofs.Common.{◌≡◌, ◌==◌, refl, ap, ℕ, true, false, List, [], ◌∷◌, ◌++◌}
+use Rattle.std.proofs.Common.{◌≡◌, ◌==◌, refl, ap, ℕ, false, List, [], ◌∷◌, ◌++◌}
 use Rattle.rb_model.specs.Lines.{without_return}
 
 -- a CR at the end goes

@@ -23,7 +23,7 @@ use Rattle.rb_model.specs.Lines.{lines_of}
 use Rattle.rb_model.specs.Out.{Logged}
 use Rattle.rb_model.specs.Rows.{TableRow, last_number, over, rows_at}
 use Rattle.rb_model.specs.State.{State, opened}
-use Rattle.rb_shell.specs.Runs.{IsSound, HasDone, HasHalted, HasOpened, HasRun, WasCutOff, Endures, LeftAlone, OpensSame, EndsRun, IsDoneOrNoMemory, file_opens}
+use Rattle.rb_shell.specs.Runs.{IsSound, HasHalted, HasOpened, HasRun, WasCutOff, Endures, LeftAlone, OpensSame, EndsRun, IsDoneOrNoMemory, file_opens}
 use Rattle.rb_shell.specs.Since.{StandsAs}
 use Rattle.rb_shell.specs.Statuses.{EndsFormat}
 use Rattle.rb_shell.specs.declared.status.Status.{Status}

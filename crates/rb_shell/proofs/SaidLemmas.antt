@@ -18,9 +18,9 @@ use Rattle.rb_model.specs.declared.answer.Answer.TheVariants as answers
 use Rattle.rb_model.specs.declared.row.Row.{Row}
 use Rattle.rb_model.specs.Lines.{reply_text}
 use Rattle.rb_model.specs.Out.{Logged, room, CallOut, CallsOut, is_given}
-use Rattle.rb_model.specs.Reply.{Answer, Call, Write, Commit, OpenCursor, Fetch, CloseCursor, Done, Waits, Numbered, Given, End, Refused, Reply, after, after_grant, early_tests, expected, first_of, given, granted, groups, is_empty, is_fault, later_tests, next_row}
-use Rattle.rb_model.specs.Rows.{TableRow, last_number}
-use Rattle.rb_model.specs.State.{State, Session, Cursor, fresh_session, session_of, cursor_of, cursor_rows, with_taken}
+use Rattle.rb_model.specs.Reply.{Answer, Call, Write, Commit, OpenCursor, Fetch, CloseCursor, Done, Waits, Numbered, Given, End, Refused, Reply, after, after_grant, early_tests, expected, first_of, granted, is_empty, is_fault, later_tests}
+use Rattle.rb_model.specs.Rows.{last_number}
+use Rattle.rb_model.specs.State.{State, Session, Cursor, fresh_session, session_of, with_taken}
 use Rattle.rb_model.proofs.Stops.{after_same_stop, after_stops, expected_fine, refused_same}
 use Rattle.rb_shell.specs.Since.{IsSince, StandsAs, slots_of}
 use Rattle.rb_shell.specs.Steps.{Added, CalledOnce, Calls, Lost, Said, SaidAs, SaidSoFar, Told}

@@ -1,14 +1,11 @@
 -- Which status comes of which end.
 use Rattle.std.proofs.lemmas.Bool.{false≢true}
-use Rattle.std.proofs.Common.{arith, ◌≡◌, ◌≢◌, ◌∙◌, refl, sym, ap, subst, ℕ, Bool, true, false}
-use Rattle.rb_base.specs.Counts.{IsCountedAs, is_failed}
-use Rattle.rb_base.specs.declared.faults.OpenFault.{OpenFault}
-use Rattle.rb_base.specs.declared.faults.OpenFault.TheVariants as faults
+use Rattle.std.proofs.Common.{arith, ◌≡◌, ◌∙◌, refl, sym, subst, ℕ, Bool, false}
+use Rattle.rb_base.specs.Counts.{IsCountedAs}
 use Rattle.rb_lines.specs.declared.lines.LinesEnd.{LinesEnd}
 use Rattle.rb_lines.specs.declared.lines.LinesEnd.TheVariants as ends
 use Rattle.rb_lines.specs.Ends as lines
 use Rattle.rb_lines.specs.Faults.{IsCountedBeside}
-use Rattle.rb_shell.specs.Runs.{AsksNothing, AsksScript, EndsRun}
 use Rattle.rb_shell.specs.Statuses.{EndsFormat, by_disk, by_sink, by_source, status_of}
 use Rattle.rb_shell.specs.declared.status.Status.{Status}
 use Rattle.rb_shell.specs.declared.status.Status.TheVariants.{Done, Usage, SourceFault, DiskFault, SinkFault, NotAStore, NoMemory, NotEmpty, TooLong}

@@ -1,5 +1,5 @@
 -- For which states the shell's engine stands, and what may have become of its store over lines of a script.
-use Rattle.std.proofs.Common.{◌≡◌, ◌∙◌, refl, sym, subst, ℕ, false, Option, None, Some}
+use Rattle.std.proofs.Common.{◌≡◌, ◌∙◌, refl, subst, ℕ, false, Option, None, Some}
 use Rattle.rb_base.specs.declared.store.Store.{Ghosts}
 use Rattle.rb_engine.specs.Crash.{Survives}
 use Rattle.rb_engine.specs.Does.{SameStore, Stands}

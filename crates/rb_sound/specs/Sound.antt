@@ -1,6 +1,6 @@
 -- What an opening tests on the blocks of a file: each header of a segment, and each block of rows.
-use Rattle.std.specs.Prelude.{◌≡◌, ◌≢◌, ℕ, ◌+◌, ◌-◌, ◌*◌, ◌%◌, ◌<◌, ◌≤◌, true}
-use Rattle.std.specs.Prelude.{false, List, [], slice_index, slice_index_or}
+use Rattle.std.specs.Prelude.{◌≡◌, ◌≢◌, ℕ, ◌+◌, ◌*◌, ◌%◌, ◌<◌, ◌≤◌}
+use Rattle.std.specs.Prelude.{List, [], slice_index, slice_index_or}
 use Rattle.byteorder.specs.Endian.{big_bytes}
 use Rattle.rb_base.specs.Blocks.{block_of, commit_block, greatest, header_block, table_blocks}
 use Rattle.rb_base.specs.Fields.{number_at}

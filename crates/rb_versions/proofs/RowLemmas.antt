@@ -1,17 +1,12 @@
 -- The rows that a list of changes makes: each is that of its key's newest change.
-use Rattle.std.proofs.Common.{◌≡◌, ℕ, zero, suc, ◌<◌, ◌≤◌, Bool, true, false, not, ◌&&◌, ◌||◌, cond, ◌==◌, List, [], ◌∷◌, ◌++◌, length, take, get_or, filter, find, Option, None, Some, refl, ap, sym, ◌∙◌, subst, ⊎_elim, arith, add-one, ◌⊎◌}
-use Rattle.std.proofs.lemmas.Bool.{cond_both, cases_Bool, cond-true, cond-false, false≢true, cases_eq}
+use Rattle.std.proofs.Common.{◌≡◌, ℕ, zero, suc, ◌<◌, ◌≤◌, true, false, ◌&&◌, cond, ◌==◌, List, [], ◌∷◌, ◌++◌, length, take, get_or, None, Some, refl, ap, sym, ◌∙◌, ⊎_elim, arith, add-one}
+use Rattle.std.proofs.lemmas.Bool.{cases_Bool, cond-true, cond-false, cases_eq}
 use Rattle.std.proofs.lemmas.List.{take_more}
-use Rattle.std.specs.List.{AllByRecursion}
-use Rattle.rb_base.proofs.Each.{all_filter, all_so}
-use Rattle.rb_model.specs.Change.{Change, Kind}
-use Rattle.rb_model.specs.Change as model
-use Rattle.rb_model.specs.Rows.{TableRow, row_before, is_row_of, has_row, with_row, without_row, changed_by, over, InOrder}
+use Rattle.rb_model.specs.Rows.{TableRow, changed_by, over, InOrder}
 use Rattle.rb_versions.specs.declared.change.RowChange.{RowChange}
 use Rattle.rb_versions.specs.declared.change.RowKind.{RowKind}
 use Rattle.rb_versions.specs.declared.change.RowKind.TheVariants.{Put, Gone}
 use Rattle.rb_versions.specs.Changes.{changes_of, is_change_of, kind_of, row_of, row_of_kind}
-use Rattle.rb_model.proofs.Order.{row_trans, row_total, row_same, row_asym, row_apart, same_itself, same_other, same_apart}
 use Rattle.rb_model.proofs.RowLemmas.{ordered-over, key_row, row-with_row, row-without_row, none_is_some}
 
 row-changed : (blocks table key t k : ℕ) (kind : RowKind) (rows : List TableRow) → key_row table key (changed_by blocks t k (kind_of kind) rows) ≡ cond (t == table && k == key) (row_of_kind t k kind) (key_row table key rows)

@@ -1,6 +1,5 @@
 use Rattle.std.proofs.Common.{ℕ, ◌+◌, ◌<◌, ◌≡◌, List, length, take, Result, Ok, Err, sym, ◌∙◌, ap, subst, arith, refl}
 use Rattle.std.proofs.lemmas.Result.{err_from_is_err_and}
-use Rattle.rb_model.specs.Out.{Logged}
 use Rattle.rb_lines.specs.declared.runner.StepFault.{StepFault}
 use Rattle.rb_lines.specs.Ran.{RanAs}
 use Rattle.rb_lines.specs.Pieces.{lines_from, rest_from}

@@ -1,11 +1,11 @@
-use Rattle.std.proofs.Common.{◌≡◌, ℕ, List, [], ◌∷◌, take, Result, Err, refl, sym, ◌∙◌, ap, subst}
+use Rattle.std.proofs.Common.{◌≡◌, ℕ, List, [], ◌∷◌, take, Result, Err, sym, ◌∙◌, ap, subst}
 use Rattle.std.proofs.lemmas.Result.{err_from_is_err_and}
 use Rattle.rb_model.specs.Out.{Logged}
 use Rattle.rb_lines.specs.declared.runner.StepFault.{StepFault}
 use Rattle.rb_lines.specs.Ran.{LineRanAs, RanAs}
 use Rattle.rb_lines.specs.Pieces.{lines_from}
 use Rattle.rb_lines.proofs.Dids.{did_as}
-use Rattle.rb_lines.proofs.Runs.{step_as, ran_none}
+use Rattle.rb_lines.proofs.Runs.{step_as}
 use Rattle.rb_lines.proofs.pending.feed_byte.Goals as goal
 
 -- LF ends the line

@@ -1,6 +1,5 @@
 use Rattle.std.proofs.Common.{◌≡◌, ℕ, List, [], ◌∷◌, length, take, refl, sym, ◌∙◌, ap, subst}
 use Rattle.std.proofs.lemmas.Bool.{eqb-false}
-use Rattle.rb_model.specs.Out.{Logged}
 use Rattle.rb_lines.specs.Pieces.{last_of}
 use Rattle.rb_lines.specs.Ran.{RanAs}
 use Rattle.rb_lines.proofs.Dids.{did_as}

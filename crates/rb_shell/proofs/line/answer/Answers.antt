@@ -1,4 +1,4 @@
-use Rattle.std.proofs.Common.{◌≡◌, ◌∙◌, sym, ap, subst}
+use Rattle.std.proofs.Common.{sym, subst}
 use Rattle.rb_engine.specs.Does.{Does}
 use Rattle.rb_model.specs.Answers.{answer_of}
 use Rattle.rb_model.specs.Out.{call_of}

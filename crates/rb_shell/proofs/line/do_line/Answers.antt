@@ -1,9 +1,9 @@
-use Rattle.std.proofs.Common.{◌≡◌, ℕ, List, [], Result, Ok, Err, refl, sym, ◌∙◌, ap, subst}
+use Rattle.std.proofs.Common.{◌≡◌, Result, Err, sym, ◌∙◌, ap, subst}
 use Rattle.std.proofs.lemmas.Result.{err_from_is_err_and}
 use Rattle.rb_lines.proofs.Dids.{did_as}
 use Rattle.rb_lines.specs.Ran.{RepliedAs}
 use Rattle.rb_lines.specs.declared.runner.StepFault.{StepFault}
-use Rattle.rb_lines.specs.declared.runner.StepFault.TheVariants.{Disk, Sink}
+use Rattle.rb_lines.specs.declared.runner.StepFault.TheVariants.{Sink}
 use Rattle.rb_model.specs.Out.{LineOut}
 use Rattle.rb_shell.specs.Since.{slots_of}
 use Rattle.rb_shell.specs.Steps.{SaidAs}

@@ -1,4 +1,4 @@
-use Rattle.std.proofs.Common.{◌≡◌, false, ℕ, List, [], refl, ap, sym, ◌∙◌, subst}
+use Rattle.std.proofs.Common.{◌≡◌, false, ℕ, List, refl, ap, sym, ◌∙◌, subst}
 use Rattle.rb_model.specs.Lines.{bad_line_text, Spells, SpellsNone, is_remark}
 use Rattle.rb_model.specs.Out.{LineOut, CommandOut, Logged, too_long, skipped, bad, command}
 use Rattle.rb_lines.proofs.Dids.{did_as}

@@ -1,5 +1,4 @@
-use Rattle.std.proofs.Common.{◌∙◌, ap, sym, subst, arith, refl}
-use Rattle.rb_model.specs.State.{State}
+use Rattle.std.proofs.Common.{ap, sym, subst, refl}
 use Rattle.rb_shell.specs.Runs.{LeftAlone}
 use Rattle.rb_shell.specs.Since.{slots_of}
 use Rattle.rb_shell.proofs.RunLemmas.{Found, has_opened, loads_alone, not_sound, no_opening, rests_alone, neither_failed}

@@ -1,6 +1,5 @@
-use Rattle.std.proofs.Common.{◌≡◌, ◌∙◌, ℕ, Bool, List, Some, inr, sym, ap, subst, refl, false}
+use Rattle.std.proofs.Common.{◌≡◌, ◌∙◌, ℕ, List, Some, inr, sym, ap, subst, refl, false}
 use Rattle.rb_engine.specs.Crash.{Survives}
-use Rattle.rb_engine.specs.Holds.{OpensAs}
 use Rattle.rb_lines.specs.Ends.{EndsAs}
 use Rattle.rb_lines.specs.Faults.{IsCountedBeside}
 use Rattle.rb_lines.specs.Ran.{Ran}
@@ -8,10 +7,8 @@ use Rattle.rb_lines.specs.declared.lines.LinesEnd.{LinesEnd}
 use Rattle.rb_lines.specs.declared.lines.LinesEnd.TheVariants as ends
 use Rattle.rb_model.specs.State.{State}
 use Rattle.rb_store.specs.contracts.lap.LapStoreStore.TheImpl.{ghosts}
-use Rattle.rb_shell.specs.Runs.{AsksNothing, AsksScript, Endures, EndsRun, HasOpened, HasRun, RanOn}
-use Rattle.rb_shell.specs.Since.{StandsAs}
-use Rattle.rb_shell.specs.Statuses.{by_disk, by_sink, by_source}
-use Rattle.rb_shell.specs.declared.status.Status.{Status}
+use Rattle.rb_shell.specs.Runs.{Endures, HasOpened, HasRun, RanOn}
+use Rattle.rb_shell.specs.Statuses.{by_disk, by_sink}
 use Rattle.rb_shell.proofs.RunLemmas.{endures, has_halted, has_run, was_cut_off}
 use Rattle.rb_shell.proofs.StatusLemmas.{beside, counted_as, disk_fault_of, done_of, sink_fault_of, source_fault_of, too_long_of, uncounted}
 use Rattle.rb_shell.proofs.script.run_script.Given.{Over}

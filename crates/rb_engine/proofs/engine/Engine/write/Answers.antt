@@ -1,9 +1,6 @@
-use Rattle.std.proofs.Common.{inl, ap, sym, ◌∙◌}
 use Rattle.rb_model.specs.Answers.{write_answer, action_of}
-use Rattle.rb_model.specs.Names.{name_text}
 use Rattle.rb_model.specs.Reply as call
-use Rattle.rb_engine.specs.Engine.{room_left}
-use Rattle.rb_engine.proofs.DoesLemmas.{does_by, plus_none}
+use Rattle.rb_engine.proofs.DoesLemmas.{does_by}
 use Rattle.rb_engine.proofs.engine.Engine.write.Goals as goal
 
 pub returns-clause-did : goal.returns-clause-did
