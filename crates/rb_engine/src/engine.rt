@@ -116,7 +116,8 @@ impl<T: Store> Engine<T> {
         ensures granted { IfNone result (first_of (log_tests (T.number self.now.store)
             (room_left (T.slots self.now.store) (T.number self.now.store) self.now.spare)) call.Done ≡ call.Done) }
         ensures few { IfNone result (T.number self.now.store < 2 ^ 60) }
-        ensures room { IfNone result (2 ≤ room_left (T.slots self.now.store) (T.number self.now.store) self.now.spare) }
+        ensures room { IfNone result (2 ≤ room_left (T.slots self.now.store) (T.number self.now.store)
+            self.now.spare) }
     {
         if self.store.logged() >= WORN {
             return Some(Refusal::WornOut);
@@ -147,7 +148,8 @@ impl<T: Store> Engine<T> {
         ensures slots { T.slots self.new.store ≡ T.slots self.old.store }
         ensures spare { self.new.spare + groups (call.Write 1 table key (action_of op.entry)) (write_answer result)
             ≡ self.old.spare }
-        ensures counted { IsCountedAs (T.faults self.old.store) (T.faults self.new.store) (err_is is_disk_fault result) }
+        ensures counted { IsCountedAs (T.faults self.old.store) (T.faults self.new.store)
+            (err_is is_disk_fault result) }
         ensures crash { T.tells → T.keeps → IsDurable T.Store self.old.state self.old.store
             → Survives T.Store (T.slots self.old.store) self.old.state self.new.state self.old.store self.new.store }
     {
@@ -190,7 +192,8 @@ impl<T: Store> Engine<T> {
         ensures slots { T.slots self.new.store ≡ T.slots self.old.store }
         ensures spare { self.new.spare + groups (call.Write s table key (action_of op.entry)) (write_answer result)
             ≡ self.old.spare }
-        ensures counted { IsCountedAs (T.faults self.old.store) (T.faults self.new.store) (err_is is_disk_fault result) }
+        ensures counted { IsCountedAs (T.faults self.old.store) (T.faults self.new.store)
+            (err_is is_disk_fault result) }
         ensures refused { T.tells → IfErr result (λ why. why ≢ Refusal.DiskFault
             → self.new.store ≡ self.old.store) }
         // At any moment each image has the commits of before.
@@ -243,7 +246,8 @@ impl<T: Store> Engine<T> {
         ensures shape { T.shape_of self.new.store ≡ T.shape_of self.old.store }
         ensures slots { T.slots self.new.store ≡ T.slots self.old.store }
         ensures spare { self.new.spare ≡ self.old.spare }
-        ensures counted { IsCountedAs (T.faults self.old.store) (T.faults self.new.store) (err_is is_disk_fault result) }
+        ensures counted { IsCountedAs (T.faults self.old.store) (T.faults self.new.store)
+            (err_is is_disk_fault result) }
         ensures refused { IfErr result (λ why. why ≢ Refusal.DiskFault → self.new.store ≡ self.old.store) }
         ensures nothing { result ≡ Ok None → self.new.store ≡ self.old.store }
         // At any moment each image has the commits of before, or at the end this one too.

@@ -233,7 +233,8 @@ impl EngineState {
     /// Why the session, the table or the value stands in the way of a write, where it does.
     fn early_refusal(&self, s: u16, table: u16, op: Op<'_>) -> Option<Refusal>
         ensures refused { IfSome result (λ why. (logged room key : ℕ)
-            → call.Refused why ≡ expected self.now.state logged room (call.Write s table key (action_of op.entry))) }
+            → call.Refused why ≡ expected self.now.state logged room
+            (call.Write s table key (action_of op.entry))) }
         ensures granted { IfNone result ((key : ℕ) → call.none_applies
             (call.early_tests self.now.state (call.Write s table key (action_of op.entry))) ≡ true) }
         ensures other { IfSome result (λ why. why ≢ Refusal.DiskFault) }
@@ -260,7 +261,8 @@ impl EngineState {
     /// Why a write is refused, whatever the log: its tests but the last two.
     pub fn write_refusal(&self, s: u16, table: u16, key: u64, op: Op<'_>) -> Option<Refusal>
         ensures refused { IfSome result (λ why. (logged room : ℕ)
-            → call.Refused why ≡ expected self.now.state logged room (call.Write s table key (action_of op.entry))) }
+            → call.Refused why ≡ expected self.now.state logged room
+            (call.Write s table key (action_of op.entry))) }
         ensures granted { IfNone result ((logged room : ℕ)
             → expected self.now.state logged room (call.Write s table key (action_of op.entry))
             ≡ first_of (log_tests logged room) call.Done) }
@@ -321,7 +323,8 @@ impl EngineState {
             → call.Refused why ≡ expected self.now.state logged room
             (call.OpenCursor s (name_text name.now) table lo hi)) }
         ensures granted { IfNone result ((logged room lo hi : ℕ)
-            → call.Done ≡ expected self.now.state logged room (call.OpenCursor s (name_text name.now) table lo hi)) }
+            → call.Done ≡ expected self.now.state logged room
+            (call.OpenCursor s (name_text name.now) table lo hi)) }
         ensures other { IfSome result (λ why. why ≢ Refusal.DiskFault) }
         ensures session { IfNone result (s ≡ 1) }
         ensures few { IfNone result (length (session_of self.now.state 1).cursors < 16) }

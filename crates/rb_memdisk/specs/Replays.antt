@@ -358,7 +358,7 @@ module _ (first : List ℕ) (calls : List Call) (written : List ℕ) (call : Cal
     -- an image now
     pub images_now : (c : List ℕ) → MayLeave first calls_now written_now (length calls_now) c
         → images_after (λ d. MayLeave first calls written (length calls) d) (read_after_all first calls written) call
-            c
+        c
     images_now c left =
         let whole_now : images_after_all (λ d. d ≡ first) first (calls ++ call ∷ []) (written ++ bytes) c =
         (rw (whole calls_now, on.calls_is, on.written_is) at left) in
@@ -373,7 +373,7 @@ module _ (first : List ℕ) (calls : List Call) (written : List ℕ) (call : Cal
         images_weaker (images_after_all (λ d. d ≡ first) first calls (written ++ bytes))
         (λ d. MayLeave first calls written (length calls) d) (read_after_all first calls written) call c
         (λ d here. rw (whole calls) (images_all_longer (λ e. e
-            ≡ first) first calls written bytes d on.fitting here))
+        ≡ first) first calls written bytes d on.fitting here))
         same_read
 
     pub passes : Passes (length calls) (length calls_now) (MayLeaveSince first calls written)

@@ -200,7 +200,8 @@ fn all_cells_sound(block: &[u8], shape: Shape, home: u32) -> bool
 pub fn home_sound(block: &[u8], home: u32, limits: &Limits) -> bool
     requires block { length block.now ≡ 2048 }
     requires shape { IsShape limits.now.shape }
-    ensures { IsTrue result ↔ IsHomeSound limits.now.shape limits.now.commit (wrap_in limits.now.wraps) home block.now }
+    ensures { IsTrue result ↔ IsHomeSound limits.now.shape limits.now.commit (wrap_in limits.now.wraps) home
+        block.now }
 {
     entries_sound(block, limits) && all_cells_sound(block, limits.shape, home)
 }
