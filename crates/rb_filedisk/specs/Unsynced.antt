@@ -1,6 +1,6 @@
 -- The bytes written since a sync, as ranges in the order of their writes.
-use Rattle.std.specs.Prelude.{◌≡◌, ℕ, ◌+◌, ◌-◌, ◌^◌, ◌<◌, ◌≤◌, min, max, Bool, cond}
-use Rattle.std.specs.Prelude.{◌&&◌, ◌||◌, nat_le, ◌==◌, ◌⊎◌, List, [], ◌∷◌, length}
+use Rattle.std.specs.Prelude.{◌≡◌, ℕ, ◌+◌, ◌-◌, ◌^◌, ◌<◌, ◌≤◌, min, max, nat_le, ◌==◌, List, [], ◌∷◌, length}
+use Rattle.std.specs.Prelude.{Bool, cond, ◌&&◌, ◌||◌, ◌⊎◌}
 use Rattle.rb_filedisk.specs.declared.unsynced.Range.{Range}
 use Rattle.rb_filedisk.specs.declared.unsynced.Unsynced.{Unsynced}
 
@@ -20,7 +20,7 @@ abbrev pub HasOne : List Range → ℕ → Type 0
 HasOne [] byte = ⊥
 HasOne (range ∷ ranges) byte = Has range byte ⊎ HasOne ranges byte
 
--- whether no byte lies between two ranges
+-- whether two ranges overlap or follow each other, so that no byte lies between them
 abbrev pub touches : Range → Range → Bool
 touches a b = nat_le a.start b.end && nat_le b.start a.end
 

@@ -46,7 +46,7 @@ impl Range {
         }
     }
 
-    // Reads the bytes in front of an offset, and writes them again.
+    // Reads the bytes, as far as a file of this length goes, and writes them again.
     fn write_again<F: FileExt>(self, len: u64, file: &F) {
         let end = self.end.min(len);
         let mut piece = [0; PIECE];
@@ -62,7 +62,7 @@ impl Range {
     }
 }
 
-/// Up to 128 ranges, in the order of their writes.
+/// The bytes written, as up to 128 ranges in the order of their writes.
 #[derive(Drop)]
 pub struct Unsynced {
     ranges: ArrayVec<Range, 128>,
@@ -88,7 +88,7 @@ impl Unsynced {
         let full = self.ranges.is_full();
         match self.ranges.pop() {
             // Where there is no room the last range grows over the gap, so that no byte is forgotten. It doesn't occur
-            // in this form: a flush has at most 128 runs, and no more than a byte for each lies apart.
+            // in this form: a flush has at most 128 runs, and of each only the gate lies apart.
             Some(last) if full || last.touches(written) => {
                 self.ranges.push(last.joined(written));
             }
