@@ -92,7 +92,7 @@ same_fields (f ∷ fields) (g ∷ others) same p q e =
     let k = same_front (field_text f) (field_text g) (fields_text fields) (fields_text others) (field_is_word f p.0) (field_is_word g q.0) (fields_tail fields) (fields_tail others) (ap (drop 1) e) in
     cc (same_field f g kind p.0 q.0 k.0, same_fields fields others kinds p.1 q.1 k.1)
 
--- no fields after one field more
+-- a field was read, and what stands after it is none of the others
 pub none_after : (f : Field) {kinds : List Kind} {text rest : List ℕ} → IsField f → text ≡ field_text f ++ 32 ∷ rest
     → NoFields kinds (32 ∷ rest) → NoFields (kind_of f ∷ kinds) (32 ∷ text)
 none_after f valid e none [] same all is = absurd (cc)
@@ -101,7 +101,7 @@ none_after f {kinds = kinds} {rest = rest} valid e none (g ∷ fields) same all 
     let k = same_front (field_text f) (field_text g) (32 ∷ rest) (fields_text fields) (field_is_word f valid) (field_is_word g all.0) refl (fields_tail fields) (sym e ∙ ap (drop 1) is) in
     none fields same_rest all.1 k.1
 
--- nor where no field of the first kind stands before a space
+-- no field of the first kind stands before a space
 pub none_first : (kind next : Kind) {kinds : List Kind} {text : List ℕ}
     → ((n : ℕ) (bytes rest : List ℕ) → IsField (field kind n bytes) → text ≡ field_text (field kind n bytes) ++ 32 ∷ rest → ⊥)
     → NoFields (kind ∷ next ∷ kinds) (32 ∷ text)
@@ -113,7 +113,7 @@ none_first kind next none (g ∷ h ∷ fields) same all is =
     none (number_in g) (bytes_in g) (field_text h ++ fields_text fields) (subst IsField (sym again) all.0)
     (ap (drop 1) is ∙ ap (λ (f : Field). field_text f ++ 32 ∷ (field_text h ++ fields_text fields)) (sym again))
 
--- nor where the text is no field of the one kind
+-- the text is no field of the last kind
 pub none_last : (kind : Kind) {text : List ℕ} → ((n : ℕ) (bytes : List ℕ) → IsField (field kind n bytes) → text ≡ field_text (field kind n bytes) → ⊥)
     → NoFields (kind ∷ []) (32 ∷ text)
 none_last kind none [] same all is = absurd (cc)

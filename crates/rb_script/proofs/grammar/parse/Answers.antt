@@ -16,13 +16,13 @@ another word text compared answer is gives differs same =
 -- so the word is none of them
 named : (c : goal.Else-eq-7) (w : Word) → c.in_ok-word.word.now ≡ word_text w → ⊥
 named c InsertWord = another _ _ _ _ c.as_slice.ensures c.eq.ensures c.if-eq.false
-named c UpdateWord = another _ _ _ _ c.as_slice-2.ensures c.eq-2.ensures c.if-eq-2.false
-named c DeleteWord = another _ _ _ _ c.as_slice-3.ensures c.eq-3.ensures c.if-eq-3.false
-named c CommitWord = another _ _ _ _ c.as_slice-4.ensures c.eq-4.ensures c.if-eq-4.false
-named c OpenWord = another _ _ _ _ c.as_slice-5.ensures c.eq-5.ensures c.if-eq-5.false
-named c FetchWord = another _ _ _ _ c.as_slice-6.ensures c.eq-6.ensures c.if-eq-6.false
-named c CloseWord = another _ _ _ _ c.as_slice-7.ensures c.eq-7.ensures c.if-eq-7.false
+named c UpdateWord = another _ _ _ _ c.as_slice-else-eq.ensures c.eq-else-eq.ensures c.if-eq-2.false
+named c DeleteWord = another _ _ _ _ c.as_slice-else-eq-2.ensures c.eq-else-eq-2.ensures c.if-eq-3.false
+named c CommitWord = another _ _ _ _ c.as_slice-else-eq-3.ensures c.eq-else-eq-3.ensures c.if-eq-4.false
+named c OpenWord = another _ _ _ _ c.as_slice-else-eq-4.ensures c.eq-else-eq-4.ensures c.if-eq-5.false
+named c FetchWord = another _ _ _ _ c.as_slice-else-eq-5.ensures c.eq-else-eq-5.ensures c.if-eq-6.false
+named c CloseWord = another _ _ _ _ c.as_slice-else-eq-6.ensures c.eq-else-eq-6.ensures c.if-eq-7.false
 
-pub returns-clause-none : goal.returns-clause-none
-returns-clause-none c =
+pub returns-else-eq-7-clause-none : goal.returns-else-eq-7-clause-none
+returns-else-eq-7-clause-none c =
     no_command c.args.line.now c.in_ok-word.word.now c.in_ok-word.fields.now c.in_ok-word.ensures.found.0 c.in_ok-word.ensures.found.1 (named c)
