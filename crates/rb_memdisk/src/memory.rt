@@ -280,7 +280,8 @@ impl Disk for MemDisk {
 
     ghost content = { λ disk. disk.bytes.items };
 
-    ghost image = { λ disk c. MayLeave disk.first.items disk.calls.items disk.written.items (length disk.calls.items) c };
+    ghost image = { λ disk c. MayLeave disk.first.items disk.calls.items disk.written.items
+        (length disk.calls.items) c };
 
     ghost moment = { λ disk. length disk.calls.items };
 
