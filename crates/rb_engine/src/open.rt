@@ -173,6 +173,7 @@ fn open_state<T: Store>(alloc: Global, store: &mut T) -> Result<EngineState, Ope
     };
     let unlocked = take_rows(&mut state, store).map_err(|_| OpenFault::Failed)?;
     if unlocked {
+        state.found_all();
         Ok(state)
     } else {
         Err(OpenFault::NotAStore)

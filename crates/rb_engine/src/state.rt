@@ -214,6 +214,13 @@ impl EngineState {
         self.base_length = self.versions.changes().len();
     }
 
+    /// Makes searches of the rows fast, once all are taken. No answer depends on it.
+    pub fn found_all(&mut self)
+        ensures { self.new ≡ self.old }
+    {
+        self.versions.join_all();
+    }
+
     /// The number of the last commit.
     pub fn number(&self) -> Scn
         ensures number { result ≡ last_number self.now.state.commits }
