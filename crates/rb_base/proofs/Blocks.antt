@@ -7,7 +7,7 @@ use Rattle.byteorder.specs.Endian.{big_bytes}
 use Rattle.rb_base.specs.Blocks.{shape_blocks, block_of, patched, after_patch, after_group, fresh_block, fresh_from, AreBlocks}
 use Rattle.rb_base.specs.Fields.{overwritten}
 use Rattle.rb_base.specs.Groups.{Patch, IsPatch}
-use Rattle.rb_base.specs.declared.ids.Shape.{Shape}
+use Rattle.rb_base.specs.declared.shape.Shape.{Shape}
 use Rattle.rb_base.proofs.Each.{all_at, all_set}
 use Rattle.rb_base.proofs.Overwriting.{length-overwritten}
 

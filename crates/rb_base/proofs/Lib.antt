@@ -5,5 +5,6 @@ pub mod Decimals
 pub mod Each
 pub mod Fronts
 pub mod Groups
+pub mod OneBlock
 pub mod Overwriting
 pub mod Written

@@ -25,7 +25,7 @@ take_before old at bytes end within le =
     ap (take end) (append_assoc front bytes rest) ∙ take-append-le end front (bytes ++ rest) (omega (arith, length-take-le at old within)) ∙ take-take end at old le
 
 -- and those behind it
-drop_behind : (old : List ℕ) (at : ℕ) (bytes : List ℕ) (from : ℕ) → at + length bytes ≤ length old → at + length bytes ≤ from → drop from (overwritten old at bytes) ≡ drop from old
+pub drop_behind : (old : List ℕ) (at : ℕ) (bytes : List ℕ) (from : ℕ) → at + length bytes ≤ length old → at + length bytes ≤ from → drop from (overwritten old at bytes) ≡ drop from old
 drop_behind old at bytes from within le =
     let end = at + length bytes in
     let front = take at old ++ bytes in

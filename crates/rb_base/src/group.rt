@@ -4,15 +4,11 @@ ghost use Rattle.std.specs.Prelude.{IsTrue, ◌≡◌, ◌↔◌, ◌+◌, ◌<�
 ghost use Rattle.std.specs.Prelude.{length, true, slice_index_or};
 ghost use Rattle.rb_base.specs.Groups.{Patch, patch, patch_length, group_length, IsGroup};
 
+use crate::bytes::array_of;
 use crate::ids::BlockNo;
+use crate::sizes::{BLOCK_HEAD, GROUP_BYTES, GROUP_PATCHES, UNIT};
 use arrayvec::ArrayVec;
 use std::marker::Model;
-
-/// The most patches of a group.
-const PATCHES: usize = 40;
-
-/// The most bytes of a group's spelling.
-const GROUP_BYTES: usize = 2000;
 
 /// The bytes of a group's spelling in front of its patches: how many there are.
 const COUNT_BYTES: usize = 2;
@@ -32,8 +28,8 @@ struct Head {
 /// Up to 40 patches in order, whose spelling has at most 2,000 bytes. It lies in one piece and takes no other memory.
 #[derive(Drop)]
 pub struct Group {
-    heads: ArrayVec<Head, 40>,
-    bytes: ArrayVec<u8, 2000>,
+    heads: ArrayVec<Head, GROUP_PATCHES>,
+    bytes: ArrayVec<u8, GROUP_BYTES>,
 }
 
 impl Model for Group {
@@ -65,14 +61,13 @@ impl Group {
         ensures { result ≡ self.now }
     {
         let mut heads = ArrayVec::new();
-        let mut bytes = ArrayVec::new();
         if heads.try_extend_from_slice(self.heads.as_slice()).is_err() {
             unreachable!()
         }
-        if bytes.try_extend_from_slice(self.bytes.as_slice()).is_err() {
-            unreachable!()
+        Group {
+            heads,
+            bytes: array_of(self.bytes.as_slice()),
         }
-        Group { heads, bytes }
     }
 
     /// How many patches there are, 0 to 40.
@@ -85,24 +80,23 @@ impl Group {
 
     /// Whether one more patch of `len` bytes has room.
     pub fn fits(&self, len: usize) -> bool
-        ensures { IsTrue result ↔ ((length self.now < 40) × (group_length self.now + (8 + len) ≤ 2000)) }
+        ensures { IsTrue result ↔ ((length self.now < GROUP_PATCHES) × (group_length self.now + (8 + len) ≤ GROUP_BYTES)) }
     {
         let count = self.heads.len();
         let used = COUNT_BYTES + HEAD_BYTES * count + self.bytes.len();
-        count < PATCHES
+        count < GROUP_PATCHES
             && used + HEAD_BYTES <= GROUP_BYTES
             && len <= GROUP_BYTES - HEAD_BYTES - used
     }
 
     /// Puts one more patch at the end, which has room (`fits`): these bytes, one at least, go into a block from its
-    /// byte
-    /// `at` on, behind the block's first 32 bytes and within its 2,048.
+    /// byte `at` on, behind the block's first 32 bytes and within its 2,048.
     pub fn push(&mut self, block: BlockNo, at: u16, bytes: &[u8])
-        requires count { length self.old < 40 }
-        requires room { group_length self.old + (8 + length bytes.now) ≤ 2000 }
+        requires count { length self.old < GROUP_PATCHES }
+        requires room { group_length self.old + (8 + length bytes.now) ≤ GROUP_BYTES }
         requires some { 1 ≤ length bytes.now }
-        requires behind_head { 32 ≤ at }
-        requires within_block { at + length bytes.now ≤ 2048 }
+        requires behind_head { BLOCK_HEAD ≤ at }
+        requires within_block { at + length bytes.now ≤ UNIT }
         ensures { self.new ≡ self.old ++ patch block at bytes.now ∷ [] }
     {
         let head = Head {

@@ -1,30 +1,30 @@
 //! `Store`: the blocks of a file, read and patched by groups, as the engine and what it stands on call them.
-ghost use Rattle.std.specs.Prelude.{◌≡◌, ◌+◌, ◌^◌, ◌<◌, ◌≤◌, [], ◌∷◌, ◌++◌, ℕ};
-ghost use Rattle.std.specs.Prelude.{Bool, List, length, true, false, is_some, Option, Some, OnOk};
+
+ghost use Rattle.std.specs.Prelude.{◌≡◌, ◌+◌, ◌^◌, ◌<◌, ◌≤◌, ◌∷◌, ◌++◌, ℕ, [], List, length};
+ghost use Rattle.std.specs.Prelude.{Bool, true, false, is_some, Option, Some, OnOk};
 ghost use Rattle.std.specs.Result.{is_err};
-ghost use Rattle.rb_base.specs.Blocks.{block_of, after_group, up_to_last, commit_block, shape_blocks, AreBlocks};
-ghost use Rattle.rb_base.specs.Blocks.{AreWithin, IsShape};
+ghost use Rattle.rb_base.specs.Blocks.{block_of, after_group, shape_blocks, AreBlocks, AreWithin, IsShape};
 ghost use Rattle.rb_base.specs.Counts.{IsCounted};
 ghost use Rattle.rb_base.specs.Groups.{Patch};
-ghost use Rattle.rb_base.specs.Moments.{NoMore, Passes, LeavesOnly};
-ghost use Rattle.rb_base.specs.Stores.{room_of, after_pending, after_kept, AfterSome};
-ghost use Rattle.rb_base.specs.declared.ids.Shape.{Shape};
+ghost use Rattle.rb_base.specs.Moments.{LeavesNoMore};
+ghost use Rattle.rb_base.specs.Stores.{room_of, after_pending, Flushes, Loads};
+ghost use Rattle.rb_base.specs.declared.shape.Shape.{Shape};
 
 use crate::faults::Failed;
 use crate::group::Group;
-use crate::ids::{BlockNo, Lsn, Shape};
+use crate::ids::{BlockNo, Lsn};
+use crate::shape::Shape;
+use crate::sizes::UNIT;
 
 /// The blocks of a file. Each change of them is a group of patches, which has the next log number. A group waits until
-/// a
-/// flush; from then on a crash leaves it, if it is a commit or a commit is behind it. A store of which a call has
-/// failed
+/// a flush; from then on a crash leaves it, if it is a commit or a commit is behind it. A store of which a call has failed
 /// is no more to be called.
 pub trait Store {
     /// Whether it tells its blocks.
     ghost tells: { Type 0 };
 
-    /// Whether it tells what a crash leaves. A store in memory alone keeps nothing.
-    ghost keeps: { Type 0 };
+    /// Whether it tells what a crash leaves. A store in memory alone doesn't.
+    ghost tells_crashes: { Type 0 };
 
     /// How many blocks of each kind there are.
     ghost shape_of: { Self → Shape };
@@ -39,7 +39,7 @@ pub trait Store {
     ghost pending: { Self → List (List Patch) };
 
     /// The last log number given.
-    ghost number: { Self → ℕ };
+    ghost lsn: { Self → ℕ };
 
     /// The block that was loaded.
     ghost loaded: { Self → Option ℕ };
@@ -65,8 +65,7 @@ pub trait Store {
     /// To which blocks an image opens, in a file of that shape and as many slots.
     ghost opens: { Shape → Option ℕ → image → List (List ℕ) → Type 0 };
 
-    /// These blocks are stable: each image that a crash now may leave opens to them, and patched by the groups that
-    /// wait
+    /// These blocks are stable: each image that a crash now may leave opens to them, and patched by the groups that wait
     /// they are those that it reads.
     ghost stable: { Self → List (List ℕ) → Type 0 };
 
@@ -80,24 +79,16 @@ pub trait Store {
         requires going { failed self.old ≡ false }
         requires there { no < shape_blocks (shape_of self.old) }
         ensures loaded { OnOk result (loaded self.new ≡ Some no) }
-        ensures shape { shape_of self.new ≡ shape_of self.old }
-        ensures slots { slots self.new ≡ slots self.old }
-        ensures number { number self.new ≡ number self.old }
-        ensures blocks { tells → blocks self.new ≡ blocks self.old }
+        ensures only_loads { Loads tells tells_crashes shape_of slots lsn blocks pending stable left moment left_since
+            self.old self.new }
         ensures whole { tells → AreBlocks (shape_of self.new) (blocks self.new) }
-        ensures pending { keeps → pending self.new ≡ pending self.old }
-        ensures stable { keeps → (b : List (List ℕ)) → stable self.old b → stable self.new b }
-        ensures images { keeps → NoMore (left self.old) (left self.new) }
-        ensures time { keeps → Passes (moment self.old) (moment self.new) (left_since self.old) (left_since self.new)
-            (left self.new) }
         ensures failed { failed self.new ≡ is_err result }
         ensures counted { IsCounted (faults self.old) (faults self.new) result };
 
-    /// The block that was loaded, 2,048 bytes. The last of the calls that change the store was a `load` that answered
-    /// Ok.
+    /// The block that was loaded, 2,048 bytes. The last of the calls that change the store was a `load` that answered Ok.
     fn block(&self) -> &[u8]
         requires loaded { is_some (loaded self.now) ≡ true }
-        ensures length { length result.now ≡ 2048 }
+        ensures length { length result.now ≡ UNIT }
         ensures block { tells → (no : ℕ) → loaded self.now ≡ Some no
             → result.now ≡ block_of (blocks self.now) no };
 
@@ -106,41 +97,28 @@ pub trait Store {
         requires going { failed self.old ≡ false }
         requires some { 0 < length group.now }
         requires within { AreWithin (shape_of self.old) group.now }
-        requires room { 1 ≤ room_of (slots self.old) (number self.old) }
-        requires few { number self.old < 2 ^ 62 }
-        ensures number { OnOk result (number self.new ≡ number self.old + 1) }
+        requires room { 1 ≤ room_of (slots self.old) (lsn self.old) }
+        requires few { lsn self.old < 2 ^ 62 }
+        ensures number { OnOk result (lsn self.new ≡ lsn self.old + 1) }
         ensures blocks { tells → OnOk result (blocks self.new
-            ≡ after_group (number self.old + 1) group.now (blocks self.old)) }
-        ensures pending { keeps → OnOk result (pending self.new ≡ pending self.old ++ group.now ∷ []) }
+            ≡ after_group (lsn self.old + 1) group.now (blocks self.old)) }
+        ensures pending { tells_crashes → OnOk result (pending self.new ≡ pending self.old ++ group.now ∷ []) }
         ensures shape { shape_of self.new ≡ shape_of self.old }
         ensures slots { slots self.new ≡ slots self.old }
-        ensures stable { keeps → OnOk result ((b : List (List ℕ)) → stable self.old b → stable self.new b) }
-        ensures images { keeps → NoMore (left self.old) (left self.new) }
-        ensures time { keeps → Passes (moment self.old) (moment self.new) (left_since self.old) (left_since self.new)
-            (left self.new) }
+        ensures stable { tells_crashes → OnOk result ((b : List (List ℕ)) → stable self.old b → stable self.new b) }
+        ensures crashes { tells_crashes → LeavesNoMore left moment left_since self.old self.new }
         ensures failed { failed self.new ≡ is_err result }
         ensures counted { IsCounted (faults self.old) (faults self.new) result };
 
-    /// Makes the groups that wait last. After an Ok none waits, and a crash leaves those up to the last commit. Where
-    /// it is
-    /// stopped, a crash leaves some of them, in order from the first and up to a commit.
+    /// Makes the groups that wait last. After an Ok none waits, and a crash leaves those up to the last commit. Where it
+    /// is stopped, a crash leaves some of them, in order from the first and up to a commit.
     fn flush(&mut self) -> Result<(), Failed>
         requires going { failed self.old ≡ false }
-        ensures flushed { keeps → OnOk result (pending self.new ≡ []) }
-        ensures kept { keeps → OnOk result ((b : List (List ℕ)) → stable self.old b → (i : image)
-            → left self.new i
-            → opens (shape_of self.new) (slots self.new) i
-            (after_kept (commit_block (shape_of self.old)) (number self.old) (pending self.old) b)) }
-        ensures stable { keeps → OnOk result ((b : List (List ℕ)) → stable self.old b
-            → up_to_last (commit_block (shape_of self.old)) (pending self.old) ≡ pending self.old
-            → stable self.new (blocks self.new)) }
-        ensures any_moment { keeps → (b : List (List ℕ)) → stable self.old b
-            → LeavesOnly moment left_since self.old self.new
-            (λ i. (now : List (List ℕ)) × opens (shape_of self.new) (slots self.new) i now
-            × AfterSome (commit_block (shape_of self.old)) (number self.old) (pending self.old) b now) }
+        ensures flushes { tells_crashes → Flushes shape_of slots lsn blocks pending opens stable left moment left_since
+            self.old self.new result }
         ensures shape { shape_of self.new ≡ shape_of self.old }
         ensures slots { slots self.new ≡ slots self.old }
-        ensures number { number self.new ≡ number self.old }
+        ensures number { lsn self.new ≡ lsn self.old }
         ensures blocks { tells → blocks self.new ≡ blocks self.old }
         ensures failed { failed self.new ≡ is_err result }
         ensures counted { IsCounted (faults self.old) (faults self.new) result };
@@ -148,45 +126,38 @@ pub trait Store {
     /// Does what `flush` does, and makes the log short where the store can.
     fn checkpoint(&mut self) -> Result<(), Failed>
         requires going { failed self.old ≡ false }
-        ensures flushed { keeps → OnOk result (pending self.new ≡ []) }
-        ensures kept { keeps → OnOk result ((b : List (List ℕ)) → stable self.old b → (i : image)
-            → left self.new i
-            → opens (shape_of self.new) (slots self.new) i
-            (after_kept (commit_block (shape_of self.old)) (number self.old) (pending self.old) b)) }
-        ensures stable { keeps → OnOk result ((b : List (List ℕ)) → stable self.old b
-            → up_to_last (commit_block (shape_of self.old)) (pending self.old) ≡ pending self.old
-            → stable self.new (blocks self.new)) }
-        ensures any_moment { keeps → (b : List (List ℕ)) → stable self.old b
-            → LeavesOnly moment left_since self.old self.new
-            (λ i. (now : List (List ℕ)) × opens (shape_of self.new) (slots self.new) i now
-            × AfterSome (commit_block (shape_of self.old)) (number self.old) (pending self.old) b now) }
+        ensures flushes { tells_crashes → Flushes shape_of slots lsn blocks pending opens stable left moment left_since
+            self.old self.new result }
         ensures shape { shape_of self.new ≡ shape_of self.old }
         ensures slots { slots self.new ≡ slots self.old }
-        ensures number { number self.new ≡ number self.old }
+        ensures number { lsn self.new ≡ lsn self.old }
         ensures blocks { tells → blocks self.new ≡ blocks self.old }
         ensures failed { failed self.new ≡ is_err result }
         ensures counted { IsCounted (faults self.old) (faults self.new) result };
 
     /// The last log number given. Each `apply` that answers Ok adds 1, and no other call changes it.
     fn logged(&self) -> Lsn
-        ensures { result ≡ number self.now };
+        ensures { result ≡ lsn self.now };
 
     /// How many more groups have room.
     fn room(&self) -> u64
-        ensures { result ≡ room_of (slots self.now) (number self.now) };
+        ensures { result ≡ room_of (slots self.now) (lsn self.now) };
+
+    /// What tells what a crash leaves tells its blocks.
+    ghost crashes_told: { tells_crashes → tells };
 
     /// An image that a crash now may leave opens to the blocks that are stable.
-    ghost stable_left: { (store : Self) (b : List (List ℕ)) (i : image) → keeps → stable store b → left store i
+    ghost stable_left: { (store : Self) (b : List (List ℕ)) (i : image) → tells_crashes → stable store b → left store i
         → opens (shape_of store) (slots store) i b };
 
     /// Those blocks, patched by the groups that wait, are the ones that it reads.
-    ghost stable_patched: { (store : Self) (b : List (List ℕ)) → keeps → stable store b
-        → blocks store ≡ after_pending (number store) (pending store) b };
+    ghost stable_patched: { (store : Self) (b : List (List ℕ)) → tells_crashes → stable store b
+        → blocks store ≡ after_pending (lsn store) (pending store) b };
 
     /// This moment is one of those since an earlier one.
-    ghost now_counts: { (store : Self) (t : ℕ) (i : image) → keeps → t ≤ moment store → left store i
+    ghost now_counts: { (store : Self) (t : ℕ) (i : image) → tells_crashes → t ≤ moment store → left store i
         → left_since store t i };
 
     /// Since this moment there is no other.
-    ghost only_now: { (store : Self) (i : image) → keeps → left_since store (moment store) i → left store i };
+    ghost only_now: { (store : Self) (i : image) → tells_crashes → left_since store (moment store) i → left store i };
 }

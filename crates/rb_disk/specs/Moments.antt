@@ -1,48 +1,38 @@
--- Calls that leave a disk and its images as they were, one or several.
-use Rattle.std.specs.Prelude.{◌≡◌, ◌⊎◌, ℕ, ◌≤◌, List}
-use Rattle.std.proofs.Common.{inl, inr, ⊎_elim, ◌∙◌, arith}
-use Rattle.rb_base.specs.Moments.{NoMore, Passes, LeavesOnly}
+-- Calls that leave a disk and its images as they were, one or several; and what a disk's images have at each moment.
+use Rattle.std.specs.Prelude.{◌≡◌, ℕ, List}
+use Rattle.std.proofs.Common.{◌∙◌}
+use Rattle.rb_base.specs.Moments.{NoMore, Passes, LeavesNoMore, LeavesOnly, one_call, more_calls, still_leaves}
+use Rattle.rb_disk.specs.declared.disk.Disk.{Ghosts}
+
+-- Each image that a crash at some moment since the disk was `old` may have left has P.
+abbrev pub Leaves : {D : Type 0} → Ghosts D → D → D → (List ℕ → Type 0) → Type 0
+Leaves d old new P = LeavesOnly d.moment d.image_since old new P
 
 -- The disk reads as before, and a crash at some moment since may have left nothing but what it might have left
 -- at the start.
-pub record Rests {D : Type 0} (content : D → List ℕ) (image : D → List ℕ → Type 0) (moment : D
-    → ℕ) (since : D → ℕ → List ℕ → Type 0) (old new : D) : Type 0 where
-  pub same : content new ≡ content old
-  pub no_more : NoMore (image old) (image new)
-  pub later : moment old ≤ moment new
-  pub nothing_else : (t : ℕ) (c : List ℕ) → t ≤ moment old → since new t c → since old t c ⊎ image old c
+pub record Rests {D : Type 0} (d : Ghosts D) (old new : D) : Type 0 where
+  pub same : d.content new ≡ d.content old
+  pub crashes : LeavesNoMore d.image d.moment d.image_since old new
 
-module _ {D : Type 0} (content : D → List ℕ) (image : D → List ℕ → Type 0) (moment : D → ℕ) (since : D
-    → ℕ → List ℕ → Type 0) where
+module _ {D : Type 0} (d : Ghosts D) where
   -- one call that changes nothing
-  pub rests : (old new : D) → content new ≡ content old → NoMore (image old) (image new)
-      → Passes (moment old) (moment new) (since old) (since new) (image new)
-      → Rests content image moment since old new
+  pub rests : (old new : D) → d.content new ≡ d.content old → NoMore (d.image old) (d.image new)
+      → Passes (d.moment old) (d.moment new) (d.image_since old) (d.image_since new) (d.image new) → Rests d old new
   rests old new same no_more time = record {
     same = same;
-    no_more = no_more;
-    later = time.later;
-    nothing_else = λ t c le left. ⊎_elim (λ was. inl was) (λ now. inr (no_more c now)) (time.splits t c le left);
+    crashes = one_call d.image d.moment d.image_since old new no_more time;
   }
 
   -- several such calls after several others
-  pub rests_on : (old mid new : D) → Rests content image moment since old mid
-      → Rests content image moment since mid new → Rests content image moment since old new
+  pub rests_on : (old mid new : D) → Rests d old mid → Rests d mid new → Rests d old new
   rests_on old mid new first second = record {
     same = second.same ∙ first.same;
-    no_more = λ c now. first.no_more c (second.no_more c now);
-    later = omega (arith, first.later, second.later);
-    nothing_else = λ t c le left. ⊎_elim (first.nothing_else t c le) (λ now. inr (first.no_more c now))
-        (second.nothing_else t c (omega (arith, le, first.later)) left);
+    crashes = more_calls d.image d.moment d.image_since old mid new first.crashes second.crashes;
   }
 
   -- such calls leave P where each image has it already
   pub rests_leave : (old new : D) (P : List ℕ → Type 0)
-      → ((c : List ℕ) → since old (moment old) c → image old c) → ((c : List ℕ) → image old c → P c)
-      → Rests content image moment since old new → LeavesOnly moment since old new P
-  rests_leave old new P only_now here still = record {
-    later = still.later;
-    each = λ c left. ⊎_elim (λ was. here c (only_now c was)) (here c)
-        (still.nothing_else (moment old) c (omega arith) left);
-    earlier = λ t c le left. ⊎_elim (λ was. inl was) (λ now. inr (here c now)) (still.nothing_else t c le left);
-  }
+      → ((c : List ℕ) → d.image_since old (d.moment old) c → d.image old c) → ((c : List ℕ) → d.image old c → P c)
+      → Rests d old new → Leaves d old new P
+  rests_leave old new P only_now here still =
+      still_leaves d.image d.moment d.image_since old new P only_now here still.crashes

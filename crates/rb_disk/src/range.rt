@@ -2,8 +2,8 @@
 ghost use Rattle.std.specs.Prelude.{◌≡◌, ◌+◌, ◌≤◌, ℕ, List, length, OnOk, OnErr};
 ghost use Rattle.rb_base.specs.Counts.{IsCounted};
 ghost use Rattle.rb_base.specs.Fields.{overwritten};
-ghost use Rattle.rb_base.specs.Moments.{LeavesOnly};
 ghost use Rattle.rb_disk.specs.DiskModel.{Torn, Only};
+ghost use Rattle.rb_disk.specs.Moments.{Leaves};
 ghost use Rattle.rb_disk.specs.Ranges.{TornFrom};
 
 use crate::disk::Disk;
@@ -17,7 +17,7 @@ pub fn write_synced<D: Disk>(disk: &mut D, at: u64, bytes: &[u8]) -> Result<(), 
     ensures torn { D.tells → Torn at (length bytes.now) (D.content disk.old) (D.content disk.new) }
     ensures durable { D.tells → OnOk result (Only (D.content disk.new) (D.image disk.new)) }
     ensures length { D.tells → length (D.content disk.new) ≡ length (D.content disk.old) }
-    ensures any_moment { D.tells → LeavesOnly D.moment D.image_since disk.old disk.new
+    ensures any_moment { D.tells → Leaves D.Disk disk.old disk.new
         (TornFrom at (length bytes.now) (D.image disk.old)) }
     ensures counted { IsCounted (D.faults disk.old) (D.faults disk.new) result }
 {

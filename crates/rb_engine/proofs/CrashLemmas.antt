@@ -5,7 +5,7 @@ use Rattle.std.proofs.lemmas.List.{append-nil, take-append-le, take_all}
 use Rattle.std.specs.List.{flat_map, list_any}
 use Rattle.rb_base.specs.Blocks.{commit_block, patches_block}
 use Rattle.rb_base.specs.Moments.{LeavesOnly, NoMore, Passes, begun, goes_on, joined, weaker}
-use Rattle.rb_base.specs.declared.ids.Shape.{Shape}
+use Rattle.rb_base.specs.declared.shape.Shape.{Shape}
 use Rattle.rb_base.specs.declared.store.Store.{Ghosts}
 use Rattle.rb_model.specs.Change.{Change}
 use Rattle.rb_model.specs.Reply.{is_empty, committed, rows_now}

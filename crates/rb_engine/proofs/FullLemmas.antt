@@ -9,7 +9,7 @@ use Rattle.std.proofs.lemmas.List.Folds.{list_any-append, Any-from_list_any}
 use Rattle.std.proofs.lemmas.Map.Keys.{IsDistinct-cons}
 use Rattle.std.proofs.lemmas.Map.Made.{length-le_from_is_member, All-is_member}
 use Rattle.std.specs.List.{list_any, All, AllByRecursion, IsDistinct}
-use Rattle.rb_base.specs.declared.ids.Shape.{Shape}
+use Rattle.rb_base.specs.declared.shape.Shape.{Shape}
 use Rattle.rb_base.proofs.Each.{all_take}
 use Rattle.rb_model.specs.Change.{Change}
 use Rattle.rb_model.specs.Rows.{TableRow, has_row, last_number, over, rows_at}

@@ -1,7 +1,7 @@
 -- Blocks that hold rows pass the tests of an opening.
 use Rattle.std.proofs.Common.{ℕ, ◌≤◌, List, arith, subst}
 use Rattle.rb_base.specs.Blocks.{block_of}
-use Rattle.rb_base.specs.declared.ids.Shape.{Shape}
+use Rattle.rb_base.specs.declared.shape.Shape.{Shape}
 use Rattle.rb_heap.specs.Homes.{empty_cell}
 use Rattle.rb_heap.proofs.Reading.{cell_read}
 use Rattle.rb_model.specs.Rows.{TableRow}

@@ -6,7 +6,7 @@ use Rattle.std.specs.Prelude.{slice_get, remove}
 use Rattle.std.proofs.lemmas.Bool.{cond-true, cond-false}
 use Rattle.std.specs.Str.{bytes_eq}
 use Rattle.std.specs.List.{flat_map, AllByRecursion}
-use Rattle.rb_base.specs.declared.ids.Shape.{Shape}
+use Rattle.rb_base.specs.declared.shape.Shape.{Shape}
 use Rattle.rb_base.proofs.Each.{all_so}
 use Rattle.rb_model.specs.Change.{Change, put}
 use Rattle.rb_model.specs.Rows.{TableRow, over, rows_at, changed_by, with_row}

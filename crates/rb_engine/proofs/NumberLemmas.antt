@@ -9,7 +9,7 @@ use Rattle.rb_base.specs.Blocks.{after_groups, commit_block, patches_block, up_t
 use Rattle.rb_base.specs.Groups.{Patch}
 use Rattle.rb_base.specs.Moments.{LeavesOnly, NoMore, Passes, begun, goes_on, joined, weaker}
 use Rattle.rb_base.specs.Stores.{AfterSome, after_pending}
-use Rattle.rb_base.specs.declared.ids.Shape.{Shape}
+use Rattle.rb_base.specs.declared.shape.Shape.{Shape}
 use Rattle.rb_base.specs.declared.store.Store.{Ghosts}
 use Rattle.rb_base.proofs.Commits.{commit_behind}
 

@@ -2,7 +2,7 @@
 use Rattle.std.proofs.Common.{◌≡◌, ℕ, ◌≤◌, true, false, List, [], ◌∷◌, None, Some, refl, ap, sym, ◌∙◌, subst, ⊎_elim}
 use Rattle.std.proofs.lemmas.Bool.{cases_Bool, cond-true, cond-false, false≢true}
 use Rattle.std.specs.List.{AllByRecursion}
-use Rattle.rb_base.specs.declared.ids.Shape.{Shape}
+use Rattle.rb_base.specs.declared.shape.Shape.{Shape}
 use Rattle.rb_model.specs.Rows.{TableRow, row_before, is_row_of, value_of, InOrder}
 use Rattle.rb_model.proofs.Order.{row_same, row_asym, row_apart, same_itself, same_apart}
 use Rattle.rb_model.proofs.RowLemmas.{AllBefore}

@@ -5,7 +5,7 @@ use Rattle.std.specs.Prelude.{◌≡◌, ℕ, ◌≤◌, true, false, List, ◌+
 use Rattle.std.specs.List.{list_any}
 use Rattle.rb_base.specs.Blocks.{commit_block, patches_block}
 use Rattle.rb_base.specs.Moments.{LeavesOnly}
-use Rattle.rb_base.specs.declared.ids.Shape.{Shape}
+use Rattle.rb_base.specs.declared.shape.Shape.{Shape}
 use Rattle.rb_base.specs.declared.store.Store.{Ghosts}
 use Rattle.rb_model.specs.Change.{Change}
 use Rattle.rb_model.specs.Reply.{is_empty, committed}

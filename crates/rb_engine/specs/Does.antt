@@ -1,6 +1,6 @@
 -- For which states an engine stands, and what a call does with each of them.
 use Rattle.std.specs.Prelude.{◌≡◌, ℕ, ◌+◌, false, List}
-use Rattle.rb_base.specs.declared.ids.Shape.{Shape}
+use Rattle.rb_base.specs.declared.shape.Shape.{Shape}
 use Rattle.rb_base.specs.declared.store.Store.{Ghosts}
 use Rattle.rb_model.specs.Reply.{Answer, Call, Grows, Reply, after}
 use Rattle.rb_model.specs.State.{State}

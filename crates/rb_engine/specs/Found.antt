@@ -1,7 +1,7 @@
 -- The rows that an opening finds in the blocks of a file.
 use Rattle.std.specs.Prelude.{ℕ, zero, suc, ◌+◌, ◌/◌, List, [], ◌++◌, map}
 use Rattle.rb_base.specs.Blocks.{block_of}
-use Rattle.rb_base.specs.declared.ids.Shape.{Shape}
+use Rattle.rb_base.specs.declared.shape.Shape.{Shape}
 use Rattle.rb_heap.specs.Homes.{CellRow, home_of, home_rows}
 use Rattle.rb_model.specs.Change.{Change, put}
 use Rattle.rb_model.specs.Rows.{TableRow, over}

@@ -1,6 +1,6 @@
 //! What holds of the blocks of every file, as a clause for proofs to cite. Nothing calls it.
 ghost use Rattle.std.specs.Prelude.{◌≡◌, ℕ, List};
-ghost use Rattle.rb_base.specs.declared.ids.Shape.{Shape};
+ghost use Rattle.rb_base.specs.declared.shape.Shape.{Shape};
 ghost use Rattle.rb_model.specs.Rows.{TableRow};
 ghost use Rattle.rb_engine.specs.Holds.{Holds};
 

@@ -1,6 +1,6 @@
 -- The homes of a file's blocks after a group of patches.
 use Rattle.std.proofs.Common.{◌≡◌, ℕ, ◌<◌, List, [], ◌∷◌, arith, ap, ◌∙◌}
-use Rattle.rb_base.specs.declared.ids.Shape.{Shape}
+use Rattle.rb_base.specs.declared.shape.Shape.{Shape}
 use Rattle.rb_base.specs.Blocks.{block_of, after_patch, after_group, shape_blocks, AreBlocks}
 use Rattle.rb_base.proofs.Blocks.{block_long}
 use Rattle.rb_base.proofs.Blocks.{patch_own, patch_keeps}

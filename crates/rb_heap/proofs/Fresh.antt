@@ -3,7 +3,7 @@ use Rattle.std.proofs.Common.{◌≡◌, ℕ, ◌+◌, ◌-◌, ◌%◌, ◌==�
 use Rattle.std.proofs.lemmas.Bool.{lt-ltb}
 use Rattle.std.proofs.lemmas.List.{drop_at, drop-drop, drop-replicate, take-replicate, get_or-replicate}
 use Rattle.std.proofs.lemmas.List.FromFn.{fill_by_all}
-use Rattle.rb_base.specs.declared.ids.Shape.{Shape}
+use Rattle.rb_base.specs.declared.shape.Shape.{Shape}
 use Rattle.rb_base.specs.Blocks.{block_of, block_kind, fresh_head, fresh_rest, fresh_block, fresh_blocks, table_blocks, shape_blocks}
 use Rattle.rb_base.specs.Fields.{part}
 use Rattle.rb_base.proofs.Blocks.{fresh_at}

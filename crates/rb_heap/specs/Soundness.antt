@@ -2,7 +2,7 @@
 use Rattle.std.specs.Prelude.{◌≡◌, ◌≢◌, ℕ, ◌+◌, ◌-◌, ◌%◌, ◌<◌, ◌≤◌, true, false}
 use Rattle.std.specs.Prelude.{List}
 use Rattle.rb_base.specs.Fields.{number_at}
-use Rattle.rb_base.specs.declared.ids.Shape.{Shape}
+use Rattle.rb_base.specs.declared.shape.Shape.{Shape}
 use Rattle.rb_cell.specs.declared.cell.Cell.{Cell}
 use Rattle.rb_cell.specs.declared.cell.TheConstants.{EMPTY}
 use Rattle.rb_cell.specs.Cells.{cell_place, cell_at}

@@ -2,7 +2,7 @@
 ghost use Rattle.std.specs.Prelude.{◌≡◌, ◌≢◌, ℕ, ◌+◌, ◌^◌, ◌<◌, Bool, List, [], ◌∷◌};
 ghost use Rattle.std.specs.Prelude.{◌++◌, length, take, drop, slice_index};
 ghost use Rattle.std.specs.List.{All, AllByRecursion};
-ghost use Rattle.rb_base.specs.declared.ids.Shape.{Shape};
+ghost use Rattle.rb_base.specs.declared.shape.Shape.{Shape};
 ghost use Rattle.rb_base.specs.Blocks.{block_of, patched, after_group, fresh_block, fresh_blocks, table_blocks};
 ghost use Rattle.rb_base.specs.Blocks.{shape_blocks, AreBlocks, AreWithin};
 ghost use Rattle.rb_base.specs.Fields.{number_at};

@@ -1,7 +1,7 @@
 -- Where the parts of a file lie, and what its first bytes say. All parts are units of 2,048 bytes.
 use Rattle.std.specs.Prelude.{◌≡◌, ℕ, ◌+◌, ◌-◌, ◌*◌, List, ◌++◌, length, take, replicate, codes}
 use Rattle.byteorder.specs.Endian.{big_bytes}
-use Rattle.rb_base.specs.declared.ids.Shape.{Shape}
+use Rattle.rb_base.specs.declared.shape.Shape.{Shape}
 use Rattle.rb_layout.specs.declared.layout.Layout.{Layout}
 
 -- the version of this form of file

@@ -2,7 +2,7 @@
 use Rattle.std.specs.Prelude.{ℕ, suc, ◌-◌, Bool, false, ◌&&◌, nat_le, cond, List, [], ◌∷◌, length}
 use Rattle.std.specs.Prelude.{replicate, slice_index_or, slice_set, find, Option}
 use Rattle.std.specs.Str.{bytes_eq}
-use Rattle.rb_base.specs.declared.ids.Shape.{Shape}
+use Rattle.rb_base.specs.declared.shape.Shape.{Shape}
 use Rattle.rb_model.specs.Change.{Change}
 use Rattle.rb_model.specs.Rows.{Commits, TableRow, answer}
 

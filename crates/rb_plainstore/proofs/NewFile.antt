@@ -5,7 +5,7 @@ use Rattle.std.proofs.lemmas.List.{length-replicate, length-append}
 use Rattle.std.specs.List.{AllByRecursion}
 use Rattle.rb_base.specs.Blocks.{fresh_head, fresh_segment, fresh_rest, fresh_block, fresh_from, fresh_blocks, block_kind, shape_blocks, AreBlocks}
 use Rattle.rb_base.specs.Fields.{with_number}
-use Rattle.rb_base.specs.declared.ids.Shape.{Shape}
+use Rattle.rb_base.specs.declared.shape.Shape.{Shape}
 use Rattle.rb_base.proofs.Blocks.{fresh_count}
 
 -- one block more

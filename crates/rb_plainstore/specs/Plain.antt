@@ -1,7 +1,7 @@
 -- What a store in memory holds.
 use Rattle.std.specs.Prelude.{ℕ, ◌<◌, List, Option, IfSome}
 use Rattle.rb_base.specs.Blocks.{IsShape, AreBlocks, shape_blocks}
-use Rattle.rb_base.specs.declared.ids.Shape.{Shape}
+use Rattle.rb_base.specs.declared.shape.Shape.{Shape}
 
 -- The blocks of a file, the last log number given, and the block that was loaded.
 pub record PlainState : Type 0 where

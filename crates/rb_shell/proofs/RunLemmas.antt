@@ -6,7 +6,7 @@ use Rattle.rb_base.specs.Moments.{LeavesOnly, joined, weaker}
 use Rattle.rb_base.specs.declared.faults.OpenFault.{OpenFault}
 use Rattle.rb_base.specs.declared.faults.OpenFault.TheVariants.{Failed}
 use Rattle.rb_base.specs.declared.faults.OpenFault.TheVariants as faults
-use Rattle.rb_base.specs.declared.ids.Shape.{Shape}
+use Rattle.rb_base.specs.declared.shape.Shape.{Shape}
 use Rattle.rb_base.specs.declared.store.Store.{Ghosts}
 use Rattle.rb_disk.specs.Moments.{Rests, rests_leave}
 use Rattle.rb_engine.specs.Crash.{AtEnd, Extends, OnTheWay, reached, Restarts}

@@ -1,7 +1,7 @@
 -- What a run of a script over a file does.
 use Rattle.std.specs.Prelude.{◌≡◌, ◌⊎◌, ℕ, Bool, true, List, ◌++◌, Some}
 use Rattle.rb_base.specs.Moments.{LeavesOnly}
-use Rattle.rb_base.specs.declared.ids.Shape.{Shape}
+use Rattle.rb_base.specs.declared.shape.Shape.{Shape}
 use Rattle.rb_disk.specs.Moments.{Rests}
 use Rattle.rb_engine.specs.Crash.{AtEnd, OnTheWay, Restarts, Survives}
 use Rattle.rb_base.specs.declared.store.Store.{Ghosts}

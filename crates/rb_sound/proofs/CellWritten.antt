@@ -4,7 +4,7 @@ use Rattle.std.proofs.lemmas.Bool.{cases_eq, false≢true}
 use Rattle.std.proofs.lemmas.List.{drop-take, drop-drop}
 use Rattle.byteorder.specs.Endian.{big_bytes}
 use Rattle.byteorder.specs.Numbers.{big_from-take, big_number-reads_back}
-use Rattle.rb_base.specs.declared.ids.Shape.{Shape}
+use Rattle.rb_base.specs.declared.shape.Shape.{Shape}
 use Rattle.rb_base.specs.Blocks.{block_of, patched, after_group, commit_block, table_blocks, AreBlocks}
 use Rattle.rb_base.specs.Fields.{number_at, AreApart}
 use Rattle.rb_itl.specs.declared.slots.Entry.{Entry}

@@ -1,7 +1,7 @@
 -- The greatest of some numbers, one more at a time, and the commit number of a file, which is the greatest of the slots.
 use Rattle.std.proofs.Common.{◌≡◌, ℕ, zero, suc, ◌+◌, ◌<◌, ◌≤◌, List, max, refl, ap, add-one, arith, inl, inr}
 use Rattle.std.proofs.lemmas.Bool.{cases_lt}
-use Rattle.rb_base.specs.declared.ids.Shape.{Shape}
+use Rattle.rb_base.specs.declared.shape.Shape.{Shape}
 use Rattle.rb_base.specs.Blocks.{block_of}
 use Rattle.rb_base.specs.Blocks.{greatest, header_block}
 use Rattle.rb_sound.specs.Sound.{slot_newest, header_newest, commit_number}

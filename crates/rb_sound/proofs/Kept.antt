@@ -1,6 +1,6 @@
 -- Blocks of a file that stay in order, where the commit number rises or stays, and no slot is taken.
 use Rattle.std.proofs.Common.{ℕ, ◌<◌, ◌≤◌, ◌%◌, List, arith}
-use Rattle.rb_base.specs.declared.ids.Shape.{Shape}
+use Rattle.rb_base.specs.declared.shape.Shape.{Shape}
 use Rattle.rb_base.specs.Blocks.{block_of, table_blocks}
 use Rattle.rb_itl.specs.declared.slots.Entry.{Entry}
 use Rattle.rb_base.specs.Blocks.{header_block}

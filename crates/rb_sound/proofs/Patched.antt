@@ -1,7 +1,7 @@
 -- What a patch leaves of its block's bytes, and what a group of one leaves of a file's blocks.
 use Rattle.std.proofs.Common.{◌≡◌, ◌≢◌, ℕ, ◌+◌, ◌<◌, ◌≤◌, List, [], ◌∷◌, length, refl, arith, ap, sym, ◌∙◌, inr, slice_index}
 use Rattle.byteorder.specs.Endian.{big_bytes}
-use Rattle.rb_base.specs.declared.ids.Shape.{Shape}
+use Rattle.rb_base.specs.declared.shape.Shape.{Shape}
 use Rattle.rb_base.specs.Blocks.{block_of, patched, after_group, shape_blocks, AreBlocks}
 use Rattle.rb_base.specs.Fields.{part, number_at, overwritten, AreApart}
 use Rattle.rb_base.specs.Groups.{Patch}

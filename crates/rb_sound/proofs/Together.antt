@@ -1,6 +1,6 @@
 -- What is tested of the headers, and what is tested of the blocks of rows by the numbers that the headers have.
 use Rattle.std.proofs.Common.{◌≡◌, ◌↔◌, ℕ, ◌<◌, Bool, true, List, subst, sym, arith}
-use Rattle.rb_base.specs.declared.ids.Shape.{Shape}
+use Rattle.rb_base.specs.declared.shape.Shape.{Shape}
 use Rattle.rb_itl.specs.declared.slots.Entry.{Entry}
 use Rattle.rb_heap.specs.Soundness.{IsTaken}
 use Rattle.rb_sound.specs.Sound.{commit_number, wrap_at, AreSegmentsSound, AreHomesSound, AreSound}

@@ -1,7 +1,7 @@
 //! What holds of every file, as clauses for proofs to cite. Nothing calls them.
 ghost use Rattle.std.specs.Prelude.{◌≡◌, ◌≢◌, ℕ, ◌+◌, ◌-◌, ◌*◌, ◌%◌, ◌^◌, ◌<◌};
 ghost use Rattle.std.specs.Prelude.{◌≤◌, true, false, List, [], ◌∷◌};
-ghost use Rattle.rb_base.specs.declared.ids.Shape.{Shape};
+ghost use Rattle.rb_base.specs.declared.shape.Shape.{Shape};
 ghost use Rattle.rb_base.specs.Blocks.{block_of, after_group, fresh_blocks, table_blocks, IsShape, AreBlocks};
 ghost use Rattle.rb_cell.specs.declared.cell.Cell.{Cell};
 ghost use Rattle.rb_cell.specs.Cells.{cell_at, cell_patch, IsCell};

@@ -6,7 +6,7 @@ use Rattle.std.proofs.lemmas.Grind.{get_or-set_at}
 use Rattle.rb_base.specs.Blocks.{block_of, commit_block, patched, after_patch, after_group, after_groups, patches_block, up_to_last, fresh_block, fresh_blocks, shape_blocks}
 use Rattle.rb_base.specs.Fields.{number_at}
 use Rattle.rb_base.specs.Groups.{Patch}
-use Rattle.rb_base.specs.declared.ids.Shape.{Shape}
+use Rattle.rb_base.specs.declared.shape.Shape.{Shape}
 use Rattle.rb_base.proofs.Blocks.{patch_count, patch_others, group_count, fresh_count, fresh_at}
 use Rattle.rb_base.proofs.Commits.{cut_twice}
 use Rattle.rb_layout.specs.Regions.{shape_of}

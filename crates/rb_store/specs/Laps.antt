@@ -2,7 +2,7 @@
 use Rattle.std.specs.Prelude.{◌≡◌, ℕ, ◌+◌, Bool, List, length, Option, Some}
 use Rattle.rb_base.specs.Blocks.{after_groups, up_to_last, commit_block, fresh_blocks}
 use Rattle.rb_base.specs.Groups.{Patch}
-use Rattle.rb_base.specs.declared.ids.Shape.{Shape}
+use Rattle.rb_base.specs.declared.shape.Shape.{Shape}
 use Rattle.rb_layout.specs.Regions.{file_version, HasIdentity, shape_of}
 use Rattle.rb_layout.specs.declared.layout.Layout.{Layout}
 use Rattle.rb_log.specs.GroupSlots.{GroupsAre}

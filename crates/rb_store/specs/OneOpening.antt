@@ -3,7 +3,7 @@ use Rattle.std.proofs.Common.{◌≡◌, inl, inr, ⊎_elim, ℕ, ◌+◌, List,
 use Rattle.std.proofs.Common.{◌∙◌, subst}
 use Rattle.rb_base.specs.Blocks.{AreWithin, after_groups, fresh_blocks}
 use Rattle.rb_base.specs.Groups.{Patch}
-use Rattle.rb_base.specs.declared.ids.Shape.{Shape}
+use Rattle.rb_base.specs.declared.shape.Shape.{Shape}
 use Rattle.rb_layout.specs.OneLayout.{SameNumbers, one_layout}
 use Rattle.rb_layout.specs.Regions.{file_version, identity, file_length, shape_of}
 use Rattle.rb_layout.specs.declared.layout.Layout.{Layout}

@@ -4,7 +4,7 @@ use Rattle.std.proofs.lemmas.Bool.{cases_eq, cases_Bool, eqb-true, eq-eqb}
 use Rattle.std.proofs.lemmas.List.{get_or-replicate}
 use Rattle.std.proofs.lemmas.Nat.{div-mul-add}
 use Rattle.std.proofs.Math.Nat.{mod-lt, mul-le-mul_right}
-use Rattle.rb_base.specs.declared.ids.Shape.{Shape}
+use Rattle.rb_base.specs.declared.shape.Shape.{Shape}
 use Rattle.rb_base.specs.Blocks.{block_of, after_group, fresh_blocks, table_blocks, shape_blocks, AreBlocks}
 use Rattle.rb_base.specs.Groups.{IsPatch}
 use Rattle.rb_base.proofs.Blocks.{patch_others, group_keeps}

@@ -2,7 +2,7 @@
 use Rattle.std.specs.Prelude.{◌≡◌, ℕ, ◌+◌, ◌^◌, ◌<◌, ◌≤◌, Bool, false, true, not, List, []}
 use Rattle.std.specs.Prelude.{◌∷◌, length, Option, None, Some, is_some, Result, Ok, Err, ⊤}
 use Rattle.rb_base.specs.Blocks.{after_group}
-use Rattle.rb_base.specs.declared.ids.Shape.{Shape}
+use Rattle.rb_base.specs.declared.shape.Shape.{Shape}
 use Rattle.rb_cell.specs.declared.cell.Cell.{Cell}
 use Rattle.rb_cell.specs.declared.cell.TheConstants.{ROW, STUB}
 use Rattle.rb_cell.specs.Cells.{cell_patch}

@@ -1,7 +1,7 @@
 //! What holds of the values that blocks hold, as clauses for proofs to cite. Nothing calls them.
 ghost use Rattle.std.specs.Prelude.{◌≡◌, ℕ, ◌<◌, ◌≤◌, length, None, Some};
 ghost use Rattle.rb_base.specs.Blocks.{fresh_blocks, table_blocks};
-ghost use Rattle.rb_base.specs.declared.ids.Shape.{Shape};
+ghost use Rattle.rb_base.specs.declared.shape.Shape.{Shape};
 ghost use Rattle.rb_heap.specs.Homes.{Home, home_cell, home_rows, is_keyed, IsFirst, IsNowhere};
 ghost use Rattle.rb_write.specs.Values.{home_block as home_block_of, value_in, value_at, IsPlainHome, ArePlain};
 

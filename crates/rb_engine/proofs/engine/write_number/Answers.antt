@@ -1,7 +1,7 @@
 use Rattle.std.proofs.Common.{◌≡◌, ◌+◌, List, [], ◌∷◌, true, refl, ap, sym, ◌∙◌, subst}
 use Rattle.rb_base.specs.Blocks.{after_group, commit_block, patches_block, up_to_last}
 use Rattle.rb_base.specs.Groups.{Patch}
-use Rattle.rb_base.specs.declared.ids.Shape.{Shape}
+use Rattle.rb_base.specs.declared.shape.Shape.{Shape}
 use Rattle.rb_base.proofs.Commits.{commit_behind}
 use Rattle.rb_sound.specs.Sound.{number_patch}
 use Rattle.rb_engine.proofs.NumberLemmas.{before_flush, on_ok, over_flush, patches_it}

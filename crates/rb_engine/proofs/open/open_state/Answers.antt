@@ -2,7 +2,7 @@ use Rattle.std.proofs.Common.{◌≡◌, ◌↔◌, ℕ, Result, Ok, Err, Bool, 
 use Rattle.std.specs.Result.{MatchResult, OnOk, is_ok}
 use Rattle.rb_base.specs.Blocks.{AreBlocks, IsShape}
 use Rattle.rb_base.specs.declared.faults.Failed.{Failed}
-use Rattle.rb_base.specs.declared.ids.Shape.{Shape}
+use Rattle.rb_base.specs.declared.shape.Shape.{Shape}
 use Rattle.rb_model.specs.State.{State}
 use Rattle.rb_sound.specs.Loads.{OnlyLoads, more_loads}
 use Rattle.rb_sound.specs.Sound.{commit_number, AreSound}

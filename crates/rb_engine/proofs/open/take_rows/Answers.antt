@@ -2,7 +2,7 @@ use Rattle.std.proofs.Common.{◌≡◌, ℕ, ◌<◌, List, Ok, arith, sym, ap,
 use borrow.Author.Count.{below_more}
 use Rattle.std.specs.Result.{is_err}
 use Rattle.rb_base.specs.Blocks.{block_of}
-use Rattle.rb_base.specs.declared.ids.Shape.{Shape}
+use Rattle.rb_base.specs.declared.shape.Shape.{Shape}
 use Rattle.rb_cell.specs.Cells.{cell_at}
 use Rattle.rb_heap.specs.Homes.{home_of, home_rows}
 use Rattle.rb_model.specs.Rows.{TableRow, over}

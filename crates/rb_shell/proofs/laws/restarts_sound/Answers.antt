@@ -1,5 +1,5 @@
 use Rattle.std.proofs.Common.{◌≡◌, ℕ, List, length, refl, arith, ap, sym, ◌∙◌, subst}
-use Rattle.rb_base.specs.declared.ids.Shape.{Shape}
+use Rattle.rb_base.specs.declared.shape.Shape.{Shape}
 use Rattle.rb_engine.specs.Holds.{Holds}
 use Rattle.rb_engine.proofs.HoldsLemmas.{can_open_held}
 use Rattle.rb_engine.proofs.OneHolding.{one_holding}

@@ -1,7 +1,7 @@
 use Rattle.std.proofs.Common.{ℕ, List, refl, sym, ap, ◌∙◌}
 use Rattle.std.specs.Result.{is_err}
 use Rattle.rb_base.specs.Blocks.{block_of}
-use Rattle.rb_base.specs.declared.ids.Shape.{Shape}
+use Rattle.rb_base.specs.declared.shape.Shape.{Shape}
 use Rattle.rb_sound.specs.Loads.{no_load, more_loads}
 use Rattle.rb_base.specs.Blocks.{header_block}
 use Rattle.rb_sound.specs.Sound.{header_newest}

@@ -1,5 +1,5 @@
 use Rattle.std.proofs.Common.{◌≡◌, ◌<◌, ◌≤◌, ◌∙◌, [], ◌∷◌, ◌++◌, ℕ, ◌+◌, List, is_some, arith, ap, subst, inl, inr, ⊎_elim, IsErrOf}
-use Rattle.rb_base.specs.declared.ids.Shape.{Shape}
+use Rattle.rb_base.specs.declared.shape.Shape.{Shape}
 use Rattle.rb_base.specs.Blocks.{block_of, after_group, table_blocks, AreBlocks}
 use Rattle.rb_base.specs.Groups.{Patch}
 use Rattle.rb_cell.specs.declared.cell.Cell.{Cell}

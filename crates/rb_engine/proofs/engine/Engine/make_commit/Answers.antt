@@ -1,7 +1,7 @@
 use Rattle.std.proofs.Common.{◌≡◌, ℕ, ◌+◌, ◌^◌, ◌<◌, ◌≤◌, length, false, ap, sym, ◌∙◌, subst}
 use Rattle.rb_base.specs.Blocks.{commit_block, patches_block}
 use Rattle.std.specs.List.{list_any}
-use Rattle.rb_base.specs.declared.ids.Shape.{Shape}
+use Rattle.rb_base.specs.declared.shape.Shape.{Shape}
 use Rattle.rb_model.specs.Rows.{last_number}
 use Rattle.rb_model.specs.State.{State, session_of}
 use Rattle.rb_engine.specs.Crash.{Survives}

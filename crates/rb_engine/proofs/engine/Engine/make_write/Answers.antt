@@ -4,7 +4,7 @@ use Rattle.std.proofs.lemmas.Bool.{false≢true}
 use Rattle.std.specs.List.{list_any}
 use Rattle.rb_base.specs.Blocks.{commit_block, patches_block, IsShape}
 use Rattle.rb_base.specs.Groups.{Patch}
-use Rattle.rb_base.specs.declared.ids.Shape.{Shape}
+use Rattle.rb_base.specs.declared.shape.Shape.{Shape}
 use Rattle.rb_base.specs.declared.ids.Xid.{Xid}
 use Rattle.rb_write.specs.Values.{home_at, value_at, IsPlainHome}
 use Rattle.rb_write.specs.Writes.{has_failed}
