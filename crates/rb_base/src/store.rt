@@ -99,7 +99,7 @@ pub trait Store {
         requires within { AreWithin (shape_of self.old) group.now }
         requires room { 1 ≤ room_of (slots self.old) (lsn self.old) }
         requires few { lsn self.old < 2 ^ 62 }
-        ensures number { OnOk result (lsn self.new ≡ lsn self.old + 1) }
+        ensures lsn { OnOk result (lsn self.new ≡ lsn self.old + 1) }
         ensures blocks { tells → OnOk result (blocks self.new
             ≡ after_group (lsn self.old + 1) group.now (blocks self.old)) }
         ensures pending { tells_crashes → OnOk result (pending self.new ≡ pending self.old ++ group.now ∷ []) }
@@ -118,7 +118,7 @@ pub trait Store {
             self.old self.new result }
         ensures shape { shape_of self.new ≡ shape_of self.old }
         ensures slots { slots self.new ≡ slots self.old }
-        ensures number { lsn self.new ≡ lsn self.old }
+        ensures lsn { lsn self.new ≡ lsn self.old }
         ensures blocks { tells → blocks self.new ≡ blocks self.old }
         ensures failed { failed self.new ≡ is_err result }
         ensures counted { IsCounted (faults self.old) (faults self.new) result };
@@ -130,7 +130,7 @@ pub trait Store {
             self.old self.new result }
         ensures shape { shape_of self.new ≡ shape_of self.old }
         ensures slots { slots self.new ≡ slots self.old }
-        ensures number { lsn self.new ≡ lsn self.old }
+        ensures lsn { lsn self.new ≡ lsn self.old }
         ensures blocks { tells → blocks self.new ≡ blocks self.old }
         ensures failed { failed self.new ≡ is_err result }
         ensures counted { IsCounted (faults self.old) (faults self.new) result };

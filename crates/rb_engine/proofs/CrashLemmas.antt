@@ -9,7 +9,7 @@ use Rattle.rb_base.specs.declared.shape.Shape.{Shape}
 use Rattle.rb_base.specs.declared.store.Store.{Ghosts}
 use Rattle.rb_model.specs.Change.{Change}
 use Rattle.rb_model.specs.Reply.{is_empty, committed, rows_now}
-use Rattle.rb_model.specs.Rows.{Commits, TableRow, last_number, rows_at, over}
+use Rattle.rb_model.specs.Rows.{Commits, TableRow, last_scn, rows_at, over}
 use Rattle.rb_model.specs.State.{State, session_of}
 use Rattle.rb_engine.specs.Holds.{Holds}
 use Rattle.rb_engine.specs.Crash.{RestartsAt, Restarts, IsDurable, AtEnd, whole, one_more, OnTheWay, reached, at_end, Extends, Survives, opens_of}
@@ -35,27 +35,27 @@ extends_on h m h2 a b = record {
   list = b.list ∙ ap (λ xs. xs ++ b.more) a.list ∙ append_assoc h.commits.list a.more b.more;
 }
 
-pub extends_later : (h h2 : State) → Extends h h2 → last_number h.commits ≤ last_number h2.commits
+pub extends_later : (h h2 : State) → Extends h h2 → last_scn h.commits ≤ last_scn h2.commits
 extends_later h h2 e =
     let long : length h2.commits.list ≡ length (h.commits.list ++ e.more) = ap length e.list in
     let parts = length-append h.commits.list e.more in
     omega (arith, long, parts, e.base)
 
 -- the rows at an earlier number stay
-pub rows_stay : (blocks : ℕ) (h h2 : State) (n : ℕ) → Extends h h2 → n ≤ last_number h.commits → rows_at blocks h2.commits n ≡ rows_at blocks h.commits n
+pub rows_stay : (blocks : ℕ) (h h2 : State) (n : ℕ) → Extends h h2 → n ≤ last_scn h.commits → rows_at blocks h2.commits n ≡ rows_at blocks h.commits n
 rows_stay blocks h h2 n e le =
     ap (λ rows. over blocks rows (flat_map (λ changes. changes) (take (n - h2.commits.base) h2.commits.list))) e.rows
     ∙ ap (λ cs. over blocks h.commits.rows (flat_map (λ changes. changes) cs))
     (ap (λ i. take (n - i) h2.commits.list) e.base ∙ ap (take (n - h.commits.base)) e.list ∙ take-append-le (n - h.commits.base) h.commits.list e.more (omega (arith, le)))
 
 -- blocks hold the same at a later state
-holds_later : (h h2 : State) (blocks : List (List ℕ)) (n : ℕ) → Extends h h2 → n ≤ last_number h.commits → Holds h.shape blocks n (rows_at h.shape.blocks h.commits n) → Holds h2.shape blocks n (rows_at h2.shape.blocks h2.commits n)
+holds_later : (h h2 : State) (blocks : List (List ℕ)) (n : ℕ) → Extends h h2 → n ≤ last_scn h.commits → Holds h.shape blocks n (rows_at h.shape.blocks h.commits n) → Holds h2.shape blocks n (rows_at h2.shape.blocks h2.commits n)
 holds_later h h2 blocks n e le holds =
     subst (λ (shape : Shape). Holds shape blocks n (rows_at shape.blocks h2.commits n)) (sym e.shape)
     (subst (λ (rows : List TableRow). Holds h.shape blocks n rows) (sym (rows_stay h.shape.blocks h h2 n e le)) holds)
 
 module _ {I : Type 0} (opens : Shape → I → List (List ℕ) → Type 0) where
-  restarts_later : (h h2 : State) (n : ℕ) (i : I) → Extends h h2 → n ≤ last_number h.commits → RestartsAt opens h n i → RestartsAt opens h2 n i
+  restarts_later : (h h2 : State) (n : ℕ) (i : I) → Extends h h2 → n ≤ last_scn h.commits → RestartsAt opens h n i → RestartsAt opens h2 n i
   restarts_later h h2 n i e le r = record {
     blocks = r.blocks;
     opening = subst (λ (shape : Shape). opens shape i r.blocks) (sym e.shape) r.opening;
@@ -65,7 +65,7 @@ module _ {I : Type 0} (opens : Shape → I → List (List ℕ) → Type 0) where
   -- the same at states of the same shape and commits
   pub restarts_same : (h h2 : State) (i : I) → h2.shape ≡ h.shape → h2.commits ≡ h.commits → Restarts opens h i → Restarts opens h2 i
   restarts_same h h2 i shape e r =
-      subst (λ (n : ℕ). RestartsAt opens h2 n i) (ap last_number (sym e)) (restarts_later h h2 (last_number h.commits) i (extends_same h h2 shape e) (omega arith) r)
+      subst (λ (n : ℕ). RestartsAt opens h2 n i) (ap last_scn (sym e)) (restarts_later h h2 (last_scn h.commits) i (extends_same h h2 shape e) (omega arith) r)
 
   -- an engine that goes on stands for its state
   pub stands_at_end : (h : State) (i : I) → h.stopped ≡ false → AtEnd opens h i → Restarts opens h i
@@ -74,7 +74,7 @@ module _ {I : Type 0} (opens : Shape → I → List (List ℕ) → Type 0) where
 
   way_further : (h m h2 : State) (i : I) → Extends h m → Extends m h2 → m.stopped ≡ false → OnTheWay opens h m i → OnTheWay opens h h2 i
   way_further h m h2 i d e going (reached n low high r) = reached n low (omega (arith, high, extends_later m h2 e)) (restarts_later m h2 n i e high r)
-  way_further h m h2 i d e going (at_end a) = reached (last_number m.commits) (extends_later h m d) (extends_later m h2 e) (restarts_later m h2 (last_number m.commits) i e (omega arith) (stands_at_end m i going a))
+  way_further h m h2 i d e going (at_end a) = reached (last_scn m.commits) (extends_later h m d) (extends_later m h2 e) (restarts_later m h2 (last_scn m.commits) i e (omega arith) (stands_at_end m i going a))
 
   way_longer : (h m h2 : State) (i : I) → Extends h m → OnTheWay opens m h2 i → OnTheWay opens h h2 i
   way_longer h m h2 i d (reached n low high r) = reached n (omega (arith, low, extends_later h m d)) high r
@@ -97,7 +97,7 @@ durable_same : {S : Type 0} (s : Ghosts S) (h h2 : State) (store : S) → h2.sha
 durable_same s h h2 store shape e st = record {
   base = st.base;
   stable = st.stable;
-  holds = subst (λ (n : ℕ). Holds h2.shape st.base n (rows_at h2.shape.blocks h2.commits n)) (ap last_number (sym e)) (holds_later h h2 st.base (last_number h.commits) (extends_same h h2 shape e) (omega arith) st.holds);
+  holds = subst (λ (n : ℕ). Holds h2.shape st.base n (rows_at h2.shape.blocks h2.commits n)) (ap last_scn (sym e)) (holds_later h h2 st.base (last_scn h.commits) (extends_same h h2 shape e) (omega arith) st.holds);
   quiet = subst (λ (x : Shape). list_any (patches_block (commit_block x)) (s.pending store) ≡ false) (sym shape) st.quiet;
 }
 
@@ -150,32 +150,32 @@ flat_push : (xs : List (List Change)) (x : List Change) → flat_map (λ changes
 flat_push [] x = append-nil x
 flat_push (y ∷ xs) x = ap (λ ys. y ++ ys) (flat_push xs x) ∙ sym (append_assoc y (flat_map (λ changes. changes) xs) x)
 
-rows_all : (blocks : ℕ) (cs : Commits) → rows_at blocks cs (last_number cs) ≡ over blocks cs.rows (flat_map (λ changes. changes) cs.list)
-rows_all blocks cs = ap (λ xs. over blocks cs.rows (flat_map (λ changes. changes) xs)) (take_all (last_number cs - cs.base) cs.list (omega arith))
+rows_all : (blocks : ℕ) (cs : Commits) → rows_at blocks cs (last_scn cs) ≡ over blocks cs.rows (flat_map (λ changes. changes) cs.list)
+rows_all blocks cs = ap (λ xs. over blocks cs.rows (flat_map (λ changes. changes) xs)) (take_all (last_scn cs - cs.base) cs.list (omega arith))
 
 -- the rows after a commit are those that its session saw before it
-pub rows_committed : (h : State) → rows_at h.shape.blocks (committed h 1).commits (last_number (committed h 1).commits) ≡ rows_now h 1
+pub rows_committed : (h : State) → rows_at h.shape.blocks (committed h 1).commits (last_scn (committed h 1).commits) ≡ rows_now h 1
 rows_committed h =
     rows_all h.shape.blocks (committed h 1).commits
     ∙ ap (over h.shape.blocks h.commits.rows) (flat_push h.commits.list (session_of h 1).own)
     ∙ over-append h.shape.blocks h.commits.rows (flat_map (λ changes. changes) h.commits.list) (session_of h 1).own
     ∙ ap (λ rows. over h.shape.blocks rows (session_of h 1).own) (sym (rows_all h.shape.blocks h.commits))
 
-pub number_committed : (h : State) → last_number (committed h 1).commits ≡ last_number h.commits + 1
+pub number_committed : (h : State) → last_scn (committed h 1).commits ≡ last_scn h.commits + 1
 number_committed h = let long = length-append h.commits.list ((session_of h 1).own ∷ []) in omega (arith, long)
 
 extends_committed : (h : State) → Extends h (committed h 1)
 extends_committed h = record { shape = refl; base = refl; rows = refl; more = (session_of h 1).own ∷ []; list = refl }
 
 module _ {S : Type 0} (s : Ghosts S) (slots : Option ℕ) (h : State) (old new : S) (before now : List (List ℕ))
-    (stood : Holds h.shape before (last_number h.commits) (rows_at h.shape.blocks h.commits (last_number h.commits)))
-    (holds : Holds h.shape now (last_number h.commits + 1) (rows_now h 1))
+    (stood : Holds h.shape before (last_scn h.commits) (rows_at h.shape.blocks h.commits (last_scn h.commits)))
+    (holds : Holds h.shape now (last_scn h.commits + 1) (rows_now h 1))
     (flush : LeavesOnly s.moment s.left_since old new (λ i. (b : List (List ℕ)) × s.opens h.shape slots i b × ((b ≡ before) ⊎ (b ≡ now))))
     (now_counts : (i : s.image) → s.moment old ≤ s.moment new → s.left new i → s.left_since new (s.moment old) i) where
   -- blocks with the commit
-  pub holds_committed : Holds h.shape now (last_number (committed h 1).commits) (rows_at h.shape.blocks (committed h 1).commits (last_number (committed h 1).commits))
+  pub holds_committed : Holds h.shape now (last_scn (committed h 1).commits) (rows_at h.shape.blocks (committed h 1).commits (last_scn (committed h 1).commits))
   holds_committed =
-      subst (λ (rows : List TableRow). Holds h.shape now (last_number (committed h 1).commits) rows) (sym (rows_committed h))
+      subst (λ (rows : List TableRow). Holds h.shape now (last_scn (committed h 1).commits) rows) (sym (rows_committed h))
       (subst (λ (n : ℕ). Holds h.shape now n (rows_now h 1)) (sym (number_committed h)) holds)
 
   with_it : (i : s.image) → s.opens h.shape slots i now → Restarts (opens_of s slots) (committed h 1) i
@@ -197,7 +197,7 @@ module _ {S : Type 0} (s : Ghosts S) (slots : Option ℕ) (h : State) (old new :
     extends = extends_committed h;
     any_moment = weaker s.moment s.left_since old new _ (OnTheWay (opens_of s slots) h (committed h 1))
         (λ i cut. ⊎_elim
-        (λ (r : Restarts (opens_of s slots) h i). reached (last_number h.commits) (omega arith) (extends_later h (committed h 1) (extends_committed h)) (restarts_later (opens_of s slots) h (committed h 1) (last_number h.commits) i (extends_committed h) (omega arith) r))
+        (λ (r : Restarts (opens_of s slots) h i). reached (last_scn h.commits) (omega arith) (extends_later h (committed h 1) (extends_committed h)) (restarts_later (opens_of s slots) h (committed h 1) (last_scn h.commits) i (extends_committed h) (omega arith) r))
         (λ (r : Restarts (opens_of s slots) (committed h 1) i). at_end (whole r))
         (which i cut))
         flush;

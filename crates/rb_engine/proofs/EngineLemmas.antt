@@ -18,7 +18,7 @@ use Rattle.rb_model.specs.declared.refusal.Refusal.{Refusal}
 use Rattle.rb_write.specs.Writes.{has_failed}
 use Rattle.rb_write.specs.declared.ask.AttemptFault.{AttemptFault}
 use Rattle.rb_write.specs.declared.ask.AttemptFault.TheVariants.{Failed, Duplicate, NotFound, BlockFull, WornOut, LogFull}
-use Rattle.rb_model.specs.Rows.{Commits, TableRow, last_number, rows_at}
+use Rattle.rb_model.specs.Rows.{Commits, TableRow, last_scn, rows_at}
 use Rattle.rb_model.specs.State.{State, session_of}
 use Rattle.rb_engine.specs.Crash.{IsDurable}
 use Rattle.rb_engine.specs.Engine.{IsInStep, refusal_of, room_left}
@@ -42,14 +42,14 @@ in_step_still s kept kept2 store call answer state shape commits stopped own spa
       same_shape = step.same_shape ∙ sym shape;
       in_range = subst IsShape (sym shape) step.in_range;
       alone = alone;
-      enough = λ go slots e. subst (λ (n : ℕ). slots - 1 - s.number store ≤ n) (sym spare) (step.enough (sym stopped ∙ go) slots e);
+      enough = λ go slots e. subst (λ (n : ℕ). slots - 1 - s.lsn store ≤ n) (sym spare) (step.enough (sym stopped ∙ go) slots e);
       going = λ go. step.going (sym stopped ∙ go);
-      numbers = λ go. subst (λ (c : Commits). last_number c ≤ s.number store + AHEAD) (sym commits) (step.numbers (sym stopped ∙ go));
+      numbers = λ go. subst (λ (c : Commits). last_scn c ≤ s.lsn store + AHEAD) (sym commits) (step.numbers (sym stopped ∙ go));
       room = λ go some. step.room (sym stopped ∙ go) (subst (λ (x : List Change). 0 < length x) own some);
       few = λ go some. step.few (sym stopped ∙ go) (subst (λ (x : List Change). 0 < length x) own some);
-      holds = λ told go. subst (λ (x : Shape). Holds x (s.blocks store) (last_number kept2.state.commits) (rows_now kept2.state 1)) (sym shape)
-          (subst (λ (c : Commits). Holds kept.state.shape (s.blocks store) (last_number c) (rows_now kept2.state 1)) (sym commits)
-          (subst (λ (r : List TableRow). Holds kept.state.shape (s.blocks store) (last_number kept.state.commits) r) (sym (now_same kept.state kept2.state shape commits own)) (step.holds told (sym stopped ∙ go))));
+      holds = λ told go. subst (λ (x : Shape). Holds x (s.blocks store) (last_scn kept2.state.commits) (rows_now kept2.state 1)) (sym shape)
+          (subst (λ (c : Commits). Holds kept.state.shape (s.blocks store) (last_scn c) (rows_now kept2.state 1)) (sym commits)
+          (subst (λ (r : List TableRow). Holds kept.state.shape (s.blocks store) (last_scn kept.state.commits) r) (sym (now_same kept.state kept2.state shape commits own)) (step.holds told (sym stopped ∙ go))));
       used = λ told go table key. subst (λ (x : List ℕ). length x ≤ 16) (sym (used_same kept2.state kept.state table key shape commits (held_same kept.state kept2.state step.alone alone own))) (step.used told (sym stopped ∙ go) table key);
     }
 
@@ -72,7 +72,7 @@ in_step_stopped s kept kept2 old new state shape step =
     }
 
 -- after a call that left the state, and of the store all but what it has loaded
-pub in_step_loaded : {S : Type 0} (s : Ghosts S) (kept kept2 : Kept) (old new : S) → kept2.state ≡ kept.state → kept2.spare ≡ kept.spare → s.shape_of new ≡ s.shape_of old → s.slots new ≡ s.slots old → s.number new ≡ s.number old
+pub in_step_loaded : {S : Type 0} (s : Ghosts S) (kept kept2 : Kept) (old new : S) → kept2.state ≡ kept.state → kept2.spare ≡ kept.spare → s.shape_of new ≡ s.shape_of old → s.slots new ≡ s.slots old → s.lsn new ≡ s.lsn old
     → s.failed new ≡ false → (s.tells → s.blocks new ≡ s.blocks old) → IsInStep s kept old → IsInStep s kept2 new
 in_step_loaded s kept kept2 old new state spare shape slots number goes blocks step =
     let stopped : kept2.state.stopped ≡ kept.state.stopped = ap (λ (h : State). h.stopped) state in
@@ -82,17 +82,17 @@ in_step_loaded s kept kept2 old new state spare shape slots number goes blocks s
       alone = ap (λ (h : State). length h.sessions) state ∙ step.alone;
       enough = λ go k e. let room = step.enough (sym stopped ∙ go) k (sym slots ∙ e) in omega (arith, room, spare, number);
       going = λ go. goes;
-      numbers = λ go. let lower = step.numbers (sym stopped ∙ go) in let last : last_number kept2.state.commits ≡ last_number kept.state.commits = ap (λ (h : State). last_number h.commits) state in omega (arith, lower, last, number);
-      room = λ go some. subst (λ (n : ℕ). 1 ≤ room_of (s.slots new) n) (sym number) (subst (λ (k : Option ℕ). 1 ≤ room_of k (s.number old)) (sym slots) (step.room (sym stopped ∙ go) (subst (λ (h : State). 0 < length (session_of h 1).own) state some)));
+      numbers = λ go. let lower = step.numbers (sym stopped ∙ go) in let last : last_scn kept2.state.commits ≡ last_scn kept.state.commits = ap (λ (h : State). last_scn h.commits) state in omega (arith, lower, last, number);
+      room = λ go some. subst (λ (n : ℕ). 1 ≤ room_of (s.slots new) n) (sym number) (subst (λ (k : Option ℕ). 1 ≤ room_of k (s.lsn old)) (sym slots) (step.room (sym stopped ∙ go) (subst (λ (h : State). 0 < length (session_of h 1).own) state some)));
       few = λ go some. subst (λ (n : ℕ). n ≤ 2 ^ 60) (sym number) (step.few (sym stopped ∙ go) (subst (λ (h : State). 0 < length (session_of h 1).own) state some));
-      holds = λ told go. subst (λ (h : State). Holds h.shape (s.blocks new) (last_number h.commits) (rows_now h 1)) (sym state)
-          (subst (λ (b : List (List ℕ)). Holds kept.state.shape b (last_number kept.state.commits) (rows_now kept.state 1)) (sym (blocks told)) (step.holds told (sym stopped ∙ go)));
+      holds = λ told go. subst (λ (h : State). Holds h.shape (s.blocks new) (last_scn h.commits) (rows_now h 1)) (sym state)
+          (subst (λ (b : List (List ℕ)). Holds kept.state.shape b (last_scn kept.state.commits) (rows_now kept.state 1)) (sym (blocks told)) (step.holds told (sym stopped ∙ go)));
       used = λ told go table key. subst (λ (h : State). length (used_keys h table key) ≤ 16) (sym state) (step.used told (sym stopped ∙ go) table key);
     }
 
 -- after a write that was refused
 pub in_step_refused : {S : Type 0} (s : Ghosts S) (kept kept2 : Kept) (old new : S) (fault : AttemptFault) (why : Refusal) → why ≡ refusal_of fault → kept2.state ≡ after_refusal kept.state why → kept2.spare ≡ kept.spare
-    → s.shape_of new ≡ s.shape_of old → s.slots new ≡ s.slots old → (has_failed {T = Xid} (Err fault) ≡ false → s.number new ≡ s.number old) → s.failed new ≡ has_failed {T = Xid} (Err fault)
+    → s.shape_of new ≡ s.shape_of old → s.slots new ≡ s.slots old → (has_failed {T = Xid} (Err fault) ≡ false → s.lsn new ≡ s.lsn old) → s.failed new ≡ has_failed {T = Xid} (Err fault)
     → (s.tells → has_failed {T = Xid} (Err fault) ≡ false → s.blocks new ≡ s.blocks old) → IsInStep s kept old → IsInStep s kept2 new
 in_step_refused s kept kept2 old new Failed why is state spare shape slots number goes blocks step = in_step_stopped s kept kept2 old new (state ∙ ap (after_refusal kept.state) is) shape step
 in_step_refused s kept kept2 old new Duplicate why is state spare shape slots number goes blocks step = in_step_loaded s kept kept2 old new (state ∙ ap (after_refusal kept.state) is) spare shape slots (number refl) goes (λ told. blocks told refl) step
@@ -115,8 +115,8 @@ pub stands_moved : {S : Type 0} (s : Ghosts S) (h h2 : State) (old new : S) (st 
 stands_moved s h h2 old new st shape commits stable quiet = record {
   base = st.base;
   stable = stable;
-  holds = subst (λ (x : Shape). Holds x st.base (last_number h2.commits) (rows_at x.blocks h2.commits (last_number h2.commits))) (sym shape)
-      (subst (λ (c : Commits). Holds h.shape st.base (last_number c) (rows_at h.shape.blocks c (last_number c))) (sym commits) st.holds);
+  holds = subst (λ (x : Shape). Holds x st.base (last_scn h2.commits) (rows_at x.blocks h2.commits (last_scn h2.commits))) (sym shape)
+      (subst (λ (c : Commits). Holds h.shape st.base (last_scn c) (rows_at h.shape.blocks c (last_scn c))) (sym commits) st.holds);
   quiet = subst (λ (x : Shape). list_any (patches_block (commit_block x)) (s.pending new) ≡ false) (sym shape) quiet;
 }
 

@@ -21,10 +21,10 @@ use Rattle.rb_heap.proofs.Reading.{cells_counted, cell_read}
 use Rattle.rb_model.specs.Change.{Change}
 use Rattle.rb_model.specs.Full.{has_home, has_key, once, used_keys}
 use Rattle.rb_model.specs.Reply.{rows_now}
-use Rattle.rb_model.specs.Rows.{TableRow, is_row_of, last_number, over, rows_at, value_of, with_row}
+use Rattle.rb_model.specs.Rows.{TableRow, is_row_of, last_scn, over, rows_at, value_of, with_row}
 use Rattle.rb_model.specs.State.{State, opened, session_of}
 use Rattle.rb_heap.specs.Soundness.{AreCellsSound, AreKeysApart}
-use Rattle.rb_sound.specs.Sound.{commit_logged, commit_number, AreSound}
+use Rattle.rb_sound.specs.Sound.{commit_lsn, commit_scn, AreSound}
 use Rattle.rb_model.proofs.Order.{row_same}
 use Rattle.rb_model.proofs.RowLemmas.{all-with_row, ordered-over}
 use Rattle.rb_write.specs.Values.{home_at, home_block, value_at, value_in, LocksRows, ArePlain, IsPlainHome}
@@ -301,7 +301,7 @@ are_plain : (shape : Shape) (blocks : List (List ℕ)) (number : ℕ) → CanOpe
 are_plain shape blocks number can which high = plain_home (block_of blocks which) (can.sound.homes which high).cells.keys (λ c few. can.unlocked which c high few)
 
 -- blocks that pass the tests of an opening hold the rows that it finds
-pub holds_found : (shape : Shape) (blocks : List (List ℕ)) (number : ℕ) → IsShape shape → AreBlocks shape blocks → CanOpen shape blocks number → Holds shape blocks (commit_number shape blocks) (rows_found shape blocks (table_blocks shape))
+pub holds_found : (shape : Shape) (blocks : List (List ℕ)) (number : ℕ) → IsShape shape → AreBlocks shape blocks → CanOpen shape blocks number → Holds shape blocks (commit_scn shape blocks) (rows_found shape blocks (table_blocks shape))
 holds_found shape blocks number is whole can =
     let some = is.few_blocks.0 in
     let plain = are_plain shape blocks number can in
@@ -411,7 +411,7 @@ keys_few shape blocks number rows table key holds =
     omega (arith, most, long, few, sixteen)
 
 -- the rows of an opened state, at its last commit and as its session sees them, are its base
-pub opened_rows : (shape : Shape) (number : ℕ) (rows : List TableRow) → rows_at shape.blocks (opened shape number rows).commits (last_number (opened shape number rows).commits) ≡ rows
+pub opened_rows : (shape : Shape) (number : ℕ) (rows : List TableRow) → rows_at shape.blocks (opened shape number rows).commits (last_scn (opened shape number rows).commits) ≡ rows
 opened_rows shape number rows = ap (λ (commits : List (List Change)). over shape.blocks rows (flat_map (λ changes. changes) commits)) (take-nil (number + 0 - number))
 
 -- no home of the opened state has more keys in use than cells
@@ -422,49 +422,49 @@ used_few shape blocks number rows holds table key =
 
 -- blocks that hold the rows hold what the opened state says, at its last commit and as its session sees it
 
-pub opened_holds : (shape : Shape) (blocks : List (List ℕ)) (h : State) → OpensAs shape blocks h → Holds h.shape blocks (last_number h.commits) (rows_at h.shape.blocks h.commits (last_number h.commits))
+pub opened_holds : (shape : Shape) (blocks : List (List ℕ)) (h : State) → OpensAs shape blocks h → Holds h.shape blocks (last_scn h.commits) (rows_at h.shape.blocks h.commits (last_scn h.commits))
 opened_holds shape blocks h opens =
     let number = opens.number in
     let rows = opens.rows in
     let same : number ≡ number + 0 = omega arith in
-    subst (λ (x : State). Holds x.shape blocks (last_number x.commits) (rows_at x.shape.blocks x.commits (last_number x.commits))) (sym opens.state)
+    subst (λ (x : State). Holds x.shape blocks (last_scn x.commits) (rows_at x.shape.blocks x.commits (last_scn x.commits))) (sym opens.state)
     (subst (λ (there : List TableRow). Holds shape blocks (number + 0) there) (sym (opened_rows shape number rows))
     (subst (λ (n : ℕ). Holds shape blocks n rows) same opens.holds))
 
-pub opened_now : (shape : Shape) (blocks : List (List ℕ)) (h : State) → OpensAs shape blocks h → Holds h.shape blocks (last_number h.commits) (rows_now h 1)
+pub opened_now : (shape : Shape) (blocks : List (List ℕ)) (h : State) → OpensAs shape blocks h → Holds h.shape blocks (last_scn h.commits) (rows_now h 1)
 opened_now shape blocks h opens =
     let none : (session_of h 1).own ≡ [] = ap (λ (x : State). (session_of x 1).own) opens.state in
-    let rows = rows_at h.shape.blocks h.commits (last_number h.commits) in
-    subst (λ (own : List Change). Holds h.shape blocks (last_number h.commits) (over h.shape.blocks rows own)) (sym none) (opened_holds shape blocks h opens)
+    let rows = rows_at h.shape.blocks h.commits (last_scn h.commits) in
+    subst (λ (own : List Change). Holds h.shape blocks (last_scn h.commits) (over h.shape.blocks rows own)) (sym none) (opened_holds shape blocks h opens)
 
 -- what the tests of an opening say, of a store that only loads between them: the first shape and blocks are those of the
 -- start, and the others those at each test
 
 pub can_open : (shape a b k : Shape) (blocks ba bb bk : List (List ℕ)) (number last lb : ℕ) → a ≡ shape → ba ≡ blocks → b ≡ shape → bb ≡ blocks → lb ≡ last → k ≡ shape → bk ≡ blocks
-    → AreSound shape blocks → number ≡ commit_number a ba → (number ≤ commit_logged b bb + AHEAD) × (commit_logged b bb ≤ lb)
+    → AreSound shape blocks → number ≡ commit_scn a ba → (number ≤ commit_lsn b bb + AHEAD) × (commit_lsn b bb ≤ lb)
     → ((i c : ℕ) → i < table_blocks k → c < 16 → LocksRows (cell_at (block_of bk i) c)) → CanOpen shape blocks last
 can_open shape a b k blocks ba bb bk number last lb a_is ba_is b_is bb_is last_is k_is bk_is sound number_is logged unlocked =
-    let number_same : number ≡ commit_number shape blocks = number_is ∙ ap (λ (x : Shape). commit_number x ba) a_is ∙ ap (commit_number shape) ba_is in
-    let logged_same : commit_logged b bb ≡ commit_logged shape blocks = ap (λ (x : Shape). commit_logged x bb) b_is ∙ ap (commit_logged shape) bb_is in
+    let number_same : number ≡ commit_scn shape blocks = number_is ∙ ap (λ (x : Shape). commit_scn x ba) a_is ∙ ap (commit_scn shape) ba_is in
+    let logged_same : commit_lsn b bb ≡ commit_lsn shape blocks = ap (λ (x : Shape). commit_lsn x bb) b_is ∙ ap (commit_lsn shape) bb_is in
     record {
       sound = sound;
       unlocked =
           subst (λ (x : Shape). (i c : ℕ) → i < table_blocks x → c < 16 → LocksRows (cell_at (block_of blocks i) c)) k_is
           (subst (λ (there : List (List ℕ)). (i c : ℕ) → i < table_blocks k → c < 16 → LocksRows (cell_at (block_of there i) c)) bk_is unlocked);
-      commits = subst (λ (n : ℕ). n ≤ commit_logged shape blocks + AHEAD) number_same (subst (λ (n : ℕ). number ≤ n + AHEAD) logged_same logged.0);
-      logged = subst (λ (n : ℕ). commit_logged shape blocks ≤ n) last_is (subst (λ (n : ℕ). n ≤ lb) logged_same logged.1);
+      commits = subst (λ (n : ℕ). n ≤ commit_lsn shape blocks + AHEAD) number_same (subst (λ (n : ℕ). number ≤ n + AHEAD) logged_same logged.0);
+      logged = subst (λ (n : ℕ). commit_lsn shape blocks ≤ n) last_is (subst (λ (n : ℕ). n ≤ lb) logged_same logged.1);
     }
 
 -- blocks that pass the tests open to the state that their rows were taken into
 pub opens_as : (shape a k : Shape) (blocks ba bk : List (List ℕ)) (last number base : ℕ) (rows : List TableRow) (h : State) → IsShape shape → AreBlocks shape blocks → CanOpen shape blocks last
-    → a ≡ shape → ba ≡ blocks → k ≡ shape → bk ≡ blocks → number ≡ commit_number a ba → base ≡ number → rows ≡ rows_found k bk (table_blocks k) → h ≡ opened k base rows → OpensAs shape blocks h
+    → a ≡ shape → ba ≡ blocks → k ≡ shape → bk ≡ blocks → number ≡ commit_scn a ba → base ≡ number → rows ≡ rows_found k bk (table_blocks k) → h ≡ opened k base rows → OpensAs shape blocks h
 opens_as shape a k blocks ba bk last number base rows h is whole can a_is ba_is k_is bk_is number_is base_is rows_are state = record {
-  number = commit_number shape blocks;
+  number = commit_scn shape blocks;
   rows = rows_found shape blocks (table_blocks shape);
   holds = holds_found shape blocks last is whole can;
   state =
       state
       ∙ ap (λ (x : Shape). opened x base rows) k_is
-      ∙ ap (λ (n : ℕ). opened shape n rows) (base_is ∙ number_is ∙ ap (λ (x : Shape). commit_number x ba) a_is ∙ ap (commit_number shape) ba_is)
-      ∙ ap (opened shape (commit_number shape blocks)) (rows_are ∙ ap (λ (x : Shape). rows_found x bk (table_blocks x)) k_is ∙ ap (λ (there : List (List ℕ)). rows_found shape there (table_blocks shape)) bk_is);
+      ∙ ap (λ (n : ℕ). opened shape n rows) (base_is ∙ number_is ∙ ap (λ (x : Shape). commit_scn x ba) a_is ∙ ap (commit_scn shape) ba_is)
+      ∙ ap (opened shape (commit_scn shape blocks)) (rows_are ∙ ap (λ (x : Shape). rows_found x bk (table_blocks x)) k_is ∙ ap (λ (there : List (List ℕ)). rows_found shape there (table_blocks shape)) bk_is);
 }

@@ -12,7 +12,7 @@ use Rattle.std.specs.List.{list_any, All, AllByRecursion, IsDistinct}
 use Rattle.rb_base.specs.declared.shape.Shape.{Shape}
 use Rattle.rb_base.proofs.Each.{all_take}
 use Rattle.rb_model.specs.Change.{Change}
-use Rattle.rb_model.specs.Rows.{TableRow, has_row, last_number, over, rows_at}
+use Rattle.rb_model.specs.Rows.{TableRow, has_row, last_scn, over, rows_at}
 use Rattle.rb_model.specs.State.{State}
 use Rattle.rb_model.specs.Full.{has_key, once, has_home, held, used_keys, full_block}
 use Rattle.rb_versions.specs.declared.change.RowChange.{RowChange}
@@ -133,7 +133,7 @@ is_of t q c = c.table == t && c.key == q
 
 -- the rows at the last commit
 abbrev pub rows_last : State → List TableRow
-rows_last h = rows_at h.shape.blocks h.commits (last_number h.commits)
+rows_last h = rows_at h.shape.blocks h.commits (last_scn h.commits)
 
 -- a key has a row at the last commit, or a session holds it
 abbrev pub uses : State → ℕ → ℕ → Bool

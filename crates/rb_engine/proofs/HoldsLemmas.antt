@@ -7,9 +7,9 @@ use Rattle.rb_heap.proofs.Reading.{cell_read}
 use Rattle.rb_model.specs.Rows.{TableRow}
 use Rattle.rb_write.specs.Values.{LocksRows}
 use Rattle.rb_engine.specs.Holds.{CanOpen, Holds}
-use Rattle.rb_sound.specs.Sound.{commit_logged}
+use Rattle.rb_sound.specs.Sound.{commit_lsn}
 
-pub can_open_held : (shape : Shape) (blocks : List (List ℕ)) (n number : ℕ) (rows : List TableRow) → commit_logged shape blocks ≤ number → Holds shape blocks n rows → CanOpen shape blocks number
+pub can_open_held : (shape : Shape) (blocks : List (List ℕ)) (n number : ℕ) (rows : List TableRow) → commit_lsn shape blocks ≤ number → Holds shape blocks n rows → CanOpen shape blocks number
 can_open_held shape blocks n number rows last held = record {
   sound = held.sound;
   unlocked = λ b k high few. subst LocksRows (cell_read (block_of blocks b) k empty_cell few) ((held.plain b high).unlocked k few);

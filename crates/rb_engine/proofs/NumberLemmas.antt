@@ -98,21 +98,21 @@ module _ {S : Type 0} (s : Ghosts S) (left_opens : (store : S) (b : List (List �
       → Passes (s.moment old) (s.moment mid) (s.left_since old) (s.left_since mid) (s.left mid)
       → s.shape_of mid ≡ s.shape_of old → s.slots mid ≡ s.slots old → s.shape_of new ≡ s.shape_of mid → s.slots new ≡ s.slots mid
       → s.pending mid ≡ groups ++ group ∷ [] → list_any (patches_block (commit_block (s.shape_of old))) groups ≡ false → patches_block (commit_block (s.shape_of old)) group ≡ true
-      → now ≡ after_pending (s.number mid) (s.pending mid) b
-      → LeavesOnly s.moment s.left_since mid new (λ i. (x : List (List ℕ)) × s.opens (s.shape_of new) (s.slots new) i x × AfterSome (commit_block (s.shape_of mid)) (s.number mid) (s.pending mid) b x)
+      → now ≡ after_pending (s.lsn mid) (s.pending mid) b
+      → LeavesOnly s.moment s.left_since mid new (λ i. (x : List (List ℕ)) × s.opens (s.shape_of new) (s.slots new) i x × AfterSome (commit_block (s.shape_of mid)) (s.lsn mid) (s.pending mid) b x)
       → LeavesOnly s.moment s.left_since old new (IsLeft old b)
   over_flush old mid new b groups group stable fewer passes shape slots shape2 slots2 pending none is patched flush =
       joined s.moment s.left_since old mid new (IsLeft old b) (before_flush old mid b stable fewer passes)
       (weaker s.moment s.left_since mid new _ (IsLeft old b) (λ i cut. after i cut) flush)
     where
-      after : (i : s.image) → (x : List (List ℕ)) × s.opens (s.shape_of new) (s.slots new) i x × AfterSome (commit_block (s.shape_of mid)) (s.number mid) (s.pending mid) b x → IsLeft old b i
+      after : (i : s.image) → (x : List (List ℕ)) × s.opens (s.shape_of new) (s.slots new) i x × AfterSome (commit_block (s.shape_of mid)) (s.lsn mid) (s.pending mid) b x → IsLeft old b i
       after i (x, opens, some) =
           let same_shape = shape2 ∙ shape in
           let same_slots = slots2 ∙ slots in
           let there : s.opens (s.shape_of old) (s.slots old) i x =
           subst (λ (k : Option ℕ). s.opens (s.shape_of old) k i x) same_slots (subst (λ (k : Shape). s.opens k (s.slots new) i x) same_shape opens) in
-          let made : x ≡ after_groups (s.number mid + 1 - length (groups ++ group ∷ [])) (up_to_last (commit_block (s.shape_of old)) (take some.count (groups ++ group ∷ []))) b =
-          subst (λ (gs : List (List Patch)). x ≡ after_groups (s.number mid + 1 - length gs) (up_to_last (commit_block (s.shape_of old)) (take some.count gs)) b) pending
-          (subst (λ (k : Shape). x ≡ after_groups (s.number mid + 1 - length (s.pending mid)) (up_to_last (commit_block k) (take some.count (s.pending mid))) b) shape some.made) in
-          let read : now ≡ after_pending (s.number mid) (groups ++ group ∷ []) b = subst (λ (gs : List (List Patch)). now ≡ after_pending (s.number mid) gs b) pending patched in
-          (x, there, some_blocks (commit_block (s.shape_of old)) (s.number mid) some.count groups group b x now none is made read)
+          let made : x ≡ after_groups (s.lsn mid + 1 - length (groups ++ group ∷ [])) (up_to_last (commit_block (s.shape_of old)) (take some.count (groups ++ group ∷ []))) b =
+          subst (λ (gs : List (List Patch)). x ≡ after_groups (s.lsn mid + 1 - length gs) (up_to_last (commit_block (s.shape_of old)) (take some.count gs)) b) pending
+          (subst (λ (k : Shape). x ≡ after_groups (s.lsn mid + 1 - length (s.pending mid)) (up_to_last (commit_block k) (take some.count (s.pending mid))) b) shape some.made) in
+          let read : now ≡ after_pending (s.lsn mid) (groups ++ group ∷ []) b = subst (λ (gs : List (List Patch)). now ≡ after_pending (s.lsn mid) gs b) pending patched in
+          (x, there, some_blocks (commit_block (s.shape_of old)) (s.lsn mid) some.count groups group b x now none is made read)

@@ -6,9 +6,9 @@ use Rattle.std.proofs.lemmas.Bool.{le-leb, and_parts, not-true, cond-false}
 use Rattle.std.specs.List.{AllByRecursion}
 use Rattle.std.specs.Prelude.{slice_get, remove}
 use Rattle.rb_base.proofs.Each.{all_at}
-use Rattle.rb_model.specs.Rows.{TableRow, last_number, has_row, over}
+use Rattle.rb_model.specs.Rows.{TableRow, last_scn, has_row, over}
 use Rattle.rb_model.specs.State.{State, Cursor, is_session, is_table, session_of, cursor_of, cursor_rows, with_taken, without_cursor}
-use Rattle.rb_model.specs.Reply as call
+use Rattle.rb_model.specs.Reply as machine
 use Rattle.rb_model.specs.Full.{full_block}
 use Rattle.rb_model.specs.Reply.{Action, Answer, Write, Commit, Fetch, Done, Numbered, Given, End, Refused, adds, expected, first_of, none_applies, early_tests, later_tests, log_tests, rows_now, next_row, given, is_empty, after_grant}
 use Rattle.rb_model.specs.declared.refusal.Refusal.{Refusal}
@@ -30,7 +30,7 @@ use Rattle.rb_engine.proofs.KeptLemmas.{find_at_place, none_named, cursor_rows_v
 
 pub open_tests : (h : State) (logged room s : ℕ) (name : List ℕ) (table lo hi : ℕ) (there many : Bool) → h.stopped ≡ false → is_session h s ≡ true → is_table h table ≡ true
     → is_some (cursor_of h s name) ≡ there → nat_le 16 (length (session_of h s).cursors) ≡ many
-    → expected h logged room (call.OpenCursor s name table lo hi) ≡ cond there (Refused CursorThere) (cond many (Refused TooManyCursors) Done)
+    → expected h logged room (machine.OpenCursor s name table lo hi) ≡ cond there (Refused CursorThere) (cond many (Refused TooManyCursors) Done)
 open_tests h logged room s name table lo hi there many a b d e f = rw (a, b, d, e, f) refl
 
 pub fetch_tests : (h : State) (logged room s : ℕ) (name : List ℕ) (found : Option Cursor) → h.stopped ≡ false → is_session h s ≡ true → cursor_of h s name ≡ found
@@ -38,11 +38,11 @@ pub fetch_tests : (h : State) (logged room s : ℕ) (name : List ℕ) (found : O
 fetch_tests h logged room s name found a b e = rw (a, b, e) refl
 
 pub close_tests : (h : State) (logged room s : ℕ) (name : List ℕ) (none : Bool) → h.stopped ≡ false → is_session h s ≡ true → is_none (cursor_of h s name) ≡ none
-    → expected h logged room (call.CloseCursor s name) ≡ cond none (Refused NoCursor) Done
+    → expected h logged room (machine.CloseCursor s name) ≡ cond none (Refused NoCursor) Done
 close_tests h logged room s name none a b e = rw (a, b, e) refl
 
 pub commit_tests : (h : State) (logged room s : ℕ) (empty : Bool) → h.stopped ≡ false → is_session h s ≡ true → is_empty (session_of h s).own ≡ empty
-    → expected h logged room (Commit s) ≡ cond empty Done (Numbered (last_number h.commits + 1))
+    → expected h logged room (Commit s) ≡ cond empty Done (Numbered (last_scn h.commits + 1))
 commit_tests h logged room s empty a b e = rw (a, b, e) refl
 
 pub gives_true : (x y : ℕ) → ◌≡◌ {A = Result Bool Refusal} (Ok (nat_lt x y)) (Ok true) → x < y
@@ -155,16 +155,16 @@ next_row_view a kept c d v e rows =
 
 -- the state with one more cursor, that has given nothing
 pub view-open : (a : Inside) (kept : Kept) (cs : List OpenCursor) (c : OpenCursor) (name : List ℕ) (table lo hi : ℕ) → the_view a ≡ kept → cs ≡ a.cursors.items ++ c ∷ []
-    → c.name.items ≡ name → c.table ≡ table → c.lo ≡ lo → c.hi ≡ hi → c.number ≡ last_number kept.state.commits → c.visible ≡ length a.versions.changes → c.last ≡ None
-    → state_view a.shape a.base a.base_length a.ends.items a.versions.changes cs a.stopped ≡ after_grant kept.state (call.OpenCursor 1 name table lo hi)
+    → c.name.items ≡ name → c.table ≡ table → c.lo ≡ lo → c.hi ≡ hi → c.number ≡ last_scn kept.state.commits → c.visible ≡ length a.versions.changes → c.last ≡ None
+    → state_view a.shape a.base a.base_length a.ends.items a.versions.changes cs a.stopped ≡ after_grant kept.state (machine.OpenCursor 1 name table lo hi)
 view-open a kept cs c name table lo hi v e n t l h number visible last =
-    let at_view : c.number ≡ a.base + length (cut a.base_length a.ends.items a.versions.changes) = number ∙ ap (λ (k : Kept). last_number k.state.commits) (sym v) in
+    let at_view : c.number ≡ a.base + length (cut a.base_length a.ends.items a.versions.changes) = number ∙ ap (λ (k : Kept). last_scn k.state.commits) (sym v) in
     let view = cursor_view a.shape.blocks a.base a.base_length a.ends.items a.versions.changes in
     let f : view c ≡ record { name = name; table = table; lo = lo; hi = hi; number = a.base + length (cut a.base_length a.ends.items a.versions.changes); own = changes_of (drop (last_end a.base_length a.ends.items) a.versions.changes); taken = 0 } =
     fresh_view a.shape.blocks a.base a.base_length a.ends.items a.versions.changes c at_view visible last ∙ (rw (n, t, l, h) refl) in
     let m : map view cs ≡ map view a.cursors.items ++ view c ∷ [] = ap (map view) e ∙ map_push view a.cursors.items c in
     rw (m, f) refl
-    ∙ ap (λ (k : Kept). after_grant k.state (call.OpenCursor 1 name table lo hi)) v
+    ∙ ap (λ (k : Kept). after_grant k.state (machine.OpenCursor 1 name table lo hi)) v
 
 -- what a fetch gives, by the row that the changes make next
 pub fetch_gives : (a : Inside) (kept : Kept) (logged room s : ℕ) (name : List ℕ) (i : ℕ) (d : OpenCursor) (o : Option TableRow) → the_view a ≡ kept → Rising a.base_length a.ends.items
@@ -203,10 +203,10 @@ view-fetch a kept s name i d r key cs v e place f k next =
 
 -- the state without the cursor of a name
 pub view-close : (a : Inside) (kept : Kept) (s : ℕ) (name : List ℕ) (i : ℕ) (cs : List OpenCursor) → the_view a ≡ kept → s ≡ 1 → IsPlace (has_name name) a.cursors.items i → cs ≡ remove a.cursors.items i
-    → state_view a.shape a.base a.base_length a.ends.items a.versions.changes cs a.stopped ≡ after_grant kept.state (call.CloseCursor s name)
+    → state_view a.shape a.base a.base_length a.ends.items a.versions.changes cs a.stopped ≡ after_grant kept.state (machine.CloseCursor s name)
 view-close a kept s name i cs v e place f =
     let view = cursor_view a.shape.blocks a.base a.base_length a.ends.items a.versions.changes in
     let cursors : map view cs ≡ without_cursor name (map view a.cursors.items) = ap (map view) f ∙ sym (removed_at_place a.shape.blocks a.base a.base_length a.ends.items a.versions.changes name a.cursors.items i place) in
     rw (cursors) refl
-    ∙ ap (λ (k : Kept). after_grant k.state (call.CloseCursor 1 name)) v
-    ∙ ap (λ n. after_grant kept.state (call.CloseCursor n name)) (sym e)
+    ∙ ap (λ (k : Kept). after_grant k.state (machine.CloseCursor 1 name)) v
+    ∙ ap (λ n. after_grant kept.state (machine.CloseCursor n name)) (sym e)

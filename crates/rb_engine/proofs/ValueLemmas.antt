@@ -7,7 +7,7 @@ use Rattle.rb_base.proofs.Each.{all_filter}
 use Rattle.rb_model.specs.Answers.{action_of}
 use Rattle.rb_model.specs.Change.{Change, Kind, Put, Gone, Held}
 use Rattle.rb_model.specs.Reply.{Action, Insert, Update, Delete, Write, adds, change_by, after_grant, rows_now}
-use Rattle.rb_model.specs.Rows.{TableRow, row_before, is_row_of, has_row, value_of, with_row, without_row, changed_by, over, last_number, rows_at}
+use Rattle.rb_model.specs.Rows.{TableRow, row_before, is_row_of, has_row, value_of, with_row, without_row, changed_by, over, last_scn, rows_at}
 use Rattle.rb_model.specs.State.{State, Session, session_of}
 use Rattle.rb_model.specs.declared.op.Op.{Op}
 use Rattle.rb_model.specs.declared.op.Op.TheVariants as op
@@ -115,7 +115,7 @@ written_own h s table key action one = rw (one) refl
 pub now_written : (h : State) (table key : ℕ) (action : Action) → length h.sessions ≡ 1
     → rows_now (after_grant h (Write 1 table key action)) 1 ≡ changed_by h.shape.blocks table key (change_by table key action).kind (rows_now h 1)
 now_written h table key action alone =
-    let rows = rows_at h.shape.blocks h.commits (last_number h.commits) in
+    let rows = rows_at h.shape.blocks h.commits (last_scn h.commits) in
     ap (λ (own : List Change). over h.shape.blocks rows own) (written_own h (session_of h 1) table key action (the_one h alone))
     ∙ over-append h.shape.blocks rows (session_of h 1).own (change_by table key action ∷ [])
     ∙ over_one h.shape.blocks table key action (rows_now h 1)

@@ -17,12 +17,12 @@ use Rattle.rb_heap.proofs.Reading.{cells_counted, cell_read}
 use Rattle.rb_model.specs.Answers.{action_of}
 use Rattle.rb_model.specs.Full.{used_keys, full_block}
 use Rattle.rb_model.specs.Reply.{Write, change_by, after_grant, rows_now}
-use Rattle.rb_model.specs.Rows.{TableRow, has_row, value_of, changed_by, last_number}
+use Rattle.rb_model.specs.Rows.{TableRow, has_row, value_of, changed_by, last_scn}
 use Rattle.rb_model.specs.State.{State, session_of}
 use Rattle.rb_model.specs.declared.op.Op.{Op}
 use Rattle.rb_model.specs.declared.op.Op.TheVariants.{Insert, Update, Delete}
 use Rattle.rb_heap.specs.Soundness.{AreKeysApart}
-use Rattle.rb_sound.specs.Sound.{commit_logged, commit_number, AreSound}
+use Rattle.rb_sound.specs.Sound.{commit_lsn, commit_scn, AreSound}
 use Rattle.rb_sound.proofs.CellWritten.{sound_with_cell, commit_stays, logged_stays}
 use Rattle.rb_versions.proofs.HomeLemmas.{distinct_none}
 use Rattle.rb_model.proofs.RowLemmas.{ordered-over}
@@ -114,8 +114,8 @@ module _ (shape : Shape) (blocks : List (List ℕ)) (n : ℕ) (rows : List Table
         whole = whole;
         sound = subst (AreSound shape) (sym made.made) sound;
         plain = plain held.plain;
-        number_is = ap (commit_number shape) made.made ∙ commit ∙ held.number_is;
-        logged = omega (arith, ap (commit_logged shape) made.made, stays, held.logged);
+        number_is = ap (commit_scn shape) made.made ∙ commit ∙ held.number_is;
+        logged = omega (arith, ap (commit_lsn shape) made.made, stays, held.logged);
         values = λ t k low high.
             written plain_there t k low
             ∙ ap (λ (value : Option (List ℕ)). if (t == table) && (k == key) then value_after (Some op) value else value) (held.values t k low high)
@@ -127,18 +127,18 @@ module _ (shape : Shape) (blocks : List (List ℕ)) (n : ℕ) (rows : List Table
 
 -- of a state with one session: what its blocks hold after a write
 pub holds_after_write : (h h2 : State) (shape : Shape) (blocks now : List (List ℕ)) (number table key : ℕ) (op : Op) → shape ≡ h.shape → length h.sessions ≡ 1 → h2 ≡ after_grant h (Write 1 table key (action_of op))
-    → Holds h.shape blocks (last_number h.commits) (rows_now h 1) → 1 ≤ h.shape.blocks → 1 ≤ table → table ≤ h.shape.tables → key < 2 ^ 64 → IsShort (Some op) → IsMade shape (asked table key op) number blocks now
+    → Holds h.shape blocks (last_scn h.commits) (rows_now h 1) → 1 ≤ h.shape.blocks → 1 ≤ table → table ≤ h.shape.tables → key < 2 ^ 64 → IsShort (Some op) → IsMade shape (asked table key op) number blocks now
     → (IsPlainHome (home_at shape blocks table key) → (t k : ℕ) → 1 ≤ t
     → value_at shape now t k ≡ (if (t == table) && (k == key) then value_after (Some op) (value_at shape blocks t k) else value_at shape blocks t k))
     → (ArePlain shape blocks → ArePlain shape now) → AreBlocks shape now → ((b : ℕ) → table_blocks shape ≤ b → block_of now b ≡ block_of blocks b)
-    → Holds h2.shape now (last_number h2.commits) (rows_now h2 1)
+    → Holds h2.shape now (last_scn h2.commits) (rows_now h2 1)
 holds_after_write h h2 shape blocks now number table key op same alone is held some first last fits short made written plain whole segments =
-    let old : Holds shape blocks (last_number h.commits) (rows_now h 1) = subst (λ (s : Shape). Holds s blocks (last_number h.commits) (rows_now h 1)) (sym same) held in
-    let new = holds_written shape blocks (last_number h.commits) (rows_now h 1) table key old (subst (λ (s : Shape). 1 ≤ s.blocks) (sym same) some) first (subst (λ (s : Shape). table ≤ s.tables) (sym same) last) now number op fits short made written plain whole segments in
-    let there : Holds h.shape now (last_number h.commits) (changed_by h.shape.blocks table key (change_by table key (action_of op)).kind (rows_now h 1)) =
-    subst (λ (s : Shape). Holds s now (last_number h.commits) (changed_by s.blocks table key (change_by table key (action_of op)).kind (rows_now h 1))) same new in
-    subst (λ (g : State). Holds g.shape now (last_number g.commits) (rows_now g 1)) (sym is)
-    (subst (λ (rows : List TableRow). Holds h.shape now (last_number h.commits) rows) (sym (now_written h table key (action_of op) alone)) there)
+    let old : Holds shape blocks (last_scn h.commits) (rows_now h 1) = subst (λ (s : Shape). Holds s blocks (last_scn h.commits) (rows_now h 1)) (sym same) held in
+    let new = holds_written shape blocks (last_scn h.commits) (rows_now h 1) table key old (subst (λ (s : Shape). 1 ≤ s.blocks) (sym same) some) first (subst (λ (s : Shape). table ≤ s.tables) (sym same) last) now number op fits short made written plain whole segments in
+    let there : Holds h.shape now (last_scn h.commits) (changed_by h.shape.blocks table key (change_by table key (action_of op)).kind (rows_now h 1)) =
+    subst (λ (s : Shape). Holds s now (last_scn h.commits) (changed_by s.blocks table key (change_by table key (action_of op)).kind (rows_now h 1))) same new in
+    subst (λ (g : State). Holds g.shape now (last_scn g.commits) (rows_now g 1)) (sym is)
+    (subst (λ (rows : List TableRow). Holds h.shape now (last_scn h.commits) rows) (sym (now_written h table key (action_of op) alone)) there)
 
 -- cells that are all rows, of keys that differ
 

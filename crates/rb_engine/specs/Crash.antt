@@ -9,7 +9,7 @@ use Rattle.rb_base.specs.declared.shape.Shape.{Shape}
 use Rattle.rb_base.specs.declared.store.Store.{Ghosts}
 use Rattle.rb_model.specs.Change.{Change}
 use Rattle.rb_model.specs.Reply.{is_empty, committed}
-use Rattle.rb_model.specs.Rows.{last_number, rows_at}
+use Rattle.rb_model.specs.Rows.{last_scn, rows_at}
 use Rattle.rb_model.specs.State.{State, session_of}
 use Rattle.rb_engine.specs.Holds.{Holds}
 
@@ -22,7 +22,7 @@ pub record RestartsAt {I : Type 0} (opens : Shape → I → List (List ℕ)
 
 -- it opens to the rows after all commits of h
 abbrev pub Restarts : {I : Type 0} → (Shape → I → List (List ℕ) → Type 0) → State → I → Type 0
-Restarts {I} opens h i = RestartsAt opens h (last_number h.commits) i
+Restarts {I} opens h i = RestartsAt opens h (last_scn h.commits) i
 
 -- An image of an engine that is in that state. A commit that answered a fault of the disk may be in it or not.
 pub data AtEnd {I : Type 0} (opens : Shape → I → List (List ℕ) → Type 0) (h : State) (i : I) : Type 0 where
@@ -34,7 +34,7 @@ pub data AtEnd {I : Type 0} (opens : Shape → I → List (List ℕ) → Type 0)
 -- An image at some moment on the way from a state to a later one: it has a number in between, and the rows at it.
 pub data OnTheWay {I : Type 0} (opens : Shape → I → List (List ℕ)
     → Type 0) (before now : State) (i : I) : Type 0 where
-  reached : (n : ℕ) → last_number before.commits ≤ n → n ≤ last_number now.commits
+  reached : (n : ℕ) → last_scn before.commits ≤ n → n ≤ last_scn now.commits
       → RestartsAt opens now n i
       → OnTheWay opens before now i
   at_end : AtEnd opens now i → OnTheWay opens before now i
@@ -51,7 +51,7 @@ pub record Extends (before now : State) : Type 0 where
 pub record IsDurable {S : Type 0} (s : Ghosts S) (h : State) (store : S) : Type 0 where
   pub base : List (List ℕ)
   pub stable : s.stable store base
-  pub holds : Holds h.shape base (last_number h.commits) (rows_at h.shape.blocks h.commits (last_number h.commits))
+  pub holds : Holds h.shape base (last_scn h.commits) (rows_at h.shape.blocks h.commits (last_scn h.commits))
   pub quiet : list_any (patches_block (commit_block h.shape)) (s.pending store) ≡ false
 
 -- What images of a store of so many log slots open to.

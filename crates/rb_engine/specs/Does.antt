@@ -14,19 +14,19 @@ pub record Stands {S : Type 0} (s : Ghosts S) (h : State) (e : EngineView S) : T
   pub told : s.tells
   pub memory : h ≡ e.state
   pub shape : s.shape_of e.store ≡ h.shape
-  pub durable : h.stopped ≡ false → s.keeps → IsDurable s h e.store
+  pub durable : h.stopped ≡ false → s.tells_crashes → IsDurable s h e.store
 
 -- A call with that answer on an engine that stood for h: the machine allows the answer, and the engine stands for the
 -- state after it. Unless it is stopped then, the log has so many groups more. A crash in it leaves no more than the
 -- states before and after it.
 pub record Does {S : Type 0} (s : Ghosts S) (h : State) (call : Call) (answer : Answer) (old new : EngineView S) : Type
     0 where
-  pub reply : Reply h (s.number old.store) (room_left (s.slots old.store) (s.number old.store) old.spare) call answer
+  pub reply : Reply h (s.lsn old.store) (room_left (s.slots old.store) (s.lsn old.store) old.spare) call answer
   pub stands : Stands s (after h call answer) new
   pub groups : ℕ
   pub grows : (after h call answer).stopped ≡ false → Grows h call answer groups
-  pub number : (after h call answer).stopped ≡ false → s.number new.store ≡ s.number old.store + groups
-  pub survives : h.stopped ≡ false → s.keeps
+  pub number : (after h call answer).stopped ≡ false → s.lsn new.store ≡ s.lsn old.store + groups
+  pub survives : h.stopped ≡ false → s.tells_crashes
       → Survives s (s.slots old.store) h (after h call answer) old.store new.store
 
 -- No call changes the shape of a store, or the slots of its log.

@@ -6,7 +6,7 @@ use Rattle.rb_base.specs.Stores.{room_of}
 use Rattle.rb_base.specs.declared.store.Store.{Ghosts}
 use Rattle.rb_model.specs.Full.{used_keys}
 use Rattle.rb_model.specs.Reply.{rows_now}
-use Rattle.rb_model.specs.Rows.{last_number}
+use Rattle.rb_model.specs.Rows.{last_scn}
 use Rattle.rb_model.specs.State.{State, session_of}
 use Rattle.rb_model.specs.declared.refusal.Refusal.{Refusal}
 use Rattle.rb_model.specs.declared.refusal.Refusal.TheVariants as refusals
@@ -47,13 +47,13 @@ pub record IsInStep {S : Type 0} (s : Ghosts S) (kept : Kept) (store : S) : Type
   pub in_range : IsShape kept.state.shape
   pub alone : length kept.state.sessions ≡ 1
   pub enough : kept.state.stopped ≡ false → (slots : ℕ) → s.slots store ≡ Some slots
-      → slots - 1 - s.number store ≤ kept.spare
+      → slots - 1 - s.lsn store ≤ kept.spare
   pub going : kept.state.stopped ≡ false → s.failed store ≡ false
-  pub numbers : kept.state.stopped ≡ false → last_number kept.state.commits ≤ s.number store + AHEAD
+  pub numbers : kept.state.stopped ≡ false → last_scn kept.state.commits ≤ s.lsn store + AHEAD
   pub room : kept.state.stopped ≡ false → 0 < length (session_of kept.state 1).own
-      → 1 ≤ room_of (s.slots store) (s.number store)
-  pub few : kept.state.stopped ≡ false → 0 < length (session_of kept.state 1).own → s.number store ≤ 2 ^ 60
+      → 1 ≤ room_of (s.slots store) (s.lsn store)
+  pub few : kept.state.stopped ≡ false → 0 < length (session_of kept.state 1).own → s.lsn store ≤ 2 ^ 60
   pub holds : s.tells → kept.state.stopped ≡ false → Holds kept.state.shape (s.blocks store)
-      (last_number kept.state.commits) (rows_now kept.state 1)
+      (last_scn kept.state.commits) (rows_now kept.state 1)
   pub used : s.tells → kept.state.stopped ≡ false → (table key : ℕ)
       → length (used_keys kept.state table key) ≤ 16

@@ -6,7 +6,7 @@ use Rattle.rb_base.specs.declared.shape.Shape.{Shape}
 use Rattle.rb_cell.specs.Cells.{cell_at}
 use Rattle.rb_model.specs.Rows.{TableRow, InOrder, value_of}
 use Rattle.rb_model.specs.State.{State, opened}
-use Rattle.rb_sound.specs.Sound.{commit_logged, commit_number, AreSound}
+use Rattle.rb_sound.specs.Sound.{commit_lsn, commit_scn, AreSound}
 use Rattle.rb_write.specs.Values.{value_at, LocksRows, ArePlain}
 
 -- How far a commit number may be above a log number: a commit has a next number as long as groups are logged.
@@ -20,8 +20,8 @@ pub record Holds (shape : Shape) (blocks : List (List ℕ)) (number : ℕ) (rows
   pub whole : AreBlocks shape blocks
   pub sound : AreSound shape blocks
   pub plain : ArePlain shape blocks
-  pub number_is : commit_number shape blocks ≡ number
-  pub logged : number ≤ commit_logged shape blocks + AHEAD
+  pub number_is : commit_scn shape blocks ≡ number
+  pub logged : number ≤ commit_lsn shape blocks + AHEAD
   pub values : (table key : ℕ) → 1 ≤ table → table ≤ shape.tables
       → value_at shape blocks table key ≡ value_of table key rows
   pub tables : AllByRecursion (λ row. (1 ≤ row.table) × (row.table ≤ shape.tables)) rows
@@ -33,14 +33,14 @@ pub record Holds (shape : Shape) (blocks : List (List ℕ)) (number : ℕ) (rows
 pub record CanOpen (shape : Shape) (blocks : List (List ℕ)) (number : ℕ) : Type 0 where
   pub sound : AreSound shape blocks
   pub unlocked : (b c : ℕ) → b < table_blocks shape → c < 16 → LocksRows (cell_at (block_of blocks b) c)
-  pub commits : commit_number shape blocks ≤ commit_logged shape blocks + AHEAD
-  pub logged : commit_logged shape blocks ≤ number
+  pub commits : commit_scn shape blocks ≤ commit_lsn shape blocks + AHEAD
+  pub logged : commit_lsn shape blocks ≤ number
 
 -- What it tests before it takes memory for the rows: all but the locks.
 pub record MayOpen (shape : Shape) (blocks : List (List ℕ)) (number : ℕ) : Type 0 where
   pub sound : AreSound shape blocks
-  pub commits : commit_number shape blocks ≤ commit_logged shape blocks + AHEAD
-  pub logged : commit_logged shape blocks ≤ number
+  pub commits : commit_scn shape blocks ≤ commit_lsn shape blocks + AHEAD
+  pub logged : commit_lsn shape blocks ≤ number
 
 -- the state that blocks open to: their commit number and their rows are its base
 pub record OpensAs (shape : Shape) (blocks : List (List ℕ)) (h : State) : Type 0 where

@@ -4,7 +4,7 @@ ghost use Rattle.rb_base.specs.Counts.{IsCountedAs, err_is};
 ghost use Rattle.rb_model.specs.Answers.{action_of, write_answer, plain_answer, fetch_answer, commit_answer, LeavesRow};
 ghost use Rattle.rb_model.specs.Names.{name_text};
 ghost use Rattle.rb_model.specs.Reply.{is_disk_fault};
-ghost use Rattle.rb_model.specs.Reply as call;
+ghost use Rattle.rb_model.specs.Reply as machine;
 ghost use Rattle.rb_model.specs.State.{State};
 ghost use Rattle.rb_engine.specs.Does.{Does, SameStore, Stands};
 
@@ -18,7 +18,7 @@ impl<T: Store> Engine<T> {
     /// store failed.
     pub fn write(&mut self, s: u16, table: u16, key: u64, op: Op<'_>) -> Result<Wrote, Refusal>
         ensures did { (h : State) → Stands T.Store h self.old → Does T.Store h
-            (call.Write s table key (action_of op.entry)) (write_answer result) self.old self.new }
+            (machine.Write s table key (action_of op.entry)) (write_answer result) self.old self.new }
         ensures same { SameStore T.Store self.old.store self.new.store }
         ensures refused { T.tells → IfErr result (λ why. why ≢ Refusal.DiskFault
             → self.new.store ≡ self.old.store) }
@@ -32,7 +32,7 @@ impl<T: Store> Engine<T> {
     /// Without changes it answers None.
     pub fn commit(&mut self, s: u16) -> Result<Option<u64>, Refusal>
         ensures did { (h : State) → Stands T.Store h self.old → Does T.Store h
-            (call.Commit s) (commit_answer result) self.old self.new }
+            (machine.Commit s) (commit_answer result) self.old self.new }
         ensures same { SameStore T.Store self.old.store self.new.store }
         ensures refused { IfErr result (λ why. why ≢ Refusal.DiskFault → self.new.store ≡ self.old.store) }
         ensures nothing { result ≡ Ok None → self.new.store ≡ self.old.store }
@@ -52,7 +52,7 @@ impl<T: Store> Engine<T> {
         hi: u64,
     ) -> Result<(), Refusal>
         ensures did { (h : State) → Stands T.Store h self.old → Does T.Store h
-            (call.OpenCursor s (name_text name.now) table lo hi) (plain_answer result) self.old self.new }
+            (machine.OpenCursor s (name_text name.now) table lo hi) (plain_answer result) self.old self.new }
         ensures same { SameStore T.Store self.old.store self.new.store }
         ensures disk { IsCountedAs (T.faults self.old.store) (T.faults self.new.store)
             (err_is is_disk_fault result) }
@@ -63,7 +63,7 @@ impl<T: Store> Engine<T> {
     /// Gives the next row of a cursor into `row`, or the end.
     pub fn fetch(&mut self, s: u16, name: &Name, row: &mut Row) -> Result<Fetched, Refusal>
         ensures did { (h : State) → Stands T.Store h self.old → Does T.Store h
-            (call.Fetch s (name_text name.now)) (fetch_answer result row.new) self.old self.new }
+            (machine.Fetch s (name_text name.now)) (fetch_answer result row.new) self.old self.new }
         ensures row { LeavesRow result row.old row.new }
         ensures same { SameStore T.Store self.old.store self.new.store }
         ensures disk { IsCountedAs (T.faults self.old.store) (T.faults self.new.store)
@@ -75,7 +75,7 @@ impl<T: Store> Engine<T> {
     /// Closes the session's cursor of a name.
     pub fn close_cursor(&mut self, s: u16, name: &Name) -> Result<(), Refusal>
         ensures did { (h : State) → Stands T.Store h self.old → Does T.Store h
-            (call.CloseCursor s (name_text name.now)) (plain_answer result) self.old self.new }
+            (machine.CloseCursor s (name_text name.now)) (plain_answer result) self.old self.new }
         ensures same { SameStore T.Store self.old.store self.new.store }
         ensures disk { IsCountedAs (T.faults self.old.store) (T.faults self.new.store)
             (err_is is_disk_fault result) }

@@ -13,10 +13,10 @@ ghost use Rattle.rb_model.specs.Full.{full_block};
 ghost use Rattle.rb_model.specs.Names.{name_text};
 ghost use Rattle.rb_model.specs.Reply.{adds, expected, first_of, log_tests, after, after_refusal, committed, groups};
 ghost use Rattle.rb_model.specs.Reply.{is_disk_fault, Reply, rows_now};
-ghost use Rattle.rb_model.specs.Reply as call;
-ghost use Rattle.rb_model.specs.Rows.{has_row, last_number};
+ghost use Rattle.rb_model.specs.Reply as machine;
+ghost use Rattle.rb_model.specs.Rows.{has_row, last_scn};
 ghost use Rattle.rb_model.specs.State.{session_of};
-ghost use Rattle.rb_sound.specs.Sound.{number_patch};
+ghost use Rattle.rb_sound.specs.Sound.{scn_patch};
 ghost use Rattle.rb_write.specs.Writes.{IsShort};
 ghost use Rattle.rb_engine.specs.Crash.{IsDurable, Survives};
 ghost use Rattle.rb_engine.specs.Engine.{EngineView, refusal_of, room_left};
@@ -69,26 +69,26 @@ fn refuse(state: &mut EngineState, fault: AttemptFault) -> Refusal
 }
 
 /// Writes the number of a commit into its block, by one group of one patch, and makes all groups that wait last.
-fn write_number<T: Store>(store: &mut T, number: Scn) -> Result<(), Failed>
+fn write_scn<T: Store>(store: &mut T, number: Scn) -> Result<(), Failed>
     requires going { T.failed store.old ≡ false }
-    requires room { 1 ≤ room_of (T.slots store.old) (T.number store.old) }
-    requires few { T.number store.old ≤ 2 ^ 60 }
+    requires room { 1 ≤ room_of (T.slots store.old) (T.lsn store.old) }
+    requires few { T.lsn store.old ≤ 2 ^ 60 }
     ensures blocks { T.tells → OnOk result (T.blocks store.new
-        ≡ after_group (T.number store.old + 1) (number_patch (T.shape_of store.old) number ∷ [])
+        ≡ after_group (T.lsn store.old + 1) (scn_patch (T.shape_of store.old) number ∷ [])
         (T.blocks store.old)) }
-    ensures number { OnOk result (T.number store.new ≡ T.number store.old + 1) }
+    ensures number { OnOk result (T.lsn store.new ≡ T.lsn store.old + 1) }
     ensures shape { T.shape_of store.new ≡ T.shape_of store.old }
     ensures slots { T.slots store.new ≡ T.slots store.old }
-    ensures stable { T.tells → T.keeps → OnOk result ((b : List (List ℕ)) → T.stable store.old b
+    ensures stable { T.tells → T.tells_crashes → OnOk result ((b : List (List ℕ)) → T.stable store.old b
         → list_any (patches_block (commit_block (T.shape_of store.old))) (T.pending store.old) ≡ false
         → T.stable store.new (T.blocks store.new)) }
-    ensures flushed { T.keeps → OnOk result (T.pending store.new ≡ []) }
-    ensures any_moment { T.tells → T.keeps → (b : List (List ℕ)) → T.stable store.old b
+    ensures flushed { T.tells_crashes → OnOk result (T.pending store.new ≡ []) }
+    ensures any_moment { T.tells → T.tells_crashes → (b : List (List ℕ)) → T.stable store.old b
         → list_any (patches_block (commit_block (T.shape_of store.old))) (T.pending store.old) ≡ false
         → LeavesOnly T.moment T.left_since store.old store.new (λ i. (now : List (List ℕ))
         × T.opens (T.shape_of store.old) (T.slots store.old) i now
-        × ((now ≡ b) ⊎ (now ≡ after_group (T.number store.old + 1)
-        (number_patch (T.shape_of store.old) number ∷ []) (T.blocks store.old)))) }
+        × ((now ≡ b) ⊎ (now ≡ after_group (T.lsn store.old + 1)
+        (scn_patch (T.shape_of store.old) number ∷ []) (T.blocks store.old)))) }
     ensures failed { T.failed store.new ≡ is_err result }
     ensures counted { IsCounted (T.faults store.old) (T.faults store.new) result }
 {
@@ -101,7 +101,7 @@ impl<T: Store> Engine<T> {
     /// How many more groups it takes.
     fn room(&self) -> u64
         requires { self.now.state.stopped ≡ false }
-        ensures { result ≡ room_left (T.slots self.now.store) (T.number self.now.store) self.now.spare }
+        ensures { result ≡ room_left (T.slots self.now.store) (T.lsn self.now.store) self.now.spare }
     {
         self.store.room().min(self.state.spare() as u64)
     }
@@ -109,14 +109,14 @@ impl<T: Store> Engine<T> {
     /// Why the log takes no write more, where it doesn't.
     fn log_refusal(&self) -> Option<Refusal>
         requires going { self.now.state.stopped ≡ false }
-        ensures refused { IfSome result (λ why. call.Refused why
-            ≡ first_of (log_tests (T.number self.now.store)
-            (room_left (T.slots self.now.store) (T.number self.now.store) self.now.spare)) call.Done) }
+        ensures refused { IfSome result (λ why. machine.Refused why
+            ≡ first_of (log_tests (T.lsn self.now.store)
+            (room_left (T.slots self.now.store) (T.lsn self.now.store) self.now.spare)) machine.Done) }
         ensures other { IfSome result (λ why. why ≢ Refusal.DiskFault) }
-        ensures granted { IfNone result (first_of (log_tests (T.number self.now.store)
-            (room_left (T.slots self.now.store) (T.number self.now.store) self.now.spare)) call.Done ≡ call.Done) }
-        ensures few { IfNone result (T.number self.now.store < 2 ^ 60) }
-        ensures room { IfNone result (2 ≤ room_left (T.slots self.now.store) (T.number self.now.store)
+        ensures granted { IfNone result (first_of (log_tests (T.lsn self.now.store)
+            (room_left (T.slots self.now.store) (T.lsn self.now.store) self.now.spare)) machine.Done ≡ machine.Done) }
+        ensures few { IfNone result (T.lsn self.now.store < 2 ^ 60) }
+        ensures room { IfNone result (2 ≤ room_left (T.slots self.now.store) (T.lsn self.now.store)
             self.now.spare) }
     {
         if self.store.logged() >= WORN {
@@ -135,22 +135,22 @@ impl<T: Store> Engine<T> {
         requires short { IsShort (Some op) }
         requires row { has_row table key (rows_now self.old.state 1) ≡ not (adds (action_of op)) }
         requires home { adds (action_of op) ≡ true → full_block self.old.state table key ≡ false }
-        requires few { T.number self.old.store < 2 ^ 60 }
-        requires room { 2 ≤ room_left (T.slots self.old.store) (T.number self.old.store) self.old.spare }
+        requires few { T.lsn self.old.store < 2 ^ 60 }
+        requires room { 2 ≤ room_left (T.slots self.old.store) (T.lsn self.old.store) self.old.spare }
         ensures done { IfOk result (λ wrote. wrote ≡ Wrote.Done) }
         ensures fault { T.tells → IfErr result (λ why. why ≡ Refusal.DiskFault) }
-        ensures state { self.new.state ≡ after self.old.state (call.Write 1 table key (action_of op.entry))
+        ensures state { self.new.state ≡ after self.old.state (machine.Write 1 table key (action_of op.entry))
             (write_answer result) }
-        ensures number { OnOk result (T.number self.new.store ≡ T.number self.old.store + 1) }
+        ensures number { OnOk result (T.lsn self.new.store ≡ T.lsn self.old.store + 1) }
         ensures no_number { IfErr result (λ why. why ≢ Refusal.DiskFault
-            → T.number self.new.store ≡ T.number self.old.store) }
+            → T.lsn self.new.store ≡ T.lsn self.old.store) }
         ensures shape { T.shape_of self.new.store ≡ T.shape_of self.old.store }
         ensures slots { T.slots self.new.store ≡ T.slots self.old.store }
-        ensures spare { self.new.spare + groups (call.Write 1 table key (action_of op.entry)) (write_answer result)
+        ensures spare { self.new.spare + groups (machine.Write 1 table key (action_of op.entry)) (write_answer result)
             ≡ self.old.spare }
         ensures counted { IsCountedAs (T.faults self.old.store) (T.faults self.new.store)
             (err_is is_disk_fault result) }
-        ensures crash { T.tells → T.keeps → IsDurable T.Store self.old.state self.old.store
+        ensures crash { T.tells → T.tells_crashes → IsDurable T.Store self.old.state self.old.store
             → Survives T.Store (T.slots self.old.store) self.old.state self.new.state self.old.store self.new.store }
     {
         let ask = Ask {
@@ -180,24 +180,24 @@ impl<T: Store> Engine<T> {
         key: u64,
         op: Op<'_>,
     ) -> Result<Wrote, Refusal>
-        ensures answer { T.tells → Reply self.old.state (T.number self.old.store)
-            (room_left (T.slots self.old.store) (T.number self.old.store) self.old.spare)
-            (call.Write s table key (action_of op.entry)) (write_answer result) }
-        ensures state { self.new.state ≡ after self.old.state (call.Write s table key (action_of op.entry))
+        ensures answer { T.tells → Reply self.old.state (T.lsn self.old.store)
+            (room_left (T.slots self.old.store) (T.lsn self.old.store) self.old.spare)
+            (machine.Write s table key (action_of op.entry)) (write_answer result) }
+        ensures state { self.new.state ≡ after self.old.state (machine.Write s table key (action_of op.entry))
             (write_answer result) }
         ensures number { self.new.state.stopped ≡ false
-            → T.number self.new.store ≡ T.number self.old.store + groups
-            (call.Write s table key (action_of op.entry)) (write_answer result) }
+            → T.lsn self.new.store ≡ T.lsn self.old.store + groups
+            (machine.Write s table key (action_of op.entry)) (write_answer result) }
         ensures shape { T.shape_of self.new.store ≡ T.shape_of self.old.store }
         ensures slots { T.slots self.new.store ≡ T.slots self.old.store }
-        ensures spare { self.new.spare + groups (call.Write s table key (action_of op.entry)) (write_answer result)
+        ensures spare { self.new.spare + groups (machine.Write s table key (action_of op.entry)) (write_answer result)
             ≡ self.old.spare }
         ensures counted { IsCountedAs (T.faults self.old.store) (T.faults self.new.store)
             (err_is is_disk_fault result) }
         ensures refused { T.tells → IfErr result (λ why. why ≢ Refusal.DiskFault
             → self.new.store ≡ self.old.store) }
         // At any moment each image has the commits of before.
-        ensures crash { T.tells → T.keeps → IsDurable T.Store self.old.state self.old.store
+        ensures crash { T.tells → T.tells_crashes → IsDurable T.Store self.old.state self.old.store
             → Survives T.Store (T.slots self.old.store) self.old.state self.new.state self.old.store self.new.store }
     {
         if let Some(why) = self.state.write_refusal(s, table, key, op) {
@@ -213,20 +213,20 @@ impl<T: Store> Engine<T> {
     fn make_commit(&mut self) -> Result<Option<u64>, Refusal>
         requires going { self.old.state.stopped ≡ false }
         requires some { 0 < length (session_of self.old.state 1).own }
-        ensures done { IfOk result (λ n. n ≡ Some (last_number self.old.state.commits + 1)) }
+        ensures done { IfOk result (λ n. n ≡ Some (last_scn self.old.state.commits + 1)) }
         ensures fault { IfErr result (λ why. why ≡ Refusal.DiskFault) }
         ensures state { OnOk result (self.new.state ≡ committed self.old.state 1) }
         ensures stopped { OnErr result (self.new.state ≡ record self.old.state { stopped = true }) }
-        ensures number { OnOk result (T.number self.new.store ≡ T.number self.old.store + 1) }
+        ensures number { OnOk result (T.lsn self.new.store ≡ T.lsn self.old.store + 1) }
         ensures shape { T.shape_of self.new.store ≡ T.shape_of self.old.store }
         ensures slots { T.slots self.new.store ≡ T.slots self.old.store }
         ensures spare { self.new.spare ≡ self.old.spare }
         ensures counted { IsCounted (T.faults self.old.store) (T.faults self.new.store) result }
-        ensures crash { T.tells → T.keeps → IsDurable T.Store self.old.state self.old.store
+        ensures crash { T.tells → T.tells_crashes → IsDurable T.Store self.old.state self.old.store
             → Survives T.Store (T.slots self.old.store) self.old.state self.new.state self.old.store self.new.store }
     {
         let number = self.state.number() + 1;
-        match write_number(&mut self.store, number) {
+        match write_scn(&mut self.store, number) {
             Ok(()) => Ok(Some(self.state.commit())),
             Err(_) => {
                 self.state.stop();
@@ -238,11 +238,11 @@ impl<T: Store> Engine<T> {
     /// Makes the session's changes one more commit, which is in the file in every image once its number is answered.
     /// Without changes it answers None.
     pub(crate) fn do_commit(&mut self, s: u16) -> Result<Option<u64>, Refusal>
-        ensures answer { (room : ℕ) → Reply self.old.state (T.number self.old.store) room (call.Commit s)
+        ensures answer { (room : ℕ) → Reply self.old.state (T.lsn self.old.store) room (machine.Commit s)
             (commit_answer result) }
-        ensures state { self.new.state ≡ after self.old.state (call.Commit s) (commit_answer result) }
+        ensures state { self.new.state ≡ after self.old.state (machine.Commit s) (commit_answer result) }
         ensures number { self.new.state.stopped ≡ false
-            → T.number self.new.store ≡ T.number self.old.store + groups (call.Commit s) (commit_answer result) }
+            → T.lsn self.new.store ≡ T.lsn self.old.store + groups (machine.Commit s) (commit_answer result) }
         ensures shape { T.shape_of self.new.store ≡ T.shape_of self.old.store }
         ensures slots { T.slots self.new.store ≡ T.slots self.old.store }
         ensures spare { self.new.spare ≡ self.old.spare }
@@ -251,7 +251,7 @@ impl<T: Store> Engine<T> {
         ensures refused { IfErr result (λ why. why ≢ Refusal.DiskFault → self.new.store ≡ self.old.store) }
         ensures nothing { result ≡ Ok None → self.new.store ≡ self.old.store }
         // At any moment each image has the commits of before, or at the end this one too.
-        ensures crash { T.tells → T.keeps → IsDurable T.Store self.old.state self.old.store
+        ensures crash { T.tells → T.tells_crashes → IsDurable T.Store self.old.state self.old.store
             → Survives T.Store (T.slots self.old.store) self.old.state self.new.state self.old.store self.new.store }
     {
         match self.state.check_commit(s) {
@@ -271,13 +271,13 @@ impl<T: Store> Engine<T> {
         hi: u64,
     ) -> Result<(), Refusal>
         ensures answer { (logged room : ℕ) → plain_answer result
-            ≡ expected self.old.state logged room (call.OpenCursor s (name_text name.now) table lo hi) }
-        ensures state { self.new.state ≡ after self.old.state (call.OpenCursor s (name_text name.now) table lo hi)
+            ≡ expected self.old.state logged room (machine.OpenCursor s (name_text name.now) table lo hi) }
+        ensures state { self.new.state ≡ after self.old.state (machine.OpenCursor s (name_text name.now) table lo hi)
             (plain_answer result) }
         ensures stopped { self.new.state.stopped ≡ self.old.state.stopped }
         ensures store { self.new.store ≡ self.old.store }
         ensures spare { self.new.spare ≡ self.old.spare }
-        ensures crash { T.tells → T.keeps → IsDurable T.Store self.old.state self.old.store
+        ensures crash { T.tells → T.tells_crashes → IsDurable T.Store self.old.state self.old.store
             → Survives T.Store (T.slots self.old.store) self.old.state self.new.state self.old.store self.new.store }
     {
         self.state.open_cursor(s, name, table, lo, hi)
@@ -291,15 +291,15 @@ impl<T: Store> Engine<T> {
         row: &mut Row,
     ) -> Result<Fetched, Refusal>
         ensures answer { (logged room : ℕ) → fetch_answer result row.new
-            ≡ expected self.old.state logged room (call.Fetch s (name_text name.now)) }
-        ensures state { self.new.state ≡ after self.old.state (call.Fetch s (name_text name.now))
+            ≡ expected self.old.state logged room (machine.Fetch s (name_text name.now)) }
+        ensures state { self.new.state ≡ after self.old.state (machine.Fetch s (name_text name.now))
             (fetch_answer result row.new) }
         ensures row { LeavesRow result row.old row.new }
         ensures stopped { self.new.state.stopped ≡ self.old.state.stopped }
         ensures store { self.new.store ≡ self.old.store }
         ensures spare { self.new.spare ≡ self.old.spare }
         ensures commits { self.new.state.commits ≡ self.old.state.commits }
-        ensures crash { T.tells → T.keeps → IsDurable T.Store self.old.state self.old.store
+        ensures crash { T.tells → T.tells_crashes → IsDurable T.Store self.old.state self.old.store
             → Survives T.Store (T.slots self.old.store) self.old.state self.new.state self.old.store self.new.store }
     {
         self.state.fetch(s, name, row)
@@ -308,13 +308,13 @@ impl<T: Store> Engine<T> {
     /// Closes the session's cursor of a name.
     pub(crate) fn do_close_cursor(&mut self, s: u16, name: &Name) -> Result<(), Refusal>
         ensures answer { (logged room : ℕ) → plain_answer result
-            ≡ expected self.old.state logged room (call.CloseCursor s (name_text name.now)) }
-        ensures state { self.new.state ≡ after self.old.state (call.CloseCursor s (name_text name.now))
+            ≡ expected self.old.state logged room (machine.CloseCursor s (name_text name.now)) }
+        ensures state { self.new.state ≡ after self.old.state (machine.CloseCursor s (name_text name.now))
             (plain_answer result) }
         ensures stopped { self.new.state.stopped ≡ self.old.state.stopped }
         ensures store { self.new.store ≡ self.old.store }
         ensures spare { self.new.spare ≡ self.old.spare }
-        ensures crash { T.tells → T.keeps → IsDurable T.Store self.old.state self.old.store
+        ensures crash { T.tells → T.tells_crashes → IsDurable T.Store self.old.state self.old.store
             → Survives T.Store (T.slots self.old.store) self.old.state self.new.state self.old.store self.new.store }
     {
         self.state.close_cursor(s, name)
@@ -322,7 +322,7 @@ impl<T: Store> Engine<T> {
 
     /// The number of the last commit.
     pub fn now(&self) -> Scn
-        ensures { result ≡ last_number self.now.state.commits }
+        ensures { result ≡ last_scn self.now.state.commits }
     {
         self.state.number()
     }

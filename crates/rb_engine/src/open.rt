@@ -9,7 +9,7 @@ ghost use Rattle.rb_heap.specs.Homes.{home_of, home_rows};
 ghost use Rattle.rb_model.specs.Rows.{over};
 ghost use Rattle.rb_model.specs.State.{opened};
 ghost use Rattle.rb_sound.specs.Loads.{OnlyLoads};
-ghost use Rattle.rb_sound.specs.Sound.{commit_logged, commit_number};
+ghost use Rattle.rb_sound.specs.Sound.{commit_lsn, commit_scn};
 ghost use Rattle.rb_write.specs.Values.{LocksRows};
 ghost use Rattle.rb_engine.specs.Does.{StandsOpened};
 ghost use Rattle.rb_engine.specs.Found.{put_row, rows_found, table_of, table_row};
@@ -19,7 +19,7 @@ use crate::engine::Engine;
 use crate::state::EngineState;
 use rb_base::{BlockNo, Failed, OpenFault, Scn, Store};
 use rb_cell::{ROW, cells};
-use rb_sound::{blocks_sound, commit_logged_of, commit_number_of};
+use rb_sound::{blocks_sound, commit_lsn_of, commit_scn_of};
 use std::alloc::Global;
 
 /// The most changes that are kept in memory, where the log has no end. A log of a file has at most 4,096 slots.
@@ -118,49 +118,49 @@ fn take_rows<T: Store>(state: &mut EngineState, store: &mut T) -> Result<bool, F
 /// Whether a commit number is at most `AHEAD` above the log number of the block that commits patch, and that at most
 /// the
 /// last one given.
-fn number_sound<T: Store>(store: &mut T, number: Scn) -> Result<bool, Failed>
+fn scn_sound<T: Store>(store: &mut T, number: Scn) -> Result<bool, Failed>
     requires { T.failed store.old ≡ false }
-    ensures few { result ≡ Ok true → number ≤ T.number store.old + AHEAD }
+    ensures few { result ≡ Ok true → number ≤ T.lsn store.old + AHEAD }
     ensures sound { T.tells → result ≡ Ok true → (number
-        ≤ commit_logged (T.shape_of store.old) (T.blocks store.old) + AHEAD)
-        × (commit_logged (T.shape_of store.old) (T.blocks store.old) ≤ T.number store.old) }
+        ≤ commit_lsn (T.shape_of store.old) (T.blocks store.old) + AHEAD)
+        × (commit_lsn (T.shape_of store.old) (T.blocks store.old) ≤ T.lsn store.old) }
     ensures whole { T.tells → OnOk result (AreBlocks (T.shape_of store.old) (T.blocks store.old)) }
     ensures unsound { T.tells → result ≡ Ok false → number
-        ≤ commit_logged (T.shape_of store.old) (T.blocks store.old) + AHEAD
-        → ¬ (commit_logged (T.shape_of store.old) (T.blocks store.old) ≤ T.number store.old) }
+        ≤ commit_lsn (T.shape_of store.old) (T.blocks store.old) + AHEAD
+        → ¬ (commit_lsn (T.shape_of store.old) (T.blocks store.old) ≤ T.lsn store.old) }
     ensures only_loads { OnlyLoads T.Store store.old store.new }
     ensures failed { T.failed store.new ≡ is_err result }
     ensures counted { IsCounted (T.faults store.old) (T.faults store.new) result }
 {
-    let logged = commit_logged_of(store)?;
+    let logged = commit_lsn_of(store)?;
     Ok(number.saturating_sub(logged) <= AHEAD && logged <= store.logged())
 }
 
 /// The state that the blocks of a store open to.
 fn open_state<T: Store>(alloc: Global, store: &mut T) -> Result<EngineState, OpenFault>
     requires going { T.failed store.old ≡ false }
-    requires few { T.number store.old ≤ 2 ^ 61 + 4096 }
+    requires few { T.lsn store.old ≤ 2 ^ 61 + 4096 }
     requires few_slots { (slots : ℕ) → T.slots store.old ≡ Some slots → slots ≤ 4096 }
     ensures opened { T.tells → IfOk result (λ kept. OpensAs (T.shape_of store.old) (T.blocks store.old) kept.state) }
     ensures base { IfOk result (λ kept. kept.state ≡ opened (T.shape_of store.old) kept.state.commits.base
         kept.state.commits.rows) }
-    ensures sound { T.tells → OnOk result (CanOpen (T.shape_of store.old) (T.blocks store.old) (T.number store.old)) }
+    ensures sound { T.tells → OnOk result (CanOpen (T.shape_of store.old) (T.blocks store.old) (T.lsn store.old)) }
     ensures none { T.tells → IsErrOf result OpenFault.NotAStore
-        → ¬ CanOpen (T.shape_of store.old) (T.blocks store.old) (T.number store.old) }
+        → ¬ CanOpen (T.shape_of store.old) (T.blocks store.old) (T.lsn store.old) }
     ensures in_range { OnOk result (IsShape (T.shape_of store.old)) }
-    ensures numbers { IfOk result (λ kept. kept.state.commits.base ≤ T.number store.old + AHEAD) }
+    ensures numbers { IfOk result (λ kept. kept.state.commits.base ≤ T.lsn store.old + AHEAD) }
     ensures enough { IfOk result (λ kept. (slots : ℕ) → T.slots store.old ≡ Some slots
-        → slots - 1 - T.number store.old ≤ kept.spare) }
+        → slots - 1 - T.lsn store.old ≤ kept.spare) }
     ensures ample { IfOk result (λ kept. T.slots store.old ≡ None → 2 ^ 16 ≤ kept.spare) }
     ensures no_memory { T.tells → IsErrOf result OpenFault.NoMemory
-        → MayOpen (T.shape_of store.old) (T.blocks store.old) (T.number store.old) }
+        → MayOpen (T.shape_of store.old) (T.blocks store.old) (T.lsn store.old) }
     ensures only_loads { OnlyLoads T.Store store.old store.new }
     ensures failed { OnOk result (T.failed store.new ≡ false) }
     ensures counted { IsCountedAs (T.faults store.old) (T.faults store.new) (err_is is_failed result) }
 {
     let sound = blocks_sound(store).map_err(|_| OpenFault::Failed)?;
-    let number = commit_number_of(store).map_err(|_| OpenFault::Failed)?;
-    let numbered = number_sound(store, number).map_err(|_| OpenFault::Failed)?;
+    let number = commit_scn_of(store).map_err(|_| OpenFault::Failed)?;
+    let numbered = scn_sound(store, number).map_err(|_| OpenFault::Failed)?;
     if !sound || !numbered {
         return Err(OpenFault::NotAStore);
     }
@@ -186,17 +186,17 @@ impl<T: Store> Engine<T> {
     /// the locks. Nothing of the store is changed. Where its log has no end, there is room for 65,536 changes.
     pub fn open(alloc: Global, store: T) -> Result<Engine<T>, (OpenFault, T)>
         requires going { T.failed store ≡ false }
-        requires few { T.number store ≤ 2 ^ 61 + 4096 }
+        requires few { T.lsn store ≤ 2 ^ 61 + 4096 }
         requires few_slots { (slots : ℕ) → T.slots store ≡ Some slots → slots ≤ 4096 }
         // Over a store of which nothing waits the engine stands for the state to which its blocks open.
-        ensures stands { T.tells → (T.keeps → (T.pending store ≡ []) × T.stable store (T.blocks store))
+        ensures stands { T.tells → (T.tells_crashes → (T.pending store ≡ []) × T.stable store (T.blocks store))
             → IfOk result (λ e. StandsOpened T.Store (T.shape_of store) (T.blocks store) e) }
         ensures ample { IfOk result (λ e. T.slots store ≡ None → 2 ^ 16 ≤ e.spare) }
-        ensures sound { T.tells → OnOk result (CanOpen (T.shape_of store) (T.blocks store) (T.number store)) }
+        ensures sound { T.tells → OnOk result (CanOpen (T.shape_of store) (T.blocks store) (T.lsn store)) }
         ensures none { T.tells → IfErr result (λ r. r.0 ≡ OpenFault.NotAStore
-            → CanOpen (T.shape_of store) (T.blocks store) (T.number store) → ⊥) }
+            → CanOpen (T.shape_of store) (T.blocks store) (T.lsn store) → ⊥) }
         ensures no_memory { T.tells → IfErr result (λ r. r.0 ≡ OpenFault.NoMemory
-            → MayOpen (T.shape_of store) (T.blocks store) (T.number store)) }
+            → MayOpen (T.shape_of store) (T.blocks store) (T.lsn store)) }
         ensures counted_ok { IfOk result (λ e. T.faults e.store ≡ T.faults store) }
         ensures counted_err { IfErr result (λ r. IsCountedAs (T.faults store) (T.faults r.1) (is_failed r.0)) }
         ensures loads_ok { IfOk result (λ e. OnlyLoads T.Store store e.store) }

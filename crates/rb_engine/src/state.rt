@@ -4,11 +4,11 @@ ghost use Rattle.std.specs.Prelude.{◌≡◌, ◌≢◌, ℕ, ◌+◌, ◌-◌,
 ghost use Rattle.std.specs.Prelude.{[], ◌∷◌, ◌++◌, length, true, not, IsOk, IfOk, IfErr, IfSome, IfNone};
 ghost use Rattle.std.specs.Prelude.{slice_index_or, slice_set};
 ghost use Rattle.rb_model.specs.State.{opened, session_of};
-ghost use Rattle.rb_model.specs.Rows.{has_row, last_number, with_row};
+ghost use Rattle.rb_model.specs.Rows.{has_row, last_scn, with_row};
 ghost use Rattle.rb_model.specs.Full.{full_block};
 ghost use Rattle.rb_model.specs.Reply.{adds, change_by, expected, after, after_grant, committed, first_of, log_tests};
 ghost use Rattle.rb_model.specs.Reply.{rows_now};
-ghost use Rattle.rb_model.specs.Reply as call;
+ghost use Rattle.rb_model.specs.Reply as machine;
 ghost use Rattle.rb_model.specs.Answers.{action_of, plain_answer, fetch_answer, LeavesRow};
 ghost use Rattle.rb_model.specs.Names.{name_text};
 ghost use Rattle.rb_versions.specs.Changes.{change_of, makes_row, row_of};
@@ -143,8 +143,8 @@ fn last_end_of(base_length: usize, ends: &[usize]) -> usize
 /// How many bytes the value of a write has.
 fn value_length(op: Op<'_>) -> usize
     ensures kept { result ≤ 80 → IsShort (Some op.entry) }
-    ensures long { 80 < result → call.is_too_long (action_of op.entry) ≡ true }
-    ensures short { result ≤ 80 → call.is_too_long (action_of op.entry) ≡ false }
+    ensures long { 80 < result → machine.is_too_long (action_of op.entry) ≡ true }
+    ensures short { result ≤ 80 → machine.is_too_long (action_of op.entry) ≡ false }
 {
     match op {
         Op::Insert(value) | Op::Update(value) => value.len(),
@@ -223,7 +223,7 @@ impl EngineState {
 
     /// The number of the last commit.
     pub fn number(&self) -> Scn
-        ensures number { result ≡ last_number self.now.state.commits }
+        ensures number { result ≡ last_scn self.now.state.commits }
         ensures few { result + 1 < 2 ^ 64 }
     {
         self.base + self.ends.as_slice().len() as u64
@@ -240,10 +240,10 @@ impl EngineState {
     /// Why the session, the table or the value stands in the way of a write, where it does.
     fn early_refusal(&self, s: u16, table: u16, op: Op<'_>) -> Option<Refusal>
         ensures refused { IfSome result (λ why. (logged room key : ℕ)
-            → call.Refused why ≡ expected self.now.state logged room
-            (call.Write s table key (action_of op.entry))) }
-        ensures granted { IfNone result ((key : ℕ) → call.none_applies
-            (call.early_tests self.now.state (call.Write s table key (action_of op.entry))) ≡ true) }
+            → machine.Refused why ≡ expected self.now.state logged room
+            (machine.Write s table key (action_of op.entry))) }
+        ensures granted { IfNone result ((key : ℕ) → machine.none_applies
+            (machine.early_tests self.now.state (machine.Write s table key (action_of op.entry))) ≡ true) }
         ensures other { IfSome result (λ why. why ≢ Refusal.DiskFault) }
         ensures session { IfNone result (s ≡ 1) }
         ensures table { IfNone result ((1 ≤ table) × (table ≤ self.now.state.shape.tables)) }
@@ -268,13 +268,13 @@ impl EngineState {
     /// Why a write is refused, whatever the log: its tests but the last two.
     pub fn write_refusal(&self, s: u16, table: u16, key: u64, op: Op<'_>) -> Option<Refusal>
         ensures refused { IfSome result (λ why. (logged room : ℕ)
-            → call.Refused why ≡ expected self.now.state logged room
-            (call.Write s table key (action_of op.entry))) }
+            → machine.Refused why ≡ expected self.now.state logged room
+            (machine.Write s table key (action_of op.entry))) }
         ensures granted { IfNone result ((logged room : ℕ)
-            → expected self.now.state logged room (call.Write s table key (action_of op.entry))
-            ≡ first_of (log_tests logged room) call.Done) }
-        ensures early { IfNone result (call.none_applies
-            (call.early_tests self.now.state (call.Write s table key (action_of op.entry))) ≡ true) }
+            → expected self.now.state logged room (machine.Write s table key (action_of op.entry))
+            ≡ first_of (log_tests logged room) machine.Done) }
+        ensures early { IfNone result (machine.none_applies
+            (machine.early_tests self.now.state (machine.Write s table key (action_of op.entry))) ≡ true) }
         ensures other { IfSome result (λ why. why ≢ Refusal.DiskFault) }
         ensures session { IfNone result (s ≡ 1) }
         ensures table { IfNone result ((1 ≤ table) × (table ≤ self.now.state.shape.tables)) }
@@ -312,7 +312,7 @@ impl EngineState {
     pub fn wrote(&mut self, table: u16, key: u64, op: Op<'_>)
         requires room { 0 < self.old.spare }
         requires short { IsShort (Some op) }
-        ensures state { self.new.state ≡ after_grant self.old.state (call.Write 1 table key (action_of op.entry)) }
+        ensures state { self.new.state ≡ after_grant self.old.state (machine.Write 1 table key (action_of op.entry)) }
         ensures shape { self.new.state.shape ≡ self.old.state.shape }
         ensures commits { self.new.state.commits ≡ self.old.state.commits }
         ensures stopped { self.new.state.stopped ≡ self.old.state.stopped }
@@ -327,11 +327,11 @@ impl EngineState {
     /// Why a cursor isn't opened, where it isn't.
     fn open_refusal(&self, s: u16, name: &Name, table: u16) -> Option<Refusal>
         ensures refused { IfSome result (λ why. (logged room lo hi : ℕ)
-            → call.Refused why ≡ expected self.now.state logged room
-            (call.OpenCursor s (name_text name.now) table lo hi)) }
+            → machine.Refused why ≡ expected self.now.state logged room
+            (machine.OpenCursor s (name_text name.now) table lo hi)) }
         ensures granted { IfNone result ((logged room lo hi : ℕ)
-            → call.Done ≡ expected self.now.state logged room
-            (call.OpenCursor s (name_text name.now) table lo hi)) }
+            → machine.Done ≡ expected self.now.state logged room
+            (machine.OpenCursor s (name_text name.now) table lo hi)) }
         ensures other { IfSome result (λ why. why ≢ Refusal.DiskFault) }
         ensures session { IfNone result (s ≡ 1) }
         ensures few { IfNone result (length (session_of self.now.state 1).cursors < 16) }
@@ -364,8 +364,8 @@ impl EngineState {
         hi: u64,
     ) -> Result<(), Refusal>
         ensures answer { (logged room : ℕ) → plain_answer result
-            ≡ expected self.old.state logged room (call.OpenCursor s (name_text name.now) table lo hi) }
-        ensures state { self.new.state ≡ after self.old.state (call.OpenCursor s (name_text name.now) table lo hi)
+            ≡ expected self.old.state logged room (machine.OpenCursor s (name_text name.now) table lo hi) }
+        ensures state { self.new.state ≡ after self.old.state (machine.OpenCursor s (name_text name.now) table lo hi)
             (plain_answer result) }
         ensures shape { self.new.state.shape ≡ self.old.state.shape }
         ensures commits { self.new.state.commits ≡ self.old.state.commits }
@@ -384,7 +384,7 @@ impl EngineState {
     fn keep_cursor(&mut self, name: &Name, table: u16, lo: u64, hi: u64)
         requires { length (session_of self.old.state 1).cursors < 16 }
         ensures state { self.new.state ≡ after_grant self.old.state
-            (call.OpenCursor 1 (name_text name.now) table lo hi) }
+            (machine.OpenCursor 1 (name_text name.now) table lo hi) }
         ensures shape { self.new.state.shape ≡ self.old.state.shape }
         ensures commits { self.new.state.commits ≡ self.old.state.commits }
         ensures stopped { self.new.state.stopped ≡ self.old.state.stopped }
@@ -406,8 +406,8 @@ impl EngineState {
     /// Gives the next row of a cursor into `row`, or the end. It may be refused, and then nothing is changed.
     pub fn fetch(&mut self, s: u16, name: &Name, row: &mut Row) -> Result<Fetched, Refusal>
         ensures answer { (logged room : ℕ) → fetch_answer result row.new
-            ≡ expected self.old.state logged room (call.Fetch s (name_text name.now)) }
-        ensures state { self.new.state ≡ after self.old.state (call.Fetch s (name_text name.now))
+            ≡ expected self.old.state logged room (machine.Fetch s (name_text name.now)) }
+        ensures state { self.new.state ≡ after self.old.state (machine.Fetch s (name_text name.now))
             (fetch_answer result row.new) }
         ensures row { LeavesRow result row.old row.new }
         ensures shape { self.new.state.shape ≡ self.old.state.shape }
@@ -443,8 +443,8 @@ impl EngineState {
     /// Closes the cursor of a name. It may be refused, and then nothing is changed.
     pub fn close_cursor(&mut self, s: u16, name: &Name) -> Result<(), Refusal>
         ensures answer { (logged room : ℕ) → plain_answer result
-            ≡ expected self.old.state logged room (call.CloseCursor s (name_text name.now)) }
-        ensures state { self.new.state ≡ after self.old.state (call.CloseCursor s (name_text name.now))
+            ≡ expected self.old.state logged room (machine.CloseCursor s (name_text name.now)) }
+        ensures state { self.new.state ≡ after self.old.state (machine.CloseCursor s (name_text name.now))
             (plain_answer result) }
         ensures shape { self.new.state.shape ≡ self.old.state.shape }
         ensures commits { self.new.state.commits ≡ self.old.state.commits }
@@ -468,13 +468,13 @@ impl EngineState {
     /// Whether a commit of the session has changes to keep, or why it is refused.
     pub fn check_commit(&self, s: u16) -> Result<bool, Refusal>
         ensures refused { IfErr result (λ why. (logged room : ℕ)
-            → call.Refused why ≡ expected self.now.state logged room (call.Commit s)) }
+            → machine.Refused why ≡ expected self.now.state logged room (machine.Commit s)) }
         ensures other { IfErr result (λ why. why ≢ Refusal.DiskFault) }
         ensures nothing { result ≡ Ok false → (logged room : ℕ)
-            → call.Done ≡ expected self.now.state logged room (call.Commit s) }
+            → machine.Done ≡ expected self.now.state logged room (machine.Commit s) }
         ensures changes { result ≡ Ok true → (logged room : ℕ)
-            → call.Numbered (last_number self.now.state.commits + 1)
-            ≡ expected self.now.state logged room (call.Commit s) }
+            → machine.Numbered (last_scn self.now.state.commits + 1)
+            ≡ expected self.now.state logged room (machine.Commit s) }
         ensures session { IsOk result → s ≡ 1 }
         ensures going { IsOk result → self.now.state.stopped ≡ false }
         ensures some { result ≡ Ok true → 0 < length (session_of self.now.state 1).own }
@@ -492,7 +492,7 @@ impl EngineState {
     /// Makes the transaction's changes one more commit, and answers its number. There are some.
     pub fn commit(&mut self) -> Scn
         requires { 0 < length (session_of self.old.state 1).own }
-        ensures number { result ≡ last_number self.old.state.commits + 1 }
+        ensures number { result ≡ last_scn self.old.state.commits + 1 }
         ensures state { self.new.state ≡ committed self.old.state 1 }
         ensures spare { self.new.spare ≡ self.old.spare }
     {

@@ -20,7 +20,7 @@ impl Layout {
             → ¬ HasIdentity VERSION l (D.content disk.old) }
         ensures no_memory { ¬ IsErrOf result NoMemory }
         ensures counted { IsCountedAs (D.faults disk.old) (D.faults disk.new) (err_is is_failed result) }
-        ensures same { D.tells → Rests D.content D.image D.moment D.image_since disk.old disk.new }
+        ensures same { D.tells → Rests D.Disk disk.old disk.new }
     {
         let Ok(length) = disk.len() else {
             return Err(OpenFault::Failed);

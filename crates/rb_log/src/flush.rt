@@ -113,7 +113,7 @@ fn stage<D: Disk>(
         → slice_index (slot_at (D.content disk.new) (used + 32 * j)) 0 ≡ 0) }
     ensures durable { D.tells → OnOk result (Only (D.content disk.new) (D.image disk.new)) }
     ensures whole { D.tells → length (D.content disk.new) ≡ file_length layout.now }
-    ensures any_moment { D.tells → LeavesOnly D.moment D.image_since disk.old disk.new
+    ensures any_moment { D.tells → Leaves D.Disk disk.old disk.new
         (TornFrom (log_offset used + 1) (2048 * length groups.now) (D.image disk.old)) }
     ensures buffer { length buffer.new ≡ 65536 }
     ensures counted { IsCounted (D.faults disk.old) (D.faults disk.new) result }
@@ -144,7 +144,7 @@ fn open_gates<D: Disk>(
     ensures durable { D.tells → OnOk result (Only (D.content disk.new) (D.image disk.new)) }
     ensures whole { D.tells → length (D.content disk.new) ≡ file_length layout.now }
     ensures any_moment { D.tells → (file : List ℕ) → AreStaged used groups.now file (D.content disk.old)
-        → LeavesOnly D.moment D.image_since disk.old disk.new (AreStaged used groups.now file) }
+        → Leaves D.Disk disk.old disk.new (AreStaged used groups.now file) }
     ensures counted { IsCounted (D.faults disk.old) (D.faults disk.new) result }
 {
     let mut done = 0;
@@ -188,7 +188,7 @@ pub(crate) fn write_groups<D: Disk>(
     ensures whole { D.tells → length (D.content disk.new) ≡ file_length layout.now }
     ensures any_moment { D.tells → (before : List (List Patch)) → length before ≡ used
         → GroupsAre layout.now (D.content disk.old) 0 before
-        → LeavesOnly D.moment D.image_since disk.old disk.new
+        → Leaves D.Disk disk.old disk.new
         (FlushedSome (D.image disk.old) layout.now before groups.now) }
     ensures kept { groups.now ≡ [] → buffer.new ≡ buffer.old }
     ensures buffer { length buffer.new ≡ 65536 }

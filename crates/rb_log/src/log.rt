@@ -110,7 +110,7 @@ impl Log {
         ensures ahead { D.tells → AreFrom (D.content disk.old) self.new.used self.new.ahead }
         ensures ended { IfOk result (λ o. IfNone o (self.new ≡ record self.old { scanned = true; ahead = [] })) }
         ensures stays { OnErr result (self.new ≡ self.old) }
-        ensures same { D.tells → Rests D.content D.image D.moment D.image_since disk.old disk.new }
+        ensures same { D.tells → Rests D.Disk disk.old disk.new }
         ensures untouched { self.old.used + 1 ≡ self.old.layout.log → disk.new ≡ disk.old }
     {
         if self.used + 1 == self.layout.log {
@@ -192,7 +192,7 @@ impl Log {
         ensures whole { D.tells → length (D.content disk.new) ≡ file_length self.old.layout }
         ensures any_moment { D.tells → (groups : List (List Patch)) → length groups ≡ self.old.used
             → GroupsAre self.old.layout (D.content disk.old) 0 groups
-            → LeavesOnly D.moment D.image_since disk.old disk.new
+            → Leaves D.Disk disk.old disk.new
             (FlushedSome (D.image disk.old) self.old.layout groups self.old.pending) }
         ensures flushed { OnOk result (self.new ≡ record self.old
             { used = self.old.used + length self.old.pending; pending = [] }) }
@@ -234,7 +234,7 @@ impl Log {
         ensures whole { D.tells → length (D.content disk.new) ≡ file_length self.old.layout }
         ensures any_moment { D.tells → (groups : List (List Patch)) → length groups ≡ self.old.used
             → GroupsAre self.old.layout (D.content disk.old) 0 groups
-            → LeavesOnly D.moment D.image_since disk.old disk.new
+            → Leaves D.Disk disk.old disk.new
             (DroppedSome (D.image disk.old) self.old.layout groups count) }
         ensures shorter { OnOk result (self.new ≡ record self.old { used = count }) }
         ensures stays { OnErr result (self.new ≡ self.old) }

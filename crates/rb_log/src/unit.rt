@@ -116,7 +116,7 @@ pub fn read_ahead<D: Disk>(
     ensures kept { 0 < ahead → buffer.new ≡ buffer.old }
     ensures buffer { length buffer.new ≡ 65536 }
     ensures counted { IsCounted (D.faults disk.old) (D.faults disk.new) result }
-    ensures same { D.tells → Rests D.content D.image D.moment D.image_since disk.old disk.new }
+    ensures same { D.tells → Rests D.Disk disk.old disk.new }
 {
     if ahead > 0 {
         return Ok(ahead);

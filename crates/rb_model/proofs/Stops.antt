@@ -5,7 +5,7 @@ use Rattle.std.specs.Prelude.{slice_get}
 use Rattle.std.proofs.lemmas.Bool.{cond_both, cases_Bool, false≢true}
 use Rattle.rb_base.specs.Counts.{err_is}
 use Rattle.rb_model.specs.Answers.{fetch_answer, plain_answer}
-use Rattle.rb_model.specs.Rows.{TableRow, last_number}
+use Rattle.rb_model.specs.Rows.{TableRow, last_scn}
 use Rattle.rb_model.specs.State.{State, Cursor, session_of, cursor_of, cursor_rows}
 use Rattle.rb_model.specs.Reply.{Call, Write, Commit, OpenCursor, Fetch, CloseCursor, Answer, Done, Waits, Numbered, Given, End, Refused, after, after_grant, after_refusal, committed, early_tests, expected, first_of, given, granted, is_disk_fault, is_empty, is_fault, later_tests, next_row}
 use Rattle.rb_model.specs.declared.row.Row.{Row}
@@ -97,7 +97,7 @@ pub expected_fine : (h : State) (number more : ℕ) (c : Call) → is_fault (exp
 expected_fine h number more (Write s table key action) = first_fine (early_tests h (Write s table key action) ++ later_tests h number more (Write s table key action)) Done (refl, (refl, (refl, (refl, (refl, (refl, (refl, (refl, (refl, tt))))))))) refl
 expected_fine h number more (Commit s) =
     first_fine (early_tests h (Commit s) ++ later_tests h number more (Commit s)) (granted h (Commit s)) (refl, (refl, tt))
-    (cond_both (is_empty (session_of h s).own) Done (Numbered (last_number h.commits + 1)) (λ r. is_fault r ≡ false) (λ w. refl) (λ w. refl))
+    (cond_both (is_empty (session_of h s).own) Done (Numbered (last_scn h.commits + 1)) (λ r. is_fault r ≡ false) (λ w. refl) (λ w. refl))
 expected_fine h number more (OpenCursor s name table lo hi) = first_fine (early_tests h (OpenCursor s name table lo hi) ++ later_tests h number more (OpenCursor s name table lo hi)) Done (refl, (refl, (refl, (refl, (refl, tt))))) refl
 expected_fine h number more (Fetch s name) = first_fine (early_tests h (Fetch s name) ++ later_tests h number more (Fetch s name)) (next_row h (cursor_of h s name)) (refl, (refl, (refl, tt))) (next_fine h (cursor_of h s name))
 expected_fine h number more (CloseCursor s name) = first_fine (early_tests h (CloseCursor s name) ++ later_tests h number more (CloseCursor s name)) Done (refl, (refl, (refl, tt))) refl

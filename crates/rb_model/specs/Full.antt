@@ -3,7 +3,7 @@ use Rattle.std.specs.Prelude.{ℕ, ◌%◌, Bool, not, ◌&&◌, ◌==◌, nat_l
 use Rattle.std.specs.Prelude.{◌∷◌, ◌++◌, length, map, filter}
 use Rattle.std.specs.List.{flat_map, list_any}
 use Rattle.rb_model.specs.Change.{Change}
-use Rattle.rb_model.specs.Rows.{last_number, rows_at}
+use Rattle.rb_model.specs.Rows.{last_scn, rows_at}
 use Rattle.rb_model.specs.State.{State}
 
 abbrev pub has_key : ℕ → List ℕ → Bool
@@ -26,7 +26,7 @@ held h = flat_map (λ session. session.own) h.sessions
 abbrev pub used_keys : State → ℕ → ℕ → List ℕ
 used_keys h table key =
     once (map (λ row. row.key) (filter (λ row. has_home h.shape.blocks table key row.table row.key)
-    (rows_at h.shape.blocks h.commits (last_number h.commits)))
+    (rows_at h.shape.blocks h.commits (last_scn h.commits)))
     ++ map (λ change. change.key) (filter (λ change. has_home h.shape.blocks table key change.table change.key)
     (held h)))
 

@@ -4,7 +4,7 @@ use Rattle.std.specs.Prelude.{nat_le, if◌then◌else◌, is_some, is_none, Lis
 use Rattle.std.specs.Prelude.{slice_get, Option, None, Some}
 use Rattle.rb_model.specs.Change.{Change, put, gone}
 use Rattle.rb_model.specs.Full.{full_block}
-use Rattle.rb_model.specs.Rows.{TableRow, last_number, rows_at, over, has_row}
+use Rattle.rb_model.specs.Rows.{TableRow, last_scn, rows_at, over, has_row}
 use Rattle.rb_model.specs.State.{State, Cursor, is_session, is_table, session_of, with_session, cursor_of, cursor_rows}
 use Rattle.rb_model.specs.State.{with_taken, without_cursor}
 use Rattle.rb_model.specs.declared.refusal.Refusal.{Refusal}
@@ -59,7 +59,7 @@ change_by table key Delete = gone table key
 
 -- the rows that a session sees now: the committed ones with its own changes over them
 abbrev pub rows_now : State → ℕ → List TableRow
-rows_now h s = over h.shape.blocks (rows_at h.shape.blocks h.commits (last_number h.commits)) (session_of h s).own
+rows_now h s = over h.shape.blocks (rows_at h.shape.blocks h.commits (last_scn h.commits)) (session_of h s).own
 
 abbrev pub is_empty : List Change → Bool
 is_empty [] = true
@@ -110,7 +110,7 @@ next_row h (Some cursor) = given (slice_get (cursor_rows h cursor) cursor.taken)
 -- what a call answers that no test refuses
 abbrev pub granted : State → Call → Answer
 granted h (Write s table key action) = Done
-granted h (Commit s) = if is_empty (session_of h s).own then Done else Numbered (last_number h.commits + 1)
+granted h (Commit s) = if is_empty (session_of h s).own then Done else Numbered (last_scn h.commits + 1)
 granted h (OpenCursor s name table lo hi) = Done
 granted h (Fetch s name) = next_row h (cursor_of h s name)
 granted h (CloseCursor s name) = Done
@@ -179,7 +179,7 @@ after_grant h (OpenCursor s name table lo hi) =
       table = table;
       lo = lo;
       hi = hi;
-      number = last_number h.commits;
+      number = last_scn h.commits;
       own = (session_of h s).own;
       taken = 0;
     } ∷ [])

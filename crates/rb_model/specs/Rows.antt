@@ -68,8 +68,8 @@ pub record Commits : Type 0 where
   pub list : List (List Change)
 
 -- the last number given
-abbrev pub last_number : Commits → ℕ
-last_number commits = commits.base + length commits.list
+abbrev pub last_scn : Commits → ℕ
+last_scn commits = commits.base + length commits.list
 
 -- the rows after the commits up to n
 abbrev pub rows_at : ℕ → Commits → ℕ → List TableRow

@@ -49,10 +49,10 @@ fn applied<S: Store>(store: &mut S, group: &Group) -> Result<Lsn, Failed>
     requires going { S.failed store.old ≡ false }
     requires some { 0 < length group.now }
     requires within { AreWithin (S.shape_of store.old) group.now }
-    requires room { 1 ≤ room_of (S.slots store.old) (S.number store.old) }
-    requires few { S.number store.old < 2 ^ 62 }
+    requires room { 1 ≤ room_of (S.slots store.old) (S.lsn store.old) }
+    requires few { S.lsn store.old < 2 ^ 62 }
     ensures shape { S.shape_of store.new ≡ S.shape_of store.old }
-    ensures number { OnOk result (S.number store.new ≡ S.number store.old + 1) }
+    ensures number { OnOk result (S.lsn store.new ≡ S.lsn store.old + 1) }
 {
     store.apply(group)?;
     Ok(store.logged())

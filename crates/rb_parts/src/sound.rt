@@ -3,7 +3,7 @@ ghost use Rattle.std.specs.Prelude.{◌≡◌, ◌≤◌, ◌<◌, false, OnOk};
 
 use rb_base::{BlockNo, Failed, Group, Shape, Store};
 use rb_plainstore::PlainStore;
-use rb_sound::{Limits, blocks_sound, commit_number_of, home_sound, segment_sound};
+use rb_sound::{Limits, blocks_sound, commit_scn_of, home_sound, segment_sound};
 use std::test::Fail;
 
 const SHAPE: Shape = Shape {
@@ -143,7 +143,7 @@ fn state_of<S: Store>(store: &mut S) -> Result<(bool, u64), Failed>
     requires { S.failed store.old ≡ false }
 {
     let sound = blocks_sound(store)?;
-    Ok((sound, commit_number_of(store)?))
+    Ok((sound, commit_scn_of(store)?))
 }
 
 /// Patches one byte of a block. It answers Failed where the store can't take that.

@@ -7,7 +7,7 @@ use Rattle.rb_base.specs.declared.shape.Shape.{Shape}
 pub record PlainState : Type 0 where
   pub shape : Shape
   pub blocks : List (List ℕ)
-  pub number : ℕ
+  pub lsn : ℕ
   pub loaded : Option ℕ
 
 -- a file's shape, its blocks, and one of them

@@ -1,17 +1,11 @@
 //! The blocks of a new file. `PlainStore::new` makes them.
-ghost use Rattle.std.specs.Prelude.{◌≡◌, replicate, IfOk};
-ghost use Rattle.rb_base.specs.Blocks.{IsShape, shape_blocks, block_kind, fresh_rest, fresh_block as fresh_block_of};
+ghost use Rattle.std.specs.Prelude.{◌≡◌, ◌-◌, replicate, IfOk};
+ghost use Rattle.rb_base.specs.Blocks.{IsShape, block_kind, fresh_rest, fresh_block as fresh_block_of};
 ghost use Rattle.rb_base.specs.Blocks.{fresh_blocks as fresh_blocks_of, fresh_head as fresh_head_of};
 ghost use Rattle.rb_plainstore.specs.Kinds.{kind_number};
 
-use rb_base::{BlockNo, NoMemory, Shape, UNIT, put_u32, put_u64};
+use rb_base::{BLOCK_HEAD, BlockNo, NoMemory, SEGMENT_BLOCKS, Shape, UNIT, put_u32, put_u64};
 use std::alloc::Global;
-
-/// Blocks of a rollback segment: its header and eight extents of four blocks.
-const SEGMENT_BLOCKS: u32 = 33;
-
-/// The bytes in front of a block: its log number, its kind and its own number.
-const HEAD_BYTES: usize = 32;
 
 /// Where a block's kind stands.
 const KIND_AT: usize = 8;
@@ -30,20 +24,12 @@ enum BlockKind {
     Undo = 3,
 }
 
-/// How many blocks a file of this shape has.
-fn block_count(shape: Shape) -> u32
-    requires { IsShape shape }
-    ensures { result ≡ shape_blocks shape }
-{
-    shape.tables as u32 * shape.blocks + SEGMENT_BLOCKS * shape.segments as u32
-}
-
 /// What block `no` is for.
 fn kind_of(shape: Shape, no: BlockNo) -> BlockKind
     requires { IsShape shape }
     ensures { kind_number result ≡ block_kind shape no }
 {
-    let table_blocks = shape.tables as u32 * shape.blocks;
+    let table_blocks = shape.table_blocks();
     if no < table_blocks {
         BlockKind::Rows
     } else if (no - table_blocks) % SEGMENT_BLOCKS == 0 {
@@ -54,10 +40,10 @@ fn kind_of(shape: Shape, no: BlockNo) -> BlockKind
 }
 
 /// The head of a block that no group has patched.
-fn fresh_head(kind: BlockKind, no: BlockNo) -> [u8; HEAD_BYTES]
+fn fresh_head(kind: BlockKind, no: BlockNo) -> [u8; BLOCK_HEAD]
     ensures { result ≡ fresh_head_of (kind_number kind) no }
 {
-    let mut head = [0; HEAD_BYTES];
+    let mut head = [0; BLOCK_HEAD];
     head[KIND_AT] = kind as u8;
     put_u32(&mut head, NUMBER_AT, no);
     head
@@ -66,7 +52,7 @@ fn fresh_head(kind: BlockKind, no: BlockNo) -> [u8; HEAD_BYTES]
 /// Writes what a fresh block of this kind has behind its head, over zeros: in a segment the turns of its first two
 /// extents.
 fn put_rest(rest: &mut [u8], kind: BlockKind)
-    requires { rest.old ≡ replicate 2016 0 }
+    requires { rest.old ≡ replicate (UNIT - BLOCK_HEAD) 0 }
     ensures { rest.new ≡ fresh_rest (kind_number kind) }
 {
     match kind {
@@ -85,8 +71,8 @@ fn fresh_block(shape: Shape, no: BlockNo) -> [u8; UNIT]
 {
     let mut block = [0; UNIT];
     let kind = kind_of(shape, no);
-    block[..HEAD_BYTES].copy_from_slice(&fresh_head(kind, no));
-    put_rest(&mut block[HEAD_BYTES..], kind);
+    block[..BLOCK_HEAD].copy_from_slice(&fresh_head(kind, no));
+    put_rest(&mut block[BLOCK_HEAD..], kind);
     block
 }
 
@@ -95,7 +81,7 @@ pub(crate) fn fresh_blocks(alloc: Global, shape: Shape) -> Result<Vec<[u8; UNIT]
     requires { IsShape shape }
     ensures { IfOk result (λ blocks. blocks.items ≡ fresh_blocks_of shape) }
 {
-    let count = block_count(shape);
+    let count = shape.block_count();
     let Ok(mut blocks) = Vec::with_capacity(alloc, count as usize) else {
         return Err(NoMemory);
     };

@@ -18,7 +18,7 @@ const ROOM: u64 = 1 << 63;
 pub struct PlainStore {
     shape: Shape,
     blocks: Vec<[u8; UNIT]>,
-    number: Lsn,
+    lsn: Lsn,
     loaded: Option<BlockNo>,
 }
 
@@ -27,7 +27,7 @@ impl Model for PlainStore {
 
     ghost Value = { PlainState };
 
-    ghost view = { λ a. record { shape = a.shape; blocks = a.blocks.items; number = a.number; loaded = a.loaded } };
+    ghost view = { λ a. record { shape = a.shape; blocks = a.blocks.items; lsn = a.lsn; loaded = a.loaded } };
 
     ghost invariant = { λ a. IsPlain a.shape a.blocks.items a.loaded };
 }
@@ -39,14 +39,14 @@ impl PlainStore {
         ensures { IfOk result (λ store. store ≡ record {
           shape = shape;
           blocks = fresh_blocks_of shape;
-          number = 0;
+          lsn = 0;
           loaded = None;
         }) }
     {
         Ok(PlainStore {
             shape,
             blocks: fresh_blocks(alloc, shape)?,
-            number: 0,
+            lsn: 0,
             loaded: None,
         })
     }
@@ -57,7 +57,7 @@ impl Store for PlainStore {
 
     ghost tells = { Unit {0} };
 
-    ghost keeps = { ⊥ };
+    ghost tells_crashes = { ⊥ };
 
     ghost shape_of = { λ store. store.shape };
 
@@ -67,7 +67,7 @@ impl Store for PlainStore {
 
     ghost pending = { λ _. [] };
 
-    ghost number = { λ store. store.number };
+    ghost lsn = { λ store. store.lsn };
 
     ghost loaded = { λ store. store.loaded };
 
@@ -86,6 +86,8 @@ impl Store for PlainStore {
     ghost opens = { λ _ _ _ _. ⊥ };
 
     ghost stable = { λ _ _. ⊥ };
+
+    ghost crashes_told = { λ told. absurd told };
 
     ghost stable_left = { λ store b i keeps. absurd keeps };
 
@@ -112,8 +114,8 @@ impl Store for PlainStore {
     }
 
     fn apply(&mut self, group: &Group) -> Result<(), Failed> {
-        self.number += 1;
-        patch(self.blocks.as_mut_slice(), group, self.number);
+        self.lsn += 1;
+        patch(self.blocks.as_mut_slice(), group, self.lsn);
         Ok(())
     }
 
@@ -126,7 +128,7 @@ impl Store for PlainStore {
     }
 
     fn logged(&self) -> Lsn {
-        self.number
+        self.lsn
     }
 
     fn room(&self) -> u64 {

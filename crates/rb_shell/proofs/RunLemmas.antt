@@ -21,7 +21,7 @@ use Rattle.rb_lines.specs.Ran.{Ran, CutOff}
 use Rattle.rb_lines.proofs.Runs.{ran-append}
 use Rattle.rb_model.specs.Lines.{lines_of}
 use Rattle.rb_model.specs.Out.{Logged}
-use Rattle.rb_model.specs.Rows.{TableRow, last_number, over, rows_at}
+use Rattle.rb_model.specs.Rows.{TableRow, last_scn, over, rows_at}
 use Rattle.rb_model.specs.State.{State, opened}
 use Rattle.rb_shell.specs.Runs.{IsSound, HasHalted, HasOpened, HasRun, WasCutOff, Endures, LeftAlone, OpensSame, EndsRun, IsDoneOrNoMemory, file_opens}
 use Rattle.rb_shell.specs.Since.{StandsAs}
@@ -44,7 +44,7 @@ rows_opened : (blocks number : ℕ) (rows : List TableRow) → rows_at blocks (r
 rows_opened blocks number rows = ap (λ xs. over blocks rows (flat_map (λ changes. changes) xs)) (take_all _ [] (omega arith))
 
 opening_holds : (shape : Shape) (blocks : List (List ℕ)) (number : ℕ) (rows : List TableRow) → Holds shape blocks number rows
-    → Holds shape blocks (last_number (opened shape number rows).commits) (rows_at shape.blocks (opened shape number rows).commits (last_number (opened shape number rows).commits))
+    → Holds shape blocks (last_scn (opened shape number rows).commits) (rows_at shape.blocks (opened shape number rows).commits (last_scn (opened shape number rows).commits))
 opening_holds shape blocks number rows holds =
     subst (λ (n : ℕ). Holds shape blocks n (rows_at shape.blocks (opened shape number rows).commits n)) (omega arith)
     (subst (λ (rs : List TableRow). Holds shape blocks number rs) (sym (rows_opened shape.blocks number rows)) holds)
@@ -58,11 +58,11 @@ opened_restarts l blocks h c opening to = subst (λ (x : State). Restarts (file_
 
 -- it has them at a later state too
 restarts_on_the_way : (l : Layout) (h h2 : State) (c : List ℕ) → Extends h h2 → Restarts (file_opens l) h c → OnTheWay (file_opens l) h h2 c
-restarts_on_the_way l h h2 c e r = reached (last_number h.commits) (omega arith) (extends_later h h2 e) (record {
+restarts_on_the_way l h h2 c e r = reached (last_scn h.commits) (omega arith) (extends_later h h2 e) (record {
   blocks = r.blocks;
   opening = subst (λ (shape : Shape). file_opens l shape c r.blocks) (sym e.shape) r.opening;
-  holds = subst (λ (shape : Shape). Holds shape r.blocks (last_number h.commits) (rows_at shape.blocks h2.commits (last_number h.commits))) (sym e.shape)
-      (subst (λ (rows : List TableRow). Holds h.shape r.blocks (last_number h.commits) rows) (sym (rows_stay h.shape.blocks h h2 (last_number h.commits) e (omega arith))) r.holds);
+  holds = subst (λ (shape : Shape). Holds shape r.blocks (last_scn h.commits) (rows_at shape.blocks h2.commits (last_scn h.commits))) (sym e.shape)
+      (subst (λ (rows : List TableRow). Holds h.shape r.blocks (last_scn h.commits) rows) (sym (rows_stay h.shape.blocks h h2 (last_scn h.commits) e (omega arith))) r.holds);
 })
 
 -- two layouts of the same shape and slots have the same numbers
@@ -83,7 +83,7 @@ pub record Loaded {D : Type 0} (content : D → List ℕ) (image : D → List �
 
 -- and for the opening before them
 pub record Found {D : Type 0} (content : D → List ℕ) (image : D → List ℕ → Type 0) (moment : D → ℕ) (since : D → ℕ → List ℕ → Type 0) (old : D) (s : LapState D) : Type 0 where
-  pub opens : OpensAt s.layout (content old) s.blocks s.number
+  pub opens : OpensAt s.layout (content old) s.blocks s.lsn
   pub stable : IsStable content image s s.blocks
   pub any_moment : OpensSame content image moment since old s.disk
   pub only_now : (c : List ℕ) → since s.disk (moment s.disk) c → image s.disk c
@@ -125,9 +125,9 @@ module _ {D : Type 0} (content : D → List ℕ) (image : D → List ℕ → Typ
 
   -- an engine over it
   pub has_opened : (d : Ghosts (LapState D)) (s : LapState D) (e : EngineView (LapState D)) (h : State) → Found content image moment since old s → Loaded content image moment since s e.store → OpensAs (shape_of s.layout) s.blocks h
-      → CanOpen (shape_of s.layout) s.blocks s.number → StandsAs d e (record { state = h; number = s.number }) → HasOpened content image moment since d old e
+      → CanOpen (shape_of s.layout) s.blocks s.lsn → StandsAs d e (record { state = h; number = s.lsn }) → HasOpened content image moment since d old e
   has_opened d s e h found loads opening sound stands = record {
-    sound = record { layout = s.layout; blocks = s.blocks; number = s.number; opens = found.opens; can_open = sound };
+    sound = record { layout = s.layout; blocks = s.blocks; number = s.lsn; opens = found.opens; can_open = sound };
     state = h;
     opening = opening;
     slots = loads.log;
@@ -138,10 +138,10 @@ module _ {D : Type 0} (content : D → List ℕ) (image : D → List ℕ → Typ
   }
 
   -- where it was refused, the file isn't sound
-  pub not_sound : (s : LapState D) → Found content image moment since old s → (CanOpen (shape_of s.layout) s.blocks s.number → ⊥) → IsSound (content old) → ⊥
+  pub not_sound : (s : LapState D) → Found content image moment since old s → (CanOpen (shape_of s.layout) s.blocks s.lsn → ⊥) → IsSound (content old) → ⊥
   not_sound s found refused sound =
       let agree = one_opening sound.layout s.layout (content old) sound.blocks s.blocks sound.opens.opens found.opens.opens in
-      let numbers = one_number sound.layout s.layout (content old) sound.blocks s.blocks sound.number s.number sound.opens found.opens in
+      let numbers = one_number sound.layout s.layout (content old) sound.blocks s.blocks sound.number s.lsn sound.opens found.opens in
       refused (subst (λ (n : ℕ). CanOpen (shape_of s.layout) s.blocks n) numbers
       (subst (λ (b : List (List ℕ)). CanOpen (shape_of s.layout) b sound.number) agree.blocks
       (subst (λ (shape : Shape). CanOpen shape sound.blocks sound.number) agree.shape sound.can_open)))

@@ -19,7 +19,7 @@ use Rattle.rb_model.specs.declared.row.Row.{Row}
 use Rattle.rb_model.specs.Lines.{reply_text}
 use Rattle.rb_model.specs.Out.{Logged, room, CallOut, CallsOut, is_given}
 use Rattle.rb_model.specs.Reply.{Answer, Call, Write, Commit, OpenCursor, Fetch, CloseCursor, Done, Waits, Numbered, Given, End, Refused, Reply, after, after_grant, early_tests, expected, first_of, granted, is_empty, is_fault, later_tests}
-use Rattle.rb_model.specs.Rows.{last_number}
+use Rattle.rb_model.specs.Rows.{last_scn}
 use Rattle.rb_model.specs.State.{State, Session, Cursor, fresh_session, session_of, with_taken}
 use Rattle.rb_model.proofs.Stops.{after_same_stop, after_stops, expected_fine, refused_same}
 use Rattle.rb_shell.specs.Since.{IsSince, StandsAs, slots_of}
@@ -62,7 +62,7 @@ gives_none : (h : State) (number more : ℕ) (c : Call) → ((s : ℕ) × (name 
 gives_none h number more (Write s table key action) = inr (first_gives (early_tests h (Write s table key action) ++ later_tests h number more (Write s table key action)) Done (refl, (refl, (refl, (refl, (refl, (refl, (refl, (refl, (refl, tt))))))))) refl)
 gives_none h number more (Commit s) =
     inr (first_gives (early_tests h (Commit s) ++ later_tests h number more (Commit s)) (granted h (Commit s)) (refl, (refl, tt))
-    (cond_both (is_empty (session_of h s).own) Done (Numbered (last_number h.commits + 1)) (λ r. is_given r ≡ false) (λ w. refl) (λ w. refl)))
+    (cond_both (is_empty (session_of h s).own) Done (Numbered (last_scn h.commits + 1)) (λ r. is_given r ≡ false) (λ w. refl) (λ w. refl)))
 gives_none h number more (OpenCursor s name table lo hi) = inr (first_gives (early_tests h (OpenCursor s name table lo hi) ++ later_tests h number more (OpenCursor s name table lo hi)) Done (refl, (refl, (refl, (refl, (refl, tt))))) refl)
 gives_none h number more (Fetch s name) = inl (s, name, refl)
 gives_none h number more (CloseCursor s name) = inr (first_gives (early_tests h (CloseCursor s name) ++ later_tests h number more (CloseCursor s name)) Done (refl, (refl, (refl, tt))) refl)
@@ -284,14 +284,14 @@ module _ {S : Type 0} (s : Ghosts S) where
   pub did_call : (m : Logged) (c : Call) (r : Answer) (old new : EngineView S) (P : Logged → Type 0) → StandsAs s old m → m.state.stopped ≡ false → Does s m.state c r old new → SameStore s old.store new.store
       → ((now : Logged) → now.state ≡ after m.state c r → CallOut m (slots_of (s.slots old.store)) c r now → P now) → Did (StandsAs s) (IsSince s) old new m P
   did_call m c r old new P is going does same so =
-      let now : Logged = record { state = after m.state c r; number = s.number new.store } in
+      let now : Logged = record { state = after m.state c r; number = s.lsn new.store } in
       record {
         now = now;
         reached = record { engine = does.stands; number = refl; ended = subst (λ (slots : Option ℕ). slots ≡ Some (slots_of slots)) (sym same.slots) is.ended };
         passed = record { same = same; crash = λ kept. does.survives going kept };
         ran = so now refl (record {
           reply = subst (λ (n : ℕ). Reply m.state n (room (slots_of (s.slots old.store)) n) c r) (sym is.number)
-              (subst (λ (slots : Option ℕ). Reply m.state (s.number old.store) (room_left slots (s.number old.store) old.spare) c r) is.ended does.reply);
+              (subst (λ (slots : Option ℕ). Reply m.state (s.lsn old.store) (room_left slots (s.lsn old.store) old.spare) c r) is.ended does.reply);
           state = refl;
           groups = does.groups;
           grows = does.grows;

@@ -98,7 +98,7 @@ pub record RanOn {S : Type 0} (s : Ghosts S) (old new : S) (slots most : ℕ) (b
     (left_before left_now : List ℕ)
     (tells : Type 0) (held_before held_now : List ℕ) (status : Status) : Type 0 where
   pub now : Logged
-  pub crash : s.keeps → Survives s (s.slots old) before.state now.state old new
+  pub crash : s.tells_crashes → Survives s (s.slots old) before.state now.state old new
   pub end : LinesEnd
   pub is : status ≡ status_of end
   pub ends : EndsAs slots most before now left_before left_now tells held_before held_now end

@@ -16,16 +16,16 @@ slots_of (Some slots) = slots
 -- An engine stands for a state, and the last log number is that of its store, whose log has an end.
 pub record StandsAs {S : Type 0} (s : Ghosts S) (e : EngineView S) (m : Logged) : Type 0 where
   pub engine : Stands s m.state e
-  pub number : m.number ≡ s.number e.store
+  pub number : m.number ≡ s.lsn e.store
   pub ended : s.slots e.store ≡ Some (slots_of (s.slots e.store))
 
 -- The store has as many slots, and the same shape, and a crash may leave no more than `Survives` says.
 pub record IsSince {S : Type 0} (s : Ghosts S) (old new : EngineView S) (before now : Logged) : Type 0 where
   pub same : SameStore s old.store new.store
-  pub crash : s.keeps → Survives s (s.slots old.store) before.state now.state old.store new.store
+  pub crash : s.tells_crashes → Survives s (s.slots old.store) before.state now.state old.store new.store
 
 module _ {S : Type 0} {s : Ghosts S} where
-  pub since_same : (e : EngineView S) (m : Logged) → (s.keeps → Laws s) → StandsAs s e m
+  pub since_same : (e : EngineView S) (m : Logged) → (s.tells_crashes → Laws s) → StandsAs s e m
       → m.state.stopped ≡ false → IsSince s e e m m
   since_same e m laws is going = record {
     same = record { shape = refl; slots = refl };

@@ -48,7 +48,7 @@ pub fn run<S: Source, K: Sink, D: Disk>(
         → length (D.content disk) ≡ 0 }
     ensures not_empty { D.tells → result.0 ≡ Status.NotEmpty → 0 < length (D.content disk) }
     ensures format_unchanged { D.tells → (l : Layout) → IsFormat words.now l → 0 < length (D.content disk)
-        → Rests D.content D.image D.moment D.image_since disk result.1 }
+        → Rests D.Disk disk result.1 }
     ensures format_source { ((n : ℕ) → ¬ IsRun words.now n) → source.new ≡ source.old }
     ensures format_sink { ((n : ℕ) → ¬ IsRun words.now n) → sink.new ≡ sink.old }
 
@@ -57,7 +57,7 @@ pub fn run<S: Source, K: Sink, D: Disk>(
     // end.
     ensures replies { D.tells → S.tells → (n : ℕ) → IsRun words.now n → result.0 ≡ Status.Done →
         HasRun (D.content disk) (lines_of (S.left source.old)) K.tells (K.held sink.old) (K.held sink.new) false
-        (Endures D.image D.moment D.image_since disk result.1) }
+        (Endures D.Disk disk result.1) }
     ensures at_end { S.tells → (n : ℕ) → IsRun words.now n → result.0 ≡ Status.Done
         → S.left source.new ≡ [] }
     ensures few { S.tells → (n : ℕ) → IsRun words.now n → result.0 ≡ Status.Done
@@ -67,30 +67,30 @@ pub fn run<S: Source, K: Sink, D: Disk>(
     ensures source_done { D.tells → S.tells → result.0 ≡ Status.SourceFault →
         ((taken : List ℕ) × IsTaken taken (S.left source.old) (S.left source.new)
         × HasRun (D.content disk) (whole_lines taken) K.tells (K.held sink.old) (K.held sink.new) false
-        (Endures D.image D.moment D.image_since disk result.1)) }
+        (Endures D.Disk disk result.1)) }
     ensures too_long { D.tells → S.tells → result.0 ≡ Status.TooLong →
         ((taken : List ℕ) × (length taken ≡ 1000000000) × IsTaken taken (S.left source.old) (S.left source.new)
         × HasRun (D.content disk) (whole_lines taken) K.tells (K.held sink.old) (K.held sink.new) false
-        (Endures D.image D.moment D.image_since disk result.1)) }
+        (Endures D.Disk disk result.1)) }
 
     // At a fault of the disk nothing was asked for and the file opens as before, or is as it was where it opens to
     // nothing; or the reply that tells of it is the last, and nothing was asked for after it. At one of the sink the
     // replies are cut off.
     ensures disk_done { D.tells → S.tells → (n : ℕ) → IsRun words.now n → result.0 ≡ Status.DiskFault →
         ((source.new ≡ source.old) × (sink.new ≡ sink.old)
-        × WasStopped D.content D.image D.moment D.image_since disk result.1)
+        × WasStopped D.Disk disk result.1)
         ⊎ HasHalted (D.content disk) (S.left source.old) (S.left source.new) K.tells (K.held sink.old)
         (K.held sink.new)
-        (Endures D.image D.moment D.image_since disk result.1) }
+        (Endures D.Disk disk result.1) }
     ensures cut_off { D.tells → S.tells → K.tells → result.0 ≡ Status.SinkFault →
         WasCutOff (D.content disk) (lines_of (S.left source.old)) (K.held sink.old) (K.held sink.new)
-        (Endures D.image D.moment D.image_since disk result.1) }
+        (Endures D.Disk disk result.1) }
 
     // Where the script isn't asked for, the file opens as before. It is asked for just where the file is a store.
     ensures source_same { AsksNothing result.0 → source.new ≡ source.old }
     ensures sink_same { AsksNothing result.0 → sink.new ≡ sink.old }
     ensures untouched { D.tells → (n : ℕ) → IsRun words.now n → AsksNothing result.0
-        → LeftAlone D.content D.image D.moment D.image_since disk result.1 }
+        → LeftAlone D.Disk disk result.1 }
     ensures not_a_store { D.tells → result.0 ≡ Status.NotAStore → ¬ IsSound (D.content disk) }
     ensures sound { D.tells → (n : ℕ) → IsRun words.now n → AsksScript result.0 → IsSound (D.content disk) }
 
@@ -122,7 +122,7 @@ fn run_format<D: Disk>(layout: &Layout, mut disk: D) -> (Status, D)
     ensures was_empty { D.tells → result.0 ≡ Status.Done → length (D.content disk) ≡ 0 }
     ensures not_empty { D.tells → result.0 ≡ Status.NotEmpty → 0 < length (D.content disk) }
     ensures unchanged { D.tells → 0 < length (D.content disk)
-        → Rests D.content D.image D.moment D.image_since disk result.1 }
+        → Rests D.Disk disk result.1 }
     ensures disk { IsCountedAs (D.faults disk) (D.faults result.1) (by_disk result.0) }
 {
     match format(&mut disk, layout) {

@@ -121,11 +121,11 @@ fn run_engine<S: Source, K: Sink, T: Store>(
 /// Opens the engine over the store of a disk. An Err gives the disk back.
 fn open_engine<D: Disk>(alloc: Global, disk: D) -> Result<Engine<LapStore<D>>, (OpenFault, D)>
     ensures opened { D.tells → IfOk result
-        (λ e. HasOpened D.content D.image D.moment D.image_since ⟦<LapStore<D> as Store>⟧ disk e) }
+        (λ e. HasOpened D.Disk ⟦<LapStore<D> as Store>⟧ disk e) }
     ensures none { D.tells → IfErr result (λ r. r.0 ≡ OpenFault.NotAStore → IsSound (D.content disk) → ⊥) }
-    ensures images { D.tells → IfErr result (λ r. WasStopped D.content D.image D.moment D.image_since disk r.1) }
+    ensures images { D.tells → IfErr result (λ r. WasStopped D.Disk disk r.1) }
     ensures left_alone { D.tells → IfErr result
-        (λ r. r.0 ≢ OpenFault.Failed → LeftAlone D.content D.image D.moment D.image_since disk r.1) }
+        (λ r. r.0 ≢ OpenFault.Failed → LeftAlone D.Disk disk r.1) }
     ensures counted_ok { IfOk result (λ e. D.faults e.store.disk ≡ D.faults disk) }
     ensures counted_err { IfErr result (λ r. IsCountedAs (D.faults disk) (D.faults r.1) (is_failed r.0)) }
 {
@@ -151,31 +151,31 @@ pub fn run_script<S: Source, K: Sink, D: Disk>(
     // The script was done to its end, to a fault, or as far as it may be long.
     ensures done { D.tells → S.tells → result.0 ≡ Status.Done
         → HasRun (D.content disk) (lines_of (S.left source.old))
-        K.tells (K.held sink.old) (K.held sink.new) false (Endures D.image D.moment D.image_since disk result.1) }
+        K.tells (K.held sink.old) (K.held sink.new) false (Endures D.Disk disk result.1) }
     ensures at_end { S.tells → result.0 ≡ Status.Done → S.left source.new ≡ [] }
     ensures few { S.tells → result.0 ≡ Status.Done → length (S.left source.old) < 1000000000 }
     ensures source_done { D.tells → S.tells → result.0 ≡ Status.SourceFault →
         ((taken : List ℕ) × IsTaken taken (S.left source.old) (S.left source.new)
         × HasRun (D.content disk) (whole_lines taken) K.tells (K.held sink.old) (K.held sink.new) false
-        (Endures D.image D.moment D.image_since disk result.1)) }
+        (Endures D.Disk disk result.1)) }
     ensures too_long { D.tells → S.tells → result.0 ≡ Status.TooLong →
         ((taken : List ℕ) × (length taken ≡ 1000000000) × IsTaken taken (S.left source.old) (S.left source.new)
         × HasRun (D.content disk) (whole_lines taken) K.tells (K.held sink.old) (K.held sink.new) false
-        (Endures D.image D.moment D.image_since disk result.1)) }
+        (Endures D.Disk disk result.1)) }
     ensures disk_done { D.tells → S.tells → result.0 ≡ Status.DiskFault →
         ((source.new ≡ source.old) × (sink.new ≡ sink.old)
-        × WasStopped D.content D.image D.moment D.image_since disk result.1)
+        × WasStopped D.Disk disk result.1)
         ⊎ HasHalted (D.content disk) (S.left source.old) (S.left source.new) K.tells (K.held sink.old)
         (K.held sink.new)
-        (Endures D.image D.moment D.image_since disk result.1) }
+        (Endures D.Disk disk result.1) }
     ensures cut_off { D.tells → S.tells → K.tells → result.0 ≡ Status.SinkFault → WasCutOff (D.content disk)
         (lines_of (S.left source.old)) (K.held sink.old) (K.held sink.new)
-        (Endures D.image D.moment D.image_since disk result.1) }
+        (Endures D.Disk disk result.1) }
 
     // Nothing was asked for.
     ensures source_same { AsksNothing result.0 → source.new ≡ source.old }
     ensures sink_same { AsksNothing result.0 → sink.new ≡ sink.old }
-    ensures untouched { D.tells → AsksNothing result.0 → LeftAlone D.content D.image D.moment D.image_since disk
+    ensures untouched { D.tells → AsksNothing result.0 → LeftAlone D.Disk disk
         result.1 }
     ensures not_a_store { D.tells → result.0 ≡ Status.NotAStore → ¬ IsSound (D.content disk) }
     ensures sound { D.tells → AsksScript result.0 → IsSound (D.content disk) }

@@ -17,7 +17,7 @@ use Rattle.rb_heap.specs.Homes.{is_keyed}
 use Rattle.rb_base.proofs.Blocks.{block_long}
 use Rattle.rb_base.specs.Blocks.{header_block}
 use Rattle.rb_heap.specs.Soundness.{value_length, IsEntrySound, IsLock, IsCellSound, IsHomeSound}
-use Rattle.rb_sound.specs.Sound.{commit_logged, commit_number, slot_wrap, wrap_at, IsSegment, AreSound}
+use Rattle.rb_sound.specs.Sound.{commit_lsn, commit_scn, slot_wrap, wrap_at, IsSegment, AreSound}
 use Rattle.rb_sound.proofs.Greatest.{commit_same}
 use Rattle.rb_sound.proofs.Kept.{all_kept, segment_later}
 use Rattle.rb_sound.proofs.Keys.{own_key}
@@ -121,7 +121,7 @@ header_kept : (shape : Shape) (blocks : List (List ℕ)) (number which c g : ℕ
     → block_of (after_group number (cell_patch which c cell ∷ []) blocks) (header_block shape g) ≡ block_of blocks (header_block shape g)
 header_kept shape blocks number which c g cell lt = block_elsewhere blocks number (header_block shape g) (cell_patch which c cell) (λ same. omega (arith, lt, same))
 
-pub commit_stays : (shape : Shape) (blocks : List (List ℕ)) (number which c : ℕ) (cell : Cell) → which < table_blocks shape → commit_number shape (after_group number (cell_patch which c cell ∷ []) blocks) ≡ commit_number shape blocks
+pub commit_stays : (shape : Shape) (blocks : List (List ℕ)) (number which c : ℕ) (cell : Cell) → which < table_blocks shape → commit_scn shape (after_group number (cell_patch which c cell ∷ []) blocks) ≡ commit_scn shape blocks
 commit_stays shape blocks number which c cell lt = commit_same shape (after_group number (cell_patch which c cell ∷ []) blocks) blocks (λ g there. header_kept shape blocks number which c g cell lt)
 
 pub sound_with_cell : (shape : Shape) (blocks : List (List ℕ)) (number which c : ℕ) (cell : Cell) → AreBlocks shape blocks → AreSound shape blocks → which < table_blocks shape → c < 16 → IsCell cell → cell.state ≤ 2 → cell.lock ≡ 0
@@ -129,7 +129,7 @@ pub sound_with_cell : (shape : Shape) (blocks : List (List ℕ)) (number which c
 sound_with_cell shape blocks number which c cell are sound lt few is_cell state unlocked key new =
     let p = cell_patch which c cell in
     let now = after_group number (p ∷ []) blocks in
-    let limit = commit_number shape blocks in
+    let limit = commit_scn shape blocks in
     let wraps = wrap_at shape blocks in
     let commit = commit_stays shape blocks number which c cell lt in
     let good : IsGood shape (which % shape.blocks) cell = record { state = state; unlocked = unlocked; key = key; short = is_cell.short_value } in
@@ -137,7 +137,7 @@ sound_with_cell shape blocks number which c cell are sound lt few is_cell state 
     let has = subst (λ (block : List ℕ). HasCell (block_of blocks which) block c cell) (sym there) (has_cell (block_of blocks which) number which c cell (block_long shape blocks which are (omega (arith, lt))) few is_cell) in
     all_kept shape blocks now sound (omega (arith, commit))
     (λ seg slot there few. sym (ap (λ (header : List ℕ). slot_wrap header slot) (header_kept shape blocks number which c seg cell lt)))
-    (λ g there is. segment_later _ _ _ (omega (arith, commit)) (subst (IsSegment (commit_number shape blocks)) (sym (header_kept shape blocks number which c g cell lt)) is))
+    (λ g there is. segment_later _ _ _ (omega (arith, commit)) (subst (IsSegment (commit_scn shape blocks)) (sym (header_kept shape blocks number which c g cell lt)) is))
     (λ b b_lt is. elim (cases_eq b which) [
       | inl same ↦
           let home = subst (λ (b : ℕ). IsHomeSound shape limit wraps (b % shape.blocks) (block_of blocks b)) same is in
@@ -149,5 +149,5 @@ pub other_block : (blocks : List (List ℕ)) (number which c b : ℕ) (cell : Ce
 other_block blocks number which c b cell differ = block_elsewhere blocks number b (cell_patch which c cell) differ
 
 -- nor is the block that commits patch
-pub logged_stays : (shape : Shape) (blocks : List (List ℕ)) (number which c : ℕ) (cell : Cell) → which < table_blocks shape → commit_logged shape (after_group number (cell_patch which c cell ∷ []) blocks) ≡ commit_logged shape blocks
+pub logged_stays : (shape : Shape) (blocks : List (List ℕ)) (number which c : ℕ) (cell : Cell) → which < table_blocks shape → commit_lsn shape (after_group number (cell_patch which c cell ∷ []) blocks) ≡ commit_lsn shape blocks
 logged_stays shape blocks number which c cell lt = ap (λ (block : List ℕ). number_at block 0 8) (other_block blocks number which c (commit_block shape) cell (λ same. omega (arith, lt, same)))

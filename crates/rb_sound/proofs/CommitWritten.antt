@@ -12,7 +12,7 @@ use Rattle.rb_base.proofs.Fronts.{number_of_part}
 use Rattle.rb_heap.proofs.Patching.{number_patched}
 use Rattle.rb_base.specs.Blocks.{header_block}
 use Rattle.rb_heap.specs.Soundness.{IsHomeSound}
-use Rattle.rb_sound.specs.Sound.{slot_place, extent_place, slot_state, slot_wrap, slot_newest, slot_before, extent_ord, extent_newest, head_extent, head_records, lost_number, commit_logged, commit_number, number_patch, wrap_at, IsRing, IsSegment, AreSound}
+use Rattle.rb_sound.specs.Sound.{slot_place, extent_place, slot_state, slot_wrap, slot_newest, slot_before, extent_ord, extent_newest, head_extent, head_records, lost_number, commit_lsn, commit_scn, scn_patch, wrap_at, IsRing, IsSegment, AreSound}
 use Rattle.rb_sound.proofs.Greatest.{commit_above, commit_least}
 use Rattle.rb_sound.proofs.Kept.{all_kept, segment_later}
 use Rattle.rb_sound.proofs.Patched.{number_kept, byte_kept, part_there, block_there, block_elsewhere}
@@ -92,7 +92,7 @@ segment_kept commit later newest header now has le rises is = record {
 
 -- the patch of the next commit, and the blocks after it
 abbrev commit_patch : Shape → ℕ → Patch
-commit_patch shape n = number_patch shape (n + 1)
+commit_patch shape n = scn_patch shape (n + 1)
 
 abbrev committed : Shape → List (List ℕ) → ℕ → ℕ → List (List ℕ)
 committed shape blocks number n = after_group number (commit_patch shape n ∷ []) blocks
@@ -120,16 +120,16 @@ header_elsewhere shape blocks number n g more = block_elsewhere blocks number (h
 pub rows_kept : (shape : Shape) (blocks : List (List ℕ)) (number n b : ℕ) → b < table_blocks shape → block_of (committed shape blocks number n) b ≡ block_of blocks b
 rows_kept shape blocks number n b lt = block_elsewhere blocks number b (commit_patch shape n) (λ same. omega (arith, lt, same))
 
-pub commit_numbered : (shape : Shape) (blocks : List (List ℕ)) (number n : ℕ) → IsShape shape → AreBlocks shape blocks → number < 2 ^ 64 → commit_logged shape (committed shape blocks number n) ≡ number
+pub commit_numbered : (shape : Shape) (blocks : List (List ℕ)) (number n : ℕ) → IsShape shape → AreBlocks shape blocks → number < 2 ^ 64 → commit_lsn shape (committed shape blocks number n) ≡ number
 commit_numbered shape blocks number n is are fits =
     let at = commit_block shape in
     ap (λ (block : List ℕ). number_at block 0 8) (block_there shape blocks number (commit_patch shape n) are (within_file shape is)) ∙ number_patched (block_of blocks at) number (commit_patch shape n) fits
 
-pub commit_next : (shape : Shape) (blocks : List (List ℕ)) (number n : ℕ) → IsShape shape → AreBlocks shape blocks → commit_number shape blocks ≡ n → n + 1 < 2 ^ 64 → commit_number shape (committed shape blocks number n) ≡ n + 1
+pub commit_next : (shape : Shape) (blocks : List (List ℕ)) (number n : ℕ) → IsShape shape → AreBlocks shape blocks → commit_scn shape blocks ≡ n → n + 1 < 2 ^ 64 → commit_scn shape (committed shape blocks number n) ≡ n + 1
 commit_next shape blocks number n is are was fits =
     let now = committed shape blocks number n in
     let has = header_there shape blocks number n is are fits in
-    let least : commit_number shape now ≤ n + 1 =
+    let least : commit_scn shape now ≤ n + 1 =
     commit_least shape now (n + 1)
     (λ g i there few.
     let old = commit_above shape blocks g i there few in
@@ -140,7 +140,7 @@ commit_next shape blocks number n is are was fits =
           (elim (cases_lt i 1) [
             | inl own ↦ let same : i ≡ 0 = omega arith in let newest = ap (slot_newest (block_of now (header_block shape 0))) same ∙ has.own in omega (arith, newest)
             | inr other ↦
-                let above = subst (λ (g : ℕ). slot_newest (block_of blocks (header_block shape g)) i ≤ commit_number shape blocks) zeroth old in
+                let above = subst (λ (g : ℕ). slot_newest (block_of blocks (header_block shape g)) i ≤ commit_scn shape blocks) zeroth old in
                 omega (arith, has.others i other, above, was)
           ])
       | inr more ↦
@@ -150,12 +150,12 @@ commit_next shape blocks number n is are was fits =
     let above = commit_above shape now 0 0 (omega (arith, is.few_segments.0)) (omega arith) in
     omega (arith, least, above, has.own)
 
-pub sound_with_commit : (shape : Shape) (blocks : List (List ℕ)) (number n : ℕ) → IsShape shape → AreBlocks shape blocks → AreSound shape blocks → commit_number shape blocks ≡ n → n + 1 < 2 ^ 64 → AreSound shape (committed shape blocks number n)
+pub sound_with_commit : (shape : Shape) (blocks : List (List ℕ)) (number n : ℕ) → IsShape shape → AreBlocks shape blocks → AreSound shape blocks → commit_scn shape blocks ≡ n → n + 1 < 2 ^ 64 → AreSound shape (committed shape blocks number n)
 sound_with_commit shape blocks number n is are sound was fits =
     let now = committed shape blocks number n in
     let has = header_there shape blocks number n is are fits in
     let next = commit_next shape blocks number n is are was fits in
-    let le : commit_number shape blocks ≤ commit_number shape now = omega (arith, was, next) in
+    let le : commit_scn shape blocks ≤ commit_scn shape now = omega (arith, was, next) in
     let first = commit_above shape blocks 0 0 (omega (arith, is.few_segments.0)) (omega arith) in
     all_kept shape blocks now sound le
     (λ seg slot there few. elim (cases_lt seg 1) [
@@ -167,9 +167,9 @@ sound_with_commit shape blocks number n is are sound was fits =
     (λ g there old. elim (cases_lt g 1) [
       | inl zero_g ↦
           let zeroth : g ≡ 0 = omega arith in
-          subst (λ (g : ℕ). IsSegment (commit_number shape now) (block_of now (header_block shape g))) (sym zeroth)
-          (segment_kept (commit_number shape blocks) (commit_number shape now) (n + 1) (block_of blocks (header_block shape 0)) (block_of now (header_block shape 0)) has le (omega (arith, first, was))
-          (subst (λ (g : ℕ). IsSegment (commit_number shape blocks) (block_of blocks (header_block shape g))) zeroth old))
-      | inr more ↦ segment_later _ _ _ le (subst (IsSegment (commit_number shape blocks)) (sym (header_elsewhere shape blocks number n g more)) old)
+          subst (λ (g : ℕ). IsSegment (commit_scn shape now) (block_of now (header_block shape g))) (sym zeroth)
+          (segment_kept (commit_scn shape blocks) (commit_scn shape now) (n + 1) (block_of blocks (header_block shape 0)) (block_of now (header_block shape 0)) has le (omega (arith, first, was))
+          (subst (λ (g : ℕ). IsSegment (commit_scn shape blocks) (block_of blocks (header_block shape g))) zeroth old))
+      | inr more ↦ segment_later _ _ _ le (subst (IsSegment (commit_scn shape blocks)) (sym (header_elsewhere shape blocks number n g more)) old)
     ])
-    (λ b lt home. subst (IsHomeSound shape (commit_number shape blocks) (wrap_at shape blocks) (b % shape.blocks)) (sym (rows_kept shape blocks number n b lt)) home)
+    (λ b lt home. subst (IsHomeSound shape (commit_scn shape blocks) (wrap_at shape blocks) (b % shape.blocks)) (sym (rows_kept shape blocks number n b lt)) home)

@@ -4,7 +4,7 @@ use Rattle.std.proofs.lemmas.Bool.{cases_lt}
 use Rattle.rb_base.specs.declared.shape.Shape.{Shape}
 use Rattle.rb_base.specs.Blocks.{block_of}
 use Rattle.rb_base.specs.Blocks.{greatest, header_block}
-use Rattle.rb_sound.specs.Sound.{slot_newest, header_newest, commit_number}
+use Rattle.rb_sound.specs.Sound.{slot_newest, header_newest, commit_scn}
 
 pub greatest-zero : (f : ℕ → ℕ) → greatest f 0 ≡ 0
 unfolding greatest
@@ -38,19 +38,19 @@ greatest-same f g zero same = refl
 greatest-same f g (suc n) same = let before = greatest-same f g n (λ k lt. same k (omega arith)) in let last = same n (omega arith) in cc
 
 -- the commit number of a file, by all table slots of its headers
-pub commit_above : (shape : Shape) (blocks : List (List ℕ)) (g i : ℕ) → g < shape.segments → i < 16 → slot_newest (block_of blocks (header_block shape g)) i ≤ commit_number shape blocks
+pub commit_above : (shape : Shape) (blocks : List (List ℕ)) (g i : ℕ) → g < shape.segments → i < 16 → slot_newest (block_of blocks (header_block shape g)) i ≤ commit_scn shape blocks
 commit_above shape blocks g i there few =
     let header = block_of blocks (header_block shape g) in
     let in_header = greatest-above (slot_newest header) 16 i few in
     let in_file = greatest-above (λ (k : ℕ). header_newest (block_of blocks (header_block shape k))) shape.segments g there in
     omega (arith, in_header, in_file)
 
-pub commit_least : (shape : Shape) (blocks : List (List ℕ)) (n : ℕ) → ((g i : ℕ) → g < shape.segments → i < 16 → slot_newest (block_of blocks (header_block shape g)) i ≤ n) → commit_number shape blocks ≤ n
+pub commit_least : (shape : Shape) (blocks : List (List ℕ)) (n : ℕ) → ((g i : ℕ) → g < shape.segments → i < 16 → slot_newest (block_of blocks (header_block shape g)) i ≤ n) → commit_scn shape blocks ≤ n
 commit_least shape blocks n within =
     greatest-least (λ (k : ℕ). header_newest (block_of blocks (header_block shape k))) shape.segments n
     (λ g there. greatest-least (slot_newest (block_of blocks (header_block shape g))) 16 n (λ i few. within g i there few))
 
 -- by the headers alone
-pub commit_same : (shape : Shape) (now blocks : List (List ℕ)) → ((g : ℕ) → g < shape.segments → block_of now (header_block shape g) ≡ block_of blocks (header_block shape g)) → commit_number shape now ≡ commit_number shape blocks
+pub commit_same : (shape : Shape) (now blocks : List (List ℕ)) → ((g : ℕ) → g < shape.segments → block_of now (header_block shape g) ≡ block_of blocks (header_block shape g)) → commit_scn shape now ≡ commit_scn shape blocks
 commit_same shape now blocks same =
     greatest-same (λ (g : ℕ). header_newest (block_of now (header_block shape g))) (λ (g : ℕ). header_newest (block_of blocks (header_block shape g))) shape.segments (λ g there. ap header_newest (same g there))

@@ -5,7 +5,7 @@ use Rattle.rb_base.specs.Blocks.{block_of, table_blocks}
 use Rattle.rb_itl.specs.declared.slots.Entry.{Entry}
 use Rattle.rb_base.specs.Blocks.{header_block}
 use Rattle.rb_heap.specs.Soundness.{IsTaken, IsHomeSound}
-use Rattle.rb_sound.specs.Sound.{commit_number, wrap_at, IsSegment, AreSound}
+use Rattle.rb_sound.specs.Sound.{commit_scn, wrap_at, IsSegment, AreSound}
 use Rattle.rb_sound.proofs.Together.{AreAlike}
 
 taken_later : (shape : Shape) (commit later : ℕ) (wrap_of other : ℕ → ℕ → ℕ) (entry : Entry) → commit ≤ later → AreAlike shape wrap_of other → IsTaken shape commit wrap_of entry → IsTaken shape later other entry
@@ -35,14 +35,14 @@ segment_later commit later header le is = record {
   newest = λ e few. let most = is.newest e few in omega (arith, le, most);
 }
 
-pub all_kept : (shape : Shape) (blocks now : List (List ℕ)) → AreSound shape blocks → commit_number shape blocks ≤ commit_number shape now → AreAlike shape (wrap_at shape blocks) (wrap_at shape now)
-    → ((g : ℕ) → g < shape.segments → IsSegment (commit_number shape blocks) (block_of blocks (header_block shape g)) → IsSegment (commit_number shape now) (block_of now (header_block shape g)))
-    → ((b : ℕ) → b < table_blocks shape → IsHomeSound shape (commit_number shape blocks) (wrap_at shape blocks) (b % shape.blocks) (block_of blocks b)
-    → IsHomeSound shape (commit_number shape blocks) (wrap_at shape blocks) (b % shape.blocks) (block_of now b))
+pub all_kept : (shape : Shape) (blocks now : List (List ℕ)) → AreSound shape blocks → commit_scn shape blocks ≤ commit_scn shape now → AreAlike shape (wrap_at shape blocks) (wrap_at shape now)
+    → ((g : ℕ) → g < shape.segments → IsSegment (commit_scn shape blocks) (block_of blocks (header_block shape g)) → IsSegment (commit_scn shape now) (block_of now (header_block shape g)))
+    → ((b : ℕ) → b < table_blocks shape → IsHomeSound shape (commit_scn shape blocks) (wrap_at shape blocks) (b % shape.blocks) (block_of blocks b)
+    → IsHomeSound shape (commit_scn shape blocks) (wrap_at shape blocks) (b % shape.blocks) (block_of now b))
     → AreSound shape now
 all_kept shape blocks now sound le same segments homes = record {
   segments = λ g there. segments g there (sound.segments g there);
   homes = λ which lt.
-      home_later shape (commit_number shape blocks) (commit_number shape now) (wrap_at shape blocks) (wrap_at shape now) (which % shape.blocks) (block_of now which) le same
+      home_later shape (commit_scn shape blocks) (commit_scn shape now) (wrap_at shape blocks) (wrap_at shape now) (which % shape.blocks) (block_of now which) le same
       (homes which lt (sound.homes which lt));
 }

@@ -3,7 +3,7 @@ use Rattle.std.proofs.Common.{◌≡◌, ◌↔◌, ℕ, ◌<◌, Bool, true, Li
 use Rattle.rb_base.specs.declared.shape.Shape.{Shape}
 use Rattle.rb_itl.specs.declared.slots.Entry.{Entry}
 use Rattle.rb_heap.specs.Soundness.{IsTaken}
-use Rattle.rb_sound.specs.Sound.{commit_number, wrap_at, AreSegmentsSound, AreHomesSound, AreSound}
+use Rattle.rb_sound.specs.Sound.{commit_scn, wrap_at, AreSegmentsSound, AreHomesSound, AreSound}
 
 -- the two are alike at each slot of the segments of a file
 abbrev pub AreAlike : Shape → (ℕ → ℕ → ℕ) → (ℕ → ℕ → ℕ) → Type 0
@@ -28,7 +28,7 @@ homes_alike shape commit wrap_of other blocks same homes which lt =
       cells = home.cells;
     }
 
-pub all_sound : (shape : Shape) (blocks : List (List ℕ)) (commit : ℕ) (wrap_of : ℕ → ℕ → ℕ) (sound : Bool) → commit ≡ commit_number shape blocks → AreAlike shape wrap_of (wrap_at shape blocks) → AreSegmentsSound shape commit blocks
+pub all_sound : (shape : Shape) (blocks : List (List ℕ)) (commit : ℕ) (wrap_of : ℕ → ℕ → ℕ) (sound : Bool) → commit ≡ commit_scn shape blocks → AreAlike shape wrap_of (wrap_at shape blocks) → AreSegmentsSound shape commit blocks
     → (sound ≡ true ↔ AreHomesSound shape commit wrap_of blocks) → sound ≡ true ↔ AreSound shape blocks
 all_sound shape blocks commit wrap_of sound commit_is same segments is = (
   (λ (e : sound ≡ true). record {

@@ -9,13 +9,13 @@ use Rattle.rb_base.specs.declared.store.Store.{Ghosts}
 pub record OnlyLoads {S : Type 0} (s : Ghosts S) (old new : S) : Type 0 where
   pub same_shape : s.shape_of new ≡ s.shape_of old
   pub same_slots : s.slots new ≡ s.slots old
-  pub same_number : s.number new ≡ s.number old
+  pub same_number : s.lsn new ≡ s.lsn old
   pub same_blocks : s.tells → s.blocks new ≡ s.blocks old
-  pub same_pending : s.keeps → s.pending new ≡ s.pending old
-  pub still_stable : s.keeps → (b : List (List ℕ)) → s.stable old b → s.stable new b
-  pub no_more : s.keeps → NoMore (s.left old) (s.left new)
-  pub later : s.keeps → s.moment old ≤ s.moment new
-  pub nothing_else : s.keeps → (t : ℕ) (i : s.image) → t ≤ s.moment old → s.left_since new t i
+  pub same_pending : s.tells_crashes → s.pending new ≡ s.pending old
+  pub still_stable : s.tells_crashes → (b : List (List ℕ)) → s.stable old b → s.stable new b
+  pub no_more : s.tells_crashes → NoMore (s.left old) (s.left new)
+  pub later : s.tells_crashes → s.moment old ≤ s.moment new
+  pub nothing_else : s.tells_crashes → (t : ℕ) (i : s.image) → t ≤ s.moment old → s.left_since new t i
       → s.left_since old t i ⊎ s.left old i
 
 module _ {S : Type 0} (s : Ghosts S) where

@@ -79,16 +79,16 @@ abbrev pub header_newest : List ℕ → ℕ
 header_newest header = greatest (slot_newest header) 16
 
 -- the commit number of a file, the greatest that a table slot has
-abbrev pub commit_number : Shape → List (List ℕ) → ℕ
-commit_number shape blocks = greatest (λ g. header_newest (block_of blocks (header_block shape g))) shape.segments
+abbrev pub commit_scn : Shape → List (List ℕ) → ℕ
+commit_scn shape blocks = greatest (λ g. header_newest (block_of blocks (header_block shape g))) shape.segments
 
 -- the log number in front of the block that each commit patches
-abbrev pub commit_logged : Shape → List (List ℕ) → ℕ
-commit_logged shape blocks = number_at (block_of blocks (commit_block shape)) 0 8
+abbrev pub commit_lsn : Shape → List (List ℕ) → ℕ
+commit_lsn shape blocks = number_at (block_of blocks (commit_block shape)) 0 8
 
 -- the patch of a commit of that number, which becomes the newest of the first table slot of the first segment
-abbrev pub number_patch : Shape → ℕ → Patch
-number_patch shape number = patch (commit_block shape) 48 (big_bytes 8 number)
+abbrev pub scn_patch : Shape → ℕ → Patch
+scn_patch shape number = patch (commit_block shape) 48 (big_bytes 8 number)
 
 -- how often a slot of a segment had been taken, and the same in a table of them
 abbrev pub wrap_at : Shape → List (List ℕ) → ℕ → ℕ → ℕ
@@ -109,5 +109,5 @@ AreHomesSound shape commit wrap_of blocks = (which : ℕ) → which < table_bloc
 
 -- the blocks of a file are in order
 pub record AreSound (shape : Shape) (blocks : List (List ℕ)) : Type 0 where
-  pub segments : AreSegmentsSound shape (commit_number shape blocks) blocks
-  pub homes : AreHomesSound shape (commit_number shape blocks) (wrap_at shape blocks) blocks
+  pub segments : AreSegmentsSound shape (commit_scn shape blocks) blocks
+  pub homes : AreHomesSound shape (commit_scn shape blocks) (wrap_at shape blocks) blocks

@@ -7,7 +7,7 @@ ghost use Rattle.rb_base.specs.Counts.{IsCounted};
 ghost use Rattle.rb_sound.specs.Loads.{OnlyLoads};
 ghost use Rattle.rb_base.specs.Blocks.{header_block};
 ghost use Rattle.rb_heap.specs.Soundness.{IsHomeSound};
-ghost use Rattle.rb_sound.specs.Sound.{header_newest, commit_number, slot_wrap, wrap_at, wrap_in, IsSegment};
+ghost use Rattle.rb_sound.specs.Sound.{header_newest, commit_scn, slot_wrap, wrap_at, wrap_in, IsSegment};
 ghost use Rattle.rb_sound.specs.Sound.{AreSegmentsSound, AreHomesSound, AreSound};
 
 use crate::home::{Limits, home_sound};
@@ -56,10 +56,10 @@ fn header_newest<S: Store>(store: &mut S, shape: Shape, g: u16) -> Result<Scn, F
 }
 
 /// The greatest commit number that a table slot of the file has.
-pub fn commit_number_of<S: Store>(store: &mut S) -> Result<Scn, Failed>
+pub fn commit_scn_of<S: Store>(store: &mut S) -> Result<Scn, Failed>
     requires { S.failed store.old ≡ false }
     ensures told { S.tells → IfOk result (λ commit. commit
-        ≡ commit_number (S.shape_of store.old) (S.blocks store.old)) }
+        ≡ commit_scn (S.shape_of store.old) (S.blocks store.old)) }
     ensures only_loads { OnlyLoads S.Store store.old store.new }
     ensures failed { S.failed store.new ≡ is_err result }
     ensures counted { IsCounted (S.faults store.old) (S.faults store.new) result }
@@ -184,7 +184,7 @@ pub fn blocks_sound<S: Store>(store: &mut S) -> Result<bool, Failed>
     ensures failed { S.failed store.new ≡ is_err result }
     ensures counted { IsCounted (S.faults store.old) (S.faults store.new) result }
 {
-    let commit = commit_number_of(store)?;
+    let commit = commit_scn_of(store)?;
     if !segments_sound(store, commit)? {
         return Ok(false);
     }

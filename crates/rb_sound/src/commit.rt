@@ -5,7 +5,7 @@ ghost use Rattle.std.specs.Result.{is_err};
 ghost use Rattle.rb_base.specs.Blocks.{AreBlocks, IsShape};
 ghost use Rattle.rb_base.specs.Counts.{IsCounted};
 ghost use Rattle.rb_sound.specs.Loads.{OnlyLoads};
-ghost use Rattle.rb_sound.specs.Sound.{commit_logged, number_patch};
+ghost use Rattle.rb_sound.specs.Sound.{commit_lsn, scn_patch};
 
 use crate::blocks::header_block;
 use rb_base::{Failed, Group, Lsn, Scn, Shape, Store, put_u64, u64_at};
@@ -16,7 +16,7 @@ const NUMBER_AT: u16 = 48;
 /// The group of a commit of that number: one patch, into the first table slot of the first segment.
 pub fn commit_group(shape: Shape, number: Scn) -> Group
     requires { IsShape shape }
-    ensures { result ≡ number_patch shape number ∷ [] }
+    ensures { result ≡ scn_patch shape number ∷ [] }
 {
     let mut bytes = [0; 8];
     put_u64(&mut bytes, 0, number);
@@ -26,10 +26,10 @@ pub fn commit_group(shape: Shape, number: Scn) -> Group
 }
 
 /// The log number of the block that each commit patches.
-pub fn commit_logged_of<S: Store>(store: &mut S) -> Result<Lsn, Failed>
+pub fn commit_lsn_of<S: Store>(store: &mut S) -> Result<Lsn, Failed>
     requires { S.failed store.old ≡ false }
     ensures told { S.tells → IfOk result (λ logged. logged
-        ≡ commit_logged (S.shape_of store.old) (S.blocks store.old)) }
+        ≡ commit_lsn (S.shape_of store.old) (S.blocks store.old)) }
     ensures whole { S.tells → OnOk result (AreBlocks (S.shape_of store.old) (S.blocks store.old)) }
     ensures only_loads { OnlyLoads S.Store store.old store.new }
     ensures failed { S.failed store.new ≡ is_err result }

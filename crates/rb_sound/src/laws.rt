@@ -8,16 +8,16 @@ ghost use Rattle.rb_cell.specs.Cells.{cell_at, cell_patch, IsCell};
 ghost use Rattle.rb_heap.specs.Homes.{is_keyed};
 ghost use Rattle.rb_base.specs.Blocks.{header_block};
 ghost use Rattle.rb_heap.specs.Soundness.{IsHomeSound};
-ghost use Rattle.rb_sound.specs.Sound.{slot_newest, commit_logged, commit_number, number_patch, AreHomesSound};
+ghost use Rattle.rb_sound.specs.Sound.{slot_newest, commit_lsn, commit_scn, scn_patch, AreHomesSound};
 ghost use Rattle.rb_sound.specs.Sound.{AreSound};
 
 /// The commit number of a file is the least that no table slot's newest is above.
 pub fn commit_greatest()
     ensures none_above { (shape : Shape) (blocks : List (List ℕ)) (g i : ℕ) → g < shape.segments → i < 16
-        → slot_newest (block_of blocks (header_block shape g)) i ≤ commit_number shape blocks }
+        → slot_newest (block_of blocks (header_block shape g)) i ≤ commit_scn shape blocks }
     ensures least { (shape : Shape) (blocks : List (List ℕ)) (n : ℕ)
         → ((g i : ℕ) → g < shape.segments → i < 16 → slot_newest (block_of blocks (header_block shape g)) i
-        ≤ n) → commit_number shape blocks ≤ n }
+        ≤ n) → commit_scn shape blocks ≤ n }
 {}
 
 /// Where all blocks of rows are in order, so is the block of each home of each table, which are counted from 1.
@@ -44,11 +44,11 @@ pub fn cell_written()
         → is_keyed cell.key (cell_at (block_of blocks which) other) ≡ false)
         → AreSound shape (after_group number (cell_patch which c cell ∷ []) blocks) }
     ensures commit { (shape : Shape) (blocks : List (List ℕ)) (number which c : ℕ) (cell : Cell)
-        → which < table_blocks shape → commit_number shape
-        (after_group number (cell_patch which c cell ∷ []) blocks) ≡ commit_number shape blocks }
+        → which < table_blocks shape → commit_scn shape
+        (after_group number (cell_patch which c cell ∷ []) blocks) ≡ commit_scn shape blocks }
     ensures logged { (shape : Shape) (blocks : List (List ℕ)) (number which c : ℕ) (cell : Cell)
-        → which < table_blocks shape → commit_logged shape
-        (after_group number (cell_patch which c cell ∷ []) blocks) ≡ commit_logged shape blocks }
+        → which < table_blocks shape → commit_lsn shape
+        (after_group number (cell_patch which c cell ∷ []) blocks) ≡ commit_lsn shape blocks }
     ensures other { (blocks : List (List ℕ)) (number which c b : ℕ) (cell : Cell) → b ≢ which
         → block_of (after_group number (cell_patch which c cell ∷ []) blocks) b ≡ block_of blocks b }
 {}
@@ -57,14 +57,14 @@ pub fn cell_written()
 /// no block of rows changes.
 pub fn commit_written()
     ensures sound { (shape : Shape) (blocks : List (List ℕ)) (number n : ℕ) → IsShape shape
-        → AreBlocks shape blocks → AreSound shape blocks → commit_number shape blocks ≡ n → n + 1 < 2 ^ 64
-        → AreSound shape (after_group number (number_patch shape (n + 1) ∷ []) blocks) }
+        → AreBlocks shape blocks → AreSound shape blocks → commit_scn shape blocks ≡ n → n + 1 < 2 ^ 64
+        → AreSound shape (after_group number (scn_patch shape (n + 1) ∷ []) blocks) }
     ensures commit { (shape : Shape) (blocks : List (List ℕ)) (number n : ℕ) → IsShape shape
-        → AreBlocks shape blocks → commit_number shape blocks ≡ n → n + 1 < 2 ^ 64
-        → commit_number shape (after_group number (number_patch shape (n + 1) ∷ []) blocks) ≡ n + 1 }
+        → AreBlocks shape blocks → commit_scn shape blocks ≡ n → n + 1 < 2 ^ 64
+        → commit_scn shape (after_group number (scn_patch shape (n + 1) ∷ []) blocks) ≡ n + 1 }
     ensures number { (shape : Shape) (blocks : List (List ℕ)) (number n : ℕ) → IsShape shape
         → AreBlocks shape blocks → number < 2 ^ 64
-        → commit_logged shape (after_group number (number_patch shape (n + 1) ∷ []) blocks) ≡ number }
+        → commit_lsn shape (after_group number (scn_patch shape (n + 1) ∷ []) blocks) ≡ number }
     ensures rows { (shape : Shape) (blocks : List (List ℕ)) (number n b : ℕ) → b < table_blocks shape
-        → block_of (after_group number (number_patch shape (n + 1) ∷ []) blocks) b ≡ block_of blocks b }
+        → block_of (after_group number (scn_patch shape (n + 1) ∷ []) blocks) b ≡ block_of blocks b }
 {}

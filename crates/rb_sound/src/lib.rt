@@ -8,8 +8,8 @@ mod home;
 mod laws;
 mod segment;
 
-pub use blocks::{blocks_sound, commit_number_of};
-pub use commit::{commit_group, commit_logged_of};
+pub use blocks::{blocks_sound, commit_scn_of};
+pub use commit::{commit_group, commit_lsn_of};
 pub use home::{Limits, home_sound};
 pub use laws::{cell_written, commit_greatest, commit_written, fresh_sound, homes_by_table};
 pub use segment::segment_sound;

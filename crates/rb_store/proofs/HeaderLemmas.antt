@@ -16,26 +16,26 @@ use Rattle.rb_log.specs.GroupSlots.{GroupsAre}
 use Rattle.rb_store.specs.Laps.{OpensAt, committed_groups}
 
 -- a patch writes it in its own block alone
-patch_here : (number : ℕ) (p : Patch) (blocks : List (List ℕ)) (which : ℕ) → number ≤ 4096 → which < length blocks → p.block ≡ which → number_at (block_of (after_patch number p blocks) which) 0 8 ≡ number
-patch_here number p blocks which few lt is =
-    ap (λ (block : List ℕ). number_at block 0 8) (get_or-set_at blocks p.block which (patched number p (block_of blocks p.block)) [] (sym is) (omega (arith, lt, is))) ∙ patched_number number p (block_of blocks p.block) few
+patch_here : (lsn : ℕ) (p : Patch) (blocks : List (List ℕ)) (which : ℕ) → lsn ≤ 4096 → which < length blocks → p.block ≡ which → number_at (block_of (after_patch lsn p blocks) which) 0 8 ≡ lsn
+patch_here lsn p blocks which few lt is =
+    ap (λ (block : List ℕ). number_at block 0 8) (get_or-set_at blocks p.block which (patched lsn p (block_of blocks p.block)) [] (sym is) (omega (arith, lt, is))) ∙ patched_number lsn p (block_of blocks p.block) few
 
 -- what is there already stays
-group_keeps : (number : ℕ) (group : List Patch) (blocks : List (List ℕ)) (which : ℕ) → number ≤ 4096 → which < length blocks → number_at (block_of blocks which) 0 8 ≡ number → number_at (block_of (after_group number group blocks) which) 0 8 ≡ number
-group_keeps number [] blocks which few lt is = is
-group_keeps number (p ∷ patches) blocks which few lt is =
-    group_keeps number patches (after_patch number p blocks) which few (omega (arith, lt, patch_count number p blocks))
-    (⊎_elim (λ here. patch_here number p blocks which few lt here) (λ other. ap (λ (block : List ℕ). number_at block 0 8) (patch_others number p blocks which (λ is. other (sym is))) ∙ is) (cases_eq p.block which))
+group_keeps : (lsn : ℕ) (group : List Patch) (blocks : List (List ℕ)) (which : ℕ) → lsn ≤ 4096 → which < length blocks → number_at (block_of blocks which) 0 8 ≡ lsn → number_at (block_of (after_group lsn group blocks) which) 0 8 ≡ lsn
+group_keeps lsn [] blocks which few lt is = is
+group_keeps lsn (p ∷ patches) blocks which few lt is =
+    group_keeps lsn patches (after_patch lsn p blocks) which few (omega (arith, lt, patch_count lsn p blocks))
+    (⊎_elim (λ here. patch_here lsn p blocks which few lt here) (λ other. ap (λ (block : List ℕ). number_at block 0 8) (patch_others lsn p blocks which (λ is. other (sym is))) ∙ is) (cases_eq p.block which))
 
 -- a group that patches the block leaves its number there
-group_numbers : (number : ℕ) (group : List Patch) (blocks : List (List ℕ)) (which : ℕ) → number ≤ 4096 → which < length blocks → patches_block which group ≡ true → number_at (block_of (after_group number group blocks) which) 0 8 ≡ number
-group_numbers number [] blocks which few lt commits = absurd (cc)
-group_numbers number (p ∷ patches) blocks which few lt commits =
-    let now = after_patch number p blocks in
-    let below : which < length now = omega (arith, lt, patch_count number p blocks) in
+group_numbers : (lsn : ℕ) (group : List Patch) (blocks : List (List ℕ)) (which : ℕ) → lsn ≤ 4096 → which < length blocks → patches_block which group ≡ true → number_at (block_of (after_group lsn group blocks) which) 0 8 ≡ lsn
+group_numbers lsn [] blocks which few lt commits = absurd (cc)
+group_numbers lsn (p ∷ patches) blocks which few lt commits =
+    let now = after_patch lsn p blocks in
+    let below : which < length now = omega (arith, lt, patch_count lsn p blocks) in
     elim (cases_Bool (p.block == which)) [
-      | inl e ↦ group_keeps number patches now which few below (patch_here number p blocks which few lt (eqb-true p.block which e))
-      | inr e ↦ group_numbers number patches now which few below (sym (ap (λ (b : Bool). b || list_any (λ (q : Patch). q.block == which) patches) e) ∙ commits)
+      | inl e ↦ group_keeps lsn patches now which few below (patch_here lsn p blocks which few lt (eqb-true p.block which e))
+      | inr e ↦ group_numbers lsn patches now which few below (sym (ap (λ (b : Bool). b || list_any (λ (q : Patch). q.block == which) patches) e) ∙ commits)
     ]
 
 -- groups up to a last commit leave its number there
@@ -79,8 +79,8 @@ kept_number shape [] few lt whole =
 kept_number shape (group ∷ groups) few lt whole =
     groups_number 1 group groups (fresh_blocks shape) (commit_block shape) (omega (arith, few)) (omega (arith, lt, fresh_count shape 0 (shape_blocks shape))) whole ∙ omega arith
 
-pub header_is_last : (l : Layout) (file : List ℕ) (blocks : List (List ℕ)) (number : ℕ) → OpensAt l file blocks number → number_at (block_of blocks (commit_block (shape_of l))) 0 8 ≡ number
-header_is_last l file blocks number at =
+pub header_is_last : (l : Layout) (file : List ℕ) (blocks : List (List ℕ)) (lsn : ℕ) → OpensAt l file blocks lsn → number_at (block_of blocks (commit_block (shape_of l))) 0 8 ≡ lsn
+header_is_last l file blocks lsn at =
     let shape = shape_of l in
     let groups = at.opens.groups in
     let kept = committed_groups shape groups in

@@ -38,43 +38,43 @@ opens_behind l groups some b c first whole made e lap = record {
 }
 
 -- the number of the first group that waits
-pub first_waiting : (number groups pending : ℕ) → groups + pending ≡ number → number + 1 - pending ≡ 1 + groups
-first_waiting number groups pending e = omega (arith, e)
+pub first_waiting : (lsn groups pending : ℕ) → groups + pending ≡ lsn → lsn + 1 - pending ≡ 1 + groups
+first_waiting lsn groups pending e = omega (arith, e)
 
 module _ {D : Type 0} (content : D → List ℕ) (image : D → List ℕ → Type 0) where
   -- what a flush leaves at any moment
   pub flush_leaves : (s : LapState D) (b : List (List ℕ)) (c : List ℕ) → IsStable content image s b → (gs : List (List Patch)) → FlushedSome (image s.disk) s.layout gs s.pending c → (st : IsStable content image s b) → gs ≡ st.groups
-      → (now : List (List ℕ)) × Opens (shape_of s.layout) (Some s.layout.log) c now × AfterSome (commit_block (shape_of s.layout)) s.number s.pending b now
+      → (now : List (List ℕ)) × Opens (shape_of s.layout) (Some s.layout.log) c now × AfterSome (commit_block (shape_of s.layout)) s.lsn s.pending b now
   flush_leaves s b c _ gs some st e =
       let l = s.layout in
       let lap : IsLap l (st.groups ++ take (32 * some.units) s.pending) c = record {
         identity = same_identity l some.outside.0 c some.outside.2 (st.images some.outside.0 some.outside.1).identity;
         log = subst (λ (g : List (List Patch)). GroupsAre l c 0 (g ++ take (32 * some.units) s.pending)) e some.log;
       } in
-      let first = s.number + 1 - length s.pending in
+      let first = s.lsn + 1 - length s.pending in
       let now = after_groups first (committed_groups (shape_of l) (take (32 * some.units) s.pending)) b in
-      let opens : OpensTo l c now = opens_behind l st.groups (take (32 * some.units) s.pending) b c first st.whole st.made (first_waiting s.number (length st.groups) (length s.pending) st.count) lap in
+      let opens : OpensTo l c now = opens_behind l st.groups (take (32 * some.units) s.pending) b c first st.whole st.made (first_waiting s.lsn (length st.groups) (length s.pending) st.count) lap in
       (now, record { layout = l; shape_is = refl; slots_are = refl; opens = opens }, record { count = 32 * some.units; made = refl })
 
   -- a file that has the groups that waited behind those of before
   pub flush_opens : (s : LapState D) (b : List (List ℕ)) (c : List ℕ) → (st : IsStable content image s b) → IsLap s.layout (st.groups ++ s.pending) c
-      → Opens (shape_of s.layout) (Some s.layout.log) c (after_kept (commit_block (shape_of s.layout)) s.number s.pending b)
+      → Opens (shape_of s.layout) (Some s.layout.log) c (after_kept (commit_block (shape_of s.layout)) s.lsn s.pending b)
   flush_opens s b c st lap = record {
     layout = s.layout;
     shape_is = refl;
     slots_are = refl;
-    opens = opens_behind s.layout st.groups s.pending b c (s.number + 1 - length s.pending) st.whole st.made (first_waiting s.number (length st.groups) (length s.pending) st.count) lap;
+    opens = opens_behind s.layout st.groups s.pending b c (s.lsn + 1 - length s.pending) st.whole st.made (first_waiting s.lsn (length st.groups) (length s.pending) st.count) lap;
   }
 
   -- where they end in a commit they are stable then
-  pub flush_stable : (s new : LapState D) (b : List (List ℕ)) → (st : IsStable content image s b) → committed_groups (shape_of s.layout) s.pending ≡ s.pending → new.layout ≡ s.layout → new.blocks ≡ s.blocks → new.pending ≡ [] → new.number ≡ s.number
+  pub flush_stable : (s new : LapState D) (b : List (List ℕ)) → (st : IsStable content image s b) → committed_groups (shape_of s.layout) s.pending ≡ s.pending → new.layout ≡ s.layout → new.blocks ≡ s.blocks → new.pending ≡ [] → new.lsn ≡ s.lsn
       → IsLap s.layout (st.groups ++ s.pending) (content new.disk) → ((c : List ℕ) → image new.disk c → IsLap s.layout (st.groups ++ s.pending) c) → IsStable content image new new.blocks
-  flush_stable s new b st ends layout blocks pending number file images =
+  flush_stable s new b st ends layout blocks pending lsn file images =
       let all = st.groups ++ s.pending in
       let lap : (c : List ℕ) → IsLap s.layout all c → IsLap new.layout all c = λ c h. subst (λ (l : Layout). IsLap l all c) (sym layout) h in
       record {
         groups = all;
-        count = let l = length-append st.groups s.pending in let p = ap length pending in omega (arith, l, p, st.count, number);
+        count = let l = length-append st.groups s.pending in let p = ap length pending in omega (arith, l, p, st.count, lsn);
         whole = ap (λ (l : Layout). committed_groups (shape_of l) all) layout ∙ behind_commit (commit_block (shape_of s.layout)) st.groups s.pending st.whole ∙ ap (λ (gs : List (List Patch)). st.groups ++ gs) ends;
         made = blocks ∙ st.patched ∙ ap (λ (bs : List (List ℕ)). after_groups (length st.groups + 1) s.pending bs) st.made
             ∙ ap (λ (n : ℕ). after_groups n s.pending (after_groups 1 st.groups (fresh_blocks (shape_of s.layout)))) (omega arith)
@@ -85,14 +85,14 @@ module _ {D : Type 0} (content : D → List ℕ) (image : D → List ℕ → Typ
       }
 
   -- one group more that waits
-  pub apply_stable : (s new : LapState D) (b : List (List ℕ)) (group : List Patch) → IsStable content image s b → new.layout ≡ s.layout → new.blocks ≡ after_group (s.number + 1) group s.blocks → new.pending ≡ s.pending ++ group ∷ []
-      → new.number ≡ s.number + 1 → new.disk ≡ s.disk → IsStable content image new b
-  apply_stable s new b group st layout blocks pending number disk = record {
+  pub apply_stable : (s new : LapState D) (b : List (List ℕ)) (group : List Patch) → IsStable content image s b → new.layout ≡ s.layout → new.blocks ≡ after_group (s.lsn + 1) group s.blocks → new.pending ≡ s.pending ++ group ∷ []
+      → new.lsn ≡ s.lsn + 1 → new.disk ≡ s.disk → IsStable content image new b
+  apply_stable s new b group st layout blocks pending lsn disk = record {
     groups = st.groups;
-    count = let p = ap length pending in let l = length-append s.pending (group ∷ []) in omega (arith, p, l, number, st.count);
+    count = let p = ap length pending in let l = length-append s.pending (group ∷ []) in omega (arith, p, l, lsn, st.count);
     whole = ap (λ (l : Layout). committed_groups (shape_of l) st.groups) layout ∙ st.whole;
     made = st.made ∙ ap (λ (l : Layout). after_groups 1 st.groups (fresh_blocks (shape_of l))) (sym layout);
-    patched = blocks ∙ ap (λ (bs : List (List ℕ)). after_group (s.number + 1) group bs) st.patched
+    patched = blocks ∙ ap (λ (bs : List (List ℕ)). after_group (s.lsn + 1) group bs) st.patched
         ∙ ap (λ (n : ℕ). after_group n group (after_groups (length st.groups + 1) s.pending b)) (omega (arith, st.count))
         ∙ sym (after_joined (length st.groups + 1) s.pending (group ∷ []) b) ∙ ap (λ (gs : List (List Patch)). after_groups (length st.groups + 1) gs b) (sym pending);
     file = subst (λ (l : Layout). IsLap l st.groups (content new.disk)) (sym layout) (subst (λ (d : D). IsLap s.layout st.groups (content d)) (sym disk) st.file);
@@ -102,9 +102,9 @@ module _ {D : Type 0} (content : D → List ℕ) (image : D → List ℕ → Typ
   module _ (moment : D → ℕ) (since : D → ℕ → List ℕ → Type 0) where
     -- the same of the disk's moments
     pub flush_moments : (s new : LapState D) (b : List (List ℕ)) → (st : IsStable content image s b) → LeavesOnly moment since s.disk new.disk (FlushedSome (image s.disk) s.layout st.groups s.pending)
-        → LeavesOnly (λ (x : LapState D). moment x.disk) (λ (x : LapState D) t c. since x.disk t c) s new (λ i. (now : List (List ℕ)) × Opens (shape_of s.layout) (Some s.layout.log) i now × AfterSome (commit_block (shape_of s.layout)) s.number s.pending b now)
+        → LeavesOnly (λ (x : LapState D). moment x.disk) (λ (x : LapState D) t c. since x.disk t c) s new (λ i. (now : List (List ℕ)) × Opens (shape_of s.layout) (Some s.layout.log) i now × AfterSome (commit_block (shape_of s.layout)) s.lsn s.pending b now)
     flush_moments s new b st leaves =
-        let w = weaker moment since s.disk new.disk (FlushedSome (image s.disk) s.layout st.groups s.pending) (λ i. (now : List (List ℕ)) × Opens (shape_of s.layout) (Some s.layout.log) i now × AfterSome (commit_block (shape_of s.layout)) s.number s.pending b now)
+        let w = weaker moment since s.disk new.disk (FlushedSome (image s.disk) s.layout st.groups s.pending) (λ i. (now : List (List ℕ)) × Opens (shape_of s.layout) (Some s.layout.log) i now × AfterSome (commit_block (shape_of s.layout)) s.lsn s.pending b now)
         (λ c some. flush_leaves s b c st st.groups some st refl) leaves in
         record { later = w.later; each = w.each; earlier = w.earlier }
 

@@ -24,10 +24,10 @@ pub whole_kept : (shape : Shape) (groups waiting : List (List Patch)) → commit
 whole_kept shape groups waiting e = ap (committed_groups shape) (sym e) ∙ cut_twice (commit_block shape) (groups ++ waiting) ∙ e
 
 -- what was scanned to its end is what the file opens to
-pub scanned_opens : (told : Type 0) (l : Layout) (file : List ℕ) (plain : PlainState) (log : LogState) (waiting : List (List Patch)) → HasIdentity file_version l file → HasScannedAll told l file plain log waiting → told → OpensAt l file plain.blocks plain.number
+pub scanned_opens : (told : Type 0) (l : Layout) (file : List ℕ) (plain : PlainState) (log : LogState) (waiting : List (List Patch)) → HasIdentity file_version l file → HasScannedAll told l file plain log waiting → told → OpensAt l file plain.blocks plain.lsn
 scanned_opens told l file plain log waiting id h t = record {
   opens = kept_opens l file (h.groups ++ waiting) h.groups plain.blocks (record { identity = id; log = h.ends t }) h.whole h.blocks;
-  last = ap length h.whole ∙ sym h.number;
+  last = ap length h.whole ∙ sym h.lsn;
 }
 
 -- an image of a drop opens to what is kept

@@ -33,7 +33,7 @@ scan_waits told l file before now old new waiting left group h used log ahead lt
       groups = h.groups;
       log_is = log ∙ ap (λ (x : LogState). record x { used = x.used + 1; ahead = new.ahead }) h.log_is ∙ ap (λ (n : ℕ). record { layout = l; used = n; pending = []; scanned = false; ahead = new.ahead }) (omega (arith, count, long));
       shape_is = ap (λ (p : PlainState). p.shape) same ∙ h.shape_is;
-      number = ap (λ (p : PlainState). p.number) same ∙ h.number;
+      lsn = ap (λ (p : PlainState). p.lsn) same ∙ h.lsn;
       blocks = ap (λ (p : PlainState). p.blocks) same ∙ h.blocks;
       whole = ap (λ (gs : List (List Patch)). committed_groups (shape_of l) (h.groups ++ gs)) more
           ∙ ap (λ (gs : List (List Patch)). committed_groups (shape_of l) gs) (sym (append_assoc h.groups waiting (group ∷ [])))
@@ -47,8 +47,8 @@ scan_waits told l file before now old new waiting left group h used log ahead lt
 -- it is a commit, and all that wait are put into the blocks
 scan_commits : (told : Type 0) (l : Layout) (file : List ℕ) (before now : PlainState) (old new : LogState) (waiting left : List (List Patch)) (group : List Patch) → (scanned : HasScanned told l file before old waiting) → old.used ≡ length scanned.groups + length waiting
     → new ≡ record old { used = old.used + 1; ahead = new.ahead } → (told → AreFrom file new.used new.ahead) → old.used + 1 < l.log → (told → HoldsGroup l (slot_at file old.used) (old.used + 1) group) → patches_block (commit_block (shape_of l)) group ≡ true → now.shape ≡ before.shape
-    → now.blocks ≡ after_groups (before.number + 1) (waiting ++ group ∷ []) before.blocks → now.number ≡ before.number + length waiting + 1 → left ≡ [] → HasScanned told l file now new left
-scan_commits told l file before now old new waiting left group h used log ahead lt holds commit shape blocks number none =
+    → now.blocks ≡ after_groups (before.lsn + 1) (waiting ++ group ∷ []) before.blocks → now.lsn ≡ before.lsn + length waiting + 1 → left ≡ [] → HasScanned told l file now new left
+scan_commits told l file before now old new waiting left group h used log ahead lt holds commit shape blocks lsn none =
     let all = h.groups ++ (waiting ++ group ∷ []) in
     let behind = length-append waiting (group ∷ []) in
     let count = length-append h.groups (waiting ++ group ∷ []) in
@@ -58,8 +58,8 @@ scan_commits told l file before now old new waiting left group h used log ahead 
       groups = all;
       log_is = log ∙ ap (λ (x : LogState). record x { used = x.used + 1; ahead = new.ahead }) h.log_is ∙ ap (λ (n : ℕ). record { layout = l; used = n; pending = []; scanned = false; ahead = new.ahead }) (omega (arith, count, behind, nothing));
       shape_is = shape ∙ h.shape_is;
-      number = omega (arith, number, h.number, count, behind);
-      blocks = blocks ∙ ap (λ (n : ℕ). after_groups (n + 1) (waiting ++ group ∷ []) before.blocks) h.number ∙ ap (λ (b : List (List ℕ)). after_groups (length h.groups + 1) (waiting ++ group ∷ []) b) h.blocks
+      lsn = omega (arith, lsn, h.lsn, count, behind);
+      blocks = blocks ∙ ap (λ (n : ℕ). after_groups (n + 1) (waiting ++ group ∷ []) before.blocks) h.lsn ∙ ap (λ (b : List (List ℕ)). after_groups (length h.groups + 1) (waiting ++ group ∷ []) b) h.blocks
           ∙ ap (λ (n : ℕ). after_groups n (waiting ++ group ∷ []) (after_groups 1 h.groups (fresh_blocks (shape_of l)))) (omega arith) ∙ sym (after_joined 1 h.groups (waiting ++ group ∷ []) (fresh_blocks (shape_of l)));
       whole = ap (λ (gs : List (List Patch)). committed_groups (shape_of l) gs) (whole_all ∙ sym (append_assoc h.groups waiting (group ∷ [])))
           ∙ commit_behind (commit_block (shape_of l)) (h.groups ++ waiting) group commit ∙ append_assoc h.groups waiting (group ∷ []);
@@ -79,7 +79,7 @@ scan_more told l file before now old new waiting left group h log ahead lt valid
     used = ap (λ (x : LogState). x.used) h.log_is
 
     from : (b : Bool) → patches_block (commit_block (shape_of l)) group ≡ b → HasScanned told l file now new left
-    from true e = scan_commits told l file before now old new waiting left group h used log ahead lt holds e shape (takes.blocks e) (takes.number e) (takes.none_left e)
+    from true e = scan_commits told l file before now old new waiting left group h used log ahead lt holds e shape (takes.blocks e) (takes.lsn e) (takes.none_left e)
     from false e = scan_waits told l file before now old new waiting left group h used log ahead lt valid holds e (takes.waits e).0 (takes.waits e).1
 
 -- the end of the log
@@ -89,7 +89,7 @@ scan_end told l file plain old new waiting h log ended = record {
   groups = h.groups;
   log_is = log ∙ ap (λ (x : LogState). record x { scanned = true; ahead = [] }) h.log_is;
   shape_is = h.shape_is;
-  number = h.number;
+  lsn = h.lsn;
   blocks = h.blocks;
   whole = h.whole;
   few = h.few;

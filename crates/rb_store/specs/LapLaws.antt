@@ -35,5 +35,5 @@ module _ {D : Type 0} (content : D → List ℕ) (image : D → List ℕ → Typ
 
   -- and patched by the groups that wait it is what is read
   pub stable_patched : (s : LapState D) (b : List (List ℕ)) → IsStable content image s b
-      → s.blocks ≡ after_pending s.number s.pending b
+      → s.blocks ≡ after_pending s.lsn s.pending b
   stable_patched s b st = st.patched ∙ ap (λ (n : ℕ). after_groups n s.pending b) (omega (arith, st.count))

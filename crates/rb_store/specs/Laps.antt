@@ -23,9 +23,9 @@ pub record OpensTo (l : Layout) (file : List ℕ) (blocks : List (List ℕ)) : T
   pub made : blocks ≡ after_groups 1 (committed_groups (shape_of l) groups) (fresh_blocks (shape_of l))
 
 -- The same, and the last log number of these groups.
-pub record OpensAt (l : Layout) (file : List ℕ) (blocks : List (List ℕ)) (number : ℕ) : Type 0 where
+pub record OpensAt (l : Layout) (file : List ℕ) (blocks : List (List ℕ)) (lsn : ℕ) : Type 0 where
   pub opens : OpensTo l file blocks
-  pub last : length (committed_groups (shape_of l) opens.groups) ≡ number
+  pub last : length (committed_groups (shape_of l) opens.groups) ≡ lsn
 
 -- what a file opens to, by the shape and the slots of the layout
 pub record Opens (shape : Shape) (slots : Option ℕ) (file : List ℕ) (blocks : List (List ℕ)) : Type 0 where
@@ -41,7 +41,7 @@ pub record LapState (D : Type 0) : Type 0 where
   -- the groups that wait for a flush
   pub pending : List (List Patch)
   -- the last log number given
-  pub number : ℕ
+  pub lsn : ℕ
   pub loaded : Option ℕ
   pub failed : Bool
   pub disk : D
@@ -51,7 +51,7 @@ pub record LapState (D : Type 0) : Type 0 where
 pub record IsStable {D : Type 0} (content : D → List ℕ) (image : D → List ℕ
     → Type 0) (s : LapState D) (blocks : List (List ℕ)) : Type 0 where
   pub groups : List (List Patch)
-  pub count : length groups + length s.pending ≡ s.number
+  pub count : length groups + length s.pending ≡ s.lsn
   pub whole : committed_groups (shape_of s.layout) groups ≡ groups
   pub made : blocks ≡ after_groups 1 groups (fresh_blocks (shape_of s.layout))
   pub patched : s.blocks ≡ after_groups (length groups + 1) s.pending blocks

@@ -16,9 +16,9 @@ same_shape l m s = let t = s.tables in let b = s.blocks in let g = s.segments in
 
 -- what is said of a layout goes for one of the same numbers
 
-group_moves : (l m : Layout) (unit : List ℕ) (number : ℕ) (group : List Patch) → shape_of l ≡ shape_of m
-    → HoldsGroup l unit number group → HoldsGroup m unit number group
-group_moves l m unit number group same h = record {
+group_moves : (l m : Layout) (unit : List ℕ) (lsn : ℕ) (group : List Patch) → shape_of l ≡ shape_of m
+    → HoldsGroup l unit lsn group → HoldsGroup m unit lsn group
+group_moves l m unit lsn group same h = record {
   opened = h.opened;
   body = record {
     numbered = h.body.numbered;

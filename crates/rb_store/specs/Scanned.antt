@@ -25,7 +25,7 @@ pub record HasScanned (told : Type 0) (l : Layout) (file : List ℕ) (plain : Pl
         = log.ahead;
   }
   pub shape_is : plain.shape ≡ shape_of l
-  pub number : plain.number ≡ length groups
+  pub lsn : plain.lsn ≡ length groups
   pub blocks : plain.blocks ≡ after_groups 1 groups (fresh_blocks (shape_of l))
   pub whole : committed_groups (shape_of l) (groups ++ waiting) ≡ groups
   pub few : length groups + length waiting < l.log
@@ -38,8 +38,8 @@ pub record Takes (commit : ℕ) (before now : PlainState) (waiting : List (List 
     (left : List (List Patch)) : Type 0 where
   pub waits : patches_block commit group ≡ false → (now ≡ before) × (left ≡ waiting ++ group ∷ [])
   pub blocks : patches_block commit group ≡ true → now.blocks
-      ≡ after_groups (before.number + 1) (waiting ++ group ∷ []) before.blocks
-  pub number : patches_block commit group ≡ true → now.number ≡ before.number + length waiting + 1
+      ≡ after_groups (before.lsn + 1) (waiting ++ group ∷ []) before.blocks
+  pub lsn : patches_block commit group ≡ true → now.lsn ≡ before.lsn + length waiting + 1
   pub none_left : patches_block commit group ≡ true → left ≡ []
 
 -- The log is scanned to its end, as `HasScanned` says: the file has these groups and no more.
@@ -55,7 +55,7 @@ pub record HasScannedAll (told : Type 0) (l : Layout) (file : List ℕ) (plain :
         [];
   }
   pub shape_is : plain.shape ≡ shape_of l
-  pub number : plain.number ≡ length groups
+  pub lsn : plain.lsn ≡ length groups
   pub blocks : plain.blocks ≡ after_groups 1 groups (fresh_blocks (shape_of l))
   pub whole : committed_groups (shape_of l) (groups ++ waiting) ≡ groups
   pub few : length groups + length waiting < l.log
@@ -67,7 +67,7 @@ pub record HasOpened {D : Type 0} (told : Type 0) (content : D → List ℕ) (im
   pub groups : List (List Patch)
   pub log_is : log ≡ record { layout = l; used = length groups; pending = []; scanned = true; ahead = [] }
   pub shape_is : plain.shape ≡ shape_of l
-  pub number : plain.number ≡ length groups
+  pub lsn : plain.lsn ≡ length groups
   pub blocks : plain.blocks ≡ after_groups 1 groups (fresh_blocks (shape_of l))
   pub whole : committed_groups (shape_of l) groups ≡ groups
   pub few : length groups < l.log

@@ -33,7 +33,7 @@ pub fn format<D: Disk>(disk: &mut D, layout: &Layout) -> Result<(), FormatFault>
     ensures was_empty { D.tells → OnOk result (length (D.content disk.old) ≡ 0) }
     ensures not_empty { D.tells → IsErrOf result FormatFault.NotEmpty → 0 < length (D.content disk.old) }
     ensures unchanged { D.tells → 0 < length (D.content disk.old)
-        → Rests D.content D.image D.moment D.image_since disk.old disk.new }
+        → Rests D.Disk disk.old disk.new }
     ensures counted { IsCountedAs (D.faults disk.old) (D.faults disk.new) (err_is is_format_failed result) }
 {
     let Ok(length) = disk.len() else {

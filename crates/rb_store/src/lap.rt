@@ -40,8 +40,8 @@ impl<D: Disk> Model for LapStore<D> {
       layout = s.layout;
       blocks = s.plain.blocks;
       pending = s.log.pending;
-      number =
-          s.plain.number;
+      lsn =
+          s.plain.lsn;
       loaded = s.plain.loaded;
       failed = s.failed;
       disk = s.disk;
@@ -77,7 +77,7 @@ impl<D: Disk> Store for LapStore<D> {
 
     ghost tells = { Unit {0} };
 
-    ghost keeps = { D.tells };
+    ghost tells_crashes = { D.tells };
 
     ghost shape_of = { λ s. layout_shape s.layout };
 
@@ -87,7 +87,7 @@ impl<D: Disk> Store for LapStore<D> {
 
     ghost pending = { λ s. s.pending };
 
-    ghost number = { λ s. s.number };
+    ghost lsn = { λ s. s.lsn };
 
     ghost loaded = { λ s. s.loaded };
 

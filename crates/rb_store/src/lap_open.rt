@@ -48,9 +48,9 @@ fn is_commit(group: &Group, commit: BlockNo) -> bool
 fn apply_all(plain: &mut PlainStore, groups: &[Group], layout: &Layout)
     requires shape { plain.old.shape ≡ shape_of layout.now }
     requires each { AllByRecursion (IsLoggable layout.now) groups.now }
-    requires few { plain.old.number + length groups.now ≤ 4096 }
-    ensures blocks { plain.new.blocks ≡ after_groups (plain.old.number + 1) groups.now plain.old.blocks }
-    ensures number { plain.new.number ≡ plain.old.number + length groups.now }
+    requires few { plain.old.lsn + length groups.now ≤ 4096 }
+    ensures blocks { plain.new.blocks ≡ after_groups (plain.old.lsn + 1) groups.now plain.old.blocks }
+    ensures lsn { plain.new.lsn ≡ plain.old.lsn + length groups.now }
     ensures shape { plain.new.shape ≡ plain.old.shape }
 {
     for group in groups {
@@ -94,7 +94,7 @@ fn commit_block_of(layout: &Layout) -> BlockNo
 fn take_group(scan: &mut Scan, group: Group, layout: &Layout)
     requires shape { scan.old.plain.shape ≡ shape_of layout.now }
     requires each { AllByRecursion (IsLoggable layout.now) (scan.old.waiting.items ++ group ∷ []) }
-    requires few { scan.old.plain.number + length scan.old.waiting.items < layout.now.log }
+    requires few { scan.old.plain.lsn + length scan.old.waiting.items < layout.now.log }
     requires room { layout.now.log ≤ vec_capacity scan.old.waiting }
     ensures log { scan.new.log ≡ scan.old.log }
     ensures shape { scan.new.plain.shape ≡ scan.old.plain.shape }
@@ -126,7 +126,7 @@ fn scan_one<D: Disk>(scan: &mut Scan, disk: &mut D, layout: &Layout) -> Result<b
         → ¬ GroupsAre layout.now (D.content disk.old) 0 groups }
     ensures no_memory { ¬ IsErrOf result OpenFault.NoMemory }
     ensures counted { IsCountedAs (D.faults disk.old) (D.faults disk.new) (err_is is_failed result) }
-    ensures same { D.tells → Rests D.content D.image D.moment D.image_since disk.old disk.new }
+    ensures same { D.tells → Rests D.Disk disk.old disk.new }
 {
     let next = u64::from(scan.log.used()) + 1;
     let Some(group) = scan.log.scan(disk, next)? else {
@@ -148,7 +148,7 @@ fn scan_all<D: Disk>(scan: &mut Scan, disk: &mut D, layout: &Layout) -> Result<(
         → ¬ GroupsAre layout.now (D.content disk.old) 0 groups }
     ensures no_memory { ¬ IsErrOf result OpenFault.NoMemory }
     ensures counted { IsCountedAs (D.faults disk.old) (D.faults disk.new) (err_is is_failed result) }
-    ensures same { D.tells → Rests D.content D.image D.moment D.image_since disk.old disk.new }
+    ensures same { D.tells → Rests D.Disk disk.old disk.new }
 {
     for _ in 0..layout.log {
         if !scan_one(scan, disk, layout)? {
@@ -171,7 +171,7 @@ fn drop_uncommitted<D: Disk>(
     requires synced { D.tells → Only (D.content disk.old) (D.image disk.old) }
     ensures opened { OnOk result (HasOpened D.tells D.content D.image layout.now scan.new.plain scan.new.log disk.new) }
     ensures blocks { scan.new.plain ≡ scan.old.plain }
-    ensures any_moment { D.tells → LeavesOnly D.moment D.image_since disk.old disk.new
+    ensures any_moment { D.tells → Leaves D.Disk disk.old disk.new
         (λ c. OpensTo layout.now c scan.old.plain.blocks) }
     ensures fault { IfErr result (λ e. e ≡ OpenFault.Failed) }
     ensures counted { IsCounted (D.faults disk.old) (D.faults disk.new) result }
@@ -194,7 +194,7 @@ fn scan_file<D: Disk>(alloc: Global, disk: &mut D, layout: &Layout) -> Result<Sc
     ensures none { D.tells → IsErrOf result OpenFault.NotAStore → (groups : List (List Patch))
         → ¬ GroupsAre layout.now (D.content disk.old) 0 groups }
     ensures counted { IsCountedAs (D.faults disk.old) (D.faults disk.new) (err_is is_failed result) }
-    ensures same { D.tells → Rests D.content D.image D.moment D.image_since disk.old disk.new }
+    ensures same { D.tells → Rests D.Disk disk.old disk.new }
 {
     let mut scan = fresh_scan(alloc, disk, layout)?;
     scan_all(&mut scan, disk, layout)?;
@@ -208,7 +208,7 @@ fn synced_layout<D: Disk>(disk: &mut D) -> Result<Layout, OpenFault>
         → ¬ HasIdentity VERSION l (D.content disk.old) }
     ensures no_memory { ¬ IsErrOf result OpenFault.NoMemory }
     ensures counted { IsCountedAs (D.faults disk.old) (D.faults disk.new) (err_is is_failed result) }
-    ensures same { D.tells → Rests D.content D.image D.moment D.image_since disk.old disk.new }
+    ensures same { D.tells → Rests D.Disk disk.old disk.new }
     ensures durable { D.tells → OnOk result (Only (D.content disk.old) (D.image disk.new)) }
 {
     let Ok(()) = disk.sync() else {
@@ -228,18 +228,18 @@ struct Parts {
 fn open_parts<D: Disk>(alloc: Global, disk: &mut D) -> Result<Parts, OpenFault>
     ensures opened { IfOk result (λ p. HasOpened D.tells D.content D.image p.layout p.scan.plain p.scan.log disk.new) }
     ensures found { D.tells → IfOk result (λ p. OpensAt p.layout (D.content disk.old) p.scan.plain.blocks
-        p.scan.plain.number) }
+        p.scan.plain.lsn) }
     ensures none { D.tells → IsErrOf result OpenFault.NotAStore → (l : Layout) (b : List (List ℕ))
         → ¬ OpensTo l (D.content disk.old) b }
     ensures counted { IsCountedAs (D.faults disk.old) (D.faults disk.new) (err_is is_failed result) }
     ensures any_moment { D.tells → (l : Layout) (b : List (List ℕ)) → OpensTo l (D.content disk.old) b
-        → LeavesOnly D.moment D.image_since disk.old disk.new (λ c. D.image disk.old c ⊎ OpensTo l c b) }
+        → Leaves D.Disk disk.old disk.new (λ c. D.image disk.old c ⊎ OpensTo l c b) }
     ensures not_a_store { D.tells → IsErrOf result OpenFault.NotAStore
-        → Rests D.content D.image D.moment D.image_since disk.old disk.new }
+        → Rests D.Disk disk.old disk.new }
     ensures no_memory { D.tells → IsErrOf result OpenFault.NoMemory
-        → Rests D.content D.image D.moment D.image_since disk.old disk.new }
+        → Rests D.Disk disk.old disk.new }
     ensures nothing { D.tells → OnErr result (((l : Layout) (b : List (List ℕ)) → OpensTo l (D.content disk.old) b
-        → ⊥) → Rests D.content D.image D.moment D.image_since disk.old disk.new) }
+        → ⊥) → Rests D.Disk disk.old disk.new) }
 {
     let layout = synced_layout(disk)?;
     let mut scan = scan_file(alloc, disk, &layout)?;
@@ -254,27 +254,27 @@ impl<D: Disk> LapStore<D> {
     /// before;
     /// from then on a file that opens to the same blocks. A file that opens to none is left as it was.
     pub fn open(alloc: Global, disk: D) -> Result<LapStore<D>, (OpenFault, D)>
-        ensures found { D.tells → IfOk result (λ s. OpensAt s.layout (D.content disk) s.blocks s.number) }
+        ensures found { D.tells → IfOk result (λ s. OpensAt s.layout (D.content disk) s.blocks s.lsn) }
         ensures stable { D.tells → IfOk result (λ s. IsStable D.content D.image s s.blocks) }
         ensures pending { IfOk result (λ s. s.pending ≡ []) }
-        ensures few { IfOk result (λ s. s.number < s.layout.log) }
+        ensures few { IfOk result (λ s. s.lsn < s.layout.log) }
         ensures going { IfOk result (λ s. s.failed ≡ false) }
         ensures none { D.tells → IfErr result (λ r. r.0 ≡ OpenFault.NotAStore
             → (l : Layout) (b : List (List ℕ)) → OpensTo l (D.content disk) b → ⊥) }
         ensures counted_ok { IfOk result (λ s. D.faults s.disk ≡ D.faults disk) }
         ensures counted_err { IfErr result (λ r. IsCountedAs (D.faults disk) (D.faults r.1) (is_failed r.0)) }
         ensures any_moment_ok { D.tells → IfOk result (λ s. (l : Layout) (b : List (List ℕ))
-            → OpensTo l (D.content disk) b → LeavesOnly D.moment D.image_since disk s.disk (λ c. D.image disk c
+            → OpensTo l (D.content disk) b → Leaves D.Disk disk s.disk (λ c. D.image disk c
             ⊎ OpensTo l c b)) }
         ensures any_moment_err { D.tells → IfErr result (λ r. (l : Layout) (b : List (List ℕ))
-            → OpensTo l (D.content disk) b → LeavesOnly D.moment D.image_since disk r.1 (λ c. D.image disk c
+            → OpensTo l (D.content disk) b → Leaves D.Disk disk r.1 (λ c. D.image disk c
             ⊎ OpensTo l c b)) }
         ensures unchanged { D.tells → IfErr result (λ r. r.0 ≡ OpenFault.NotAStore
-            → Rests D.content D.image D.moment D.image_since disk r.1) }
+            → Rests D.Disk disk r.1) }
         ensures no_memory { D.tells → IfErr result (λ r. r.0 ≡ OpenFault.NoMemory
-            → Rests D.content D.image D.moment D.image_since disk r.1) }
+            → Rests D.Disk disk r.1) }
         ensures nothing { D.tells → IfErr result (λ r. ((l : Layout) (b : List (List ℕ))
-            → OpensTo l (D.content disk) b → ⊥) → Rests D.content D.image D.moment D.image_since disk r.1) }
+            → OpensTo l (D.content disk) b → ⊥) → Rests D.Disk disk r.1) }
     {
         let mut disk = disk;
         match open_parts(alloc, &mut disk) {

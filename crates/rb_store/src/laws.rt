@@ -14,8 +14,8 @@ pub fn fresh_lap()
 
 /// The last log number of what a file opens to is the one in front of the block that each commit patches.
 pub fn last_header()
-    ensures { (l : Layout) (file : List ℕ) (blocks : List (List ℕ)) (number : ℕ) → OpensAt l file blocks number
-        → number_at (block_of blocks (commit_block (shape_of l))) 0 8 ≡ number }
+    ensures { (l : Layout) (file : List ℕ) (blocks : List (List ℕ)) (lsn : ℕ) → OpensAt l file blocks lsn
+        → number_at (block_of blocks (commit_block (shape_of l))) 0 8 ≡ lsn }
 {}
 
 /// A file of a layout opens to one list of blocks.

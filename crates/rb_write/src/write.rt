@@ -24,10 +24,10 @@ const WORN: u64 = 1 << 60;
 
 /// Tests that the log takes one more group, and still has room for another.
 fn check_room<S: Store>(store: &S) -> Result<(), AttemptFault>
-    ensures room { OnOk result ((S.number store.now < 2 ^ 60)
-        × (2 ≤ room_of (S.slots store.now) (S.number store.now))) }
-    ensures refused { IfErr result (λ fault. LogRefuses fault (S.number store.now)
-        (room_of (S.slots store.now) (S.number store.now))) }
+    ensures room { OnOk result ((S.lsn store.now < 2 ^ 60)
+        × (2 ≤ room_of (S.slots store.now) (S.lsn store.now))) }
+    ensures refused { IfErr result (λ fault. LogRefuses fault (S.lsn store.now)
+        (room_of (S.slots store.now) (S.lsn store.now))) }
 {
     if store.logged() >= WORN {
         return Err(AttemptFault::WornOut);
@@ -52,8 +52,8 @@ fn prepared<S: Store>(store: &mut S, no: BlockNo, ask: &Ask<'_>) -> Result<(u8, 
     ensures new_key { S.tells → IfOk result (λ _. adds ask.now.op ≡ true
         → IsNowhere (is_keyed ask.now.key) (home_of (block_of (S.blocks store.old) no)).cells) }
     ensures within { IfOk result (λ r. r.0 < 16) }
-    ensures room { OnOk result ((S.number store.old < 2 ^ 60)
-        × (2 ≤ room_of (S.slots store.old) (S.number store.old))) }
+    ensures room { OnOk result ((S.lsn store.old < 2 ^ 60)
+        × (2 ≤ room_of (S.slots store.old) (S.lsn store.old))) }
     ensures duplicate { S.tells → IsErrOf result AttemptFault.Duplicate
         → HomeRefuses AttemptFault.Duplicate ask.now.op ask.now.key (home_of (block_of (S.blocks store.old) no)) }
     ensures not_found { S.tells → IsErrOf result AttemptFault.NotFound
@@ -61,20 +61,20 @@ fn prepared<S: Store>(store: &mut S, no: BlockNo, ask: &Ask<'_>) -> Result<(u8, 
     ensures block_full { S.tells → IsErrOf result AttemptFault.BlockFull
         → HomeRefuses AttemptFault.BlockFull ask.now.op ask.now.key (home_of (block_of (S.blocks store.old) no)) }
     ensures worn_out { IsErrOf result AttemptFault.WornOut
-        → LogRefuses AttemptFault.WornOut (S.number store.old) (room_of (S.slots store.old) (S.number store.old)) }
+        → LogRefuses AttemptFault.WornOut (S.lsn store.old) (room_of (S.slots store.old) (S.lsn store.old)) }
     ensures log_full { IsErrOf result AttemptFault.LogFull
-        → LogRefuses AttemptFault.LogFull (S.number store.old) (room_of (S.slots store.old) (S.number store.old)) }
+        → LogRefuses AttemptFault.LogFull (S.lsn store.old) (room_of (S.slots store.old) (S.lsn store.old)) }
     ensures late { S.tells → IsErrOf result AttemptFault.WornOut ⊎ IsErrOf result AttemptFault.LogFull
         → HasPlace ask.now.op ask.now.key (home_of (block_of (S.blocks store.old) no)) }
     ensures shape { S.shape_of store.new ≡ S.shape_of store.old }
     ensures slots { S.slots store.new ≡ S.slots store.old }
-    ensures number { S.number store.new ≡ S.number store.old }
+    ensures number { S.lsn store.new ≡ S.lsn store.old }
     ensures blocks { S.tells → S.blocks store.new ≡ S.blocks store.old }
     ensures whole { S.tells → AreBlocks (S.shape_of store.new) (S.blocks store.new) }
-    ensures pending { S.keeps → S.pending store.new ≡ S.pending store.old }
-    ensures stable { S.keeps → (b : List (List ℕ)) → S.stable store.old b → S.stable store.new b }
-    ensures images { S.keeps → NoMore (S.left store.old) (S.left store.new) }
-    ensures time { S.keeps → Passes (S.moment store.old) (S.moment store.new) (S.left_since store.old)
+    ensures pending { S.tells_crashes → S.pending store.new ≡ S.pending store.old }
+    ensures stable { S.tells_crashes → (b : List (List ℕ)) → S.stable store.old b → S.stable store.new b }
+    ensures images { S.tells_crashes → NoMore (S.left store.old) (S.left store.new) }
+    ensures time { S.tells_crashes → Passes (S.moment store.old) (S.moment store.new) (S.left_since store.old)
         (S.left_since store.new) (S.left store.new) }
     ensures failed { S.failed store.new ≡ has_failed result }
     ensures counted { IsCountedAs (S.faults store.old) (S.faults store.new) (has_failed result) }
@@ -110,9 +110,9 @@ pub fn attempt<S: Store>(
         → (adds ask.now.op ≡ true) × (is_some (value_at (S.shape_of store.old) (S.blocks store.old) ask.now.table
         ask.now.key) ≡ false)
         × IsNowhere is_free (home_at (S.shape_of store.old) (S.blocks store.old) ask.now.table ask.now.key).cells }
-    ensures worn_out { IsErrOf result AttemptFault.WornOut → 2 ^ 60 ≤ S.number store.old }
+    ensures worn_out { IsErrOf result AttemptFault.WornOut → 2 ^ 60 ≤ S.lsn store.old }
     ensures log_full { IsErrOf result AttemptFault.LogFull
-        → (S.number store.old < 2 ^ 60) × (room_of (S.slots store.old) (S.number store.old) < 2) }
+        → (S.lsn store.old < 2 ^ 60) × (room_of (S.slots store.old) (S.lsn store.old) < 2) }
     ensures late { S.tells → IsPlainHome (home_at (S.shape_of store.old) (S.blocks store.old) ask.now.table
         ask.now.key) → IsErrOf result AttemptFault.WornOut ⊎ IsErrOf result AttemptFault.LogFull
         → TakesWrite ask.now.op ask.now.key (home_at (S.shape_of store.old) (S.blocks store.old) ask.now.table
@@ -121,8 +121,8 @@ pub fn attempt<S: Store>(
         ask.now.key)
         → OnOk result (TakesWrite ask.now.op ask.now.key
         (home_at (S.shape_of store.old) (S.blocks store.old) ask.now.table ask.now.key)) }
-    ensures room { OnOk result ((S.number store.old < 2 ^ 60)
-        × (2 ≤ room_of (S.slots store.old) (S.number store.old))) }
+    ensures room { OnOk result ((S.lsn store.old < 2 ^ 60)
+        × (2 ≤ room_of (S.slots store.old) (S.lsn store.old))) }
     ensures written { S.tells → IsPlainHome (home_at (S.shape_of store.old) (S.blocks store.old) ask.now.table
         ask.now.key) → OnOk result ((table key : ℕ) → 1 ≤ table
         → value_at (S.shape_of store.old) (S.blocks store.new) table key
@@ -131,7 +131,7 @@ pub fn attempt<S: Store>(
         (S.blocks store.old) table key)) }
     ensures plain { S.tells → ArePlain (S.shape_of store.old) (S.blocks store.old)
         → OnOk result (ArePlain (S.shape_of store.old) (S.blocks store.new)) }
-    ensures made { S.tells → OnOk result (IsMade (S.shape_of store.old) ask.now (S.number store.old)
+    ensures made { S.tells → OnOk result (IsMade (S.shape_of store.old) ask.now (S.lsn store.old)
         (S.blocks store.old) (S.blocks store.new)) }
     ensures home { S.tells → OnOk result (ChangesHome ask.now.op ask.now.key
         (home_at (S.shape_of store.old) (S.blocks store.old) ask.now.table ask.now.key)
@@ -141,22 +141,22 @@ pub fn attempt<S: Store>(
     ensures segments { S.tells → OnOk result ((b : ℕ) → table_blocks (S.shape_of store.old) ≤ b
         → block_of (S.blocks store.new) b ≡ block_of (S.blocks store.old) b) }
     ensures whole { S.tells → OnOk result (AreBlocks (S.shape_of store.old) (S.blocks store.new)) }
-    ensures number { OnOk result (S.number store.new ≡ S.number store.old + 1) }
-    ensures group { S.keeps → OnOk result ((patches : List Patch)
+    ensures number { OnOk result (S.lsn store.new ≡ S.lsn store.old + 1) }
+    ensures group { S.tells_crashes → OnOk result ((patches : List Patch)
         × (S.pending store.new ≡ S.pending store.old ++ patches ∷ [])
         × (patches_block (commit_block (S.shape_of store.old)) patches ≡ false)) }
-    ensures patch { S.keeps → OnOk result ((c : ℕ) × (cell : Cell)
+    ensures patch { S.tells_crashes → OnOk result ((c : ℕ) × (cell : Cell)
         × (S.pending store.new ≡ S.pending store.old ++
         (cell_patch (home_block_of (S.shape_of store.old) ask.now.table ask.now.key) c cell ∷ []) ∷ [])) }
-    ensures stable { S.keeps → has_failed result ≡ false → (b : List (List ℕ)) → S.stable store.old b
+    ensures stable { S.tells_crashes → has_failed result ≡ false → (b : List (List ℕ)) → S.stable store.old b
         → S.stable store.new b }
     ensures refused_blocks { S.tells → has_failed result ≡ false
         → OnErr result (S.blocks store.new ≡ S.blocks store.old) }
-    ensures refused_number { has_failed result ≡ false → OnErr result (S.number store.new ≡ S.number store.old) }
-    ensures refused_pending { S.keeps → has_failed result ≡ false
+    ensures refused_number { has_failed result ≡ false → OnErr result (S.lsn store.new ≡ S.lsn store.old) }
+    ensures refused_pending { S.tells_crashes → has_failed result ≡ false
         → OnErr result (S.pending store.new ≡ S.pending store.old) }
-    ensures images { S.keeps → NoMore (S.left store.old) (S.left store.new) }
-    ensures time { S.keeps → Passes (S.moment store.old) (S.moment store.new) (S.left_since store.old)
+    ensures images { S.tells_crashes → NoMore (S.left store.old) (S.left store.new) }
+    ensures time { S.tells_crashes → Passes (S.moment store.old) (S.moment store.new) (S.left_since store.old)
         (S.left_since store.new) (S.left store.new) }
     ensures shape { S.shape_of store.new ≡ S.shape_of store.old }
     ensures slots { S.slots store.new ≡ S.slots store.old }

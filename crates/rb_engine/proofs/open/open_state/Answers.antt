@@ -5,7 +5,7 @@ use Rattle.rb_base.specs.declared.faults.Failed.{Failed}
 use Rattle.rb_base.specs.declared.shape.Shape.{Shape}
 use Rattle.rb_model.specs.State.{State}
 use Rattle.rb_sound.specs.Loads.{OnlyLoads, more_loads}
-use Rattle.rb_sound.specs.Sound.{commit_number, AreSound}
+use Rattle.rb_sound.specs.Sound.{commit_scn, AreSound}
 use Rattle.rb_engine.specs.Holds.{CanOpen, OpensAs}
 use Rattle.rb_engine.specs.Kept.{Kept}
 use Rattle.rb_engine.proofs.FoundLemmas.{can_open, opens_as}
@@ -24,22 +24,22 @@ ok_before Q (Err e) now x cases same is = absurd (cc)
 first : (g : Over) (c : goal.After-found_all g) → OnlyLoads g.T.Store c.args.store.now c.blocks_sound.new.store
 first g c = c.blocks_sound.ensures.only_loads
 
-second : (g : Over) (c : goal.After-found_all g) → OnlyLoads g.T.Store c.args.store.now c.commit_number_of.new.store
-second g c = more_loads g.T.Store c.args.store.now c.blocks_sound.new.store c.commit_number_of.new.store (first g c) c.commit_number_of.ensures.only_loads
+second : (g : Over) (c : goal.After-found_all g) → OnlyLoads g.T.Store c.args.store.now c.commit_scn_of.new.store
+second g c = more_loads g.T.Store c.args.store.now c.blocks_sound.new.store c.commit_scn_of.new.store (first g c) c.commit_scn_of.ensures.only_loads
 
-third : (g : Over) (c : goal.After-found_all g) → OnlyLoads g.T.Store c.args.store.now c.number_sound.new.store
-third g c = more_loads g.T.Store c.args.store.now c.commit_number_of.new.store c.number_sound.new.store (second g c) c.number_sound.ensures.only_loads
+third : (g : Over) (c : goal.After-found_all g) → OnlyLoads g.T.Store c.args.store.now c.scn_sound.new.store
+third g c = more_loads g.T.Store c.args.store.now c.commit_scn_of.new.store c.scn_sound.new.store (second g c) c.scn_sound.ensures.only_loads
 
 -- what the tests answered
 
 sound_is : (g : Over) (c : goal.After-found_all g) → c.blocks_sound.result ≡ Ok true
 sound_is g c = ok_before _ c.blocks_sound.result c.map_err.result true c.map_err.ensures.cases c.map_err.ensures.variant (c.in_ok-sound.was ∙ ap Ok c.if-not-sound.false)
 
-number_is : (g : Over) (c : goal.After-found_all g) → c.commit_number_of.result ≡ Ok c.in_ok-number.number
-number_is g c = ok_before _ c.commit_number_of.result c.map_err-2.result c.in_ok-number.number c.map_err-2.ensures.cases c.map_err-2.ensures.variant c.in_ok-number.was
+number_is : (g : Over) (c : goal.After-found_all g) → c.commit_scn_of.result ≡ Ok c.in_ok-number.number
+number_is g c = ok_before _ c.commit_scn_of.result c.map_err-2.result c.in_ok-number.number c.map_err-2.ensures.cases c.map_err-2.ensures.variant c.in_ok-number.was
 
-numbered_is : (g : Over) (c : goal.After-found_all g) → c.number_sound.result ≡ Ok true
-numbered_is g c = ok_before _ c.number_sound.result c.map_err-3.result true c.map_err-3.ensures.cases c.map_err-3.ensures.variant (c.in_ok-numbered.was ∙ ap Ok c.if-not-numbered.false)
+numbered_is : (g : Over) (c : goal.After-found_all g) → c.scn_sound.result ≡ Ok true
+numbered_is g c = ok_before _ c.scn_sound.result c.map_err-3.result true c.map_err-3.ensures.cases c.map_err-3.ensures.variant (c.in_ok-numbered.was ∙ ap Ok c.if-not-numbered.false)
 
 taken : (g : Over) (c : goal.After-found_all g) → c.take_rows.result ≡ Ok true
 taken g c = ok_before _ c.take_rows.result c.map_err-4.result true c.map_err-4.ensures.cases c.map_err-4.ensures.variant (c.in_ok-unlocked.was ∙ ap Ok c.if-unlocked.true)
@@ -47,22 +47,22 @@ taken g c = ok_before _ c.take_rows.result c.map_err-4.result true c.map_err-4.e
 kept_shape : (g : Over) (c : goal.After-found_all g) → c.in-Ok.state.state.shape ≡ g.T.Store.shape_of c.args.store.now
 kept_shape g c = ap (λ (h : State). h.shape) c.in-Ok.ensures.state ∙ c.shape-shape.ensures.shape ∙ (third g c).same_shape
 
-commit_is : (g : Over) (c : goal.After-found_all g) → g.T.Store.tells → c.in_ok-number.number ≡ commit_number (g.T.Store.shape_of c.blocks_sound.new.store) (g.T.Store.blocks c.blocks_sound.new.store)
+commit_is : (g : Over) (c : goal.After-found_all g) → g.T.Store.tells → c.in_ok-number.number ≡ commit_scn (g.T.Store.shape_of c.blocks_sound.new.store) (g.T.Store.blocks c.blocks_sound.new.store)
 commit_is g c told =
-    subst (λ (r : Result ℕ Failed). IfOk r (λ (commit : ℕ). commit ≡ commit_number (g.T.Store.shape_of c.blocks_sound.new.store) (g.T.Store.blocks c.blocks_sound.new.store))) (number_is g c) (c.commit_number_of.ensures.told told)
+    subst (λ (r : Result ℕ Failed). IfOk r (λ (commit : ℕ). commit ≡ commit_scn (g.T.Store.shape_of c.blocks_sound.new.store) (g.T.Store.blocks c.blocks_sound.new.store))) (number_is g c) (c.commit_scn_of.ensures.told told)
 
-can : (g : Over) (c : goal.After-found_all g) → g.T.Store.tells → CanOpen (g.T.Store.shape_of c.args.store.now) (g.T.Store.blocks c.args.store.now) (g.T.Store.number c.args.store.now)
+can : (g : Over) (c : goal.After-found_all g) → g.T.Store.tells → CanOpen (g.T.Store.shape_of c.args.store.now) (g.T.Store.blocks c.args.store.now) (g.T.Store.lsn c.args.store.now)
 can g c told =
     let s = g.T.Store in
     let old = c.args.store.now in
     let shape = s.shape_of old in
     let blocks = s.blocks old in
     let sound : AreSound shape blocks = (subst (λ (r : Result Bool Failed). IfOk r (λ (b : Bool). b ≡ true ↔ AreSound shape blocks)) (sound_is g c) (c.blocks_sound.ensures.told told)).0 refl in
-    can_open shape (s.shape_of c.blocks_sound.new.store) (s.shape_of c.commit_number_of.new.store) c.in-Ok.state.state.shape
-    blocks (s.blocks c.blocks_sound.new.store) (s.blocks c.commit_number_of.new.store) (s.blocks c.number_sound.new.store)
-    c.in_ok-number.number (s.number old) (s.number c.commit_number_of.new.store)
+    can_open shape (s.shape_of c.blocks_sound.new.store) (s.shape_of c.commit_scn_of.new.store) c.in-Ok.state.state.shape
+    blocks (s.blocks c.blocks_sound.new.store) (s.blocks c.commit_scn_of.new.store) (s.blocks c.scn_sound.new.store)
+    c.in_ok-number.number (s.lsn old) (s.lsn c.commit_scn_of.new.store)
     (first g c).same_shape ((first g c).same_blocks told) (second g c).same_shape ((second g c).same_blocks told) (second g c).same_number
-    (kept_shape g c) ((third g c).same_blocks told) sound (commit_is g c told) (c.number_sound.ensures.sound told (numbered_is g c)) (c.take_rows.ensures.unlocked told (taken g c))
+    (kept_shape g c) ((third g c).same_blocks told) sound (commit_is g c told) (c.scn_sound.ensures.sound told (numbered_is g c)) (c.take_rows.ensures.unlocked told (taken g c))
 
 pub returns-then-unlocked-clause-sound : goal.returns-then-unlocked-clause-sound
 returns-then-unlocked-clause-sound g c = λ told. can g c told
@@ -74,13 +74,13 @@ returns-then-unlocked-clause-opened g c = λ told.
     let shape = s.shape_of old in
     let blocks = s.blocks old in
     let in_range = subst IsShape (c.shape-shape.ensures.shape ∙ (third g c).same_shape) c.shape-shape.ensures.in_range in
-    let there = subst (λ (r : Result Bool Failed). OnOk r (AreBlocks (s.shape_of c.commit_number_of.new.store) (s.blocks c.commit_number_of.new.store))) (numbered_is g c) (c.number_sound.ensures.whole told) in
-    let whole = subst (λ (x : Shape). AreBlocks x blocks) (second g c).same_shape (subst (AreBlocks (s.shape_of c.commit_number_of.new.store)) ((second g c).same_blocks told) there) in
+    let there = subst (λ (r : Result Bool Failed). OnOk r (AreBlocks (s.shape_of c.commit_scn_of.new.store) (s.blocks c.commit_scn_of.new.store))) (numbered_is g c) (c.scn_sound.ensures.whole told) in
+    let whole = subst (λ (x : Shape). AreBlocks x blocks) (second g c).same_shape (subst (AreBlocks (s.shape_of c.commit_scn_of.new.store)) ((second g c).same_blocks told) there) in
     let after = c.take_rows.new.state.state in
     subst (OpensAs shape blocks) (sym (ap (λ (k : Kept). k.state) c.found_all.ensures))
     (opens_as shape (s.shape_of c.blocks_sound.new.store) c.in-Ok.state.state.shape
-    blocks (s.blocks c.blocks_sound.new.store) (s.blocks c.number_sound.new.store)
-    (s.number old) c.in_ok-number.number c.in-Ok.state.state.commits.base after.commits.rows after
+    blocks (s.blocks c.blocks_sound.new.store) (s.blocks c.scn_sound.new.store)
+    (s.lsn old) c.in_ok-number.number c.in-Ok.state.state.commits.base after.commits.rows after
     in_range whole (can g c told)
     (first g c).same_shape ((first g c).same_blocks told) (kept_shape g c) ((third g c).same_blocks told)
     (commit_is g c told) (ap (λ (h : State). h.commits.base) c.in-Ok.ensures.state)

@@ -30,11 +30,11 @@ pub loop-i-preserved : goal.loop-i-preserved
 loop-i-preserved c =
     let group = c.args.group.now in
     let before = c.args.blocks.now in
-    let number = c.args.number in
+    let lsn = c.args.lsn in
     let p = patch c.patch_block.result c.patch_at.result c.patch_bytes.result.now in
     let more = take_more group c.loop-i.i p (omega (arith, c.patches-count.ensures.count, c.loop-i-test.true)) in
     c.patch_one.ensures
-    ∙ ap (after_patch number p) c.loop-i.invariant
-    ∙ sym (group_append number (take c.loop-i.i group) (p ∷ []) before)
-    ∙ ap (λ (q : Patch). after_group number (take c.loop-i.i group ++ q ∷ []) before) (this group c.loop-i.i c.patch_block.result c.patch_at.result c.patch_bytes.result.now c.patch_block.ensures c.patch_at.ensures c.patch_bytes.ensures p)
-    ∙ ap (λ (l : List Patch). after_group number l before) (sym more)
+    ∙ ap (after_patch lsn p) c.loop-i.invariant
+    ∙ sym (group_append lsn (take c.loop-i.i group) (p ∷ []) before)
+    ∙ ap (λ (q : Patch). after_group lsn (take c.loop-i.i group ++ q ∷ []) before) (this group c.loop-i.i c.patch_block.result c.patch_at.result c.patch_bytes.result.now c.patch_block.ensures c.patch_at.ensures c.patch_bytes.ensures p)
+    ∙ ap (λ (l : List Patch). after_group lsn l before) (sym more)

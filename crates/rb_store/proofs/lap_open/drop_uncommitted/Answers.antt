@@ -20,7 +20,7 @@ module _ (g : Over) (c : After-drop_behind g) where
 
   -- how many are kept
   count : c.logged-kept.result ≡ length c.requires.all.groups
-  count = c.logged-kept.ensures ∙ c.requires.all.number
+  count = c.logged-kept.ensures ∙ c.requires.all.lsn
 
   -- the log has them
   same : c.args.scan.now.log.layout ≡ c.args.layout.now
@@ -61,7 +61,7 @@ returns-in-Ok-clause-opened g c =
       groups = h.groups;
       log_is = c.in-Ok.ensures.shorter ∙ ap (λ (x : LogState). record x { used = c.logged-kept.result }) h.log_is ∙ ap (λ (n : ℕ). record { layout = l; used = n; pending = []; scanned = true; ahead = [] }) (count g dropping);
       shape_is = h.shape_is;
-      number = h.number;
+      lsn = h.lsn;
       blocks = h.blocks;
       whole = whole_kept (shape_of l) h.groups c.args.scan.now.waiting.items h.whole;
       few = let f = h.few in omega (arith, f);

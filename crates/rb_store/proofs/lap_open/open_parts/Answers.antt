@@ -17,7 +17,7 @@ on_err (Ok value) p = tt
 on_err (Err fault) p = p
 
 -- the scan tells what the file opens to
-found : (g : Over) (c : After-drop_uncommitted g) → g.D.Disk.tells → OpensAt c.in_ok-layout.layout (g.D.Disk.content c.args.disk.now) c.in_ok-scan.scan.plain.blocks c.in_ok-scan.scan.plain.number
+found : (g : Over) (c : After-drop_uncommitted g) → g.D.Disk.tells → OpensAt c.in_ok-layout.layout (g.D.Disk.content c.args.disk.now) c.in_ok-scan.scan.plain.blocks c.in_ok-scan.scan.plain.lsn
 found g c told =
     let m = c.in_ok-layout.layout in
     let scan = c.in_ok-scan.scan in
@@ -57,4 +57,4 @@ returns-clause-any_moment g c told l b opens = left g (goal.at.returns-clause-an
 pub returns-clause-found : goal.returns-clause-found
 returns-clause-found g c told =
     let at = found g (goal.at.returns-clause-found g c).After-drop_uncommitted told in
-    subst (λ (p : PlainState). OpensAt c.in_ok-layout.layout (g.D.Disk.content c.args.disk.now) p.blocks p.number) (sym c.drop_uncommitted.ensures.blocks) at
+    subst (λ (p : PlainState). OpensAt c.in_ok-layout.layout (g.D.Disk.content c.args.disk.now) p.blocks p.lsn) (sym c.drop_uncommitted.ensures.blocks) at

@@ -25,19 +25,19 @@ patches : (g : Over) (c : goal.After-default g) → c.put_cell.new.group ≡ cel
 patches g c = c.put_cell.ensures.patch ∙ ap (λ (group : List Patch). group ++ cell_patch c.home_block-no.result c.in_ok-c.c c.in_ok-c.cell ∷ []) c.new.ensures
 
 -- the blocks after the call are those before it after the group
-patched : (g : Over) (c : goal.After-default g) → g.S.Store.tells → g.S.Store.blocks c.apply.new.self ≡ after_group (g.S.Store.number c.args.store.now + 1) (cell_patch c.home_block-no.result c.in_ok-c.c c.in_ok-c.cell ∷ []) (g.S.Store.blocks c.args.store.now)
+patched : (g : Over) (c : goal.After-default g) → g.S.Store.tells → g.S.Store.blocks c.apply.new.self ≡ after_group (g.S.Store.lsn c.args.store.now + 1) (cell_patch c.home_block-no.result c.in_ok-c.c c.in_ok-c.cell ∷ []) (g.S.Store.blocks c.args.store.now)
 patched g c told =
     let one = cell_patch c.home_block-no.result c.in_ok-c.c c.in_ok-c.cell ∷ [] in
     c.in-Ok.ensures.blocks told
-    ∙ ap (λ (group : List Patch). after_group (g.S.Store.number c.prepared.new.store + 1) group (g.S.Store.blocks c.prepared.new.store)) (patches g c)
+    ∙ ap (λ (group : List Patch). after_group (g.S.Store.lsn c.prepared.new.store + 1) group (g.S.Store.blocks c.prepared.new.store)) (patches g c)
     ∙ ap (λ (number : ℕ). after_group (number + 1) one (g.S.Store.blocks c.prepared.new.store)) c.in_ok-c.ensures.number
-    ∙ ap (after_group (g.S.Store.number c.args.store.now + 1) one) (c.in_ok-c.ensures.blocks told)
+    ∙ ap (after_group (g.S.Store.lsn c.args.store.now + 1) one) (c.in_ok-c.ensures.blocks told)
 
 written : (g : Over) (c : goal.After-default g) → g.S.Store.tells → Writes (g.S.Store.shape_of c.args.store.now) c.args.ask.now.op c.args.ask.now.table c.args.ask.now.key (g.S.Store.blocks c.args.store.now) (g.S.Store.blocks c.apply.new.self)
 written g c told =
     let shape = g.S.Store.shape_of c.args.store.now in
     let old = g.S.Store.blocks c.args.store.now in
-    let number = g.S.Store.number c.args.store.now + 1 in
+    let number = g.S.Store.lsn c.args.store.now + 1 in
     let which = c.home_block-no.result in
     let rows = c.home_block-no.ensures.of_rows in
     let within : which < table_blocks shape = subst (λ (s : Shape). which < table_blocks s) c.shape.ensures.shape rows in
@@ -47,7 +47,7 @@ written g c told =
 
 pub returns-in-Ok-clause-made : goal.returns-in-Ok-clause-made
 returns-in-Ok-clause-made g c told =
-    is_made (g.S.Store.shape_of c.args.store.now) c.args.ask.now c.home_block-no.result c.in_ok-c.c (g.S.Store.number c.args.store.now) c.in_ok-c.cell (g.S.Store.blocks c.args.store.now) (g.S.Store.blocks c.apply.new.self)
+    is_made (g.S.Store.shape_of c.args.store.now) c.args.ask.now c.home_block-no.result c.in_ok-c.c (g.S.Store.lsn c.args.store.now) c.in_ok-c.cell (g.S.Store.blocks c.args.store.now) (g.S.Store.blocks c.apply.new.self)
     (place g c) (c.in_ok-c.ensures.first told) (c.in_ok-c.ensures.new_key told) (c.in_ok-c.ensures.cell told) (patched g c told)
 
 pub returns-in-Ok-clause-patch : goal.returns-in-Ok-clause-patch

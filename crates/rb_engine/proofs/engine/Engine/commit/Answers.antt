@@ -1,5 +1,5 @@
 use Rattle.rb_model.specs.Answers.{commit_answer}
-use Rattle.rb_model.specs.Reply as call
+use Rattle.rb_model.specs.Reply as machine
 use Rattle.rb_engine.specs.Engine.{room_left}
 use Rattle.rb_engine.proofs.DoesLemmas.{does_by}
 use Rattle.rb_engine.proofs.engine.Engine.commit.Goals as goal
@@ -8,5 +8,5 @@ pub returns-clause-did : goal.returns-clause-did
 returns-clause-did g c = λ h st.
     let s = g.T.Store in
     let e = c.do_commit.ensures in
-    does_by s h (call.Commit c.args.s) (commit_answer c.do_commit.result) c.args.self.now c.do_commit.new.self st
-    (λ told. e.answer (room_left (s.slots c.args.self.now.store) (s.number c.args.self.now.store) c.args.self.now.spare)) e.state e.shape (λ going. e.number going) (λ told kept durable. e.crash told kept durable)
+    does_by s h (machine.Commit c.args.s) (commit_answer c.do_commit.result) c.args.self.now c.do_commit.new.self st
+    (λ told. e.answer (room_left (s.slots c.args.self.now.store) (s.lsn c.args.self.now.store) c.args.self.now.spare)) e.state e.shape (λ going. e.number going) (λ told kept durable. e.crash told kept durable)

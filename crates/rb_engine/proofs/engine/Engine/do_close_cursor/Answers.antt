@@ -1,14 +1,14 @@
 use Rattle.std.proofs.Common.{refl}
 use Rattle.rb_model.specs.Answers.{plain_answer}
 use Rattle.rb_model.specs.Names.{name_text}
-use Rattle.rb_model.specs.Reply as call
+use Rattle.rb_model.specs.Reply as machine
 use Rattle.rb_engine.proofs.CrashLemmas.{survives_still}
 use Rattle.rb_engine.proofs.EngineLemmas.{in_step_still}
 use Rattle.rb_engine.proofs.engine.Engine.do_close_cursor.Goals as goal
 
 pub invariant_of-self : goal.invariant_of-self
 invariant_of-self g c =
-    in_step_still g.T.Store c.self.inside.state c.close_cursor.new.self c.self.inside.store (call.CloseCursor c.args.s (name_text c.args.name.now)) (plain_answer c.close_cursor.result) c.close_cursor.ensures.state c.close_cursor.ensures.shape c.close_cursor.ensures.commits
+    in_step_still g.T.Store c.self.inside.state c.close_cursor.new.self c.self.inside.store (machine.CloseCursor c.args.s (name_text c.args.name.now)) (plain_answer c.close_cursor.result) c.close_cursor.ensures.state c.close_cursor.ensures.shape c.close_cursor.ensures.commits
     c.close_cursor.ensures.stopped c.close_cursor.ensures.own c.close_cursor.ensures.spare c.self.invariant
 
 pub returns-clause-answer : goal.returns-clause-answer

@@ -1,14 +1,14 @@
 use Rattle.std.proofs.Common.{refl}
 use Rattle.rb_model.specs.Answers.{fetch_answer}
 use Rattle.rb_model.specs.Names.{name_text}
-use Rattle.rb_model.specs.Reply as call
+use Rattle.rb_model.specs.Reply as machine
 use Rattle.rb_engine.proofs.CrashLemmas.{survives_still}
 use Rattle.rb_engine.proofs.EngineLemmas.{in_step_still}
 use Rattle.rb_engine.proofs.engine.Engine.do_fetch.Goals as goal
 
 pub invariant_of-self : goal.invariant_of-self
 invariant_of-self g c =
-    in_step_still g.T.Store c.self.inside.state c.fetch.new.self c.self.inside.store (call.Fetch c.args.s (name_text c.args.name.now)) (fetch_answer c.fetch.result c.fetch.new.row) c.fetch.ensures.state c.fetch.ensures.shape c.fetch.ensures.commits
+    in_step_still g.T.Store c.self.inside.state c.fetch.new.self c.self.inside.store (machine.Fetch c.args.s (name_text c.args.name.now)) (fetch_answer c.fetch.result c.fetch.new.row) c.fetch.ensures.state c.fetch.ensures.shape c.fetch.ensures.commits
     c.fetch.ensures.stopped c.fetch.ensures.own c.fetch.ensures.spare c.self.invariant
 
 pub returns-clause-answer : goal.returns-clause-answer

@@ -9,7 +9,7 @@ returns-in-Some-log_refusal-clause-crash g c = rw (← c.self.view_is) (λ told 
     c.self.inside.state.state c.self.inside.state.state c.self.inside.store c.self.inside.store c.self.invariant.same_shape refl refl refl st)
 
 pub returns-clause-number : goal.returns-clause-number
-returns-clause-number g c = λ going. groups_of_write c.args.self.now.state 1 c.args.table c.args.key _ c.make_write.result c.make_write.new.self.state (g.T.Store.number c.args.self.now.store) (g.T.Store.number c.make_write.new.self.store)
+returns-clause-number g c = λ going. groups_of_write c.args.self.now.state 1 c.args.table c.args.key _ c.make_write.result c.make_write.new.self.state (g.T.Store.lsn c.args.self.now.store) (g.T.Store.lsn c.make_write.new.self.store)
     c.make_write.ensures.state c.make_write.ensures.done c.make_write.ensures.number c.make_write.ensures.no_number going
 
 pub returns-in-Some-clause-crash : goal.returns-in-Some-clause-crash

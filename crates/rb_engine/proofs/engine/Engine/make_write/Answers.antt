@@ -11,7 +11,7 @@ use Rattle.rb_write.specs.Writes.{has_failed}
 use Rattle.rb_model.specs.Answers.{action_of}
 use Rattle.rb_model.specs.Full.{used_keys}
 use Rattle.rb_model.specs.Reply.{adds, after_refusal, rows_now, Write}
-use Rattle.rb_model.specs.Rows.{last_number}
+use Rattle.rb_model.specs.Rows.{last_scn}
 use Rattle.rb_model.specs.State.{State, session_of}
 use Rattle.rb_model.specs.declared.refusal.Refusal.TheVariants.{DiskFault}
 use Rattle.rb_write.specs.declared.ask.AttemptFault.{AttemptFault}
@@ -45,11 +45,11 @@ invariant_of-self g c =
       alone = ap (λ (x : State). length x.sessions) c.wrote.ensures.state ∙ sessions_granted h (Write 1 c.args.table c.args.key (action_of c.args.op)) ∙ step.alone;
       enough = λ go k e. let before = step.enough (back go) k (sym c.attempt.ensures.slots ∙ e) in omega (arith, before, number, c.wrote.ensures.spare);
       going = λ go. c.in-Ok.ensures.failed;
-      numbers = λ go. let lower = step.numbers (back go) in let last : last_number c.wrote.new.self.state.commits ≡ last_number h.commits = ap last_number c.wrote.ensures.commits in omega (arith, lower, last, number);
-      room = λ go some. rw (number, c.attempt.ensures.slots) (room_after (s.slots c.self.inside.store) (s.number c.self.inside.store) c.self.inside.state.spare room);
+      numbers = λ go. let lower = step.numbers (back go) in let last : last_scn c.wrote.new.self.state.commits ≡ last_scn h.commits = ap last_scn c.wrote.ensures.commits in omega (arith, lower, last, number);
+      room = λ go some. rw (number, c.attempt.ensures.slots) (room_after (s.slots c.self.inside.store) (s.lsn c.self.inside.store) c.self.inside.state.spare room);
       few = λ go some. omega (arith, number, few);
       holds = λ told go.
-          holds_after_write h c.wrote.new.self.state (s.shape_of c.self.inside.store) (s.blocks c.self.inside.store) (s.blocks c.attempt.new.store) (s.number c.self.inside.store) c.args.table c.args.key c.args.op
+          holds_after_write h c.wrote.new.self.state (s.shape_of c.self.inside.store) (s.blocks c.self.inside.store) (s.blocks c.attempt.new.store) (s.lsn c.self.inside.store) c.args.table c.args.key c.args.op
           step.same_shape step.alone c.wrote.ensures.state (step.holds told (back go)) step.in_range.few_blocks.0 table.0 table.1 c.ranges.key.fits c.requires.short
           (c.in-Ok.ensures.made told) (c.in-Ok.ensures.written told) (c.in-Ok.ensures.plain told) (c.in-Ok.ensures.whole told) (c.in-Ok.ensures.segments told);
       used = λ told go t k.
@@ -87,11 +87,11 @@ there g c told =
     let going = rw (← c.self.view_is) at c.requires.going in
     let table = rw (← c.self.view_is) at c.requires.table in
     let row = rw (← c.self.view_is) at c.requires.row in
-    let held = subst (λ (x : Shape). Holds x blocks (last_number h.commits) (rows_now h 1)) (sym step.same_shape) (step.holds told going) in
+    let held = subst (λ (x : Shape). Holds x blocks (last_scn h.commits) (rows_now h 1)) (sym step.same_shape) (step.holds told going) in
     let first = subst (λ (x : Shape). 1 ≤ x.blocks) (sym step.same_shape) step.in_range.few_blocks.0 in
     let last = subst (λ (x : Shape). c.args.table ≤ x.tables) (sym step.same_shape) table.1 in (
-      plain_there shape blocks (last_number h.commits) (rows_now h 1) c.args.table c.args.key held first table.0 last,
-      row_there shape blocks (last_number h.commits) (rows_now h 1) c.args.table c.args.key held first table.0 last ∙ row,
+      plain_there shape blocks (last_scn h.commits) (rows_now h 1) c.args.table c.args.key held first table.0 last,
+      row_there shape blocks (last_scn h.commits) (rows_now h 1) c.args.table c.args.key held first table.0 last ∙ row,
     )
 
 -- over blocks that hold the rows, nothing but a call that failed stands in the way
@@ -115,14 +115,14 @@ failed g c BlockFull is told =
     let home = rw (← c.self.view_is) at c.requires.home in
     let refused = c.in-Err.ensures.block_full told (ap Err (sym is)) in
     let inserts : adds (action_of c.args.op) ≡ true = sym (adds_same c.args.op) ∙ refused.0 in
-    absurd (false≢true (sym (home inserts) ∙ full_refused h (s.shape_of c.self.inside.store) (s.blocks c.self.inside.store) (last_number h.commits) c.args.table c.args.key
+    absurd (false≢true (sym (home inserts) ∙ full_refused h (s.shape_of c.self.inside.store) (s.blocks c.self.inside.store) (last_scn h.commits) c.args.table c.args.key
     step.same_shape step.alone (step.holds told going) step.in_range.few_blocks.0 table.0 table.1 refused.2 (row ∙ ap not inserts) (step.used told going)))
 failed g c WornOut is told =
     let few = rw (← c.self.view_is) at c.requires.few in
     let worn = c.in-Err.ensures.worn_out (ap Err (sym is)) in absurd (omega (arith, few, worn))
 failed g c LogFull is told =
     let room = rw (← c.self.view_is) at c.requires.room in
-    let enough = room_before (g.T.Store.slots c.self.inside.store) (g.T.Store.number c.self.inside.store) c.self.inside.state.spare room in
+    let enough = room_before (g.T.Store.slots c.self.inside.store) (g.T.Store.lsn c.self.inside.store) c.self.inside.state.spare room in
     let full = c.in-Err.ensures.log_full (ap Err (sym is)) in absurd (omega (arith, enough, full.1))
 
 pub returns-in-Err-clause-fault : goal.returns-in-Err-clause-fault

@@ -2,7 +2,7 @@ use Rattle.std.proofs.Common.{◌≡◌, ℕ, ◌+◌, ◌-◌, ◌<◌, ◌≤�
 use Rattle.rb_base.specs.Blocks.{IsShape}
 use Rattle.rb_model.specs.Full.{used_keys}
 use Rattle.rb_model.specs.Reply.{rows_now}
-use Rattle.rb_model.specs.Rows.{last_number}
+use Rattle.rb_model.specs.Rows.{last_scn}
 use Rattle.rb_model.specs.State.{State, session_of}
 use Rattle.rb_engine.specs.Holds.{Holds}
 use Rattle.rb_engine.proofs.FoundLemmas.{opened_now, used_few}
@@ -26,14 +26,14 @@ invariant_of-result g c =
           subst (λ (n : ℕ). slots - 1 - n ≤ c.in-Ok.state.spare) (sym loads.same_number) room;
       going = λ going. call.failed;
       numbers = λ going.
-          let last : last_number h.commits ≡ h.commits.base + 0 = ap (λ (x : State). last_number x.commits) call.base in
+          let last : last_scn h.commits ≡ h.commits.base + 0 = ap (λ (x : State). last_scn x.commits) call.base in
           let low = call.numbers in
           let same = loads.same_number in
           omega (arith, last, low, same);
       room = λ going some. absurd (none some);
       few = λ going some. absurd (none some);
       holds = λ told going.
-          subst (λ (b : List (List ℕ)). Holds h.shape b (last_number h.commits) (rows_now h 1)) (sym (loads.same_blocks told)) (opened_now (s.shape_of old) (s.blocks old) h (call.opened told));
+          subst (λ (b : List (List ℕ)). Holds h.shape b (last_scn h.commits) (rows_now h 1)) (sym (loads.same_blocks told)) (opened_now (s.shape_of old) (s.blocks old) h (call.opened told));
       used = λ told going table key.
           let opens = call.opened told in
           subst (λ (x : State). length (used_keys x table key) ≤ 16) (sym opens.state) (used_few (s.shape_of old) (s.blocks old) opens.number opens.rows opens.holds table key);

@@ -1,7 +1,7 @@
 use Rattle.std.proofs.Common.{◌≡◌, ◌+◌, length, refl, ap, sym, ◌∙◌, subst}
 use Rattle.std.specs.List.{AllByRecursion}
 use Rattle.rb_base.proofs.Each.{all_push}
-use Rattle.rb_model.specs.Rows.{last_number}
+use Rattle.rb_model.specs.Rows.{last_scn}
 use Rattle.rb_model.specs.Names.{name_text}
 use Rattle.rb_engine.specs.Kept.{Kept, IsOpened}
 use Rattle.rb_engine.proofs.KeptLemmas.{kept-cursors, opened_now, length-cut}
@@ -12,7 +12,7 @@ pub invariant_of-self : goal.invariant_of-self
 invariant_of-self c =
     let a = c.self.inside in
     let number : c.number.result ≡ a.base + length a.ends.items =
-    c.number.ensures.number ∙ ap (λ (k : Kept). last_number k.state.commits) (sym c.self.view_is) ∙ ap (λ n. a.base + n) (length-cut a.base_length a.ends.items a.versions.changes) in (
+    c.number.ensures.number ∙ ap (λ (k : Kept). last_scn k.state.commits) (sym c.self.view_is) ∙ ap (λ n. a.base + n) (length-cut a.base_length a.ends.items a.versions.changes) in (
       kept-cursors a.shape a.base a.base_length a.ends.items a.versions.changes a.cursors.items c.push.new.self.items _ _ c.self.invariant.0
           (subst (AllByRecursion (IsOpened a.base a.base_length a.ends.items (length a.versions.changes))) (sym c.push.ensures.items)
           (all_push (IsOpened a.base a.base_length a.ends.items (length a.versions.changes)) a.cursors.items _ c.self.invariant.0.each_cursor

@@ -1,5 +1,5 @@
 use Rattle.std.proofs.Common.{ap, sym, ◌∙◌}
-use Rattle.rb_model.specs.Reply as call
+use Rattle.rb_model.specs.Reply as machine
 use Rattle.rb_model.specs.Reply.{after_grant}
 use Rattle.rb_model.specs.Names.{name_text}
 use Rattle.rb_engine.proofs.KeptLemmas.{after_other_refusal}
@@ -15,4 +15,4 @@ pub returns-clause-answer : goal.returns-clause-answer
 returns-clause-answer c = λ logged room. c.in_default.ensures.granted logged room c.args.lo c.args.hi
 
 pub returns-clause-state : goal.returns-clause-state
-returns-clause-state c = c.keep_cursor.ensures.state ∙ ap (λ s. after_grant c.args.self.now.state (call.OpenCursor s (name_text c.args.name.now) c.args.table c.args.lo c.args.hi)) (sym c.in_default.ensures.session)
+returns-clause-state c = c.keep_cursor.ensures.state ∙ ap (λ s. after_grant c.args.self.now.state (machine.OpenCursor s (name_text c.args.name.now) c.args.table c.args.lo c.args.hi)) (sym c.in_default.ensures.session)

@@ -17,7 +17,7 @@ invariant_of-result g c =
         same_layout = ap (λ (x : LogState). x.layout) h.log_is;
         same_shape = h.shape_is;
         ended = ap (λ (x : LogState). x.scanned) h.log_is;
-        numbers = omega (arith, h.number, ap (λ (x : LogState). x.used) h.log_is, waiting);
+        numbers = omega (arith, h.lsn, ap (λ (x : LogState). x.used) h.log_is, waiting);
       },
       λ told. (h.file told).identity.whole,
       λ told going im here. subst (λ (f : List ℕ). SameSlots l.log (g.D.Disk.content c.open_parts.new.disk) f) (sym (h.only told im here)) (same_file l.log (g.D.Disk.content c.open_parts.new.disk)),

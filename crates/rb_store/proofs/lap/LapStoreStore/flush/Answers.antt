@@ -14,7 +14,7 @@ module _ (g : Over) (c : After-flush g) where
   abbrev store : LapState g.row.D.Denot
   store =
       let a = c.self.inside in
-      record { layout = a.layout; blocks = a.plain.blocks; pending = a.log.pending; number = a.plain.number; loaded = a.plain.loaded; failed = a.failed; disk = a.disk }
+      record { layout = a.layout; blocks = a.plain.blocks; pending = a.log.pending; lsn = a.plain.lsn; loaded = a.plain.loaded; failed = a.failed; disk = a.disk }
 
   -- the log has the stable groups
   used : (b : List (List ℕ)) (st : IsStable g.D.Disk.content g.D.Disk.image store b) → length st.groups ≡ c.self.inside.log.used

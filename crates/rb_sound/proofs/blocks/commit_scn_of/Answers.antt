@@ -6,7 +6,7 @@ use Rattle.rb_sound.specs.Loads.{no_load, more_loads}
 use Rattle.rb_base.specs.Blocks.{header_block}
 use Rattle.rb_sound.specs.Sound.{header_newest}
 use Rattle.rb_sound.proofs.Greatest.{greatest-zero, greatest_next}
-use Rattle.rb_sound.proofs.blocks.commit_number_of.Goals as goal
+use Rattle.rb_sound.proofs.blocks.commit_scn_of.Goals as goal
 
 pub loop-g-init : goal.loop-g-init
 loop-g-init g c =

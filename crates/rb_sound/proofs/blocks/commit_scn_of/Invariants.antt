@@ -3,7 +3,7 @@ use Rattle.rb_base.specs.Blocks.{block_of}
 use Rattle.rb_sound.specs.Loads.{OnlyLoads}
 use Rattle.rb_base.specs.Blocks.{greatest, header_block}
 use Rattle.rb_sound.specs.Sound.{header_newest}
-use Rattle.rb_sound.proofs.blocks.commit_number_of.Given as goal
+use Rattle.rb_sound.proofs.blocks.commit_scn_of.Given as goal
 
 abbrev pub invariant-loop-g : goal.invariant-loop-g
 invariant-loop-g g l = record {
