@@ -1,11 +1,11 @@
 -- What a group makes of one block: its own patches written over it in order, behind the log number in front.
-use Rattle.std.proofs.Common.{◌≡◌, ◌≢◌, ◌⊎◌, inl, inr, ℕ, ◌+◌, ◌-◌, ◌<◌, ◌≤◌, ◌==◌, Bool, true, false, if◌then◌else◌, List, [], ◌∷◌, ◌++◌, length, take, drop, refl, arith, ap, sym, ◌∙◌, subst}
+use Rattle.std.proofs.Common.{◌≡◌, ◌≢◌, ◌⊎◌, inl, inr, ℕ, ◌+◌, ◌-◌, ◌<◌, ◌≤◌, ◌==◌, Bool, true, false, if◌then◌else◌, List, [], ◌∷◌, ◌++◌, length, take, drop, refl, arith, ap, sym, ◌∙◌}
 use Rattle.std.proofs.lemmas.Bool.{cases_eq}
 use Rattle.std.proofs.lemmas.Bool.Decides.{nat_tests}
 use Rattle.std.specs.List.{AllByRecursion}
 use Rattle.byteorder.specs.Endian.{big_bytes}
 use Rattle.byteorder.specs.Numbers.{length-bytes_high_first}
-use Rattle.rb_base.specs.Blocks.{block_of, patched, after_patch, after_group, shape_blocks, written_to, behind_head as behind, OneBlock, AreBlocks}
+use Rattle.rb_base.specs.Blocks.{block_of, after_patch, after_group, shape_blocks, written_to, behind_head as behind, OneBlock, AreBlocks}
 use Rattle.rb_base.specs.Fields.{overwritten, with_number}
 use Rattle.rb_base.specs.Groups.{Patch, IsPatch}
 use Rattle.rb_base.specs.declared.shape.Shape.{Shape}

@@ -1,4 +1,6 @@
 //! The faults that the layers hand up to each other. The shell turns them into statuses.
+ghost use Rattle.std.specs.Prelude.{◌≡◌};
+
 use thiserror::Error;
 
 /// A call of the outside (disk, source or sink) failed. The object that was called has counted it.
@@ -23,4 +25,14 @@ pub enum OpenFault {
     /// The bytes are those of no store of this form.
     #[error("not a store")]
     NotAStore,
+}
+
+impl From<Failed> for OpenFault {
+    ghost use Rattle.rb_base.specs.declared.faults.OpenFault.TheVariants.{Failed};
+
+    ghost from_gives = { λ _ fault. fault ≡ Failed };
+
+    fn from(_failed: Failed) -> OpenFault {
+        OpenFault::Failed
+    }
 }

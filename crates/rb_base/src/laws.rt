@@ -5,5 +5,4 @@ ghost use Rattle.rb_base.specs.Blocks.{OneBlock};
 /// So a call that patches a copy of a block knows what the store's block reads as after its group.
 pub fn one_block()
     ensures { OneBlock }
-{
-}
+{}
