@@ -15,7 +15,8 @@ use Rattle.rb_heap.specs.Homes.{Home, home_of, empty_cell, empty_home, home_cell
 use Rattle.rb_heap.proofs.Blocks.{cell_alone}
 use Rattle.rb_heap.proofs.Fresh.{new_empty}
 use Rattle.rb_heap.proofs.Reading.{cells_counted}
-use Rattle.rb_write.specs.Values.{home_block, home_at, value_in, value_at, IsPlainHome, ArePlain}
+use Rattle.rb_base.specs.Blocks.{home_block}
+use Rattle.rb_write.specs.Values.{home_at, value_in, value_at, IsPlainHome, ArePlain}
 use Rattle.rb_write.specs.Writes.{adds, may_take, value_after, cell_after, ChangesHome, IsMade}
 use Rattle.rb_model.specs.declared.op.Op.{Op}
 use Rattle.rb_write.specs.declared.ask.Ask.{Ask}

@@ -1,17 +1,13 @@
 -- The values that a file's blocks hold, by table and key.
-use Rattle.std.specs.Prelude.{◌≡◌, ◌≢◌, ℕ, ◌+◌, ◌-◌, ◌*◌, ◌%◌, ◌<◌, ◌==◌}
+use Rattle.std.specs.Prelude.{◌≡◌, ◌≢◌, ℕ, ◌<◌, ◌==◌}
 use Rattle.std.specs.Prelude.{if◌then◌else◌, List, [], ◌∷◌, Option, None, Some}
-use Rattle.rb_base.specs.Blocks.{block_of, table_blocks}
+use Rattle.rb_base.specs.Blocks.{block_of, home_block, table_blocks}
 use Rattle.rb_base.specs.declared.shape.Shape.{Shape}
 use Rattle.rb_cell.specs.declared.cell.Cell.{Cell}
 use Rattle.rb_cell.specs.declared.cell.TheConstants.{ROW}
 use Rattle.rb_heap.specs.Homes.{Home, CellRow, home_of, home_cell, home_rows}
 
--- the block where the row of that key of a table, from 1 on, has its place
-abbrev pub home_block : Shape → ℕ → ℕ → ℕ
-home_block shape table key = (table - 1) * shape.blocks + key % shape.blocks
-
--- what that block says
+-- what the block says where the row of that key of a table has its place
 abbrev pub home_at : Shape → List (List ℕ) → ℕ → ℕ → Home
 home_at shape blocks table key = home_of (block_of blocks (home_block shape table key))
 

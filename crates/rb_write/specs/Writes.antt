@@ -1,13 +1,14 @@
 -- What a write of one key makes of its home, and what it is refused for.
-use Rattle.std.specs.Prelude.{◌≡◌, ℕ, ◌+◌, ◌^◌, ◌<◌, ◌≤◌, Bool, false, true, not, List, []}
+use Rattle.std.specs.Prelude.{◌≡◌, ℕ, ◌+◌, ◌<◌, ◌≤◌, Bool, false, true, not, List, []}
 use Rattle.std.specs.Prelude.{◌∷◌, length, Option, None, Some, is_some, Result, Ok, Err, ⊤}
-use Rattle.rb_base.specs.Blocks.{after_group}
+use Rattle.rb_base.specs.Blocks.{after_group, home_block}
 use Rattle.rb_base.specs.declared.shape.Shape.{Shape}
+use Rattle.rb_base.specs.declared.sizes.TheConstants.{VALUE_BYTES, WORN}
 use Rattle.rb_cell.specs.declared.cell.Cell.{Cell}
 use Rattle.rb_cell.specs.declared.cell.TheConstants.{ROW, STUB}
 use Rattle.rb_cell.specs.Cells.{cell_patch}
 use Rattle.rb_heap.specs.Homes.{Home, home_cell, home_rows, with_home_cell, is_keyed, is_free, IsFirst, IsNowhere}
-use Rattle.rb_write.specs.Values.{home_block, home_at, value_in}
+use Rattle.rb_write.specs.Values.{home_at, value_in}
 use Rattle.rb_write.specs.declared.ask.Ask.{Ask}
 use Rattle.rb_write.specs.declared.ask.AttemptFault.{AttemptFault}
 use Rattle.rb_write.specs.declared.ask.AttemptFault.TheVariants.{Failed, Duplicate, NotFound, BlockFull, WornOut}
@@ -24,8 +25,8 @@ adds None = false
 
 -- a value has room in its cell
 abbrev pub IsShort : Option Op → Type 0
-IsShort (Some (Insert value)) = length value.now ≤ 80
-IsShort (Some (Update value)) = length value.now ≤ 80
+IsShort (Some (Insert value)) = length value.now ≤ VALUE_BYTES
+IsShort (Some (Update value)) = length value.now ≤ VALUE_BYTES
 IsShort (Some Delete) = ⊤
 IsShort None = ⊤
 
@@ -100,8 +101,8 @@ HomeRefuses LogFull op key home = ⊥
 
 -- why a log refuses one more group, by the last log number and the room that is left
 abbrev pub LogRefuses : AttemptFault → ℕ → ℕ → Type 0
-LogRefuses WornOut number room = 2 ^ 60 ≤ number
-LogRefuses LogFull number room = (number < 2 ^ 60) × (room < 2)
+LogRefuses WornOut number room = WORN ≤ number
+LogRefuses LogFull number room = (number < WORN) × (room < 2)
 LogRefuses Failed number room = ⊥
 LogRefuses Duplicate number room = ⊥
 LogRefuses NotFound number room = ⊥

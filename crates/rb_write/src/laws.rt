@@ -3,14 +3,15 @@ ghost use Rattle.std.specs.Prelude.{◌≡◌, ℕ, ◌<◌, ◌≤◌, length, 
 ghost use Rattle.rb_base.specs.Blocks.{fresh_blocks, table_blocks};
 ghost use Rattle.rb_base.specs.declared.shape.Shape.{Shape};
 ghost use Rattle.rb_heap.specs.Homes.{Home, home_cell, home_rows, is_keyed, IsFirst, IsNowhere};
-ghost use Rattle.rb_write.specs.Values.{home_block as home_block_of, value_in, value_at, IsPlainHome, ArePlain};
+ghost use Rattle.rb_base.specs.Blocks.{home_block};
+ghost use Rattle.rb_write.specs.Values.{value_in, value_at, IsPlainHome, ArePlain};
 
 /// Where rows have their place: in a block of rows, and no two tables in the same one. A new file has no row.
 pub fn values_placed()
     ensures of_rows { (shape : Shape) (table key : ℕ) → 1 ≤ shape.blocks → 1 ≤ table
-        → table ≤ shape.tables → home_block_of shape table key < table_blocks shape }
+        → table ≤ shape.tables → home_block shape table key < table_blocks shape }
     ensures apart { (shape : Shape) (table key other k : ℕ) → 1 ≤ shape.blocks → 1 ≤ table → 1 ≤ other
-        → home_block_of shape table key ≡ home_block_of shape other k → table ≡ other }
+        → home_block shape table key ≡ home_block shape other k → table ≡ other }
     ensures new_plain { (shape : Shape) → ArePlain shape (fresh_blocks shape) }
     ensures new_values { (shape : Shape) (table key : ℕ) → 1 ≤ shape.blocks → 1 ≤ table
         → table ≤ shape.tables → value_at shape (fresh_blocks shape) table key ≡ None }

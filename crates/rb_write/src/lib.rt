@@ -9,5 +9,4 @@ mod write;
 
 pub use ask::{Ask, AttemptFault};
 pub use laws::{value_read, values_placed};
-pub use place::home_block;
 pub use write::attempt;

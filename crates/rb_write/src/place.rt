@@ -1,49 +1,25 @@
-//! Where a key's row has its place, and the cell that a write of it makes there. `attempt` calls it.
-ghost use Rattle.std.specs.Prelude.{◌≡◌, ◌<◌, ◌≤◌, length, true, IfOk, IfErr};
-ghost use Rattle.rb_base.specs.Blocks.{table_blocks, IsShape};
+//! The cell that a write of a key makes in its block. `attempt` calls it.
+ghost use Rattle.std.specs.Prelude.{◌≡◌, ◌≤◌, length, true, IfOk, IfErr};
 ghost use Rattle.rb_heap.specs.Homes.{home_of, home_cell, is_keyed, IsFirst, IsNowhere};
-ghost use Rattle.rb_write.specs.Values.{home_block as home_block_of};
 ghost use Rattle.rb_write.specs.Writes.{adds, may_take, cell_after, IsShort, HomeRefuses};
 
 use crate::ask::AttemptFault;
 use arrayvec::ArrayVec;
-use rb_base::{BlockNo, Shape};
+use rb_base::{UNIT, VALUE_BYTES, array_of};
 use rb_cell::{Cell, ROW, STUB, cells};
 use rb_heap::{find, free_cell};
 use rb_model::Op;
 
-/// The block where row `key` of a table, 1 to `tables`, has its place.
-pub fn home_block(shape: Shape, table: u16, key: u64) -> BlockNo
-    requires shape { IsShape shape }
-    requires table { (1 ≤ table) × (table ≤ shape.tables) }
-    ensures block { result ≡ home_block_of shape table key }
-    ensures of_rows { result < table_blocks shape }
-{
-    u32::from(table - 1) * shape.blocks + (key % u64::from(shape.blocks)) as u32
-}
-
-/// A value in the form of a cell's.
-fn short_value(bytes: &[u8]) -> ArrayVec<u8, 80>
-    requires { length bytes.now ≤ 80 }
-    ensures { result.items ≡ bytes.now }
-{
-    let mut value = ArrayVec::new();
-    if value.try_extend_from_slice(bytes).is_err() {
-        unreachable!()
-    }
-    value
-}
-
 /// The row of a key in an unlocked cell.
 fn row(key: u64, bytes: &[u8]) -> Cell
-    requires { length bytes.now ≤ 80 }
+    requires { length bytes.now ≤ VALUE_BYTES }
     ensures { result ≡ record { state = ROW; lock = 0; key = key; value = record { items = bytes.now } } }
 {
     Cell {
         state: ROW,
         lock: 0,
         key,
-        value: short_value(bytes),
+        value: array_of(bytes),
     }
 }
 
@@ -66,7 +42,7 @@ fn new_cell(key: u64, op: Option<Op<'_>>, old: Cell) -> Cell
 
 /// The place that a write takes in its block.
 fn place_for(block: &[u8], key: u64, op: Option<Op<'_>>) -> Result<u8, AttemptFault>
-    requires { length block.now ≡ 2048 }
+    requires { length block.now ≡ UNIT }
     ensures first { IfOk result (λ c. IsFirst (may_take op.entry key) (home_of block.now).cells c) }
     ensures new_key { IfOk result (λ c. adds op.entry ≡ true
         → IsNowhere (is_keyed key) (home_of block.now).cells) }
@@ -85,7 +61,7 @@ pub(crate) fn cell_for(
     key: u64,
     op: Option<Op<'_>>,
 ) -> Result<(u8, Cell), AttemptFault>
-    requires block { length block.now ≡ 2048 }
+    requires block { length block.now ≡ UNIT }
     requires short { IsShort op }
     ensures first { IfOk result (λ r. IsFirst (may_take op.entry key) (home_of block.now).cells r.0) }
     ensures cell { IfOk result (λ r. r.1 ≡ cell_after op.entry key (home_cell (home_of block.now) r.0)) }

@@ -6,7 +6,8 @@ use Rattle.rb_cell.specs.declared.cell.Cell.{Cell}
 use Rattle.rb_cell.specs.Cells.{cell_patch}
 use Rattle.rb_heap.specs.Homes.{home_of, is_free, is_keyed, IsFirst, IsNowhere}
 use Rattle.rb_heap.proofs.Reading.{cells_counted}
-use Rattle.rb_write.specs.Values.{home_block, home_at}
+use Rattle.rb_base.specs.Blocks.{home_block}
+use Rattle.rb_write.specs.Values.{home_at}
 use Rattle.rb_write.specs.Writes.{HasPlace}
 use Rattle.rb_write.proofs.Changed.{home_missing, home_found, home_takes}
 use Rattle.rb_write.specs.declared.ask.AttemptFault.{AttemptFault}
@@ -18,7 +19,7 @@ use Rattle.rb_write.proofs.write.attempt.Goals as goal
 
 -- the block that is written is the key's
 place : (g : Over) (c : goal.After-default g) → c.home_block-no.result ≡ home_block (g.S.Store.shape_of c.args.store.now) c.args.ask.now.table c.args.ask.now.key
-place g c = c.home_block-no.ensures.block ∙ ap (λ (s : Shape). home_block s c.args.ask.now.table c.args.ask.now.key) c.shape.ensures.shape
+place g c = c.home_block-no.ensures.number ∙ ap (λ (s : Shape). home_block s c.args.ask.now.table c.args.ask.now.key) c.shape.ensures.shape
 
 -- the group has the cell's patch alone
 patches : (g : Over) (c : goal.After-default g) → c.put_cell.new.group ≡ cell_patch c.home_block-no.result c.in_ok-c.c c.in_ok-c.cell ∷ []
@@ -29,9 +30,9 @@ patched : (g : Over) (c : goal.After-default g) → g.S.Store.tells → g.S.Stor
 patched g c told =
     let one = cell_patch c.home_block-no.result c.in_ok-c.c c.in_ok-c.cell ∷ [] in
     c.in-Ok.ensures.blocks told
-    ∙ ap (λ (group : List Patch). after_group (g.S.Store.lsn c.prepared.new.store + 1) group (g.S.Store.blocks c.prepared.new.store)) (patches g c)
-    ∙ ap (λ (number : ℕ). after_group (number + 1) one (g.S.Store.blocks c.prepared.new.store)) c.in_ok-c.ensures.number
-    ∙ ap (after_group (g.S.Store.lsn c.args.store.now + 1) one) (c.in_ok-c.ensures.blocks told)
+    ∙ ap (λ (group : List Patch). after_group (g.S.Store.lsn c.prepare_cell.new.store + 1) group (g.S.Store.blocks c.prepare_cell.new.store)) (patches g c)
+    ∙ ap (λ (number : ℕ). after_group (number + 1) one (g.S.Store.blocks c.prepare_cell.new.store)) c.in_ok-c.ensures.only_loads.same_lsn
+    ∙ ap (after_group (g.S.Store.lsn c.args.store.now + 1) one) (c.in_ok-c.ensures.only_loads.same_blocks told)
 
 written : (g : Over) (c : goal.After-default g) → g.S.Store.tells → Writes (g.S.Store.shape_of c.args.store.now) c.args.ask.now.op c.args.ask.now.table c.args.ask.now.key (g.S.Store.blocks c.args.store.now) (g.S.Store.blocks c.apply.new.self)
 written g c told =
@@ -39,9 +40,9 @@ written g c told =
     let old = g.S.Store.blocks c.args.store.now in
     let number = g.S.Store.lsn c.args.store.now + 1 in
     let which = c.home_block-no.result in
-    let rows = c.home_block-no.ensures.of_rows in
+    let rows = c.home_block-no.ensures.there in
     let within : which < table_blocks shape = subst (λ (s : Shape). which < table_blocks s) c.shape.ensures.shape rows in
-    let are = subst (λ (s : Shape). AreBlocks s old) c.in_ok-c.ensures.shape (subst (AreBlocks (g.S.Store.shape_of c.prepared.new.store)) (c.in_ok-c.ensures.blocks told) (c.in_ok-c.ensures.whole told)) in
+    let are = subst (λ (s : Shape). AreBlocks s old) c.in_ok-c.ensures.only_loads.same_shape (subst (AreBlocks (g.S.Store.shape_of c.prepare_cell.new.store)) (c.in_ok-c.ensures.only_loads.same_blocks told) (c.in_ok-c.ensures.whole told)) in
     writes shape c.args.ask.now.op c.args.ask.now.table c.args.ask.now.key which c.in_ok-c.c number c.in_ok-c.cell old (g.S.Store.blocks c.apply.new.self)
     (place g c) are (omega (arith, within)) (omega arith) (c.in_ok-c.ensures.first told) (c.in_ok-c.ensures.new_key told) (c.in_ok-c.ensures.cell told) c.put_cell.ensures.sound (patched g c told)
 
@@ -58,7 +59,7 @@ returns-in-Ok-clause-patch g c keeps =
       c.in_ok-c.c,
       cell,
       c.in-Ok.ensures.pending keeps
-          ∙ ap (λ (waiting : List (List Patch)). waiting ++ group ∷ []) (c.in_ok-c.ensures.pending keeps)
+          ∙ ap (λ (waiting : List (List Patch)). waiting ++ group ∷ []) (c.in_ok-c.ensures.only_loads.same_pending keeps)
           ∙ ap (λ (last : List Patch). old ++ last ∷ []) (patches g c ∙ ap (λ (b : ℕ). cell_patch b c.in_ok-c.c cell ∷ []) (place g c)),
     )
 
@@ -77,7 +78,7 @@ pub returns-in-Ok-clause-plain : goal.returns-in-Ok-clause-plain
 returns-in-Ok-clause-plain g c told =
     all_plain (g.S.Store.shape_of c.args.store.now) c.args.ask.now.op c.args.ask.now.table c.args.ask.now.key (g.S.Store.blocks c.args.store.now) (g.S.Store.blocks c.apply.new.self) (written g c told)
     (subst (λ (s : Shape). home_block s c.args.ask.now.table c.args.ask.now.key < table_blocks s) c.shape.ensures.shape
-    (subst (λ (b : ℕ). b < table_blocks c.shape.result) c.home_block-no.ensures.block c.home_block-no.ensures.of_rows))
+    (subst (λ (b : ℕ). b < table_blocks c.shape.result) c.home_block-no.ensures.number c.home_block-no.ensures.there))
 
 pub returns-in-Ok-clause-taken : goal.returns-in-Ok-clause-taken
 returns-in-Ok-clause-taken g c told plain =
@@ -87,7 +88,7 @@ returns-in-Ok-clause-taken g c told plain =
 
 -- the block that was searched is the key's
 searched : (g : Over) (c : goal.After-from_residual g) → c.home_block-no.result ≡ home_block (g.S.Store.shape_of c.args.store.now) c.args.ask.now.table c.args.ask.now.key
-searched g c = c.home_block-no.ensures.block ∙ ap (λ (s : Shape). home_block s c.args.ask.now.table c.args.ask.now.key) c.shape.ensures.shape
+searched g c = c.home_block-no.ensures.number ∙ ap (λ (s : Shape). home_block s c.args.ask.now.table c.args.ask.now.key) c.shape.ensures.shape
 
 pub returns-in_err-c-clause-duplicate : goal.returns-in_err-c-clause-duplicate
 returns-in_err-c-clause-duplicate g c told plain is =
