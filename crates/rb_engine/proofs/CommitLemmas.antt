@@ -14,16 +14,18 @@ use Rattle.rb_model.specs.State.{State, Session, Cursor, fresh_session, session_
 use Rattle.rb_model.specs.Full.{used_keys}
 use Rattle.std.specs.Prelude.{slice_index_or, slice_set}
 use Rattle.std.proofs.Math.Nat.{mul-le-mul_right}
-use Rattle.rb_sound.specs.Sound.{scn_patch}
-use Rattle.rb_sound.proofs.CommitWritten.{commit_next, commit_numbered, rows_kept, sound_with_commit}
+use Rattle.rb_segment.specs.Segments.{scn_patch}
+use Rattle.rb_segment.proofs.ScnWritten.{commit_next, commit_numbered, rows_kept}
+use Rattle.rb_sound.proofs.CommitWritten.{sound_with_commit}
 use Rattle.rb_write.specs.Values.{home_block, value_in, IsPlainHome}
 use Rattle.rb_write.proofs.Placed.{row_block}
 use Rattle.std.specs.List.{list_any}
-use Rattle.rb_engine.specs.Crash.{IsDurable, Survives}
+use Rattle.rb_engine.specs.Crash.{IsDurable, Survives, has_rows}
 use Rattle.rb_engine.specs.Engine.{IsInStep}
-use Rattle.rb_engine.specs.Holds.{Holds, AHEAD}
+use Rattle.rb_engine.specs.Holds.{Holds}
+use Rattle.rb_engine.specs.declared.open.TheConstants.{AHEAD}
 use Rattle.rb_engine.specs.Kept.{Kept}
-use Rattle.rb_engine.proofs.CrashLemmas.{commit_done, commit_failed, holds_committed, number_committed, rows_committed}
+use Rattle.rb_engine.proofs.CrashLemmas.{commit_done, commit_failed, has_committed, number_committed, rows_committed, rows_later}
 use Rattle.rb_engine.proofs.UsedLemmas.{sessions_committed, the_one, used_after_commit}
 
 -- the blocks with the number of one more commit
@@ -120,20 +122,20 @@ module _ {S : Type 0} (s : Ghosts S) (left_opens : (store : S) (b : List (List �
 
   pub survives_committed : s.shape_of new ≡ s.shape_of old → s.slots new ≡ s.slots old → s.blocks new ≡ Made → s.stable new (s.blocks new) → s.pending new ≡ [] → Written → IsDurable s kept.state old → Survives s (s.slots old) kept.state (committed kept.state 1) old new
   survives_committed shape slots blocks stable flushed any st =
-      let held = holds_committed_now s kept old number going is few told step in
+      let held = has_committed kept.state Made (holds_committed_now s kept old number going is few told step) in
       let now_stable = subst (s.stable new) blocks stable in
-      commit_done s (s.slots old) kept.state old new st.base Made st.holds held (written st any) (λ i le here. counts new (s.moment old) i le here)
+      commit_done has_rows rows_later s (s.slots old) kept.state old new st.base Made st.holds held (written st any) (λ i le here. counts new (s.moment old) i le here)
       (λ i here. subst (λ (k : Shape). s.opens k (s.slots old) i Made) (shape ∙ step.same_shape) (subst (λ (n : Option ℕ). s.opens (s.shape_of new) n i Made) slots (left_opens new Made i now_stable here)))
       (record {
         base = Made;
         stable = now_stable;
-        holds = holds_committed s (s.slots old) kept.state old new st.base Made st.holds held (written st any) (λ i le here. counts new (s.moment old) i le here);
+        holds = held;
         quiet = subst (λ (gs : List (List Patch)). list_any (patches_block (commit_block kept.state.shape)) gs ≡ false) (sym flushed) refl;
       })
 
   pub survives_failed : is_empty (session_of kept.state 1).own ≡ false → Written → IsDurable s kept.state old → Survives s (s.slots old) kept.state (record kept.state { stopped = true }) old new
   survives_failed some any st =
-      commit_failed s (s.slots old) kept.state old new st.base Made st.holds (holds_committed_now s kept old number going is few told step) (written st any) (λ i le here. counts new (s.moment old) i le here) some
+      commit_failed has_rows rows_later s (s.slots old) kept.state old new st.base Made st.holds (has_committed kept.state Made (holds_committed_now s kept old number going is few told step)) (written st any) (λ i le here. counts new (s.moment old) i le here) some
 
 pub some_own : (changes : List Change) → 0 < length changes → is_empty changes ≡ false
 some_own [] some = absurd (omega (arith, some))

@@ -22,7 +22,8 @@ use Rattle.rb_model.specs.Rows.{Commits, TableRow, last_scn, rows_at}
 use Rattle.rb_model.specs.State.{State, session_of}
 use Rattle.rb_engine.specs.Crash.{IsDurable}
 use Rattle.rb_engine.specs.Engine.{IsInStep, refusal_of, room_left}
-use Rattle.rb_engine.specs.Holds.{Holds, AHEAD}
+use Rattle.rb_engine.specs.Holds.{Holds}
+use Rattle.rb_engine.specs.declared.open.TheConstants.{AHEAD}
 use Rattle.rb_engine.specs.Kept.{Kept}
 use Rattle.rb_engine.proofs.UsedLemmas.{used_same, held_one, sessions_after, the_one}
 

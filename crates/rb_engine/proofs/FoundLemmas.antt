@@ -24,13 +24,15 @@ use Rattle.rb_model.specs.Reply.{rows_now}
 use Rattle.rb_model.specs.Rows.{TableRow, is_row_of, last_scn, over, rows_at, value_of, with_row}
 use Rattle.rb_model.specs.State.{State, opened, session_of}
 use Rattle.rb_heap.specs.Soundness.{AreCellsSound, AreKeysApart}
-use Rattle.rb_sound.specs.Sound.{commit_lsn, commit_scn, AreSound}
+use Rattle.rb_sound.specs.Sound.{AreSound}
+use Rattle.rb_segment.specs.Segments.{commit_lsn, commit_scn}
 use Rattle.rb_model.proofs.Order.{row_same}
 use Rattle.rb_model.proofs.RowLemmas.{all-with_row, ordered-over}
 use Rattle.rb_write.specs.Values.{home_at, home_block, value_at, value_in, LocksRows, ArePlain, IsPlainHome}
 use Rattle.rb_write.proofs.Placed.{row_block}
 use Rattle.rb_engine.specs.Found.{put_row, rows_below, rows_found, table_of, table_row}
-use Rattle.rb_engine.specs.Holds.{CanOpen, Holds, OpensAs, AHEAD}
+use Rattle.rb_engine.specs.Holds.{CanOpen, Holds, OpensAs}
+use Rattle.rb_engine.specs.declared.open.TheConstants.{AHEAD}
 use Rattle.rb_engine.proofs.FullLemmas.{distinct_once}
 use Rattle.rb_engine.proofs.KeptLemmas.{over-append}
 use Rattle.rb_engine.proofs.ValueLemmas.{value-with_row}

@@ -7,7 +7,7 @@ use Rattle.rb_heap.proofs.Reading.{cell_read}
 use Rattle.rb_model.specs.Rows.{TableRow}
 use Rattle.rb_write.specs.Values.{LocksRows}
 use Rattle.rb_engine.specs.Holds.{CanOpen, Holds}
-use Rattle.rb_sound.specs.Sound.{commit_lsn}
+use Rattle.rb_segment.specs.Segments.{commit_lsn}
 
 pub can_open_held : (shape : Shape) (blocks : List (List ℕ)) (n number : ℕ) (rows : List TableRow) → commit_lsn shape blocks ≤ number → Holds shape blocks n rows → CanOpen shape blocks number
 can_open_held shape blocks n number rows last held = record {

@@ -7,7 +7,7 @@ use Rattle.std.specs.Prelude.{OnOk}
 use Rattle.std.specs.List.{list_any}
 use Rattle.rb_base.specs.Blocks.{after_groups, commit_block, patches_block, up_to_last}
 use Rattle.rb_base.specs.Groups.{Patch}
-use Rattle.rb_base.specs.Moments.{LeavesOnly, NoMore, Passes, begun, goes_on, joined, weaker}
+use Rattle.rb_base.specs.Moments.{LeavesNoMore, LeavesOnly, joined, still_leaves, weaker}
 use Rattle.rb_base.specs.Stores.{AfterSome, after_pending}
 use Rattle.rb_base.specs.declared.shape.Shape.{Shape}
 use Rattle.rb_base.specs.declared.store.Store.{Ghosts}
@@ -87,22 +87,17 @@ module _ {S : Type 0} (s : Ghosts S) (left_opens : (store : S) (b : List (List �
   was_left : (old : S) (b : List (List ℕ)) (i : s.image) → s.stable old b → s.left old i → IsLeft old b i
   was_left old b i stable here = (b, left_opens old b i stable here, inl refl)
 
-  pub before_flush : (old mid : S) (b : List (List ℕ)) → s.stable old b → NoMore (s.left old) (s.left mid) → Passes (s.moment old) (s.moment mid) (s.left_since old) (s.left_since mid) (s.left mid)
-      → LeavesOnly s.moment s.left_since old mid (IsLeft old b)
-  before_flush old mid b stable fewer passes =
-      goes_on s.moment s.left_since old old mid (IsLeft old b) (s.left mid)
-      (begun s.moment s.left_since old (IsLeft old b) (λ i left. was_left old b i stable (only_now old i left)))
-      passes (λ i here. was_left old b i stable (fewer i here))
+  pub before_flush : (old mid : S) (b : List (List ℕ)) → s.stable old b → LeavesNoMore s.left s.moment s.left_since old mid → LeavesOnly s.moment s.left_since old mid (IsLeft old b)
+  before_flush old mid b stable still = still_leaves s.left s.moment s.left_since old mid (IsLeft old b) (λ i. only_now old i) (λ i here. was_left old b i stable here) still
 
-  pub over_flush : (old mid new : S) (b : List (List ℕ)) (groups : List (List Patch)) (group : List Patch) → s.stable old b → NoMore (s.left old) (s.left mid)
-      → Passes (s.moment old) (s.moment mid) (s.left_since old) (s.left_since mid) (s.left mid)
+  pub over_flush : (old mid new : S) (b : List (List ℕ)) (groups : List (List Patch)) (group : List Patch) → s.stable old b → LeavesNoMore s.left s.moment s.left_since old mid
       → s.shape_of mid ≡ s.shape_of old → s.slots mid ≡ s.slots old → s.shape_of new ≡ s.shape_of mid → s.slots new ≡ s.slots mid
       → s.pending mid ≡ groups ++ group ∷ [] → list_any (patches_block (commit_block (s.shape_of old))) groups ≡ false → patches_block (commit_block (s.shape_of old)) group ≡ true
       → now ≡ after_pending (s.lsn mid) (s.pending mid) b
       → LeavesOnly s.moment s.left_since mid new (λ i. (x : List (List ℕ)) × s.opens (s.shape_of new) (s.slots new) i x × AfterSome (commit_block (s.shape_of mid)) (s.lsn mid) (s.pending mid) b x)
       → LeavesOnly s.moment s.left_since old new (IsLeft old b)
-  over_flush old mid new b groups group stable fewer passes shape slots shape2 slots2 pending none is patched flush =
-      joined s.moment s.left_since old mid new (IsLeft old b) (before_flush old mid b stable fewer passes)
+  over_flush old mid new b groups group stable still shape slots shape2 slots2 pending none is patched flush =
+      joined s.moment s.left_since old mid new (IsLeft old b) (before_flush old mid b stable still)
       (weaker s.moment s.left_since mid new _ (IsLeft old b) (λ i cut. after i cut) flush)
     where
       after : (i : s.image) → (x : List (List ℕ)) × s.opens (s.shape_of new) (s.slots new) i x × AfterSome (commit_block (s.shape_of mid)) (s.lsn mid) (s.pending mid) b x → IsLeft old b i

@@ -22,7 +22,8 @@ use Rattle.rb_model.specs.State.{State, session_of}
 use Rattle.rb_model.specs.declared.op.Op.{Op}
 use Rattle.rb_model.specs.declared.op.Op.TheVariants.{Insert, Update, Delete}
 use Rattle.rb_heap.specs.Soundness.{AreKeysApart}
-use Rattle.rb_sound.specs.Sound.{commit_lsn, commit_scn, AreSound}
+use Rattle.rb_sound.specs.Sound.{AreSound}
+use Rattle.rb_segment.specs.Segments.{commit_lsn, commit_scn}
 use Rattle.rb_sound.proofs.CellWritten.{sound_with_cell, commit_stays, logged_stays}
 use Rattle.rb_versions.proofs.HomeLemmas.{distinct_none}
 use Rattle.rb_model.proofs.RowLemmas.{ordered-over}

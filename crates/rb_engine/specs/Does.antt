@@ -8,6 +8,11 @@ use Rattle.rb_engine.specs.Crash.{IsDurable, Survives}
 use Rattle.rb_engine.specs.Engine.{EngineView, room_left}
 use Rattle.rb_engine.specs.Holds.{OpensAs}
 
+-- No call changes the shape of a store, or the slots of its log.
+pub record SameStore {S : Type 0} (s : Ghosts S) (old new : S) : Type 0 where
+  pub shape : s.shape_of new ≡ s.shape_of old
+  pub slots : s.slots new ≡ s.slots old
+
 -- An engine stands for a state: its memory is that state, and unless it is stopped a crash leaves all its commits. An
 -- engine over a store that tells nothing stands for none.
 pub record Stands {S : Type 0} (s : Ghosts S) (h : State) (e : EngineView S) : Type 0 where
@@ -28,11 +33,6 @@ pub record Does {S : Type 0} (s : Ghosts S) (h : State) (call : Call) (answer : 
   pub number : (after h call answer).stopped ≡ false → s.lsn new.store ≡ s.lsn old.store + groups
   pub survives : h.stopped ≡ false → s.tells_crashes
       → Survives s (s.slots old.store) h (after h call answer) old.store new.store
-
--- No call changes the shape of a store, or the slots of its log.
-pub record SameStore {S : Type 0} (s : Ghosts S) (old new : S) : Type 0 where
-  pub shape : s.shape_of new ≡ s.shape_of old
-  pub slots : s.slots new ≡ s.slots old
 
 -- An engine that was opened over these blocks stands for the state to which they open.
 pub record StandsOpened {S : Type 0} (s : Ghosts S) (shape : Shape) (blocks : List (List ℕ)) (e : EngineView S) : Type

@@ -6,16 +6,13 @@ use Rattle.rb_base.specs.declared.shape.Shape.{Shape}
 use Rattle.rb_cell.specs.Cells.{cell_at}
 use Rattle.rb_model.specs.Rows.{TableRow, InOrder, value_of}
 use Rattle.rb_model.specs.State.{State, opened}
-use Rattle.rb_sound.specs.Sound.{commit_lsn, commit_scn, AreSound}
+use Rattle.rb_segment.specs.Segments.{commit_lsn, commit_scn}
+use Rattle.rb_sound.specs.Sound.{AreSound}
 use Rattle.rb_write.specs.Values.{value_at, LocksRows, ArePlain}
-
--- How far a commit number may be above a log number: a commit has a next number as long as groups are logged.
-abbrev pub AHEAD : ℕ
-AHEAD = 2 ^ 63 + 2 ^ 62
+use Rattle.rb_engine.specs.declared.open.TheConstants.{AHEAD}
 
 -- The blocks are in order, and nothing in them but rows is locked. They hold these rows and no others, each once, and
--- this commit
--- number, which isn't too far above the log number of the block that commits patch.
+-- this commit number, which isn't too far above the log number of the block that commits patch.
 pub record Holds (shape : Shape) (blocks : List (List ℕ)) (number : ℕ) (rows : List TableRow) : Type 0 where
   pub whole : AreBlocks shape blocks
   pub sound : AreSound shape blocks
@@ -28,8 +25,7 @@ pub record Holds (shape : Shape) (blocks : List (List ℕ)) (number : ℕ) (rows
   pub order : InOrder shape.blocks rows
 
 -- What an opening tests: the blocks are in order, nothing in them but rows is locked, the commit number isn't too far
--- above the log
--- number of the block that commits patch, and that isn't above the last one given.
+-- above the log number of the block that commits patch, and that isn't above the last one given.
 pub record CanOpen (shape : Shape) (blocks : List (List ℕ)) (number : ℕ) : Type 0 where
   pub sound : AreSound shape blocks
   pub unlocked : (b c : ℕ) → b < table_blocks shape → c < 16 → LocksRows (cell_at (block_of blocks b) c)

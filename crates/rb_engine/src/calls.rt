@@ -14,8 +14,7 @@ use rb_model::{Fetched, Name, Op, Refusal, Row, Wrote};
 
 impl<T: Store> Engine<T> {
     /// Inserts, updates or deletes the row of a key. It may be refused, and then nothing is changed, unless a call of
-    /// the
-    /// store failed.
+    /// the store failed.
     pub fn write(&mut self, s: u16, table: u16, key: u64, op: Op<'_>) -> Result<Wrote, Refusal>
         ensures did { (h : State) → Stands T.Store h self.old → Does T.Store h
             (machine.Write s table key (action_of op.entry)) (write_answer result) self.old self.new }

@@ -16,20 +16,18 @@ ghost use Rattle.rb_model.specs.Reply.{is_disk_fault, Reply, rows_now};
 ghost use Rattle.rb_model.specs.Reply as machine;
 ghost use Rattle.rb_model.specs.Rows.{has_row, last_scn};
 ghost use Rattle.rb_model.specs.State.{session_of};
-ghost use Rattle.rb_sound.specs.Sound.{scn_patch};
+ghost use Rattle.rb_segment.specs.Segments.{scn_patch};
 ghost use Rattle.rb_write.specs.Writes.{IsShort};
 ghost use Rattle.rb_engine.specs.Crash.{IsDurable, Survives};
+ghost use Rattle.rb_engine.specs.Does.{SameStore};
 ghost use Rattle.rb_engine.specs.Engine.{EngineView, refusal_of, room_left};
 
 use crate::state::EngineState;
-use rb_base::{Failed, Group, Scn, Shape, Store};
+use rb_base::{Failed, Group, Scn, Shape, Store, WORN};
 use rb_model::{Fetched, Name, Op, Refusal, Row, Wrote};
-use rb_sound::commit_group;
+use rb_segment::commit_group;
 use rb_write::{Ask, AttemptFault, attempt};
 use std::marker::Model;
-
-/// As many groups, and the log numbers are used up.
-const WORN: u64 = 1 << 60;
 
 /// One session over the blocks of a store. A call that answers `DiskFault` stops it for good; then the store is opened
 /// again.
@@ -72,18 +70,17 @@ fn refuse(state: &mut EngineState, fault: AttemptFault) -> Refusal
 fn write_scn<T: Store>(store: &mut T, number: Scn) -> Result<(), Failed>
     requires going { T.failed store.old ≡ false }
     requires room { 1 ≤ room_of (T.slots store.old) (T.lsn store.old) }
-    requires few { T.lsn store.old ≤ 2 ^ 60 }
+    requires few { T.lsn store.old ≤ WORN }
     ensures blocks { T.tells → OnOk result (T.blocks store.new
         ≡ after_group (T.lsn store.old + 1) (scn_patch (T.shape_of store.old) number ∷ [])
         (T.blocks store.old)) }
     ensures number { OnOk result (T.lsn store.new ≡ T.lsn store.old + 1) }
-    ensures shape { T.shape_of store.new ≡ T.shape_of store.old }
-    ensures slots { T.slots store.new ≡ T.slots store.old }
-    ensures stable { T.tells → T.tells_crashes → OnOk result ((b : List (List ℕ)) → T.stable store.old b
+    ensures same { SameStore T.Store store.old store.new }
+    ensures stable { T.tells_crashes → OnOk result ((b : List (List ℕ)) → T.stable store.old b
         → list_any (patches_block (commit_block (T.shape_of store.old))) (T.pending store.old) ≡ false
         → T.stable store.new (T.blocks store.new)) }
     ensures flushed { T.tells_crashes → OnOk result (T.pending store.new ≡ []) }
-    ensures any_moment { T.tells → T.tells_crashes → (b : List (List ℕ)) → T.stable store.old b
+    ensures any_moment { T.tells_crashes → (b : List (List ℕ)) → T.stable store.old b
         → list_any (patches_block (commit_block (T.shape_of store.old))) (T.pending store.old) ≡ false
         → LeavesOnly T.moment T.left_since store.old store.new (λ i. (now : List (List ℕ))
         × T.opens (T.shape_of store.old) (T.slots store.old) i now
@@ -115,7 +112,7 @@ impl<T: Store> Engine<T> {
         ensures other { IfSome result (λ why. why ≢ Refusal.DiskFault) }
         ensures granted { IfNone result (first_of (log_tests (T.lsn self.now.store)
             (room_left (T.slots self.now.store) (T.lsn self.now.store) self.now.spare)) machine.Done ≡ machine.Done) }
-        ensures few { IfNone result (T.lsn self.now.store < 2 ^ 60) }
+        ensures few { IfNone result (T.lsn self.now.store < WORN) }
         ensures room { IfNone result (2 ≤ room_left (T.slots self.now.store) (T.lsn self.now.store)
             self.now.spare) }
     {
@@ -135,7 +132,7 @@ impl<T: Store> Engine<T> {
         requires short { IsShort (Some op) }
         requires row { has_row table key (rows_now self.old.state 1) ≡ not (adds (action_of op)) }
         requires home { adds (action_of op) ≡ true → full_block self.old.state table key ≡ false }
-        requires few { T.lsn self.old.store < 2 ^ 60 }
+        requires few { T.lsn self.old.store < WORN }
         requires room { 2 ≤ room_left (T.slots self.old.store) (T.lsn self.old.store) self.old.spare }
         ensures done { IfOk result (λ wrote. wrote ≡ Wrote.Done) }
         ensures fault { T.tells → IfErr result (λ why. why ≡ Refusal.DiskFault) }
@@ -144,13 +141,12 @@ impl<T: Store> Engine<T> {
         ensures number { OnOk result (T.lsn self.new.store ≡ T.lsn self.old.store + 1) }
         ensures no_number { IfErr result (λ why. why ≢ Refusal.DiskFault
             → T.lsn self.new.store ≡ T.lsn self.old.store) }
-        ensures shape { T.shape_of self.new.store ≡ T.shape_of self.old.store }
-        ensures slots { T.slots self.new.store ≡ T.slots self.old.store }
+        ensures same { SameStore T.Store self.old.store self.new.store }
         ensures spare { self.new.spare + groups (machine.Write 1 table key (action_of op.entry)) (write_answer result)
             ≡ self.old.spare }
         ensures counted { IsCountedAs (T.faults self.old.store) (T.faults self.new.store)
             (err_is is_disk_fault result) }
-        ensures crash { T.tells → T.tells_crashes → IsDurable T.Store self.old.state self.old.store
+        ensures crash { T.tells_crashes → IsDurable T.Store self.old.state self.old.store
             → Survives T.Store (T.slots self.old.store) self.old.state self.new.state self.old.store self.new.store }
     {
         let ask = Ask {
@@ -171,8 +167,7 @@ impl<T: Store> Engine<T> {
     }
 
     /// Inserts, updates or deletes the row of a key. It may be refused, and then nothing is changed, unless a call of
-    /// the
-    /// store failed.
+    /// the store failed.
     pub(crate) fn do_write(
         &mut self,
         s: u16,
@@ -188,8 +183,7 @@ impl<T: Store> Engine<T> {
         ensures number { self.new.state.stopped ≡ false
             → T.lsn self.new.store ≡ T.lsn self.old.store + groups
             (machine.Write s table key (action_of op.entry)) (write_answer result) }
-        ensures shape { T.shape_of self.new.store ≡ T.shape_of self.old.store }
-        ensures slots { T.slots self.new.store ≡ T.slots self.old.store }
+        ensures same { SameStore T.Store self.old.store self.new.store }
         ensures spare { self.new.spare + groups (machine.Write s table key (action_of op.entry)) (write_answer result)
             ≡ self.old.spare }
         ensures counted { IsCountedAs (T.faults self.old.store) (T.faults self.new.store)
@@ -197,7 +191,7 @@ impl<T: Store> Engine<T> {
         ensures refused { T.tells → IfErr result (λ why. why ≢ Refusal.DiskFault
             → self.new.store ≡ self.old.store) }
         // At any moment each image has the commits of before.
-        ensures crash { T.tells → T.tells_crashes → IsDurable T.Store self.old.state self.old.store
+        ensures crash { T.tells_crashes → IsDurable T.Store self.old.state self.old.store
             → Survives T.Store (T.slots self.old.store) self.old.state self.new.state self.old.store self.new.store }
     {
         if let Some(why) = self.state.write_refusal(s, table, key, op) {
@@ -218,11 +212,10 @@ impl<T: Store> Engine<T> {
         ensures state { OnOk result (self.new.state ≡ committed self.old.state 1) }
         ensures stopped { OnErr result (self.new.state ≡ record self.old.state { stopped = true }) }
         ensures number { OnOk result (T.lsn self.new.store ≡ T.lsn self.old.store + 1) }
-        ensures shape { T.shape_of self.new.store ≡ T.shape_of self.old.store }
-        ensures slots { T.slots self.new.store ≡ T.slots self.old.store }
+        ensures same { SameStore T.Store self.old.store self.new.store }
         ensures spare { self.new.spare ≡ self.old.spare }
         ensures counted { IsCounted (T.faults self.old.store) (T.faults self.new.store) result }
-        ensures crash { T.tells → T.tells_crashes → IsDurable T.Store self.old.state self.old.store
+        ensures crash { T.tells_crashes → IsDurable T.Store self.old.state self.old.store
             → Survives T.Store (T.slots self.old.store) self.old.state self.new.state self.old.store self.new.store }
     {
         let number = self.state.number() + 1;
@@ -243,15 +236,14 @@ impl<T: Store> Engine<T> {
         ensures state { self.new.state ≡ after self.old.state (machine.Commit s) (commit_answer result) }
         ensures number { self.new.state.stopped ≡ false
             → T.lsn self.new.store ≡ T.lsn self.old.store + groups (machine.Commit s) (commit_answer result) }
-        ensures shape { T.shape_of self.new.store ≡ T.shape_of self.old.store }
-        ensures slots { T.slots self.new.store ≡ T.slots self.old.store }
+        ensures same { SameStore T.Store self.old.store self.new.store }
         ensures spare { self.new.spare ≡ self.old.spare }
         ensures counted { IsCountedAs (T.faults self.old.store) (T.faults self.new.store)
             (err_is is_disk_fault result) }
         ensures refused { IfErr result (λ why. why ≢ Refusal.DiskFault → self.new.store ≡ self.old.store) }
         ensures nothing { result ≡ Ok None → self.new.store ≡ self.old.store }
         // At any moment each image has the commits of before, or at the end this one too.
-        ensures crash { T.tells → T.tells_crashes → IsDurable T.Store self.old.state self.old.store
+        ensures crash { T.tells_crashes → IsDurable T.Store self.old.state self.old.store
             → Survives T.Store (T.slots self.old.store) self.old.state self.new.state self.old.store self.new.store }
     {
         match self.state.check_commit(s) {
@@ -277,7 +269,7 @@ impl<T: Store> Engine<T> {
         ensures stopped { self.new.state.stopped ≡ self.old.state.stopped }
         ensures store { self.new.store ≡ self.old.store }
         ensures spare { self.new.spare ≡ self.old.spare }
-        ensures crash { T.tells → T.tells_crashes → IsDurable T.Store self.old.state self.old.store
+        ensures crash { T.tells_crashes → IsDurable T.Store self.old.state self.old.store
             → Survives T.Store (T.slots self.old.store) self.old.state self.new.state self.old.store self.new.store }
     {
         self.state.open_cursor(s, name, table, lo, hi)
@@ -299,7 +291,7 @@ impl<T: Store> Engine<T> {
         ensures store { self.new.store ≡ self.old.store }
         ensures spare { self.new.spare ≡ self.old.spare }
         ensures commits { self.new.state.commits ≡ self.old.state.commits }
-        ensures crash { T.tells → T.tells_crashes → IsDurable T.Store self.old.state self.old.store
+        ensures crash { T.tells_crashes → IsDurable T.Store self.old.state self.old.store
             → Survives T.Store (T.slots self.old.store) self.old.state self.new.state self.old.store self.new.store }
     {
         self.state.fetch(s, name, row)
@@ -314,7 +306,7 @@ impl<T: Store> Engine<T> {
         ensures stopped { self.new.state.stopped ≡ self.old.state.stopped }
         ensures store { self.new.store ≡ self.old.store }
         ensures spare { self.new.spare ≡ self.old.spare }
-        ensures crash { T.tells → T.tells_crashes → IsDurable T.Store self.old.state self.old.store
+        ensures crash { T.tells_crashes → IsDurable T.Store self.old.state self.old.store
             → Survives T.Store (T.slots self.old.store) self.old.state self.new.state self.old.store self.new.store }
     {
         self.state.close_cursor(s, name)

@@ -4,29 +4,30 @@ ghost use Rattle.std.specs.Prelude.{map, take, length, true, false, None, Some, 
 ghost use Rattle.std.specs.Result.{is_err};
 ghost use Rattle.rb_base.specs.Blocks.{block_of, shape_blocks, table_blocks, AreBlocks, IsShape};
 ghost use Rattle.rb_base.specs.Counts.{IsCounted, IsCountedAs, err_is, is_failed};
+ghost use Rattle.rb_base.specs.Loads.{OnlyLoads};
 ghost use Rattle.rb_cell.specs.Cells.{cell_at};
 ghost use Rattle.rb_heap.specs.Homes.{home_of, home_rows};
 ghost use Rattle.rb_model.specs.Rows.{over};
 ghost use Rattle.rb_model.specs.State.{opened};
-ghost use Rattle.rb_sound.specs.Loads.{OnlyLoads};
-ghost use Rattle.rb_sound.specs.Sound.{commit_lsn, commit_scn};
+ghost use Rattle.rb_segment.specs.Segments.{commit_lsn, commit_scn};
 ghost use Rattle.rb_write.specs.Values.{LocksRows};
 ghost use Rattle.rb_engine.specs.Does.{StandsOpened};
 ghost use Rattle.rb_engine.specs.Found.{put_row, rows_found, table_of, table_row};
-ghost use Rattle.rb_engine.specs.Holds.{CanOpen, MayOpen, OpensAs, AHEAD};
+ghost use Rattle.rb_engine.specs.Holds.{CanOpen, MayOpen, OpensAs};
 
 use crate::engine::Engine;
 use crate::state::EngineState;
 use rb_base::{BlockNo, Failed, OpenFault, Scn, Store};
 use rb_cell::{ROW, cells};
-use rb_sound::{blocks_sound, commit_lsn_of, commit_scn_of};
+use rb_segment::{commit_lsn_of, commit_scn_of};
+use rb_sound::blocks_sound;
 use std::alloc::Global;
 
 /// The most changes that are kept in memory, where the log has no end. A log of a file has at most 4,096 slots.
 const CHANGES: u64 = 65_536;
 
 /// How far a commit number may be above a log number, so that there is a next one as long as groups are logged.
-const AHEAD: u64 = (1 << 63) + (1 << 62);
+pub const AHEAD: u64 = (1 << 63) + (1 << 62);
 
 /// The cells of a block.
 const CELLS: u8 = 16;
@@ -107,7 +108,7 @@ fn take_rows<T: Store>(state: &mut EngineState, store: &mut T) -> Result<bool, F
     ensures counted { IsCounted (T.faults store.old) (T.faults store.new) result }
 {
     let shape = store.shape();
-    for no in 0..u32::from(shape.tables) * shape.blocks {
+    for no in 0..shape.table_blocks() {
         if !take_one(state, store, no)? {
             return Ok(false);
         }
@@ -116,8 +117,7 @@ fn take_rows<T: Store>(state: &mut EngineState, store: &mut T) -> Result<bool, F
 }
 
 /// Whether a commit number is at most `AHEAD` above the log number of the block that commits patch, and that at most
-/// the
-/// last one given.
+/// the last one given.
 fn scn_sound<T: Store>(store: &mut T, number: Scn) -> Result<bool, Failed>
     requires { T.failed store.old ≡ false }
     ensures few { result ≡ Ok true → number ≤ T.lsn store.old + AHEAD }
@@ -158,20 +158,20 @@ fn open_state<T: Store>(alloc: Global, store: &mut T) -> Result<EngineState, Ope
     ensures failed { OnOk result (T.failed store.new ≡ false) }
     ensures counted { IsCountedAs (T.faults store.old) (T.faults store.new) (err_is is_failed result) }
 {
-    let sound = blocks_sound(store).map_err(|_| OpenFault::Failed)?;
-    let number = commit_scn_of(store).map_err(|_| OpenFault::Failed)?;
-    let numbered = scn_sound(store, number).map_err(|_| OpenFault::Failed)?;
+    let sound = blocks_sound(store)?;
+    let number = commit_scn_of(store)?;
+    let numbered = scn_sound(store, number)?;
     if !sound || !numbered {
         return Err(OpenFault::NotAStore);
     }
     let shape = store.shape();
-    let rows = u32::from(shape.tables) * shape.blocks * u32::from(CELLS);
+    let rows = shape.table_blocks() * u32::from(CELLS);
     let changes = store.room().min(CHANGES);
     let room = rows as usize + changes as usize;
     let Ok(mut state) = EngineState::new(alloc, shape, number, room) else {
         return Err(OpenFault::NoMemory);
     };
-    let unlocked = take_rows(&mut state, store).map_err(|_| OpenFault::Failed)?;
+    let unlocked = take_rows(&mut state, store)?;
     if unlocked {
         state.found_all();
         Ok(state)

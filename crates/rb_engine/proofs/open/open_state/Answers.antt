@@ -4,8 +4,9 @@ use Rattle.rb_base.specs.Blocks.{AreBlocks, IsShape}
 use Rattle.rb_base.specs.declared.faults.Failed.{Failed}
 use Rattle.rb_base.specs.declared.shape.Shape.{Shape}
 use Rattle.rb_model.specs.State.{State}
-use Rattle.rb_sound.specs.Loads.{OnlyLoads, more_loads}
-use Rattle.rb_sound.specs.Sound.{commit_scn, AreSound}
+use Rattle.rb_base.specs.Loads.{OnlyLoads, more_loads}
+use Rattle.rb_sound.specs.Sound.{AreSound}
+use Rattle.rb_segment.specs.Segments.{commit_scn}
 use Rattle.rb_engine.specs.Holds.{CanOpen, OpensAs}
 use Rattle.rb_engine.specs.Kept.{Kept}
 use Rattle.rb_engine.proofs.FoundLemmas.{can_open, opens_as}

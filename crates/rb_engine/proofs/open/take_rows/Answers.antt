@@ -7,7 +7,7 @@ use Rattle.rb_cell.specs.Cells.{cell_at}
 use Rattle.rb_heap.specs.Homes.{home_of, home_rows}
 use Rattle.rb_model.specs.Rows.{TableRow, over}
 use Rattle.rb_model.specs.State.{State, opened}
-use Rattle.rb_sound.specs.Loads.{more_loads}
+use Rattle.rb_base.specs.Loads.{more_loads}
 use Rattle.rb_write.specs.Values.{LocksRows}
 use Rattle.rb_engine.specs.Found.{table_of}
 use Rattle.rb_engine.proofs.FoundLemmas.{block_taken, puts}

@@ -2,7 +2,7 @@ use Rattle.std.proofs.Common.{◌≡◌, ℕ, ◌+◌, ◌*◌, ◌<◌, ◌≤�
 use Rattle.rb_base.specs.Blocks.{block_of}
 use Rattle.rb_cell.specs.Cells.{cell_at}
 use Rattle.rb_model.specs.State.{opened}
-use Rattle.rb_sound.specs.Loads.{OnlyLoads}
+use Rattle.rb_base.specs.Loads.{OnlyLoads}
 use Rattle.rb_write.specs.Values.{LocksRows}
 use Rattle.rb_engine.specs.Found.{rows_found}
 use Rattle.rb_engine.proofs.open.take_rows.Given as goal

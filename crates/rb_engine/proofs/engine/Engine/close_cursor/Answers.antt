@@ -13,7 +13,7 @@ returns-clause-did g c = λ h st.
     let s = g.T.Store in
     let e = c.do_close_cursor.ensures in
     does_by s h (machine.CloseCursor c.args.s (name_text c.args.name.now)) (plain_answer c.do_close_cursor.result) c.args.self.now c.do_close_cursor.new.self st
-    (λ told. inl (e.answer (s.lsn c.args.self.now.store) (room_left (s.slots c.args.self.now.store) (s.lsn c.args.self.now.store) c.args.self.now.spare))) e.state (ap s.shape_of e.store) (λ going. ap s.lsn e.store ∙ sym (plus_none _)) (λ told kept durable. e.crash told kept durable)
+    (λ told. inl (e.answer (s.lsn c.args.self.now.store) (room_left (s.slots c.args.self.now.store) (s.lsn c.args.self.now.store) c.args.self.now.spare))) e.state (ap s.shape_of e.store) (λ going. ap s.lsn e.store ∙ sym (plus_none _)) (λ kept durable. e.crash kept durable)
 
 pub returns-clause-disk : goal.returns-clause-disk
 returns-clause-disk g c =

@@ -2,7 +2,8 @@ use Rattle.std.proofs.Common.{refl}
 use Rattle.rb_model.specs.Answers.{plain_answer}
 use Rattle.rb_model.specs.Names.{name_text}
 use Rattle.rb_model.specs.Reply as machine
-use Rattle.rb_engine.proofs.CrashLemmas.{survives_still}
+use Rattle.rb_engine.specs.Crash.{has_rows}
+use Rattle.rb_engine.proofs.CrashLemmas.{rows_later, survives_still}
 use Rattle.rb_engine.proofs.EngineLemmas.{in_step_still}
 use Rattle.rb_engine.proofs.engine.Engine.do_close_cursor.Goals as goal
 
@@ -15,6 +16,6 @@ pub returns-clause-answer : goal.returns-clause-answer
 returns-clause-answer g c = rw (← c.self.view_is) (λ logged room. c.close_cursor.ensures.answer logged room)
 
 pub returns-clause-crash : goal.returns-clause-crash
-returns-clause-crash g c = rw (← c.self.view_is) (λ told keeps st.
-    survives_still g.T.Store (record { left_opens = λ store b i. g.met.T.Store.stable_left store b i keeps; read_patched = λ store i. g.met.T.Store.only_now store i keeps })
+returns-clause-crash g c = rw (← c.self.view_is) (λ keeps st.
+    survives_still has_rows rows_later g.T.Store (record { left_opens = λ store b i. g.met.T.Store.stable_left store b i keeps; read_patched = λ store i. g.met.T.Store.only_now store i keeps })
     c.self.inside.state.state c.close_cursor.new.self.state c.self.inside.store c.self.inside.store c.self.invariant.same_shape refl c.close_cursor.ensures.shape c.close_cursor.ensures.commits st)

@@ -3,7 +3,8 @@ use Rattle.std.proofs.lemmas.Bool.{cases_Bool}
 use Rattle.rb_model.specs.Reply.{Commit, Done, Numbered, expected, is_empty}
 use Rattle.rb_model.specs.Rows.{last_scn}
 use Rattle.rb_model.specs.State.{State, is_session, session_of}
-use Rattle.rb_engine.proofs.CrashLemmas.{survives_still}
+use Rattle.rb_engine.specs.Crash.{has_rows}
+use Rattle.rb_engine.proofs.CrashLemmas.{rows_later, survives_still}
 use Rattle.rb_engine.proofs.StateLemmas.{commit_tests}
 use Rattle.rb_engine.proofs.engine.Engine.do_commit.Goals as goal
 
@@ -27,14 +28,14 @@ returns-in-Ok-false-clause-state g c = rw (← c.self.view_is)
     (kept_state c.self.inside.state.state c.args.s _ (empty_own c.self.inside.state.state c.args.s (c.in-Ok-false.ensures.going refl) (c.in-Ok-false.ensures.session refl) c.self.invariant.alone (c.in-Ok-false.ensures.nothing (ap Ok c.in-Ok-false.field-0-test) 0 0)))
 
 pub returns-in-Ok-false-clause-crash : goal.returns-in-Ok-false-clause-crash
-returns-in-Ok-false-clause-crash g c = rw (← c.self.view_is) (λ told keeps st.
-    survives_still g.T.Store (record { left_opens = λ store b i. g.met.T.Store.stable_left store b i keeps; read_patched = λ store i. g.met.T.Store.only_now store i keeps })
+returns-in-Ok-false-clause-crash g c = rw (← c.self.view_is) (λ keeps st.
+    survives_still has_rows rows_later g.T.Store (record { left_opens = λ store b i. g.met.T.Store.stable_left store b i keeps; read_patched = λ store i. g.met.T.Store.only_now store i keeps })
     c.self.inside.state.state c.self.inside.state.state c.self.inside.store c.self.inside.store c.self.invariant.same_shape refl refl refl st)
 
 pub returns-in-Err-clause-answer : goal.returns-in-Err-clause-answer
 returns-in-Err-clause-answer g c = rw (← c.self.view_is) (λ room. inl (c.in-Err.ensures.refused (g.T.Store.lsn c.self.inside.store) room))
 
 pub returns-in-Err-clause-crash : goal.returns-in-Err-clause-crash
-returns-in-Err-clause-crash g c = rw (← c.self.view_is) (λ told keeps st.
-    survives_still g.T.Store (record { left_opens = λ store b i. g.met.T.Store.stable_left store b i keeps; read_patched = λ store i. g.met.T.Store.only_now store i keeps })
+returns-in-Err-clause-crash g c = rw (← c.self.view_is) (λ keeps st.
+    survives_still has_rows rows_later g.T.Store (record { left_opens = λ store b i. g.met.T.Store.stable_left store b i keeps; read_patched = λ store i. g.met.T.Store.only_now store i keeps })
     c.self.inside.state.state c.self.inside.state.state c.self.inside.store c.self.inside.store c.self.invariant.same_shape refl refl refl st)

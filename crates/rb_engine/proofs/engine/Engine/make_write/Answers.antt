@@ -18,7 +18,8 @@ use Rattle.rb_write.specs.declared.ask.AttemptFault.{AttemptFault}
 use Rattle.rb_write.specs.declared.ask.AttemptFault.TheVariants.{Failed, Duplicate, NotFound, BlockFull, WornOut, LogFull}
 use Rattle.rb_engine.specs.Engine.{refusal_of}
 use Rattle.rb_engine.specs.Holds.{Holds}
-use Rattle.rb_engine.proofs.CrashLemmas.{survives_more}
+use Rattle.rb_engine.specs.Crash.{has_rows}
+use Rattle.rb_engine.proofs.CrashLemmas.{rows_later, survives_more}
 use Rattle.rb_engine.proofs.EngineLemmas.{in_step_refused, room_after, room_before, stands_moved}
 use Rattle.rb_engine.proofs.NumberLemmas.{still_none}
 use Rattle.rb_engine.proofs.UsedLemmas.{sessions_granted, the_one, used_after_write}
@@ -62,19 +63,19 @@ returns-in-Ok-clause-crash g c =
     let s = g.T.Store in
     let step = c.self.invariant in
     let h = c.self.inside.state.state in
-    rw (← c.self.view_is) (λ told keeps st.
+    rw (← c.self.view_is) (λ keeps st.
     let group = c.in-Ok.ensures.group keeps in
     let quiet : list_any (patches_block (commit_block h.shape)) (s.pending c.attempt.new.store) ≡ false =
     subst (λ (gs : List (List Patch)). list_any (patches_block (commit_block h.shape)) gs ≡ false) (sym group.1)
     (still_none (commit_block h.shape) (s.pending c.self.inside.store) group.0 st.quiet (subst (λ (x : Shape). patches_block (commit_block x) group.0 ≡ false) step.same_shape group.2)) in
-    survives_more s (record { left_opens = λ store b i. g.met.T.Store.stable_left store b i keeps; read_patched = λ store i. g.met.T.Store.only_now store i keeps })
-    h c.wrote.new.self.state c.self.inside.store c.attempt.new.store step.same_shape c.wrote.ensures.shape c.wrote.ensures.commits (c.attempt.ensures.images keeps) (c.attempt.ensures.time keeps)
-    (λ go. stands_moved s h c.wrote.new.self.state c.self.inside.store c.attempt.new.store st c.wrote.ensures.shape c.wrote.ensures.commits (c.in-Ok.ensures.stable keeps refl st.base st.stable) quiet) st)
+    survives_more has_rows rows_later s (record { left_opens = λ store b i. g.met.T.Store.stable_left store b i keeps; read_patched = λ store i. g.met.T.Store.only_now store i keeps })
+    h c.wrote.new.self.state c.self.inside.store c.attempt.new.store step.same_shape c.wrote.ensures.shape c.wrote.ensures.commits (c.attempt.ensures.crashes keeps)
+    (λ go. stands_moved s h c.wrote.new.self.state c.self.inside.store c.attempt.new.store st c.wrote.ensures.shape c.wrote.ensures.commits (c.in-Ok.ensures.stable keeps st.base st.stable) quiet) st)
 
 pub invariant_of-self-in-Err : goal.invariant_of-self-in-Err
 invariant_of-self-in-Err g c =
     in_step_refused g.T.Store c.self.inside.state c.refuse.new.state c.self.inside.store c.attempt.new.store c.in-Err.fault c.refuse.result c.refuse.ensures.why c.refuse.ensures.state c.refuse.ensures.spare
-    c.attempt.ensures.shape c.attempt.ensures.slots c.in-Err.ensures.refused_number c.in-Err.ensures.failed c.in-Err.ensures.refused_blocks c.self.invariant
+    c.attempt.ensures.shape c.attempt.ensures.slots (λ f. (c.in-Err.ensures.refused f).same_lsn) c.in-Err.ensures.failed (λ told f. (c.in-Err.ensures.refused f).same_blocks told) c.self.invariant
 
 -- the blocks have a row of the key just where the write adds none
 there : (g : Over) (c : goal.After-refuse g) → g.T.Store.tells → IsPlainHome (home_at (g.T.Store.shape_of c.self.inside.store) (g.T.Store.blocks c.self.inside.store) c.args.table c.args.key)
@@ -133,10 +134,10 @@ returns-in-Err-clause-crash g c =
     let s = g.T.Store in
     let step = c.self.invariant in
     let h = c.self.inside.state.state in
-    rw (← c.self.view_is) (λ told keeps st.
-    let stopped : c.refuse.new.state.state ≡ record h { stopped = true } = c.refuse.ensures.state ∙ ap (after_refusal h) (c.refuse.ensures.why ∙ ap refusal_of (failed g c c.in-Err.fault refl told)) in
-    survives_more s (record { left_opens = λ store b i. g.met.T.Store.stable_left store b i keeps; read_patched = λ store i. g.met.T.Store.only_now store i keeps })
-    h c.refuse.new.state.state c.self.inside.store c.attempt.new.store step.same_shape (ap (λ (x : State). x.shape) stopped) (ap (λ (x : State). x.commits) stopped) (c.attempt.ensures.images keeps) (c.attempt.ensures.time keeps)
+    rw (← c.self.view_is) (λ keeps st.
+    let stopped : c.refuse.new.state.state ≡ record h { stopped = true } = c.refuse.ensures.state ∙ ap (after_refusal h) (c.refuse.ensures.why ∙ ap refusal_of (failed g c c.in-Err.fault refl (g.met.T.Store.crashes_told keeps))) in
+    survives_more has_rows rows_later s (record { left_opens = λ store b i. g.met.T.Store.stable_left store b i keeps; read_patched = λ store i. g.met.T.Store.only_now store i keeps })
+    h c.refuse.new.state.state c.self.inside.store c.attempt.new.store step.same_shape (ap (λ (x : State). x.shape) stopped) (ap (λ (x : State). x.commits) stopped) (c.attempt.ensures.crashes keeps)
     (λ go. absurd (false≢true (sym go ∙ ap (λ (x : State). x.stopped) stopped))) st)
 
 -- what is refused otherwise has no number
@@ -149,4 +150,4 @@ other_fault WornOut other = refl
 other_fault LogFull other = refl
 
 pub returns-in-Err-clause-no_number : goal.returns-in-Err-clause-no_number
-returns-in-Err-clause-no_number g c = rw (← c.self.view_is) (λ other. c.in-Err.ensures.refused_number (other_fault c.in-Err.fault (λ is. other (c.refuse.ensures.why ∙ is))))
+returns-in-Err-clause-no_number g c = rw (← c.self.view_is) (λ other. (c.in-Err.ensures.refused (other_fault c.in-Err.fault (λ is. other (c.refuse.ensures.why ∙ is)))).same_lsn)

@@ -8,4 +8,4 @@ returns-clause-did g c = λ h st.
     let s = g.T.Store in
     let e = c.do_write.ensures in
     does_by s h (machine.Write c.args.s c.args.table c.args.key (action_of c.args.op)) (write_answer c.do_write.result) c.args.self.now c.do_write.new.self st
-    (λ told. e.answer told) e.state e.shape (λ going. e.number going) (λ told kept durable. e.crash told kept durable)
+    (λ told. e.answer told) e.state e.same.shape (λ going. e.number going) (λ kept durable. e.crash kept durable)
