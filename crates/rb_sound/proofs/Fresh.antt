@@ -14,7 +14,9 @@ use Rattle.rb_cell.specs.declared.cell.Cell.{Cell}
 use Rattle.rb_cell.specs.Cells.{cell_at}
 use Rattle.rb_base.specs.Blocks.{header_block}
 use Rattle.rb_heap.specs.Soundness.{value_length, IsEntrySound, IsCellSound, IsLock, IsHomeSound}
-use Rattle.rb_sound.specs.Sound.{slot_state, slot_before, extent_ord, extent_newest, head_extent, head_records, lost_number, IsRing, IsSegment}
+use Rattle.rb_txntable.specs.Slots.{slot_state, slot_before}
+use Rattle.rb_ring.specs.Ring.{extent_ord, extent_newest, head_extent, head_records, lost_number, IsRing}
+use Rattle.rb_sound.specs.Sound.{IsSegment}
 
 -- the header of a segment in a new file, as block n
 abbrev header_of : ℕ → List ℕ

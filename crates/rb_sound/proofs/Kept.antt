@@ -5,7 +5,8 @@ use Rattle.rb_base.specs.Blocks.{block_of, table_blocks}
 use Rattle.rb_itl.specs.declared.slots.Entry.{Entry}
 use Rattle.rb_base.specs.Blocks.{header_block}
 use Rattle.rb_heap.specs.Soundness.{IsTaken, IsHomeSound}
-use Rattle.rb_sound.specs.Sound.{commit_scn, wrap_at, IsSegment, AreSound}
+use Rattle.rb_segment.specs.Segments.{commit_scn, wrap_at}
+use Rattle.rb_sound.specs.Sound.{IsSegment, AreSound}
 use Rattle.rb_sound.proofs.Together.{AreAlike}
 
 taken_later : (shape : Shape) (commit later : ℕ) (wrap_of other : ℕ → ℕ → ℕ) (entry : Entry) → commit ≤ later → AreAlike shape wrap_of other → IsTaken shape commit wrap_of entry → IsTaken shape later other entry

@@ -3,7 +3,8 @@ use Rattle.std.proofs.Common.{◌≡◌, ◌↔◌, ℕ, ◌<◌, Bool, true, Li
 use Rattle.rb_base.specs.declared.shape.Shape.{Shape}
 use Rattle.rb_itl.specs.declared.slots.Entry.{Entry}
 use Rattle.rb_heap.specs.Soundness.{IsTaken}
-use Rattle.rb_sound.specs.Sound.{commit_scn, wrap_at, AreSegmentsSound, AreHomesSound, AreSound}
+use Rattle.rb_segment.specs.Segments.{commit_scn, wrap_at}
+use Rattle.rb_sound.specs.Sound.{AreSegmentsSound, AreHomesSound, AreSound}
 
 -- the two are alike at each slot of the segments of a file
 abbrev pub AreAlike : Shape → (ℕ → ℕ → ℕ) → (ℕ → ℕ → ℕ) → Type 0

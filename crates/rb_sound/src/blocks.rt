@@ -1,109 +1,17 @@
 //! Tests the blocks of a file. The engine's opening calls it.
-ghost use Rattle.std.specs.Prelude.{◌≡◌, ◌↔◌, ℕ, ◌%◌, ◌<◌, true, false, Some, IfOk, OnOk};
-ghost use Rattle.std.specs.Prelude.{slice_index};
+ghost use Rattle.std.specs.Prelude.{◌≡◌, ◌↔◌, ◌%◌, ◌<◌, true, false, IfOk};
 ghost use Rattle.std.specs.Result.{is_err};
-ghost use Rattle.rb_base.specs.Blocks.{block_of, shape_blocks, table_blocks, IsShape};
+ghost use Rattle.rb_base.specs.Blocks.{block_of, header_block, table_blocks, IsShape};
 ghost use Rattle.rb_base.specs.Counts.{IsCounted};
-ghost use Rattle.rb_sound.specs.Loads.{OnlyLoads};
-ghost use Rattle.rb_base.specs.Blocks.{header_block};
+ghost use Rattle.rb_base.specs.Loads.{OnlyLoads};
 ghost use Rattle.rb_heap.specs.Soundness.{IsHomeSound};
-ghost use Rattle.rb_sound.specs.Sound.{header_newest, commit_scn, slot_wrap, wrap_at, wrap_in, IsSegment};
-ghost use Rattle.rb_sound.specs.Sound.{AreSegmentsSound, AreHomesSound, AreSound};
+ghost use Rattle.rb_segment.specs.Segments.{wrap_in};
+ghost use Rattle.rb_sound.specs.Sound.{IsSegment, AreSegmentsSound, AreHomesSound, AreSound};
 
 use crate::home::{Limits, home_sound};
-use crate::segment::{newest_in, segment_sound, wraps_in};
+use crate::segment::segment_sound;
 use rb_base::{BlockNo, Failed, Scn, Shape, Store};
-
-/// The blocks of a segment: its header and eight extents of four.
-const SEGMENT_BLOCKS: u32 = 33;
-
-/// The block of the header of segment `g`, from 0 on.
-pub(crate) fn header_block(shape: Shape, g: u16) -> BlockNo
-    requires shape { IsShape shape }
-    requires there { g < shape.segments }
-    ensures number { result ≡ header_block shape g }
-    ensures there { result < shape_blocks shape }
-{
-    shape.tables as u32 * shape.blocks + SEGMENT_BLOCKS * g as u32
-}
-
-/// Brings a block of the file, so that `block` gives it.
-fn bring<S: Store>(store: &mut S, no: BlockNo) -> Result<(), Failed>
-    requires going { S.failed store.old ≡ false }
-    requires there { no < shape_blocks (S.shape_of store.old) }
-    ensures loaded { OnOk result (S.loaded store.new ≡ Some no) }
-    ensures only_loads { OnlyLoads S.Store store.old store.new }
-    ensures failed { S.failed store.new ≡ is_err result }
-    ensures counted { IsCounted (S.faults store.old) (S.faults store.new) result }
-{
-    store.load(no)
-}
-
-/// The greatest commit number given in a table slot of segment `g`.
-fn header_newest<S: Store>(store: &mut S, shape: Shape, g: u16) -> Result<Scn, Failed>
-    requires going { S.failed store.old ≡ false }
-    requires shape { shape ≡ S.shape_of store.old }
-    requires in_range { IsShape shape }
-    requires there { g < shape.segments }
-    ensures told { S.tells → IfOk result (λ newest. newest
-        ≡ header_newest (block_of (S.blocks store.old) (header_block shape g))) }
-    ensures only_loads { OnlyLoads S.Store store.old store.new }
-    ensures failed { S.failed store.new ≡ is_err result }
-    ensures counted { IsCounted (S.faults store.old) (S.faults store.new) result }
-{
-    bring(store, header_block(shape, g))?;
-    Ok(newest_in(store.block()))
-}
-
-/// The greatest commit number that a table slot of the file has.
-pub fn commit_scn_of<S: Store>(store: &mut S) -> Result<Scn, Failed>
-    requires { S.failed store.old ≡ false }
-    ensures told { S.tells → IfOk result (λ commit. commit
-        ≡ commit_scn (S.shape_of store.old) (S.blocks store.old)) }
-    ensures only_loads { OnlyLoads S.Store store.old store.new }
-    ensures failed { S.failed store.new ≡ is_err result }
-    ensures counted { IsCounted (S.faults store.old) (S.faults store.new) result }
-{
-    let shape = store.shape();
-    let mut commit: Scn = 0;
-    for g in 0..shape.segments {
-        commit = commit.max(header_newest(store, shape, g)?);
-    }
-    Ok(commit)
-}
-
-/// How often each table slot of segment `g` had been taken.
-fn header_wraps<S: Store>(store: &mut S, shape: Shape, g: u16) -> Result<[u64; 16], Failed>
-    requires going { S.failed store.old ≡ false }
-    requires shape { shape ≡ S.shape_of store.old }
-    requires in_range { IsShape shape }
-    requires there { g < shape.segments }
-    ensures told { S.tells → IfOk result (λ wraps. (i : ℕ) → i < 16
-        → slice_index wraps i ≡ wrap_at shape (S.blocks store.old) g i) }
-    ensures only_loads { OnlyLoads S.Store store.old store.new }
-    ensures failed { S.failed store.new ≡ is_err result }
-    ensures counted { IsCounted (S.faults store.old) (S.faults store.new) result }
-{
-    bring(store, header_block(shape, g))?;
-    Ok(wraps_in(store.block()))
-}
-
-/// How often each table slot of each segment had been taken, with zeros behind the segments that there are.
-fn wraps_of<S: Store>(store: &mut S) -> Result<[[u64; 16]; 16], Failed>
-    requires { S.failed store.old ≡ false }
-    ensures told { S.tells → IfOk result (λ wraps. (seg slot : ℕ) → seg < (S.shape_of store.old).segments
-        → slot < 16 → wrap_in wraps seg slot ≡ wrap_at (S.shape_of store.old) (S.blocks store.old) seg slot) }
-    ensures only_loads { OnlyLoads S.Store store.old store.new }
-    ensures failed { S.failed store.new ≡ is_err result }
-    ensures counted { IsCounted (S.faults store.old) (S.faults store.new) result }
-{
-    let shape = store.shape();
-    let mut wraps = [[0; 16]; 16];
-    for g in 0..shape.segments {
-        wraps[g as usize] = header_wraps(store, shape, g)?;
-    }
-    Ok(wraps)
-}
+use rb_segment::{commit_scn_of, wraps_of};
 
 /// Whether the header of segment `g` is in order.
 fn header_sound<S: Store>(store: &mut S, shape: Shape, g: u16, commit: Scn) -> Result<bool, Failed>
@@ -117,7 +25,7 @@ fn header_sound<S: Store>(store: &mut S, shape: Shape, g: u16, commit: Scn) -> R
     ensures failed { S.failed store.new ≡ is_err result }
     ensures counted { IsCounted (S.faults store.old) (S.faults store.new) result }
 {
-    bring(store, header_block(shape, g))?;
+    store.load(shape.header_block(g))?;
     Ok(segment_sound(store.block(), commit))
 }
 
@@ -152,7 +60,7 @@ fn rows_sound<S: Store>(store: &mut S, no: BlockNo, limits: &Limits) -> Result<b
     ensures failed { S.failed store.new ≡ is_err result }
     ensures counted { IsCounted (S.faults store.old) (S.faults store.new) result }
 {
-    bring(store, no)?;
+    store.load(no)?;
     Ok(home_sound(store.block(), no % limits.shape.blocks, limits))
 }
 
@@ -167,7 +75,7 @@ fn homes_sound<S: Store>(store: &mut S, limits: &Limits) -> Result<bool, Failed>
     ensures failed { S.failed store.new ≡ is_err result }
     ensures counted { IsCounted (S.faults store.old) (S.faults store.new) result }
 {
-    for no in 0..limits.shape.tables as u32 * limits.shape.blocks {
+    for no in 0..limits.shape.table_blocks() {
         if !rows_sound(store, no, limits)? {
             return Ok(false);
         }

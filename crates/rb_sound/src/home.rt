@@ -7,21 +7,20 @@ ghost use Rattle.rb_itl.specs.Entries.{entry_at};
 ghost use Rattle.rb_heap.specs.Homes.{is_keyed};
 ghost use Rattle.rb_heap.specs.Soundness.{value_length, IsTaken, IsEntrySound, IsLock, IsCellSound, AreCellsSound};
 ghost use Rattle.rb_heap.specs.Soundness.{IsHomeSound, IsFirstKeyed, AreKeysApart};
-ghost use Rattle.rb_sound.specs.Sound.{wrap_in};
+ghost use Rattle.rb_segment.specs.Segments.{wrap_in};
 
 use rb_base::{Scn, Shape, u16_at};
 use rb_cell::{Cell, EMPTY, ROW, STUB, cells, front};
 use rb_heap::find;
 use rb_itl::{BOUND, Entry, FREE, entry};
+use rb_segment::SEGMENTS;
+use rb_txntable::SLOTS;
 
 /// The cells of a block.
 const CELLS: u8 = 16;
 
 /// The entries of a block.
 const ENTRIES: u8 = 8;
-
-/// The table slots of a segment.
-const SLOTS: u16 = 16;
 
 /// The most bytes of a value.
 const VALUE_BYTES: u16 = 80;
@@ -37,7 +36,7 @@ pub struct Limits {
     /// The file's commit number.
     pub commit: Scn,
     /// How often each slot of each segment had been taken. Those of a segment that isn't there aren't looked at.
-    pub wraps: [[u64; 16]; 16],
+    pub wraps: [[u64; SLOTS]; SEGMENTS],
 }
 
 /// Whether what an entry names is there, and its numbers are ones that were given.
@@ -46,7 +45,7 @@ fn entry_taken(entry: &Entry, limits: &Limits) -> bool
     ensures { IsTrue result ↔ IsTaken limits.now.shape limits.now.commit (wrap_in limits.now.wraps) entry.now }
 {
     let xid = entry.xid;
-    if xid.seg >= limits.shape.segments || xid.slot >= SLOTS {
+    if xid.seg >= limits.shape.segments || xid.slot as usize >= SLOTS {
         return false;
     }
     let wrap = limits.wraps[xid.seg as usize][xid.slot as usize];

@@ -6,19 +6,9 @@ ghost use Rattle.rb_base.specs.Blocks.{block_of, after_group, fresh_blocks, tabl
 ghost use Rattle.rb_cell.specs.declared.cell.Cell.{Cell};
 ghost use Rattle.rb_cell.specs.Cells.{cell_at, cell_patch, IsCell};
 ghost use Rattle.rb_heap.specs.Homes.{is_keyed};
-ghost use Rattle.rb_base.specs.Blocks.{header_block};
 ghost use Rattle.rb_heap.specs.Soundness.{IsHomeSound};
-ghost use Rattle.rb_sound.specs.Sound.{slot_newest, commit_lsn, commit_scn, scn_patch, AreHomesSound};
-ghost use Rattle.rb_sound.specs.Sound.{AreSound};
-
-/// The commit number of a file is the least that no table slot's newest is above.
-pub fn commit_greatest()
-    ensures none_above { (shape : Shape) (blocks : List (List ℕ)) (g i : ℕ) → g < shape.segments → i < 16
-        → slot_newest (block_of blocks (header_block shape g)) i ≤ commit_scn shape blocks }
-    ensures least { (shape : Shape) (blocks : List (List ℕ)) (n : ℕ)
-        → ((g i : ℕ) → g < shape.segments → i < 16 → slot_newest (block_of blocks (header_block shape g)) i
-        ≤ n) → commit_scn shape blocks ≤ n }
-{}
+ghost use Rattle.rb_segment.specs.Segments.{commit_lsn, commit_scn, scn_patch};
+ghost use Rattle.rb_sound.specs.Sound.{AreHomesSound, AreSound};
 
 /// Where all blocks of rows are in order, so is the block of each home of each table, which are counted from 1.
 pub fn homes_by_table()
@@ -33,9 +23,8 @@ pub fn fresh_sound()
 {}
 
 /// A cell written over one of a block of rows leaves all blocks in order, where it is unlocked, belongs in that block
-/// and
-/// has no key that another cell there has. The commit number, the log number of the block that commits patch, and every
-/// other block stay.
+/// and has no key that another cell there has. The commit number, the log number of the block that commits patch, and
+/// every other block stay.
 pub fn cell_written()
     ensures sound { (shape : Shape) (blocks : List (List ℕ)) (number which c : ℕ) (cell : Cell)
         → AreBlocks shape blocks → AreSound shape blocks → which < table_blocks shape → c < 16 → IsCell cell
@@ -53,18 +42,9 @@ pub fn cell_written()
         → block_of (after_group number (cell_patch which c cell ∷ []) blocks) b ≡ block_of blocks b }
 {}
 
-/// A commit writes the next commit number into the first table slot of the first segment. The blocks stay in order, and
-/// no block of rows changes.
+/// The blocks stay in order as a commit writes the next commit number into the first table slot of the first segment.
 pub fn commit_written()
-    ensures sound { (shape : Shape) (blocks : List (List ℕ)) (number n : ℕ) → IsShape shape
+    ensures { (shape : Shape) (blocks : List (List ℕ)) (number n : ℕ) → IsShape shape
         → AreBlocks shape blocks → AreSound shape blocks → commit_scn shape blocks ≡ n → n + 1 < 2 ^ 64
         → AreSound shape (after_group number (scn_patch shape (n + 1) ∷ []) blocks) }
-    ensures commit { (shape : Shape) (blocks : List (List ℕ)) (number n : ℕ) → IsShape shape
-        → AreBlocks shape blocks → commit_scn shape blocks ≡ n → n + 1 < 2 ^ 64
-        → commit_scn shape (after_group number (scn_patch shape (n + 1) ∷ []) blocks) ≡ n + 1 }
-    ensures number { (shape : Shape) (blocks : List (List ℕ)) (number n : ℕ) → IsShape shape
-        → AreBlocks shape blocks → number < 2 ^ 64
-        → commit_lsn shape (after_group number (scn_patch shape (n + 1) ∷ []) blocks) ≡ number }
-    ensures rows { (shape : Shape) (blocks : List (List ℕ)) (number n b : ℕ) → b < table_blocks shape
-        → block_of (after_group number (scn_patch shape (n + 1) ∷ []) blocks) b ≡ block_of blocks b }
 {}

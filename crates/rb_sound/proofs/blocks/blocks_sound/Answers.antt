@@ -1,7 +1,8 @@
 use Rattle.std.proofs.Common.{◌≡◌, ◌↔◌, Bool, true, ◌∙◌}
 use Rattle.std.proofs.lemmas.Result.{IfOk-weaker}
-use Rattle.rb_sound.specs.Loads.{more_loads}
-use Rattle.rb_sound.specs.Sound.{wrap_in, AreHomesSound, AreSound}
+use Rattle.rb_base.specs.Loads.{more_loads}
+use Rattle.rb_segment.specs.Segments.{wrap_in}
+use Rattle.rb_sound.specs.Sound.{AreHomesSound, AreSound}
 use Rattle.rb_sound.proofs.Together.{all_sound, homes_moved, segments_moved, wraps_moved}
 use Rattle.rb_sound.proofs.blocks.blocks_sound.Goals as goal
 

@@ -2,9 +2,9 @@ use Rattle.std.proofs.Common.{ℕ, ◌%◌, List, subst, ap, ◌∙◌}
 use borrow.Author.Count.{below_more}
 use Rattle.std.specs.Result.{is_err}
 use Rattle.rb_base.specs.Blocks.{block_of}
-use Rattle.rb_sound.specs.Loads.{more_loads}
+use Rattle.rb_base.specs.Loads.{more_loads}
 use Rattle.rb_heap.specs.Soundness.{IsHomeSound}
-use Rattle.rb_sound.specs.Sound.{wrap_in}
+use Rattle.rb_segment.specs.Segments.{wrap_in}
 use Rattle.rb_sound.proofs.blocks.homes_sound.Goals as goal
 
 pub loop-no-preserved : goal.loop-no-preserved

@@ -1,8 +1,8 @@
 use Rattle.std.proofs.Common.{◌≡◌, ℕ, ◌<◌, ◌%◌, false}
 use Rattle.rb_base.specs.Blocks.{block_of}
-use Rattle.rb_sound.specs.Loads.{OnlyLoads}
+use Rattle.rb_base.specs.Loads.{OnlyLoads}
 use Rattle.rb_heap.specs.Soundness.{IsHomeSound}
-use Rattle.rb_sound.specs.Sound.{wrap_in}
+use Rattle.rb_segment.specs.Segments.{wrap_in}
 use Rattle.rb_sound.proofs.blocks.homes_sound.Given as goal
 
 abbrev pub invariant-loop-no : goal.invariant-loop-no

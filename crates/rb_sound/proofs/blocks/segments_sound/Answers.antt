@@ -3,7 +3,7 @@ use borrow.Author.Count.{below_more}
 use Rattle.std.specs.Result.{is_err}
 use Rattle.rb_base.specs.Blocks.{block_of}
 use Rattle.rb_base.specs.declared.shape.Shape.{Shape}
-use Rattle.rb_sound.specs.Loads.{more_loads}
+use Rattle.rb_base.specs.Loads.{more_loads}
 use Rattle.rb_base.specs.Blocks.{header_block}
 use Rattle.rb_sound.specs.Sound.{IsSegment}
 use Rattle.rb_sound.proofs.blocks.segments_sound.Goals as goal

@@ -1,6 +1,6 @@
 use Rattle.std.proofs.Common.{◌≡◌, ℕ, ◌<◌, false}
 use Rattle.rb_base.specs.Blocks.{block_of}
-use Rattle.rb_sound.specs.Loads.{OnlyLoads}
+use Rattle.rb_base.specs.Loads.{OnlyLoads}
 use Rattle.rb_base.specs.Blocks.{header_block}
 use Rattle.rb_sound.specs.Sound.{IsSegment}
 use Rattle.rb_sound.proofs.blocks.segments_sound.Given as goal

@@ -1,7 +1,7 @@
 use Rattle.std.proofs.Common.{ℕ, ◌<◌}
 use Rattle.rb_itl.specs.Entries.{entry_at}
 use Rattle.rb_heap.specs.Soundness.{IsEntrySound}
-use Rattle.rb_sound.specs.Sound.{wrap_in}
+use Rattle.rb_segment.specs.Segments.{wrap_in}
 use Rattle.rb_sound.proofs.home.entries_sound.Given as goal
 
 abbrev pub invariant-loop-i : goal.invariant-loop-i

@@ -1,14 +1,5 @@
-use Rattle.rb_sound.proofs.CommitWritten.{sound_with_commit, commit_next, commit_numbered, rows_kept}
+use Rattle.rb_sound.proofs.CommitWritten.{sound_with_commit}
 use Rattle.rb_sound.proofs.laws.commit_written.Goals as goal
 
-pub returns-clause-sound : goal.returns-clause-sound
-returns-clause-sound c = sound_with_commit
-
-pub returns-clause-commit : goal.returns-clause-commit
-returns-clause-commit c = commit_next
-
-pub returns-clause-number : goal.returns-clause-number
-returns-clause-number c = commit_numbered
-
-pub returns-clause-rows : goal.returns-clause-rows
-returns-clause-rows c = rows_kept
+pub returns : goal.returns
+returns c = sound_with_commit

@@ -1,5 +1,5 @@
 use Rattle.std.proofs.Common.{◌≡◌, ℕ, ◌<◌, ◌≤◌}
-use Rattle.rb_sound.specs.Sound.{extent_ord}
+use Rattle.rb_ring.specs.Ring.{extent_ord}
 use Rattle.rb_sound.proofs.segment.others_out.Given as goal
 
 abbrev pub invariant-loop-e : goal.invariant-loop-e

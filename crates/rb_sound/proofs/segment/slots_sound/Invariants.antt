@@ -1,5 +1,5 @@
 use Rattle.std.proofs.Common.{ℕ, ◌<◌}
-use Rattle.rb_sound.specs.Sound.{IsSlot}
+use Rattle.rb_txntable.specs.Slots.{IsSlot}
 use Rattle.rb_sound.proofs.segment.slots_sound.Given as goal
 
 abbrev pub invariant-loop-i : goal.invariant-loop-i
