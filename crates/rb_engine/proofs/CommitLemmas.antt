@@ -17,7 +17,8 @@ use Rattle.std.proofs.Math.Nat.{mul-le-mul_right}
 use Rattle.rb_segment.specs.Segments.{scn_patch}
 use Rattle.rb_segment.proofs.ScnWritten.{commit_next, commit_numbered, rows_kept}
 use Rattle.rb_sound.proofs.CommitWritten.{sound_with_commit}
-use Rattle.rb_write.specs.Values.{home_block, value_in, IsPlainHome}
+use Rattle.rb_base.specs.Blocks.{home_block}
+use Rattle.rb_write.specs.Values.{value_in, IsPlainHome}
 use Rattle.rb_write.proofs.Placed.{row_block}
 use Rattle.std.specs.List.{list_any}
 use Rattle.rb_engine.specs.Crash.{IsDurable, Survives, has_rows}

@@ -28,7 +28,8 @@ use Rattle.rb_sound.specs.Sound.{AreSound}
 use Rattle.rb_segment.specs.Segments.{commit_lsn, commit_scn}
 use Rattle.rb_model.proofs.Order.{row_same}
 use Rattle.rb_model.proofs.RowLemmas.{all-with_row, ordered-over}
-use Rattle.rb_write.specs.Values.{home_at, home_block, value_at, value_in, LocksRows, ArePlain, IsPlainHome}
+use Rattle.rb_base.specs.Blocks.{home_block}
+use Rattle.rb_write.specs.Values.{home_at, value_at, value_in, LocksRows, ArePlain, IsPlainHome}
 use Rattle.rb_write.proofs.Placed.{row_block}
 use Rattle.rb_engine.specs.Found.{put_row, rows_below, rows_found, table_of, table_row}
 use Rattle.rb_engine.specs.Holds.{CanOpen, Holds, OpensAs}

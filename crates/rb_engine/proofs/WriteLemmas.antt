@@ -27,7 +27,8 @@ use Rattle.rb_segment.specs.Segments.{commit_lsn, commit_scn}
 use Rattle.rb_sound.proofs.CellWritten.{sound_with_cell, commit_stays, logged_stays}
 use Rattle.rb_versions.proofs.HomeLemmas.{distinct_none}
 use Rattle.rb_model.proofs.RowLemmas.{ordered-over}
-use Rattle.rb_write.specs.Values.{home_block, home_at, value_in, value_at, IsPlainHome, ArePlain}
+use Rattle.rb_base.specs.Blocks.{home_block}
+use Rattle.rb_write.specs.Values.{home_at, value_in, value_at, IsPlainHome, ArePlain}
 use Rattle.rb_write.specs.Writes.{adds, may_take, value_after, cell_after, IsShort, IsMade}
 use Rattle.rb_write.specs.declared.ask.Ask.{Ask}
 use Rattle.rb_write.proofs.Placed.{row_block}

@@ -1,5 +1,5 @@
 -- What a contract sees of the engine, and how its state goes together with its store.
-use Rattle.std.specs.Prelude.{◌≡◌, ℕ, ◌+◌, ◌-◌, ◌^◌, ◌<◌, ◌≤◌, false, length, Option}
+use Rattle.std.specs.Prelude.{◌≡◌, ℕ, ◌+◌, ◌-◌, ◌<◌, ◌≤◌, false, length, Option}
 use Rattle.std.specs.Prelude.{None, Some}
 use Rattle.rb_base.specs.Blocks.{IsShape}
 use Rattle.rb_base.specs.Stores.{room_of}

@@ -1,5 +1,5 @@
 -- What the blocks of a file hold, in rows and a commit number, and what an opening tests on them.
-use Rattle.std.specs.Prelude.{◌≡◌, ℕ, ◌+◌, ◌^◌, ◌<◌, ◌≤◌, List}
+use Rattle.std.specs.Prelude.{◌≡◌, ℕ, ◌+◌, ◌<◌, ◌≤◌, List}
 use Rattle.std.specs.List.{AllByRecursion}
 use Rattle.rb_base.specs.Blocks.{block_of, table_blocks, AreBlocks}
 use Rattle.rb_base.specs.declared.shape.Shape.{Shape}

@@ -1,5 +1,5 @@
-use Rattle.std.proofs.Common.{◌≡◌, ◌↔◌, ℕ, Result, Ok, Err, Bool, true, refl, sym, ap, subst, ◌∙◌, IfOk}
-use Rattle.std.specs.Result.{MatchResult, OnOk, is_ok}
+use Rattle.std.proofs.Common.{◌≡◌, ◌↔◌, ℕ, Result, Ok, Bool, true, refl, sym, ap, subst, ◌∙◌, IfOk}
+use Rattle.std.specs.Result.{OnOk}
 use Rattle.rb_base.specs.Blocks.{AreBlocks, IsShape}
 use Rattle.rb_base.specs.declared.faults.Failed.{Failed}
 use Rattle.rb_base.specs.declared.shape.Shape.{Shape}
@@ -12,14 +12,6 @@ use Rattle.rb_engine.specs.Kept.{Kept}
 use Rattle.rb_engine.proofs.FoundLemmas.{can_open, opens_as}
 use Rattle.rb_engine.proofs.open.open_state.Given.{Over}
 use Rattle.rb_engine.proofs.open.open_state.Goals as goal
-
-ok_value : {T D : Type 0} (x y : T) → ◌≡◌ {A = Result T D} (Ok x) (Ok y) → x ≡ y
-ok_value x y e = cc
-
--- what a call answered, where another error was put in the place of its own
-ok_before : {T E D : Type 0} (Q : E → Type 0) (was : Result T E) (now : Result T D) (x : T) → MatchResult was (λ y. now ≡ Ok y) Q → is_ok now ≡ is_ok was → now ≡ Ok x → was ≡ Ok x
-ok_before Q (Ok y) now x cases same is = ap Ok (ok_value y x (sym cases ∙ is))
-ok_before Q (Err e) now x cases same is = absurd (cc)
 
 -- the stores between the tests only loaded
 first : (g : Over) (c : goal.After-found_all g) → OnlyLoads g.T.Store c.args.store.now c.blocks_sound.new.store
@@ -34,16 +26,16 @@ third g c = more_loads g.T.Store c.args.store.now c.commit_scn_of.new.store c.sc
 -- what the tests answered
 
 sound_is : (g : Over) (c : goal.After-found_all g) → c.blocks_sound.result ≡ Ok true
-sound_is g c = ok_before _ c.blocks_sound.result c.map_err.result true c.map_err.ensures.cases c.map_err.ensures.variant (c.in_ok-sound.was ∙ ap Ok c.if-not-sound.false)
+sound_is g c = c.in_ok-sound.was ∙ ap Ok c.if-not-sound.false
 
 number_is : (g : Over) (c : goal.After-found_all g) → c.commit_scn_of.result ≡ Ok c.in_ok-number.number
-number_is g c = ok_before _ c.commit_scn_of.result c.map_err-2.result c.in_ok-number.number c.map_err-2.ensures.cases c.map_err-2.ensures.variant c.in_ok-number.was
+number_is g c = c.in_ok-number.was
 
 numbered_is : (g : Over) (c : goal.After-found_all g) → c.scn_sound.result ≡ Ok true
-numbered_is g c = ok_before _ c.scn_sound.result c.map_err-3.result true c.map_err-3.ensures.cases c.map_err-3.ensures.variant (c.in_ok-numbered.was ∙ ap Ok c.if-not-numbered.false)
+numbered_is g c = c.in_ok-numbered.was ∙ ap Ok c.if-not-numbered.false
 
 taken : (g : Over) (c : goal.After-found_all g) → c.take_rows.result ≡ Ok true
-taken g c = ok_before _ c.take_rows.result c.map_err-4.result true c.map_err-4.ensures.cases c.map_err-4.ensures.variant (c.in_ok-unlocked.was ∙ ap Ok c.if-unlocked.true)
+taken g c = c.in_ok-unlocked.was ∙ ap Ok c.if-unlocked.true
 
 kept_shape : (g : Over) (c : goal.After-found_all g) → c.in-Ok.state.state.shape ≡ g.T.Store.shape_of c.args.store.now
 kept_shape g c = ap (λ (h : State). h.shape) c.in-Ok.ensures.state ∙ c.shape-shape.ensures.shape ∙ (third g c).same_shape
@@ -62,7 +54,7 @@ can g c told =
     can_open shape (s.shape_of c.blocks_sound.new.store) (s.shape_of c.commit_scn_of.new.store) c.in-Ok.state.state.shape
     blocks (s.blocks c.blocks_sound.new.store) (s.blocks c.commit_scn_of.new.store) (s.blocks c.scn_sound.new.store)
     c.in_ok-number.number (s.lsn old) (s.lsn c.commit_scn_of.new.store)
-    (first g c).same_shape ((first g c).same_blocks told) (second g c).same_shape ((second g c).same_blocks told) (second g c).same_number
+    (first g c).same_shape ((first g c).same_blocks told) (second g c).same_shape ((second g c).same_blocks told) (second g c).same_lsn
     (kept_shape g c) ((third g c).same_blocks told) sound (commit_is g c told) (c.scn_sound.ensures.sound told (numbered_is g c)) (c.take_rows.ensures.unlocked told (taken g c))
 
 pub returns-then-unlocked-clause-sound : goal.returns-then-unlocked-clause-sound

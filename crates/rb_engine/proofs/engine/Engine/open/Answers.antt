@@ -23,12 +23,12 @@ invariant_of-result g c =
       alone = ap (λ (x : State). length x.sessions) call.base;
       enough = λ going slots is.
           let room = call.enough slots (sym loads.same_slots ∙ is) in
-          subst (λ (n : ℕ). slots - 1 - n ≤ c.in-Ok.state.spare) (sym loads.same_number) room;
+          subst (λ (n : ℕ). slots - 1 - n ≤ c.in-Ok.state.spare) (sym loads.same_lsn) room;
       going = λ going. call.failed;
       numbers = λ going.
           let last : last_scn h.commits ≡ h.commits.base + 0 = ap (λ (x : State). last_scn x.commits) call.base in
           let low = call.numbers in
-          let same = loads.same_number in
+          let same = loads.same_lsn in
           omega (arith, last, low, same);
       room = λ going some. absurd (none some);
       few = λ going some. absurd (none some);
