@@ -69,8 +69,8 @@ pub fn decode(bytes: &[u8]) -> Option<Group>
     if rest.is_empty() { Some(group) } else { None }
 }
 
-/// No two groups have one spelling, and no spelling is the front of another. Each has as many bytes as its group's
-/// length says.
+/// No two groups have one spelling, and no spelling is the front of another. Each has as many bytes as its
+/// group's length says.
 pub fn one_spelling()
     ensures same { (patches others : List Patch) → IsGroup patches → IsGroup others
         → group_bytes patches ≡ group_bytes others → patches ≡ others }
