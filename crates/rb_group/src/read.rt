@@ -3,19 +3,10 @@ ghost use Rattle.std.specs.Prelude.{◌≡◌, ◌≢◌, ℕ, List, [], ◌++�
 ghost use Rattle.rb_base.specs.Groups.{Patch, patch, group_length, IsPatch, IsGroup};
 ghost use Rattle.rb_group.specs.Spelling.{patch_bytes, group_bytes, Spells};
 
-use rb_base::{BlockNo, Group, UNIT, u16_at, u32_at};
-
-/// The most bytes of a group.
-const GROUP_BYTES: usize = 2000;
-
-/// The most patches of a group.
-const PATCHES: u16 = 40;
+use rb_base::{BLOCK_HEAD, BlockNo, GROUP_BYTES, GROUP_PATCHES, Group, UNIT, u16_at, u32_at};
 
 /// The bytes of a patch in front of those that it writes: the block, the offset and the length.
 const PATCH_BYTES: usize = 8;
-
-/// The bytes at the front of a block that no patch writes.
-const BLOCK_HEAD: u16 = 32;
 
 /// A patch as it lies in the bytes that are read.
 #[derive(Drop)]
@@ -38,7 +29,11 @@ fn read_patch(bytes: &[u8]) -> Option<(Found<'_>, &[u8])>
     let at = u16_at(bytes, 4);
     let length = u16_at(bytes, 6) as usize;
     let behind = &bytes[PATCH_BYTES..];
-    if length < 1 || at < BLOCK_HEAD || at as usize + length > UNIT || behind.len() < length {
+    if length < 1
+        || (at as usize) < BLOCK_HEAD
+        || at as usize + length > UNIT
+        || behind.len() < length
+    {
         return None;
     }
     let (own, rest) = behind.split_at(length);
@@ -59,7 +54,7 @@ pub fn decode(bytes: &[u8]) -> Option<Group>
         return None;
     }
     let count = u16_at(bytes, 0);
-    if count < 1 || count > PATCHES {
+    if count < 1 || count as usize > GROUP_PATCHES {
         return None;
     }
     let mut group = Group::new();
@@ -74,8 +69,8 @@ pub fn decode(bytes: &[u8]) -> Option<Group>
     if rest.is_empty() { Some(group) } else { None }
 }
 
-/// No two groups have one spelling, and no spelling is the front of another. Each has as many bytes as its group's
-/// length says.
+/// No two groups have one spelling, and no spelling is the front of another. Each has as many bytes as its
+/// group's length says.
 pub fn one_spelling()
     ensures same { (patches others : List Patch) → IsGroup patches → IsGroup others
         → group_bytes patches ≡ group_bytes others → patches ≡ others }

@@ -3,7 +3,7 @@ ghost use Rattle.std.specs.Prelude.{◌≡◌, ◌+◌, ◌^◌, ◌<◌, ◌≤
 ghost use Rattle.rb_base.specs.Groups.{patch, group_length};
 ghost use Rattle.rb_group.specs.Spelling.{patch_bytes, group_bytes};
 
-use rb_base::{BlockNo, Group, put_u16, put_u32};
+use rb_base::{BlockNo, GROUP_BYTES, Group, put_u16, put_u32};
 
 /// Writes one patch from `place` on, and nothing else. The answer is the place behind it.
 fn put_patch(into: &mut [u8], place: usize, block: BlockNo, at: u16, bytes: &[u8]) -> usize
@@ -24,7 +24,7 @@ fn put_patch(into: &mut [u8], place: usize, block: BlockNo, at: u16, bytes: &[u8
 /// is how many bytes it has. The group has a patch.
 pub fn encode(group: &Group, into: &mut [u8]) -> usize
     requires some { 0 < length group.now }
-    requires room { 2000 ≤ length into.old }
+    requires room { GROUP_BYTES ≤ length into.old }
     ensures length { result ≡ group_length group.now }
     ensures into { into.new ≡ group_bytes group.now ++ drop result into.old }
 {

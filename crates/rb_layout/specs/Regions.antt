@@ -1,7 +1,9 @@
--- Where the parts of a file lie, and what its first bytes say. All parts are units of 2,048 bytes.
+-- Where the parts of a file lie, and what its first bytes say. All parts are units.
 use Rattle.std.specs.Prelude.{◌≡◌, ℕ, ◌+◌, ◌-◌, ◌*◌, List, ◌++◌, length, take, replicate, codes}
 use Rattle.byteorder.specs.Endian.{big_bytes}
+use Rattle.rb_base.specs.Blocks.{shape_blocks}
 use Rattle.rb_base.specs.declared.shape.Shape.{Shape}
+use Rattle.rb_base.specs.declared.sizes.TheConstants.{UNIT}
 use Rattle.rb_layout.specs.declared.layout.Layout.{Layout}
 
 -- the version of this form of file
@@ -11,25 +13,25 @@ file_version = 102
 abbrev pub shape_of : Layout → Shape
 shape_of l = record { tables = l.tables; blocks = l.blocks; segments = l.segments }
 
--- the blocks of the tables, and a header and eight extents of four blocks for each segment
+-- how many blocks there are
 abbrev pub block_count : Layout → ℕ
-block_count l = l.tables * l.blocks + 33 * l.segments
+block_count l = shape_blocks (shape_of l)
 
 -- the identity, two control copies and the chooser, the log, the twin's header and eight images, the blocks
 abbrev pub file_units : Layout → ℕ
 file_units l = 4 + l.log + 9 + block_count l
 
 abbrev pub file_length : Layout → ℕ
-file_length l = 2048 * file_units l
+file_length l = UNIT * file_units l
 
 abbrev pub log_offset : ℕ → ℕ
-log_offset slot = 2048 * (4 + slot)
+log_offset slot = UNIT * (4 + slot)
 
 abbrev pub twin_offset : Layout → ℕ → ℕ
-twin_offset l part = 2048 * (4 + l.log + part)
+twin_offset l part = UNIT * (4 + l.log + part)
 
 abbrev pub block_offset : Layout → ℕ → ℕ
-block_offset l block = 2048 * (4 + l.log + 9 + block)
+block_offset l block = UNIT * (4 + l.log + 9 + block)
 
 -- the first 24 bytes of a file: a mark, the version, and the numbers of the layout, the highest byte first
 abbrev pub identity : ℕ → Layout → List ℕ

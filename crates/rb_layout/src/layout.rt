@@ -14,12 +14,10 @@ const UNIT_BYTES: u64 = UNIT as u64;
 
 const MARK: [u8; 8] = *b"RBS7FILE";
 
-// Units before the log, of the twin area, and of a segment.
+// Units before the log, and of the twin area.
 const BEFORE_LOG: u64 = 4;
 
 const TWIN: u64 = 9;
-
-const SEGMENT: u64 = 33;
 
 /// The numbers that say where each part of a file lies.
 #[derive(Clone, Copy, Debug, PartialEq, Eq)]
@@ -79,9 +77,8 @@ impl Layout {
     pub fn length(&self) -> u64
         ensures { result ≡ file_length self.now }
     {
-        let parts = BEFORE_LOG + u64::from(self.log) + TWIN;
-        let blocks = u64::from(self.tables) * u64::from(self.blocks);
-        UNIT_BYTES * (parts + blocks + SEGMENT * u64::from(self.segments))
+        let blocks = self.shape().block_count();
+        UNIT_BYTES * (BEFORE_LOG + u64::from(self.log) + TWIN + u64::from(blocks))
     }
 
     /// Where a log slot begins.

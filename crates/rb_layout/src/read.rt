@@ -22,16 +22,12 @@ impl Layout {
         ensures counted { IsCountedAs (D.faults disk.old) (D.faults disk.new) (err_is is_failed result) }
         ensures same { D.tells → Rests D.Disk disk.old disk.new }
     {
-        let Ok(length) = disk.len() else {
-            return Err(OpenFault::Failed);
-        };
+        let length = disk.len()?;
         if length < UNIT as u64 {
             return Err(OpenFault::NotAStore);
         }
         let mut front = [0; IDENTITY];
-        let Ok(()) = disk.read_at(0, &mut front) else {
-            return Err(OpenFault::Failed);
-        };
+        disk.read_at(0, &mut front)?;
         let Some(layout) = layout_of(&front) else {
             return Err(OpenFault::NotAStore);
         };

@@ -7,13 +7,14 @@ use Rattle.rb_base.specs.Groups.{Patch}
 use Rattle.rb_base.proofs.Fronts.{byte_of_part}
 use Rattle.rb_base.proofs.Overwriting.{part_written}
 use Rattle.rb_disk.specs.DiskModel.{Torn}
+use Rattle.rb_disk.specs.Writes.{done_is_torn}
 use Rattle.rb_layout.specs.declared.layout.Layout.{Layout}
 use Rattle.rb_layout.specs.Regions.{log_offset, file_length}
 use Rattle.rb_log.specs.GroupSlots.{GroupsAre, DroppedSome}
 use Rattle.rb_log.specs.GroupLaws.{same_slot, begins_same, same_units_log, begins_end_group, cut_log}
 use Rattle.rb_disk.specs.Ranges.{SameBut, TornFrom}
 use Rattle.rb_log.specs.Slots.{slot_at, SameSlots, SameOutside}
-use Rattle.rb_log.proofs.Writes.{gate_at, torn_outside, part_below, part_beyond, written_torn}
+use Rattle.rb_log.proofs.Writes.{gate_at, torn_outside, part_below, part_beyond}
 
 -- each slot of these groups is open, and none is the last
 opened_at : (l : Layout) (f : List ℕ) (slot k : ℕ) (groups : List (List Patch)) → GroupsAre l f slot groups → slot ≤ k → k < slot + length groups → (k + 1 < l.log) × (slice_index (slot_at f k) 0 ≡ 1)
@@ -51,7 +52,7 @@ module _ (l : Layout) (f : List ℕ) (groups : List (List Patch)) (used count : 
   cut_written c is =
       let at = log_offset count in
       let fits : at + 1 ≤ length f = omega (arith, whole, within.0) in
-      let torn : Torn at 1 f c = subst (λ (g : List ℕ). Torn at 1 f g) (sym is) (written_torn f (0 ∷ []) at fits) in
+      let torn : Torn at 1 f c = subst (λ (g : List ℕ). Torn at 1 f g) (sym is) (done_is_torn at f (0 ∷ []) (omega (arith, fits))) in
       let gate : part c at 1 ≡ 0 ∷ [] = ap (λ (g : List ℕ). part g at 1) is ∙ part_written f at (0 ∷ []) 1 fits refl in
       let zero_there : slice_index (slot_at c count) 0 ≡ 0 = gate_at c count ∙ sym (byte_of_part c at 1 (omega arith)) ∙ ap (λ (g : List ℕ). get_or g 0 0) gate in
       cut_off c (λ k lt. part_below c f at (log_offset k) 2048 torn.before (omega (arith, lt))) (λ one. absurd (omega (arith, one, zero_there)))
@@ -89,12 +90,12 @@ module _ (l : Layout) (f : List ℕ) (groups : List (List Patch)) (used count : 
 -- outside the log all stays
 pub cut_outside : (l : Layout) (f c : List ℕ) (slot : ℕ) → length f ≡ file_length l → slot + 1 < l.log → c ≡ overwritten f (log_offset slot) (0 ∷ []) → SameOutside l.log f c
 cut_outside l f c slot whole lt is =
-    subst (λ (g : List ℕ). SameOutside l.log f g) (sym is) (torn_outside l.log f (overwritten f (log_offset slot) (0 ∷ [])) (log_offset slot) 1 (omega arith) (omega (arith, lt)) (omega (arith, whole)) (written_torn f (0 ∷ []) (log_offset slot) (omega (arith, whole, lt))))
+    subst (λ (g : List ℕ). SameOutside l.log f g) (sym is) (torn_outside l.log f (overwritten f (log_offset slot) (0 ∷ [])) (log_offset slot) 1 (omega arith) (omega (arith, lt)) (omega (arith, whole)) (done_is_torn (log_offset slot) f (0 ∷ []) (omega (arith, whole, lt))))
 
 -- and all but the gate
 pub cut_others : (l : Layout) (f c : List ℕ) (slot : ℕ) → length f ≡ file_length l → slot + 1 < l.log → c ≡ overwritten f (log_offset slot) (0 ∷ []) → SameBut (log_offset slot) (log_offset slot + 1) f c
 cut_others l f c slot whole lt is =
-    let torn = written_torn f (0 ∷ []) (log_offset slot) (omega (arith, whole, lt)) in
+    let torn = done_is_torn (log_offset slot) f (0 ∷ []) (omega (arith, whole, lt)) in
     subst (λ (g : List ℕ). SameBut (log_offset slot) (log_offset slot + 1) f g) (sym is) (record {
       long = omega (arith, torn.no_shorter, torn.no_longer, whole, lt);
       before = torn.before;

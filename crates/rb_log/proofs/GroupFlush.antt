@@ -8,10 +8,11 @@ use Rattle.rb_base.proofs.Each.{all_take}
 use Rattle.rb_disk.specs.Ranges.{TornFrom}
 use Rattle.rb_layout.specs.Regions.{log_offset, file_length}
 use Rattle.rb_layout.specs.declared.layout.Layout.{Layout}
+use Rattle.rb_log.specs.GroupLaws.{same_group_log}
 use Rattle.rb_log.specs.GroupSlots.{IsLoggable, GroupsAre, FlushedSome, AreStaged, AreOpen, group_unit}
 use Rattle.rb_log.specs.Slots.{slot_at, SameSlots, SameOutside}
 use Rattle.rb_log.proofs.GroupRuns.{parted}
-use Rattle.rb_log.proofs.LogLemmas.{groups_on, groups_same, groups_kept, groups_stand}
+use Rattle.rb_log.proofs.LogLemmas.{groups_on, groups_kept, groups_stand}
 use Rattle.rb_log.proofs.Writes.{gate_at, take_below, drop_beyond, part_below, torn_outside}
 
 -- an image whose log is that of before
@@ -26,7 +27,7 @@ none_more image l before pending c d here outside log = record {
 pub nothing_flushed : (l : Layout) (f : List ℕ) (image : List ℕ → Type 0) (before pending : List (List Patch)) → ((c : List ℕ) → image c → SameSlots l.log f c) → GroupsAre l f 0 before → (c : List ℕ) → image c → FlushedSome image l before pending c
 nothing_flushed l f image before pending synced log c here =
     let few = l.few_slots.0 in
-    none_more image l before pending c c here (record { long = refl; before = refl; behind = refl }) (groups_same l f c 0 before (synced c here) (omega (arith, few)) log)
+    none_more image l before pending c c here (record { long = refl; before = refl; behind = refl }) (same_group_log l f c 0 before (synced c here) (omega (arith, few)) log)
 
 -- where a flush writes
 pub record FlushPlan (l : Layout) (end : ℕ) (groups : List (List Patch)) (f : List ℕ) : Type 0 where

@@ -5,17 +5,19 @@ use Rattle.std.proofs.lemmas.List.{length-take-le, length-drop, get_or-take, get
 use Rattle.std.specs.List.{AllByRecursion}
 use Rattle.rb_base.specs.Fields.{part, overwritten}
 use Rattle.rb_base.specs.Groups.{Patch}
-use Rattle.rb_base.specs.Moments.{LeavesOnly, Passes, begun, goes_on}
+use Rattle.rb_base.specs.Moments.{Passes, begun, goes_on}
 use Rattle.rb_base.proofs.Each.{all_at}
 use Rattle.rb_base.proofs.Overwriting.{part_written}
+use Rattle.rb_disk.specs.declared.disk.Disk.{Ghosts}
+use Rattle.rb_disk.specs.Moments.{Leaves}
 use Rattle.rb_disk.specs.DiskModel.{Torn, Follows}
 use Rattle.rb_disk.specs.Ranges.{SameBut, TornFrom}
-use Rattle.rb_disk.specs.Writes.{none_is_torn}
+use Rattle.rb_disk.specs.Writes.{done_is_torn, none_is_torn}
 use Rattle.rb_layout.specs.Regions.{file_length, log_offset}
 use Rattle.rb_layout.specs.declared.layout.Layout.{Layout}
 use Rattle.rb_log.specs.GroupSlots.{IsLoggable, AreStaged, group_unit}
 use Rattle.rb_log.proofs.GroupUnits.{AreSideBySide, piece, length-body}
-use Rattle.rb_log.proofs.Writes.{take_below, drop_beyond, part_below, part_inside, byte_inside, both_torn, torn_wider, written_torn}
+use Rattle.rb_log.proofs.Writes.{take_below, drop_beyond, part_below, part_inside, byte_inside, both_torn, torn_wider}
 
 -- a buffer's units in a file
 pub run_written : (slot : ℕ) (groups : List (List Patch)) (f buffer bytes m : List ℕ) → bytes ≡ part buffer 0 (2048 * length groups) → length bytes ≡ 2048 * length groups → log_offset (slot + length groups) + 1 ≤ length f
@@ -32,7 +34,7 @@ run_written slot groups f buffer bytes m cut long fits filled is k d lt =
 pub run_others : (slot count : ℕ) (f bytes m : List ℕ) → length bytes ≡ 2048 * count → log_offset (slot + count) + 1 ≤ length f → m ≡ overwritten f (log_offset slot + 1) bytes
     → SameBut (log_offset slot + 1) (log_offset (slot + count) + 1) f m
 run_others slot count f bytes m long fits is =
-    let torn = written_torn f bytes (log_offset slot + 1) (omega (arith, long, fits)) in
+    let torn = done_is_torn (log_offset slot + 1) f bytes (omega (arith, fits)) in
     subst (λ (g : List ℕ). SameBut (log_offset slot + 1) (log_offset (slot + count) + 1) f g) (sym is) (record {
       long = omega (arith, torn.no_shorter, torn.no_longer, long, fits);
       before = torn.before;
@@ -143,44 +145,44 @@ module _ (l : Layout) (end : ℕ) (groups : List (List Patch)) (runs : ℕ) (f c
 torn_to : (at count total : ℕ) (f g : List ℕ) → count ≤ total → Torn at count f g → Torn at total f g
 torn_to at count total f g le torn = subst (λ (n : ℕ). Torn at n f g) (omega (arith, le)) (torn_wider at count (total - count) f g torn)
 
-module _ {D : Type 0} (content : D → List ℕ) (image : D → List ℕ → Type 0) (moment : D → ℕ) (since : D → ℕ → List ℕ → Type 0) where
+module _ {D : Type 0} (d : Ghosts D) where
   -- Step one has come so far on a disk.
   pub record StagedSome (l : Layout) (used : ℕ) (groups : List (List Patch)) (runs : ℕ) (old new : D) : Type 0 where
-    pub file : RunsStaged used groups runs (content old) (content new)
-    pub images : (c : List ℕ) → image new c → TornFrom (log_offset used + 1) (2048 * min (32 * runs) (length groups)) (image old) c
-    pub any_moment : LeavesOnly moment since old new (TornFrom (log_offset used + 1) (2048 * length groups) (image old))
-    pub whole : length (content new) ≡ file_length l
+    pub file : RunsStaged used groups runs (d.content old) (d.content new)
+    pub images : (c : List ℕ) → d.image new c → TornFrom (log_offset used + 1) (2048 * min (32 * runs) (length groups)) (d.image old) c
+    pub any_moment : Leaves d old new (TornFrom (log_offset used + 1) (2048 * length groups) (d.image old))
+    pub whole : length (d.content new) ≡ file_length l
 
-  pub none_staged : (l : Layout) (used : ℕ) (groups : List (List Patch)) (disk : D) → ((c : List ℕ) → since disk (moment disk) c → image disk c) → length (content disk) ≡ file_length l → StagedSome l used groups 0 disk disk
+  pub none_staged : (l : Layout) (used : ℕ) (groups : List (List Patch)) (disk : D) → ((c : List ℕ) → d.image_since disk (d.moment disk) c → d.image disk c) → length (d.content disk) ≡ file_length l → StagedSome l used groups 0 disk disk
   none_staged l used groups disk only_now whole = record {
     file = record {
       others = record { long = refl; before = refl; behind = refl };
       pieces = λ j i d below few lt. absurd (omega (arith, below));
     };
     images = λ c here. (c, here, none_is_torn (log_offset used + 1) (2048 * min (32 * 0) (length groups)) c);
-    any_moment = begun moment since disk (TornFrom (log_offset used + 1) (2048 * length groups) (image disk)) (λ c left. (c, only_now c left, none_is_torn (log_offset used + 1) (2048 * length groups) c));
+    any_moment = begun d.moment d.image_since disk (TornFrom (log_offset used + 1) (2048 * length groups) (d.image disk)) (λ c left. (c, only_now c left, none_is_torn (log_offset used + 1) (2048 * length groups) c));
     whole = whole;
   }
 
   module _ (l : Layout) (used : ℕ) (groups run : List (List Patch)) (done end runs : ℕ) (next : NextRun groups run done end runs) (old mid new : D) (so_far : StagedSome l used groups runs old mid)
-      (follows : Follows (Torn (log_offset (used + done) + 1) (2048 * length run)) (image mid) (image new)) (time : Passes (moment mid) (moment new) (since mid) (since new) (image new)) where
-    more_torn : (c : List ℕ) → image new c → TornFrom (log_offset used + 1) (2048 * min (32 * (runs + 1)) (length groups)) (image old) c
+      (follows : Follows (Torn (log_offset (used + done) + 1) (2048 * length run)) (d.image mid) (d.image new)) (time : Passes (d.moment mid) (d.moment new) (d.image_since mid) (d.image_since new) (d.image new)) where
+    more_torn : (c : List ℕ) → d.image new c → TornFrom (log_offset used + 1) (2048 * min (32 * (runs + 1)) (length groups)) (d.image old) c
     more_torn c left =
         let size = run_length groups run done end runs next in
         let count = 2048 * min (32 * runs) (length groups) in
-        let here : Follows (Torn (log_offset used + 1 + count) (2048 * length run)) (image mid) (image new) = subst (λ (i : ℕ). Follows (Torn i (2048 * length run)) (image mid) (image new)) (omega (arith, next.whole, next.behind)) follows in
-        subst (λ (n : ℕ). TornFrom (log_offset used + 1) n (image old) c) (omega (arith, size, next.whole, next.behind)) (both_torn (log_offset used + 1) count (2048 * length run) (image old) (image mid) (image new) so_far.images here c left)
+        let here : Follows (Torn (log_offset used + 1 + count) (2048 * length run)) (d.image mid) (d.image new) = subst (λ (i : ℕ). Follows (Torn i (2048 * length run)) (d.image mid) (d.image new)) (omega (arith, next.whole, next.behind)) follows in
+        subst (λ (n : ℕ). TornFrom (log_offset used + 1) n (d.image old) c) (omega (arith, size, next.whole, next.behind)) (both_torn (log_offset used + 1) count (2048 * length run) (d.image old) (d.image mid) (d.image new) so_far.images here c left)
 
     -- what a crash leaves after one run more
-    pub more_moment : LeavesOnly moment since old new (TornFrom (log_offset used + 1) (2048 * length groups) (image old))
+    pub more_moment : Leaves d old new (TornFrom (log_offset used + 1) (2048 * length groups) (d.image old))
     more_moment =
-        goes_on moment since old mid new (TornFrom (log_offset used + 1) (2048 * length groups) (image old)) (image new) so_far.any_moment time
+        goes_on d.moment d.image_since old mid new (TornFrom (log_offset used + 1) (2048 * length groups) (d.image old)) (d.image new) so_far.any_moment time
         (λ c left. let from = more_torn c left in (from.0, from.1, torn_to (log_offset used + 1) (2048 * min (32 * (runs + 1)) (length groups)) (2048 * length groups) from.0 c (omega arith) from.2))
 
-    pub more_staged : ((k : ℕ) (d : List Patch) → k < length run → part (content new) (log_offset (used + done + k) + 1) 2048 ≡ piece (used + done + k + 1) (get_or run k d) (min 1 (length run - (k + 1))))
-        → SameBut (log_offset (used + done) + 1) (log_offset (used + done + length run) + 1) (content mid) (content new) → length (content new) ≡ file_length l → StagedSome l used groups (runs + 1) old new
+    pub more_staged : ((k : ℕ) (x : List Patch) → k < length run → part (d.content new) (log_offset (used + done + k) + 1) 2048 ≡ piece (used + done + k + 1) (get_or run k x) (min 1 (length run - (k + 1))))
+        → SameBut (log_offset (used + done) + 1) (log_offset (used + done + length run) + 1) (d.content mid) (d.content new) → length (d.content new) ≡ file_length l → StagedSome l used groups (runs + 1) old new
     more_staged written others whole = record {
-      file = one_more used groups run done end runs (content old) (content mid) (content new) next so_far.file written others;
+      file = one_more used groups run done end runs (d.content old) (d.content mid) (d.content new) next so_far.file written others;
       images = more_torn;
       any_moment = more_moment;
       whole = whole;

@@ -30,13 +30,6 @@ pub groups_stay : (l : Layout) (f g : List ℕ) (end : ℕ) (groups : List (List
 groups_stay l f g end groups e same log shut =
     subst (λ (gs : List (List Patch)). GroupsAre l g 0 gs) (append-nil groups) (groups_on l f g 0 end groups [] (omega (arith, e)) same log shut)
 
--- files with the same bytes in the slots have the same groups
-pub groups_same : (l : Layout) (file other : List ℕ) (slot : ℕ) (groups : List (List Patch)) → SameSlots l.log file other → slot < l.log → GroupsAre l file slot groups → GroupsAre l other slot groups
-groups_same l file other slot [] same lt log =
-    ⊎_elim (λ last. inl last) (λ shut. inr (λ is. shut (ap (λ (u : List ℕ). slice_index u 0) (sym (same_slot l.log file other same slot lt)) ∙ is))) log
-groups_same l file other slot (group ∷ groups) same lt log =
-    (log.0, subst (λ (u : List ℕ). HoldsGroup l u (slot + 1) group) (sym (same_slot l.log file other same slot lt)) log.1, groups_same l file other (slot + 1) groups same log.0 log.2)
-
 -- Step one may leave any bodies, and any gate behind them: the log is that of before.
 pub groups_kept : (l : Layout) (f d c : List ℕ) (end count : ℕ) (groups : List (List Patch)) → end + 1 < l.log → length groups ≡ end → GroupsAre l f 0 groups → SameSlots l.log f d → Torn (log_offset end + 1) count d c → GroupsAre l c 0 groups
 groups_kept l f d c end count groups lt e log same torn =

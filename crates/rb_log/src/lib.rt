@@ -3,6 +3,8 @@
 
 mod flush;
 mod log;
+mod sizes;
 mod unit;
 
 pub use log::Log;
+pub use sizes::{FLUSH_BYTES, FLUSH_SLOTS};

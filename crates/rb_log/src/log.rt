@@ -6,9 +6,8 @@ ghost use Rattle.std.specs.Prelude.{IfOk, IfErr, IfSome, IfNone, OnOk, OnErr};
 ghost use Rattle.rb_base.specs.Blocks.{AreWithin};
 ghost use Rattle.rb_base.specs.Counts.{IsCounted, IsCountedAs, err_is, is_failed};
 ghost use Rattle.rb_base.specs.Groups.{Patch, IsGroup};
-ghost use Rattle.rb_base.specs.Moments.{LeavesOnly};
 ghost use Rattle.rb_disk.specs.DiskModel.{Only};
-ghost use Rattle.rb_disk.specs.Moments.{Rests};
+ghost use Rattle.rb_disk.specs.Moments.{Leaves, Rests};
 ghost use Rattle.rb_disk.specs.Ranges.{SameBut};
 ghost use Rattle.rb_layout.specs.Regions.{file_length, log_offset, shape_of};
 ghost use Rattle.rb_log.specs.GroupSlots.{AreFrom, HoldsGroup, GroupsAre, IsFaultyGroup, DroppedSome, FlushedSome};
@@ -16,7 +15,8 @@ ghost use Rattle.rb_log.specs.GroupSlots.{IsLoggable, group_unit};
 ghost use Rattle.rb_log.specs.Slots.{slot_at, SameSlots, SameOutside};
 
 use crate::flush::write_groups;
-use crate::unit::{UNITS, group_of, read_ahead};
+use crate::sizes::{FLUSH_BYTES, FLUSH_SLOTS};
+use crate::unit::{group_of, read_ahead};
 use rb_base::{Failed, Group, Lsn, OpenFault, UNIT};
 use rb_disk::{Disk, write_synced};
 use rb_layout::{Head, Layout};
@@ -39,7 +39,9 @@ pub struct Log {
 
 impl Model for Log {
     ghost use Rattle.std.specs.Prelude.{◌-◌, ◌*◌, drop, vec_capacity};
+    ghost use Rattle.rb_base.specs.declared.sizes.TheConstants.{UNIT};
     ghost use Rattle.rb_log.specs.GroupSlots.{LogState, IsLogMemory};
+    ghost use Rattle.rb_log.specs.declared.sizes.TheConstants.{FLUSH_BYTES};
 
     ghost Value = { LogState };
 
@@ -48,7 +50,7 @@ impl Model for Log {
       used = a.used;
       pending = a.pending.items;
       scanned = a.scanned;
-      ahead = drop (65536 - 2048 * a.ahead) a.buffer.items;
+      ahead = drop (FLUSH_BYTES - UNIT * a.ahead) a.buffer.items;
     } };
 
     ghost invariant = { λ a. IsLogMemory a.layout a.used a.pending.items a.scanned a.buffer.items a.ahead
@@ -57,8 +59,7 @@ impl Model for Log {
 
 impl Log {
     /// A log whose groups are yet to be scanned. It takes all the memory that the log needs, and doesn't touch the
-    /// disk.
-    /// In this form the log begins in slot 0 with number 1.
+    /// disk. In this form the log begins in slot 0 with number 1.
     pub fn open<D: Disk>(
         alloc: Global,
         _disk: &mut D,
@@ -75,7 +76,7 @@ impl Log {
         let Ok(pending) = Vec::with_capacity(alloc, layout.log as usize) else {
             return Err(OpenFault::NoMemory);
         };
-        let Ok(buffer) = vec![in alloc; 0; UNITS * UNIT] else {
+        let Ok(buffer) = vec![in alloc; 0; FLUSH_BYTES] else {
             return Err(OpenFault::NoMemory);
         };
         Ok(Log {
@@ -118,11 +119,8 @@ impl Log {
             self.ahead = 0;
             return Ok(None);
         }
-        let Ok(ahead) = read_ahead(disk, &self.layout, self.used, &mut self.buffer, self.ahead)
-        else {
-            return Err(OpenFault::Failed);
-        };
-        let at = UNIT * (UNITS - ahead as usize);
+        let ahead = read_ahead(disk, &self.layout, self.used, &mut self.buffer, self.ahead)?;
+        let at = UNIT * (FLUSH_SLOTS - ahead as usize);
         let Some(group) = group_of(&self.layout, &self.buffer[at..at + UNIT], next)? else {
             self.scanned = true;
             self.ahead = 0;
@@ -148,8 +146,8 @@ impl Log {
         self.pending.as_slice().len() as u32
     }
 
-    /// Whether one more group has room: with it the slots in use stay fewer than all, so that the gate behind can be
-    /// closed.
+    /// Whether one more group has room: with it the slots in use stay fewer than all, so that the gate behind
+    /// can be closed.
     pub fn room(&self) -> bool
         ensures { IsTrue result ↔ (self.now.used + length self.now.pending + 1 < self.now.layout.log) }
     {
@@ -164,7 +162,7 @@ impl Log {
         requires within { AreWithin (shape_of self.old.layout) group.now }
         ensures { self.new ≡ record self.old { pending = self.old.pending ++ group.now ∷ [] } }
     {
-        // Its count says that it is a group.
+        // For the proof: the count's contract says that it is a group.
         let _ = group.patches();
         self.pending.push_reserved(group.copied());
     }
@@ -212,9 +210,8 @@ impl Log {
         Ok(())
     }
 
-    /// Forgets the groups behind the first `count`. After an Ok each image has those alone; a crash before leaves all
-    /// or
-    /// those.
+    /// Forgets the groups behind the first `count`. After an Ok each image has those alone; a crash before leaves
+    /// all or those.
     pub fn drop_behind<D: Disk>(&mut self, disk: &mut D, count: u32) -> Result<(), Failed>
         requires scanned { self.old.scanned ≡ true }
         requires none { self.old.pending ≡ [] }

@@ -116,10 +116,10 @@ picked_one images (Fill byte) image file (Write at count false) written here rea
 picked_one images (Fill byte) image file (Sync true) written here reads covers ok = refl
 picked_one images (Fill byte) image file (Sync false) written here reads covers ok = here
 
--- how long a file is that was written over
-pub length-overwritten : (file : List ℕ) (at : ℕ) (bytes : List ℕ) → at ≤ length file
+-- how long a file is after a write over it or past its end
+pub length-grown : (file : List ℕ) (at : ℕ) (bytes : List ℕ) → at ≤ length file
     → length (overwritten file at bytes) ≡ max (length file) (at + length bytes)
-length-overwritten file at bytes begins = grind (arith, places)
+length-grown file at bytes begins = grind (arith, places)
 
 -- and it goes on covering what is read
 pub covers_one : (pick : Pick) (image file : List ℕ) (call : Call) (written : List ℕ) → Covers pick image file
@@ -135,15 +135,15 @@ covers_one (Fill byte) image file (Write at count true) written covers ok =
     let size : length (take count written) ≡ count = length-take-le count written (leb-true _ _ both.1) in
     let begins_there : at ≤ length image = omega (arith, begins, covers) in
     rw (
-      length-overwritten file at (take count written) begins,
-      length-overwritten image at (replicate count byte)
+      length-grown file at (take count written) begins,
+      length-grown image at (replicate count byte)
           begins_there,
       size,
       length-replicate count byte,
     ) (omega arith)
 covers_one (Fill byte) image file (Write at count false) written covers ok =
     let begins_there : at ≤ length image = omega (arith, leb-true _ _ ok, covers) in
-    rw (length-overwritten image at (replicate count byte) begins_there) (omega arith)
+    rw (length-grown image at (replicate count byte) begins_there) (omega arith)
 covers_one (Fill byte) image file (Sync true) written covers ok = omega arith
 covers_one (Fill byte) image file (Sync false) written covers ok = covers
 

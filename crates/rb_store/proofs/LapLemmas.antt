@@ -11,6 +11,8 @@ use Rattle.rb_log.specs.Slots.{SameOutside, SameSlots}
 use Rattle.rb_log.specs.GroupSlots.{GroupsAre, FlushedSome}
 use Rattle.rb_log.specs.GroupLaws.{same_group_log}
 use Rattle.rb_base.specs.Moments.{LeavesOnly, weaker}
+use Rattle.rb_disk.specs.Moments.{Leaves}
+use Rattle.rb_disk.specs.declared.disk.Disk.{Ghosts}
 use Rattle.rb_store.specs.Laps.{IsLap, OpensTo, Opens, LapState, IsStable, committed_groups}
 
 -- a file that differs in its log slots alone has the same identity
@@ -41,9 +43,9 @@ opens_behind l groups some b c first whole made e lap = record {
 pub first_waiting : (lsn groups pending : ℕ) → groups + pending ≡ lsn → lsn + 1 - pending ≡ 1 + groups
 first_waiting lsn groups pending e = omega (arith, e)
 
-module _ {D : Type 0} (content : D → List ℕ) (image : D → List ℕ → Type 0) where
+module _ {D : Type 0} (d : Ghosts D) where
   -- what a flush leaves at any moment
-  pub flush_leaves : (s : LapState D) (b : List (List ℕ)) (c : List ℕ) → IsStable content image s b → (gs : List (List Patch)) → FlushedSome (image s.disk) s.layout gs s.pending c → (st : IsStable content image s b) → gs ≡ st.groups
+  pub flush_leaves : (s : LapState D) (b : List (List ℕ)) (c : List ℕ) → IsStable d s b → (gs : List (List Patch)) → FlushedSome (d.image s.disk) s.layout gs s.pending c → (st : IsStable d s b) → gs ≡ st.groups
       → (now : List (List ℕ)) × Opens (shape_of s.layout) (Some s.layout.log) c now × AfterSome (commit_block (shape_of s.layout)) s.lsn s.pending b now
   flush_leaves s b c _ gs some st e =
       let l = s.layout in
@@ -57,7 +59,7 @@ module _ {D : Type 0} (content : D → List ℕ) (image : D → List ℕ → Typ
       (now, record { layout = l; shape_is = refl; slots_are = refl; opens = opens }, record { count = 32 * some.units; made = refl })
 
   -- a file that has the groups that waited behind those of before
-  pub flush_opens : (s : LapState D) (b : List (List ℕ)) (c : List ℕ) → (st : IsStable content image s b) → IsLap s.layout (st.groups ++ s.pending) c
+  pub flush_opens : (s : LapState D) (b : List (List ℕ)) (c : List ℕ) → (st : IsStable d s b) → IsLap s.layout (st.groups ++ s.pending) c
       → Opens (shape_of s.layout) (Some s.layout.log) c (after_kept (commit_block (shape_of s.layout)) s.lsn s.pending b)
   flush_opens s b c st lap = record {
     layout = s.layout;
@@ -67,8 +69,8 @@ module _ {D : Type 0} (content : D → List ℕ) (image : D → List ℕ → Typ
   }
 
   -- where they end in a commit they are stable then
-  pub flush_stable : (s new : LapState D) (b : List (List ℕ)) → (st : IsStable content image s b) → committed_groups (shape_of s.layout) s.pending ≡ s.pending → new.layout ≡ s.layout → new.blocks ≡ s.blocks → new.pending ≡ [] → new.lsn ≡ s.lsn
-      → IsLap s.layout (st.groups ++ s.pending) (content new.disk) → ((c : List ℕ) → image new.disk c → IsLap s.layout (st.groups ++ s.pending) c) → IsStable content image new new.blocks
+  pub flush_stable : (s new : LapState D) (b : List (List ℕ)) → (st : IsStable d s b) → committed_groups (shape_of s.layout) s.pending ≡ s.pending → new.layout ≡ s.layout → new.blocks ≡ s.blocks → new.pending ≡ [] → new.lsn ≡ s.lsn
+      → IsLap s.layout (st.groups ++ s.pending) (d.content new.disk) → ((c : List ℕ) → d.image new.disk c → IsLap s.layout (st.groups ++ s.pending) c) → IsStable d new new.blocks
   flush_stable s new b st ends layout blocks pending lsn file images =
       let all = st.groups ++ s.pending in
       let lap : (c : List ℕ) → IsLap s.layout all c → IsLap new.layout all c = λ c h. subst (λ (l : Layout). IsLap l all c) (sym layout) h in
@@ -80,13 +82,13 @@ module _ {D : Type 0} (content : D → List ℕ) (image : D → List ℕ → Typ
             ∙ ap (λ (n : ℕ). after_groups n s.pending (after_groups 1 st.groups (fresh_blocks (shape_of s.layout)))) (omega arith)
             ∙ sym (after_joined 1 st.groups s.pending (fresh_blocks (shape_of s.layout))) ∙ ap (λ (l : Layout). after_groups 1 all (fresh_blocks (shape_of l))) (sym layout);
         patched = ap (λ (gs : List (List Patch)). after_groups (length all + 1) gs new.blocks) (sym pending);
-        file = lap (content new.disk) file;
+        file = lap (d.content new.disk) file;
         images = λ c here. lap c (images c here);
       }
 
   -- one group more that waits
-  pub apply_stable : (s new : LapState D) (b : List (List ℕ)) (group : List Patch) → IsStable content image s b → new.layout ≡ s.layout → new.blocks ≡ after_group (s.lsn + 1) group s.blocks → new.pending ≡ s.pending ++ group ∷ []
-      → new.lsn ≡ s.lsn + 1 → new.disk ≡ s.disk → IsStable content image new b
+  pub apply_stable : (s new : LapState D) (b : List (List ℕ)) (group : List Patch) → IsStable d s b → new.layout ≡ s.layout → new.blocks ≡ after_group (s.lsn + 1) group s.blocks → new.pending ≡ s.pending ++ group ∷ []
+      → new.lsn ≡ s.lsn + 1 → new.disk ≡ s.disk → IsStable d new b
   apply_stable s new b group st layout blocks pending lsn disk = record {
     groups = st.groups;
     count = let p = ap length pending in let l = length-append s.pending (group ∷ []) in omega (arith, p, l, lsn, st.count);
@@ -95,24 +97,23 @@ module _ {D : Type 0} (content : D → List ℕ) (image : D → List ℕ → Typ
     patched = blocks ∙ ap (λ (bs : List (List ℕ)). after_group (s.lsn + 1) group bs) st.patched
         ∙ ap (λ (n : ℕ). after_group n group (after_groups (length st.groups + 1) s.pending b)) (omega (arith, st.count))
         ∙ sym (after_joined (length st.groups + 1) s.pending (group ∷ []) b) ∙ ap (λ (gs : List (List Patch)). after_groups (length st.groups + 1) gs b) (sym pending);
-    file = subst (λ (l : Layout). IsLap l st.groups (content new.disk)) (sym layout) (subst (λ (d : D). IsLap s.layout st.groups (content d)) (sym disk) st.file);
-    images = λ c here. subst (λ (l : Layout). IsLap l st.groups c) (sym layout) (st.images c (subst (λ (d : D). image d c) disk here));
+    file = subst (λ (l : Layout). IsLap l st.groups (d.content new.disk)) (sym layout) (subst (λ (x : D). IsLap s.layout st.groups (d.content x)) (sym disk) st.file);
+    images = λ c here. subst (λ (l : Layout). IsLap l st.groups c) (sym layout) (st.images c (subst (λ (x : D). d.image x c) disk here));
   }
 
-  module _ (moment : D → ℕ) (since : D → ℕ → List ℕ → Type 0) where
-    -- the same of the disk's moments
-    pub flush_moments : (s new : LapState D) (b : List (List ℕ)) → (st : IsStable content image s b) → LeavesOnly moment since s.disk new.disk (FlushedSome (image s.disk) s.layout st.groups s.pending)
-        → LeavesOnly (λ (x : LapState D). moment x.disk) (λ (x : LapState D) t c. since x.disk t c) s new (λ i. (now : List (List ℕ)) × Opens (shape_of s.layout) (Some s.layout.log) i now × AfterSome (commit_block (shape_of s.layout)) s.lsn s.pending b now)
-    flush_moments s new b st leaves =
-        let w = weaker moment since s.disk new.disk (FlushedSome (image s.disk) s.layout st.groups s.pending) (λ i. (now : List (List ℕ)) × Opens (shape_of s.layout) (Some s.layout.log) i now × AfterSome (commit_block (shape_of s.layout)) s.lsn s.pending b now)
-        (λ c some. flush_leaves s b c st st.groups some st refl) leaves in
-        record { later = w.later; each = w.each; earlier = w.earlier }
+  -- the same of the disk's moments
+  pub flush_moments : (s new : LapState D) (b : List (List ℕ)) → (st : IsStable d s b) → Leaves d s.disk new.disk (FlushedSome (d.image s.disk) s.layout st.groups s.pending)
+      → LeavesOnly (λ (x : LapState D). d.moment x.disk) (λ (x : LapState D) t c. d.image_since x.disk t c) s new (λ i. (now : List (List ℕ)) × Opens (shape_of s.layout) (Some s.layout.log) i now × AfterSome (commit_block (shape_of s.layout)) s.lsn s.pending b now)
+  flush_moments s new b st leaves =
+      let w = weaker d.moment d.image_since s.disk new.disk (FlushedSome (d.image s.disk) s.layout st.groups s.pending) (λ i. (now : List (List ℕ)) × Opens (shape_of s.layout) (Some s.layout.log) i now × AfterSome (commit_block (shape_of s.layout)) s.lsn s.pending b now)
+      (λ c some. flush_leaves s b c st st.groups some st refl) leaves in
+      record { later = w.later; each = w.each; earlier = w.earlier }
 
-    -- each image of a flush that is done has all groups
-    pub flush_images : (s : LapState D) (b : List (List ℕ)) (new : D) → (st : IsStable content image s b) → LeavesOnly moment since s.disk new (FlushedSome (image s.disk) s.layout st.groups s.pending) → ((c : List ℕ) → moment s.disk ≤ moment new → image new c → since new (moment s.disk) c)
-        → GroupsAre s.layout (content new) 0 (st.groups ++ s.pending) → ((c : List ℕ) → image new c → SameSlots s.layout.log (content new) c) → (c : List ℕ) → image new c → IsLap s.layout (st.groups ++ s.pending) c
-    flush_images s b new st leaves counts written durable c here =
-        let some = leaves.each c (counts c leaves.later here) in record {
-          identity = same_identity s.layout some.outside.0 c some.outside.2 (st.images some.outside.0 some.outside.1).identity;
-          log = same_group_log s.layout (content new) c 0 (st.groups ++ s.pending) (durable c here) (omega (arith, s.layout.few_slots.0)) written;
-        }
+  -- each image of a flush that is done has all groups
+  pub flush_images : (s : LapState D) (b : List (List ℕ)) (new : D) → (st : IsStable d s b) → Leaves d s.disk new (FlushedSome (d.image s.disk) s.layout st.groups s.pending) → ((c : List ℕ) → d.moment s.disk ≤ d.moment new → d.image new c → d.image_since new (d.moment s.disk) c)
+      → GroupsAre s.layout (d.content new) 0 (st.groups ++ s.pending) → ((c : List ℕ) → d.image new c → SameSlots s.layout.log (d.content new) c) → (c : List ℕ) → d.image new c → IsLap s.layout (st.groups ++ s.pending) c
+  flush_images s b new st leaves counts written durable c here =
+      let some = leaves.each c (counts c leaves.later here) in record {
+        identity = same_identity s.layout some.outside.0 c some.outside.2 (st.images some.outside.0 some.outside.1).identity;
+        log = same_group_log s.layout (d.content new) c 0 (st.groups ++ s.pending) (durable c here) (omega (arith, s.layout.few_slots.0)) written;
+      }

@@ -3,11 +3,12 @@ use Rattle.std.proofs.Common.{◌⊎◌, ◌≡◌, inl, inr, ⊎_elim, ℕ, Lis
 use Rattle.std.proofs.lemmas.List.{take_at}
 use Rattle.rb_base.specs.Blocks.{after_groups, commit_block, fresh_blocks}
 use Rattle.rb_base.specs.Groups.{Patch}
-use Rattle.rb_base.specs.Moments.{LeavesOnly, joined, weaker}
+use Rattle.rb_base.specs.Moments.{joined, weaker}
 use Rattle.rb_base.specs.declared.shape.Shape.{Shape}
 use Rattle.rb_base.proofs.Commits.{cut_twice}
 use Rattle.rb_disk.specs.DiskModel.{Only}
-use Rattle.rb_disk.specs.Moments.{Rests, rests_leave}
+use Rattle.rb_disk.specs.Moments.{Leaves, Rests, rests_leave}
+use Rattle.rb_disk.specs.declared.disk.Disk.{Ghosts}
 use Rattle.rb_layout.specs.OneLayout.{one_layout}
 use Rattle.rb_layout.specs.Regions.{file_version, HasIdentity, shape_of}
 use Rattle.rb_layout.specs.declared.layout.Layout.{Layout}
@@ -52,11 +53,11 @@ log_for l m file b opens id =
     let moved = opens_moves l m file b (one_layout file_version l m file opens.lap.identity id) opens in
     (moved.groups, moved.lap.log)
 
-module _ {D : Type 0} (content : D → List ℕ) (image : D → List ℕ → Type 0) (moment : D → ℕ) (since : D → ℕ → List ℕ → Type 0) where
+module _ {D : Type 0} (d : Ghosts D) where
   -- an opening that reads the file and then drops the groups behind the last commit
-  pub open_leaves : (old mid new : D) (l m : Layout) (b found : List (List ℕ)) → ((c : List ℕ) → since old (moment old) c → image old c) → Rests content image moment since old mid
-      → OpensTo m (content old) found → OpensTo l (content old) b → LeavesOnly moment since mid new (λ c. OpensTo m c found) → LeavesOnly moment since old new (λ c. image old c ⊎ OpensTo l c b)
+  pub open_leaves : (old mid new : D) (l m : Layout) (b found : List (List ℕ)) → ((c : List ℕ) → d.image_since old (d.moment old) c → d.image old c) → Rests d old mid
+      → OpensTo m (d.content old) found → OpensTo l (d.content old) b → Leaves d mid new (λ c. OpensTo m c found) → Leaves d old new (λ c. d.image old c ⊎ OpensTo l c b)
   open_leaves old mid new l m b found only_now rests finds opens leaves =
-      let first = rests_leave content image moment since old mid (λ c. image old c ⊎ OpensTo l c b) only_now (λ c here. inl here) rests in
-      let second = weaker moment since mid new (λ c. OpensTo m c found) (λ c. image old c ⊎ OpensTo l c b) (λ c at. inr (opens_alike m l (content old) c found b finds opens at)) leaves in
-      joined moment since old mid new (λ c. image old c ⊎ OpensTo l c b) first second
+      let first = rests_leave d old mid (λ c. d.image old c ⊎ OpensTo l c b) only_now (λ c here. inl here) rests in
+      let second = weaker d.moment d.image_since mid new (λ c. OpensTo m c found) (λ c. d.image old c ⊎ OpensTo l c b) (λ c at. inr (opens_alike m l (d.content old) c found b finds opens at)) leaves in
+      joined d.moment d.image_since old mid new (λ c. d.image old c ⊎ OpensTo l c b) first second

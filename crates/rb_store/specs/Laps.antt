@@ -3,6 +3,7 @@ use Rattle.std.specs.Prelude.{◌≡◌, ℕ, ◌+◌, Bool, List, length, Optio
 use Rattle.rb_base.specs.Blocks.{after_groups, up_to_last, commit_block, fresh_blocks}
 use Rattle.rb_base.specs.Groups.{Patch}
 use Rattle.rb_base.specs.declared.shape.Shape.{Shape}
+use Rattle.rb_disk.specs.declared.disk.Disk.{Ghosts}
 use Rattle.rb_layout.specs.Regions.{file_version, HasIdentity, shape_of}
 use Rattle.rb_layout.specs.declared.layout.Layout.{Layout}
 use Rattle.rb_log.specs.GroupSlots.{GroupsAre}
@@ -48,12 +49,11 @@ pub record LapState (D : Type 0) : Type 0 where
 
 -- The file and each image have the same groups, of which the last is a commit. Those that wait are behind them. The
 -- blocks are those after all of them.
-pub record IsStable {D : Type 0} (content : D → List ℕ) (image : D → List ℕ
-    → Type 0) (s : LapState D) (blocks : List (List ℕ)) : Type 0 where
+pub record IsStable {D : Type 0} (d : Ghosts D) (s : LapState D) (blocks : List (List ℕ)) : Type 0 where
   pub groups : List (List Patch)
   pub count : length groups + length s.pending ≡ s.lsn
   pub whole : committed_groups (shape_of s.layout) groups ≡ groups
   pub made : blocks ≡ after_groups 1 groups (fresh_blocks (shape_of s.layout))
   pub patched : s.blocks ≡ after_groups (length groups + 1) s.pending blocks
-  pub file : IsLap s.layout groups (content s.disk)
-  pub images : (c : List ℕ) → image s.disk c → IsLap s.layout groups c
+  pub file : IsLap s.layout groups (d.content s.disk)
+  pub images : (c : List ℕ) → d.image s.disk c → IsLap s.layout groups c

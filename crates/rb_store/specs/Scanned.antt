@@ -4,6 +4,7 @@ use Rattle.std.specs.List.{AllByRecursion}
 use Rattle.rb_base.specs.Blocks.{after_groups, fresh_blocks, patches_block}
 use Rattle.rb_base.specs.Groups.{Patch}
 use Rattle.rb_disk.specs.DiskModel.{Only}
+use Rattle.rb_disk.specs.declared.disk.Disk.{Ghosts}
 use Rattle.rb_layout.specs.Regions.{shape_of}
 use Rattle.rb_layout.specs.declared.layout.Layout.{Layout}
 use Rattle.rb_log.specs.GroupSlots.{LogState, AreFrom, GroupsAre, BeginsWithGroups, IsLoggable}
@@ -11,8 +12,7 @@ use Rattle.rb_plainstore.specs.Plain.{PlainState}
 use Rattle.rb_store.specs.Laps.{IsLap, committed_groups}
 
 -- The log is scanned up to some slot. The blocks are those after the groups up to the last commit, and the groups
--- behind
--- it wait. The file begins with them all, where it is told.
+-- behind it wait. The file begins with them all, where it is told.
 pub record HasScanned (told : Type 0) (l : Layout) (file : List ℕ) (plain : PlainState) (log : LogState)
     (waiting : List (List Patch)) : Type 0 where
   pub groups : List (List Patch)
@@ -21,8 +21,7 @@ pub record HasScanned (told : Type 0) (l : Layout) (file : List ℕ) (plain : Pl
     used = length groups + length waiting;
     pending = [];
     scanned = false;
-    ahead
-        = log.ahead;
+    ahead = log.ahead;
   }
   pub shape_is : plain.shape ≡ shape_of l
   pub lsn : plain.lsn ≡ length groups
@@ -51,8 +50,7 @@ pub record HasScannedAll (told : Type 0) (l : Layout) (file : List ℕ) (plain :
     used = length groups + length waiting;
     pending = [];
     scanned = true;
-    ahead =
-        [];
+    ahead = [];
   }
   pub shape_is : plain.shape ≡ shape_of l
   pub lsn : plain.lsn ≡ length groups
@@ -62,8 +60,8 @@ pub record HasScannedAll (told : Type 0) (l : Layout) (file : List ℕ) (plain :
   pub ends : told → GroupsAre l file 0 (groups ++ waiting)
 
 -- The file and each image have these groups, of which the last is a commit, and the blocks are those after them.
-pub record HasOpened {D : Type 0} (told : Type 0) (content : D → List ℕ) (image : D → List ℕ
-    → Type 0) (l : Layout) (plain : PlainState) (log : LogState) (disk : D) : Type 0 where
+pub record HasScannedOpen {D : Type 0} (d : Ghosts D) (l : Layout) (plain : PlainState) (log : LogState) (disk : D) :
+    Type 0 where
   pub groups : List (List Patch)
   pub log_is : log ≡ record { layout = l; used = length groups; pending = []; scanned = true; ahead = [] }
   pub shape_is : plain.shape ≡ shape_of l
@@ -71,6 +69,6 @@ pub record HasOpened {D : Type 0} (told : Type 0) (content : D → List ℕ) (im
   pub blocks : plain.blocks ≡ after_groups 1 groups (fresh_blocks (shape_of l))
   pub whole : committed_groups (shape_of l) groups ≡ groups
   pub few : length groups < l.log
-  pub file : told → IsLap l groups (content disk)
-  pub images : told → (c : List ℕ) → image disk c → IsLap l groups c
-  pub only : told → Only (content disk) (image disk)
+  pub file : d.tells → IsLap l groups (d.content disk)
+  pub images : d.tells → (c : List ℕ) → d.image disk c → IsLap l groups c
+  pub only : d.tells → Only (d.content disk) (d.image disk)

@@ -8,11 +8,9 @@ ghost use Rattle.rb_store.specs.Formats.{is_format_failed};
 
 use rb_base::{Failed, UNIT};
 use rb_disk::Disk;
-use rb_layout::{Layout, VERSION};
+use rb_layout::{IDENTITY, Layout, VERSION};
+use rb_log::FLUSH_BYTES;
 use thiserror::Error;
-
-// How many bytes one write has at most.
-const PIECE: usize = 32 * UNIT;
 
 /// Why a file wasn't made.
 #[derive(Clone, Copy, Debug, PartialEq, Eq, Error)]
@@ -23,6 +21,17 @@ pub enum FormatFault {
     /// The file has bytes already.
     #[error("the file isn't empty")]
     NotEmpty,
+}
+
+impl From<Failed> for FormatFault {
+    ghost use Rattle.std.specs.Prelude.{◌≡◌};
+    ghost use Rattle.rb_store.specs.declared.fresh.FormatFault.TheVariants.{Failed};
+
+    ghost from_gives = { λ _ fault. fault ≡ Failed };
+
+    fn from(_failed: Failed) -> FormatFault {
+        FormatFault::Failed
+    }
 }
 
 /// Makes the empty file of the disk a new file of this layout: writes its units in order and syncs. After an
@@ -36,18 +45,12 @@ pub fn format<D: Disk>(disk: &mut D, layout: &Layout) -> Result<(), FormatFault>
         → Rests D.Disk disk.old disk.new }
     ensures counted { IsCountedAs (D.faults disk.old) (D.faults disk.new) (err_is is_format_failed result) }
 {
-    let Ok(length) = disk.len() else {
-        return Err(FormatFault::Failed);
-    };
+    let length = disk.len()?;
     if length > 0 {
         return Err(FormatFault::NotEmpty);
     }
-    let Ok(()) = write_units(disk, layout) else {
-        return Err(FormatFault::Failed);
-    };
-    let Ok(()) = disk.sync() else {
-        return Err(FormatFault::Failed);
-    };
+    write_units(disk, layout)?;
+    disk.sync()?;
     Ok(())
 }
 
@@ -58,11 +61,11 @@ fn write_units<D: Disk>(disk: &mut D, layout: &Layout) -> Result<(), Failed>
     ensures counted { IsCounted (D.faults disk.old) (D.faults disk.new) result }
 {
     disk.write_at(0, &first_unit(layout))?;
-    let empty = [0; PIECE];
+    let empty = [0; FLUSH_BYTES];
     let end = layout.length();
     let mut at = UNIT as u64;
     while at < end {
-        let count = (end - at).min(PIECE as u64);
+        let count = (end - at).min(FLUSH_BYTES as u64);
         disk.write_at(at, &empty[..count as usize])?;
         at += count;
     }
@@ -71,7 +74,7 @@ fn write_units<D: Disk>(disk: &mut D, layout: &Layout) -> Result<(), Failed>
 
 // The unit that says what the file is.
 fn first_unit(layout: &Layout) -> [u8; UNIT]
-    ensures { result ≡ identity VERSION layout.now ++ replicate 2024 0 }
+    ensures { result ≡ identity VERSION layout.now ++ replicate (UNIT - IDENTITY) 0 }
 {
     let mut unit = empty_unit();
     layout.put_identity(&mut unit);
@@ -79,7 +82,7 @@ fn first_unit(layout: &Layout) -> [u8; UNIT]
 }
 
 fn empty_unit() -> [u8; UNIT]
-    ensures { result ≡ replicate 2048 0 }
+    ensures { result ≡ replicate UNIT 0 }
 {
     [0; UNIT]
 }

@@ -1,5 +1,5 @@
-//! `LapStore`: the blocks of a file in memory, with the log of one lap that makes them last. The engine of a run is
-//! over it.
+//! `LapStore`: the blocks of a file in memory, with the log of one lap that makes them last. The engine of a run
+//! is over it.
 ghost use Rattle.std.specs.Prelude.{◌≡◌, ℕ, List, false, [], IfOk, IfErr};
 ghost use Rattle.rb_base.specs.Counts.{Rose};
 ghost use Rattle.rb_disk.specs.Moments.{Rests};
@@ -16,8 +16,7 @@ use rb_plainstore::PlainStore;
 use std::marker::Model;
 
 /// The blocks of a file of groups in memory, and its log. The log begins in its first slot and doesn't go round: what
-/// has
-/// no room in it is not taken.
+/// has no room in it is not taken.
 #[derive(Drop)]
 pub struct LapStore<D: Disk> {
     pub(crate) plain: PlainStore,
@@ -40,8 +39,7 @@ impl<D: Disk> Model for LapStore<D> {
       layout = s.layout;
       blocks = s.plain.blocks;
       pending = s.log.pending;
-      lsn =
-          s.plain.lsn;
+      lsn = s.plain.lsn;
       loaded = s.plain.loaded;
       failed = s.failed;
       disk = s.disk;
@@ -105,11 +103,13 @@ impl<D: Disk> Store for LapStore<D> {
 
     ghost opens = { Opens };
 
-    ghost stable = { λ s b. IsStable D.content D.image s b };
+    ghost stable = { λ s b. IsStable D.Disk s b };
 
-    ghost stable_left = { λ s b i told stands here. left_opens D.content D.image s b i stands here };
+    ghost crashes_told = { λ told. tt };
 
-    ghost stable_patched = { λ s b told stands. patched_is_read D.content D.image s b stands };
+    ghost stable_left = { λ s b i told stands here. left_opens _ s b i stands here };
+
+    ghost stable_patched = { λ s b told stands. patched_is_read _ s b stands };
 
     ghost now_counts = { λ s t i told le here. D.now_counts s.disk t i told le here };
 

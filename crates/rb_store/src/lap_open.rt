@@ -6,14 +6,13 @@ ghost use Rattle.std.specs.List.{AllByRecursion};
 ghost use Rattle.rb_base.specs.Blocks.{after_groups, fresh_blocks, patches_block, commit_block};
 ghost use Rattle.rb_base.specs.Counts.{IsCounted, IsCountedAs, err_is, is_failed};
 ghost use Rattle.rb_base.specs.Groups.{Patch};
-ghost use Rattle.rb_base.specs.Moments.{LeavesOnly};
 ghost use Rattle.rb_disk.specs.DiskModel.{Only};
-ghost use Rattle.rb_disk.specs.Moments.{Rests};
+ghost use Rattle.rb_disk.specs.Moments.{Leaves, Rests};
 ghost use Rattle.rb_layout.specs.declared.layout.Layout.{Layout};
 ghost use Rattle.rb_layout.specs.Regions.{file_length, shape_of, HasIdentity};
 ghost use Rattle.rb_log.specs.GroupSlots.{GroupsAre, IsLoggable};
 ghost use Rattle.rb_store.specs.Laps.{LapState, OpensTo, OpensAt, IsLap, IsStable};
-ghost use Rattle.rb_store.specs.Scanned.{HasScanned, HasScannedAll, HasOpened, Takes};
+ghost use Rattle.rb_store.specs.Scanned.{HasScanned, HasScannedAll, HasScannedOpen, Takes};
 
 use crate::lap::LapStore;
 use rb_base::{BlockNo, Group, OpenFault, Store};
@@ -87,7 +86,7 @@ fn fresh_scan<D: Disk>(alloc: Global, disk: &mut D, layout: &Layout) -> Result<S
 fn commit_block_of(layout: &Layout) -> BlockNo
     ensures { result ≡ commit_block (shape_of layout.now) }
 {
-    u32::from(layout.tables) * layout.blocks
+    layout.shape().header_block(0)
 }
 
 /// Takes the group that the log has behind those before. A commit puts all that wait into the blocks.
@@ -169,7 +168,7 @@ fn drop_uncommitted<D: Disk>(
         scan.old.waiting.items }
     requires identity { D.tells → HasIdentity VERSION layout.now (D.content disk.old) }
     requires synced { D.tells → Only (D.content disk.old) (D.image disk.old) }
-    ensures opened { OnOk result (HasOpened D.tells D.content D.image layout.now scan.new.plain scan.new.log disk.new) }
+    ensures opened { OnOk result (HasScannedOpen D.Disk layout.now scan.new.plain scan.new.log disk.new) }
     ensures blocks { scan.new.plain ≡ scan.old.plain }
     ensures any_moment { D.tells → Leaves D.Disk disk.old disk.new
         (λ c. OpensTo layout.now c scan.old.plain.blocks) }
@@ -180,10 +179,8 @@ fn drop_uncommitted<D: Disk>(
     if kept == scan.log.used() {
         return Ok(());
     }
-    match scan.log.drop_behind(disk, kept) {
-        Ok(()) => Ok(()),
-        Err(_) => Err(OpenFault::Failed),
-    }
+    scan.log.drop_behind(disk, kept)?;
+    Ok(())
 }
 
 /// Reads the log of a file of this layout, which a sync has made the only one that a crash may leave.
@@ -211,9 +208,7 @@ fn synced_layout<D: Disk>(disk: &mut D) -> Result<Layout, OpenFault>
     ensures same { D.tells → Rests D.Disk disk.old disk.new }
     ensures durable { D.tells → OnOk result (Only (D.content disk.old) (D.image disk.new)) }
 {
-    let Ok(()) = disk.sync() else {
-        return Err(OpenFault::Failed);
-    };
+    disk.sync()?;
     Layout::read(disk)
 }
 
@@ -226,7 +221,7 @@ struct Parts {
 
 /// Opens the file: its layout, its groups, and none behind the last commit.
 fn open_parts<D: Disk>(alloc: Global, disk: &mut D) -> Result<Parts, OpenFault>
-    ensures opened { IfOk result (λ p. HasOpened D.tells D.content D.image p.layout p.scan.plain p.scan.log disk.new) }
+    ensures opened { IfOk result (λ p. HasScannedOpen D.Disk p.layout p.scan.plain p.scan.log disk.new) }
     ensures found { D.tells → IfOk result (λ p. OpensAt p.layout (D.content disk.old) p.scan.plain.blocks
         p.scan.plain.lsn) }
     ensures none { D.tells → IsErrOf result OpenFault.NotAStore → (l : Layout) (b : List (List ℕ))
@@ -248,14 +243,13 @@ fn open_parts<D: Disk>(alloc: Global, disk: &mut D) -> Result<Parts, OpenFault>
 }
 
 impl<D: Disk> LapStore<D> {
-    /// Opens the store of a disk: the groups of its log up to the last commit make its blocks, and those behind it are
-    /// dropped. It begins with a sync. An Err gives the disk back: NotAStore where the file is no store of this form,
-    /// Failed where a call of the disk failed. Until the sync has answered, a crash leaves what it would have left
-    /// before;
-    /// from then on a file that opens to the same blocks. A file that opens to none is left as it was.
+    /// Opens the store of a disk: the groups of its log up to the last commit make its blocks, and those behind it
+    /// are dropped. It begins with a sync. An Err gives the disk back: NotAStore where the file is no store of this
+    /// form, Failed where a call of the disk failed. Until the sync has answered, a crash leaves what it would have
+    /// left before; from then on a file that opens to the same blocks. A file that opens to none is left as it was.
     pub fn open(alloc: Global, disk: D) -> Result<LapStore<D>, (OpenFault, D)>
         ensures found { D.tells → IfOk result (λ s. OpensAt s.layout (D.content disk) s.blocks s.lsn) }
-        ensures stable { D.tells → IfOk result (λ s. IsStable D.content D.image s s.blocks) }
+        ensures stable { D.tells → IfOk result (λ s. IsStable D.Disk s s.blocks) }
         ensures pending { IfOk result (λ s. s.pending ≡ []) }
         ensures few { IfOk result (λ s. s.lsn < s.layout.log) }
         ensures going { IfOk result (λ s. s.failed ≡ false) }

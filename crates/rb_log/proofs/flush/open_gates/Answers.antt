@@ -10,7 +10,7 @@ pub loop-done-init : goal.loop-done-init
 loop-done-init g c = record {
   runs = (0, omega arith);
   so_far = λ told.
-      none_opened g.D.Disk.content g.D.Disk.image g.D.Disk.moment g.D.Disk.image_since c.args.layout.now c.args.used c.args.groups.now c.args.disk.now (λ f left. g.met.D.Disk.only_now c.args.disk.now f told left) (c.requires.synced told) (c.requires.whole told);
+      none_opened g.D.Disk c.args.layout.now c.args.used c.args.groups.now c.args.disk.now (λ f left. g.met.D.Disk.only_now c.args.disk.now f told left) (c.requires.synced told) (c.requires.whole told);
   still = refl;
 }
 
@@ -20,7 +20,7 @@ returns-in_err-write_at-clause-any_moment g c told =
     let mid = c.loop-done.disk in
     let new = c.write_at.new.self in
     let follows = subst (λ (at : ℕ). Follows (Torn at 1) (g.D.Disk.image mid) (g.D.Disk.image new)) c.log_at.ensures (c.write_at.ensures.images told) in
-    opened_moment g.D.Disk.content g.D.Disk.image g.D.Disk.moment g.D.Disk.image_since c.args.layout.now c.args.used c.args.groups.now c.loop-done.done inv.runs.0 inv.runs.1 c.loop-done-test.true c.requires.room c.args.disk.now mid new (c.requires.whole told)
+    opened_moment g.D.Disk c.args.layout.now c.args.used c.args.groups.now c.loop-done.done inv.runs.0 inv.runs.1 c.loop-done-test.true c.requires.room c.args.disk.now mid new (c.requires.whole told)
     (inv.so_far told) follows (c.write_at.ensures.time told)
 
 pub loop-done-preserved : goal.loop-done-preserved
@@ -31,7 +31,7 @@ loop-done-preserved g c =
     let did = c.in_ok-write_at.ensures in record {
       runs = (inv.runs.0 + 1, omega (arith, inv.runs.1));
       so_far = λ told.
-          opened_more g.D.Disk.content g.D.Disk.image g.D.Disk.moment g.D.Disk.image_since c.args.layout.now c.args.used c.args.groups.now c.loop-done.done inv.runs.0 inv.runs.1 c.loop-done-test.true c.requires.room c.args.disk.now mid new (c.requires.whole told)
+          opened_more g.D.Disk c.args.layout.now c.args.used c.args.groups.now c.loop-done.done inv.runs.0 inv.runs.1 c.loop-done-test.true c.requires.room c.args.disk.now mid new (c.requires.whole told)
           (inv.so_far told) (subst (λ (at : ℕ). Follows (Torn at 1) (g.D.Disk.image mid) (g.D.Disk.image new)) c.log_at.ensures (did.images told)) (did.time told)
           (did.written told ∙ ap (λ (at : ℕ). overwritten (g.D.Disk.content mid) at (1 ∷ [])) c.log_at.ensures);
       still = did.counted.still ∙ inv.still;

@@ -5,7 +5,7 @@ use Rattle.rb_log.proofs.flush.open_gates.Given as goal
 abbrev pub invariant-loop-done : goal.invariant-loop-done
 invariant-loop-done g l = record {
   runs : (i : ℕ) × (l.done ≡ 32 * i);
-  so_far : g.D.Disk.tells → OpenedSome g.D.Disk.content g.D.Disk.image g.D.Disk.moment g.D.Disk.image_since l.layout l.used l.groups runs.0 l.fn.disk l.disk;
+  so_far : g.D.Disk.tells → OpenedSome g.D.Disk l.layout l.used l.groups runs.0 l.fn.disk l.disk;
   still : g.D.Disk.faults l.disk ≡ g.D.Disk.faults l.fn.disk;
 }
 

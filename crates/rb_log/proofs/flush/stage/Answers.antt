@@ -11,7 +11,7 @@ use Rattle.rb_log.proofs.flush.stage.Goals as goal
 pub loop-done-init : goal.loop-done-init
 loop-done-init g c = record {
   runs = (0, omega arith);
-  so_far = λ told. none_staged g.D.Disk.content g.D.Disk.image g.D.Disk.moment g.D.Disk.image_since c.args.layout.now c.args.used c.args.groups.now c.args.disk.now (λ f left. g.met.D.Disk.only_now c.args.disk.now f told left) (c.requires.whole told);
+  so_far = λ told. none_staged g.D.Disk c.args.layout.now c.args.used c.args.groups.now c.args.disk.now (λ f left. g.met.D.Disk.only_now c.args.disk.now f told left) (c.requires.whole told);
   still = refl;
 }
 
@@ -27,7 +27,7 @@ next g c = record {
 pub returns-in_err-write_run-clause-any_moment : goal.returns-in_err-write_run-clause-any_moment
 returns-in_err-write_run-clause-any_moment g c told =
     let here = next g (goal.at.returns-in_err-write_run-clause-any_moment g c).After-write_run in
-    more_moment g.D.Disk.content g.D.Disk.image g.D.Disk.moment g.D.Disk.image_since c.args.layout.now c.args.used c.args.groups.now _ c.loop-done.done c.min-end.result c.loop-done.invariant.runs.0 here c.args.disk.now c.loop-done.disk c.write_run.new.disk
+    more_moment g.D.Disk c.args.layout.now c.args.used c.args.groups.now _ c.loop-done.done c.min-end.result c.loop-done.invariant.runs.0 here c.args.disk.now c.loop-done.disk c.write_run.new.disk
     (c.loop-done.invariant.so_far told) (c.write_run.ensures.images told) (c.write_run.ensures.time told)
 
 pub loop-done-preserved : goal.loop-done-preserved
@@ -36,7 +36,7 @@ loop-done-preserved g c =
     let did = c.in_ok-write_run.ensures in record {
       runs = (c.loop-done.invariant.runs.0 + 1, omega (arith, c.loop-done.invariant.runs.1));
       so_far = λ told.
-          more_staged g.D.Disk.content g.D.Disk.image g.D.Disk.moment g.D.Disk.image_since c.args.layout.now c.args.used c.args.groups.now _ c.loop-done.done c.min-end.result c.loop-done.invariant.runs.0 here c.args.disk.now c.loop-done.disk c.write_run.new.disk
+          more_staged g.D.Disk c.args.layout.now c.args.used c.args.groups.now _ c.loop-done.done c.min-end.result c.loop-done.invariant.runs.0 here c.args.disk.now c.loop-done.disk c.write_run.new.disk
           (c.loop-done.invariant.so_far told) (did.images told) (did.time told) (did.written told) (did.others told) (did.whole told);
       still = did.counted.still ∙ c.loop-done.invariant.still;
     }

@@ -1,6 +1,6 @@
 use Rattle.std.proofs.Common.{◌⊎◌, List, ℕ, Result, Ok, Err, OnErr, sym, subst}
 use Rattle.std.proofs.lemmas.Result.{err_from_is_err_and}
-use Rattle.rb_base.specs.Moments.{LeavesOnly}
+use Rattle.rb_disk.specs.Moments.{Leaves}
 use Rattle.rb_disk.specs.Moments.{rests_on}
 use Rattle.rb_layout.specs.declared.layout.Layout.{Layout}
 use Rattle.rb_log.specs.GroupSlots.{GroupsAre}
@@ -26,12 +26,12 @@ found g c told =
 
 -- what the three steps leave, also where the last one fails
 left : (g : Over) (c : After-drop_uncommitted g) → g.D.Disk.tells → (l : Layout) (b : List (List ℕ)) → OpensTo l (g.D.Disk.content c.args.disk.now) b
-    → LeavesOnly g.D.Disk.moment g.D.Disk.image_since c.args.disk.now c.drop_uncommitted.new.disk (λ im. g.D.Disk.image c.args.disk.now im ⊎ OpensTo l im b)
+    → Leaves g.D.Disk c.args.disk.now c.drop_uncommitted.new.disk (λ im. g.D.Disk.image c.args.disk.now im ⊎ OpensTo l im b)
 left g c told l b opens =
     let old = c.args.disk.now in
     let d = g.D.Disk in
-    let rests = rests_on d.content d.image d.moment d.image_since old c.synced_layout.new.disk c.scan_file.new.disk (c.in_ok-layout.ensures.same told) (c.scan_file.ensures.same told) in
-    open_leaves d.content d.image d.moment d.image_since old c.scan_file.new.disk c.drop_uncommitted.new.disk l c.in_ok-layout.layout b c.in_ok-scan.scan.plain.blocks (λ im now. g.met.D.Disk.only_now old im told now)
+    let rests = rests_on d old c.synced_layout.new.disk c.scan_file.new.disk (c.in_ok-layout.ensures.same told) (c.scan_file.ensures.same told) in
+    open_leaves d old c.scan_file.new.disk c.drop_uncommitted.new.disk l c.in_ok-layout.layout b c.in_ok-scan.scan.plain.blocks (λ im now. g.met.D.Disk.only_now old im told now)
     rests (found g c told).opens opens (c.drop_uncommitted.ensures.any_moment told)
 
 pub returns-in_err-scan-clause-none : goal.returns-in_err-scan-clause-none

@@ -9,5 +9,5 @@ invariant-loop g l = record {
   turns : l.counter ≤ l.scan.log.used;
   room : l.layout.log ≤ vec_capacity l.scan.waiting;
   still : g.D.Disk.faults l.disk ≡ g.D.Disk.faults l.fn.disk;
-  same : g.D.Disk.tells → Rests g.D.Disk.content g.D.Disk.image g.D.Disk.moment g.D.Disk.image_since l.fn.disk l.disk;
+  same : g.D.Disk.tells → Rests g.D.Disk l.fn.disk l.disk;
 }

@@ -2,6 +2,6 @@ use Rattle.std.proofs.Common.{ℕ, List, take, ap, ◌∙◌}
 use Rattle.rb_layout.proofs.layout.Layout.read.Goals as goal
 
 -- what was read is the front of the file
-pub returns-in_default-layout_of-clause-none : goal.returns-in_default-layout_of-clause-none
-returns-in_default-layout_of-clause-none g c told is l has =
-    c.in_default-layout_of.ensures.none l (c.in-Ok-read_at.ensures.value told ∙ ap (λ (file : List ℕ). take 24 file) (c.in-Ok.ensures.content told) ∙ has.front)
+pub returns-in_default-clause-none : goal.returns-in_default-clause-none
+returns-in_default-clause-none g c told is l has =
+    c.in_default.ensures.none l (c.in_ok-read_at.ensures.value told ∙ ap (λ (file : List ℕ). take 24 file) (c.in_ok-length.ensures.content told) ∙ has.front)

@@ -23,15 +23,15 @@ whole : (g : Over) (c : After-read_ahead g) → take c.self.inside.buffer.len (c
 whole g c = filled_whole c.read_ahead.new.buffer c.self.inside.buffer.items c.self.inside.buffer.len (omega (arith, c.read_ahead.auto.buffer, c.deref_mut.ensures.len))
 
 -- the unit that is looked at
-unit : (g : Over) (c : After-group_of g) → g.D.Disk.tells → take (2048 * (32 - c.in-Ok.ahead) + 2048 - 2048 * (32 - c.in-Ok.ahead)) (drop (2048 * (32 - c.in-Ok.ahead)) c.deref.result.now) ≡ slot_at (g.D.Disk.content c.args.disk.now) c.args.self.now.used
+unit : (g : Over) (c : After-group_of g) → g.D.Disk.tells → take (2048 * (32 - c.in_ok-ahead.ahead) + 2048 - 2048 * (32 - c.in_ok-ahead.ahead)) (drop (2048 * (32 - c.in_ok-ahead.ahead)) c.deref.result.now) ≡ slot_at (g.D.Disk.content c.args.disk.now) c.args.self.now.used
 unit g c told =
-    let n = c.in-Ok.ahead in
+    let n = c.in_ok-ahead.ahead in
     let file = g.D.Disk.content c.args.disk.now in
     let buffer : c.deref.result.now ≡ c.read_ahead.new.buffer = c.deref.ensures.value
     ∙ filled_whole c.read_ahead.new.buffer c.self.inside.buffer.items c.self.inside.buffer.len (omega (arith, c.read_ahead.auto.buffer, c.deref_mut.ensures.len)) in
     let size : 2048 * (32 - n) + 2048 - 2048 * (32 - n) ≡ 2048 = omega arith in
     ap (λ (bytes : List ℕ). take (2048 * (32 - n) + 2048 - 2048 * (32 - n)) (drop (2048 * (32 - n)) bytes)) buffer ∙ ap (λ (k : ℕ). take k (drop (2048 * (32 - n)) c.read_ahead.new.buffer)) size
-    ∙ unit_ahead file c.read_ahead.new.buffer c.self.inside.used n c.in-Ok.ensures.some c.in-Ok.ensures.few (c.in-Ok.ensures.ahead told) ∙ ap (slot_at file) (ap (λ (s : LogState). s.used) c.self.view_is)
+    ∙ unit_ahead file c.read_ahead.new.buffer c.self.inside.used n c.in_ok-ahead.ensures.some c.in_ok-ahead.ensures.few (c.in_ok-ahead.ensures.ahead told) ∙ ap (slot_at file) (ap (λ (s : LogState). s.used) c.self.view_is)
 
 pub returns-in_err-group-clause-faulty : goal.returns-in_err-group-clause-faulty
 returns-in_err-group-clause-faulty g c told is =
@@ -47,20 +47,20 @@ returns-in_err-group-clause-faulty g c told is =
           (subst (λ (u : List ℕ). HasGroup c.self.inside.layout u c.args.next group) (sym here) (subst (λ (m : Layout). HasGroup m (slot_at file now.used) c.args.next group) (sym l) (subst (λ (n : ℕ). HasGroup now.layout (slot_at file now.used) n group) (sym c.requires.next) has)));
     }
 
-pub returns-in_default-2-clause-end : goal.returns-in_default-2-clause-end
-returns-in_default-2-clause-end g c told =
-    let here = unit g (goal.at.returns-in_default-2-clause-end g c).After-group_of told in
-    inr (subst (λ (u : List ℕ). slice_index u 0 ≢ 1) here (rw c.in_default-2.is at c.in_ok-group.ensures.shut))
+pub returns-in_default-clause-end : goal.returns-in_default-clause-end
+returns-in_default-clause-end g c told =
+    let here = unit g (goal.at.returns-in_default-clause-end g c).After-group_of told in
+    inr (subst (λ (u : List ℕ). slice_index u 0 ≢ 1) here (rw c.in_default.is at c.in_ok-group.ensures.shut))
 
-pub returns-in_default-2-clause-ahead : goal.returns-in_default-2-clause-ahead
-returns-in_default-2-clause-ahead g c told =
-    let buffer = whole g (goal.at.returns-in_default-2-clause-ahead g c).After-read_ahead in
+pub returns-in_default-clause-ahead : goal.returns-in_default-clause-ahead
+returns-in_default-clause-ahead g c told =
+    let buffer = whole g (goal.at.returns-in_default-clause-ahead g c).After-read_ahead in
     subst (λ (bytes : List ℕ). AreFrom (g.D.Disk.content c.args.disk.now) c.self.inside.used bytes) (sym (ap (drop 65536) buffer ∙ none_ahead c.read_ahead.new.buffer c.read_ahead.ensures.buffer)) refl
 
-pub returns-in_default-2-clause-ended : goal.returns-in_default-2-clause-ended
-returns-in_default-2-clause-ended g c =
+pub returns-in_default-clause-ended : goal.returns-in_default-clause-ended
+returns-in_default-clause-ended g c =
     let a = c.self.inside in
-    let buffer = whole g (goal.at.returns-in_default-2-clause-ended g c).After-read_ahead in
+    let buffer = whole g (goal.at.returns-in_default-clause-ended g c).After-read_ahead in
     ap (λ (bytes : List ℕ). record { layout = a.layout; used = a.used; pending = a.pending.items; scanned = true; ahead = bytes }) (ap (drop 65536) buffer ∙ none_ahead c.read_ahead.new.buffer c.read_ahead.ensures.buffer)
     ∙ ap (λ (s : LogState). record s { scanned = true; ahead = [] }) c.self.view_is
 
@@ -69,16 +69,16 @@ returns-clause-found g c told =
     let here = unit g (goal.at.returns-clause-found g c).After-group_of told in
     let l = ap (λ (s : LogState). s.layout) c.self.view_is in
     subst (λ (u : List ℕ). HoldsGroup c.args.self.now.layout u c.args.next c.in-Some.group) here
-    (subst (λ (m : Layout). HoldsGroup m (take (2048 * (32 - c.in-Ok.ahead) + 2048 - 2048 * (32 - c.in-Ok.ahead)) (drop (2048 * (32 - c.in-Ok.ahead)) c.deref.result.now)) c.args.next c.in-Some.group) l (rw c.in-Some.is at c.in_ok-group.ensures.found))
+    (subst (λ (m : Layout). HoldsGroup m (take (2048 * (32 - c.in_ok-ahead.ahead) + 2048 - 2048 * (32 - c.in_ok-ahead.ahead)) (drop (2048 * (32 - c.in_ok-ahead.ahead)) c.deref.result.now)) c.args.next c.in-Some.group) l (rw c.in-Some.is at c.in_ok-group.ensures.found))
 
 pub returns-clause-ahead : goal.returns-clause-ahead
 returns-clause-ahead g c told =
-    let n = c.in-Ok.ahead in
+    let n = c.in_ok-ahead.ahead in
     let file = g.D.Disk.content c.args.disk.now in
     let slot = c.self.inside.used in
     let filled = c.read_ahead.new.buffer in
     let buffer = whole g (goal.at.returns-clause-ahead g c).After-read_ahead in
-    let some = c.in-Ok.ensures.some in
-    let few = c.in-Ok.ensures.few in
+    let some = c.in_ok-ahead.ensures.some in
+    let few = c.in_ok-ahead.ensures.few in
     subst (λ (bytes : List ℕ). AreFrom file (slot + 1) (drop (65536 - 2048 * (n - 1)) bytes)) (sym buffer)
-    (are_from file filled (slot + 1) (n - 1) (omega (arith, few)) c.read_ahead.ensures.buffer (rest_ahead file filled slot n some few (c.in-Ok.ensures.ahead told)))
+    (are_from file filled (slot + 1) (n - 1) (omega (arith, few)) c.read_ahead.ensures.buffer (rest_ahead file filled slot n some few (c.in_ok-ahead.ensures.ahead told)))

@@ -6,5 +6,5 @@ use Rattle.rb_store.proofs.lap.LapStoreStore.apply.Goals as goal
 
 pub returns-clause-stable : goal.returns-clause-stable
 returns-clause-stable g c told b stands =
-    let st = subst (λ (s : _). IsStable g.D.Disk.content g.D.Disk.image s b) (sym c.self.view_is) stands in
-    apply_stable g.D.Disk.content g.D.Disk.image _ _ b c.args.group.now st refl (c.in_ok-apply.ensures.blocks tt) (ap (λ (l : LogState). l.pending) c.append.ensures) c.in_ok-apply.ensures.lsn refl
+    let st = subst (λ (s : _). IsStable g.D.Disk s b) (sym c.self.view_is) stands in
+    apply_stable g.D.Disk _ _ b c.args.group.now st refl (c.in_ok-apply.ensures.blocks tt) (ap (λ (l : LogState). l.pending) c.append.ensures) c.in_ok-apply.ensures.lsn refl
