@@ -14,7 +14,7 @@ pub record Replied (allows : List ℕ → Logged → Type 0) (now : Logged) (tel
 
 -- two states that differ in their cursors alone, at one log number
 pub record SameButCursors (h other : Logged) : Type 0 where
-  pub number : h.number ≡ other.number
+  pub lsn : h.lsn ≡ other.lsn
   pub shape : h.state.shape ≡ other.state.shape
   pub commits : h.state.commits ≡ other.state.commits
   pub sessions : length h.state.sessions ≡ length other.state.sessions
