@@ -1,5 +1,5 @@
-//! A change of a row as it lies in memory. What reads a file and what a session does both make them, and `Versions`
-//! keeps them.
+//! A change of a row as it lies in memory. What reads a file and what a session does both make them,
+//! and `Versions` keeps them.
 ghost use Rattle.std.specs.Prelude.{◌≡◌, ◌≤◌, length};
 ghost use Rattle.rb_model.specs.Change.{put, gone};
 ghost use Rattle.rb_versions.specs.Changes.{change_of, makes_row};
