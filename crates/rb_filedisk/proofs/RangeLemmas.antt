@@ -36,3 +36,8 @@ pub with_range-first : (full : Bool) (new : Range) (old : List Range) → (0 < l
 unfolding with_range
 with_range-first full new [] none = refl
 with_range-first full new (x ∷ old) none = absurd (false≢true (none (omega arith)))
+
+-- of the same range and the same list
+pub with_range-same : (full is_full : Bool) (new range : Range) (old ranges : List Range) → full ≡ is_full → new ≡ range → old ≡ ranges
+    → with_range full new old ≡ with_range is_full range ranges
+with_range-same full is_full new range old ranges e f g = rw (e, f, g) refl

@@ -49,7 +49,7 @@ where
     }
 
     // Counts a fault where the answer is one.
-    fn counted<T>(&mut self, answer: io::Result<T>) -> Result<T, Failed>
+    fn count_fault<T>(&mut self, answer: io::Result<T>) -> Result<T, Failed>
         ensures same { IsOk result ↔ IsOk answer }
         ensures counted { IsCounted (faults_of self.old) (faults_of self.new) result }
         ensures faulted { OnErr result (faults_of self.new ≡ min (faults_of self.old + 1) (2 ^ 64 - 1)) }
@@ -70,7 +70,7 @@ where
         ensures kept { unsynced_of self.new ≡ unsynced_of self.old }
     {
         Ok(
-            opened(self.runtime, self.path, &mut self.file)?
+            open_file(self.runtime, self.path, &mut self.file)?
                 .metadata()?
                 .len(),
         )
@@ -82,7 +82,7 @@ where
         ensures faults { faults_of self.new ≡ faults_of self.old }
         ensures kept { unsynced_of self.new ≡ unsynced_of self.old }
     {
-        let file = opened(self.runtime, self.path, &mut self.file)?;
+        let file = open_file(self.runtime, self.path, &mut self.file)?;
         if let Some(len) = self.synced
             && self.unsynced.is_within(len)
         {
@@ -99,7 +99,7 @@ where
 }
 
 // The open file, which is opened here if it isn't yet.
-fn opened<'f, R: Files>(
+fn open_file<'f, R: Files>(
     runtime: &R,
     path: &str,
     file: &'f mut Option<R::File>,
@@ -148,7 +148,7 @@ where
         ensures kept { unsynced_of self.new ≡ unsynced_of self.old }
     {
         let answer = self.length();
-        self.counted(answer)
+        self.count_fault(answer)
     }
 
     fn read_at(&mut self, at: u64, into: &mut [u8]) -> Result<(), Failed>
@@ -157,10 +157,10 @@ where
         ensures no_fault { OnOk result (faults_of self.new ≡ faults_of self.old) }
         ensures kept { unsynced_of self.new ≡ unsynced_of self.old }
     {
-        let answer = opened(self.runtime, self.path, &mut self.file).and_then(
+        let answer = open_file(self.runtime, self.path, &mut self.file).and_then(
             |file| file.read_exact_at(into, at),
         );
-        self.counted(answer)
+        self.count_fault(answer)
     }
 
     fn write_at(&mut self, at: u64, bytes: &[u8]) -> Result<(), Failed>
@@ -172,10 +172,10 @@ where
         ensures no_other { RemembersNoOther at (length bytes.now) (unsynced_of self.old) (unsynced_of self.new) }
     {
         self.unsynced.add(at, bytes.len());
-        let answer = opened(self.runtime, self.path, &mut self.file).and_then(
+        let answer = open_file(self.runtime, self.path, &mut self.file).and_then(
             |file| file.write_all_at(bytes, at),
         );
-        self.counted(answer)
+        self.count_fault(answer)
     }
 
     fn sync(&mut self) -> Result<(), Failed>
@@ -191,6 +191,6 @@ where
         } else if let Some(file) = &self.file {
             self.unsynced.write_again(file);
         }
-        self.counted(answer)
+        self.count_fault(answer)
     }
 }

@@ -20,7 +20,7 @@ pub struct Range {
 
 impl Range {
     // So many bytes from an offset on.
-    fn written(at: u64, count: usize) -> Range
+    fn of_write(at: u64, count: usize) -> Range
         ensures { result ≡ written at count }
     {
         Range {
@@ -37,7 +37,7 @@ impl Range {
     }
 
     // The bytes of two ranges, and those between them.
-    fn joined(self, other: Range) -> Range
+    fn span_with(self, other: Range) -> Range
         ensures { result ≡ joined self other }
     {
         Range {
@@ -84,13 +84,13 @@ impl Unsynced {
     pub fn add(&mut self, at: u64, count: usize)
         ensures { IsWith at count self.old self.new }
     {
-        let written = Range::written(at, count);
+        let written = Range::of_write(at, count);
         let full = self.ranges.is_full();
         match self.ranges.pop() {
             // Where there is no room the last range grows over the gap, so that no byte is forgotten. It doesn't occur
             // in this form: a flush has at most 128 runs, and of each only the gate lies apart.
             Some(last) if full || last.touches(written) => {
-                self.ranges.push(last.joined(written));
+                self.ranges.push(last.span_with(written));
             }
             Some(last) => {
                 self.ranges.push(last);

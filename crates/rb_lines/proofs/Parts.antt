@@ -4,7 +4,7 @@ use Rattle.rb_model.specs.Lines.{lines_of}
 use Rattle.rb_model.specs.Out.{Logged}
 use Rattle.rb_lines.specs.declared.runner.StepFault.{StepFault}
 use Rattle.rb_lines.specs.declared.runner.StepFault.TheVariants.{Disk, Sink}
-use Rattle.rb_lines.specs.Ends.{Halted, WholeRan}
+use Rattle.rb_lines.specs.Ends.{EndsAs, Halted, WholeRan, end_of}
 use Rattle.rb_lines.specs.Ran.{Did, Ran, RanAs}
 use Rattle.rb_lines.specs.Pieces.{lines_from, rest_from, last_of}
 use Rattle.rb_lines.proofs.Cuts.{lines-append, rest-append, lines_of-parts, whole_lines-pieces}
@@ -84,7 +84,7 @@ module _ {M : Type 0} (stands : M → Logged → Type 0) (since : M → M → Lo
       (subst (λ (s : ℕ). RanAs s k h2 (last_of (rest_from [] p.taken)) tells held1 held2 r) same next)))
 
   -- with a fault of the disk in its last line
-  pub part_halts : (old mid new : M) (m : Logged) (slots slots1 most : ℕ) (tells : Type 0) (held held1 held2 left left1 left2 kept : List ℕ) (room : ℕ)
+  part_halts : (old mid new : M) (m : Logged) (slots slots1 most : ℕ) (tells : Type 0) (held held1 held2 left left1 left2 kept : List ℕ) (room : ℕ)
       → ((a b c : M) (h n k : Logged) → n.state.stopped ≡ false → since a b h n → since b c n k → since a c h k)
       → (p : Part old mid slots tells held held1 left left1 kept room) → slots1 ≡ slots → left1 ≡ [] → left1 ≡ left2 → stands old m → m.state.stopped ≡ false
       → ((k : Logged) → stands mid k → k.state.stopped ≡ false → Did stands since mid new k (λ now. RanAs slots1 k now (last_of (rest_from [] p.taken)) tells held1 held2 (Err Disk)))
@@ -110,7 +110,7 @@ module _ {M : Type 0} (stands : M → Logged → Type 0) (since : M → M → Lo
       })
 
   -- a fault of the sink in a piece
-  pub part_cut : (old mid new : M) (m : Logged) (slots slots1 : ℕ) (tells : Type 0) (held held1 held2 left left1 left2 kept : List ℕ) (room : ℕ) (piece : List ℕ)
+  part_cut : (old mid new : M) (m : Logged) (slots slots1 : ℕ) (tells : Type 0) (held held1 held2 left left1 left2 kept : List ℕ) (room : ℕ) (piece : List ℕ)
       → ((a b c : M) (h n k : Logged) → n.state.stopped ≡ false → since a b h n → since b c n k → since a c h k)
       → (p : Part old mid slots tells held held1 left left1 kept room) → slots1 ≡ slots → left1 ≡ piece ++ left2 → stands old m → m.state.stopped ≡ false
       → ((k : Logged) → stands mid k → k.state.stopped ≡ false → Did stands since mid new k (λ now. RanAs slots1 k now (lines_from (rest_from [] p.taken) piece) tells held1 held2 (Err Sink)))
@@ -124,7 +124,7 @@ module _ {M : Type 0} (stands : M → Logged → Type 0) (since : M → M → Lo
       (subst (λ (s : ℕ). RanAs s k h2 (lines_from (rest_from [] p.taken) piece) tells held1 held2 (Err Sink)) same next))))
 
   -- a fault of the disk in a piece
-  pub part_fault : (old mid new : M) (m : Logged) (slots slots1 most : ℕ) (tells : Type 0) (held held1 held2 left left1 left2 kept : List ℕ) (room : ℕ) (piece : List ℕ)
+  part_fault : (old mid new : M) (m : Logged) (slots slots1 most : ℕ) (tells : Type 0) (held held1 held2 left left1 left2 kept : List ℕ) (room : ℕ) (piece : List ℕ)
       → ((a b c : M) (h n k : Logged) → n.state.stopped ≡ false → since a b h n → since b c n k → since a c h k)
       → (p : Part old mid slots tells held held1 left left1 kept room) → slots1 ≡ slots → length piece ≤ most → left1 ≡ piece ++ left2 → stands old m → m.state.stopped ≡ false
       → ((k : Logged) → stands mid k → k.state.stopped ≡ false → Did stands since mid new k (λ now. RanAs slots1 k now (lines_from (rest_from [] p.taken) piece) tells held1 held2 (Err Disk)))
@@ -151,6 +151,28 @@ module _ {M : Type 0} (stands : M → Logged → Type 0) (since : M → M → Lo
         fault = last.0;
         stopped = last.1;
       })
+
+  -- how a fault in the last line ends the lines
+  pub last_fails : (old mid new : M) (m : Logged) (slots slots1 most : ℕ) (tells : Type 0) (held held1 held2 left left1 left2 kept : List ℕ) (room : ℕ) (fault : StepFault)
+      → ((a b c : M) (h n k : Logged) → n.state.stopped ≡ false → since a b h n → since b c n k → since a c h k)
+      → (p : Part old mid slots tells held held1 left left1 kept room) → slots1 ≡ slots → left1 ≡ [] → left1 ≡ left2 → stands old m → m.state.stopped ≡ false
+      → ((k : Logged) → stands mid k → k.state.stopped ≡ false → Did stands since mid new k (λ now. RanAs slots1 k now (last_of (rest_from [] p.taken)) tells held1 held2 (Err fault)))
+      → Did stands since old new m (λ now. EndsAs slots most m now left left2 tells held held2 (end_of fault))
+  last_fails old mid new m slots slots1 most tells held held1 held2 left left1 left2 kept room Disk joined p same none stays is going more =
+      part_halts old mid new m slots slots1 most tells held held1 held2 left left1 left2 kept room joined p same none stays is going more
+  last_fails old mid new m slots slots1 most tells held held1 held2 left left1 left2 kept room Sink joined p same none stays is going more =
+      part_end old mid new m slots slots1 tells held held1 held2 left left1 kept room (Err Sink) joined p same none is going more
+
+  -- and how one in a piece does
+  pub piece_fails : (old mid new : M) (m : Logged) (slots slots1 most : ℕ) (tells : Type 0) (held held1 held2 left left1 left2 kept : List ℕ) (room : ℕ) (piece : List ℕ) (fault : StepFault)
+      → ((a b c : M) (h n k : Logged) → n.state.stopped ≡ false → since a b h n → since b c n k → since a c h k)
+      → (p : Part old mid slots tells held held1 left left1 kept room) → slots1 ≡ slots → length piece ≤ most → left1 ≡ piece ++ left2 → stands old m → m.state.stopped ≡ false
+      → ((k : Logged) → stands mid k → k.state.stopped ≡ false → Did stands since mid new k (λ now. RanAs slots1 k now (lines_from (rest_from [] p.taken) piece) tells held1 held2 (Err fault)))
+      → Did stands since old new m (λ now. EndsAs slots most m now left left2 tells held held2 (end_of fault))
+  piece_fails old mid new m slots slots1 most tells held held1 held2 left left1 left2 kept room piece Disk joined p same few split is going more =
+      part_fault old mid new m slots slots1 most tells held held1 held2 left left1 left2 kept room piece joined p same few split is going more
+  piece_fails old mid new m slots slots1 most tells held held1 held2 left left1 left2 kept room piece Sink joined p same few split is going more =
+      part_cut old mid new m slots slots1 tells held held1 held2 left left1 left2 kept room piece joined p same split is going more
 
   -- the whole lines among the bytes taken
   pub part_whole : (old mid : M) (m : Logged) (slots : ℕ) (tells : Type 0) (held held1 left left1 left2 kept : List ℕ) (room : ℕ)

@@ -6,27 +6,25 @@ use Rattle.rb_lines.specs.Ran.{Ran, CutOff}
 use Rattle.rb_lines.specs.Whole.{whole_lines}
 use Rattle.rb_lines.specs.declared.lines.LinesEnd.{LinesEnd}
 use Rattle.rb_lines.specs.declared.lines.LinesEnd.TheVariants.{Done, SourceFault, DiskFault, SinkFault, TooLong}
+use Rattle.rb_lines.specs.declared.runner.StepFault.{StepFault}
+use Rattle.rb_lines.specs.declared.runner.StepFault.TheVariants.{Disk, Sink}
 
 abbrev pub by_source : LinesEnd → Bool
-by_source Done = false
 by_source SourceFault = true
-by_source DiskFault = false
-by_source SinkFault = false
-by_source TooLong = false
+by_source _ = false
 
 abbrev pub by_disk : LinesEnd → Bool
-by_disk Done = false
-by_disk SourceFault = false
 by_disk DiskFault = true
-by_disk SinkFault = false
-by_disk TooLong = false
+by_disk _ = false
 
 abbrev pub by_sink : LinesEnd → Bool
-by_sink Done = false
-by_sink SourceFault = false
-by_sink DiskFault = false
 by_sink SinkFault = true
-by_sink TooLong = false
+by_sink _ = false
+
+-- how the lines end by a fault in one of them
+abbrev pub end_of : StepFault → LinesEnd
+end_of Disk = DiskFault
+end_of Sink = SinkFault
 
 -- The whole lines of these bytes were done, and nothing else was taken.
 pub record WholeRan (slots : ℕ) (before now : Logged) (taken left_before left_now : List ℕ) (tells : Type 0)
@@ -36,8 +34,7 @@ pub record WholeRan (slots : ℕ) (before now : Logged) (taken left_before left_
   pub going : now.state.stopped ≡ false
 
 -- A fault of the disk ended the lines. When the last piece of at most `most` bytes was asked for, no call had failed,
--- and
--- the lines that were whole had been done: so nothing was asked for after the reply that tells of the fault.
+-- and the lines that were whole had been done: so nothing was asked for after the reply that tells of the fault.
 pub record Halted (slots most : ℕ) (before now : Logged) (left_before left_now : List ℕ) (tells : Type 0)
     (held_before held_now : List ℕ) : Type 0 where
   pub taken : List ℕ

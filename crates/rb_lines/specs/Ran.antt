@@ -14,7 +14,7 @@ pub record Replied (allows : List ℕ → Logged → Type 0) (now : Logged) (tel
 
 -- two states that differ in their cursors alone, at one log number
 pub record SameButCursors (h other : Logged) : Type 0 where
-  pub number : h.number ≡ other.number
+  pub lsn : h.lsn ≡ other.lsn
   pub shape : h.state.shape ≡ other.state.shape
   pub commits : h.state.commits ≡ other.state.commits
   pub sessions : length h.state.sessions ≡ length other.state.sessions
@@ -32,8 +32,8 @@ pub record CutShort (allows : List ℕ → Logged → Type 0) (left : Logged) (h
     pub size : ℕ
     pub written : held_now ≡ held_before ++ take size out
 
--- What was replied, by the answer: after a fault of the disk the state is stopped, and one of the sink cuts the replies
--- off.
+-- What was replied, by the answer: after a fault of the disk the state is stopped,
+-- and one of the sink cuts the replies off.
 abbrev pub RepliedAs : (List ℕ → Logged → Type 0) → Logged → Type 0 → List ℕ → List ℕ
     → Result (Unit {0}) StepFault → Type 0
 RepliedAs allows now tells held_before held_now (Ok done) =

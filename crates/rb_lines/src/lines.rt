@@ -3,7 +3,7 @@ ghost use Rattle.std.specs.Prelude.{ℕ, ◌≡◌, ◌≤◌, ◌<◌, false, L
 ghost use Rattle.std.specs.Prelude.{OnErr};
 ghost use Rattle.rb_base.specs.Counts.{IsCounted, IsCountedAs};
 ghost use Rattle.rb_model.specs.Out.{Logged};
-ghost use Rattle.rb_lines.specs.Ends.{EndsAs, by_disk, by_sink, by_source};
+ghost use Rattle.rb_lines.specs.Ends.{EndsAs, by_disk, by_sink, by_source, end_of};
 ghost use Rattle.rb_lines.specs.Faults.{IsCountedBeside};
 ghost use Rattle.rb_lines.specs.Ran.{Did};
 
@@ -28,6 +28,17 @@ pub enum LinesEnd {
     SinkFault,
     /// 1,000,000,000 bytes were taken without an end.
     TooLong,
+}
+
+impl From<StepFault> for LinesEnd {
+    ghost from_gives = { λ fault end. end ≡ end_of fault };
+
+    fn from(fault: StepFault) -> LinesEnd {
+        match fault {
+            StepFault::Disk => LinesEnd::DiskFault,
+            StepFault::Sink => LinesEnd::SinkFault,
+        }
+    }
 }
 
 // Takes at most so many bytes into the front of the buffer, and tells how many; 0 at the end.
@@ -82,15 +93,13 @@ pub fn run_lines<M: LineRunner, S: Source, K: Sink>(
         if count == 0 {
             return match finish(runner, sink, &pending) {
                 Ok(()) => LinesEnd::Done,
-                Err(StepFault::Disk) => LinesEnd::DiskFault,
-                Err(StepFault::Sink) => LinesEnd::SinkFault,
+                Err(fault) => LinesEnd::from(fault),
             };
         }
-        match feed(runner, sink, &mut pending, &buffer[..count]) {
-            Ok(()) => room -= count,
-            Err(StepFault::Disk) => return LinesEnd::DiskFault,
-            Err(StepFault::Sink) => return LinesEnd::SinkFault,
+        if let Err(fault) = feed(runner, sink, &mut pending, &buffer[..count]) {
+            return LinesEnd::from(fault);
         }
+        room -= count;
     }
     LinesEnd::TooLong
 }

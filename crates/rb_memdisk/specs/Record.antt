@@ -105,8 +105,8 @@ IsIdle file (Write at count true) = ⊥
 IsIdle file (Write at count false) = at ≤ length file
 IsIdle file (Sync done) = Unit {0}
 
--- a call that leaves the images of before as they were, or more of them: neither a write that was done nor a
--- sync that succeeded
+-- a call that leaves the images of before as they were, or more of them:
+-- neither a write that was done nor a sync that succeeded
 abbrev pub IsUndone : List ℕ → Call → Type 0
 IsUndone file Length = Unit {0}
 IsUndone file Read = Unit {0}

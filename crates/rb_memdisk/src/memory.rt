@@ -85,7 +85,8 @@ impl MemDisk {
         ensures possible { IfOk result (λ image. MayLeave (first_of self.now) (record_of self.now)
             (written_of self.now) k image.items) }
     {
-        self.replayed(alloc, k as usize, pick).map_err(|_| NoMemory)
+        self.picked_image(alloc, k as usize, pick)
+            .map_err(|_| NoMemory)
     }
 
     /// How many calls it has recorded: all but those past the number that it can record.
@@ -112,7 +113,7 @@ impl MemDisk {
         &self.bytes
     }
 
-    fn replayed(&self, alloc: Global, k: usize, pick: Pick) -> Result<Vec<u8>, AllocError>
+    fn picked_image(&self, alloc: Global, k: usize, pick: Pick) -> Result<Vec<u8>, AllocError>
         requires { k ≤ made self.now }
         ensures picked { IfOk result (λ image. image.items
             ≡ picked_after_all pick (first_of self.now) (first_of self.now) (take k (record_of self.now))

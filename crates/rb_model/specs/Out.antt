@@ -10,19 +10,19 @@ use Rattle.rb_model.specs.Lines.{without_return, is_remark, reply_text, bad_line
 -- a state, and the last log number that was given
 pub record Logged : Type 0 where
   pub state : State
-  pub number : ℕ
+  pub lsn : ℕ
 
 -- How many more groups a log of so many slots has room for, behind that number. One slot stays free.
 abbrev pub room : ℕ → ℕ → ℕ
-room slots number = slots - 1 - number
+room slots lsn = slots - 1 - lsn
 
 -- One call with that answer. The log number goes up by the groups of the call, unless the disk has failed.
 pub record CallOut (m : Logged) (slots : ℕ) (call : Call) (answer : Answer) (m2 : Logged) : Type 0 where
-  pub reply : Reply m.state m.number (room slots m.number) call answer
+  pub reply : Reply m.state m.lsn (room slots m.lsn) call answer
   pub state : m2.state ≡ after m.state call answer
   pub groups : ℕ
   pub grows : m2.state.stopped ≡ false → Grows m.state call answer groups
-  pub number : m2.state.stopped ≡ false → m2.number ≡ m.number + groups
+  pub lsn : m2.state.stopped ≡ false → m2.lsn ≡ m.lsn + groups
 
 abbrev pub is_given : Answer → Bool
 is_given Done = false

@@ -1,7 +1,8 @@
 -- Which answers a call may have, and the state after it.
-use Rattle.std.specs.Prelude.{◌≡◌, ◌⊎◌, ℕ, ◌+◌, ◌^◌, Bool, true, false, not, ◌&&◌, nat_lt}
+use Rattle.std.specs.Prelude.{◌≡◌, ◌⊎◌, ℕ, ◌+◌, Bool, true, false, not, ◌&&◌, nat_lt}
 use Rattle.std.specs.Prelude.{nat_le, if◌then◌else◌, is_some, is_none, List, [], ◌∷◌, ◌++◌, length}
 use Rattle.std.specs.Prelude.{slice_get, Option, None, Some}
+use Rattle.rb_base.specs.declared.sizes.TheConstants.{VALUE_BYTES, WORN}
 use Rattle.rb_model.specs.Change.{Change, put, gone}
 use Rattle.rb_model.specs.Full.{full_block}
 use Rattle.rb_model.specs.Rows.{TableRow, last_scn, rows_at, over, has_row}
@@ -47,8 +48,8 @@ adds Delete = false
 
 -- the value has more bytes than a row
 abbrev pub is_too_long : Action → Bool
-is_too_long (Insert value) = nat_lt 80 (length value)
-is_too_long (Update value) = nat_lt 80 (length value)
+is_too_long (Insert value) = nat_lt VALUE_BYTES (length value)
+is_too_long (Update value) = nat_lt VALUE_BYTES (length value)
 is_too_long Delete = false
 
 -- the change that a write makes
@@ -81,7 +82,7 @@ early_tests h (CloseCursor s name) = (h.stopped, Refused Stopped) ∷ (not (is_s
 
 -- the tests of a write that ask the log: its numbers are used up, or it has no room for the write and its commit
 abbrev pub log_tests : ℕ → ℕ → List (Bool × Answer)
-log_tests logged room = (nat_le (2 ^ 60) logged, Refused WornOut) ∷ (nat_lt room 2, Refused LogFull) ∷ []
+log_tests logged room = (nat_le WORN logged, Refused WornOut) ∷ (nat_lt room 2, Refused LogFull) ∷ []
 
 -- logged: the last log number given; room: how many more groups the log has room for
 abbrev pub later_tests : State → ℕ → ℕ → Call → List (Bool × Answer)

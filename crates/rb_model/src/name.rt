@@ -4,6 +4,7 @@ ghost use Rattle.std.specs.List.{list_all};
 ghost use Rattle.rb_model.specs.NameTest as spec;
 
 use arrayvec::ArrayVec;
+use rb_base::array_of;
 
 /// 1 to 16 of `a` to `z`, `0` to `9` and `_`.
 #[derive(Debug, Drop)]
@@ -42,11 +43,9 @@ impl Name {
         if !is_name(text) {
             return None;
         }
-        let mut bytes = ArrayVec::new();
-        match bytes.try_extend_from_slice(text) {
-            Ok(()) => Some(Name { text: bytes }),
-            Err(_) => None,
-        }
+        Some(Name {
+            text: array_of(text),
+        })
     }
 
     /// Its bytes.

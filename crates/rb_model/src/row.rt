@@ -1,11 +1,12 @@
 //! What a fetch gives. The engine fills it, and the shell prints it.
 use arrayvec::ArrayVec;
+use rb_base::VALUE_BYTES;
 
 /// A key and its value of at most 80 bytes.
 #[derive(Debug, Drop)]
 pub struct Row {
     pub key: u64,
-    pub value: ArrayVec<u8, 80>,
+    pub value: ArrayVec<u8, VALUE_BYTES>,
 }
 
 /// Whether a fetch gave a row.

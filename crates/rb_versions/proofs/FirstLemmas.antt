@@ -1,7 +1,7 @@
 -- The first of the changes that a query wants, by places: of one part of the changes behind another, and of all; and what
 -- it says of the rows.
-use Rattle.std.proofs.Common.{◌≡◌, ℕ, zero, suc, ◌<◌, ◌≤◌, Bool, true, false, ◌==◌, cond, List, [], ◌∷◌, length, take, get_or, Option, None, Some, refl, arith, ap, sym, ◌∙◌, subst, inl, inr, ⊎_elim, min}
-use Rattle.std.proofs.lemmas.Bool.{cases_Bool, cond-true, cond-false, cases_lt, false≢true, and_parts, and_from, and_right, eqb-true}
+use Rattle.std.proofs.Common.{◌≡◌, ℕ, zero, suc, ◌<◌, ◌≤◌, Bool, true, false, cond, List, [], ◌∷◌, length, take, get_or, Option, None, Some, refl, arith, ap, sym, ◌∙◌, subst, inl, inr, ⊎_elim, min}
+use Rattle.std.proofs.lemmas.Bool.{cases_Bool, cond-true, cond-false, cases_lt, false≢true, and_parts, and_from, and_right}
 use Rattle.std.proofs.lemmas.List.{get_or_read, take_all}
 use Rattle.std.specs.Option.{IfSome}
 use Rattle.rb_model.specs.Rows.{TableRow, key_before, is_asked}
@@ -15,6 +15,7 @@ use Rattle.rb_versions.specs.Entries.{wants}
 use Rattle.rb_versions.specs.Index.{Precedes, IsFirst}
 use Rattle.rb_model.proofs.Order.{key_trans, key_same, key_total, same_place, same_itself, row_before_in_table}
 use Rattle.rb_model.proofs.RowLemmas.{key_row, agree_in_rows, none_in_rows, first_in_rows, none_is_some, some_same}
+use Rattle.rb_versions.proofs.EntryLemmas.{wanted_table}
 use Rattle.rb_versions.proofs.RowLemmas.{rows_of, ordered-rows, row-newest, row-named}
 
 same_key_before : (blocks x y z : ℕ) → y ≡ x → key_before blocks x z ≡ true → key_before blocks y z ≡ true
@@ -73,10 +74,6 @@ joined_newer blocks q changes start middle end i j p r low l m e f h a b = recor
 }
 
 -- what the first says of the rows
-
-pub wanted_table : (blocks : ℕ) (q : Query) (table key : ℕ) → wants blocks q table key ≡ true → table ≡ q.table
-wanted_table blocks q table key h =
-    eqb-true table q.table (and_parts (table == q.table) _ (and_parts (is_asked q.table q.lo q.hi (record { table = table; key = key; value = [] })) _ h).0).0
 
 wanted_same : (blocks : ℕ) (q : Query) (t k u l : ℕ) → t ≡ u → k ≡ l → wants blocks q t k ≡ wants blocks q u l
 wanted_same blocks q t k u l e f = rw (e, f) refl

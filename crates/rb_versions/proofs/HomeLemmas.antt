@@ -21,7 +21,7 @@ use Rattle.rb_versions.specs.Index.{IsIndex, IsFirst, Precedes}
 use Rattle.rb_versions.specs.Homes.{IsLeast, NoneBehind, IsFull, is_in_use}
 use Rattle.rb_model.proofs.Order.{lex, same_place, same_itself}
 use Rattle.rb_versions.proofs.RunLemmas.{no_entry}
-use Rattle.rb_versions.proofs.FirstLemmas.{wanted_table}
+use Rattle.rb_versions.proofs.EntryLemmas.{wanted_table}
 
 -- the keys of changes have eight bytes
 pub keys_fit : (blocks : ℕ) (changes : List RowChange) (order : List Entry) (ends : List ℕ) → IsIndex blocks changes order ends → (k : ℕ) (d : RowChange) → k < length changes → (get_or changes k d).key < 2 ^ 64

@@ -1,16 +1,17 @@
-//! A change of a row as it lies in memory. What reads a file and what a session does both make them, and `Versions`
-//! keeps them.
+//! A change of a row as it lies in memory. What reads a file and what a session does both make them,
+//! and `Versions` keeps them.
 ghost use Rattle.std.specs.Prelude.{◌≡◌, ◌≤◌, length};
 ghost use Rattle.rb_model.specs.Change.{put, gone};
 ghost use Rattle.rb_versions.specs.Changes.{change_of, makes_row};
 
 use arrayvec::ArrayVec;
+use rb_base::{VALUE_BYTES, array_of};
 
 /// What a change makes of its row.
 #[derive(Debug, Drop)]
 pub enum RowKind {
     /// The row has this value from now on, 0 to 80 bytes.
-    Put(ArrayVec<u8, 80>),
+    Put(ArrayVec<u8, VALUE_BYTES>),
     /// There is no row from now on.
     Gone,
 }
@@ -26,14 +27,10 @@ pub struct RowChange {
 impl RowChange {
     /// The change that gives the key a value of at most 80 bytes.
     pub fn put(table: u16, key: u64, value: &[u8]) -> RowChange
-        requires { length value.now ≤ 80 }
+        requires { length value.now ≤ VALUE_BYTES }
         ensures { change_of result ≡ put table key value.now }
     {
-        let mut bytes = ArrayVec::new();
-        if bytes.try_extend_from_slice(value).is_err() {
-            unreachable!()
-        }
-        let kind = RowKind::Put(bytes);
+        let kind = RowKind::Put(array_of(value));
         RowChange { table, key, kind }
     }
 

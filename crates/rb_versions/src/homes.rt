@@ -10,8 +10,7 @@ const KEYS: u8 = 16;
 
 impl Versions {
     /// Whether sixteen other keys of the key's home are in use, and the key isn't. A key is in use if it has a row
-    /// after
-    /// the first `committed` changes, or if one of the changes behind those is of it.
+    /// after the first `committed` changes, or if one of the changes behind those is of it.
     pub fn is_full(&self, table: u16, key: u64, committed: usize) -> bool
         ensures full { result ≡ true → IsFull self.now.blocks self.now.changes committed table key }
         ensures room { result ≡ false → ¬ IsFull self.now.blocks self.now.changes committed table key }

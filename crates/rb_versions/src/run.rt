@@ -54,8 +54,8 @@ fn first_spot(blocks: u32, query: Query) -> Spot
     }
 }
 
-/// The next entry behind an entry that the query may want. Where the entry's key is out of range, so is each key up to
-/// there.
+/// The next entry behind an entry that the query may want.
+/// Where the entry's key is out of range, so is each key up to there.
 fn skip(blocks: u32, run: &[Entry], at: usize, query: Query) -> usize
     requires run { IsRun run.now }
     requires homes { All (HasHome blocks) run.now }

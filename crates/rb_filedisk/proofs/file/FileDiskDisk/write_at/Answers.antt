@@ -8,10 +8,10 @@ use Rattle.rb_filedisk.proofs.file.FileDiskDisk.write_at.Goals as goal
 
 pub returns-clause-every : goal.returns-clause-every
 returns-clause-every g c =
-    remembers_all c.args.at (length c.args.bytes.now) (unsynced_of c.args.self.now) (unsynced_of c.counted.new.self)
-    (ap (λ (unsynced : Unsynced). ranges_of unsynced) c.counted.ensures.kept ∙ c.add.ensures)
+    remembers_all c.args.at (length c.args.bytes.now) (unsynced_of c.args.self.now) (unsynced_of c.count_fault.new.self)
+    (ap (λ (unsynced : Unsynced). ranges_of unsynced) c.count_fault.ensures.kept ∙ c.add.ensures)
 
 pub returns-clause-no_other : goal.returns-clause-no_other
 returns-clause-no_other g c =
-    remembers_no_other c.args.at (length c.args.bytes.now) (unsynced_of c.args.self.now) (unsynced_of c.counted.new.self)
-    (ap (λ (unsynced : Unsynced). ranges_of unsynced) c.counted.ensures.kept ∙ c.add.ensures)
+    remembers_no_other c.args.at (length c.args.bytes.now) (unsynced_of c.args.self.now) (unsynced_of c.count_fault.new.self)
+    (ap (λ (unsynced : Unsynced). ranges_of unsynced) c.count_fault.ensures.kept ∙ c.add.ensures)

@@ -4,7 +4,7 @@ use Rattle.rb_memdisk.specs.declared.call.Call.TheVariants.{Length}
 use Rattle.rb_memdisk.specs.Record.{read_after, left_after, picked_after}
 use Rattle.rb_memdisk.specs.Replays.{covers_start, fits_front}
 use Rattle.rb_memdisk.proofs.Picking.{can_fill, next_fits, fitting_on, same_on, covers_on, used_on}
-use Rattle.rb_memdisk.proofs.memory.MemDisk.replayed.Goals as goal
+use Rattle.rb_memdisk.proofs.memory.MemDisk.picked_image.Goals as goal
 
 pub loop-call-init : goal.loop-call-init
 loop-call-init c =

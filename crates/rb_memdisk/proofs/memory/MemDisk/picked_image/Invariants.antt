@@ -1,7 +1,7 @@
 use Rattle.std.proofs.Common.{◌≡◌, ◌≤◌, length, drop, take, true}
 use Rattle.rb_memdisk.specs.Record.{fits, picked_after_all}
 use Rattle.rb_memdisk.specs.Replays.{Covers}
-use Rattle.rb_memdisk.proofs.memory.MemDisk.replayed.Given as goal
+use Rattle.rb_memdisk.proofs.memory.MemDisk.picked_image.Given as goal
 
 abbrev pub invariant-loop-call : goal.invariant-loop-call
 invariant-loop-call l = record {
