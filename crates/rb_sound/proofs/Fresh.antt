@@ -11,9 +11,9 @@ use Rattle.rb_heap.specs.Homes.{Home, home_of, is_keyed, empty_cell, empty_home}
 use Rattle.rb_heap.proofs.Fresh.{new_empty}
 use Rattle.rb_heap.proofs.Reading.{entry_read, cell_read}
 use Rattle.rb_cell.specs.declared.cell.Cell.{Cell}
-use Rattle.rb_cell.specs.Cells.{cell_at}
+use Rattle.rb_cell.specs.Cells.{cell_at, value_length}
 use Rattle.rb_base.specs.Blocks.{header_block}
-use Rattle.rb_heap.specs.Soundness.{value_length, IsEntrySound, IsCellSound, IsLock, IsHomeSound}
+use Rattle.rb_heap.specs.Soundness.{IsEntrySound, IsCellSound, IsLock, IsHomeSound}
 use Rattle.rb_txntable.specs.Slots.{slot_state, slot_before}
 use Rattle.rb_ring.specs.Ring.{extent_ord, extent_newest, head_extent, head_records, lost_number, IsRing}
 use Rattle.rb_sound.specs.Sound.{IsSegment}
