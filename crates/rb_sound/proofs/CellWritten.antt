@@ -23,7 +23,7 @@ use Rattle.rb_sound.specs.Sound.{IsSegment, AreSound}
 use Rattle.rb_segment.proofs.Numbers.{commit_same}
 use Rattle.rb_sound.proofs.Kept.{all_kept, segment_later}
 use Rattle.rb_sound.proofs.Keys.{own_key}
-use Rattle.rb_segment.proofs.Patched.{part_kept, number_kept, part_there, block_there, block_elsewhere}
+use Rattle.rb_txntable.proofs.Patched.{part_kept, number_kept, part_there, block_there, block_elsewhere}
 
 -- what a block has of its cells and entries after another one has the place of cell c
 record HasCell (block now : List ℕ) (c : ℕ) (cell : Cell) : Type 0 where
