@@ -4,20 +4,22 @@ use Rattle.std.specs.Prelude.{◌++◌, length, take, drop, replicate, slice_ind
 use Rattle.byteorder.specs.Endian.{big_bytes}
 use Rattle.rb_base.specs.Fields.{part, number_at, overwritten}
 use Rattle.rb_base.specs.Groups.{Patch, patch}
+use Rattle.rb_base.specs.declared.sizes.TheConstants.{VALUE_BYTES}
 use Rattle.rb_cell.specs.declared.cell.Cell.{Cell}
+use Rattle.rb_cell.specs.declared.cell.TheConstants.{CELLS_AT, CELL_BYTES, LENGTH_AT, KEY_AT, HEAD_BYTES}
 
 -- the byte of its block at which cell c begins
 abbrev pub cell_place : ℕ → ℕ
-cell_place c = 416 + 92 * c
+cell_place c = CELLS_AT + CELL_BYTES * c
 
 -- a cell that can be written: its key and its value have room
 pub record IsCell (cell : Cell) : Type 0 where
   pub key_fits : cell.key < 2 ^ 64
-  pub short_value : length cell.value.items ≤ 80
+  pub short_value : length cell.value.items ≤ VALUE_BYTES
 
 -- the value filled up with zeros to 80 bytes
 abbrev pub padded : List ℕ → List ℕ
-padded value = value ++ replicate (80 - length value) 0
+padded value = value ++ replicate (VALUE_BYTES - length value) 0
 
 -- the 92 bytes of a cell: the state, the lock, the value's length, the key and the value
 abbrev pub cell_bytes : Cell → List ℕ
@@ -29,13 +31,17 @@ abbrev pub cell_of : List ℕ → Cell
 cell_of bytes = record {
   state = slice_index bytes 0;
   lock = slice_index bytes 1;
-  key = number_at bytes 4 8;
-  value = record { items = take (number_at bytes 2 2) (drop 12 bytes) };
+  key = number_at bytes KEY_AT 8;
+  value = record { items = take (number_at bytes LENGTH_AT 2) (drop HEAD_BYTES bytes) };
 }
 
 -- cell c of a block
 abbrev pub cell_at : List ℕ → ℕ → Cell
-cell_at block c = cell_of (part block (cell_place c) 92)
+cell_at block c = cell_of (part block (cell_place c) CELL_BYTES)
+
+-- the length of the value of cell c, which the block may say to be more than there is room for
+unfoldable pub value_length : List ℕ → ℕ → ℕ
+value_length block c = number_at block (cell_place c + LENGTH_AT) 2
 
 -- the patch of a whole cell
 abbrev pub cell_patch : ℕ → ℕ → Cell → Patch

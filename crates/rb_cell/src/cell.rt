@@ -3,6 +3,25 @@ ghost use Rattle.std.specs.Prelude.{◌≡◌, ◌<◌};
 ghost use Rattle.rb_cell.specs.Cells.{cell_place};
 
 use arrayvec::ArrayVec;
+use rb_base::VALUE_BYTES;
+
+/// The cells of a block.
+pub const CELLS: u8 = 16;
+
+/// The bytes of a cell.
+pub const CELL_BYTES: usize = 92;
+
+/// Where a block has its cells, behind its slot entries.
+pub const CELLS_AT: usize = 416;
+
+/// Where in its cell the length of a value stands.
+pub const LENGTH_AT: usize = 2;
+
+/// Where in its cell the key stands.
+pub const KEY_AT: usize = 4;
+
+/// The bytes of a cell in front of its value: the state, the lock, the value's length and the key.
+pub const HEAD_BYTES: usize = 12;
 
 /// The state of a cell that holds nothing.
 pub const EMPTY: u8 = 0;
@@ -12,12 +31,6 @@ pub const ROW: u8 = 1;
 
 /// The state of a cell whose row was deleted.
 pub const STUB: u8 = 2;
-
-/// The bytes of a cell.
-pub(crate) const CELL_BYTES: usize = 92;
-
-/// The bytes of a cell in front of its value: the state, the lock, the value's length and the key.
-pub(crate) const HEAD_BYTES: usize = 12;
 
 /// One of the 16 cells of a heap block. It has room for one row.
 #[derive(Debug, Drop)]
@@ -29,13 +42,13 @@ pub struct Cell {
     /// The key of the row that the cell holds or held.
     pub key: u64,
     /// The row's value, 0 to 80 bytes.
-    pub value: ArrayVec<u8, 80>,
+    pub value: ArrayVec<u8, VALUE_BYTES>,
 }
 
 /// The byte of its block at which cell `c` begins, 416 to 1,796.
 pub(crate) fn place_of(c: u8) -> u16
-    requires { c < 16 }
+    requires { c < CELLS }
     ensures { result ≡ cell_place c }
 {
-    416 + 92 * c as u16
+    (CELLS_AT + CELL_BYTES * c as usize) as u16
 }

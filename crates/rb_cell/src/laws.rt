@@ -5,33 +5,35 @@ ghost use Rattle.rb_base.specs.Fields.{part, AreApart};
 ghost use Rattle.rb_cell.specs.declared.cell.Cell.{Cell};
 ghost use Rattle.rb_cell.specs.Cells.{cell_place, cell_bytes, cell_at, IsCell, with_cell, with_lock, locked_by};
 
+use crate::cell::{CELL_BYTES, CELLS};
+use rb_base::UNIT;
+
 /// Where the bytes of a cell stand, that cell is read. A block that a cell is written to has that cell there, every
-/// other
-/// cell as before, and every byte outside of the cell's 92 as before.
+/// other cell as before, and every byte outside of the cell's 92 as before.
 pub fn cell_in_block()
     ensures read { (block : List ℕ) (c : ℕ) (cell : Cell) → IsCell cell
-        → part block (cell_place c) 92 ≡ cell_bytes cell → cell_at block c ≡ cell }
-    ensures length { (cell : Cell) → IsCell cell → length (cell_bytes cell) ≡ 92 }
-    ensures same { (block : List ℕ) (c : ℕ) (cell : Cell) → length block ≡ 2048 → c < 16 → IsCell cell
+        → part block (cell_place c) CELL_BYTES ≡ cell_bytes cell → cell_at block c ≡ cell }
+    ensures length { (cell : Cell) → IsCell cell → length (cell_bytes cell) ≡ CELL_BYTES }
+    ensures same { (block : List ℕ) (c : ℕ) (cell : Cell) → length block ≡ UNIT → c < CELLS → IsCell cell
         → cell_at (with_cell block c cell) c ≡ cell }
-    ensures others { (block : List ℕ) (c other : ℕ) (cell : Cell) → length block ≡ 2048 → c < 16
+    ensures others { (block : List ℕ) (c other : ℕ) (cell : Cell) → length block ≡ UNIT → c < CELLS
         → IsCell cell → other ≢ c → cell_at (with_cell block c cell) other ≡ cell_at block other }
-    ensures outside { (block : List ℕ) (c at count : ℕ) (cell : Cell) → length block ≡ 2048 → c < 16
-        → IsCell cell → AreApart at count (cell_place c) 92
+    ensures outside { (block : List ℕ) (c at count : ℕ) (cell : Cell) → length block ≡ UNIT → c < CELLS
+        → IsCell cell → AreApart at count (cell_place c) CELL_BYTES
         → part (with_cell block c cell) at count ≡ part block at count }
-    ensures size { (block : List ℕ) (c : ℕ) (cell : Cell) → length block ≡ 2048 → c < 16 → IsCell cell
-        → length (with_cell block c cell) ≡ 2048 }
+    ensures size { (block : List ℕ) (c : ℕ) (cell : Cell) → length block ≡ UNIT → c < CELLS → IsCell cell
+        → length (with_cell block c cell) ≡ UNIT }
 {}
 
 /// A block that a cell's lock is written to has the same cell with that lock there, every other cell as before, and
 /// every other byte as before.
 pub fn lock_in_block()
-    ensures same { (block : List ℕ) (c lock : ℕ) → length block ≡ 2048 → c < 16
+    ensures same { (block : List ℕ) (c lock : ℕ) → length block ≡ UNIT → c < CELLS
         → cell_at (with_lock block c lock) c ≡ locked_by (cell_at block c) lock }
-    ensures others { (block : List ℕ) (c other lock : ℕ) → length block ≡ 2048 → c < 16 → other ≢ c
+    ensures others { (block : List ℕ) (c other lock : ℕ) → length block ≡ UNIT → c < CELLS → other ≢ c
         → cell_at (with_lock block c lock) other ≡ cell_at block other }
-    ensures outside { (block : List ℕ) (c at count lock : ℕ) → length block ≡ 2048 → c < 16
+    ensures outside { (block : List ℕ) (c at count lock : ℕ) → length block ≡ UNIT → c < CELLS
         → AreApart at count (cell_place c + 1) 1 → part (with_lock block c lock) at count ≡ part block at count }
-    ensures size { (block : List ℕ) (c lock : ℕ) → length block ≡ 2048 → c < 16
-        → length (with_lock block c lock) ≡ 2048 }
+    ensures size { (block : List ℕ) (c lock : ℕ) → length block ≡ UNIT → c < CELLS
+        → length (with_lock block c lock) ≡ UNIT }
 {}

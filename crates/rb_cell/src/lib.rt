@@ -1,5 +1,4 @@
-//! The cells of a heap block, read from its bytes and written as patches. Each row of a table stands
-//! in one.
+//! The cells of a heap block, read from its bytes and written as patches. Each row of a table stands in one.
 #![tactic(auto)]
 
 mod cell;
@@ -7,7 +6,7 @@ mod laws;
 mod read;
 mod write;
 
-pub use cell::{Cell, EMPTY, ROW, STUB};
+pub use cell::{CELL_BYTES, CELLS, CELLS_AT, Cell, EMPTY, ROW, STUB};
 pub use laws::{cell_in_block, lock_in_block};
-pub use read::{CellFront, cells, front};
+pub use read::{CellFront, cells, front, value_length};
 pub use write::{put_cell, put_lock};

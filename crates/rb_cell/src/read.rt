@@ -1,14 +1,10 @@
 //! Reads the cells of a block. rb_heap, rb_sound, rb_write and the engine's opening call it.
 ghost use Rattle.std.specs.Prelude.{◌≡◌, ◌<◌, length};
 ghost use Rattle.rb_base.specs.Fields.{part};
-ghost use Rattle.rb_cell.specs.Cells.{cell_place, cell_of, cell_at, IsCell};
+ghost use Rattle.rb_cell.specs.Cells.{cell_place, cell_of, cell_at, value_length, IsCell};
 
-use crate::cell::{CELL_BYTES, Cell, HEAD_BYTES, place_of};
-use arrayvec::ArrayVec;
-use rb_base::{u16_at, u64_at};
-
-/// The most bytes of a value.
-const VALUE_BYTES: usize = 80;
+use crate::cell::{CELL_BYTES, CELLS, Cell, HEAD_BYTES, KEY_AT, LENGTH_AT, place_of};
+use rb_base::{UNIT, VALUE_BYTES, array_of, u16_at, u64_at};
 
 /// What a cell says but for its value, which isn't copied: enough to search cells by.
 #[derive(Clone, Copy, Debug, PartialEq, Eq)]
@@ -23,7 +19,7 @@ pub struct CellFront {
 
 /// The front of the cell that 92 bytes say.
 fn read_front(bytes: &[u8]) -> CellFront
-    requires { length bytes.now ≡ 92 }
+    requires { length bytes.now ≡ CELL_BYTES }
     ensures state { result.state ≡ (cell_of bytes.now).state }
     ensures lock { result.lock ≡ (cell_of bytes.now).lock }
     ensures key { result.key ≡ (cell_of bytes.now).key }
@@ -31,46 +27,41 @@ fn read_front(bytes: &[u8]) -> CellFront
     CellFront {
         state: bytes[0],
         lock: bytes[1],
-        key: u64_at(bytes, 4),
+        key: u64_at(bytes, KEY_AT),
     }
 }
 
 /// The cell that 92 bytes say.
 fn read_cell(bytes: &[u8]) -> Cell
-    requires { length bytes.now ≡ 92 }
+    requires { length bytes.now ≡ CELL_BYTES }
     ensures { result ≡ cell_of bytes.now }
 {
     let front = read_front(bytes);
-    let length = u16_at(bytes, 2) as usize;
-    let own = &bytes[HEAD_BYTES..HEAD_BYTES + length.min(VALUE_BYTES)];
-    let mut value = ArrayVec::new();
-    if value.try_extend_from_slice(own).is_err() {
-        unreachable!()
-    }
+    let length = u16_at(bytes, LENGTH_AT) as usize;
     Cell {
         state: front.state,
         lock: front.lock,
         key: front.key,
-        value,
+        value: array_of(&bytes[HEAD_BYTES..HEAD_BYTES + length.min(VALUE_BYTES)]),
     }
 }
 
 /// The bytes of cell `c`, 0 to 15.
 fn bytes_at(block: &[u8], c: u8) -> &[u8]
-    requires length { length block.now ≡ 2048 }
-    requires within { c < 16 }
-    ensures part { result.now ≡ part block.now (cell_place c) 92 }
-    ensures count { length result.now ≡ 92 }
+    requires length { length block.now ≡ UNIT }
+    requires within { c < CELLS }
+    ensures part { result.now ≡ part block.now (cell_place c) CELL_BYTES }
+    ensures count { length result.now ≡ CELL_BYTES }
 {
     let at = place_of(c) as usize;
     &block[at..at + CELL_BYTES]
 }
 
-/// Cell `c`, 0 to 15, of a block of 2,048 bytes, whatever they are. Where the length says more than 80, all 80 bytes
-/// are the value.
+/// Cell `c`, 0 to 15, of a block of 2,048 bytes, whatever they are. Where the length says more than 80, the value is
+/// all 80 bytes.
 pub fn cells(block: &[u8], c: u8) -> Cell
-    requires length { length block.now ≡ 2048 }
-    requires within { c < 16 }
+    requires length { length block.now ≡ UNIT }
+    requires within { c < CELLS }
     ensures cell { result ≡ cell_at block.now c }
     ensures sound { IsCell result }
 {
@@ -80,11 +71,21 @@ pub fn cells(block: &[u8], c: u8) -> Cell
 /// The state, the lock and the key of cell `c`, 0 to 15, of a block of 2,048 bytes, whatever they are. The value isn't
 /// looked at.
 pub fn front(block: &[u8], c: u8) -> CellFront
-    requires length { length block.now ≡ 2048 }
-    requires within { c < 16 }
+    requires length { length block.now ≡ UNIT }
+    requires within { c < CELLS }
     ensures state { result.state ≡ (cell_at block.now c).state }
     ensures lock { result.lock ≡ (cell_at block.now c).lock }
     ensures key { result.key ≡ (cell_at block.now c).key }
 {
     read_front(bytes_at(block, c))
+}
+
+/// The length of the value of cell `c`, 0 to 15, as the block says it. It may be more than there is room for.
+#[tactic(auto, unfolding(crate::specs::Cells::value_length))]
+pub fn value_length(block: &[u8], c: u8) -> u16
+    requires length { length block.now ≡ UNIT }
+    requires within { c < CELLS }
+    ensures { result ≡ value_length block.now c }
+{
+    u16_at(block, place_of(c) as usize + LENGTH_AT)
 }

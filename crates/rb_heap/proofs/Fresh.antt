@@ -29,11 +29,15 @@ empty_behind head long =
     fill_by_all (cell_at block) (replicate 16 empty_cell) 16 empty_cell refl (λ k lt. get_or-replicate 16 k empty_cell empty_cell lt ∙ sym (ap cell_of (zeros_behind head (cell_place k) 92 long (omega arith) (omega arith)))) in
     rw (← entries, ← cells) refl
 
-of_rows : (shape : Shape) (which : ℕ) → which < table_blocks shape → block_kind shape which ≡ 1
+-- a block of the tables is one of rows
+pub of_rows : (shape : Shape) (which : ℕ) → which < table_blocks shape → block_kind shape which ≡ 1
 of_rows shape which lt = ap (λ (b : Bool). if b then 1 else if (which - table_blocks shape) % 33 == 0 then 2 else 3) (lt-ltb which (table_blocks shape) lt)
 
 pub fresh_empty : (shape : Shape) (which : ℕ) → which < table_blocks shape → home_of (fresh_block shape which) ≡ empty_home
 fresh_empty shape which lt = ap (λ (kind : ℕ). home_of (fresh_head kind which ++ fresh_rest kind)) (of_rows shape which lt) ∙ empty_behind (fresh_head 1 which) refl
 
+pub new_block : (shape : Shape) (which : ℕ) → which < shape_blocks shape → block_of (fresh_blocks shape) which ≡ fresh_block shape which
+new_block shape which lt = fresh_at shape 0 (shape_blocks shape) which lt ∙ ap (fresh_block shape) (omega arith)
+
 pub new_empty : (shape : Shape) (which : ℕ) → which < table_blocks shape → home_of (block_of (fresh_blocks shape) which) ≡ empty_home
-new_empty shape which lt = ap home_of (fresh_at shape 0 (shape_blocks shape) which (omega arith) ∙ ap (fresh_block shape) (omega arith)) ∙ fresh_empty shape which lt
+new_empty shape which lt = ap home_of (new_block shape which (omega arith)) ∙ fresh_empty shape which lt

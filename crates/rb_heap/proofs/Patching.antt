@@ -1,12 +1,9 @@
 -- What a patch makes of a block's home, and of the head in front.
 use Rattle.std.proofs.Common.{◌≡◌, ◌≢◌, ℕ, ◌+◌, ◌^◌, ◌<◌, ◌≤◌, List, length, drop, refl, arith, ap, sym, ◌∙◌, inl, inr, slice_index, slice_set}
-use Rattle.byteorder.specs.Endian.{big_bytes}
-use Rattle.byteorder.specs.Numbers.{big_number-reads_back}
 use Rattle.rb_base.specs.Blocks.{patched}
-use Rattle.rb_base.specs.Fields.{part, number_at, overwritten, with_number}
+use Rattle.rb_base.specs.Fields.{number_at, with_number}
 use Rattle.rb_base.specs.Groups.{Patch, IsPatch}
-use Rattle.rb_base.proofs.Fronts.{number_of_part, byte_of_part}
-use Rattle.rb_base.proofs.Overwriting.{length-overwritten, part_apart}
+use Rattle.rb_txntable.proofs.Patched.{behind_number, number_kept, byte_kept}
 use Rattle.rb_cell.specs.declared.cell.Cell.{Cell}
 use Rattle.rb_cell.specs.Cells.{cell_place, cell_of, cell_at, cell_patch, lock_patch, with_cell, with_lock, locked_by, IsCell}
 use Rattle.rb_cell.proofs.CellBytes.{cell_there, cell_others, cell_outside, cell_size, lock_there, lock_others, lock_outside, lock_size}
@@ -40,9 +37,6 @@ unfolding home_of
 set_cells one other c cell few there others = listed_set (cell_at one) (cell_at other) 16 c cell empty_cell few there others
 
 -- the log number in front is no part of the home
-behind_number : (block : List ℕ) (number at count : ℕ) → length block ≡ 2048 → 8 ≤ at → part (with_number block 0 8 number) at count ≡ part block at count
-behind_number block number at count long behind = part_apart block 0 (big_bytes 8 number) at count 8 (omega (arith, long)) refl (inr behind)
-
 numbered : (block : List ℕ) (number : ℕ) → length block ≡ 2048 → home_of (with_number block 0 8 number) ≡ home_of block
 numbered block number long =
     let after = with_number block 0 8 number in
@@ -81,26 +75,10 @@ lock_patched block number which c lock long few = numbered (with_lock block c lo
 pub entry_patched : (block : List ℕ) (number which i : ℕ) (entry : Entry) → length block ≡ 2048 → i < 8 → IsEntry entry → home_of (patched number (entry_patch which i entry) block) ≡ with_home_entry (home_of block) i entry
 entry_patched block number which i entry long few sound = numbered (with_entry block i entry) number (length_kept block i entry long few) ∙ entry_written block i entry long few sound
 
-pub number_patched : (block : List ℕ) (number : ℕ) (p : Patch) → number < 2 ^ 64 → number_at (patched number p block) 0 8 ≡ number
-number_patched block number p fits = big_number-reads_back 8 number (drop 8 (overwritten block p.at p.bytes)) fits
+-- a patch leaves the head behind the number
+module _ (block : List ℕ) (number : ℕ) (p : Patch) (long : length block ≡ 2048) (is : IsPatch p) where
+  pub kind_patched : slice_index (patched number p block) 8 ≡ slice_index block 8
+  kind_patched = byte_kept block number (length p.bytes) p long is.within_block refl 8 (omega arith) (inl (omega (arith, is.behind_head)))
 
--- the head behind the number
-head_patched : (block : List ℕ) (number at count : ℕ) (p : Patch) → length block ≡ 2048 → IsPatch p → 8 ≤ at → at + count ≤ 32 → part (patched number p block) at count ≡ part block at count
-head_patched block number at count p long sound behind within =
-    let inside = sound.within_block in
-    let before = sound.behind_head in
-    let size = length-overwritten block p.at p.bytes (omega (arith, long, inside)) in
-    behind_number (overwritten block p.at p.bytes) number at count (size ∙ long) behind
-    ∙ part_apart block p.at p.bytes at count (length p.bytes) (omega (arith, long, inside)) refl (inl (omega (arith, within, before)))
-
-pub kind_patched : (block : List ℕ) (number : ℕ) (p : Patch) → length block ≡ 2048 → IsPatch p → slice_index (patched number p block) 8 ≡ slice_index block 8
-kind_patched block number p long sound =
-    sym (byte_of_part (patched number p block) 8 1 (omega arith))
-    ∙ ap (λ (l : List ℕ). slice_index l 0) (head_patched block number 8 1 p long sound (omega arith) (omega arith))
-    ∙ byte_of_part block 8 1 (omega arith)
-
-pub own_patched : (block : List ℕ) (number : ℕ) (p : Patch) → length block ≡ 2048 → IsPatch p → number_at (patched number p block) 12 4 ≡ number_at block 12 4
-own_patched block number p long sound =
-    sym (number_of_part (patched number p block) 12 4)
-    ∙ ap (λ (l : List ℕ). number_at l 0 4) (head_patched block number 12 4 p long sound (omega arith) (omega arith))
-    ∙ number_of_part block 12 4
+  pub own_patched : number_at (patched number p block) 12 4 ≡ number_at block 12 4
+  own_patched = number_kept block number (length p.bytes) p long is.within_block refl 12 4 (omega arith) (inl (omega (arith, is.behind_head)))

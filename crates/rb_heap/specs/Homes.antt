@@ -1,15 +1,15 @@
 -- A heap block's bytes as one value, its home: eight slot entries and sixteen cells. What stands on heap blocks speaks
--- of
--- homes.
+-- of homes.
 use Rattle.std.specs.Prelude.{◌≡◌, ℕ, ◌<◌, Bool, false, true, not, ◌&&◌, ◌||◌, ◌==◌}
 use Rattle.std.specs.Prelude.{if◌then◌else◌, List, [], ◌∷◌, length, map, replicate, slice_index_or}
 use Rattle.std.specs.Prelude.{slice_set}
 use Rattle.std.specs.List.{All, flat_map, range_with_len}
 use Rattle.rb_base.specs.Groups.{Patch, patch}
 use Rattle.rb_cell.specs.declared.cell.Cell.{Cell}
-use Rattle.rb_cell.specs.declared.cell.TheConstants.{EMPTY, ROW, STUB}
+use Rattle.rb_cell.specs.declared.cell.TheConstants.{CELLS, EMPTY, ROW, STUB}
 use Rattle.rb_cell.specs.Cells.{cell_at, cell_patch, locked_by, IsCell}
 use Rattle.rb_itl.specs.declared.slots.Entry.{Entry}
+use Rattle.rb_itl.specs.declared.slots.TheConstants.{ENTRIES}
 use Rattle.rb_itl.specs.Entries.{entry_place, entry_bytes, entry_at, free_entry, IsEntry}
 
 pub record Home : Type 0 where
@@ -19,9 +19,8 @@ pub record Home : Type 0 where
 -- what a block's bytes say of its eight entries and its sixteen cells
 unfoldable pub home_of : List ℕ → Home
 home_of block = record {
-  entries = map (entry_at block) (range_with_len 0 8);
-  cells = map (cell_at block)
-      (range_with_len 0 16);
+  entries = map (entry_at block) (range_with_len 0 ENTRIES);
+  cells = map (cell_at block) (range_with_len 0 CELLS);
 }
 
 -- the cell that holds nothing, and has never held a row
@@ -30,7 +29,7 @@ empty_cell = record { state = EMPTY; lock = 0; key = 0; value = record { items =
 
 -- the home of a block that no group has patched
 abbrev pub empty_home : Home
-empty_home = record { entries = replicate 8 free_entry; cells = replicate 16 empty_cell }
+empty_home = record { entries = replicate ENTRIES free_entry; cells = replicate CELLS empty_cell }
 
 -- entry i of a home, and cell c
 abbrev pub home_entry : Home → ℕ → Entry
@@ -51,8 +50,8 @@ with_home_lock home c lock = with_home_cell home c (locked_by (home_cell home c)
 
 -- as many entries and cells as a block has, each of which can be written
 pub record IsHome (home : Home) : Type 0 where
-  pub entry_count : length home.entries ≡ 8
-  pub cell_count : length home.cells ≡ 16
+  pub entry_count : length home.entries ≡ ENTRIES
+  pub cell_count : length home.cells ≡ CELLS
   pub entries : All IsEntry home.entries
   pub cells : All IsCell home.cells
 
@@ -66,13 +65,13 @@ is_free cell = (cell.state == EMPTY) || ((cell.state == STUB) && (cell.lock == 0
 
 -- cell c passes the test, and none before it does
 pub record IsFirst (test : Cell → Bool) (cells : List Cell) (c : ℕ) : Type 0 where
-  pub within : c < 16
+  pub within : c < CELLS
   pub passes : test (slice_index_or cells c empty_cell) ≡ true
   pub lower : (k : ℕ) → k < c → test (slice_index_or cells k empty_cell) ≡ false
 
 -- none of the cells passes the test
 abbrev pub IsNowhere : (Cell → Bool) → List Cell → Type 0
-IsNowhere test cells = (k : ℕ) → k < 16 → test (slice_index_or cells k empty_cell) ≡ false
+IsNowhere test cells = (k : ℕ) → k < CELLS → test (slice_index_or cells k empty_cell) ≡ false
 
 -- the patch of an entry
 abbrev pub entry_patch : ℕ → ℕ → Entry → Patch

@@ -15,12 +15,16 @@ ghost use Rattle.rb_heap.specs.Homes.{Home, home_of, empty_home, home_entry, hom
 ghost use Rattle.rb_heap.specs.Homes.{with_home_entry, with_home_cell, with_home_lock, is_keyed, entry_patch};
 ghost use Rattle.rb_heap.specs.Homes.{home_patches, IsHome, IsFirst, IsNowhere};
 
+use rb_base::UNIT;
+use rb_cell::CELLS;
+use rb_itl::ENTRIES;
+
 /// What a block's bytes say, at each place. A block of rows of a new file says nothing.
 pub fn home_read()
-    ensures entry_count { (block : List ℕ) → length (home_of block).entries ≡ 8 }
-    ensures cell_count { (block : List ℕ) → length (home_of block).cells ≡ 16 }
-    ensures entry { (block : List ℕ) (i : ℕ) → i < 8 → home_entry (home_of block) i ≡ entry_at block i }
-    ensures cell { (block : List ℕ) (c : ℕ) → c < 16 → home_cell (home_of block) c ≡ cell_at block c }
+    ensures entry_count { (block : List ℕ) → length (home_of block).entries ≡ ENTRIES }
+    ensures cell_count { (block : List ℕ) → length (home_of block).cells ≡ CELLS }
+    ensures entry { (block : List ℕ) (i : ℕ) → i < ENTRIES → home_entry (home_of block) i ≡ entry_at block i }
+    ensures cell { (block : List ℕ) (c : ℕ) → c < CELLS → home_cell (home_of block) c ≡ cell_at block c }
     ensures sound { (block : List ℕ) → All (λ b. b < 256) block → IsHome (home_of block) }
     ensures fresh { (shape : Shape) (which : ℕ) → which < table_blocks shape
         → home_of (fresh_block shape which) ≡ empty_home }
@@ -30,12 +34,12 @@ pub fn home_read()
 
 /// A block that was patched by a cell, a lock or an entry has a home with that one, and is else as before.
 pub fn home_patched()
-    ensures cell { (block : List ℕ) (number which c : ℕ) (cell : Cell) → length block ≡ 2048 → c < 16
+    ensures cell { (block : List ℕ) (number which c : ℕ) (cell : Cell) → length block ≡ UNIT → c < CELLS
         → IsCell cell → home_of (patched number (cell_patch which c cell) block)
         ≡ with_home_cell (home_of block) c cell }
-    ensures lock { (block : List ℕ) (number which c lock : ℕ) → length block ≡ 2048 → c < 16
+    ensures lock { (block : List ℕ) (number which c lock : ℕ) → length block ≡ UNIT → c < CELLS
         → home_of (patched number (lock_patch which c lock) block) ≡ with_home_lock (home_of block) c lock }
-    ensures entry { (block : List ℕ) (number which i : ℕ) (entry : Entry) → length block ≡ 2048 → i < 8
+    ensures entry { (block : List ℕ) (number which i : ℕ) (entry : Entry) → length block ≡ UNIT → i < 8
         → IsEntry entry → home_of (patched number (entry_patch which i entry) block)
         ≡ with_home_entry (home_of block) i entry }
 {}
@@ -43,17 +47,17 @@ pub fn home_patched()
 /// A patch leaves its block's length, kind and own number, and puts the group's log number in front. Those of cells,
 /// locks and entries are patches of their block.
 pub fn head_patched()
-    ensures size { (block : List ℕ) (number : ℕ) (p : Patch) → length block ≡ 2048 → IsPatch p
-        → length (patched number p block) ≡ 2048 }
+    ensures size { (block : List ℕ) (number : ℕ) (p : Patch) → length block ≡ UNIT → IsPatch p
+        → length (patched number p block) ≡ UNIT }
     ensures number { (block : List ℕ) (number : ℕ) (p : Patch) → number < 2 ^ 64
         → number_at (patched number p block) 0 8 ≡ number }
-    ensures kind { (block : List ℕ) (number : ℕ) (p : Patch) → length block ≡ 2048 → IsPatch p
+    ensures kind { (block : List ℕ) (number : ℕ) (p : Patch) → length block ≡ UNIT → IsPatch p
         → slice_index (patched number p block) 8 ≡ slice_index block 8 }
-    ensures own { (block : List ℕ) (number : ℕ) (p : Patch) → length block ≡ 2048 → IsPatch p
+    ensures own { (block : List ℕ) (number : ℕ) (p : Patch) → length block ≡ UNIT → IsPatch p
         → number_at (patched number p block) 12 4 ≡ number_at block 12 4 }
-    ensures cell { (which c : ℕ) (cell : Cell) → which < 2 ^ 32 → c < 16 → IsCell cell
+    ensures cell { (which c : ℕ) (cell : Cell) → which < 2 ^ 32 → c < CELLS → IsCell cell
         → IsPatch (cell_patch which c cell) }
-    ensures lock { (which c lock : ℕ) → which < 2 ^ 32 → c < 16 → IsPatch (lock_patch which c lock) }
+    ensures lock { (which c lock : ℕ) → which < 2 ^ 32 → c < CELLS → IsPatch (lock_patch which c lock) }
     ensures entry { (which i : ℕ) (entry : Entry) → which < 2 ^ 32 → i < 8
         → IsPatch (entry_patch which i entry) }
 {}
@@ -62,19 +66,19 @@ pub fn head_patched()
 /// that no patch of a group is of is the same after it, and the file's blocks stay in number and in size.
 pub fn home_changed()
     ensures change { (shape : Shape) (blocks : List (List ℕ)) (number which c i : ℕ) (cell : Cell) (entry : Entry)
-        → AreBlocks shape blocks → which < shape_blocks shape → c < 16 → i < 8 → IsCell cell → IsEntry entry
-        → home_of (block_of (after_group number (home_patches which c cell i entry) blocks) which)
+        → AreBlocks shape blocks → which < shape_blocks shape → c < CELLS → i < ENTRIES → IsCell cell
+        → IsEntry entry → home_of (block_of (after_group number (home_patches which c cell i entry) blocks) which)
         ≡ with_home_entry (with_home_cell (home_of (block_of blocks which)) c cell) i entry }
     ensures cell { (shape : Shape) (blocks : List (List ℕ)) (number which c : ℕ) (cell : Cell)
-        → AreBlocks shape blocks → which < shape_blocks shape → c < 16 → IsCell cell
+        → AreBlocks shape blocks → which < shape_blocks shape → c < CELLS → IsCell cell
         → home_of (block_of (after_group number (cell_patch which c cell ∷ []) blocks) which)
         ≡ with_home_cell (home_of (block_of blocks which)) c cell }
     ensures lock { (shape : Shape) (blocks : List (List ℕ)) (number which c lock : ℕ) → AreBlocks shape blocks
-        → which < shape_blocks shape → c < 16
+        → which < shape_blocks shape → c < CELLS
         → home_of (block_of (after_group number (lock_patch which c lock ∷ []) blocks) which)
         ≡ with_home_lock (home_of (block_of blocks which)) c lock }
     ensures entry { (shape : Shape) (blocks : List (List ℕ)) (number which i : ℕ) (entry : Entry)
-        → AreBlocks shape blocks → which < shape_blocks shape → i < 8 → IsEntry entry
+        → AreBlocks shape blocks → which < shape_blocks shape → i < ENTRIES → IsEntry entry
         → home_of (block_of (after_group number (entry_patch which i entry ∷ []) blocks) which)
         ≡ with_home_entry (home_of (block_of blocks which)) i entry }
     ensures others { (number other : ℕ) (group : List Patch) (blocks : List (List ℕ))
@@ -101,8 +105,7 @@ pub fn home_searched()
 {}
 
 /// The rows of a home: an empty one has none, a cell that is set takes its old row's place with its own, where no cell
-/// is
-/// found by a key no row has it, and neither a lock nor an entry matters.
+/// is found by a key no row has it, and neither a lock nor an entry matters.
 pub fn home_listed()
     ensures empty { home_rows empty_home ≡ [] }
     ensures at_cell { (home : Home) (c : ℕ) → c < length home.cells
@@ -111,8 +114,8 @@ pub fn home_listed()
     ensures with_cell { (home : Home) (c : ℕ) (cell : Cell) → c < length home.cells
         → home_rows (with_home_cell home c cell) ≡ rows_in (take c home.cells) ++ row_in cell
         ++ rows_in (drop (c + 1) home.cells) }
-    ensures none_keyed { (home : Home) (key : ℕ) → length home.cells ≡ 16 → IsNowhere (is_keyed key) home.cells
-        → All (λ row. row.key ≢ key) (home_rows home) }
+    ensures none_keyed { (home : Home) (key : ℕ) → length home.cells ≡ CELLS
+        → IsNowhere (is_keyed key) home.cells → All (λ row. row.key ≢ key) (home_rows home) }
     ensures with_lock { (home : Home) (c lock : ℕ) → home_rows (with_home_lock home c lock) ≡ home_rows home }
     ensures with_entry { (home : Home) (i : ℕ) (entry : Entry)
         → home_rows (with_home_entry home i entry) ≡ home_rows home }

@@ -1,6 +1,5 @@
 //! The homes of a heap block: what its bytes say of its slot entries and its cells, which cell has a key, which is
-//! free,
-//! and what patches make of them. What stands above reasons about homes and never about bytes.
+//! free, and what patches make of them. What stands above reasons about homes and never about bytes.
 #![tactic(auto)]
 
 mod laws;

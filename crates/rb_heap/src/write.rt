@@ -5,12 +5,12 @@ ghost use Rattle.rb_cell.specs.Cells.{IsCell};
 ghost use Rattle.rb_itl.specs.Entries.{IsEntry};
 ghost use Rattle.rb_heap.specs.Homes.{home_patches};
 
-use rb_base::{BlockNo, Group};
-use rb_cell::{Cell, put_cell};
-use rb_itl::{Entry, put_entry};
+use rb_base::{BlockNo, GROUP_BYTES, GROUP_PATCHES, Group};
+use rb_cell::{CELL_BYTES, CELLS, Cell, put_cell};
+use rb_itl::{ENTRIES, ENTRY_BYTES, Entry, put_entry};
 
-/// The entry as it is. By value its fields are known to be numbers of their types, and who reads the patch asks for
-/// that.
+/// The entry as it is.
+// For the proof: a field that is read is a number of its type, and so is each of what is passed by value.
 fn in_range(entry: Entry) -> Entry
     ensures same { result ≡ entry }
     ensures sound { IsEntry entry }
@@ -21,10 +21,10 @@ fn in_range(entry: Entry) -> Entry
 /// Puts two patches at the end of the group, the cell's and then the entry's: the cell goes to place `c`, 0 to 15, and
 /// the entry to place `i`, 0 to 7, of block `no`.
 pub fn change(group: &mut Group, no: BlockNo, c: u8, cell: &Cell, i: u8, entry: &Entry)
-    requires cell_within { c < 16 }
-    requires entry_within { i < 8 }
-    requires count { length group.old + 2 ≤ 40 }
-    requires room { group_length group.old + (8 + 92) + (8 + 48) ≤ 2000 }
+    requires cell_within { c < CELLS }
+    requires entry_within { i < ENTRIES }
+    requires count { length group.old + 2 ≤ GROUP_PATCHES }
+    requires room { group_length group.old + (8 + CELL_BYTES) + (8 + ENTRY_BYTES) ≤ GROUP_BYTES }
     ensures patches { group.new ≡ group.old ++ home_patches no c cell.now i entry.now }
     ensures cell_sound { IsCell cell.now }
     ensures entry_sound { IsEntry entry.now }

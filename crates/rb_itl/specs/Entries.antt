@@ -5,11 +5,13 @@ use Rattle.byteorder.specs.Endian.{big_bytes}
 use Rattle.rb_base.specs.Fields.{part, number_at, overwritten}
 use Rattle.rb_base.specs.declared.ids.Uba.{Uba}
 use Rattle.rb_base.specs.declared.ids.Xid.{Xid}
+use Rattle.rb_base.specs.declared.sizes.TheConstants.{BLOCK_HEAD, UNIT}
 use Rattle.rb_itl.specs.declared.slots.Entry.{Entry}
+use Rattle.rb_itl.specs.declared.slots.TheConstants.{ENTRIES, ENTRY_BYTES}
 
 -- the first byte of entry i in its block
 abbrev pub entry_place : ℕ → ℕ
-entry_place i = 32 + 48 * i
+entry_place i = BLOCK_HEAD + ENTRY_BYTES * i
 
 abbrev pub xid_bytes : Xid → List ℕ
 xid_bytes x = big_bytes 2 x.seg ++ big_bytes 2 x.slot ++ big_bytes 8 x.wrap
@@ -35,7 +37,7 @@ entry_of bytes = record {
 
 -- what a block's bytes say of entry i
 abbrev pub entry_at : List ℕ → ℕ → Entry
-entry_at block i = entry_of (part block (entry_place i) 48)
+entry_at block i = entry_of (part block (entry_place i) ENTRY_BYTES)
 
 -- the block with an entry at place i
 abbrev pub with_entry : List ℕ → ℕ → Entry → List ℕ
@@ -68,30 +70,30 @@ free_entry = record {
 }
 
 abbrev pub IsFreeEmpty : Type 0
-IsFreeEmpty = entry_bytes free_entry ≡ replicate 48 0
+IsFreeEmpty = entry_bytes free_entry ≡ replicate ENTRY_BYTES 0
 
 -- an entry that was written is read at its place
 abbrev pub ReadsOwn : Type 0
-ReadsOwn = (block : List ℕ) (i : ℕ) (e : Entry) → length block ≡ 2048 → i < 8 → IsEntry e
+ReadsOwn = (block : List ℕ) (i : ℕ) (e : Entry) → length block ≡ UNIT → i < ENTRIES → IsEntry e
     → entry_at (with_entry block i e) i ≡ e
 
 -- every other entry is read as before
 abbrev pub KeepsOthers : Type 0
-KeepsOthers = (block : List ℕ) (i j : ℕ) (e : Entry) → length block ≡ 2048 → i < 8 → j < 8 → j ≢ i
-    → entry_at (with_entry block i e) j ≡ entry_at block j
+KeepsOthers = (block : List ℕ) (i j : ℕ) (e : Entry) → length block ≡ UNIT → i < ENTRIES → j < ENTRIES
+    → j ≢ i → entry_at (with_entry block i e) j ≡ entry_at block j
 
 -- every part of the block before the entry's 48 bytes or behind them is as it was
 abbrev pub KeepsOutside : Type 0
 KeepsOutside =
-    (block : List ℕ) (i at count : ℕ) (e : Entry) → length block ≡ 2048 → i < 8
-    → (at + count ≤ entry_place i) ⊎ (entry_place i + 48 ≤ at)
+    (block : List ℕ) (i at count : ℕ) (e : Entry) → length block ≡ UNIT → i < ENTRIES
+    → (at + count ≤ entry_place i) ⊎ (entry_place i + ENTRY_BYTES ≤ at)
     → part (with_entry block i e) at count ≡ part block at count
 
 -- so is all behind the eight entries
 abbrev pub KeepsCells : Type 0
-KeepsCells = (block : List ℕ) (i : ℕ) (e : Entry) → length block ≡ 2048 → i < 8
-    → drop 416 (with_entry block i e) ≡ drop 416 block
+KeepsCells = (block : List ℕ) (i : ℕ) (e : Entry) → length block ≡ UNIT → i < ENTRIES
+    → drop (entry_place ENTRIES) (with_entry block i e) ≡ drop (entry_place ENTRIES) block
 
 abbrev pub KeepsLength : Type 0
-KeepsLength = (block : List ℕ) (i : ℕ) (e : Entry) → length block ≡ 2048 → i < 8
-    → length (with_entry block i e) ≡ 2048
+KeepsLength = (block : List ℕ) (i : ℕ) (e : Entry) → length block ≡ UNIT → i < ENTRIES
+    → length (with_entry block i e) ≡ UNIT

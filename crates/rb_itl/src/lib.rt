@@ -9,5 +9,5 @@ mod write;
 
 pub use laws::entries_apart;
 pub use read::entry;
-pub use slots::{BOUND, EXACT, Entry, FREE, OPEN};
+pub use slots::{BOUND, CHAIN_RECORDS, ENTRIES, ENTRY_BYTES, EXACT, Entry, FREE, OPEN};
 pub use write::put_entry;

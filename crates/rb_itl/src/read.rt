@@ -2,16 +2,16 @@
 ghost use Rattle.std.specs.Prelude.{◌≡◌, ◌<◌, length};
 ghost use Rattle.rb_itl.specs.Entries.{entry_at};
 
-use crate::slots::{ENTRY_BYTES, Entry, HEAD_BYTES};
-use rb_base::{Uba, Xid, u16_at, u32_at, u64_at};
+use crate::slots::{ENTRIES, ENTRY_BYTES, Entry};
+use rb_base::{BLOCK_HEAD, UNIT, Uba, Xid, u16_at, u32_at, u64_at};
 
 /// The entry at place `i`, 0 to 7, of a block of 2,048 bytes. Bytes that have no meaning in an entry aren't looked at.
 pub fn entry(block: &[u8], i: u8) -> Entry
-    requires block { length block.now ≡ 2048 }
-    requires place { i < 8 }
+    requires block { length block.now ≡ UNIT }
+    requires place { i < ENTRIES }
     ensures { result ≡ entry_at block.now i }
 {
-    let place = HEAD_BYTES + ENTRY_BYTES * i as usize;
+    let place = BLOCK_HEAD + ENTRY_BYTES * i as usize;
     let bytes = &block[place..place + ENTRY_BYTES];
     Entry {
         kind: bytes[0],

@@ -1,11 +1,14 @@
 //! What a slot entry says. Readers and writers of heap blocks use it.
 use rb_base::{Uba, Xid};
 
-/// The bytes in front of a block's entries.
-pub(crate) const HEAD_BYTES: usize = 32;
+/// The slot entries of a block. They stand behind its head.
+pub const ENTRIES: u8 = 8;
 
 /// The bytes of an entry.
-pub(crate) const ENTRY_BYTES: usize = 48;
+pub const ENTRY_BYTES: usize = 48;
+
+/// The most undo records that a transaction has for a block.
+pub const CHAIN_RECORDS: u32 = 320;
 
 /// The kind of an entry of no transaction.
 pub const FREE: u8 = 0;

@@ -3,11 +3,11 @@ ghost use Rattle.std.specs.Prelude.{◌≡◌, ◌+◌, ◌<◌, ◌≤◌, [], 
 ghost use Rattle.rb_base.specs.Groups.{patch, group_length};
 ghost use Rattle.rb_itl.specs.Entries.{entry_place, entry_bytes};
 
-use crate::slots::{ENTRY_BYTES, Entry, HEAD_BYTES};
-use rb_base::{BlockNo, Group, put_u16, put_u32, put_u64};
+use crate::slots::{ENTRIES, ENTRY_BYTES, Entry};
+use rb_base::{BLOCK_HEAD, BlockNo, GROUP_BYTES, GROUP_PATCHES, Group, put_u16, put_u32, put_u64};
 
 /// The bytes of an entry. Those that have no meaning are 0.
-fn spelled(entry: &Entry) -> [u8; 48]
+fn spelled(entry: &Entry) -> [u8; ENTRY_BYTES]
     ensures { result ≡ entry_bytes entry.now }
 {
     let mut bytes = [0; ENTRY_BYTES];
@@ -25,11 +25,11 @@ fn spelled(entry: &Entry) -> [u8; 48]
 
 /// Puts one more patch at the end of the group: the entry goes to place `i`, 0 to 7, of block `no`.
 pub fn put_entry(group: &mut Group, no: BlockNo, i: u8, entry: &Entry)
-    requires place { i < 8 }
-    requires count { length group.old < 40 }
-    requires room { group_length group.old + (8 + 48) ≤ 2000 }
+    requires place { i < ENTRIES }
+    requires count { length group.old < GROUP_PATCHES }
+    requires room { group_length group.old + (8 + ENTRY_BYTES) ≤ GROUP_BYTES }
     ensures { group.new ≡ group.old ++ patch no (entry_place i) (entry_bytes entry.now) ∷ [] }
 {
-    let at = HEAD_BYTES + ENTRY_BYTES * i as usize;
+    let at = BLOCK_HEAD + ENTRY_BYTES * i as usize;
     group.push(no, at as u16, &spelled(entry));
 }

@@ -13,7 +13,7 @@ use Rattle.rb_ring.specs.Ring.{extent_place, extent_ord, extent_newest, head_ext
 use Rattle.rb_txntable.specs.Slots.{slot_place, slot_state, slot_wrap, slot_newest, slot_before}
 use Rattle.rb_segment.specs.Segments.{commit_lsn, commit_scn, scn_patch}
 use Rattle.rb_segment.proofs.Numbers.{commit_above, commit_least}
-use Rattle.rb_segment.proofs.Patched.{number_patched, number_kept, byte_kept, part_there, block_there, block_elsewhere}
+use Rattle.rb_txntable.proofs.Patched.{number_patched, number_kept, byte_kept, part_there, block_there, block_elsewhere}
 
 -- one header is another one but for the newest number of its first table slot
 pub record HasNewest (header now : List ℕ) (newest : ℕ) : Type 0 where

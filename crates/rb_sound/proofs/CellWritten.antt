@@ -11,19 +11,19 @@ use Rattle.rb_itl.specs.declared.slots.Entry.{Entry}
 use Rattle.rb_itl.specs.declared.slots.TheConstants.{FREE}
 use Rattle.rb_itl.specs.Entries.{entry_place, entry_of, entry_at}
 use Rattle.rb_cell.specs.declared.cell.Cell.{Cell}
-use Rattle.rb_cell.specs.Cells.{cell_place, padded, cell_of, cell_at, cell_patch, IsCell}
+use Rattle.rb_cell.specs.Cells.{cell_place, padded, cell_of, cell_at, cell_patch, value_length, IsCell}
 use Rattle.rb_cell.proofs.CellBytes.{length-cell, cell_read, apart}
 use Rattle.rb_heap.specs.Homes.{is_keyed}
 use Rattle.rb_base.proofs.Blocks.{block_long}
 use Rattle.rb_base.specs.Blocks.{header_block}
-use Rattle.rb_heap.specs.Soundness.{value_length, IsEntrySound, IsLock, IsCellSound, IsHomeSound}
+use Rattle.rb_heap.specs.Soundness.{IsEntrySound, IsLock, IsCellSound, IsHomeSound}
 use Rattle.rb_segment.specs.Segments.{commit_lsn, commit_scn, wrap_at}
 use Rattle.rb_txntable.specs.Slots.{slot_wrap}
 use Rattle.rb_sound.specs.Sound.{IsSegment, AreSound}
 use Rattle.rb_segment.proofs.Numbers.{commit_same}
 use Rattle.rb_sound.proofs.Kept.{all_kept, segment_later}
 use Rattle.rb_sound.proofs.Keys.{own_key}
-use Rattle.rb_segment.proofs.Patched.{part_kept, number_kept, part_there, block_there, block_elsewhere}
+use Rattle.rb_txntable.proofs.Patched.{part_kept, number_kept, part_there, block_there, block_elsewhere}
 
 -- what a block has of its cells and entries after another one has the place of cell c
 record HasCell (block now : List ℕ) (c : ℕ) (cell : Cell) : Type 0 where

@@ -5,15 +5,14 @@ use Rattle.std.proofs.lemmas.List.{get_or-replicate}
 use Rattle.std.proofs.Math.Nat.{mul-mod_right}
 use Rattle.rb_base.specs.declared.shape.Shape.{Shape}
 use Rattle.rb_base.specs.Blocks.{block_of, block_kind, fresh_head, fresh_rest, fresh_block, fresh_blocks, fresh_segment, table_blocks, shape_blocks}
-use Rattle.rb_base.proofs.Blocks.{fresh_at}
 use Rattle.rb_itl.specs.Entries.{entry_at, free_entry}
 use Rattle.rb_heap.specs.Homes.{Home, home_of, is_keyed, empty_cell, empty_home}
-use Rattle.rb_heap.proofs.Fresh.{new_empty}
+use Rattle.rb_heap.proofs.Fresh.{of_rows, new_block, new_empty}
 use Rattle.rb_heap.proofs.Reading.{entry_read, cell_read}
 use Rattle.rb_cell.specs.declared.cell.Cell.{Cell}
-use Rattle.rb_cell.specs.Cells.{cell_at}
+use Rattle.rb_cell.specs.Cells.{cell_at, value_length}
 use Rattle.rb_base.specs.Blocks.{header_block}
-use Rattle.rb_heap.specs.Soundness.{value_length, IsEntrySound, IsCellSound, IsLock, IsHomeSound}
+use Rattle.rb_heap.specs.Soundness.{IsEntrySound, IsCellSound, IsLock, IsHomeSound}
 use Rattle.rb_txntable.specs.Slots.{slot_state, slot_before}
 use Rattle.rb_ring.specs.Ring.{extent_ord, extent_newest, head_extent, head_records, lost_number, IsRing}
 use Rattle.rb_sound.specs.Sound.{IsSegment}
@@ -97,10 +96,8 @@ kind_of shape g =
 pub segments_fresh : (shape : Shape) (commit g : ℕ) → g < shape.segments → IsSegment commit (block_of (fresh_blocks shape) (header_block shape g))
 segments_fresh shape commit g lt =
     let which = header_block shape g in
-    let there : which < shape_blocks shape = omega arith in
-    let is : block_of (fresh_blocks shape) which ≡ fresh_block shape which = fresh_at shape 0 (shape_blocks shape) which there ∙ ap (fresh_block shape) (omega arith) in
     let kind = ap (λ (kind : ℕ). fresh_head kind which ++ fresh_rest kind) (kind_of shape g) in
-    subst (IsSegment commit) (sym (is ∙ kind)) (segment_of commit which)
+    subst (IsSegment commit) (sym (new_block shape which (omega arith) ∙ kind)) (segment_of commit which)
 
 -- a block of rows in a new file, as block n
 abbrev rows_of : ℕ → List ℕ
@@ -111,10 +108,7 @@ unfolding value_length
 values_test n c few = agree_below_at (λ (k : ℕ). value_length (rows_of n) k == 0) (λ (_ : ℕ). true) 16 c refl few
 
 rows_fresh : (shape : Shape) (which : ℕ) → which < table_blocks shape → block_of (fresh_blocks shape) which ≡ rows_of which
-rows_fresh shape which lt =
-    let is : block_of (fresh_blocks shape) which ≡ fresh_block shape which = fresh_at shape 0 (shape_blocks shape) which (omega arith) ∙ ap (fresh_block shape) (omega arith) in
-    let kind : block_kind shape which ≡ 1 = ap (λ (b : Bool). if b then 1 else if (which - table_blocks shape) % 33 == 0 then 2 else 3) (lt-ltb which (table_blocks shape) lt) in
-    is ∙ ap (λ (kind : ℕ). fresh_head kind which ++ fresh_rest kind) kind
+rows_fresh shape which lt = new_block shape which (omega arith) ∙ ap (λ (kind : ℕ). fresh_head kind which ++ fresh_rest kind) (of_rows shape which lt)
 
 -- a block whose entries are free, whose cells are empty and whose values have no length
 home_empty : (shape : Shape) (commit : ℕ) (wrap_of : ℕ → ℕ → ℕ) (home : ℕ) (block : List ℕ) → home_of block ≡ empty_home → ((c : ℕ) → c < 16 → value_length block c ≡ 0) → IsHomeSound shape commit wrap_of home block

@@ -7,24 +7,7 @@ use Rattle.rb_base.specs.Blocks.{header_block}
 use Rattle.rb_heap.specs.Soundness.{IsTaken, IsHomeSound}
 use Rattle.rb_segment.specs.Segments.{commit_scn, wrap_at}
 use Rattle.rb_sound.specs.Sound.{IsSegment, AreSound}
-use Rattle.rb_sound.proofs.Together.{AreAlike}
-
-taken_later : (shape : Shape) (commit later : ℕ) (wrap_of other : ℕ → ℕ → ℕ) (entry : Entry) → commit ≤ later → AreAlike shape wrap_of other → IsTaken shape commit wrap_of entry → IsTaken shape later other entry
-taken_later shape commit later wrap_of other entry le same taken = record {
-  segment = taken.segment;
-  slot = taken.slot;
-  wrap = let one = same entry.xid.seg entry.xid.slot taken.segment taken.slot in (taken.wrap.0, omega (arith, one, taken.wrap.1));
-  chain = taken.chain;
-  number = omega (arith, le, taken.number);
-}
-
-home_later : (shape : Shape) (commit later : ℕ) (wrap_of other : ℕ → ℕ → ℕ) (home : ℕ) (block : List ℕ) → commit ≤ later → AreAlike shape wrap_of other → IsHomeSound shape commit wrap_of home block → IsHomeSound shape later other home block
-home_later shape commit later wrap_of other home block le same sound = record {
-  entries = λ i few.
-      let entry = sound.entries i few in
-      record { kind = entry.kind; taken = λ not_free. taken_later shape commit later wrap_of other _ le same (entry.taken not_free) };
-  cells = sound.cells;
-}
+use Rattle.rb_sound.proofs.Together.{AreAlike, home_later}
 
 -- the header stays in order as the commit number rises
 pub segment_later : (commit later : ℕ) (header : List ℕ) → commit ≤ later → IsSegment commit header → IsSegment later header

@@ -1,8 +1,9 @@
 -- What is tested of the headers, and what is tested of the blocks of rows by the numbers that the headers have.
-use Rattle.std.proofs.Common.{◌≡◌, ◌↔◌, ℕ, ◌<◌, Bool, true, List, subst, sym, arith}
+use Rattle.std.proofs.Common.{◌≡◌, ◌↔◌, ℕ, ◌%◌, ◌<◌, ◌≤◌, Bool, true, List, subst, sym, arith}
 use Rattle.rb_base.specs.declared.shape.Shape.{Shape}
+use Rattle.rb_base.specs.Blocks.{block_of}
 use Rattle.rb_itl.specs.declared.slots.Entry.{Entry}
-use Rattle.rb_heap.specs.Soundness.{IsTaken}
+use Rattle.rb_heap.specs.Soundness.{IsTaken, IsHomeSound}
 use Rattle.rb_segment.specs.Segments.{commit_scn, wrap_at}
 use Rattle.rb_sound.specs.Sound.{AreSegmentsSound, AreHomesSound, AreSound}
 
@@ -10,24 +11,26 @@ use Rattle.rb_sound.specs.Sound.{AreSegmentsSound, AreHomesSound, AreSound}
 abbrev pub AreAlike : Shape → (ℕ → ℕ → ℕ) → (ℕ → ℕ → ℕ) → Type 0
 AreAlike shape wrap_of other = (seg slot : ℕ) → seg < shape.segments → slot < 16 → wrap_of seg slot ≡ other seg slot
 
-taken_alike : (shape : Shape) (commit : ℕ) (wrap_of other : ℕ → ℕ → ℕ) (entry : Entry) → AreAlike shape wrap_of other → IsTaken shape commit wrap_of entry → IsTaken shape commit other entry
-taken_alike shape commit wrap_of other entry same taken = record {
+-- what is in order stays so as the commit number rises or stays, and no slot is taken
+taken_later : (shape : Shape) (commit later : ℕ) (wrap_of other : ℕ → ℕ → ℕ) (entry : Entry) → commit ≤ later → AreAlike shape wrap_of other → IsTaken shape commit wrap_of entry → IsTaken shape later other entry
+taken_later shape commit later wrap_of other entry le same taken = record {
   segment = taken.segment;
   slot = taken.slot;
   wrap = let one = same entry.xid.seg entry.xid.slot taken.segment taken.slot in (taken.wrap.0, omega (arith, one, taken.wrap.1));
   chain = taken.chain;
-  number = taken.number;
+  number = omega (arith, le, taken.number);
+}
+
+pub home_later : (shape : Shape) (commit later : ℕ) (wrap_of other : ℕ → ℕ → ℕ) (home : ℕ) (block : List ℕ) → commit ≤ later → AreAlike shape wrap_of other → IsHomeSound shape commit wrap_of home block → IsHomeSound shape later other home block
+home_later shape commit later wrap_of other home block le same sound = record {
+  entries = λ i few.
+      let entry = sound.entries i few in
+      record { kind = entry.kind; taken = λ not_free. taken_later shape commit later wrap_of other _ le same (entry.taken not_free) };
+  cells = sound.cells;
 }
 
 homes_alike : (shape : Shape) (commit : ℕ) (wrap_of other : ℕ → ℕ → ℕ) (blocks : List (List ℕ)) → AreAlike shape wrap_of other → AreHomesSound shape commit wrap_of blocks → AreHomesSound shape commit other blocks
-homes_alike shape commit wrap_of other blocks same homes which lt =
-    let home = homes which lt in
-    record {
-      entries = λ i few.
-          let entry = home.entries i few in
-          record { kind = entry.kind; taken = λ not_free. taken_alike shape commit wrap_of other _ same (entry.taken not_free) };
-      cells = home.cells;
-    }
+homes_alike shape commit wrap_of other blocks same homes which lt = home_later shape commit commit wrap_of other (which % shape.blocks) (block_of blocks which) (omega arith) same (homes which lt)
 
 pub all_sound : (shape : Shape) (blocks : List (List ℕ)) (commit : ℕ) (wrap_of : ℕ → ℕ → ℕ) (sound : Bool) → commit ≡ commit_scn shape blocks → AreAlike shape wrap_of (wrap_at shape blocks) → AreSegmentsSound shape commit blocks
     → (sound ≡ true ↔ AreHomesSound shape commit wrap_of blocks) → sound ≡ true ↔ AreSound shape blocks

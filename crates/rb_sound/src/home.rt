@@ -1,32 +1,19 @@
 //! Tests a block of rows. `blocks` calls it for each one of a file.
-ghost use Rattle.std.specs.Prelude.{IsTrue, ◌≡◌, ◌≢◌, ◌↔◌, ℕ, ◌+◌, ◌<◌, ◌≤◌, true};
-ghost use Rattle.std.specs.Prelude.{false, length};
+ghost use Rattle.std.specs.Prelude.{IsTrue, ◌≡◌, ◌↔◌, ℕ, ◌<◌, ◌≤◌, length};
 ghost use Rattle.rb_base.specs.Blocks.{IsShape};
-ghost use Rattle.rb_cell.specs.Cells.{cell_at};
+ghost use Rattle.rb_cell.specs.Cells.{cell_at, value_length};
 ghost use Rattle.rb_itl.specs.Entries.{entry_at};
 ghost use Rattle.rb_heap.specs.Homes.{is_keyed};
-ghost use Rattle.rb_heap.specs.Soundness.{value_length, IsTaken, IsEntrySound, IsLock, IsCellSound, AreCellsSound};
-ghost use Rattle.rb_heap.specs.Soundness.{IsHomeSound, IsFirstKeyed, AreKeysApart};
+ghost use Rattle.rb_heap.specs.Soundness.{IsTaken, IsEntrySound, IsLock, IsCellSound, AreCellsSound, IsHomeSound};
+ghost use Rattle.rb_heap.specs.Soundness.{IsFirstKeyed, AreKeysApart};
 ghost use Rattle.rb_segment.specs.Segments.{wrap_in};
 
-use rb_base::{Scn, Shape, u16_at};
-use rb_cell::{Cell, EMPTY, ROW, STUB, cells, front};
+use rb_base::{Scn, Shape, UNIT, VALUE_BYTES};
+use rb_cell::{CELLS, Cell, EMPTY, ROW, STUB, cells, front, value_length};
 use rb_heap::find;
-use rb_itl::{BOUND, Entry, FREE, entry};
+use rb_itl::{BOUND, CHAIN_RECORDS, ENTRIES, Entry, FREE, entry};
 use rb_segment::SEGMENTS;
 use rb_txntable::SLOTS;
-
-/// The cells of a block.
-const CELLS: u8 = 16;
-
-/// The entries of a block.
-const ENTRIES: u8 = 8;
-
-/// The most bytes of a value.
-const VALUE_BYTES: u16 = 80;
-
-/// The most undo records that a transaction has for a block.
-const CHAIN_RECORDS: u32 = 320;
 
 /// How far the numbers of a file go.
 #[derive(Clone, Copy, Debug, PartialEq, Eq)]
@@ -66,9 +53,9 @@ fn entry_sound(entry: &Entry, limits: &Limits) -> bool
 
 /// Whether each entry of a block is in order.
 fn entries_sound(block: &[u8], limits: &Limits) -> bool
-    requires block { length block.now ≡ 2048 }
+    requires block { length block.now ≡ UNIT }
     requires shape { IsShape limits.now.shape }
-    ensures { IsTrue result ↔ ((i : ℕ) → i < 8 → IsEntrySound limits.now.shape limits.now.commit
+    ensures { IsTrue result ↔ ((i : ℕ) → i < ENTRIES → IsEntrySound limits.now.shape limits.now.commit
         (wrap_in limits.now.wraps) (entry_at block.now i)) }
 {
     for i in 0..ENTRIES {
@@ -92,9 +79,9 @@ fn cell_sound(cell: &Cell, shape: Shape, home: u32) -> bool
 
 /// Whether each cell of a block is, for a block of that home.
 fn cells_sound(block: &[u8], shape: Shape, home: u32) -> bool
-    requires block { length block.now ≡ 2048 }
+    requires block { length block.now ≡ UNIT }
     requires shape { IsShape shape }
-    ensures { IsTrue result ↔ ((c : ℕ) → c < 16 → IsCellSound shape home (cell_at block.now c)) }
+    ensures { IsTrue result ↔ ((c : ℕ) → c < CELLS → IsCellSound shape home (cell_at block.now c)) }
 {
     for c in 0..CELLS {
         if !cell_sound(&cells(block, c), shape, home) {
@@ -104,23 +91,13 @@ fn cells_sound(block: &[u8], shape: Shape, home: u32) -> bool
     true
 }
 
-/// The length of the value of cell `c`, 0 to 15, as the block says it.
-#[tactic(auto, unfolding(rb_heap::specs::Soundness::value_length))]
-fn value_length(block: &[u8], c: u8) -> u16
-    requires block { length block.now ≡ 2048 }
-    requires place { c < 16 }
-    ensures { result ≡ value_length block.now c }
-{
-    u16_at(block, 416 + 92 * c as usize + 2)
-}
-
 /// Whether there is room for each cell's value.
 fn values_sound(block: &[u8]) -> bool
-    requires { length block.now ≡ 2048 }
-    ensures { IsTrue result ↔ ((c : ℕ) → c < 16 → value_length block.now c ≤ 80) }
+    requires { length block.now ≡ UNIT }
+    ensures { IsTrue result ↔ ((c : ℕ) → c < CELLS → value_length block.now c ≤ VALUE_BYTES) }
 {
     for c in 0..CELLS {
-        if value_length(block, c) > VALUE_BYTES {
+        if value_length(block, c) as usize > VALUE_BYTES {
             return false;
         }
     }
@@ -129,7 +106,7 @@ fn values_sound(block: &[u8]) -> bool
 
 /// Whether a lock is none, or that of an entry that isn't free.
 fn lock_sound(block: &[u8], lock: u8) -> bool
-    requires { length block.now ≡ 2048 }
+    requires { length block.now ≡ UNIT }
     ensures { IsTrue result ↔ IsLock block.now lock }
 {
     if lock == 0 {
@@ -140,8 +117,8 @@ fn lock_sound(block: &[u8], lock: u8) -> bool
 
 /// Whether each cell's lock is.
 fn locks_sound(block: &[u8]) -> bool
-    requires { length block.now ≡ 2048 }
-    ensures { IsTrue result ↔ ((c : ℕ) → c < 16 → IsLock block.now (cell_at block.now c).lock) }
+    requires { length block.now ≡ UNIT }
+    ensures { IsTrue result ↔ ((c : ℕ) → c < CELLS → IsLock block.now (cell_at block.now c).lock) }
 {
     for c in 0..CELLS {
         if !lock_sound(block, front(block, c).lock) {
@@ -153,8 +130,8 @@ fn locks_sound(block: &[u8]) -> bool
 
 /// Whether cell `c`, 0 to 15, is a row or locked, so that no other one may have its key.
 fn has_own_key(block: &[u8], c: u8) -> bool
-    requires block { length block.now ≡ 2048 }
-    requires place { c < 16 }
+    requires block { length block.now ≡ UNIT }
+    requires place { c < CELLS }
     ensures { result ≡ is_keyed (cell_at block.now c).key (cell_at block.now c) }
 {
     let front = front(block, c);
@@ -163,8 +140,8 @@ fn has_own_key(block: &[u8], c: u8) -> bool
 
 /// Whether cell `c`, 0 to 15, is neither a row nor locked, or is the first one of those that are with its key.
 fn key_is_first(block: &[u8], c: u8) -> bool
-    requires block { length block.now ≡ 2048 }
-    requires place { c < 16 }
+    requires block { length block.now ≡ UNIT }
+    requires place { c < CELLS }
     ensures { IsTrue result ↔ IsFirstKeyed block.now c }
 {
     !has_own_key(block, c) || find(block, front(block, c).key) == Some(c)
@@ -172,7 +149,7 @@ fn key_is_first(block: &[u8], c: u8) -> bool
 
 /// Whether of the cells that are rows or locked no two have one key.
 fn keys_apart(block: &[u8]) -> bool
-    requires { length block.now ≡ 2048 }
+    requires { length block.now ≡ UNIT }
     ensures { IsTrue result ↔ AreKeysApart block.now }
 {
     for c in 0..CELLS {
@@ -185,7 +162,7 @@ fn keys_apart(block: &[u8]) -> bool
 
 /// Whether the cells of a block are in order, as those of the block of `home` in its table.
 fn all_cells_sound(block: &[u8], shape: Shape, home: u32) -> bool
-    requires block { length block.now ≡ 2048 }
+    requires block { length block.now ≡ UNIT }
     requires shape { IsShape shape }
     ensures { IsTrue result ↔ AreCellsSound shape home block.now }
 {
@@ -197,7 +174,7 @@ fn all_cells_sound(block: &[u8], shape: Shape, home: u32) -> bool
 
 /// Whether a block of rows, 2,048 bytes, is in order, as the block of `home` in its table.
 pub fn home_sound(block: &[u8], home: u32, limits: &Limits) -> bool
-    requires block { length block.now ≡ 2048 }
+    requires block { length block.now ≡ UNIT }
     requires shape { IsShape limits.now.shape }
     ensures { IsTrue result ↔ IsHomeSound limits.now.shape limits.now.commit (wrap_in limits.now.wraps) home
         block.now }

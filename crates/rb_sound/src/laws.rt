@@ -10,6 +10,8 @@ ghost use Rattle.rb_heap.specs.Soundness.{IsHomeSound};
 ghost use Rattle.rb_segment.specs.Segments.{commit_lsn, commit_scn, scn_patch};
 ghost use Rattle.rb_sound.specs.Sound.{AreHomesSound, AreSound};
 
+use rb_cell::{CELLS, STUB};
+
 /// Where all blocks of rows are in order, so is the block of each home of each table, which are counted from 1.
 pub fn homes_by_table()
     ensures { (shape : Shape) (commit : ℕ) (wrap_of : ℕ → ℕ → ℕ) (blocks : List (List ℕ)) (t h : ℕ)
@@ -27,9 +29,10 @@ pub fn fresh_sound()
 /// every other block stay.
 pub fn cell_written()
     ensures sound { (shape : Shape) (blocks : List (List ℕ)) (number which c : ℕ) (cell : Cell)
-        → AreBlocks shape blocks → AreSound shape blocks → which < table_blocks shape → c < 16 → IsCell cell
-        → cell.state ≤ 2 → cell.lock ≡ 0 → cell.key % shape.blocks ≡ which % shape.blocks
-        → ((other : ℕ) → other < 16 → other ≢ c → is_keyed cell.key cell ≡ true
+        → AreBlocks shape blocks → AreSound shape blocks → which < table_blocks shape → c < CELLS
+        → IsCell cell → cell.state ≤ STUB → cell.lock ≡ 0
+        → cell.key % shape.blocks ≡ which % shape.blocks → ((other : ℕ) → other < CELLS → other ≢ c
+        → is_keyed cell.key cell ≡ true
         → is_keyed cell.key (cell_at (block_of blocks which) other) ≡ false)
         → AreSound shape (after_group number (cell_patch which c cell ∷ []) blocks) }
     ensures commit { (shape : Shape) (blocks : List (List ℕ)) (number which c : ℕ) (cell : Cell)

@@ -1,5 +1,6 @@
 use Rattle.rb_base.proofs.Blocks.{patched_long}
-use Rattle.rb_heap.proofs.Patching.{number_patched, kind_patched, own_patched}
+use Rattle.rb_txntable.proofs.Patched.{number_patched}
+use Rattle.rb_heap.proofs.Patching.{kind_patched, own_patched}
 use Rattle.rb_heap.proofs.laws.head_patched.Goals as goal
 
 pub returns-clause-size : goal.returns-clause-size

@@ -1,5 +1,5 @@
 use Rattle.std.proofs.Common.{ℕ, ◌<◌, ◌≤◌}
-use Rattle.rb_heap.specs.Soundness.{value_length}
+use Rattle.rb_cell.specs.Cells.{value_length}
 use Rattle.rb_sound.proofs.home.values_sound.Given as goal
 
 abbrev pub invariant-loop-c : goal.invariant-loop-c

@@ -1,25 +1,27 @@
--- What a patch leaves of its block's bytes, and what a group of one leaves of a file's blocks.
+-- What a patch leaves of its block's bytes, and what a group of one leaves of a file's blocks. Slots, cells and entries are
+-- all read from such bytes, so it stands below the crates of each.
 use Rattle.std.proofs.Common.{◌≡◌, ◌≢◌, ℕ, ◌+◌, ◌^◌, ◌<◌, ◌≤◌, List, [], ◌∷◌, length, drop, refl, arith, ap, sym, ◌∙◌, inr, slice_index}
 use Rattle.byteorder.specs.Endian.{big_bytes}
 use Rattle.byteorder.specs.Numbers.{big_number-reads_back}
 use Rattle.rb_base.specs.declared.shape.Shape.{Shape}
 use Rattle.rb_base.specs.Blocks.{block_of, patched, after_group, shape_blocks, AreBlocks}
-use Rattle.rb_base.specs.Fields.{part, number_at, overwritten, AreApart}
+use Rattle.rb_base.specs.Fields.{part, number_at, overwritten, with_number, AreApart}
 use Rattle.rb_base.specs.Groups.{Patch}
 use Rattle.rb_base.proofs.Blocks.{patch_own, patch_others}
 use Rattle.rb_base.proofs.Fronts.{number_of_part, byte_of_part}
 use Rattle.rb_base.proofs.Overwriting.{length-overwritten, part_written, part_apart}
 
+-- what is behind the log number in front
+pub behind_number : (block : List ℕ) (number at count : ℕ) → length block ≡ 2048 → 8 ≤ at → part (with_number block 0 8 number) at count ≡ part block at count
+behind_number block number at count long behind = part_apart block 0 (big_bytes 8 number) at count 8 (omega (arith, long)) refl (inr behind)
+
 module _ (block : List ℕ) (number size : ℕ) (p : Patch) (long : length block ≡ 2048) (within : p.at + size ≤ 2048) (size_is : length p.bytes ≡ size) where
-  -- what is behind the log number in front
-  behind_number : (at count : ℕ) → 8 ≤ at → part (patched number p block) at count ≡ part (overwritten block p.at p.bytes) at count
-  behind_number at count behind =
-      let same = length-overwritten block p.at p.bytes (omega (arith, long, size_is, within)) in
-      part_apart (overwritten block p.at p.bytes) 0 (big_bytes 8 number) at count 8 (omega (arith, long, same)) refl (inr behind)
+  numbered : (at count : ℕ) → 8 ≤ at → part (patched number p block) at count ≡ part (overwritten block p.at p.bytes) at count
+  numbered at count behind = behind_number (overwritten block p.at p.bytes) number at count (length-overwritten block p.at p.bytes (omega (arith, long, size_is, within)) ∙ long) behind
 
   -- outside of the patch
   pub part_kept : (at count : ℕ) → 8 ≤ at → AreApart at count p.at size → part (patched number p block) at count ≡ part block at count
-  part_kept at count behind apart = behind_number at count behind ∙ part_apart block p.at p.bytes at count size (omega (arith, long, size_is, within)) size_is apart
+  part_kept at count behind apart = numbered at count behind ∙ part_apart block p.at p.bytes at count size (omega (arith, long, size_is, within)) size_is apart
 
   pub number_kept : (at count : ℕ) → 8 ≤ at → AreApart at count p.at size → number_at (patched number p block) at count ≡ number_at block at count
   number_kept at count behind apart = sym (number_of_part (patched number p block) at count) ∙ ap (λ (l : List ℕ). number_at l 0 count) (part_kept at count behind apart) ∙ number_of_part block at count
@@ -29,7 +31,7 @@ module _ (block : List ℕ) (number size : ℕ) (p : Patch) (long : length block
 
   -- the patch itself
   pub part_there : 8 ≤ p.at → part (patched number p block) p.at size ≡ p.bytes
-  part_there behind = behind_number p.at size behind ∙ part_written block p.at p.bytes size (omega (arith, long, size_is, within)) size_is
+  part_there behind = numbered p.at size behind ∙ part_written block p.at p.bytes size (omega (arith, long, size_is, within)) size_is
 
 -- the patched block of a file, and every other one
 pub block_there : (shape : Shape) (blocks : List (List ℕ)) (number : ℕ) (p : Patch) → AreBlocks shape blocks → p.block < shape_blocks shape → block_of (after_group number (p ∷ []) blocks) p.block ≡ patched number p (block_of blocks p.block)
