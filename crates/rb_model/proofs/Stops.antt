@@ -1,13 +1,13 @@
 -- When a state is stopped: after a fault of the disk, and else where it was before.
-use Rattle.std.proofs.Common.{◌≡◌, ◌≢◌, ◌∙◌, ⊎_elim, refl, sym, ap, ℕ, Bool, true, false, List, [], ◌∷◌, ◌++◌, ◌+◌, length, Option, None, Some, Result, Ok, Err}
-use Rattle.std.specs.List.{AllByRecursion}
+use Rattle.std.proofs.Common.{arith, not, ◌≡◌, ◌≢◌, ◌∙◌, ⊎_elim, refl, sym, ap, ℕ, Bool, true, false, List, [], ◌∷◌, ◌++◌, length, Option, None, Some, Result, Ok, Err}
+use Rattle.std.specs.List.{list_all}
 use Rattle.std.specs.Prelude.{slice_get}
-use Rattle.std.proofs.lemmas.Bool.{cond_both, cases_Bool, false≢true}
+use Rattle.std.proofs.lemmas.Bool.{cond_both, cases_Bool, false≢true, and_parts, not-true}
 use Rattle.rb_base.specs.Counts.{err_is}
 use Rattle.rb_model.specs.Answers.{fetch_answer, plain_answer}
-use Rattle.rb_model.specs.Rows.{TableRow, last_scn}
-use Rattle.rb_model.specs.State.{State, Cursor, session_of, cursor_of, cursor_rows}
-use Rattle.rb_model.specs.Reply.{Call, Write, Commit, OpenCursor, Fetch, CloseCursor, Answer, Done, Waits, Numbered, Given, End, Refused, after, after_grant, after_refusal, committed, early_tests, expected, first_of, given, granted, is_disk_fault, is_empty, is_fault, later_tests, next_row}
+use Rattle.rb_model.specs.Rows.{TableRow}
+use Rattle.rb_model.specs.State.{State, Cursor, cursor_rows}
+use Rattle.rb_model.specs.Reply.{Call, Answer, Done, Waits, Numbered, Given, End, Refused, after, after_grant, after_refusal, early_tests, expected, first_of, given, granted, is_disk_fault, is_fault, later_tests, next_row}
 use Rattle.rb_model.specs.declared.row.Row.{Row}
 use Rattle.rb_model.specs.declared.row.Fetched.{Fetched}
 use Rattle.rb_model.specs.declared.row.Fetched.TheVariants as fetched
@@ -34,11 +34,7 @@ pub sessions_refused : (h : State) (why : Refusal) → length (after_refusal h w
 sessions_refused h why = cond_both (is_disk_fault why) (record h { stopped = true }) h (λ (x : State). length x.sessions ≡ length h.sessions) (λ is. refl) (λ is. refl)
 
 granted_same_stop : (h : State) (c : Call) → (after_grant h c).stopped ≡ h.stopped
-granted_same_stop h (Write s table key action) = refl
-granted_same_stop h (Commit s) = cond_both (is_empty (session_of h s).own) h (committed h s) (λ (x : State). x.stopped ≡ h.stopped) (λ w. refl) (λ w. refl)
-granted_same_stop h (OpenCursor s name table lo hi) = refl
-granted_same_stop h (Fetch s name) = refl
-granted_same_stop h (CloseCursor s name) = refl
+granted_same_stop h c = grind arith
 
 pub after_same_stop : (h : State) (c : Call) (r : Answer) → is_fault r ≡ false → (after h c r).stopped ≡ h.stopped
 after_same_stop h c Done is = granted_same_stop h c
@@ -65,11 +61,7 @@ went_on h c r going = ⊎_elim
 
 -- no call changes the shape
 granted_shape : (h : State) (c : Call) → (after_grant h c).shape ≡ h.shape
-granted_shape h (Write s table key action) = refl
-granted_shape h (Commit s) = cond_both (is_empty (session_of h s).own) h (committed h s) (λ (x : State). x.shape ≡ h.shape) (λ w. refl) (λ w. refl)
-granted_shape h (OpenCursor s name table lo hi) = refl
-granted_shape h (Fetch s name) = refl
-granted_shape h (CloseCursor s name) = refl
+granted_shape h c = grind arith
 
 pub after_shape : (h : State) (c : Call) (r : Answer) → (after h c r).shape ≡ h.shape
 after_shape h c Done = granted_shape h c
@@ -89,18 +81,22 @@ next_fine : (h : State) (o : Option Cursor) → is_fault (next_row h o) ≡ fals
 next_fine h None = refl
 next_fine h (Some cursor) = given_fine (slice_get (cursor_rows h cursor) cursor.taken)
 
-first_fine : (tests : List (Bool × Answer)) (good : Answer) → AllByRecursion (λ test. is_fault test.1 ≡ false) tests → is_fault good ≡ false → is_fault (first_of tests good) ≡ false
-first_fine [] good all fine = fine
-first_fine (test ∷ tests) good all fine = cond_both test.0 test.1 (first_of tests good) (λ r. is_fault r ≡ false) (λ w. all.0) (λ w. first_fine tests good all.1 fine)
+-- what holds of the answers of all tests, and of the good one, holds of the first of them that applies
+pub first_keeps : (p : Answer → Bool) (tests : List (Bool × Answer)) (good : Answer) → list_all (λ test. p test.1) tests ≡ true → p good ≡ true → p (first_of tests good) ≡ true
+first_keeps p [] good all here = here
+first_keeps p (test ∷ tests) good all here =
+    let parts = and_parts (p test.1) (list_all (λ test. p test.1) tests) all in
+    cond_both test.0 test.1 (first_of tests good) (λ r. p r ≡ true) (λ w. parts.0) (λ w. first_keeps p tests good parts.1 here)
+
+tests_fine : (h : State) (number more : ℕ) (c : Call) → list_all (λ test. not (is_fault test.1)) (early_tests h c ++ later_tests h number more c) ≡ true
+tests_fine h number more c = grind arith
+
+granted_fine : (h : State) (c : Call) → not (is_fault (granted h c)) ≡ true
+granted_fine h c = grind (arith, next_fine)
 
 pub expected_fine : (h : State) (number more : ℕ) (c : Call) → is_fault (expected h number more c) ≡ false
-expected_fine h number more (Write s table key action) = first_fine (early_tests h (Write s table key action) ++ later_tests h number more (Write s table key action)) Done (refl, (refl, (refl, (refl, (refl, (refl, (refl, (refl, (refl, tt))))))))) refl
-expected_fine h number more (Commit s) =
-    first_fine (early_tests h (Commit s) ++ later_tests h number more (Commit s)) (granted h (Commit s)) (refl, (refl, tt))
-    (cond_both (is_empty (session_of h s).own) Done (Numbered (last_scn h.commits + 1)) (λ r. is_fault r ≡ false) (λ w. refl) (λ w. refl))
-expected_fine h number more (OpenCursor s name table lo hi) = first_fine (early_tests h (OpenCursor s name table lo hi) ++ later_tests h number more (OpenCursor s name table lo hi)) Done (refl, (refl, (refl, (refl, (refl, tt))))) refl
-expected_fine h number more (Fetch s name) = first_fine (early_tests h (Fetch s name) ++ later_tests h number more (Fetch s name)) (next_row h (cursor_of h s name)) (refl, (refl, (refl, tt))) (next_fine h (cursor_of h s name))
-expected_fine h number more (CloseCursor s name) = first_fine (early_tests h (CloseCursor s name) ++ later_tests h number more (CloseCursor s name)) Done (refl, (refl, (refl, tt))) refl
+expected_fine h number more c =
+    not-true (is_fault (expected h number more c)) (first_keeps (λ r. not (is_fault r)) (early_tests h c ++ later_tests h number more c) (granted h c) (tests_fine h number more c) (granted_fine h c))
 
 -- so no call that answers what is expected answers one
 

@@ -1,4 +1,4 @@
--- How a script is cut into lines, which command a line spells, and the texts of the replies.
+-- How a script is cut into lines, which command a line spells and what it calls, and the texts of the replies.
 use Rattle.std.specs.Prelude.{◌≡◌, ◌≢◌, ℕ, ◌^◌, ◌<◌, ◌≤◌, Bool, true, ◌==◌, ◌&&◌}
 use Rattle.std.specs.Prelude.{nat_le}
 use Rattle.std.specs.Prelude.{if◌then◌else◌, IsTrue, List, [], ◌∷◌, ◌++◌, length, codes}
@@ -6,11 +6,7 @@ use Rattle.std.specs.List.{list_all, AllByRecursion}
 use Rattle.std.specs.Fmt.{decimal}
 use Rattle.rb_model.specs.NameTest.{is_name}
 use Rattle.rb_model.specs.Reply.{Action, Insert, Update, Delete, Answer, Done, Waits, Numbered, Given, End, Refused}
-use Rattle.rb_model.specs.declared.refusal.Refusal.{Refusal}
-use Rattle.rb_model.specs.declared.refusal.Refusal.TheVariants.{NoSession, NoTable, ValueTooLong, Duplicate, NotFound}
-use Rattle.rb_model.specs.declared.refusal.Refusal.TheVariants.{BlockFull}
-use Rattle.rb_model.specs.declared.refusal.Refusal.TheVariants.{NoCursor, CursorThere, TooManyCursors, WornOut}
-use Rattle.rb_model.specs.declared.refusal.Refusal.TheVariants.{DiskFault, Stopped, LogFull}
+use Rattle.rb_model.specs.Reply.{Call, Write, Commit, OpenCursor, Fetch, CloseCursor, refusal_text}
 
 -- a byte at the front of the first line
 abbrev pub onto_first : ℕ → List (List ℕ) → List (List ℕ)
@@ -41,9 +37,29 @@ pub data Command : Type 0 where
   FetchLine : (session : ℕ) (name : List ℕ) (count : ℕ) → Command
   CloseLine : (session : ℕ) (name : List ℕ) → Command
 
--- a space and a number
-abbrev pub number : ℕ → List ℕ
-number n = 32 ∷ decimal n
+-- what a command calls
+abbrev pub call_of : Command → Call
+call_of (WriteLine s table key action) = Write s table key action
+call_of (CommitLine s) = Commit s
+call_of (OpenLine s name table lo hi) = OpenCursor s name table lo hi
+call_of (FetchLine s name count) = Fetch s name
+call_of (CloseLine s name) = CloseCursor s name
+
+-- and how often at most
+abbrev pub most_calls : Command → ℕ
+most_calls (WriteLine s table key action) = 1
+most_calls (CommitLine s) = 1
+most_calls (OpenLine s name table lo hi) = 1
+most_calls (FetchLine s name count) = count
+most_calls (CloseLine s name) = 1
+
+-- the session that it names, to which the replies are
+abbrev pub caller : Command → ℕ
+caller (WriteLine s table key action) = s
+caller (CommitLine s) = s
+caller (OpenLine s name table lo hi) = s
+caller (FetchLine s name count) = s
+caller (CloseLine s name) = s
 
 -- the first word of a command's line
 pub data Word : Type 0 where
@@ -131,21 +147,9 @@ Spells text command = IsCommand command × (text ≡ spelling command)
 abbrev pub SpellsNone : List ℕ → Type 0
 SpellsNone text = (command : Command) → IsCommand command → text ≢ spelling command
 
--- what a refusal is called
-abbrev pub refusal_text : Refusal → List ℕ
-refusal_text NoSession = codes "no session"
-refusal_text NoTable = codes "no table"
-refusal_text ValueTooLong = codes "value too long"
-refusal_text Duplicate = codes "duplicate"
-refusal_text NotFound = codes "not found"
-refusal_text BlockFull = codes "block full"
-refusal_text NoCursor = codes "no cursor"
-refusal_text CursorThere = codes "cursor there"
-refusal_text TooManyCursors = codes "too many cursors"
-refusal_text WornOut = codes "worn out"
-refusal_text DiskFault = codes "disk fault"
-refusal_text Stopped = codes "stopped"
-refusal_text LogFull = codes "log full"
+-- a space and a number
+abbrev pub number : ℕ → List ℕ
+number n = 32 ∷ decimal n
 
 abbrev pub answer_text : Answer → List ℕ
 answer_text Done = codes "ok"

@@ -2,9 +2,8 @@
 use Rattle.std.specs.Prelude.{◌≡◌, ℕ, zero, suc, ◌+◌, ◌-◌, ◌<◌, ◌≤◌, Bool, true, false}
 use Rattle.std.specs.Prelude.{MatchBool, List, [], ◌∷◌, ◌++◌, length}
 use Rattle.rb_model.specs.State.{State}
-use Rattle.rb_model.specs.Reply.{Call, Write, Commit, OpenCursor, Fetch, CloseCursor, Answer, Done, Waits, Numbered}
-use Rattle.rb_model.specs.Reply.{Given, End, Refused, Reply, after, Grows}
-use Rattle.rb_model.specs.Lines.{Command, WriteLine, CommitLine, OpenLine, FetchLine, CloseLine, Spells, SpellsNone}
+use Rattle.rb_model.specs.Reply.{Call, Answer, Done, Waits, Numbered, Given, End, Refused, Reply, after, Grows}
+use Rattle.rb_model.specs.Lines.{Command, Spells, SpellsNone, call_of, most_calls, caller}
 use Rattle.rb_model.specs.Lines.{without_return, is_remark, reply_text, bad_line_text}
 
 -- a state, and the last log number that was given
@@ -39,30 +38,6 @@ CallsOut m slots s call (suc count) out m2 =
     (r : Answer) × (rest : List ℕ) × (middle : Logged) × CallOut m slots call r middle
     × (out ≡ reply_text s r ++ rest)
     × MatchBool (is_given r) (CallsOut middle slots s call count rest m2) ((rest ≡ []) × (m2 ≡ middle))
-
--- what a command calls
-abbrev pub call_of : Command → Call
-call_of (WriteLine s table key action) = Write s table key action
-call_of (CommitLine s) = Commit s
-call_of (OpenLine s name table lo hi) = OpenCursor s name table lo hi
-call_of (FetchLine s name count) = Fetch s name
-call_of (CloseLine s name) = CloseCursor s name
-
--- and how often at most
-abbrev pub most_calls : Command → ℕ
-most_calls (WriteLine s table key action) = 1
-most_calls (CommitLine s) = 1
-most_calls (OpenLine s name table lo hi) = 1
-most_calls (FetchLine s name count) = count
-most_calls (CloseLine s name) = 1
-
--- the session that it names, to which the replies are
-abbrev pub caller : Command → ℕ
-caller (WriteLine s table key action) = s
-caller (CommitLine s) = s
-caller (OpenLine s name table lo hi) = s
-caller (FetchLine s name count) = s
-caller (CloseLine s name) = s
 
 abbrev pub CommandOut : Logged → ℕ → Command → List ℕ → Logged → Type 0
 CommandOut m slots c out m2 = CallsOut m slots (caller c) (call_of c) (most_calls c) out m2

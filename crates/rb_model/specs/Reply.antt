@@ -1,6 +1,6 @@
--- Which answers a call may have, and the state after it.
+-- Which answers a call may have, what its refusals are called, and the state after it.
 use Rattle.std.specs.Prelude.{◌≡◌, ◌⊎◌, ℕ, ◌+◌, Bool, true, false, not, ◌&&◌, nat_lt}
-use Rattle.std.specs.Prelude.{nat_le, if◌then◌else◌, is_some, is_none, List, [], ◌∷◌, ◌++◌, length}
+use Rattle.std.specs.Prelude.{nat_le, if◌then◌else◌, is_some, is_none, List, [], ◌∷◌, ◌++◌, length, codes}
 use Rattle.std.specs.Prelude.{slice_get, Option, None, Some}
 use Rattle.rb_base.specs.declared.sizes.TheConstants.{VALUE_BYTES, WORN}
 use Rattle.rb_model.specs.Change.{Change, put, gone}
@@ -97,6 +97,22 @@ later_tests h logged room (OpenCursor s name table lo hi) =
     (nat_le 16 (length (session_of h s).cursors), Refused TooManyCursors) ∷ []
 later_tests h logged room (Fetch s name) = (is_none (cursor_of h s name), Refused NoCursor) ∷ []
 later_tests h logged room (CloseCursor s name) = (is_none (cursor_of h s name), Refused NoCursor) ∷ []
+
+-- what a refusal is called
+abbrev pub refusal_text : Refusal → List ℕ
+refusal_text NoSession = codes "no session"
+refusal_text NoTable = codes "no table"
+refusal_text ValueTooLong = codes "value too long"
+refusal_text Duplicate = codes "duplicate"
+refusal_text NotFound = codes "not found"
+refusal_text BlockFull = codes "block full"
+refusal_text NoCursor = codes "no cursor"
+refusal_text CursorThere = codes "cursor there"
+refusal_text TooManyCursors = codes "too many cursors"
+refusal_text WornOut = codes "worn out"
+refusal_text DiskFault = codes "disk fault"
+refusal_text Stopped = codes "stopped"
+refusal_text LogFull = codes "log full"
 
 -- a row as the answer to a fetch, or the end
 abbrev pub given : Option TableRow → Answer

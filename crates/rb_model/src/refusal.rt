@@ -1,6 +1,6 @@
 //! Why a call of the engine was refused. The engine answers it, and the shell prints it.
 ghost use Rattle.std.specs.Prelude.{◌≡◌, ◌≤◌, length};
-ghost use Rattle.rb_model.specs.Lines.{refusal_text};
+ghost use Rattle.rb_model.specs.Reply.{refusal_text};
 
 use thiserror::Error;
 

@@ -1,7 +1,7 @@
 use Rattle.std.proofs.Common.{sym, subst}
 use Rattle.rb_engine.specs.Does.{Does}
 use Rattle.rb_model.specs.Answers.{answer_of}
-use Rattle.rb_model.specs.Out.{call_of}
+use Rattle.rb_model.specs.Lines.{call_of}
 use Rattle.rb_model.specs.Reply.{Answer}
 use Rattle.rb_script.specs.Commands.{command_of}
 use Rattle.rb_script.specs.declared.command.Command.{Command}

@@ -2,7 +2,8 @@ use Rattle.std.proofs.Common.{◌≡◌, ◌<◌, ℕ, Result, Ok, Err, refl, sy
 use Rattle.std.proofs.lemmas.Result.{err_from_is_err_and}
 use Rattle.rb_lines.proofs.Dids.{did_as, did_on}
 use Rattle.rb_lines.specs.declared.runner.StepFault.{StepFault}
-use Rattle.rb_model.specs.Out.{CommandOut, call_of, caller, most_calls}
+use Rattle.rb_model.specs.Lines.{call_of, caller, most_calls}
+use Rattle.rb_model.specs.Out.{CommandOut}
 use Rattle.rb_model.specs.declared.answer.Answer as code
 use Rattle.rb_script.specs.Commands.{command_of}
 use Rattle.rb_shell.specs.Since.{since_same, since_joined, slots_of}

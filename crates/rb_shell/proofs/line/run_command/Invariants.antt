@@ -1,7 +1,8 @@
 use Rattle.std.proofs.Common.{◌≡◌, false}
 use Rattle.rb_engine.specs.Does.{SameStore}
 use Rattle.rb_lines.specs.Ran.{Did}
-use Rattle.rb_model.specs.Out.{Logged, call_of, caller}
+use Rattle.rb_model.specs.Lines.{call_of, caller}
+use Rattle.rb_model.specs.Out.{Logged}
 use Rattle.rb_script.specs.Commands.{command_of}
 use Rattle.rb_shell.specs.Since.{IsSince, StandsAs, slots_of}
 use Rattle.rb_shell.specs.Steps.{SaidSoFar}
