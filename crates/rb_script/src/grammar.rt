@@ -107,20 +107,25 @@ pub fn parse(line: &[u8]) -> Option<Command<'_>>
 {
     let (word, fields) = split(line)?;
     if word == b"insert".as_slice() {
-        insert_of(fields)
-    } else if word == b"update".as_slice() {
-        update_of(fields)
-    } else if word == b"delete".as_slice() {
-        delete_of(fields)
-    } else if word == b"commit".as_slice() {
-        commit_of(fields)
-    } else if word == b"open".as_slice() {
-        open_of(fields)
-    } else if word == b"fetch".as_slice() {
-        fetch_of(fields)
-    } else if word == b"close".as_slice() {
-        close_of(fields)
-    } else {
-        None
+        return insert_of(fields);
     }
+    if word == b"update".as_slice() {
+        return update_of(fields);
+    }
+    if word == b"delete".as_slice() {
+        return delete_of(fields);
+    }
+    if word == b"commit".as_slice() {
+        return commit_of(fields);
+    }
+    if word == b"open".as_slice() {
+        return open_of(fields);
+    }
+    if word == b"fetch".as_slice() {
+        return fetch_of(fields);
+    }
+    if word == b"close".as_slice() {
+        return close_of(fields);
+    }
+    None
 }
