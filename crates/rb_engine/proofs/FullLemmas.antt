@@ -19,7 +19,7 @@ use Rattle.rb_versions.specs.declared.change.RowChange.{RowChange}
 use Rattle.rb_versions.specs.Changes.{changes_of, is_change_of}
 use Rattle.rb_versions.specs.Homes.{is_in_use, IsFull}
 use Rattle.rb_versions.proofs.HomeLemmas.{distinct_none}
-use Rattle.rb_engine.specs.declared.cursor.OpenCursor.{OpenCursor}
+use Rattle.rb_engine.specs.declared.cursor.Cursor.{Cursor as KeptCursor}
 use Rattle.rb_engine.specs.Kept.{last_end, Rising, state_view}
 use Rattle.rb_engine.proofs.KeptLemmas.{rows_committed}
 
@@ -209,7 +209,7 @@ held_is : (t q : ℕ) (changes : List RowChange) → list_any (is_of t q) (chang
 held_is t q [] = refl
 held_is t q (p ∷ changes) = ap (λ b. is_change_of t q p || b) (held_is t q changes)
 
-pub view_uses : (shape : Shape) (base base_length : ℕ) (ends : List ℕ) (changes : List RowChange) (cursors : List OpenCursor) (stopped : Bool) (t q : ℕ) → Rising base_length ends
+pub view_uses : (shape : Shape) (base base_length : ℕ) (ends : List ℕ) (changes : List RowChange) (cursors : List KeptCursor) (stopped : Bool) (t q : ℕ) → Rising base_length ends
     → uses (state_view shape base base_length ends changes cursors stopped) t q ≡ is_in_use shape.blocks changes (last_end base_length ends) t q
 view_uses shape base base_length ends changes cursors stopped t q r =
     let own = drop (last_end base_length ends) changes in
@@ -218,7 +218,7 @@ view_uses shape base base_length ends changes cursors stopped t q r =
     ∙ ap (λ b. has_row t q (over shape.blocks [] (changes_of (take (last_end base_length ends) changes))) || b) (held_is t q own)
 
 -- what a search for sixteen keys in use tells of the machine's home
-pub full_view : (shape : Shape) (base base_length : ℕ) (ends : List ℕ) (changes : List RowChange) (cursors : List OpenCursor) (stopped : Bool) (table key : ℕ) (full : Bool) → Rising base_length ends
+pub full_view : (shape : Shape) (base base_length : ℕ) (ends : List ℕ) (changes : List RowChange) (cursors : List KeptCursor) (stopped : Bool) (table key : ℕ) (full : Bool) → Rising base_length ends
     → (full ≡ true → IsFull shape.blocks changes (last_end base_length ends) table key) → (full ≡ false → IsFull shape.blocks changes (last_end base_length ends) table key → ⊥)
     → full_block (state_view shape base base_length ends changes cursors stopped) table key ≡ full
 full_view shape base base_length ends changes cursors stopped table key true r makes never =

@@ -15,7 +15,7 @@ use Rattle.rb_model.specs.Reply.{rows_now, with_own, committed, after_refusal}
 use Rattle.rb_model.specs.declared.refusal.Refusal.{Refusal}
 use Rattle.rb_model.specs.declared.refusal.Refusal.TheVariants.{DiskFault}
 use Rattle.rb_model.proofs.Stops.{other_refusal, refused_same}
-use Rattle.rb_engine.specs.declared.cursor.OpenCursor.{OpenCursor}
+use Rattle.rb_engine.specs.declared.cursor.Cursor.{Cursor as KeptCursor}
 use Rattle.rb_versions.specs.declared.change.RowChange.{RowChange}
 use Rattle.rb_versions.specs.Changes.{changes_of, change_of}
 use Rattle.rb_versions.specs.Next.{asked, given_count}
@@ -89,7 +89,7 @@ rows_from blocks base base_length ends changes n visible r within =
     ∙ ap changes_of (three base_length e visible changes low within))
 
 -- the rows that a cursor answers
-pub cursor_rows_view : (shape : Shape) (base base_length : ℕ) (ends : List ℕ) (changes : List RowChange) (cursors : List OpenCursor) (stopped : Bool) (c : OpenCursor) → Rising base_length ends → end_at base base_length ends c.number ≤ c.visible
+pub cursor_rows_view : (shape : Shape) (base base_length : ℕ) (ends : List ℕ) (changes : List RowChange) (cursors : List KeptCursor) (stopped : Bool) (c : KeptCursor) → Rising base_length ends → end_at base base_length ends c.number ≤ c.visible
     → cursor_rows (state_view shape base base_length ends changes cursors stopped) (cursor_view shape.blocks base base_length ends changes c) ≡ asked c.table c.lo c.hi (rows_of shape.blocks c.visible changes)
 cursor_rows_view shape base base_length ends changes cursors stopped c r within =
     ap (asked c.table c.lo c.hi) (rows_from shape.blocks base base_length ends changes c.number c.visible r within)
@@ -118,7 +118,7 @@ rows_committed shape base base_length ends changes r =
     ∙ rows_from shape.blocks base base_length ends changes n l r (rw e (omega arith))
 
 -- the rows that the session sees now
-pub rows_now_view : (shape : Shape) (base base_length : ℕ) (ends : List ℕ) (changes : List RowChange) (cursors : List OpenCursor) (stopped : Bool) → Rising base_length ends → last_end base_length ends ≤ length changes
+pub rows_now_view : (shape : Shape) (base base_length : ℕ) (ends : List ℕ) (changes : List RowChange) (cursors : List KeptCursor) (stopped : Bool) → Rising base_length ends → last_end base_length ends ≤ length changes
     → rows_now (state_view shape base base_length ends changes cursors stopped) 1 ≡ over shape.blocks [] (changes_of changes)
 rows_now_view shape base base_length ends changes cursors stopped r within =
     let n = base + length (cut base_length ends changes) in
@@ -143,19 +143,19 @@ cut-push start (e ∷ ends) changes p r within =
     ap (λ xs. changes_of xs ∷ cut e ends (changes ++ p ∷ [])) (between-push start e changes p (let up = r.0 in omega (arith, up)) low)
     ∙ ap (λ xs. changes_of (between start e changes) ∷ xs) (cut-push e ends changes p r.1 within)
 
-cursor-push : (blocks base base_length : ℕ) (ends : List ℕ) (changes : List RowChange) (p : RowChange) (c : OpenCursor) → c.visible ≤ length changes → cursor_view blocks base base_length ends (changes ++ p ∷ []) c ≡ cursor_view blocks base base_length ends changes c
+cursor-push : (blocks base base_length : ℕ) (ends : List ℕ) (changes : List RowChange) (p : RowChange) (c : KeptCursor) → c.visible ≤ length changes → cursor_view blocks base base_length ends (changes ++ p ∷ []) c ≡ cursor_view blocks base base_length ends changes c
 cursor-push blocks base base_length ends changes p c within =
     let e : take c.visible (changes ++ p ∷ []) ≡ take c.visible changes = take-append-le c.visible changes (p ∷ []) within in
     rw e refl
 
-cursors-push : (blocks base base_length : ℕ) (ends : List ℕ) (changes : List RowChange) (p : RowChange) (cursors : List OpenCursor) → AllByRecursion (IsOpened base base_length ends (length changes)) cursors
+cursors-push : (blocks base base_length : ℕ) (ends : List ℕ) (changes : List RowChange) (p : RowChange) (cursors : List KeptCursor) → AllByRecursion (IsOpened base base_length ends (length changes)) cursors
     → map (cursor_view blocks base base_length ends (changes ++ p ∷ [])) cursors ≡ map (cursor_view blocks base base_length ends changes) cursors
 cursors-push blocks base base_length ends changes p [] all = refl
 cursors-push blocks base base_length ends changes p (c ∷ cursors) all =
     ap (λ x. x ∷ map (cursor_view blocks base base_length ends (changes ++ p ∷ [])) cursors) (cursor-push blocks base base_length ends changes p c all.0.within)
     ∙ ap (λ xs. cursor_view blocks base base_length ends changes c ∷ xs) (cursors-push blocks base base_length ends changes p cursors all.1)
 
-pub view-push : (shape : Shape) (base base_length : ℕ) (ends : List ℕ) (changes : List RowChange) (cursors : List OpenCursor) (stopped : Bool) (p : RowChange)
+pub view-push : (shape : Shape) (base base_length : ℕ) (ends : List ℕ) (changes : List RowChange) (cursors : List KeptCursor) (stopped : Bool) (p : RowChange)
     → Rising base_length ends → last_end base_length ends ≤ length changes → AllByRecursion (IsOpened base base_length ends (length changes)) cursors
     → state_view shape base base_length ends (changes ++ p ∷ []) cursors stopped
     ≡ with_own (state_view shape base base_length ends changes cursors stopped) 1 (changes_of (drop (last_end base_length ends) changes) ++ change_of p ∷ [])
@@ -185,20 +185,20 @@ rising-push start (e ∷ ends) n r within = (r.0, rising-push e ends n r.1 withi
 end_at-push : (base base_length : ℕ) (ends : List ℕ) (n k : ℕ) → base ≤ k → k ≤ base + length ends → end_at base base_length (ends ++ n ∷ []) k ≡ end_at base base_length ends k
 end_at-push base base_length ends n k low high = ap (last_end base_length) (take-append-le (k - base) ends (n ∷ []) (omega arith))
 
-cursors-commit : (blocks base base_length : ℕ) (ends : List ℕ) (n : ℕ) (changes : List RowChange) (cursors : List OpenCursor) → AllByRecursion (IsOpened base base_length ends (length changes)) cursors
+cursors-commit : (blocks base base_length : ℕ) (ends : List ℕ) (n : ℕ) (changes : List RowChange) (cursors : List KeptCursor) → AllByRecursion (IsOpened base base_length ends (length changes)) cursors
     → map (cursor_view blocks base base_length (ends ++ n ∷ []) changes) cursors ≡ map (cursor_view blocks base base_length ends changes) cursors
 cursors-commit blocks base base_length ends n changes [] all = refl
 cursors-commit blocks base base_length ends n changes (c ∷ cursors) all =
     let e = end_at-push base base_length ends n c.number all.0.no_earlier all.0.no_later in
     rw (e, cursors-commit blocks base base_length ends n changes cursors all.1) refl
 
-pub opened-commit : (base base_length : ℕ) (ends : List ℕ) (n count : ℕ) (cursors : List OpenCursor) → AllByRecursion (IsOpened base base_length ends count) cursors → AllByRecursion (IsOpened base base_length (ends ++ n ∷ []) count) cursors
+pub opened-commit : (base base_length : ℕ) (ends : List ℕ) (n count : ℕ) (cursors : List KeptCursor) → AllByRecursion (IsOpened base base_length ends count) cursors → AllByRecursion (IsOpened base base_length (ends ++ n ∷ []) count) cursors
 opened-commit base base_length ends n count cursors all =
     all_so (IsOpened base base_length ends count) (IsOpened base base_length (ends ++ n ∷ []) count) cursors
     (λ c is. let e = end_at-push base base_length ends n c.number is.no_earlier is.no_later in
     record { no_earlier = is.no_earlier; no_later = let l = length-append ends (n ∷ []) in omega (arith, is.no_later, l); sees_commits = rw e is.sees_commits; within = is.within }) all
 
-pub view-commit : (shape : Shape) (base base_length : ℕ) (ends : List ℕ) (changes : List RowChange) (cursors : List OpenCursor) (stopped : Bool)
+pub view-commit : (shape : Shape) (base base_length : ℕ) (ends : List ℕ) (changes : List RowChange) (cursors : List KeptCursor) (stopped : Bool)
     → AllByRecursion (IsOpened base base_length ends (length changes)) cursors
     → state_view shape base base_length (ends ++ length changes ∷ []) changes cursors stopped ≡ committed (state_view shape base base_length ends changes cursors stopped) 1
 view-commit shape base base_length ends changes cursors stopped all =
@@ -215,7 +215,7 @@ none_given_yet blocks [] = refl
 none_given_yet blocks (r ∷ rows) = none_given_yet blocks rows
 
 -- a cursor that is opened now
-pub fresh_view : (blocks base base_length : ℕ) (ends : List ℕ) (changes : List RowChange) (c : OpenCursor)
+pub fresh_view : (blocks base base_length : ℕ) (ends : List ℕ) (changes : List RowChange) (c : KeptCursor)
     → c.number ≡ base + length (cut base_length ends changes) → c.visible ≡ length changes → c.last ≡ None
     → cursor_view blocks base base_length ends changes c
     ≡ record { name = c.name.items; table = c.table; lo = c.lo; hi = c.hi; number = base + length (cut base_length ends changes); own = changes_of (drop (last_end base_length ends) changes); taken = 0 }
@@ -227,25 +227,25 @@ fresh_view blocks base base_length ends changes c n v l =
 -- the cursor of a name
 
 -- each earlier cursor has another name, and this one has it
-pub place_from : (p : OpenCursor → Bool) (cursors : List OpenCursor) (i : ℕ) (d : OpenCursor) → i < length cursors → ((k : ℕ) → k < i → p (get_or cursors k d) ≡ false) → p (get_or cursors i d) ≡ true → IsPlace p cursors i
+pub place_from : (p : KeptCursor → Bool) (cursors : List KeptCursor) (i : ℕ) (d : KeptCursor) → i < length cursors → ((k : ℕ) → k < i → p (get_or cursors k d) ≡ false) → p (get_or cursors i d) ≡ true → IsPlace p cursors i
 place_from p [] i d l before here = absurd (omega arith)
 place_from p (c ∷ cursors) zero d l before here = here
 place_from p (c ∷ cursors) (suc i) d l before here = (before 0 (omega arith), place_from p cursors i d (omega arith) (λ k h. before (suc k) (omega arith)) here)
 
 -- no cursor has the name
-pub none_named : (blocks base base_length : ℕ) (ends : List ℕ) (changes : List RowChange) (name : List ℕ) (cursors : List OpenCursor) (d : OpenCursor) → ((k : ℕ) → k < length cursors → has_name name (get_or cursors k d) ≡ false)
+pub none_named : (blocks base base_length : ℕ) (ends : List ℕ) (changes : List RowChange) (name : List ℕ) (cursors : List KeptCursor) (d : KeptCursor) → ((k : ℕ) → k < length cursors → has_name name (get_or cursors k d) ≡ false)
     → find (λ cursor. bytes_eq cursor.name name) (map (cursor_view blocks base base_length ends changes) cursors) ≡ None
 none_named blocks base base_length ends changes name [] d h = refl
 none_named blocks base base_length ends changes name (c ∷ cursors) d h =
     cond-false (has_name name c) _ _ (h 0 (omega arith)) ∙ none_named blocks base base_length ends changes name cursors d (λ k l. h (suc k) (omega arith))
 
-pub find_at_place : (blocks base base_length : ℕ) (ends : List ℕ) (changes : List RowChange) (name : List ℕ) (cursors : List OpenCursor) (i : ℕ) (d : OpenCursor) → IsPlace (has_name name) cursors i
+pub find_at_place : (blocks base base_length : ℕ) (ends : List ℕ) (changes : List RowChange) (name : List ℕ) (cursors : List KeptCursor) (i : ℕ) (d : KeptCursor) → IsPlace (has_name name) cursors i
     → find (λ cursor. bytes_eq cursor.name name) (map (cursor_view blocks base base_length ends changes) cursors) ≡ Some (cursor_view blocks base base_length ends changes (get_or cursors i d))
 find_at_place blocks base base_length ends changes name [] i d h = absurd h
 find_at_place blocks base base_length ends changes name (c ∷ cursors) zero d h = cond-true (has_name name c) _ _ h
 find_at_place blocks base base_length ends changes name (c ∷ cursors) (suc i) d h = cond-false (has_name name c) _ _ h.0 ∙ find_at_place blocks base base_length ends changes name cursors i d h.1
 
-pub taken_at_place : (blocks base base_length : ℕ) (ends : List ℕ) (changes : List RowChange) (name : List ℕ) (cursors : List OpenCursor) (i : ℕ) (d c' : OpenCursor) → IsPlace (has_name name) cursors i
+pub taken_at_place : (blocks base base_length : ℕ) (ends : List ℕ) (changes : List RowChange) (name : List ℕ) (cursors : List KeptCursor) (i : ℕ) (d c' : KeptCursor) → IsPlace (has_name name) cursors i
     → cursor_view blocks base base_length ends changes c' ≡ record (cursor_view blocks base base_length ends changes (get_or cursors i d)) { taken = suc (cursor_view blocks base base_length ends changes (get_or cursors i d)).taken }
     → with_taken name (map (cursor_view blocks base base_length ends changes) cursors) ≡ map (cursor_view blocks base base_length ends changes) (set cursors i c')
 taken_at_place blocks base base_length ends changes name [] i d c' h e = absurd h
@@ -253,7 +253,7 @@ taken_at_place blocks base base_length ends changes name (c ∷ cursors) zero d 
 taken_at_place blocks base base_length ends changes name (c ∷ cursors) (suc i) d c' h e =
     cond-false (has_name name c) _ _ h.0 ∙ ap (λ xs. cursor_view blocks base base_length ends changes c ∷ xs) (taken_at_place blocks base base_length ends changes name cursors i d c' h.1 e)
 
-pub removed_at_place : (blocks base base_length : ℕ) (ends : List ℕ) (changes : List RowChange) (name : List ℕ) (cursors : List OpenCursor) (i : ℕ) → IsPlace (has_name name) cursors i
+pub removed_at_place : (blocks base base_length : ℕ) (ends : List ℕ) (changes : List RowChange) (name : List ℕ) (cursors : List KeptCursor) (i : ℕ) → IsPlace (has_name name) cursors i
     → without_cursor name (map (cursor_view blocks base base_length ends changes) cursors) ≡ map (cursor_view blocks base base_length ends changes) (remove cursors i)
 removed_at_place blocks base base_length ends changes name [] i h = absurd h
 removed_at_place blocks base base_length ends changes name (c ∷ cursors) zero h = cond-true (has_name name c) _ _ h
@@ -269,13 +269,13 @@ last_end_is start [] e h = cc
 last_end_is start (x ∷ []) e h = cc
 last_end_is start (x ∷ y ∷ ends) e h = last_end_is x (y ∷ ends) e (subst (λ n. slice_get (x ∷ y ∷ ends) n ≡ Some e) (last_step (length ends)) h)
 
-opened-push : (base base_length : ℕ) (ends : List ℕ) (count more : ℕ) (cursors : List OpenCursor) → count ≤ more → AllByRecursion (IsOpened base base_length ends count) cursors → AllByRecursion (IsOpened base base_length ends more) cursors
+opened-push : (base base_length : ℕ) (ends : List ℕ) (count more : ℕ) (cursors : List KeptCursor) → count ≤ more → AllByRecursion (IsOpened base base_length ends count) cursors → AllByRecursion (IsOpened base base_length ends more) cursors
 opened-push base base_length ends count more cursors le all =
     all_so (IsOpened base base_length ends count) (IsOpened base base_length ends more) cursors
     (λ c is. record { no_earlier = is.no_earlier; no_later = is.no_later; sees_commits = is.sees_commits; within = omega (arith, is.within, le) }) all
 
 -- the memory stays in order with one more change
-pub kept-push : (shape : Shape) (base base_length : ℕ) (ends : List ℕ) (changes : List RowChange) (cursors : List OpenCursor) (old_room new_room ends_room : ℕ) (p : RowChange) (more : List RowChange)
+pub kept-push : (shape : Shape) (base base_length : ℕ) (ends : List ℕ) (changes : List RowChange) (cursors : List KeptCursor) (old_room new_room ends_room : ℕ) (p : RowChange) (more : List RowChange)
     → IsKept shape base base_length ends changes cursors old_room ends_room → more ≡ changes ++ p ∷ [] → length changes < old_room → new_room ≡ old_room
     → IsKept shape base base_length ends more cursors new_room ends_room
 kept-push shape base base_length ends changes cursors old_room new_room ends_room p more kept e room same =
@@ -296,13 +296,13 @@ pub after_other_refusal : (h : State) (why : Refusal) → why ≢ DiskFault → 
 after_other_refusal h why other = refused_same h why (other_refusal why other)
 
 -- a cursor that is opened now is in order
-pub opened_now : (base base_length : ℕ) (ends : List ℕ) (changes : List RowChange) (c : OpenCursor) → last_end base_length ends ≤ length changes → c.number ≡ base + length ends → c.visible ≡ length changes → IsOpened base base_length ends (length changes) c
+pub opened_now : (base base_length : ℕ) (ends : List ℕ) (changes : List RowChange) (c : KeptCursor) → last_end base_length ends ≤ length changes → c.number ≡ base + length ends → c.visible ≡ length changes → IsOpened base base_length ends (length changes) c
 opened_now base base_length ends changes c within n v =
     let e : end_at base base_length ends c.number ≡ last_end base_length ends = ap (last_end base_length) (take_all (c.number - base) ends (omega (arith, n))) in
     record { no_earlier = omega (arith, n); no_later = omega (arith, n); sees_commits = omega (arith, e, v, within); within = omega (arith, v) }
 
 -- the memory stays in order with other cursors
-pub kept-cursors : (shape : Shape) (base base_length : ℕ) (ends : List ℕ) (changes : List RowChange) (old new : List OpenCursor) (room ends_room : ℕ)
+pub kept-cursors : (shape : Shape) (base base_length : ℕ) (ends : List ℕ) (changes : List RowChange) (old new : List KeptCursor) (room ends_room : ℕ)
     → IsKept shape base base_length ends changes old room ends_room → AllByRecursion (IsOpened base base_length ends (length changes)) new → IsKept shape base base_length ends changes new room ends_room
 kept-cursors shape base base_length ends changes old new room ends_room kept all = record {
   some_blocks = kept.some_blocks;
@@ -316,7 +316,7 @@ kept-cursors shape base base_length ends changes old new room ends_room kept all
 }
 
 -- and with one more commit
-pub kept-commit : (shape : Shape) (base base_length : ℕ) (ends more : List ℕ) (changes : List RowChange) (cursors : List OpenCursor) (room old_room new_room : ℕ)
+pub kept-commit : (shape : Shape) (base base_length : ℕ) (ends more : List ℕ) (changes : List RowChange) (cursors : List KeptCursor) (room old_room new_room : ℕ)
     → IsKept shape base base_length ends changes cursors room old_room → more ≡ ends ++ length changes ∷ [] → last_end base_length ends < length changes → room ≤ new_room
     → IsKept shape base base_length more changes cursors room new_room
 kept-commit shape base base_length ends more changes cursors room old_room new_room kept e some enough =
@@ -333,7 +333,7 @@ kept-commit shape base base_length ends more changes cursors room old_room new_r
     }
 
 -- there is room for one more commit
-pub room_for_end : (shape : Shape) (base base_length : ℕ) (ends : List ℕ) (changes : List RowChange) (cursors : List OpenCursor) (room ends_room : ℕ)
+pub room_for_end : (shape : Shape) (base base_length : ℕ) (ends : List ℕ) (changes : List RowChange) (cursors : List KeptCursor) (room ends_room : ℕ)
     → IsKept shape base base_length ends changes cursors room ends_room → last_end base_length ends < length changes → length ends < ends_room
 room_for_end shape base base_length ends changes cursors room ends_room kept some =
     let n = ends_within base_length ends kept.in_order in
@@ -354,7 +354,7 @@ pub no_ends : (start : ℕ) (ends : List ℕ) (changes : List RowChange) → cut
 no_ends start [] changes e = refl
 no_ends start (x ∷ ends) changes e = cc
 
-pub no_cursors : (view : OpenCursor → Cursor) (cursors : List OpenCursor) → map view cursors ≡ [] → cursors ≡ []
+pub no_cursors : (view : KeptCursor → Cursor) (cursors : List KeptCursor) → map view cursors ≡ [] → cursors ≡ []
 no_cursors view [] e = refl
 no_cursors view (c ∷ cursors) e = cc
 
@@ -366,7 +366,7 @@ no_own start changes e =
     omega (arith, z, m, n)
 
 -- with one more change that is found
-pub kept-found : (shape : Shape) (base base_length count : ℕ) (ends : List ℕ) (changes more : List RowChange) (cursors : List OpenCursor) (old_room new_room ends_room : ℕ) (p : RowChange)
+pub kept-found : (shape : Shape) (base base_length count : ℕ) (ends : List ℕ) (changes more : List RowChange) (cursors : List KeptCursor) (old_room new_room ends_room : ℕ) (p : RowChange)
     → IsKept shape base base_length ends changes cursors old_room ends_room → ends ≡ [] → cursors ≡ [] → more ≡ changes ++ p ∷ [] → count ≡ length more → length changes < old_room → new_room ≡ old_room
     → IsKept shape base count ends more cursors new_room ends_room
 kept-found shape base base_length count ends changes more cursors old_room new_room ends_room p kept none none_open e n room same =
@@ -380,11 +380,11 @@ kept-found shape base base_length count ends changes more cursors old_room new_r
       within = omega (arith, l);
       within_room = omega (arith, m, room, same);
       room_for_ends = subst (λ r. r ≤ ends_room) (sym same) kept.room_for_ends;
-      each_cursor = subst (λ (cs : List OpenCursor). AllByRecursion (IsOpened base count ends (length more)) cs) (sym none_open) tt;
+      each_cursor = subst (λ (cs : List KeptCursor). AllByRecursion (IsOpened base count ends (length more)) cs) (sym none_open) tt;
     }
 
 -- a change that puts a row, as the last that was found
-pub view-found : (shape : Shape) (base base_length count : ℕ) (ends : List ℕ) (changes more : List RowChange) (cursors : List OpenCursor) (stopped : Bool) (p : RowChange) (table key : ℕ) (value : List ℕ)
+pub view-found : (shape : Shape) (base base_length count : ℕ) (ends : List ℕ) (changes more : List RowChange) (cursors : List KeptCursor) (stopped : Bool) (p : RowChange) (table key : ℕ) (value : List ℕ)
     → ends ≡ [] → cursors ≡ [] → length changes ≤ base_length → more ≡ changes ++ p ∷ [] → count ≡ length more → change_of p ≡ put table key value → stopped ≡ false
     → state_view shape base count ends more cursors stopped
     ≡ opened shape base (with_row shape.blocks (record { table = table; key = key; value = value }) (rows_of shape.blocks base_length changes))

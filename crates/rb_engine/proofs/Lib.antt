@@ -6,6 +6,7 @@ pub mod FoundLemmas
 pub mod FullLemmas
 pub mod HoldsLemmas
 pub mod KeptLemmas
+pub mod MemoryLemmas
 pub mod NumberLemmas
 pub mod OneHolding
 pub mod StateLemmas

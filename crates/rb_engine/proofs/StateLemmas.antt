@@ -1,5 +1,5 @@
 -- What the fields of the state say of the machine's answers.
-use Rattle.std.proofs.Common.{◌≡◌, ℕ, zero, suc, ◌+◌, ◌<◌, ◌≤◌, Bool, true, false, not, ◌&&◌, cond, List, [], ◌∷◌, ◌++◌, length, take, drop, map, set, get_or, refl, ap, sym, ◌∙◌, subst, Option, None, Some, IfSome, IfNone, is_some, is_none, nat_le, nat_lt, arith, Result, Ok}
+use Rattle.std.proofs.Common.{◌≡◌, ℕ, zero, suc, ◌+◌, ◌<◌, ◌≤◌, Bool, true, false, not, cond, List, [], ◌∷◌, ◌++◌, length, take, drop, map, set, get_or, refl, ap, sym, ◌∙◌, subst, Option, None, Some, IfSome, IfNone, is_some, is_none, nat_le, nat_lt, arith, Result, Ok}
 use Rattle.std.proofs.lemmas.Bool.Decides.{nat_tests}
 use Rattle.std.proofs.lemmas.List.{length-map, map_push, take_all}
 use Rattle.std.proofs.lemmas.Bool.{le-leb, and_parts, not-true, cond-false}
@@ -12,10 +12,10 @@ use Rattle.rb_model.specs.Reply as machine
 use Rattle.rb_model.specs.Full.{full_block}
 use Rattle.rb_model.specs.Reply.{Action, Answer, Write, Commit, Fetch, Done, Numbered, Given, End, Refused, adds, expected, first_of, none_applies, early_tests, later_tests, log_tests, rows_now, next_row, given, is_empty, after_grant}
 use Rattle.rb_model.specs.declared.refusal.Refusal.{Refusal}
-use Rattle.rb_model.specs.declared.refusal.Refusal.TheVariants.{Duplicate, NotFound, BlockFull, NoCursor, CursorThere, TooManyCursors}
+use Rattle.rb_model.specs.declared.refusal.Refusal.TheVariants.{NoCursor}
 use Rattle.rb_engine.specs.declared.state.EngineState.TheInside.{Inside}
 use Rattle.rb_engine.specs.contracts.state.EngineState.{the_view}
-use Rattle.rb_engine.specs.declared.cursor.OpenCursor.{OpenCursor}
+use Rattle.rb_engine.specs.declared.cursor.Cursor.{Cursor as KeptCursor}
 use Rattle.rb_versions.specs.declared.change.RowChange.{RowChange}
 use Rattle.rb_versions.specs.Changes.{changes_of}
 use Rattle.rb_versions.specs.Homes.{IsFull}
@@ -27,11 +27,6 @@ use Rattle.rb_engine.proofs.FullLemmas.{full_view}
 use Rattle.rb_engine.proofs.KeptLemmas.{find_at_place, none_named, cursor_rows_view, rows_now_view, taken_at_place, removed_at_place, fresh_view}
 
 -- the tests of a call, each with its outcome
-
-pub open_tests : (h : State) (logged room s : ℕ) (name : List ℕ) (table lo hi : ℕ) (there many : Bool) → h.stopped ≡ false → is_session h s ≡ true → is_table h table ≡ true
-    → is_some (cursor_of h s name) ≡ there → nat_le 16 (length (session_of h s).cursors) ≡ many
-    → expected h logged room (machine.OpenCursor s name table lo hi) ≡ cond there (Refused CursorThere) (cond many (Refused TooManyCursors) Done)
-open_tests h logged room s name table lo hi there many a b d e f = rw (a, b, d, e, f) refl
 
 pub fetch_tests : (h : State) (logged room s : ℕ) (name : List ℕ) (found : Option Cursor) → h.stopped ≡ false → is_session h s ≡ true → cursor_of h s name ≡ found
     → expected h logged room (Fetch s name) ≡ cond (is_none found) (Refused NoCursor) (next_row h found)
@@ -61,15 +56,12 @@ tests_behind (test ∷ tests) more good none =
     let parts = and_parts (not test.0) (none_applies tests) none in
     cond-false test.0 test.1 (first_of (tests ++ more) good) (not-true test.0 parts.0) ∙ tests_behind tests more good parts.1
 
--- a write behind its early tests
-pub write_tests : (h : State) (logged room s table key : ℕ) (action : Action) (adding there full : Bool) → none_applies (early_tests h (Write s table key action)) ≡ true → s ≡ 1
-    → adds action ≡ adding → has_row table key (rows_now h 1) ≡ there → (adding && full_block h table key) ≡ full
-    → expected h logged room (Write s table key action)
-    ≡ cond (adding && there) (Refused Duplicate) (cond (not adding && not there) (Refused NotFound) (cond full (Refused BlockFull) (first_of (log_tests logged room) Done)))
-write_tests h logged room s table key action adding there full early e a t f =
-    let now : has_row table key (rows_now h s) ≡ there = ap (λ n. has_row table key (rows_now h n)) e ∙ t in
+-- of a write that no early test refuses, the others tell
+pub write_behind : (h : State) (logged room s table key : ℕ) (action : Action) → none_applies (early_tests h (Write s table key action)) ≡ true → s ≡ 1
+    → expected h logged room (Write s table key action) ≡ first_of (later_tests h logged room (Write 1 table key action)) Done
+write_behind h logged room s table key action early e =
     tests_behind (early_tests h (Write s table key action)) (later_tests h logged room (Write s table key action)) Done early
-    ∙ (rw (a, now) (rw (f) refl))
+    ∙ ap (λ (n : ℕ). first_of (later_tests h logged room (Write n table key action)) Done) e
 
 -- what the fields say
 
@@ -89,34 +81,34 @@ cursor_count a kept s v e =
     ap (λ (k : Kept). length (session_of k.state s).cursors) (sym v) ∙ (rw (e) (length-map a.cursors.items (cursor_view a.shape.blocks a.base a.base_length a.ends.items a.versions.changes)))
 
 -- the cursor of a name, where there is one
-pub cursor_there : (a : Inside) (kept : Kept) (s : ℕ) (name : List ℕ) (i : ℕ) (d : OpenCursor) → the_view a ≡ kept → s ≡ 1 → IsPlace (has_name name) a.cursors.items i
+pub cursor_there : (a : Inside) (kept : Kept) (s : ℕ) (name : List ℕ) (i : ℕ) (d : KeptCursor) → the_view a ≡ kept → s ≡ 1 → IsPlace (has_name name) a.cursors.items i
     → cursor_of kept.state s name ≡ Some (cursor_view a.shape.blocks a.base a.base_length a.ends.items a.versions.changes (get_or a.cursors.items i d))
 cursor_there a kept s name i d v e place =
     ap (λ (k : Kept). cursor_of k.state s name) (sym v)
     ∙ (rw (e) (find_at_place a.shape.blocks a.base a.base_length a.ends.items a.versions.changes name a.cursors.items i d place))
 
-pub no_cursor : (a : Inside) (kept : Kept) (s : ℕ) (name : List ℕ) (d : OpenCursor) → the_view a ≡ kept → s ≡ 1 → ((k : ℕ) → k < length a.cursors.items → has_name name (get_or a.cursors.items k d) ≡ false)
+pub no_cursor : (a : Inside) (kept : Kept) (s : ℕ) (name : List ℕ) (d : KeptCursor) → the_view a ≡ kept → s ≡ 1 → ((k : ℕ) → k < length a.cursors.items → has_name name (get_or a.cursors.items k d) ≡ false)
     → cursor_of kept.state s name ≡ None
 no_cursor a kept s name d v e none =
     ap (λ (k : Kept). cursor_of k.state s name) (sym v)
     ∙ (rw (e) (none_named a.shape.blocks a.base a.base_length a.ends.items a.versions.changes name a.cursors.items d none))
 
-abbrev pub any_cursor : OpenCursor
+abbrev pub any_cursor : KeptCursor
 any_cursor = record { name = record { items = [] }; table = 0; lo = 0; hi = 0; number = 0; visible = 0; last = None }
 
 -- what a search for a name found, over the fields
-pub found_place : (a : Inside) (xs : List OpenCursor) (bytes name : List ℕ) (i : ℕ) → xs ≡ a.cursors.items → bytes ≡ name → IsPlace (has_name bytes) xs i → IsPlace (has_name name) a.cursors.items i
+pub found_place : (a : Inside) (xs : List KeptCursor) (bytes name : List ℕ) (i : ℕ) → xs ≡ a.cursors.items → bytes ≡ name → IsPlace (has_name bytes) xs i → IsPlace (has_name name) a.cursors.items i
 found_place a xs bytes name i e f place = subst (λ n. IsPlace (has_name n) a.cursors.items i) f (subst (λ ys. IsPlace (has_name bytes) ys i) e place)
 
-pub found_none : (a : Inside) (kept : Kept) (s : ℕ) (xs : List OpenCursor) (bytes name : List ℕ) (d : OpenCursor) → the_view a ≡ kept → s ≡ 1 → xs ≡ a.cursors.items → bytes ≡ name
-    → ((d : OpenCursor) (k : ℕ) → k < length xs → has_name bytes (get_or xs k d) ≡ false) → cursor_of kept.state s name ≡ None
+pub found_none : (a : Inside) (kept : Kept) (s : ℕ) (xs : List KeptCursor) (bytes name : List ℕ) (d : KeptCursor) → the_view a ≡ kept → s ≡ 1 → xs ≡ a.cursors.items → bytes ≡ name
+    → ((d : KeptCursor) (k : ℕ) → k < length xs → has_name bytes (get_or xs k d) ≡ false) → cursor_of kept.state s name ≡ None
 found_none a kept s xs bytes name d v e x b none =
     no_cursor a kept s name d v e (subst (λ n. (k : ℕ) → k < length a.cursors.items → has_name n (get_or a.cursors.items k d) ≡ false) b
     (subst (λ ys. (k : ℕ) → k < length ys → has_name bytes (get_or ys k d) ≡ false) x (none d)))
 
 -- a search finds a place exactly where the session has a cursor of the name
-pub search_tells : (a : Inside) (kept : Kept) (s : ℕ) (xs : List OpenCursor) (bytes name : List ℕ) (d : OpenCursor) (r : Option ℕ) → the_view a ≡ kept → s ≡ 1 → xs ≡ a.cursors.items → bytes ≡ name
-    → IfSome r (λ i. IsPlace (has_name bytes) xs i) → IfNone r ((d : OpenCursor) (k : ℕ) → k < length xs → has_name bytes (get_or xs k d) ≡ false)
+pub search_tells : (a : Inside) (kept : Kept) (s : ℕ) (xs : List KeptCursor) (bytes name : List ℕ) (d : KeptCursor) (r : Option ℕ) → the_view a ≡ kept → s ≡ 1 → xs ≡ a.cursors.items → bytes ≡ name
+    → IfSome r (λ i. IsPlace (has_name bytes) xs i) → IfNone r ((d : KeptCursor) (k : ℕ) → k < length xs → has_name bytes (get_or xs k d) ≡ false)
     → is_some (cursor_of kept.state s name) ≡ is_some r
 search_tells a kept s xs bytes name d (Some i) v e x b place none = ap is_some (cursor_there a kept s name i d v e (found_place a xs bytes name i x b place))
 search_tells a kept s xs bytes name d None v e x b place none = ap is_some (found_none a kept s xs bytes name d v e x b none)
@@ -146,7 +138,7 @@ full_now a kept committed table key ends full v rising f e b makes never =
 
 -- what a cursor gives next
 
-pub next_row_view : (a : Inside) (kept : Kept) (c : OpenCursor) (d : Option TableRow) → the_view a ≡ kept
+pub next_row_view : (a : Inside) (kept : Kept) (c : KeptCursor) (d : Option TableRow) → the_view a ≡ kept
     → slice_get (asked c.table c.lo c.hi (rows_of a.shape.blocks c.visible a.versions.changes)) (given_count a.shape.blocks c.last (asked c.table c.lo c.hi (rows_of a.shape.blocks c.visible a.versions.changes))) ≡ d
     → cursor_rows kept.state (cursor_view a.shape.blocks a.base a.base_length a.ends.items a.versions.changes c) ≡ asked c.table c.lo c.hi (rows_of a.shape.blocks c.visible a.versions.changes)
     → next_row kept.state (Some (cursor_view a.shape.blocks a.base a.base_length a.ends.items a.versions.changes c)) ≡ given d
@@ -154,7 +146,7 @@ next_row_view a kept c d v e rows =
     ap (λ rs. given (slice_get rs (given_count a.shape.blocks c.last (asked c.table c.lo c.hi (rows_of a.shape.blocks c.visible a.versions.changes))))) rows ∙ ap given e
 
 -- the state with one more cursor, that has given nothing
-pub view-open : (a : Inside) (kept : Kept) (cs : List OpenCursor) (c : OpenCursor) (name : List ℕ) (table lo hi : ℕ) → the_view a ≡ kept → cs ≡ a.cursors.items ++ c ∷ []
+pub view-open : (a : Inside) (kept : Kept) (cs : List KeptCursor) (c : KeptCursor) (name : List ℕ) (table lo hi : ℕ) → the_view a ≡ kept → cs ≡ a.cursors.items ++ c ∷ []
     → c.name.items ≡ name → c.table ≡ table → c.lo ≡ lo → c.hi ≡ hi → c.number ≡ last_scn kept.state.commits → c.visible ≡ length a.versions.changes → c.last ≡ None
     → state_view a.shape a.base a.base_length a.ends.items a.versions.changes cs a.stopped ≡ after_grant kept.state (machine.OpenCursor 1 name table lo hi)
 view-open a kept cs c name table lo hi v e n t l h number visible last =
@@ -167,7 +159,7 @@ view-open a kept cs c name table lo hi v e n t l h number visible last =
     ∙ ap (λ (k : Kept). after_grant k.state (machine.OpenCursor 1 name table lo hi)) v
 
 -- what a fetch gives, by the row that the changes make next
-pub fetch_gives : (a : Inside) (kept : Kept) (logged room s : ℕ) (name : List ℕ) (i : ℕ) (d : OpenCursor) (o : Option TableRow) → the_view a ≡ kept → Rising a.base_length a.ends.items
+pub fetch_gives : (a : Inside) (kept : Kept) (logged room s : ℕ) (name : List ℕ) (i : ℕ) (d : KeptCursor) (o : Option TableRow) → the_view a ≡ kept → Rising a.base_length a.ends.items
     → AllByRecursion (IsOpened a.base a.base_length a.ends.items (length a.versions.changes)) a.cursors.items → a.stopped ≡ false → s ≡ 1 → IsPlace (has_name name) a.cursors.items i → i < length a.cursors.items
     → next_of a.shape.blocks (get_or a.cursors.items i d).table (get_or a.cursors.items i d).lo (get_or a.cursors.items i d).hi (get_or a.cursors.items i d).last (changes_of (take (get_or a.cursors.items i d).visible a.versions.changes)) ≡ o
     → expected kept.state logged room (Fetch s name) ≡ given o
@@ -183,7 +175,7 @@ fetch_gives a kept logged room s name i d o v rising all go e place within next 
     (next_is_wanted a.shape.blocks c.table c.lo c.hi c.last (rows_of a.shape.blocks c.visible a.versions.changes) (ordered-rows a.shape.blocks a.versions.changes c.visible) ∙ next) rows
 
 -- the state where the cursor of a name has given one more row
-pub view-fetch : (a : Inside) (kept : Kept) (s : ℕ) (name : List ℕ) (i : ℕ) (d : OpenCursor) (r : TableRow) (key : ℕ) (cs : List OpenCursor) → the_view a ≡ kept → s ≡ 1 → IsPlace (has_name name) a.cursors.items i
+pub view-fetch : (a : Inside) (kept : Kept) (s : ℕ) (name : List ℕ) (i : ℕ) (d : KeptCursor) (r : TableRow) (key : ℕ) (cs : List KeptCursor) → the_view a ≡ kept → s ≡ 1 → IsPlace (has_name name) a.cursors.items i
     → cs ≡ set a.cursors.items i (record (get_or a.cursors.items i d) { last = Some key }) → key ≡ r.key
     → next_of a.shape.blocks (get_or a.cursors.items i d).table (get_or a.cursors.items i d).lo (get_or a.cursors.items i d).hi (get_or a.cursors.items i d).last (changes_of (take (get_or a.cursors.items i d).visible a.versions.changes)) ≡ Some r
     → state_view a.shape a.base a.base_length a.ends.items a.versions.changes cs a.stopped ≡ after_grant kept.state (Fetch s name)
@@ -202,7 +194,7 @@ view-fetch a kept s name i d r key cs v e place f k next =
     ∙ ap (λ n. after_grant kept.state (Fetch n name)) (sym e)
 
 -- the state without the cursor of a name
-pub view-close : (a : Inside) (kept : Kept) (s : ℕ) (name : List ℕ) (i : ℕ) (cs : List OpenCursor) → the_view a ≡ kept → s ≡ 1 → IsPlace (has_name name) a.cursors.items i → cs ≡ remove a.cursors.items i
+pub view-close : (a : Inside) (kept : Kept) (s : ℕ) (name : List ℕ) (i : ℕ) (cs : List KeptCursor) → the_view a ≡ kept → s ≡ 1 → IsPlace (has_name name) a.cursors.items i → cs ≡ remove a.cursors.items i
     → state_view a.shape a.base a.base_length a.ends.items a.versions.changes cs a.stopped ≡ after_grant kept.state (machine.CloseCursor s name)
 view-close a kept s name i cs v e place f =
     let view = cursor_view a.shape.blocks a.base a.base_length a.ends.items a.versions.changes in

@@ -10,7 +10,7 @@ use Rattle.rb_model.specs.Change.{Change, Kind, Put, Gone, Held}
 use Rattle.rb_model.specs.Rows.{TableRow, row_before, is_row_of, has_row, with_row, changed_by, over, rows_at}
 use Rattle.rb_model.specs.State.{State, Session, session_of, fresh_session}
 use Rattle.rb_model.specs.Full.{has_key, held, used_keys, full_block}
-use Rattle.rb_model.specs.Reply.{Action, Insert, Update, Delete, Call, Write, Commit, OpenCursor, Fetch, CloseCursor, Answer, Done, Waits, Numbered, Given, End, Refused, adds, change_by, is_empty, rows_now, after, after_grant, committed}
+use Rattle.rb_model.specs.Reply.{Action, Insert, Update, Delete, Call, Write, Answer, Done, Waits, Numbered, Given, End, Refused, adds, change_by, rows_now, after, after_grant, committed}
 use Rattle.rb_model.proofs.Stops.{sessions_refused}
 use Rattle.rb_engine.proofs.KeptLemmas.{over-append}
 use Rattle.rb_engine.proofs.FullLemmas.{distinct_within, is_of, rows_last, uses, used_has, used_home, distinct_used}
@@ -272,11 +272,7 @@ pub sessions_committed : (h : State) (n : ℕ) → length (committed h n).sessio
 sessions_committed h n = length-set h.sessions (n - 1) (record { own = []; cursors = (session_of h n).cursors })
 
 pub sessions_granted : (h : State) (call : Call) → length (after_grant h call).sessions ≡ length h.sessions
-sessions_granted h (Write n table key action) = length-set h.sessions (n - 1) _
-sessions_granted h (Commit n) = cond_both (is_empty (session_of h n).own) h (committed h n) (λ (g : State). length g.sessions ≡ length h.sessions) (λ nothing. refl) (λ some. sessions_committed h n)
-sessions_granted h (OpenCursor n name table lo hi) = length-set h.sessions (n - 1) _
-sessions_granted h (Fetch n name) = length-set h.sessions (n - 1) _
-sessions_granted h (CloseCursor n name) = length-set h.sessions (n - 1) _
+sessions_granted h call = grind (arith, length-set)
 
 pub sessions_after : (h : State) (call : Call) (answer : Answer) → length (after h call answer).sessions ≡ length h.sessions
 sessions_after h call Done = sessions_granted h call

@@ -7,7 +7,7 @@ use Rattle.rb_base.specs.declared.shape.Shape.{Shape}
 use Rattle.rb_model.specs.Change.{Change}
 use Rattle.rb_model.specs.Rows.{TableRow, over}
 use Rattle.rb_model.specs.State.{State, Cursor}
-use Rattle.rb_engine.specs.declared.cursor.OpenCursor.{OpenCursor}
+use Rattle.rb_engine.specs.declared.cursor.Cursor.{Cursor as KeptCursor}
 use Rattle.rb_versions.specs.declared.change.RowChange.{RowChange}
 use Rattle.rb_versions.specs.Changes.{changes_of}
 use Rattle.rb_versions.specs.Next.{asked, given_count}
@@ -45,7 +45,7 @@ abbrev pub end_at : ℕ → ℕ → List ℕ → ℕ → ℕ
 end_at base base_length ends n = last_end base_length (take (n - base) ends)
 
 -- A cursor sees the first `visible` changes: those of the commits up to its number, and its transaction's own.
-abbrev pub cursor_view : ℕ → ℕ → ℕ → List ℕ → List RowChange → OpenCursor → Cursor
+abbrev pub cursor_view : ℕ → ℕ → ℕ → List ℕ → List RowChange → KeptCursor → Cursor
 cursor_view blocks base base_length ends changes c = record {
   name = c.name.items;
   table = c.table;
@@ -56,7 +56,7 @@ cursor_view blocks base base_length ends changes c = record {
   taken = given_count blocks c.last (asked c.table c.lo c.hi (rows_of blocks c.visible changes));
 }
 
-abbrev pub state_view : Shape → ℕ → ℕ → List ℕ → List RowChange → List OpenCursor → Bool → State
+abbrev pub state_view : Shape → ℕ → ℕ → List ℕ → List RowChange → List KeptCursor → Bool → State
 state_view shape base base_length ends changes cursors stopped = record {
   shape = shape;
   commits = record {
@@ -72,7 +72,7 @@ state_view shape base base_length ends changes cursors stopped = record {
 }
 
 -- a cursor's number is that of the base or of a commit after it, and it sees the changes up to there
-pub record IsOpened (base base_length : ℕ) (ends : List ℕ) (count : ℕ) (c : OpenCursor) : Type 0 where
+pub record IsOpened (base base_length : ℕ) (ends : List ℕ) (count : ℕ) (c : KeptCursor) : Type 0 where
   pub no_earlier : base ≤ c.number
   pub no_later : c.number ≤ base + length ends
   pub sees_commits : end_at base base_length ends c.number ≤ c.visible
@@ -80,7 +80,7 @@ pub record IsOpened (base base_length : ℕ) (ends : List ℕ) (count : ℕ) (c 
 
 -- The memory is in order, and has room for as many commits as changes, since each commit has a change.
 pub record IsKept (shape : Shape) (base base_length : ℕ) (ends : List ℕ) (changes : List RowChange)
-    (cursors : List OpenCursor) (room ends_room : ℕ) : Type 0 where
+    (cursors : List KeptCursor) (room ends_room : ℕ) : Type 0 where
   pub some_blocks : 0 < shape.blocks
   pub few_before : base < 2 ^ 64 - 2 ^ 60
   pub few_changes : room ≤ 2 ^ 32
@@ -91,10 +91,10 @@ pub record IsKept (shape : Shape) (base base_length : ℕ) (ends : List ℕ) (ch
   pub each_cursor : AllByRecursion (IsOpened base base_length ends (length changes)) cursors
 
 -- the first place at which a test passes
-abbrev pub IsPlace : (OpenCursor → Bool) → List OpenCursor → ℕ → Type 0
+abbrev pub IsPlace : (KeptCursor → Bool) → List KeptCursor → ℕ → Type 0
 IsPlace p [] i = ⊥
 IsPlace p (c ∷ cursors) zero = p c ≡ true
 IsPlace p (c ∷ cursors) (suc i) = (p c ≡ false) × IsPlace p cursors i
 
-abbrev pub has_name : List ℕ → OpenCursor → Bool
+abbrev pub has_name : List ℕ → KeptCursor → Bool
 has_name name c = bytes_eq c.name.items name

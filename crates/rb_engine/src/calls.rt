@@ -56,7 +56,7 @@ impl<T: Store> Engine<T> {
         ensures disk { IsCountedAs (T.faults self.old.store) (T.faults self.new.store)
             (err_is is_disk_fault result) }
     {
-        self.do_open_cursor(s, name, table, lo, hi)
+        self.state.open_cursor(s, name, table, lo, hi)
     }
 
     /// Gives the next row of a cursor into `row`, or the end.
@@ -68,7 +68,7 @@ impl<T: Store> Engine<T> {
         ensures disk { IsCountedAs (T.faults self.old.store) (T.faults self.new.store)
             (err_is is_disk_fault result) }
     {
-        self.do_fetch(s, name, row)
+        self.state.fetch(s, name, row)
     }
 
     /// Closes the session's cursor of a name.
@@ -79,6 +79,6 @@ impl<T: Store> Engine<T> {
         ensures disk { IsCountedAs (T.faults self.old.store) (T.faults self.new.store)
             (err_is is_disk_fault result) }
     {
-        self.do_close_cursor(s, name)
+        self.state.close_cursor(s, name)
     }
 }

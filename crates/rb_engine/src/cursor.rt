@@ -1,9 +1,9 @@
 //! A cursor as it lies in memory. The state keeps up to sixteen.
 use arrayvec::ArrayVec;
 
-/// A query that gives its rows one at a time.
+/// An open cursor: a query that gives its rows one at a time.
 #[derive(Debug, Default, Drop)]
-pub struct OpenCursor {
+pub struct Cursor {
     pub name: ArrayVec<u8, 16>,
     pub table: u16,
     pub lo: u64,

@@ -8,10 +8,9 @@ ghost use Rattle.rb_base.specs.Blocks.{after_group, commit_block, patches_block,
 ghost use Rattle.rb_base.specs.Counts.{IsCounted, IsCountedAs, err_is};
 ghost use Rattle.rb_base.specs.Moments.{LeavesOnly};
 ghost use Rattle.rb_base.specs.Stores.{room_of, after_pending};
-ghost use Rattle.rb_model.specs.Answers.{action_of, write_answer, plain_answer, fetch_answer, commit_answer, LeavesRow};
+ghost use Rattle.rb_model.specs.Answers.{action_of, write_answer, commit_answer};
 ghost use Rattle.rb_model.specs.Full.{full_block};
-ghost use Rattle.rb_model.specs.Names.{name_text};
-ghost use Rattle.rb_model.specs.Reply.{adds, expected, first_of, log_tests, after, after_refusal, committed, groups};
+ghost use Rattle.rb_model.specs.Reply.{adds, first_of, log_tests, after, after_refusal, committed, groups};
 ghost use Rattle.rb_model.specs.Reply.{is_disk_fault, Reply, rows_now};
 ghost use Rattle.rb_model.specs.Reply as machine;
 ghost use Rattle.rb_model.specs.Rows.{has_row, last_scn};
@@ -24,7 +23,7 @@ ghost use Rattle.rb_engine.specs.Engine.{EngineView, refusal_of, room_left};
 
 use crate::state::EngineState;
 use rb_base::{Failed, Group, Scn, Shape, Store, WORN};
-use rb_model::{Fetched, Name, Op, Refusal, Row, Wrote};
+use rb_model::{Op, Refusal, Wrote};
 use rb_segment::commit_group;
 use rb_write::{Ask, AttemptFault, attempt};
 use std::marker::Model;
@@ -158,7 +157,7 @@ impl<T: Store> Engine<T> {
         let mut group = Group::new();
         match attempt(&mut self.store, &ask, &mut group) {
             Ok(_) => {
-                self.state.wrote(table, key, op);
+                self.state.keep_write(table, key, op);
                 Ok(Wrote::Done)
             }
             // Memory and blocks say the same: over a store that tells its blocks this is a call that failed.
@@ -218,7 +217,7 @@ impl<T: Store> Engine<T> {
         ensures crash { T.tells_crashes → IsDurable T.Store self.old.state self.old.store
             → Survives T.Store (T.slots self.old.store) self.old.state self.new.state self.old.store self.new.store }
     {
-        let number = self.state.number() + 1;
+        let number = self.state.scn() + 1;
         match write_scn(&mut self.store, number) {
             Ok(()) => Ok(Some(self.state.commit())),
             Err(_) => {
@@ -253,70 +252,11 @@ impl<T: Store> Engine<T> {
         }
     }
 
-    /// Opens a cursor over the rows as the session sees them now.
-    pub(crate) fn do_open_cursor(
-        &mut self,
-        s: u16,
-        name: &Name,
-        table: u16,
-        lo: u64,
-        hi: u64,
-    ) -> Result<(), Refusal>
-        ensures answer { (logged room : ℕ) → plain_answer result
-            ≡ expected self.old.state logged room (machine.OpenCursor s (name_text name.now) table lo hi) }
-        ensures state { self.new.state ≡ after self.old.state (machine.OpenCursor s (name_text name.now) table lo hi)
-            (plain_answer result) }
-        ensures stopped { self.new.state.stopped ≡ self.old.state.stopped }
-        ensures store { self.new.store ≡ self.old.store }
-        ensures spare { self.new.spare ≡ self.old.spare }
-        ensures crash { T.tells_crashes → IsDurable T.Store self.old.state self.old.store
-            → Survives T.Store (T.slots self.old.store) self.old.state self.new.state self.old.store self.new.store }
-    {
-        self.state.open_cursor(s, name, table, lo, hi)
-    }
-
-    /// Gives the next row of a cursor into `row`, or the end.
-    pub(crate) fn do_fetch(
-        &mut self,
-        s: u16,
-        name: &Name,
-        row: &mut Row,
-    ) -> Result<Fetched, Refusal>
-        ensures answer { (logged room : ℕ) → fetch_answer result row.new
-            ≡ expected self.old.state logged room (machine.Fetch s (name_text name.now)) }
-        ensures state { self.new.state ≡ after self.old.state (machine.Fetch s (name_text name.now))
-            (fetch_answer result row.new) }
-        ensures row { LeavesRow result row.old row.new }
-        ensures stopped { self.new.state.stopped ≡ self.old.state.stopped }
-        ensures store { self.new.store ≡ self.old.store }
-        ensures spare { self.new.spare ≡ self.old.spare }
-        ensures commits { self.new.state.commits ≡ self.old.state.commits }
-        ensures crash { T.tells_crashes → IsDurable T.Store self.old.state self.old.store
-            → Survives T.Store (T.slots self.old.store) self.old.state self.new.state self.old.store self.new.store }
-    {
-        self.state.fetch(s, name, row)
-    }
-
-    /// Closes the session's cursor of a name.
-    pub(crate) fn do_close_cursor(&mut self, s: u16, name: &Name) -> Result<(), Refusal>
-        ensures answer { (logged room : ℕ) → plain_answer result
-            ≡ expected self.old.state logged room (machine.CloseCursor s (name_text name.now)) }
-        ensures state { self.new.state ≡ after self.old.state (machine.CloseCursor s (name_text name.now))
-            (plain_answer result) }
-        ensures stopped { self.new.state.stopped ≡ self.old.state.stopped }
-        ensures store { self.new.store ≡ self.old.store }
-        ensures spare { self.new.spare ≡ self.old.spare }
-        ensures crash { T.tells_crashes → IsDurable T.Store self.old.state self.old.store
-            → Survives T.Store (T.slots self.old.store) self.old.state self.new.state self.old.store self.new.store }
-    {
-        self.state.close_cursor(s, name)
-    }
-
     /// The number of the last commit.
     pub fn now(&self) -> Scn
         ensures { result ≡ last_scn self.now.state.commits }
     {
-        self.state.number()
+        self.state.scn()
     }
 
     /// The store's shape.

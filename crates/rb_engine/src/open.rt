@@ -50,7 +50,7 @@ fn take_block(state: &mut EngineState, block: &[u8], table: u16) -> bool
     for c in 0..CELLS {
         let cell = cells(block, c);
         if cell.state == ROW {
-            state.found(table, cell.key, cell.value.as_slice());
+            state.take_row(table, cell.key, cell.value.as_slice());
         } else if cell.lock != 0 {
             return false;
         }
@@ -173,7 +173,7 @@ fn open_state<T: Store>(alloc: Global, store: &mut T) -> Result<EngineState, Ope
     };
     let unlocked = take_rows(&mut state, store)?;
     if unlocked {
-        state.found_all();
+        state.join_rows();
         Ok(state)
     } else {
         Err(OpenFault::NotAStore)

@@ -2,12 +2,12 @@
 //! owns one.
 ghost use Rattle.std.specs.Prelude.{◌≡◌, ◌≢◌, ℕ, ◌+◌, ◌-◌, ◌^◌, ◌<◌, ◌≤◌, false};
 ghost use Rattle.std.specs.Prelude.{[], ◌∷◌, ◌++◌, length, true, not, IsOk, IfOk, IfErr, IfSome, IfNone};
-ghost use Rattle.std.specs.Prelude.{slice_index_or, slice_set};
-ghost use Rattle.rb_model.specs.State.{opened, session_of};
+ghost use Rattle.std.specs.Prelude.{slice_index_or, slice_set, is_some, nat_le};
+ghost use Rattle.rb_model.specs.State.{opened, session_of, cursor_of};
 ghost use Rattle.rb_model.specs.Rows.{has_row, last_scn, with_row};
 ghost use Rattle.rb_model.specs.Full.{full_block};
 ghost use Rattle.rb_model.specs.Reply.{adds, change_by, expected, after, after_grant, committed, first_of, log_tests};
-ghost use Rattle.rb_model.specs.Reply.{rows_now};
+ghost use Rattle.rb_model.specs.Reply.{later_tests, rows_now};
 ghost use Rattle.rb_model.specs.Reply as machine;
 ghost use Rattle.rb_model.specs.Answers.{action_of, plain_answer, fetch_answer, LeavesRow};
 ghost use Rattle.rb_model.specs.Names.{name_text};
@@ -15,7 +15,7 @@ ghost use Rattle.rb_versions.specs.Changes.{change_of, makes_row, row_of};
 ghost use Rattle.rb_write.specs.Writes.{IsShort};
 ghost use Rattle.rb_engine.specs.Kept.{has_name, IsPlace, last_end};
 
-use crate::cursor::OpenCursor;
+use crate::cursor::Cursor;
 use arrayvec::ArrayVec;
 use rb_base::{NoMemory, Scn, Shape};
 use rb_model::{Fetched, Name, Op, Refusal, Row};
@@ -33,8 +33,7 @@ const CURSORS: usize = 16;
 const VALUE_BYTES: usize = 80;
 
 /// One session over the rows found at opening and the commits since. Its room is taken when it is made, so no later
-/// call
-/// takes memory.
+/// call takes memory.
 #[derive(Drop)]
 pub struct EngineState {
     shape: Shape,
@@ -45,7 +44,7 @@ pub struct EngineState {
     versions: Versions,
     /// Where the changes of each commit since end.
     ends: Vec<usize>,
-    cursors: ArrayVec<OpenCursor, 16>,
+    cursors: ArrayVec<Cursor, 16>,
     stopped: bool,
 }
 
@@ -67,10 +66,10 @@ impl Model for EngineState {
 }
 
 /// The place of the cursor of a name.
-fn position_of(cursors: &[OpenCursor], name: &[u8]) -> Option<usize>
+fn position_of(cursors: &[Cursor], name: &[u8]) -> Option<usize>
     ensures found { IfSome result (λ i. IsPlace (has_name name.now) cursors.now i) }
     ensures within { IfSome result (λ i. i < length cursors.now) }
-    ensures none { IfNone result ((d : OpenCursor) (k : ℕ) → k < length cursors.now
+    ensures none { IfNone result ((d : Cursor) (k : ℕ) → k < length cursors.now
         → has_name name.now (slice_index_or cursors.now k d) ≡ false) }
 {
     for (i, cursor) in cursors.iter().enumerate() {
@@ -113,16 +112,16 @@ fn fill(row: &mut Row, change: &RowChange)
 }
 
 /// Notes the key of the last row that a cursor gave.
-fn mark_given(cursors: &mut [OpenCursor], place: usize, key: u64)
+fn mark_given(cursors: &mut [Cursor], place: usize, key: u64)
     requires { place < length cursors.old }
-    ensures { (d : OpenCursor) → cursors.new ≡ slice_set cursors.old place
+    ensures { (d : Cursor) → cursors.new ≡ slice_set cursors.old place
         (record (slice_index_or cursors.old place d) { last = Some key }) }
 {
     cursors[place].last = Some(key);
 }
 
 /// How many changes each open cursor sees; 0 for those that aren't open.
-fn seen_counts(cursors: &[OpenCursor]) -> [usize; CURSORS] {
+fn seen_counts(cursors: &[Cursor]) -> [usize; CURSORS] {
     let mut counts = [0; CURSORS];
     for (count, cursor) in counts.iter_mut().zip(cursors) {
         *count = cursor.visible;
@@ -199,8 +198,8 @@ impl EngineState {
         })
     }
 
-    /// Takes one of the rows that the file was found with. No call but `found` came before.
-    pub fn found(&mut self, table: u16, key: u64, value: &[u8])
+    /// Takes one of the rows that the file was found with. No call but `take_row` came before.
+    pub fn take_row(&mut self, table: u16, key: u64, value: &[u8])
         requires short { length value.now ≤ 80 }
         requires room { 0 < self.old.spare }
         requires opening { self.old.state ≡ opened self.old.state.shape self.old.state.commits.base
@@ -215,14 +214,14 @@ impl EngineState {
     }
 
     /// Makes searches of the rows fast, once all are taken. No answer depends on it.
-    pub fn found_all(&mut self)
+    pub fn join_rows(&mut self)
         ensures { self.new ≡ self.old }
     {
         self.versions.join_all();
     }
 
     /// The number of the last commit.
-    pub fn number(&self) -> Scn
+    pub fn scn(&self) -> Scn
         ensures number { result ≡ last_scn self.now.state.commits }
         ensures few { result + 1 < 2 ^ 64 }
     {
@@ -235,6 +234,36 @@ impl EngineState {
         ensures few { result ≤ 2 ^ 32 }
     {
         self.versions.spare()
+    }
+
+    /// Whether the key has a row now.
+    fn is_present(&self, table: u16, key: u64) -> bool
+        ensures { result ≡ has_row table key (rows_now self.now.state 1) }
+    {
+        self.versions
+            .is_present(table, key, self.versions.changes().len())
+    }
+
+    /// Whether the key's home has no room for it.
+    fn is_full(&self, table: u16, key: u64) -> bool
+        ensures { result ≡ full_block self.now.state table key }
+    {
+        let committed = last_end_of(self.base_length, self.ends.as_slice());
+        self.versions.is_full(table, key, committed)
+    }
+
+    /// Whether a cursor of that name is open.
+    fn has_cursor(&self, name: &Name) -> bool
+        ensures { result ≡ is_some (cursor_of self.now.state 1 (name_text name.now)) }
+    {
+        position_of(self.cursors.as_slice(), name.as_bytes()).is_some()
+    }
+
+    /// Whether as many cursors are open as there may be.
+    fn has_all_cursors(&self) -> bool
+        ensures { result ≡ nat_le 16 (length (session_of self.now.state 1).cursors) }
+    {
+        self.cursors.as_slice().len() >= CURSORS
     }
 
     /// Why the session, the table or the value stands in the way of a write, where it does.
@@ -265,6 +294,37 @@ impl EngineState {
         None
     }
 
+    /// Why the key or its home stands in the way of a write, where it does.
+    fn key_refusal(&self, table: u16, key: u64, op: Op<'_>) -> Option<Refusal>
+        ensures refused { IfSome result (λ why. (logged room : ℕ) → machine.Refused why
+            ≡ first_of (later_tests self.now.state logged room (machine.Write 1 table key (action_of op.entry)))
+            machine.Done) }
+        ensures granted { IfNone result ((logged room : ℕ)
+            → first_of (later_tests self.now.state logged room (machine.Write 1 table key (action_of op.entry)))
+            machine.Done ≡ first_of (log_tests logged room) machine.Done) }
+        ensures other { IfSome result (λ why. why ≢ Refusal.DiskFault) }
+        ensures row { IfNone result (has_row table key (rows_now self.now.state 1)
+            ≡ not (adds (action_of op.entry))) }
+        ensures room { IfNone result (adds (action_of op.entry) ≡ true
+            → full_block self.now.state table key ≡ false) }
+    {
+        let present = self.is_present(table, key);
+        if !is_insert(op) {
+            return if present {
+                None
+            } else {
+                Some(Refusal::NotFound)
+            };
+        }
+        if present {
+            return Some(Refusal::Duplicate);
+        }
+        if self.is_full(table, key) {
+            return Some(Refusal::BlockFull);
+        }
+        None
+    }
+
     /// Why a write is refused, whatever the log: its tests but the last two.
     pub fn write_refusal(&self, s: u16, table: u16, key: u64, op: Op<'_>) -> Option<Refusal>
         ensures refused { IfSome result (λ why. (logged room : ℕ)
@@ -288,28 +348,11 @@ impl EngineState {
         if let Some(why) = self.early_refusal(s, table, op) {
             return Some(why);
         }
-        let present = self
-            .versions
-            .is_present(table, key, self.versions.changes().len());
-        if !is_insert(op) {
-            return if present {
-                None
-            } else {
-                Some(Refusal::NotFound)
-            };
-        }
-        if present {
-            return Some(Refusal::Duplicate);
-        }
-        let committed = last_end_of(self.base_length, self.ends.as_slice());
-        if self.versions.is_full(table, key, committed) {
-            return Some(Refusal::BlockFull);
-        }
-        None
+        self.key_refusal(table, key, op)
     }
 
     /// Puts a write at the end of the transaction.
-    pub fn wrote(&mut self, table: u16, key: u64, op: Op<'_>)
+    pub fn keep_write(&mut self, table: u16, key: u64, op: Op<'_>)
         requires room { 0 < self.old.spare }
         requires short { IsShort (Some op) }
         ensures state { self.new.state ≡ after_grant self.old.state (machine.Write 1 table key (action_of op.entry)) }
@@ -345,10 +388,10 @@ impl EngineState {
         if table < 1 || table > self.shape.tables {
             return Some(Refusal::NoTable);
         }
-        if position_of(self.cursors.as_slice(), name.as_bytes()).is_some() {
+        if self.has_cursor(name) {
             return Some(Refusal::CursorThere);
         }
-        if self.cursors.as_slice().len() >= CURSORS {
+        if self.has_all_cursors() {
             return Some(Refusal::TooManyCursors);
         }
         None
@@ -391,12 +434,12 @@ impl EngineState {
         ensures own { (session_of self.new.state 1).own ≡ (session_of self.old.state 1).own }
         ensures spare { self.new.spare ≡ self.old.spare }
     {
-        let cursor = OpenCursor {
+        let cursor = Cursor {
             name: name_bytes(name),
             table,
             lo,
             hi,
-            number: self.number(),
+            number: self.scn(),
             visible: self.versions.changes().len(),
             last: None,
         };
@@ -496,7 +539,7 @@ impl EngineState {
         ensures state { self.new.state ≡ committed self.old.state 1 }
         ensures spare { self.new.spare ≡ self.old.spare }
     {
-        let number = self.number() + 1;
+        let number = self.scn() + 1;
         let end = self.versions.changes().len();
         let _ = self.ends.as_slice();
         self.ends.push_reserved(end);

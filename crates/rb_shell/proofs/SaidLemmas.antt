@@ -1,11 +1,11 @@
 -- What the calls of a line say, one after another, and what becomes of it where the replies are sent.
 use Rattle.std.proofs.Common.{append_assoc, ◌≡◌, ◌∙◌, ◌⊎◌, inl, inr, ⊎_elim, refl, sym, ap, subst, arith, ℕ, zero, suc, ◌+◌, ◌-◌, ◌<◌, ◌≤◌, Bool, true, false, List, [], ◌++◌, length, take, drop, Result, Ok, Err, get_or, set, min, ◌∷◌}
-use Rattle.std.proofs.lemmas.Bool.{cond_both, cases_Bool, false≢true}
+use Rattle.std.proofs.lemmas.Bool.{cases_Bool, false≢true, not-true}
 use Rattle.std.proofs.lemmas.List.{append-nil, length-append, length-set, drop-append-le, take-append-drop, take-append-le, take_all, take_min}
 use Rattle.std.proofs.Math.Seq.{drop-append_seam, take-add, take-nil}
 use Rattle.std.specs.Bool.{MatchBool}
-use Rattle.std.specs.List.{AllByRecursion}
-use Rattle.std.specs.Prelude.{IfErr, OnErr, OnOk, Option, Some}
+use Rattle.std.specs.List.{list_all}
+use Rattle.std.specs.Prelude.{not, IfErr, OnErr, OnOk, Option, Some}
 use Rattle.rb_base.specs.declared.store.Store.{Ghosts}
 use Rattle.rb_engine.specs.Does.{Does, SameStore}
 use Rattle.rb_engine.specs.Engine.{EngineView, room_left}
@@ -18,10 +18,9 @@ use Rattle.rb_model.specs.declared.answer.Answer.TheVariants as answers
 use Rattle.rb_model.specs.declared.row.Row.{Row}
 use Rattle.rb_model.specs.Lines.{reply_text}
 use Rattle.rb_model.specs.Out.{Logged, room, CallOut, CallsOut, is_given}
-use Rattle.rb_model.specs.Reply.{Answer, Call, Write, Commit, OpenCursor, Fetch, CloseCursor, Done, Waits, Numbered, Given, End, Refused, Reply, after, after_grant, early_tests, expected, first_of, granted, is_empty, is_fault, later_tests}
-use Rattle.rb_model.specs.Rows.{last_scn}
+use Rattle.rb_model.specs.Reply.{Answer, Call, Fetch, Done, Waits, Numbered, Given, End, Refused, Reply, after, after_grant, early_tests, expected, granted, is_fault, later_tests}
 use Rattle.rb_model.specs.State.{State, Session, Cursor, fresh_session, session_of, with_taken}
-use Rattle.rb_model.proofs.Stops.{after_same_stop, after_stops, expected_fine, refused_same}
+use Rattle.rb_model.proofs.Stops.{after_same_stop, after_stops, expected_fine, first_keeps, refused_same}
 use Rattle.rb_shell.specs.Since.{IsSince, StandsAs, slots_of}
 use Rattle.rb_shell.specs.Steps.{Added, CalledOnce, Calls, Lost, Said, SaidAs, SaidSoFar, Told}
 
@@ -53,19 +52,19 @@ fetch_same h n s name (Refused why) e = subst (λ (x : State). SameButCursors (r
 
 -- only a fetch gives a row
 
-first_gives : (tests : List (Bool × Answer)) (good : Answer) → AllByRecursion (λ test. is_given test.1 ≡ false) tests → is_given good ≡ false → is_given (first_of tests good) ≡ false
-first_gives [] good all none = none
-first_gives (test ∷ tests) good all none = cond_both test.0 test.1 (first_of tests good) (λ r. is_given r ≡ false) (λ w. all.0) (λ w. first_gives tests good all.1 none)
+tests_give_none : (h : State) (number more : ℕ) (c : Call) → list_all (λ test. not (is_given test.1)) (early_tests h c ++ later_tests h number more c) ≡ true
+tests_give_none h number more c = grind arith
 
--- a call is a fetch, or what is expected of it is no row
+-- a call is a fetch, or it is granted no row
+granted_none : (h : State) (c : Call) → ((s : ℕ) × (name : List ℕ) × (c ≡ Fetch s name)) ⊎ (not (is_given (granted h c)) ≡ true)
+granted_none h (Fetch s name) = inl (s, name, refl)
+granted_none h c = inr (grind arith)
+
 gives_none : (h : State) (number more : ℕ) (c : Call) → ((s : ℕ) × (name : List ℕ) × (c ≡ Fetch s name)) ⊎ (is_given (expected h number more c) ≡ false)
-gives_none h number more (Write s table key action) = inr (first_gives (early_tests h (Write s table key action) ++ later_tests h number more (Write s table key action)) Done (refl, (refl, (refl, (refl, (refl, (refl, (refl, (refl, (refl, tt))))))))) refl)
-gives_none h number more (Commit s) =
-    inr (first_gives (early_tests h (Commit s) ++ later_tests h number more (Commit s)) (granted h (Commit s)) (refl, (refl, tt))
-    (cond_both (is_empty (session_of h s).own) Done (Numbered (last_scn h.commits + 1)) (λ r. is_given r ≡ false) (λ w. refl) (λ w. refl)))
-gives_none h number more (OpenCursor s name table lo hi) = inr (first_gives (early_tests h (OpenCursor s name table lo hi) ++ later_tests h number more (OpenCursor s name table lo hi)) Done (refl, (refl, (refl, (refl, (refl, tt))))) refl)
-gives_none h number more (Fetch s name) = inl (s, name, refl)
-gives_none h number more (CloseCursor s name) = inr (first_gives (early_tests h (CloseCursor s name) ++ later_tests h number more (CloseCursor s name)) Done (refl, (refl, (refl, tt))) refl)
+gives_none h number more c = ⊎_elim (λ fetch. inl fetch)
+    (λ none. inr (not-true (is_given (expected h number more c))
+    (first_keeps (λ r. not (is_given r)) (early_tests h c ++ later_tests h number more c) (granted h c) (tests_give_none h number more c) none)))
+    (granted_none h c)
 
 -- a call that gave a row was a fetch
 pub given_fetches : (h : State) (number more : ℕ) (c : Call) (r : Answer) → Reply h number more c r → is_given r ≡ true → (s : ℕ) × (name : List ℕ) × (c ≡ Fetch s name)

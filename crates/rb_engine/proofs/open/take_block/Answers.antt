@@ -23,7 +23,7 @@ loop-c-preserved c =
       so_far = elim c.if-cell-eq-ROW.branch [
         | then-cell-eq-ROW w ↦
             ap (λ (kept : Kept). kept.state) w.state-is
-            ∙ w.found.ensures.state
+            ∙ w.take_row.ensures.state
             ∙ ap (λ (h : State). opened h.shape h.commits.base (with_row h.shape.blocks (record { table = table; key = cell.key; value = w.as_slice.result.now }) h.commits.rows)) inv.so_far
             ∙ ap (λ (value : List ℕ). opened shape base (with_row shape.blocks (record { table = table; key = cell.key; value = value }) (rows_to shape.blocks rows table block n))) w.as_slice.ensures.value
             ∙ ap (opened shape base) (sym (row_taken shape.blocks rows table block n cell c.cells-cell.ensures.cell w.if-cell-eq-ROW.true))
@@ -37,7 +37,7 @@ loop-c-preserved c =
         | else-cell-eq-ROW+else-cell-ne0 w ↦ λ other. w.if-cell-ne0.false
       ]));
       spare = elim c.if-cell-eq-ROW.branch [
-        | then-cell-eq-ROW w ↦ let less = ap (λ (kept : Kept). kept.spare) w.state-is in omega (arith, inv.spare, less, w.found.ensures.spare)
+        | then-cell-eq-ROW w ↦ let less = ap (λ (kept : Kept). kept.spare) w.state-is in omega (arith, inv.spare, less, w.take_row.ensures.spare)
         | else-cell-eq-ROW+else-cell-ne0 w ↦ let same = ap (λ (kept : Kept). kept.spare) w.state-is in omega (arith, inv.spare, same)
       ];
     }

@@ -1,25 +1,30 @@
-use Rattle.std.proofs.Common.{◌≡◌, arith, inl, ap, sym, ◌∙◌}
-use Rattle.std.proofs.lemmas.Bool.{false≢true}
+use Rattle.std.proofs.Common.{refl, ap}
 use Rattle.rb_model.proofs.Stops.{plain_fine}
 use Rattle.rb_model.specs.Answers.{plain_answer}
 use Rattle.rb_model.specs.Names.{name_text}
 use Rattle.rb_model.specs.Reply as machine
-use Rattle.rb_engine.specs.Engine.{room_left}
-use Rattle.rb_engine.proofs.DoesLemmas.{does_by, plus_none}
+use Rattle.rb_engine.specs.Engine.{EngineView}
+use Rattle.rb_engine.proofs.EngineLemmas.{in_step_still}
+use Rattle.rb_engine.proofs.MemoryLemmas.{does_in_memory, none_counted}
 use Rattle.rb_engine.proofs.engine.Engine.close_cursor.Goals as goal
 
+pub invariant_of-self : goal.invariant_of-self
+invariant_of-self g c =
+    let e = c.close_cursor.ensures in
+    in_step_still g.T.Store c.self.inside.state c.close_cursor.new.self c.self.inside.store (machine.CloseCursor c.args.s (name_text c.args.name.now)) (plain_answer c.close_cursor.result)
+    e.state e.shape e.commits e.stopped e.own e.spare c.self.invariant
+
 pub returns-clause-did : goal.returns-clause-did
-returns-clause-did g c = λ h st.
-    let s = g.T.Store in
-    let e = c.do_close_cursor.ensures in
-    does_by s h (machine.CloseCursor c.args.s (name_text c.args.name.now)) (plain_answer c.do_close_cursor.result) c.args.self.now c.do_close_cursor.new.self st
-    (λ told. inl (e.answer (s.lsn c.args.self.now.store) (room_left (s.slots c.args.self.now.store) (s.lsn c.args.self.now.store) c.args.self.now.spare))) e.state (ap s.shape_of e.store) (λ going. ap s.lsn e.store ∙ sym (plus_none _)) (λ kept durable. e.crash kept durable)
+returns-clause-did g c =
+    let e = c.close_cursor.ensures in
+    rw (← c.self.view_is) (λ h st.
+    does_in_memory g.T.Store (λ keeps. record { left_opens = λ store b i. g.met.T.Store.stable_left store b i keeps; read_patched = λ store i. g.met.T.Store.only_now store i keeps })
+    h (machine.CloseCursor c.args.s (name_text c.args.name.now)) (plain_answer c.close_cursor.result) c.self.inside.state c.close_cursor.new.self c.self.inside.store st c.self.invariant e.answer e.state e.shape e.commits refl)
+
+pub returns-clause-same : goal.returns-clause-same
+returns-clause-same g c = rw (← c.self.view_is) (record { shape = refl; slots = refl })
 
 pub returns-clause-disk : goal.returns-clause-disk
 returns-clause-disk g c =
-    let same : g.T.Store.faults c.do_close_cursor.new.self.store ≡ g.T.Store.faults c.args.self.now.store = ap g.T.Store.faults c.do_close_cursor.ensures.store in
-    record {
-      no_less = omega (arith, same);
-      cause = λ fault. absurd (false≢true (sym (plain_fine c.do_close_cursor.result c.args.self.now.state 0 0 (machine.CloseCursor c.args.s (name_text c.args.name.now)) (c.do_close_cursor.ensures.answer 0 0)) ∙ fault));
-      still = λ other. same;
-    }
+    none_counted _ _ _ (ap (λ (e : EngineView g.row.T.Denot). g.T.Store.faults e.store) c.self.view_is)
+    (plain_fine c.close_cursor.result c.self.inside.state.state 0 0 (machine.CloseCursor c.args.s (name_text c.args.name.now)) (c.close_cursor.ensures.answer 0 0))

@@ -24,13 +24,13 @@ module _ (g : Over) (c : After-write_scn g) where
   few = c.self.invariant.few going some
 
   -- the number of the commit
-  next : c.number-number.result + 1 ≡ last_scn c.self.inside.state.state.commits + 1
-  next = ap (λ (n : ℕ). n + 1) c.number-number.ensures.number
+  next : c.scn-number.result + 1 ≡ last_scn c.self.inside.state.state.commits + 1
+  next = ap (λ (n : ℕ). n + 1) c.scn-number.ensures.number
 
 pub invariant_of-self : goal.invariant_of-self
 invariant_of-self g c =
     let call = (goal.at.invariant_of-self g c).After-write_scn in
-    in_step_committed g.T.Store c.self.inside.state c.commit.new.self c.self.inside.store c.write_scn.new.store (c.number-number.result + 1) (going g call) (next g call)
+    in_step_committed g.T.Store c.self.inside.state c.commit.new.self c.self.inside.store c.write_scn.new.store (c.scn-number.result + 1) (going g call) (next g call)
     c.commit.ensures.state c.commit.ensures.spare c.write_scn.ensures.same.shape c.write_scn.ensures.same.slots c.in-Ok.ensures.number c.in-Ok.ensures.failed (few g call) (λ told. c.in-Ok.ensures.blocks told) c.self.invariant
 
 pub invariant_of-self-in-Err : goal.invariant_of-self-in-Err
@@ -43,7 +43,7 @@ returns-in-Ok-clause-crash g c =
     rw (← c.self.view_is) (λ keeps st. let told = g.met.T.Store.crashes_told keeps in
     subst (λ (h2 : State). Survives g.T.Store (g.T.Store.slots c.self.inside.store) c.self.inside.state.state h2 c.self.inside.store c.write_scn.new.store) (sym c.commit.ensures.state)
     (survives_committed g.T.Store (λ store b i stands here. g.met.T.Store.stable_left store b i keeps stands here) (λ store t i le here. g.met.T.Store.now_counts store t i keeps le here)
-    c.self.inside.state c.self.inside.store c.write_scn.new.store (c.number-number.result + 1) (going g call) (next g call) (few g call) told step
+    c.self.inside.state c.self.inside.store c.write_scn.new.store (c.scn-number.result + 1) (going g call) (next g call) (few g call) told step
     c.write_scn.ensures.same.shape c.write_scn.ensures.same.slots (c.in-Ok.ensures.blocks told)
     (c.in-Ok.ensures.stable keeps st.base st.stable (subst (λ (x : Shape). list_any (patches_block (commit_block x)) (g.T.Store.pending c.self.inside.store) ≡ false) (sym step.same_shape) st.quiet))
     (c.in-Ok.ensures.flushed keeps) (c.write_scn.ensures.any_moment keeps) st))
@@ -54,5 +54,5 @@ returns-in-Err-clause-crash g c =
     rw (← c.self.view_is) (λ keeps st. let told = g.met.T.Store.crashes_told keeps in
     subst (λ (h2 : State). Survives g.T.Store (g.T.Store.slots c.self.inside.store) c.self.inside.state.state h2 c.self.inside.store c.write_scn.new.store) (sym c.stop.ensures.state)
     (survives_failed g.T.Store (λ store b i stands here. g.met.T.Store.stable_left store b i keeps stands here) (λ store t i le here. g.met.T.Store.now_counts store t i keeps le here)
-    c.self.inside.state c.self.inside.store c.write_scn.new.store (c.number-number.result + 1) (going g call) (next g call) (few g call) told c.self.invariant
+    c.self.inside.state c.self.inside.store c.write_scn.new.store (c.scn-number.result + 1) (going g call) (next g call) (few g call) told c.self.invariant
     (some_own (session_of c.self.inside.state.state 1).own (some g call)) (c.write_scn.ensures.any_moment keeps) st))

@@ -39,22 +39,22 @@ invariant_of-self g c =
     let few = rw (← c.self.view_is) at c.requires.few in
     let room = rw (← c.self.view_is) at c.requires.room in
     let number = c.in-Ok.ensures.number in
-    let back : c.wrote.new.self.state.stopped ≡ false → h.stopped ≡ false = λ go. sym c.wrote.ensures.stopped ∙ go in
+    let back : c.keep_write.new.self.state.stopped ≡ false → h.stopped ≡ false = λ go. sym c.keep_write.ensures.stopped ∙ go in
     record {
-      same_shape = c.attempt.ensures.shape ∙ step.same_shape ∙ sym c.wrote.ensures.shape;
-      in_range = subst IsShape (sym c.wrote.ensures.shape) step.in_range;
-      alone = ap (λ (x : State). length x.sessions) c.wrote.ensures.state ∙ sessions_granted h (Write 1 c.args.table c.args.key (action_of c.args.op)) ∙ step.alone;
-      enough = λ go k e. let before = step.enough (back go) k (sym c.attempt.ensures.slots ∙ e) in omega (arith, before, number, c.wrote.ensures.spare);
+      same_shape = c.attempt.ensures.shape ∙ step.same_shape ∙ sym c.keep_write.ensures.shape;
+      in_range = subst IsShape (sym c.keep_write.ensures.shape) step.in_range;
+      alone = ap (λ (x : State). length x.sessions) c.keep_write.ensures.state ∙ sessions_granted h (Write 1 c.args.table c.args.key (action_of c.args.op)) ∙ step.alone;
+      enough = λ go k e. let before = step.enough (back go) k (sym c.attempt.ensures.slots ∙ e) in omega (arith, before, number, c.keep_write.ensures.spare);
       going = λ go. c.in-Ok.ensures.failed;
-      numbers = λ go. let lower = step.numbers (back go) in let last : last_scn c.wrote.new.self.state.commits ≡ last_scn h.commits = ap last_scn c.wrote.ensures.commits in omega (arith, lower, last, number);
+      numbers = λ go. let lower = step.numbers (back go) in let last : last_scn c.keep_write.new.self.state.commits ≡ last_scn h.commits = ap last_scn c.keep_write.ensures.commits in omega (arith, lower, last, number);
       room = λ go some. rw (number, c.attempt.ensures.slots) (room_after (s.slots c.self.inside.store) (s.lsn c.self.inside.store) c.self.inside.state.spare room);
       few = λ go some. omega (arith, number, few);
       holds = λ told go.
-          holds_after_write h c.wrote.new.self.state (s.shape_of c.self.inside.store) (s.blocks c.self.inside.store) (s.blocks c.attempt.new.store) (s.lsn c.self.inside.store) c.args.table c.args.key c.args.op
-          step.same_shape step.alone c.wrote.ensures.state (step.holds told (back go)) step.in_range.few_blocks.0 table.0 table.1 c.ranges.key.fits c.requires.short
+          holds_after_write h c.keep_write.new.self.state (s.shape_of c.self.inside.store) (s.blocks c.self.inside.store) (s.blocks c.attempt.new.store) (s.lsn c.self.inside.store) c.args.table c.args.key c.args.op
+          step.same_shape step.alone c.keep_write.ensures.state (step.holds told (back go)) step.in_range.few_blocks.0 table.0 table.1 c.ranges.key.fits c.requires.short
           (c.in-Ok.ensures.made told) (c.in-Ok.ensures.written told) (c.in-Ok.ensures.plain told) (c.in-Ok.ensures.whole told) (c.in-Ok.ensures.segments told);
       used = λ told go t k.
-          subst (λ (x : State). length (used_keys x t k) ≤ 16) (sym c.wrote.ensures.state)
+          subst (λ (x : State). length (used_keys x t k) ≤ 16) (sym c.keep_write.ensures.state)
           (used_after_write h (session_of h 1) c.args.table c.args.key (action_of c.args.op) (the_one h step.alone) row home (step.used told (back go)) t k);
     }
 
@@ -69,8 +69,8 @@ returns-in-Ok-clause-crash g c =
     subst (λ (gs : List (List Patch)). list_any (patches_block (commit_block h.shape)) gs ≡ false) (sym group.1)
     (still_none (commit_block h.shape) (s.pending c.self.inside.store) group.0 st.quiet (subst (λ (x : Shape). patches_block (commit_block x) group.0 ≡ false) step.same_shape group.2)) in
     survives_more has_rows rows_later s (record { left_opens = λ store b i. g.met.T.Store.stable_left store b i keeps; read_patched = λ store i. g.met.T.Store.only_now store i keeps })
-    h c.wrote.new.self.state c.self.inside.store c.attempt.new.store step.same_shape c.wrote.ensures.shape c.wrote.ensures.commits (c.attempt.ensures.crashes keeps)
-    (λ go. stands_moved s h c.wrote.new.self.state c.self.inside.store c.attempt.new.store st c.wrote.ensures.shape c.wrote.ensures.commits (c.in-Ok.ensures.stable keeps st.base st.stable) quiet) st)
+    h c.keep_write.new.self.state c.self.inside.store c.attempt.new.store step.same_shape c.keep_write.ensures.shape c.keep_write.ensures.commits (c.attempt.ensures.crashes keeps)
+    (λ go. stands_moved s h c.keep_write.new.self.state c.self.inside.store c.attempt.new.store st c.keep_write.ensures.shape c.keep_write.ensures.commits (c.in-Ok.ensures.stable keeps st.base st.stable) quiet) st)
 
 pub invariant_of-self-in-Err : goal.invariant_of-self-in-Err
 invariant_of-self-in-Err g c =

@@ -4,7 +4,7 @@ use Rattle.rb_model.specs.State.{State, session_of, opened}
 use Rattle.rb_versions.specs.Changes.{changes_of}
 use Rattle.rb_engine.specs.Kept.{Kept, last_end, cursor_view}
 use Rattle.rb_engine.proofs.KeptLemmas.{kept-found, view-found, no_ends, no_cursors, no_own}
-use Rattle.rb_engine.proofs.state.EngineState.found.Goals as goal
+use Rattle.rb_engine.proofs.state.EngineState.take_row.Goals as goal
 
 pub invariant_of-self : goal.invariant_of-self
 invariant_of-self c =

@@ -6,7 +6,7 @@ use Rattle.rb_model.specs.Reply.{with_own}
 use Rattle.rb_versions.specs.Changes.{changes_of, change_of}
 use Rattle.rb_engine.specs.Kept.{Kept, last_end, state_view}
 use Rattle.rb_engine.proofs.KeptLemmas.{view-push, kept-push}
-use Rattle.rb_engine.proofs.state.EngineState.wrote.Goals as goal
+use Rattle.rb_engine.proofs.state.EngineState.keep_write.Goals as goal
 
 pub invariant_of-self : goal.invariant_of-self
 invariant_of-self c =

@@ -2,7 +2,7 @@ use Rattle.std.proofs.Common.{◌+◌, length, ap, sym, ◌∙◌}
 use Rattle.rb_model.specs.Rows.{last_scn}
 use Rattle.rb_engine.specs.Kept.{Kept}
 use Rattle.rb_engine.proofs.KeptLemmas.{length-cut}
-use Rattle.rb_engine.proofs.state.EngineState.number.Goals as goal
+use Rattle.rb_engine.proofs.state.EngineState.scn.Goals as goal
 
 pub returns-clause-number : goal.returns-clause-number
 returns-clause-number c =
