@@ -32,7 +32,7 @@ does_by s h call answer old new st reply state shape number survives =
       };
       groups = groups call answer;
       grows = λ going. refl;
-      number = λ going. number (ap (λ (x : State). x.stopped) (sym now) ∙ going);
+      lsn = λ going. number (ap (λ (x : State). x.stopped) (sym now) ∙ going);
       survives = survived;
     }
 

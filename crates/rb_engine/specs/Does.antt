@@ -30,7 +30,7 @@ pub record Does {S : Type 0} (s : Ghosts S) (h : State) (call : Call) (answer : 
   pub stands : Stands s (after h call answer) new
   pub groups : ℕ
   pub grows : (after h call answer).stopped ≡ false → Grows h call answer groups
-  pub number : (after h call answer).stopped ≡ false → s.lsn new.store ≡ s.lsn old.store + groups
+  pub lsn : (after h call answer).stopped ≡ false → s.lsn new.store ≡ s.lsn old.store + groups
   pub survives : h.stopped ≡ false → s.tells_crashes
       → Survives s (s.slots old.store) h (after h call answer) old.store new.store
 

@@ -18,7 +18,7 @@ ghost use Rattle.rb_engine.specs.Holds.{CanOpen, MayOpen, OpensAs};
 use crate::engine::Engine;
 use crate::state::EngineState;
 use rb_base::{BlockNo, Failed, OpenFault, Scn, Store};
-use rb_cell::{ROW, cells};
+use rb_cell::{CELLS, ROW, cells};
 use rb_segment::{commit_lsn_of, commit_scn_of};
 use rb_sound::blocks_sound;
 use std::alloc::Global;
@@ -28,9 +28,6 @@ const CHANGES: u64 = 65_536;
 
 /// How far a commit number may be above a log number, so that there is a next one as long as groups are logged.
 pub const AHEAD: u64 = (1 << 63) + (1 << 62);
-
-/// The cells of a block.
-const CELLS: u8 = 16;
 
 /// Takes the rows of a table's block, and says whether none of its other cells is locked.
 fn take_block(state: &mut EngineState, block: &[u8], table: u16) -> bool

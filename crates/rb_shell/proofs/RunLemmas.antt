@@ -1,18 +1,20 @@
 -- From the engine that an opening made to the run over the file that it opened.
-use Rattle.std.proofs.Common.{◌≡◌, ◌∙◌, ◌⊎◌, inl, inr, ⊎_elim, ap, sym, subst, refl, arith, ℕ, Bool, true, ◌+◌, ◌<◌, ◌≤◌, List, [], ◌++◌, length, Some}
+use Rattle.std.proofs.Common.{◌≡◌, ◌∙◌, ◌⊎◌, inl, inr, ⊎_elim, ap, sym, subst, refl, arith, ℕ, false, ◌+◌, ◌<◌, ◌≤◌, List, [], ◌++◌, length, Some}
 use Rattle.std.specs.List.{flat_map}
 use Rattle.std.proofs.lemmas.List.{length-append, take_all}
-use Rattle.rb_base.specs.Moments.{LeavesOnly, joined, weaker}
+use Rattle.rb_base.specs.Moments.{LeavesNoMore, joined, still_leaves, weaker}
 use Rattle.rb_base.specs.declared.faults.OpenFault.{OpenFault}
 use Rattle.rb_base.specs.declared.faults.OpenFault.TheVariants.{Failed}
 use Rattle.rb_base.specs.declared.faults.OpenFault.TheVariants as faults
 use Rattle.rb_base.specs.declared.shape.Shape.{Shape}
 use Rattle.rb_base.specs.declared.store.Store.{Ghosts}
-use Rattle.rb_disk.specs.Moments.{Rests, rests_leave}
-use Rattle.rb_engine.specs.Crash.{AtEnd, Extends, OnTheWay, reached, Restarts}
+use Rattle.rb_disk.specs.Moments.{Leaves, Rests, rests_leave}
+use Rattle.rb_disk.specs.declared.disk.Disk.{Ghosts as DiskGhosts}
+use Rattle.rb_engine.specs.Crash.{AtEnd, OnTheWay, Restarts}
+use Rattle.rb_engine.specs.Restarts.{Extends, reached}
 use Rattle.rb_engine.specs.Engine.{EngineView}
 use Rattle.rb_engine.specs.Holds.{CanOpen, Holds, OpensAs}
-use Rattle.rb_engine.proofs.CrashLemmas.{extends_later, rows_stay}
+use Rattle.rb_engine.proofs.CrashLemmas.{extends_later, rows_later}
 use Rattle.rb_layout.specs.OneLayout.{SameNumbers}
 use Rattle.rb_layout.specs.Regions.{shape_of}
 use Rattle.rb_layout.specs.declared.layout.Layout.{Layout}
@@ -23,7 +25,8 @@ use Rattle.rb_model.specs.Lines.{lines_of}
 use Rattle.rb_model.specs.Out.{Logged}
 use Rattle.rb_model.specs.Rows.{TableRow, last_scn, over, rows_at}
 use Rattle.rb_model.specs.State.{State, opened}
-use Rattle.rb_shell.specs.Runs.{IsSound, HasHalted, HasOpened, HasRun, WasCutOff, Endures, LeftAlone, OpensSame, EndsRun, IsDoneOrNoMemory, file_opens}
+use Rattle.rb_shell.specs.Runs.{IsSound, HasHalted, HasOpened, HasRun, RanOver, WasCutOff, Endures, LeftAlone, OpensSame, OpensToNone, EndsRun, IsDoneOrNoMemory, file_opens}
+use Rattle.rb_shell.specs.declared.script.TheConstants.{SCRIPT_BYTES}
 use Rattle.rb_shell.specs.Since.{StandsAs}
 use Rattle.rb_shell.specs.Statuses.{EndsFormat}
 use Rattle.rb_shell.specs.declared.status.Status.{Status}
@@ -61,8 +64,7 @@ restarts_on_the_way : (l : Layout) (h h2 : State) (c : List ℕ) → Extends h h
 restarts_on_the_way l h h2 c e r = reached (last_scn h.commits) (omega arith) (extends_later h h2 e) (record {
   blocks = r.blocks;
   opening = subst (λ (shape : Shape). file_opens l shape c r.blocks) (sym e.shape) r.opening;
-  holds = subst (λ (shape : Shape). Holds shape r.blocks (last_scn h.commits) (rows_at shape.blocks h2.commits (last_scn h.commits))) (sym e.shape)
-      (subst (λ (rows : List TableRow). Holds h.shape r.blocks (last_scn h.commits) rows) (sym (rows_stay h.shape.blocks h h2 (last_scn h.commits) e (omega arith))) r.holds);
+  holds = rows_later h h2 (last_scn h.commits) r.blocks e (omega arith) r.holds;
 })
 
 -- two layouts of the same shape and slots have the same numbers
@@ -74,41 +76,36 @@ abbrev pub images_open : ℕ → Shape → List ℕ → List (List ℕ) → Type
 images_open slots shape image blocks = Opens shape (Some slots) image blocks
 
 -- what was given for the loads of a store over a disk
-pub record Loaded {D : Type 0} (content : D → List ℕ) (image : D → List ℕ → Type 0) (moment : D → ℕ) (since : D → ℕ → List ℕ → Type 0) (old new : LapState D) : Type 0 where
+pub record Loaded {D : Type 0} (d : DiskGhosts D) (old new : LapState D) : Type 0 where
   pub shape : shape_of new.layout ≡ shape_of old.layout
   pub log : new.layout.log ≡ old.layout.log
-  pub stable : (b : List (List ℕ)) → IsStable content image old b → IsStable content image new b
-  pub later : moment old.disk ≤ moment new.disk
-  pub nothing_else : (t : ℕ) (c : List ℕ) → t ≤ moment old.disk → since new.disk t c → since old.disk t c ⊎ image old.disk c
+  pub stable : (b : List (List ℕ)) → IsStable d old b → IsStable d new b
+  pub crashes : LeavesNoMore d.image d.moment d.image_since old.disk new.disk
 
 -- and for the opening before them
-pub record Found {D : Type 0} (content : D → List ℕ) (image : D → List ℕ → Type 0) (moment : D → ℕ) (since : D → ℕ → List ℕ → Type 0) (old : D) (s : LapState D) : Type 0 where
-  pub opens : OpensAt s.layout (content old) s.blocks s.lsn
-  pub stable : IsStable content image s s.blocks
-  pub any_moment : OpensSame content image moment since old s.disk
-  pub only_now : (c : List ℕ) → since s.disk (moment s.disk) c → image s.disk c
+pub record Found {D : Type 0} (d : DiskGhosts D) (old : D) (s : LapState D) : Type 0 where
+  pub opens : OpensAt s.layout (d.content old) s.blocks s.lsn
+  pub stable : IsStable d s s.blocks
+  pub any_moment : OpensSame d old s.disk
+  pub only_now : (c : List ℕ) → d.image_since s.disk (d.moment s.disk) c → d.image s.disk c
 
-module _ {D : Type 0} (content : D → List ℕ) (image : D → List ℕ → Type 0) (moment : D → ℕ) (since : D → ℕ → List ℕ → Type 0) (old : D) where
+module _ {D : Type 0} (d : DiskGhosts D) (old : D) where
   -- loads behind an opening leave what it left
-  pub loads_leave : (s new : LapState D) → Found content image moment since old s → Loaded content image moment since s new → OpensSame content image moment since old new.disk
+  pub loads_leave : (s new : LapState D) → Found d old s → Loaded d s new → OpensSame d old new.disk
   loads_leave s new found loads = λ l blocks opens.
-      let here : (c : List ℕ) → image s.disk c → image old c ⊎ OpensTo l c blocks =
-      λ c is. inr (opens_alike s.layout l (content old) c s.blocks blocks found.opens.opens opens (stable_opens content image s s.blocks c found.stable (found.stable.images c is))) in
-      joined moment since old s.disk new.disk (λ c. image old c ⊎ OpensTo l c blocks) (found.any_moment l blocks opens) (record {
-        later = loads.later;
-        each = λ c left. ⊎_elim (λ was. here c (found.only_now c was)) (here c) (loads.nothing_else (moment s.disk) c (omega arith) left);
-        earlier = λ t c le left. ⊎_elim (λ was. inl was) (λ now. inr (here c now)) (loads.nothing_else t c le left);
-      })
+      let here : (c : List ℕ) → d.image s.disk c → d.image old c ⊎ OpensTo l c blocks =
+      λ c is. inr (opens_alike s.layout l (d.content old) c s.blocks blocks found.opens.opens opens (stable_opens d s s.blocks c found.stable (found.stable.images c is))) in
+      joined d.moment d.image_since old s.disk new.disk (λ c. d.image old c ⊎ OpensTo l c blocks) (found.any_moment l blocks opens)
+      (still_leaves d.image d.moment d.image_since s.disk new.disk (λ c. d.image old c ⊎ OpensTo l c blocks) found.only_now here loads.crashes)
 
   -- and the file as it was
-  file_stays : (s new : LapState D) → Found content image moment since old s → Loaded content image moment since s new
-      → (l : Layout) (blocks : List (List ℕ)) → OpensTo l (content old) blocks → OpensTo l (content new.disk) blocks
+  file_stays : (s new : LapState D) → Found d old s → Loaded d s new → (l : Layout) (blocks : List (List ℕ)) → OpensTo l (d.content old) blocks → OpensTo l (d.content new.disk) blocks
   file_stays s new found loads l blocks opens =
       let st = loads.stable s.blocks found.stable in
-      let here = opens_moves new.layout s.layout (content new.disk) s.blocks (numbers_of new.layout s.layout loads.shape loads.log) (stable_opens content image new s.blocks (content new.disk) st st.file) in
-      opens_alike s.layout l (content old) (content new.disk) s.blocks blocks found.opens.opens opens here
+      let here = opens_moves new.layout s.layout (d.content new.disk) s.blocks (numbers_of new.layout s.layout loads.shape loads.log) (stable_opens d new s.blocks (d.content new.disk) st st.file) in
+      opens_alike s.layout l (d.content old) (d.content new.disk) s.blocks blocks found.opens.opens opens here
 
-  pub loads_alone : (s new : LapState D) → Found content image moment since old s → Loaded content image moment since s new → LeftAlone content image moment since old new.disk
+  pub loads_alone : (s new : LapState D) → Found d old s → Loaded d s new → LeftAlone d old new.disk
   loads_alone s new found loads = record {
     file = file_stays s new found loads;
     images = loads_leave s new found loads;
@@ -116,85 +113,89 @@ module _ {D : Type 0} (content : D → List ℕ) (image : D → List ℕ → Typ
   }
 
   -- calls that change nothing leave it alone
-  pub rests_alone : (new : D) → ((c : List ℕ) → since old (moment old) c → image old c) → Rests content image moment since old new → LeftAlone content image moment since old new
+  pub rests_alone : (new : D) → ((c : List ℕ) → d.image_since old (d.moment old) c → d.image old c) → Rests d old new → LeftAlone d old new
   rests_alone new only_now still = record {
     file = λ l blocks opens. subst (λ (c : List ℕ). OpensTo l c blocks) (sym still.same) opens;
-    images = λ l blocks opens. rests_leave content image moment since old new (λ c. image old c ⊎ OpensTo l c blocks) only_now (λ c here. inl here) still;
+    images = λ l blocks opens. rests_leave d old new (λ c. d.image old c ⊎ OpensTo l c blocks) only_now (λ c here. inl here) still;
     none = λ nothing. still;
   }
 
   -- an engine over it
-  pub has_opened : (d : Ghosts (LapState D)) (s : LapState D) (e : EngineView (LapState D)) (h : State) → Found content image moment since old s → Loaded content image moment since s e.store → OpensAs (shape_of s.layout) s.blocks h
-      → CanOpen (shape_of s.layout) s.blocks s.lsn → StandsAs d e (record { state = h; number = s.lsn }) → HasOpened content image moment since d old e
-  has_opened d s e h found loads opening sound stands = record {
-    sound = record { layout = s.layout; blocks = s.blocks; number = s.lsn; opens = found.opens; can_open = sound };
+  pub has_opened : (g : Ghosts (LapState D)) (s : LapState D) (e : EngineView (LapState D)) (h : State) → Found d old s → Loaded d s e.store → OpensAs (shape_of s.layout) s.blocks h
+      → CanOpen (shape_of s.layout) s.blocks s.lsn → StandsAs g e (record { state = h; lsn = s.lsn }) → HasOpened d g old e
+  has_opened g s e h found loads opening sound stands = record {
+    sound = record { layout = s.layout; blocks = s.blocks; lsn = s.lsn; opens = found.opens; can_open = sound };
     state = h;
     opening = opening;
     slots = loads.log;
     stands = stands;
-    any_moment = weaker moment since old e.store.disk (λ c. image old c ⊎ OpensTo s.layout c s.blocks) (λ c. image old c ⊎ Restarts (file_opens s.layout) h c)
+    any_moment = weaker d.moment d.image_since old e.store.disk (λ c. d.image old c ⊎ OpensTo s.layout c s.blocks) (λ c. d.image old c ⊎ Restarts (file_opens s.layout) h c)
         (λ c p. ⊎_elim (λ was. inl was) (λ to. inr (opened_restarts s.layout s.blocks h c opening to)) p)
         (loads_leave s e.store found loads s.layout s.blocks found.opens.opens);
   }
 
   -- where it was refused, the file isn't sound
-  pub not_sound : (s : LapState D) → Found content image moment since old s → (CanOpen (shape_of s.layout) s.blocks s.lsn → ⊥) → IsSound (content old) → ⊥
+  pub not_sound : (s : LapState D) → Found d old s → (CanOpen (shape_of s.layout) s.blocks s.lsn → ⊥) → IsSound (d.content old) → ⊥
   not_sound s found refused sound =
-      let agree = one_opening sound.layout s.layout (content old) sound.blocks s.blocks sound.opens.opens found.opens.opens in
-      let numbers = one_number sound.layout s.layout (content old) sound.blocks s.blocks sound.number s.lsn sound.opens found.opens in
+      let agree = one_opening sound.layout s.layout (d.content old) sound.blocks s.blocks sound.opens.opens found.opens.opens in
+      let numbers = one_number sound.layout s.layout (d.content old) sound.blocks s.blocks sound.lsn s.lsn sound.opens found.opens in
       refused (subst (λ (n : ℕ). CanOpen (shape_of s.layout) s.blocks n) numbers
-      (subst (λ (b : List (List ℕ)). CanOpen (shape_of s.layout) b sound.number) agree.blocks
-      (subst (λ (shape : Shape). CanOpen shape sound.blocks sound.number) agree.shape sound.can_open)))
+      (subst (λ (b : List (List ℕ)). CanOpen (shape_of s.layout) b sound.lsn) agree.blocks
+      (subst (λ (shape : Shape). CanOpen shape sound.blocks sound.lsn) agree.shape sound.can_open)))
 
   -- an opening, and the lines after it
-  pub endures : (d : Ghosts (LapState D)) (e : EngineView (LapState D)) (h2 : State) (new : D) (o : HasOpened content image moment since d old e) → Extends o.state h2
-      → LeavesOnly moment since e.store.disk new (λ c. OnTheWay (images_open e.store.layout.log) o.state h2 c) → ((c : List ℕ) → image new c → AtEnd (images_open e.store.layout.log) h2 c)
-      → Endures image moment since old new o.sound.layout o.state h2
-  endures d e h2 new o extends any end =
+  pub endures : (g : Ghosts (LapState D)) (e : EngineView (LapState D)) (h2 : State) (new : D) (o : HasOpened d g old e) → Extends o.state h2
+      → Leaves d e.store.disk new (λ c. OnTheWay (images_open e.store.layout.log) o.state h2 c) → ((c : List ℕ) → d.image new c → AtEnd (images_open e.store.layout.log) h2 c)
+      → Endures d old new o.sound.layout o.state h2
+  endures g e h2 new o extends any end =
       let l = o.sound.layout in
       record {
-        any_moment = joined moment since old e.store.disk new (λ c. image old c ⊎ OnTheWay (file_opens l) o.state h2 c)
-            (weaker moment since old e.store.disk (λ c. image old c ⊎ Restarts (file_opens l) o.state c) (λ c. image old c ⊎ OnTheWay (file_opens l) o.state h2 c)
+        any_moment = joined d.moment d.image_since old e.store.disk new (λ c. d.image old c ⊎ OnTheWay (file_opens l) o.state h2 c)
+            (weaker d.moment d.image_since old e.store.disk (λ c. d.image old c ⊎ Restarts (file_opens l) o.state c) (λ c. d.image old c ⊎ OnTheWay (file_opens l) o.state h2 c)
             (λ c p. ⊎_elim (λ was. inl was) (λ r. inr (restarts_on_the_way l o.state h2 c extends r)) p) o.any_moment)
-            (weaker moment since e.store.disk new (λ c. OnTheWay (images_open e.store.layout.log) o.state h2 c) (λ c. image old c ⊎ OnTheWay (file_opens l) o.state h2 c)
+            (weaker d.moment d.image_since e.store.disk new (λ c. OnTheWay (images_open e.store.layout.log) o.state h2 c) (λ c. d.image old c ⊎ OnTheWay (file_opens l) o.state h2 c)
             (λ c way. inr (subst (λ (k : ℕ). OnTheWay (images_open k) o.state h2 c) o.slots way)) any);
         now_only = λ c here. subst (λ (k : ℕ). AtEnd (images_open k) h2 c) o.slots (end c here);
       }
 
   -- what was done over the engine was done over the file
-  module _ (d : Ghosts (LapState D)) (e : EngineView (LapState D)) (o : HasOpened content image moment since d old e) where
+  module _ (g : Ghosts (LapState D)) (e : EngineView (LapState D)) (o : HasOpened d g old e) where
     abbrev start : Logged
-    start = record { state = o.state; number = o.sound.number }
+    start = record { state = o.state; lsn = o.sound.lsn }
 
-    abbrev pub has_run : (now : Logged) (lines : List (List ℕ)) (tells : Type 0) (before held : List ℕ) (stopped : Bool) (keeps : Layout → State → State → Type 0)
-        → Ran e.store.layout.log start now lines tells before held → now.state.stopped ≡ stopped → keeps o.sound.layout o.state now.state → HasRun (content old) lines tells before held stopped keeps
-    has_run now lines tells before held stopped keeps ran end kept = record {
+    abbrev pub ran_over : (now : Logged) (lines : List (List ℕ)) (tells : Type 0) (before held : List ℕ) (endures : Layout → State → State → Type 0)
+        → Ran e.store.layout.log start now lines tells before held → endures o.sound.layout o.state now.state → RanOver (d.content old) lines tells before held endures
+    ran_over now lines tells before held endures ran endured = record {
       sound = o.sound;
       state = o.state;
       opening = o.opening;
-      did = record { now = now; ran = subst (λ (k : ℕ). Ran k start now lines tells before held) o.slots ran; end = end; kept = kept };
+      did = record { now = now; ran = subst (λ (k : ℕ). Ran k start now lines tells before held) o.slots ran; endured = endured };
     }
 
-    pub has_halted : (now : Logged) (left left2 : List ℕ) (tells : Type 0) (before held : List ℕ) (keeps : Layout → State → State → Type 0)
-        → Halted e.store.layout.log 65536 start now left left2 tells before held → keeps o.sound.layout o.state now.state → HasHalted (content old) left left2 tells before held keeps
-    has_halted now left left2 tells before held keeps halted kept = record {
-      run = has_run now (lines_of left) tells before held true keeps (all_ran e.store.layout.log 65536 start now left left2 tells before held halted) halted.stopped kept;
-      halted = subst (λ (k : ℕ). Halted k 65536 start now left left2 tells before held) o.slots halted;
+    pub has_run : (now : Logged) (lines : List (List ℕ)) (tells : Type 0) (before held : List ℕ) (endures : Layout → State → State → Type 0)
+        → Ran e.store.layout.log start now lines tells before held → now.state.stopped ≡ false → endures o.sound.layout o.state now.state → HasRun (d.content old) lines tells before held endures
+    has_run now lines tells before held endures ran going endured = record { run = ran_over now lines tells before held endures ran endured; going = going }
+
+    pub has_halted : (now : Logged) (left left2 : List ℕ) (tells : Type 0) (before held : List ℕ) (endures : Layout → State → State → Type 0)
+        → Halted e.store.layout.log SCRIPT_BYTES start now left left2 tells before held → endures o.sound.layout o.state now.state → HasHalted (d.content old) left left2 tells before held endures
+    has_halted now left left2 tells before held endures halted endured = record {
+      run = ran_over now (lines_of left) tells before held endures (all_ran e.store.layout.log SCRIPT_BYTES start now left left2 tells before held halted) endured;
+      halted = subst (λ (k : ℕ). Halted k SCRIPT_BYTES start now left left2 tells before held) o.slots halted;
     }
 
-    pub was_cut_off : (now : Logged) (lines : List (List ℕ)) (before held : List ℕ) (keeps : Layout → State → State → Type 0)
-        → CutOff e.store.layout.log start now lines before held → keeps o.sound.layout o.state now.state → WasCutOff (content old) lines before held keeps
-    was_cut_off now lines before held keeps cut kept = record {
+    pub was_cut_off : (now : Logged) (lines : List (List ℕ)) (before held : List ℕ) (endures : Layout → State → State → Type 0)
+        → CutOff e.store.layout.log start now lines before held → endures o.sound.layout o.state now.state → WasCutOff (d.content old) lines before held endures
+    was_cut_off now lines before held endures cut endured = record {
       sound = o.sound;
       state = o.state;
       opening = o.opening;
       now = now;
       cut = subst (λ (k : ℕ). CutOff k start now lines before held) o.slots cut;
-      kept = kept;
+      endured = endured;
     }
 
 -- a file that opens to nothing isn't sound
-pub no_opening : (file : List ℕ) → ((l : Layout) (blocks : List (List ℕ)) → OpensTo l file blocks → ⊥) → IsSound file → ⊥
+pub no_opening : (file : List ℕ) → OpensToNone file → IsSound file → ⊥
 no_opening file none sound = none sound.layout sound.blocks sound.opens.opens
 
 -- a fault that is none of the disk

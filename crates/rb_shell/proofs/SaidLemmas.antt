@@ -27,10 +27,10 @@ use Rattle.rb_shell.specs.Steps.{Added, CalledOnce, Calls, Lost, Said, SaidAs, S
 -- a state and itself, and what differs by fetches
 
 pub itself : (m : Logged) → SameButCursors m m
-itself m = record { number = refl; shape = refl; commits = refl; sessions = refl; own = λ s. refl; stopped = refl }
+itself m = record { lsn = refl; shape = refl; commits = refl; sessions = refl; own = λ s. refl; stopped = refl }
 
 same_joined : (a b c : Logged) → SameButCursors a b → SameButCursors b c → SameButCursors a c
-same_joined a b c x y = record { number = x.number ∙ y.number; shape = x.shape ∙ y.shape; commits = x.commits ∙ y.commits; sessions = x.sessions ∙ y.sessions; own = λ s. x.own s ∙ y.own s; stopped = x.stopped ∙ y.stopped }
+same_joined a b c x y = record { lsn = x.lsn ∙ y.lsn; shape = x.shape ∙ y.shape; commits = x.commits ∙ y.commits; sessions = x.sessions ∙ y.sessions; own = λ s. x.own s ∙ y.own s; stopped = x.stopped ∙ y.stopped }
 
 own_stays : (sessions : List Session) (i j : ℕ) (d : Session) (cursors : List Cursor) → (get_or (set sessions i (record { own = (get_or sessions i d).own; cursors = cursors })) j d).own ≡ (get_or sessions j d).own
 own_stays [] i j d cursors = refl
@@ -39,16 +39,16 @@ own_stays (x ∷ sessions) zero (suc j) d cursors = refl
 own_stays (x ∷ sessions) (suc i) zero d cursors = refl
 own_stays (x ∷ sessions) (suc i) (suc j) d cursors = own_stays sessions i j d cursors
 
-taken_same : (h : State) (s : ℕ) (name : List ℕ) (n : ℕ) → SameButCursors (record { state = after_grant h (Fetch s name); number = n }) (record { state = h; number = n })
-taken_same h s name n = record { number = refl; shape = refl; commits = refl; sessions = length-set h.sessions (s - 1) _; own = λ t. own_stays h.sessions (s - 1) (t - 1) fresh_session (with_taken name (session_of h s).cursors); stopped = refl }
+taken_same : (h : State) (s : ℕ) (name : List ℕ) (n : ℕ) → SameButCursors (record { state = after_grant h (Fetch s name); lsn = n }) (record { state = h; lsn = n })
+taken_same h s name n = record { lsn = refl; shape = refl; commits = refl; sessions = length-set h.sessions (s - 1) _; own = λ t. own_stays h.sessions (s - 1) (t - 1) fresh_session (with_taken name (session_of h s).cursors); stopped = refl }
 
-fetch_same : (h : State) (n s : ℕ) (name : List ℕ) (r : Answer) → is_fault r ≡ false → SameButCursors (record { state = after h (Fetch s name) r; number = n }) (record { state = h; number = n })
+fetch_same : (h : State) (n s : ℕ) (name : List ℕ) (r : Answer) → is_fault r ≡ false → SameButCursors (record { state = after h (Fetch s name) r; lsn = n }) (record { state = h; lsn = n })
 fetch_same h n s name Done e = taken_same h s name n
-fetch_same h n s name (Waits on) e = itself (record { state = h; number = n })
+fetch_same h n s name (Waits on) e = itself (record { state = h; lsn = n })
 fetch_same h n s name (Numbered k) e = taken_same h s name n
 fetch_same h n s name (Given key value) e = taken_same h s name n
-fetch_same h n s name End e = itself (record { state = h; number = n })
-fetch_same h n s name (Refused why) e = subst (λ (x : State). SameButCursors (record { state = x; number = n }) (record { state = h; number = n })) (sym (refused_same h why e)) (itself (record { state = h; number = n }))
+fetch_same h n s name End e = itself (record { state = h; lsn = n })
+fetch_same h n s name (Refused why) e = subst (λ (x : State). SameButCursors (record { state = x; lsn = n }) (record { state = h; lsn = n })) (sym (refused_same h why e)) (itself (record { state = h; lsn = n }))
 
 -- only a fetch gives a row
 
@@ -88,11 +88,11 @@ once_last m mid slots s c more r once gives =
 some_fetches : (more : ℕ) (m : Logged) (slots s t : ℕ) (name : List ℕ) → (out : List ℕ) × (end : Logged) × SameButCursors end m × CallsOut m slots s (Fetch t name) more out end
 some_fetches zero m slots s t name = ([], m, itself m, (refl, refl))
 some_fetches (suc more) m slots s t name =
-    let r = expected m.state m.number (room slots m.number) (Fetch t name) in
-    let mid : Logged = record { state = after m.state (Fetch t name) r; number = m.number } in
+    let r = expected m.state m.lsn (room slots m.lsn) (Fetch t name) in
+    let mid : Logged = record { state = after m.state (Fetch t name) r; lsn = m.lsn } in
     let rest = some_fetches more mid slots s t name in
-    let same : SameButCursors mid m = fetch_same m.state m.number t name r (expected_fine m.state m.number (room slots m.number) (Fetch t name)) in
-    let once : CallOut m slots (Fetch t name) r mid = record { reply = inl refl; state = refl; groups = 0; grows = λ going. refl; number = λ going. omega arith } in
+    let same : SameButCursors mid m = fetch_same m.state m.lsn t name r (expected_fine m.state m.lsn (room slots m.lsn) (Fetch t name)) in
+    let once : CallOut m slots (Fetch t name) r mid = record { reply = inl refl; state = refl; groups = 0; grows = λ going. refl; lsn = λ going. omega arith } in
     ⊎_elim
     (λ g. (reply_text s r ++ rest.0, rest.1, same_joined rest.1 mid m rest.2 same, once_more m mid rest.1 slots s (Fetch t name) more r rest.0 once g rest.3))
     (λ g. (reply_text s r, mid, same, once_last m mid slots s (Fetch t name) more r once g))
@@ -203,7 +203,7 @@ so_far_cut start m mid slots s c count all r tells before held waiting held2 so 
     let left = all - (count + 1) in
     ⊎_elim
     (λ (gives : is_given r ≡ true).
-    let f = given_fetches m.state m.number (room slots m.number) c r once.reply gives in
+    let f = given_fetches m.state m.lsn (room slots m.lsn) c r once.reply gives in
     let rest = some_fetches left mid slots s f.0 f.1 in
     let on : CallsOut mid slots s c left rest.0 rest.1 = subst (λ (x : Call). CallsOut mid slots s x left rest.0 rest.1) (sym f.2) rest.3 in
     record {
@@ -283,18 +283,18 @@ module _ {S : Type 0} (s : Ghosts S) where
   pub did_call : (m : Logged) (c : Call) (r : Answer) (old new : EngineView S) (P : Logged → Type 0) → StandsAs s old m → m.state.stopped ≡ false → Does s m.state c r old new → SameStore s old.store new.store
       → ((now : Logged) → now.state ≡ after m.state c r → CallOut m (slots_of (s.slots old.store)) c r now → P now) → Did (StandsAs s) (IsSince s) old new m P
   did_call m c r old new P is going does same so =
-      let now : Logged = record { state = after m.state c r; number = s.lsn new.store } in
+      let now : Logged = record { state = after m.state c r; lsn = s.lsn new.store } in
       record {
         now = now;
-        reached = record { engine = does.stands; number = refl; ended = subst (λ (slots : Option ℕ). slots ≡ Some (slots_of slots)) (sym same.slots) is.ended };
+        reached = record { engine = does.stands; lsn = refl; ended = subst (λ (slots : Option ℕ). slots ≡ Some (slots_of slots)) (sym same.slots) is.ended };
         passed = record { same = same; crash = λ kept. does.survives going kept };
         ran = so now refl (record {
-          reply = subst (λ (n : ℕ). Reply m.state n (room (slots_of (s.slots old.store)) n) c r) (sym is.number)
+          reply = subst (λ (n : ℕ). Reply m.state n (room (slots_of (s.slots old.store)) n) c r) (sym is.lsn)
               (subst (λ (slots : Option ℕ). Reply m.state (s.lsn old.store) (room_left slots (s.lsn old.store) old.spare) c r) is.ended does.reply);
           state = refl;
           groups = does.groups;
           grows = does.grows;
-          number = λ on. does.number on ∙ ap (λ (n : ℕ). n + does.groups) (sym is.number);
+          lsn = λ on. does.lsn on ∙ ap (λ (n : ℕ). n + does.groups) (sym is.lsn);
         });
       }
 

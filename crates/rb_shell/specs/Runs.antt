@@ -1,8 +1,8 @@
 -- What a run of a script over a file does.
-use Rattle.std.specs.Prelude.{◌≡◌, ◌⊎◌, ℕ, Bool, true, List, ◌++◌, Some}
-use Rattle.rb_base.specs.Moments.{LeavesOnly}
+use Rattle.std.specs.Prelude.{◌≡◌, ◌⊎◌, ¬, ℕ, false, List, ◌++◌, Some}
 use Rattle.rb_base.specs.declared.shape.Shape.{Shape}
-use Rattle.rb_disk.specs.Moments.{Rests}
+use Rattle.rb_disk.specs.Moments.{Leaves, Rests}
+use Rattle.rb_disk.specs.declared.disk.Disk.{Ghosts as DiskGhosts}
 use Rattle.rb_engine.specs.Crash.{AtEnd, OnTheWay, Restarts, Survives}
 use Rattle.rb_base.specs.declared.store.Store.{Ghosts}
 use Rattle.rb_engine.specs.Engine.{EngineView}
@@ -17,6 +17,7 @@ use Rattle.rb_model.specs.Lines.{lines_of}
 use Rattle.rb_model.specs.State.{State}
 use Rattle.rb_shell.specs.Since.{StandsAs}
 use Rattle.rb_shell.specs.Statuses.{status_of}
+use Rattle.rb_shell.specs.declared.script.TheConstants.{SCRIPT_BYTES}
 use Rattle.rb_shell.specs.declared.status.Status.{Status}
 use Rattle.rb_shell.specs.declared.status.Status.TheVariants.{Done, Usage, SourceFault, DiskFault, SinkFault, NotAStore}
 use Rattle.rb_shell.specs.declared.status.Status.TheVariants.{NoMemory, NotEmpty, TooLong}
@@ -26,72 +27,73 @@ use Rattle.rb_store.specs.Laps.{LapState, Opens, OpensTo, OpensAt}
 pub record IsSound (file : List ℕ) : Type 0 where
   pub layout : Layout
   pub blocks : List (List ℕ)
-  pub number : ℕ
-  pub opens : OpensAt layout file blocks number
-  pub can_open : CanOpen (shape_of layout) blocks number
+  pub lsn : ℕ
+  pub opens : OpensAt layout file blocks lsn
+  pub can_open : CanOpen (shape_of layout) blocks lsn
 
 -- to which blocks images of a file of that layout open
 abbrev pub file_opens : Layout → Shape → List ℕ → List (List ℕ) → Type 0
 file_opens l shape image blocks = Opens shape (Some l.log) image blocks
 
--- From a state and log number it did these lines, and came to others. Of the state `keeps` holds. It is stopped where
--- the last reply is `disk fault`.
+-- From a state and log number it did these lines, and came to others. A crash may leave no more than `endures` says of
+-- the state that it came to.
 pub record HasDone (slots : ℕ) (before : Logged) (lines : List (List ℕ)) (tells : Type 0)
-    (held_before held_now : List ℕ) (stopped : Bool) (keeps : State → Type 0) : Type 0 where
+    (held_before held_now : List ℕ) (endures : State → Type 0) : Type 0 where
   pub now : Logged
   pub ran : Ran slots before now lines tells held_before held_now
-  pub end : now.state.stopped ≡ stopped
-  pub kept : keeps now.state
+  pub endured : endures now.state
 
--- The machine that opened with the file's rows did these lines: the sink holds the replies then, where it tells. Of
--- the states before and after them `keeps` holds.
-pub record HasRun (file : List ℕ) (lines : List (List ℕ)) (tells : Type 0) (before now : List ℕ) (stopped : Bool)
-    (keeps : Layout → State → State → Type 0) : Type 0 where
+-- The machine that opened with the file's rows did these lines: the sink holds the replies then, where it tells. A crash
+-- may leave no more than `endures` says of the states before and after them.
+pub record RanOver (file : List ℕ) (lines : List (List ℕ)) (tells : Type 0) (before now : List ℕ)
+    (endures : Layout → State → State → Type 0) : Type 0 where
   pub sound : IsSound file
   pub state : State
   pub opening : OpensAs (shape_of sound.layout) sound.blocks state
-  pub did : HasDone sound.layout.log (record { state = state; number = sound.number }) lines tells before now stopped
-      (keeps sound.layout state)
+  pub did : HasDone sound.layout.log (record { state = state; lsn = sound.lsn }) lines tells before now
+      (endures sound.layout state)
+
+-- It did them all, and the disk never failed.
+pub record HasRun (file : List ℕ) (lines : List (List ℕ)) (tells : Type 0) (before now : List ℕ)
+    (endures : Layout → State → State → Type 0) : Type 0 where
+  pub run : RanOver file lines tells before now endures
+  pub going : run.did.now.state.stopped ≡ false
 
 -- It was cut off in one of these lines: the sink holds a front of replies that the lines may have.
-pub record WasCutOff (file : List ℕ) (lines : List (List ℕ)) (before now_held : List ℕ) (keeps : Layout → State
+pub record WasCutOff (file : List ℕ) (lines : List (List ℕ)) (before now_held : List ℕ) (endures : Layout → State
     → State → Type 0) : Type 0 where
   pub sound : IsSound file
   pub state : State
   pub opening : OpensAs (shape_of sound.layout) sound.blocks state
   pub now : Logged
-  pub cut : CutOff sound.layout.log (record { state = state; number = sound.number }) now lines before now_held
-  pub kept : keeps sound.layout state now.state
+  pub cut : CutOff sound.layout.log (record { state = state; lsn = sound.lsn }) now lines before now_held
+  pub endured : endures sound.layout state now.state
 
 -- A fault of the disk ended the lines: its reply is the last, and nothing was asked for after it. The script was asked
--- for in
--- pieces of at most 65,536 bytes.
-pub record HasHalted (file left_before left_now : List ℕ) (tells : Type 0) (before now : List ℕ) (keeps : Layout
+-- for in pieces of at most 65,536 bytes.
+pub record HasHalted (file left_before left_now : List ℕ) (tells : Type 0) (before now : List ℕ) (endures : Layout
     → State → State → Type 0) : Type 0 where
-  pub run : HasRun file (lines_of left_before) tells before now true keeps
-  pub halted : Halted run.sound.layout.log 65536 (record { state = run.state; number = run.sound.number }) run.did.now
-      left_before left_now tells before now
+  pub run : RanOver file (lines_of left_before) tells before now endures
+  pub halted : Halted run.sound.layout.log SCRIPT_BYTES (record { state = run.state; lsn = run.sound.lsn })
+      run.did.now left_before left_now tells before now
 
 -- What a crash may leave over a run, which opens the file first: at any moment since its start an image that the disk
 -- had at the start, or a file on the way from the state opened; and at its end all commits of the state.
-pub record Endures {D : Type 0} (image : D → List ℕ → Type 0) (moment : D → ℕ) (since : D → ℕ → List ℕ
-    → Type 0) (old new : D) (l : Layout) (before now : State) : Type 0 where
-  pub any_moment : LeavesOnly moment since old new (λ c. image old c ⊎ OnTheWay (file_opens l) before now c)
-  pub now_only : (c : List ℕ) → image new c → AtEnd (file_opens l) now c
+pub record Endures {D : Type 0} (d : DiskGhosts D) (old new : D) (l : Layout) (before now : State) : Type 0 where
+  pub any_moment : Leaves d old new (λ c. d.image old c ⊎ OnTheWay (file_opens l) before now c)
+  pub now_only : (c : List ℕ) → d.image new c → AtEnd (file_opens l) now c
 
 -- An engine was opened over the file of a disk, whose log it goes on with, and stands for the state to which the file
--- opens.
--- At any moment since the start a crash leaves an image that the disk had at the start, or one that opens to its rows.
-pub record HasOpened {D : Type 0} (content : D → List ℕ) (image : D → List ℕ → Type 0) (moment : D → ℕ)
-    (since : D → ℕ → List ℕ → Type 0) (s : Ghosts (LapState D)) (old : D) (e : EngineView (LapState D)) : Type
-    0 where
-  pub sound : IsSound (content old)
+-- opens. At any moment since the start a crash leaves an image that the disk had at the start, or one that opens to its
+-- rows.
+pub record HasOpened {D : Type 0} (d : DiskGhosts D) (s : Ghosts (LapState D)) (old : D)
+    (e : EngineView (LapState D)) : Type 0 where
+  pub sound : IsSound (d.content old)
   pub state : State
   pub opening : OpensAs (shape_of sound.layout) sound.blocks state
   pub slots : e.store.layout.log ≡ sound.layout.log
-  pub stands : StandsAs s e (record { state = state; number = sound.number })
-  pub any_moment : LeavesOnly moment since old e.store.disk (λ c. image old c
-      ⊎ Restarts (file_opens sound.layout) state c)
+  pub stands : StandsAs s e (record { state = state; lsn = sound.lsn })
+  pub any_moment : Leaves d old e.store.disk (λ c. d.image old c ⊎ Restarts (file_opens sound.layout) state c)
 
 -- Lines were done over a store, from one state to another. They ended as a status says.
 pub record RanOn {S : Type 0} (s : Ghosts S) (old new : S) (slots most : ℕ) (before : Logged)
@@ -105,28 +107,26 @@ pub record RanOn {S : Type 0} (s : Ghosts S) (old new : S) (slots most : ℕ) (b
 
 -- At any moment since the start a crash leaves an image that the disk had at the start, or one that opens to the blocks
 -- to which the file opened.
-abbrev pub OpensSame : {D : Type 0} → (D → List ℕ) → (D → List ℕ → Type 0) → (D → ℕ)
-    → (D → ℕ → List ℕ → Type 0) → D → D → Type 0
-OpensSame {D} content image moment since old new =
-    (l : Layout) (blocks : List (List ℕ)) → OpensTo l (content old) blocks
-    → LeavesOnly moment since old new (λ c. image old c ⊎ OpensTo l c blocks)
+abbrev pub OpensSame : {D : Type 0} → DiskGhosts D → D → D → Type 0
+OpensSame d old new = (l : Layout) (blocks : List (List ℕ)) → OpensTo l (d.content old) blocks
+    → Leaves d old new (λ c. d.image old c ⊎ OpensTo l c blocks)
+
+-- a file opens to no blocks
+abbrev pub OpensToNone : List ℕ → Type 0
+OpensToNone file = (l : Layout) (blocks : List (List ℕ)) → ¬ OpensTo l file blocks
 
 -- An opening was stopped: the images are as `OpensSame` says, and a file that opens to no blocks is as it was.
-pub record WasStopped {D : Type 0} (content : D → List ℕ) (image : D → List ℕ → Type 0) (moment : D
-    → ℕ) (since : D → ℕ → List ℕ → Type 0) (old new : D) : Type 0 where
-  pub images : OpensSame content image moment since old new
-  pub none : ((l : Layout) (blocks : List (List ℕ)) → OpensTo l (content old) blocks → ⊥)
-      → Rests content image moment since old new
+pub record WasStopped {D : Type 0} (d : DiskGhosts D) (old new : D) : Type 0 where
+  pub images : OpensSame d old new
+  pub none : OpensToNone (d.content old) → Rests d old new
 
 -- Nothing was done but an opening, which may take away what was logged behind the last commit: the file and each image
 -- open as before. A file that opens to no blocks is as it was.
-pub record LeftAlone {D : Type 0} (content : D → List ℕ) (image : D → List ℕ → Type 0) (moment : D
-    → ℕ) (since : D → ℕ → List ℕ → Type 0) (old new : D) : Type 0 where
-  pub file : (l : Layout) (blocks : List (List ℕ)) → OpensTo l (content old) blocks
-      → OpensTo l (content new) blocks
-  pub images : OpensSame content image moment since old new
-  pub none : ((l : Layout) (blocks : List (List ℕ)) → OpensTo l (content old) blocks → ⊥)
-      → Rests content image moment since old new
+pub record LeftAlone {D : Type 0} (d : DiskGhosts D) (old new : D) : Type 0 where
+  pub file : (l : Layout) (blocks : List (List ℕ)) → OpensTo l (d.content old) blocks
+      → OpensTo l (d.content new) blocks
+  pub images : OpensSame d old new
+  pub none : OpensToNone (d.content old) → Rests d old new
 
 -- these bytes were taken from what was left, and nothing else
 abbrev pub IsTaken : List ℕ → List ℕ → List ℕ → Type 0

@@ -56,7 +56,7 @@ pub fn run<S: Source, K: Sink, D: Disk>(
     // of the whole source. Here and below `Endures` says what a crash may leave at any moment of the run, and at its
     // end.
     ensures replies { D.tells → S.tells → (n : ℕ) → IsRun words.now n → result.0 ≡ Status.Done →
-        HasRun (D.content disk) (lines_of (S.left source.old)) K.tells (K.held sink.old) (K.held sink.new) false
+        HasRun (D.content disk) (lines_of (S.left source.old)) K.tells (K.held sink.old) (K.held sink.new)
         (Endures D.Disk disk result.1) }
     ensures at_end { S.tells → (n : ℕ) → IsRun words.now n → result.0 ≡ Status.Done
         → S.left source.new ≡ [] }
@@ -66,11 +66,11 @@ pub fn run<S: Source, K: Sink, D: Disk>(
     // A run that ends at a fault of the source, or is too long: the whole lines of what was taken are done.
     ensures source_done { D.tells → S.tells → result.0 ≡ Status.SourceFault →
         ((taken : List ℕ) × IsTaken taken (S.left source.old) (S.left source.new)
-        × HasRun (D.content disk) (whole_lines taken) K.tells (K.held sink.old) (K.held sink.new) false
+        × HasRun (D.content disk) (whole_lines taken) K.tells (K.held sink.old) (K.held sink.new)
         (Endures D.Disk disk result.1)) }
     ensures too_long { D.tells → S.tells → result.0 ≡ Status.TooLong →
         ((taken : List ℕ) × (length taken ≡ 1000000000) × IsTaken taken (S.left source.old) (S.left source.new)
-        × HasRun (D.content disk) (whole_lines taken) K.tells (K.held sink.old) (K.held sink.new) false
+        × HasRun (D.content disk) (whole_lines taken) K.tells (K.held sink.old) (K.held sink.new)
         (Endures D.Disk disk result.1)) }
 
     // At a fault of the disk nothing was asked for and the file opens as before, or is as it was where it opens to

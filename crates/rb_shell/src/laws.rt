@@ -9,8 +9,7 @@ ghost use Rattle.rb_model.specs.State.{State, opened};
 ghost use Rattle.rb_shell.specs.Runs.{IsSound, file_opens};
 
 /// An image of which `Endures` says that it restarts at a number is sound. A run over it opens with that number and
-/// with
-/// the rows after the commits up to it, and with no others.
+/// with the rows after the commits up to it, and with no others.
 pub fn restarts_sound()
     ensures sound { (l : Layout) (h : State) (n : ℕ) (image : List ℕ) → RestartsAt (file_opens l) h n image
         → IsSound image }

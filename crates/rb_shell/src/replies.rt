@@ -21,8 +21,11 @@ use rb_stream::Sink;
 /// The most bytes of one reply.
 const REPLY_BYTES: usize = 512;
 
+/// The most bytes of replies that wait.
+const WAITING_BYTES: usize = 65_536;
+
 /// What waits to be put: at most 64 KiB.
-pub type Waiting = ArrayVec<u8, 65_536>;
+pub type Waiting = ArrayVec<u8, WAITING_BYTES>;
 
 /// The answer of a write.
 pub fn answer_to_write(outcome: Result<Wrote, Refusal>) -> Answer
@@ -117,7 +120,7 @@ pub fn send<K: Sink>(waiting: &mut Waiting, sink: &mut K) -> Result<(), Failed>
 
 /// Whether one more reply has room.
 fn has_room(waiting: &Waiting) -> bool
-    ensures { IsTrue result ↔ (array_vec_len waiting.now + 512 ≤ 65536) }
+    ensures { IsTrue result ↔ (array_vec_len waiting.now + REPLY_BYTES ≤ WAITING_BYTES) }
 {
     waiting.len() + REPLY_BYTES <= waiting.capacity()
 }

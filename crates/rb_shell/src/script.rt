@@ -24,7 +24,7 @@ use rb_stream::{Sink, Source};
 use std::alloc::Global;
 
 /// How many bytes of the script are asked for at once.
-const BUFFER_BYTES: usize = 65_536;
+pub const SCRIPT_BYTES: usize = 65_536;
 
 /// The engine as what does the lines of a script, with room for the replies of a line.
 #[derive(Drop)]
@@ -97,9 +97,9 @@ fn run_engine<S: Source, K: Sink, T: Store>(
     sink: &mut K,
     buffer: &mut [u8],
 ) -> (Status, T)
-    requires buffer { length buffer.old ≡ 65536 }
+    requires buffer { length buffer.old ≡ SCRIPT_BYTES }
     ensures did { S.tells → (m : Logged) → StandsAs T.Store engine m → m.state.stopped ≡ false
-        → RanOn T.Store engine.store result.1 (slots_of (T.slots engine.store)) 65536 m (S.left source.old)
+        → RanOn T.Store engine.store result.1 (slots_of (T.slots engine.store)) SCRIPT_BYTES m (S.left source.old)
         (S.left source.new) K.tells (K.held sink.old) (K.held sink.new) result.0 }
     ensures ends { EndsRun result.0 }
     ensures asks { ¬ AsksNothing result.0 }
@@ -129,12 +129,10 @@ fn open_engine<D: Disk>(alloc: Global, disk: D) -> Result<Engine<LapStore<D>>, (
     ensures counted_ok { IfOk result (λ e. D.faults e.store.disk ≡ D.faults disk) }
     ensures counted_err { IfErr result (λ r. IsCountedAs (D.faults disk) (D.faults r.1) (is_failed r.0)) }
 {
-    match LapStore::open(alloc, disk) {
-        Ok(store) => match Engine::open(alloc, store) {
-            Ok(engine) => Ok(engine),
-            Err((fault, store)) => Err((fault, store.close())),
-        },
-        Err((fault, disk)) => Err((fault, disk)),
+    let store = LapStore::open(alloc, disk)?;
+    match Engine::open(alloc, store) {
+        Ok(engine) => Ok(engine),
+        Err((fault, store)) => Err((fault, store.close())),
     }
 }
 
@@ -151,16 +149,16 @@ pub fn run_script<S: Source, K: Sink, D: Disk>(
     // The script was done to its end, to a fault, or as far as it may be long.
     ensures done { D.tells → S.tells → result.0 ≡ Status.Done
         → HasRun (D.content disk) (lines_of (S.left source.old))
-        K.tells (K.held sink.old) (K.held sink.new) false (Endures D.Disk disk result.1) }
+        K.tells (K.held sink.old) (K.held sink.new) (Endures D.Disk disk result.1) }
     ensures at_end { S.tells → result.0 ≡ Status.Done → S.left source.new ≡ [] }
     ensures few { S.tells → result.0 ≡ Status.Done → length (S.left source.old) < 1000000000 }
     ensures source_done { D.tells → S.tells → result.0 ≡ Status.SourceFault →
         ((taken : List ℕ) × IsTaken taken (S.left source.old) (S.left source.new)
-        × HasRun (D.content disk) (whole_lines taken) K.tells (K.held sink.old) (K.held sink.new) false
+        × HasRun (D.content disk) (whole_lines taken) K.tells (K.held sink.old) (K.held sink.new)
         (Endures D.Disk disk result.1)) }
     ensures too_long { D.tells → S.tells → result.0 ≡ Status.TooLong →
         ((taken : List ℕ) × (length taken ≡ 1000000000) × IsTaken taken (S.left source.old) (S.left source.new)
-        × HasRun (D.content disk) (whole_lines taken) K.tells (K.held sink.old) (K.held sink.new) false
+        × HasRun (D.content disk) (whole_lines taken) K.tells (K.held sink.old) (K.held sink.new)
         (Endures D.Disk disk result.1)) }
     ensures disk_done { D.tells → S.tells → result.0 ≡ Status.DiskFault →
         ((source.new ≡ source.old) × (sink.new ≡ sink.old)
@@ -186,7 +184,7 @@ pub fn run_script<S: Source, K: Sink, D: Disk>(
     ensures disk { IsCountedBeside (D.faults disk) (D.faults result.1) (by_disk result.0) (by_sink result.0) }
     ensures sink { IsCountedAs (K.faults sink.old) (K.faults sink.new) (by_sink result.0) }
 {
-    let Ok(mut buffer) = vec![in alloc; 0; BUFFER_BYTES] else {
+    let Ok(mut buffer) = vec![in alloc; 0; SCRIPT_BYTES] else {
         return (Status::NoMemory, disk);
     };
     match open_engine(alloc, disk) {

@@ -21,7 +21,7 @@ returns-clause-sound c = λ l h n image r.
     record {
       layout = m;
       blocks = r.blocks;
-      number = number;
+      lsn = number;
       opens = at;
       can_open = can_open_held (shape_of m) r.blocks n number (rows_at h.shape.blocks h.commits n) (omega (arith, last)) held;
     }

@@ -16,30 +16,30 @@ use Rattle.rb_shell.proofs.script.run_script.Goals.{After-close}
 use Rattle.rb_shell.proofs.script.run_script.Goals as goal
 
 module _ (g : Over) (c : After-close g) (disk : g.D.Disk.tells) (told : g.S.Source.tells) where
-  opened : HasOpened g.D.Disk.content g.D.Disk.image g.D.Disk.moment g.D.Disk.image_since (ghosts g.row.D g.D.Disk g.D.Disk-dict) c.args.disk c.in-Ok-open_engine.engine
+  opened : HasOpened g.D.Disk (ghosts g.row.D g.D.Disk g.D.Disk-dict) c.args.disk c.in-Ok-open_engine.engine
   opened = c.in-Ok-open_engine.ensures.opened disk
 
-  did : RanOn (ghosts g.row.D g.D.Disk g.D.Disk-dict) c.in-Ok-open_engine.engine.store c.run_engine-status.result.1 c.in-Ok-open_engine.engine.store.layout.log 65536 (record { state = opened.state; number = opened.sound.number })
+  did : RanOn (ghosts g.row.D g.D.Disk g.D.Disk-dict) c.in-Ok-open_engine.engine.store c.run_engine-status.result.1 c.in-Ok-open_engine.engine.store.layout.log 65536 (record { state = opened.state; lsn = opened.sound.lsn })
       (g.S.Source.left c.args.source.now) (g.S.Source.left c.run_engine-status.new.source) g.K.Sink.tells (g.K.Sink.held c.args.sink.now) (g.K.Sink.held c.run_engine-status.new.sink) c.run_engine-status.result.0
-  did = c.run_engine-status.ensures.did told (record { state = opened.state; number = opened.sound.number }) opened.stands (ap (λ (h : State). h.stopped) opened.opening.state)
+  did = c.run_engine-status.ensures.did told (record { state = opened.state; lsn = opened.sound.lsn }) opened.stands (ap (λ (h : State). h.stopped) opened.opening.state)
 
   -- it endures
   endured : (h : State) → (g.D.Disk.tells → Survives (ghosts g.row.D g.D.Disk g.D.Disk-dict) (Some c.in-Ok-open_engine.engine.store.layout.log) opened.state h c.in-Ok-open_engine.engine.store c.run_engine-status.result.1)
-      → Endures g.D.Disk.image g.D.Disk.moment g.D.Disk.image_since c.args.disk c.close.result opened.sound.layout opened.state h
+      → Endures g.D.Disk c.args.disk c.close.result opened.sound.layout opened.state h
   endured h survives =
       let v = survives disk in
-      subst (λ d. Endures g.D.Disk.image g.D.Disk.moment g.D.Disk.image_since c.args.disk d opened.sound.layout opened.state h) (sym c.close.ensures)
-      (endures g.D.Disk.content g.D.Disk.image g.D.Disk.moment g.D.Disk.image_since c.args.disk (ghosts g.row.D g.D.Disk g.D.Disk-dict) c.in-Ok-open_engine.engine h c.run_engine-status.result.1.disk opened v.extends (record { later = v.any_moment.later; each = v.any_moment.each; earlier = v.any_moment.earlier }) v.now_only)
+      subst (λ d. Endures g.D.Disk c.args.disk d opened.sound.layout opened.state h) (sym c.close.ensures)
+      (endures g.D.Disk c.args.disk (ghosts g.row.D g.D.Disk g.D.Disk-dict) c.in-Ok-open_engine.engine h c.run_engine-status.result.1.disk opened v.extends (record { later = v.any_moment.later; each = v.any_moment.each; earlier = v.any_moment.earlier }) v.now_only)
 
   -- how the lines ended
   ended : (end : LinesEnd) → did.end ≡ end
-      → EndsAs c.in-Ok-open_engine.engine.store.layout.log 65536 (record { state = opened.state; number = opened.sound.number }) did.now (g.S.Source.left c.args.source.now) (g.S.Source.left c.run_engine-status.new.source) g.K.Sink.tells (g.K.Sink.held c.args.sink.now) (g.K.Sink.held c.run_engine-status.new.sink) end
-  ended end is = subst (λ (e : LinesEnd). EndsAs c.in-Ok-open_engine.engine.store.layout.log 65536 (record { state = opened.state; number = opened.sound.number }) did.now (g.S.Source.left c.args.source.now) (g.S.Source.left c.run_engine-status.new.source) g.K.Sink.tells (g.K.Sink.held c.args.sink.now) (g.K.Sink.held c.run_engine-status.new.sink) e) is did.ends
+      → EndsAs c.in-Ok-open_engine.engine.store.layout.log 65536 (record { state = opened.state; lsn = opened.sound.lsn }) did.now (g.S.Source.left c.args.source.now) (g.S.Source.left c.run_engine-status.new.source) g.K.Sink.tells (g.K.Sink.held c.args.sink.now) (g.K.Sink.held c.run_engine-status.new.sink) end
+  ended end is = subst (λ (e : LinesEnd). EndsAs c.in-Ok-open_engine.engine.store.layout.log 65536 (record { state = opened.state; lsn = opened.sound.lsn }) did.now (g.S.Source.left c.args.source.now) (g.S.Source.left c.run_engine-status.new.source) g.K.Sink.tells (g.K.Sink.held c.args.sink.now) (g.K.Sink.held c.run_engine-status.new.sink) e) is did.ends
 
   -- what was done over the engine was done over the file
-  ran : (lines : List (List ℕ)) → Ran c.in-Ok-open_engine.engine.store.layout.log (record { state = opened.state; number = opened.sound.number }) did.now lines g.K.Sink.tells (g.K.Sink.held c.args.sink.now) (g.K.Sink.held c.run_engine-status.new.sink) → did.now.state.stopped ≡ false
-      → HasRun (g.D.Disk.content c.args.disk) lines g.K.Sink.tells (g.K.Sink.held c.args.sink.now) (g.K.Sink.held c.run_engine-status.new.sink) false (Endures g.D.Disk.image g.D.Disk.moment g.D.Disk.image_since c.args.disk c.close.result)
-  ran lines r going = has_run g.D.Disk.content g.D.Disk.image g.D.Disk.moment g.D.Disk.image_since c.args.disk (ghosts g.row.D g.D.Disk g.D.Disk-dict) c.in-Ok-open_engine.engine opened did.now lines g.K.Sink.tells _ _ false _ r going (endured did.now.state did.crash)
+  ran : (lines : List (List ℕ)) → Ran c.in-Ok-open_engine.engine.store.layout.log (record { state = opened.state; lsn = opened.sound.lsn }) did.now lines g.K.Sink.tells (g.K.Sink.held c.args.sink.now) (g.K.Sink.held c.run_engine-status.new.sink) → did.now.state.stopped ≡ false
+      → HasRun (g.D.Disk.content c.args.disk) lines g.K.Sink.tells (g.K.Sink.held c.args.sink.now) (g.K.Sink.held c.run_engine-status.new.sink) (Endures g.D.Disk c.args.disk c.close.result)
+  ran lines r going = has_run g.D.Disk c.args.disk (ghosts g.row.D g.D.Disk g.D.Disk-dict) c.in-Ok-open_engine.engine opened did.now lines g.K.Sink.tells _ _ _ r going (endured did.now.state did.crash)
 
 pub returns-in-Ok-open_engine-clause-done : goal.returns-in-Ok-open_engine-clause-done
 returns-in-Ok-open_engine-clause-done g c = λ disk told is.
@@ -63,13 +63,13 @@ pub returns-in-Ok-open_engine-clause-disk_done : goal.returns-in-Ok-open_engine-
 returns-in-Ok-open_engine-clause-disk_done g c = λ disk told is.
     let a = (goal.at.returns-in-Ok-open_engine-clause-disk_done g c).After-close in
     let e = ended g a disk told ends.DiskFault (disk_fault_of (did g a disk told).end (sym (did g a disk told).is ∙ is)) in
-    inr (has_halted g.D.Disk.content g.D.Disk.image g.D.Disk.moment g.D.Disk.image_since c.args.disk (ghosts g.row.D g.D.Disk g.D.Disk-dict) c.in-Ok-open_engine.engine (opened g a disk told) (did g a disk told).now _ _ g.K.Sink.tells _ _ _ e (endured g a disk told (did g a disk told).now.state (did g a disk told).crash))
+    inr (has_halted g.D.Disk c.args.disk (ghosts g.row.D g.D.Disk g.D.Disk-dict) c.in-Ok-open_engine.engine (opened g a disk told) (did g a disk told).now _ _ g.K.Sink.tells _ _ _ e (endured g a disk told (did g a disk told).now.state (did g a disk told).crash))
 
 pub returns-in-Ok-open_engine-clause-cut_off : goal.returns-in-Ok-open_engine-clause-cut_off
 returns-in-Ok-open_engine-clause-cut_off g c = λ disk told tells is.
     let a = (goal.at.returns-in-Ok-open_engine-clause-cut_off g c).After-close in
     let e = ended g a disk told ends.SinkFault (sink_fault_of (did g a disk told).end (sym (did g a disk told).is ∙ is)) in
-    was_cut_off g.D.Disk.content g.D.Disk.image g.D.Disk.moment g.D.Disk.image_since c.args.disk (ghosts g.row.D g.D.Disk g.D.Disk-dict) c.in-Ok-open_engine.engine (opened g a disk told) (did g a disk told).now _ _ _ _ (e tells) (endured g a disk told (did g a disk told).now.state (did g a disk told).crash)
+    was_cut_off g.D.Disk c.args.disk (ghosts g.row.D g.D.Disk g.D.Disk-dict) c.in-Ok-open_engine.engine (opened g a disk told) (did g a disk told).now _ _ _ _ (e tells) (endured g a disk told (did g a disk told).now.state (did g a disk told).crash)
 
 pub returns-in-Ok-open_engine-clause-sound : goal.returns-in-Ok-open_engine-clause-sound
 returns-in-Ok-open_engine-clause-sound g c = λ disk asks. let o = c.in-Ok-open_engine.ensures.opened disk in o.sound
