@@ -1,5 +1,5 @@
 -- What a run of a script over a file does.
-use Rattle.std.specs.Prelude.{◌≡◌, ◌⊎◌, ¬, ℕ, false, List, ◌++◌, Some}
+use Rattle.std.specs.Prelude.{◌≡◌, ◌⊎◌, ℕ, false, List, ◌++◌, Some}
 use Rattle.rb_base.specs.declared.shape.Shape.{Shape}
 use Rattle.rb_disk.specs.Moments.{Leaves, Rests}
 use Rattle.rb_disk.specs.declared.disk.Disk.{Ghosts as DiskGhosts}
@@ -113,7 +113,7 @@ OpensSame d old new = (l : Layout) (blocks : List (List ℕ)) → OpensTo l (d.c
 
 -- a file opens to no blocks
 abbrev pub OpensToNone : List ℕ → Type 0
-OpensToNone file = (l : Layout) (blocks : List (List ℕ)) → ¬ OpensTo l file blocks
+OpensToNone file = (l : Layout) (blocks : List (List ℕ)) → OpensTo l file blocks → ⊥
 
 -- An opening was stopped: the images are as `OpensSame` says, and a file that opens to no blocks is as it was.
 pub record WasStopped {D : Type 0} (d : DiskGhosts D) (old new : D) : Type 0 where
