@@ -1,5 +1,5 @@
 -- What a patch makes of a block's home, and of the head in front.
-use Rattle.std.proofs.Common.{◌≡◌, ◌≢◌, ℕ, ◌+◌, ◌^◌, ◌<◌, ◌≤◌, List, length, drop, refl, arith, ap, sym, ◌∙◌, inl, inr, slice_index, slice_set}
+use Rattle.std.proofs.Common.{◌≡◌, ◌≢◌, ℕ, ◌<◌, List, length, refl, arith, ap, sym, ◌∙◌, inl, inr, slice_index, slice_set}
 use Rattle.rb_base.specs.Blocks.{patched}
 use Rattle.rb_base.specs.Fields.{number_at, with_number}
 use Rattle.rb_base.specs.Groups.{Patch, IsPatch}

@@ -1,10 +1,10 @@
 -- The blocks of a new file are in order.
 use Rattle.std.proofs.Common.{◌≡◌, ◌⊎◌, ℕ, ◌-◌, ◌*◌, ◌%◌, ◌<◌, ◌≤◌, ◌==◌, ◌&&◌, Bool, true, if◌then◌else◌, List, ◌++◌, refl, arith, ap, sym, subst, ◌∙◌, inl, inr, slice_index_or}
-use Rattle.std.proofs.lemmas.Bool.{cases_lt, le-ltb, lt-ltb, false≢true, eqb-true, ne_eqb, and_parts, agree_below_at}
+use Rattle.std.proofs.lemmas.Bool.{cases_lt, le-ltb, false≢true, eqb-true, ne_eqb, and_parts, agree_below_at}
 use Rattle.std.proofs.lemmas.List.{get_or-replicate}
 use Rattle.std.proofs.Math.Nat.{mul-mod_right}
 use Rattle.rb_base.specs.declared.shape.Shape.{Shape}
-use Rattle.rb_base.specs.Blocks.{block_of, block_kind, fresh_head, fresh_rest, fresh_block, fresh_blocks, fresh_segment, table_blocks, shape_blocks}
+use Rattle.rb_base.specs.Blocks.{block_of, block_kind, fresh_head, fresh_rest, fresh_blocks, fresh_segment, table_blocks}
 use Rattle.rb_itl.specs.Entries.{entry_at, free_entry}
 use Rattle.rb_heap.specs.Homes.{Home, home_of, is_keyed, empty_cell, empty_home}
 use Rattle.rb_heap.proofs.Fresh.{of_rows, new_block, new_empty}

@@ -2,9 +2,8 @@
 use Rattle.std.proofs.Common.{ℕ, ◌<◌, ◌≤◌, ◌%◌, List, arith}
 use Rattle.rb_base.specs.declared.shape.Shape.{Shape}
 use Rattle.rb_base.specs.Blocks.{block_of, table_blocks}
-use Rattle.rb_itl.specs.declared.slots.Entry.{Entry}
 use Rattle.rb_base.specs.Blocks.{header_block}
-use Rattle.rb_heap.specs.Soundness.{IsTaken, IsHomeSound}
+use Rattle.rb_heap.specs.Soundness.{IsHomeSound}
 use Rattle.rb_segment.specs.Segments.{commit_scn, wrap_at}
 use Rattle.rb_sound.specs.Sound.{IsSegment, AreSound}
 use Rattle.rb_sound.proofs.Together.{AreAlike, home_later}

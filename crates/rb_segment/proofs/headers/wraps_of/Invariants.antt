@@ -1,13 +1,11 @@
-use Rattle.std.proofs.Common.{◌≡◌, ℕ, ◌<◌, false, length}
-use Rattle.rb_base.specs.Loads.{OnlyLoads}
+use Rattle.std.proofs.Common.{◌≡◌, ℕ, ◌<◌, length}
+use Rattle.rb_segment.proofs.Loading.{IsLoading}
 use Rattle.rb_segment.specs.Segments.{wrap_at, wrap_in}
 use Rattle.rb_segment.proofs.headers.wraps_of.Given as goal
 
 abbrev pub invariant-loop-g : goal.invariant-loop-g
 invariant-loop-g g l = record {
-  loads : OnlyLoads g.S.Store l.fn.store l.store;
-  going : g.S.Store.failed l.store ≡ false;
-  still : g.S.Store.faults l.store ≡ g.S.Store.faults l.fn.store;
+  loading : IsLoading g.S.Store l.fn.store l.store;
   size : length l.wraps ≡ 16;
   so_far : g.S.Store.tells → (seg slot : ℕ) → seg < l.g → slot < 16 → wrap_in l.wraps seg slot ≡ wrap_at (g.S.Store.shape_of l.fn.store) (g.S.Store.blocks l.fn.store) seg slot;
 }
