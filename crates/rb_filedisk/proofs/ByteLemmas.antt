@@ -1,13 +1,9 @@
 -- The bytes of a list of ranges with one more.
-use Rattle.std.proofs.Common.{◌≡◌, inl, inr, ⊎_elim, ℕ, ◌<◌, ◌≤◌, Bool, true, false, cond, ◌&&◌, ◌||◌, ◌==◌, List, [], ◌∷◌, length, refl, sym, ap, ◌∙◌, subst, arith}
-use Rattle.std.proofs.lemmas.Bool.{cases_lt, false≢true, leb-true}
+use Rattle.std.proofs.Common.{◌≡◌, inl, inr, ⊎_elim, ℕ, ◌<◌, ◌≤◌, Bool, true, false, cond, ◌||◌, ◌==◌, List, [], ◌∷◌, length, refl, sym, ap, ◌∙◌, subst, arith}
+use Rattle.std.proofs.lemmas.Bool.{and_parts, cases_lt, leb-true}
 use Rattle.rb_filedisk.specs.declared.unsynced.Range.{Range}
 use Rattle.rb_filedisk.specs.declared.unsynced.Unsynced.{Unsynced}
 use Rattle.rb_filedisk.specs.Unsynced.{Has, HasOne, with_range, joined, touches, written, ranges_of, IsWith, RemembersAll, RemembersNoOther}
-
-both_of : (x y : Bool) → (x && y) ≡ true → (x ≡ true) × (y ≡ true)
-both_of true y e = (refl, e)
-both_of false y e = absurd (false≢true e)
 
 -- of two ranges, joined or not, every byte is there
 two_kept : (joins : Bool) (last new : Range) (byte : ℕ) → HasOne (new ∷ last ∷ []) byte
@@ -42,7 +38,7 @@ in_touching last new byte after before h =
 two_left : (joins : Bool) (last new : Range) (byte : ℕ) → joins ≡ touches last new
     → HasOne (cond joins (joined last new ∷ []) (last ∷ new ∷ [])) byte → HasOne (new ∷ last ∷ []) byte
 two_left true last new byte same (inl h) =
-    let both = both_of _ _ (sym same) in
+    let both = and_parts _ _ (sym same) in
     in_touching last new byte (leb-true last.start new.end both.0) (leb-true new.start last.end both.1) h
 two_left true last new byte same (inr h) = absurd h
 two_left false last new byte same (inl h) = inr (inl h)
