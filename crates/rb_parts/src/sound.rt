@@ -3,7 +3,8 @@ ghost use Rattle.std.specs.Prelude.{◌≡◌, ◌≤◌, ◌<◌, false, OnOk};
 
 use rb_base::{BlockNo, Failed, Group, Shape, Store};
 use rb_plainstore::PlainStore;
-use rb_sound::{Limits, blocks_sound, commit_scn_of, home_sound, segment_sound};
+use rb_segment::commit_scn_of;
+use rb_sound::{Limits, blocks_sound, home_sound, segment_sound};
 use std::test::Fail;
 
 const SHAPE: Shape = Shape {

@@ -6,7 +6,7 @@ use rb_base::{BlockNo, Failed, Group, Shape, Store};
 use rb_cell::{Cell, EMPTY, ROW, STUB, cells};
 use rb_model::Op;
 use rb_plainstore::PlainStore;
-use rb_write::{Ask, AttemptFault, attempt, home_block};
+use rb_write::{Ask, AttemptFault, attempt};
 use std::test::Fail;
 
 /// Two tables of two blocks, 0 to 3.
@@ -57,7 +57,7 @@ fn cell_of<S: Store>(store: &mut S, no: BlockNo, c: u8) -> Result<Cell, Failed>
 fn homes(rt: HostRuntime) {
     let rows = [(1, 0, 0), (1, 1, 1), (2, 0, 2), (2, u64::MAX, 3)];
     for (table, key, block) in rows {
-        assert_eq!(rt; home_block(SHAPE, table, key), block);
+        assert_eq!(rt; SHAPE.home_block(table, key), block);
     }
 }
 

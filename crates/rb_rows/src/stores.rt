@@ -50,8 +50,7 @@ fn patch_byte<S: Store>(store: &mut S, block: BlockNo, at: u16, byte: u8) -> Res
     ensures going { OnOk result (S.failed store.new ≡ false) }
 {
     let shape = store.shape();
-    let count = u32::from(shape.tables) * shape.blocks + 33 * u32::from(shape.segments);
-    if block >= count || store.room() < 1 || store.logged() > 1_000_000 {
+    if block >= shape.block_count() || store.room() < 1 || store.logged() > 1_000_000 {
         return Err(Failed);
     }
     let mut group = Group::new();
@@ -66,8 +65,7 @@ fn byte_of<S: Store>(store: &mut S, block: BlockNo, at: u16) -> Result<u8, Faile
     ensures going { OnOk result (S.failed store.new ≡ false) }
 {
     let shape = store.shape();
-    let count = u32::from(shape.tables) * shape.blocks + 33 * u32::from(shape.segments);
-    if block >= count {
+    if block >= shape.block_count() {
         return Err(Failed);
     }
     store.load(block)?;
