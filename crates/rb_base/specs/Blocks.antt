@@ -55,8 +55,8 @@ abbrev pub after_groups : ℕ → List (List Patch) → List (List ℕ) → List
 after_groups number [] blocks = blocks
 after_groups number (group ∷ groups) blocks = after_groups (number + 1) groups (after_group number group blocks)
 
--- The patches of a group that are of one block, written over it in order. Behind its head this is what the group makes of
--- the block.
+-- The patches of a group that are of one block, written over it in order. Behind its head this is what the group makes
+-- of the block.
 abbrev pub written_to : ℕ → List Patch → List ℕ → List ℕ
 written_to which [] block = block
 written_to which (p ∷ patches) block = written_to which patches
@@ -86,7 +86,8 @@ pub record AreBlocks (shape : Shape) (blocks : List (List ℕ)) : Type 0 where
 
 -- what a group makes of one block, behind its head
 abbrev pub OneBlock : Type 0
-OneBlock = (shape : Shape) (number which : ℕ) (patches : List Patch) (blocks : List (List ℕ)) → AreBlocks shape blocks
+OneBlock = (shape : Shape) (number which : ℕ) (patches : List Patch) (blocks : List (List ℕ))
+    → AreBlocks shape blocks
     → which < shape_blocks shape → AllByRecursion IsPatch patches
     → behind_head (block_of (after_group number patches blocks) which)
     ≡ behind_head (written_to which patches (block_of blocks which))

@@ -1,5 +1,5 @@
--- What a crash may leave of an object, now or at some moment since a stated one, and how that goes on over several calls.
--- An image is what is left: the bytes of a file, say.
+-- What a crash may leave of an object, now or at some moment since a stated one, and how that goes on over several
+-- calls. An image is what is left: the bytes of a file, say.
 use Rattle.std.specs.Prelude.{◌⊎◌, ℕ, ◌≤◌}
 use Rattle.std.proofs.Common.{inl, inr, ⊎_elim, arith}
 
@@ -52,7 +52,8 @@ module _ {D X : Type 0} (left : D → X → Type 0) (moment : D → ℕ) (since 
   }
 
   -- several such calls after several others
-  pub more_calls : (old mid new : D) → LeavesNoMore left moment since old mid → LeavesNoMore left moment since mid new
+  pub more_calls : (old mid new : D) → LeavesNoMore left moment since old mid
+      → LeavesNoMore left moment since mid new
       → LeavesNoMore left moment since old new
   more_calls old mid new first second = record {
     no_more = λ c now. first.no_more c (second.no_more c now);
@@ -65,12 +66,14 @@ module _ {D X : Type 0} (left : D → X → Type 0) (moment : D → ℕ) (since 
 
   -- such calls leave P where each image has it already
   pub still_leaves : (old new : D) (P : X → Type 0) → ((c : X) → since old (moment old) c → left old c)
-      → ((c : X) → left old c → P c) → LeavesNoMore left moment since old new → LeavesOnly moment since old new P
+      → ((c : X) → left old c → P c) → LeavesNoMore left moment since old new
+      → LeavesOnly moment since old new P
   still_leaves old new P only_now here still = record {
     later = still.later;
     each = λ c was. ⊎_elim (λ before. here c (only_now c before)) (here c)
         (still.nothing_else (moment old) c (omega arith) was);
-    earlier = λ t c le was. ⊎_elim (λ before. inl before) (λ now. inr (here c now)) (still.nothing_else t c le was);
+    earlier = λ t c le was. ⊎_elim (λ before. inl before) (λ now. inr (here c now))
+        (still.nothing_else t c le was);
   }
 
 module _ {D X : Type 0} (moment : D → ℕ) (since : D → ℕ → X → Type 0) where

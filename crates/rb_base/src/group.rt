@@ -80,7 +80,8 @@ impl Group {
 
     /// Whether one more patch of `len` bytes has room.
     pub fn fits(&self, len: usize) -> bool
-        ensures { IsTrue result ↔ ((length self.now < GROUP_PATCHES) × (group_length self.now + (8 + len) ≤ GROUP_BYTES)) }
+        ensures { IsTrue result ↔ ((length self.now < GROUP_PATCHES)
+            × (group_length self.now + (8 + len) ≤ GROUP_BYTES)) }
     {
         let count = self.heads.len();
         let used = COUNT_BYTES + HEAD_BYTES * count + self.bytes.len();

@@ -1,5 +1,5 @@
-//! How many blocks of each kind a file has, and where they stand: those of the tables first, and behind them those of the
-//! segments. Each layer over blocks asks it.
+//! How many blocks of each kind a file has, and where they stand: those of the tables first, and behind them those of
+//! the segments. Each layer over blocks asks it.
 ghost use Rattle.std.specs.Prelude.{◌≡◌, ◌<◌, ◌≤◌};
 ghost use Rattle.rb_base.specs.Blocks.{header_block, home_block, shape_blocks, table_blocks, IsShape};
 

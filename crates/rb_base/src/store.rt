@@ -1,6 +1,6 @@
 //! `Store`: the blocks of a file, read and patched by groups, as the engine and what it stands on call them.
-
-ghost use Rattle.std.specs.Prelude.{◌≡◌, ◌+◌, ◌^◌, ◌<◌, ◌≤◌, ◌∷◌, ◌++◌, ℕ, [], List, length};
+ghost use Rattle.std.specs.Prelude.{◌≡◌, ◌+◌, ◌^◌, ◌<◌, ◌≤◌, ◌∷◌, ◌++◌, ℕ, []};
+ghost use Rattle.std.specs.Prelude.{List, length};
 ghost use Rattle.std.specs.Prelude.{Bool, true, false, is_some, Option, Some, OnOk};
 ghost use Rattle.std.specs.Result.{is_err};
 ghost use Rattle.rb_base.specs.Blocks.{block_of, after_group, shape_blocks, AreBlocks, AreWithin, IsShape};
@@ -17,8 +17,8 @@ use crate::shape::Shape;
 use crate::sizes::UNIT;
 
 /// The blocks of a file. Each change of them is a group of patches, which has the next log number. A group waits until
-/// a flush; from then on a crash leaves it, if it is a commit or a commit is behind it. A store of which a call has failed
-/// is no more to be called.
+/// a flush; from then on a crash leaves it, if it is a commit or a commit is behind it. A store of which a call has
+/// failed is no more to be called.
 pub trait Store {
     /// Whether it tells its blocks.
     ghost tells: { Type 0 };
@@ -65,8 +65,8 @@ pub trait Store {
     /// To which blocks an image opens, in a file of that shape and as many slots.
     ghost opens: { Shape → Option ℕ → image → List (List ℕ) → Type 0 };
 
-    /// These blocks are stable: each image that a crash now may leave opens to them, and patched by the groups that wait
-    /// they are those that it reads.
+    /// These blocks are stable: each image that a crash now may leave opens to them, and patched by the groups that
+    /// wait they are those that it reads.
     ghost stable: { Self → List (List ℕ) → Type 0 };
 
     /// Its shape, which never changes.
@@ -85,7 +85,8 @@ pub trait Store {
         ensures failed { failed self.new ≡ is_err result }
         ensures counted { IsCounted (faults self.old) (faults self.new) result };
 
-    /// The block that was loaded, 2,048 bytes. The last of the calls that change the store was a `load` that answered Ok.
+    /// The block that was loaded, 2,048 bytes. The last of the calls that change the store was a `load` that answered
+    /// Ok.
     fn block(&self) -> &[u8]
         requires loaded { is_some (loaded self.now) ≡ true }
         ensures length { length result.now ≡ UNIT }
@@ -105,16 +106,18 @@ pub trait Store {
         ensures pending { tells_crashes → OnOk result (pending self.new ≡ pending self.old ++ group.now ∷ []) }
         ensures shape { shape_of self.new ≡ shape_of self.old }
         ensures slots { slots self.new ≡ slots self.old }
-        ensures stable { tells_crashes → OnOk result ((b : List (List ℕ)) → stable self.old b → stable self.new b) }
+        ensures stable { tells_crashes → OnOk result ((b : List (List ℕ)) → stable self.old b
+            → stable self.new b) }
         ensures crashes { tells_crashes → LeavesNoMore left moment left_since self.old self.new }
         ensures failed { failed self.new ≡ is_err result }
         ensures counted { IsCounted (faults self.old) (faults self.new) result };
 
-    /// Makes the groups that wait last. After an Ok none waits, and a crash leaves those up to the last commit. Where it
-    /// is stopped, a crash leaves some of them, in order from the first and up to a commit.
+    /// Makes the groups that wait last. After an Ok none waits, and a crash leaves those up to the last commit. Where
+    /// it is stopped, a crash leaves some of them, in order from the first and up to a commit.
     fn flush(&mut self) -> Result<(), Failed>
         requires going { failed self.old ≡ false }
-        ensures flushes { tells_crashes → Flushes shape_of slots lsn blocks pending opens stable left moment left_since
+        ensures flushes { tells_crashes
+            → Flushes shape_of slots lsn blocks pending opens stable left moment left_since
             self.old self.new result }
         ensures shape { shape_of self.new ≡ shape_of self.old }
         ensures slots { slots self.new ≡ slots self.old }
@@ -126,7 +129,8 @@ pub trait Store {
     /// Does what `flush` does, and makes the log short where the store can.
     fn checkpoint(&mut self) -> Result<(), Failed>
         requires going { failed self.old ≡ false }
-        ensures flushes { tells_crashes → Flushes shape_of slots lsn blocks pending opens stable left moment left_since
+        ensures flushes { tells_crashes
+            → Flushes shape_of slots lsn blocks pending opens stable left moment left_since
             self.old self.new result }
         ensures shape { shape_of self.new ≡ shape_of self.old }
         ensures slots { slots self.new ≡ slots self.old }
@@ -147,7 +151,8 @@ pub trait Store {
     ghost crashes_told: { tells_crashes → tells };
 
     /// An image that a crash now may leave opens to the blocks that are stable.
-    ghost stable_left: { (store : Self) (b : List (List ℕ)) (i : image) → tells_crashes → stable store b → left store i
+    ghost stable_left: { (store : Self) (b : List (List ℕ)) (i : image) → tells_crashes → stable store b
+        → left store i
         → opens (shape_of store) (slots store) i b };
 
     /// Those blocks, patched by the groups that wait, are the ones that it reads.
@@ -159,5 +164,6 @@ pub trait Store {
         → left_since store t i };
 
     /// Since this moment there is no other.
-    ghost only_now: { (store : Self) (i : image) → tells_crashes → left_since store (moment store) i → left store i };
+    ghost only_now: { (store : Self) (i : image) → tells_crashes → left_since store (moment store) i
+        → left store i };
 }

@@ -32,7 +32,7 @@ module _ {D : Type 0} (d : Ghosts D) where
 
   -- such calls leave P where each image has it already
   pub rests_leave : (old new : D) (P : List ℕ → Type 0)
-      → ((c : List ℕ) → d.image_since old (d.moment old) c → d.image old c) → ((c : List ℕ) → d.image old c → P c)
-      → Rests d old new → Leaves d old new P
+      → ((c : List ℕ) → d.image_since old (d.moment old) c → d.image old c)
+      → ((c : List ℕ) → d.image old c → P c) → Rests d old new → Leaves d old new P
   rests_leave old new P only_now here still =
       still_leaves d.image d.moment d.image_since old new P only_now here still.crashes

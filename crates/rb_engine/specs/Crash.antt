@@ -1,5 +1,5 @@
--- What a crash may leave of a store, by the states of the engine over it: `Restarts` with blocks that hold the rows after
--- the commits of a state.
+-- What a crash may leave of a store, by the states of the engine over it: `Restarts` with blocks that hold the rows
+-- after the commits of a state.
 use Rattle.std.specs.Prelude.{ℕ, List, Option}
 use Rattle.rb_base.specs.declared.shape.Shape.{Shape}
 use Rattle.rb_base.specs.declared.store.Store.{Ghosts}

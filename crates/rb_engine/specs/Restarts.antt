@@ -1,5 +1,6 @@
--- What a crash may leave of a store, by the states of an engine over it, whatever `Has h n blocks` says of blocks that hold
--- a state at a commit number. An image is what is left; `opens` says to which blocks it opens, in a file of that shape.
+-- What a crash may leave of a store, by the states of an engine over it, whatever `Has h n blocks` says of blocks that
+-- hold a state at a commit number. An image is what is left; `opens` says to which blocks it opens, in a file of that
+-- shape.
 use Rattle.std.specs.Prelude.{◌≡◌, ℕ, ◌≤◌, true, false, List, ◌++◌, Option}
 use Rattle.std.specs.List.{list_any}
 use Rattle.rb_base.specs.Blocks.{commit_block, patches_block}
@@ -56,7 +57,8 @@ module _ (Has : State → ℕ → List (List ℕ) → Type 0) where
 
   -- What a crash may leave at any moment since an earlier store, and what it may leave now. A store that goes on keeps
   -- the later state.
-  pub record SurvivesBy {S : Type 0} (s : Ghosts S) (slots : Option ℕ) (before now : State) (old new : S) : Type 0 where
+  pub record SurvivesBy {S : Type 0} (s : Ghosts S) (slots : Option ℕ) (before now : State)
+      (old new : S) : Type 0 where
     pub extends : Extends before now
     pub any_moment : LeavesOnly s.moment s.left_since old new (OnTheWayBy (opens_of s slots) before now)
     pub now_only : (i : s.image) → s.left new i → EndsBy (opens_of s slots) now i

@@ -1,6 +1,7 @@
 -- Which answers a call may have, what its refusals are called, and the state after it.
 use Rattle.std.specs.Prelude.{◌≡◌, ◌⊎◌, ℕ, ◌+◌, Bool, true, false, not, ◌&&◌, nat_lt}
-use Rattle.std.specs.Prelude.{nat_le, if◌then◌else◌, is_some, is_none, List, [], ◌∷◌, ◌++◌, length, codes}
+use Rattle.std.specs.Prelude.{nat_le, if◌then◌else◌, is_some, is_none, List, [], ◌∷◌, ◌++◌, length}
+use Rattle.std.specs.Prelude.{codes}
 use Rattle.std.specs.Prelude.{slice_get, Option, None, Some}
 use Rattle.rb_base.specs.declared.sizes.TheConstants.{VALUE_BYTES, WORN}
 use Rattle.rb_model.specs.Change.{Change, put, gone}

@@ -43,8 +43,8 @@ pub record HasDone (slots : ℕ) (before : Logged) (lines : List (List ℕ)) (te
   pub ran : Ran slots before now lines tells held_before held_now
   pub endured : endures now.state
 
--- The machine that opened with the file's rows did these lines: the sink holds the replies then, where it tells. A crash
--- may leave no more than `endures` says of the states before and after them.
+-- The machine that opened with the file's rows did these lines: the sink holds the replies then, where it tells. A
+-- crash may leave no more than `endures` says of the states before and after them.
 pub record RanOver (file : List ℕ) (lines : List (List ℕ)) (tells : Type 0) (before now : List ℕ)
     (endures : Layout → State → State → Type 0) : Type 0 where
   pub sound : IsSound file
@@ -60,7 +60,8 @@ pub record HasRun (file : List ℕ) (lines : List (List ℕ)) (tells : Type 0) (
   pub going : run.did.now.state.stopped ≡ false
 
 -- It was cut off in one of these lines: the sink holds a front of replies that the lines may have.
-pub record WasCutOff (file : List ℕ) (lines : List (List ℕ)) (before now_held : List ℕ) (endures : Layout → State
+pub record WasCutOff (file : List ℕ) (lines : List (List ℕ)) (before now_held : List ℕ) (endures : Layout
+    → State
     → State → Type 0) : Type 0 where
   pub sound : IsSound file
   pub state : State

@@ -36,7 +36,8 @@ module _ {S : Type 0} {s : Ghosts S} where
       → IsSince s b c n k → IsSince s a c m k
   since_joined a b c m n k going x y = record {
     same = record { shape = y.same.shape ∙ x.same.shape; slots = y.same.slots ∙ x.same.slots };
-    crash = λ kept. survives_on has_rows rows_later s (s.slots a.store) m.state n.state k.state a.store b.store c.store going
+    crash = λ kept. survives_on has_rows rows_later s
+        (s.slots a.store) m.state n.state k.state a.store b.store c.store going
         (x.crash kept)
         (subst (λ (slots : Option ℕ). Survives s slots n.state k.state b.store c.store) x.same.slots (y.crash kept));
   }
