@@ -68,8 +68,8 @@ pub fn cells(block: &[u8], c: u8) -> Cell
     read_cell(bytes_at(block, c))
 }
 
-/// The state, the lock and the key of cell `c`, 0 to 15, of a block of 2,048 bytes, whatever they are. The value isn't
-/// looked at.
+/// The state, the lock and the key of cell `c`, 0 to 15, of a block of 2,048 bytes, whatever they are. Its value isn't
+/// copied, so this costs less.
 pub fn front(block: &[u8], c: u8) -> CellFront
     requires length { length block.now ≡ UNIT }
     requires within { c < CELLS }

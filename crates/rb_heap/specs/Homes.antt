@@ -1,5 +1,5 @@
--- A heap block's bytes as one value, its home: eight slot entries and sixteen cells. What stands on heap blocks speaks
--- of homes.
+-- A heap block's bytes as one value, its home: eight slot entries and sixteen cells. What stands above heap blocks
+-- speaks of homes.
 use Rattle.std.specs.Prelude.{◌≡◌, ℕ, ◌<◌, Bool, false, true, not, ◌&&◌, ◌||◌, ◌==◌}
 use Rattle.std.specs.Prelude.{if◌then◌else◌, List, [], ◌∷◌, length, map, replicate, slice_index_or}
 use Rattle.std.specs.Prelude.{slice_set}

@@ -39,7 +39,7 @@ pub fn home_patched()
         ≡ with_home_cell (home_of block) c cell }
     ensures lock { (block : List ℕ) (number which c lock : ℕ) → length block ≡ UNIT → c < CELLS
         → home_of (patched number (lock_patch which c lock) block) ≡ with_home_lock (home_of block) c lock }
-    ensures entry { (block : List ℕ) (number which i : ℕ) (entry : Entry) → length block ≡ UNIT → i < 8
+    ensures entry { (block : List ℕ) (number which i : ℕ) (entry : Entry) → length block ≡ UNIT → i < ENTRIES
         → IsEntry entry → home_of (patched number (entry_patch which i entry) block)
         ≡ with_home_entry (home_of block) i entry }
 {}
@@ -58,7 +58,7 @@ pub fn head_patched()
     ensures cell { (which c : ℕ) (cell : Cell) → which < 2 ^ 32 → c < CELLS → IsCell cell
         → IsPatch (cell_patch which c cell) }
     ensures lock { (which c lock : ℕ) → which < 2 ^ 32 → c < CELLS → IsPatch (lock_patch which c lock) }
-    ensures entry { (which i : ℕ) (entry : Entry) → which < 2 ^ 32 → i < 8
+    ensures entry { (which i : ℕ) (entry : Entry) → which < 2 ^ 32 → i < ENTRIES
         → IsPatch (entry_patch which i entry) }
 {}
 
@@ -89,8 +89,8 @@ pub fn home_changed()
         → AreBlocks shape (after_group number group blocks) }
 {}
 
-/// Which cell is the first one goes by the cells alone, and there is one or none. A home that is changed can still be
-/// written.
+/// Which cell is the first one goes by the cells alone, and there is one or none. A home that can be written still can
+/// after a change.
 pub fn home_searched()
     ensures by_cells { (test : Cell → Bool) (home other : Home) (c k : ℕ) → home.cells ≡ other.cells
         → IsFirst test home.cells c → IsFirst test other.cells k → c ≡ k }

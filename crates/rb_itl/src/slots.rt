@@ -22,8 +22,8 @@ pub const EXACT: u8 = 2;
 /// The kind of an entry whose transaction committed, at the number here or at one before.
 pub const BOUND: u8 = 3;
 
-/// A slot entry of a heap block: a transaction that changed the block, and where its changes begin. A free one is 0
-/// throughout.
+/// A slot entry of a heap block: a transaction that changed the block, and where its changes begin. Each field of a
+/// free one is 0.
 #[derive(Clone, Copy, Debug, Default, PartialEq, Eq)]
 pub struct Entry {
     /// `FREE`, `OPEN`, `EXACT` or `BOUND`.

@@ -1,5 +1,5 @@
 -- The blocks of a new file are in order.
-use Rattle.std.proofs.Common.{◌≡◌, ◌⊎◌, ℕ, ◌-◌, ◌*◌, ◌%◌, ◌<◌, ◌≤◌, ◌==◌, ◌&&◌, Bool, true, if◌then◌else◌, List, ◌++◌, refl, arith, ap, sym, subst, ◌∙◌, inl, inr, slice_index_or}
+use Rattle.std.proofs.Common.{◌≡◌, ◌⊎◌, ℕ, ◌-◌, ◌*◌, ◌%◌, ◌<◌, ◌≤◌, ◌==◌, ◌&&◌, Bool, true, false, nat_lt, if◌then◌else◌, List, ◌++◌, refl, arith, ap, sym, subst, ◌∙◌, inl, inr, slice_index_or}
 use Rattle.std.proofs.lemmas.Bool.{cases_lt, le-ltb, false≢true, eqb-true, ne_eqb, and_parts, agree_below_at}
 use Rattle.std.proofs.lemmas.List.{get_or-replicate}
 use Rattle.std.proofs.Math.Nat.{mul-mod_right}
@@ -85,13 +85,18 @@ segment_of commit n = record {
   newest = λ e few. omega (arith, eqb-true (extent_newest (header_of n) e) 0 (extents_test n e few));
 }
 
+-- the kind of a block, by whether it is one of the tables and by its place in its segment
+abbrev kind_by : Bool → ℕ → ℕ
+kind_by front rest = if front then 1 else if rest == 0 then 2 else 3
+
+header_kind : (front : Bool) (rest : ℕ) → front ≡ false → rest ≡ 0 → kind_by front rest ≡ 2
+header_kind front rest behind whole = rw (behind, whole) refl
+
 kind_of : (shape : Shape) (g : ℕ) → block_kind shape (header_block shape g) ≡ 2
 kind_of shape g =
     let which = header_block shape g in
     let back : which - table_blocks shape ≡ 33 * g = omega arith in
-    let whole : (which - table_blocks shape) % 33 ≡ 0 = rw back (mul-mod_right 33 g) in
-    ap (λ (b : Bool). if b then 1 else if (which - table_blocks shape) % 33 == 0 then 2 else 3) (le-ltb which (table_blocks shape) (omega arith))
-    ∙ ap (λ (r : ℕ). if r == 0 then 2 else 3) whole
+    header_kind (nat_lt which (table_blocks shape)) ((which - table_blocks shape) % 33) (le-ltb which (table_blocks shape) (omega arith)) (rw back (mul-mod_right 33 g))
 
 pub segments_fresh : (shape : Shape) (commit g : ℕ) → g < shape.segments → IsSegment commit (block_of (fresh_blocks shape) (header_block shape g))
 segments_fresh shape commit g lt =
