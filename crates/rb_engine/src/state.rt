@@ -1,5 +1,5 @@
-//! The engine's state in memory: one session, its cursors, the rows found at opening and the changes since. The engine
-//! owns one.
+//! The engine's state in memory: one session, its cursors, the rows found at opening and the changes since.
+//! The engine owns one.
 ghost use Rattle.std.specs.Prelude.{◌≡◌, ◌≢◌, ℕ, ◌+◌, ◌-◌, ◌^◌, ◌<◌, ◌≤◌, false};
 ghost use Rattle.std.specs.Prelude.{[], ◌∷◌, ◌++◌, length, true, not, IsOk, IfOk, IfErr, IfSome, IfNone};
 ghost use Rattle.std.specs.Prelude.{slice_index_or, slice_set, is_some, nat_le};

@@ -1,8 +1,7 @@
 -- Which answers a call may have, what its refusals are called, and the state after it.
 use Rattle.std.specs.Prelude.{◌≡◌, ◌⊎◌, ℕ, ◌+◌, Bool, true, false, not, ◌&&◌, nat_lt}
 use Rattle.std.specs.Prelude.{nat_le, if◌then◌else◌, is_some, is_none, List, [], ◌∷◌, ◌++◌, length}
-use Rattle.std.specs.Prelude.{codes}
-use Rattle.std.specs.Prelude.{slice_get, Option, None, Some}
+use Rattle.std.specs.Prelude.{slice_get, Option, None, Some, codes}
 use Rattle.rb_base.specs.declared.sizes.TheConstants.{VALUE_BYTES, WORN}
 use Rattle.rb_model.specs.Change.{Change, put, gone}
 use Rattle.rb_model.specs.Full.{full_block}
@@ -67,8 +66,8 @@ abbrev pub is_empty : List Change → Bool
 is_empty [] = true
 is_empty (c ∷ changes) = false
 
--- The tests of a call in their order, each with the answer that it gives. After the early ones the disk may have
--- failed.
+-- The tests of a call in their order, each with the answer that it gives.
+-- After the early ones the disk may have failed.
 abbrev pub early_tests : State → Call → List (Bool × Answer)
 early_tests h (Write s table key action) =
     (h.stopped, Refused Stopped) ∷ (not (is_session h s), Refused NoSession) ∷
@@ -229,8 +228,8 @@ is_numbered (Given key value) = false
 is_numbered End = false
 is_numbered (Refused why) = false
 
--- How many groups a call with that answer gives the log: a write that is done one, and a commit that takes a number
--- one.
+-- How many groups a call with that answer gives the log:
+-- a write that is done one, and a commit that takes a number one.
 abbrev pub groups : Call → Answer → ℕ
 groups (Write s table key action) r = if is_done r then 1 else 0
 groups (Commit s) r = if is_numbered r then 1 else 0

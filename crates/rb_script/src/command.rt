@@ -5,8 +5,8 @@ ghost use Rattle.rb_model.specs.Lines.{IsCommand, spelling};
 
 use rb_model::{Name, Op};
 
-/// A command, with its parts in range. `s` is the number of a session, `t` that of a table;
-/// `k`, `lo` and `hi` are keys.
+/// A command, with its parts in range.
+/// `s` is the number of a session, `t` that of a table; `k`, `lo` and `hi` are keys.
 #[derive(Debug, Drop)]
 pub enum Command<'a> {
     /// `insert S T K V`, `update S T K V` or `delete S T K`.
