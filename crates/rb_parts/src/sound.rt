@@ -14,8 +14,7 @@ const SHAPE: Shape = Shape {
 };
 
 /// A ring of extents 0 to 2 with the numbers 5, 3 and 4 and 40 records in the head, and table slot 15 as it stands
-/// after
-/// two commits, at 6 and at 7.
+/// after two commits, at 6 and at 7.
 fn header() -> [u8; 2048] {
     let mut header = [0; 2048];
     header[1063] = 5;
@@ -32,8 +31,7 @@ fn header() -> [u8; 2048] {
 }
 
 /// A block of home 3 with an open entry at 0 and a committed one at 7, a row of key 13 in cell 0, which entry 7 has
-/// locked,
-/// and a deleted one of the same key in cell 15.
+/// locked, and a deleted one of the same key in cell 15.
 fn rows() -> [u8; 2048] {
     let mut block = [0; 2048];
     block[32] = 1;

@@ -1,6 +1,5 @@
 //! The index against a search by hand: some hundred changes over seven homes and three tables, a fifth of which take a
-//! row
-//! away; and full homes.
+//! row away; and full homes.
 ghost use Rattle.std.specs.Prelude.{◌≡◌, ◌<◌, [], length, IfOk};
 
 use rb_versions::{Query, RowChange, RowKind, Versions};

@@ -1,6 +1,5 @@
 //! A store that keeps all blocks of a file in memory, and nothing behind it. The store over a disk has its blocks in
-//! one,
-//! and tests run the engine over it.
+//! one, and tests run the engine over it.
 #![tactic(auto)]
 
 mod fresh;

@@ -38,8 +38,7 @@ fn check_room<S: Store>(store: &S) -> Result<(), AttemptFault>
 }
 
 /// The cell that the write makes in block `no`, and its place, 0 to 15. The store is as before but for the block that
-/// is
-/// loaded.
+/// is loaded.
 fn prepare_cell<S: Store>(
     store: &mut S,
     no: BlockNo,
