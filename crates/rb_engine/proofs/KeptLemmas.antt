@@ -19,7 +19,7 @@ use Rattle.rb_engine.specs.declared.cursor.Cursor.{Cursor as KeptCursor}
 use Rattle.rb_versions.specs.declared.change.RowChange.{RowChange}
 use Rattle.rb_versions.specs.Changes.{changes_of, change_of}
 use Rattle.rb_versions.specs.Next.{asked, given_count}
-use Rattle.rb_engine.specs.Kept.{last_end, Rising, between, cut, rows_of, end_at, cursor_view, state_view, IsOpened, IsKept, IsPlace, has_name}
+use Rattle.rb_engine.specs.Kept.{last_end, Rising, between, cut, rows_of, end_at, cursor_view, state_view, IsOpened, IsMemory, IsPlace, has_name}
 
 pub over-append : (blocks : ℕ) (rows : List TableRow) (xs ys : List Change) → over blocks rows (xs ++ ys) ≡ over blocks (over blocks rows xs) ys
 over-append blocks rows [] ys = refl
@@ -276,8 +276,8 @@ opened-push base base_length ends count more cursors le all =
 
 -- the memory stays in order with one more change
 pub kept-push : (shape : Shape) (base base_length : ℕ) (ends : List ℕ) (changes : List RowChange) (cursors : List KeptCursor) (old_room new_room ends_room : ℕ) (p : RowChange) (more : List RowChange)
-    → IsKept shape base base_length ends changes cursors old_room ends_room → more ≡ changes ++ p ∷ [] → length changes < old_room → new_room ≡ old_room
-    → IsKept shape base base_length ends more cursors new_room ends_room
+    → IsMemory shape base base_length ends changes cursors old_room ends_room → more ≡ changes ++ p ∷ [] → length changes < old_room → new_room ≡ old_room
+    → IsMemory shape base base_length ends more cursors new_room ends_room
 kept-push shape base base_length ends changes cursors old_room new_room ends_room p more kept e room same =
     let n : length more ≡ length changes + 1 = ap length e ∙ length-append changes (p ∷ []) in
     record {
@@ -303,7 +303,7 @@ opened_now base base_length ends changes c within n v =
 
 -- the memory stays in order with other cursors
 pub kept-cursors : (shape : Shape) (base base_length : ℕ) (ends : List ℕ) (changes : List RowChange) (old new : List KeptCursor) (room ends_room : ℕ)
-    → IsKept shape base base_length ends changes old room ends_room → AllByRecursion (IsOpened base base_length ends (length changes)) new → IsKept shape base base_length ends changes new room ends_room
+    → IsMemory shape base base_length ends changes old room ends_room → AllByRecursion (IsOpened base base_length ends (length changes)) new → IsMemory shape base base_length ends changes new room ends_room
 kept-cursors shape base base_length ends changes old new room ends_room kept all = record {
   some_blocks = kept.some_blocks;
   few_before = kept.few_before;
@@ -317,8 +317,8 @@ kept-cursors shape base base_length ends changes old new room ends_room kept all
 
 -- and with one more commit
 pub kept-commit : (shape : Shape) (base base_length : ℕ) (ends more : List ℕ) (changes : List RowChange) (cursors : List KeptCursor) (room old_room new_room : ℕ)
-    → IsKept shape base base_length ends changes cursors room old_room → more ≡ ends ++ length changes ∷ [] → last_end base_length ends < length changes → room ≤ new_room
-    → IsKept shape base base_length more changes cursors room new_room
+    → IsMemory shape base base_length ends changes cursors room old_room → more ≡ ends ++ length changes ∷ [] → last_end base_length ends < length changes → room ≤ new_room
+    → IsMemory shape base base_length more changes cursors room new_room
 kept-commit shape base base_length ends more changes cursors room old_room new_room kept e some enough =
     let l : last_end base_length more ≡ length changes = ap (last_end base_length) e ∙ last_end-push base_length ends (length changes) in
     record {
@@ -334,7 +334,7 @@ kept-commit shape base base_length ends more changes cursors room old_room new_r
 
 -- there is room for one more commit
 pub room_for_end : (shape : Shape) (base base_length : ℕ) (ends : List ℕ) (changes : List RowChange) (cursors : List KeptCursor) (room ends_room : ℕ)
-    → IsKept shape base base_length ends changes cursors room ends_room → last_end base_length ends < length changes → length ends < ends_room
+    → IsMemory shape base base_length ends changes cursors room ends_room → last_end base_length ends < length changes → length ends < ends_room
 room_for_end shape base base_length ends changes cursors room ends_room kept some =
     let n = ends_within base_length ends kept.in_order in
     let r = kept.within_room in
@@ -367,8 +367,8 @@ no_own start changes e =
 
 -- with one more change that is found
 pub kept-found : (shape : Shape) (base base_length count : ℕ) (ends : List ℕ) (changes more : List RowChange) (cursors : List KeptCursor) (old_room new_room ends_room : ℕ) (p : RowChange)
-    → IsKept shape base base_length ends changes cursors old_room ends_room → ends ≡ [] → cursors ≡ [] → more ≡ changes ++ p ∷ [] → count ≡ length more → length changes < old_room → new_room ≡ old_room
-    → IsKept shape base count ends more cursors new_room ends_room
+    → IsMemory shape base base_length ends changes cursors old_room ends_room → ends ≡ [] → cursors ≡ [] → more ≡ changes ++ p ∷ [] → count ≡ length more → length changes < old_room → new_room ≡ old_room
+    → IsMemory shape base count ends more cursors new_room ends_room
 kept-found shape base base_length count ends changes more cursors old_room new_room ends_room p kept none none_open e n room same =
     let m : length more ≡ length changes + 1 = ap length e ∙ length-append changes (p ∷ []) in
     let l : last_end count ends ≡ length more = ap (last_end count) none ∙ n in

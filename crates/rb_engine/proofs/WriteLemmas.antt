@@ -29,7 +29,7 @@ use Rattle.rb_versions.proofs.HomeLemmas.{distinct_none}
 use Rattle.rb_model.proofs.RowLemmas.{ordered-over}
 use Rattle.rb_base.specs.Blocks.{home_block}
 use Rattle.rb_write.specs.Values.{home_at, value_in, value_at, IsPlainHome, ArePlain}
-use Rattle.rb_write.specs.Writes.{adds, may_take, value_after, cell_after, IsShort, IsMade}
+use Rattle.rb_write.specs.Writes.{adds_row, may_take, value_after, cell_after, IsShort, IsMade}
 use Rattle.rb_write.specs.declared.ask.Ask.{Ask}
 use Rattle.rb_write.proofs.Placed.{row_block}
 use Rattle.rb_write.proofs.Valued.{holds, value_found}
@@ -70,7 +70,7 @@ key_alone block key place apart first other few differ =
     let here : is_keyed key (cell_at block place) ≡ true = ap (is_keyed key) (sym (cell_read block place empty_cell first.within)) ∙ first.passes in
     false_from_ne_true (is_keyed key (cell_at block other)) (λ there. differ (apart.one key other place few first.within there here))
 
-others_apart : (block : List ℕ) (op : Op) (key place : ℕ) → AreKeysApart block → IsFirst (may_take (Some op) key) (home_of block).cells place → (adds (Some op) ≡ true → IsNowhere (is_keyed key) (home_of block).cells)
+others_apart : (block : List ℕ) (op : Op) (key place : ℕ) → AreKeysApart block → IsFirst (may_take (Some op) key) (home_of block).cells place → (adds_row (Some op) ≡ true → IsNowhere (is_keyed key) (home_of block).cells)
     → (other : ℕ) → other < 16 → other ≢ place → is_keyed key (cell_at block other) ≡ false
 others_apart block (Insert value) key place apart first new_key other few differ = ap (is_keyed key) (sym (cell_read block other empty_cell few)) ∙ new_key refl other few
 others_apart block (Update value) key place apart first new_key other few differ = key_alone block key place apart first other few differ

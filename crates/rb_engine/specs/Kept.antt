@@ -79,7 +79,7 @@ pub record IsOpened (base base_length : ℕ) (ends : List ℕ) (count : ℕ) (c 
   pub within : c.visible ≤ count
 
 -- The memory is in order, and has room for as many commits as changes, since each commit has a change.
-pub record IsKept (shape : Shape) (base base_length : ℕ) (ends : List ℕ) (changes : List RowChange)
+pub record IsMemory (shape : Shape) (base base_length : ℕ) (ends : List ℕ) (changes : List RowChange)
     (cursors : List KeptCursor) (room ends_room : ℕ) : Type 0 where
   pub some_blocks : 0 < shape.blocks
   pub few_before : base < 2 ^ 64 - 2 ^ 60

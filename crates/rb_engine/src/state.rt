@@ -50,7 +50,7 @@ pub struct EngineState {
 
 impl Model for EngineState {
     ghost use Rattle.std.specs.Prelude.{◌≡◌, ◌-◌, length, vec_capacity};
-    ghost use Rattle.rb_engine.specs.Kept.{Kept, IsKept, state_view};
+    ghost use Rattle.rb_engine.specs.Kept.{Kept, IsMemory, state_view};
 
     ghost Value = { Kept };
 
@@ -60,7 +60,7 @@ impl Model for EngineState {
       spare = a.versions.room - length a.versions.changes;
     } };
 
-    ghost invariant = { λ a. IsKept a.shape a.base a.base_length a.ends.items a.versions.changes a.cursors.items
+    ghost invariant = { λ a. IsMemory a.shape a.base a.base_length a.ends.items a.versions.changes a.cursors.items
         a.versions.room (vec_capacity a.ends)
         × (a.versions.blocks ≡ a.shape.blocks) };
 }

@@ -7,7 +7,7 @@ use Rattle.rb_base.specs.Fields.{number_at}
 use Rattle.rb_base.specs.Groups.{Patch, patch, group_length, IsPatch}
 use Rattle.rb_base.proofs.Fronts.{IsBytes, IsBytes-drop, front_2, front_4}
 use Rattle.rb_base.proofs.Counted.{IsFront, front_more, front_stuck, front_at_end, front_ended}
-use Rattle.rb_group.specs.Spelling.{patch_bytes, Spells}
+use Rattle.rb_group.specs.Spelling.{patch_bytes, SpellsGroup}
 use Rattle.rb_group.proofs.Spelling.{patch_apart, few_patches, length-patches, length-group}
 
 -- the fields at the front of the bytes
@@ -59,18 +59,18 @@ read_fits count bytes index held rest h =
 
 -- where no patch comes next, the bytes spell no group
 pub read_stuck : (count : ℕ) (bytes : List ℕ) (index : ℕ) (held : List Patch) (rest : List ℕ) → count < 2 ^ 16 → index < count → IsRead count bytes index held rest
-    → ((p : Patch) (behind : List ℕ) → IsPatch p → rest ≢ patch_bytes p ++ behind) → (patches : List Patch) → Spells bytes patches → ⊥
+    → ((p : Patch) (behind : List ℕ) → IsPatch p → rest ≢ patch_bytes p ++ behind) → (patches : List Patch) → SpellsGroup bytes patches → ⊥
 read_stuck count bytes index held rest fits lt h none patches s =
     front_stuck patch_bytes IsPatch count bytes index held rest patch_apart fits lt h none patches (few_patches patches s.valid) s.valid.each s.whole
 
 pub read_at_end : (count : ℕ) (bytes : List ℕ) (index : ℕ) (held : List Patch) (rest : List ℕ) → index ≤ count → count ≤ index → IsRead count bytes index held rest → IsRead count bytes count held rest
 read_at_end count bytes index held rest le ge h = front_at_end patch_bytes IsPatch count bytes index held rest le ge h
 
-pub read_ended : (count : ℕ) (bytes : List ℕ) (held : List Patch) (rest : List ℕ) → count < 2 ^ 16 → IsRead count bytes count held rest → (patches : List Patch) → Spells bytes patches → rest ≡ []
+pub read_ended : (count : ℕ) (bytes : List ℕ) (held : List Patch) (rest : List ℕ) → count < 2 ^ 16 → IsRead count bytes count held rest → (patches : List Patch) → SpellsGroup bytes patches → rest ≡ []
 read_ended count bytes held rest fits h patches s =
     (front_ended patch_bytes IsPatch count bytes held rest patch_apart fits h patches (few_patches patches s.valid) s.valid.each s.whole).1
 
-pub read_found : (count : ℕ) (bytes : List ℕ) (held : List Patch) (rest : List ℕ) → length bytes ≤ 2000 → 0 < count → count ≤ 40 → IsRead count bytes count held rest → rest ≡ [] → Spells bytes held
+pub read_found : (count : ℕ) (bytes : List ℕ) (held : List Patch) (rest : List ℕ) → length bytes ≤ 2000 → 0 < count → count ≤ 40 → IsRead count bytes count held rest → rest ≡ [] → SpellsGroup bytes held
 read_found count bytes held rest long some few h empty =
     let f = read_fits count bytes count held rest h in
     let c = h.counts in
@@ -82,7 +82,7 @@ read_found count bytes held rest long some few h empty =
     }
 
 -- how long a group's spelling is
-pub spelled_length : (bytes : List ℕ) (patches : List Patch) → Spells bytes patches → (2 ≤ length bytes) × (length bytes ≤ 2000)
+pub spelled_length : (bytes : List ℕ) (patches : List Patch) → SpellsGroup bytes patches → (2 ≤ length bytes) × (length bytes ≤ 2000)
 spelled_length bytes patches s =
     let e = ap length s.whole in
     let l = length-group patches in

@@ -12,7 +12,7 @@ abbrev pub group_bytes : List Patch → List ℕ
 group_bytes patches = big_bytes 2 (length patches) ++ flat_map patch_bytes patches
 
 -- The bytes are the spelling of these patches. The group of no patch has none.
-pub record Spells (bytes : List ℕ) (patches : List Patch) : Type 0 where
+pub record SpellsGroup (bytes : List ℕ) (patches : List Patch) : Type 0 where
   pub valid : IsGroup patches
   pub some : 0 < length patches
   pub whole : bytes ≡ group_bytes patches

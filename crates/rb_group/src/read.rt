@@ -1,7 +1,7 @@
 //! Reads the bytes of a group. The log calls it.
 ghost use Rattle.std.specs.Prelude.{◌≡◌, ◌≢◌, ℕ, List, [], ◌++◌, length, IfSome, IfNone};
 ghost use Rattle.rb_base.specs.Groups.{Patch, patch, group_length, IsPatch, IsGroup};
-ghost use Rattle.rb_group.specs.Spelling.{patch_bytes, group_bytes, Spells};
+ghost use Rattle.rb_group.specs.Spelling.{patch_bytes, group_bytes, SpellsGroup};
 
 use rb_base::{BLOCK_HEAD, BlockNo, GROUP_BYTES, GROUP_PATCHES, Group, UNIT, u16_at, u32_at};
 
@@ -47,8 +47,8 @@ fn read_patch(bytes: &[u8]) -> Option<(Found<'_>, &[u8])>
 
 /// The group whose spelling the bytes are. None exactly where they are the spelling of none.
 pub fn decode(bytes: &[u8]) -> Option<Group>
-    ensures found { IfSome result (Spells bytes.now) }
-    ensures none { IfNone result ((patches : List Patch) → Spells bytes.now patches → ⊥) }
+    ensures found { IfSome result (SpellsGroup bytes.now) }
+    ensures none { IfNone result ((patches : List Patch) → SpellsGroup bytes.now patches → ⊥) }
 {
     if bytes.len() < 2 || bytes.len() > GROUP_BYTES {
         return None;

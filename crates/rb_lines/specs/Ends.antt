@@ -9,17 +9,17 @@ use Rattle.rb_lines.specs.declared.lines.LinesEnd.TheVariants.{Done, SourceFault
 use Rattle.rb_lines.specs.declared.runner.StepFault.{StepFault}
 use Rattle.rb_lines.specs.declared.runner.StepFault.TheVariants.{Disk, Sink}
 
-abbrev pub by_source : LinesEnd → Bool
-by_source SourceFault = true
-by_source _ = false
+abbrev pub ends_by_source : LinesEnd → Bool
+ends_by_source SourceFault = true
+ends_by_source _ = false
 
-abbrev pub by_disk : LinesEnd → Bool
-by_disk DiskFault = true
-by_disk _ = false
+abbrev pub ends_by_disk : LinesEnd → Bool
+ends_by_disk DiskFault = true
+ends_by_disk _ = false
 
-abbrev pub by_sink : LinesEnd → Bool
-by_sink SinkFault = true
-by_sink _ = false
+abbrev pub ends_by_sink : LinesEnd → Bool
+ends_by_sink SinkFault = true
+ends_by_sink _ = false
 
 -- how the lines end by a fault in one of them
 abbrev pub end_of : StepFault → LinesEnd

@@ -3,7 +3,7 @@ ghost use Rattle.std.specs.Prelude.{ℕ, ◌≡◌, ◌≤◌, ◌<◌, false, L
 ghost use Rattle.std.specs.Prelude.{OnErr};
 ghost use Rattle.rb_base.specs.Counts.{IsCounted, IsCountedAs};
 ghost use Rattle.rb_model.specs.Out.{Logged};
-ghost use Rattle.rb_lines.specs.Ends.{EndsAs, by_disk, by_sink, by_source, end_of};
+ghost use Rattle.rb_lines.specs.Ends.{EndsAs, ends_by_disk, ends_by_sink, ends_by_source, end_of};
 ghost use Rattle.rb_lines.specs.Faults.{IsCountedBeside};
 ghost use Rattle.rb_lines.specs.Ran.{Did};
 
@@ -80,9 +80,9 @@ pub fn run_lines<M: LineRunner, S: Source, K: Sink>(
     ensures slots { M.slots runner.new ≡ M.slots runner.old }
 
     // It ends by a fault only where that count rose, and else the count is as before.
-    ensures source { IsCountedAs (S.faults source.old) (S.faults source.new) (by_source result) }
-    ensures disk { IsCountedBeside (M.faults runner.old) (M.faults runner.new) (by_disk result) (by_sink result) }
-    ensures sink { IsCountedAs (K.faults sink.old) (K.faults sink.new) (by_sink result) }
+    ensures source { IsCountedAs (S.faults source.old) (S.faults source.new) (ends_by_source result) }
+    ensures disk { IsCountedBeside (M.faults runner.old) (M.faults runner.new) (ends_by_disk result) (ends_by_sink result) }
+    ensures sink { IsCountedAs (K.faults sink.old) (K.faults sink.new) (ends_by_sink result) }
 {
     let mut pending = ArrayVec::new();
     let mut room = MAX_BYTES;

@@ -8,7 +8,7 @@ use Rattle.rb_base.specs.Blocks.{AreWithin}
 use Rattle.rb_base.specs.Fields.{part, number_at}
 use Rattle.rb_base.specs.Groups.{Patch, group_length, IsGroup}
 use Rattle.rb_base.specs.declared.sizes.TheConstants.{UNIT}
-use Rattle.rb_group.specs.Spelling.{group_bytes, Spells}
+use Rattle.rb_group.specs.Spelling.{group_bytes, SpellsGroup}
 use Rattle.rb_disk.specs.Ranges.{SameBut}
 use Rattle.rb_layout.specs.Regions.{log_offset, shape_of}
 use Rattle.rb_layout.specs.declared.layout.Layout.{Layout}
@@ -24,7 +24,7 @@ pub record IsLoggable (l : Layout) (group : List Patch) : Type 0 where
 -- The body of a unit holds this group under this number, and its blocks are those of the file.
 pub record HasGroup (l : Layout) (unit : List ℕ) (number : ℕ) (group : List Patch) : Type 0 where
   pub numbered : number_at unit 8 8 ≡ number
-  pub spelled : Spells (part unit 16 (number_at unit 2 2)) group
+  pub spelled : SpellsGroup (part unit 16 (number_at unit 2 2)) group
   pub long : number_at unit 2 2 ≡ group_length group
   pub within : AreWithin (shape_of l) group
 

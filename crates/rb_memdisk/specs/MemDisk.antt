@@ -11,8 +11,8 @@ abbrev pub bytes_of : MemDisk → List ℕ
 bytes_of disk = disk.bytes.items
 
 -- the bytes that it held at first
-abbrev pub first_of : MemDisk → List ℕ
-first_of disk = disk.first.items
+abbrev pub first_bytes : MemDisk → List ℕ
+first_bytes disk = disk.first.items
 
 -- the calls so far
 abbrev pub record_of : MemDisk → List Call
@@ -23,8 +23,8 @@ abbrev pub written_of : MemDisk → List ℕ
 written_of disk = disk.written.items
 
 -- how many bytes it has room for
-abbrev pub room_of : MemDisk → ℕ
-room_of disk = disk.room
+abbrev pub bytes_room : MemDisk → ℕ
+bytes_room disk = disk.room
 
 -- how many calls it can record
 abbrev pub limit_of : MemDisk → ℕ
@@ -43,12 +43,12 @@ abbrev pub made : MemDisk → ℕ
 made disk = length (record_of disk)
 
 -- the images that a crash now may leave
-abbrev pub Leaves : MemDisk → List ℕ → Type 0
-Leaves disk c = MayLeave (first_of disk) (record_of disk) (written_of disk) (made disk) c
+abbrev pub MayLeaveNow : MemDisk → List ℕ → Type 0
+MayLeaveNow disk c = MayLeave (first_bytes disk) (record_of disk) (written_of disk) (made disk) c
 
 -- the images that a crash after k calls may have left, for some k from t on
 abbrev pub LeavesSince : MemDisk → ℕ → List ℕ → Type 0
-LeavesSince disk t c = MayLeaveSince (first_of disk) (record_of disk) (written_of disk) t c
+LeavesSince disk t c = MayLeaveSince (first_bytes disk) (record_of disk) (written_of disk) t c
 
 -- its next call fails, whatever it is: its number is listed, or the record has no place for it
 abbrev pub IsRefused : MemDisk → Type 0
@@ -56,7 +56,7 @@ IsRefused disk = Contains (failing_of disk) (made disk + 1) ⊎ (limit_of disk �
 
 -- a piece of this many bytes passes the room
 abbrev pub PassesRoom : MemDisk → ℕ → Type 0
-PassesRoom disk count = room_of disk < length (first_of disk) + length (written_of disk) + count
+PassesRoom disk count = bytes_room disk < length (first_bytes disk) + length (written_of disk) + count
 
 -- the record after this call, where there is a place for it
 abbrev pub recorded : MemDisk → Call → List Call
@@ -68,8 +68,8 @@ one_more count = min (count + 1) (2 ^ 64 - 1)
 
 -- what it was made with stays
 pub record IsSameSetup (old new : MemDisk) : Type 0 where
-  pub first : first_of new ≡ first_of old
-  pub room : room_of new ≡ room_of old
+  pub first : first_bytes new ≡ first_bytes old
+  pub room : bytes_room new ≡ bytes_room old
   pub limit : limit_of new ≡ limit_of old
   pub failing : failing_of new ≡ failing_of old
 
@@ -81,5 +81,5 @@ pub record IsUnwritten (old new : MemDisk) : Type 0 where
 
 -- what a crash may leave after a call, and how time has gone on
 pub record GoesOnBy (old new : MemDisk) (call : Call) : Type 0 where
-  pub images : (c : List ℕ) → Leaves new c → images_after (Leaves old) (bytes_of old) call c
-  pub time : Passes (made old) (made new) (LeavesSince old) (LeavesSince new) (Leaves new)
+  pub images : (c : List ℕ) → MayLeaveNow new c → images_after (MayLeaveNow old) (bytes_of old) call c
+  pub time : Passes (made old) (made new) (LeavesSince old) (LeavesSince new) (MayLeaveNow new)

@@ -39,7 +39,7 @@ pub struct MemDisk {
 }
 
 impl MemDisk {
-    ghost use Rattle.rb_memdisk.specs.MemDisk.{bytes_of, first_of, record_of, written_of, room_of, limit_of};
+    ghost use Rattle.rb_memdisk.specs.MemDisk.{bytes_of, first_bytes, record_of, written_of, bytes_room, limit_of};
     ghost use Rattle.rb_memdisk.specs.MemDisk.{failing_of, faults_of, made, IsRefused, PassesRoom, recorded, one_more};
     ghost use Rattle.rb_memdisk.specs.MemDisk.{IsSameSetup, IsUnwritten, GoesOnBy};
 
@@ -54,12 +54,12 @@ impl MemDisk {
         failing: &[u64],
     ) -> Result<MemDisk, NoMemory>
         requires { length bytes.now ≤ room }
-        ensures first { IfOk result (λ disk. first_of disk ≡ bytes.now) }
+        ensures first { IfOk result (λ disk. first_bytes disk ≡ bytes.now) }
         ensures reads { IfOk result (λ disk. bytes_of disk ≡ bytes.now) }
         ensures no_calls { IfOk result (λ disk. record_of disk ≡ []) }
         ensures none_written { IfOk result (λ disk. written_of disk ≡ []) }
         ensures no_faults { IfOk result (λ disk. faults_of disk ≡ 0) }
-        ensures room { IfOk result (λ disk. room_of disk ≡ room) }
+        ensures room { IfOk result (λ disk. bytes_room disk ≡ room) }
         ensures limit { IfOk result (λ disk. limit_of disk ≡ calls) }
         ensures failing { IfOk result (λ disk. failing_of disk ≡ failing.now) }
     {
@@ -80,9 +80,9 @@ impl MemDisk {
     pub fn image(&self, alloc: Global, k: u64, pick: Pick) -> Result<Vec<u8>, NoMemory>
         requires { k ≤ made self.now }
         ensures picked { IfOk result (λ image. image.items
-            ≡ picked_after_all pick (first_of self.now) (first_of self.now) (take k (record_of self.now))
+            ≡ picked_after_all pick (first_bytes self.now) (first_bytes self.now) (take k (record_of self.now))
             (written_of self.now)) }
-        ensures possible { IfOk result (λ image. MayLeave (first_of self.now) (record_of self.now)
+        ensures possible { IfOk result (λ image. MayLeave (first_bytes self.now) (record_of self.now)
             (written_of self.now) k image.items) }
     {
         self.picked_image(alloc, k as usize, pick)
@@ -116,7 +116,7 @@ impl MemDisk {
     fn picked_image(&self, alloc: Global, k: usize, pick: Pick) -> Result<Vec<u8>, AllocError>
         requires { k ≤ made self.now }
         ensures picked { IfOk result (λ image. image.items
-            ≡ picked_after_all pick (first_of self.now) (first_of self.now) (take k (record_of self.now))
+            ≡ picked_after_all pick (first_bytes self.now) (first_bytes self.now) (take k (record_of self.now))
             (written_of self.now)) }
     {
         let mut file = self.first.to_vec(alloc)?;
@@ -187,8 +187,8 @@ impl MemDisk {
     fn store(&mut self, at: usize, piece: &[u8])
         requires begins { at ≤ length (bytes_of self.old) }
         requires place { made self.old < limit_of self.old }
-        requires room { length (first_of self.old) + length (written_of self.old) + length piece.now
-            ≤ room_of self.old }
+        requires room { length (first_bytes self.old) + length (written_of self.old) + length piece.now
+            ≤ bytes_room self.old }
         ensures setup { IsSameSetup self.old self.new }
         ensures bytes { bytes_of self.new ≡ overwritten (bytes_of self.old) at piece.now }
         ensures written { written_of self.new ≡ written_of self.old ++ piece.now }
@@ -274,7 +274,7 @@ fn pick_on(
 }
 
 impl Disk for MemDisk {
-    ghost use Rattle.rb_memdisk.specs.MemDisk.{bytes_of, record_of, written_of, faults_of, made, Leaves, LeavesSince};
+    ghost use Rattle.rb_memdisk.specs.MemDisk.{bytes_of, record_of, written_of, faults_of, made, MayLeaveNow, LeavesSince};
     ghost use Rattle.rb_memdisk.specs.MemDisk.{IsRefused, PassesRoom, recorded, one_more, IsSameSetup, IsUnwritten};
 
     ghost tells = { Unit {0} };
@@ -301,9 +301,9 @@ impl Disk for MemDisk {
     fn len(&mut self) -> Result<u64, Failed>
         ensures value { IfOk result (λ n. n ≡ length (bytes_of self.old)) }
         ensures content { bytes_of self.new ≡ bytes_of self.old }
-        ensures images { NoMore (Leaves self.old) (Leaves self.new) }
+        ensures images { NoMore (MayLeaveNow self.old) (MayLeaveNow self.new) }
         ensures time { Passes (made self.old) (made self.new) (LeavesSince self.old) (LeavesSince self.new)
-            (Leaves self.new) }
+            (MayLeaveNow self.new) }
         ensures counted { IsCounted (faults_of self.old) (faults_of self.new) result }
 
         // It fails exactly where the disk was told to, or can't record it.
@@ -323,9 +323,9 @@ impl Disk for MemDisk {
         requires { at + length into.old ≤ length (bytes_of self.old) }
         ensures value { OnOk result (into.new ≡ part (bytes_of self.old) at (length into.old)) }
         ensures content { bytes_of self.new ≡ bytes_of self.old }
-        ensures images { NoMore (Leaves self.old) (Leaves self.new) }
+        ensures images { NoMore (MayLeaveNow self.old) (MayLeaveNow self.new) }
         ensures time { Passes (made self.old) (made self.new) (LeavesSince self.old) (LeavesSince self.new)
-            (Leaves self.new) }
+            (MayLeaveNow self.new) }
         ensures counted { IsCounted (faults_of self.old) (faults_of self.new) result }
 
         // It fails exactly where the disk was told to, or can't record it, and then leaves the buffer.
@@ -348,9 +348,9 @@ impl Disk for MemDisk {
         requires { at ≤ length (bytes_of self.old) }
         ensures written { OnOk result (bytes_of self.new ≡ overwritten (bytes_of self.old) at bytes.now) }
         ensures torn { OnErr result (Torn at (length bytes.now) (bytes_of self.old) (bytes_of self.new)) }
-        ensures images { Follows (Torn at (length bytes.now)) (Leaves self.old) (Leaves self.new) }
+        ensures images { Follows (Torn at (length bytes.now)) (MayLeaveNow self.old) (MayLeaveNow self.new) }
         ensures time { Passes (made self.old) (made self.new) (LeavesSince self.old) (LeavesSince self.new)
-            (Leaves self.new) }
+            (MayLeaveNow self.new) }
         ensures counted { IsCounted (faults_of self.old) (faults_of self.new) result }
 
         // It fails exactly where the disk was told to, can't record it or has no room, and then writes nothing.
@@ -374,11 +374,11 @@ impl Disk for MemDisk {
     }
 
     fn sync(&mut self) -> Result<(), Failed>
-        ensures durable { OnOk result (Only (bytes_of self.old) (Leaves self.new)) }
+        ensures durable { OnOk result (Only (bytes_of self.old) (MayLeaveNow self.new)) }
         ensures content { bytes_of self.new ≡ bytes_of self.old }
-        ensures images { NoMore (Leaves self.old) (Leaves self.new) }
+        ensures images { NoMore (MayLeaveNow self.old) (MayLeaveNow self.new) }
         ensures time { Passes (made self.old) (made self.new) (LeavesSince self.old) (LeavesSince self.new)
-            (Leaves self.new) }
+            (MayLeaveNow self.new) }
         ensures counted { IsCounted (faults_of self.old) (faults_of self.new) result }
 
         // It fails exactly where the disk was told to, or can't record it.

@@ -5,7 +5,7 @@ use Rattle.std.specs.List.{list_all, AllByRecursion}
 use Rattle.std.proofs.lemmas.Bool.Decides.{nat_tests}
 use Rattle.std.proofs.lemmas.Fmt.{decimal_injective}
 use Rattle.rb_model.specs.Lines.{Field, Id, Key, Count, Named, Valued, IsField, field_text, fields_text, is_value}
-use Rattle.rb_script.specs.Words.{is_word, Kind, IdKind, KeyKind, CountKind, NameKind, ValueKind, kind_of, NoFields}
+use Rattle.rb_script.specs.Words.{is_word, FieldKind, IdKind, KeyKind, CountKind, NameKind, ValueKind, field_kind, NoFields}
 use Rattle.rb_script.proofs.Spaced.{decimal_is_word, name_is_word, same_front, is_tail}
 
 -- the number or the bytes that a field holds, and else nothing
@@ -24,14 +24,14 @@ bytes_in (Named name) = name
 bytes_in (Valued value) = value
 
 -- the field of that kind that holds them
-abbrev pub field : Kind → ℕ → List ℕ → Field
+abbrev pub field : FieldKind → ℕ → List ℕ → Field
 field IdKind n bytes = Id n
 field KeyKind n bytes = Key n
 field CountKind n bytes = Count n
 field NameKind n bytes = Named bytes
 field ValueKind n bytes = Valued bytes
 
-same_again : (f : Field) → field (kind_of f) (number_in f) (bytes_in f) ≡ f
+same_again : (f : Field) → field (field_kind f) (number_in f) (bytes_in f) ≡ f
 same_again (Id n) = refl
 same_again (Key n) = refl
 same_again (Count n) = refl
@@ -62,7 +62,7 @@ field_is_word (Count n) valid = decimal_is_word n (omega arith)
 field_is_word (Named name) valid = name_is_word name valid
 field_is_word (Valued value) valid = value_is_word value valid
 
-same_held : (k : Kind) (m n : ℕ) (a b : List ℕ) → IsField (field k m a) → IsField (field k n b)
+same_held : (k : FieldKind) (m n : ℕ) (a b : List ℕ) → IsField (field k m a) → IsField (field k n b)
     → field_text (field k m a) ≡ field_text (field k n b) → field k m a ≡ field k n b
 same_held IdKind m n a b p q e = ap Id (decimal_injective m n (omega arith) (omega arith) e)
 same_held KeyKind m n a b p q e = ap Key (decimal_injective m n p q e)
@@ -74,52 +74,52 @@ pub fields_tail : (fields : List Field) → is_tail (fields_text fields) ≡ tru
 fields_tail [] = refl
 fields_tail (f ∷ fields) = refl
 
-same_field : (f g : Field) → kind_of f ≡ kind_of g → IsField f → IsField g → field_text f ≡ field_text g → f ≡ g
+same_field : (f g : Field) → field_kind f ≡ field_kind g → IsField f → IsField g → field_text f ≡ field_text g → f ≡ g
 same_field f g same p q e =
-    let again : field (kind_of f) (number_in g) (bytes_in g) ≡ g = ap (λ (k : Kind). field k (number_in g) (bytes_in g)) same ∙ same_again g in
-    let held = same_held (kind_of f) (number_in f) (number_in g) (bytes_in f) (bytes_in g)
+    let again : field (field_kind f) (number_in g) (bytes_in g) ≡ g = ap (λ (k : FieldKind). field k (number_in g) (bytes_in g)) same ∙ same_again g in
+    let held = same_held (field_kind f) (number_in f) (number_in g) (bytes_in f) (bytes_in g)
     (subst IsField (sym (same_again f)) p) (subst IsField (sym again) q) (ap field_text (same_again f) ∙ (e ∙ sym (ap field_text again))) in
     sym (same_again f) ∙ (held ∙ again)
 
-pub same_fields : (fields others : List Field) → map kind_of fields ≡ map kind_of others → AllByRecursion IsField fields → AllByRecursion IsField others
+pub same_fields : (fields others : List Field) → map field_kind fields ≡ map field_kind others → AllByRecursion IsField fields → AllByRecursion IsField others
     → fields_text fields ≡ fields_text others → fields ≡ others
 same_fields [] [] same p q e = refl
 same_fields [] (g ∷ others) same p q e = absurd (cc)
 same_fields (f ∷ fields) [] same p q e = absurd (cc)
 same_fields (f ∷ fields) (g ∷ others) same p q e =
-    let kind : kind_of f ≡ kind_of g = cc in
-    let kinds : map kind_of fields ≡ map kind_of others = cc in
+    let kind : field_kind f ≡ field_kind g = cc in
+    let kinds : map field_kind fields ≡ map field_kind others = cc in
     let k = same_front (field_text f) (field_text g) (fields_text fields) (fields_text others) (field_is_word f p.0) (field_is_word g q.0) (fields_tail fields) (fields_tail others) (ap (drop 1) e) in
     cc (same_field f g kind p.0 q.0 k.0, same_fields fields others kinds p.1 q.1 k.1)
 
 -- a field was read, and what stands after it is none of the others
-pub none_after : (f : Field) {kinds : List Kind} {text rest : List ℕ} → IsField f → text ≡ field_text f ++ 32 ∷ rest
-    → NoFields kinds (32 ∷ rest) → NoFields (kind_of f ∷ kinds) (32 ∷ text)
+pub none_after : (f : Field) {kinds : List FieldKind} {text rest : List ℕ} → IsField f → text ≡ field_text f ++ 32 ∷ rest
+    → NoFields kinds (32 ∷ rest) → NoFields (field_kind f ∷ kinds) (32 ∷ text)
 none_after f valid e none [] same all is = absurd (cc)
 none_after f {kinds = kinds} {rest = rest} valid e none (g ∷ fields) same all is =
-    let same_rest : map kind_of fields ≡ kinds = cc in
+    let same_rest : map field_kind fields ≡ kinds = cc in
     let k = same_front (field_text f) (field_text g) (32 ∷ rest) (fields_text fields) (field_is_word f valid) (field_is_word g all.0) refl (fields_tail fields) (sym e ∙ ap (drop 1) is) in
     none fields same_rest all.1 k.1
 
 -- no field of the first kind stands before a space
-pub none_first : (kind next : Kind) {kinds : List Kind} {text : List ℕ}
+pub none_first : (kind next : FieldKind) {kinds : List FieldKind} {text : List ℕ}
     → ((n : ℕ) (bytes rest : List ℕ) → IsField (field kind n bytes) → text ≡ field_text (field kind n bytes) ++ 32 ∷ rest → ⊥)
     → NoFields (kind ∷ next ∷ kinds) (32 ∷ text)
 none_first kind next none [] same all is = absurd (cc)
 none_first kind next none (g ∷ []) same all is = absurd (cc)
 none_first kind next none (g ∷ h ∷ fields) same all is =
-    let first : kind_of g ≡ kind = cc in
-    let again : field kind (number_in g) (bytes_in g) ≡ g = ap (λ (k : Kind). field k (number_in g) (bytes_in g)) (sym first) ∙ same_again g in
+    let first : field_kind g ≡ kind = cc in
+    let again : field kind (number_in g) (bytes_in g) ≡ g = ap (λ (k : FieldKind). field k (number_in g) (bytes_in g)) (sym first) ∙ same_again g in
     none (number_in g) (bytes_in g) (field_text h ++ fields_text fields) (subst IsField (sym again) all.0)
     (ap (drop 1) is ∙ ap (λ (f : Field). field_text f ++ 32 ∷ (field_text h ++ fields_text fields)) (sym again))
 
 -- the text is no field of the last kind
-pub none_last : (kind : Kind) {text : List ℕ} → ((n : ℕ) (bytes : List ℕ) → IsField (field kind n bytes) → text ≡ field_text (field kind n bytes) → ⊥)
+pub none_last : (kind : FieldKind) {text : List ℕ} → ((n : ℕ) (bytes : List ℕ) → IsField (field kind n bytes) → text ≡ field_text (field kind n bytes) → ⊥)
     → NoFields (kind ∷ []) (32 ∷ text)
 none_last kind none [] same all is = absurd (cc)
 none_last kind none (g ∷ h ∷ fields) same all is = absurd (cc)
 none_last kind none (g ∷ []) same all is =
-    let first : kind_of g ≡ kind = cc in
-    let again : field kind (number_in g) (bytes_in g) ≡ g = ap (λ (k : Kind). field k (number_in g) (bytes_in g)) (sym first) ∙ same_again g in
+    let first : field_kind g ≡ kind = cc in
+    let again : field kind (number_in g) (bytes_in g) ≡ g = ap (λ (k : FieldKind). field k (number_in g) (bytes_in g)) (sym first) ∙ same_again g in
     none (number_in g) (bytes_in g) (subst IsField (sym again) all.0)
     (ap (drop 1) is ∙ (append-nil (field_text g) ∙ ap field_text (sym again)))

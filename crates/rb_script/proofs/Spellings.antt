@@ -1,7 +1,7 @@
 -- No two commands have one spelling, and what a line lacks that spells none.
 use Rattle.std.proofs.Common.{◌≡◌, ℕ, true, List, ◌∷◌, ◌++◌, map, refl, sym, ◌∙◌, arith}
 use Rattle.rb_model.specs.Lines.{Command, Word, word_text, word_of, fields_of, fields_text, spelling, IsCommand, SpellsNone}
-use Rattle.rb_script.specs.Words.{is_word, kind_of, NoFields}
+use Rattle.rb_script.specs.Words.{is_word, field_kind, NoFields}
 use Rattle.rb_script.proofs.Spaced.{is_tail, same_front}
 use Rattle.rb_script.proofs.Fields.{fields_tail, same_fields}
 
@@ -13,7 +13,7 @@ same_word : (v w : Word) → word_text v ≡ word_text w → v ≡ w
 same_word v w e = grind arith
 
 -- commands of one word have fields of the same kinds
-same_kinds : (a b : Command) → word_of a ≡ word_of b → map kind_of (fields_of a) ≡ map kind_of (fields_of b)
+same_kinds : (a b : Command) → word_of a ≡ word_of b → map field_kind (fields_of a) ≡ map field_kind (fields_of b)
 same_kinds a b e = grind arith
 
 same_command : (a b : Command) → word_of a ≡ word_of b → fields_of a ≡ fields_of b → a ≡ b
@@ -31,7 +31,7 @@ spelling_injective a b p q e =
     same_command a b k.0 (same_fields (fields_of a) (fields_of b) (same_kinds a b k.0) p q k.1)
 
 -- a line of this command's word without fields of such kinds
-pub no_fields : (like : Command) (rest : List ℕ) → NoFields (map kind_of (fields_of like)) (32 ∷ rest) → SpellsNone (word_text (word_of like) ++ 32 ∷ rest)
+pub no_fields : (like : Command) (rest : List ℕ) → NoFields (map field_kind (fields_of like)) (32 ∷ rest) → SpellsNone (word_text (word_of like) ++ 32 ∷ rest)
 no_fields like rest none c valid e =
     let k = front_and_rest (word_of like) (32 ∷ rest) c refl e in
     none (fields_of c) (sym (same_kinds like c k.0)) valid k.1

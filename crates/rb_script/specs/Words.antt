@@ -8,29 +8,29 @@ abbrev pub is_word : List ℕ → Bool
 is_word text = list_all (λ b. not (b == 32)) text
 
 -- a field without what it holds
-pub data Kind : Type 0 where
-  IdKind : Kind
-  KeyKind : Kind
-  CountKind : Kind
-  NameKind : Kind
-  ValueKind : Kind
+pub data FieldKind : Type 0 where
+  IdKind : FieldKind
+  KeyKind : FieldKind
+  CountKind : FieldKind
+  NameKind : FieldKind
+  ValueKind : FieldKind
 
-abbrev pub kind_of : Field → Kind
-kind_of (Id n) = IdKind
-kind_of (Key n) = KeyKind
-kind_of (Count n) = CountKind
-kind_of (Named name) = NameKind
-kind_of (Valued value) = ValueKind
+abbrev pub field_kind : Field → FieldKind
+field_kind (Id n) = IdKind
+field_kind (Key n) = KeyKind
+field_kind (Count n) = CountKind
+field_kind (Named name) = NameKind
+field_kind (Valued value) = ValueKind
 
 -- the text is no fields of these kinds
-abbrev pub NoFields : List Kind → List ℕ → Type 0
+abbrev pub NoFields : List FieldKind → List ℕ → Type 0
 NoFields kinds text =
-    (fields : List Field) → map kind_of fields ≡ kinds → AllByRecursion IsField fields
+    (fields : List Field) → map field_kind fields ≡ kinds → AllByRecursion IsField fields
     → text ≢ fields_text fields
 
 -- the fields of a write that has a value
 abbrev pub row_fields : ℕ → ℕ → ℕ → List ℕ → List Field
 row_fields s t k value = Id s ∷ Id t ∷ Key k ∷ Valued value ∷ []
 
-abbrev pub row_kinds : List Kind
+abbrev pub row_kinds : List FieldKind
 row_kinds = IdKind ∷ IdKind ∷ KeyKind ∷ ValueKind ∷ []

@@ -9,7 +9,7 @@ use Rattle.std.specs.Str.{bytes_eq}
 use Rattle.rb_layout.specs.declared.layout.Layout.{Layout}
 use Rattle.rb_layout.specs.Ranges.{InRange}
 use Rattle.rb_layout.specs.Regions.{fresh_file}
-use Rattle.rb_shell.specs.Words.{texts, layout_words, frames_words, format_words, run_words, IsFormat, IsRun}
+use Rattle.rb_shell.specs.Words.{texts, layout_words, frames_words, format_words, run_words, AsksFormat, AsksRun}
 
 -- two numbers behind one name
 pub same_number : (word name : List ℕ) (m n : ℕ) → m < 2 ^ 64 → n < 2 ^ 64 → word ≡ name ++ decimal m → word ≡ name ++ decimal n → m ≡ n
@@ -122,7 +122,7 @@ same_frames parameters frames text m n some few one is found small fits asked =
     same_number text (codes "frames=") m n small fits found named
 
 -- the same words ask for one layout
-pub same_layout : (words : List (String Global)) (l m : Layout) → IsFormat words l → IsFormat words m → (l.tables ≡ m.tables) × (l.blocks ≡ m.blocks) × (l.segments ≡ m.segments) × (l.log ≡ m.log)
+pub same_layout : (words : List (String Global)) (l m : Layout) → AsksFormat words l → AsksFormat words m → (l.tables ≡ m.tables) × (l.blocks ≡ m.blocks) × (l.segments ≡ m.segments) × (l.log ≡ m.log)
 same_layout words l m asked also =
     let both : format_words asked.file l ≡ format_words also.file m = (sym asked.spelled ∙ also.spelled) in
     let behind : layout_words l ≡ layout_words m = cc in
@@ -138,13 +138,13 @@ same_layout words l m asked also =
     }) behind
 
 -- and so for one file
-pub same_file : (version : ℕ) (words : List (String Global)) (l m : Layout) → IsFormat words l → IsFormat words m → fresh_file version l ≡ fresh_file version m
+pub same_file : (version : ℕ) (words : List (String Global)) (l m : Layout) → AsksFormat words l → AsksFormat words m → fresh_file version l ≡ fresh_file version m
 same_file version words l m asked also =
     let same = same_layout words l m asked also in
     rw (same.0, same.1, same.2, same.3) refl
 
 -- no words ask for both
-pub not_both : (words : List (String Global)) (l : Layout) (n : ℕ) → IsFormat words l → IsRun words n → ⊥
+pub not_both : (words : List (String Global)) (l : Layout) (n : ℕ) → AsksFormat words l → AsksRun words n → ⊥
 not_both words l n asked also =
     let both : format_words asked.file l ≡ run_words also.file n = (sym asked.spelled ∙ also.spelled) in
     let heads : ◌≡◌ {A = ℕ} 102 114 = cc in

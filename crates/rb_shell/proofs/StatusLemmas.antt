@@ -47,21 +47,21 @@ too_long_of ends.DiskFault is = cc
 too_long_of ends.SinkFault is = cc
 too_long_of ends.TooLong is = refl
 
-pub source_of : (e : LinesEnd) → lines.by_source e ≡ by_source (status_of e)
+pub source_of : (e : LinesEnd) → lines.ends_by_source e ≡ by_source (status_of e)
 source_of ends.Done = refl
 source_of ends.SourceFault = refl
 source_of ends.DiskFault = refl
 source_of ends.SinkFault = refl
 source_of ends.TooLong = refl
 
-pub disk_of : (e : LinesEnd) → lines.by_disk e ≡ by_disk (status_of e)
+pub disk_of : (e : LinesEnd) → lines.ends_by_disk e ≡ by_disk (status_of e)
 disk_of ends.Done = refl
 disk_of ends.SourceFault = refl
 disk_of ends.DiskFault = refl
 disk_of ends.SinkFault = refl
 disk_of ends.TooLong = refl
 
-pub sink_of : (e : LinesEnd) → lines.by_sink e ≡ by_sink (status_of e)
+pub sink_of : (e : LinesEnd) → lines.ends_by_sink e ≡ by_sink (status_of e)
 sink_of ends.Done = refl
 sink_of ends.SourceFault = refl
 sink_of ends.DiskFault = refl

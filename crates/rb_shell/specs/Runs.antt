@@ -130,8 +130,8 @@ pub record LeftAlone {D : Type 0} (d : DiskGhosts D) (old new : D) : Type 0 wher
   pub none : OpensToNone (d.content old) → Rests d old new
 
 -- these bytes were taken from what was left, and nothing else
-abbrev pub IsTaken : List ℕ → List ℕ → List ℕ → Type 0
-IsTaken taken left_before left_now = left_before ≡ taken ++ left_now
+abbrev pub WasTaken : List ℕ → List ℕ → List ℕ → Type 0
+WasTaken taken left_before left_now = left_before ≡ taken ++ left_now
 
 -- how a command that runs a script ends
 abbrev pub EndsRun : Status → Type 0

@@ -33,13 +33,13 @@ pub record IsFileWord (word : List ℕ) : Type 0 where
   pub no_minus : slice_index word 0 ≢ 45
 
 -- the words ask for a new file of this layout
-pub record IsFormat (words : List (String Global)) (l : Layout) : Type 0 where
+pub record AsksFormat (words : List (String Global)) (l : Layout) : Type 0 where
   pub file : List ℕ
   pub named : IsFileWord file
   pub spelled : texts words ≡ format_words file l
 
 -- the words ask for a run of a script with this many frames
-pub record IsRun (words : List (String Global)) (frames : ℕ) : Type 0 where
+pub record AsksRun (words : List (String Global)) (frames : ℕ) : Type 0 where
   pub file : List ℕ
   pub named : IsFileWord file
   pub few : (16 ≤ frames) × (frames ≤ 4096)
@@ -47,9 +47,9 @@ pub record IsRun (words : List (String Global)) (frames : ℕ) : Type 0 where
 
 -- the words ask for this
 abbrev pub AskFor : List (String Global) → Request → Type 0
-AskFor words (Format l) = IsFormat words l
-AskFor words (Run frames) = IsRun words frames
+AskFor words (Format l) = AsksFormat words l
+AskFor words (Run frames) = AsksRun words frames
 
 -- the words ask for nothing
 abbrev pub IsUsage : List (String Global) → Type 0
-IsUsage words = ((l : Layout) → IsFormat words l → ⊥) × ((n : ℕ) → IsRun words n → ⊥)
+IsUsage words = ((l : Layout) → AsksFormat words l → ⊥) × ((n : ℕ) → AsksRun words n → ⊥)

@@ -9,10 +9,10 @@ ghost use Rattle.rb_layout.specs.Regions.{fresh_file};
 ghost use Rattle.rb_lines.specs.Faults.{IsCountedBeside};
 ghost use Rattle.rb_lines.specs.Whole.{whole_lines};
 ghost use Rattle.rb_model.specs.Lines.{lines_of};
-ghost use Rattle.rb_shell.specs.Runs.{IsSound, HasHalted, HasRun, WasCutOff, Endures, LeftAlone, WasStopped, IsTaken};
+ghost use Rattle.rb_shell.specs.Runs.{IsSound, HasHalted, HasRun, WasCutOff, Endures, LeftAlone, WasStopped, WasTaken};
 ghost use Rattle.rb_shell.specs.Runs.{EndsRun, AsksScript, AsksNothing, IsDoneOrNoMemory};
 ghost use Rattle.rb_shell.specs.Statuses.{EndsFormat, by_disk, by_sink, by_source};
-ghost use Rattle.rb_shell.specs.Words.{IsFormat, IsRun, IsUsage};
+ghost use Rattle.rb_shell.specs.Words.{AsksFormat, AsksRun, IsUsage};
 
 use crate::script::run_script;
 use crate::status::Status;
@@ -36,47 +36,47 @@ pub fn run<S: Source, K: Sink, D: Disk>(
     // Other words are refused before anything is touched.
     ensures usage { result.0 ≡ Status.Usage ↔ IsUsage words.now }
     ensures usage_disk { result.0 ≡ Status.Usage → result.1 ≡ disk }
-    ensures format_ends { (l : Layout) → IsFormat words.now l → EndsFormat result.0 }
-    ensures run_ends { (n : ℕ) → IsRun words.now n → EndsRun result.0 }
+    ensures format_ends { (l : Layout) → AsksFormat words.now l → EndsFormat result.0 }
+    ensures run_ends { (n : ℕ) → AsksRun words.now n → EndsRun result.0 }
 
     // A new file.
-    ensures formatted { D.tells → (l : Layout) → IsFormat words.now l → result.0 ≡ Status.Done
+    ensures formatted { D.tells → (l : Layout) → AsksFormat words.now l → result.0 ≡ Status.Done
         → D.content result.1 ≡ fresh_file VERSION l }
-    ensures durable { D.tells → (l : Layout) → IsFormat words.now l → result.0 ≡ Status.Done
+    ensures durable { D.tells → (l : Layout) → AsksFormat words.now l → result.0 ≡ Status.Done
         → Only (fresh_file VERSION l) (D.image result.1) }
-    ensures was_empty { D.tells → (l : Layout) → IsFormat words.now l → result.0 ≡ Status.Done
+    ensures was_empty { D.tells → (l : Layout) → AsksFormat words.now l → result.0 ≡ Status.Done
         → length (D.content disk) ≡ 0 }
     ensures not_empty { D.tells → result.0 ≡ Status.NotEmpty → 0 < length (D.content disk) }
-    ensures format_unchanged { D.tells → (l : Layout) → IsFormat words.now l → 0 < length (D.content disk)
+    ensures format_unchanged { D.tells → (l : Layout) → AsksFormat words.now l → 0 < length (D.content disk)
         → Rests D.Disk disk result.1 }
-    ensures format_source { ((n : ℕ) → ¬ IsRun words.now n) → source.new ≡ source.old }
-    ensures format_sink { ((n : ℕ) → ¬ IsRun words.now n) → sink.new ≡ sink.old }
+    ensures format_source { ((n : ℕ) → ¬ AsksRun words.now n) → source.new ≡ source.old }
+    ensures format_sink { ((n : ℕ) → ¬ AsksRun words.now n) → sink.new ≡ sink.old }
 
     // A run to its end: the replies are those that the machine opened with the file's rows allows for the lines
     // of the whole source. Here and below `Endures` says what a crash may leave at any moment of the run, and at its
     // end.
-    ensures replies { D.tells → S.tells → (n : ℕ) → IsRun words.now n → result.0 ≡ Status.Done →
+    ensures replies { D.tells → S.tells → (n : ℕ) → AsksRun words.now n → result.0 ≡ Status.Done →
         HasRun (D.content disk) (lines_of (S.left source.old)) K.tells (K.held sink.old) (K.held sink.new)
         (Endures D.Disk disk result.1) }
-    ensures at_end { S.tells → (n : ℕ) → IsRun words.now n → result.0 ≡ Status.Done
+    ensures at_end { S.tells → (n : ℕ) → AsksRun words.now n → result.0 ≡ Status.Done
         → S.left source.new ≡ [] }
-    ensures few { S.tells → (n : ℕ) → IsRun words.now n → result.0 ≡ Status.Done
+    ensures few { S.tells → (n : ℕ) → AsksRun words.now n → result.0 ≡ Status.Done
         → length (S.left source.old) < 1000000000 }
 
     // A run that ends at a fault of the source, or is too long: the whole lines of what was taken are done.
     ensures source_done { D.tells → S.tells → result.0 ≡ Status.SourceFault →
-        ((taken : List ℕ) × IsTaken taken (S.left source.old) (S.left source.new)
+        ((taken : List ℕ) × WasTaken taken (S.left source.old) (S.left source.new)
         × HasRun (D.content disk) (whole_lines taken) K.tells (K.held sink.old) (K.held sink.new)
         (Endures D.Disk disk result.1)) }
     ensures too_long { D.tells → S.tells → result.0 ≡ Status.TooLong →
-        ((taken : List ℕ) × (length taken ≡ 1000000000) × IsTaken taken (S.left source.old) (S.left source.new)
+        ((taken : List ℕ) × (length taken ≡ 1000000000) × WasTaken taken (S.left source.old) (S.left source.new)
         × HasRun (D.content disk) (whole_lines taken) K.tells (K.held sink.old) (K.held sink.new)
         (Endures D.Disk disk result.1)) }
 
     // At a fault of the disk nothing was asked for and the file opens as before, or is as it was where it opens to
     // nothing; or the reply that tells of it is the last, and nothing was asked for after it. At one of the sink the
     // replies are cut off.
-    ensures disk_done { D.tells → S.tells → (n : ℕ) → IsRun words.now n → result.0 ≡ Status.DiskFault →
+    ensures disk_done { D.tells → S.tells → (n : ℕ) → AsksRun words.now n → result.0 ≡ Status.DiskFault →
         ((source.new ≡ source.old) × (sink.new ≡ sink.old)
         × WasStopped D.Disk disk result.1)
         ⊎ HasHalted (D.content disk) (S.left source.old) (S.left source.new) K.tells (K.held sink.old)
@@ -89,19 +89,19 @@ pub fn run<S: Source, K: Sink, D: Disk>(
     // Where the script isn't asked for, the file opens as before. It is asked for just where the file is a store.
     ensures source_same { AsksNothing result.0 → source.new ≡ source.old }
     ensures sink_same { AsksNothing result.0 → sink.new ≡ sink.old }
-    ensures untouched { D.tells → (n : ℕ) → IsRun words.now n → AsksNothing result.0
+    ensures untouched { D.tells → (n : ℕ) → AsksRun words.now n → AsksNothing result.0
         → LeftAlone D.Disk disk result.1 }
     ensures not_a_store { D.tells → result.0 ≡ Status.NotAStore → ¬ IsSound (D.content disk) }
-    ensures sound { D.tells → (n : ℕ) → IsRun words.now n → AsksScript result.0 → IsSound (D.content disk) }
+    ensures sound { D.tells → (n : ℕ) → AsksRun words.now n → AsksScript result.0 → IsSound (D.content disk) }
 
     // It ends by a fault only where that count rose, and else the count is as before. A fault of the sink may hide one
     // of the disk. Where none rises, all is done.
     ensures source { IsCountedAs (S.faults source.old) (S.faults source.new) (by_source result.0) }
     ensures disk { IsCountedBeside (D.faults disk) (D.faults result.1) (by_disk result.0) (by_sink result.0) }
     ensures sink { IsCountedAs (K.faults sink.old) (K.faults sink.new) (by_sink result.0) }
-    ensures complete_format { D.tells → (l : Layout) → IsFormat words.now l → length (D.content disk) ≡ 0
+    ensures complete_format { D.tells → (l : Layout) → AsksFormat words.now l → length (D.content disk) ≡ 0
         → ¬ Rose (D.faults disk) (D.faults result.1) → result.0 ≡ Status.Done }
-    ensures complete { D.tells → S.tells → (n : ℕ) → IsRun words.now n → IsSound (D.content disk)
+    ensures complete { D.tells → S.tells → (n : ℕ) → AsksRun words.now n → IsSound (D.content disk)
         → length (S.left source.old) < 1000000000
         → ¬ Rose (S.faults source.old) (S.faults source.new) → ¬ Rose (D.faults disk) (D.faults result.1)
         → ¬ Rose (K.faults sink.old) (K.faults sink.new)

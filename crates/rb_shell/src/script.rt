@@ -7,7 +7,7 @@ ghost use Rattle.rb_lines.specs.Whole.{whole_lines};
 ghost use Rattle.rb_model.specs.Lines.{lines_of};
 ghost use Rattle.rb_model.specs.Out.{Logged};
 ghost use Rattle.rb_shell.specs.Runs.{IsSound, HasHalted, HasOpened, HasRun, RanOn, WasCutOff, Endures, LeftAlone};
-ghost use Rattle.rb_shell.specs.Runs.{WasStopped, IsTaken, EndsRun, AsksScript, AsksNothing};
+ghost use Rattle.rb_shell.specs.Runs.{WasStopped, WasTaken, EndsRun, AsksScript, AsksNothing};
 ghost use Rattle.rb_shell.specs.Since.{IsSince, StandsAs, slots_of};
 ghost use Rattle.rb_shell.specs.Statuses.{by_disk, by_sink, by_source, status_of, status_of_opening};
 
@@ -153,11 +153,11 @@ pub fn run_script<S: Source, K: Sink, D: Disk>(
     ensures at_end { S.tells → result.0 ≡ Status.Done → S.left source.new ≡ [] }
     ensures few { S.tells → result.0 ≡ Status.Done → length (S.left source.old) < 1000000000 }
     ensures source_done { D.tells → S.tells → result.0 ≡ Status.SourceFault →
-        ((taken : List ℕ) × IsTaken taken (S.left source.old) (S.left source.new)
+        ((taken : List ℕ) × WasTaken taken (S.left source.old) (S.left source.new)
         × HasRun (D.content disk) (whole_lines taken) K.tells (K.held sink.old) (K.held sink.new)
         (Endures D.Disk disk result.1)) }
     ensures too_long { D.tells → S.tells → result.0 ≡ Status.TooLong →
-        ((taken : List ℕ) × (length taken ≡ 1000000000) × IsTaken taken (S.left source.old) (S.left source.new)
+        ((taken : List ℕ) × (length taken ≡ 1000000000) × WasTaken taken (S.left source.old) (S.left source.new)
         × HasRun (D.content disk) (whole_lines taken) K.tells (K.held sink.old) (K.held sink.new)
         (Endures D.Disk disk result.1)) }
     ensures disk_done { D.tells → S.tells → result.0 ≡ Status.DiskFault →

@@ -13,7 +13,7 @@ use Rattle.rb_log.specs.GroupSlots.{LogState, AreFrom, GroupsAre, BeginsWithGrou
 use Rattle.rb_log.specs.Slots.{slot_at}
 use Rattle.rb_plainstore.specs.Plain.{PlainState}
 use Rattle.rb_store.specs.Laps.{committed_groups}
-use Rattle.rb_store.specs.Scanned.{HasScanned, HasScannedAll, Takes}
+use Rattle.rb_store.specs.Scanned.{HasScanned, HasScannedAll, TakesGroup}
 
 -- the group stands behind those that were scanned
 stands_behind : (l : Layout) (file : List ℕ) (groups waiting : List (List Patch)) (used : ℕ) (group : List Patch) → used ≡ length groups + length waiting → used + 1 < l.log → HoldsGroup l (slot_at file used) (used + 1) group
@@ -71,7 +71,7 @@ scan_commits told l file before now old new waiting left group h used log ahead 
 
 -- one group more
 pub scan_more : (told : Type 0) (l : Layout) (file : List ℕ) (before now : PlainState) (old new : LogState) (waiting left : List (List Patch)) (group : List Patch) → HasScanned told l file before old waiting
-    → new ≡ record old { used = old.used + 1; ahead = new.ahead } → (told → AreFrom file new.used new.ahead) → old.used + 1 < l.log → IsLoggable l group → (told → HoldsGroup l (slot_at file old.used) (old.used + 1) group) → now.shape ≡ before.shape → Takes (commit_block (shape_of l)) before now waiting group left
+    → new ≡ record old { used = old.used + 1; ahead = new.ahead } → (told → AreFrom file new.used new.ahead) → old.used + 1 < l.log → IsLoggable l group → (told → HoldsGroup l (slot_at file old.used) (old.used + 1) group) → now.shape ≡ before.shape → TakesGroup (commit_block (shape_of l)) before now waiting group left
     → HasScanned told l file now new left
 scan_more told l file before now old new waiting left group h log ahead lt valid holds shape takes = from (patches_block (commit_block (shape_of l)) group) refl
   where

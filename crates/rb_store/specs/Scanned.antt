@@ -33,7 +33,7 @@ pub record HasScanned (told : Type 0) (l : Layout) (file : List ℕ) (plain : Pl
   pub ahead : told → AreFrom file log.used log.ahead
 
 -- One more group was taken: it waits, or, being a commit, all that wait are put into the blocks.
-pub record Takes (commit : ℕ) (before now : PlainState) (waiting : List (List Patch)) (group : List Patch)
+pub record TakesGroup (commit : ℕ) (before now : PlainState) (waiting : List (List Patch)) (group : List Patch)
     (left : List (List Patch)) : Type 0 where
   pub waits : patches_block commit group ≡ false → (now ≡ before) × (left ≡ waiting ++ group ∷ [])
   pub blocks : patches_block commit group ≡ true → now.blocks

@@ -31,7 +31,7 @@ impl<D: Disk> Model for LapStore<D> {
     ghost use Rattle.rb_layout.specs.Regions.{file_length};
     ghost use Rattle.rb_log.specs.Slots.{SameSlots};
     ghost use Rattle.rb_store.specs.Laps.{LapState};
-    ghost use Rattle.rb_store.specs.Lap.{IsInStep};
+    ghost use Rattle.rb_store.specs.Lap.{IsLapInStep};
 
     ghost Value = { LapState D };
 
@@ -45,7 +45,7 @@ impl<D: Disk> Model for LapStore<D> {
       disk = s.disk;
     } };
 
-    ghost invariant = { λ s. IsInStep s.layout s.plain s.log
+    ghost invariant = { λ s. IsLapInStep s.layout s.plain s.log
         × (D.tells → length (D.content s.disk) ≡ file_length s.layout)
         × (D.tells → s.failed ≡ false → (c : List ℕ) → D.image s.disk c
         → SameSlots s.layout.log (D.content s.disk) c) };

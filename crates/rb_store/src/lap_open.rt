@@ -12,7 +12,7 @@ ghost use Rattle.rb_layout.specs.declared.layout.Layout.{Layout};
 ghost use Rattle.rb_layout.specs.Regions.{file_length, shape_of, HasIdentity};
 ghost use Rattle.rb_log.specs.GroupSlots.{GroupsAre, IsLoggable};
 ghost use Rattle.rb_store.specs.Laps.{LapState, OpensTo, OpensAt, IsLap, IsStable};
-ghost use Rattle.rb_store.specs.Scanned.{HasScanned, HasScannedAll, HasScannedOpen, Takes};
+ghost use Rattle.rb_store.specs.Scanned.{HasScanned, HasScannedAll, HasScannedOpen, TakesGroup};
 
 use crate::lap::LapStore;
 use rb_base::{BlockNo, Group, OpenFault, Store};
@@ -59,7 +59,7 @@ fn apply_all(plain: &mut PlainStore, groups: &[Group], layout: &Layout)
     }
 }
 
-/// Takes all the memory that a store of this layout needs. Nothing is read yet.
+/// TakesGroup all the memory that a store of this layout needs. Nothing is read yet.
 fn fresh_scan<D: Disk>(alloc: Global, disk: &mut D, layout: &Layout) -> Result<Scan, OpenFault>
     ensures scanned { IfOk result (λ s. (file : List ℕ)
         → HasScanned D.tells layout.now file s.plain s.log s.waiting.items) }
@@ -89,7 +89,7 @@ fn commit_block_of(layout: &Layout) -> BlockNo
     layout.shape().header_block(0)
 }
 
-/// Takes the group that the log has behind those before. A commit puts all that wait into the blocks.
+/// TakesGroup the group that the log has behind those before. A commit puts all that wait into the blocks.
 fn take_group(scan: &mut Scan, group: Group, layout: &Layout)
     requires shape { scan.old.plain.shape ≡ shape_of layout.now }
     requires each { AllByRecursion (IsLoggable layout.now) (scan.old.waiting.items ++ group ∷ []) }
@@ -97,7 +97,7 @@ fn take_group(scan: &mut Scan, group: Group, layout: &Layout)
     requires room { layout.now.log ≤ vec_capacity scan.old.waiting }
     ensures log { scan.new.log ≡ scan.old.log }
     ensures shape { scan.new.plain.shape ≡ scan.old.plain.shape }
-    ensures taken { Takes (commit_block (shape_of layout.now)) scan.old.plain scan.new.plain scan.old.waiting.items
+    ensures taken { TakesGroup (commit_block (shape_of layout.now)) scan.old.plain scan.new.plain scan.old.waiting.items
         group scan.new.waiting.items }
     ensures room { layout.now.log ≤ vec_capacity scan.new.waiting }
 {

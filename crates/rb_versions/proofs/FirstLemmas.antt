@@ -12,7 +12,7 @@ use Rattle.rb_versions.specs.declared.query.Query.{Query}
 use Rattle.rb_versions.specs.Changes.{changes_of, is_change_of, row_of, row_of_kind, is_put, makes_row}
 use Rattle.rb_versions.specs.Next.{next_of, is_wanted, is_after}
 use Rattle.rb_versions.specs.Entries.{wants}
-use Rattle.rb_versions.specs.Index.{Precedes, IsFirst}
+use Rattle.rb_versions.specs.Index.{Precedes, IsFirstWanted}
 use Rattle.rb_model.proofs.Order.{key_trans, key_same, key_total, same_place, same_itself, row_before_in_table}
 use Rattle.rb_model.proofs.RowLemmas.{key_row, agree_in_rows, none_in_rows, first_in_rows, none_is_some, some_same}
 use Rattle.rb_versions.proofs.EntryLemmas.{wanted_table}
@@ -37,7 +37,7 @@ newer_precedes blocks i j k p r other h low pre =
     (λ same. ⊎_elim (λ b. inl (same_key_before blocks p.key r.key other.key same b)) (λ s. inr (s.0 ∙ sym same, low)) pre)
     (key_total blocks p.key r.key h)
 
-pub joined_none : (blocks : ℕ) (q : Query) (changes : List RowChange) (start middle end : ℕ) (best : Option ℕ) → middle ≤ end → IsFirst blocks q changes start middle best → IsFirst blocks q changes middle end None → IsFirst blocks q changes start end best
+pub joined_none : (blocks : ℕ) (q : Query) (changes : List RowChange) (start middle end : ℕ) (best : Option ℕ) → middle ≤ end → IsFirstWanted blocks q changes start middle best → IsFirstWanted blocks q changes middle end None → IsFirstWanted blocks q changes start end best
 joined_none blocks q changes start middle end None high a b = λ k d low up.
     ⊎_elim (λ early. a k d low early) (λ late. b k d late up) (cases_lt k middle)
 joined_none blocks q changes start middle end (Some i) high a b = record {
@@ -49,7 +49,7 @@ joined_none blocks q changes start middle end (Some i) high a b = record {
 }
 
 pub joined_older : (blocks : ℕ) (q : Query) (changes : List RowChange) (start middle end i j : ℕ) (p r : RowChange) → middle ≤ end → i < length changes → j < length changes → p ≡ get_or changes i p → r ≡ get_or changes j r → key_before blocks p.key r.key ≡ true
-    → IsFirst blocks q changes start middle (Some i) → IsFirst blocks q changes middle end (Some j) → IsFirst blocks q changes start end (Some i)
+    → IsFirstWanted blocks q changes start middle (Some i) → IsFirstWanted blocks q changes middle end (Some j) → IsFirstWanted blocks q changes start end (Some i)
 joined_older blocks q changes start middle end i j p r high l m e f h a b = record {
   low = a.low;
   high = omega (arith, a.high, high);
@@ -62,7 +62,7 @@ joined_older blocks q changes start middle end i j p r high l m e f h a b = reco
 }
 
 pub joined_newer : (blocks : ℕ) (q : Query) (changes : List RowChange) (start middle end i j : ℕ) (p r : RowChange) → start ≤ middle → i < length changes → j < length changes → p ≡ get_or changes i p → r ≡ get_or changes j r → key_before blocks p.key r.key ≡ false
-    → IsFirst blocks q changes start middle (Some i) → IsFirst blocks q changes middle end (Some j) → IsFirst blocks q changes start end (Some j)
+    → IsFirstWanted blocks q changes start middle (Some i) → IsFirstWanted blocks q changes middle end (Some j) → IsFirstWanted blocks q changes start end (Some j)
 joined_newer blocks q changes start middle end i j p r low l m e f h a b = record {
   low = omega (arith, low, b.low);
   high = b.high;
@@ -79,7 +79,7 @@ wanted_same : (blocks : ℕ) (q : Query) (t k u l : ℕ) → t ≡ u → k ≡ l
 wanted_same blocks q t k u l e f = rw (e, f) refl
 
 -- no later change is of the first one's key
-pub none_later : (blocks : ℕ) (q : Query) (changes : List RowChange) (n i : ℕ) (d : RowChange) → IsFirst blocks q changes 0 n (Some i)
+pub none_later : (blocks : ℕ) (q : Query) (changes : List RowChange) (n i : ℕ) (d : RowChange) → IsFirstWanted blocks q changes 0 n (Some i)
     → (j : ℕ) → i < j → j < n → is_change_of (get_or changes i d).table (get_or changes i d).key (get_or changes j d) ≡ false
 none_later blocks q changes n i d first j late high =
     let p = get_or changes i d in
@@ -94,7 +94,7 @@ none_later blocks q changes n i d first j late high =
     (cases_Bool (is_change_of p.table p.key c))
 
 -- the row of the first one's key is by it
-pub first_row : (blocks : ℕ) (q : Query) (changes : List RowChange) (n i : ℕ) (d : RowChange) → n ≤ length changes → IsFirst blocks q changes 0 n (Some i)
+pub first_row : (blocks : ℕ) (q : Query) (changes : List RowChange) (n i : ℕ) (d : RowChange) → n ≤ length changes → IsFirstWanted blocks q changes 0 n (Some i)
     → key_row (get_or changes i d).table (get_or changes i d).key (rows_of blocks changes n) ≡ row_of (get_or changes i d)
 first_row blocks q changes n i d high first =
     let p = get_or changes i d in
@@ -116,7 +116,7 @@ is_of_change blocks q changes n d r high is =
     record { at = named.at; high = named.high; table = s.0; key = s.1; wanted = wanted_same blocks q c.table c.key r.table r.key s.0 s.1 }
 
 -- where no change is wanted, no row is
-pub next_none : (blocks : ℕ) (q : Query) (changes : List RowChange) (n : ℕ) (d : RowChange) → n ≤ length changes → IsFirst blocks q changes 0 n None
+pub next_none : (blocks : ℕ) (q : Query) (changes : List RowChange) (n : ℕ) (d : RowChange) → n ≤ length changes → IsFirstWanted blocks q changes 0 n None
     → next_of blocks q.table q.lo q.hi q.last (changes_of (take n changes)) ≡ None
 next_none blocks q changes n d high none =
     none_in_rows blocks (is_wanted blocks q.table q.lo q.hi q.last) (rows_of blocks changes n) (ordered-rows blocks changes n)
@@ -128,7 +128,7 @@ row_parts t k (Put value) b e = let s : record { table = t; key = k; value = val
 row_parts t k Gone b e = absurd (none_is_some b e)
 
 -- where the first makes a row, that is the next
-pub next_put : (blocks : ℕ) (q : Query) (changes : List RowChange) (n i : ℕ) (d : RowChange) (b : TableRow) → n ≤ length changes → IsFirst blocks q changes 0 n (Some i) → row_of (get_or changes i d) ≡ Some b
+pub next_put : (blocks : ℕ) (q : Query) (changes : List RowChange) (n i : ℕ) (d : RowChange) (b : TableRow) → n ≤ length changes → IsFirstWanted blocks q changes 0 n (Some i) → row_of (get_or changes i d) ≡ Some b
     → next_of blocks q.table q.lo q.hi q.last (changes_of (take n changes)) ≡ Some b
 next_put blocks q changes n i d b high first made =
     let p = get_or changes i d in
@@ -168,7 +168,7 @@ pub not_behind : (blocks : ℕ) (q : Query) (table key : ℕ) → wants blocks (
 not_behind blocks q table key = and_right (is_asked q.table q.lo q.hi (record { table = table; key = key; value = [] })) _ (key_same blocks key)
 
 -- where the first takes a row away, the next is behind it
-pub next_gone : (blocks : ℕ) (q : Query) (changes : List RowChange) (n i : ℕ) (d : RowChange) → n ≤ length changes → IsFirst blocks q changes 0 n (Some i) → row_of (get_or changes i d) ≡ None
+pub next_gone : (blocks : ℕ) (q : Query) (changes : List RowChange) (n i : ℕ) (d : RowChange) → n ≤ length changes → IsFirstWanted blocks q changes 0 n (Some i) → row_of (get_or changes i d) ≡ None
     → next_of blocks q.table q.lo q.hi q.last (changes_of (take n changes)) ≡ next_of blocks q.table q.lo q.hi (Some (get_or changes i d).key) (changes_of (take n changes))
 next_gone blocks q changes n i d high first made =
     let p = get_or changes i d in
@@ -229,7 +229,7 @@ fewer P Q (x ∷ xs) (suc i) d so high is other =
 abbrev pub wanted_count : ℕ → Query → List RowChange → ℕ
 wanted_count blocks q changes = count (λ (p : RowChange). wants blocks q p.table p.key) changes
 
-pub fewer_behind : (blocks : ℕ) (q : Query) (changes : List RowChange) (n i : ℕ) (p : RowChange) → n ≤ length changes → IsFirst blocks q changes 0 n (Some i) → p ≡ get_or changes i p
+pub fewer_behind : (blocks : ℕ) (q : Query) (changes : List RowChange) (n i : ℕ) (p : RowChange) → n ≤ length changes → IsFirstWanted blocks q changes 0 n (Some i) → p ≡ get_or changes i p
     → wanted_count blocks (behind q p.key) changes < wanted_count blocks q changes
 fewer_behind blocks q changes n i p high first this =
     let up = first.high in
@@ -239,7 +239,7 @@ fewer_behind blocks q changes n i p high first this =
     (ap (λ (x : RowChange). wants blocks (behind q p.key) x.table x.key) (sym this) ∙ not_behind blocks q p.table p.key)
 
 -- the first is one of the changes
-pub place_within : (blocks : ℕ) (q : Query) (changes : List RowChange) (start end : ℕ) (r : Option ℕ) → end ≤ length changes → IsFirst blocks q changes start end r → IfSome r (λ place. place < length changes)
+pub place_within : (blocks : ℕ) (q : Query) (changes : List RowChange) (start end : ℕ) (r : Option ℕ) → end ≤ length changes → IsFirstWanted blocks q changes start end r → IfSome r (λ place. place < length changes)
 place_within blocks q changes start end None high first = tt
 place_within blocks q changes start end (Some i) high first = let h = first.high in omega (arith, h, high)
 
@@ -260,14 +260,14 @@ pub kind_unmade : (t k : ℕ) (kind : RowKind) → is_put kind ≡ false → row
 kind_unmade t k (Put value) is = absurd (false≢true (sym is))
 kind_unmade t k Gone is = refl
 
-pub next_made : (blocks : ℕ) (q : Query) (changes : List RowChange) (seen i : ℕ) (p : RowChange) → IsFirst blocks q changes 0 (min seen (length changes)) (Some i) → p ≡ get_or changes i p → makes_row p ≡ true
+pub next_made : (blocks : ℕ) (q : Query) (changes : List RowChange) (seen i : ℕ) (p : RowChange) → IsFirstWanted blocks q changes 0 (min seen (length changes)) (Some i) → p ≡ get_or changes i p → makes_row p ≡ true
     → next_of blocks q.table q.lo q.hi q.last (changes_of (take seen changes)) ≡ row_of p
 next_made blocks q changes seen i p first this is =
     let made = kind_made p.table p.key p.kind is in
     ap (λ ps. next_of blocks q.table q.lo q.hi q.last (changes_of ps)) (seen_changes changes seen)
     ∙ next_put blocks q changes (min seen (length changes)) i p made.0 (omega arith) first (ap row_of (sym this) ∙ made.1) ∙ sym made.1
 
-pub next_unmade : (blocks : ℕ) (q : Query) (changes : List RowChange) (seen i : ℕ) (p : RowChange) → IsFirst blocks q changes 0 (min seen (length changes)) (Some i) → p ≡ get_or changes i p → makes_row p ≡ false
+pub next_unmade : (blocks : ℕ) (q : Query) (changes : List RowChange) (seen i : ℕ) (p : RowChange) → IsFirstWanted blocks q changes 0 (min seen (length changes)) (Some i) → p ≡ get_or changes i p → makes_row p ≡ false
     → next_of blocks q.table q.lo q.hi q.last (changes_of (take seen changes)) ≡ next_of blocks q.table q.lo q.hi (Some p.key) (changes_of (take seen changes))
 next_unmade blocks q changes seen i p first this is =
     ap (λ ps. next_of blocks q.table q.lo q.hi q.last (changes_of ps)) (seen_changes changes seen)
@@ -275,7 +275,7 @@ next_unmade blocks q changes seen i p first this is =
     ∙ ap (λ (x : RowChange). next_of blocks q.table q.lo q.hi (Some x.key) (changes_of (take (min seen (length changes)) changes))) (sym this)
     ∙ ap (λ ps. next_of blocks q.table q.lo q.hi (Some p.key) (changes_of ps)) (sym (seen_changes changes seen))
 
-pub next_without : (blocks : ℕ) (q : Query) (changes : List RowChange) (seen : ℕ) → IsFirst blocks q changes 0 (min seen (length changes)) None
+pub next_without : (blocks : ℕ) (q : Query) (changes : List RowChange) (seen : ℕ) → IsFirstWanted blocks q changes 0 (min seen (length changes)) None
     → next_of blocks q.table q.lo q.hi q.last (changes_of (take seen changes)) ≡ None
 next_without blocks q changes seen none =
     ap (λ ps. next_of blocks q.table q.lo q.hi q.last (changes_of ps)) (seen_changes changes seen)

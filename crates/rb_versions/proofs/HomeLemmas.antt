@@ -17,7 +17,7 @@ use Rattle.rb_versions.specs.declared.entry.Entry.{Entry}
 use Rattle.rb_versions.specs.declared.query.Query.{Query}
 use Rattle.rb_versions.specs.Changes.{is_change_of}
 use Rattle.rb_versions.specs.Entries.{wants}
-use Rattle.rb_versions.specs.Index.{IsIndex, IsFirst, Precedes}
+use Rattle.rb_versions.specs.Index.{IsIndex, IsFirstWanted, Precedes}
 use Rattle.rb_versions.specs.Homes.{IsLeast, NoneBehind, IsFull, is_in_use}
 use Rattle.rb_model.proofs.Order.{lex, same_place, same_itself}
 use Rattle.rb_versions.proofs.RunLemmas.{no_entry}
@@ -59,7 +59,7 @@ none_is : (table key : ℕ) (changes : List RowChange) → ((k : ℕ) (d : RowCh
 none_is table key changes none =
     list_any_none (is_change_of table key) changes (λ k d h. ⊎_elim (λ yes. absurd (none k d h yes)) (λ no. no) (cases_Bool (is_change_of table key (get_or changes k d))))
 
-pub named_none : (blocks table last : ℕ) (changes : List RowChange) → ((k : ℕ) (d : RowChange) → k < length changes → (get_or changes k d).key < 2 ^ 64) → IsFirst blocks (all_behind table last) changes 0 (min (length changes) (length changes)) None
+pub named_none : (blocks table last : ℕ) (changes : List RowChange) → ((k : ℕ) (d : RowChange) → k < length changes → (get_or changes k d).key < 2 ^ 64) → IsFirstWanted blocks (all_behind table last) changes 0 (min (length changes) (length changes)) None
     → NoneBehind blocks (λ key. list_any (is_change_of table key) changes) last
 named_none blocks table last changes fit none = λ key home behind.
     none_is table key changes (λ k d h is. false≢true (sym (none k d (omega arith) (omega (arith, h))) ∙ named_wanted blocks table last key changes k d home behind (fit k d h) is))
@@ -71,21 +71,21 @@ home_up : (g p h c : ℕ) → lex g p h c ≡ true → g ≤ h
 home_up g p h c before = grind (arith, nat_tests)
 
 -- what a wanted change says
-first_wanted : (blocks table last i : ℕ) (changes : List RowChange) (p : RowChange) → IsFirst blocks (all_behind table last) changes 0 (min (length changes) (length changes)) (Some i) → p ≡ get_or changes i p
+first_wanted : (blocks table last i : ℕ) (changes : List RowChange) (p : RowChange) → IsFirstWanted blocks (all_behind table last) changes 0 (min (length changes) (length changes)) (Some i) → p ≡ get_or changes i p
     → wants blocks (all_behind table last) p.table p.key ≡ true
 first_wanted blocks table last i changes p first this = ap (λ (x : RowChange). wants blocks (all_behind table last) x.table x.key) this ∙ first.wanted p
 
 wanted_after : (blocks table last : ℕ) (p : RowChange) → wants blocks (all_behind table last) p.table p.key ≡ true → lex (last % blocks) last (p.key % blocks) p.key ≡ true
 wanted_after blocks table last p w = (and_parts (is_asked table 0 18446744073709551615 (record { table = p.table; key = p.key; value = [] })) _ w).1
 
-first_precedes : (blocks table last i : ℕ) (changes : List RowChange) (p : RowChange) → IsFirst blocks (all_behind table last) changes 0 (min (length changes) (length changes)) (Some i) → p ≡ get_or changes i p
+first_precedes : (blocks table last i : ℕ) (changes : List RowChange) (p : RowChange) → IsFirstWanted blocks (all_behind table last) changes 0 (min (length changes) (length changes)) (Some i) → p ≡ get_or changes i p
     → (k : ℕ) (d : RowChange) → k < length changes → wants blocks (all_behind table last) (get_or changes k d).table (get_or changes k d).key ≡ true → Precedes blocks p i (get_or changes k d) k
 first_precedes blocks table last i changes p first this k d h w =
     let high = first.high in
     subst (λ (x : RowChange). Precedes blocks x i (get_or changes k d) k) (sym (get_or_read changes i p (omega (arith, high)) this d)) (first.first k d (omega arith) (omega (arith, h)) w)
 
 -- the first change behind the last, where it is in the same home
-pub named_first : (blocks table last i : ℕ) (changes : List RowChange) (p : RowChange) → ((k : ℕ) (d : RowChange) → k < length changes → (get_or changes k d).key < 2 ^ 64) → IsFirst blocks (all_behind table last) changes 0 (min (length changes) (length changes)) (Some i)
+pub named_first : (blocks table last i : ℕ) (changes : List RowChange) (p : RowChange) → ((k : ℕ) (d : RowChange) → k < length changes → (get_or changes k d).key < 2 ^ 64) → IsFirstWanted blocks (all_behind table last) changes 0 (min (length changes) (length changes)) (Some i)
     → p ≡ get_or changes i p → p.key % blocks ≡ last % blocks → IsLeast blocks (λ key. list_any (is_change_of table key) changes) last p.key
 named_first blocks table last i changes p fit first this home =
     let w = first_wanted blocks table last i changes p first this in
@@ -107,7 +107,7 @@ named_first blocks table last i changes p fit first this home =
     }
 
 -- where the first change behind the last is in another home
-pub named_elsewhere : (blocks table last i : ℕ) (changes : List RowChange) (p : RowChange) → ((k : ℕ) (d : RowChange) → k < length changes → (get_or changes k d).key < 2 ^ 64) → IsFirst blocks (all_behind table last) changes 0 (min (length changes) (length changes)) (Some i)
+pub named_elsewhere : (blocks table last i : ℕ) (changes : List RowChange) (p : RowChange) → ((k : ℕ) (d : RowChange) → k < length changes → (get_or changes k d).key < 2 ^ 64) → IsFirstWanted blocks (all_behind table last) changes 0 (min (length changes) (length changes)) (Some i)
     → p ≡ get_or changes i p → (p.key % blocks ≡ last % blocks → ⊥) → NoneBehind blocks (λ key. list_any (is_change_of table key) changes) last
 named_elsewhere blocks table last i changes p fit first this other = λ key same behind.
     let w = first_wanted blocks table last i changes p first this in

@@ -1,6 +1,6 @@
 //! The search in all runs of the index. `Versions` looks for rows and for changes of a key with it.
 ghost use Rattle.std.specs.Prelude.{◌≡◌, ℕ, ◌-◌, ◌<◌, ◌≤◌, length, take, drop, IfSome};
-ghost use Rattle.rb_versions.specs.Index.{IsIndex, IsFirst};
+ghost use Rattle.rb_versions.specs.Index.{IsIndex, IsFirstWanted};
 
 use crate::change::RowChange;
 use crate::entry::Entry;
@@ -18,8 +18,8 @@ fn better(
     requires best { IfSome best (λ place. place < length changes.now) }
     requires found { IfSome found (λ place. place < length changes.now) }
     ensures { (q : _) (start middle end : ℕ) → start ≤ middle → middle ≤ end
-        → IsFirst blocks q changes.now start middle best → IsFirst blocks q changes.now middle end found
-        → IsFirst blocks q changes.now start end result }
+        → IsFirstWanted blocks q changes.now start middle best → IsFirstWanted blocks q changes.now middle end found
+        → IsFirstWanted blocks q changes.now start end result }
 {
     let Some(newer) = found else {
         return best;
@@ -50,7 +50,7 @@ pub(crate) fn first_in_runs(
 ) -> Option<usize>
     requires index { IsIndex blocks changes.now order.now ends.now }
     requires seen { seen ≤ length changes.now }
-    ensures { IsFirst blocks query changes.now 0 seen result }
+    ensures { IsFirstWanted blocks query changes.now 0 seen result }
 {
     let mut best = None;
     let mut start = 0;

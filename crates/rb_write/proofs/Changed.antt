@@ -7,7 +7,7 @@ use Rattle.rb_cell.specs.declared.cell.Cell.{Cell}
 use Rattle.rb_cell.specs.declared.cell.TheConstants.{EMPTY, ROW, STUB}
 use Rattle.rb_heap.specs.Homes.{Home, home_cell, home_rows, rows_in, with_home_cell, empty_cell, is_keyed, is_free, IsFirst, IsNowhere}
 use Rattle.rb_write.specs.Values.{value_in, LocksRows, IsPlainHome}
-use Rattle.rb_write.specs.Writes.{adds, may_take, value_after, cell_after, TakesWrite, HasPlace}
+use Rattle.rb_write.specs.Writes.{adds_row, may_take, value_after, cell_after, TakesWrite, HasPlace}
 use Rattle.rb_model.specs.declared.op.Op.{Op}
 use Rattle.rb_model.specs.declared.op.Op.TheVariants.{Insert, Update, Delete}
 use Rattle.rb_write.proofs.Valued.{holds, value_missing, value_found, value_set, value_gone, value_kept}
@@ -132,7 +132,7 @@ module _ (home : Home) (count : length home.cells ≡ 16) where
       value_kept home.cells c other (cell_after op key old) (old_unheld op key other old differ first.passes) (new_unheld op key other old differ first.passes)
 
   -- the value of the key that is written
-  pub key_written : (op : Option Op) (key c : ℕ) → IsPlainHome home → IsFirst (may_take op key) home.cells c → (adds op ≡ true → IsNowhere (is_keyed key) home.cells)
+  pub key_written : (op : Option Op) (key c : ℕ) → IsPlainHome home → IsFirst (may_take op key) home.cells c → (adds_row op ≡ true → IsNowhere (is_keyed key) home.cells)
       → value_in (home_rows (with_home_cell home c (cell_after op key (home_cell home c)))) key ≡ value_after op (value_in (home_rows home) key)
   key_written (Some (Insert value)) key c plain first new_key =
       value_set home.cells c key (cell_after (Some (Insert value)) key (home_cell home c)) (let within = first.within in omega (arith, within, count))
@@ -148,7 +148,7 @@ module _ (home : Home) (count : length home.cells ≡ 16) where
       refl
   key_written None key c plain first new_key = ap (λ (cells : List Cell). value_in (rows_in cells) key) (set-get_or home.cells c empty_cell)
 
-  new_apart : (op : Option Op) (key c k : ℕ) → IsPlainHome home → IsFirst (may_take op key) home.cells c → (adds op ≡ true → IsNowhere (is_keyed key) home.cells) → k < 16 → k ≢ c
+  new_apart : (op : Option Op) (key c k : ℕ) → IsPlainHome home → IsFirst (may_take op key) home.cells c → (adds_row op ≡ true → IsNowhere (is_keyed key) home.cells) → k < 16 → k ≢ c
       → AreApart (cell_after op key (home_cell home c)) (home_cell home k)
   new_apart (Some (Insert value)) key c k plain first new_key few differ row row_too same =
       let is = row_held key (home_cell home k) row_too (sym same) in
@@ -162,7 +162,7 @@ module _ (home : Home) (count : length home.cells ≡ 16) where
   new_apart None key c k plain first new_key few differ row row_too same = plain.apart c k first.within few (λ equal. differ (sym equal)) row row_too same
 
   -- a write leaves a plain home plain
-  pub plain_kept : (op : Option Op) (key c : ℕ) → IsPlainHome home → IsFirst (may_take op key) home.cells c → (adds op ≡ true → IsNowhere (is_keyed key) home.cells)
+  pub plain_kept : (op : Option Op) (key c : ℕ) → IsPlainHome home → IsFirst (may_take op key) home.cells c → (adds_row op ≡ true → IsNowhere (is_keyed key) home.cells)
       → IsPlainHome (with_home_cell home c (cell_after op key (home_cell home c)))
   plain_kept op key c plain first new_key =
       let new = cell_after op key (home_cell home c) in

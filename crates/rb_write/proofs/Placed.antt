@@ -17,7 +17,7 @@ use Rattle.rb_heap.proofs.Fresh.{new_empty}
 use Rattle.rb_heap.proofs.Reading.{cells_counted}
 use Rattle.rb_base.specs.Blocks.{home_block}
 use Rattle.rb_write.specs.Values.{home_at, value_in, value_at, IsPlainHome, ArePlain}
-use Rattle.rb_write.specs.Writes.{adds, may_take, value_after, cell_after, ChangesHome, IsMade}
+use Rattle.rb_write.specs.Writes.{adds_row, may_take, value_after, cell_after, ChangesHome, IsMade}
 use Rattle.rb_model.specs.declared.op.Op.{Op}
 use Rattle.rb_write.specs.declared.ask.Ask.{Ask}
 use Rattle.rb_write.proofs.Changed.{both_left, both_right, key_written, others_kept, plain_kept}
@@ -71,12 +71,12 @@ cell_is_patch which c cell fits few sound = record {
 -- one write over blocks
 pub record Writes (shape : Shape) (op : Option Op) (table key : ℕ) (old new : List (List ℕ)) : Type 0 where
   pub home : ChangesHome op key (home_at shape old table key) (home_at shape new table key)
-  pub new_key : adds op ≡ true → IsNowhere (is_keyed key) (home_at shape old table key).cells
+  pub new_key : adds_row op ≡ true → IsNowhere (is_keyed key) (home_at shape old table key).cells
   pub others : (b : ℕ) → b ≢ home_block shape table key → block_of new b ≡ block_of old b
   pub whole : AreBlocks shape new
 
 pub writes : (shape : Shape) (op : Option Op) (table key which c number : ℕ) (cell : Cell) (old new : List (List ℕ)) → which ≡ home_block shape table key → AreBlocks shape old → which < shape_blocks shape → which < 2 ^ 32
-    → IsFirst (may_take op key) (home_of (block_of old which)).cells c → (adds op ≡ true → IsNowhere (is_keyed key) (home_of (block_of old which)).cells)
+    → IsFirst (may_take op key) (home_of (block_of old which)).cells c → (adds_row op ≡ true → IsNowhere (is_keyed key) (home_of (block_of old which)).cells)
     → cell ≡ cell_after op key (home_cell (home_of (block_of old which)) c) → IsCell cell → new ≡ after_group number (cell_patch which c cell ∷ []) old → Writes shape op table key old new
 writes shape op table key which c number cell old new place are lt fits first new_key is sound patched =
     let home = home_of (block_of old which) in
@@ -84,19 +84,19 @@ writes shape op table key which c number cell old new place are lt fits first ne
     ap (λ (blocks : List (List ℕ)). home_of (block_of blocks which)) patched ∙ cell_alone shape old number which c are lt first.within cell sound ∙ ap (with_home_cell home c) is in
     record {
       home = subst (λ (b : ℕ). ChangesHome op key (home_of (block_of old b)) (home_of (block_of new b))) place (record { place = c; first = first; made = made });
-      new_key = subst (λ (b : ℕ). adds op ≡ true → IsNowhere (is_keyed key) (home_of (block_of old b)).cells) place new_key;
+      new_key = subst (λ (b : ℕ). adds_row op ≡ true → IsNowhere (is_keyed key) (home_of (block_of old b)).cells) place new_key;
       others = λ b differ. ap (λ (blocks : List (List ℕ)). block_of blocks b) patched ∙ patch_others number (cell_patch which c cell) old b (λ same. differ (same ∙ place));
       whole = subst (AreBlocks shape) (sym patched) (group_keeps shape number (cell_patch which c cell ∷ []) old are (cell_is_patch which c cell fits first.within sound, tt));
     }
 
 -- what was patched, said of the key's block
 pub is_made : (shape : Shape) (ask : Ask) (which c number : ℕ) (cell : Cell) (old new : List (List ℕ)) → which ≡ home_block shape ask.table ask.key
-    → IsFirst (may_take ask.op ask.key) (home_of (block_of old which)).cells c → (adds ask.op ≡ true → IsNowhere (is_keyed ask.key) (home_of (block_of old which)).cells)
+    → IsFirst (may_take ask.op ask.key) (home_of (block_of old which)).cells c → (adds_row ask.op ≡ true → IsNowhere (is_keyed ask.key) (home_of (block_of old which)).cells)
     → cell ≡ cell_after ask.op ask.key (home_cell (home_of (block_of old which)) c) → new ≡ after_group (number + 1) (cell_patch which c cell ∷ []) old → IsMade shape ask number old new
 is_made shape ask which c number cell old new at first new_key is patched = record {
   place = c;
   first = subst (λ (b : ℕ). IsFirst (may_take ask.op ask.key) (home_of (block_of old b)).cells c) at first;
-  new_key = subst (λ (b : ℕ). adds ask.op ≡ true → IsNowhere (is_keyed ask.key) (home_of (block_of old b)).cells) at new_key;
+  new_key = subst (λ (b : ℕ). adds_row ask.op ≡ true → IsNowhere (is_keyed ask.key) (home_of (block_of old b)).cells) at new_key;
   made = patched
       ∙ ap (λ (one : Cell). after_group (number + 1) (cell_patch which c one ∷ []) old) is
       ∙ ap (λ (b : ℕ). after_group (number + 1) (cell_patch b c (cell_after ask.op ask.key (home_cell (home_of (block_of old b)) c)) ∷ []) old) at;

@@ -17,11 +17,11 @@ use Rattle.rb_model.specs.declared.op.Op.{Op}
 use Rattle.rb_model.specs.declared.op.Op.TheVariants.{Insert, Update, Delete}
 
 -- an insert makes a row, and each other write needs the one that is there
-abbrev pub adds : Option Op → Bool
-adds (Some (Insert value)) = true
-adds (Some (Update value)) = false
-adds (Some Delete) = false
-adds None = false
+abbrev pub adds_row : Option Op → Bool
+adds_row (Some (Insert value)) = true
+adds_row (Some (Update value)) = false
+adds_row (Some Delete) = false
+adds_row None = false
 
 -- a value has room in its cell
 abbrev pub IsShort : Option Op → Type 0
@@ -71,29 +71,29 @@ pub record ChangesHome (op : Option Op) (key : ℕ) (before now : Home) : Type 0
 
 -- A home takes an insert where the key has no row and a cell is free, and each other write where the key has a row.
 pub record TakesWrite (op : Option Op) (key : ℕ) (home : Home) : Type 0 where
-  pub row : is_some (value_in (home_rows home) key) ≡ not (adds op)
-  pub room : adds op ≡ true → (c : ℕ) × IsFirst is_free home.cells c
+  pub row : is_some (value_in (home_rows home) key) ≡ not (adds_row op)
+  pub room : adds_row op ≡ true → (c : ℕ) × IsFirst is_free home.cells c
 
--- a home has a cell for the write, and no row of the key where the write adds one
+-- a home has a cell for the write, and no row of the key where the write adds_row one
 pub record HasPlace (op : Option Op) (key : ℕ) (home : Home) : Type 0 where
   pub place : ℕ
   pub first : IsFirst (may_take op key) home.cells place
-  pub new_key : adds op ≡ true → IsNowhere (is_keyed key) home.cells
+  pub new_key : adds_row op ≡ true → IsNowhere (is_keyed key) home.cells
 
 -- Of all blocks, a write patches one cell of the block of its key, by the group behind the last one of that number: the
--- first cell that it may take, and no row of the key is there where the write adds one.
+-- first cell that it may take, and no row of the key is there where the write adds_row one.
 pub record IsMade (shape : Shape) (ask : Ask) (number : ℕ) (before now : List (List ℕ)) : Type 0 where
   pub place : ℕ
   pub first : IsFirst (may_take ask.op ask.key) (home_at shape before ask.table ask.key).cells place
-  pub new_key : adds ask.op ≡ true → IsNowhere (is_keyed ask.key) (home_at shape before ask.table ask.key).cells
+  pub new_key : adds_row ask.op ≡ true → IsNowhere (is_keyed ask.key) (home_at shape before ask.table ask.key).cells
   pub made : now ≡ after_group (number + 1) (cell_patch (home_block shape ask.table ask.key) place
       (cell_after ask.op ask.key (home_cell (home_at shape before ask.table ask.key) place)) ∷ []) before
 
 -- why a home refuses a write, by its cells
 abbrev pub HomeRefuses : AttemptFault → Option Op → ℕ → Home → Type 0
-HomeRefuses Duplicate op key home = (adds op ≡ true) × ((c : ℕ) × IsFirst (is_keyed key) home.cells c)
-HomeRefuses NotFound op key home = (adds op ≡ false) × IsNowhere (is_keyed key) home.cells
-HomeRefuses BlockFull op key home = (adds op ≡ true) × IsNowhere (is_keyed key) home.cells
+HomeRefuses Duplicate op key home = (adds_row op ≡ true) × ((c : ℕ) × IsFirst (is_keyed key) home.cells c)
+HomeRefuses NotFound op key home = (adds_row op ≡ false) × IsNowhere (is_keyed key) home.cells
+HomeRefuses BlockFull op key home = (adds_row op ≡ true) × IsNowhere (is_keyed key) home.cells
     × IsNowhere is_free home.cells
 HomeRefuses Failed op key home = ⊥
 HomeRefuses WornOut op key home = ⊥

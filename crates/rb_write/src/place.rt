@@ -1,7 +1,7 @@
 //! The cell that a write of a key makes in its block. `attempt` calls it.
 ghost use Rattle.std.specs.Prelude.{◌≡◌, ◌≤◌, length, true, IfOk, IfErr};
 ghost use Rattle.rb_heap.specs.Homes.{home_of, home_cell, is_keyed, IsFirst, IsNowhere};
-ghost use Rattle.rb_write.specs.Writes.{adds, may_take, cell_after, IsShort, HomeRefuses};
+ghost use Rattle.rb_write.specs.Writes.{adds_row, may_take, cell_after, IsShort, HomeRefuses};
 
 use crate::ask::AttemptFault;
 use arrayvec::ArrayVec;
@@ -44,7 +44,7 @@ fn new_cell(key: u64, op: Option<Op<'_>>, old: Cell) -> Cell
 fn place_for(block: &[u8], key: u64, op: Option<Op<'_>>) -> Result<u8, AttemptFault>
     requires { length block.now ≡ UNIT }
     ensures first { IfOk result (λ c. IsFirst (may_take op.entry key) (home_of block.now).cells c) }
-    ensures new_key { IfOk result (λ c. adds op.entry ≡ true
+    ensures new_key { IfOk result (λ c. adds_row op.entry ≡ true
         → IsNowhere (is_keyed key) (home_of block.now).cells) }
     ensures refused { IfErr result (λ fault. HomeRefuses fault op.entry key (home_of block.now)) }
 {
@@ -65,7 +65,7 @@ pub(crate) fn cell_for(
     requires short { IsShort op }
     ensures first { IfOk result (λ r. IsFirst (may_take op.entry key) (home_of block.now).cells r.0) }
     ensures cell { IfOk result (λ r. r.1 ≡ cell_after op.entry key (home_cell (home_of block.now) r.0)) }
-    ensures new_key { IfOk result (λ r. adds op.entry ≡ true
+    ensures new_key { IfOk result (λ r. adds_row op.entry ≡ true
         → IsNowhere (is_keyed key) (home_of block.now).cells) }
     ensures refused { IfErr result (λ fault. HomeRefuses fault op.entry key (home_of block.now)) }
 {

@@ -13,7 +13,7 @@ ghost use Rattle.rb_cell.specs.declared.cell.Cell.{Cell};
 ghost use Rattle.rb_heap.specs.Homes.{home_of, home_cell, is_keyed, is_free, IsFirst, IsNowhere};
 ghost use Rattle.rb_base.specs.Blocks.{home_block};
 ghost use Rattle.rb_write.specs.Values.{home_at, value_at, IsPlainHome, ArePlain};
-ghost use Rattle.rb_write.specs.Writes.{adds, may_take, value_after, cell_after, has_failed, IsShort, HomeRefuses};
+ghost use Rattle.rb_write.specs.Writes.{adds_row, may_take, value_after, cell_after, has_failed, IsShort, HomeRefuses};
 ghost use Rattle.rb_write.specs.Writes.{LogRefuses, ChangesHome, IsMade, TakesWrite, HasPlace};
 
 use crate::ask::{Ask, AttemptFault};
@@ -51,7 +51,7 @@ fn prepare_cell<S: Store>(
         (home_of (block_of (S.blocks store.old) no)).cells r.0) }
     ensures cell { S.tells → IfOk result (λ r. r.1 ≡ cell_after ask.now.op ask.now.key
         (home_cell (home_of (block_of (S.blocks store.old) no)) r.0)) }
-    ensures new_key { S.tells → IfOk result (λ _. adds ask.now.op ≡ true
+    ensures new_key { S.tells → IfOk result (λ _. adds_row ask.now.op ≡ true
         → IsNowhere (is_keyed ask.now.key) (home_of (block_of (S.blocks store.old) no)).cells) }
     ensures within { IfOk result (λ r. r.0 < 16) }
     ensures room { OnOk result ((S.lsn store.old < WORN)
@@ -94,13 +94,13 @@ pub fn attempt<S: Store>(
     requires short { IsShort ask.now.op }
     ensures duplicate { S.tells → IsPlainHome (home_at (S.shape_of store.old) (S.blocks store.old) ask.now.table
         ask.now.key) → IsErrOf result AttemptFault.Duplicate
-        → (adds ask.now.op ≡ true) × (is_some (value_at (S.shape_of store.old) (S.blocks store.old) ask.now.table
+        → (adds_row ask.now.op ≡ true) × (is_some (value_at (S.shape_of store.old) (S.blocks store.old) ask.now.table
         ask.now.key) ≡ true) }
     ensures not_found { S.tells → IsErrOf result AttemptFault.NotFound
-        → (adds ask.now.op ≡ false) × (is_some (value_at (S.shape_of store.old) (S.blocks store.old) ask.now.table
+        → (adds_row ask.now.op ≡ false) × (is_some (value_at (S.shape_of store.old) (S.blocks store.old) ask.now.table
         ask.now.key) ≡ false) }
     ensures block_full { S.tells → IsErrOf result AttemptFault.BlockFull
-        → (adds ask.now.op ≡ true) × (is_some (value_at (S.shape_of store.old) (S.blocks store.old) ask.now.table
+        → (adds_row ask.now.op ≡ true) × (is_some (value_at (S.shape_of store.old) (S.blocks store.old) ask.now.table
         ask.now.key) ≡ false)
         × IsNowhere is_free (home_at (S.shape_of store.old) (S.blocks store.old) ask.now.table ask.now.key).cells }
     ensures worn_out { IsErrOf result AttemptFault.WornOut → WORN ≤ S.lsn store.old }

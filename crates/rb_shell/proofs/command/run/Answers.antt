@@ -1,7 +1,7 @@
 use Rattle.rb_layout.specs.Regions.{file_version}
 use Rattle.std.proofs.Common.{◌∙◌, ℕ, refl, ap, arith}
 use Rattle.rb_layout.specs.declared.layout.Layout.{Layout}
-use Rattle.rb_shell.specs.Words.{IsFormat, IsRun}
+use Rattle.rb_shell.specs.Words.{AsksFormat, AsksRun}
 use Rattle.rb_shell.specs.declared.words.Request.TheVariants.{Format, Run}
 use Rattle.rb_shell.proofs.RunLemmas.{complete_format, complete_run, not_longer}
 use Rattle.rb_shell.proofs.Spelling.{same_file, not_both}
@@ -12,11 +12,11 @@ use Rattle.rb_shell.proofs.command.run.Goals.{After-run_format, After-run_script
 use Rattle.rb_shell.proofs.command.run.Goals as goal
 
 -- words that ask for a new file ask for no run
-no_run : (g : Over) (c : After-run_format g) (n : ℕ) → IsRun c.args.words.now n → ⊥
+no_run : (g : Over) (c : After-run_format g) (n : ℕ) → AsksRun c.args.words.now n → ⊥
 no_run g c n asked = not_both c.args.words.now c.in-Some-Format.layout n (rw c.in-Some-Format.field-0-is at c.in-Some-Format.ensures.found) asked
 
 -- nor the other way round
-no_format : (g : Over) (c : After-run_script g) (l : Layout) → IsFormat c.args.words.now l → ⊥
+no_format : (g : Over) (c : After-run_script g) (l : Layout) → AsksFormat c.args.words.now l → ⊥
 no_format g c l asked = not_both c.args.words.now l c.in-Some-Run.field-0-0 asked (rw c.in-Some-Run.field-0-is at c.in-Some-Run.ensures.found)
 
 pub returns-in-Some-Format-clause-usage : goal.returns-in-Some-Format-clause-usage

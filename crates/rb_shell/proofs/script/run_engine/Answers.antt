@@ -34,4 +34,4 @@ returns-clause-sink g c = counted_as _ _ _ _ (sink_of c.run_lines-end.result ∙
 pub returns-clause-disk : goal.returns-clause-disk
 returns-clause-disk g c =
     counted_beside _ _ _ _ _ _ (disk_of c.run_lines-end.result ∙ ap by_disk (sym c.status_of_end.ensures.is)) (sink_of c.run_lines-end.result ∙ ap by_sink (sym c.status_of_end.ensures.is))
-    (subst (λ store. IsCountedBeside (g.T.Store.faults c.args.engine.store) (g.T.Store.faults store) (lines.by_disk c.run_lines-end.result) (lines.by_sink c.run_lines-end.result)) (sym c.close.ensures) c.run_lines-end.ensures.disk)
+    (subst (λ store. IsCountedBeside (g.T.Store.faults c.args.engine.store) (g.T.Store.faults store) (lines.ends_by_disk c.run_lines-end.result) (lines.ends_by_sink c.run_lines-end.result)) (sym c.close.ensures) c.run_lines-end.ensures.disk)

@@ -1,5 +1,5 @@
 use Rattle.std.proofs.Common.{◌≡◌, ◌<◌, ◌≤◌, get_or, min, arith, subst, sym}
-use Rattle.rb_versions.specs.Index.{IsFirst}
+use Rattle.rb_versions.specs.Index.{IsFirstWanted}
 use Rattle.rb_versions.proofs.FirstLemmas.{place_within}
 use Rattle.rb_versions.proofs.RunLemmas.{this_run, run_ends, this_part, next_start, run_tells, all_runs}
 use Rattle.rb_versions.proofs.search.first_in_runs.Goals as goal
@@ -48,13 +48,13 @@ loop-end-preserved c =
             let found = run_tells c.args.blocks c.args.query c.args.changes.now start end seen w.part.result.now w.first_in_run-found.result run w.first_in_run-found.ensures.found w.first_in_run-found.ensures.none in
             let at : min start seen ≡ start = omega (arith, w.if-start-seen.true) in
             let low : start ≤ min end seen = omega (arith, w.if-start-seen.true, some) in
-            let before = subst (λ n. IsFirst c.args.blocks c.args.query c.args.changes.now 0 n c.loop-end.best) at c.loop-end.invariant.best in
-            subst (IsFirst c.args.blocks c.args.query c.args.changes.now 0 (min end seen)) (sym w.best-is)
+            let before = subst (λ n. IsFirstWanted c.args.blocks c.args.query c.args.changes.now 0 n c.loop-end.best) at c.loop-end.invariant.best in
+            subst (IsFirstWanted c.args.blocks c.args.query c.args.changes.now 0 (min end seen)) (sym w.best-is)
             (w.better-best.ensures c.args.query 0 start (min end seen) (omega arith) low before found)
         | else-start-seen w ↦
             let same : min start seen ≡ min end seen = omega (arith, w.if-start-seen.false, some) in
-            subst (IsFirst c.args.blocks c.args.query c.args.changes.now 0 (min end seen)) (sym w.best-is)
-            (subst (λ n. IsFirst c.args.blocks c.args.query c.args.changes.now 0 n c.loop-end.best) same c.loop-end.invariant.best)
+            subst (IsFirstWanted c.args.blocks c.args.query c.args.changes.now 0 (min end seen)) (sym w.best-is)
+            (subst (λ n. IsFirstWanted c.args.blocks c.args.query c.args.changes.now 0 n c.loop-end.best) same c.loop-end.invariant.best)
       ];
     }
 
@@ -62,4 +62,4 @@ pub returns : goal.returns
 returns c =
     let all = all_runs c.args.blocks c.args.changes.now c.args.order.now c.args.ends.now c.loop-end.start c.loop-end.end-index c.requires.index c.loop-end.invariant.start (omega (arith, c.loop-end-test.false)) in
     let same : min c.loop-end.start c.args.seen ≡ c.args.seen = omega (arith, all, c.requires.seen) in
-    subst (λ n. IsFirst c.args.blocks c.args.query c.args.changes.now 0 n c.loop-end.best) same c.loop-end.invariant.best
+    subst (λ n. IsFirstWanted c.args.blocks c.args.query c.args.changes.now 0 n c.loop-end.best) same c.loop-end.invariant.best
