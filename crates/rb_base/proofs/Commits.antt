@@ -45,7 +45,7 @@ nothing : {X : Type 0} (x : X) (xs : List X) → [] ≡ x ∷ xs → ⊥
 nothing x xs e = cc
 
 -- what is whole has a commit in it, and so have its groups but the first, if there are any
-whole_has : (which : ℕ) (g : List Patch) (kept groups : List (List Patch)) (b : Bool) → cond b (g ∷ kept) [] ≡ g ∷ groups → (b ≡ true) × (kept ≡ groups)
+pub whole_has : (which : ℕ) (g : List Patch) (kept groups : List (List Patch)) (b : Bool) → cond b (g ∷ kept) [] ≡ g ∷ groups → (b ≡ true) × (kept ≡ groups)
 whole_has which g kept groups true e = (refl, same_tail g g kept groups e)
 whole_has which g kept groups false e = absurd (nothing g groups e)
 

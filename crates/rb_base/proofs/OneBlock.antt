@@ -5,9 +5,9 @@ use Rattle.std.proofs.lemmas.Bool.Decides.{nat_tests}
 use Rattle.std.specs.List.{AllByRecursion}
 use Rattle.byteorder.specs.Endian.{big_bytes}
 use Rattle.byteorder.specs.Numbers.{length-bytes_high_first}
-use Rattle.rb_base.specs.Blocks.{block_of, after_patch, after_group, shape_blocks, written_to, behind_head as behind, OneBlock, AreBlocks}
+use Rattle.rb_base.specs.Blocks.{block_of, after_patch, after_group, shape_blocks, written_to, behind_head as behind, OneBlock, StaysBehind, AreBlocks}
 use Rattle.rb_base.specs.Fields.{overwritten, with_number}
-use Rattle.rb_base.specs.Groups.{Patch, IsPatch}
+use Rattle.rb_base.specs.Groups.{Patch}
 use Rattle.rb_base.specs.declared.shape.Shape.{Shape}
 use Rattle.rb_base.proofs.Overwriting.{length-overwritten, drop_before, drop_behind}
 use Rattle.rb_base.proofs.Blocks.{patch_own, patch_others, patch_keeps, block_long}
@@ -31,7 +31,7 @@ behind_numbered block number long =
 
 module _ (shape : Shape) (number which : ℕ) where
   -- in step with a copy, patch by patch
-  in_step : (ps : List Patch) (blocks : List (List ℕ)) (copy : List ℕ) → AreBlocks shape blocks → which < shape_blocks shape → AllByRecursion IsPatch ps → length copy ≡ 2048 → behind (block_of blocks which) ≡ behind copy
+  in_step : (ps : List Patch) (blocks : List (List ℕ)) (copy : List ℕ) → AreBlocks shape blocks → which < shape_blocks shape → AllByRecursion StaysBehind ps → length copy ≡ 2048 → behind (block_of blocks which) ≡ behind copy
       → behind (block_of (after_group number ps blocks) which) ≡ behind (written_to which ps copy)
   in_step [] blocks copy are there valid long same = same
   in_step (p ∷ ps) blocks copy are there valid long same =

@@ -5,7 +5,7 @@ use Rattle.std.specs.Prelude.{replicate, slice_index_or, slice_set, drop}
 use Rattle.std.specs.List.{list_any, AllByRecursion}
 use Rattle.byteorder.specs.Endian.{big_bytes}
 use Rattle.rb_base.specs.Fields.{overwritten, with_number}
-use Rattle.rb_base.specs.Groups.{Patch, IsPatch}
+use Rattle.rb_base.specs.Groups.{Patch}
 use Rattle.rb_base.specs.declared.shape.Shape.{Shape}
 use Rattle.rb_base.specs.declared.sizes.TheConstants.{BLOCK_HEAD, SEGMENT_BLOCKS, UNIT}
 
@@ -84,11 +84,15 @@ pub record AreBlocks (shape : Shape) (blocks : List (List ℕ)) : Type 0 where
   pub count : length blocks ≡ shape_blocks shape
   pub each : AllByRecursion (λ block. length block ≡ UNIT) blocks
 
+-- a patch leaves the head of its block, and ends within it
+pub record StaysBehind (p : Patch) : Type 0 where
+  pub behind_head : BLOCK_HEAD ≤ p.at
+  pub within_block : p.at + length p.bytes ≤ UNIT
+
 -- what a group makes of one block, behind its head
 abbrev pub OneBlock : Type 0
 OneBlock = (shape : Shape) (number which : ℕ) (patches : List Patch) (blocks : List (List ℕ))
-    → AreBlocks shape blocks
-    → which < shape_blocks shape → AllByRecursion IsPatch patches
+    → AreBlocks shape blocks → which < shape_blocks shape → AllByRecursion StaysBehind patches
     → behind_head (block_of (after_group number patches blocks) which)
     ≡ behind_head (written_to which patches (block_of blocks which))
 

@@ -1,8 +1,24 @@
 //! What holds of the blocks of every file, as clauses for proofs to cite. Nothing calls them.
+ghost use Rattle.std.specs.Prelude.{◌≡◌, ◌^◌};
 ghost use Rattle.rb_base.specs.Blocks.{OneBlock};
+
+use crate::sizes::{
+    BLOCK_HEAD, GROUP_BYTES, GROUP_PATCHES, SEGMENT_BLOCKS, UNIT, VALUE_BYTES, WORN,
+};
 
 /// What a group makes of one block: the patches of it that are of the block, written over it in order, behind its head.
 /// So a call that patches a copy of a block knows what the store's block reads as after its group.
 pub fn one_block()
     ensures { OneBlock }
+{}
+
+/// The sizes and limits of the form of a file, as docs/FORMAT.md has them.
+pub fn form_sizes()
+    ensures unit { UNIT ≡ 2048 }
+    ensures block_head { BLOCK_HEAD ≡ 32 }
+    ensures segment { SEGMENT_BLOCKS ≡ 33 }
+    ensures patches { GROUP_PATCHES ≡ 40 }
+    ensures group { GROUP_BYTES ≡ 2000 }
+    ensures value { VALUE_BYTES ≡ 80 }
+    ensures worn { WORN ≡ 2 ^ 60 }
 {}

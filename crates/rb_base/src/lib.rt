@@ -19,7 +19,7 @@ pub use faults::{Failed, NoMemory, OpenFault};
 pub use fields::{put_u16, put_u32, put_u64, u16_at, u32_at, u64_at};
 pub use group::Group;
 pub use ids::{BlockNo, Lsn, Scn, Uba, Xid};
-pub use laws::one_block;
+pub use laws::{form_sizes, one_block};
 pub use shape::Shape;
 pub use sizes::{BLOCK_HEAD, GROUP_BYTES, GROUP_PATCHES, SEGMENT_BLOCKS, UNIT, VALUE_BYTES, WORN};
 pub use store::Store;

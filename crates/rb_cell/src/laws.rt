@@ -5,7 +5,7 @@ ghost use Rattle.rb_base.specs.Fields.{part, AreApart};
 ghost use Rattle.rb_cell.specs.declared.cell.Cell.{Cell};
 ghost use Rattle.rb_cell.specs.Cells.{cell_place, cell_bytes, cell_at, IsCell, with_cell, with_lock, locked_by};
 
-use crate::cell::{CELL_BYTES, CELLS};
+use crate::cell::{CELL_BYTES, CELLS, CELLS_AT, EMPTY, HEAD_BYTES, KEY_AT, LENGTH_AT, ROW, STUB};
 use rb_base::UNIT;
 
 /// Where the bytes of a cell stand, that cell is read. A block that a cell is written to has that cell there, every
@@ -36,4 +36,15 @@ pub fn lock_in_block()
         → AreApart at count (cell_place c + 1) 1 → part (with_lock block c lock) at count ≡ part block at count }
     ensures size { (block : List ℕ) (c lock : ℕ) → length block ≡ UNIT → c < CELLS
         → length (with_lock block c lock) ≡ UNIT }
+{}
+
+/// How many cells a block has, where they stand, and where the parts of one are, as docs/FORMAT.md has them.
+pub fn cell_sizes()
+    ensures count { CELLS ≡ 16 }
+    ensures bytes { CELL_BYTES ≡ 92 }
+    ensures first { CELLS_AT ≡ 416 }
+    ensures length { LENGTH_AT ≡ 2 }
+    ensures key { KEY_AT ≡ 4 }
+    ensures value { HEAD_BYTES ≡ 12 }
+    ensures states { (EMPTY ≡ 0) × (ROW ≡ 1) × (STUB ≡ 2) }
 {}

@@ -7,6 +7,6 @@ mod read;
 mod write;
 
 pub use cell::{CELL_BYTES, CELLS, CELLS_AT, Cell, EMPTY, ROW, STUB};
-pub use laws::{cell_in_block, lock_in_block};
+pub use laws::{cell_in_block, cell_sizes, lock_in_block};
 pub use read::{CellFront, cells, front, value_length};
 pub use write::{put_cell, put_lock};

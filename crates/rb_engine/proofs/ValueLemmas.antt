@@ -92,7 +92,7 @@ tables_changed n blocks table key Held rows low high all = all
 
 -- the words of a write and those of the machine
 
-pub adds_same : (o : Op) → write.adds (Some o) ≡ adds (action_of o)
+pub adds_same : (o : Op) → write.adds_row (Some o) ≡ adds (action_of o)
 adds_same (op.Insert value) = refl
 adds_same (op.Update value) = refl
 adds_same op.Delete = refl

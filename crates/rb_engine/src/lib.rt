@@ -10,4 +10,4 @@ mod open;
 mod state;
 
 pub use engine::Engine;
-pub use laws::one_holding;
+pub use laws::{far_ahead, one_holding};

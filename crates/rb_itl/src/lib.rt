@@ -7,7 +7,7 @@ mod read;
 mod slots;
 mod write;
 
-pub use laws::entries_apart;
+pub use laws::{entries_apart, entry_sizes};
 pub use read::entry;
 pub use slots::{BOUND, CHAIN_RECORDS, ENTRIES, ENTRY_BYTES, EXACT, Entry, FREE, OPEN};
 pub use write::put_entry;

@@ -81,7 +81,8 @@ pub fn run_lines<M: LineRunner, S: Source, K: Sink>(
 
     // It ends by a fault only where that count rose, and else the count is as before.
     ensures source { IsCountedAs (S.faults source.old) (S.faults source.new) (ends_by_source result) }
-    ensures disk { IsCountedBeside (M.faults runner.old) (M.faults runner.new) (ends_by_disk result) (ends_by_sink result) }
+    ensures disk { IsCountedBeside (M.faults runner.old) (M.faults runner.new) (ends_by_disk result)
+        (ends_by_sink result) }
     ensures sink { IsCountedAs (K.faults sink.old) (K.faults sink.new) (ends_by_sink result) }
 {
     let mut pending = ArrayVec::new();

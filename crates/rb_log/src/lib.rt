@@ -2,9 +2,11 @@
 #![tactic(auto)]
 
 mod flush;
+mod laws;
 mod log;
 mod sizes;
 mod unit;
 
+pub use laws::flush_sizes;
 pub use log::Log;
 pub use sizes::{FLUSH_BYTES, FLUSH_SLOTS};

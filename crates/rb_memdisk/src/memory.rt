@@ -274,7 +274,8 @@ fn pick_on(
 }
 
 impl Disk for MemDisk {
-    ghost use Rattle.rb_memdisk.specs.MemDisk.{bytes_of, record_of, written_of, faults_of, made, MayLeaveNow, LeavesSince};
+    ghost use Rattle.rb_memdisk.specs.MemDisk.{bytes_of, record_of, written_of, faults_of, made, MayLeaveNow};
+    ghost use Rattle.rb_memdisk.specs.MemDisk.{LeavesSince};
     ghost use Rattle.rb_memdisk.specs.MemDisk.{IsRefused, PassesRoom, recorded, one_more, IsSameSetup, IsUnwritten};
 
     ghost tells = { Unit {0} };

@@ -3,7 +3,9 @@
 #![tactic(auto)]
 
 mod extents;
+mod laws;
 
 pub use extents::{
     EXTENT_RECORDS, EXTENTS, extent_newest, extent_ord, head_extent, head_records, lost_number,
 };
+pub use laws::ring_sizes;

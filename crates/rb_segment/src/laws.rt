@@ -5,6 +5,7 @@ ghost use Rattle.rb_base.specs.Blocks.{block_of, after_group, header_block, tabl
 ghost use Rattle.rb_txntable.specs.Slots.{slot_newest};
 ghost use Rattle.rb_segment.specs.Segments.{commit_lsn, commit_scn, scn_patch};
 
+use crate::headers::SEGMENTS;
 use rb_txntable::SLOTS;
 
 /// The commit number of a file is the least that no table slot's newest is above.
@@ -27,4 +28,9 @@ pub fn scn_written()
         → commit_lsn shape (after_group number (scn_patch shape (n + 1) ∷ []) blocks) ≡ number }
     ensures rows { (shape : Shape) (blocks : List (List ℕ)) (number n b : ℕ) → b < table_blocks shape
         → block_of (after_group number (scn_patch shape (n + 1) ∷ []) blocks) b ≡ block_of blocks b }
+{}
+
+/// A file has at most sixteen segments.
+pub fn most_segments()
+    ensures most { SEGMENTS ≡ 16 }
 {}

@@ -9,4 +9,4 @@ mod laws;
 
 pub use commit::{commit_group, commit_lsn_of};
 pub use headers::{SEGMENTS, commit_scn_of, wraps_of};
-pub use laws::{commit_greatest, scn_written};
+pub use laws::{commit_greatest, most_segments, scn_written};

@@ -8,7 +8,7 @@ use Rattle.rb_base.specs.Fields.{number_at}
 use Rattle.rb_base.specs.Groups.{Patch}
 use Rattle.rb_base.specs.declared.shape.Shape.{Shape}
 use Rattle.rb_base.proofs.Blocks.{patch_count, patch_others, group_count, fresh_count, fresh_at}
-use Rattle.rb_base.proofs.Commits.{cut_twice}
+use Rattle.rb_base.proofs.Commits.{cut_twice, whole_has}
 use Rattle.rb_layout.specs.Regions.{shape_of}
 use Rattle.rb_layout.specs.declared.layout.Layout.{Layout}
 use Rattle.rb_log.specs.GroupLaws.{patched_number}
@@ -39,9 +39,6 @@ group_numbers lsn (p ∷ patches) blocks which few lt commits =
     ]
 
 -- groups up to a last commit leave its number there
-whole_any : (which : ℕ) (group : List Patch) (kept groups : List (List Patch)) (any : Bool) → cond any (group ∷ kept) [] ≡ group ∷ groups → (any ≡ true) × (kept ≡ groups)
-whole_any which group kept groups true e = let rest : kept ≡ groups = cc in (refl, rest)
-whole_any which group kept groups false e = absurd (cc)
 
 or_false : (a b : Bool) → b ≡ false → (a || b) ≡ true → a ≡ true
 or_false true b f e = refl
@@ -50,10 +47,10 @@ or_false false b f e = sym f ∙ e
 groups_number : (first : ℕ) (group : List Patch) (groups : List (List Patch)) (blocks : List (List ℕ)) (which : ℕ) → first + length groups ≤ 4096 → which < length blocks → up_to_last which (group ∷ groups) ≡ group ∷ groups
     → number_at (block_of (after_groups first (group ∷ groups) blocks) which) 0 8 ≡ first + length groups
 groups_number first group [] blocks which few lt whole =
-    let any = whole_any which group [] [] (list_any (patches_block which) (group ∷ [])) whole in
+    let any = whole_has which group [] [] (list_any (patches_block which) (group ∷ [])) whole in
     group_numbers first group blocks which (omega (arith, few)) lt (or_false (patches_block which group) false refl any.0) ∙ omega arith
 groups_number first group (next ∷ groups) blocks which few lt whole =
-    let any = whole_any which group (up_to_last which (next ∷ groups)) (next ∷ groups) (list_any (patches_block which) (group ∷ next ∷ groups)) whole in
+    let any = whole_has which group (up_to_last which (next ∷ groups)) (next ∷ groups) (list_any (patches_block which) (group ∷ next ∷ groups)) whole in
     groups_number (first + 1) next groups (after_group first group blocks) which (omega (arith, few)) (omega (arith, lt, group_count first group blocks)) any.1 ∙ omega arith
 
 -- no block of a new file has a number

@@ -94,14 +94,14 @@ pub fn attempt<S: Store>(
     requires short { IsShort ask.now.op }
     ensures duplicate { S.tells → IsPlainHome (home_at (S.shape_of store.old) (S.blocks store.old) ask.now.table
         ask.now.key) → IsErrOf result AttemptFault.Duplicate
-        → (adds_row ask.now.op ≡ true) × (is_some (value_at (S.shape_of store.old) (S.blocks store.old) ask.now.table
-        ask.now.key) ≡ true) }
+        → (adds_row ask.now.op ≡ true)
+        × (is_some (value_at (S.shape_of store.old) (S.blocks store.old) ask.now.table ask.now.key) ≡ true) }
     ensures not_found { S.tells → IsErrOf result AttemptFault.NotFound
-        → (adds_row ask.now.op ≡ false) × (is_some (value_at (S.shape_of store.old) (S.blocks store.old) ask.now.table
-        ask.now.key) ≡ false) }
+        → (adds_row ask.now.op ≡ false)
+        × (is_some (value_at (S.shape_of store.old) (S.blocks store.old) ask.now.table ask.now.key) ≡ false) }
     ensures block_full { S.tells → IsErrOf result AttemptFault.BlockFull
-        → (adds_row ask.now.op ≡ true) × (is_some (value_at (S.shape_of store.old) (S.blocks store.old) ask.now.table
-        ask.now.key) ≡ false)
+        → (adds_row ask.now.op ≡ true)
+        × (is_some (value_at (S.shape_of store.old) (S.blocks store.old) ask.now.table ask.now.key) ≡ false)
         × IsNowhere is_free (home_at (S.shape_of store.old) (S.blocks store.old) ask.now.table ask.now.key).cells }
     ensures worn_out { IsErrOf result AttemptFault.WornOut → WORN ≤ S.lsn store.old }
     ensures log_full { IsErrOf result AttemptFault.LogFull
