@@ -30,7 +30,7 @@ const CHANGES: u64 = 65_536;
 pub const AHEAD: u64 = (1 << 63) + (1 << 62);
 
 /// Takes the rows of a table's block, and says whether none of its other cells is locked.
-fn take_block(state: &mut EngineState, block: &[u8], table: u16) -> bool
+fn take_cells(state: &mut EngineState, block: &[u8], table: u16) -> bool
     requires block { length block.now ≡ 2048 }
     requires room { 16 ≤ state.old.spare }
     requires opening { state.old.state ≡ opened state.old.state.shape state.old.state.commits.base
@@ -56,7 +56,7 @@ fn take_block(state: &mut EngineState, block: &[u8], table: u16) -> bool
 }
 
 /// Takes the rows of block `no` of the tables, and says whether none of its other cells is locked.
-fn take_one<T: Store>(state: &mut EngineState, store: &mut T, no: BlockNo) -> Result<bool, Failed>
+fn take_block<T: Store>(state: &mut EngineState, store: &mut T, no: BlockNo) -> Result<bool, Failed>
     requires going { T.failed store.old ≡ false }
     requires shape { state.old.state.shape ≡ T.shape_of store.old }
     requires there { no < table_blocks state.old.state.shape }
@@ -82,7 +82,7 @@ fn take_one<T: Store>(state: &mut EngineState, store: &mut T, no: BlockNo) -> Re
 {
     store.load(no)?;
     let table = no / store.shape().blocks + 1;
-    Ok(take_block(state, store.block(), table as u16))
+    Ok(take_cells(state, store.block(), table as u16))
 }
 
 /// Takes the rows of all blocks, and says whether no other cell is locked.
@@ -106,7 +106,7 @@ fn take_rows<T: Store>(state: &mut EngineState, store: &mut T) -> Result<bool, F
 {
     let shape = store.shape();
     for no in 0..shape.table_blocks() {
-        if !take_one(state, store, no)? {
+        if !take_block(state, store, no)? {
             return Ok(false);
         }
     }

@@ -42,7 +42,7 @@ pub fn find(block: &[u8], key: u64) -> Option<u8>
 }
 
 /// The lowest cell, 0 to 15, of a block of 2,048 bytes that is empty, or a stub that nothing has locked. An empty
-/// cell's lock isn't looked at. None exactly where none is.
+/// cell's lock isn't looked at. None exactly where no cell is free.
 pub fn free_cell(block: &[u8]) -> Option<u8>
     requires { length block.now ≡ UNIT }
     ensures found { IfSome result (λ c. IsFirst is_free (home_of block.now).cells c) }

@@ -7,7 +7,7 @@ use crate::slots::{ENTRIES, ENTRY_BYTES, Entry};
 use rb_base::{BLOCK_HEAD, BlockNo, GROUP_BYTES, GROUP_PATCHES, Group, put_u16, put_u32, put_u64};
 
 /// The bytes of an entry. Those that have no meaning are 0.
-fn spelled(entry: &Entry) -> [u8; ENTRY_BYTES]
+fn bytes_of(entry: &Entry) -> [u8; ENTRY_BYTES]
     ensures { result ≡ entry_bytes entry.now }
 {
     let mut bytes = [0; ENTRY_BYTES];
@@ -31,5 +31,5 @@ pub fn put_entry(group: &mut Group, no: BlockNo, i: u8, entry: &Entry)
     ensures { group.new ≡ group.old ++ patch no (entry_place i) (entry_bytes entry.now) ∷ [] }
 {
     let at = BLOCK_HEAD + ENTRY_BYTES * i as usize;
-    group.push(no, at as u16, &spelled(entry));
+    group.push(no, at as u16, &bytes_of(entry));
 }

@@ -104,7 +104,7 @@ fn values_sound(block: &[u8]) -> bool
     true
 }
 
-/// Whether a lock is none, or that of an entry that isn't free.
+/// Whether a cell with this lock is unlocked, or locked by an entry that isn't free.
 fn lock_sound(block: &[u8], lock: u8) -> bool
     requires { length block.now ≡ UNIT }
     ensures { IsTrue result ↔ IsLock block.now lock }
@@ -115,7 +115,7 @@ fn lock_sound(block: &[u8], lock: u8) -> bool
     lock <= ENTRIES && entry(block, lock - 1).kind != FREE
 }
 
-/// Whether each cell's lock is.
+/// Whether each cell is unlocked, or locked by an entry that isn't free.
 fn locks_sound(block: &[u8]) -> bool
     requires { length block.now ≡ UNIT }
     ensures { IsTrue result ↔ ((c : ℕ) → c < CELLS → IsLock block.now (cell_at block.now c).lock) }

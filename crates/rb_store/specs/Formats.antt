@@ -1,7 +1,7 @@
 -- Why a file wasn't made.
 use Rattle.std.specs.Prelude.{Bool, true, false}
-use Rattle.rb_store.specs.declared.fresh.FormatFault.{FormatFault}
-use Rattle.rb_store.specs.declared.fresh.FormatFault.TheVariants.{Failed, NotEmpty}
+use Rattle.rb_store.specs.declared.new_file.FormatFault.{FormatFault}
+use Rattle.rb_store.specs.declared.new_file.FormatFault.TheVariants.{Failed, NotEmpty}
 
 -- a call of the disk failed
 abbrev pub is_format_failed : FormatFault → Bool

@@ -21,17 +21,17 @@ loop-no-preserved g c =
     let base = c.args.state.now.state.commits.base in
     let no = c.loop-no.no in
     let before = c.loop-no.state.state in
-    let after = c.take_one.new.state.state in
+    let after = c.take_block.new.state.state in
     let inv = c.loop-no.invariant in
-    let call = c.take_one.ensures in
-    let done = c.in_ok-take_one.was ∙ ap Ok c.if-not-branch.false in
+    let call = c.take_block.ensures in
+    let done = c.in_ok-take_block.was ∙ ap Ok c.if-not-branch.false in
     let same_shape : before.shape ≡ shape = ap (λ (h : State). h.shape) inv.opening in
     let same_base : before.commits.base ≡ base = ap (λ (h : State). h.commits.base) inv.opening in
     record {
       opening =
           call.opening done
-          ∙ ap (λ (x : Shape). opened x after.commits.base after.commits.rows) (c.in_ok-take_one.ensures.shape ∙ same_shape)
-          ∙ ap (λ (x : ℕ). opened shape x after.commits.rows) (c.in_ok-take_one.ensures.base ∙ same_base);
+          ∙ ap (λ (x : Shape). opened x after.commits.base after.commits.rows) (c.in_ok-take_block.ensures.shape ∙ same_shape)
+          ∙ ap (λ (x : ℕ). opened shape x after.commits.rows) (c.in_ok-take_block.ensures.base ∙ same_base);
       rows = λ told.
           call.rows told done
           ∙ ap (λ (x : Shape). over x.blocks before.commits.rows (puts (table_of x no) (home_rows (home_of (block_of (s.blocks c.loop-no.store) no))))) same_shape
@@ -42,7 +42,7 @@ loop-no-preserved g c =
           below_more (λ (b : ℕ). (cell : ℕ) → cell < 16 → LocksRows (cell_at (block_of (s.blocks old) b) cell)) no (inv.unlocked told)
           (subst (λ (b : List (List ℕ)). (cell : ℕ) → cell < 16 → LocksRows (cell_at (block_of b no) cell)) (inv.loads.same_blocks told) (call.unlocked told done));
       spare = omega (arith, inv.spare, call.spare);
-      loads = more_loads s old c.loop-no.store c.take_one.new.store inv.loads call.only_loads;
-      going = call.failed ∙ ap is_err c.in_ok-take_one.was;
-      still = c.in_ok-take_one.ensures.counted.still ∙ inv.still;
+      loads = more_loads s old c.loop-no.store c.take_block.new.store inv.loads call.only_loads;
+      going = call.failed ∙ ap is_err c.in_ok-take_block.was;
+      still = c.in_ok-take_block.ensures.counted.still ∙ inv.still;
     }

@@ -25,7 +25,7 @@ pub enum FormatFault {
 
 impl From<Failed> for FormatFault {
     ghost use Rattle.std.specs.Prelude.{◌≡◌};
-    ghost use Rattle.rb_store.specs.declared.fresh.FormatFault.TheVariants.{Failed};
+    ghost use Rattle.rb_store.specs.declared.new_file.FormatFault.TheVariants.{Failed};
 
     ghost from_gives = { λ _ fault. fault ≡ Failed };
 

@@ -1,6 +1,6 @@
 use Rattle.std.proofs.Common.{◌≡◌, ◌-◌, ◌≤◌, ◌++◌, replicate}
 use Rattle.rb_layout.specs.Regions.{file_version, identity, file_length}
-use Rattle.rb_store.proofs.fresh.write_units.Given as goal
+use Rattle.rb_store.proofs.new_file.write_units.Given as goal
 
 abbrev pub invariant-loop-at : goal.invariant-loop-at
 invariant-loop-at g l = record {

@@ -1,6 +1,6 @@
 use Rattle.std.proofs.Common.{ℕ, List, ◌++◌, drop, ap, ◌∙◌}
 use Rattle.rb_layout.specs.Regions.{file_version, identity}
-use Rattle.rb_store.proofs.fresh.first_unit.Goals as goal
+use Rattle.rb_store.proofs.new_file.first_unit.Goals as goal
 
 -- the bytes behind the front are still those of an empty unit
 pub returns : goal.returns

@@ -6,8 +6,8 @@ use Rattle.rb_model.specs.State.{State, opened}
 use Rattle.rb_write.specs.Values.{LocksRows}
 use Rattle.rb_engine.specs.Kept.{Kept}
 use Rattle.rb_engine.proofs.FoundLemmas.{rows_all, rows_to, row_left, row_taken}
-use Rattle.rb_engine.proofs.open.take_block.Goals.{then-cell-eq-ROW, else-cell-eq-ROW+else-cell-ne0}
-use Rattle.rb_engine.proofs.open.take_block.Goals as goal
+use Rattle.rb_engine.proofs.open.take_cells.Goals.{then-cell-eq-ROW, else-cell-eq-ROW+else-cell-ne0}
+use Rattle.rb_engine.proofs.open.take_cells.Goals as goal
 
 pub loop-c-preserved : goal.loop-c-preserved
 loop-c-preserved c =

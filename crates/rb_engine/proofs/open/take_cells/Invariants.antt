@@ -3,7 +3,7 @@ use Rattle.rb_cell.specs.Cells.{cell_at}
 use Rattle.rb_model.specs.State.{opened}
 use Rattle.rb_write.specs.Values.{LocksRows}
 use Rattle.rb_engine.proofs.FoundLemmas.{rows_to}
-use Rattle.rb_engine.proofs.open.take_block.Given as goal
+use Rattle.rb_engine.proofs.open.take_cells.Given as goal
 
 abbrev pub invariant-loop-c : goal.invariant-loop-c
 invariant-loop-c l = record {

@@ -2,7 +2,7 @@ use Rattle.rb_layout.specs.Regions.{file_version}
 use Rattle.std.proofs.Common.{◌+◌, ◌-◌, ◌∙◌, take, replicate, arith}
 use Rattle.std.proofs.lemmas.List.{take-replicate}
 use Rattle.rb_store.proofs.Units.{first_written, zeros_written}
-use Rattle.rb_store.proofs.fresh.write_units.Goals as goal
+use Rattle.rb_store.proofs.new_file.write_units.Goals as goal
 
 pub loop-at-init : goal.loop-at-init
 loop-at-init g c = record {
