@@ -1,39 +1,38 @@
--- The homes of a file's blocks after a group of patches.
-use Rattle.std.proofs.Common.{◌≡◌, ℕ, ◌<◌, List, [], ◌∷◌, arith, ap, ◌∙◌}
+-- The home of a block after a group of patches.
+use Rattle.std.proofs.Common.{◌≡◌, ℕ, ◌+◌, ◌<◌, ◌≤◌, List, [], ◌∷◌, length, refl, arith, ◌∙◌}
+use Rattle.std.proofs.lemmas.Bool.{eq-eqb}
+use Rattle.std.specs.List.{AllByRecursion}
 use Rattle.rb_base.specs.declared.shape.Shape.{Shape}
-use Rattle.rb_base.specs.Blocks.{block_of, patched, after_patch, after_group, shape_blocks, AreBlocks}
-use Rattle.rb_base.specs.Groups.{Patch}
-use Rattle.rb_base.proofs.Blocks.{block_long, patch_own, patch_keeps}
+use Rattle.rb_base.specs.Blocks.{block_of, patched, after_group, shape_blocks, written_to, AreBlocks, StaysBehind}
+use Rattle.rb_base.specs.Fields.{overwritten}
+use Rattle.rb_base.specs.Groups.{Patch, patch}
+use Rattle.rb_base.proofs.Blocks.{block_long}
+use Rattle.rb_base.proofs.OneBlock.{one_block}
 use Rattle.rb_cell.specs.declared.cell.Cell.{Cell}
-use Rattle.rb_cell.specs.Cells.{cell_patch, lock_patch, IsCell}
+use Rattle.rb_cell.specs.Cells.{cell_patch, IsCell}
 use Rattle.rb_cell.proofs.CellBytes.{length-cell}
-use Rattle.rb_itl.specs.declared.slots.Entry.{Entry}
-use Rattle.rb_itl.specs.Entries.{IsEntry}
-use Rattle.rb_heap.specs.Homes.{home_of, with_home_entry, with_home_cell, with_home_lock, entry_patch, home_patches}
-use Rattle.rb_heap.proofs.Patching.{cell_patched, lock_patched, entry_patched}
+use Rattle.rb_heap.specs.Homes.{home_of, with_home_cell}
+use Rattle.rb_heap.proofs.Patching.{same_behind, cell_written}
 
--- a patch makes of the home of its block what it makes of that of the block alone
-home_own : (shape : Shape) (blocks : List (List ℕ)) (number : ℕ) (p : Patch) → AreBlocks shape blocks → p.block < shape_blocks shape
-    → home_of (block_of (after_patch number p blocks) p.block) ≡ home_of (patched number p (block_of blocks p.block))
-home_own shape blocks number p are lt = ap home_of (patch_own number p blocks (omega (arith, are.count, lt)))
+-- The home after a group is that of the block with its own patches written over it. So a kind of patch needs no lemma
+-- here: what its bytes, written over a block, make of the home is one of `Patching`.
+pub home_after : (shape : Shape) (blocks : List (List ℕ)) (number which : ℕ) (patches : List Patch) → AreBlocks shape blocks → which < shape_blocks shape → AllByRecursion StaysBehind patches
+    → home_of (block_of (after_group number patches blocks) which) ≡ home_of (written_to which patches (block_of blocks which))
+home_after shape blocks number which patches are lt stay = same_behind (block_of (after_group number patches blocks) which) (written_to which patches (block_of blocks which)) (one_block shape number which patches blocks are lt stay)
 
-pub entry_alone : (shape : Shape) (blocks : List (List ℕ)) (number which i : ℕ) (entry : Entry) → AreBlocks shape blocks → which < shape_blocks shape → i < 8 → IsEntry entry
-    → home_of (block_of (after_group number (entry_patch which i entry ∷ []) blocks) which) ≡ with_home_entry (home_of (block_of blocks which)) i entry
-entry_alone shape blocks number which i entry are lt few sound =
-    home_own shape blocks number (entry_patch which i entry) are lt ∙ entry_patched (block_of blocks which) number which i entry (block_long shape blocks which are lt) few sound
+-- so a group of one patch
+pub home_one : (shape : Shape) (blocks : List (List ℕ)) (number : ℕ) (p : Patch) → AreBlocks shape blocks → p.block < shape_blocks shape → 32 ≤ p.at → p.at + length p.bytes ≤ 2048
+    → home_of (block_of (after_group number (p ∷ []) blocks) p.block) ≡ home_of (overwritten (block_of blocks p.block) p.at p.bytes)
+home_one shape blocks number p are lt behind within =
+    home_after shape blocks number p.block (p ∷ []) are lt (record { behind_head = behind; within_block = within }, tt)
+    ∙ rw (eq-eqb p.block p.block refl) refl
 
-module _ (shape : Shape) (blocks : List (List ℕ)) (number which c : ℕ) (are : AreBlocks shape blocks) (lt : which < shape_blocks shape) (few : c < 16) where
-  pub cell_alone : (cell : Cell) → IsCell cell → home_of (block_of (after_group number (cell_patch which c cell ∷ []) blocks) which) ≡ with_home_cell (home_of (block_of blocks which)) c cell
-  cell_alone cell sound =
-      home_own shape blocks number (cell_patch which c cell) are lt ∙ cell_patched (block_of blocks which) number which c cell (block_long shape blocks which are lt) few sound
+-- and a patch of a block alone, which is that of a file of one block
+pub home_lone : (block : List ℕ) (number : ℕ) (p : Patch) → length block ≡ 2048 → 32 ≤ p.at → p.at + length p.bytes ≤ 2048 → home_of (patched number p block) ≡ home_of (overwritten block p.at p.bytes)
+home_lone block number p long behind within =
+    home_one (record { tables = 1; blocks = 1; segments = 0 }) (block ∷ []) number (patch 0 p.at p.bytes) (record { count = refl; each = (long, tt) }) (omega arith) behind within
 
-  pub lock_alone : (lock : ℕ) → home_of (block_of (after_group number (lock_patch which c lock ∷ []) blocks) which) ≡ with_home_lock (home_of (block_of blocks which)) c lock
-  lock_alone lock =
-      home_own shape blocks number (lock_patch which c lock) are lt ∙ lock_patched (block_of blocks which) number which c lock (block_long shape blocks which are lt) few
-
-  pub both_changed : (cell : Cell) (i : ℕ) (entry : Entry) → IsCell cell → i < 8 → IsEntry entry
-      → home_of (block_of (after_group number (home_patches which c cell i entry) blocks) which) ≡ with_home_entry (with_home_cell (home_of (block_of blocks which)) c cell) i entry
-  both_changed cell i entry cell_sound i_few entry_sound =
-      let mid = after_patch number (cell_patch which c cell) blocks in
-      let are_mid = patch_keeps shape number (cell_patch which c cell) blocks are (omega (arith, length-cell cell cell_sound)) in
-      entry_alone shape mid number which i entry are_mid lt i_few entry_sound ∙ ap (λ home. with_home_entry home i entry) (cell_alone cell cell_sound)
+pub cell_alone : (shape : Shape) (blocks : List (List ℕ)) (number which c : ℕ) → AreBlocks shape blocks → which < shape_blocks shape → c < 16 → (cell : Cell) → IsCell cell
+    → home_of (block_of (after_group number (cell_patch which c cell ∷ []) blocks) which) ≡ with_home_cell (home_of (block_of blocks which)) c cell
+cell_alone shape blocks number which c are lt few cell sound =
+    home_one shape blocks number (cell_patch which c cell) are lt (omega arith) (omega (arith, length-cell cell sound)) ∙ cell_written (block_of blocks which) c cell (block_long shape blocks which are lt) few sound
