@@ -17,7 +17,7 @@ ghost use Rattle.rb_engine.specs.Kept.{has_name, IsPlace, last_end};
 
 use crate::cursor::Cursor;
 use arrayvec::ArrayVec;
-use rb_base::{NoMemory, Scn, Shape};
+use rb_base::{NoMemory, Scn, Shape, VALUE_BYTES};
 use rb_model::{Fetched, Name, Op, Refusal, Row};
 use rb_versions::{Query, RowChange, RowKind, Versions};
 use std::alloc::Global;
@@ -28,9 +28,6 @@ const SESSION: u16 = 1;
 
 /// The most cursors that are open.
 const CURSORS: usize = 16;
-
-/// The most bytes of a value.
-const VALUE_BYTES: usize = 80;
 
 /// One session over the rows found at opening and the commits since. Its room is taken when it is made, so no later
 /// call takes memory.
@@ -141,9 +138,9 @@ fn last_end_of(base_length: usize, ends: &[usize]) -> usize
 
 /// How many bytes the value of a write has.
 fn value_length(op: Op<'_>) -> usize
-    ensures kept { result ≤ 80 → IsShort (Some op.entry) }
-    ensures long { 80 < result → machine.is_too_long (action_of op.entry) ≡ true }
-    ensures short { result ≤ 80 → machine.is_too_long (action_of op.entry) ≡ false }
+    ensures kept { result ≤ VALUE_BYTES → IsShort (Some op.entry) }
+    ensures long { VALUE_BYTES < result → machine.is_too_long (action_of op.entry) ≡ true }
+    ensures short { result ≤ VALUE_BYTES → machine.is_too_long (action_of op.entry) ≡ false }
 {
     match op {
         Op::Insert(value) | Op::Update(value) => value.len(),
@@ -200,7 +197,7 @@ impl EngineState {
 
     /// Takes one of the rows that the file was found with. No call but `take_row` came before.
     pub fn take_row(&mut self, table: u16, key: u64, value: &[u8])
-        requires short { length value.now ≤ 80 }
+        requires short { length value.now ≤ VALUE_BYTES }
         requires room { 0 < self.old.spare }
         requires opening { self.old.state ≡ opened self.old.state.shape self.old.state.commits.base
             self.old.state.commits.rows }
@@ -541,6 +538,7 @@ impl EngineState {
     {
         let number = self.scn() + 1;
         let end = self.versions.changes().len();
+        // For the proof: the vector's length is that of its items.
         let _ = self.ends.as_slice();
         self.ends.push_reserved(end);
         number

@@ -12,7 +12,7 @@ use Rattle.rb_base.proofs.Fronts.{number_of_part, byte_of_part}
 use Rattle.rb_base.proofs.Overwriting.{length-overwritten, part_written, part_apart}
 
 -- what is behind the log number in front
-pub behind_number : (block : List ℕ) (number at count : ℕ) → length block ≡ 2048 → 8 ≤ at → part (with_number block 0 8 number) at count ≡ part block at count
+behind_number : (block : List ℕ) (number at count : ℕ) → length block ≡ 2048 → 8 ≤ at → part (with_number block 0 8 number) at count ≡ part block at count
 behind_number block number at count long behind = part_apart block 0 (big_bytes 8 number) at count 8 (omega (arith, long)) refl (inr behind)
 
 module _ (block : List ℕ) (number size : ℕ) (p : Patch) (long : length block ≡ 2048) (within : p.at + size ≤ 2048) (size_is : length p.bytes ≡ size) where
