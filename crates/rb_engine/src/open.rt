@@ -191,7 +191,7 @@ impl<T: Store> Engine<T> {
         ensures ample { IfOk result (λ e. T.slots store ≡ None → 2 ^ 16 ≤ e.spare) }
         ensures sound { T.tells → OnOk result (CanOpen (T.shape_of store) (T.blocks store) (T.lsn store)) }
         ensures none { T.tells → IfErr result (λ r. r.0 ≡ OpenFault.NotAStore
-            → CanOpen (T.shape_of store) (T.blocks store) (T.lsn store) → ⊥) }
+            → ¬ CanOpen (T.shape_of store) (T.blocks store) (T.lsn store)) }
         ensures no_memory { T.tells → IfErr result (λ r. r.0 ≡ OpenFault.NoMemory
             → MayOpen (T.shape_of store) (T.blocks store) (T.lsn store)) }
         ensures counted_ok { IfOk result (λ e. T.faults e.store ≡ T.faults store) }

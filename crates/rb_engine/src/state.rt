@@ -17,7 +17,7 @@ ghost use Rattle.rb_engine.specs.Kept.{has_name, IsPlace, last_end};
 
 use crate::cursor::Cursor;
 use arrayvec::ArrayVec;
-use rb_base::{NoMemory, Scn, Shape, VALUE_BYTES};
+use rb_base::{NoMemory, Scn, Shape, VALUE_BYTES, array_of};
 use rb_model::{Fetched, Name, Op, Refusal, Row};
 use rb_versions::{Query, RowChange, RowKind, Versions};
 use std::alloc::Global;
@@ -81,11 +81,7 @@ fn position_of(cursors: &[Cursor], name: &[u8]) -> Option<usize>
 fn name_bytes(name: &Name) -> ArrayVec<u8, 16>
     ensures { result.items ≡ name_text name.now }
 {
-    let mut bytes = ArrayVec::new();
-    if bytes.try_extend_from_slice(name.as_bytes()).is_err() {
-        unreachable!()
-    }
-    bytes
+    array_of(name.as_bytes())
 }
 
 /// Puts a change's key and value into the caller's row, where it makes a row.
@@ -102,10 +98,7 @@ fn fill(row: &mut Row, change: &RowChange)
         unreachable!()
     };
     row.key = change.key;
-    row.value.clear();
-    if row.value.try_extend_from_slice(value.as_slice()).is_err() {
-        unreachable!()
-    }
+    row.value = array_of(value.as_slice());
 }
 
 /// Notes the key of the last row that a cursor gave.

@@ -48,7 +48,7 @@ fn read_patch(bytes: &[u8]) -> Option<(Found<'_>, &[u8])>
 /// The group whose spelling the bytes are. None exactly where they are the spelling of none.
 pub fn decode(bytes: &[u8]) -> Option<Group>
     ensures found { IfSome result (SpellsGroup bytes.now) }
-    ensures none { IfNone result ((patches : List Patch) → SpellsGroup bytes.now patches → ⊥) }
+    ensures none { IfNone result ((patches : List Patch) → ¬ SpellsGroup bytes.now patches) }
 {
     if bytes.len() < 2 || bytes.len() > GROUP_BYTES {
         return None;

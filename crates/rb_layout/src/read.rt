@@ -43,7 +43,7 @@ impl Layout {
 fn layout_of(front: &[u8]) -> Option<Layout>
     requires { length front.now ≡ 24 }
     ensures found { IfSome result (λ l. front.now ≡ identity VERSION l) }
-    ensures none { IfNone result ((l : Layout) → front.now ≡ identity VERSION l → ⊥) }
+    ensures none { IfNone result ((l : Layout) → ¬ (front.now ≡ identity VERSION l)) }
 {
     let layout = Layout::new(
         u16_at(front, 12),

@@ -42,7 +42,7 @@ fn are_below(group: &Group, blocks: u32) -> bool
 fn group_in(layout: &Layout, unit: &[u8], number: Lsn) -> Option<Group>
     requires { length unit.now ≡ UNIT }
     ensures found { IfSome result (HasGroup layout.now unit.now number) }
-    ensures none { IfNone result ((group : List Patch) → HasGroup layout.now unit.now number group → ⊥) }
+    ensures none { IfNone result ((group : List Patch) → ¬ HasGroup layout.now unit.now number group) }
 {
     let length = usize::from(u16_at(unit, LENGTH));
     if length > GROUP_BYTES || u64_at(unit, NUMBER) != number {
@@ -64,7 +64,7 @@ pub fn group_of(layout: &Layout, unit: &[u8], number: Lsn) -> Result<Option<Grou
     ensures valid { IfOk result (λ o. IfSome o (IsLoggable layout.now)) }
     ensures shut { IfOk result (λ o. IfNone o (slice_index unit.now 0 ≢ 1)) }
     ensures opened { OnErr result (slice_index unit.now 0 ≡ 1) }
-    ensures faulty { OnErr result ((group : List Patch) → HasGroup layout.now unit.now number group → ⊥) }
+    ensures faulty { OnErr result ((group : List Patch) → ¬ HasGroup layout.now unit.now number group) }
     ensures fault { IfErr result (λ e. e ≡ OpenFault.NotAStore) }
 {
     if unit[0] != 1 {

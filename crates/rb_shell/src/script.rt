@@ -122,7 +122,7 @@ fn run_engine<S: Source, K: Sink, T: Store>(
 fn open_engine<D: Disk>(alloc: Global, disk: D) -> Result<Engine<LapStore<D>>, (OpenFault, D)>
     ensures opened { D.tells → IfOk result
         (λ e. HasOpened D.Disk ⟦<LapStore<D> as Store>⟧ disk e) }
-    ensures none { D.tells → IfErr result (λ r. r.0 ≡ OpenFault.NotAStore → IsSound (D.content disk) → ⊥) }
+    ensures none { D.tells → IfErr result (λ r. r.0 ≡ OpenFault.NotAStore → ¬ IsSound (D.content disk)) }
     ensures images { D.tells → IfErr result (λ r. WasStopped D.Disk disk r.1) }
     ensures left_alone { D.tells → IfErr result
         (λ r. r.0 ≢ OpenFault.Failed → LeftAlone D.Disk disk r.1) }

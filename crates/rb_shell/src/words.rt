@@ -29,7 +29,7 @@ pub enum Request {
 /// in their ranges and in decimal without leading zeros. None where they are spelled otherwise.
 pub fn parse_words(words: &[String]) -> Option<Request>
     ensures found { IfSome result (λ request. AskFor words.now request) }
-    ensures none { IfNone result ((request : Request) → AskFor words.now request → ⊥) }
+    ensures none { IfNone result ((request : Request) → ¬ AskFor words.now request) }
 {
     let [file, command, parameters @ ..] = words else {
         return None;

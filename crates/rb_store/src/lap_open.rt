@@ -233,8 +233,8 @@ fn open_parts<D: Disk>(alloc: Global, disk: &mut D) -> Result<Parts, OpenFault>
         → Rests D.Disk disk.old disk.new }
     ensures no_memory { D.tells → IsErrOf result OpenFault.NoMemory
         → Rests D.Disk disk.old disk.new }
-    ensures nothing { D.tells → OnErr result (((l : Layout) (b : List (List ℕ)) → OpensTo l (D.content disk.old) b
-        → ⊥) → Rests D.Disk disk.old disk.new) }
+    ensures nothing { D.tells → OnErr result (((l : Layout) (b : List (List ℕ))
+        → ¬ OpensTo l (D.content disk.old) b) → Rests D.Disk disk.old disk.new) }
 {
     let layout = synced_layout(disk)?;
     let mut scan = scan_file(alloc, disk, &layout)?;
@@ -254,7 +254,7 @@ impl<D: Disk> LapStore<D> {
         ensures few { IfOk result (λ s. s.lsn < s.layout.log) }
         ensures going { IfOk result (λ s. s.failed ≡ false) }
         ensures none { D.tells → IfErr result (λ r. r.0 ≡ OpenFault.NotAStore
-            → (l : Layout) (b : List (List ℕ)) → OpensTo l (D.content disk) b → ⊥) }
+            → (l : Layout) (b : List (List ℕ)) → ¬ OpensTo l (D.content disk) b) }
         ensures counted_ok { IfOk result (λ s. D.faults s.disk ≡ D.faults disk) }
         ensures counted_err { IfErr result (λ r. IsCountedAs (D.faults disk) (D.faults r.1) (is_failed r.0)) }
         ensures any_moment_ok { D.tells → IfOk result (λ s. (l : Layout) (b : List (List ℕ))
@@ -268,7 +268,7 @@ impl<D: Disk> LapStore<D> {
         ensures no_memory { D.tells → IfErr result (λ r. r.0 ≡ OpenFault.NoMemory
             → Rests D.Disk disk r.1) }
         ensures nothing { D.tells → IfErr result (λ r. ((l : Layout) (b : List (List ℕ))
-            → OpensTo l (D.content disk) b → ⊥) → Rests D.Disk disk r.1) }
+            → ¬ OpensTo l (D.content disk) b) → Rests D.Disk disk r.1) }
     {
         let mut disk = disk;
         match open_parts(alloc, &mut disk) {
