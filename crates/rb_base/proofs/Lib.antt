@@ -5,6 +5,7 @@ pub mod Decimals
 pub mod Each
 pub mod Fronts
 pub mod Groups
+pub mod Listed
 pub mod OneBlock
 pub mod Overwriting
 pub mod Written

@@ -3,7 +3,8 @@ ghost use Rattle.std.specs.Prelude.{◌≡◌, ◌^◌};
 ghost use Rattle.rb_base.specs.Blocks.{OneBlock};
 
 use crate::sizes::{
-    BLOCK_HEAD, GROUP_BYTES, GROUP_PATCHES, SEGMENT_BLOCKS, UNIT, VALUE_BYTES, WORN,
+    ACTIVE, BLOCK_HEAD, FIRST_AT, GROUP_BYTES, GROUP_PATCHES, SEGMENT_BLOCKS, SLOT_BYTES, SLOTS,
+    TOUCHED_AT, UNIT, VALUE_BYTES, WORN,
 };
 
 /// What a group makes of one block: the patches of it that are of the block, written over it in order, behind its head.
@@ -17,6 +18,8 @@ pub fn form_sizes()
     ensures unit { UNIT ≡ 2048 }
     ensures block_head { BLOCK_HEAD ≡ 32 }
     ensures segment { SEGMENT_BLOCKS ≡ 33 }
+    ensures slots { (SLOTS ≡ 16) × (SLOT_BYTES ≡ 64) }
+    ensures slot_parts { (ACTIVE ≡ 1) × (TOUCHED_AT ≡ 1) × (FIRST_AT ≡ 48) }
     ensures patches { GROUP_PATCHES ≡ 40 }
     ensures group { GROUP_BYTES ≡ 2000 }
     ensures value { VALUE_BYTES ≡ 80 }

@@ -1,7 +1,8 @@
-//! What every crate of the workspace shares: faults, ids, the fields of a unit, groups of patches, the store that they
-//! patch, and decimal numbers.
+//! What every crate of the workspace shares: faults, ids, the fields of a unit, addresses of undo records, groups of
+//! patches, the store that they patch, and decimal numbers.
 #![tactic(auto)]
 
+mod addresses;
 mod bytes;
 mod decimal;
 mod faults;
@@ -13,6 +14,7 @@ mod shape;
 mod sizes;
 mod store;
 
+pub use addresses::{put_uba, uba_at};
 pub use bytes::array_of;
 pub use decimal::parse_decimal;
 pub use faults::{Failed, NoMemory, OpenFault};
@@ -21,5 +23,8 @@ pub use group::Group;
 pub use ids::{BlockNo, Lsn, Scn, Uba, Xid};
 pub use laws::{form_sizes, one_block};
 pub use shape::Shape;
-pub use sizes::{BLOCK_HEAD, GROUP_BYTES, GROUP_PATCHES, SEGMENT_BLOCKS, UNIT, VALUE_BYTES, WORN};
+pub use sizes::{
+    ACTIVE, BLOCK_HEAD, FIRST_AT, GROUP_BYTES, GROUP_PATCHES, SEGMENT_BLOCKS, SLOT_BYTES, SLOTS,
+    TOUCHED_AT, UNIT, VALUE_BYTES, WORN,
+};
 pub use store::Store;

@@ -9,6 +9,21 @@ pub const BLOCK_HEAD: usize = 32;
 /// The blocks of a segment: its header and eight extents of four.
 pub const SEGMENT_BLOCKS: u32 = 33;
 
+/// The table slots of a segment. They are the first in its header.
+pub const SLOTS: usize = 16;
+
+/// The bytes of a table slot.
+pub const SLOT_BYTES: usize = 64;
+
+/// The state of a table slot whose transaction runs. Any other is of one that ended, or of none.
+pub const ACTIVE: u8 = 1;
+
+/// Where in its table slot the bits stand that tell which extents hold a record of the transaction.
+pub const TOUCHED_AT: usize = 1;
+
+/// Where in its table slot the number stands that the extent of the transaction's first record has.
+pub const FIRST_AT: usize = 48;
+
 /// The most patches of a group.
 pub const GROUP_PATCHES: usize = 40;
 

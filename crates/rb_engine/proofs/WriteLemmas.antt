@@ -17,6 +17,7 @@ use Rattle.rb_heap.proofs.Reading.{cells_counted, cell_read}
 use Rattle.rb_model.specs.Answers.{action_of}
 use Rattle.rb_model.specs.Full.{used_keys, full_block}
 use Rattle.rb_model.specs.Reply.{Write, change_by, after_grant, rows_now}
+use Rattle.rb_model.specs.Change.{no_place}
 use Rattle.rb_model.specs.Rows.{TableRow, has_row, value_of, changed_by, last_scn}
 use Rattle.rb_model.specs.State.{State, session_of}
 use Rattle.rb_model.specs.declared.op.Op.{Op}
@@ -124,7 +125,7 @@ module _ (shape : Shape) (blocks : List (List ℕ)) (n : ℕ) (rows : List Table
             ∙ ap (λ (value : Option (List ℕ)). if (t == table) && (k == key) then value else value_of t k rows) (value_after_same table key op (value_of t k rows))
             ∙ sym (value_changed shape.blocks t k table key kind rows);
         tables = tables_changed shape.tables shape.blocks table key kind rows first last held.tables;
-        order = ordered-over shape.blocks rows (record { table = table; key = key; kind = kind; place = None } ∷ []) held.order;
+        order = ordered-over shape.blocks rows (record { table = table; key = key; kind = kind; place = no_place } ∷ []) held.order;
       }
 
 -- of a state with one session: what its blocks hold after a write

@@ -1,6 +1,5 @@
 pub mod Blocks
 pub mod Fresh
-pub mod Listed
 pub mod Patching
 pub mod Ranges
 pub mod Reading

@@ -12,7 +12,7 @@ use Rattle.rb_itl.specs.declared.slots.Entry.{Entry}
 use Rattle.rb_itl.specs.Entries.{entry_place, entry_of, entry_at, with_entry, free_entry, IsEntry}
 use Rattle.rb_itl.proofs.Places.{own_read, others_kept, entry_kept_outside}
 use Rattle.rb_heap.specs.Homes.{home_of, empty_cell, home_cell, with_home_entry, with_home_cell, with_home_lock}
-use Rattle.rb_heap.proofs.Listed.{listed_same, listed_set}
+use Rattle.rb_base.proofs.Listed.{listed_same, listed_set}
 use Rattle.rb_heap.proofs.Reading.{cell_read}
 
 -- A home is read behind the head alone.

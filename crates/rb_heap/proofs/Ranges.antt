@@ -55,9 +55,7 @@ entry_fits block i is =
       slot = two_fit bytes 6 h;
       wrap = eight_fit bytes 8 h;
       number = eight_fit bytes 16 h;
-      block = four_fit bytes 24 h;
-      rec = two_fit bytes 28 h;
-      ord = eight_fit bytes 32 h;
+      newest = record { block = four_fit bytes 24 h; rec = two_fit bytes 28 h; ord = eight_fit bytes 32 h };
       length = four_fit bytes 40 h;
     }
 

@@ -2,13 +2,12 @@
 use Rattle.std.specs.Prelude.{◌≡◌, ◌≢◌, ℕ, ◌-◌, ◌%◌, ◌<◌, ◌≤◌, true, false, List}
 use Rattle.rb_base.specs.declared.shape.Shape.{Shape}
 use Rattle.rb_cell.specs.declared.cell.Cell.{Cell}
-use Rattle.rb_base.specs.declared.sizes.TheConstants.{VALUE_BYTES}
+use Rattle.rb_base.specs.declared.sizes.TheConstants.{SLOTS, VALUE_BYTES}
 use Rattle.rb_cell.specs.declared.cell.TheConstants.{CELLS, EMPTY, STUB}
 use Rattle.rb_cell.specs.Cells.{cell_at, value_length}
 use Rattle.rb_itl.specs.declared.slots.Entry.{Entry}
 use Rattle.rb_itl.specs.declared.slots.TheConstants.{BOUND, CHAIN_RECORDS, ENTRIES, FREE}
 use Rattle.rb_itl.specs.Entries.{entry_at}
-use Rattle.rb_txntable.specs.declared.slots.TheConstants.{SLOTS}
 use Rattle.rb_heap.specs.Homes.{is_keyed}
 
 -- An entry of a transaction: what it names is there, and its numbers are ones that were given.

@@ -36,9 +36,9 @@ read_back e h =
     let slot : number_at bytes 6 2 ≡ e.xid.slot = big_number-reads_back 2 e.xid.slot (drop 8 bytes) h.slot in
     let wrap : number_at bytes 8 8 ≡ e.xid.wrap = big_number-reads_back 8 e.xid.wrap (drop 16 bytes) h.wrap in
     let number : number_at bytes 16 8 ≡ e.number = big_number-reads_back 8 e.number (drop 24 bytes) h.number in
-    let block : number_at bytes 24 4 ≡ e.newest.block = big_number-reads_back 4 e.newest.block (drop 28 bytes) h.block in
-    let rec : number_at bytes 28 2 ≡ e.newest.rec = big_number-reads_back 2 e.newest.rec (drop 30 bytes) h.rec in
-    let ord : number_at bytes 32 8 ≡ e.newest.ord = big_number-reads_back 8 e.newest.ord (drop 40 bytes) h.ord in
+    let block : number_at bytes 24 4 ≡ e.newest.block = big_number-reads_back 4 e.newest.block (drop 28 bytes) h.newest.block in
+    let rec : number_at bytes 28 2 ≡ e.newest.rec = big_number-reads_back 2 e.newest.rec (drop 30 bytes) h.newest.rec in
+    let ord : number_at bytes 32 8 ≡ e.newest.ord = big_number-reads_back 8 e.newest.ord (drop 40 bytes) h.newest.ord in
     let length : number_at bytes 40 4 ≡ e.length = big_number-reads_back 4 e.length (drop 44 bytes) h.length in
     rw (seg, slot, wrap, number, block, rec, ord, length) refl
 

@@ -2,8 +2,8 @@
 use Rattle.std.specs.Prelude.{◌≡◌, ◌≢◌, ◌⊎◌, ℕ, ◌+◌, ◌*◌, ◌^◌, ◌<◌, ◌≤◌, List}
 use Rattle.std.specs.Prelude.{◌∷◌, ◌++◌, length, drop, replicate, slice_index}
 use Rattle.byteorder.specs.Endian.{big_bytes}
+use Rattle.rb_base.specs.Addresses.{uba_at, uba_bytes, no_uba, IsUba}
 use Rattle.rb_base.specs.Fields.{part, number_at, overwritten}
-use Rattle.rb_base.specs.declared.ids.Uba.{Uba}
 use Rattle.rb_base.specs.declared.ids.Xid.{Xid}
 use Rattle.rb_base.specs.declared.sizes.TheConstants.{BLOCK_HEAD, UNIT}
 use Rattle.rb_itl.specs.declared.slots.Entry.{Entry}
@@ -16,10 +16,6 @@ entry_place i = BLOCK_HEAD + ENTRY_BYTES * i
 abbrev pub xid_bytes : Xid → List ℕ
 xid_bytes x = big_bytes 2 x.seg ++ big_bytes 2 x.slot ++ big_bytes 8 x.wrap
 
--- the address of an undo record, with two bytes of no meaning
-abbrev pub uba_bytes : Uba → List ℕ
-uba_bytes u = big_bytes 4 u.block ++ big_bytes 2 u.rec ++ replicate 2 0 ++ big_bytes 8 u.ord
-
 -- the 48 bytes of an entry
 abbrev pub entry_bytes : Entry → List ℕ
 entry_bytes e = e.kind ∷ replicate 3 0 ++ xid_bytes e.xid ++ big_bytes 8 e.number ++ uba_bytes e.newest
@@ -31,7 +27,7 @@ entry_of bytes = record {
   kind = slice_index bytes 0;
   xid = record { seg = number_at bytes 4 2; slot = number_at bytes 6 2; wrap = number_at bytes 8 8 };
   number = number_at bytes 16 8;
-  newest = record { block = number_at bytes 24 4; rec = number_at bytes 28 2; ord = number_at bytes 32 8 };
+  newest = uba_at bytes 24;
   length = number_at bytes 40 4;
 }
 
@@ -50,9 +46,7 @@ pub record IsEntry (e : Entry) : Type 0 where
   pub slot : e.xid.slot < 2 ^ 16
   pub wrap : e.xid.wrap < 2 ^ 64
   pub number : e.number < 2 ^ 64
-  pub block : e.newest.block < 2 ^ 32
-  pub rec : e.newest.rec < 2 ^ 16
-  pub ord : e.newest.ord < 2 ^ 64
+  pub newest : IsUba e.newest
   pub length : e.length < 2 ^ 32
 
 -- an entry's bytes, read, are the entry
@@ -65,7 +59,7 @@ free_entry = record {
   kind = 0;
   xid = record { seg = 0; slot = 0; wrap = 0 };
   number = 0;
-  newest = record { block = 0; rec = 0; ord = 0 };
+  newest = no_uba;
   length = 0;
 }
 

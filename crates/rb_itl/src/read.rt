@@ -3,7 +3,7 @@ ghost use Rattle.std.specs.Prelude.{◌≡◌, ◌<◌, length};
 ghost use Rattle.rb_itl.specs.Entries.{entry_at};
 
 use crate::slots::{ENTRIES, ENTRY_BYTES, Entry};
-use rb_base::{BLOCK_HEAD, UNIT, Uba, Xid, u16_at, u32_at, u64_at};
+use rb_base::{BLOCK_HEAD, UNIT, Xid, u16_at, u32_at, u64_at, uba_at};
 
 /// The entry at place `i`, 0 to 7, of a block of 2,048 bytes. Bytes that have no meaning in an entry aren't looked at.
 pub fn entry(block: &[u8], i: u8) -> Entry
@@ -21,11 +21,7 @@ pub fn entry(block: &[u8], i: u8) -> Entry
             wrap: u64_at(bytes, 8),
         },
         number: u64_at(bytes, 16),
-        newest: Uba {
-            block: u32_at(bytes, 24),
-            rec: u16_at(bytes, 28),
-            ord: u64_at(bytes, 32),
-        },
+        newest: uba_at(bytes, 24),
         length: u32_at(bytes, 40),
     }
 }

@@ -4,7 +4,9 @@ ghost use Rattle.rb_base.specs.Groups.{patch, group_length};
 ghost use Rattle.rb_itl.specs.Entries.{entry_place, entry_bytes};
 
 use crate::slots::{ENTRIES, ENTRY_BYTES, Entry};
-use rb_base::{BLOCK_HEAD, BlockNo, GROUP_BYTES, GROUP_PATCHES, Group, put_u16, put_u32, put_u64};
+use rb_base::{
+    BLOCK_HEAD, BlockNo, GROUP_BYTES, GROUP_PATCHES, Group, put_u16, put_u32, put_u64, put_uba,
+};
 
 /// The bytes of an entry. Those that have no meaning are 0.
 fn bytes_of(entry: &Entry) -> [u8; ENTRY_BYTES]
@@ -16,9 +18,7 @@ fn bytes_of(entry: &Entry) -> [u8; ENTRY_BYTES]
     put_u16(&mut bytes, 6, entry.xid.slot);
     put_u64(&mut bytes, 8, entry.xid.wrap);
     put_u64(&mut bytes, 16, entry.number);
-    put_u32(&mut bytes, 24, entry.newest.block);
-    put_u16(&mut bytes, 28, entry.newest.rec);
-    put_u64(&mut bytes, 32, entry.newest.ord);
+    put_uba(&mut bytes, 24, entry.newest);
     put_u32(&mut bytes, 40, entry.length);
     bytes
 }

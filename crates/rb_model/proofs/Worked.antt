@@ -1,9 +1,9 @@
 -- The definitions computed on worked rows.
-use Rattle.std.proofs.Common.{◌≡◌, ℕ, List, [], ◌∷◌, map, false, refl, arith, None}
+use Rattle.std.proofs.Common.{◌≡◌, ℕ, List, [], ◌∷◌, map, false, refl, arith}
 use Rattle.std.specs.Prelude.{codes}
 use Rattle.std.proofs.lemmas.Fmt.{decimal_digit}
 use Rattle.std.specs.List.{range_with_len}
-use Rattle.rb_model.specs.Change.{put, Gone, Held}
+use Rattle.rb_model.specs.Change.{put, no_place, Gone, Held}
 use Rattle.rb_model.specs.Rows.{over, answer}
 use Rattle.rb_model.specs.State.{State, fresh_session}
 use Rattle.rb_model.specs.Reply.{Call, Insert, Update, Delete, Write, Commit, OpenCursor, Fetch, Done, Numbered, Given, End, Refused, granted, first_of, early_tests, later_tests, after, groups}
@@ -64,7 +64,7 @@ in_scan_order : answer 2 (record { base = 0; rows = []; list = (put 1 1 a ∷ pu
 in_scan_order = refl
 
 -- a row that is gone is not answered, and one that is held stays
-gone_and_held : over 2 [] (put 1 1 a ∷ put 1 2 b ∷ record { table = 1; key = 1; kind = Gone; place = None } ∷ record { table = 1; key = 2; kind = Held; place = None } ∷ [])
+gone_and_held : over 2 [] (put 1 1 a ∷ put 1 2 b ∷ record { table = 1; key = 1; kind = Gone; place = no_place } ∷ record { table = 1; key = 2; kind = Held; place = no_place } ∷ [])
     ≡ record { table = 1; key = 2; value = b } ∷ []
 gone_and_held = refl
 

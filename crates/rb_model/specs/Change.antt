@@ -1,5 +1,5 @@
 -- What a commit is made of.
-use Rattle.std.specs.Prelude.{ℕ, List, Option, None}
+use Rattle.std.specs.Prelude.{ℕ, List}
 
 pub data Kind : Type 0 where
   -- the row has this value from now on
@@ -18,13 +18,17 @@ pub record Change : Type 0 where
   pub table : ℕ
   pub key : ℕ
   pub kind : Kind
-  -- where what was before it is kept, if anywhere
-  pub place : Option Place
+  -- where what was before it is kept
+  pub place : Place
+
+-- the place of a change whose before is kept nowhere: records count from 1
+abbrev pub no_place : Place
+no_place = record { seg = 0; index = 0 }
 
 -- the change that gives a key a value
 abbrev pub put : ℕ → ℕ → List ℕ → Change
-put table key value = record { table = table; key = key; kind = Put value; place = None }
+put table key value = record { table = table; key = key; kind = Put value; place = no_place }
 
 -- the change that takes a key's row away
 abbrev pub gone : ℕ → ℕ → Change
-gone table key = record { table = table; key = key; kind = Gone; place = None }
+gone table key = record { table = table; key = key; kind = Gone; place = no_place }

@@ -1,7 +1,10 @@
 pub mod Answers
+pub mod Book
+pub mod BookLaws
 pub mod Change
 pub mod Full
 pub mod Lines
+pub mod Machine
 pub mod NameTest
 pub mod Names
 pub mod Out

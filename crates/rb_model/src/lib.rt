@@ -2,6 +2,7 @@
 #![tactic(auto)]
 
 mod answer;
+mod laws;
 mod name;
 mod op;
 mod refusal;
@@ -9,6 +10,7 @@ mod row;
 mod wrote;
 
 pub use answer::Answer;
+pub use laws::book_laws;
 pub use name::Name;
 pub use op::Op;
 pub use refusal::Refusal;

@@ -1,6 +1,8 @@
-//! Reads what a segment's header says of its extents. rb_sound calls it as it tests a header.
+//! Reads what a segment's header says of its extents. rb_sound calls it as it tests a header, and `turns` as it looks
+//! for the extent of the next turn.
 ghost use Rattle.std.specs.Prelude.{◌≡◌, ◌<◌, length};
-ghost use Rattle.rb_ring.specs.Ring.{extent_place, extent_ord, extent_newest, head_extent, head_records, lost_number};
+ghost use Rattle.rb_ring.specs.Ring.{extent_place, extent_ord, extent_newest, extent_at};
+ghost use Rattle.rb_ring.specs.Ring.{head_extent, head_records, record_count, lost_number};
 
 use rb_base::{Scn, UNIT, u16_at, u64_at};
 
@@ -25,11 +27,23 @@ pub const HEAD_AT: usize = 1312;
 /// Where a header says how many records the head has.
 pub const RECORDS_AT: usize = 1314;
 
+/// Where a header says how many records were made.
+pub const WRITES_AT: usize = 1320;
+
 /// Where a header has the greatest commit number that was lost.
 pub const LOST_AT: usize = 1328;
 
+/// An extent of a segment, as its header has it. Each field of one that was never in the ring is 0.
+#[derive(Clone, Copy, Debug, Default, PartialEq, Eq)]
+pub struct Extent {
+    /// The number of its turn, which is 0 outside of the ring.
+    pub ord: u64,
+    /// The greatest commit number with a record in it.
+    pub newest: Scn,
+}
+
 /// The byte of a header at which extent `e`, 0 to 7, begins.
-fn extent_place(e: usize) -> usize
+pub(crate) fn extent_place(e: usize) -> usize
     requires { e < EXTENTS }
     ensures { result ≡ extent_place e }
 {
@@ -56,6 +70,18 @@ pub fn extent_newest(header: &[u8], e: usize) -> Scn
     u64_at(header, extent_place(e) + NEWEST_AT)
 }
 
+/// Extent `e`, 0 to 7. The bytes that have no meaning in an extent aren't looked at.
+pub fn extent_at(header: &[u8], e: u8) -> Extent
+    requires header { length header.now ≡ UNIT }
+    requires place { e < EXTENTS }
+    ensures { result ≡ extent_at header.now e }
+{
+    Extent {
+        ord: extent_ord(header, e as usize),
+        newest: extent_newest(header, e as usize),
+    }
+}
+
 /// The extent that is the head.
 #[tactic(auto, unfolding(crate::specs::Ring::head_extent))]
 pub fn head_extent(header: &[u8]) -> u16
@@ -74,9 +100,18 @@ pub fn head_records(header: &[u8]) -> u16
     u16_at(header, RECORDS_AT)
 }
 
+/// How many records were made in the segment.
+#[tactic(auto, unfolding(crate::specs::Ring::record_count))]
+pub fn writes(header: &[u8]) -> u64
+    requires { length header.now ≡ UNIT }
+    ensures { result ≡ record_count header.now }
+{
+    u64_at(header, WRITES_AT)
+}
+
 /// The greatest commit number whose records were lost.
 #[tactic(auto, unfolding(crate::specs::Ring::lost_number))]
-pub fn lost_number(header: &[u8]) -> Scn
+pub fn lost(header: &[u8]) -> Scn
     requires { length header.now ≡ UNIT }
     ensures { result ≡ lost_number header.now }
 {

@@ -10,7 +10,8 @@ use Rattle.rb_base.specs.Groups.{Patch, patch}
 use Rattle.rb_base.proofs.Blocks.{block_long}
 use Rattle.rb_base.proofs.Fronts.{number_of_part}
 use Rattle.rb_ring.specs.Ring.{extent_place, extent_ord, extent_newest, head_extent, head_records, lost_number}
-use Rattle.rb_txntable.specs.Slots.{slot_place, slot_state, slot_wrap, slot_newest, slot_before}
+use Rattle.rb_base.specs.Addresses.{slot_place}
+use Rattle.rb_txntable.specs.Slots.{slot_state, slot_wrap, slot_newest, slot_before}
 use Rattle.rb_segment.specs.Segments.{commit_lsn, commit_scn, scn_patch}
 use Rattle.rb_segment.proofs.Numbers.{commit_above, commit_least}
 use Rattle.rb_txntable.proofs.Patched.{number_patched, number_kept, byte_kept, part_there, block_there, block_elsewhere}

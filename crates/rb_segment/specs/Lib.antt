@@ -1,1 +1,7 @@
+pub mod Books
+pub mod Calls
+pub mod Header
+pub mod MoveLaws
+pub mod Moves
+pub mod Running
 pub mod Segments

@@ -8,8 +8,8 @@ ghost use Rattle.rb_base.specs.Loads.{OnlyLoads};
 ghost use Rattle.rb_txntable.specs.Slots.{header_newest};
 ghost use Rattle.rb_segment.specs.Segments.{commit_scn, wrap_at, wrap_in};
 
-use rb_base::{Failed, Scn, Shape, Store};
-use rb_txntable::{SLOTS, newest_in, wraps_in};
+use rb_base::{Failed, SLOTS, Scn, Shape, Store};
+use rb_txntable::{newest_in, wraps_in};
 
 /// The most segments of a file.
 pub const SEGMENTS: usize = 16;

@@ -2,12 +2,12 @@
 use Rattle.std.specs.Prelude.{ℕ, ◌%◌, ◌<◌, ◌≤◌, List}
 use Rattle.rb_base.specs.Blocks.{block_of, header_block, table_blocks}
 use Rattle.rb_base.specs.declared.shape.Shape.{Shape}
+use Rattle.rb_base.specs.declared.sizes.TheConstants.{SLOTS}
 use Rattle.rb_heap.specs.Soundness.{IsHomeSound}
 use Rattle.rb_ring.specs.Ring.{extent_ord, extent_newest, head_extent, head_records, lost_number, IsRing}
 use Rattle.rb_ring.specs.declared.extents.TheConstants.{EXTENTS, EXTENT_RECORDS}
 use Rattle.rb_segment.specs.Segments.{commit_scn, wrap_at}
 use Rattle.rb_txntable.specs.Slots.{IsSlot}
-use Rattle.rb_txntable.specs.declared.slots.TheConstants.{SLOTS}
 
 -- the header of a segment is in order, in a file of that commit number
 pub record IsSegment (commit : ℕ) (header : List ℕ) : Type 0 where

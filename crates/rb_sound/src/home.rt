@@ -8,12 +8,11 @@ ghost use Rattle.rb_heap.specs.Soundness.{IsTaken, IsEntrySound, IsLock, IsCellS
 ghost use Rattle.rb_heap.specs.Soundness.{IsFirstKeyed, AreKeysApart};
 ghost use Rattle.rb_segment.specs.Segments.{wrap_in};
 
-use rb_base::{Scn, Shape, UNIT, VALUE_BYTES};
+use rb_base::{SLOTS, Scn, Shape, UNIT, VALUE_BYTES};
 use rb_cell::{CELLS, Cell, EMPTY, ROW, STUB, cells, front, value_length};
 use rb_heap::find;
 use rb_itl::{BOUND, CHAIN_RECORDS, ENTRIES, Entry, FREE, entry};
 use rb_segment::SEGMENTS;
-use rb_txntable::SLOTS;
 
 /// How far the numbers of a file go.
 #[derive(Clone, Copy, Debug, PartialEq, Eq)]

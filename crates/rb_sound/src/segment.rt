@@ -4,11 +4,11 @@ ghost use Rattle.rb_ring.specs.Ring.{extent_ord, extent_newest, head_extent, IsN
 ghost use Rattle.rb_txntable.specs.Slots.{IsSlot};
 ghost use Rattle.rb_sound.specs.Sound.{IsSegment};
 
-use rb_base::{Scn, UNIT};
+use rb_base::{SLOTS, Scn, UNIT};
 use rb_ring::{
-    EXTENT_RECORDS, EXTENTS, extent_newest, extent_ord, head_extent, head_records, lost_number,
+    EXTENT_RECORDS, EXTENTS, extent_newest, extent_ord, head_extent, head_records, lost,
 };
-use rb_txntable::{SLOTS, slot_sound};
+use rb_txntable::slot_sound;
 
 /// Whether each table slot is in order.
 fn slots_sound(header: &[u8]) -> bool
@@ -144,6 +144,6 @@ pub fn segment_sound(header: &[u8], commit: Scn) -> bool
     ring_sound(header)
         && head_records(header) <= EXTENT_RECORDS
         && slots_sound(header)
-        && lost_number(header) <= commit
+        && lost(header) <= commit
         && extents_sound(header, commit)
 }

@@ -1,16 +1,14 @@
 //! Reads the table slots of a segment's header, and tests one. rb_segment reads the commit number and the wraps of a
 //! file by them, and rb_sound asks whether each is in order.
 ghost use Rattle.std.specs.Prelude.{IsTrue, ◌≡◌, ◌↔◌, ℕ, ◌<◌, length, slice_index};
-ghost use Rattle.rb_txntable.specs.Slots.{slot_place, newest_place, slot_state, slot_wrap, slot_newest, slot_before};
+ghost use Rattle.rb_base.specs.Addresses.{slot_place};
+ghost use Rattle.rb_txntable.specs.Slots.{newest_place, slot_state, slot_wrap, slot_newest, slot_before};
 ghost use Rattle.rb_txntable.specs.Slots.{header_newest, IsSlot};
 
-use rb_base::{BLOCK_HEAD, Scn, UNIT, u64_at};
+use rb_base::{BLOCK_HEAD, SLOT_BYTES, SLOTS, Scn, UNIT, Uba, u64_at};
 
-/// The table slots of a segment. They are the first in its header.
-pub const SLOTS: usize = 16;
-
-/// The bytes of a table slot.
-pub const SLOT_BYTES: usize = 64;
+/// Where in its slot the number of live records stands.
+pub const LIVE_AT: usize = 4;
 
 /// Where in its slot the wrap stands, how often the slot had been taken.
 pub const WRAP_AT: usize = 8;
@@ -21,11 +19,44 @@ pub const NEWEST_AT: usize = 16;
 /// Where in its slot the commit number before that one stands.
 pub const BEFORE_AT: usize = 24;
 
-/// The state of a table slot whose transaction has ended, the last of the states 0 to 3.
+/// Where in its slot the address of the newest live record stands.
+pub const RECORD_AT: usize = 32;
+
+/// Where in its slot the number of records stands that the segment had as the slot was taken.
+pub const START_AT: usize = 56;
+
+/// The state of a table slot whose transaction committed, with live records.
+pub const COMMITTED: u8 = 2;
+
+/// The state of a table slot whose transaction ended by a rollback, or without a change. It is the last of the states.
 pub const ENDED: u8 = 3;
 
+/// A table slot: one transaction at a time has it, and it keeps what became of the last one. Each field of one that was
+/// never taken is 0.
+#[derive(Clone, Copy, Debug, Default, PartialEq, Eq)]
+pub struct TableSlot {
+    /// 0 as long as it was never taken, then `ACTIVE`, `COMMITTED` or `ENDED`.
+    pub state: u8,
+    /// Bit e tells that extent e holds a record of the transaction.
+    pub touched: u8,
+    /// How many live records the transaction has.
+    pub live: u32,
+    /// How often the slot had been taken.
+    pub wrap: u64,
+    /// The greatest commit number given in it.
+    pub newest: Scn,
+    /// The commit number that was the newest as the transaction took the slot.
+    pub before: Scn,
+    /// The newest live record of the transaction.
+    pub newest_at: Uba,
+    /// The number of the extent that holds the transaction's first record.
+    pub first: u64,
+    /// How many records the segment had as the transaction took the slot.
+    pub start: u64,
+}
+
 /// The byte of a header at which table slot `i`, 0 to 15, begins.
-fn slot_place(i: usize) -> usize
+pub fn slot_place(i: usize) -> usize
     requires { i < SLOTS }
     ensures { result ≡ slot_place i }
 {

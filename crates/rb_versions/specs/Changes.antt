@@ -13,7 +13,7 @@ kind_of (Put value) = model.Put value.items
 kind_of Gone = model.Gone
 
 abbrev pub change_of : RowChange → Change
-change_of p = record { table = p.table; key = p.key; kind = kind_of p.kind; place = None }
+change_of p = record { table = p.table; key = p.key; kind = kind_of p.kind; place = model.no_place }
 
 abbrev pub changes_of : List RowChange → List Change
 changes_of changes = map change_of changes

@@ -1,0 +1,26 @@
+//! What holds of a segment's book, as clauses for proofs to cite. Nothing calls it.
+ghost use Rattle.rb_model.specs.BookLaws.{FreshIsSound, TakenIsSound, MarkedIsSound, FinishedIsSound, LeftIsSound};
+ghost use Rattle.rb_model.specs.BookLaws.{CountsRecords, KeepsLost, DropsOneTurn, DropsNoOwnersTurn, ReusesOneSlot};
+ghost use Rattle.rb_model.specs.BookLaws.{BeginsThere, BeginsAtOne, FullSince, KeepsSlots, KeepsNewest};
+
+/// A new book is sound, and each move keeps a book so. Records and what is lost never become fewer. What is lost rises
+/// only to the number of the oldest turn, in which no owner has made a record, or of the slot that is taken, which is
+/// the least of the free ones. One segment and slot is the one that a session takes, and in a full book an owner began
+/// 281 to 320 records ago.
+pub fn book_laws()
+    ensures fresh { FreshIsSound }
+    ensures taken { TakenIsSound }
+    ensures marked { MarkedIsSound }
+    ensures finished { FinishedIsSound }
+    ensures left { LeftIsSound }
+    ensures counted { CountsRecords }
+    ensures lost { KeepsLost }
+    ensures slots { KeepsSlots }
+    ensures newest { KeepsNewest }
+    ensures turn { DropsOneTurn }
+    ensures owned { DropsNoOwnersTurn }
+    ensures slot { ReusesOneSlot }
+    ensures begun { BeginsThere }
+    ensures one { BeginsAtOne }
+    ensures since { FullSince }
+{}
