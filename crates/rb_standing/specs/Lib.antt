@@ -1,0 +1,11 @@
+pub mod FirstWrite
+pub mod Forgotten
+pub mod Fresh
+pub mod NextStates
+pub mod Says
+pub mod Seen
+pub mod Standing
+pub mod StandingLaws
+pub mod States
+pub mod Values
+pub mod Writes

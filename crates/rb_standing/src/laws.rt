@@ -1,0 +1,39 @@
+//! What holds of the segments and homes that stand for commits and live changes, as clauses for proofs to cite. Nothing
+//! calls it.
+ghost use Rattle.rb_standing.specs.FirstWrite.{FirstWrite};
+ghost use Rattle.rb_standing.specs.StandingLaws.{WriteStands, BackStands, CommitStands, EndStands};
+ghost use Rattle.rb_standing.specs.StandingLaws.{WriteKeepsState, BackKeepsState, CommitKeepsState, EndKeepsState};
+ghost use Rattle.rb_standing.specs.StandingLaws.{ForgottenStands, FreshStands, FreshStateStands, FreshIsMet};
+ghost use Rattle.rb_standing.specs.StandingLaws.{OwedRises, OwedFallsByBack, OwedFallsByEnd, OwedFallsByCommit};
+ghost use Rattle.rb_standing.specs.StandingLaws.{ChosenReads, AddressTellsPlace, AddressReadsRecord};
+ghost use Rattle.rb_standing.specs.StandingLaws.{BlocksStandAsValues, CommitIsLogged};
+
+/// What segments and homes stand for is kept by each kind of group: a write has one live change more, a put back one
+/// less, a commit makes them the newest commit, and the end of a slot needs none to be left. The machine's state with
+/// its books goes along. A new file stands, and so does one whose past is forgotten. What is owed, the groups that
+/// would put back all that is live, rises and falls with the live changes. What a write chooses by its rules is what
+/// keeps its home. The address of a live change reads its record in the blocks of a file. A new file can be written, so
+/// what is asked of a write can be met.
+pub fn standing_laws()
+    ensures written { WriteStands }
+    ensures put_back { BackStands }
+    ensures committed { CommitStands }
+    ensures ended { EndStands }
+    ensures state_written { WriteKeepsState }
+    ensures write_met { FirstWrite }
+    ensures state_put_back { BackKeepsState }
+    ensures state_committed { CommitKeepsState }
+    ensures state_ended { EndKeepsState }
+    ensures forgotten { ForgottenStands }
+    ensures fresh { FreshStands }
+    ensures state_fresh { FreshStateStands × FreshIsMet }
+    ensures owed_written { OwedRises }
+    ensures owed_put_back { OwedFallsByBack }
+    ensures owed_ended { OwedFallsByEnd }
+    ensures owed_committed { OwedFallsByCommit }
+    ensures chosen { ChosenReads }
+    ensures place { AddressTellsPlace }
+    ensures addresses { AddressReadsRecord }
+    ensures blocks { BlocksStandAsValues }
+    ensures logged { CommitIsLogged }
+{}

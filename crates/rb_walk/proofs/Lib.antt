@@ -1,0 +1,14 @@
+pub mod Aging
+pub mod Bottom
+pub mod Changes
+pub mod Cleaning
+pub mod Committing
+pub mod Holding
+pub mod Homes
+pub mod Live
+pub mod Lives
+pub mod Showing
+pub mod Standing
+pub mod Turning
+pub mod Weaker
+pub mod Writing

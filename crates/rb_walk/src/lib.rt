@@ -1,0 +1,8 @@
+//! What the changes of one home stand for: its entries and cells, and the walk that takes the changes back, first the
+//! live ones and then commit by commit, down to the rows of each commit number. Here are definitions and, as laws, what
+//! is proved of them; no code calls it yet.
+#![tactic(auto)]
+
+mod laws;
+
+pub use laws::walk_laws;
