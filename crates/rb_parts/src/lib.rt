@@ -23,11 +23,19 @@ mod memdisk;
 #[cfg(test)]
 mod plainstore;
 #[cfg(test)]
+mod ring;
+#[cfg(test)]
 mod script;
+#[cfg(test)]
+mod segment;
 #[cfg(test)]
 mod sound;
 #[cfg(test)]
 mod stream;
+#[cfg(test)]
+mod txntable;
+#[cfg(test)]
+mod undoblock;
 #[cfg(test)]
 mod versions;
 #[cfg(test)]

@@ -1,0 +1,126 @@
+//! Table slots by their bytes, how a transaction stands by its slot, and which slot the next one takes.
+use rb_base::{ACTIVE, Group, Uba, Xid};
+use rb_txntable::{
+    COMMITTED, ENDED, Look, TableSlot, active, choose, look, put_slot, slot_at, write_slot,
+};
+
+/// The seventh transaction of its slot, as it committed at 9 with three live records, in extents 0 and 2.
+const SLOT: TableSlot = TableSlot {
+    state: COMMITTED,
+    touched: 0b101,
+    live: 3,
+    wrap: 7,
+    newest: 9,
+    before: 4,
+    newest_at: Uba {
+        block: 5,
+        rec: 3,
+        ord: 2,
+    },
+    first: 2,
+    start: 41,
+};
+
+const SLOT_BYTES: [u8; 64] = [
+    2, 5, 0, 0, 0, 0, 0, 3, // state, touched extents, live records
+    0, 0, 0, 0, 0, 0, 0, 7, // wrap
+    0, 0, 0, 0, 0, 0, 0, 9, // newest commit number
+    0, 0, 0, 0, 0, 0, 0, 4, // the one before
+    0, 0, 0, 5, 0, 3, 0, 0, // undo block, record
+    0, 0, 0, 0, 0, 0, 0, 2, // extent's number
+    0, 0, 0, 0, 0, 0, 0, 2, // the first record's extent
+    0, 0, 0, 0, 0, 0, 0, 41, // records before it
+];
+
+#[test]
+fn worked_slots(rt: HostRuntime) {
+    let rows = [
+        (0, 32, TableSlot::default(), [0; 64]),
+        (1, 96, SLOT, SLOT_BYTES),
+        (15, 992, SLOT, SLOT_BYTES),
+    ];
+    for (i, place, slot, bytes) in rows {
+        let mut expected = [0; 2048];
+        expected[place..place + 64].copy_from_slice(&bytes);
+        let mut header = [0; 2048];
+        write_slot(&mut header, i, &slot);
+        assert!(rt; header == expected);
+        assert_eq!(rt; slot_at(&header, i), slot);
+        let mut group = Group::new();
+        put_slot(&mut group, 10, i, &slot);
+        assert_eq!(rt; group.patch_block(0), 10);
+        assert_eq!(rt; group.patch_at(0) as usize, place);
+        assert_eq!(rt; group.patch_bytes(0), bytes.as_slice());
+    }
+}
+
+// By the slot's state and the wrap that is asked for, where the slot's own is 7.
+#[test]
+fn looks(rt: HostRuntime) {
+    let rows = [
+        (0, 8, Look::Active),
+        (ACTIVE, 8, Look::Active),
+        (COMMITTED, 8, Look::Active),
+        (ENDED, 8, Look::Active),
+        (ACTIVE, 7, Look::Active),
+        (COMMITTED, 7, Look::At(9)),
+        (ENDED, 7, Look::Before(9)),
+        (ACTIVE, 6, Look::Before(9)),
+        (COMMITTED, 6, Look::Before(4)),
+        (ENDED, 6, Look::Before(9)),
+        (COMMITTED, 0, Look::Before(4)),
+    ];
+    for (state, wrap, expected) in rows {
+        let xid = Xid {
+            seg: 0,
+            slot: 1,
+            wrap,
+        };
+        let mut header = [0; 2048];
+        write_slot(&mut header, 1, &TableSlot { state, ..SLOT });
+        assert_eq!(rt; look(&header, xid), expected);
+    }
+}
+
+/// A header of sixteen slots like this one.
+fn header_of_slots(slot: &TableSlot) -> [u8; 2048] {
+    let mut header = [0; 2048];
+    for i in 0..16 {
+        write_slot(&mut header, i, slot);
+    }
+    header
+}
+
+#[test]
+fn chosen_slots(rt: HostRuntime) {
+    // One slot after another is changed: those that run, and the one that is taken next.
+    let rows = [
+        (7, COMMITTED, 9, 0, 0),
+        (5, COMMITTED, 3, 0, 5),
+        (11, ENDED, 3, 0, 5),
+        (5, ACTIVE, 3, 1, 11),
+        (2, ENDED, 3, 1, 2),
+        (2, COMMITTED, 10, 1, 11),
+        (11, ACTIVE, 0, 2, 0),
+        (0, ACTIVE, 9, 3, 1),
+        (15, 0, 0, 3, 15),
+    ];
+    let mut header = header_of_slots(&SLOT);
+    for (i, state, newest, running, chosen) in rows {
+        let slot = TableSlot {
+            state,
+            newest,
+            ..SLOT
+        };
+        write_slot(&mut header, i, &slot);
+        assert_eq!(rt; active(&header), running);
+        assert_eq!(rt; choose(&header), Some(chosen));
+    }
+    let full = header_of_slots(&TableSlot {
+        state: ACTIVE,
+        ..SLOT
+    });
+    assert_eq!(rt; active(&full), 16);
+    assert_eq!(rt; choose(&full), None);
+    assert_eq!(rt; choose(&[0; 2048]), Some(0));
+}
