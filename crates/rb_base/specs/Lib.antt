@@ -1,9 +1,11 @@
 pub mod Addresses
 pub mod Blocks
+pub mod Copies
 pub mod Counts
 pub mod Fields
 pub mod Groups
 pub mod Heads
 pub mod Loads
+pub mod Logs
 pub mod Moments
 pub mod Stores

@@ -1,2 +1,3 @@
-pub mod CellBytes
 mod Writing
+pub mod CellBytes
+pub mod Lengths

@@ -8,5 +8,5 @@ mod write;
 
 pub use cell::{CELL_BYTES, CELLS, CELLS_AT, Cell, EMPTY, ROW, STUB};
 pub use laws::{cell_in_block, cell_sizes, lock_in_block};
-pub use read::{CellFront, cells, front, value_length};
-pub use write::{put_cell, put_lock};
+pub use read::{CellFront, cell_from, cells, front, value_length};
+pub use write::{put_cell, put_lock, write_cell, write_lock};

@@ -31,8 +31,9 @@ fn read_front(bytes: &[u8]) -> CellFront
     }
 }
 
-/// The cell that 92 bytes say.
-fn read_cell(bytes: &[u8]) -> Cell
+/// The cell that 92 bytes say, as an undo record keeps them. Where the length says more than 80, the value is all 80
+/// bytes.
+pub fn cell_from(bytes: &[u8]) -> Cell
     requires { length bytes.now ≡ CELL_BYTES }
     ensures { result ≡ cell_of bytes.now }
 {
@@ -65,7 +66,7 @@ pub fn cells(block: &[u8], c: u8) -> Cell
     ensures cell { result ≡ cell_at block.now c }
     ensures sound { IsCell result }
 {
-    read_cell(bytes_at(block, c))
+    cell_from(bytes_at(block, c))
 }
 
 /// The state, the lock and the key of cell `c`, 0 to 15, of a block of 2,048 bytes, whatever they are. Its value isn't

@@ -1,10 +1,10 @@
-//! Writes cells as patches of a group. rb_heap and rb_write call it.
+//! Writes cells, as patches of a group or into a copy of a block. rb_heap and rb_write call it.
 ghost use Rattle.std.specs.Prelude.{◌≡◌, ◌+◌, ◌≤◌, ◌<◌, [], ◌∷◌, ◌++◌, length};
 ghost use Rattle.rb_base.specs.Groups.{group_length};
-ghost use Rattle.rb_cell.specs.Cells.{cell_bytes, IsCell, cell_patch, lock_patch};
+ghost use Rattle.rb_cell.specs.Cells.{cell_bytes, IsCell, cell_patch, lock_patch, with_cell, with_lock};
 
 use crate::cell::{CELL_BYTES, CELLS, Cell, HEAD_BYTES, KEY_AT, LENGTH_AT, place_of};
-use rb_base::{BlockNo, GROUP_BYTES, GROUP_PATCHES, Group, put_u16, put_u64};
+use rb_base::{BlockNo, GROUP_BYTES, GROUP_PATCHES, Group, UNIT, put_u16, put_u64};
 
 /// The bytes of a cell, with zeros behind its value.
 fn bytes_of(cell: &Cell) -> [u8; CELL_BYTES]
@@ -42,4 +42,24 @@ pub fn put_lock(group: &mut Group, no: BlockNo, c: u8, lock: u8)
     ensures { group.new ≡ group.old ++ lock_patch no c lock ∷ [] }
 {
     group.push(no, place_of(c) + 1, &[lock]);
+}
+
+/// Writes the cell to place `c`, 0 to 15, of a copy of a block, and nothing else.
+pub fn write_cell(copy: &mut [u8], c: u8, cell: &Cell)
+    requires block { length copy.old ≡ UNIT }
+    requires within { c < CELLS }
+    ensures written { copy.new ≡ with_cell copy.old c cell.now }
+    ensures sound { IsCell cell.now }
+{
+    let at = place_of(c) as usize;
+    copy[at..at + CELL_BYTES].copy_from_slice(&bytes_of(cell));
+}
+
+/// Writes the lock of cell `c`, 0 to 15, of a copy of a block, and nothing else.
+pub fn write_lock(copy: &mut [u8], c: u8, lock: u8)
+    requires block { length copy.old ≡ UNIT }
+    requires within { c < CELLS }
+    ensures { copy.new ≡ with_lock copy.old c lock }
+{
+    copy[place_of(c) as usize + 1] = lock;
 }

@@ -16,7 +16,7 @@ use Rattle.rb_base.proofs.Listed.{listed_same, listed_set}
 use Rattle.rb_heap.proofs.Reading.{cell_read}
 
 -- A home is read behind the head alone.
-read_behind : (one other : List ℕ) (at more count : ℕ) → at ≡ 32 + more → behind_head one ≡ behind_head other → part one at count ≡ part other at count
+pub read_behind : (one other : List ℕ) (at more count : ℕ) → at ≡ 32 + more → behind_head one ≡ behind_head other → part one at count ≡ part other at count
 read_behind one other at more count split same = rw split (ap (take count) (sym (drop-drop more 32 one) ∙ ap (drop more) same ∙ drop-drop more 32 other))
 
 pub same_behind : (one other : List ℕ) → behind_head one ≡ behind_head other → home_of one ≡ home_of other

@@ -1,2 +1,4 @@
+pub mod Choices
+pub mod Cleaning
 pub mod Homes
 pub mod Soundness

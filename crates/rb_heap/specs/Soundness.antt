@@ -55,3 +55,8 @@ pub record IsHomeSound (shape : Shape) (commit : ℕ) (wrap_of : ℕ → ℕ
     → ℕ) (home : ℕ) (block : List ℕ) : Type 0 where
   pub entries : (i : ℕ) → i < ENTRIES → IsEntrySound shape commit wrap_of (entry_at block i)
   pub cells : AreCellsSound shape home block
+
+-- no value of a block is longer than one may be, if none was
+abbrev pub StaysShort : List ℕ → List ℕ → Type 0
+StaysShort before now = ((c : ℕ) → c < CELLS → value_length before c ≤ VALUE_BYTES)
+    → (c : ℕ) → c < CELLS → value_length now c ≤ VALUE_BYTES

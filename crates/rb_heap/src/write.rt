@@ -11,7 +11,7 @@ use rb_itl::{ENTRIES, ENTRY_BYTES, Entry, put_entry};
 
 /// The entry as it is.
 // For the proof: a field that is read is a number of its type, and so is each of what is passed by value.
-fn in_range(entry: Entry) -> Entry
+pub(crate) fn in_range(entry: Entry) -> Entry
     ensures same { result ≡ entry }
     ensures sound { IsEntry entry }
 {

@@ -8,6 +8,6 @@ mod slots;
 mod write;
 
 pub use laws::{entries_apart, entry_sizes};
-pub use read::entry;
+pub use read::{entry, entry_from};
 pub use slots::{BOUND, CHAIN_RECORDS, ENTRIES, ENTRY_BYTES, EXACT, Entry, FREE, OPEN};
-pub use write::put_entry;
+pub use write::{put_entry, write_entry};

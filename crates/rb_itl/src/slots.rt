@@ -1,5 +1,8 @@
-//! What a slot entry says. Readers and writers of heap blocks use it.
-use rb_base::{Uba, Xid};
+//! What a slot entry says, and where it stands in its block. Readers and writers of heap blocks use both.
+ghost use Rattle.std.specs.Prelude.{◌≡◌, ◌<◌};
+ghost use Rattle.rb_itl.specs.Entries.{entry_place};
+
+use rb_base::{BLOCK_HEAD, Uba, Xid};
 
 /// The slot entries of a block. They stand behind its head.
 pub const ENTRIES: u8 = 8;
@@ -36,4 +39,12 @@ pub struct Entry {
     pub newest: Uba,
     /// How many live undo records the transaction has for this block.
     pub length: u32,
+}
+
+/// The byte of its block at which entry `i` begins, 32 to 368.
+pub(crate) fn place_of(i: u8) -> usize
+    requires { i < ENTRIES }
+    ensures { result ≡ entry_place i }
+{
+    BLOCK_HEAD + ENTRY_BYTES * i as usize
 }

@@ -1,11 +1,11 @@
-//! Writes slot entries as patches. rb_heap calls it.
+//! Writes slot entries, as patches of a group or into a copy of a block. rb_heap calls it.
 ghost use Rattle.std.specs.Prelude.{◌≡◌, ◌+◌, ◌<◌, ◌≤◌, [], ◌∷◌, ◌++◌, length};
 ghost use Rattle.rb_base.specs.Groups.{patch, group_length};
-ghost use Rattle.rb_itl.specs.Entries.{entry_place, entry_bytes};
+ghost use Rattle.rb_itl.specs.Entries.{entry_place, entry_bytes, with_entry};
 
-use crate::slots::{ENTRIES, ENTRY_BYTES, Entry};
+use crate::slots::{ENTRIES, ENTRY_BYTES, Entry, place_of};
 use rb_base::{
-    BLOCK_HEAD, BlockNo, GROUP_BYTES, GROUP_PATCHES, Group, put_u16, put_u32, put_u64, put_uba,
+    BlockNo, GROUP_BYTES, GROUP_PATCHES, Group, UNIT, put_u16, put_u32, put_u64, put_uba,
 };
 
 /// The bytes of an entry. Those that have no meaning are 0.
@@ -30,6 +30,15 @@ pub fn put_entry(group: &mut Group, no: BlockNo, i: u8, entry: &Entry)
     requires room { group_length group.old + (8 + ENTRY_BYTES) ≤ GROUP_BYTES }
     ensures { group.new ≡ group.old ++ patch no (entry_place i) (entry_bytes entry.now) ∷ [] }
 {
-    let at = BLOCK_HEAD + ENTRY_BYTES * i as usize;
-    group.push(no, at as u16, &bytes_of(entry));
+    group.push(no, place_of(i) as u16, &bytes_of(entry));
+}
+
+/// Writes the entry to place `i`, 0 to 7, of a copy of a block, and nothing else.
+pub fn write_entry(copy: &mut [u8], i: u8, entry: &Entry)
+    requires block { length copy.old ≡ UNIT }
+    requires place { i < ENTRIES }
+    ensures { copy.new ≡ with_entry copy.old i entry.now }
+{
+    let at = place_of(i);
+    copy[at..at + ENTRY_BYTES].copy_from_slice(&bytes_of(entry));
 }
