@@ -1,0 +1,4 @@
+pub mod Cleaning
+pub mod Copies
+pub mod Grouped
+pub mod Looking
