@@ -14,7 +14,7 @@ use Rattle.rb_model.specs.State.{State, session_of}
 use Rattle.rb_engine.specs.Holds.{Holds}
 use Rattle.rb_engine.specs.Crash.{has_rows}
 use Rattle.rb_engine.specs.Restarts.{RestartsBy, EndsBy, whole, one_more, OnTheWayBy, reached, at_end, Extends, IsDurableBy, SurvivesBy, opens_of}
-use Rattle.rb_engine.proofs.KeptLemmas.{over-append}
+use Rattle.rb_model.proofs.Values.{over-append}
 
 -- commits are only added
 

@@ -34,9 +34,8 @@ use Rattle.rb_write.proofs.Placed.{row_block}
 use Rattle.rb_engine.specs.Found.{put_row, rows_below, rows_found, table_of, table_row}
 use Rattle.rb_engine.specs.Holds.{CanOpen, Holds, OpensAs}
 use Rattle.rb_engine.specs.declared.open.TheConstants.{AHEAD}
-use Rattle.rb_engine.proofs.FullLemmas.{distinct_once}
-use Rattle.rb_engine.proofs.KeptLemmas.{over-append}
-use Rattle.rb_engine.proofs.ValueLemmas.{value-with_row}
+use Rattle.rb_model.proofs.UsedKeys.{distinct_once}
+use Rattle.rb_model.proofs.Values.{over-append, value-with_row}
 
 -- the rows of a block, cell by cell
 

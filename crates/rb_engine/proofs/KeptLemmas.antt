@@ -8,22 +8,19 @@ use Rattle.std.specs.Str.{bytes_eq}
 use Rattle.std.specs.List.{flat_map, AllByRecursion}
 use Rattle.rb_base.specs.declared.shape.Shape.{Shape}
 use Rattle.rb_base.proofs.Each.{all_so}
-use Rattle.rb_model.specs.Change.{Change, put}
-use Rattle.rb_model.specs.Rows.{TableRow, over, rows_at, changed_by, with_row}
+use Rattle.rb_model.specs.Change.{put}
+use Rattle.rb_model.specs.Rows.{TableRow, over, rows_at, with_row}
 use Rattle.rb_model.specs.State.{State, Cursor, cursor_rows, with_taken, without_cursor, opened}
 use Rattle.rb_model.specs.Reply.{rows_now, with_own, committed, after_refusal}
 use Rattle.rb_model.specs.declared.refusal.Refusal.{Refusal}
 use Rattle.rb_model.specs.declared.refusal.Refusal.TheVariants.{DiskFault}
 use Rattle.rb_model.proofs.Stops.{other_refusal, refused_same}
+use Rattle.rb_model.proofs.Values.{over-append}
 use Rattle.rb_engine.specs.declared.cursor.Cursor.{Cursor as KeptCursor}
 use Rattle.rb_versions.specs.declared.change.RowChange.{RowChange}
 use Rattle.rb_versions.specs.Changes.{changes_of, change_of}
 use Rattle.rb_versions.specs.Next.{asked, given_count}
 use Rattle.rb_engine.specs.Kept.{last_end, Rising, between, cut, rows_of, end_at, cursor_view, state_view, IsOpened, IsMemory, IsPlace, has_name}
-
-pub over-append : (blocks : ℕ) (rows : List TableRow) (xs ys : List Change) → over blocks rows (xs ++ ys) ≡ over blocks (over blocks rows xs) ys
-over-append blocks rows [] ys = refl
-over-append blocks rows (x ∷ xs) ys = over-append blocks (changed_by blocks x.table x.key x.kind rows) xs ys
 
 -- the end of the last part is no earlier than the start
 pub last_end_le : (start : ℕ) (ends : List ℕ) → Rising start ends → start ≤ last_end start ends

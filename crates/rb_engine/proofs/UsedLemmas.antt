@@ -12,8 +12,9 @@ use Rattle.rb_model.specs.State.{State, Session, session_of, fresh_session}
 use Rattle.rb_model.specs.Full.{has_key, held, used_keys, full_block}
 use Rattle.rb_model.specs.Reply.{Action, Insert, Update, Delete, Call, Write, Answer, Done, Waits, Numbered, Given, End, Refused, adds, change_by, rows_now, after, after_grant, committed}
 use Rattle.rb_model.proofs.Stops.{sessions_refused}
-use Rattle.rb_engine.proofs.KeptLemmas.{over-append}
-use Rattle.rb_engine.proofs.FullLemmas.{distinct_within, is_of, rows_last, uses, used_has, used_home, distinct_used}
+use Rattle.rb_model.proofs.Values.{over-append}
+use Rattle.rb_model.proofs.UsedKeys.{distinct_within, rows_last, uses, used_has, used_home, distinct_used}
+use Rattle.rb_model.specs.Tests.{is_change}
 
 -- only the shape, the commits and the changes that sessions hold tell which keys are in use
 pub used_same : (h g : State) (t k : ℕ) → h.shape ≡ g.shape → h.commits ≡ g.commits → held h ≡ held g → used_keys h t k ≡ used_keys g t k
@@ -89,22 +90,22 @@ has-changed blocks t q table key (Put value) rows has = sym (has-with_row blocks
 has-changed blocks t q table key Gone rows has = or_second (table == t && key == q) (has_row t q rows) (has-filter t q (λ row. not (is_row_of table key row)) rows has)
 has-changed blocks t q table key Held rows has = or_second (table == t && key == q) (has_row t q rows) has
 
-pub has-over : (blocks t q : ℕ) (rows : List TableRow) (changes : List Change) → has_row t q (over blocks rows changes) ≡ true → (has_row t q rows || list_any (is_of t q) changes) ≡ true
+pub has-over : (blocks t q : ℕ) (rows : List TableRow) (changes : List Change) → has_row t q (over blocks rows changes) ≡ true → (has_row t q rows || list_any (is_change t q) changes) ≡ true
 has-over blocks t q rows [] has = or_first (has_row t q rows) false has
 has-over blocks t q rows (c ∷ changes) has =
     ⊎_elim
     (λ before. ⊎_elim
-    (λ here. or_second (has_row t q rows) (is_of t q c || list_any (is_of t q) changes) (or_first (is_of t q c) (list_any (is_of t q) changes) here))
-    (λ there. or_first (has_row t q rows) (is_of t q c || list_any (is_of t q) changes) there)
-    (or_cases (is_of t q c) (has_row t q rows) (has-changed blocks t q c.table c.key c.kind rows before)))
-    (λ later. or_second (has_row t q rows) (is_of t q c || list_any (is_of t q) changes) (or_second (is_of t q c) (list_any (is_of t q) changes) later))
-    (or_cases (has_row t q (changed_by blocks c.table c.key c.kind rows)) (list_any (is_of t q) changes)
+    (λ here. or_second (has_row t q rows) (is_change t q c || list_any (is_change t q) changes) (or_first (is_change t q c) (list_any (is_change t q) changes) here))
+    (λ there. or_first (has_row t q rows) (is_change t q c || list_any (is_change t q) changes) there)
+    (or_cases (is_change t q c) (has_row t q rows) (has-changed blocks t q c.table c.key c.kind rows before)))
+    (λ later. or_second (has_row t q rows) (is_change t q c || list_any (is_change t q) changes) (or_second (is_change t q c) (list_any (is_change t q) changes) later))
+    (or_cases (has_row t q (changed_by blocks c.table c.key c.kind rows)) (list_any (is_change t q) changes)
     (has-over blocks t q (changed_by blocks c.table c.key c.kind rows) changes has))
 
 -- a key that has a row now is in use
 pub now_uses : (h : State) (s : Session) (t q : ℕ) → h.sessions ≡ s ∷ [] → has_row t q (rows_now h 1) ≡ true → uses h t q ≡ true
 now_uses h s t q one has =
-    ap (λ cs. has_row t q (rows_last h) || list_any (is_of t q) cs) (held_one h s one) ∙ has-over h.shape.blocks t q (rows_last h) (session_of h 1).own has
+    ap (λ cs. has_row t q (rows_last h) || list_any (is_change t q) cs) (held_one h s one) ∙ has-over h.shape.blocks t q (rows_last h) (session_of h 1).own has
 
 -- how many are in use
 
@@ -149,10 +150,10 @@ pub uses_written : (h : State) (s : Session) (table key : ℕ) (action : Action)
     → ((t ≡ table) × (q ≡ key)) ⊎ (uses h t q ≡ true)
 uses_written h s table key action t q one is =
     let rows : Bool = has_row t q (rows_last h) in
-    let before : Bool = list_any (is_of t q) (held h) in
+    let before : Bool = list_any (is_change t q) (held h) in
     let change = change_by table key action in
-    let split : (rows || (before || (is_of t q change || false))) ≡ true =
-    sym (ap (λ b. rows || b) (ap (list_any (is_of t q)) (written_held h s table key action one) ∙ list_any-append (is_of t q) (held h) (change ∷ []))) ∙ is in
+    let split : (rows || (before || (is_change t q change || false))) ≡ true =
+    sym (ap (λ b. rows || b) (ap (list_any (is_change t q)) (written_held h s table key action one) ∙ list_any-append (is_change t q) (held h) (change ∷ []))) ∙ is in
     ⊎_elim
     (λ row. inr (or_first rows before row))
     (λ own. ⊎_elim
@@ -161,9 +162,9 @@ uses_written h s table key action t q one is =
     (λ this. let parts = and_parts (change.table == t) (change.key == q) this in
     inl (sym (same_number change.table t parts.0) ∙ change_table table key action, sym (same_number change.key q parts.1) ∙ change_key table key action))
     (λ never. absurd (false≢true never))
-    (or_cases (is_of t q change) false new))
-    (or_cases before (is_of t q change || false) own))
-    (or_cases rows (before || (is_of t q change || false)) split)
+    (or_cases (is_change t q change) false new))
+    (or_cases before (is_change t q change || false) own))
+    (or_cases rows (before || (is_change t q change || false)) split)
 
 -- a home that isn't full has room for a key that isn't in use
 room_left : (h : State) (table key : ℕ) → has_key key (used_keys h table key) ≡ false → full_block h table key ≡ false → length (used_keys h table key) < 16
@@ -228,7 +229,7 @@ uses_committed h s t q one is =
     ⊎_elim
     (λ row. now_uses h s t q one (ap (has_row t q) (sym (commit_rows h.shape.blocks h.commits.base h.commits.rows h.commits.list (session_of h 1).own)) ∙ row))
     (λ never. absurd (false≢true never))
-    (or_cases rows false (sym (ap (λ cs. rows || list_any (is_of t q) cs) (committed_held h s one)) ∙ is))
+    (or_cases rows false (sym (ap (λ cs. rows || list_any (is_change t q) cs) (committed_held h s one)) ∙ is))
 
 -- No home has more than sixteen keys in use after a commit, where none had before.
 pub used_after_commit : (h : State) (s : Session) → h.sessions ≡ s ∷ [] → ((t k : ℕ) → length (used_keys h t k) ≤ 16) → (t k : ℕ) → length (used_keys (committed h 1) t k) ≤ 16

@@ -36,7 +36,8 @@ use Rattle.rb_write.proofs.Placed.{row_block}
 use Rattle.rb_write.proofs.Valued.{holds, value_found}
 use Rattle.rb_engine.specs.Holds.{Holds}
 use Rattle.rb_engine.proofs.UsedLemmas.{full_when, the_one}
-use Rattle.rb_engine.proofs.ValueLemmas.{has_value, value_changed, tables_changed, value_after_same, now_written}
+use Rattle.rb_model.proofs.Values.{has_value, value_changed, tables_changed}
+use Rattle.rb_engine.proofs.ValueLemmas.{value_after_same, now_written}
 
 -- a write of a key
 abbrev pub asked : ℕ → ℕ → Op → Ask

@@ -1,6 +1,10 @@
 pub mod BookLemmas
 mod Worked
 mod WorkedBooks
+mod WorkedCalls
+mod WorkedTests
 pub mod Order
 pub mod RowLemmas
 pub mod Stops
+pub mod UsedKeys
+pub mod Values

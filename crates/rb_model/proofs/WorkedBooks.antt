@@ -3,6 +3,7 @@ use Rattle.std.proofs.Common.{◌≡◌, ◌≢◌, ◌<◌, ◌≤◌, None, �
 use Rattle.std.specs.List.{list_all}
 use Rattle.std.proofs.lemmas.Bool.Decides.{nat_tests}
 use Rattle.rb_model.specs.Book.{Book, BookSlot, IsFirstFree, free_slot, fresh_book, is_full, book_slot, owners, IsBegun, begun, book_at, slot_owner, marked, taken, finished, left}
+use Rattle.rb_model.specs.Tests.{made_since}
 
 -- the free slot with the least newest, the first of several: from here on, or the one that was found before with its
 -- newest
@@ -116,6 +117,9 @@ full = refl
 full_writes : (growing 320).writes ≡ 320
 full_writes = refl
 
+full_since_320 : made_since (growing 320) ≡ 320
+full_since_320 = refl
+
 room_again : is_full (left 0 (growing 320)) ≡ false
 room_again = refl
 
@@ -125,6 +129,9 @@ late = records 281 1 (taken 2 1 (left 0 (records 39 0 (taken 1 0 fresh_book))))
 
 late_full : is_full late ≡ true
 late_full = refl
+
+late_since_281 : made_since late ≡ 281
+late_since_281 = refl
 
 late_since : late.writes - 39 ≡ 281
 late_since = refl

@@ -66,8 +66,8 @@ module _ (s : Segment) (i : ℕ) (previous : Uba) where
 
     pub back_running : (j : ℕ) → RunningSlot s.header (slot_in s.header j) → RunningSlot Back.header (slot_in Back.header j)
     back_running j runs = elim (cases_eq j i) [
-      | inl at ↦ subst (λ (z : ℕ). RunningSlot Back.header (slot_in Back.header z)) (sym at) (subst (λ (z : TableSlot). RunningSlot Back.header z) (sym back_own) (let mine : RunningSlot s.header (slot_in s.header i) = subst (λ (z : ℕ). RunningSlot s.header (slot_in s.header z)) at runs in record { started = mine.started; few = omega (arith, mine.few); begun = mine.begun; before = mine.before }))
-      | inr ne ↦ subst (λ (z : TableSlot). RunningSlot Back.header z) (sym (back_other j ne)) (record { started = runs.started; few = runs.few; begun = runs.begun; before = runs.before })
+      | inl at ↦ subst (λ (z : ℕ). RunningSlot Back.header (slot_in Back.header z)) (sym at) (subst (λ (z : TableSlot). RunningSlot Back.header z) (sym back_own) (let mine : RunningSlot s.header (slot_in s.header i) = subst (λ (z : ℕ). RunningSlot s.header (slot_in s.header z)) at runs in record { started = mine.started; few = omega (arith, mine.few); begun = mine.begun; before = mine.before; wrap = mine.wrap }))
+      | inr ne ↦ subst (λ (z : TableSlot). RunningSlot Back.header z) (sym (back_other j ne)) (record { started = runs.started; few = runs.few; begun = runs.begun; before = runs.before; wrap = runs.wrap })
     ]
 
     pub back_order : (commit logged : ℕ) → SegmentInOrder commit logged s → SegmentInOrder commit (logged + 1) Back

@@ -30,3 +30,5 @@ pub mod Bits
 pub mod Oldest
 pub mod Stamps
 pub mod TurnRead
+pub mod HeaderAfter
+pub mod SlotSums

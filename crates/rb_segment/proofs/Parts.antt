@@ -16,7 +16,7 @@ use Rattle.rb_txntable.specs.Slots.{slot_at, slot_state, slot_touched, slot_live
 use Rattle.rb_txntable.specs.declared.slots.TableSlot.{TableSlot}
 
 -- two headers with the same numbers behind the table slots have the same ring
-ring_same : (one other : List ℕ) → ((at count : ℕ) → 1056 ≤ at → number_at one at count ≡ number_at other at count)
+pub ring_same : (one other : List ℕ) → ((at count : ℕ) → 1056 ≤ at → number_at one at count ≡ number_at other at count)
     → ((e : ℕ) → extent_at one e ≡ extent_at other e) × (head_extent one ≡ head_extent other) × (head_records one ≡ head_records other) × (record_count one ≡ record_count other) × (lost_number one ≡ lost_number other)
 unfolding extent_ord extent_newest head_extent head_records record_count lost_number
 ring_same one other same = (
@@ -28,23 +28,23 @@ ring_same one other same = (
 )
 
 -- and with the same bytes and numbers before the extents, the same table slots
-slots_same : (one other : List ℕ) → ((at count : ℕ) → at + count ≤ 1056 → number_at one at count ≡ number_at other at count) → ((at : ℕ) → at < 1056 → slice_index one at ≡ slice_index other at)
+pub slots_same : (one other : List ℕ) → ((at count : ℕ) → 32 ≤ at → at + count ≤ 1056 → number_at one at count ≡ number_at other at count) → ((at : ℕ) → 32 ≤ at → at < 1056 → slice_index one at ≡ slice_index other at)
     → (i : ℕ) → i < 16 → slot_at one i ≡ slot_at other i
 unfolding slot_state slot_touched slot_live slot_wrap slot_newest slot_before slot_record slot_first slot_start
 slots_same one other numbers bytes i few =
     let p = slot_place i in
     rw (
-      bytes p (omega (arith, few)),
-      bytes (p + 1) (omega (arith, few)),
-      numbers (p + 4) 4 (omega (arith, few)),
-      numbers (p + 8) 8 (omega (arith, few)),
-      numbers (p + 16) 8 (omega (arith, few)),
-      numbers (p + 24) 8 (omega (arith, few)),
-      numbers (p + 32) 4 (omega (arith, few)),
-      numbers (p + 32 + 4) 2 (omega (arith, few)),
-      numbers (p + 32 + 8) 8 (omega (arith, few)),
-      numbers (p + 48) 8 (omega (arith, few)),
-      numbers (p + 56) 8 (omega (arith, few)),
+      bytes p (omega arith) (omega (arith, few)),
+      bytes (p + 1) (omega arith) (omega (arith, few)),
+      numbers (p + 4) 4 (omega arith) (omega (arith, few)),
+      numbers (p + 8) 8 (omega arith) (omega (arith, few)),
+      numbers (p + 16) 8 (omega arith) (omega (arith, few)),
+      numbers (p + 24) 8 (omega arith) (omega (arith, few)),
+      numbers (p + 32) 4 (omega arith) (omega (arith, few)),
+      numbers (p + 32 + 4) 2 (omega arith) (omega (arith, few)),
+      numbers (p + 32 + 8) 8 (omega arith) (omega (arith, few)),
+      numbers (p + 48) 8 (omega arith) (omega (arith, few)),
+      numbers (p + 56) 8 (omega arith) (omega (arith, few)),
     ) refl
 
 pub slot_set : (header : List ℕ) (i : ℕ) (s : TableSlot) → length header ≡ 2048 → i < 16 → IsTableSlot s
@@ -59,7 +59,7 @@ slot_set header i s long few fits =
 
 -- where a part behind the table slots is written, these stay
 table_same : (header after : List ℕ) (at count : ℕ) → 1056 ≤ at → ChangesOnly at count header after → (i : ℕ) → i < 16 → slot_at after i ≡ slot_at header i
-table_same header after at count behind only = slots_same after header (λ from size lt. only.numbers from size (inl (omega (arith, behind, lt)))) (λ from lt. only.bytes from (inl (omega (arith, behind, lt))))
+table_same header after at count behind only = slots_same after header (λ from size head lt. only.numbers from size (inl (omega (arith, behind, lt)))) (λ from head lt. only.bytes from (inl (omega (arith, behind, lt))))
 
 if_same : (e : ℕ) (x : Extent) (extent : ℕ → Extent) → extents_with extent e x e ≡ x
 if_same e x extent = cond-true (e == e) x (extent e) (grind (arith, nat_tests))

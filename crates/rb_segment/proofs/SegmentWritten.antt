@@ -233,18 +233,20 @@ module _ (s : Segment) (i : ℕ) (address : Uba) (u : UndoRecord) (s2 : Segment)
     | inl own ↦
         let runs = running i own.0 in
         let a : (slot_in Ready.header i).start ≡ (slot_in s.header i).start = ap (λ (z : TableSlot). z.start) (going_slot i own.0) in
-        let c : (slot_in Ready.header i).live ≡ (slot_in s.header i).live = ap (λ (z : TableSlot). z.live) (going_slot i own.0) in record { started = omega (arith, a, runs.started, written_writes); few = omega (arith, a, c, runs.few, written_writes); begun = some; before = ap (λ (z : TableSlot). z.before) (going_slot i own.0) ∙ (runs.before ∙ ap (λ (z : TableSlot). z.newest) (sym (going_slot i own.0))) }
+        let c : (slot_in Ready.header i).live ≡ (slot_in s.header i).live = ap (λ (z : TableSlot). z.live) (going_slot i own.0) in
+        let d : (slot_in Ready.header i).wrap ≡ (slot_in s.header i).wrap = ap (λ (z : TableSlot). z.wrap) (going_slot i own.0) in record { started = omega (arith, a, runs.started, written_writes); few = omega (arith, a, c, runs.few, written_writes); begun = some; before = ap (λ (z : TableSlot). z.before) (going_slot i own.0) ∙ (runs.before ∙ ap (λ (z : TableSlot). z.newest) (sym (going_slot i own.0))); wrap = omega (arith, d, runs.wrap) }
     | inr free ↦
         let slot = slot_claimed free.0 free.1 in
         let a : (slot_in Ready.header i).start ≡ s.header.writes = ap (λ (z : TableSlot). z.start) slot in
-        let c : (slot_in Ready.header i).live ≡ 0 = ap (λ (z : TableSlot). z.live) slot in record { started = omega (arith, a, written_writes); few = omega (arith, a, c, written_writes); begun = some; before = ap (λ (z : TableSlot). z.before) slot ∙ ap (λ (z : TableSlot). z.newest) (sym slot) }
+        let c : (slot_in Ready.header i).live ≡ 0 = ap (λ (z : TableSlot). z.live) slot in
+        let d : (slot_in Ready.header i).wrap ≡ (slot_in s.header i).wrap + 1 = ap (λ (z : TableSlot). z.wrap) slot in record { started = omega (arith, a, written_writes); few = omega (arith, a, c, written_writes); begun = some; before = ap (λ (z : TableSlot). z.before) slot ∙ ap (λ (z : TableSlot). z.newest) (sym slot); wrap = omega (arith, d) }
   ])
     where
       some : records.touched ≢ 0
       some none = has_none Room.header.head (subst (λ (z : ℕ). has_bit z Room.header.head ≡ true) none records.bits.this)
 
   pub running_other : (j : ℕ) → j ≢ i → Active j → RunningSlot s2.header (slot_in s2.header j)
-  running_other j ne active = let runs = running j active in subst (λ (z : TableSlot). RunningSlot s2.header z) (sym (other_slot_same j ne)) (record { started = omega (arith, runs.started, written_writes); few = omega (arith, runs.few, written_writes); begun = runs.begun; before = runs.before })
+  running_other j ne active = let runs = running j active in subst (λ (z : TableSlot). RunningSlot s2.header z) (sym (other_slot_same j ne)) (record { started = omega (arith, runs.started, written_writes); few = omega (arith, runs.few, written_writes); begun = runs.begun; before = runs.before; wrap = runs.wrap })
 
   -- the header in order, and the numbers
   written_header : HeaderInOrder commit s2.header

@@ -3,7 +3,7 @@
 use Rattle.std.specs.Prelude.{◌≡◌, ◌⊎◌, ◌<◌, ◌≤◌, ◌-◌, ◌^◌, ℕ, if◌then◌else◌}
 use Rattle.std.specs.Prelude.{List, [], ◌∷◌, ◌++◌}
 use Rattle.std.specs.List.{flat_map, range_with_len}
-use Rattle.rb_base.specs.Blocks.{header_block, written_to}
+use Rattle.rb_base.specs.Blocks.{header_block}
 use Rattle.rb_base.specs.Groups.{Patch}
 use Rattle.rb_base.specs.declared.ids.Uba.{Uba}
 use Rattle.rb_base.specs.declared.ids.Xid.{Xid}
@@ -55,6 +55,13 @@ pub record IsYoung (h : Header) : Type 0 where
   pub head : h.head < EXTENTS
   pub turn : head_turn h < 2 ^ 63
 
+-- Nor is one that a record of slot i moves.
+pub record IsYoungAt (h : Header) (i : ℕ) : Type 0 where
+  pub writes : h.writes < 2 ^ 63
+  pub live : (slot_in h i).live < 2 ^ 31
+  pub head : h.head < EXTENTS
+  pub turn : head_turn h < 2 ^ 63
+
 -- the transaction of that id runs
 pub record Runs (h : Header) (x : Xid) : Type 0 where
   pub slot : x.slot < SLOTS
@@ -95,9 +102,3 @@ pub record Recorded (shape : Shape) (x : Xid) (r : UndoRecord) (h h2 : Header) (
   pub at : address ≡ next_address shape x.seg room
   pub added_as : AddedAs x.slot address room h2
   pub patched : patches ≡ before ++ record_patches (header_block shape x.seg) x.slot h2 address r
-
--- the copy of a header's block and the group have the same bytes more
-pub record SamePatches (block : ℕ) (old new : List ℕ) (held holds : List Patch) (patches : List Patch) : Type 0
-  where
-    pub copy : new ≡ written_to block patches old
-    pub group : holds ≡ held ++ patches

@@ -21,13 +21,14 @@ pub record KeepsRecords (s : Segment) (i : ℕ) : Type 0 where
       → ((slot_in s.header i).start < k)
       × Touches (slot_in s.header i).touched (extent_with s.header.extents (turn_of k))
 
--- What a slot of an engine that runs has more: a record, and the number that it had when it was taken. A file may have
--- an Active slot without these, which its opening ends.
+-- What a slot of an engine that runs has more: a record, the number that it had when it was taken, and a wrap, which
+-- each taking raises. A file may have an Active slot without these, which its opening ends.
 pub record RunningSlot (h : Header) (slot : TableSlot) : Type 0 where
   pub started : slot.start < h.writes
   pub few : slot.start + slot.live ≤ h.writes
   pub begun : slot.touched ≢ 0
   pub before : slot.before ≡ slot.newest
+  pub wrap : 1 ≤ slot.wrap
 
 -- The first turns of the transactions that run: one that has made a record has its first in the ring, behind its start;
 -- one that has made none was taken just now.

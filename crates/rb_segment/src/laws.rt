@@ -2,7 +2,11 @@
 //! Nothing calls them.
 ghost use Rattle.std.specs.Prelude.{◌≡◌, ℕ, ◌+◌, ◌^◌, ◌<◌, ◌≤◌, List, [], ◌∷◌};
 ghost use Rattle.rb_base.specs.declared.shape.Shape.{Shape};
-ghost use Rattle.rb_base.specs.Blocks.{block_of, after_group, header_block, table_blocks, IsShape, AreBlocks};
+ghost use Rattle.std.specs.List.{AllByRecursion};
+ghost use Rattle.rb_base.specs.Blocks.{block_of, after_group, header_block, shape_blocks, table_blocks, written_to};
+ghost use Rattle.rb_base.specs.Blocks.{AreBlocks, IsShape, StaysBehind};
+ghost use Rattle.rb_base.specs.Groups.{Patch};
+ghost use Rattle.rb_segment.specs.Header.{header_of};
 ghost use Rattle.rb_txntable.specs.Slots.{slot_newest};
 ghost use Rattle.rb_segment.specs.MoveLaws as moves;
 ghost use Rattle.rb_segment.specs.Segments.{commit_lsn, commit_scn, scn_patch};
@@ -31,6 +35,15 @@ pub fn scn_written()
         → commit_lsn shape (after_group number (scn_patch shape (n + 1) ∷ []) blocks) ≡ number }
     ensures rows { (shape : Shape) (blocks : List (List ℕ)) (number n b : ℕ) → b < table_blocks shape
         → block_of (after_group number (scn_patch shape (n + 1) ∷ []) blocks) b ≡ block_of blocks b }
+{}
+
+/// After a group of patches a header says what its block says with the patches of that block written over it. So a call
+/// that moves a copy of a header, and adds the same bytes to a group, tells what the file's header is after that group.
+pub fn header_changed()
+    ensures { (shape : Shape) (blocks : List (List ℕ)) (number which : ℕ) (patches : List Patch)
+        → AreBlocks shape blocks → which < shape_blocks shape → AllByRecursion StaysBehind patches
+        → header_of (block_of (after_group number patches blocks) which)
+        ≡ header_of (written_to which patches (block_of blocks which)) }
 {}
 
 /// A file has at most sixteen segments.

@@ -9,6 +9,7 @@ mod copy;
 mod finish;
 mod headers;
 mod laws;
+mod owing;
 mod record;
 mod stamp;
 mod take;
@@ -18,9 +19,10 @@ pub use commit_number::{commit_group, commit_lsn_of};
 pub use finish::{commit, end, take_back};
 pub use headers::{SEGMENTS, commit_scn_of, wraps_of};
 pub use laws::{
-    ages_told, books_told, commit_greatest, first_books, group_sizes, most_segments, records_told,
-    scn_written,
+    ages_told, books_told, commit_greatest, first_books, group_sizes, header_changed,
+    most_segments, records_told, scn_written,
 };
+pub use owing::owed;
 pub use record::{RECORD_BYTES, TURN_BYTES, add_record};
 pub use take::claim;
 pub use turn::RollbackFull;

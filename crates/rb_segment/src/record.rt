@@ -1,17 +1,21 @@
 //! A record is added to a segment. Each write of a row adds one.
 ghost use Rattle.std.specs.Prelude.{◌≡◌, ◌+◌, ◌^◌, ◌<◌, ◌≤◌, List, ◌++◌, length, IfErr};
-ghost use Rattle.std.specs.Prelude.{IfOk, OnOk};
-ghost use Rattle.rb_base.specs.Blocks.{header_block, written_to, IsShape};
+ghost use Rattle.std.specs.Prelude.{IfOk, OnOk, ℕ};
+ghost use Rattle.std.specs.List.{AllByRecursion};
+ghost use Rattle.rb_base.specs.Blocks.{header_block, written_to, AreWithin, IsShape};
+ghost use Rattle.rb_base.specs.Copies.{SamePatches};
 ghost use Rattle.rb_base.specs.Groups.{Patch, group_length};
-ghost use Rattle.rb_segment.specs.Calls.{record_patches, AddedAs, IsNextAddress, IsSince, IsYoung, Recorded, Runs};
-ghost use Rattle.rb_segment.specs.Calls.{SamePatches};
+ghost use Rattle.rb_segment.specs.Calls.{record_patches, AddedAs, IsNextAddress, IsSince, IsYoungAt, Recorded};
+ghost use Rattle.rb_segment.specs.Calls.{Runs};
 ghost use Rattle.rb_segment.specs.Header.{head_turn, header_of, slot_in};
 ghost use Rattle.rb_segment.specs.Moves.{added_slot, Also, NoneMayTurn};
+ghost use Rattle.rb_undoblock.specs.Undo.{IsUndoRecord};
 
 use crate::copy::{set_head, set_slot, set_writes};
 use crate::turn::{RollbackFull, head, make_room};
 use rb_base::{
-    BlockNo, GROUP_BYTES, GROUP_PATCHES, Group, SLOT_BYTES, SLOTS, Shape, UNIT, Uba, Xid,
+    BlockNo, GROUP_BYTES, GROUP_PATCHES, Group, SEGMENT_BLOCKS, SLOT_BYTES, SLOTS, Shape, UNIT,
+    Uba, Xid,
 };
 use rb_ring::{EXTENT_RECORDS, EXTENTS, extent_ord, head_records, writes};
 use rb_txntable::{TableSlot, slot_at};
@@ -31,6 +35,7 @@ fn next_address(header: &[u8], block: BlockNo) -> Uba
     ensures place { IsNextAddress block (header_of header.now) result }
     ensures turn { (header_of header.now).head < EXTENTS → result.ord ≡ head_turn (header_of header.now) }
     ensures behind { block < result.block }
+    ensures within { result.block < block + SEGMENT_BLOCKS }
     ensures record { result.rec < UNDO_RECORDS }
 {
     let head = head(header);
@@ -74,6 +79,11 @@ fn append(header: &mut [u8], block: BlockNo, i: u8, undo: &UndoRecord, group: &m
     ensures patches { group.new ≡ group.old ++ record_patches block i (header_of header.new) result undo.now }
     ensures copy { header.new
         ≡ written_to block (record_patches block i (header_of header.new) result undo.now) header.old }
+    ensures few { length group.new ≤ length group.old + 4 }
+    ensures short { group_length group.new ≤ group_length group.old + RECORD_BYTES }
+    ensures within { (limit : ℕ) → block + SEGMENT_BLOCKS ≤ limit
+        → AllByRecursion (λ p. p.block < limit) group.old → AllByRecursion (λ p. p.block < limit) group.new }
+    ensures sound { IsUndoRecord undo.now }
     ensures address { IsNextAddress block (header_of header.old) result }
     ensures added { (header_of header.old).head < EXTENTS → (header_of header.old).writes < 2 ^ 63
         → (slot_in (header_of header.old) i).live < 2 ^ 31
@@ -112,7 +122,11 @@ pub fn add_record(
     ensures length { length header.new ≡ UNIT }
     ensures patches { OnOk result ((patches : List Patch)
         × SamePatches (header_block shape.now xid.seg) header.old header.new group.old group.new patches) }
-    ensures recorded { IfOk result (λ address. IsYoung (header_of header.old) → (patches : List Patch)
+    ensures few { length group.new ≤ length group.old + 7 }
+    ensures short { group_length group.new ≤ group_length group.old + TURN_BYTES + RECORD_BYTES }
+    ensures within { OnOk result (AreWithin shape.now group.old → AreWithin shape.now group.new) }
+    ensures sound { OnOk result (IsUndoRecord undo.now) }
+    ensures recorded { IfOk result (λ address. IsYoungAt (header_of header.old) xid.slot → (patches : List Patch)
         × SamePatches (header_block shape.now xid.seg) header.old header.new group.old group.new patches
         × Recorded shape.now xid undo.now (header_of header.old) (header_of header.new) address patches) }
     ensures full { IfErr result (λ full. (full.seg ≡ xid.seg) × NoneMayTurn (header_of header.old)

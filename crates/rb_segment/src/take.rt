@@ -2,7 +2,7 @@
 ghost use Rattle.std.specs.Prelude.{◌≡◌, ◌≢◌, ◌+◌, ◌^◌, ◌<◌, ◌≤◌, ℕ, ◌++◌, length};
 ghost use Rattle.rb_base.specs.Blocks.{header_block, written_to, IsShape};
 ghost use Rattle.rb_base.specs.Groups.{group_length};
-ghost use Rattle.rb_segment.specs.Calls.{claim_patches, IsYoung};
+ghost use Rattle.rb_segment.specs.Calls.{claim_patches, IsYoung, Runs};
 ghost use Rattle.rb_segment.specs.Header.{header_of, slot_in};
 ghost use Rattle.rb_segment.specs.Moves.{claimed, claimed_slot, MayClaim};
 
@@ -16,7 +16,8 @@ use rb_txntable::{TableSlot, choose, slot_at};
 /// The slot as a transaction takes it. A count of transactions at its end stays there.
 fn claimed_slot(header: &[u8], slot: TableSlot) -> TableSlot
     requires header { length header.now ≡ UNIT }
-    ensures { slot.wrap < 2 ^ 63 → result ≡ claimed_slot (header_of header.now) slot }
+    ensures active { result.state ≡ ACTIVE }
+    ensures slot { slot.wrap < 2 ^ 63 → result ≡ claimed_slot (header_of header.now) slot }
 {
     TableSlot {
         state: ACTIVE,
@@ -47,6 +48,7 @@ pub fn claim(header: &mut [u8], shape: &Shape, seg: u16, group: &mut Group) -> X
     requires room { group_length group.old + (8 + SLOT_BYTES) + (8 + 8) ≤ GROUP_BYTES }
     ensures segment { result.seg ≡ seg }
     ensures chosen { MayClaim (header_of header.old) result.slot }
+    ensures runs { Runs (header_of header.new) result }
     ensures wrap { result.wrap ≡ (slot_in (header_of header.new) result.slot).wrap }
     ensures patches { group.new
         ≡ group.old ++ claim_patches (header_block shape.now seg) result.slot (header_of header.new) }

@@ -2,9 +2,11 @@
 //! asks for it.
 ghost use Rattle.std.specs.Prelude.{◌≡◌, ◌+◌, ◌<◌, ◌≤◌, ◌==◌, ◌^◌, ℕ, max};
 ghost use Rattle.std.specs.Prelude.{if◌then◌else◌, List, ◌++◌, length, IfErr, OnOk};
+ghost use Rattle.std.specs.List.{AllByRecursion};
 ghost use Rattle.rb_base.specs.Blocks.{written_to};
+ghost use Rattle.rb_base.specs.Copies.{SamePatches};
 ghost use Rattle.rb_base.specs.Groups.{Patch, group_length};
-ghost use Rattle.rb_segment.specs.Calls.{HasTurned, IsSince, SamePatches, turn_patches};
+ghost use Rattle.rb_segment.specs.Calls.{HasTurned, IsSince, turn_patches};
 ghost use Rattle.rb_segment.specs.Header.{Header, header_of, head_turn, slot_in};
 ghost use Rattle.rb_segment.specs.Moves.{turned, NoneMayTurn};
 
@@ -111,6 +113,8 @@ pub fn make_room(
     ensures slots { (header_of header.new).slots ≡ (header_of header.old).slots }
     ensures few { length group.new ≤ length group.old + 3 }
     ensures short { group_length group.new ≤ group_length group.old + (8 + 16) + (8 + 4) + (8 + 8) }
+    ensures within { (limit : ℕ) → block < limit → AllByRecursion (λ p. p.block < limit) group.old
+        → AllByRecursion (λ p. p.block < limit) group.new }
     ensures turned { OnOk result ((patches : List Patch)
         × SamePatches block header.old header.new group.old group.new patches
         × ((header_of header.old).head < EXTENTS → head_turn (header_of header.old) < 2 ^ 63

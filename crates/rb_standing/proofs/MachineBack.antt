@@ -26,7 +26,7 @@ use Rattle.rb_standing.proofs.Seen.{one_slot, one_xid}
 use Rattle.rb_standing.proofs.StandingBack.{standing_back, running_back, xid_back}
 use Rattle.rb_standing.proofs.StandingDone.{standing_ended, running_ended}
 use Rattle.rb_standing.proofs.StandingWritten.{slot_few}
-use Rattle.rb_standing.proofs.States.{lives_at}
+use Rattle.rb_standing.proofs.States.{lives_owned}
 use Rattle.rb_model.specs.Change as model
 
 module _ (h : State) (xids : List Xid) (commit logged : ℕ) (segments : ℕ → Segment) (homes : ℕ → Home) (stand : BlocksStandAs h xids commit logged segments homes) (s t : ℕ) (t_in : t < 16 * h.shape.segments) (owns : Owns h s t) where
@@ -61,10 +61,14 @@ module _ (h : State) (xids : List Xid) (commit logged : ℕ) (segments : ℕ →
   not_mine v o ne at is = let there = stand.tell.owner_there o.session v (record { owner = o; at = at; session = refl }) in ne (stand.tell.one_slot s v t (record { owner = o; at = at; session = omega (arith, is, there, s_in) }) owns)
 
   lives_mine : own (lives_of h Old) t ≡ newest_first h.shape (Old.xid t) 1 (session_own h s) []
-  lives_mine = lives_at h Old t t_in ∙ (ap (owned h (Old.xid t)) owns.at ∙ ap (λ (z : ℕ). newest_first h.shape (Old.xid t) 1 (session_own h z) []) owns.session)
+  lives_mine = lives_owned h Old s t t_in owns
 
   in_order : SegmentInOrder commit logged S
   in_order = stand.stands.in_order G g_in
+
+  -- the session's last change is the slot's newest
+  pub newest_is : (front : List model.Change) (c : model.Change) → session_own h s ≡ front ++ c ∷ [] → own (lives_of h Old) t ≡ walk_change h.shape (Old.xid t) (1 + length front) c ∷ newest_first h.shape (Old.xid t) 1 front []
+  newest_is front c is = lives_mine ∙ (ap (λ (z : List model.Change). newest_first h.shape (Old.xid t) 1 z []) is ∙ newest_more h.shape (Old.xid t) 1 front c [])
 
   -- the last change is put back
   module _ (homes2 : ℕ → Home) (after : ℕ → Segment) (u : UndoRecord) (put : PutBack h.shape segments after homes homes2 t u) (front : List model.Change) (c : model.Change) (own_is : session_own h s ≡ front ++ c ∷ []) where
@@ -75,7 +79,7 @@ module _ (h : State) (xids : List Xid) (commit logged : ℕ) (segments : ℕ →
     New = says h.shape after
 
     has : own (lives_of h Old) t ≡ walk_change h.shape (Old.xid t) (1 + length front) c ∷ newest_first h.shape (Old.xid t) 1 front []
-    has = lives_mine ∙ (ap (λ (z : List model.Change). newest_first h.shape (Old.xid t) 1 z []) own_is ∙ newest_more h.shape (Old.xid t) 1 front c [])
+    has = newest_is front c own_is
 
     own_next : session_own Next s ≡ front
     own_next = ap (λ (z : Session). z.own) (get_or-set_same h.sessions (s - 1) (with_changes h s front) no_session (omega (arith, s_in)))

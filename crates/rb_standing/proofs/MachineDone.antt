@@ -27,7 +27,7 @@ use Rattle.rb_standing.proofs.Machine.{commits_more, lives_set}
 use Rattle.rb_standing.proofs.Seen.{one_slot, one_xid}
 use Rattle.rb_standing.proofs.StandingDone.{standing_committed, running_committed}
 use Rattle.rb_standing.proofs.StandingWritten.{slot_few}
-use Rattle.rb_standing.proofs.States.{lives_at}
+use Rattle.rb_standing.proofs.States.{lives_owned}
 use Rattle.rb_model.specs.Change as model
 
 pub last_commits : (shape : Shape) (n : ℕ) (list : List (List model.Change)) (xids : List Xid) (before : List Commit) → length xids ≡ length list → last n before ≡ n → last n (commits_from shape (n + 1) list xids before) ≡ n + length list
@@ -133,7 +133,7 @@ module _ (h : State) (xids : List Xid) (commit logged : ℕ) (segments : ℕ →
 
   -- the commit's changes are what its slot had live
   lives_mine : own (lives_of h Old) t ≡ newest_first h.shape (Old.xid t) 1 (session_own h s) []
-  lives_mine = lives_at h Old t t_in ∙ (ap (owned h (Old.xid t)) owns.at ∙ ap (λ (z : ℕ). newest_first h.shape (Old.xid t) 1 (session_own h z) []) owns.session)
+  lives_mine = lives_owned h Old s t t_in owns
 
   past_next : past_of Next (xids ++ Old.xid t ∷ []) ≡ committed_past segments t N (past_of h xids) (lives_of h Old)
   past_next =

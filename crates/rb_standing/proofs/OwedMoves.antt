@@ -2,7 +2,7 @@
 use Rattle.std.proofs.Common.{◌≡◌, ◌≢◌, inl, inr, ◌<◌, ◌==◌, ◌+◌, ◌*◌, ◌/◌, ◌%◌, ℕ, true, false, if◌then◌else◌, List, [], ◌∷◌, length, set, refl, sym, ◌∙◌, ap, arith}
 use Rattle.std.proofs.lemmas.Bool.{cases_eq}
 use Rattle.std.proofs.lemmas.Bool.Decides.{nat_tests}
-use Rattle.std.proofs.lemmas.List.{get_or-set_same, get_or-set_other}
+use Rattle.std.proofs.lemmas.List.{get_or-set_same}
 use Rattle.std.proofs.Math.Nat.{div-add-mod}
 use Rattle.rb_base.specs.declared.ids.Uba.{Uba}
 use Rattle.rb_base.specs.declared.shape.Shape.{Shape}
@@ -11,16 +11,14 @@ use Rattle.rb_segment.specs.Header.{Segment, slot_in, slot_owed}
 use Rattle.rb_segment.specs.Moves.{with_segment, with_header, committed, ended}
 use Rattle.rb_standing.specs.Values.{Past, StandingAs, Running, slot_of, owed}
 use Rattle.rb_standing.specs.Writes.{Written, PutBack, change_made, committed_segments, ended_segments, back_segment}
-use Rattle.rb_txntable.specs.Slots.{no_slot}
 use Rattle.rb_txntable.specs.declared.slots.TableSlot.{TableSlot}
 use Rattle.rb_undoblock.specs.declared.record.UndoRecord.{UndoRecord}
 use Rattle.rb_walk.specs.Walk.{Change, Home, own}
 use Rattle.rb_segment.proofs.Back.{back_other, back_own}
 use Rattle.rb_segment.proofs.Ended.{ended_other, ended_done}
 use Rattle.rb_segment.proofs.SegmentWritten.{other_slot_same, state_own}
-use Rattle.rb_segment.proofs.WithSegment.{at_segment, off_segment}
 use Rattle.rb_standing.proofs.Owed.{owed_one}
-use Rattle.rb_standing.proofs.Seen.{one_slot}
+use Rattle.rb_standing.proofs.SlotsMoved.{slot_after, slot_other, committed_own, committed_other}
 use Rattle.rb_standing.proofs.StandingWritten.{slot_few, keeps_of, running_of, standing_written}
 use Rattle.rb_standing.proofs.StandingBack.{standing_back}
 
@@ -35,21 +33,8 @@ owes : (shape : Shape) (commit logged : ℕ) (segments : ℕ → Segment) (homes
 owes shape commit logged segments homes past lives stand t t_in active = let a = active_owes (slot_of segments t) active in let b = ((stand.slots t t_in).active active).count in omega (arith, a, b)
 
 -- one slot of one segment changes
-module _ (shape : Shape) (segments after : ℕ → Segment) (t : ℕ) (t_in : t < 16 * shape.segments) (s2 : Segment) (at : (g : ℕ) → after g ≡ with_segment (t / 16) s2 segments g) (same : (j : ℕ) → j ≢ t % 16 → slot_in s2.header j ≡ slot_in (segments (t / 16)).header j) where
-  slot_after : slot_of after t ≡ slot_in s2.header (t % 16)
-  slot_after = ap (λ (z : Segment). slot_in z.header (t % 16)) (at (t / 16) ∙ at_segment (t / 16) s2 segments)
-
-  slot_other : (v : ℕ) → v ≢ t → slot_of after v ≡ slot_of segments v
-  slot_other v ne = elim (cases_eq (v / 16) (t / 16)) [
-    | inl seg ↦
-        ap (λ (z : ℕ). slot_in (after z).header (v % 16)) seg
-        ∙ (ap (λ (z : Segment). slot_in z.header (v % 16)) (at (t / 16) ∙ at_segment (t / 16) s2 segments)
-        ∙ (same (v % 16) (λ is. ne (one_slot v t seg is)) ∙ ap (λ (z : ℕ). slot_in (segments z).header (v % 16)) (sym seg)))
-    | inr off ↦ ap (λ (z : Segment). slot_in z.header (v % 16)) (at (v / 16) ∙ off_segment (t / 16) (v / 16) s2 segments off)
-  ]
-
-  owed_by : owed shape after + slot_owed (slot_of segments t) ≡ owed shape segments + slot_owed (slot_of after t)
-  owed_by = owed_one shape segments after t t_in (λ v ne. ap slot_owed (slot_other v ne))
+owed_by : (shape : Shape) (segments after : ℕ → Segment) (t : ℕ) → t < 16 * shape.segments → (s2 : Segment) → ((g : ℕ) → after g ≡ with_segment (t / 16) s2 segments g) → ((j : ℕ) → j ≢ t % 16 → slot_in s2.header j ≡ slot_in (segments (t / 16)).header j) → owed shape after + slot_owed (slot_of segments t) ≡ owed shape segments + slot_owed (slot_of after t)
+owed_by shape segments after t t_in s2 at same = owed_one shape segments after t t_in (λ v ne. ap slot_owed (slot_other segments after t s2 at same v ne))
 
 module _ (shape : Shape) (commit logged : ℕ) (segments : ℕ → Segment) (homes : ℕ → Home) (past : Past) (lives : List (List Change)) (stand : StandingAs shape commit logged segments homes past lives) (t : ℕ) (t_in : t < 16 * shape.segments) where
   abbrev S : Segment
@@ -68,7 +53,7 @@ module _ (shape : Shape) (commit logged : ℕ) (segments : ℕ → Segment) (hom
   owed_back after homes2 u put ch more has =
       let s2 = back_segment segments t u in
       let by = owed_by shape segments after t t_in s2 put.others (back_other S (t % 16) u.previous) in
-      let here = slot_after shape segments after t t_in s2 put.others (back_other S (t % 16) u.previous) in
+      let here = slot_after segments after t s2 put.others in
       let active : (slot_of after t).state ≡ 1 = ap (λ (z : TableSlot). z.state) (here ∙ back_own S (t % 16) u.previous within) ∙ put.active in
       let before = owes shape commit logged segments homes past lives stand t t_in put.active in
       let now = owes shape commit (logged + 1) after homes2 past (set lives t more) (standing_back shape commit logged segments homes past lives stand homes2 t u t_in after put ch more has) t t_in active in
@@ -80,7 +65,7 @@ module _ (shape : Shape) (commit logged : ℕ) (segments : ℕ → Segment) (hom
   owed_ended active empty =
       let e : Segment = with_header (ended (t % 16) S.header) S in
       let by = owed_by shape segments (ended_segments t segments) t t_in e (λ g. refl) (ended_other S (t % 16) within active) in
-      let here = slot_after shape segments (ended_segments t segments) t t_in e (λ g. refl) (ended_other S (t % 16) within active) in
+      let here = slot_after segments (ended_segments t segments) t e (λ g. refl) in
       let none = idle_owes (slot_of (ended_segments t segments) t) (λ is. ended_done S (t % 16) within active (ap (λ (z : TableSlot). z.state) (sym here) ∙ is)) in
       let before = owes shape commit logged segments homes past lives stand t t_in active in
       let a = ap length empty in
@@ -88,11 +73,9 @@ module _ (shape : Shape) (commit logged : ℕ) (segments : ℕ → Segment) (hom
 
   pub owed_committed : (slot_of segments t).state ≡ 1 → (c : ℕ) → owed shape (committed_segments c t segments) + length (own lives t) + 1 ≡ owed shape segments
   owed_committed active c =
-      let now : TableSlot = record (slot_in S.header (t % 16)) { state = 2; newest = c } in
       let s2 : Segment = with_header (committed c (t % 16) S.header) S in
-      let others : (j : ℕ) → j ≢ t % 16 → slot_in s2.header j ≡ slot_in S.header j = λ j ne. get_or-set_other S.header.slots (t % 16) j now no_slot ne in
-      let by = owed_by shape segments (committed_segments c t segments) t t_in s2 (λ g. refl) others in
-      let here : slot_of (committed_segments c t segments) t ≡ now = slot_after shape segments (committed_segments c t segments) t t_in s2 (λ g. refl) others ∙ get_or-set_same S.header.slots (t % 16) now no_slot within in
+      let by = owed_by shape segments (committed_segments c t segments) t t_in s2 (λ g. refl) (committed_other S (t % 16) c) in
+      let here = slot_after segments (committed_segments c t segments) t s2 (λ g. refl) ∙ committed_own S (t % 16) c within in
       let none = idle_owes (slot_of (committed_segments c t segments) t) (λ is. let two : (slot_of (committed_segments c t segments) t).state ≡ 2 = ap (λ (z : TableSlot). z.state) here in omega (arith, is, two)) in
       let before = owes shape commit logged segments homes past lives stand t t_in active in
       omega (arith, by, none, before)
@@ -104,7 +87,7 @@ module _ (shape : Shape) (commit logged : ℕ) (segments : ℕ → Segment) (hom
       let runs = running_of shape commit logged segments homes past lives stand running (t / 16) g_in in
       let others = other_slot_same S (t % 16) address u w.segment w.records commit logged order (slot_few t) keeps runs w.slot w.wrap in
       let by = owed_by shape segments after t t_in w.segment w.others others in
-      let here = slot_after shape segments after t t_in w.segment w.others others in
+      let here = slot_after segments after t w.segment w.others in
       let active : (slot_of after t).state ≡ 1 = ap (λ (z : TableSlot). z.state) here ∙ state_own S (t % 16) address u w.segment w.records commit logged order (slot_few t) keeps runs w.slot w.wrap in
       let chs = change_made shape t kind address u ∷ own lives t in
       let now = owes shape commit (logged + 1) after homes2 past (set lives t chs) (standing_written shape commit logged segments homes past lives stand running homes2 t kind address u t_in after w) t t_in active in

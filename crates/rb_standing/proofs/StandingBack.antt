@@ -167,7 +167,7 @@ module _ (shape : Shape) (commit logged : ℕ) (segments : ℕ → Segment) (hom
     ])
   ]
 
-  newest_stays : (v : ℕ) → (slot_of after v).newest ≡ (slot_of segments v).newest
+  pub newest_stays : (v : ℕ) → (slot_of after v).newest ≡ (slot_of segments v).newest
   newest_stays v = elim (cases_eq (v / 16) G) [
     | inl seg ↦ ap (λ (z : ℕ). (slot_in (after z).header (v % 16)).newest) seg ∙ (ap (λ (z : Segment). (slot_in z.header (v % 16)).newest) after_at ∙ (back_like S I u.previous within (λ x y. x.newest ≡ y.newest) (λ x. refl) (λ x live at. refl) (v % 16) ∙ ap (λ (z : ℕ). (slot_in (segments z).header (v % 16)).newest) (sym seg)))
     | inr off ↦ ap (λ (z : Segment). (slot_in z.header (v % 16)).newest) (after_off (v / 16) off)

@@ -118,7 +118,7 @@ module _ (shape : Shape) (commit logged : ℕ) (segments : ℕ → Segment) (hom
             | inl at ↦ absurd (done (subst (λ (z : ℕ). (slot_in s2.header z).state ≡ 1) at here))
             | inr ne ↦
                 let runs = running_of shape commit logged segments homes past lives stand running G g_in (v % 16) (ap (λ (z : TableSlot). z.state) (sym (same (v % 16) ne)) ∙ here) in
-                subst (λ (z : TableSlot). RunningSlot s2.header z) (sym (same (v % 16) ne)) (record { started = omega (arith, runs.started, writes); few = omega (arith, runs.few, writes); begun = runs.begun; before = runs.before })
+                subst (λ (z : TableSlot). RunningSlot s2.header z) (sym (same (v % 16) ne)) (record { started = omega (arith, runs.started, writes); few = omega (arith, runs.few, writes); begun = runs.begun; before = runs.before; wrap = runs.wrap })
           ]))
       | inr off ↦
           let is = after_off (v / 16) off in

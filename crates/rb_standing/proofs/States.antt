@@ -1,10 +1,10 @@
 -- The live changes that a machine's state names.
-use Rattle.std.proofs.Common.{◌≡◌, ◌<◌, ◌+◌, ◌*◌, ℕ, List, [], ◌∷◌, length, arith}
+use Rattle.std.proofs.Common.{◌≡◌, ◌<◌, ◌+◌, ◌*◌, ℕ, List, [], ◌∷◌, length, ◌∙◌, ap, arith}
 use Rattle.std.proofs.lemmas.List.FromFn.{get_or-map-range_with_len}
 use Rattle.rb_base.specs.declared.ids.Xid.{Xid}
 use Rattle.rb_base.specs.declared.shape.Shape.{Shape}
-use Rattle.rb_model.specs.Machine.{State, owner_at}
-use Rattle.rb_standing.specs.States.{owned, walk_change, newest_first, lives_of}
+use Rattle.rb_model.specs.Machine.{State, session_own, owner_at}
+use Rattle.rb_standing.specs.States.{owned, walk_change, newest_first, lives_of, Owns}
 use Rattle.rb_walk.specs.Walk.{Change, Env, own}
 use Rattle.rb_model.specs.Change as model
 
@@ -15,3 +15,6 @@ length_newest shape x n (c ∷ cs) before = let h : length (newest_first shape x
 -- the live changes of a slot are those of its owner
 pub lives_at : (h : State) (env : Env) (t : ℕ) → t < 16 * h.shape.segments → own (lives_of h env) t ≡ owned h (env.xid t) (owner_at h t)
 lives_at h env t t_in = get_or-map-range_with_len (λ (u : ℕ). owned h (env.xid u) (owner_at h u)) 0 (16 * h.shape.segments) t t [] t_in (omega arith)
+
+pub lives_owned : (h : State) (env : Env) (s t : ℕ) → t < 16 * h.shape.segments → (owns : Owns h s t) → own (lives_of h env) t ≡ newest_first h.shape (env.xid t) 1 (session_own h s) []
+lives_owned h env s t t_in owns = lives_at h env t t_in ∙ (ap (owned h (env.xid t)) owns.at ∙ ap (λ (z : ℕ). newest_first h.shape (env.xid t) 1 (session_own h z) []) owns.session)

@@ -1,6 +1,8 @@
+pub mod BlockLaws
 pub mod FirstWrite
 pub mod Forgotten
 pub mod Fresh
+pub mod Groups
 pub mod NextStates
 pub mod Says
 pub mod Seen
@@ -9,3 +11,4 @@ pub mod StandingLaws
 pub mod States
 pub mod Values
 pub mod Writes
+pub mod Writing

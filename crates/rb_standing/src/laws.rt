@@ -1,5 +1,8 @@
-//! What holds of the segments and homes that stand for commits and live changes, as clauses for proofs to cite. Nothing
-//! calls it.
+//! What holds of the segments, homes and blocks that stand for commits and live changes, as clauses for proofs to cite.
+//! Nothing calls it.
+ghost use Rattle.rb_standing.specs.BlockLaws.{CleanKeepsBlocks, BackKeepsBlocks, CommitKeepsBlocks, EndKeepsBlocks};
+ghost use Rattle.rb_standing.specs.BlockLaws.{CleanKeepsMachine, BackKeepsMachine, CommitKeepsMachine};
+ghost use Rattle.rb_standing.specs.BlockLaws.{EndKeepsMachine, WriteKeepsMachine};
 ghost use Rattle.rb_standing.specs.FirstWrite.{FirstWrite};
 ghost use Rattle.rb_standing.specs.StandingLaws.{WriteStands, BackStands, CommitStands, EndStands};
 ghost use Rattle.rb_standing.specs.StandingLaws.{WriteKeepsState, BackKeepsState, CommitKeepsState, EndKeepsState};
@@ -36,4 +39,19 @@ pub fn standing_laws()
     ensures addresses { AddressReadsRecord }
     ensures blocks { BlocksStandAsValues }
     ensures logged { CommitIsLogged }
+{}
+
+/// What the blocks of a file stand for is kept by each kind of group: a cleaning leaves it, a put back takes the newest
+/// live change of a slot away, a commit makes the slot's live changes the newest commit, and the end of a slot needs
+/// none to be left. The machine's state goes along, and with it a write makes its change the session's last one.
+pub fn block_laws()
+    ensures cleaned { CleanKeepsBlocks }
+    ensures put_back { BackKeepsBlocks }
+    ensures committed { CommitKeepsBlocks }
+    ensures ended { EndKeepsBlocks }
+    ensures state_cleaned { CleanKeepsMachine }
+    ensures state_put_back { BackKeepsMachine }
+    ensures state_committed { CommitKeepsMachine }
+    ensures state_ended { EndKeepsMachine }
+    ensures state_written { WriteKeepsMachine }
 {}

@@ -4,4 +4,4 @@
 
 mod laws;
 
-pub use laws::standing_laws;
+pub use laws::{block_laws, standing_laws};

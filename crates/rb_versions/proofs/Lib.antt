@@ -1,5 +1,7 @@
+pub mod CutLemmas
 pub mod EntryLemmas
 pub mod FirstLemmas
+pub mod FrontLemmas
 pub mod GivenLemmas
 pub mod HomeLemmas
 pub mod JoinLemmas

@@ -4,6 +4,7 @@
 
 mod change;
 mod entry;
+mod front;
 mod homes;
 mod index;
 mod query;

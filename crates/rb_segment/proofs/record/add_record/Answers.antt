@@ -1,6 +1,6 @@
-use Rattle.std.proofs.Common.{◌≡◌, ℕ, ◌<◌, ◌^◌, List, ◌++◌, ⊎_elim, refl, ap, sym, subst, ◌∙◌}
+use Rattle.std.proofs.Common.{◌≡◌, ℕ, ◌<◌, ◌^◌, List, ◌++◌, ⊎_elim, refl, ap, sym, subst, ◌∙◌, arith}
 use Rattle.std.proofs.lemmas.List.{append_assoc}
-use Rattle.rb_base.specs.Blocks.{written_to}
+use Rattle.rb_base.specs.Blocks.{shape_blocks, written_to}
 use Rattle.rb_base.specs.Groups.{Patch}
 use Rattle.rb_segment.proofs.Stamps.{written_on}
 use Rattle.rb_segment.specs.Calls.{HasTurned, record_patches}
@@ -37,7 +37,7 @@ returns-clause-recorded c young =
     let turned : HasTurned b h room t.0 = t.2 young.head young.turn in
     let there = head_there b h room t.0 young.head turned in
     let writes : room.writes < 2 ^ 63 = subst (λ (n : ℕ). n < 2 ^ 63) (sym there.1) young.writes in
-    let lives : (slot_in room i).live < 2 ^ 31 = rw c.in_ok-make_room.ensures.slots (young.lives i c.requires.runs.slot) in
+    let lives : (slot_in room i).live < 2 ^ 31 = rw c.in_ok-make_room.ensures.slots young.live in
     let at = c.append.ensures.address c.args.shape.now c.args.xid.seg c.header_block-block.ensures.number there.0 in
     rw (sym c.header_block-block.ensures.number) (
       t.0 ++ made,
@@ -54,3 +54,10 @@ returns-clause-recorded c young =
         patched = ap (λ (k : ℕ). t.0 ++ record_patches k i (header_of c.append.new.header) c.append.result c.args.undo.now) c.header_block-block.ensures.number;
       },
     )
+
+pub returns-clause-within : goal.returns-clause-within
+returns-clause-within c before =
+    let shape = c.args.shape.now in
+    let number = c.header_block-block.ensures.number in
+    c.append.ensures.within (shape_blocks shape) (omega (arith, number, c.requires.there))
+    (c.make_room.ensures.within (shape_blocks shape) (omega (arith, number, c.requires.there)) before)

@@ -22,3 +22,8 @@ pub returns-clause-turn : goal.returns-clause-turn
 returns-clause-turn c few =
     let h = header_of c.args.header.now in
     c.extent_ord.ensures ∙ ap (extent_ord c.args.header.now) (c.head-head.ensures.head few) ∙ ap (λ (x : Extent). x.ord) (sym (extent_read c.args.header.now h.head few))
+
+pub returns-clause-within : goal.returns-clause-within
+returns-clause-within c =
+    let records = c.head_records.ensures ∙ sym (ring_read c.args.header.now).1 in
+    omega (arith, records, c.head-head.ensures.there, c.requires.room)

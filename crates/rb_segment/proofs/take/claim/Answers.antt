@@ -48,8 +48,17 @@ returns-clause-moved c young =
     let h = header_of c.args.header.now in
     let slot = c.slot_at-slot.ensures ∙ sym (slot_read c.args.header.now i c.in-Some.ensures.found.within) in
     let wrap : c.slot_at-slot.result.wrap < 2 ^ 63 = rw slot (young.wraps i c.in-Some.ensures.found.within) in
-    let taken = c.claimed_slot-taken.ensures wrap ∙ ap (λ (s : TableSlot). claimed_slot h s) slot in
+    let taken = c.claimed_slot-taken.ensures.slot wrap ∙ ap (λ (s : TableSlot). claimed_slot h s) slot in
     let lost = c.lost.ensures ∙ sym (ring_read c.args.header.now).3 in
     let given : c.max-given_up.result ≡ max h.lost (slot_in h i).newest = c.max-given_up.ensures ∙ rw (lost, slot) refl in
     c.set_lost.ensures.means ∙ ap (λ (g : Header). let k : Header = record g { lost = c.max-given_up.result } in k) c.set_slot.ensures.means
     ∙ rw (taken, given) refl
+
+pub returns-clause-runs : goal.returns-clause-runs
+returns-clause-runs c =
+    let slot = ap (λ (h : Header). slot_in h c.in-Some.i) c.set_lost.ensures.means ∙ c.set_slot.ensures.read in
+    record {
+      slot = c.in-Some.ensures.found.within;
+      active = ap (λ (s : TableSlot). s.state) slot ∙ c.claimed_slot-taken.ensures.active;
+      wrap = ap (λ (s : TableSlot). s.wrap) slot;
+    }

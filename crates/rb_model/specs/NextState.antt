@@ -1,0 +1,156 @@
+-- The state of the machine that keeps undo after each call, and how many groups the call gives the log.
+use Rattle.std.specs.Prelude.{◌≡◌, ◌⊎◌, ℕ, suc, ◌+◌, ◌*◌, ◌-◌, Bool, true, false, not}
+use Rattle.std.specs.Prelude.{◌&&◌, nat_lt}
+use Rattle.std.specs.Prelude.{if◌then◌else◌, cond, List, [], ◌∷◌, ◌++◌, length, set, map, filter}
+use Rattle.std.specs.Prelude.{get_or, Some}
+use Rattle.std.specs.Str.{bytes_eq}
+use Rattle.rb_model.specs.Book.{Book, book_at, finished, left, marked, taken}
+use Rattle.rb_model.specs.Calls.{Call, Write, Commit, Rollback, OpenCursor, Fetch, CloseCursor, Marks, Checkpoint}
+use Rattle.rb_model.specs.Calls.{Answer, Done, Waits, Numbered, Given, End, Marked, Refused, Cause, DiskFault}
+use Rattle.rb_model.specs.Calls.{Owned, HasNoSlot, WritesIn, has_slot}
+use Rattle.rb_model.specs.Change.{Change, Kind, Put, Gone}
+use Rattle.rb_model.specs.Machine.{State, Session, Cursor, session_own, with_changes, no_session}
+use Rattle.rb_model.specs.Reply.{Action, Insert, Update, Delete, is_empty}
+use Rattle.rb_model.specs.Rows.{last_scn}
+
+abbrev pub kind_by : Action → Kind
+kind_by (Insert value) = Put value
+kind_by (Update value) = Put value
+kind_by Delete = Gone
+
+-- the change of a write of that session, which makes the next record of segment g
+abbrev pub change_in : State → ℕ → ℕ → ℕ → Action → Change
+change_in h g table key action = record {
+  table = table;
+  key = key;
+  kind = kind_by action;
+  place = record { seg = g; index = (book_at h.books g).writes + 1 };
+}
+
+-- the books with one record more, of slot i of segment g, which the session takes where it doesn't have it yet
+abbrev pub books_written : ℕ → ℕ → ℕ → Bool → List Book → List Book
+books_written s g i has books =
+    set books g (marked i (if has then book_at books g else taken s i (book_at books g)))
+
+-- the state after a write that is done
+abbrev pub written : State → ℕ → ℕ → ℕ → Change → State
+written h s g i c = record h {
+  sessions = set h.sessions (s - 1) (with_changes h s (session_own h s ++ c ∷ []));
+  books = books_written s g i (has_slot h s g i) h.books;
+}
+
+abbrev pub cursors_of : State → ℕ → List Cursor
+cursors_of h s = (get_or h.sessions (s - 1) no_session).cursors
+
+abbrev pub not_present : Cursor → Cursor
+not_present c = record c { present = false }
+
+-- the cursors that stay as the changes behind the first `kept` go: those of the present transaction that see more close
+abbrev pub left_open : ℕ → List Cursor → List Cursor
+left_open kept cursors = filter (λ c. not (c.present && nat_lt kept (length c.own))) cursors
+
+-- the session without changes, with these cursors, which are of no present transaction
+abbrev pub ended : State → ℕ → List Cursor → State
+ended h s cursors = record h {
+  sessions = set h.sessions (s - 1) (record { own = []; cursors = map not_present cursors });
+}
+
+-- and its slot without an owner
+abbrev pub without_owner : ℕ → ℕ → State → State
+without_owner g i h = record h { books = set h.books g (left i (book_at h.books g)) }
+
+-- the state after a commit of a session with changes, whose slot is i of segment g
+abbrev pub committed : State → ℕ → ℕ → ℕ → State
+committed h s g i = record (ended h s (cursors_of h s)) {
+  commits = record h.commits { list = h.commits.list ++ session_own h s ∷ [] };
+  books = set h.books g (finished (last_scn h.commits + 1) i (book_at h.books g));
+}
+
+-- After the end of a session's transaction without a number, with these cursors: its slot, if it has one, has no owner.
+abbrev pub EndsAs : State → ℕ → List Cursor → State → Type 0
+EndsAs h s cursors h2 =
+    ((g : ℕ) × (i : ℕ) × Owned h s g i × (h2 ≡ without_owner g i (ended h s cursors)))
+    ⊎ (HasNoSlot h s × (h2 ≡ ended h s cursors))
+
+abbrev pub with_cursors : State → ℕ → List Cursor → State
+with_cursors h s cursors = record h {
+  sessions = set h.sessions (s - 1) (record { own = session_own h s; cursors = cursors });
+}
+
+-- a cursor as it is opened
+abbrev pub opened_cursor : State → ℕ → List ℕ → ℕ → ℕ → ℕ → Cursor
+opened_cursor h s name table lo hi = record {
+  name = name;
+  table = table;
+  lo = lo;
+  hi = hi;
+  number = last_scn h.commits;
+  own = session_own h s;
+  taken = 0;
+  present = true;
+}
+
+-- the cursors with one more row taken at the first of that name, and without it
+abbrev pub with_taken : List ℕ → List Cursor → List Cursor
+with_taken name [] = []
+with_taken name (c ∷ cursors) =
+    cond (bytes_eq c.name name) (record c { taken = suc c.taken } ∷ cursors) (c ∷ with_taken name cursors)
+
+abbrev pub without_cursor : List ℕ → List Cursor → List Cursor
+without_cursor name [] = []
+without_cursor name (c ∷ cursors) = cond (bytes_eq c.name name) cursors (c ∷ without_cursor name cursors)
+
+-- after a call that did what it was asked for
+abbrev pub AfterGrant : State → Call → State → Type 0
+AfterGrant h (Write s table key action) h2 =
+    (g : ℕ) × (i : ℕ) × WritesIn h s g i × (h2 ≡ written h s g i (change_in h g table key action))
+AfterGrant h (Commit s) h2 =
+    ((is_empty (session_own h s) ≡ false) × ((g : ℕ) × (i : ℕ) × Owned h s g i × (h2 ≡ committed h s g i)))
+    ⊎ ((is_empty (session_own h s) ≡ true) × EndsAs h s (cursors_of h s) h2)
+AfterGrant h (Rollback s) h2 = EndsAs h s (left_open 0 (cursors_of h s)) h2
+AfterGrant h (OpenCursor s name table lo hi) h2 =
+    h2 ≡ with_cursors h s (cursors_of h s ++ opened_cursor h s name table lo hi ∷ [])
+AfterGrant h (Fetch s name) h2 = h2 ≡ with_cursors h s (with_taken name (cursors_of h s))
+AfterGrant h (CloseCursor s name) h2 = h2 ≡ with_cursors h s (without_cursor name (cursors_of h s))
+AfterGrant h (Marks seg) h2 = h2 ≡ h
+AfterGrant h Checkpoint h2 = h2 ≡ h
+
+abbrev pub is_disk_fault : Cause → Bool
+is_disk_fault DiskFault = true
+is_disk_fault _ = false
+
+-- After a call with that answer. A refusal changes nothing, but a fault of the disk stops.
+abbrev pub After : State → Call → Answer → State → Type 0
+After h call Done h2 = AfterGrant h call h2
+After h call (Waits on) h2 = h2 ≡ h
+After h call (Numbered n) h2 = AfterGrant h call h2
+After h call (Given key value) h2 = AfterGrant h call h2
+After h call End h2 = h2 ≡ h
+After h call (Marked writes lost) h2 = h2 ≡ h
+After h call (Refused why) h2 = h2 ≡ (if is_disk_fault why then record h { stopped = true } else h)
+
+-- How many groups a call with that answer gives the log: a write that is done one; a commit with changes one; the end
+-- of a transaction without one, one for each change that is put back and one for its slot.
+abbrev pub Ends : State → ℕ → ℕ → ℕ → Type 0
+Ends h s back n =
+    ((g : ℕ) × (i : ℕ) × Owned h s g i × (n ≡ back + 1)) ⊎ (HasNoSlot h s × (n ≡ 0))
+
+abbrev pub GrowsBy : State → Call → ℕ → Type 0
+GrowsBy h (Write s table key action) n = n ≡ 1
+GrowsBy h (Commit s) n = ((is_empty (session_own h s) ≡ false) × (n ≡ 1))
+    ⊎ ((is_empty (session_own h s) ≡ true) × Ends h s 0 n)
+GrowsBy h (Rollback s) n = Ends h s (length (session_own h s)) n
+GrowsBy h (OpenCursor s name table lo hi) n = n ≡ 0
+GrowsBy h (Fetch s name) n = n ≡ 0
+GrowsBy h (CloseCursor s name) n = n ≡ 0
+GrowsBy h (Marks seg) n = n ≡ 0
+GrowsBy h Checkpoint n = n ≡ 0
+
+abbrev pub Grows : State → Call → Answer → ℕ → Type 0
+Grows h call Done n = GrowsBy h call n
+Grows h call (Numbered m) n = GrowsBy h call n
+Grows h call (Waits on) n = n ≡ 0
+Grows h call (Given key value) n = n ≡ 0
+Grows h call End n = n ≡ 0
+Grows h call (Marked writes lost) n = n ≡ 0
+Grows h call (Refused why) n = n ≡ 0
