@@ -1,0 +1,7 @@
+pub mod Looks
+pub mod Writers
+pub mod Choices
+pub mod Headers
+pub mod Causes
+pub mod Lengths
+pub mod Written

@@ -1,0 +1,54 @@
+use Rattle.std.proofs.Common.{◌≡◌, ◌+◌, ◌<◌, ℕ, List, [], ◌∷◌, length, true, false, Ok, Err, refl, ap, sym, subst, ◌∙◌, arith}
+use Rattle.rb_attempt.specs.Making.{IsMade}
+use Rattle.rb_base.specs.Blocks.{after_group}
+use Rattle.rb_base.specs.Groups.{Patch}
+use Rattle.rb_base.specs.Logs.{Logs, apply_logs, group_of, more_logs}
+use Rattle.rb_standing.specs.Standing.{logged_of}
+use Rattle.rb_attempt.proofs.change.attempt.Goals as goal
+
+-- a group that has a patch is one
+one_group : (patches : List Patch) → 0 < length patches → patches ∷ [] ≡ group_of patches
+one_group [] some = absurd (omega arith)
+one_group (p ∷ patches) some = refl
+
+pub returns-in-Ok-clause-logs : goal.returns-in-Ok-clause-logs
+returns-in-Ok-clause-logs g c =
+    let s = g.S.Store in
+    let old = c.args.store.now in
+    let mid = c.prepare.new.store in
+    let new = c.apply.new.self in
+    let group = c.prepare.new.group in
+    let call = c.in-Ok.ensures in
+    let applied = apply_logs s mid new group (Ok c.in-Ok.field-0) call.shape call.slots call.failed call.counted call.lsn call.blocks call.pending call.stable call.crashes in (
+      group,
+      subst (λ (l : List (List Patch)). Logs s old new l true) (one_group group c.in_ok-xid.ensures.some)
+          (more_logs s old mid new [] (group ∷ []) true c.in_ok-xid.ensures.logs applied),
+    )
+
+pub returns-in-Err-clause-logs : goal.returns-in-Err-clause-logs
+returns-in-Err-clause-logs g c =
+    let s = g.S.Store in
+    let old = c.args.store.now in
+    let mid = c.prepare.new.store in
+    let new = c.apply.new.self in
+    let group = c.prepare.new.group in
+    let call = c.in-Err.ensures in
+    let applied = apply_logs s mid new group (Err c.in-Err.field-0) call.shape call.slots call.failed call.counted call.lsn call.blocks call.pending call.stable call.crashes in (
+      group,
+      subst (λ (l : List (List Patch)). Logs s old new l false) (one_group group c.in_ok-xid.ensures.some)
+          (more_logs s old mid new [] (group ∷ []) false c.in_ok-xid.ensures.logs applied),
+    )
+
+pub returns-in-Ok-clause-written : goal.returns-in-Ok-clause-written
+returns-in-Ok-clause-written g c told number young =
+    let s = g.S.Store in
+    let old = c.args.store.now in
+    let shape = s.shape_of old in
+    let blocks = s.blocks old in
+    let logs = c.in_ok-xid.ensures.logs in
+    let group = c.prepare.new.group in
+    let last : s.lsn c.prepare.new.store + 1 ≡ logged_of shape blocks + 1 = omega (arith, logs.number refl, number) in
+    let now = c.in-Ok.ensures.blocks told
+    ∙ ap (λ (n : ℕ). after_group n group (s.blocks c.prepare.new.store)) last
+    ∙ ap (after_group (logged_of shape blocks + 1) group) (logs.blocks told refl) in
+    subst (λ (l : List (List ℕ)). IsMade shape blocks l c.args.ask.now c.in_ok-xid.xid) (sym now) (c.in_ok-xid.ensures.made told young)

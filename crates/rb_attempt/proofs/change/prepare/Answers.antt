@@ -1,0 +1,265 @@
+use Rattle.std.proofs.Common.{◌≡◌, ◌+◌, ◌<◌, ◌≤◌, ◌^◌, ℕ, Bool, List, [], ◌++◌, true, if◌then◌else◌, Option, Result, Err, IfErr, refl, ap, sym, subst, ◌∙◌, arith}
+use Rattle.std.specs.Prelude.{is_some}
+use Rattle.std.specs.List.{AllByRecursion}
+use Rattle.std.proofs.lemmas.Result.{err_from_is_err_and}
+use Rattle.rb_attempt.proofs.Causes.{both_ways, fails_same, log_refuses, takes_writer}
+use Rattle.rb_attempt.proofs.Choices.{chain_short, choice_agrees, none_agrees}
+use Rattle.rb_attempt.proofs.Headers.{ready_is, turned_may, young_at}
+use Rattle.rb_attempt.proofs.Writers.{writer_there}
+use Rattle.rb_attempt.proofs.Written.{made_by, Prepared}
+use Rattle.rb_attempt.specs.Asks.{adds_row, home_for, AreYoung, IsWriterOf}
+use Rattle.rb_attempt.specs.Making.{Changes}
+use Rattle.rb_attempt.specs.Refusals.{has_failed, HasCause, LogRefuses, Refuses, TakesWrite, TakesWriter}
+use Rattle.rb_attempt.specs.declared.ask.AttemptFault.{AttemptFault}
+use Rattle.rb_attempt.specs.declared.home.Place.{Place}
+use Rattle.rb_base.proofs.Each.{all_so}
+use Rattle.rb_base.specs.Blocks.{block_of, header_block, home_block, shape_blocks, table_blocks, written_to, AreWithin}
+use Rattle.rb_base.specs.Groups.{Patch}
+use Rattle.rb_base.specs.Logs.{more_logs}
+use Rattle.rb_base.specs.Stores.{room_of}
+use Rattle.rb_base.specs.declared.ids.Xid.{Xid}
+use Rattle.rb_base.specs.declared.shape.Shape.{Shape}
+use Rattle.rb_cleanout.proofs.Copies.{all_joined}
+use Rattle.rb_cleanout.proofs.Grouped.{of_block}
+use Rattle.rb_heap.proofs.Reading.{entry_read}
+use Rattle.rb_heap.specs.Choices.{HasNoChoice}
+use Rattle.rb_heap.specs.Cleaning.{cleaned_home, IsCleanPatch}
+use Rattle.rb_heap.specs.Homes.{Home, home_entry, home_of}
+use Rattle.rb_itl.specs.Entries.{entry_at, free_entry}
+use Rattle.rb_segment.specs.Header.{header_of}
+use Rattle.rb_segment.specs.Segments.{owed_in}
+use Rattle.rb_standing.specs.Standing.{env_of}
+use Rattle.rb_attempt.proofs.change.prepare.Goals as goal
+
+pub returns-in_err-cell-clause-cause : goal.returns-in_err-cell-clause-cause
+returns-in_err-cell-clause-cause g c told young going =
+    let s = g.S.Store in
+    let old = c.args.store.now in
+    let shape = s.shape_of old in
+    let blocks = s.blocks old in
+    let ask = c.args.ask.now in
+    let fault = c.in_err-cell.field-0.0 in
+    let same = c.shape-shape.ensures.shape in
+    let some : 1 ≤ shape.segments = omega (arith, c.shape-shape.ensures.in_range.few_segments.0, ap (λ (k : Shape). k.segments) same) in
+    let number = c.home_block-block.ensures.number ∙ ap (λ (k : Shape). home_block k ask.table ask.key) same in
+    let home : home_of c.clean_home.new.home ≡ home_for shape blocks ask = c.in_ok-clean_home.ensures.cleaned told young
+    ∙ ap (λ (b : ℕ). cleaned_home (env_of shape blocks).look (home_of (block_of blocks b))) number in
+    let writer = writer_there shape blocks ask.own some (c.requires.may told) in
+    let logged = s.lsn old in
+    let room = room_of (s.slots old) logged in
+    let kept : ℕ = owed_in shape blocks + (if is_some ask.own then 1 else 2) in
+    let p = err_from_is_err_and c.from_residual-in_err-cell.result c.from_residual-in_err-cell.ensures.1 in
+    let is : c.from_residual-in_err-cell.result ≡ Err fault = p.1 ∙ ap (λ (f : AttemptFault). Err f) p.2 in
+    subst (λ (r : Result Xid AttemptFault). IfErr r (HasCause shape blocks ask logged room)) (sym is) (
+      writer.0,
+      writer.1,
+      writer.2,
+      subst (λ (h : Home). Refuses fault h (adds_row ask.op) ask.key writer.0 writer.1 logged room kept) home (c.in_err-cell.ensures.refused writer.0 writer.1 logged room kept),
+    )
+
+pub returns-in_default-clause-cause : goal.returns-in_default-clause-cause
+returns-in_default-clause-cause g c told young going =
+    let s = g.S.Store in
+    let old = c.args.store.now in
+    let mid = c.clean_home.new.store in
+    let shape = s.shape_of old in
+    let blocks = s.blocks old in
+    let ask = c.args.ask.now in
+    let x = c.in_ok-xid.xid in
+    let copy = c.clean_home.new.home in
+    let ready = header_of c.writer.new.header in
+    let logs = c.in_ok-clean_home.ensures.logs in
+    let number = c.home_block-block.ensures.number ∙ ap (λ (k : Shape). home_block k ask.table ask.key) c.shape-shape.ensures.shape in
+    let home : home_of copy ≡ home_for shape blocks ask = c.in_ok-clean_home.ensures.cleaned told young
+    ∙ ap (λ (b : ℕ). cleaned_home (env_of shape blocks).look (home_of (block_of blocks b))) number in
+    let young_mid = both_ways AreYoung shape (s.shape_of mid) blocks (s.blocks mid) (sym logs.same_shape) (sym (logs.blocks told refl)) young in
+    let writer = both_ways (λ (k : Shape) (l : List (List ℕ)). IsWriterOf k l ask.own x ready) (s.shape_of mid) shape (s.blocks mid) blocks logs.same_shape (logs.blocks told refl) (c.in_ok-xid.ensures.writer told young_mid) in
+    let none = none_agrees (entry_at copy) (home_entry (home_of copy)) (λ j lt. sym (entry_read copy j free_entry lt)) x c.in_default.ensures in (
+      x,
+      ready,
+      writer,
+      subst (λ (h : Home). TakesWrite h (adds_row ask.op) ask.key × HasNoChoice (home_entry h) x) home (c.in_ok-cell.ensures.takes, none),
+    )
+
+pub returns-in_err-put_change-clause-cause : goal.returns-in_err-put_change-clause-cause
+returns-in_err-put_change-clause-cause g c told young going =
+    let s = g.S.Store in
+    let old = c.args.store.now in
+    let mid = c.clean_home.new.store in
+    let shape = s.shape_of old in
+    let blocks = s.blocks old in
+    let ask = c.args.ask.now in
+    let x = c.in_ok-xid.xid in
+    let i = c.in-Some.entry in
+    let copy = c.clean_home.new.home in
+    let ready = header_of c.writer.new.header in
+    let logs = c.in_ok-clean_home.ensures.logs in
+    let number = c.home_block-block.ensures.number ∙ ap (λ (k : Shape). home_block k ask.table ask.key) c.shape-shape.ensures.shape in
+    let home : home_of copy ≡ home_for shape blocks ask = c.in_ok-clean_home.ensures.cleaned told young
+    ∙ ap (λ (b : ℕ). cleaned_home (env_of shape blocks).look (home_of (block_of blocks b))) number in
+    let young_mid = both_ways AreYoung shape (s.shape_of mid) blocks (s.blocks mid) (sym logs.same_shape) (sym (logs.blocks told refl)) young in
+    let writer = both_ways (λ (k : Shape) (l : List (List ℕ)). IsWriterOf k l ask.own x ready) (s.shape_of mid) shape (s.blocks mid) blocks logs.same_shape (logs.blocks told refl) (c.in_ok-xid.ensures.writer told young_mid) in
+    let choice = choice_agrees (entry_at copy) (home_entry (home_of copy)) (λ j lt. sym (entry_read copy j free_entry lt)) x i c.in-Some.ensures in
+    let takes = subst (λ (h : Home). TakesWriter h (adds_row ask.op) ask.key x) home (takes_writer (home_of copy) (adds_row ask.op) ask.key x i c.in_ok-cell.ensures.takes choice) in
+    let fault = c.in_err-put_change.field-0.0 in
+    let full = c.in_err-put_change.ensures.full in
+    let logged = s.lsn old in
+    let room = room_of (s.slots old) logged in
+    let kept : ℕ = owed_in shape blocks + (if is_some ask.own then 1 else 2) in
+    let p = err_from_is_err_and c.from_residual-in_err-put_change.result c.from_residual-in_err-put_change.ensures.1 in
+    let is : c.from_residual-in_err-put_change.result ≡ Err fault = p.1 ∙ ap (λ (f : AttemptFault). Err f) p.2 in
+    subst (λ (r : Result Xid AttemptFault). IfErr r (HasCause shape blocks ask logged room)) (sym is) (
+      x,
+      ready,
+      writer,
+      subst (λ (f : AttemptFault). Refuses f (home_for shape blocks ask) (adds_row ask.op) ask.key x ready logged room kept) (sym full.1) (takes, full.2, refl, full.3),
+    )
+
+pub returns-in_err-check_room-clause-cause : goal.returns-in_err-check_room-clause-cause
+returns-in_err-check_room-clause-cause g c told young going =
+    let s = g.S.Store in
+    let old = c.args.store.now in
+    let mid = c.clean_home.new.store in
+    let shape = s.shape_of old in
+    let blocks = s.blocks old in
+    let ask = c.args.ask.now in
+    let x = c.in_ok-xid.xid in
+    let i = c.in-Some.entry in
+    let copy = c.clean_home.new.home in
+    let ready = header_of c.writer.new.header in
+    let logs = c.in_ok-clean_home.ensures.logs in
+    let number = c.home_block-block.ensures.number ∙ ap (λ (k : Shape). home_block k ask.table ask.key) c.shape-shape.ensures.shape in
+    let home : home_of copy ≡ home_for shape blocks ask = c.in_ok-clean_home.ensures.cleaned told young
+    ∙ ap (λ (b : ℕ). cleaned_home (env_of shape blocks).look (home_of (block_of blocks b))) number in
+    let young_mid = both_ways AreYoung shape (s.shape_of mid) blocks (s.blocks mid) (sym logs.same_shape) (sym (logs.blocks told refl)) young in
+    let writer = both_ways (λ (k : Shape) (l : List (List ℕ)). IsWriterOf k l ask.own x ready) (s.shape_of mid) shape (s.blocks mid) blocks logs.same_shape (logs.blocks told refl) (c.in_ok-xid.ensures.writer told young_mid) in
+    let choice = choice_agrees (entry_at copy) (home_entry (home_of copy)) (λ j lt. sym (entry_read copy j free_entry lt)) x i c.in-Some.ensures in
+    let takes = subst (λ (h : Home). TakesWriter h (adds_row ask.op) ask.key x) home (takes_writer (home_of copy) (adds_row ask.op) ask.key x i c.in_ok-cell.ensures.takes choice) in
+    let late = c.writer.new.store in
+    let logs_late = more_logs s old mid late [] [] true logs c.in_ok-xid.ensures.logs in
+    let fault = c.in_err-check_room.field-0.0 in
+    let p = err_from_is_err_and c.from_residual-in_err-check_room.result c.from_residual-in_err-check_room.ensures.1 in
+    let is : c.from_residual-in_err-check_room.result ≡ Err fault = p.1 ∙ ap (λ (f : AttemptFault). Err f) p.2 in
+    let seg : x.seg < shape.segments = omega (arith, c.in_ok-xid.ensures.there, ap (λ (k : Shape). k.segments) logs.same_shape) in
+    let young_ready = young_at shape blocks x ready seg ask.own c.in_ok-xid.ensures.runs.slot young writer in
+    let look = (env_of shape blocks).look in
+    let P : Home → Type 0 = λ h. (home_entry h i).kind ≡ 1 → (home_entry h i).length < 2 ^ 31 in
+    let there : c.home_block-block.result < table_blocks shape = omega (arith, c.home_block-block.ensures.there, ap table_blocks c.shape-shape.ensures.shape) in
+    let chain : P (home_of copy) = subst P (sym (c.in_ok-clean_home.ensures.cleaned told young)) (chain_short shape blocks look c.home_block-block.result i young there c.in-Some.ensures.within) in
+    let made = c.in_ok-put_change.ensures.made young_ready chain in
+    let turns = turned_may (header_block c.shape-shape.result x.seg) ready made.recorded.room made.recorded.before made.recorded.has_turned in
+    let logged = s.lsn old in
+    let room = room_of (s.slots old) logged in
+    let kept : ℕ = owed_in shape blocks + (if is_some ask.own then 1 else 2) in
+    let same_lsn : s.lsn late ≡ logged = omega (arith, logs_late.number refl) in
+    let same_room : room_of (s.slots late) (s.lsn late) ≡ room = ap (λ (o : Option ℕ). room_of o (s.lsn late)) logs_late.same_slots ∙ ap (room_of (s.slots old)) same_lsn in
+    let owed = ap (λ (k : Shape). owed_in k (s.blocks late)) logs_late.same_shape ∙ ap (owed_in shape) (logs_late.blocks told refl) in
+    let same_kept : owed_in (s.shape_of late) (s.blocks late) + (if c.is_some.result then 1 else 2) ≡ kept = ap (λ (n : ℕ). n + (if c.is_some.result then 1 else 2)) owed
+    ∙ ap (λ (b : Bool). owed_in shape blocks + (if b then 1 else 2)) c.is_some.ensures in
+    let log = subst (λ (n : ℕ). LogRefuses fault n room kept) same_lsn
+    (subst (λ (n : ℕ). LogRefuses fault (s.lsn late) n kept) same_room
+    (subst (LogRefuses fault (s.lsn late) (room_of (s.slots late) (s.lsn late))) same_kept
+    (c.in_err-check_room.ensures.refused told (fails_same (Unit {0}) Xid fault ∙ ap (λ (r : Result Xid AttemptFault). has_failed r) (sym is) ∙ going)))) in
+    subst (λ (r : Result Xid AttemptFault). IfErr r (HasCause shape blocks ask logged room)) (sym is) (
+      x,
+      ready,
+      writer,
+      log_refuses fault (home_for shape blocks ask) (adds_row ask.op) ask.key x ready logged room kept takes turns log,
+    )
+
+pub returns-clause-within : goal.returns-clause-within
+returns-clause-within g c =
+    let s = g.S.Store in
+    let old = c.args.store.now in
+    let shape = s.shape_of old in
+    let same = c.shape-shape.ensures.shape in
+    let x = c.in_ok-xid.xid in
+    let block = c.home_block-block.result in
+    let taking = c.in_ok-xid.ensures.patches in
+    let all = shape_blocks c.shape-shape.result in
+    let segments : x.seg < c.shape-shape.result.segments = omega (arith, c.in_ok-xid.ensures.there, ap (λ (k : Shape). k.segments) (c.in_ok-clean_home.ensures.logs.same_shape ∙ sym same)) in
+    let header : header_block (s.shape_of c.clean_home.new.store) x.seg ≡ header_block c.shape-shape.result x.seg = ap (λ (k : Shape). header_block k x.seg) (c.in_ok-clean_home.ensures.logs.same_shape ∙ sym same) in
+    let cleaning : AreWithin c.shape-shape.result c.clean_home.new.group = all_so (IsCleanPatch block) (λ (p : Patch). p.block < all) c.clean_home.new.group
+    (λ p is. omega (arith, of_block block p is, c.home_block-block.ensures.there)) c.in_ok-clean_home.ensures.patches in
+    let taken : AreWithin c.shape-shape.result taking.0 = all_so (λ (p : Patch). p.block ≡ header_block (s.shape_of c.clean_home.new.store) x.seg) (λ (p : Patch). p.block < all) taking.0
+    (λ p is. omega (arith, is, header, segments)) taking.2 in
+    let before : AreWithin c.shape-shape.result c.writer.new.group = subst (AreWithin c.shape-shape.result) (sym taking.1) (all_joined (λ (p : Patch). p.block < all) c.clean_home.new.group taking.0 cleaning taken) in
+    subst (λ (k : Shape). AreWithin k c.put_change.new.group) same (c.in_ok-put_change.ensures.within before)
+
+pub returns-clause-made : goal.returns-clause-made
+returns-clause-made g c told young =
+    let s = g.S.Store in
+    let old = c.args.store.now in
+    let mid = c.clean_home.new.store in
+    let shape = s.shape_of old in
+    let blocks = s.blocks old in
+    let ask = c.args.ask.now in
+    let x = c.in_ok-xid.xid in
+    let i = c.in-Some.entry in
+    let copy = c.clean_home.new.home in
+    let ready = header_of c.writer.new.header in
+    let logs = c.in_ok-clean_home.ensures.logs in
+    let number = c.home_block-block.ensures.number ∙ ap (λ (k : Shape). home_block k ask.table ask.key) c.shape-shape.ensures.shape in
+    let home : home_of copy ≡ home_for shape blocks ask = c.in_ok-clean_home.ensures.cleaned told young
+    ∙ ap (λ (b : ℕ). cleaned_home (env_of shape blocks).look (home_of (block_of blocks b))) number in
+    let young_mid = both_ways AreYoung shape (s.shape_of mid) blocks (s.blocks mid) (sym logs.same_shape) (sym (logs.blocks told refl)) young in
+    let writer = both_ways (λ (k : Shape) (l : List (List ℕ)). IsWriterOf k l ask.own x ready) (s.shape_of mid) shape (s.blocks mid) blocks logs.same_shape (logs.blocks told refl) (c.in_ok-xid.ensures.writer told young_mid) in
+    let choice = choice_agrees (entry_at copy) (home_entry (home_of copy)) (λ j lt. sym (entry_read copy j free_entry lt)) x i c.in-Some.ensures in
+    let takes = subst (λ (h : Home). TakesWriter h (adds_row ask.op) ask.key x) home (takes_writer (home_of copy) (adds_row ask.op) ask.key x i c.in_ok-cell.ensures.takes choice) in
+    let same = c.shape-shape.ensures.shape in
+    let look = (env_of shape blocks).look in
+    let block = c.home_block-block.result in
+    let group = c.put_change.new.group in
+    let seg : x.seg < shape.segments = omega (arith, c.in_ok-xid.ensures.there, ap (λ (k : Shape). k.segments) logs.same_shape) in
+    let young_ready = young_at shape blocks x ready seg ask.own c.in_ok-xid.ensures.runs.slot young writer in
+    let P : Home → Type 0 = λ h. (home_entry h i).kind ≡ 1 → (home_entry h i).length < 2 ^ 31 in
+    let there : block < table_blocks shape = omega (arith, c.home_block-block.ensures.there, ap table_blocks same) in
+    let cleaned = c.in_ok-clean_home.ensures.cleaned told young in
+    let chain : P (home_of copy) = subst P (sym cleaned) (chain_short shape blocks look block i young there c.in-Some.ensures.within) in
+    let taking = c.in_ok-xid.ensures.patches in
+    let same_shape = logs.same_shape in
+    let same_blocks = logs.blocks told refl in
+    let changes = c.in_ok-put_change.ensures.made young_ready chain in
+    let place : Place = record { block = block; entry = i; cell = c.in_ok-cell.cell } in
+    let prepared : Prepared shape blocks ask place group x = record {
+      are = c.in_ok-clean_home.ensures.whole told;
+      there = number;
+      of_rows = there;
+      entry = c.in-Some.ensures.within;
+      cell = c.in_ok-cell.ensures.within;
+      seg = seg;
+      valid = c.in_ok-put_change.ensures.valid.each;
+      copy = copy;
+      cleaning = c.clean_home.new.group;
+      cleans = c.in_ok-clean_home.ensures.patches;
+      copied = c.in_ok-clean_home.ensures.copy told;
+      long = c.in_ok-clean_home.ensures.length;
+      cleaned = cleaned;
+      header = c.writer.new.header;
+      taking = taking.0;
+      takes = subst (λ (k : Shape). AllByRecursion (λ (q : Patch). q.block ≡ header_block k x.seg) taking.0) same_shape taking.2;
+      taken = both_ways (λ (k : Shape) (l : List (List ℕ)). c.writer.new.header ≡ written_to (header_block k x.seg) taking.0 (block_of l (header_block k x.seg))) (s.shape_of mid) shape (s.blocks mid) blocks same_shape same_blocks (taking.3 told);
+      runs = c.in_ok-xid.ensures.runs;
+      ready = ready_is shape blocks x ready seg ask.own (c.requires.may told) writer;
+      young = young_ready;
+      header2 = c.put_change.new.header;
+      changes = subst (λ (k : Shape). Changes k ask x place copy c.writer.new.header c.put_change.new.header (c.clean_home.new.group ++ taking.0) group) same
+          (subst (λ (held : List Patch). Changes c.shape-shape.result ask x place copy c.writer.new.header c.put_change.new.header held group) taking.1 changes);
+      choice = choice;
+      place = c.in_ok-cell.ensures.cell;
+    } in
+    let made = made_by shape blocks ask place group x prepared in
+    (made.address, made.undo, ready, writer, made.table, made.key, made.wrap, made.home, made.is_written)
+
+pub returns-clause-takes : goal.returns-clause-takes
+returns-clause-takes g c told young =
+    let s = g.S.Store in
+    let old = c.args.store.now in
+    let shape = s.shape_of old in
+    let blocks = s.blocks old in
+    let ask = c.args.ask.now in
+    let copy = c.clean_home.new.home in
+    let number = c.home_block-block.ensures.number ∙ ap (λ (k : Shape). home_block k ask.table ask.key) c.shape-shape.ensures.shape in
+    let home : home_of copy ≡ home_for shape blocks ask = c.in_ok-clean_home.ensures.cleaned told young
+    ∙ ap (λ (b : ℕ). cleaned_home (env_of shape blocks).look (home_of (block_of blocks b))) number in
+    subst (λ (h : Home). TakesWrite h (adds_row ask.op) ask.key) home c.in_ok-cell.ensures.takes

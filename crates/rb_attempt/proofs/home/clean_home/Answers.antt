@@ -1,0 +1,24 @@
+use Rattle.std.proofs.Common.{◌≡◌, ℕ, List, ap, ◌∙◌, refl}
+use Rattle.rb_base.specs.Blocks.{block_of}
+use Rattle.rb_base.specs.Logs.{load_logs}
+use Rattle.std.proofs.Common.{Ok}
+use Rattle.rb_base.specs.declared.ids.Xid.{Xid}
+use Rattle.rb_cleanout.proofs.Looking.{looks, same_looks}
+use Rattle.rb_heap.specs.Cleaning.{cleaned_home}
+use Rattle.rb_heap.specs.Homes.{home_of}
+use Rattle.rb_txntable.specs.declared.looks.Look.{Look}
+use Rattle.rb_attempt.proofs.Looks.{block_same}
+use Rattle.rb_attempt.proofs.home.clean_home.Goals as goal
+
+pub returns-in-Ok-clean_copy-clause-cleaned : goal.returns-in-Ok-clean_copy-clause-cleaned
+returns-in-Ok-clean_copy-clause-cleaned g c told young =
+    let s = g.S.Store in
+    let old = c.args.store.now in
+    let loaded = c.load.new.self in
+    let load = c.in-Ok.ensures in
+    let loads = load_logs s old loaded (Ok c.in-Ok.field-0) load.only_loads load.failed load.counted in
+    let copied : c.copy_from_slice.new.self ≡ block_of (s.blocks loaded) c.args.no = c.copy_from_slice.ensures.after ∙ c.block.ensures.block told c.args.no load.loaded in
+    c.in-Ok-clean_copy.ensures.cleaned told
+    ∙ ap (λ (look : Xid → Look). cleaned_home look (home_of c.copy_from_slice.new.self)) (same_looks s old loaded loads told)
+    ∙ ap (λ (l : List ℕ). cleaned_home (looks s old) (home_of l)) (copied ∙ ap (λ (l : List (List ℕ)). block_of l c.args.no) (loads.blocks told refl))
+    ∙ block_same (s.shape_of old) (s.blocks old) c.args.no c.requires.there young

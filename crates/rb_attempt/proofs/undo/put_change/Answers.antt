@@ -1,0 +1,34 @@
+use Rattle.std.proofs.Common.{◌≡◌, ◌<◌, ◌^◌, ◌++◌, List, ap, sym, subst, ◌∙◌}
+use Rattle.rb_attempt.specs.Asks.{kind_of}
+use Rattle.rb_base.specs.Groups.{Patch}
+use Rattle.rb_heap.proofs.Reading.{cell_read, entry_read}
+use Rattle.rb_heap.specs.Homes.{empty_cell, home_patches}
+use Rattle.rb_itl.specs.Entries.{free_entry}
+use Rattle.rb_itl.specs.declared.slots.Entry.{Entry}
+use Rattle.rb_standing.specs.Writing.{cell_after, entry_after}
+use Rattle.rb_attempt.proofs.undo.put_change.Goals as goal
+
+pub returns-clause-made : goal.returns-clause-made
+returns-clause-made c young chain =
+    let home = c.args.home.now in
+    let place = c.args.place in
+    let added = c.in-Ok.ensures.recorded young in
+    let cell_was = c.cells.ensures.cell ∙ sym (cell_read home place.cell empty_cell c.requires.cell) in
+    let entry_was = c.entry.ensures ∙ sym (entry_read home place.entry free_entry c.requires.entry) in
+    let few : c.entry.result.kind ≡ 1 → c.entry.result.length < 2 ^ 31 = λ is. let P : Entry → Type 0 = λ e. e.kind ≡ 1 → e.length < 2 ^ 31 in subst P (sym entry_was) chain is in
+    record {
+      address = c.in-Ok.address;
+      undo = c.undo_for-undo.result;
+      patches = added.0;
+      undo_of = c.undo_for-undo.ensures;
+      sound = c.in-Ok.ensures.sound;
+      same = added.1.copy;
+      recorded = added.2;
+      cell = c.new_cell-cell.result;
+      cell_is = c.new_cell-cell.ensures ∙ ap (cell_after (kind_of c.args.ask.now.op) c.args.ask.now.key place.entry) cell_was;
+      cell_sound = c.change.ensures.cell_sound;
+      entry = c.new_entry-entry.result;
+      entry_is = c.new_entry-entry.ensures few ∙ ap (entry_after c.args.xid c.in-Ok.address) entry_was;
+      entry_sound = c.change.ensures.entry_sound;
+      group = c.change.ensures.patches ∙ ap (λ (l : List Patch). l ++ home_patches place.block place.cell c.new_cell-cell.result place.entry c.new_entry-entry.result) added.1.group;
+    }

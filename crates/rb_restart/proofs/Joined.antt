@@ -1,0 +1,150 @@
+-- Groups that put back, joined: some after others, and those of one call after those of another.
+use Rattle.std.proofs.Common.{◌≡◌, ◌<◌, ◌≤◌, ◌+◌, ◌-◌, ◌*◌, inl, inr, ℕ, zero, suc, Bool, true, false, List, [], ◌∷◌, ◌++◌, length, take, Option, Some, None, length-append, refl, sym, ◌∙◌, ap, subst, arith}
+use Rattle.std.proofs.lemmas.Bool.{cases_lt}
+use Rattle.std.proofs.lemmas.List.{take-append-le}
+use Rattle.std.proofs.Math.Seq.{take-append-add}
+use Rattle.rb_base.specs.Blocks.{after_group, after_groups}
+use Rattle.rb_base.specs.Groups.{Patch}
+use Rattle.rb_base.specs.Logs.{Logs, after_joined, more_logs}
+use Rattle.rb_base.specs.Stores.{room_of}
+use Rattle.rb_base.specs.declared.shape.Shape.{Shape}
+use Rattle.rb_base.specs.declared.store.Store.{Ghosts}
+use Rattle.rb_model.specs.Rows.{TableRow}
+use Rattle.rb_restart.specs.Rollback.{SameMarks}
+use Rattle.rb_restart.specs.Steps.{IsIdle, MayRoll, PutsBack, Rolls}
+use Rattle.rb_segment.specs.Segments.{owed_in}
+use Rattle.rb_standing.specs.Standing.{SoundAs, logged_of}
+
+module _ (shape : Shape) (number : ℕ) (rows : List TableRow) where
+  -- no group
+  pub none_puts : (blocks : List (List ℕ)) → SoundAs shape blocks number rows → PutsBack shape number rows [] blocks blocks
+  none_puts blocks sound = record {
+    sound = λ count few. none count few;
+    made = refl;
+    logged = omega arith;
+    owed = omega arith;
+    marks = record { writes = λ g g_in. refl; lost = λ g g_in. refl };
+    idle = λ t t_in is. is;
+  }
+    where
+      none : (count : ℕ) → count ≤ 0 → SoundAs shape (after_groups (logged_of shape blocks + 1) (take {A = List Patch} count []) blocks) number rows
+      none zero few = sound
+      none (suc count) few = absurd (omega (arith, few))
+
+  -- one group
+  pub one_puts : (group : List Patch) (before now : List (List ℕ)) → SoundAs shape before number rows → SoundAs shape now number rows → now ≡ after_group (logged_of shape before + 1) group before → logged_of shape now ≡ logged_of shape before + 1 → owed_in shape now + 1 ≡ owed_in shape before → SameMarks shape before now → ((t : ℕ) → t < 16 * shape.segments → IsIdle shape before t → IsIdle shape now t) → PutsBack shape number rows (group ∷ []) before now
+  one_puts group before now sound after made logged owed marks idle = record {
+    sound = each;
+    made = made;
+    logged = logged;
+    owed = owed;
+    marks = marks;
+    idle = idle;
+  }
+    where
+      each : (count : ℕ) → count ≤ length (group ∷ []) → SoundAs shape (after_groups (logged_of shape before + 1) (take count (group ∷ [])) before) number rows
+      each zero few = sound
+      each (suc zero) few = subst (λ (l : List (List ℕ)). SoundAs shape l number rows) made after
+      each (suc (suc count)) few = absurd (omega (arith, few))
+
+  -- some groups after others
+  pub more_puts : (first second : List (List Patch)) (before mid now : List (List ℕ)) → PutsBack shape number rows first before mid → PutsBack shape number rows second mid now → PutsBack shape number rows (first ++ second) before now
+  more_puts first second before mid now a b = record {
+    sound = λ count few. elim (cases_lt count (length first)) [
+      | inl lt ↦ subst (λ (l : List (List Patch)). SoundAs shape (after_groups (logged_of shape before + 1) l before) number rows) (sym (take-append-le count first second (omega (arith, lt)))) (a.sound count (omega (arith, lt)))
+      | inr le ↦ later count few le
+    ];
+    made = b.made ∙ sym (joined second);
+    logged = omega (arith, a.logged, b.logged, length-append first second);
+    owed = omega (arith, a.owed, b.owed, length-append first second);
+    marks = record { writes = λ g g_in. b.marks.writes g g_in ∙ a.marks.writes g g_in; lost = λ g g_in. b.marks.lost g g_in ∙ a.marks.lost g g_in };
+    idle = λ t t_in is. b.idle t t_in (a.idle t t_in is);
+  }
+    where
+      joined : (groups : List (List Patch)) → after_groups (logged_of shape before + 1) (first ++ groups) before ≡ after_groups (logged_of shape mid + 1) groups mid
+      joined groups =
+          after_joined (logged_of shape before + 1) first groups before
+          ∙ (ap (λ (n : ℕ). after_groups n groups (after_groups (logged_of shape before + 1) first before)) (omega (arith, a.logged))
+          ∙ ap (after_groups (logged_of shape mid + 1) groups) (sym a.made))
+
+      later : (count : ℕ) → count ≤ length (first ++ second) → length first ≤ count → SoundAs shape (after_groups (logged_of shape before + 1) (take count (first ++ second)) before) number rows
+      later count few le =
+          let rest = count - length first in
+          let at : take count (first ++ second) ≡ first ++ take rest second = ap (λ (n : ℕ). take n (first ++ second)) (omega (arith, le)) ∙ take-append-add first second rest in
+          subst (λ (l : List (List ℕ)). SoundAs shape l number rows) (sym (ap (λ (l : List (List Patch)). after_groups (logged_of shape before + 1) l before) at ∙ joined (take rest second))) (b.sound rest (omega (arith, few, le, length-append first second)))
+
+-- a log has room still for what is owed, as groups fall off both
+pub room_on : (slots : Option ℕ) (lsn lsn2 owed owed2 count : ℕ) → lsn2 ≡ lsn + count → owed2 + count ≡ owed → owed ≤ room_of slots lsn → owed2 ≤ room_of slots lsn2
+room_on None lsn lsn2 owed owed2 count logged falls fits = omega (arith, falls, fits)
+room_on (Some slots) lsn lsn2 owed owed2 count logged falls fits = omega (arith, logged, falls, fits)
+
+module _ {S : Type 0} (s : Ghosts S) (shape : Shape) where
+  -- calls that logged nothing
+  pub none_rolls : (old new : S) (most : ℕ) (going : Bool) (Done : List (List ℕ) → Type 0) → Logs s old new [] going → (s.tells → going ≡ true → (number : ℕ) (rows : List TableRow) → MayRoll shape number rows (s.lsn old) (room_of (s.slots old) (s.lsn old)) (s.blocks old) → s.blocks new ≡ s.blocks old → Done (s.blocks old)) → Rolls s shape old new most going Done
+  none_rolls old new most going Done logs done = record {
+    groups = [];
+    logs = logs;
+    few = omega arith;
+    puts_back = λ number rows told goes may.
+        let same : s.blocks new ≡ s.blocks old = logs.blocks told goes in
+        subst (λ (l : List (List ℕ)). PutsBack shape number rows [] (s.blocks old) l × Done l) (sym same) (none_puts shape number rows (s.blocks old) may.sound, done told goes number rows may same);
+  }
+
+  -- a call that failed
+  pub fault_rolls : (old new : S) (groups : List (List Patch)) (most : ℕ) (Done : List (List ℕ) → Type 0) → Logs s old new groups false → Rolls s shape old new most false Done
+  fault_rolls old new groups most Done logs = record {
+    groups = [];
+    logs = record {
+      same_shape = logs.same_shape;
+      same_slots = logs.same_slots;
+      failed = logs.failed;
+      no_less = logs.no_less;
+      cause = logs.cause;
+      still = λ goes. let clash : false ≡ true = goes in cc;
+      number = λ goes. let clash : false ≡ true = goes in cc;
+      blocks = λ told goes. let clash : false ≡ true = goes in cc;
+      pending = λ kept goes. let clash : false ≡ true = goes in cc;
+      stable = λ kept goes. let clash : false ≡ true = goes in cc;
+      crashes = logs.crashes;
+    };
+    few = omega arith;
+    puts_back = λ number rows told goes may. let clash : false ≡ true = goes in cc;
+  }
+
+  -- the blocks behind them may be rolled back too
+  pub may_on : (old mid : S) (most : ℕ) (Done : List (List ℕ) → Type 0) (number : ℕ) (rows : List TableRow) → s.tells → Rolls s shape old mid most true Done → MayRoll shape number rows (s.lsn old) (room_of (s.slots old) (s.lsn old)) (s.blocks old) → MayRoll shape number rows (s.lsn mid) (room_of (s.slots mid) (s.lsn mid)) (s.blocks mid)
+  may_on old mid most Done number rows told a may =
+      let puts = (a.puts_back number rows told refl may).0 in
+      let n = a.logs.number refl in
+      let end = puts.sound (length a.groups) (omega arith) in
+      record {
+        sound = subst (λ (l : List (List ℕ)). SoundAs shape l number rows) (ap (λ (l : List (List Patch)). after_groups (logged_of shape (s.blocks old) + 1) l (s.blocks old)) (take_all a.groups) ∙ sym puts.made) end;
+        logged = omega (arith, n, may.logged, puts.logged);
+        fits = subst (λ (o : Option ℕ). owed_in shape (s.blocks mid) ≤ room_of o (s.lsn mid)) (sym a.logs.same_slots) (room_on (s.slots old) (s.lsn old) (s.lsn mid) (owed_in shape (s.blocks old)) (owed_in shape (s.blocks mid)) (length a.groups) n puts.owed may.fits);
+      }
+    where
+      take_all : (groups : List (List Patch)) → take (length groups) groups ≡ groups
+      take_all [] = refl
+      take_all (g ∷ groups) = ap (λ (l : List (List Patch)). g ∷ l) (take_all groups)
+
+  -- one call after another
+  pub rolls_joined : (old mid new : S) (most more all : ℕ) (going : Bool) (First Second Both : List (List ℕ) → Type 0) → most + more ≤ all → Rolls s shape old mid most true First → Rolls s shape mid new more going Second → (s.tells → going ≡ true → (number : ℕ) (rows : List TableRow) → MayRoll shape number rows (s.lsn mid) (room_of (s.slots mid) (s.lsn mid)) (s.blocks mid) → ((t : ℕ) → t < 16 * shape.segments → IsIdle shape (s.blocks mid) t → IsIdle shape (s.blocks new) t) → First (s.blocks mid) → Second (s.blocks new) → Both (s.blocks new)) → Rolls s shape old new all going Both
+  rolls_joined old mid new most more all going First Second Both le a b both = record {
+    groups = a.groups ++ b.groups;
+    logs = more_logs s old mid new a.groups b.groups going a.logs b.logs;
+    few = omega (arith, le, a.few, b.few, length-append a.groups b.groups);
+    puts_back = λ number rows told goes may.
+        let first = a.puts_back number rows told refl may in
+        let may_mid = may_on old mid most First number rows told a may in
+        let second = b.puts_back number rows told goes may_mid in
+        (more_puts shape number rows a.groups b.groups (s.blocks old) (s.blocks mid) (s.blocks new) first.0 second.0, both told goes number rows may_mid second.0.idle first.1 second.1);
+  }
+
+  -- what follows for the blocks
+  pub rolls_so : (old new : S) (most more : ℕ) (Done Then : List (List ℕ) → Type 0) → most ≤ more → Rolls s shape old new most true Done → (s.tells → Done (s.blocks new) → Then (s.blocks new)) → Rolls s shape old new more true Then
+  rolls_so old new most more Done Then le a so = record {
+    groups = a.groups;
+    logs = a.logs;
+    few = omega (arith, le, a.few);
+    puts_back = λ number rows told goes may. let puts = a.puts_back number rows told goes may in (puts.0, so told puts.1);
+  }

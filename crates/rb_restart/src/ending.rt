@@ -1,0 +1,51 @@
+//! Ends the table slot of a transaction of which no change is live. The rollback of a slot calls it.
+ghost use Rattle.std.specs.Prelude.{IsTrue, ◌≡◌, ◌↔◌, ◌+◌, ◌*◌, ◌^◌, ◌<◌};
+ghost use Rattle.std.specs.Prelude.{false, not, length};
+ghost use Rattle.std.specs.Result.{is_err};
+ghost use Rattle.rb_base.specs.Blocks.{IsShape};
+ghost use Rattle.rb_restart.specs.Steps.{HasLive, IsIdle, Rolls};
+ghost use Rattle.rb_segment.specs.Calls.{Runs};
+ghost use Rattle.rb_segment.specs.Header.{header_of, slot_in};
+
+use rb_base::{ACTIVE, Failed, Group, SLOTS, Shape, Store, UNIT, Xid};
+use rb_segment::end;
+use rb_txntable::slot_at;
+
+/// Whether the transaction runs and has no live record.
+fn is_rolled_back(header: &[u8], xid: Xid) -> bool
+    requires header { length header.now ≡ UNIT }
+    requires slot { xid.slot < SLOTS }
+    ensures { IsTrue result ↔ (Runs (header_of header.now) xid
+        × ((slot_in (header_of header.now) xid.slot).live ≡ 0)) }
+{
+    let slot = slot_at(header, xid.slot as u8);
+    slot.state == ACTIVE && slot.wrap == xid.wrap && slot.live == 0
+}
+
+/// Ends the slot of a transaction that runs and has no live change, by one group. What `group` held is dropped. Nothing
+/// is done where that isn't so, or where the log has no room, both in a damaged file alone.
+pub fn end_slot<S: Store>(
+    store: &mut S,
+    shape: Shape,
+    xid: Xid,
+    group: &mut Group,
+) -> Result<(), Failed>
+    requires going { S.failed store.old ≡ false }
+    requires shape { shape ≡ S.shape_of store.old }
+    requires in_range { IsShape shape }
+    requires there { xid.seg < shape.segments }
+    requires slot { xid.slot < SLOTS }
+    requires few { S.lsn store.old < 2 ^ 62 }
+    ensures { Rolls S.Store shape store.old store.new 1 (not (is_err result))
+        (λ now. HasLive shape (S.blocks store.old) xid 0 → IsIdle shape now (16 * xid.seg + xid.slot)) }
+{
+    store.load(shape.header_block(xid.seg))?;
+    let mut header = [0; UNIT];
+    header.copy_from_slice(store.block());
+    if !is_rolled_back(&header, xid) || store.room() == 0 {
+        return Ok(());
+    }
+    *group = Group::new();
+    end(&mut header, &shape, xid, group);
+    store.apply(group)
+}

@@ -1,0 +1,9 @@
+//! Rolls back what was under way in a file that is opened: each transaction that runs is put back, change by change,
+//! and its table slot ends. An opening will call it.
+#![tactic(auto)]
+
+mod ending;
+mod rollback;
+mod transaction;
+
+pub use rollback::roll_back_all;

@@ -1,0 +1,71 @@
+//! Puts back the live changes of one transaction. The rollback of its table slot calls it.
+ghost use Rattle.std.specs.Prelude.{◌≡◌, ◌+◌, ◌^◌, ◌<◌, ◌≤◌, ℕ, List};
+ghost use Rattle.std.specs.Prelude.{false, true, not, IfOk};
+ghost use Rattle.std.specs.Result.{is_err};
+ghost use Rattle.rb_base.specs.Blocks.{IsShape};
+ghost use Rattle.rb_base.specs.Stores.{room_of};
+ghost use Rattle.rb_model.specs.Rows.{TableRow};
+ghost use Rattle.rb_restart.specs.Steps.{HasLive, MayRoll, Rolls};
+ghost use Rattle.rb_segment.specs.Calls.{Runs};
+ghost use Rattle.rb_segment.specs.Header.{slot_in};
+ghost use Rattle.rb_undo.specs.Backs.{header_for};
+
+use rb_base::{Failed, Group, SLOTS, Shape, Store, Xid};
+use rb_undo::back;
+
+/// Puts back the newest live change of a transaction that runs and has one, and answers whether it did. It doesn't
+/// where the log has no room, and where no record is found, both in a damaged file alone.
+fn put_back<S: Store>(
+    store: &mut S,
+    shape: Shape,
+    xid: Xid,
+    group: &mut Group,
+) -> Result<bool, Failed>
+    requires going { S.failed store.old ≡ false }
+    requires shape { shape ≡ S.shape_of store.old }
+    requires in_range { IsShape shape }
+    requires there { xid.seg < shape.segments }
+    requires slot { xid.slot < SLOTS }
+    requires live { S.tells → Runs (header_for shape (S.blocks store.old) xid) xid
+        × (1 ≤ (slot_in (header_for shape (S.blocks store.old) xid) xid.slot).live) }
+    requires few { S.lsn store.old < 2 ^ 62 }
+    ensures rolls { Rolls S.Store shape store.old store.new 1 (not (is_err result)) (λ now. Unit {0}) }
+    ensures less { S.tells → IfOk result (λ done. done ≡ true → (n : ℕ)
+        → HasLive shape (S.blocks store.old) xid (n + 1) → HasLive shape (S.blocks store.new) xid n) }
+    ensures done { S.tells → (number : ℕ) (rows : List TableRow)
+        → MayRoll shape number rows (S.lsn store.old) (room_of (S.slots store.old) (S.lsn store.old))
+        (S.blocks store.old) → IfOk result (λ done. done ≡ true) }
+{
+    if store.room() == 0 {
+        return Ok(false);
+    }
+    let logged = store.logged();
+    back(store, xid, group)?;
+    Ok(store.logged() > logged)
+}
+
+/// Puts back the live changes of a transaction, the newest first. It runs and has so many.
+pub fn roll_back<S: Store>(
+    store: &mut S,
+    shape: Shape,
+    xid: Xid,
+    live: u32,
+    group: &mut Group,
+) -> Result<(), Failed>
+    requires going { S.failed store.old ≡ false }
+    requires shape { shape ≡ S.shape_of store.old }
+    requires in_range { IsShape shape }
+    requires there { xid.seg < shape.segments }
+    requires slot { xid.slot < SLOTS }
+    requires live { S.tells → HasLive shape (S.blocks store.old) xid live }
+    requires few { S.lsn store.old + live < 2 ^ 62 }
+    ensures { Rolls S.Store shape store.old store.new live (not (is_err result))
+        (λ now. HasLive shape now xid 0) }
+{
+    for _change in 0..live {
+        if !put_back(store, shape, xid, group)? {
+            return Ok(());
+        }
+    }
+    Ok(())
+}

@@ -1,0 +1,78 @@
+-- The first of a write's tests that applies, by what the tests before the room are.
+use Rattle.std.proofs.Common.{◌≡◌, ◌++◌, ◌&&◌, ℕ, Bool, true, false, not, List, [], ◌∷◌, Option, Some, None, nat_le, nat_lt, refl, ◌∙◌, ap, arith}
+use Rattle.std.proofs.lemmas.Bool.{and_from, le-leb}
+use Rattle.rb_attempt.specs.Asks.{adds_row, kind_of}
+use Rattle.rb_base.specs.declared.sizes.TheConstants.{WORN}
+use Rattle.rb_model.specs.Book.{book_at, is_full}
+use Rattle.rb_model.specs.Calls as calls
+use Rattle.rb_model.specs.Calls.{Answer, Done, Refused, first_of, needed_room, waited, write_tests}
+use Rattle.rb_model.specs.Full.{full_block}
+use Rattle.rb_model.specs.Machine.{State, plain}
+use Rattle.rb_model.specs.NextState.{kind_by}
+use Rattle.rb_model.specs.Reply.{adds, rows_now}
+use Rattle.rb_model.specs.Rows.{has_row}
+use Rattle.rb_model.specs.Tests.{full_slots, holder, made_since}
+use Rattle.rb_model.specs.declared.op.Op.{Op}
+use Rattle.rb_model.specs.declared.op.Op.TheVariants.{Insert, Update, Delete}
+use Rattle.rb_undoengine.specs.Steps.{action_of}
+use Rattle.rb_verdict.specs.Verdict as verdict
+use Rattle.rb_verdict.specs.Verdict.{Verdict, tested}
+
+-- an operation adds a row, and is of a kind, in both words
+pub adds_is : (op : Op) → adds (action_of op) ≡ adds_row (Some op)
+adds_is (Insert value) = refl
+adds_is (Update value) = refl
+adds_is Delete = refl
+
+pub kind_is : (op : Op) → kind_by (action_of op) ≡ kind_of (Some op)
+kind_is (Insert value) = refl
+kind_is (Update value) = refl
+kind_is Delete = refl
+
+-- nobody is waited for where no other session holds the key
+nobody_waits : (s : ℕ) (o : Option ℕ) (tests : List (Bool × Answer)) → ((u : ℕ) → o ≡ Some u → u ≡ s) → first_of (waited s o ++ tests) Done ≡ first_of tests Done
+nobody_waits s None tests own = refl
+nobody_waits s (Some u) tests own =
+    let same : u ≡ s = own u refl in
+    let test : (nat_le u s && nat_le s u) ≡ true = and_from (nat_le u s) (nat_le s u) (le-leb u s (omega (arith, same))) (le-leb s u (omega (arith, same))) in
+    rw test refl
+
+-- the answer that goes with what those tests find
+abbrev pub answer_of : Verdict → ℕ → ℕ → Answer → Answer
+answer_of (verdict.Waits u) g since later = calls.Waits u
+answer_of verdict.Duplicate g since later = Refused calls.Duplicate
+answer_of verdict.NotFound g since later = Refused calls.NotFound
+answer_of verdict.BlockFull g since later = Refused calls.BlockFull
+answer_of verdict.SlotsFull g since later = Refused calls.SlotsFull
+answer_of verdict.RollbackFull g since later = Refused (calls.RollbackFull g since)
+answer_of verdict.Fine g since later = later
+
+first_tested : (a p f e r : Bool) (g since : ℕ) (tests : List (Bool × Answer))
+    → first_of ((a && p, Refused calls.Duplicate) ∷ (not a && not p, Refused calls.NotFound) ∷ (a && f, Refused calls.BlockFull) ∷ (e, Refused calls.SlotsFull) ∷ (r, Refused (calls.RollbackFull g since)) ∷ tests) Done
+    ≡ answer_of (tested a p f e r) g since (first_of tests Done)
+first_tested true true f e r g since tests = refl
+first_tested true false true e r g since tests = refl
+first_tested true false false true r g since tests = refl
+first_tested true false false false true g since tests = refl
+first_tested true false false false false g since tests = refl
+first_tested false true f true r g since tests = refl
+first_tested false true f false true g since tests = refl
+first_tested false true f false false g since tests = refl
+first_tested false false f e r g since tests = refl
+
+-- the tests of the log
+abbrev pub log_tests : ℕ → ℕ → ℕ → List (Bool × Answer)
+log_tests logged room needed = (nat_le WORN logged, Refused calls.WornOut) ∷ (nat_lt room needed, Refused calls.LogFull) ∷ []
+
+module _ (h : State) (s table key g i : ℕ) (op : Op) where
+  -- what the tests before the log find
+  abbrev pub Found : Verdict
+  Found = tested (adds_row (Some op)) (has_row table key (rows_now (plain h) s)) (full_block (plain h) table key) (full_slots h s table key) (is_full (book_at h.books g))
+
+  pub first_found : (logged room : ℕ) → ((u : ℕ) → holder h table key ≡ Some u → u ≡ s)
+      → first_of (write_tests h logged room g i s table key (action_of op)) Done
+      ≡ answer_of Found g (made_since (book_at h.books g)) (first_of (log_tests logged room (needed_room h s g i)) Done)
+  first_found logged room own =
+      nobody_waits s (holder h table key) _ own
+      ∙ (first_tested (adds (action_of op)) (has_row table key (rows_now (plain h) s)) (full_block (plain h) table key) (full_slots h s table key) (is_full (book_at h.books g)) g (made_since (book_at h.books g)) (log_tests logged room (needed_room h s g i))
+      ∙ ap (λ a. answer_of (tested a (has_row table key (rows_now (plain h) s)) (full_block (plain h) table key) (full_slots h s table key) (is_full (book_at h.books g))) g (made_since (book_at h.books g)) (first_of (log_tests logged room (needed_room h s g i)) Done)) (adds_is op))

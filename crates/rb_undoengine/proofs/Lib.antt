@@ -1,0 +1,7 @@
+mod Done
+mod Firsts
+mod Found
+mod HomeWords
+mod Refused
+mod WriterWords
+mod Writers

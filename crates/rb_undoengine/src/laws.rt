@@ -1,0 +1,9 @@
+//! What the engine's calls of the store are to the machine, as clauses for proofs to cite. Nothing calls it.
+ghost use Rattle.rb_undoengine.specs.StepLaws.{RefusedAsMachine, DoneAsMachine};
+
+/// An attempt's refusal is the first test of the machine that applies, and after a write that is done the blocks stand
+/// for the machine's next state.
+pub fn step_laws()
+    ensures refused { RefusedAsMachine }
+    ensures done { DoneAsMachine }
+{}

@@ -1,0 +1,4 @@
+pub mod Chosen
+pub mod Stood
+pub mod Verdict
+pub mod VerdictLaws

@@ -1,0 +1,7 @@
+//! The tests of a write, in the order in which they count: what a cleaned home and a segment's header say of them, and
+//! what the machine says. Here are definitions and, as laws, what is proved of them; no code calls it yet.
+#![tactic(auto)]
+
+mod laws;
+
+pub use laws::verdict_laws;
