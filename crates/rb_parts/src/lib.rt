@@ -35,6 +35,8 @@ mod stream;
 #[cfg(test)]
 mod txntable;
 #[cfg(test)]
+mod undo;
+#[cfg(test)]
 mod undoblock;
 #[cfg(test)]
 mod versions;

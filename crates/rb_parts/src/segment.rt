@@ -21,7 +21,7 @@ const SHAPE: Shape = Shape {
 const HEADER: u32 = 10;
 
 /// A record. The header tells nothing of what is in it.
-const UNDO: UndoRecord = UndoRecord {
+pub(crate) const UNDO: UndoRecord = UndoRecord {
     wrap: 1,
     key: 2,
     number: 3,
@@ -62,7 +62,7 @@ fn patched(header: &[u8; 2048], group: &Group) -> [u8; 2048] {
 }
 
 /// Whether a transaction can take a table slot.
-fn is_idle(header: &[u8]) -> bool
+pub(crate) fn is_idle(header: &[u8]) -> bool
     requires { length header.now ≡ UNIT }
     ensures { IsTrue result → (i : ℕ) × (i < SLOTS) × ((slot_in (header_of header.now) i).state ≢ ACTIVE) }
 {
@@ -73,7 +73,7 @@ fn is_idle(header: &[u8]) -> bool
 }
 
 /// How many live records the transaction has, if it runs.
-fn live_of(header: &[u8], xid: Xid) -> Option<u32>
+pub(crate) fn live_of(header: &[u8], xid: Xid) -> Option<u32>
     requires { length header.now ≡ UNIT }
     ensures runs { IfSome result (λ live. Runs (header_of header.now) xid) }
     ensures segment { IfSome result (λ live. xid.seg < 1) }

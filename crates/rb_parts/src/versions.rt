@@ -186,3 +186,46 @@ fn full_homes(rt: HostRuntime) -> Result<(), Fail> {
     }
     Ok(())
 }
+
+/// Whether an index that is asked for six changes tells of the first three alone: key 8 has the only row, and keys 1
+/// and 3 have none.
+fn tells_of_three(versions: &Versions) -> bool {
+    let first = Query {
+        table: 1,
+        lo: 0,
+        hi: u64::MAX,
+        last: None,
+    };
+    let behind = Query {
+        last: Some(8),
+        ..first
+    };
+    let is_eight = versions
+        .next(first, 6)
+        .is_some_and(|change| change.key == 8);
+    let is_last = versions.next(behind, 6).is_none();
+    let is_alone = !versions.is_present(1, 1, 6) && !versions.is_present(1, 3, 6);
+    let is_there = versions.is_present(1, 8, 6);
+    versions.changes().len() == 3 && is_eight && is_last && is_alone && is_there
+}
+
+#[test]
+fn later_changes_forgotten(rt: HostRuntime) -> Result<(), Fail> {
+    let mut versions = Versions::new(rt.alloc(), HOMES, 6)?;
+    // A reader sees the first two changes, so they stay a run of their own. The run behind them is cut in its midst.
+    versions.push(RowChange::put(1, 8, b"a"), &[2]);
+    versions.push(RowChange::put(1, 3, b"b"), &[2]);
+    versions.push(RowChange::gone(1, 3), &[2]);
+    assert!(rt; tells_of_three(&versions));
+    versions.push(RowChange::gone(1, 8), &[2]);
+    versions.push(RowChange::put(1, 1, b"c"), &[2]);
+    versions.push(RowChange::put(1, 3, b"d"), &[2]);
+    assert!(rt; !tells_of_three(&versions));
+    versions.cut(3);
+    assert!(rt; tells_of_three(&versions));
+    versions.push(RowChange::put(1, 15, b"e"), &[2]);
+    assert_eq!(rt; versions.changes().len(), 4);
+    assert!(rt; versions.is_present(1, 15, 4));
+    assert!(rt; !versions.is_present(1, 15, 3));
+    Ok(())
+}
