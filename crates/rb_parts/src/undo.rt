@@ -48,7 +48,8 @@ fn are_below(group: &Group, blocks: u32) -> bool
 
 /// Whether the group has room for the patches of any one call.
 fn has_room(group: &Group) -> bool
-    ensures { IsTrue result → (length group.now + 20 ≤ GROUP_PATCHES) × (group_length group.now + 1000 ≤ GROUP_BYTES) }
+    ensures { IsTrue result → (length group.now + 20 ≤ GROUP_PATCHES)
+        × (group_length group.now + 1000 ≤ GROUP_BYTES) }
 {
     group.patches() <= 20 && group.fits(1000)
 }
@@ -148,7 +149,7 @@ fn entry_after(found: Entry, xid: Xid, newest: Uba) -> Entry {
 }
 
 /// Adds a change of a row to the group: the record of what it found, the row's cell and the slot entry.
-fn put(
+fn add_change(
     block: &[u8; UNIT],
     header: &mut [u8; UNIT],
     xid: Xid,
@@ -191,13 +192,18 @@ fn write<S: Store>(store: &mut S, own: Option<Xid>, key: u64, value: &[u8]) -> R
     let mut header = copy_of(store, HEADER)?;
     let mut group = Group::new();
     let xid = running(&mut header, own, &mut group)?;
-    put(&block, &mut header, xid, key, value, &mut group)?;
+    add_change(&block, &mut header, xid, key, value, &mut group)?;
     apply(store, &group)?;
     Ok(xid)
 }
 
 /// Adds a commit of a transaction to the group.
-fn end(header: &mut [u8; UNIT], xid: Xid, scn: Scn, group: &mut Group) -> Result<(), Failed> {
+fn add_commit(
+    header: &mut [u8; UNIT],
+    xid: Xid,
+    scn: Scn,
+    group: &mut Group,
+) -> Result<(), Failed> {
     let Some(live) = live_of(header, xid) else {
         return Err(Failed);
     };
@@ -214,12 +220,12 @@ fn commit_at<S: Store>(store: &mut S, xid: Xid, scn: Scn) -> Result<(), Failed>
 {
     let mut header = copy_of(store, HEADER)?;
     let mut group = Group::new();
-    end(&mut header, xid, scn, &mut group)?;
+    add_commit(&mut header, xid, scn, &mut group)?;
     apply(store, &group)
 }
 
 /// A transaction makes a record and commits, by one group. The block of rows knows nothing of it.
-fn pass<S: Store>(store: &mut S, scn: Scn) -> Result<(), Failed>
+fn commit_another<S: Store>(store: &mut S, scn: Scn) -> Result<(), Failed>
     requires { S.failed store.old ≡ false }
 {
     let mut header = copy_of(store, HEADER)?;
@@ -231,7 +237,7 @@ fn pass<S: Store>(store: &mut S, scn: Scn) -> Result<(), Failed>
     if add_record(&mut header, &SHAPE, xid, &UNDO, &mut group).is_err() {
         return Err(Failed);
     }
-    end(&mut header, xid, scn, &mut group)?;
+    add_commit(&mut header, xid, scn, &mut group)?;
     apply(store, &group)
 }
 
@@ -258,7 +264,8 @@ fn put_back<S: Store>(store: &mut S, xid: Xid) -> Result<Option<u32>, Failed>
 fn cleaned<S: Store>(store: &mut S) -> Result<Lsn, Failed>
     requires { S.failed store.old ≡ false }
 {
-    if store.room() == 0 || store.logged() > 1_000_000 {
+    let there = HOME < store.shape().table_blocks();
+    if !there || store.room() == 0 || store.logged() > 1_000_000 {
         return Err(Failed);
     }
     clean(store, HOME, &mut Group::new())?;
@@ -329,7 +336,7 @@ fn slot_taken_again(rt: HostRuntime) -> Result<(), Fail> {
     let ended = write(&mut store, None, 7, b"a")?;
     commit_at(&mut store, ended, 1)?;
     for scn in 2..18 {
-        pass(&mut store, scn)?;
+        commit_another(&mut store, scn)?;
     }
     assert_eq!(rt; cleaned(&mut store)?, 19);
     let block = copy_of(&mut store, HOME)?;
