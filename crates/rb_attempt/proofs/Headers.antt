@@ -28,8 +28,8 @@ turned_may block h room patches turned none = elim turned [
       ]
 ]
 
-young_as : (h : Header) (i : ℕ) → i < 16 → IsYoung h → IsYoungAt h i
-young_as h i lt young = record { writes = young.writes; live = young.lives i lt; head = young.head; turn = young.turn }
+young_as : (h : Header) (x : Xid) → Runs h x → IsYoung h → IsYoungAt h x.slot
+young_as h x runs young = record { writes = young.writes; live = young.lives x.slot runs.slot runs.active; head = young.head; turn = young.turn }
 
 -- The slot that is taken has no live record.
 young_claimed : (header : List ℕ) (i : ℕ) → i < 16 → IsYoung (header_of header) → IsYoungAt (claimed i (header_of header)) i
@@ -41,11 +41,13 @@ young_claimed header i lt young =
 
 module _ (shape : Shape) (blocks : List (List ℕ)) (x : Xid) (ready : Header) (seg : x.seg < shape.segments) where
   -- the numbers of the header are those that the record asks for
-  pub young_at : (own : Option Xid) → x.slot < 16 → AreYoung shape blocks → IsWriterOf shape blocks own x ready → IsYoungAt ready x.slot
-  young_at None slot young writer = let takes = writer.takes refl in
-      rw takes.2 (young_claimed (block_of blocks (header_block shape x.seg)) x.slot slot (young.headers x.seg seg))
-  young_at (Some y) slot young writer = let has = writer.has y refl in
-      rw (has.1, sym (ap (λ (z : Xid). header_in shape blocks z.seg) has.0)) (young_as (header_in shape blocks x.seg) x.slot slot (young.headers x.seg seg))
+  pub young_at : (own : Option Xid) → Runs ready x → AreYoung shape blocks → IsWriterOf shape blocks own x ready → IsYoungAt ready x.slot
+  young_at None runs young writer = let takes = writer.takes refl in
+      rw takes.2 (young_claimed (block_of blocks (header_block shape x.seg)) x.slot runs.slot (young.headers x.seg seg))
+  young_at (Some y) runs young writer =
+      let has = writer.has y refl in
+      let same : header_in shape blocks x.seg ≡ ready = ap (λ (z : Xid). header_in shape blocks z.seg) has.0 ∙ sym has.1 in
+      young_as ready x runs (subst IsYoung same (young.headers x.seg seg))
 
   -- the header is the file's, or with the slot taken there
   pub ready_is : (own : Option Xid) → MayWrite shape blocks own → IsWriterOf shape blocks own x ready → IsHeaderReady (header_in shape blocks x.seg) x.slot ready

@@ -47,11 +47,12 @@ commit_patches block i h =
     slot_patch block i (slot_in h i)
     ∷ flat_map (stamp_patch block (slot_in h i).touched h) (range_with_len 0 EXTENTS)
 
--- No number of the header is near the end of its type.
+-- No number of the header is near the end of its type. What a slot that isn't Active says of its live records is left
+-- open, as its next transaction begins with none.
 pub record IsYoung (h : Header) : Type 0 where
   pub writes : h.writes < 2 ^ 63
   pub wraps : (i : ℕ) → i < SLOTS → (slot_in h i).wrap < 2 ^ 63
-  pub lives : (i : ℕ) → i < SLOTS → (slot_in h i).live < 2 ^ 31
+  pub lives : (i : ℕ) → i < SLOTS → (slot_in h i).state ≡ ACTIVE → (slot_in h i).live < 2 ^ 31
   pub head : h.head < EXTENTS
   pub turn : head_turn h < 2 ^ 63
 
