@@ -1,7 +1,11 @@
+mod Calls
 mod Done
 mod Firsts
 mod Found
 mod HomeWords
+mod Logged
+mod May
 mod Refused
 mod WriterWords
 mod Writers
+mod Young
