@@ -1,5 +1,5 @@
 -- A write is the next group that is logged.
-use Rattle.std.proofs.Common.{◌≡◌, ◌⊎◌, inl, inr, ◌<◌, ◌≤◌, ◌+◌, ◌*◌, ◌/◌, ◌%◌, ◌^◌, ℕ, Bool, List, sym, subst, arith}
+use Rattle.std.proofs.Common.{◌≡◌, ◌⊎◌, inl, inr, ◌<◌, ◌+◌, ◌*◌, ◌/◌, ℕ, Bool, List, arith}
 use Rattle.std.proofs.Math.Nat.{div-add-mod}
 use Rattle.rb_base.specs.Blocks.{header_block, shape_blocks, table_blocks}
 use Rattle.rb_base.specs.declared.ids.Uba.{Uba}

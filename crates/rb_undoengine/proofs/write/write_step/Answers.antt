@@ -1,4 +1,4 @@
-use Rattle.std.proofs.Common.{◌≡◌, ◌≤◌, ℕ, List, Some, refl, sym, ◌∙◌, ap, subst}
+use Rattle.std.proofs.Common.{◌≤◌, Some, refl, sym, ◌∙◌, ap, subst}
 use Rattle.rb_attempt.specs.Asks.{AreYoung, MayWrite}
 use Rattle.rb_attempt.specs.declared.ask.Ask.{Ask}
 use Rattle.rb_base.specs.declared.shape.Shape.{Shape}
