@@ -11,8 +11,8 @@ use rb_base::{ACTIVE, Failed, Group, SLOTS, Shape, Store, UNIT, Xid};
 use rb_segment::end;
 use rb_txntable::slot_at;
 
-/// Whether the transaction runs and has no live record.
-fn is_rolled_back(header: &[u8], xid: Xid) -> bool
+/// Whether the transaction runs and has no live record. Its slot may end then.
+pub fn is_rolled_back(header: &[u8], xid: Xid) -> bool
     requires header { length header.now ≡ UNIT }
     requires slot { xid.slot < SLOTS }
     ensures { IsTrue result ↔ (Runs (header_of header.now) xid

@@ -6,4 +6,5 @@ mod ending;
 mod rollback;
 mod transaction;
 
+pub use ending::is_rolled_back;
 pub use rollback::roll_back_all;

@@ -1,11 +1,16 @@
 mod Calls
 mod Done
+mod Finishing
 mod Firsts
 mod Found
 mod HomeWords
+mod LeftOwn
 mod Logged
+mod ManyBack
 mod May
+mod OneBack
 mod Refused
+mod StepBack
 mod WriterWords
 mod Writers
 mod Young
