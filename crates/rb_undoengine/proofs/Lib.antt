@@ -4,6 +4,7 @@ mod Finishing
 mod Firsts
 mod Found
 mod HomeWords
+mod Kept
 mod LeftOwn
 mod Logged
 mod ManyBack

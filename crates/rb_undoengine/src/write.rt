@@ -1,5 +1,5 @@
 //! One write of a session. The engine's write will call it.
-ghost use Rattle.std.specs.Prelude.{◌≡◌, ◌+◌, ◌^◌, ◌<◌, ◌≤◌, ℕ, List, [], true, false, not};
+ghost use Rattle.std.specs.Prelude.{◌≡◌, ◌+◌, ◌<◌, ◌≤◌, ℕ, List, [], true, false, not};
 ghost use Rattle.std.specs.Prelude.{length, Some, IfOk, IfErr};
 ghost use Rattle.rb_attempt.specs.Asks.{IsShort};
 ghost use Rattle.rb_attempt.specs.Refusals.{has_failed};
@@ -12,7 +12,7 @@ ghost use Rattle.rb_model.specs.Machine.{State};
 ghost use Rattle.rb_model.specs.NextState.{change_in, written};
 ghost use Rattle.rb_standing.specs.Standing.{logged_of};
 ghost use Rattle.rb_standing.specs.States.{BlocksStand};
-ghost use Rattle.rb_undoengine.specs.Steps.{action_of, cause_of, kept_room, IsAbout, NotOthers};
+ghost use Rattle.rb_undoengine.specs.Steps.{action_of, cause_of, IsAbout, NotOthers};
 
 use rb_attempt::{Ask, AttemptFault, attempt};
 use rb_base::{Group, SLOTS, Store, Xid};
@@ -41,7 +41,7 @@ pub fn write_step<S: Store>(
     ensures done { S.tells → (h : State) (xids : List Xid) (s : ℕ) → IsAbout h xids s own (S.blocks store.old)
         → S.shape_of store.old ≡ h.shape → s ≤ length h.sessions → NotOthers h s table key
         → S.lsn store.old ≡ logged_of h.shape (S.blocks store.old)
-        → kept_room h.shape (S.blocks store.old) own ≤ 2 ^ 13
+        → length h.sessions ≤ 16
         → IfOk result (λ x. WritesIn h s x.seg x.slot
         × (first_of (write_tests h (S.lsn store.old) (room_of (S.slots store.old) (S.lsn store.old)) x.seg x.slot s
         table key (action_of op.entry)) Done ≡ Done)

@@ -4,6 +4,7 @@ use Rattle.rb_attempt.specs.declared.ask.Ask.{Ask}
 use Rattle.rb_base.specs.declared.shape.Shape.{Shape}
 use Rattle.rb_standing.specs.Standing.{logged_of}
 use Rattle.rb_undoengine.proofs.Calls.{done, refused_as}
+use Rattle.rb_undoengine.proofs.Kept.{kept_few}
 use Rattle.rb_undoengine.proofs.May.{may_write}
 use Rattle.rb_undoengine.proofs.Young.{young}
 use Rattle.rb_undoengine.proofs.write.write_step.Goals as goal
@@ -15,14 +16,14 @@ attempt-requires-clause-may g c told =
     subst (λ (k : Shape). MayWrite k blocks c.args.own) (sym is.4) (may_write is.0 is.1 blocks is.2 c.args.own is.3 is.5 is.6)
 
 pub returns-clause-done : goal.returns-clause-done
-returns-clause-done g c told h xids s about same s_in mine number few =
+returns-clause-done g c told h xids s about same s_in mine number sixteen =
     let s_of = g.S.Store in
     let old = c.args.store.now in
     let ask : Ask = record { own = c.args.own; table = c.args.table; key = c.args.key; op = Some c.args.op } in
     let are_young : AreYoung (s_of.shape_of old) (s_of.blocks old) = subst (λ (k : Shape). AreYoung k (s_of.blocks old)) (sym same) (young h xids (s_of.blocks old) about.stand) in
     let last : c.args.table ≤ h.shape.tables = subst (λ (k : Shape). c.args.table ≤ k.tables) same c.requires.table.1 in
     let call = c.attempt.ensures in
-    done s_of told old c.attempt.new.store h xids s ask c.args.op about same refl c.requires.table.0 last mine c.attempt.result call.logs.0 s_in number few call.logs.1
+    done s_of told old c.attempt.new.store h xids s ask c.args.op about same refl c.requires.table.0 last mine c.attempt.result call.logs.0 s_in number (kept_few h xids (s_of.blocks old) c.args.own about.stand sixteen) call.logs.1
     (call.written told (number ∙ ap (λ (k : Shape). logged_of k (s_of.blocks old)) (sym same)) are_young)
     (call.takes told are_young) call.room (call.kept told)
 
