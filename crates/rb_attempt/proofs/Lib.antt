@@ -3,5 +3,4 @@ pub mod Writers
 pub mod Choices
 pub mod Headers
 pub mod Causes
-pub mod Lengths
 pub mod Written

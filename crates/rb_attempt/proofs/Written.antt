@@ -1,22 +1,26 @@
 -- What the group of a write makes of the blocks of a file.
 use Rattle.std.proofs.Common.{◌≡◌, ◌≢◌, ◌⊎◌, ℕ, ◌+◌, ◌*◌, ◌/◌, ◌%◌, ◌<◌, ◌≤◌, ◌==◌, true, false, List, [], ◌∷◌, ◌++◌, length, take, drop, refl, arith, ap, sym, subst, ◌∙◌, inl, inr, Option, None, Some}
 use Rattle.std.proofs.lemmas.Bool.{eq-eqb, ne_eqb}
-use Rattle.std.proofs.lemmas.List.{drop-drop, length-append}
+use Rattle.std.proofs.lemmas.List.{drop-drop, drop-take, length-append}
 use Rattle.std.specs.List.{AllByRecursion}
+use Rattle.byteorder.specs.Endian.{big_number}
+use Rattle.byteorder.specs.Numbers.{big_from-take}
 use Rattle.rb_base.proofs.Blocks.{block_long}
 use Rattle.rb_base.proofs.Each.{all_so}
 use Rattle.rb_base.proofs.OneBlock.{one_block}
 use Rattle.rb_base.specs.Blocks.{after_group, behind_head, block_of, header_block, home_block, shape_blocks, table_blocks, written_to, AreBlocks, StaysBehind}
+use Rattle.rb_base.specs.Fields.{number_at, part}
 use Rattle.rb_base.specs.Groups.{Patch, IsPatch}
 use Rattle.rb_base.specs.declared.ids.Uba.{Uba}
 use Rattle.rb_base.specs.declared.ids.Xid.{Xid}
 use Rattle.rb_base.specs.declared.shape.Shape.{Shape}
 use Rattle.rb_cell.proofs.CellBytes.{cell_size}
-use Rattle.rb_cell.specs.Cells.{value_length, with_cell}
+use Rattle.rb_cell.specs.Cells.{cell_place, value_length, with_cell}
 use Rattle.rb_cell.specs.declared.cell.Cell.{Cell}
 use Rattle.rb_cleanout.proofs.Copies.{all_joined, written_on}
 use Rattle.rb_cleanout.proofs.Grouped.{of_block}
 use Rattle.rb_heap.proofs.Blocks.{home_after as home_grouped}
+use Rattle.rb_heap.proofs.Lengths.{length_behind, length_cleaned, length_entry, short_cell}
 use Rattle.rb_heap.proofs.Patching.{cell_written, entry_written}
 use Rattle.rb_heap.proofs.Reading.{cell_read, entry_read}
 use Rattle.rb_heap.specs.Choices.{IsEntryChoice}
@@ -37,11 +41,17 @@ use Rattle.rb_undoblock.proofs.Places.{others_kept, own_read}
 use Rattle.rb_undoblock.specs.Undo.{undo_at, undo_of, with_undo}
 use Rattle.rb_undoblock.specs.declared.record.UndoRecord.{UndoRecord}
 use Rattle.rb_attempt.proofs.Headers.{room_is}
-use Rattle.rb_attempt.proofs.Lengths.{short_with_cell, value_behind, value_beside_entry, value_cleaned, value_of_cell}
 use Rattle.rb_attempt.specs.Asks.{adds_row, header_in, kind_of}
 use Rattle.rb_attempt.specs.Making.{Changes, IsUndoOf}
 use Rattle.rb_attempt.specs.declared.ask.Ask.{Ask}
 use Rattle.rb_attempt.specs.declared.home.Place.{Place}
+
+-- A cell's 92 bytes tell the length of its value.
+value_of_cell : (block : List ℕ) (c : ℕ) → number_at (part block (cell_place c) 92) 2 2 ≡ value_length block c
+unfolding value_length
+value_of_cell block c =
+    let rest = drop (cell_place c) block in
+    ap (big_number 2) (drop-take 2 90 rest) ∙ big_from-take 0 2 90 (drop 2 rest) (omega arith) ∙ ap (big_number 2) (drop-drop 2 (cell_place c) block)
 
 -- patches of other blocks write nothing over this one
 untouched : (which : ℕ) (ps : List Patch) (copy : List ℕ) → AllByRecursion (λ p. p.block ≢ which) ps → written_to which ps copy ≡ copy
@@ -239,15 +249,15 @@ module _ (shape : Shape) (blocks : List (List ℕ)) (ask : Ask) (p : Place) (gro
   short_now short c few =
       let cell = pr.changes.cell in
       let written = with_cell pr.copy p.cell cell in
-      let entry = value_beside_entry written (cell_size pr.copy p.cell cell pr.long pr.cell pr.changes.cell_sound) p.entry c pr.changes.entry pr.entry in
-      let after = value_behind (block_of now p.block) (with_entry written p.entry pr.changes.entry) c (one_block shape number p.block group blocks pr.are in_file stay ∙ ap behind_head home_bytes) in
-      let cleaned = ap (λ (l : List ℕ). value_length l c) pr.copied ∙ value_cleaned p.block p.block pr.cleaning (block_of blocks p.block) c (block_long shape blocks p.block pr.are in_file) pr.cleans in
-      let less = short_with_cell pr.copy pr.long p.cell c cell pr.cell pr.changes.cell_sound (omega (arith, cleaned, short c few)) in
+      let entry = length_entry written p.entry c pr.changes.entry (cell_size pr.copy p.cell cell pr.long pr.cell pr.changes.cell_sound) pr.entry in
+      let after = length_behind (block_of now p.block) (with_entry written p.entry pr.changes.entry) c (one_block shape number p.block group blocks pr.are in_file stay ∙ ap behind_head home_bytes) in
+      let cleaned = λ (k : ℕ). ap (λ (l : List ℕ). value_length l k) pr.copied ∙ length_cleaned p.block pr.cleaning (block_of blocks p.block) k (block_long shape blocks p.block pr.are in_file) pr.cleans in
+      let less = short_cell pr.copy p.cell cell pr.long pr.cell pr.changes.cell_sound (λ k k_in. let same = cleaned k in let s = short k k_in in omega (arith, same, s)) c few in
       omega (arith, after, entry, less)
 
   keeps : KeepsHome (home_of pr.copy) (block_of blocks p.block) x (adds_row ask.op) (kind_of ask.op) u
   keeps =
-      let same = ap (λ (l : List ℕ). value_length l p.cell) pr.copied ∙ value_cleaned p.block p.block pr.cleaning (block_of blocks p.block) p.cell (block_long shape blocks p.block pr.are in_file) pr.cleans in
+      let same = ap (λ (l : List ℕ). value_length l p.cell) pr.copied ∙ length_cleaned p.block pr.cleaning (block_of blocks p.block) p.cell (block_long shape blocks p.block pr.are in_file) pr.cleans in
       keeps_copy pr.copy (header_of pr.header) ask x p u pr.changes.undo_of (block_of blocks p.block) pr.entry pr.cell pr.choice pr.place same
 
   recorded : IsRecorded shape x.seg x.slot a u (header_in shape blocks x.seg) (header_of (block_of now hb)) blocks now

@@ -23,7 +23,8 @@ use Rattle.rb_standing.specs.States.{BlocksStand}
 use Rattle.rb_standing.specs.Writing.{IsWritten}
 use Rattle.rb_undoblock.specs.declared.record.UndoRecord.{UndoRecord}
 use Rattle.rb_undoengine.specs.StepLaws.{IsAsked}
-use Rattle.rb_undoengine.specs.Steps.{IsAbout, NotOthers, action_of, cause_of, kept_room}
+use Rattle.rb_model.specs.Answers.{action_of}
+use Rattle.rb_undoengine.specs.Steps.{IsAbout, NotOthers, cause_of, kept_room}
 use Rattle.rb_undoengine.proofs.Done.{answered, stands}
 use Rattle.rb_undoengine.proofs.HomeWords.{which_in}
 use Rattle.rb_undoengine.proofs.Logged.{write_logged}

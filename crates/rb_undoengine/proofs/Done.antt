@@ -34,7 +34,8 @@ use Rattle.rb_standing.proofs.SegmentRecorded as segment
 use Rattle.rb_standing.proofs.WriteMachine.{write_keeps_machine}
 use Rattle.rb_undoblock.specs.declared.record.UndoRecord.{UndoRecord}
 use Rattle.rb_undoengine.specs.StepLaws.{IsAsked}
-use Rattle.rb_undoengine.specs.Steps.{IsAbout, NotOthers, action_of, kept_room}
+use Rattle.rb_model.specs.Answers.{action_of}
+use Rattle.rb_undoengine.specs.Steps.{IsAbout, NotOthers, kept_room}
 use Rattle.rb_undoengine.proofs.Firsts.{kind_is}
 use Rattle.rb_undoengine.proofs.HomeWords as home
 use Rattle.rb_undoengine.proofs.Refused.{not_refused}

@@ -14,7 +14,7 @@ use Rattle.rb_model.specs.Rows.{has_row}
 use Rattle.rb_model.specs.Tests.{full_slots, holder, made_since}
 use Rattle.rb_model.specs.declared.op.Op.{Op}
 use Rattle.rb_model.specs.declared.op.Op.TheVariants.{Insert, Update, Delete}
-use Rattle.rb_undoengine.specs.Steps.{action_of}
+use Rattle.rb_model.specs.Answers.{action_of}
 use Rattle.rb_verdict.specs.Verdict as verdict
 use Rattle.rb_verdict.specs.Verdict.{Verdict, tested}
 

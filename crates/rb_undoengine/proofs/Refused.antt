@@ -16,7 +16,8 @@ use Rattle.rb_model.specs.Tests.{made_since}
 use Rattle.rb_model.specs.declared.op.Op.{Op}
 use Rattle.rb_segment.specs.Header.{Header}
 use Rattle.rb_segment.specs.Moves.{NoneMayTurn}
-use Rattle.rb_undoengine.specs.Steps.{IsAbout, NotOthers, action_of, cause_of, kept_room}
+use Rattle.rb_model.specs.Answers.{action_of}
+use Rattle.rb_undoengine.specs.Steps.{IsAbout, NotOthers, cause_of, kept_room}
 use Rattle.rb_undoengine.proofs.Firsts.{answer_of, first_found, log_tests}
 use Rattle.rb_undoengine.proofs.Found as found
 use Rattle.rb_undoengine.proofs.Writers as writers

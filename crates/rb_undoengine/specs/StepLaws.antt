@@ -18,7 +18,8 @@ use Rattle.rb_standing.specs.Standing.{logged_of}
 use Rattle.rb_standing.specs.States.{BlocksStand}
 use Rattle.rb_standing.specs.Writing.{IsWritten}
 use Rattle.rb_undoblock.specs.declared.record.UndoRecord.{UndoRecord}
-use Rattle.rb_undoengine.specs.Steps.{action_of, cause_of, kept_room, IsAbout, NotOthers}
+use Rattle.rb_model.specs.Answers.{action_of}
+use Rattle.rb_undoengine.specs.Steps.{cause_of, kept_room, IsAbout, NotOthers}
 
 -- the record is that of the ask, by that transaction
 pub record IsAsked (h : State) (ask : Ask) (x : Xid) (u : UndoRecord) : Type 0 where

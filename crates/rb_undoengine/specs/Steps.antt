@@ -6,11 +6,7 @@ use Rattle.rb_base.specs.declared.shape.Shape.{Shape}
 use Rattle.rb_model.specs.Calls as calls
 use Rattle.rb_model.specs.Calls.{Cause}
 use Rattle.rb_model.specs.Machine.{State}
-use Rattle.rb_model.specs.Reply.{Action}
-use Rattle.rb_model.specs.Reply as reply
 use Rattle.rb_model.specs.Tests.{holder}
-use Rattle.rb_model.specs.declared.op.Op.{Op}
-use Rattle.rb_model.specs.declared.op.Op.TheVariants as op
 use Rattle.rb_segment.specs.Segments.{owed_in}
 use Rattle.rb_standing.specs.Standing.{env_of}
 use Rattle.rb_standing.specs.States.{BlocksStand}
@@ -27,12 +23,6 @@ cause_of faults.SlotsFull = calls.SlotsFull
 cause_of (faults.RollbackFull seg since) = calls.RollbackFull seg since
 cause_of faults.WornOut = calls.WornOut
 cause_of faults.LogFull = calls.LogFull
-
--- what the code's operation is
-abbrev pub action_of : Op → Action
-action_of (op.Insert value) = reply.Insert value.now
-action_of (op.Update value) = reply.Update value.now
-action_of op.Delete = reply.Delete
 
 -- another session than s doesn't hold the key
 abbrev pub NotOthers : State → ℕ → ℕ → ℕ → Type 0

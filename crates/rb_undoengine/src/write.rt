@@ -12,7 +12,8 @@ ghost use Rattle.rb_model.specs.Machine.{State};
 ghost use Rattle.rb_model.specs.NextState.{change_in, written};
 ghost use Rattle.rb_standing.specs.Standing.{logged_of};
 ghost use Rattle.rb_standing.specs.States.{BlocksStand};
-ghost use Rattle.rb_undoengine.specs.Steps.{action_of, cause_of, IsAbout, NotOthers};
+ghost use Rattle.rb_model.specs.Answers.{action_of};
+ghost use Rattle.rb_undoengine.specs.Steps.{cause_of, IsAbout, NotOthers};
 
 use rb_attempt::{Ask, AttemptFault, attempt};
 use rb_base::{Group, SLOTS, Store, Xid};
