@@ -5,16 +5,24 @@ import os
 import struct
 
 UNIT = 2048
-VERSION = 102
+VERSION = 103
 MAGIC = b"RBS7FILE"
 RANGES = {"tables": (1, 16), "blocks": (1, 4096), "segments": (1, 16), "log": (64, 4096)}
 
-# A block of rows: the cells behind its slot entries.
+# A block of rows: its slot entries, and the cells behind them.
+ENTRIES, FIRST_ENTRY, ENTRY_BYTES = 8, 32, 48
 CELLS, FIRST_CELL, CELL_BYTES, VALUE_BYTES = 16, 416, 92, 80
 EMPTY, ROW, STUB = 0, 1, 2
+FREE, OPEN, EXACT, BOUND = 0, 1, 2, 3
 
-# A segment's header and its undo blocks. Its table slots begin at byte 32; the commit number is at byte 16 of one.
-SEGMENT_BLOCKS, TABLE_SLOTS = 33, 16
+# A segment: its header, with table slots and extents, and its undo blocks.
+SEGMENT_BLOCKS, TABLE_SLOTS, FIRST_SLOT, SLOT_BYTES = 33, 16, 32, 64
+EXTENTS, FIRST_EXTENT, EXTENT_BYTES, EXTENT_BLOCKS, EXTENT_RECORDS = 8, 1056, 32, 4, 40
+HEAD, WRITES, LOST = 1312, 1320, 1328
+RECORDS, FIRST_RECORD, RECORD_BYTES = 10, 32, 192
+UNUSED, ACTIVE, COMMITTED, ENDED = 0, 1, 2, 3
+STATES = ["never taken", "active", "committed", "ended"]
+KINDS = {1: "put", 2: "gone", 3: "held"}
 
 PATCHES, GROUP_BYTES, BLOCK_HEAD = 40, 2000, 32
 
@@ -52,13 +60,23 @@ class Identity:
         return identity
 
     @property
-    def commit_block(self):
-        """The number of the block that each commit patches: the header of the first segment."""
+    def table_blocks(self):
+        """How many blocks of rows there are. The header of the first segment is the one behind them."""
         return self.tables * self.blocks
 
     @property
     def all_blocks(self):
-        return self.commit_block + SEGMENT_BLOCKS * self.segments
+        return self.table_blocks + SEGMENT_BLOCKS * self.segments
+
+    def header(self, segment):
+        """The number of the block that is the header of a segment."""
+        return self.table_blocks + SEGMENT_BLOCKS * segment
+
+    def kind(self, block):
+        """What a block is: 1 of rows, 2 a header, 3 of undo records."""
+        if block < self.table_blocks:
+            return 1
+        return 3 if (block - self.table_blocks) % SEGMENT_BLOCKS else 2
 
     @property
     def bytes(self):
@@ -74,15 +92,78 @@ class Patch:
     def __init__(self, block, offset, bytes_):
         self.block, self.offset, self.bytes = block, offset, bytes_
 
+    def part(self, first, size, count):
+        """Which of some parts of a block it is the whole of; None where it isn't that of one."""
+        at, within = divmod(self.offset - first, size)
+        return at if within == 0 and 0 <= at < count and len(self.bytes) == size else None
+
+    def slot(self, identity):
+        """The table slot that it writes and its place; None where it writes none."""
+        at = self.part(FIRST_SLOT, SLOT_BYTES, TABLE_SLOTS)
+        return None if identity.kind(self.block) != 2 or at is None else (at, Slot(self.bytes))
+
     def meaning(self, identity):
         """What the patch does, in words, where it is one that the program writes."""
-        if self.block == identity.commit_block and (self.offset, len(self.bytes)) == (48, 8):
-            return f"commit {int.from_bytes(self.bytes, 'big')}"
-        cell, within = divmod(self.offset - FIRST_CELL, CELL_BYTES)
-        if self.block < identity.commit_block and within == 0 and len(self.bytes) == CELL_BYTES and cell >= 0:
-            table, block = divmod(self.block, identity.blocks)
-            return f"table {table + 1} block {block} cell {cell}: {Cell(self.bytes)}"
-        return f"block {self.block} offset {self.offset}: {len(self.bytes)} bytes"
+        words = [self.of_rows, self.of_header, self.of_undo][identity.kind(self.block) - 1](identity)
+        return words or f"block {self.block} offset {self.offset}: {len(self.bytes)} bytes"
+
+    def of_rows(self, identity):
+        table, home = divmod(self.block, identity.blocks)
+        where, cell = f"table {table + 1} block {home}", self.part(FIRST_CELL, CELL_BYTES, CELLS)
+        if cell is not None:
+            return f"{where} cell {cell}: {Cell(self.bytes)}"
+        entry, (at, within) = self.part(FIRST_ENTRY, ENTRY_BYTES, ENTRIES), divmod(self.offset - FIRST_CELL, CELL_BYTES)
+        if entry is not None:
+            return f"{where} entry {entry}: {Entry(self.bytes)}"
+        return f"{where} cell {at}: lock {self.bytes[0]}" if (within, len(self.bytes)) == (1, 1) else None
+
+    def of_header(self, identity):
+        where, slot = f"segment {(self.block - identity.table_blocks) // SEGMENT_BLOCKS}", self.slot(identity)
+        if slot:
+            return f"{where} slot {slot[0]}: {slot[1]}"
+        extent, within = divmod(self.offset - FIRST_EXTENT, EXTENT_BYTES)
+        if (within, len(self.bytes)) == (0, 16) and extent < EXTENTS:
+            return f"{where} extent {extent}: {Extent(self.bytes)}"
+        if (self.offset, len(self.bytes)) == (HEAD, 4):
+            return "{} head: extent {}, {} records".format(where, *struct.unpack(">HH", self.bytes))
+        name = {WRITES: "writes", LOST: "lost"}.get(self.offset)
+        return f"{where} {name}: {int.from_bytes(self.bytes, 'big')}" if name and len(self.bytes) == 8 else None
+
+    def of_undo(self, identity):
+        segment, block = divmod(self.block - identity.table_blocks, SEGMENT_BLOCKS)
+        record = self.part(FIRST_RECORD, RECORD_BYTES, RECORDS)
+        if record is None:
+            return None
+        return f"segment {segment} undo block {block - 1} record {record}: {Undo(self.bytes)}"
+
+
+class Address:
+    """Where an undo record is: its block, its place in it, and the turn of its extent; turn 0 is that of none."""
+
+    def __init__(self, bytes_):
+        self.block, self.record, self.turn = struct.unpack_from(">IHxxQ", bytes_)
+
+    def __str__(self):
+        return f"block {self.block} record {self.record} turn {self.turn}" if self.turn else "none"
+
+
+class Entry:
+    """What a block of rows says of a transaction that changed it."""
+
+    def __init__(self, bytes_):
+        self.kind, self.segment, self.slot, self.wrap, self.number = struct.unpack_from(">BxxxHHQQ", bytes_)
+        self.newest, (self.length,) = Address(bytes_[24:40]), struct.unpack_from(">I", bytes_, 40)
+
+    @property
+    def transaction(self):
+        return self.segment, self.slot, self.wrap
+
+    def __str__(self):
+        if self.kind == FREE:
+            return "free"
+        kind = {OPEN: "open", EXACT: f"exactly {self.number}", BOUND: f"at most {self.number}"}.get(self.kind, "?")
+        return (f"{kind}, segment {self.segment} slot {self.slot} wrap {self.wrap}, chain of {self.length} from "
+                f"{self.newest}")
 
 
 class Cell:
@@ -93,9 +174,129 @@ class Cell:
         self.length, self.value = length, bytes_[12 : 12 + min(length, VALUE_BYTES)]
 
     def __str__(self):
+        lock = f", locked by entry {self.lock - 1}" if self.lock else ""
         if self.state == ROW:
-            return f"row {self.key} {self.value.decode(errors='replace')}"
-        return f"deleted {self.key}" if self.state == STUB else "empty"
+            return f"row {self.key} {self.value.decode(errors='replace')}{lock}"
+        return f"deleted {self.key}{lock}" if self.state == STUB else "empty"
+
+
+class Slot:
+    """What a segment says of the transaction that took one of its table slots last."""
+
+    def __init__(self, bytes_):
+        self.state, self.touched, self.live, self.wrap = struct.unpack_from(">BBxxIQ", bytes_)
+        self.newest, self.before = struct.unpack_from(">QQ", bytes_, 16)
+        self.newest_at = Address(bytes_[32:48])
+        self.first, self.start = struct.unpack_from(">QQ", bytes_, 48)
+
+    def __str__(self):
+        state = STATES[self.state] if self.state < len(STATES) else f"state {self.state}"
+        words = f"{state}, wrap {self.wrap}, newest {self.newest}, before {self.before}"
+        if self.state != ACTIVE:
+            return words
+        return f"{words}, {self.live} live from {self.newest_at}, start {self.start}"
+
+
+class Extent:
+    """The turn of an extent, 0 outside of the ring, and the greatest number of a commit with a record in it."""
+
+    def __init__(self, bytes_):
+        self.turn, self.newest = struct.unpack_from(">QQ", bytes_)
+
+    def __str__(self):
+        return f"turn {self.turn}, newest {self.newest}"
+
+
+class Undo:
+    """A change of a row, and what stood in its block before."""
+
+    def __init__(self, bytes_):
+        self.wrap, self.key, self.number, self.home, self.table = struct.unpack_from(">QQIIH", bytes_)
+        self.slot, self.kind, self.entry, self.cell = struct.unpack_from(">BBBB", bytes_, 26)
+        self.previous = Address(bytes_[32:48])
+        self.entry_before, self.cell_before = bytes(bytes_[48:96]), bytes(bytes_[96:188])
+
+    def __str__(self):
+        kind = KINDS.get(self.kind, "?")
+        return (f"slot {self.slot} wrap {self.wrap} change {self.number}, {kind} table {self.table} "
+                f"key {self.key}; before: {Cell(self.cell_before)}")
+
+
+class Segment:
+    """A rollback segment: its header, and the records of its undo blocks."""
+
+    def __init__(self, store, number):
+        self.store, self.number = store, number
+        self.at = store.identity.header(number)
+        header = store.block(self.at)
+        self.slots = [Slot(header[at : at + SLOT_BYTES]) for at in places(FIRST_SLOT, SLOT_BYTES, TABLE_SLOTS)]
+        self.extents = [Extent(header[at : at + 16]) for at in places(FIRST_EXTENT, EXTENT_BYTES, EXTENTS)]
+        self.head, self.records = struct.unpack_from(">HH", header, HEAD)
+        self.writes, self.lost = struct.unpack_from(">QQ", header, WRITES)
+
+    def ring(self):
+        """The extents that are in use, the oldest turn first."""
+        return sorted((e for e in range(EXTENTS) if self.extents[e].turn), key=lambda e: self.extents[e].turn)
+
+    def active(self):
+        return [at for at, slot in enumerate(self.slots) if slot.state == ACTIVE]
+
+    def has(self, address):
+        """Whether an address is of a record that the segment has."""
+        extent, block = divmod(address.block - self.at - 1, EXTENT_BLOCKS)
+        if not (address.turn and 0 <= extent < EXTENTS and address.record < RECORDS):
+            return False
+        made = self.records if extent == self.head else EXTENT_RECORDS
+        return self.extents[extent].turn == address.turn and RECORDS * block + address.record < made
+
+    def record(self, address):
+        """The undo record of an address that the segment has."""
+        at = FIRST_RECORD + RECORD_BYTES * address.record
+        return Undo(self.store.block(address.block)[at : at + RECORD_BYTES])
+
+    def live(self, at):
+        """The live records of a slot, newest first, as far as their addresses lead; no more than the slot says."""
+        found, address = [], self.slots[at].newest_at
+        while len(found) < self.slots[at].live and self.has(address):
+            found.append(self.record(address))
+            address = found[-1].previous
+        return found
+
+    def faults(self, commit_number):
+        """What is wrong with it, in words."""
+        turns = [extent.turn for extent in self.extents]
+        kept = [turn for turn in turns if turn]
+        in_front = 2 <= len(kept) and turns[: len(kept)] == kept
+        if not in_front or sorted(kept) != list(range(min(kept), min(kept) + len(kept))):
+            yield f"the turns of its extents are {turns}"
+        elif self.head >= len(kept) or turns[self.head] != max(kept) or self.records > EXTENT_RECORDS:
+            yield f"its head is extent {self.head} with {self.records} records"
+        if max(self.lost, *(extent.newest for extent in self.extents)) > commit_number:
+            yield "a number that it lost, or that of an extent, is above the file's commit number"
+        for at, slot in enumerate(self.slots):
+            if slot.state > ENDED or slot.before > slot.newest:
+                yield f"slot {at}: {slot}"
+        for at in self.active():
+            yield from self.slot_faults(at)
+
+    def slot_faults(self, at):
+        """What is wrong with the live records of an Active slot."""
+        slot, live = self.slots[at], self.live(at)
+        identity = self.store.identity
+        if slot.first not in [extent.turn for extent in self.extents if extent.turn] or slot.start > self.writes:
+            yield f"slot {at}: it began in turn {slot.first} behind {slot.start} records"
+        last = live[-1].previous if live else slot.newest_at
+        if len(live) != slot.live or last.turn:
+            yield f"slot {at}: {len(live)} of {slot.live} live records, which lead on to {last}"
+        for number, undo in zip(range(slot.live, 0, -1), live):
+            own = (undo.slot, undo.wrap, undo.number) == (at, slot.wrap, number)
+            if not (own and undo.home < identity.table_blocks and undo.entry < ENTRIES and undo.cell < CELLS):
+                yield f"slot {at}: live record {number} is {undo}"
+
+
+def places(first, size, count):
+    """The offsets of some parts of a block, one behind the other."""
+    return range(first, first + size * count, size)
 
 
 def group_at(content, identity, slot):
@@ -130,7 +331,7 @@ def patches_of(group, identity):
 
 
 class Store:
-    """What a file says: its identity, the groups of its log, and the blocks after those up to the last commit."""
+    """What a file says: its identity, the groups of its log, and the blocks after them."""
 
     def __init__(self, content):
         self.identity = identity = Identity.of(content[:UNIT])
@@ -141,72 +342,117 @@ class Store:
         while (patches := group_at(content, identity, len(self.groups))) is not None:
             self.groups.append(patches)
         self.blocks = {}
-        for patches in self.groups[: self.kept]:
+        for patches in self.groups:
             for patch in patches:
                 block = self.block(patch.block)
                 block[patch.offset : patch.offset + len(patch.bytes)] = patch.bytes
+        self.segments = [Segment(self, number) for number in range(identity.segments)]
 
     @classmethod
     def read(cls, file):
         return cls(bytes_of(file))
 
     @property
-    def kept(self):
-        """How many groups there are up to the last commit. The next run drops the others."""
-        commits = [at for at, patches in enumerate(self.groups, 1) if self.is_commit(patches)]
-        return commits[-1] if commits else 0
-
-    @property
     def commits(self):
-        """How many groups of the log are commits."""
+        """How many groups of the log are commits: they alone write a table slot as committed."""
         return sum(map(self.is_commit, self.groups))
 
     def is_commit(self, patches):
-        return any(patch.block == self.identity.commit_block for patch in patches)
+        return any(slot[1].state == COMMITTED for slot in (patch.slot(self.identity) for patch in patches) if slot)
 
     @property
     def room(self):
-        """For how many more groups the log has room: each write takes one, and each commit that takes a number."""
-        return self.identity.log - 1 - self.kept
+        """For how many more groups the log has room."""
+        return self.identity.log - 1 - len(self.groups)
+
+    @property
+    def owed(self):
+        """How many groups put back what is under way: one for each live change, and one for each slot."""
+        return sum(segment.slots[at].live + 1 for segment in self.segments for at in segment.active())
 
     def block(self, number):
-        """The bytes of a block, of which those in front aren't kept here: a new one has none but 0 where rows are."""
-        return self.blocks.setdefault(number, bytearray(UNIT))
+        """The bytes of a block, of which those in front aren't kept here."""
+        if number not in self.blocks:
+            block = self.blocks[number] = bytearray(UNIT)
+            if self.identity.kind(number) == 2:
+                # A new segment has turn 2 in extent 0, the head, and turn 1 in extent 1.
+                for extent, turn in enumerate([2, 1]):
+                    struct.pack_into(">Q", block, FIRST_EXTENT + EXTENT_BYTES * extent, turn)
+        return self.blocks[number]
 
     @property
     def commit_number(self):
         """The greatest commit number that a table slot of a segment has."""
-        places = ((self.identity.commit_block + SEGMENT_BLOCKS * segment, 32 + 64 * slot + 16)
-                  for segment in range(self.identity.segments) for slot in range(TABLE_SLOTS))
-        return max(int.from_bytes(self.blocks.get(block, bytes(UNIT))[at : at + 8], "big") for block, at in places)
+        return max(slot.newest for segment in self.segments for slot in segment.slots)
 
-    def cells(self, table, block):
-        """The sixteen cells of a block of a table, which are counted from 1 and from 0."""
-        content = self.blocks.get((table - 1) * self.identity.blocks + block, bytes(UNIT))
-        places = range(FIRST_CELL, FIRST_CELL + CELLS * CELL_BYTES, CELL_BYTES)
-        return [Cell(bytes(content[at : at + CELL_BYTES])) for at in places]
+    def put_back(self):
+        """The blocks of rows as they are once what is under way is put back, each transaction's newest change first.
+        This changes a copy alone."""
+        blocks = {number: bytearray(block) for number, block in self.blocks.items()
+                  if number < self.identity.table_blocks}
+        for segment in self.segments:
+            for at in segment.active():
+                for undo in segment.live(at):
+                    block = blocks.setdefault(undo.home, bytearray(UNIT))
+                    write(block, FIRST_ENTRY + ENTRY_BYTES * undo.entry, undo.entry_before)
+                    write(block, FIRST_CELL + CELL_BYTES * undo.cell, undo.cell_before)
+        return blocks
 
-    def homes(self):
-        """Each block of rows that was written: its table, its number in the table, and its cells."""
-        for number in sorted(number for number in self.blocks if number < self.identity.commit_block):
-            table, block = divmod(number, self.identity.blocks)
-            yield table + 1, block, self.cells(table + 1, block)
+    def homes(self, blocks=None):
+        """Each block of rows that was written: its table, its number in the table, its entries and its cells."""
+        blocks = self.put_back() if blocks is None else blocks
+        for number in sorted(number for number in blocks if number < self.identity.table_blocks):
+            table, home = divmod(number, self.identity.blocks)
+            content = bytes(blocks[number])
+            entries = [Entry(content[at : at + ENTRY_BYTES]) for at in places(FIRST_ENTRY, ENTRY_BYTES, ENTRIES)]
+            cells = [Cell(content[at : at + CELL_BYTES]) for at in places(FIRST_CELL, CELL_BYTES, CELLS)]
+            yield table + 1, home, entries, cells
 
     def rows(self):
         """The rows of the last commit as table, key and value, in the order in which a cursor gives them."""
         found = []
-        for table, block, cells in self.homes():
+        for table, _, _, cells in self.homes():
             found += [(table, cell.key, cell.value) for cell in sorted(cells, key=lambda c: c.key) if cell.state == ROW]
         return found
 
+    def marks(self):
+        """How many records each segment made, and what it lost."""
+        return [(segment.writes, segment.lost) for segment in self.segments]
+
     def faults(self):
-        """What is wrong with blocks of rows, in words. A run tests more than this (docs/FORMAT.md, Opening)."""
-        for table, block, cells in self.homes():
-            for at, cell in enumerate(cells):
-                if cell.state > STUB or cell.length > VALUE_BYTES:
-                    yield f"table {table} block {block} cell {at}: state {cell.state}, length {cell.length}"
-                elif cell.state != EMPTY and cell.key % self.identity.blocks != block:
-                    yield f"table {table} block {block} cell {at}: key {cell.key} belongs to another block"
-            keys = [cell.key for cell in cells if cell.state == ROW]
-            if len(set(keys)) != len(keys):
-                yield f"table {table} block {block}: a key has two rows"
+        """What an opening refuses the blocks for, in words (docs/FORMAT.md, Opening)."""
+        number = self.commit_number
+        for segment in self.segments:
+            yield from (f"segment {segment.number}: {fault}" for fault in segment.faults(number))
+        for table, home, entries, cells in self.homes(self.blocks):
+            where = f"table {table} block {home}"
+            yield from (f"{where} {fault}" for fault in self.entry_faults(entries, number))
+            yield from (f"{where} {fault}" for fault in self.cell_faults(home, entries, cells))
+        if self.owed > self.room:
+            yield f"{self.owed} groups put back what is under way, and the log has room for {self.room}"
+
+    def entry_faults(self, entries, commit_number):
+        for at, entry in enumerate(entries):
+            if entry.kind == FREE:
+                continue
+            known = entry.kind <= BOUND and entry.segment < self.identity.segments and entry.slot < TABLE_SLOTS
+            if not known or not 1 <= entry.wrap <= self.segments[entry.segment].slots[entry.slot].wrap:
+                yield f"entry {at}: {entry}"
+            elif not 1 <= entry.length <= EXTENTS * EXTENT_RECORDS or entry.number > commit_number:
+                yield f"entry {at}: {entry}"
+
+    def cell_faults(self, home, entries, cells):
+        keys = [cell.key for cell in cells if cell.state == ROW or cell.lock]
+        if len(set(keys)) != len(keys):
+            yield "has a key in two cells"
+        for at, cell in enumerate(cells):
+            if cell.state > STUB or cell.length > VALUE_BYTES or cell.lock > ENTRIES:
+                yield f"cell {at}: state {cell.state}, length {cell.length}, lock {cell.lock}"
+            elif cell.lock and (cell.state == EMPTY or entries[cell.lock - 1].kind == FREE):
+                yield f"cell {at}: it is {cell}, and locked by entry {cell.lock - 1}"
+            elif cell.state != EMPTY and cell.key % self.identity.blocks != home:
+                yield f"cell {at}: key {cell.key} belongs to another block"
+
+
+def write(block, at, bytes_):
+    block[at : at + len(bytes_)] = bytes_

@@ -1,7 +1,9 @@
 -- Why a write is refused, from what its parts say.
-use Rattle.std.proofs.Common.{◌≡◌, ℕ, Bool, List, Err, refl, subst}
+use Rattle.std.proofs.Common.{◌≡◌, ℕ, Bool, List, [], not, Result, Err, refl, sym, ap, subst, ◌∙◌}
+use Rattle.rb_base.specs.Logs.{Logs}
 use Rattle.rb_base.specs.declared.ids.Xid.{Xid}
 use Rattle.rb_base.specs.declared.shape.Shape.{Shape}
+use Rattle.rb_base.specs.declared.store.Store.{Ghosts}
 use Rattle.rb_heap.specs.Choices.{IsEntryChoice}
 use Rattle.rb_heap.specs.Homes.{Home, home_entry}
 use Rattle.rb_segment.specs.Header.{Header}
@@ -40,3 +42,8 @@ fails_same T U SlotsFull = refl
 fails_same T U (RollbackFull seg since) = refl
 fails_same T U WornOut = refl
 fails_same T U LogFull = refl
+
+-- where a fault of a call goes on, the same groups were logged
+pub logs_on : {S : Type 0} (s : Ghosts S) (old new : S) (T U : Type 0) (result : Result T AttemptFault) (fault : AttemptFault) → result ≡ Err fault → Logs s old new [] (not (has_failed {T = U} (Err fault))) → Logs s old new [] (not (has_failed result))
+logs_on s old new T U result fault is logs =
+    subst (λ (b : Bool). Logs s old new [] (not b)) (sym (ap (λ (r : Result T AttemptFault). has_failed r) is ∙ fails_same T U fault)) logs

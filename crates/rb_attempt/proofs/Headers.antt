@@ -13,7 +13,7 @@ use Rattle.rb_segment.specs.Moves.{claimed, claimed_slot, NoneMayTurn}
 use Rattle.rb_standing.specs.Writing.{HasHeaderRoom, IsHeaderReady}
 use Rattle.rb_txntable.specs.Slots.{no_slot}
 use Rattle.rb_txntable.specs.declared.slots.TableSlot.{TableSlot}
-use Rattle.rb_attempt.specs.Asks.{header_in, AreYoung, IsWriterOf, MayWrite}
+use Rattle.rb_attempt.specs.Asks.{header_in, AreYoung, IsWriterOf}
 
 -- a header that turned for a record could
 pub turned_may : (block : ℕ) (h room : Header) (patches : List Patch) → HasTurned block h room patches → NoneMayTurn h → ⊥
@@ -50,12 +50,13 @@ module _ (shape : Shape) (blocks : List (List ℕ)) (x : Xid) (ready : Header) (
       young_as ready x runs (subst IsYoung same (young.headers x.seg seg))
 
   -- the header is the file's, or with the slot taken there
-  pub ready_is : (own : Option Xid) → MayWrite shape blocks own → IsWriterOf shape blocks own x ready → IsHeaderReady (header_in shape blocks x.seg) x.slot ready
-  ready_is None may writer = let takes = writer.takes refl in inr (takes.1, takes.2)
-  ready_is (Some y) may writer = let has = writer.has y refl in
-      let runs = may.runs y refl in
-      let there : Runs (header_in shape blocks x.seg) x = subst (λ (z : Xid). Runs (header_in shape blocks z.seg) z) (sym has.0) runs in
-      inl (there.active, has.1 ∙ ap (λ (z : Xid). header_in shape blocks z.seg) (sym has.0))
+  pub ready_is : (own : Option Xid) → Runs ready x → IsWriterOf shape blocks own x ready → IsHeaderReady (header_in shape blocks x.seg) x.slot ready
+  ready_is None runs writer = let takes = writer.takes refl in inr (takes.1, takes.2)
+  ready_is (Some y) runs writer =
+      let has = writer.has y refl in
+      let same : ready ≡ header_in shape blocks x.seg = has.1 ∙ ap (λ (z : Xid). header_in shape blocks z.seg) (sym has.0) in
+      let there : Runs (header_in shape blocks x.seg) x = subst (λ (h : Header). Runs h x) same runs in
+      inl (there.active, same)
 
 pub room_is : (block : ℕ) (h room : Header) (patches : List Patch) → HasTurned block h room patches → HasHeaderRoom h room
 room_is block h room patches turned = elim turned [

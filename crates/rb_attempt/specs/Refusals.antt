@@ -42,7 +42,7 @@ pub record TakesWriter (home : Home) (adds : Bool) (key : ℕ) (x : Xid) : Type 
   pub entry : ¬ HasNoChoice (home_entry home) x
 
 -- why a write is refused, by its cleaned home, its transaction with the segment's header, the last log number, and the
--- room that the log has beside what it must keep
+-- room that there is, the lesser of the log's and the caller's, beside what must be kept
 abbrev pub Refuses : AttemptFault → Home → Bool → ℕ → Xid → Header → ℕ → ℕ → ℕ → Type 0
 Refuses Duplicate home adds key x ready logged room kept = (adds ≡ true) × HasRow home key
 Refuses NotFound home adds key x ready logged room kept = (adds ≡ false) × HasNoRow home key
@@ -62,7 +62,7 @@ abbrev pub HomeRefuses : AttemptFault → Home → Bool → ℕ → Type 0
 HomeRefuses fault home adds key = (x : Xid) (ready : Header) (logged room kept : ℕ)
     → Refuses fault home adds key x ready logged room kept
 
--- the log alone refuses it
+-- the log's numbers or the room alone refuse it
 abbrev pub LogRefuses : AttemptFault → ℕ → ℕ → ℕ → Type 0
 LogRefuses WornOut logged room kept = WORN ≤ logged
 LogRefuses LogFull logged room kept = (logged < WORN) × (room < 1 + kept)

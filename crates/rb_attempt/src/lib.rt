@@ -1,6 +1,6 @@
 //! Writes rows with undo: one attempt is one change, as one group that cleans the row's block, adds an undo record to a
-//! rollback segment and changes the cell and the slot entry; or it is a refusal, and no group. It takes the place of
-//! rb_write as the program keeps undo.
+//! rollback segment and changes the cell and the slot entry; or it is a refusal, and no group. rb_undoengine
+//! calls it.
 #![tactic(auto)]
 
 mod ask;

@@ -96,16 +96,17 @@ fn is_idle(header: &[u8]) -> bool
     choose(header).is_some()
 }
 
-/// The transaction that has its table slot, and a copy of its segment's header.
+/// The transaction that has its table slot, and a copy of its segment's header. `RollbackFull` where it doesn't run, as
+/// in a damaged file.
 fn own_writer<S: Store>(store: &mut S, xid: Xid, header: &mut [u8]) -> Result<Xid, AttemptFault>
     requires going { S.failed store.old ≡ false }
     requires there { xid.seg < (S.shape_of store.old).segments }
     requires slot { xid.slot < SLOTS }
     requires header { length header.old ≡ UNIT }
-    requires runs { S.tells → Runs (header_in (S.shape_of store.old) (S.blocks store.old) xid.seg) xid }
     ensures logs { Logs S.Store store.old store.new [] (not (has_failed result)) }
     ensures length { length header.new ≡ UNIT }
-    ensures failed { S.tells → OnErr result (has_failed result ≡ true) }
+    ensures failed { S.tells → Runs (header_in (S.shape_of store.old) (S.blocks store.old) xid.seg) xid
+        → OnErr result (has_failed result ≡ true) }
     ensures xid { IfOk result (λ x. x ≡ xid) }
     ensures runs { OnOk result (Runs (header_of header.new) xid) }
     ensures copy { S.tells → OnOk result (header.new
@@ -122,7 +123,8 @@ fn own_writer<S: Store>(store: &mut S, xid: Xid, header: &mut [u8]) -> Result<Xi
 }
 
 /// A transaction that takes a table slot of the segment with the fewest that run. The copy is that segment's header,
-/// with the slot taken, and the group has the patches of that.
+/// with the slot taken, and the group has the patches of that. `RollbackFull` where no slot is idle, as in a damaged
+/// file.
 fn new_writer<S: Store>(
     store: &mut S,
     header: &mut [u8],
@@ -130,14 +132,14 @@ fn new_writer<S: Store>(
 ) -> Result<Xid, AttemptFault>
     requires going { S.failed store.old ≡ false }
     requires header { length header.old ≡ UNIT }
-    requires may { S.tells → MayWrite (S.shape_of store.old) (S.blocks store.old) None }
     requires count { length group.old + 2 ≤ GROUP_PATCHES }
     requires room { group_length group.old + (8 + SLOT_BYTES) + (8 + 8) ≤ GROUP_BYTES }
     ensures logs { Logs S.Store store.old store.new [] (not (has_failed result)) }
     ensures length { length header.new ≡ UNIT }
     ensures few { length group.new ≤ length group.old + 2 }
     ensures short { group_length group.new ≤ group_length group.old + (8 + SLOT_BYTES) + (8 + 8) }
-    ensures failed { S.tells → OnErr result (has_failed result ≡ true) }
+    ensures failed { S.tells → MayWrite (S.shape_of store.old) (S.blocks store.old) None
+        → OnErr result (has_failed result ≡ true) }
     ensures there { IfOk result (λ x. x.seg < (S.shape_of store.old).segments) }
     ensures runs { IfOk result (Runs (header_of header.new)) }
     ensures patches { IfOk result (λ x. (patches : List Patch)
@@ -160,8 +162,8 @@ fn new_writer<S: Store>(
 }
 
 /// The transaction that writes: the one that has its table slot, or one that takes a slot of the segment with the
-/// fewest that run. The copy is its segment's header, with the slot taken, and the group has the patches of that. Over
-/// a store that doesn't tell its blocks it is `RollbackFull` where that transaction doesn't run, or no slot is idle.
+/// fewest that run. The copy is its segment's header, with the slot taken, and the group has the patches of that.
+/// `RollbackFull` where that transaction doesn't run, or no slot is idle, both in a damaged file alone.
 pub fn writer<S: Store>(
     store: &mut S,
     own: Option<Xid>,
@@ -171,14 +173,14 @@ pub fn writer<S: Store>(
     requires going { S.failed store.old ≡ false }
     requires header { length header.old ≡ UNIT }
     requires own { (x : Xid) → own ≡ Some x → (x.seg < (S.shape_of store.old).segments) × (x.slot < SLOTS) }
-    requires may { S.tells → MayWrite (S.shape_of store.old) (S.blocks store.old) own }
     requires count { length group.old + 2 ≤ GROUP_PATCHES }
     requires room { group_length group.old + (8 + SLOT_BYTES) + (8 + 8) ≤ GROUP_BYTES }
     ensures logs { Logs S.Store store.old store.new [] (not (has_failed result)) }
     ensures length { length header.new ≡ UNIT }
     ensures few { length group.new ≤ length group.old + 2 }
     ensures short { group_length group.new ≤ group_length group.old + (8 + SLOT_BYTES) + (8 + 8) }
-    ensures failed { S.tells → OnErr result (has_failed result ≡ true) }
+    ensures failed { S.tells → MayWrite (S.shape_of store.old) (S.blocks store.old) own
+        → OnErr result (has_failed result ≡ true) }
     ensures there { IfOk result (λ x. x.seg < (S.shape_of store.old).segments) }
     ensures runs { IfOk result (Runs (header_of header.new)) }
     ensures patches { IfOk result (λ x. (patches : List Patch)

@@ -1,5 +1,4 @@
 pub mod Blocks
-pub mod Commits
 pub mod Counted
 pub mod Decimals
 pub mod Each

@@ -1,8 +1,8 @@
 -- The blocks of a file in their order, and what groups of patches make of them.
-use Rattle.std.specs.Prelude.{◌≡◌, ℕ, ◌+◌, ◌*◌, ◌-◌, ◌%◌, ◌<◌, ◌≤◌, zero, suc, Bool}
-use Rattle.std.specs.Prelude.{◌==◌, nat_lt, max, cond, if◌then◌else◌, List, [], ◌∷◌, ◌++◌, length}
+use Rattle.std.specs.Prelude.{◌≡◌, ℕ, ◌+◌, ◌*◌, ◌-◌, ◌%◌, ◌<◌, ◌≤◌, zero, suc}
+use Rattle.std.specs.Prelude.{◌==◌, nat_lt, max, if◌then◌else◌, List, [], ◌∷◌, ◌++◌, length}
 use Rattle.std.specs.Prelude.{replicate, slice_index_or, slice_set, drop}
-use Rattle.std.specs.List.{list_any, AllByRecursion}
+use Rattle.std.specs.List.{AllByRecursion}
 use Rattle.byteorder.specs.Endian.{big_bytes}
 use Rattle.rb_base.specs.Fields.{overwritten, with_number}
 use Rattle.rb_base.specs.Groups.{Patch}
@@ -30,10 +30,6 @@ header_block shape g = table_blocks shape + SEGMENT_BLOCKS * g
 -- the block where the row of that key of a table, from 1 on, has its place
 abbrev pub home_block : Shape → ℕ → ℕ → ℕ
 home_block shape table key = (table - 1) * shape.blocks + key % shape.blocks
-
--- The block that each commit patches: the header of the first segment, where the commit's number is kept.
-abbrev pub commit_block : Shape → ℕ
-commit_block shape = table_blocks shape
 
 abbrev pub block_of : List (List ℕ) → ℕ → List ℕ
 block_of blocks which = slice_index_or blocks which []
@@ -65,15 +61,6 @@ written_to which (p ∷ patches) block = written_to which patches
 -- all of a block but its head
 abbrev pub behind_head : List ℕ → List ℕ
 behind_head block = drop BLOCK_HEAD block
-
-abbrev pub patches_block : ℕ → List Patch → Bool
-patches_block which group = list_any (λ p. p.block == which) group
-
--- the groups up to the last one that patches that block
-abbrev pub up_to_last : ℕ → List (List Patch) → List (List Patch)
-up_to_last which [] = []
-up_to_last which (group ∷ groups) = cond (list_any (patches_block which) (group ∷ groups))
-    (group ∷ up_to_last which groups) []
 
 -- each patch of the group is of a block of the file
 abbrev pub AreWithin : Shape → List Patch → Type 0

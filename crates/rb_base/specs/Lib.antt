@@ -5,7 +5,8 @@ pub mod Counts
 pub mod Fields
 pub mod Groups
 pub mod Heads
-pub mod Loads
+pub mod Keeps
 pub mod Logs
 pub mod Moments
+pub mod Settling
 pub mod Stores

@@ -1,17 +1,31 @@
--- Groups that calls gave to a store, one after another.
+-- Groups that calls gave to a store, one after another, and what a crash in the calls may leave. Above this crate a
+-- `Logs` is built and joined by these lemmas alone.
 use Rattle.std.specs.Prelude.{◌≡◌, ℕ, ◌+◌, ◌≤◌, Bool, true, false, not, refl}
-use Rattle.std.specs.Prelude.{List, [], ◌∷◌, ◌++◌, length, Result, Ok, Err, OnOk}
+use Rattle.std.specs.Prelude.{List, [], ◌∷◌, ◌++◌, length, take, Result, Ok, Err, OnOk}
 use Rattle.std.specs.Result.{is_err}
-use Rattle.std.proofs.Common.{append-nil, append_assoc, length-append, arith, sym, ap, ◌∙◌}
+use Rattle.std.proofs.Common.{append-nil, append_assoc, length-append, arith, sym, ap, subst, ◌∙◌}
 use Rattle.rb_base.specs.Blocks.{after_group, after_groups}
 use Rattle.rb_base.specs.Counts.{Rose, IsCounted}
-use Rattle.rb_base.specs.Loads.{OnlyLoads}
 use Rattle.rb_base.specs.Groups.{Patch}
-use Rattle.rb_base.specs.Moments.{LeavesNoMore, no_call, more_calls}
+use Rattle.rb_base.specs.Moments.{LeavesOnly, begun, weaker, joined}
+use Rattle.rb_base.specs.Settling.{after_joined, settles_joined, some_front, some_later}
+use Rattle.rb_base.specs.Stores.{OpensToSome, Settles}
 use Rattle.rb_base.specs.declared.store.Store.{Ghosts}
 
--- Calls of a store of the kind s applied these groups, in order, and flushed none: each has the next log number. Where
--- one of them failed, how many were applied isn't told, and the store is no more to be called.
+-- the laws of `Store`, of the kind s of a store, as a proof hands them to a lemma
+pub record Laws {S : Type 0} (s : Ghosts S) : Type 0 where
+  pub stable_left : (store : S) (b : List (List ℕ)) (n : ℕ) (i : s.image) → s.keeps → s.stable store b n
+      → s.left store i → s.opens (s.shape_of store) (s.slots store) i b n
+  pub stable_numbered : (store : S) (b : List (List ℕ)) (n : ℕ) → s.keeps → s.stable store b n
+      → n + length (s.pending store) ≡ s.lsn store
+  pub stable_patched : (store : S) (b : List (List ℕ)) (n : ℕ) → s.keeps → s.stable store b n
+      → s.blocks store ≡ after_groups (n + 1) (s.pending store) b
+  pub now_counts : (store : S) (t : ℕ) (i : s.image) → s.keeps → t ≤ s.moment store → s.left store i
+      → s.left_since store t i
+  pub only_now : (store : S) (i : s.image) → s.keeps → s.left_since store (s.moment store) i → s.left store i
+
+-- Calls of a store of the kind s gave it these groups, in order: each has the next log number, and any of them may
+-- have been made last. Where a call failed, some of them may be given, and the store is no more to be called.
 pub record Logs {S : Type 0} (s : Ghosts S) (old new : S) (groups : List (List Patch)) (going : Bool) : Type 0 where
   pub same_shape : s.shape_of new ≡ s.shape_of old
   pub same_slots : s.slots new ≡ s.slots old
@@ -21,23 +35,19 @@ pub record Logs {S : Type 0} (s : Ghosts S) (old new : S) (groups : List (List P
   pub still : going ≡ true → s.faults new ≡ s.faults old
   pub number : going ≡ true → s.lsn new ≡ s.lsn old + length groups
   pub blocks : s.tells → going ≡ true → s.blocks new ≡ after_groups (s.lsn old + 1) groups (s.blocks old)
-  pub pending : s.tells_crashes → going ≡ true → s.pending new ≡ s.pending old ++ groups
-  pub stable : s.tells_crashes → going ≡ true → (b : List (List ℕ)) → s.stable old b → s.stable new b
-  pub crashes : s.tells_crashes → LeavesNoMore s.left s.moment s.left_since old new
+  pub settles : s.keeps → going ≡ true → (b : List (List ℕ)) (n : ℕ) → s.stable old b n
+      → Settles n (s.pending old ++ groups) b (s.stable new) (s.pending new)
+  pub any_moment : s.keeps → Laws s → (b : List (List ℕ)) (n : ℕ) → s.stable old b n
+      → LeavesOnly s.moment s.left_since old new
+      (OpensToSome (s.opens (s.shape_of old) (s.slots old)) n (s.pending old ++ groups) b)
 
 -- the group of these patches, where there is one
 abbrev pub group_of : List Patch → List (List Patch)
 group_of [] = []
 group_of (p ∷ patches) = (p ∷ patches) ∷ []
 
--- groups after others: the blocks are those after all of them
-pub after_joined : (number : ℕ) (groups more : List (List Patch)) (blocks : List (List ℕ))
-    → after_groups number (groups ++ more) blocks
-    ≡ after_groups (number + length groups) more (after_groups number groups blocks)
-after_joined number [] more blocks = ap (λ (n : ℕ). after_groups n more blocks) (omega arith)
-after_joined number (g ∷ groups) more blocks = after_joined (number + 1) groups more (after_group number g blocks)
-    ∙ ap (λ (n : ℕ). after_groups n more (after_groups (number + 1) groups (after_group number g blocks)))
-    (omega arith)
+no_clash : {X : Type 0} → false ≡ true → X
+no_clash is = cc
 
 module _ {S : Type 0} (s : Ghosts S) where
   -- no call at all
@@ -47,13 +57,24 @@ module _ {S : Type 0} (s : Ghosts S) where
     same_slots = refl;
     failed = going;
     no_less = omega arith;
-    cause = λ is. let clash : false ≡ true = is in cc;
+    cause = no_clash;
     still = λ _. refl;
     number = λ _. omega arith;
     blocks = λ _ _. refl;
-    pending = λ _ _. sym (append-nil (s.pending store));
-    stable = λ _ _ b is. is;
-    crashes = λ _. no_call s.left s.moment s.left_since store;
+    settles = λ _ _ b n stable. record {
+      count = 0;
+      few = omega arith;
+      settled = subst (s.stable store b) (omega arith) stable;
+      waits = sym (append-nil (s.pending store));
+    };
+    any_moment = λ kept laws b n stable. begun s.moment s.left_since store
+        (OpensToSome (s.opens (s.shape_of store) (s.slots store)) n (s.pending store ++ []) b)
+        (λ i left. record {
+          count = 0;
+          few = omega arith;
+          opening = subst (s.opens (s.shape_of store) (s.slots store) i b) (omega arith)
+              (laws.stable_left store b n i kept stable (laws.only_now store i kept left));
+        });
   }
 
   -- calls after others that went well
@@ -72,78 +93,128 @@ module _ {S : Type 0} (s : Ghosts S) where
         ∙ ap (λ (n : ℕ). after_groups n second (after_groups (s.lsn old + 1) first (s.blocks old)))
         (omega (arith, a.number refl))
         ∙ sym (after_joined (s.lsn old + 1) first second (s.blocks old));
-    pending = λ kept goes. b.pending kept goes ∙ ap (λ (l : List (List Patch)). l ++ second) (a.pending kept refl)
-        ∙ append_assoc (s.pending old) first second;
-    stable = λ kept goes l is. b.stable kept goes l (a.stable kept refl l is);
-    crashes = λ kept. more_calls s.left s.moment s.left_since old mid new (a.crashes kept) (b.crashes kept);
+    settles = λ kept goes l n stable.
+        let settled = a.settles kept refl l n stable in
+        subst (λ (given : List (List Patch)). Settles n given l (s.stable new) (s.pending new))
+        (append_assoc (s.pending old) first second)
+        (settles_joined n (s.pending old ++ first) second l (s.stable mid) (s.stable new) (s.pending mid)
+        (s.pending new) settled (b.settles kept goes _ _ settled.settled));
+    any_moment = λ kept laws l n stable. moments kept laws l n stable (a.settles kept refl l n stable);
   }
     where
       rose : Rose (s.faults mid) (s.faults new) → Rose (s.faults old) (s.faults new)
       rose up less = omega (arith, a.no_less, up less)
 
-  -- a call that only loads
-  pub load_logs : {T E : Type 0} (old new : S) (result : Result T E) → OnlyLoads s old new
-      → s.failed new ≡ is_err result → IsCounted (s.faults old) (s.faults new) result
+      opening : s.image → List (List ℕ) → ℕ → Type 0
+      opening = s.opens (s.shape_of old) (s.slots old)
+
+      moments : s.keeps → Laws s → (l : List (List ℕ)) (n : ℕ) → s.stable old l n
+          → Settles n (s.pending old ++ first) l (s.stable mid) (s.pending mid)
+          → LeavesOnly s.moment s.left_since old new (OpensToSome opening n (s.pending old ++ (first ++ second)) l)
+      moments kept laws l n stable settled =
+          let given = s.pending old ++ first in
+          let made = after_groups (n + 1) (take settled.count given) l in
+          let all = OpensToSome opening n (given ++ second) l in
+          let same : s.opens (s.shape_of mid) (s.slots mid) ≡ opening = rw (a.same_shape, a.same_slots) refl in
+          subst (λ (groups : List (List Patch)). LeavesOnly s.moment s.left_since old new
+          (OpensToSome opening n groups l))
+          (append_assoc (s.pending old) first second)
+          (joined s.moment s.left_since old mid new all
+          (weaker s.moment s.left_since old mid (OpensToSome opening n given l) all
+          (λ i. some_front opening n given second l i) (a.any_moment kept laws l n stable))
+          (weaker s.moment s.left_since mid new
+          (OpensToSome opening (n + settled.count) (s.pending mid ++ second) made) all
+          (λ i. some_later opening n given second l (s.stable mid) (s.pending mid) i settled)
+          (subst (λ (f : s.image → List (List ℕ) → ℕ → Type 0). LeavesOnly s.moment s.left_since mid new
+          (OpensToSome f (n + settled.count) (s.pending mid ++ second) made)) same
+          (b.any_moment kept laws made (n + settled.count) settled.settled))))
+
+  -- a load, from its clauses
+  pub load_logs : {T E : Type 0} (old new : S) (result : Result T E) → s.shape_of new ≡ s.shape_of old
+      → s.slots new ≡ s.slots old → s.failed new ≡ is_err result
+      → IsCounted (s.faults old) (s.faults new) result → s.lsn new ≡ s.lsn old
+      → (s.tells → OnOk result (s.blocks new ≡ s.blocks old))
+      → (s.keeps → OnOk result ((b : List (List ℕ)) (n : ℕ) → s.stable old b n
+      → Settles n (s.pending old) b (s.stable new) (s.pending new)))
+      → (s.keeps → (b : List (List ℕ)) (n : ℕ) → s.stable old b n → LeavesOnly s.moment s.left_since old new
+      (OpensToSome (s.opens (s.shape_of old) (s.slots old)) n (s.pending old) b))
       → Logs s old new [] (not (is_err result))
-  load_logs old new (Ok value) loads failed counted = record {
-    same_shape = loads.same_shape;
-    same_slots = loads.same_slots;
+  load_logs old new (Ok value) shape slots failed counted lsn blocks settles any_moment = record {
+    same_shape = shape;
+    same_slots = slots;
     failed = failed;
     no_less = counted.no_less;
-    cause = λ is. let clash : false ≡ true = is in cc;
+    cause = no_clash;
     still = λ _. counted.still;
-    number = λ _. omega (arith, loads.same_lsn);
-    blocks = λ told _. loads.same_blocks told;
-    pending = λ kept _. loads.same_pending kept ∙ sym (append-nil (s.pending old));
-    stable = λ kept _. loads.still_stable kept;
-    crashes = loads.crashes;
+    number = λ _. omega (arith, lsn);
+    blocks = λ told _. blocks told;
+    settles = λ kept _ b n stable. subst
+        (λ (given : List (List Patch)). Settles n given b (s.stable new) (s.pending new))
+        (sym (append-nil (s.pending old))) (settles kept b n stable);
+    any_moment = λ kept _ b n stable. subst
+        (λ (given : List (List Patch)). LeavesOnly s.moment s.left_since old new
+        (OpensToSome (s.opens (s.shape_of old) (s.slots old)) n given b))
+        (sym (append-nil (s.pending old))) (any_moment kept b n stable);
   }
-  load_logs old new (Err error) loads failed counted = record {
-    same_shape = loads.same_shape;
-    same_slots = loads.same_slots;
+  load_logs old new (Err error) shape slots failed counted lsn blocks settles any_moment = record {
+    same_shape = shape;
+    same_slots = slots;
     failed = failed;
     no_less = counted.no_less;
     cause = λ _. counted.cause;
-    still = λ is. let clash : false ≡ true = is in cc;
-    number = λ _. omega (arith, loads.same_lsn);
-    blocks = λ told _. loads.same_blocks told;
-    pending = λ kept _. loads.same_pending kept ∙ sym (append-nil (s.pending old));
-    stable = λ kept _. loads.still_stable kept;
-    crashes = loads.crashes;
+    still = no_clash;
+    number = no_clash;
+    blocks = λ _. no_clash;
+    settles = λ _. no_clash;
+    any_moment = λ kept _ b n stable. subst
+        (λ (given : List (List Patch)). LeavesOnly s.moment s.left_since old new
+        (OpensToSome (s.opens (s.shape_of old) (s.slots old)) n given b))
+        (sym (append-nil (s.pending old))) (any_moment kept b n stable);
   }
 
-  -- a call that applies a group
+  -- a flush or a checkpoint, from its clauses: they are those of a load, and that no group waits any more
+  pub flush_logs : {T E : Type 0} (old new : S) (result : Result T E) → s.shape_of new ≡ s.shape_of old
+      → s.slots new ≡ s.slots old → s.failed new ≡ is_err result
+      → IsCounted (s.faults old) (s.faults new) result → s.lsn new ≡ s.lsn old
+      → (s.tells → OnOk result (s.blocks new ≡ s.blocks old))
+      → (s.keeps → OnOk result ((b : List (List ℕ)) (n : ℕ) → s.stable old b n
+      → Settles n (s.pending old) b (s.stable new) (s.pending new)))
+      → (s.keeps → (b : List (List ℕ)) (n : ℕ) → s.stable old b n → LeavesOnly s.moment s.left_since old new
+      (OpensToSome (s.opens (s.shape_of old) (s.slots old)) n (s.pending old) b))
+      → Logs s old new [] (not (is_err result))
+  flush_logs old new result = load_logs old new result
+
+  -- a call that applies a group, from its clauses
   pub apply_logs : {T E : Type 0} (old new : S) (group : List Patch) (result : Result T E)
       → s.shape_of new ≡ s.shape_of old → s.slots new ≡ s.slots old → s.failed new ≡ is_err result
       → IsCounted (s.faults old) (s.faults new) result → OnOk result (s.lsn new ≡ s.lsn old + 1)
       → (s.tells → OnOk result (s.blocks new ≡ after_group (s.lsn old + 1) group (s.blocks old)))
-      → (s.tells_crashes → OnOk result (s.pending new ≡ s.pending old ++ group ∷ []))
-      → (s.tells_crashes → OnOk result ((b : List (List ℕ)) → s.stable old b → s.stable new b))
-      → (s.tells_crashes → LeavesNoMore s.left s.moment s.left_since old new)
+      → (s.keeps → OnOk result ((b : List (List ℕ)) (n : ℕ) → s.stable old b n
+      → Settles n (s.pending old ++ group ∷ []) b (s.stable new) (s.pending new)))
+      → (s.keeps → (b : List (List ℕ)) (n : ℕ) → s.stable old b n → LeavesOnly s.moment s.left_since old new
+      (OpensToSome (s.opens (s.shape_of old) (s.slots old)) n (s.pending old ++ group ∷ []) b))
       → Logs s old new (group ∷ []) (not (is_err result))
-  apply_logs old new group (Ok value) shape slots failed counted lsn blocks pending stable crashes = record {
+  apply_logs old new group (Ok value) shape slots failed counted lsn blocks settles any_moment = record {
     same_shape = shape;
     same_slots = slots;
     failed = failed;
     no_less = counted.no_less;
-    cause = λ is. let clash : false ≡ true = is in cc;
+    cause = no_clash;
     still = λ _. counted.still;
     number = λ _. lsn;
     blocks = λ told _. blocks told;
-    pending = λ kept _. pending kept;
-    stable = λ kept _. stable kept;
-    crashes = crashes;
+    settles = λ kept _. settles kept;
+    any_moment = λ kept _. any_moment kept;
   }
-  apply_logs old new group (Err error) shape slots failed counted lsn blocks pending stable crashes = record {
+  apply_logs old new group (Err error) shape slots failed counted lsn blocks settles any_moment = record {
     same_shape = shape;
     same_slots = slots;
     failed = failed;
     no_less = counted.no_less;
     cause = λ _. counted.cause;
-    still = λ is. let clash : false ≡ true = is in cc;
-    number = λ is. let clash : false ≡ true = is in cc;
-    blocks = λ _ is. let clash : false ≡ true = is in cc;
-    pending = λ _ is. let clash : false ≡ true = is in cc;
-    stable = λ _ is. let clash : false ≡ true = is in cc;
-    crashes = crashes;
+    still = no_clash;
+    number = no_clash;
+    blocks = λ _. no_clash;
+    settles = λ _. no_clash;
+    any_moment = λ kept _. any_moment kept;
   }

@@ -3,11 +3,12 @@ ghost use Rattle.std.specs.Prelude.{◌≡◌, ◌+◌, ◌^◌, ◌<◌, ◌≤
 ghost use Rattle.std.specs.Prelude.{List, length};
 ghost use Rattle.std.specs.Prelude.{Bool, true, false, is_some, Option, Some, OnOk};
 ghost use Rattle.std.specs.Result.{is_err};
-ghost use Rattle.rb_base.specs.Blocks.{block_of, after_group, shape_blocks, AreBlocks, AreWithin, IsShape};
+ghost use Rattle.rb_base.specs.Blocks.{block_of, after_group, after_groups, shape_blocks};
+ghost use Rattle.rb_base.specs.Blocks.{AreBlocks, AreWithin, IsShape};
 ghost use Rattle.rb_base.specs.Counts.{IsCounted};
 ghost use Rattle.rb_base.specs.Groups.{Patch};
-ghost use Rattle.rb_base.specs.Moments.{LeavesNoMore};
-ghost use Rattle.rb_base.specs.Stores.{room_of, after_pending, Flushes, Loads};
+ghost use Rattle.rb_base.specs.Moments.{LeavesOnly};
+ghost use Rattle.rb_base.specs.Stores.{room_of, OpensToSome, Settles};
 ghost use Rattle.rb_base.specs.declared.shape.Shape.{Shape};
 
 use crate::faults::Failed;
@@ -17,14 +18,14 @@ use crate::shape::Shape;
 use crate::sizes::UNIT;
 
 /// The blocks of a file. Each change of them is a group of patches, which has the next log number. A group waits until
-/// a flush; from then on a crash leaves it, if it is a commit or a commit is behind it. A store of which a call has
-/// failed is no more to be called.
+/// it is made last, by a flush or by any call before: any call may make groups that wait last, in order from the first.
+/// A store of which a call has failed is no more to be called.
 pub trait Store {
     /// Whether it tells its blocks.
     ghost tells: { Type 0 };
 
-    /// Whether it tells what a crash leaves. A store in memory alone doesn't.
-    ghost tells_crashes: { Type 0 };
+    /// Whether it tells what a crash leaves. A store in memory alone keeps nothing.
+    ghost keeps: { Type 0 };
 
     /// How many blocks of each kind there are.
     ghost shape_of: { Self → Shape };
@@ -35,7 +36,7 @@ pub trait Store {
     /// The blocks as it reads them: those that are stable, patched by the groups that wait.
     ghost blocks: { Self → List (List ℕ) };
 
-    /// The groups that wait for a flush, the oldest first.
+    /// The groups that wait until they are made last, the oldest first.
     ghost pending: { Self → List (List Patch) };
 
     /// The last log number given.
@@ -62,12 +63,11 @@ pub trait Store {
     /// What a crash at some moment since that one may have left.
     ghost left_since: { Self → ℕ → image → Type 0 };
 
-    /// To which blocks an image opens, in a file of that shape and as many slots.
-    ghost opens: { Shape → Option ℕ → image → List (List ℕ) → Type 0 };
+    /// To which blocks and which last log number an image opens, in a file of that shape and as many slots.
+    ghost opens: { Shape → Option ℕ → image → List (List ℕ) → ℕ → Type 0 };
 
-    /// These blocks are stable: each image that a crash now may leave opens to them, and patched by the groups that
-    /// wait they are those that it reads.
-    ghost stable: { Self → List (List ℕ) → Type 0 };
+    /// These blocks are stable, with this last log number: each image that a crash now may leave opens to them.
+    ghost stable: { Self → List (List ℕ) → ℕ → Type 0 };
 
     /// Its shape, which never changes.
     fn shape(&self) -> Shape
@@ -79,9 +79,16 @@ pub trait Store {
         requires going { failed self.old ≡ false }
         requires there { no < shape_blocks (shape_of self.old) }
         ensures loaded { OnOk result (loaded self.new ≡ Some no) }
-        ensures only_loads { Loads tells tells_crashes shape_of slots lsn blocks pending stable left moment left_since
-            self.old self.new }
-        ensures whole { tells → AreBlocks (shape_of self.new) (blocks self.new) }
+        ensures shape { shape_of self.new ≡ shape_of self.old }
+        ensures slots { slots self.new ≡ slots self.old }
+        ensures lsn { lsn self.new ≡ lsn self.old }
+        ensures blocks { tells → OnOk result (blocks self.new ≡ blocks self.old) }
+        ensures whole { tells → OnOk result (AreBlocks (shape_of self.new) (blocks self.new)) }
+        ensures settles { keeps → OnOk result ((b : List (List ℕ)) (n : ℕ) → stable self.old b n
+            → Settles n (pending self.old) b (stable self.new) (pending self.new)) }
+        ensures any_moment { keeps → (b : List (List ℕ)) (n : ℕ) → stable self.old b n
+            → LeavesOnly moment left_since self.old self.new
+            (OpensToSome (opens (shape_of self.old) (slots self.old)) n (pending self.old) b) }
         ensures failed { failed self.new ≡ is_err result }
         ensures counted { IsCounted (faults self.old) (faults self.new) result };
 
@@ -93,7 +100,8 @@ pub trait Store {
         ensures block { tells → (no : ℕ) → loaded self.now ≡ Some no
             → result.now ≡ block_of (blocks self.now) no };
 
-    /// Patches blocks of the file by a group, to which it gives the next log number. A crash doesn't leave it yet.
+    /// Patches blocks of the file by a group, to which it gives the next log number. A crash may leave the group from
+    /// the call on, behind all that waited.
     fn apply(&mut self, group: &Group) -> Result<(), Failed>
         requires going { failed self.old ≡ false }
         requires some { 0 < length group.now }
@@ -103,39 +111,46 @@ pub trait Store {
         ensures lsn { OnOk result (lsn self.new ≡ lsn self.old + 1) }
         ensures blocks { tells → OnOk result (blocks self.new
             ≡ after_group (lsn self.old + 1) group.now (blocks self.old)) }
-        ensures pending { tells_crashes → OnOk result (pending self.new ≡ pending self.old ++ group.now ∷ []) }
+        ensures settles { keeps → OnOk result ((b : List (List ℕ)) (n : ℕ) → stable self.old b n
+            → Settles n (pending self.old ++ group.now ∷ []) b (stable self.new) (pending self.new)) }
+        ensures any_moment { keeps → (b : List (List ℕ)) (n : ℕ) → stable self.old b n
+            → LeavesOnly moment left_since self.old self.new
+            (OpensToSome (opens (shape_of self.old) (slots self.old)) n (pending self.old ++ group.now ∷ []) b) }
         ensures shape { shape_of self.new ≡ shape_of self.old }
         ensures slots { slots self.new ≡ slots self.old }
-        ensures stable { tells_crashes → OnOk result ((b : List (List ℕ)) → stable self.old b
-            → stable self.new b) }
-        ensures crashes { tells_crashes → LeavesNoMore left moment left_since self.old self.new }
         ensures failed { failed self.new ≡ is_err result }
         ensures counted { IsCounted (faults self.old) (faults self.new) result };
 
-    /// Makes the groups that wait last. After an Ok none waits, and a crash leaves those up to the last commit. Where
-    /// it is stopped, a crash leaves some of them, in order from the first and up to a commit.
+    /// Makes the groups that wait last. After an Ok none waits, and a crash leaves all of them. Where it is stopped, a
+    /// crash leaves some of them, in order from the first.
     fn flush(&mut self) -> Result<(), Failed>
         requires going { failed self.old ≡ false }
-        ensures flushes { tells_crashes
-            → Flushes shape_of slots lsn blocks pending opens stable left moment left_since
-            self.old self.new result }
+        ensures flushed { keeps → OnOk result (pending self.new ≡ []) }
+        ensures settles { keeps → OnOk result ((b : List (List ℕ)) (n : ℕ) → stable self.old b n
+            → Settles n (pending self.old) b (stable self.new) (pending self.new)) }
+        ensures any_moment { keeps → (b : List (List ℕ)) (n : ℕ) → stable self.old b n
+            → LeavesOnly moment left_since self.old self.new
+            (OpensToSome (opens (shape_of self.old) (slots self.old)) n (pending self.old) b) }
         ensures shape { shape_of self.new ≡ shape_of self.old }
         ensures slots { slots self.new ≡ slots self.old }
         ensures lsn { lsn self.new ≡ lsn self.old }
-        ensures blocks { tells → blocks self.new ≡ blocks self.old }
+        ensures blocks { tells → OnOk result (blocks self.new ≡ blocks self.old) }
         ensures failed { failed self.new ≡ is_err result }
         ensures counted { IsCounted (faults self.old) (faults self.new) result };
 
     /// Does what `flush` does, and makes the log short where the store can.
     fn checkpoint(&mut self) -> Result<(), Failed>
         requires going { failed self.old ≡ false }
-        ensures flushes { tells_crashes
-            → Flushes shape_of slots lsn blocks pending opens stable left moment left_since
-            self.old self.new result }
+        ensures flushed { keeps → OnOk result (pending self.new ≡ []) }
+        ensures settles { keeps → OnOk result ((b : List (List ℕ)) (n : ℕ) → stable self.old b n
+            → Settles n (pending self.old) b (stable self.new) (pending self.new)) }
+        ensures any_moment { keeps → (b : List (List ℕ)) (n : ℕ) → stable self.old b n
+            → LeavesOnly moment left_since self.old self.new
+            (OpensToSome (opens (shape_of self.old) (slots self.old)) n (pending self.old) b) }
         ensures shape { shape_of self.new ≡ shape_of self.old }
         ensures slots { slots self.new ≡ slots self.old }
         ensures lsn { lsn self.new ≡ lsn self.old }
-        ensures blocks { tells → blocks self.new ≡ blocks self.old }
+        ensures blocks { tells → OnOk result (blocks self.new ≡ blocks self.old) }
         ensures failed { failed self.new ≡ is_err result }
         ensures counted { IsCounted (faults self.old) (faults self.new) result };
 
@@ -147,23 +162,23 @@ pub trait Store {
     fn room(&self) -> u64
         ensures { result ≡ room_of (slots self.now) (lsn self.now) };
 
-    /// What tells what a crash leaves tells its blocks.
-    ghost crashes_told: { tells_crashes → tells };
-
-    /// An image that a crash now may leave opens to the blocks that are stable.
-    ghost stable_left: { (store : Self) (b : List (List ℕ)) (i : image) → tells_crashes → stable store b
+    /// An image that a crash now may leave opens to what is stable.
+    ghost stable_left: { (store : Self) (b : List (List ℕ)) (n : ℕ) (i : image) → keeps → stable store b n
         → left store i
-        → opens (shape_of store) (slots store) i b };
+        → opens (shape_of store) (slots store) i b n };
 
-    /// Those blocks, patched by the groups that wait, are the ones that it reads.
-    ghost stable_patched: { (store : Self) (b : List (List ℕ)) → tells_crashes → stable store b
-        → blocks store ≡ after_pending (lsn store) (pending store) b };
+    /// The groups that wait have the numbers behind it.
+    ghost stable_numbered: { (store : Self) (b : List (List ℕ)) (n : ℕ) → keeps → stable store b n
+        → n + length (pending store) ≡ lsn store };
+
+    /// Patched by the groups that wait it is what the store reads.
+    ghost stable_patched: { (store : Self) (b : List (List ℕ)) (n : ℕ) → keeps → stable store b n
+        → blocks store ≡ after_groups (n + 1) (pending store) b };
 
     /// This moment is one of those since an earlier one.
-    ghost now_counts: { (store : Self) (t : ℕ) (i : image) → tells_crashes → t ≤ moment store → left store i
+    ghost now_counts: { (store : Self) (t : ℕ) (i : image) → keeps → t ≤ moment store → left store i
         → left_since store t i };
 
     /// Since this moment there is no other.
-    ghost only_now: { (store : Self) (i : image) → tells_crashes → left_since store (moment store) i
-        → left store i };
+    ghost only_now: { (store : Self) (i : image) → keeps → left_since store (moment store) i → left store i };
 }

@@ -1,4 +1,4 @@
-//! Writes cells, as patches of a group or into a copy of a block. rb_heap and rb_write call it.
+//! Writes cells, as patches of a group or into a copy of a block. rb_heap and rb_attempt call it.
 ghost use Rattle.std.specs.Prelude.{◌≡◌, ◌+◌, ◌≤◌, ◌<◌, [], ◌∷◌, ◌++◌, length};
 ghost use Rattle.rb_base.specs.Groups.{group_length};
 ghost use Rattle.rb_cell.specs.Cells.{cell_bytes, IsCell, cell_patch, lock_patch, with_cell, with_lock};

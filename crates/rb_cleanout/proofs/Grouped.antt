@@ -1,17 +1,23 @@
 -- What a group that cleans a block makes of the blocks of a file.
-use Rattle.std.proofs.Common.{◌≡◌, ◌≢◌, ℕ, ◌<◌, List, arith, ap, sym, ◌∙◌, inl, inr}
+use Rattle.std.proofs.Common.{◌≡◌, ◌≢◌, ℕ, ◌<◌, List, [], ◌∷◌, length, refl, arith, ap, sym, ◌∙◌, inl, inr}
 use Rattle.std.specs.List.{AllByRecursion}
 use Rattle.rb_base.proofs.Blocks.{block_long, group_others}
 use Rattle.rb_base.proofs.Each.{all_so}
 use Rattle.rb_base.proofs.OneBlock.{one_block}
 use Rattle.rb_base.specs.Blocks.{after_group, block_of, shape_blocks, written_to, AreBlocks, StaysBehind}
 use Rattle.rb_base.specs.Groups.{Patch}
+use Rattle.rb_base.specs.Logs.{group_of}
 use Rattle.rb_base.specs.declared.shape.Shape.{Shape}
 use Rattle.rb_heap.proofs.Blocks.{home_after}
 use Rattle.rb_heap.proofs.Lengths.{length_behind, length_cleaned, short_same}
 use Rattle.rb_heap.specs.Cleaning.{IsCleanPatch}
 use Rattle.rb_heap.specs.Homes.{home_of}
 use Rattle.rb_heap.specs.Soundness.{StaysShort}
+
+-- a group that has a patch is one
+pub one_group : (patches : List Patch) → 0 < length patches → patches ∷ [] ≡ group_of patches
+one_group [] some = absurd (omega arith)
+one_group (p ∷ patches) some = refl
 
 pub of_block : (block : ℕ) (p : Patch) → IsCleanPatch block p → p.block ≡ block
 of_block block p (inl (i, e, few, sound, is)) = ap (λ (q : Patch). q.block) is

@@ -1,30 +1,32 @@
 //! The calls of `Engine`, as the abstract machine sees them. The shell makes one for each command.
-ghost use Rattle.std.specs.Prelude.{◌≡◌, ◌≢◌, IfErr};
+ghost use Rattle.std.specs.Prelude.{◌≡◌, ◌<◌, Ok, [], OnOk};
 ghost use Rattle.rb_base.specs.Counts.{IsCountedAs, err_is};
-ghost use Rattle.rb_model.specs.Answers.{action_of, write_answer, plain_answer, fetch_answer, commit_answer, LeavesRow};
-ghost use Rattle.rb_model.specs.Names.{name_text};
-ghost use Rattle.rb_model.specs.Reply.{is_disk_fault};
-ghost use Rattle.rb_model.specs.Reply as machine;
-ghost use Rattle.rb_model.specs.State.{State};
 ghost use Rattle.rb_engine.specs.Does.{Does, SameStore, Stands};
+ghost use Rattle.rb_model.specs.Answers.{action_of, write_answer, plain_answer, fetch_answer, commit_answer, LeavesRow};
+ghost use Rattle.rb_model.specs.Answers.{marks_answer};
+ghost use Rattle.rb_model.specs.Calls.{is_disk_fault};
+ghost use Rattle.rb_model.specs.Calls as machine;
+ghost use Rattle.rb_model.specs.Names.{name_text};
+ghost use Rattle.rb_model.specs.State.{State};
 
 use crate::engine::Engine;
+use crate::finish::{do_commit, do_rollback};
+use crate::marks::{do_checkpoint, do_marks};
+use crate::write::do_write;
 use rb_base::Store;
-use rb_model::{Fetched, Name, Op, Refusal, Row, Wrote};
+use rb_model::{Fetched, Marks, Name, Op, Refusal, Row, Wrote};
 
 impl<T: Store> Engine<T> {
     /// Inserts, updates or deletes the row of a key. It may be refused, and then nothing is changed, unless a call of
-    /// the store failed.
+    /// the store failed. (Oracle7 Server Concepts, *Transaction Management*.)
     pub fn write(&mut self, s: u16, table: u16, key: u64, op: Op<'_>) -> Result<Wrote, Refusal>
         ensures did { (h : State) → Stands T.Store h self.old → Does T.Store h
             (machine.Write s table key (action_of op.entry)) (write_answer result) self.old self.new }
         ensures same { SameStore T.Store self.old.store self.new.store }
-        ensures refused { T.tells → IfErr result (λ why. why ≢ Refusal.DiskFault
-            → self.new.store ≡ self.old.store) }
         ensures disk { IsCountedAs (T.faults self.old.store) (T.faults self.new.store)
             (err_is is_disk_fault result) }
     {
-        self.do_write(s, table, key, op)
+        do_write(&mut self.memory, &mut self.store, s, table, key, op)
     }
 
     /// Makes the session's changes one more commit, which is in the file in every image once its number is answered.
@@ -33,12 +35,21 @@ impl<T: Store> Engine<T> {
         ensures did { (h : State) → Stands T.Store h self.old → Does T.Store h
             (machine.Commit s) (commit_answer result) self.old self.new }
         ensures same { SameStore T.Store self.old.store self.new.store }
-        ensures refused { IfErr result (λ why. why ≢ Refusal.DiskFault → self.new.store ≡ self.old.store) }
-        ensures nothing { result ≡ Ok None → self.new.store ≡ self.old.store }
         ensures disk { IsCountedAs (T.faults self.old.store) (T.faults self.new.store)
             (err_is is_disk_fault result) }
     {
-        self.do_commit(s)
+        do_commit(&mut self.memory, &mut self.store, s)
+    }
+
+    /// Puts back all changes of the session's transaction, one by one, closes the cursors that saw them, and ends it.
+    pub fn rollback(&mut self, s: u16) -> Result<(), Refusal>
+        ensures did { (h : State) → Stands T.Store h self.old → Does T.Store h
+            (machine.Rollback s) (plain_answer result) self.old self.new }
+        ensures same { SameStore T.Store self.old.store self.new.store }
+        ensures disk { IsCountedAs (T.faults self.old.store) (T.faults self.new.store)
+            (err_is is_disk_fault result) }
+    {
+        do_rollback(&mut self.memory, &mut self.store, s)
     }
 
     /// Opens a cursor over the rows as the session sees them now.
@@ -56,7 +67,7 @@ impl<T: Store> Engine<T> {
         ensures disk { IsCountedAs (T.faults self.old.store) (T.faults self.new.store)
             (err_is is_disk_fault result) }
     {
-        self.state.open_cursor(s, name, table, lo, hi)
+        self.memory.open_cursor(s, name, table, lo, hi)
     }
 
     /// Gives the next row of a cursor into `row`, or the end.
@@ -68,7 +79,7 @@ impl<T: Store> Engine<T> {
         ensures disk { IsCountedAs (T.faults self.old.store) (T.faults self.new.store)
             (err_is is_disk_fault result) }
     {
-        self.state.fetch(s, name, row)
+        self.memory.fetch(s, name, row)
     }
 
     /// Closes the session's cursor of a name.
@@ -79,6 +90,30 @@ impl<T: Store> Engine<T> {
         ensures disk { IsCountedAs (T.faults self.old.store) (T.faults self.new.store)
             (err_is is_disk_fault result) }
     {
-        self.state.close_cursor(s, name)
+        self.memory.close_cursor(s, name)
+    }
+
+    /// What segment `seg` has made and given up.
+    pub fn marks(&mut self, seg: u16) -> Result<Marks, Refusal>
+        requires { seg < (T.shape_of self.old.store).segments }
+        ensures did { (h : State) → Stands T.Store h self.old → Does T.Store h
+            (machine.Marks seg) (marks_answer seg result) self.old self.new }
+        ensures same { SameStore T.Store self.old.store self.new.store }
+        ensures disk { IsCountedAs (T.faults self.old.store) (T.faults self.new.store)
+            (err_is is_disk_fault result) }
+    {
+        do_marks(&mut self.memory, &mut self.store, seg)
+    }
+
+    /// Makes all that was done last, also what isn't committed yet: a restart finds it and puts it back.
+    pub fn checkpoint(&mut self) -> Result<(), Refusal>
+        ensures did { (h : State) → Stands T.Store h self.old → Does T.Store h
+            machine.Checkpoint (plain_answer result) self.old self.new }
+        ensures nothing_waits { T.keeps → OnOk result (T.pending self.new.store ≡ []) }
+        ensures same { SameStore T.Store self.old.store self.new.store }
+        ensures disk { IsCountedAs (T.faults self.old.store) (T.faults self.new.store)
+            (err_is is_disk_fault result) }
+    {
+        do_checkpoint(&mut self.memory, &mut self.store)
     }
 }

@@ -4,8 +4,8 @@ ghost use Rattle.std.specs.Prelude.{IsSome, IfSome};
 
 use rb_base::{Shape, UNIT, put_u16, put_u32};
 
-/// The version of the files: 102, whose log has groups of patches.
-pub const VERSION: u32 = 102;
+/// The version of the files: 103. Their log has groups of patches, and an opening takes all of them.
+pub const VERSION: u32 = 103;
 
 /// How many bytes of the first unit say what file it is.
 pub const IDENTITY: usize = 24;

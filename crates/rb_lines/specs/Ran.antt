@@ -17,6 +17,7 @@ pub record SameButCursors (h other : Logged) : Type 0 where
   pub lsn : h.lsn ≡ other.lsn
   pub shape : h.state.shape ≡ other.state.shape
   pub commits : h.state.commits ≡ other.state.commits
+  pub books : h.state.books ≡ other.state.books
   pub sessions : length h.state.sessions ≡ length other.state.sessions
   pub own : (s : ℕ) → (session_of h.state s).own ≡ (session_of other.state s).own
   pub stopped : h.state.stopped ≡ other.state.stopped

@@ -1,4 +1,3 @@
-pub mod GroupDrops
 pub mod GroupFlush
 pub mod GroupGates
 pub mod GroupReading

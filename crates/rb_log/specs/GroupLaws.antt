@@ -1,5 +1,5 @@
 -- What follows from the definitions on groups in log slots, for the crates above.
-use Rattle.std.specs.Prelude.{◌≡◌, ℕ, ◌+◌, ◌-◌, ◌*◌, ◌<◌, ◌≤◌, zero, suc, List, []}
+use Rattle.std.specs.Prelude.{◌≡◌, ℕ, ◌+◌, ◌-◌, ◌*◌, ◌<◌, ◌≤◌, List, []}
 use Rattle.std.specs.Prelude.{◌∷◌, ◌++◌, length, take, drop, slice_index}
 use Rattle.std.proofs.Common.{inl, inr, ⊎_elim, sym, ◌∙◌, ap, subst, refl, arith}
 use Rattle.std.proofs.lemmas.List.{append-nil, drop-drop, drop-take, take-take}
@@ -86,17 +86,6 @@ faulty_none_group l file slot end (first ∷ groups) e begins faulty [] log =
 faulty_none_group l file slot end (first ∷ groups) e begins faulty (b ∷ others) log = faulty_none_group l file
     (slot + 1) end groups (omega (arith, e)) begins.2 faulty others log.2
 
--- a file begins with the same groups where their units are the same
-pub begins_same : (l : Layout) (file other : List ℕ) (slot end : ℕ) (groups : List (List Patch))
-    → slot + length groups ≡ end → ((k : ℕ) → k < end → slot_at other k ≡ slot_at file k)
-    → BeginsWithGroups l file slot groups → BeginsWithGroups l other slot groups
-begins_same l file other slot end [] e same begins = tt
-begins_same l file other slot end (group ∷ groups) e same begins = (
-  begins.0,
-  subst (λ (u : List ℕ). HoldsGroup l u (slot + 1) group) (sym (same slot (omega (arith, e)))) begins.1,
-  begins_same l file other (slot + 1) end groups (omega (arith, e)) same begins.2,
-)
-
 -- files with the same units have the same log
 pub same_units_log : (l : Layout) (file other : List ℕ) (slot : ℕ) (groups : List (List Patch))
     → ((k : ℕ) → k < l.log → slot_at other k ≡ slot_at file k) → slot < l.log
@@ -114,13 +103,6 @@ pub same_group_log : (l : Layout) (file other : List ℕ) (slot : ℕ) (groups :
     → SameSlots l.log file other → slot < l.log → GroupsAre l file slot groups → GroupsAre l other slot groups
 same_group_log l file other slot groups same lt log = same_units_log l file other slot groups
     (same_slot l.log file other same) lt log
-
--- a log begins with its first groups
-pub cut_log : (l : Layout) (file : List ℕ) (slot n : ℕ) (groups : List (List Patch))
-    → GroupsAre l file slot groups → BeginsWithGroups l file slot (take n groups)
-cut_log l file slot zero groups log = tt
-cut_log l file slot (suc n) [] log = tt
-cut_log l file slot (suc n) (group ∷ groups) log = (log.0, log.1, cut_log l file (slot + 1) n groups log.2)
 
 -- a block that a group patches has the group's number in front
 pub patched_number : (number : ℕ) (p : Patch) (block : List ℕ) → number ≤ 4096

@@ -80,13 +80,6 @@ pub record FlushedSome (image : List ℕ → Type 0) (l : Layout) (groups pendin
   pub units : ℕ
   pub log : GroupsAre l c 0 (groups ++ take (FLUSH_SLOTS * units) pending)
 
--- An image while the groups behind the first `count` are dropped: its log has all or those. Outside the log it is as an
--- image of before.
-pub record DroppedSome (image : List ℕ → Type 0) (l : Layout) (groups : List (List Patch)) (count : ℕ)
-    (c : List ℕ) : Type 0 where
-  pub outside : (d : List ℕ) × image d × SameOutside l.log d c
-  pub log : GroupsAre l c 0 groups ⊎ GroupsAre l c 0 (take count groups)
-
 -- bytes are those of a file from a slot on
 abbrev pub AreFrom : List ℕ → ℕ → List ℕ → Type 0
 AreFrom file slot bytes = bytes ≡ part file (log_offset slot) (length bytes)

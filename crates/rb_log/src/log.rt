@@ -1,16 +1,15 @@
 //! `Log`: the groups of patches in the log slots of a file. A store scans it at opening, and flushes to it what
 //! changes the blocks.
 ghost use Rattle.std.specs.Prelude.{◌≡◌, ◌≤◌, ◌<◌, ◌+◌, ◌++◌, ◌↔◌, [], ◌∷◌, ℕ};
-ghost use Rattle.std.specs.Prelude.{List, true, false, take, length, IsTrue, IsErrOf, slice_index, slice_index_or};
+ghost use Rattle.std.specs.Prelude.{List, true, false, length, IsTrue, IsErrOf, slice_index, slice_index_or};
 ghost use Rattle.std.specs.Prelude.{IfOk, IfErr, IfSome, IfNone, OnOk, OnErr};
 ghost use Rattle.rb_base.specs.Blocks.{AreWithin};
 ghost use Rattle.rb_base.specs.Counts.{IsCounted, IsCountedAs, err_is, is_failed};
 ghost use Rattle.rb_base.specs.Groups.{Patch, IsGroup};
-ghost use Rattle.rb_disk.specs.DiskModel.{Only};
 ghost use Rattle.rb_disk.specs.Moments.{Leaves, Rests};
 ghost use Rattle.rb_disk.specs.Ranges.{SameBut};
 ghost use Rattle.rb_layout.specs.Regions.{file_length, log_offset, shape_of};
-ghost use Rattle.rb_log.specs.GroupSlots.{AreFrom, HoldsGroup, GroupsAre, IsFaultyGroup, DroppedSome, FlushedSome};
+ghost use Rattle.rb_log.specs.GroupSlots.{AreFrom, HoldsGroup, GroupsAre, IsFaultyGroup, FlushedSome};
 ghost use Rattle.rb_log.specs.GroupSlots.{IsLoggable, group_unit};
 ghost use Rattle.rb_log.specs.Slots.{slot_at, SameSlots, SameOutside};
 
@@ -18,7 +17,7 @@ use crate::flush::write_groups;
 use crate::sizes::{FLUSH_BYTES, FLUSH_SLOTS};
 use crate::unit::{group_of, read_ahead};
 use rb_base::{Failed, Group, Lsn, OpenFault, UNIT};
-use rb_disk::{Disk, write_synced};
+use rb_disk::Disk;
 use rb_layout::{Head, Layout};
 use std::alloc::Global;
 use std::marker::Model;
@@ -207,38 +206,6 @@ impl Log {
         )?;
         self.used += count;
         self.pending.clear();
-        Ok(())
-    }
-
-    /// Forgets the groups behind the first `count`. After an Ok each image has those alone; a crash before leaves
-    /// all or those.
-    pub fn drop_behind<D: Disk>(&mut self, disk: &mut D, count: u32) -> Result<(), Failed>
-        requires scanned { self.old.scanned ≡ true }
-        requires none { self.old.pending ≡ [] }
-        requires fewer { count < self.old.used }
-        requires whole { D.tells → length (D.content disk.old) ≡ file_length self.old.layout }
-        requires synced { D.tells → (c : List ℕ) → D.image disk.old c
-            → SameSlots self.old.layout.log (D.content disk.old) c }
-        ensures dropped { D.tells → OnOk result ((groups : List (List Patch)) → length groups ≡ self.old.used
-            → GroupsAre self.old.layout (D.content disk.old) 0 groups
-            → GroupsAre self.old.layout (D.content disk.new) 0 (take count groups)) }
-        ensures closed { D.tells → OnOk result (slice_index (slot_at (D.content disk.new) count) 0 ≡ 0) }
-        ensures others { D.tells → OnOk result (SameBut (log_offset count) (log_offset count + 1) (D.content disk.old)
-            (D.content disk.new)) }
-        ensures outside { D.tells → OnOk result (SameOutside self.old.layout.log (D.content disk.old)
-            (D.content disk.new)) }
-        ensures durable { D.tells → OnOk result (Only (D.content disk.new) (D.image disk.new)) }
-        ensures whole { D.tells → length (D.content disk.new) ≡ file_length self.old.layout }
-        ensures any_moment { D.tells → (groups : List (List Patch)) → length groups ≡ self.old.used
-            → GroupsAre self.old.layout (D.content disk.old) 0 groups
-            → Leaves D.Disk disk.old disk.new
-            (DroppedSome (D.image disk.old) self.old.layout groups count) }
-        ensures shorter { OnOk result (self.new ≡ record self.old { used = count }) }
-        ensures stays { OnErr result (self.new ≡ self.old) }
-        ensures counted { IsCounted (D.faults disk.old) (D.faults disk.new) result }
-    {
-        write_synced(disk, self.layout.log_at(count), &[0])?;
-        self.used = count;
         Ok(())
     }
 }

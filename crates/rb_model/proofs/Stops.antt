@@ -1,18 +1,24 @@
--- When a state is stopped: after a fault of the disk, and else where it was before.
-use Rattle.std.proofs.Common.{arith, not, ◌≡◌, ◌≢◌, ◌∙◌, ⊎_elim, refl, sym, ap, ℕ, Bool, true, false, List, [], ◌∷◌, ◌++◌, length, Option, None, Some, Result, Ok, Err}
+-- When a state is stopped: after a fault of the disk, and else where it was before. No call changes the shape or how many
+-- sessions there are.
+use Rattle.std.proofs.Common.{arith, not, ◌≡◌, ◌≢◌, ◌∙◌, ◌⊎◌, inl, inr, ⊎_elim, refl, sym, ap, ℕ, ◌-◌, Bool, true, false, List, [], ◌∷◌, ◌++◌, length, set, length-set, Option, None, Some, Result, Ok, Err}
 use Rattle.std.specs.List.{list_all}
 use Rattle.std.specs.Prelude.{slice_get}
 use Rattle.std.proofs.lemmas.Bool.{cond_both, cases_Bool, false≢true, and_parts, not-true}
 use Rattle.rb_base.specs.Counts.{err_is}
-use Rattle.rb_model.specs.Answers.{fetch_answer, plain_answer}
+use Rattle.rb_base.specs.declared.shape.Shape.{Shape}
+use Rattle.rb_model.specs.Answers.{commit_answer, fetch_answer, marks_answer, plain_answer, write_answer}
+use Rattle.rb_model.specs.Calls.{Call, Write, Commit, Rollback, OpenCursor, Fetch, CloseCursor, Marks, Checkpoint, Answer, Done, Waits, Numbered, Given, End, Marked, Refused, cursor_tests, early_tests, first_of, given, granted, is_disk_fault, is_fault, next_row, waited, write_tests, LaterTests}
+use Rattle.rb_model.specs.NextState.{After, AfterGrant, EndsAs}
 use Rattle.rb_model.specs.Rows.{TableRow}
-use Rattle.rb_model.specs.State.{State, Cursor, cursor_rows}
-use Rattle.rb_model.specs.Reply.{Call, Answer, Done, Waits, Numbered, Given, End, Refused, after, after_grant, after_refusal, early_tests, expected, first_of, given, granted, is_disk_fault, is_fault, later_tests, next_row}
+use Rattle.rb_model.specs.State.{State, Session, Cursor, cursor_rows}
+use Rattle.rb_model.specs.declared.marks.Marks.{Marks as CodeMarks}
 use Rattle.rb_model.specs.declared.row.Row.{Row}
 use Rattle.rb_model.specs.declared.row.Fetched.{Fetched}
 use Rattle.rb_model.specs.declared.row.Fetched.TheVariants as fetched
 use Rattle.rb_model.specs.declared.refusal.Refusal.{Refusal}
 use Rattle.rb_model.specs.declared.refusal.Refusal.TheVariants.{DiskFault}
+use Rattle.rb_model.specs.declared.wrote.Wrote.{Wrote}
+use Rattle.rb_model.specs.declared.wrote.Wrote.TheVariants as wrote
 
 -- there is one fault of the disk
 pub the_fault : (why : Refusal) → is_disk_fault why ≡ true → why ≡ DiskFault
@@ -22,56 +28,75 @@ the_fault _ is = absurd (false≢true is)
 pub other_refusal : (why : Refusal) → why ≢ DiskFault → is_disk_fault why ≡ false
 other_refusal why other = ⊎_elim (λ is. absurd (other (the_fault why is))) (λ is. is) (cases_Bool (is_disk_fault why))
 
+-- what a call leaves of a state whatever it does: its shape, how many sessions there are, and whether it is stopped
+pub record Stays (h h2 : State) : Type 0 where
+  pub shape : h2.shape ≡ h.shape
+  pub sessions : length h2.sessions ≡ length h.sessions
+  pub stopped : h2.stopped ≡ h.stopped
+
+same_stays : (h h2 : State) → h2 ≡ h → Stays h h2
+same_stays h h2 e = record { shape = ap (λ (x : State). x.shape) e; sessions = ap (λ (x : State). length x.sessions) e; stopped = ap (λ (x : State). x.stopped) e }
+
+-- the state is another one in its fields
+as_stays : (h h2 x : State) → h2 ≡ x → x.shape ≡ h.shape → length x.sessions ≡ length h.sessions → x.stopped ≡ h.stopped → Stays h h2
+as_stays h h2 x e shape sessions stopped = record { shape = ap (λ (y : State). y.shape) e ∙ shape; sessions = ap (λ (y : State). length y.sessions) e ∙ sessions; stopped = ap (λ (y : State). y.stopped) e ∙ stopped }
+
+ends_stays : (h h2 : State) (s : ℕ) (cursors : List Cursor) → EndsAs h s cursors h2 → Stays h h2
+ends_stays h h2 s cursors (inl (g, i, owned, e)) = as_stays h h2 _ e refl (length-set h.sessions (s - 1) _) refl
+ends_stays h h2 s cursors (inr (none, e)) = as_stays h h2 _ e refl (length-set h.sessions (s - 1) _) refl
+
+grant_stays : (h h2 : State) (c : Call) → AfterGrant h c h2 → Stays h h2
+grant_stays h h2 (Write s table key action) (g, i, w, e) = as_stays h h2 _ e refl (length-set h.sessions (s - 1) _) refl
+grant_stays h h2 (Commit s) (inl (some, (g, i, owned, e))) = as_stays h h2 _ e refl (length-set h.sessions (s - 1) _) refl
+grant_stays h h2 (Commit s) (inr (none, ends)) = ends_stays h h2 s _ ends
+grant_stays h h2 (Rollback s) ends = ends_stays h h2 s _ ends
+grant_stays h h2 (OpenCursor s name table lo hi) e = as_stays h h2 _ e refl (length-set h.sessions (s - 1) _) refl
+grant_stays h h2 (Fetch s name) e = as_stays h h2 _ e refl (length-set h.sessions (s - 1) _) refl
+grant_stays h h2 (CloseCursor s name) e = as_stays h h2 _ e refl (length-set h.sessions (s - 1) _) refl
+grant_stays h h2 (Marks seg) e = same_stays h h2 e
+grant_stays h h2 Checkpoint e = same_stays h h2 e
+
 -- any other refusal leaves the state
-pub refused_same : (h : State) (why : Refusal) → is_disk_fault why ≡ false → after_refusal h why ≡ h
-refused_same h why is = rw is refl
+pub refused_same : (h h2 : State) (c : Call) (why : Refusal) → is_disk_fault why ≡ false → After h c (Refused why) h2 → h2 ≡ h
+refused_same h h2 c why is after = after ∙ cond_both (is_disk_fault why) (record h { stopped = true }) h (λ (x : State). x ≡ h) (λ yes. absurd (false≢true (sym is ∙ yes))) (λ no. refl)
 
-pub refused_stops : (h : State) (why : Refusal) → is_disk_fault why ≡ true → after_refusal h why ≡ record h { stopped = true }
-refused_stops h why is = rw is refl
+pub refused_stops : (h h2 : State) (c : Call) (why : Refusal) → is_disk_fault why ≡ true → After h c (Refused why) h2 → h2 ≡ record h { stopped = true }
+refused_stops h h2 c why is after = after ∙ cond_both (is_disk_fault why) (record h { stopped = true }) h (λ (x : State). x ≡ record h { stopped = true }) (λ yes. refl) (λ no. absurd (false≢true (sym no ∙ is)))
 
--- no call takes a session away
-pub sessions_refused : (h : State) (why : Refusal) → length (after_refusal h why).sessions ≡ length h.sessions
-sessions_refused h why = cond_both (is_disk_fault why) (record h { stopped = true }) h (λ (x : State). length x.sessions ≡ length h.sessions) (λ is. refl) (λ is. refl)
+-- an answer that tells of no fault of the disk leaves the state going
+pub fine_stays : (h h2 : State) (c : Call) (r : Answer) → is_fault r ≡ false → After h c r h2 → Stays h h2
+fine_stays h h2 c Done is after = grant_stays h h2 c after
+fine_stays h h2 c (Waits on) is after = same_stays h h2 after
+fine_stays h h2 c (Numbered n) is after = grant_stays h h2 c after
+fine_stays h h2 c (Given key value) is after = grant_stays h h2 c after
+fine_stays h h2 c End is after = same_stays h h2 after
+fine_stays h h2 c (Marked seg writes lost) is after = same_stays h h2 after
+fine_stays h h2 c (Refused why) is after = same_stays h h2 (refused_same h h2 c why is after)
 
-granted_same_stop : (h : State) (c : Call) → (after_grant h c).stopped ≡ h.stopped
-granted_same_stop h c = grind arith
-
-pub after_same_stop : (h : State) (c : Call) (r : Answer) → is_fault r ≡ false → (after h c r).stopped ≡ h.stopped
-after_same_stop h c Done is = granted_same_stop h c
-after_same_stop h c (Waits on) is = refl
-after_same_stop h c (Numbered n) is = granted_same_stop h c
-after_same_stop h c (Given key value) is = granted_same_stop h c
-after_same_stop h c End is = refl
-after_same_stop h c (Refused why) is = rw is refl
-
-pub after_stops : (h : State) (c : Call) (r : Answer) → is_fault r ≡ true → (after h c r).stopped ≡ true
-after_stops h c Done is = absurd (false≢true is)
-after_stops h c (Waits on) is = absurd (false≢true is)
-after_stops h c (Numbered n) is = absurd (false≢true is)
-after_stops h c (Given key value) is = absurd (false≢true is)
-after_stops h c End is = absurd (false≢true is)
-after_stops h c (Refused why) is = rw is refl
+pub after_stops : (h h2 : State) (c : Call) (r : Answer) → is_fault r ≡ true → After h c r h2 → h2 ≡ record h { stopped = true }
+after_stops h h2 c (Refused why) is after = refused_stops h h2 c why is after
+after_stops h h2 c Done is after = absurd (false≢true is)
+after_stops h h2 c (Waits on) is after = absurd (false≢true is)
+after_stops h h2 c (Numbered n) is after = absurd (false≢true is)
+after_stops h h2 c (Given key value) is after = absurd (false≢true is)
+after_stops h h2 c End is after = absurd (false≢true is)
+after_stops h h2 c (Marked seg writes lost) is after = absurd (false≢true is)
 
 -- what goes on after a call went on before it, and the call told of no fault
-pub went_on : (h : State) (c : Call) (r : Answer) → (after h c r).stopped ≡ false → h.stopped ≡ false
-went_on h c r going = ⊎_elim
-    (λ (is : is_fault r ≡ true). absurd (false≢true (sym going ∙ after_stops h c r is)))
-    (λ (is : is_fault r ≡ false). sym (after_same_stop h c r is) ∙ going)
+pub went_on : (h h2 : State) (c : Call) (r : Answer) → After h c r h2 → h2.stopped ≡ false → h.stopped ≡ false
+went_on h h2 c r after going = ⊎_elim
+    (λ (is : is_fault r ≡ true). absurd (false≢true (sym going ∙ ap (λ (x : State). x.stopped) (after_stops h h2 c r is after))))
+    (λ (is : is_fault r ≡ false). sym ((fine_stays h h2 c r is after).stopped) ∙ going)
     (cases_Bool (is_fault r))
 
 -- no call changes the shape
-granted_shape : (h : State) (c : Call) → (after_grant h c).shape ≡ h.shape
-granted_shape h c = grind arith
+pub after_shape : (h h2 : State) (c : Call) (r : Answer) → After h c r h2 → h2.shape ≡ h.shape
+after_shape h h2 c r after = ⊎_elim
+    (λ (is : is_fault r ≡ true). ap (λ (x : State). x.shape) (after_stops h h2 c r is after))
+    (λ (is : is_fault r ≡ false). (fine_stays h h2 c r is after).shape)
+    (cases_Bool (is_fault r))
 
-pub after_shape : (h : State) (c : Call) (r : Answer) → (after h c r).shape ≡ h.shape
-after_shape h c Done = granted_shape h c
-after_shape h c (Waits on) = refl
-after_shape h c (Numbered n) = granted_shape h c
-after_shape h c (Given key value) = granted_shape h c
-after_shape h c End = refl
-after_shape h c (Refused why) = cond_both (is_disk_fault why) (record h { stopped = true }) h (λ (x : State). x.shape ≡ h.shape) (λ is. refl) (λ is. refl)
-
--- what is expected of a call is no fault of the disk
+-- what is granted, and what a test answers, is no fault of the disk
 
 given_fine : (o : Option TableRow) → is_fault (given o) ≡ false
 given_fine None = refl
@@ -88,29 +113,37 @@ first_keeps p (test ∷ tests) good all here =
     let parts = and_parts (p test.1) (list_all (λ test. p test.1) tests) all in
     cond_both test.0 test.1 (first_of tests good) (λ r. p r ≡ true) (λ w. parts.0) (λ w. first_keeps p tests good parts.1 here)
 
-tests_fine : (h : State) (number more : ℕ) (c : Call) → list_all (λ test. not (is_fault test.1)) (early_tests h c ++ later_tests h number more c) ≡ true
-tests_fine h number more c = grind arith
+early_fine : (h : State) (c : Call) → list_all (λ test. not (is_fault test.1)) (early_tests h c) ≡ true
+early_fine h c = grind arith
 
-granted_fine : (h : State) (c : Call) → not (is_fault (granted h c)) ≡ true
+pub granted_fine : (h : State) (c : Call) → not (is_fault (granted h c)) ≡ true
 granted_fine h c = grind (arith, next_fine)
 
-pub expected_fine : (h : State) (number more : ℕ) (c : Call) → is_fault (expected h number more c) ≡ false
-expected_fine h number more c =
-    not-true (is_fault (expected h number more c)) (first_keeps (λ r. not (is_fault r)) (early_tests h c ++ later_tests h number more c) (granted h c) (tests_fine h number more c) (granted_fine h c))
+-- an early refusal tells of no fault
+pub early_no_fault : (h : State) (c : Call) → is_fault (first_of (early_tests h c) Done) ≡ false
+early_no_fault h c = not-true (is_fault (first_of (early_tests h c) Done)) (first_keeps (λ r. not (is_fault r)) (early_tests h c) Done (early_fine h c) refl)
 
--- so no call that answers what is expected answers one
+-- the code's refusals that tell of one, as the machine's answers
 
-fault_of_plain : (r : Result (Unit {0}) Refusal) → err_is is_disk_fault r ≡ is_fault (plain_answer r)
+pub fault_of_write : (r : Result Wrote Refusal) → err_is is_disk_fault r ≡ is_fault (write_answer r)
+fault_of_write (Ok wrote.Done) = refl
+fault_of_write (Ok (wrote.Waits on)) = refl
+fault_of_write (Err why) = refl
+
+pub fault_of_commit : (r : Result (Option ℕ) Refusal) → err_is is_disk_fault r ≡ is_fault (commit_answer r)
+fault_of_commit (Ok None) = refl
+fault_of_commit (Ok (Some n)) = refl
+fault_of_commit (Err why) = refl
+
+pub fault_of_plain : (r : Result (Unit {0}) Refusal) → err_is is_disk_fault r ≡ is_fault (plain_answer r)
 fault_of_plain (Ok done) = refl
 fault_of_plain (Err why) = refl
 
-fault_of_fetch : (r : Result Fetched Refusal) (row : Row) → err_is is_disk_fault r ≡ is_fault (fetch_answer r row)
+pub fault_of_marks : (seg : ℕ) (r : Result CodeMarks Refusal) → err_is is_disk_fault r ≡ is_fault (marks_answer seg r)
+fault_of_marks seg (Ok marks) = refl
+fault_of_marks seg (Err why) = refl
+
+pub fault_of_fetch : (r : Result Fetched Refusal) (row : Row) → err_is is_disk_fault r ≡ is_fault (fetch_answer r row)
 fault_of_fetch (Ok fetched.Row) row = refl
 fault_of_fetch (Ok fetched.End) row = refl
 fault_of_fetch (Err why) row = refl
-
-pub plain_fine : (r : Result (Unit {0}) Refusal) (h : State) (number more : ℕ) (c : Call) → plain_answer r ≡ expected h number more c → err_is is_disk_fault r ≡ false
-plain_fine r h number more c e = fault_of_plain r ∙ ap is_fault e ∙ expected_fine h number more c
-
-pub fetch_fine : (r : Result Fetched Refusal) (row : Row) (h : State) (number more : ℕ) (c : Call) → fetch_answer r row ≡ expected h number more c → err_is is_disk_fault r ≡ false
-fetch_fine r row h number more c e = fault_of_fetch r row ∙ ap is_fault e ∙ expected_fine h number more c

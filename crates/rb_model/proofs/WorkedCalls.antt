@@ -1,11 +1,11 @@
--- The calls of the machine that keeps undo, computed on worked rows.
+-- The calls of the machine, computed on worked rows.
 use Rattle.std.proofs.Common.{◌≡◌, ◌+◌, ◌-◌, ℕ, zero, suc, false, List, [], ◌∷◌, length, get_or, None, refl}
 use Rattle.rb_model.specs.Book.{book_at, book_slot, fresh_book}
-use Rattle.rb_model.specs.Calls.{Answer, Done, Refused, Duplicate, NotFound, LogFull, first_of, needed_room, write_tests}
-use Rattle.rb_model.specs.Machine.{State, Cursor, no_session, session_own}
+use Rattle.rb_model.specs.Calls.{Action, Insert, Update, Delete, Answer, Done, Refused, first_of, needed_room, write_tests}
+use Rattle.rb_model.specs.State.{State, Cursor, no_session, session_own}
 use Rattle.rb_model.specs.NextState.{change_in, committed, ended, left_open, opened_cursor, with_cursors, without_owner, written}
-use Rattle.rb_model.specs.Reply.{Action, Insert, Update, Delete}
 use Rattle.rb_model.specs.Rows.{last_scn}
+use Rattle.rb_model.specs.declared.refusal.Refusal.TheVariants.{Duplicate, NotFound, LogFull}
 
 -- a new file of one table, one block and one segment, and its one session
 abbrev fresh : State

@@ -3,7 +3,7 @@ use Rattle.std.proofs.Common.{◌≡◌, ◌+◌, true, false, List, [], ◌∷�
 use Rattle.std.specs.List.{range_with_len}
 use Rattle.rb_model.specs.Book.{Book, fresh_book, left, marked, taken}
 use Rattle.rb_model.specs.Change.{Change, put, gone}
-use Rattle.rb_model.specs.Machine.{State, Session}
+use Rattle.rb_model.specs.State.{State, Session}
 use Rattle.rb_model.specs.Tests.{full_slots, holder, live_changes, made_since, owners_counted, works_in}
 
 abbrev session : List Change → Session

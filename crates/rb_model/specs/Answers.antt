@@ -1,9 +1,10 @@
 -- What the arguments and results of the engine's calls are as the machine's actions and answers.
 use Rattle.std.specs.Prelude.{◌≡◌, ℕ, Option, None, Some, Result, Ok, Err}
-use Rattle.rb_model.specs.Reply.{Action, Answer, Waits, Numbered, Given, Refused}
-use Rattle.rb_model.specs.Reply as reply
+use Rattle.rb_model.specs.Calls.{Action, Answer, Waits, Numbered, Given, Marked, Refused}
+use Rattle.rb_model.specs.Calls as calls
 use Rattle.rb_model.specs.declared.answer.Answer as code
 use Rattle.rb_model.specs.declared.answer.Answer.TheVariants as answers
+use Rattle.rb_model.specs.declared.marks.Marks.{Marks}
 use Rattle.rb_model.specs.declared.op.Op.{Op}
 use Rattle.rb_model.specs.declared.op.Op.TheVariants as op
 use Rattle.rb_model.specs.declared.refusal.Refusal.{Refusal}
@@ -15,12 +16,12 @@ use Rattle.rb_model.specs.declared.row.Fetched.TheVariants as fetched
 
 -- what the code's operation is
 abbrev pub action_of : Op → Action
-action_of (op.Insert value) = reply.Insert value.now
-action_of (op.Update value) = reply.Update value.now
-action_of op.Delete = reply.Delete
+action_of (op.Insert value) = calls.Insert value.now
+action_of (op.Update value) = calls.Update value.now
+action_of op.Delete = calls.Delete
 
 abbrev pub wrote_answer : Wrote → Answer
-wrote_answer wrote.Done = reply.Done
+wrote_answer wrote.Done = calls.Done
 wrote_answer (wrote.Waits on) = Waits on
 
 abbrev pub write_answer : Result Wrote Refusal → Answer
@@ -28,7 +29,7 @@ write_answer (Ok w) = wrote_answer w
 write_answer (Err why) = Refused why
 
 abbrev pub number_answer : Option ℕ → Answer
-number_answer None = reply.Done
+number_answer None = calls.Done
 number_answer (Some n) = Numbered n
 
 abbrev pub commit_answer : Result (Option ℕ) Refusal → Answer
@@ -36,12 +37,17 @@ commit_answer (Ok number) = number_answer number
 commit_answer (Err why) = Refused why
 
 abbrev pub plain_answer : Result (Unit {0}) Refusal → Answer
-plain_answer (Ok done) = reply.Done
+plain_answer (Ok done) = calls.Done
 plain_answer (Err why) = Refused why
+
+-- of the marks of a segment
+abbrev pub marks_answer : ℕ → Result Marks Refusal → Answer
+marks_answer seg (Ok marks) = Marked seg marks.writes marks.lost
+marks_answer seg (Err why) = Refused why
 
 abbrev pub fetched_answer : Fetched → Row → Answer
 fetched_answer fetched.Row row = Given row.key row.value.items
-fetched_answer fetched.End row = reply.End
+fetched_answer fetched.End row = calls.End
 
 -- the result of a fetch, with the row as the call leaves it
 abbrev pub fetch_answer : Result Fetched Refusal → Row → Answer
@@ -56,9 +62,10 @@ LeavesRow (Err why) old new = new ≡ old
 
 -- the code's answer, with the row as the call leaves it
 abbrev pub answer_of : code.Answer → Row → Answer
-answer_of answers.Done row = reply.Done
+answer_of answers.Done row = calls.Done
 answer_of (answers.Waits on) row = Waits on
 answer_of (answers.Committed number) row = Numbered number
 answer_of answers.Row row = Given row.key row.value.items
-answer_of answers.End row = reply.End
+answer_of answers.End row = calls.End
+answer_of (answers.Marked seg writes lost) row = Marked seg writes lost
 answer_of (answers.Refused why) row = Refused why

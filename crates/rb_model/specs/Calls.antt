@@ -1,19 +1,29 @@
--- The calls of the machine that keeps undo: their tests in their order, and their answers. It takes the place of
--- `Reply` as the program keeps undo.
+-- The calls of the machine: their tests in their order, their answers, and what its refusals are called.
 use Rattle.std.specs.Prelude.{◌≡◌, ◌≢◌, ◌⊎◌, ℕ, ◌+◌, ◌*◌, ◌-◌, ◌/◌, ◌%◌}
 use Rattle.std.specs.Prelude.{◌<◌, Bool, true, false, not, ◌&&◌}
 use Rattle.std.specs.Prelude.{nat_lt, nat_le, if◌then◌else◌, is_some, is_none, List, [], ◌∷◌, ◌++◌}
-use Rattle.std.specs.Prelude.{length}
-use Rattle.std.specs.Prelude.{set, filter, slice_get, Option, None, Some}
-use Rattle.rb_base.specs.declared.sizes.TheConstants.{WORN}
-use Rattle.rb_model.specs.Book.{Book, Owner, IsBegun, book_at, begun, finished, is_full, left, marked}
-use Rattle.rb_model.specs.Change.{Change, Kind, Place, Put, Gone}
+use Rattle.std.specs.Prelude.{length, codes}
+use Rattle.std.specs.Prelude.{slice_get, Option, None, Some}
+use Rattle.std.specs.Fmt.{decimal}
+use Rattle.rb_base.specs.declared.sizes.TheConstants.{VALUE_BYTES, WORN}
+use Rattle.rb_model.specs.Book.{Book, Owner, IsBegun, book_at, is_full}
+use Rattle.rb_model.specs.Change.{Change}
 use Rattle.rb_model.specs.Full.{full_block}
-use Rattle.rb_model.specs.Machine.{State, Session, Cursor, session_own, with_changes, no_session, owner_at, plain}
-use Rattle.rb_model.specs.Reply.{Action, Insert, Update, Delete, adds, is_too_long, is_empty, rows_now}
-use Rattle.rb_model.specs.Rows.{TableRow, has_row, last_scn}
-use Rattle.rb_model.specs.State as plainly
+use Rattle.rb_model.specs.Rows.{TableRow, has_row, last_scn, over, rows_at}
+use Rattle.rb_model.specs.State.{State, Cursor, session_of, session_own, owner_at, is_session, is_table, cursor_of}
+use Rattle.rb_model.specs.State.{cursor_rows}
 use Rattle.rb_model.specs.Tests.{holder, full_slots, live_changes, made_since, owners_counted}
+use Rattle.rb_model.specs.declared.refusal.Refusal.{Refusal}
+use Rattle.rb_model.specs.declared.refusal.Refusal.TheVariants.{NoSession, NoTable, ValueTooLong, Duplicate, NotFound}
+use Rattle.rb_model.specs.declared.refusal.Refusal.TheVariants.{BlockFull, SlotsFull, RollbackFull, NoCursor}
+use Rattle.rb_model.specs.declared.refusal.Refusal.TheVariants.{CursorThere, TooManyCursors, WornOut, DiskFault}
+use Rattle.rb_model.specs.declared.refusal.Refusal.TheVariants.{Stopped, LogFull}
+
+-- what a write does to its key
+pub data Action : Type 0 where
+  Insert : (value : List ℕ) → Action
+  Update : (value : List ℕ) → Action
+  Delete : Action
 
 -- a call of one session, or of none
 pub data Call : Type 0 where
@@ -26,24 +36,6 @@ pub data Call : Type 0 where
   Marks : (seg : ℕ) → Call
   Checkpoint : Call
 
--- why a call is refused
-pub data Cause : Type 0 where
-  NoSession : Cause
-  NoTable : Cause
-  ValueTooLong : Cause
-  Duplicate : Cause
-  NotFound : Cause
-  BlockFull : Cause
-  SlotsFull : Cause
-  RollbackFull : (seg since : ℕ) → Cause
-  NoCursor : Cause
-  CursorThere : Cause
-  TooManyCursors : Cause
-  WornOut : Cause
-  DiskFault : Cause
-  Stopped : Cause
-  LogFull : Cause
-
 pub data Answer : Type 0 where
   -- done, with nothing to tell
   Done : Answer
@@ -55,9 +47,70 @@ pub data Answer : Type 0 where
   Given : (key : ℕ) (value : List ℕ) → Answer
   -- all rows are given
   End : Answer
-  -- how many records a segment has made, and the greatest commit number that it gave up
-  Marked : (writes lost : ℕ) → Answer
-  Refused : Cause → Answer
+  -- how many records that segment has made, and the greatest commit number that it gave up
+  Marked : (seg writes lost : ℕ) → Answer
+  Refused : Refusal → Answer
+
+-- an insert makes a row, and each other write needs the one that is there
+abbrev pub adds : Action → Bool
+adds (Insert value) = true
+adds (Update value) = false
+adds Delete = false
+
+-- the value has more bytes than a row
+abbrev pub is_too_long : Action → Bool
+is_too_long (Insert value) = nat_lt VALUE_BYTES (length value)
+is_too_long (Update value) = nat_lt VALUE_BYTES (length value)
+is_too_long Delete = false
+
+-- the rows that a session sees now: the committed ones with its own changes over them
+abbrev pub rows_now : State → ℕ → List TableRow
+rows_now h s = over h.shape.blocks (rows_at h.shape.blocks h.commits (last_scn h.commits)) (session_own h s)
+
+abbrev pub is_empty : List Change → Bool
+is_empty [] = true
+is_empty (c ∷ changes) = false
+
+-- the words of a refusal
+abbrev pub refusal_words : Refusal → List ℕ
+refusal_words NoSession = codes "no session"
+refusal_words NoTable = codes "no table"
+refusal_words ValueTooLong = codes "value too long"
+refusal_words Duplicate = codes "duplicate"
+refusal_words NotFound = codes "not found"
+refusal_words BlockFull = codes "block full"
+refusal_words SlotsFull = codes "slots full"
+refusal_words (RollbackFull seg since) = codes "rollback full"
+refusal_words NoCursor = codes "no cursor"
+refusal_words CursorThere = codes "cursor there"
+refusal_words TooManyCursors = codes "too many cursors"
+refusal_words WornOut = codes "worn out"
+refusal_words DiskFault = codes "disk fault"
+refusal_words Stopped = codes "stopped"
+refusal_words LogFull = codes "log full"
+
+-- a space and a number
+abbrev pub number_text : ℕ → List ℕ
+number_text n = 32 ∷ decimal n
+
+-- the numbers that a refusal tells
+abbrev pub refusal_numbers : Refusal → List ℕ
+refusal_numbers (RollbackFull seg since) = number_text seg ++ number_text since
+refusal_numbers _ = []
+
+-- what a refusal is called
+abbrev pub refusal_text : Refusal → List ℕ
+refusal_text why = refusal_words why ++ refusal_numbers why
+
+-- the one refusal after which nothing goes on
+abbrev pub is_disk_fault : Refusal → Bool
+is_disk_fault DiskFault = true
+is_disk_fault _ = false
+
+-- the answer tells of a fault of the disk
+abbrev pub is_fault : Answer → Bool
+is_fault (Refused why) = is_disk_fault why
+is_fault _ = false
 
 -- Segment g and slot i are those of a session: it has that slot, or has none and would begin there.
 abbrev pub Owned : State → ℕ → ℕ → ℕ → Type 0
@@ -90,19 +143,19 @@ waited s (Some u) = (not (nat_le u s && nat_le s u), Waits u) ∷ []
 -- After the early ones the disk may have failed.
 abbrev pub early_tests : State → Call → List (Bool × Answer)
 early_tests h (Write s table key action) =
-    (h.stopped, Refused Stopped) ∷ (not (plainly.is_session (plain h) s), Refused NoSession)
-    ∷ (not (plainly.is_table (plain h) table), Refused NoTable) ∷ (is_too_long action, Refused ValueTooLong) ∷ []
+    (h.stopped, Refused Stopped) ∷ (not (is_session h s), Refused NoSession)
+    ∷ (not (is_table h table), Refused NoTable) ∷ (is_too_long action, Refused ValueTooLong) ∷ []
 early_tests h (Commit s) =
-    (h.stopped, Refused Stopped) ∷ (not (plainly.is_session (plain h) s), Refused NoSession) ∷ []
+    (h.stopped, Refused Stopped) ∷ (not (is_session h s), Refused NoSession) ∷ []
 early_tests h (Rollback s) =
-    (h.stopped, Refused Stopped) ∷ (not (plainly.is_session (plain h) s), Refused NoSession) ∷ []
+    (h.stopped, Refused Stopped) ∷ (not (is_session h s), Refused NoSession) ∷ []
 early_tests h (OpenCursor s name table lo hi) =
-    (h.stopped, Refused Stopped) ∷ (not (plainly.is_session (plain h) s), Refused NoSession)
-    ∷ (not (plainly.is_table (plain h) table), Refused NoTable) ∷ []
+    (h.stopped, Refused Stopped) ∷ (not (is_session h s), Refused NoSession)
+    ∷ (not (is_table h table), Refused NoTable) ∷ []
 early_tests h (Fetch s name) =
-    (h.stopped, Refused Stopped) ∷ (not (plainly.is_session (plain h) s), Refused NoSession) ∷ []
+    (h.stopped, Refused Stopped) ∷ (not (is_session h s), Refused NoSession) ∷ []
 early_tests h (CloseCursor s name) =
-    (h.stopped, Refused Stopped) ∷ (not (plainly.is_session (plain h) s), Refused NoSession) ∷ []
+    (h.stopped, Refused Stopped) ∷ (not (is_session h s), Refused NoSession) ∷ []
 early_tests h (Marks seg) = (h.stopped, Refused Stopped) ∷ []
 early_tests h Checkpoint = (h.stopped, Refused Stopped) ∷ []
 
@@ -110,9 +163,9 @@ early_tests h Checkpoint = (h.stopped, Refused Stopped) ∷ []
 abbrev pub write_tests : State → (logged room g i s table key : ℕ) → Action → List (Bool × Answer)
 write_tests h logged room g i s table key action =
     waited s (holder h table key)
-    ++ (adds action && has_row table key (rows_now (plain h) s), Refused Duplicate)
-    ∷ (not (adds action) && not (has_row table key (rows_now (plain h) s)), Refused NotFound)
-    ∷ (adds action && full_block (plain h) table key, Refused BlockFull)
+    ++ (adds action && has_row table key (rows_now h s), Refused Duplicate)
+    ∷ (not (adds action) && not (has_row table key (rows_now h s)), Refused NotFound)
+    ∷ (adds action && full_block h table key, Refused BlockFull)
     ∷ (full_slots h s table key, Refused SlotsFull)
     ∷ (is_full (book_at h.books g), Refused (RollbackFull g (made_since (book_at h.books g))))
     ∷ (nat_le WORN logged, Refused WornOut)
@@ -120,10 +173,10 @@ write_tests h logged room g i s table key action =
 
 abbrev pub cursor_tests : State → Call → List (Bool × Answer)
 cursor_tests h (OpenCursor s name table lo hi) =
-    (is_some (plainly.cursor_of (plain h) s name), Refused CursorThere)
-    ∷ (nat_le 16 (length (plainly.session_of (plain h) s).cursors), Refused TooManyCursors) ∷ []
-cursor_tests h (Fetch s name) = (is_none (plainly.cursor_of (plain h) s name), Refused NoCursor) ∷ []
-cursor_tests h (CloseCursor s name) = (is_none (plainly.cursor_of (plain h) s name), Refused NoCursor) ∷ []
+    (is_some (cursor_of h s name), Refused CursorThere)
+    ∷ (nat_le 16 (length (session_of h s).cursors), Refused TooManyCursors) ∷ []
+cursor_tests h (Fetch s name) = (is_none (cursor_of h s name), Refused NoCursor) ∷ []
+cursor_tests h (CloseCursor s name) = (is_none (cursor_of h s name), Refused NoCursor) ∷ []
 cursor_tests h (Write s table key action) = []
 cursor_tests h (Commit s) = []
 cursor_tests h (Rollback s) = []
@@ -135,9 +188,9 @@ abbrev pub given : Option TableRow → Answer
 given None = End
 given (Some row) = Given row.key row.value
 
-abbrev pub next_row : State → Option plainly.Cursor → Answer
+abbrev pub next_row : State → Option Cursor → Answer
 next_row h None = End
-next_row h (Some cursor) = given (slice_get (plainly.cursor_rows (plain h) cursor) cursor.taken)
+next_row h (Some cursor) = given (slice_get (cursor_rows h cursor) cursor.taken)
 
 -- what a call answers that no test refuses
 abbrev pub granted : State → Call → Answer
@@ -145,9 +198,9 @@ granted h (Write s table key action) = Done
 granted h (Commit s) = if is_empty (session_own h s) then Done else Numbered (last_scn h.commits + 1)
 granted h (Rollback s) = Done
 granted h (OpenCursor s name table lo hi) = Done
-granted h (Fetch s name) = next_row h (plainly.cursor_of (plain h) s name)
+granted h (Fetch s name) = next_row h (cursor_of h s name)
 granted h (CloseCursor s name) = Done
-granted h (Marks seg) = Marked (book_at h.books seg).writes (book_at h.books seg).lost
+granted h (Marks seg) = Marked seg (book_at h.books seg).writes (book_at h.books seg).lost
 granted h Checkpoint = Done
 
 -- the answer of the first test that applies, or else the good one

@@ -5,12 +5,10 @@ pub mod Calls
 pub mod Change
 pub mod Full
 pub mod Lines
-pub mod Machine
 pub mod NameTest
 pub mod Names
 pub mod NextState
 pub mod Out
-pub mod Reply
 pub mod Rows
 pub mod State
 pub mod Tests

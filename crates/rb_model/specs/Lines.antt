@@ -1,12 +1,15 @@
 -- How a script is cut into lines, which command a line spells and what it calls, and the texts of the replies.
 use Rattle.std.specs.Prelude.{◌≡◌, ◌≢◌, ℕ, ◌^◌, ◌<◌, ◌≤◌, Bool, true, ◌==◌, ◌&&◌}
 use Rattle.std.specs.Prelude.{nat_le}
-use Rattle.std.specs.Prelude.{if◌then◌else◌, IsTrue, List, [], ◌∷◌, ◌++◌, length, codes}
+use Rattle.std.specs.Prelude.{if◌then◌else◌, IsTrue, List, [], ◌∷◌, ◌++◌, length, codes, Option, None}
+use Rattle.std.specs.Prelude.{Some}
 use Rattle.std.specs.List.{list_all, AllByRecursion}
 use Rattle.std.specs.Fmt.{decimal}
 use Rattle.rb_model.specs.NameTest.{is_name}
-use Rattle.rb_model.specs.Reply.{Action, Insert, Update, Delete, Answer, Done, Waits, Numbered, Given, End, Refused}
-use Rattle.rb_model.specs.Reply.{Call, Write, Commit, OpenCursor, Fetch, CloseCursor, refusal_text}
+use Rattle.rb_base.specs.declared.shape.Shape.{Shape}
+use Rattle.rb_model.specs.Calls.{Action, Insert, Update, Delete, Answer, Done, Waits, Numbered, Given, End, Marked}
+use Rattle.rb_model.specs.Calls.{Refused, number_text, refusal_text}
+use Rattle.rb_model.specs.Calls.{Call, Write, Commit, Rollback, OpenCursor, Fetch, CloseCursor, Marks, Checkpoint}
 
 -- a byte at the front of the first line
 abbrev pub onto_first : ℕ → List (List ℕ) → List (List ℕ)
@@ -33,33 +36,40 @@ is_remark (b ∷ line) = b == 35
 pub data Command : Type 0 where
   WriteLine : (session table key : ℕ) (action : Action) → Command
   CommitLine : (session : ℕ) → Command
+  RollbackLine : (session : ℕ) → Command
   OpenLine : (session : ℕ) (name : List ℕ) (table lo hi : ℕ) → Command
   FetchLine : (session : ℕ) (name : List ℕ) (count : ℕ) → Command
   CloseLine : (session : ℕ) (name : List ℕ) → Command
+  MarksLine : Command
+  CheckpointLine : Command
 
--- what a command calls
-abbrev pub call_of : Command → Call
-call_of (WriteLine s table key action) = Write s table key action
-call_of (CommitLine s) = Commit s
-call_of (OpenLine s name table lo hi) = OpenCursor s name table lo hi
-call_of (FetchLine s name count) = Fetch s name
-call_of (CloseLine s name) = CloseCursor s name
+-- what a command calls as its k-th call, from 0 on
+abbrev pub call_of : Command → ℕ → Call
+call_of (WriteLine s table key action) k = Write s table key action
+call_of (CommitLine s) k = Commit s
+call_of (RollbackLine s) k = Rollback s
+call_of (OpenLine s name table lo hi) k = OpenCursor s name table lo hi
+call_of (FetchLine s name count) k = Fetch s name
+call_of (CloseLine s name) k = CloseCursor s name
+call_of MarksLine k = Marks k
+call_of CheckpointLine k = Checkpoint
 
--- and how often at most
-abbrev pub most_calls : Command → ℕ
-most_calls (WriteLine s table key action) = 1
-most_calls (CommitLine s) = 1
-most_calls (OpenLine s name table lo hi) = 1
-most_calls (FetchLine s name count) = count
-most_calls (CloseLine s name) = 1
+-- and how often at most, over a file of that shape
+abbrev pub most_calls : Shape → Command → ℕ
+most_calls shape (FetchLine s name count) = count
+most_calls shape MarksLine = shape.segments
+most_calls shape _ = 1
 
 -- the session that it names, to which the replies are
-abbrev pub caller : Command → ℕ
-caller (WriteLine s table key action) = s
-caller (CommitLine s) = s
-caller (OpenLine s name table lo hi) = s
-caller (FetchLine s name count) = s
-caller (CloseLine s name) = s
+abbrev pub caller : Command → Option ℕ
+caller (WriteLine s table key action) = Some s
+caller (CommitLine s) = Some s
+caller (RollbackLine s) = Some s
+caller (OpenLine s name table lo hi) = Some s
+caller (FetchLine s name count) = Some s
+caller (CloseLine s name) = Some s
+caller MarksLine = None
+caller CheckpointLine = None
 
 -- the first word of a command's line
 pub data Word : Type 0 where
@@ -67,27 +77,36 @@ pub data Word : Type 0 where
   UpdateWord : Word
   DeleteWord : Word
   CommitWord : Word
+  RollbackWord : Word
   OpenWord : Word
   FetchWord : Word
   CloseWord : Word
+  MarksWord : Word
+  CheckpointWord : Word
 
 abbrev pub word_text : Word → List ℕ
 word_text InsertWord = codes "insert"
 word_text UpdateWord = codes "update"
 word_text DeleteWord = codes "delete"
 word_text CommitWord = codes "commit"
+word_text RollbackWord = codes "rollback"
 word_text OpenWord = codes "open"
 word_text FetchWord = codes "fetch"
 word_text CloseWord = codes "close"
+word_text MarksWord = codes "marks"
+word_text CheckpointWord = codes "checkpoint"
 
 abbrev pub word_of : Command → Word
 word_of (WriteLine s table key (Insert value)) = InsertWord
 word_of (WriteLine s table key (Update value)) = UpdateWord
 word_of (WriteLine s table key Delete) = DeleteWord
 word_of (CommitLine s) = CommitWord
+word_of (RollbackLine s) = RollbackWord
 word_of (OpenLine s name table lo hi) = OpenWord
 word_of (FetchLine s name count) = FetchWord
 word_of (CloseLine s name) = CloseWord
+word_of MarksLine = MarksWord
+word_of CheckpointLine = CheckpointWord
 
 -- A field after the word: the number of a session or a table, a key, how many rows, the name of a cursor, or the value
 -- of a row.
@@ -103,9 +122,12 @@ fields_of (WriteLine s table key (Insert value)) = Id s ∷ Id table ∷ Key key
 fields_of (WriteLine s table key (Update value)) = Id s ∷ Id table ∷ Key key ∷ Valued value ∷ []
 fields_of (WriteLine s table key Delete) = Id s ∷ Id table ∷ Key key ∷ []
 fields_of (CommitLine s) = Id s ∷ []
+fields_of (RollbackLine s) = Id s ∷ []
 fields_of (OpenLine s name table lo hi) = Id s ∷ Named name ∷ Id table ∷ Key lo ∷ Key hi ∷ []
 fields_of (FetchLine s name count) = Id s ∷ Named name ∷ Count count ∷ []
 fields_of (CloseLine s name) = Id s ∷ Named name ∷ []
+fields_of MarksLine = []
+fields_of CheckpointLine = []
 
 abbrev pub field_text : Field → List ℕ
 field_text (Id n) = decimal n
@@ -147,21 +169,24 @@ Spells text command = IsCommand command × (text ≡ spelling command)
 abbrev pub SpellsNone : List ℕ → Type 0
 SpellsNone text = (command : Command) → IsCommand command → text ≢ spelling command
 
--- a space and a number
-abbrev pub number : ℕ → List ℕ
-number n = 32 ∷ decimal n
-
 abbrev pub answer_text : Answer → List ℕ
 answer_text Done = codes "ok"
-answer_text (Waits on) = codes "waits" ++ number on
-answer_text (Numbered n) = codes "committed" ++ number n
-answer_text (Given key value) = codes "row" ++ number key ++ 32 ∷ value
+answer_text (Waits on) = codes "waits" ++ number_text on
+answer_text (Numbered n) = codes "committed" ++ number_text n
+answer_text (Given key value) = codes "row" ++ number_text key ++ 32 ∷ value
 answer_text End = codes "end"
+answer_text (Marked seg writes lost) =
+    codes "segment" ++ number_text seg ++ codes " writes" ++ number_text writes ++ codes " lost" ++ number_text lost
 answer_text (Refused why) = refusal_text why
 
--- the reply line to a session
-abbrev pub reply_text : ℕ → Answer → List ℕ
-reply_text s r = decimal s ++ 32 ∷ answer_text r ++ 10 ∷ []
+-- the session in front of a reply to one
+abbrev pub caller_text : Option ℕ → List ℕ
+caller_text None = []
+caller_text (Some s) = decimal s ++ 32 ∷ []
+
+-- the reply line to a session, or to none
+abbrev pub reply_text : Option ℕ → Answer → List ℕ
+reply_text to r = caller_text to ++ answer_text r ++ 10 ∷ []
 
 -- the reply to a line that is no command
 abbrev pub bad_line_text : List ℕ

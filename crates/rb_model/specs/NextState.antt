@@ -1,16 +1,15 @@
--- The state of the machine that keeps undo after each call, and how many groups the call gives the log.
+-- The state of the machine after each call, and how many groups the call gives the log.
 use Rattle.std.specs.Prelude.{◌≡◌, ◌⊎◌, ℕ, suc, ◌+◌, ◌*◌, ◌-◌, Bool, true, false, not}
 use Rattle.std.specs.Prelude.{◌&&◌, nat_lt}
 use Rattle.std.specs.Prelude.{if◌then◌else◌, cond, List, [], ◌∷◌, ◌++◌, length, set, map, filter}
-use Rattle.std.specs.Prelude.{get_or, Some}
 use Rattle.std.specs.Str.{bytes_eq}
 use Rattle.rb_model.specs.Book.{Book, book_at, finished, left, marked, taken}
 use Rattle.rb_model.specs.Calls.{Call, Write, Commit, Rollback, OpenCursor, Fetch, CloseCursor, Marks, Checkpoint}
-use Rattle.rb_model.specs.Calls.{Answer, Done, Waits, Numbered, Given, End, Marked, Refused, Cause, DiskFault}
+use Rattle.rb_model.specs.Calls.{Answer, Done, Waits, Numbered, Given, End, Marked, Refused, is_disk_fault}
+use Rattle.rb_model.specs.Calls.{Action, Insert, Update, Delete, is_empty}
 use Rattle.rb_model.specs.Calls.{Owned, HasNoSlot, WritesIn, has_slot}
 use Rattle.rb_model.specs.Change.{Change, Kind, Put, Gone}
-use Rattle.rb_model.specs.Machine.{State, Session, Cursor, session_own, with_changes, no_session}
-use Rattle.rb_model.specs.Reply.{Action, Insert, Update, Delete, is_empty}
+use Rattle.rb_model.specs.State.{State, Session, Cursor, session_of, session_own, with_changes}
 use Rattle.rb_model.specs.Rows.{last_scn}
 
 abbrev pub kind_by : Action → Kind
@@ -40,7 +39,7 @@ written h s g i c = record h {
 }
 
 abbrev pub cursors_of : State → ℕ → List Cursor
-cursors_of h s = (get_or h.sessions (s - 1) no_session).cursors
+cursors_of h s = (session_of h s).cursors
 
 abbrev pub not_present : Cursor → Cursor
 not_present c = record c { present = false }
@@ -115,10 +114,6 @@ AfterGrant h (CloseCursor s name) h2 = h2 ≡ with_cursors h s (without_cursor n
 AfterGrant h (Marks seg) h2 = h2 ≡ h
 AfterGrant h Checkpoint h2 = h2 ≡ h
 
-abbrev pub is_disk_fault : Cause → Bool
-is_disk_fault DiskFault = true
-is_disk_fault _ = false
-
 -- After a call with that answer. A refusal changes nothing, but a fault of the disk stops.
 abbrev pub After : State → Call → Answer → State → Type 0
 After h call Done h2 = AfterGrant h call h2
@@ -126,7 +121,7 @@ After h call (Waits on) h2 = h2 ≡ h
 After h call (Numbered n) h2 = AfterGrant h call h2
 After h call (Given key value) h2 = AfterGrant h call h2
 After h call End h2 = h2 ≡ h
-After h call (Marked writes lost) h2 = h2 ≡ h
+After h call (Marked seg writes lost) h2 = h2 ≡ h
 After h call (Refused why) h2 = h2 ≡ (if is_disk_fault why then record h { stopped = true } else h)
 
 -- How many groups a call with that answer gives the log: a write that is done one; a commit with changes one; the end
@@ -152,5 +147,5 @@ Grows h call (Numbered m) n = GrowsBy h call n
 Grows h call (Waits on) n = n ≡ 0
 Grows h call (Given key value) n = n ≡ 0
 Grows h call End n = n ≡ 0
-Grows h call (Marked writes lost) n = n ≡ 0
+Grows h call (Marked seg writes lost) n = n ≡ 0
 Grows h call (Refused why) n = n ≡ 0

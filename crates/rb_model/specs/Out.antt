@@ -2,7 +2,8 @@
 use Rattle.std.specs.Prelude.{◌≡◌, ℕ, zero, suc, ◌+◌, ◌-◌, ◌<◌, ◌≤◌, Bool, true, false}
 use Rattle.std.specs.Prelude.{MatchBool, List, [], ◌∷◌, ◌++◌, length}
 use Rattle.rb_model.specs.State.{State}
-use Rattle.rb_model.specs.Reply.{Call, Answer, Done, Waits, Numbered, Given, End, Refused, Reply, after, Grows}
+use Rattle.rb_model.specs.Calls.{Call, Answer, Given, Marked, Reply}
+use Rattle.rb_model.specs.NextState.{After, Grows}
 use Rattle.rb_model.specs.Lines.{Command, Spells, SpellsNone, call_of, most_calls, caller}
 use Rattle.rb_model.specs.Lines.{without_return, is_remark, reply_text, bad_line_text}
 
@@ -18,29 +19,28 @@ room slots lsn = slots - 1 - lsn
 -- One call with that answer. The log number goes up by the groups of the call, unless the disk has failed.
 pub record CallOut (m : Logged) (slots : ℕ) (call : Call) (answer : Answer) (m2 : Logged) : Type 0 where
   pub reply : Reply m.state m.lsn (room slots m.lsn) call answer
-  pub state : m2.state ≡ after m.state call answer
+  pub state : After m.state call answer m2.state
   pub groups : ℕ
   pub grows : m2.state.stopped ≡ false → Grows m.state call answer groups
   pub lsn : m2.state.stopped ≡ false → m2.lsn ≡ m.lsn + groups
 
-abbrev pub is_given : Answer → Bool
-is_given Done = false
-is_given (Waits on) = false
-is_given (Numbered n) = false
-is_given (Given key value) = true
-is_given End = false
-is_given (Refused why) = false
+-- after this answer a command makes its next call
+abbrev pub goes_on : Answer → Bool
+goes_on (Given key value) = true
+goes_on (Marked seg writes lost) = true
+goes_on _ = false
 
--- Up to `count` calls, each with its reply line to session s. They end at the first answer that is no row.
-abbrev pub CallsOut : Logged → ℕ → ℕ → Call → ℕ → List ℕ → Logged → Type 0
-CallsOut m slots s call zero out m2 = (out ≡ []) × (m2 ≡ m)
-CallsOut m slots s call (suc count) out m2 =
-    (r : Answer) × (rest : List ℕ) × (middle : Logged) × CallOut m slots call r middle
-    × (out ≡ reply_text s r ++ rest)
-    × MatchBool (is_given r) (CallsOut middle slots s call count rest m2) ((rest ≡ []) × (m2 ≡ middle))
+-- The calls of a command from its k-th on, up to `count`, each with its reply line. They end at the first answer that
+-- is neither a row nor the marks of a segment.
+abbrev pub CallsOut : Logged → ℕ → Command → ℕ → ℕ → List ℕ → Logged → Type 0
+CallsOut m slots c k zero out m2 = (out ≡ []) × (m2 ≡ m)
+CallsOut m slots c k (suc count) out m2 =
+    (r : Answer) × (rest : List ℕ) × (middle : Logged) × CallOut m slots (call_of c k) r middle
+    × (out ≡ reply_text (caller c) r ++ rest)
+    × MatchBool (goes_on r) (CallsOut middle slots c (suc k) count rest m2) ((rest ≡ []) × (m2 ≡ middle))
 
 abbrev pub CommandOut : Logged → ℕ → Command → List ℕ → Logged → Type 0
-CommandOut m slots c out m2 = CallsOut m slots (caller c) (call_of c) (most_calls c) out m2
+CommandOut m slots c out m2 = CallsOut m slots c 0 (most_calls m.state.shape c) out m2
 
 -- What one line does. A line of more than 512 bytes is bad whatever it has; one CR at its end doesn't count.
 pub data LineOut (m : Logged) (slots : ℕ) (line out : List ℕ) (m2 : Logged) : Type 0 where

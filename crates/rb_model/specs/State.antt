@@ -1,8 +1,10 @@
--- The state that the sessions share, as the abstract machine sees it.
-use Rattle.std.specs.Prelude.{ℕ, suc, ◌-◌, Bool, false, ◌&&◌, nat_le, cond, List, [], ◌∷◌, length}
-use Rattle.std.specs.Prelude.{replicate, slice_index_or, slice_set, find, Option}
+-- The state that the sessions share, as the abstract machine sees it: commits, sessions, and the books of the segments
+-- that keep what was before their changes.
+use Rattle.std.specs.Prelude.{ℕ, ◌-◌, ◌/◌, ◌%◌, Bool, false, ◌&&◌, nat_le, List, [], length}
+use Rattle.std.specs.Prelude.{replicate, get_or, find, Option}
 use Rattle.std.specs.Str.{bytes_eq}
 use Rattle.rb_base.specs.declared.shape.Shape.{Shape}
+use Rattle.rb_model.specs.Book.{Owner, Book, book_at, slot_owner}
 use Rattle.rb_model.specs.Change.{Change}
 use Rattle.rb_model.specs.Rows.{Commits, TableRow, answer}
 
@@ -17,9 +19,11 @@ pub record Cursor : Type 0 where
   pub own : List Change
   -- how many rows it has given
   pub taken : ℕ
+  -- whether it was opened in the present transaction
+  pub present : Bool
 
 pub record Session : Type 0 where
-  -- the changes of its transaction, oldest first
+  -- the live changes of its transaction, oldest first
   pub own : List Change
   -- its open cursors, in order of opening
   pub cursors : List Cursor
@@ -29,6 +33,8 @@ pub record State : Type 0 where
   pub commits : Commits
   -- numbered from 1
   pub sessions : List Session
+  -- one for each segment, numbered from 0
+  pub books : List Book
   -- a call has answered that the disk failed
   pub stopped : Bool
 
@@ -36,19 +42,27 @@ pub record State : Type 0 where
 abbrev pub session_count : ℕ
 session_count = 1
 
-abbrev pub fresh_session : Session
-fresh_session = record { own = []; cursors = [] }
+abbrev pub no_session : Session
+no_session = record { own = []; cursors = [] }
 
 -- there is a session of this number
 abbrev pub is_session : State → ℕ → Bool
 is_session h s = nat_le 1 s && nat_le s (length h.sessions)
 
 abbrev pub session_of : State → ℕ → Session
-session_of h s = slice_index_or h.sessions (s - 1) fresh_session
+session_of h s = get_or h.sessions (s - 1) no_session
 
--- the state with another session in the place of that number
-abbrev pub with_session : State → ℕ → Session → State
-with_session h s session = record h { sessions = slice_set h.sessions (s - 1) session }
+-- the live changes of the session of that number
+abbrev pub session_own : State → ℕ → List Change
+session_own h s = (session_of h s).own
+
+-- the session with these changes in the place of its own
+abbrev pub with_changes : State → ℕ → List Change → Session
+with_changes h s own = record (session_of h s) { own = own }
+
+-- who has table slot t, the slots of all segments counted in order
+abbrev pub owner_at : State → ℕ → Option Owner
+owner_at h t = slot_owner (book_at h.books (t / 16)) (t % 16)
 
 -- there is a table of this number
 abbrev pub is_table : State → ℕ → Bool
@@ -63,22 +77,13 @@ abbrev pub cursor_rows : State → Cursor → List TableRow
 cursor_rows h cursor =
     answer h.shape.blocks h.commits cursor.table cursor.lo cursor.hi cursor.number cursor.own
 
--- the cursors with one more row taken at those of that name
-abbrev pub with_taken : List ℕ → List Cursor → List Cursor
-with_taken name [] = []
-with_taken name (c ∷ cursors) =
-    cond (bytes_eq c.name name) (record c { taken = suc c.taken } ∷ cursors) (c ∷ with_taken name cursors)
-
--- the cursors without the first of that name
-abbrev pub without_cursor : List ℕ → List Cursor → List Cursor
-without_cursor name [] = []
-without_cursor name (c ∷ cursors) = cond (bytes_eq c.name name) cursors (c ∷ without_cursor name cursors)
-
--- the state that a file of that commit number and these rows opens to: they are the base, and nothing is under way
-abbrev pub opened : Shape → ℕ → List TableRow → State
-opened shape number rows = record {
+-- The state that a file of that commit number, these rows and these books opens to: they are the base, and nothing is
+-- under way.
+abbrev pub opened : Shape → ℕ → List TableRow → List Book → State
+opened shape number rows books = record {
   shape = shape;
   commits = record { base = number; rows = rows; list = [] };
-  sessions = replicate session_count fresh_session;
+  sessions = replicate session_count no_session;
+  books = books;
   stopped = false;
 }

@@ -8,7 +8,7 @@ use Rattle.rb_base.specs.declared.sizes.TheConstants.{SLOTS}
 use Rattle.rb_model.specs.Book.{Book, BookSlot, Owner}
 use Rattle.rb_model.specs.Change.{Change}
 use Rattle.rb_model.specs.Full.{has_home}
-use Rattle.rb_model.specs.Machine.{State, session_own, owner_at}
+use Rattle.rb_model.specs.State.{State, session_own, owner_at}
 
 -- the change is of that key
 abbrev pub is_change : ℕ → ℕ → Change → Bool

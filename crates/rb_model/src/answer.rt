@@ -14,6 +14,8 @@ pub enum Answer {
     Row,
     /// A fetch gave none: all rows were given before.
     End,
+    /// What a segment has made and given up.
+    Marked { seg: u16, writes: u64, lost: u64 },
     /// It was refused.
     Refused { why: Refusal },
 }

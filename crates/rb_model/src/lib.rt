@@ -3,6 +3,7 @@
 
 mod answer;
 mod laws;
+mod marks;
 mod name;
 mod op;
 mod refusal;
@@ -11,6 +12,7 @@ mod wrote;
 
 pub use answer::Answer;
 pub use laws::book_laws;
+pub use marks::Marks;
 pub use name::Name;
 pub use op::Op;
 pub use refusal::Refusal;

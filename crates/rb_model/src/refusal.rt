@@ -1,6 +1,6 @@
 //! Why a call of the engine was refused. The engine answers it, and the shell prints it.
 ghost use Rattle.std.specs.Prelude.{◌≡◌, ◌≤◌, length};
-ghost use Rattle.rb_model.specs.Reply.{refusal_text};
+ghost use Rattle.rb_model.specs.Calls.{refusal_words};
 
 use thiserror::Error;
 
@@ -20,6 +20,15 @@ pub enum Refusal {
     NotFound,
     /// Sixteen other keys of the key's block are in use.
     BlockFull,
+    /// Eight other sessions have changes in the key's block.
+    SlotsFull,
+    /// The transaction's segment has no room for one more undo record.
+    RollbackFull {
+        /// The segment, from 0 on.
+        seg: u16,
+        /// How many records it has made since its oldest transaction began, 281 to 320.
+        since: u64,
+    },
     /// No open cursor of the session has that name.
     NoCursor,
     /// A cursor of that name is open.
@@ -37,9 +46,9 @@ pub enum Refusal {
 }
 
 impl Refusal {
-    /// Its text in a reply, at most 32 bytes.
-    pub fn text(self) -> &'static [u8]
-        ensures text { result.now ≡ refusal_text self }
+    /// Its words in a reply, at most 32 bytes, without the numbers that it tells.
+    pub fn words(self) -> &'static [u8]
+        ensures words { result.now ≡ refusal_words self }
         ensures short { length result.now ≤ 32 }
     {
         match self {
@@ -49,6 +58,8 @@ impl Refusal {
             Refusal::Duplicate => b"duplicate",
             Refusal::NotFound => b"not found",
             Refusal::BlockFull => b"block full",
+            Refusal::SlotsFull => b"slots full",
+            Refusal::RollbackFull { seg: _, since: _ } => b"rollback full",
             Refusal::NoCursor => b"no cursor",
             Refusal::CursorThere => b"cursor there",
             Refusal::TooManyCursors => b"too many cursors",

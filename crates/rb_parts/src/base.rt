@@ -1,5 +1,5 @@
 //! Texts that are numbers and texts that are none, and each field written and read again.
-use rb_base::{Group, parse_decimal, put_u16, put_u32, put_u64, u16_at, u32_at, u64_at};
+use rb_base::{Group, Shape, parse_decimal, put_u16, put_u32, put_u64, u16_at, u32_at, u64_at};
 
 #[test]
 fn decimals(rt: HostRuntime) {
@@ -69,4 +69,17 @@ fn room_of_a_group(rt: HostRuntime) {
     assert!(rt; !long.fits(2));
     long.push(0, 57, b"a");
     assert!(rt; !long.fits(0));
+}
+
+#[test]
+fn homes(rt: HostRuntime) {
+    let shape = Shape {
+        tables: 2,
+        blocks: 2,
+        segments: 1,
+    };
+    let rows = [(1, 0, 0), (1, 1, 1), (2, 0, 2), (2, u64::MAX, 3)];
+    for (table, key, block) in rows {
+        assert_eq!(rt; shape.home_block(table, key), block);
+    }
 }

@@ -3,6 +3,8 @@
 #![tactic(auto)]
 
 #[cfg(test)]
+mod attempt;
+#[cfg(test)]
 mod base;
 #[cfg(test)]
 mod cell;
@@ -20,6 +22,10 @@ mod layout;
 mod log;
 #[cfg(test)]
 mod memdisk;
+#[cfg(test)]
+mod memory;
+#[cfg(test)]
+mod opening;
 #[cfg(test)]
 mod plainstore;
 #[cfg(test)]
@@ -40,5 +46,3 @@ mod undo;
 mod undoblock;
 #[cfg(test)]
 mod versions;
-#[cfg(test)]
-mod write;

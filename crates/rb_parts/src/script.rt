@@ -5,7 +5,7 @@ use rb_script::{Command, Reply, parse, print};
 
 #[test]
 fn lines_that_spell_no_command(rt: HostRuntime) {
-    let lines: [&[u8]; 44] = [
+    let lines: [&[u8]; 50] = [
         b"fetch 1 c 0",
         b"fetch 1 c 00",
         b"fetch 1 c 01",
@@ -49,6 +49,12 @@ fn lines_that_spell_no_command(rt: HostRuntime) {
         b"close 1 c ",
         b"close 65536 c",
         b"commit 65536",
+        b"rollback",
+        b"rollback 1 ",
+        b"rollback 1 a",
+        b"marks ",
+        b"marks 0",
+        b"checkpoint 1",
         b" ",
     ];
     for line in lines {
@@ -92,6 +98,14 @@ fn lines_that_spell_a_command(rt: HostRuntime) {
         )
     );
     assert!(rt; matches!(parse(b"commit 65535"), Some(Command::Commit { s: 65535 })));
+    assert!(rt;
+        matches!(
+            parse(b"rollback 65535"),
+            Some(Command::Rollback { s: 65535 })
+        )
+    );
+    assert!(rt; matches!(parse(b"marks"), Some(Command::Marks)));
+    assert!(rt; matches!(parse(b"checkpoint"), Some(Command::Checkpoint)));
     let opened = parse(b"open 1 _0 65535 9 0");
     assert!(rt;
         matches!(
@@ -121,8 +135,9 @@ fn lines_that_spell_a_command(rt: HostRuntime) {
 #[test]
 fn texts_of_replies(rt: HostRuntime) {
     let value = [b'~'; 80];
-    let replies: [(Reply, &[u8]); 11] = [
-        (Reply::Done { s: 1 }, b"1 ok\n"),
+    let replies: [(Reply, &[u8]); 15] = [
+        (Reply::Done { s: Some(1) }, b"1 ok\n"),
+        (Reply::Done { s: None }, b"ok\n"),
         (
             Reply::Committed {
                 s: 65535,
@@ -150,31 +165,56 @@ fn texts_of_replies(rt: HostRuntime) {
         (Reply::Waits { s: 2, on: 10 }, b"2 waits 10\n"),
         (
             Reply::Refused {
-                s: 1,
+                s: Some(1),
                 why: Refusal::TooManyCursors,
             },
             b"1 too many cursors\n",
         ),
         (
             Reply::Refused {
-                s: 1,
+                s: Some(1),
                 why: Refusal::NotFound,
             },
             b"1 not found\n",
         ),
         (
             Reply::Refused {
-                s: 1,
+                s: Some(1),
                 why: Refusal::BlockFull,
             },
             b"1 block full\n",
         ),
         (
             Reply::Refused {
-                s: 1,
+                s: Some(1),
                 why: Refusal::WornOut,
             },
             b"1 worn out\n",
+        ),
+        (
+            Reply::Refused {
+                s: Some(65535),
+                why: Refusal::RollbackFull {
+                    seg: 15,
+                    since: 320,
+                },
+            },
+            b"65535 rollback full 15 320\n",
+        ),
+        (
+            Reply::Refused {
+                s: None,
+                why: Refusal::DiskFault,
+            },
+            b"disk fault\n",
+        ),
+        (
+            Reply::Marks {
+                seg: 15,
+                writes: 18446744073709551615,
+                lost: 0,
+            },
+            b"segment 15 writes 18446744073709551615 lost 0\n",
         ),
         (Reply::BadLine, b"bad line\n"),
     ];

@@ -7,7 +7,7 @@ use rb_segment::commit_scn_of;
 use rb_sound::{Limits, blocks_sound, home_sound, segment_sound};
 use std::test::Fail;
 
-const SHAPE: Shape = Shape {
+pub(crate) const SHAPE: Shape = Shape {
     tables: 1,
     blocks: 10,
     segments: 2,
@@ -146,7 +146,7 @@ fn state_of<S: Store>(store: &mut S) -> Result<(bool, u64), Failed>
 }
 
 /// Patches one byte of a block. It answers Failed where the store can't take that.
-fn patch<S: Store>(store: &mut S, no: BlockNo, at: u16, byte: u8) -> Result<(), Failed>
+pub(crate) fn patch<S: Store>(store: &mut S, no: BlockNo, at: u16, byte: u8) -> Result<(), Failed>
     requires going { S.failed store.old ≡ false }
     requires within { (32 ≤ at) × (at < 2048) }
     ensures going { OnOk result (S.failed store.new ≡ false) }
@@ -171,5 +171,74 @@ fn blocks_of_a_store(rt: HostRuntime) -> Result<(), Fail> {
     assert_eq!(rt; state_of(&mut store)?, (true, 9));
     patch(&mut store, 9, 416, 3)?;
     assert_eq!(rt; state_of(&mut store)?, (false, 9));
+    Ok(())
+}
+
+/// A new file in which slot 15 of segment 1 runs, with two live records in the head: block 44 has them, block 43 is the
+/// header.
+pub(crate) fn running<S: Store>(store: &mut S) -> Result<(), Failed>
+    requires { S.failed store.old ≡ false }
+    ensures { OnOk result (S.failed store.new ≡ false) }
+{
+    let bytes: [(BlockNo, u16, u8); 17] = [
+        (43, 992, 1), // the slot: it is Active,
+        (43, 999, 2), // has two live records,
+        (43, 1007, 1), // wrap 1,
+        (43, 1027, 44), // the newest in block 44,
+        (43, 1029, 1), // as record 1
+        (43, 1039, 2), // of turn 2,
+        (43, 1047, 2), // and its first one in that turn
+        (43, 1315, 2), // the head has two records
+        (43, 1327, 2), // of two that were made
+        (44, 39, 1), // record 0: the wrap,
+        (44, 51, 1), // number 1
+        (44, 58, 15), // and the slot
+        (44, 231, 1), // record 1: the wrap,
+        (44, 243, 2), // number 2,
+        (44, 250, 15), // the slot,
+        (44, 259, 44), // and before it record 0 of block 44
+        (44, 271, 2), // in turn 2
+    ];
+    for (no, at, byte) in bytes {
+        if at < 32 || at >= 2048 {
+            return Err(Failed);
+        }
+        patch(store, no, at, byte)?;
+    }
+    Ok(())
+}
+
+#[test]
+fn changed_live_records(rt: HostRuntime) -> Result<(), Fail> {
+    let cases: [(BlockNo, u16, u8, bool); 20] = [
+        (43, 999, 1, false), // one live record less
+        (43, 999, 3, false), // one more
+        (43, 1039, 1, false), // the turn of another extent
+        (43, 1029, 2, false), // a record that wasn't made
+        (43, 1315, 1, false), //
+        (43, 1315, 40, true), // a head that is full
+        (43, 1047, 1, true), // the first turn in another extent
+        (43, 1047, 3, false), // and in none
+        (43, 1047, 0, false), //
+        (43, 1055, 2, true), // a start up to the last record
+        (43, 1055, 3, false), // and behind it
+        (43, 1027, 43, false), // a header for an undo block
+        (44, 243, 1, false), // a number
+        (44, 250, 14, false), // another slot
+        (44, 231, 2, false), // another wrap
+        (44, 247, 10, false), // a header for a block of rows
+        (44, 252, 8, false), // an entry
+        (44, 253, 16, false), // a cell
+        (44, 79, 2, false), // the last record leads on
+        (43, 992, 2, true), // of a slot that isn't Active nothing of it is looked at
+    ];
+    for (no, at, byte, sound) in cases {
+        let mut store = PlainStore::new(rt.alloc(), SHAPE)?;
+        running(&mut store)?;
+        assert!(rt; blocks_sound(&mut store)?);
+        assert!(rt; at >= 32 && at < 2048);
+        patch(&mut store, no, at, byte)?;
+        assert_eq!(rt; blocks_sound(&mut store)?, sound, "at {at} of block {no}");
+    }
     Ok(())
 }

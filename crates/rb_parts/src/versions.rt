@@ -1,5 +1,5 @@
 //! The index against a search by hand: some hundred changes over seven homes and three tables, a fifth of which take a
-//! row away; and full homes.
+//! row away.
 ghost use Rattle.std.specs.Prelude.{◌≡◌, ◌<◌, [], length, IfOk};
 
 use rb_versions::{Query, RowChange, RowKind, Versions};
@@ -109,6 +109,17 @@ fn rows_in_scan_order(rt: HostRuntime) -> Result<(), Fail> {
     Ok(())
 }
 
+/// Whether a query of the key alone gives a row.
+fn has_row(versions: &Versions, table: u16, key: u64, seen: usize) -> bool {
+    let query = Query {
+        table,
+        lo: key,
+        hi: key,
+        last: None,
+    };
+    versions.next(query, seen).is_some()
+}
+
 #[test]
 fn keys(rt: HostRuntime) -> Result<(), Fail> {
     let versions = filled(rt.alloc())?;
@@ -117,19 +128,14 @@ fn keys(rt: HostRuntime) -> Result<(), Fail> {
         let from = seen as usize;
         for key in 0..100 {
             for table in 0..5 {
-                let last = newest(CHANGES, table, key);
                 assert_eq!(rt;
-                    versions.is_present(table, key, from),
+                    has_row(&versions, table, key, from),
                     row(seen, table, key).is_some()
-                );
-                assert_eq!(rt;
-                    versions.is_named(table, key, from),
-                    last.is_some_and(|change| change >= seen)
                 );
             }
         }
     }
-    assert!(rt; !versions.is_present(1, u64::MAX, 300));
+    assert!(rt; !has_row(&versions, 1, u64::MAX, 300));
     Ok(())
 }
 
@@ -155,38 +161,6 @@ fn the_last_key_of_all(rt: HostRuntime) -> Result<(), Fail> {
     Ok(())
 }
 
-/// Sixteen rows of home 3 in table 1: keys 3, 10, .. 108. Then the row of key 10 goes.
-fn one_home(alloc: Global) -> Result<Versions, Fail> {
-    let mut versions = Versions::new(alloc, HOMES, 17)?;
-    for step in 0..16 {
-        versions.push(RowChange::put(1, 3 + 7 * step, b"v"), &[]);
-    }
-    versions.push(RowChange::gone(1, 10), &[]);
-    Ok(versions)
-}
-
-#[test]
-fn full_homes(rt: HostRuntime) -> Result<(), Fail> {
-    let versions = one_home(rt.alloc())?;
-    // The table, the key and how many changes are committed.
-    let rows = [
-        ((1, 115, 0), true),
-        ((1, 115, 15), true),
-        ((1, 115, 16), true),
-        ((1, 115, 17), false),
-        ((1, u64::MAX, 16), false),
-        ((1, 101, 16), false),
-        ((1, 10, 16), false),
-        ((1, 10, 17), false),
-        ((1, 114, 16), false),
-        ((2, 115, 16), false),
-    ];
-    for ((table, key, committed), full) in rows {
-        assert_eq!(rt; versions.is_full(table, key, committed), full);
-    }
-    Ok(())
-}
-
 /// Whether an index that is asked for six changes tells of the first three alone: key 8 has the only row, and keys 1
 /// and 3 have none.
 fn tells_of_three(versions: &Versions) -> bool {
@@ -204,8 +178,8 @@ fn tells_of_three(versions: &Versions) -> bool {
         .next(first, 6)
         .is_some_and(|change| change.key == 8);
     let is_last = versions.next(behind, 6).is_none();
-    let is_alone = !versions.is_present(1, 1, 6) && !versions.is_present(1, 3, 6);
-    let is_there = versions.is_present(1, 8, 6);
+    let is_alone = !has_row(versions, 1, 1, 6) && !has_row(versions, 1, 3, 6);
+    let is_there = has_row(versions, 1, 8, 6);
     versions.changes().len() == 3 && is_eight && is_last && is_alone && is_there
 }
 
@@ -225,7 +199,7 @@ fn later_changes_forgotten(rt: HostRuntime) -> Result<(), Fail> {
     assert!(rt; tells_of_three(&versions));
     versions.push(RowChange::put(1, 15, b"e"), &[2]);
     assert_eq!(rt; versions.changes().len(), 4);
-    assert!(rt; versions.is_present(1, 15, 4));
-    assert!(rt; !versions.is_present(1, 15, 3));
+    assert!(rt; has_row(&versions, 1, 15, 4));
+    assert!(rt; !has_row(&versions, 1, 15, 3));
     Ok(())
 }

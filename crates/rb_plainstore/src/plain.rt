@@ -57,7 +57,7 @@ impl Store for PlainStore {
 
     ghost tells = { Unit {0} };
 
-    ghost tells_crashes = { ⊥ };
+    ghost keeps = { ⊥ };
 
     ghost shape_of = { λ store. store.shape };
 
@@ -83,15 +83,15 @@ impl Store for PlainStore {
 
     ghost left_since = { λ _ _ _. ⊥ };
 
-    ghost opens = { λ _ _ _ _. ⊥ };
+    ghost opens = { λ _ _ _ _ _. ⊥ };
 
-    ghost stable = { λ _ _. ⊥ };
+    ghost stable = { λ _ _ _. ⊥ };
 
-    ghost crashes_told = { λ told. absurd told };
+    ghost stable_left = { λ store b n i keeps. absurd keeps };
 
-    ghost stable_left = { λ store b i keeps. absurd keeps };
+    ghost stable_numbered = { λ store b n keeps. absurd keeps };
 
-    ghost stable_patched = { λ store b keeps. absurd keeps };
+    ghost stable_patched = { λ store b n keeps. absurd keeps };
 
     ghost now_counts = { λ store t i keeps. absurd keeps };
 

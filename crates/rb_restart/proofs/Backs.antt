@@ -1,6 +1,6 @@
 -- The put back of a transaction's newest live change: in blocks that stand it can be done, and is one group that puts back.
 use Rattle.std.proofs.Common.{◌≡◌, ◌≢◌, ◌⊎◌, ◌<◌, ◌≤◌, ◌+◌, ◌-◌, ◌*◌, ◌/◌, ◌%◌, inl, inr, ℕ, List, [], ◌∷◌, length, set, Some, refl, sym, ◌∙◌, ap, subst, arith}
-use Rattle.std.proofs.lemmas.Bool.{cases_eq, cases_lt}
+use Rattle.std.proofs.lemmas.Bool.{cases_eq}
 use Rattle.std.proofs.lemmas.List.{get_or-set_same}
 use Rattle.std.proofs.Math.Nat.{div-add-mod}
 use Rattle.rb_base.specs.Blocks.{after_group, block_of, header_block, shape_blocks, table_blocks, IsShape}
@@ -10,15 +10,16 @@ use Rattle.rb_base.specs.declared.ids.Xid.{Xid}
 use Rattle.rb_base.specs.declared.shape.Shape.{Shape}
 use Rattle.rb_base.specs.declared.sizes.TheConstants.{ACTIVE}
 use Rattle.rb_model.specs.Rows.{TableRow}
+use Rattle.rb_restart.specs.Rollback.{found_book}
 use Rattle.rb_restart.specs.Steps.{HasLive, IsIdle, PutsBack}
 use Rattle.rb_restart.proofs.Joined.{one_puts}
-use Rattle.rb_restart.proofs.Marks.{marks_same}
+use Rattle.rb_restart.proofs.Marks.{book_back, books_same}
 use Rattle.rb_restart.proofs.Slots.{owed_is, slot_is, xid_is, xid_of}
 use Rattle.rb_segment.proofs.Back.{back_other}
 use Rattle.rb_segment.proofs.Parts.{slots_many}
 use Rattle.rb_segment.specs.Header.{Header, Segment, record_in, slot_in}
 use Rattle.rb_segment.specs.Segments.{commit_scn}
-use Rattle.rb_standing.specs.Groups.{IsPutBack}
+use Rattle.rb_standing.specs.Groups.{IsPutBack, header_at}
 use Rattle.rb_standing.specs.Standing.{SoundAs, Standing, homes_of, logged_of, segments_of}
 use Rattle.rb_standing.specs.Values.{IsSaved, Listed, Past, slot_of, wraps_of, xid_in}
 use Rattle.rb_standing.specs.Writes.{back_segment}
@@ -50,31 +51,6 @@ less_live shape x u before now n few takes has =
       };
       live = ap (λ (s : TableSlot). s.live) at ∙ omega (arith, has.live);
     }
-
--- whether it can be done is told by numbers
-pub can_or_not : (shape : Shape) (blocks : List (List ℕ)) (x : Xid) → CanBack shape blocks x ⊎ (CanBack shape blocks x → ⊥)
-can_or_not shape blocks x =
-    let at = newest_of shape blocks x in
-    let u = newest_record shape blocks x in
-    elim (cases_lt 0 at.ord) [
-      | inr le ↦ inr (λ can. omega (arith, le, can.some))
-      | inl some ↦ elim (cases_lt at.block (shape_blocks shape)) [
-        | inr le ↦ inr (λ can. omega (arith, le, can.block))
-        | inl block ↦ elim (cases_lt at.rec 10) [
-          | inr le ↦ inr (λ can. omega (arith, le, can.place))
-          | inl place ↦ elim (cases_lt u.home (table_blocks shape)) [
-            | inr le ↦ inr (λ can. omega (arith, le, can.home))
-            | inl home ↦ elim (cases_lt u.entry 8) [
-              | inr le ↦ inr (λ can. omega (arith, le, can.entry))
-              | inl entry ↦ elim (cases_lt u.cell 16) [
-                | inr le ↦ inr (λ can. omega (arith, le, can.cell))
-                | inl cell ↦ inl (record { some = omega (arith, some); block = block; place = place; home = home; entry = entry; cell = cell })
-              ]
-            ]
-          ]
-        ]
-      ]
-    ]
 
 -- a list of some length has a first item
 first_of : (chs : List Change) (n : ℕ) → length chs ≡ n + 1 → (ch : Change) × (more : List Change) × (chs ≡ ch ∷ more)
@@ -131,6 +107,8 @@ module _ (shape : Shape) (number : ℕ) (rows : List TableRow) (before : List (L
         there = listed.4.1;
         home = listed.4.6.there;
         can = record {
+          runs = live.runs;
+          live = omega (arith, live.live);
           some = subst (λ (z : Uba). 1 ≤ z.ord) same listed.0;
           block = subst (λ (z : Uba). z.block < shape_blocks shape) same (omega (arith, listed.1.within, g_in, t_in));
           place = subst (λ (z : Uba). z.rec < 10) same listed.1.rec;
@@ -194,7 +172,7 @@ module _ (shape : Shape) (number : ℕ) (rows : List TableRow) (before : List (L
           let a = owed_is shape before in
           let b = owed_is shape now in
           omega (arith, o, a, b))
-          (marks_same shape t Is before now puts.group only (ap (λ (h : Header). h.writes) puts.header) (ap (λ (h : Header). h.lost) puts.header))
+          (books_same shape t Is before now puts.group only (ap found_book puts.header ∙ book_back (t % 16) newest.u.previous (header_at shape before t)))
           idle
 
 -- the group that puts back a transaction's newest change

@@ -10,9 +10,10 @@ use Rattle.rb_base.specs.declared.ids.Xid.{Xid}
 use Rattle.rb_base.specs.declared.shape.Shape.{Shape}
 use Rattle.rb_base.specs.declared.sizes.TheConstants.{ACTIVE}
 use Rattle.rb_model.specs.Rows.{TableRow}
+use Rattle.rb_restart.specs.Rollback.{found_book}
 use Rattle.rb_restart.specs.Steps.{HasLive, IsIdle, PutsBack}
 use Rattle.rb_restart.proofs.Joined.{one_puts}
-use Rattle.rb_restart.proofs.Marks.{marks_same}
+use Rattle.rb_restart.proofs.Marks.{book_ended, books_same}
 use Rattle.rb_restart.proofs.Slots.{owed_is, slot_is, xid_is, xid_of}
 use Rattle.rb_segment.proofs.Ended.{ended_done, ended_other}
 use Rattle.rb_segment.proofs.HeaderAfter.{header_after}
@@ -20,7 +21,7 @@ use Rattle.rb_segment.specs.Calls.{slot_patches}
 use Rattle.rb_segment.specs.Header.{Header, Segment, header_of, slot_in}
 use Rattle.rb_segment.specs.Moves.{ended, with_header}
 use Rattle.rb_segment.specs.Segments.{commit_scn}
-use Rattle.rb_standing.specs.Groups.{IsEnded}
+use Rattle.rb_standing.specs.Groups.{IsEnded, header_at}
 use Rattle.rb_standing.specs.Standing.{SoundAs, Standing, homes_of, logged_of, segments_of}
 use Rattle.rb_standing.specs.Values.{Past, owed, slot_of}
 use Rattle.rb_standing.specs.Writes.{ended_segments}
@@ -123,7 +124,7 @@ module _ (shape : Shape) (number : ℕ) (rows : List TableRow) (before : List (L
         let b = owed_is shape now in
         let c = ap (owed shape) (segments_ended shape t before now ends) in
         omega (arith, o, a, b, c))
-        (marks_same shape t Is before now ends.group (λ b at. inr at) (ap (λ (h : Header). h.writes) ends.header) (ap (λ (h : Header). h.lost) ends.header))
+        (books_same shape t Is before now ends.group (λ b at. inr at) (ap found_book ends.header ∙ book_ended (t % 16) (header_at shape before t)))
         idle
 
 -- the same by the transaction's id

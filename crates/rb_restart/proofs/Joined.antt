@@ -5,17 +5,31 @@ use Rattle.std.proofs.lemmas.List.{take-append-le}
 use Rattle.std.proofs.Math.Seq.{take-append-add}
 use Rattle.rb_base.specs.Blocks.{after_group, after_groups}
 use Rattle.rb_base.specs.Groups.{Patch}
-use Rattle.rb_base.specs.Logs.{Logs, after_joined, more_logs}
+use Rattle.rb_base.specs.Logs.{Logs, more_logs}
+use Rattle.rb_base.specs.Settling.{after_joined}
 use Rattle.rb_base.specs.Stores.{room_of}
 use Rattle.rb_base.specs.declared.shape.Shape.{Shape}
 use Rattle.rb_base.specs.declared.store.Store.{Ghosts}
 use Rattle.rb_model.specs.Rows.{TableRow}
-use Rattle.rb_restart.specs.Rollback.{SameMarks}
+use Rattle.rb_restart.specs.Rollback.{IsPartlyBack, SameBooks}
 use Rattle.rb_restart.specs.Steps.{IsIdle, MayRoll, PutsBack, Rolls}
 use Rattle.rb_segment.specs.Segments.{owed_in}
 use Rattle.rb_standing.specs.Standing.{SoundAs, logged_of}
 
 module _ (shape : Shape) (number : ℕ) (rows : List TableRow) where
+  -- before the first group
+  pub first_partly : (blocks : List (List ℕ)) → SoundAs shape blocks number rows → IsPartlyBack shape number rows 0 blocks blocks
+  first_partly blocks sound = record { sound = sound; logged = omega arith; owed = omega arith; books = λ g g_in. refl }
+
+  -- so many groups behind others
+  partly_on : (first count : ℕ) (before mid now : List (List ℕ)) → logged_of shape mid ≡ logged_of shape before + first → owed_in shape mid + first ≡ owed_in shape before → SameBooks shape before mid → IsPartlyBack shape number rows count mid now → IsPartlyBack shape number rows (first + count) before now
+  partly_on first count before mid now logged owed books b = record {
+    sound = b.sound;
+    logged = omega (arith, logged, b.logged);
+    owed = omega (arith, owed, b.owed);
+    books = λ g g_in. b.books g g_in ∙ books g g_in;
+  }
+
   -- no group
   pub none_puts : (blocks : List (List ℕ)) → SoundAs shape blocks number rows → PutsBack shape number rows [] blocks blocks
   none_puts blocks sound = record {
@@ -23,41 +37,41 @@ module _ (shape : Shape) (number : ℕ) (rows : List TableRow) where
     made = refl;
     logged = omega arith;
     owed = omega arith;
-    marks = record { writes = λ g g_in. refl; lost = λ g g_in. refl };
+    books = λ g g_in. refl;
     idle = λ t t_in is. is;
   }
     where
-      none : (count : ℕ) → count ≤ 0 → SoundAs shape (after_groups (logged_of shape blocks + 1) (take {A = List Patch} count []) blocks) number rows
-      none zero few = sound
+      none : (count : ℕ) → count ≤ 0 → IsPartlyBack shape number rows count blocks (after_groups (logged_of shape blocks + 1) (take {A = List Patch} count []) blocks)
+      none zero few = first_partly blocks sound
       none (suc count) few = absurd (omega (arith, few))
 
   -- one group
-  pub one_puts : (group : List Patch) (before now : List (List ℕ)) → SoundAs shape before number rows → SoundAs shape now number rows → now ≡ after_group (logged_of shape before + 1) group before → logged_of shape now ≡ logged_of shape before + 1 → owed_in shape now + 1 ≡ owed_in shape before → SameMarks shape before now → ((t : ℕ) → t < 16 * shape.segments → IsIdle shape before t → IsIdle shape now t) → PutsBack shape number rows (group ∷ []) before now
-  one_puts group before now sound after made logged owed marks idle = record {
+  pub one_puts : (group : List Patch) (before now : List (List ℕ)) → SoundAs shape before number rows → SoundAs shape now number rows → now ≡ after_group (logged_of shape before + 1) group before → logged_of shape now ≡ logged_of shape before + 1 → owed_in shape now + 1 ≡ owed_in shape before → SameBooks shape before now → ((t : ℕ) → t < 16 * shape.segments → IsIdle shape before t → IsIdle shape now t) → PutsBack shape number rows (group ∷ []) before now
+  one_puts group before now sound after made logged owed books idle = record {
     sound = each;
     made = made;
     logged = logged;
     owed = owed;
-    marks = marks;
+    books = books;
     idle = idle;
   }
     where
-      each : (count : ℕ) → count ≤ length (group ∷ []) → SoundAs shape (after_groups (logged_of shape before + 1) (take count (group ∷ [])) before) number rows
-      each zero few = sound
-      each (suc zero) few = subst (λ (l : List (List ℕ)). SoundAs shape l number rows) made after
+      each : (count : ℕ) → count ≤ length (group ∷ []) → IsPartlyBack shape number rows count before (after_groups (logged_of shape before + 1) (take count (group ∷ [])) before)
+      each zero few = first_partly before sound
+      each (suc zero) few = subst (IsPartlyBack shape number rows 1 before) made (record { sound = after; logged = logged; owed = owed; books = books })
       each (suc (suc count)) few = absurd (omega (arith, few))
 
   -- some groups after others
   pub more_puts : (first second : List (List Patch)) (before mid now : List (List ℕ)) → PutsBack shape number rows first before mid → PutsBack shape number rows second mid now → PutsBack shape number rows (first ++ second) before now
   more_puts first second before mid now a b = record {
     sound = λ count few. elim (cases_lt count (length first)) [
-      | inl lt ↦ subst (λ (l : List (List Patch)). SoundAs shape (after_groups (logged_of shape before + 1) l before) number rows) (sym (take-append-le count first second (omega (arith, lt)))) (a.sound count (omega (arith, lt)))
+      | inl lt ↦ subst (λ (l : List (List Patch)). IsPartlyBack shape number rows count before (after_groups (logged_of shape before + 1) l before)) (sym (take-append-le count first second (omega (arith, lt)))) (a.sound count (omega (arith, lt)))
       | inr le ↦ later count few le
     ];
     made = b.made ∙ sym (joined second);
     logged = omega (arith, a.logged, b.logged, length-append first second);
     owed = omega (arith, a.owed, b.owed, length-append first second);
-    marks = record { writes = λ g g_in. b.marks.writes g g_in ∙ a.marks.writes g g_in; lost = λ g g_in. b.marks.lost g g_in ∙ a.marks.lost g g_in };
+    books = λ g g_in. b.books g g_in ∙ a.books g g_in;
     idle = λ t t_in is. b.idle t t_in (a.idle t t_in is);
   }
     where
@@ -67,11 +81,14 @@ module _ (shape : Shape) (number : ℕ) (rows : List TableRow) where
           ∙ (ap (λ (n : ℕ). after_groups n groups (after_groups (logged_of shape before + 1) first before)) (omega (arith, a.logged))
           ∙ ap (after_groups (logged_of shape mid + 1) groups) (sym a.made))
 
-      later : (count : ℕ) → count ≤ length (first ++ second) → length first ≤ count → SoundAs shape (after_groups (logged_of shape before + 1) (take count (first ++ second)) before) number rows
+      later : (count : ℕ) → count ≤ length (first ++ second) → length first ≤ count → IsPartlyBack shape number rows count before (after_groups (logged_of shape before + 1) (take count (first ++ second)) before)
       later count few le =
           let rest = count - length first in
           let at : take count (first ++ second) ≡ first ++ take rest second = ap (λ (n : ℕ). take n (first ++ second)) (omega (arith, le)) ∙ take-append-add first second rest in
-          subst (λ (l : List (List ℕ)). SoundAs shape l number rows) (sym (ap (λ (l : List (List Patch)). after_groups (logged_of shape before + 1) l before) at ∙ joined (take rest second))) (b.sound rest (omega (arith, few, le, length-append first second)))
+          let blocks : after_groups (logged_of shape before + 1) (take count (first ++ second)) before ≡ after_groups (logged_of shape mid + 1) (take rest second) mid = ap (λ (l : List (List Patch)). after_groups (logged_of shape before + 1) l before) at ∙ joined (take rest second) in
+          let number_is : length first + rest ≡ count = omega (arith, le) in
+          let whole = partly_on (length first) rest before mid (after_groups (logged_of shape mid + 1) (take rest second) mid) a.logged a.owed a.books (b.sound rest (omega (arith, few, le, length-append first second))) in
+          subst (IsPartlyBack shape number rows count before) (sym blocks) (subst (λ (n : ℕ). IsPartlyBack shape number rows n before (after_groups (logged_of shape mid + 1) (take rest second) mid)) number_is whole)
 
 -- a log has room still for what is owed, as groups fall off both
 pub room_on : (slots : Option ℕ) (lsn lsn2 owed owed2 count : ℕ) → lsn2 ≡ lsn + count → owed2 + count ≡ owed → owed ≤ room_of slots lsn → owed2 ≤ room_of slots lsn2
@@ -85,40 +102,28 @@ module _ {S : Type 0} (s : Ghosts S) (shape : Shape) where
     groups = [];
     logs = logs;
     few = omega arith;
-    puts_back = λ number rows told goes may.
+    puts_back = λ number rows told may. none_puts shape number rows (s.blocks old) may.sound;
+    done = λ number rows told goes may.
         let same : s.blocks new ≡ s.blocks old = logs.blocks told goes in
-        subst (λ (l : List (List ℕ)). PutsBack shape number rows [] (s.blocks old) l × Done l) (sym same) (none_puts shape number rows (s.blocks old) may.sound, done told goes number rows may same);
+        subst Done (sym same) (done told goes number rows may same);
   }
 
-  -- a call that failed
-  pub fault_rolls : (old new : S) (groups : List (List Patch)) (most : ℕ) (Done : List (List ℕ) → Type 0) → Logs s old new groups false → Rolls s shape old new most false Done
-  fault_rolls old new groups most Done logs = record {
-    groups = [];
-    logs = record {
-      same_shape = logs.same_shape;
-      same_slots = logs.same_slots;
-      failed = logs.failed;
-      no_less = logs.no_less;
-      cause = logs.cause;
-      still = λ goes. let clash : false ≡ true = goes in cc;
-      number = λ goes. let clash : false ≡ true = goes in cc;
-      blocks = λ told goes. let clash : false ≡ true = goes in cc;
-      pending = λ kept goes. let clash : false ≡ true = goes in cc;
-      stable = λ kept goes. let clash : false ≡ true = goes in cc;
-      crashes = logs.crashes;
-    };
-    few = omega arith;
-    puts_back = λ number rows told goes may. let clash : false ≡ true = goes in cc;
-  }
+  -- a call that failed before it logged anything
+  pub fault_rolls : (old new : S) (most : ℕ) (Done : List (List ℕ) → Type 0) → Logs s old new [] false → Rolls s shape old new most false Done
+  fault_rolls old new most Done logs = none_rolls old new most false Done logs (λ told goes number rows may same. let clash : false ≡ true = goes in absurd cc)
+
+  -- the groups of calls that went well make the blocks that there are
+  now_puts : (old new : S) (most : ℕ) (going : Bool) (Done : List (List ℕ) → Type 0) (number : ℕ) (rows : List TableRow) → s.tells → going ≡ true → (a : Rolls s shape old new most going Done) → MayRoll shape number rows (s.lsn old) (room_of (s.slots old) (s.lsn old)) (s.blocks old) → PutsBack shape number rows a.groups (s.blocks old) (s.blocks new)
+  now_puts old new most going Done number rows told goes a may = subst (PutsBack shape number rows a.groups (s.blocks old)) (sym (a.logs.blocks told goes)) (a.puts_back number rows told may)
 
   -- the blocks behind them may be rolled back too
   pub may_on : (old mid : S) (most : ℕ) (Done : List (List ℕ) → Type 0) (number : ℕ) (rows : List TableRow) → s.tells → Rolls s shape old mid most true Done → MayRoll shape number rows (s.lsn old) (room_of (s.slots old) (s.lsn old)) (s.blocks old) → MayRoll shape number rows (s.lsn mid) (room_of (s.slots mid) (s.lsn mid)) (s.blocks mid)
   may_on old mid most Done number rows told a may =
-      let puts = (a.puts_back number rows told refl may).0 in
+      let puts = now_puts old mid most true Done number rows told refl a may in
       let n = a.logs.number refl in
       let end = puts.sound (length a.groups) (omega arith) in
       record {
-        sound = subst (λ (l : List (List ℕ)). SoundAs shape l number rows) (ap (λ (l : List (List Patch)). after_groups (logged_of shape (s.blocks old) + 1) l (s.blocks old)) (take_all a.groups) ∙ sym puts.made) end;
+        sound = subst (λ (l : List (List ℕ)). SoundAs shape l number rows) (ap (λ (l : List (List Patch)). after_groups (logged_of shape (s.blocks old) + 1) l (s.blocks old)) (take_all a.groups) ∙ sym puts.made) end.sound;
         logged = omega (arith, n, may.logged, puts.logged);
         fits = subst (λ (o : Option ℕ). owed_in shape (s.blocks mid) ≤ room_of o (s.lsn mid)) (sym a.logs.same_slots) (room_on (s.slots old) (s.lsn old) (s.lsn mid) (owed_in shape (s.blocks old)) (owed_in shape (s.blocks mid)) (length a.groups) n puts.owed may.fits);
       }
@@ -133,11 +138,15 @@ module _ {S : Type 0} (s : Ghosts S) (shape : Shape) where
     groups = a.groups ++ b.groups;
     logs = more_logs s old mid new a.groups b.groups going a.logs b.logs;
     few = omega (arith, le, a.few, b.few, length-append a.groups b.groups);
-    puts_back = λ number rows told goes may.
-        let first = a.puts_back number rows told refl may in
+    puts_back = λ number rows told may.
+        let first = now_puts old mid most true First number rows told refl a may in
+        let second = b.puts_back number rows told (may_on old mid most First number rows told a may) in
+        let both = more_puts shape number rows a.groups b.groups (s.blocks old) (s.blocks mid) (after_groups (s.lsn mid + 1) b.groups (s.blocks mid)) first second in
+        subst (PutsBack shape number rows (a.groups ++ b.groups) (s.blocks old)) (both.made ∙ ap (λ (n : ℕ). after_groups (n + 1) (a.groups ++ b.groups) (s.blocks old)) (sym may.logged)) both;
+    done = λ number rows told goes may.
         let may_mid = may_on old mid most First number rows told a may in
-        let second = b.puts_back number rows told goes may_mid in
-        (more_puts shape number rows a.groups b.groups (s.blocks old) (s.blocks mid) (s.blocks new) first.0 second.0, both told goes number rows may_mid second.0.idle first.1 second.1);
+        let second = now_puts mid new more going Second number rows told goes b may_mid in
+        both told goes number rows may_mid second.idle (a.done number rows told refl may) (b.done number rows told goes may_mid);
   }
 
   -- what follows for the blocks
@@ -146,5 +155,6 @@ module _ {S : Type 0} (s : Ghosts S) (shape : Shape) where
     groups = a.groups;
     logs = a.logs;
     few = omega (arith, le, a.few);
-    puts_back = λ number rows told goes may. let puts = a.puts_back number rows told goes may in (puts.0, so told puts.1);
+    puts_back = a.puts_back;
+    done = λ number rows told goes may. so told (a.done number rows told goes may);
   }

@@ -1,9 +1,7 @@
 -- What a call that ends a slot says, in blocks that may be rolled back and in any others.
-use Rattle.std.proofs.Common.{◌≡◌, ◌<◌, ◌≤◌, ◌+◌, ◌*◌, ℕ, true, not, Result, Ok, Err, Option, Some, List, [], ◌∷◌, refl, sym, ◌∙◌, ap, subst, arith}
-use Rattle.std.specs.Result.{is_err}
+use Rattle.std.proofs.Common.{◌≡◌, ◌<◌, ◌≤◌, ◌+◌, ◌*◌, ℕ, Bool, Option, Some, List, [], ◌∷◌, sym, ◌∙◌, ap, subst, arith}
 use Rattle.rb_base.specs.Blocks.{after_group, block_of, header_block, written_to, AreBlocks, IsShape}
 use Rattle.rb_base.specs.Groups.{Patch}
-use Rattle.rb_base.specs.Loads.{OnlyLoads}
 use Rattle.rb_base.specs.Logs.{Logs}
 use Rattle.rb_base.specs.Stores.{room_of}
 use Rattle.rb_base.specs.declared.ids.Xid.{Xid}
@@ -12,7 +10,6 @@ use Rattle.rb_base.specs.declared.store.Store.{Ghosts}
 use Rattle.rb_model.specs.Rows.{TableRow}
 use Rattle.rb_restart.specs.Steps.{HasLive, IsIdle, MayRoll, PutsBack, Rolls}
 use Rattle.rb_restart.proofs.Ends.{end_group, end_puts, header_ended}
-use Rattle.rb_restart.proofs.Joined.{fault_rolls}
 use Rattle.rb_restart.proofs.Slots.{owed_for}
 use Rattle.rb_segment.specs.Calls.{slot_patches, Runs}
 use Rattle.rb_segment.specs.Header.{header_of}
@@ -31,27 +28,26 @@ module _ {S : Type 0} (s : Ghosts S) (shape : Shape) (x : Xid) (old new : S) whe
     ended_group : s.tells → group ≡ end_group shape (s.blocks old) x
     ended_group told = group_is ∙ ap (slot_patches (header_block shape x.seg) x.slot) (moved told)
 
-    pub end_rolls : Logs s old new (group ∷ []) true → Rolls s shape old new 1 true Ends
-    end_rolls logs = record {
+    -- it ends the slot
+    ends_slot : (number : ℕ) (rows : List TableRow) → s.tells → MayRoll shape number rows (s.lsn old) (room_of (s.slots old) (s.lsn old)) (s.blocks old) → PutsBack shape number rows (group ∷ []) (s.blocks old) (after_group (s.lsn old + 1) group (s.blocks old)) × Ends (after_group (s.lsn old + 1) group (s.blocks old))
+    ends_slot number rows told may =
+        let group_end = end_group shape (s.blocks old) x in
+        let header_now = header_ended shape (s.blocks old) (s.lsn old + 1) x header (whole told) there few (copied told) (moved told) in
+        let puts = end_puts shape number rows (s.blocks old) (after_group (s.lsn old + 1) group_end (s.blocks old)) x may.sound shaped there few (has told) (ap (λ (n : ℕ). after_group (n + 1) group_end (s.blocks old)) may.logged) header_now in
+        subst (λ (l : List Patch). PutsBack shape number rows (l ∷ []) (s.blocks old) (after_group (s.lsn old + 1) l (s.blocks old)) × Ends (after_group (s.lsn old + 1) l (s.blocks old))) (sym (ended_group told)) (puts.0, λ live. puts.1)
+
+    pub end_rolls : (going : Bool) → Logs s old new (group ∷ []) going → Rolls s shape old new 1 going Ends
+    end_rolls going logs = record {
       groups = group ∷ [];
       logs = logs;
       few = omega arith;
-      puts_back = λ number rows told goes may.
-          let is = ended_group told in
-          let made : s.blocks new ≡ after_group (s.lsn old + 1) (end_group shape (s.blocks old) x) (s.blocks old) = logs.blocks told refl ∙ ap (λ (l : List Patch). after_group (s.lsn old + 1) l (s.blocks old)) is in
-          let header_now = ap (λ (l : List (List ℕ)). header_for shape l x) made ∙ header_ended shape (s.blocks old) (s.lsn old + 1) x header (whole told) there few (copied told) (moved told) in
-          let puts = end_puts shape number rows (s.blocks old) (s.blocks new) x may.sound shaped there few (has told) (made ∙ ap (λ (n : ℕ). after_group (n + 1) (end_group shape (s.blocks old) x) (s.blocks old)) may.logged) header_now in
-          subst (λ (l : List Patch). PutsBack shape number rows (l ∷ []) (s.blocks old) (s.blocks new) × Ends (s.blocks new)) (sym is) (puts.0, λ live. puts.1);
+      puts_back = λ number rows told may. (ends_slot number rows told may).0;
+      done = λ number rows told goes may. subst Ends (sym (logs.blocks told goes)) (ends_slot number rows told may).1;
     }
 
--- a call that failed says nothing
-pub by_result : {S T E : Type 0} (s : Ghosts S) (shape : Shape) (old new : S) (groups : List (List Patch)) (most : ℕ) (Done : List (List ℕ) → Type 0) (result : Result T E) → Logs s old new groups (not (is_err result)) → (Logs s old new groups true → Rolls s shape old new most true Done) → Rolls s shape old new most (not (is_err result)) Done
-by_result s shape old new groups most Done (Ok value) logs so = so logs
-by_result s shape old new groups most Done (Err fault) logs so = fault_rolls s shape old new groups most Done logs
-
 -- a block that was loaded is as the store tells it
-pub block_read : {S : Type 0} (s : Ghosts S) (old mid : S) (from which : ℕ) (block : List ℕ) → s.tells → OnlyLoads s old mid → (s.tells → (n : ℕ) → s.loaded mid ≡ Some n → block ≡ block_of (s.blocks mid) n) → s.loaded mid ≡ Some from → from ≡ which → block ≡ block_of (s.blocks old) which
-block_read s old mid from which block told loads read loaded at = read told from loaded ∙ (ap (λ (l : List (List ℕ)). block_of l from) (loads.same_blocks told) ∙ ap (block_of (s.blocks old)) at)
+pub block_read : {S : Type 0} (s : Ghosts S) (old mid : S) (from which : ℕ) (block : List ℕ) → s.tells → s.blocks mid ≡ s.blocks old → (s.tells → (n : ℕ) → s.loaded mid ≡ Some n → block ≡ block_of (s.blocks mid) n) → s.loaded mid ≡ Some from → from ≡ which → block ≡ block_of (s.blocks old) which
+block_read s old mid from which block told same read loaded at = read told from loaded ∙ (ap (λ (l : List (List ℕ)). block_of l from) same ∙ ap (block_of (s.blocks old)) at)
 
 -- where the log has no room, a transaction that runs can't be in blocks that may be rolled back
 pub room_some : (shape : Shape) (number : ℕ) (rows : List TableRow) (slots slots2 : Option ℕ) (lsn lsn2 room : ℕ) (blocks : List (List ℕ)) (x : Xid) → x.seg < shape.segments → Runs (header_for shape blocks x) x → MayRoll shape number rows lsn (room_of slots lsn) blocks → slots2 ≡ slots → lsn2 ≡ lsn → room ≡ room_of slots2 lsn2 → 1 ≤ room

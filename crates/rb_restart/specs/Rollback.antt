@@ -4,32 +4,47 @@ use Rattle.rb_base.specs.Blocks.{after_groups, block_of, header_block}
 use Rattle.rb_base.specs.Groups.{Patch}
 use Rattle.rb_base.specs.declared.shape.Shape.{Shape}
 use Rattle.rb_base.specs.declared.sizes.TheConstants.{ACTIVE}
+use Rattle.rb_model.specs.Book.{Book}
 use Rattle.rb_model.specs.Rows.{TableRow}
+use Rattle.rb_segment.specs.Books.{book_of, ring_count}
 use Rattle.rb_segment.specs.Header.{Header, header_of}
 use Rattle.rb_segment.specs.Segments.{owed_in}
-use Rattle.rb_standing.specs.Standing.{SoundAs, segments_of}
+use Rattle.rb_standing.specs.Standing.{SoundAs, logged_of, segments_of}
 use Rattle.rb_standing.specs.Values.{slot_of}
 
 abbrev pub header_in : Shape → List (List ℕ) → ℕ → Header
 header_in shape blocks g = header_of (block_of blocks (header_block shape g))
 
--- After any number of these groups, from the first on, the blocks have that number and those rows once what is under
--- way is taken back: so a stop in between leaves nothing else to find.
+-- the book that a header tells where no transaction runs
+abbrev pub found_book : Header → Book
+found_book h = book_of h (ring_count h)
+
+-- each header tells the book that it told
+abbrev pub SameBooks : Shape → List (List ℕ) → List (List ℕ) → Type 0
+SameBooks shape before now = (g : ℕ) → g < shape.segments
+    → found_book (header_in shape now g) ≡ found_book (header_in shape before g)
+
+-- Blocks behind so many groups that put back: they have that number and those rows once the rest is taken back, each
+-- group was the next to be logged and one of those that were owed, and no book changed.
+pub record IsPartlyBack (shape : Shape) (number : ℕ) (rows : List TableRow) (count : ℕ)
+    (before now : List (List ℕ)) : Type 0 where
+  pub sound : SoundAs shape now number rows
+  pub logged : logged_of shape now ≡ logged_of shape before + count
+  pub owed : owed_in shape now + count ≡ owed_in shape before
+  pub books : SameBooks shape before now
+
+-- The blocks are so after any number of these groups, from the first on: a stop in between leaves nothing else to find.
 abbrev pub StaySound : Shape → ℕ → List TableRow → ℕ → List (List Patch) → List (List ℕ) → Type 0
 StaySound shape number rows logged groups blocks = (count : ℕ) → count ≤ length groups
-    → SoundAs shape (after_groups (logged + 1) (take count groups) blocks) number rows
+    → IsPartlyBack shape number rows count blocks (after_groups (logged + 1) (take count groups) blocks)
 
 -- no transaction runs
 abbrev pub AreIdle : Shape → List (List ℕ) → Type 0
 AreIdle shape blocks = (t : ℕ) → t < 16 * shape.segments → (slot_of (segments_of shape blocks) t).state ≢ ACTIVE
 
--- no segment has made or lost more records than before, or fewer
-pub record SameMarks (shape : Shape) (before now : List (List ℕ)) : Type 0 where
-  pub writes : (g : ℕ) → g < shape.segments → (header_in shape now g).writes ≡ (header_in shape before g).writes
-  pub lost : (g : ℕ) → g < shape.segments → (header_in shape now g).lost ≡ (header_in shape before g).lost
-
--- All is put back: as many groups as are owed, and then no transaction runs.
+-- All is put back: as many groups as are owed, each the next that is logged, and then no transaction runs.
 pub record RolledBack (shape : Shape) (groups : List (List Patch)) (before now : List (List ℕ)) : Type 0 where
   pub count : length groups ≡ owed_in shape before
+  pub logged : logged_of shape now ≡ logged_of shape before + length groups
   pub idle : AreIdle shape now
-  pub marks : SameMarks shape before now
+  pub books : SameBooks shape before now

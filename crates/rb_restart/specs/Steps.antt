@@ -9,7 +9,7 @@ use Rattle.rb_base.specs.declared.shape.Shape.{Shape}
 use Rattle.rb_base.specs.declared.sizes.TheConstants.{ACTIVE}
 use Rattle.rb_base.specs.declared.store.Store.{Ghosts}
 use Rattle.rb_model.specs.Rows.{TableRow}
-use Rattle.rb_restart.specs.Rollback.{StaySound, SameMarks}
+use Rattle.rb_restart.specs.Rollback.{SameBooks, StaySound}
 use Rattle.rb_segment.specs.Calls.{Runs}
 use Rattle.rb_segment.specs.Header.{slot_in}
 use Rattle.rb_segment.specs.Segments.{owed_in}
@@ -42,16 +42,19 @@ pub record PutsBack (shape : Shape) (number : ℕ) (rows : List TableRow) (group
   pub made : now ≡ after_groups (logged_of shape before + 1) groups before
   pub logged : logged_of shape now ≡ logged_of shape before + length groups
   pub owed : owed_in shape now + length groups ≡ owed_in shape before
-  pub marks : SameMarks shape before now
+  pub books : SameBooks shape before now
   pub idle : (t : ℕ) → t < 16 * shape.segments → IsIdle shape before t → IsIdle shape now t
 
--- Calls of a store logged some groups, at most so many. Where the blocks may be rolled back, and no call failed, these
--- groups put back, and the blocks are then Done.
+-- Calls of a store logged some groups, at most so many. Where the blocks may be rolled back these groups put back, also
+-- where a call failed, and where none did the blocks are then Done.
 pub record Rolls {S : Type 0} (s : Ghosts S) (shape : Shape) (old new : S) (most : ℕ) (going : Bool)
     (Done : List (List ℕ) → Type 0) : Type 0 where
   pub groups : List (List Patch)
   pub logs : Logs s old new groups going
   pub few : length groups ≤ most
-  pub puts_back : (number : ℕ) (rows : List TableRow) → s.tells → going ≡ true
+  pub puts_back : (number : ℕ) (rows : List TableRow) → s.tells
       → MayRoll shape number rows (s.lsn old) (room_of (s.slots old) (s.lsn old)) (s.blocks old)
-      → PutsBack shape number rows groups (s.blocks old) (s.blocks new) × Done (s.blocks new)
+      → PutsBack shape number rows groups (s.blocks old) (after_groups (s.lsn old + 1) groups (s.blocks old))
+  pub done : (number : ℕ) (rows : List TableRow) → s.tells → going ≡ true
+      → MayRoll shape number rows (s.lsn old) (room_of (s.slots old) (s.lsn old)) (s.blocks old)
+      → Done (s.blocks new)

@@ -1,5 +1,5 @@
-//! Rolls back all that is under way. An opening will call it.
-ghost use Rattle.std.specs.Prelude.{◌≡◌, ◌+◌, ◌*◌, ◌^◌, ◌<◌, ◌≤◌, ℕ, List};
+//! Rolls back all that is under way. rb_opening calls it.
+ghost use Rattle.std.specs.Prelude.{◌≡◌, ◌+◌, ◌*◌, ◌^◌, ◌<◌, ◌≤◌, ℕ, List, length};
 ghost use Rattle.std.specs.Prelude.{false, not, OnOk};
 ghost use Rattle.std.specs.Result.{is_err};
 ghost use Rattle.rb_base.specs.Blocks.{IsShape};
@@ -78,6 +78,7 @@ pub fn roll_back_all<S: Store>(store: &mut S) -> Result<(), Failed>
     requires few { S.lsn store.old ≤ 2 ^ 61 + 2 ^ 60 }
     ensures rolled_back { (groups : List (List Patch))
         × Logs S.Store store.old store.new groups (not (is_err result))
+        × (length groups ≤ 2 ^ 40)
         × ((number : ℕ) (rows : List TableRow) → S.tells
         → S.lsn store.old ≡ logged_of (S.shape_of store.old) (S.blocks store.old)
         → SoundAs (S.shape_of store.old) (S.blocks store.old) number rows

@@ -6,15 +6,12 @@ ghost use Rattle.rb_base.specs.Blocks.{IsShape};
 ghost use Rattle.rb_base.specs.Stores.{room_of};
 ghost use Rattle.rb_model.specs.Rows.{TableRow};
 ghost use Rattle.rb_restart.specs.Steps.{HasLive, MayRoll, Rolls};
-ghost use Rattle.rb_segment.specs.Calls.{Runs};
-ghost use Rattle.rb_segment.specs.Header.{slot_in};
-ghost use Rattle.rb_undo.specs.Backs.{header_for};
 
 use rb_base::{Failed, Group, SLOTS, Shape, Store, Xid};
 use rb_undo::back;
 
-/// Puts back the newest live change of a transaction that runs and has one, and answers whether it did. It doesn't
-/// where the log has no room, and where no record is found, both in a damaged file alone.
+/// Puts back the newest live change of a transaction, and answers whether it did. It does where the transaction runs
+/// and has one, but for a damaged file, in which the log may have no room or no record is found.
 fn put_back<S: Store>(
     store: &mut S,
     shape: Shape,
@@ -26,13 +23,12 @@ fn put_back<S: Store>(
     requires in_range { IsShape shape }
     requires there { xid.seg < shape.segments }
     requires slot { xid.slot < SLOTS }
-    requires live { S.tells → Runs (header_for shape (S.blocks store.old) xid) xid
-        × (1 ≤ (slot_in (header_for shape (S.blocks store.old) xid) xid.slot).live) }
     requires few { S.lsn store.old < 2 ^ 62 }
     ensures rolls { Rolls S.Store shape store.old store.new 1 (not (is_err result)) (λ now. Unit {0}) }
     ensures less { S.tells → IfOk result (λ done. done ≡ true → (n : ℕ)
         → HasLive shape (S.blocks store.old) xid (n + 1) → HasLive shape (S.blocks store.new) xid n) }
-    ensures done { S.tells → (number : ℕ) (rows : List TableRow)
+    ensures done { S.tells → (n number : ℕ) (rows : List TableRow)
+        → HasLive shape (S.blocks store.old) xid (n + 1)
         → MayRoll shape number rows (S.lsn store.old) (room_of (S.slots store.old) (S.lsn store.old))
         (S.blocks store.old) → IfOk result (λ done. done ≡ true) }
 {
@@ -44,7 +40,8 @@ fn put_back<S: Store>(
     Ok(store.logged() > logged)
 }
 
-/// Puts back the live changes of a transaction, the newest first. It runs and has so many.
+/// Puts back the newest `live` changes of a transaction that runs, the newest first. Of one that has so many none is
+/// live then. It ends where one can't be put back, as in a damaged file.
 pub fn roll_back<S: Store>(
     store: &mut S,
     shape: Shape,
@@ -57,10 +54,9 @@ pub fn roll_back<S: Store>(
     requires in_range { IsShape shape }
     requires there { xid.seg < shape.segments }
     requires slot { xid.slot < SLOTS }
-    requires live { S.tells → HasLive shape (S.blocks store.old) xid live }
     requires few { S.lsn store.old + live < 2 ^ 62 }
     ensures { Rolls S.Store shape store.old store.new live (not (is_err result))
-        (λ now. HasLive shape now xid 0) }
+        (λ now. HasLive shape (S.blocks store.old) xid live → HasLive shape now xid 0) }
 {
     for _change in 0..live {
         if !put_back(store, shape, xid, group)? {

@@ -5,7 +5,7 @@ use rb_base::{Shape, Store};
 use rb_engine::Engine;
 use rb_layout::Layout;
 use rb_memdisk::MemDisk;
-use rb_model::{Fetched, Name, Op, Refusal, Row, Wrote};
+use rb_model::{Fetched, Marks, Name, Op, Refusal, Row, Wrote};
 use rb_plainstore::PlainStore;
 use rb_store::{LapStore, format};
 use std::alloc::Global;
@@ -26,9 +26,13 @@ const SLOTS: u32 = 64;
 enum Call<'a> {
     Write(u16, u16, u64, Op<'a>),
     Commit(u16),
+    Rollback(u16),
     Open(u16, &'a [u8], u16, u64, u64),
     Fetch(u16, &'a [u8]),
     Close(u16, &'a [u8]),
+    /// The marks of the only segment.
+    Marks,
+    Checkpoint,
 }
 
 /// What a call answers.
@@ -39,9 +43,13 @@ enum Answer<'a> {
     Numbered(u64),
     Given(u64, &'a [u8]),
     End,
+    /// How many records were made, and the greatest commit number of which something was given up.
+    Marked(u64, u64),
     Refused(Refusal),
     /// The call has no name of a cursor.
     Nameless,
+    /// The store has no segment.
+    NoSegment,
 }
 
 // The answer of a write.
@@ -79,11 +87,20 @@ fn answer_of_fetch(answer: Result<Fetched, Refusal>, row: &Row) -> Answer<'_> {
     }
 }
 
+// The answer of the marks.
+fn answer_of_marks(answer: Result<Marks, Refusal>) -> Answer<'static> {
+    match answer {
+        Ok(Marks { writes, lost }) => Answer::Marked(writes, lost),
+        Err(why) => Answer::Refused(why),
+    }
+}
+
 // Calls an engine. A row is given into `row`.
 fn called<'a, S: Store>(engine: &mut Engine<S>, call: Call<'_>, row: &'a mut Row) -> Answer<'a> {
     match call {
         Call::Write(s, table, key, op) => answer_of_write(engine.write(s, table, key, op)),
         Call::Commit(s) => answer_of_commit(engine.commit(s)),
+        Call::Rollback(s) => answer_of_call(engine.rollback(s)),
         Call::Open(s, name, table, lo, hi) => match Name::new(name) {
             Some(name) => answer_of_call(engine.open_cursor(s, &name, table, lo, hi)),
             None => Answer::Nameless,
@@ -99,6 +116,13 @@ fn called<'a, S: Store>(engine: &mut Engine<S>, call: Call<'_>, row: &'a mut Row
             Some(name) => answer_of_call(engine.close_cursor(s, &name)),
             None => Answer::Nameless,
         },
+        Call::Marks => {
+            if engine.shape().segments == 0 {
+                return Answer::NoSegment;
+            }
+            answer_of_marks(engine.marks(0))
+        }
+        Call::Checkpoint => answer_of_call(engine.checkpoint()),
     }
 }
 
@@ -305,6 +329,59 @@ fn one_list_of_cursors(rt: HostRuntime) -> Result<(), Fail> {
         (Call::Open(1, b"early", 1, 1, 1), Answer::Done),
         (Call::Fetch(1, b"early"), Answer::Given(1, b"d")),
         (Call::Fetch(1, b"early"), Answer::End),
+    ];
+    let mut both = new_engines(rt.alloc())?;
+    check_all(&rt, &mut both, &rows);
+    Ok(())
+}
+
+// A rollback puts every change back and closes the cursors that have some of them. The records stay counted.
+#[test]
+fn one_list_of_rollbacks(rt: HostRuntime) -> Result<(), Fail> {
+    let rows: [(Call<'_>, Answer<'_>); 37] = [
+        (Call::Marks, Answer::Marked(0, 0)),
+        (Call::Rollback(1), Answer::Done),
+        (Call::Rollback(0), Answer::Refused(Refusal::NoSession)),
+        (Call::Rollback(2), Answer::Refused(Refusal::NoSession)),
+        (Call::Checkpoint, Answer::Done),
+        (Call::Write(1, 1, 1, Op::Insert(b"a")), Answer::Done),
+        (Call::Write(1, 1, 2, Op::Insert(b"b")), Answer::Done),
+        (Call::Commit(1), Answer::Numbered(1)),
+        (Call::Marks, Answer::Marked(2, 0)),
+        (Call::Open(1, b"early", 1, 0, 9), Answer::Done),
+        (Call::Write(1, 1, 1, Op::Update(b"c")), Answer::Done),
+        (Call::Write(1, 1, 2, Op::Delete), Answer::Done),
+        (Call::Write(1, 1, 2, Op::Insert(b"d")), Answer::Done),
+        (Call::Write(1, 2, 5, Op::Insert(b"e")), Answer::Done),
+        (Call::Checkpoint, Answer::Done),
+        (Call::Open(1, b"own", 1, 0, 9), Answer::Done),
+        (Call::Fetch(1, b"own"), Answer::Given(2, b"d")),
+        (Call::Marks, Answer::Marked(6, 0)),
+        (Call::Rollback(1), Answer::Done),
+        (Call::Rollback(1), Answer::Done),
+        (Call::Marks, Answer::Marked(6, 0)),
+        (Call::Fetch(1, b"own"), Answer::Refused(Refusal::NoCursor)),
+        (Call::Fetch(1, b"early"), Answer::Given(2, b"b")),
+        (Call::Fetch(1, b"early"), Answer::Given(1, b"a")),
+        (Call::Fetch(1, b"early"), Answer::End),
+        (Call::Commit(1), Answer::Done),
+        (Call::Open(1, b"own", 1, 0, 9), Answer::Done),
+        (Call::Fetch(1, b"own"), Answer::Given(2, b"b")),
+        (Call::Open(1, b"other", 2, 0, 9), Answer::Done),
+        (Call::Fetch(1, b"other"), Answer::End),
+        (
+            Call::Write(1, 1, 2, Op::Insert(b"f")),
+            Answer::Refused(Refusal::Duplicate),
+        ),
+        (
+            Call::Write(1, 2, 5, Op::Update(b"f")),
+            Answer::Refused(Refusal::NotFound),
+        ),
+        (Call::Write(1, 2, 5, Op::Insert(b"g")), Answer::Done),
+        (Call::Commit(1), Answer::Numbered(2)),
+        (Call::Rollback(1), Answer::Done),
+        (Call::Fetch(1, b"own"), Answer::Given(1, b"a")),
+        (Call::Marks, Answer::Marked(7, 0)),
     ];
     let mut both = new_engines(rt.alloc())?;
     check_all(&rt, &mut both, &rows);

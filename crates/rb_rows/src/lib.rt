@@ -22,3 +22,5 @@ mod stops;
 mod stores;
 #[cfg(test)]
 mod tests;
+#[cfg(test)]
+mod under_way;

@@ -1,8 +1,9 @@
-//! The table of stops: a crash after any call of the disk, in a run of five commits or in the opening after it.
+//! The tables of stops: a crash after any call of the disk, in a run of five commits, and in the next run as it puts
+//! back what was under way.
 use crate::commits::{
     PICKS, Stop, answered, check_kept, image, image_now, script_and_replies, shown,
 };
-use crate::doubles::{FORMAT_SMALL, NONE, RUN, formatted, run_over, run_stopped};
+use crate::doubles::{FORMAT_STOPS, NONE, RUN, formatted, run_over, run_stopped};
 use rb_base::NoMemory;
 use rb_memdisk::{MemDisk, Pick};
 use rb_shell::Status;
@@ -10,7 +11,7 @@ use std::alloc::Global;
 use std::process::Abort;
 use std::test::Fail;
 
-// What a second stop after a call of an opening may leave shows the commits that the file showed.
+// What a second stop may leave shows the commits that the file showed.
 fn check_second_stop(
     rt: &impl Abort,
     alloc: Global,
@@ -19,112 +20,122 @@ fn check_second_stop(
     commits: Option<u8>,
     first: Stop,
 ) -> Result<(), NoMemory> {
+    let read = image(alloc, disk, call, Pick::New)?;
     for pick in PICKS {
         let left = image(alloc, disk, call, pick)?;
-        let found = shown(alloc, &left)?;
-        assert!(rt;
-            found == commits,
-            "{first:?}, then {call}, {pick:?}: {found:?} of {commits:?}"
-        );
+        if pick == Pick::New || left.as_slice() != read.as_slice() {
+            let found = shown(alloc, &left)?;
+            assert!(rt;
+                found == commits,
+                "{first:?}, then {call}, {pick:?}: {found:?} of {commits:?}"
+            );
+        }
     }
     Ok(())
 }
 
-// A second stop, in the opening of what the first one left, leaves the same commits. Answers whether the opening
-// dropped groups that no commit followed: its last two calls are a write and a sync then. All others leave the file as
-// it is, so that a stop after one of them is no other case.
+// Whether an opening of a file puts anything back. It leaves the file as it is: what puts back waits, and is written by
+// a checkpoint. A second stop after a call of that leaves the commits that the file shows.
 fn check_opening(
     rt: &impl Abort,
     alloc: Global,
     file: &[u8],
-    commits: Option<u8>,
     first: Stop,
 ) -> Result<bool, NoMemory> {
     let opened = run_over(alloc, RUN, file, b"", NONE)?;
-    let calls = opened.disk.calls();
-    // An opening begins with a sync.
-    let drops = opened.disk.syncs() > 1;
-    let reads = if drops {
-        calls.saturating_sub(2)
-    } else {
-        calls
-    };
+    let reads = opened.disk.calls();
     let quiet = image(alloc, &opened.disk, reads, Pick::Fill(0x7f))?;
     assert!(rt; quiet.as_slice() == file, "{first:?}");
+    let written = run_over(alloc, RUN, file, b"checkpoint\n", NONE)?;
+    assert_eq!(rt; written.sink.bytes(), b"ok\n".as_slice(), "{first:?}");
+    let commits = shown(alloc, file)?;
+    assert!(rt; commits.is_some(), "{first:?}");
+    let calls = written.disk.calls();
     for call in reads..calls {
-        check_second_stop(rt, alloc, &opened.disk, call + 1, commits, first)?;
+        check_second_stop(rt, alloc, &written.disk, call + 1, commits, first)?;
     }
-    Ok(drops)
+    Ok(reads < calls)
 }
 
-// What one stop of the first run left keeps its commits, and so does each second stop. Answers whether the opening
-// dropped groups.
-fn check_file(
-    rt: &impl Abort,
-    alloc: Global,
-    file: &[u8],
-    answered: usize,
-    stop: Stop,
-) -> Result<bool, NoMemory> {
-    let commits = check_kept(rt, alloc, file, answered, stop)?;
-    check_opening(rt, alloc, file, commits, stop)
-}
-
-// A stop of the first run after a call, by each pick. Answers whether an opening after it dropped groups.
+// A stop of the first run after a call, by each of the picks.
 fn check_stop(
     rt: &impl Abort,
     alloc: Global,
     file: &[u8],
     script: &[u8],
     call: u64,
-) -> Result<bool, NoMemory> {
+    picks: &[Pick],
+) -> Result<(), NoMemory> {
     let stopped = run_stopped(alloc, file, script, call)?;
     let disk = &stopped.disk;
     let answered = answered(stopped.sink.bytes());
     assert_eq!(rt; disk.calls(), call);
-    let mut dropped = false;
-    for pick in PICKS {
+    for pick in picks {
+        let pick = *pick;
         let left = image_now(alloc, disk, pick)?;
         // Most are what the disk reads as, which is checked once.
         if pick == Pick::New || left.as_slice() != disk.bytes() {
-            dropped |= check_file(rt, alloc, &left, answered, Stop { call, pick })?;
+            let _ = check_kept(rt, alloc, &left, answered, Stop { call, pick })?;
         }
     }
-    Ok(dropped)
+    Ok(())
 }
 
-// All stops of the five commits over a file. The commit of two runs leaves groups that the next opening drops.
-fn check_stops(rt: &impl Abort, alloc: Global, file: &[u8]) -> Result<(), NoMemory> {
+// All stops of the five commits over a file.
+fn check_stops(
+    rt: &impl Abort,
+    alloc: Global,
+    file: &[u8],
+    picks: &[Pick],
+) -> Result<(), NoMemory> {
     let (script, replies) = script_and_replies(alloc)?;
     let good = run_over(alloc, RUN, file, script.as_bytes(), NONE)?;
     assert!(rt; good.status == Status::Done);
     assert_eq!(rt; good.sink.bytes(), replies.as_bytes());
-    let mut dropped = false;
     for call in 1..=good.disk.calls() {
-        dropped |= check_stop(rt, alloc, file, script.as_bytes(), call)?;
+        check_stop(rt, alloc, file, script.as_bytes(), call, picks)?;
     }
-    assert!(rt; dropped);
     Ok(())
 }
 
 #[test]
 fn stops(rt: HostRuntime) -> Result<(), Fail> {
-    let file = formatted(rt.alloc(), FORMAT_SMALL)?;
-    check_stops(&rt, rt.alloc(), &file)?;
+    let file = formatted(rt.alloc(), FORMAT_STOPS)?;
+    check_stops(&rt, rt.alloc(), &file, &PICKS)?;
     Ok(())
 }
 
-// The log slots of a small file.
+// The log slots of the file: 96 of 2,048 bytes.
 const LOG_BEGIN: usize = 8_192;
 
-const LOG_END: usize = 139_264;
+const LOG_END: usize = 204_800;
 
 // The log may hold anything behind the closed gate of its first slot, open gates too.
 #[test]
 fn stops_over_old_bytes(rt: HostRuntime) -> Result<(), Fail> {
-    let mut file = formatted(rt.alloc(), FORMAT_SMALL)?;
+    let mut file = formatted(rt.alloc(), FORMAT_STOPS)?;
     assert!(rt; file.len() > LOG_END);
     file[LOG_BEGIN + 1..LOG_END].fill(1);
-    check_stops(&rt, rt.alloc(), &file)?;
+    check_stops(&rt, rt.alloc(), &file, &[Pick::New, Pick::Old])?;
     Ok(())
+}
+
+// The last stop that leaves changes of no commit: the first run of the commit that takes two.
+#[test]
+fn second_stops(rt: HostRuntime) -> Result<(), Fail> {
+    let file = formatted(rt.alloc(), FORMAT_STOPS)?;
+    let (script, _replies) = script_and_replies(rt.alloc())?;
+    let good = run_over(rt.alloc(), RUN, &file, script.as_bytes(), NONE)?;
+    let calls = good.disk.calls();
+    for behind in 0..calls {
+        let first = Stop {
+            call: calls - behind,
+            pick: Pick::New,
+        };
+        let left = image(rt.alloc(), &good.disk, first.call, first.pick)?;
+        if check_opening(&rt, rt.alloc(), &left, first)? {
+            return Ok(());
+        }
+    }
+    Err(Fail::new("no stop leaves changes of no commit"))
 }

@@ -118,12 +118,29 @@ struct Left {
     last: u8,
 }
 
-/// What so many commits leave.
-fn left_by(commits: u8) -> Left {
+/// What so many runs of the log leave. The second commit takes two: the first has 32 of its patches, and no number.
+fn left_by(runs: u8) -> Left {
+    let (number, first, last) = match runs {
+        0 => (0, 0, 0),
+        1 => (1, 1, 0),
+        2 => (1, 2, 0),
+        3 => (2, 2, 2),
+        _ => (3, 3, 2),
+    };
     Left {
-        number: commits,
-        first: commits,
-        last: if commits >= 2 { 2 } else { 0 },
+        number,
+        first,
+        last,
+    }
+}
+
+/// How many runs so many commits take.
+fn runs_of(commits: u8) -> u8 {
+    match commits {
+        0 => 0,
+        1 => 1,
+        2 => 3,
+        _ => 4,
     }
 }
 
@@ -221,17 +238,31 @@ fn one_list_of_calls(rt: HostRuntime) -> Result<(), Fail> {
     Ok(())
 }
 
-/// After a stop behind so many calls each image has the commits that were made, or one more.
-fn check_stop(rt: &impl Abort, alloc: Global, file: &[u8], calls: usize) -> Result<(), NoMemory> {
+/// Whether what was found is what some number of runs leaves, from `least` to `most`.
+fn is_left(found: Option<Left>, least: u8, most: u8) -> bool {
+    for runs in least..=most {
+        if found == Some(left_by(runs)) {
+            return true;
+        }
+    }
+    false
+}
+
+/// After a stop behind so many calls each image has the commits that were made, and whole runs of the next one: an
+/// opening takes them too. Answers whether an image has the first run alone of the commit that takes two.
+fn check_stop(rt: &impl Abort, alloc: Global, file: &[u8], calls: usize) -> Result<bool, NoMemory> {
     let stopped = stop_after(alloc, file, calls)?;
     let made = stopped.commits;
+    let most = runs_of(made.saturating_add(1));
+    let mut halved = false;
     for pick in PICKS {
         let left = image(alloc, &stopped.disk, stopped.disk.calls(), pick)?;
         let found = found(alloc, &left)?;
-        let right = found == Some(left_by(made)) || made < 3 && found == Some(left_by(made + 1));
+        let right = is_left(found, runs_of(made), most);
         assert!(rt; right, "{calls}, {pick:?}: {made} made, {found:?} found");
+        halved |= found == Some(left_by(2));
     }
-    Ok(())
+    Ok(halved)
 }
 
 #[test]
@@ -239,10 +270,12 @@ fn stops_of_a_lap(rt: HostRuntime) -> Result<(), Fail> {
     let file = new_file(rt.alloc())?;
     let good = stop_after(rt.alloc(), &file, CALLS)?;
     assert_eq!(rt; good.commits, 3);
-    assert_eq!(rt; found(rt.alloc(), good.disk.bytes())?, Some(left_by(3)));
+    assert_eq!(rt; found(rt.alloc(), good.disk.bytes())?, Some(left_by(4)));
+    let mut halved = false;
     for calls in 1..=good.disk.calls() as usize {
-        check_stop(&rt, rt.alloc(), &file, calls)?;
+        halved |= check_stop(&rt, rt.alloc(), &file, calls)?;
     }
+    assert!(rt; halved);
     Ok(())
 }
 
@@ -255,7 +288,7 @@ fn commit_and_go_on<S: Store>(store: &mut S) -> Result<(), Failed>
     store.flush()
 }
 
-// An opening drops the group, and the next commit takes its slot.
+// An opening takes the group too, leaves the file as it is, and the next commit follows.
 #[test]
 fn groups_behind_the_last_commit(rt: HostRuntime) -> Result<(), Fail> {
     let file = new_file(rt.alloc())?;
@@ -268,12 +301,16 @@ fn groups_behind_the_last_commit(rt: HostRuntime) -> Result<(), Fail> {
     let Ok(mut second) = open_file(rt.alloc(), disk.bytes(), CALLS)? else {
         return Err(Fail::from(Failed));
     };
-    assert_eq!(rt; second.logged(), 2);
-    assert_eq!(rt; left_in(&mut second)?, left_by(1));
-    let disk = second.close();
-    assert_eq!(rt; disk.bytes().get(2_048 * 6), Some(&0));
-    let again = stop_after(rt.alloc(), disk.bytes(), CALLS)?;
+    assert_eq!(rt; second.logged(), 3);
+    let taken = Left {
+        first: 9,
+        ..left_by(1)
+    };
+    assert_eq!(rt; left_in(&mut second)?, taken);
+    let reopened = second.close();
+    assert!(rt; reopened.bytes() == disk.bytes());
+    let again = stop_after(rt.alloc(), reopened.bytes(), CALLS)?;
     assert_eq!(rt; again.commits, 3);
-    assert_eq!(rt; found(rt.alloc(), again.disk.bytes())?, Some(left_by(3)));
+    assert_eq!(rt; found(rt.alloc(), again.disk.bytes())?, Some(left_by(4)));
     Ok(())
 }

@@ -14,7 +14,7 @@ use std::test::Fail;
 // Over a fresh file each. The last line of a script may lack its end, and its reply stands above it then.
 #[test]
 fn replies(rt: HostRuntime) -> Result<(), Fail> {
-    let rows: [(&str, &[u8]); 7] = [
+    let rows: [(&str, &[u8]); 6] = [
         ("empty script", b""),
         (
             "insert, commit, fetch",
@@ -100,7 +100,6 @@ fetch 1 d 1
 #> 1 end
 ",
         ),
-        ("line bounds", LINE_BOUNDS),
     ];
     let file = formatted(rt.alloc(), FORMAT_LARGE)?;
     check_each(&rt, rt.alloc(), &file, &rows)?;
@@ -123,7 +122,16 @@ INSERT 1 1 1 a
 #> bad line
 commit 1\r
 #> 1 committed 1
+marks
+#> segment 0 writes 1 lost 0
 ";
+
+#[test]
+fn line_bounds(rt: HostRuntime) -> Result<(), Fail> {
+    let file = formatted(rt.alloc(), FORMAT_LARGE)?;
+    let _ = check(&rt, rt.alloc(), "line bounds", &file, LINE_BOUNDS)?;
+    Ok(())
+}
 
 // Refusals, over a fresh file each.
 #[test]
@@ -137,6 +145,8 @@ commit 65535
 commit 0
 #> 0 no session
 commit 2
+#> 2 no session
+rollback 2
 #> 2 no session
 insert 2 1 1 a
 #> 2 no session
@@ -237,6 +247,11 @@ insert 1 1 1 a\x20
 insert 1\t1 1 a
 insert 1 1 1 a\x80
 marks 1
+marks 0
+checkpoint 1
+rollback
+rollback 1 \x20
+rollback 01
 commit 65536
 \r\r
 \x20
@@ -685,21 +700,28 @@ commit 1
     Ok(())
 }
 
-// Commits of one group and its number each. With 31 of them 62 slots of a small file are used.
-fn one_row_commits(alloc: Global) -> Result<String, NoMemory> {
-    let first = "insert 1 1 1 a\n#> 1 ok\ncommit 1\n#> 1 committed 1\n";
-    let mut dialogue = String::from_str(alloc, first).map_err(|_| NoMemory)?;
-    for number in 2..=31 {
+// The commits of these numbers, of one write each.
+fn add_commits(dialogue: &mut String, first: u64, last: u64) -> Result<(), NoMemory> {
+    for number in first..=last {
+        let word = if number == 1 { "insert" } else { "update" };
         write!(
             dialogue,
-            "update 1 1 1 a\n#> 1 ok\ncommit 1\n#> 1 committed {number}\n"
+            "{word} 1 1 1 a\n#> 1 ok\ncommit 1\n#> 1 committed {number}\n"
         )
         .map_err(|_| NoMemory)?;
     }
+    Ok(())
+}
+
+// Commits of two groups each. With 31 of them 62 slots of a small file are used.
+fn one_row_commits(alloc: Global) -> Result<String, NoMemory> {
+    let mut dialogue = String::new(alloc);
+    add_commits(&mut dialogue, 1, 31)?;
     Ok(dialogue)
 }
 
-// One slot has room still, and a write asks for two: its own and its commit's. What asks for none goes on.
+// One slot has room still, and a write asks for three: its own, its put back and the end of its transaction. What asks
+// for none goes on.
 #[test]
 fn log_full_by_room(rt: HostRuntime) -> Result<(), Fail> {
     let file = formatted(rt.alloc(), FORMAT_SMALL)?;
@@ -734,25 +756,209 @@ fn log_full_by_room_second_run(rt: HostRuntime) -> Result<(), Fail> {
     Ok(())
 }
 
-// A transaction may fill the log up to the slot of its commit, and is committed then.
+// Each change keeps room for its own put back, and the transaction for its end: 31 changes with both fill 63 slots.
+fn full_transaction(alloc: Global) -> Result<Vec<u8>, NoMemory> {
+    let mut dialogue = INSERT_ONE.to_vec(alloc).map_err(|_| NoMemory)?;
+    let updates = repeated(alloc, b"update 1 1 1 a\n#> 1 ok\n", 30)?;
+    dialogue.extend_from_slice(&updates).map_err(|_| NoMemory)?;
+    Ok(dialogue)
+}
+
+const INSERT_ONE: &[u8] = b"insert 1 1 1 a\n#> 1 ok\n";
+
+// A transaction is put back in a log that is full for it. It leaves no room for another write.
 #[test]
-fn log_full_within_a_transaction(rt: HostRuntime) -> Result<(), Fail> {
+fn log_full_keeps_rollback_room(rt: HostRuntime) -> Result<(), Fail> {
     let file = formatted(rt.alloc(), FORMAT_SMALL)?;
-    let mut dialogue = b"insert 1 1 1 b\n#> 1 ok\n".to_vec(rt.alloc())?;
-    let updates = repeated(rt.alloc(), b"update 1 1 1 a\n#> 1 ok\n", 61)?;
-    dialogue.extend_from_slice(&updates)?;
+    let mut dialogue = full_transaction(rt.alloc())?;
     dialogue.extend_from_slice(
         b"\
-update 1 1 1 b
+update 1 1 1 a
 #> 1 log full
-commit 1
-#> 1 committed 1
-update 1 1 1 c
+rollback 1
+#> 1 ok
+insert 1 1 1 a
 #> 1 log full
 ",
     )?;
-    let left = check(&rt, rt.alloc(), "log full", &file, &dialogue)?;
+    let left = check(&rt, rt.alloc(), "rollback", &file, &dialogue)?;
+    let _ = check(&rt, rt.alloc(), "rows", left.bytes(), NO_ROW)?;
+    Ok(())
+}
+
+// Without a checkpoint nothing of it is in the file, and as much has room again. Once a checkpoint wrote all of it, the
+// next opening puts it back, and there is no room.
+#[test]
+fn log_full_keeps_rollback_room_second_run(rt: HostRuntime) -> Result<(), Fail> {
+    let file = formatted(rt.alloc(), FORMAT_SMALL)?;
+    let mut dialogue = full_transaction(rt.alloc())?;
+    let lost = check(&rt, rt.alloc(), "no checkpoint", &file, &dialogue)?;
+    let _ = check(&rt, rt.alloc(), "again", lost.bytes(), &dialogue)?;
+    dialogue.extend_from_slice(b"checkpoint\n#> ok\n")?;
+    let left = check(&rt, rt.alloc(), "checkpoint", &file, &dialogue)?;
+    let full = b"insert 1 1 1 a\n#> 1 log full\n";
+    let _ = check(&rt, rt.alloc(), "no room", left.bytes(), full)?;
+    let _ = check(&rt, rt.alloc(), "rows", left.bytes(), NO_ROW)?;
+    Ok(())
+}
+
+// A full transaction is committed too.
+#[test]
+fn log_full_keeps_commit_room(rt: HostRuntime) -> Result<(), Fail> {
+    let file = formatted(rt.alloc(), FORMAT_SMALL)?;
+    let mut dialogue = full_transaction(rt.alloc())?;
+    dialogue.extend_from_slice(
+        b"\
+update 1 1 1 c
+#> 1 log full
+commit 1
+#> 1 committed 1
+",
+    )?;
+    let left = check(&rt, rt.alloc(), "commit", &file, &dialogue)?;
     let _ = check(&rt, rt.alloc(), "rows", left.bytes(), ONE_ROW)?;
+    Ok(())
+}
+
+// One transaction fills the eight extents of its segment, is refused one record more, and is put back.
+#[test]
+fn rollback_full(rt: HostRuntime) -> Result<(), Fail> {
+    let file = formatted(rt.alloc(), FORMAT_LARGE)?;
+    let mut dialogue = INSERT_ONE.to_vec(rt.alloc())?;
+    let updates = repeated(rt.alloc(), b"update 1 1 1 u\n#> 1 ok\n", 319)?;
+    dialogue.extend_from_slice(&updates)?;
+    dialogue.extend_from_slice(
+        b"\
+update 1 1 1 u
+#> 1 rollback full 0 320
+rollback 1
+#> 1 ok
+open 1 c 1 0 9
+#> 1 ok
+fetch 1 c 1
+#> 1 end
+",
+    )?;
+    let _ = check(&rt, rt.alloc(), "rollback full", &file, &dialogue)?;
+    Ok(())
+}
+
+// A commit, and an update without one that a checkpoint writes.
+const COMMIT_AND_CHECKPOINT: &[u8] = b"\
+insert 1 1 1 a
+#> 1 ok
+commit 1
+#> 1 committed 1
+update 1 1 1 x
+#> 1 ok
+checkpoint
+#> ok
+";
+
+#[test]
+fn restart_rolls_back(rt: HostRuntime) -> Result<(), Fail> {
+    let file = formatted(rt.alloc(), FORMAT_LARGE)?;
+    let left = check(&rt, rt.alloc(), "first", &file, COMMIT_AND_CHECKPOINT)?;
+    let _ = check(&rt, rt.alloc(), "second", left.bytes(), ONE_ROW)?;
+    Ok(())
+}
+
+// The record of what was put back stays counted.
+#[test]
+fn restart_rolls_back_marks(rt: HostRuntime) -> Result<(), Fail> {
+    let file = formatted(rt.alloc(), FORMAT_LARGE)?;
+    let left = check(&rt, rt.alloc(), "first", &file, COMMIT_AND_CHECKPOINT)?;
+    let marks = b"marks\n#> segment 0 writes 2 lost 0\n";
+    let _ = check(&rt, rt.alloc(), "second", left.bytes(), marks)?;
+    Ok(())
+}
+
+// Transactions of one row, each so many updates and what follows them. Two extents have 40 records each.
+const TURNS: [(usize, &[u8]); 11] = [
+    (
+        39,
+        b"marks\n#> segment 0 writes 40 lost 0\ncommit 1\n#> 1 committed 1\n",
+    ),
+    (
+        1,
+        b"marks\n#> segment 0 writes 41 lost 0\ncommit 1\n#> 1 committed 2\n",
+    ),
+    (
+        39,
+        b"marks\n#> segment 0 writes 80 lost 0\ncommit 1\n#> 1 committed 3\n",
+    ),
+    // The first extent takes a new turn: the records of commit 1 are given up.
+    (
+        1,
+        b"marks\n#> segment 0 writes 81 lost 1\ncommit 1\n#> 1 committed 4\n",
+    ),
+    (
+        39,
+        b"marks\n#> segment 0 writes 120 lost 1\ncommit 1\n#> 1 committed 5\n",
+    ),
+    // One transaction takes both, those of the commits 2 and 3 and then those of 4 and 5.
+    (40, b"marks\n#> segment 0 writes 160 lost 3\n"),
+    (40, b"marks\n#> segment 0 writes 200 lost 5\n"),
+    // Its own first records are the oldest now, so an extent joins, and nothing is given up.
+    (
+        1,
+        b"marks\n#> segment 0 writes 201 lost 5\ncommit 1\n#> 1 committed 6\n",
+    ),
+    (
+        39,
+        b"marks\n#> segment 0 writes 240 lost 5\ncommit 1\n#> 1 committed 7\n",
+    ),
+    (
+        1,
+        b"marks\n#> segment 0 writes 241 lost 6\ncommit 1\n#> 1 committed 8\n",
+    ),
+    // What is put back stays counted.
+    (
+        2,
+        b"rollback 1\n#> 1 ok\nmarks\n#> segment 0 writes 243 lost 6\n",
+    ),
+];
+
+// The extents of a segment are filled, take new turns, and a third one joins. A second run finds the marks of the
+// last commit.
+#[test]
+fn undo_turns(rt: HostRuntime) -> Result<(), Fail> {
+    let file = formatted(rt.alloc(), FORMAT_LARGE)?;
+    let mut dialogue = b"marks\n#> segment 0 writes 0 lost 0\n".to_vec(rt.alloc())?;
+    dialogue.extend_from_slice(INSERT_ONE)?;
+    for (count, rest) in TURNS {
+        let updates = repeated(rt.alloc(), b"update 1 1 1 a\n#> 1 ok\n", count)?;
+        dialogue.extend_from_slice(&updates)?;
+        dialogue.extend_from_slice(rest)?;
+    }
+    let left = check(&rt, rt.alloc(), "turns", &file, &dialogue)?;
+    let mut second = ONE_ROW.to_vec(rt.alloc())?;
+    second.extend_from_slice(b"marks\n#> segment 0 writes 241 lost 6\n")?;
+    let _ = check(&rt, rt.alloc(), "second run", left.bytes(), &second)?;
+    Ok(())
+}
+
+// The first and the last of some commits of one record each, and what is lost after them: the sixteen table slots are
+// taken again before an extent takes a new turn.
+const SLOTS_TAKEN: [(u64, u64, u64); 7] = [
+    (1, 1, 0),
+    (2, 16, 0),
+    (17, 17, 1),
+    (18, 40, 24),
+    (41, 41, 25),
+    (42, 80, 64),
+    (81, 81, 65),
+];
+
+#[test]
+fn undo_slots(rt: HostRuntime) -> Result<(), Fail> {
+    let file = formatted(rt.alloc(), FORMAT_LARGE)?;
+    let mut dialogue = String::new(rt.alloc());
+    for (first, last, lost) in SLOTS_TAKEN {
+        add_commits(&mut dialogue, first, last)?;
+        write!(dialogue, "marks\n#> segment 0 writes {last} lost {lost}\n")?;
+    }
+    let _ = check(&rt, rt.alloc(), "slots", &file, dialogue.as_bytes())?;
     Ok(())
 }
 

@@ -1,6 +1,6 @@
 -- No two commands have one spelling, and what a line lacks that spells none.
-use Rattle.std.proofs.Common.{◌≡◌, ℕ, true, List, ◌∷◌, ◌++◌, map, refl, sym, ◌∙◌, arith}
-use Rattle.rb_model.specs.Lines.{Command, Word, word_text, word_of, fields_of, fields_text, spelling, IsCommand, SpellsNone}
+use Rattle.std.proofs.Common.{◌≡◌, ℕ, Bool, true, false, List, [], ◌∷◌, ◌++◌, map, refl, sym, ap, ◌∙◌, arith}
+use Rattle.rb_model.specs.Lines.{Command, Word, MarksWord, CheckpointWord, word_text, word_of, fields_of, fields_text, spelling, IsCommand, SpellsNone}
 use Rattle.rb_script.specs.Words.{is_word, field_kind, NoFields}
 use Rattle.rb_script.proofs.Spaced.{is_tail, same_front}
 use Rattle.rb_script.proofs.Fields.{fields_tail, same_fields}
@@ -36,8 +36,19 @@ no_fields like rest none c valid e =
     let k = front_and_rest (word_of like) (32 ∷ rest) c refl e in
     none (fields_of c) (sym (same_kinds like c k.0)) valid k.1
 
--- a line whose first word names no command
-pub no_command : (line word rest : List ℕ) → line ≡ word ++ 32 ∷ rest → is_word word ≡ true → ((w : Word) → word ≡ word_text w → ⊥) → SpellsNone line
+-- the word is a line without fields
+abbrev pub stands_alone : Word → Bool
+stands_alone MarksWord = true
+stands_alone CheckpointWord = true
+stands_alone _ = false
+
+alone_fields : (c : Command) → stands_alone (word_of c) ≡ true → fields_of c ≡ []
+alone_fields c is = grind arith
+
+-- a line with a space whose first word names no command that has fields
+pub no_command : (line word rest : List ℕ) → line ≡ word ++ 32 ∷ rest → is_word word ≡ true → ((w : Word) → word ≡ word_text w → stands_alone w ≡ true) → SpellsNone line
 no_command line word rest e free none c valid g =
     let w = word_of c in
-    none w (same_front word (word_text w) (32 ∷ rest) (fields_text (fields_of c)) free (word_is_word w) refl (fields_tail (fields_of c)) (sym e ∙ g)).0
+    let k = same_front word (word_text w) (32 ∷ rest) (fields_text (fields_of c)) free (word_is_word w) refl (fields_tail (fields_of c)) (sym e ∙ g) in
+    let bare : 32 ∷ rest ≡ [] = k.1 ∙ ap fields_text (alone_fields c (none w k.0)) in
+    absurd (cc)

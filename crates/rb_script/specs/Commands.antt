@@ -3,12 +3,16 @@ use Rattle.rb_model.specs.Lines as lines
 use Rattle.rb_model.specs.Names.{name_text}
 use Rattle.rb_model.specs.Answers.{action_of}
 use Rattle.rb_script.specs.declared.command.Command.{Command}
-use Rattle.rb_script.specs.declared.command.Command.TheVariants.{Write, Commit, OpenCursor, Fetch, CloseCursor}
+use Rattle.rb_script.specs.declared.command.Command.TheVariants.{Write, Commit, Rollback, OpenCursor, Fetch}
+use Rattle.rb_script.specs.declared.command.Command.TheVariants.{CloseCursor, Marks, Checkpoint}
 
 -- the command that a value of the code stands for
 abbrev pub command_of : Command → lines.Command
 command_of (Write s t k op) = lines.WriteLine s t k (action_of op)
 command_of (Commit s) = lines.CommitLine s
+command_of (Rollback s) = lines.RollbackLine s
 command_of (OpenCursor s name t lo hi) = lines.OpenLine s (name_text name) t lo hi
 command_of (Fetch s name n) = lines.FetchLine s (name_text name) n
 command_of (CloseCursor s name) = lines.CloseLine s (name_text name)
+command_of Marks = lines.MarksLine
+command_of Checkpoint = lines.CheckpointLine

@@ -1,26 +1,22 @@
 -- The replies of the code as texts.
-use Rattle.std.specs.Prelude.{ℕ, ◌≤◌, List, length}
+use Rattle.std.specs.Prelude.{ℕ, ◌≤◌, List, length, None, Some}
 use Rattle.rb_model.specs.Lines.{reply_text, bad_line_text}
-use Rattle.rb_model.specs.Reply as answers
+use Rattle.rb_model.specs.Calls as answers
 use Rattle.rb_script.specs.declared.reply.Reply.{Reply}
-use Rattle.rb_script.specs.declared.reply.Reply.TheVariants.{Done, Committed, Row, End, Waits, Refused, BadLine}
+use Rattle.rb_script.specs.declared.reply.Reply.TheVariants.{Done, Committed, Row, End, Waits, Refused, Marks, BadLine}
 
 -- the line with its LF
 abbrev pub text_of_reply : Reply → List ℕ
 text_of_reply (Done s) = reply_text s answers.Done
-text_of_reply (Committed s number) = reply_text s (answers.Numbered number)
-text_of_reply (Row s key value) = reply_text s (answers.Given key value.now)
-text_of_reply (End s) = reply_text s answers.End
-text_of_reply (Waits s on) = reply_text s (answers.Waits on)
+text_of_reply (Committed s number) = reply_text (Some s) (answers.Numbered number)
+text_of_reply (Row s key value) = reply_text (Some s) (answers.Given key value.now)
+text_of_reply (End s) = reply_text (Some s) answers.End
+text_of_reply (Waits s on) = reply_text (Some s) (answers.Waits on)
 text_of_reply (Refused s why) = reply_text s (answers.Refused why)
+text_of_reply (Marks seg writes lost) = reply_text None (answers.Marked seg writes lost)
 text_of_reply BadLine = bad_line_text
 
 -- a row's value has at most 80 bytes
 abbrev pub FitsALine : Reply → Type 0
-FitsALine (Done s) = Unit {0}
-FitsALine (Committed s number) = Unit {0}
 FitsALine (Row s key value) = length value.now ≤ 80
-FitsALine (End s) = Unit {0}
-FitsALine (Waits s on) = Unit {0}
-FitsALine (Refused s why) = Unit {0}
-FitsALine BadLine = Unit {0}
+FitsALine _ = Unit {0}

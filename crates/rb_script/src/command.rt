@@ -20,6 +20,10 @@ pub enum Command<'a> {
     Commit {
         s: u16,
     },
+    /// `rollback S`.
+    Rollback {
+        s: u16,
+    },
     /// `open S NAME T LO HI`.
     OpenCursor {
         s: u16,
@@ -39,6 +43,10 @@ pub enum Command<'a> {
         s: u16,
         name: Name,
     },
+    /// `marks`: what each rollback segment has made and given up.
+    Marks,
+    /// `checkpoint`.
+    Checkpoint,
 }
 
 /// No two commands have one spelling.

@@ -1,9 +1,9 @@
 //! Which command a line spells. The shell calls it for each line that is neither empty nor a remark.
-ghost use Rattle.std.specs.Prelude.{◌≡◌, ◌∷◌, ◌++◌, IfSome, IfNone, codes};
+ghost use Rattle.std.specs.Prelude.{◌≡◌, ◌∷◌, ◌++◌, IfSome, IfNone, IsTrue, codes};
 ghost use Rattle.std.specs.List.{AllByRecursion};
 ghost use Rattle.rb_model.specs.Lines.{Spells, SpellsNone, IsField, fields_text};
 ghost use Rattle.rb_script.specs.Commands.{command_of};
-ghost use Rattle.rb_script.specs.Words.{NoFields, row_fields, row_kinds};
+ghost use Rattle.rb_script.specs.Words.{NoFields, is_word, row_fields, row_kinds};
 
 use crate::command::Command;
 use crate::words::{count_of, id_and_rest, id_of, is_visible, key_and_rest, name_and_rest, split};
@@ -66,6 +66,15 @@ fn commit_of(fields: &[u8]) -> Option<Command<'_>>
     Some(Command::Commit { s })
 }
 
+// the command of the line that is `rollback`, a space and these fields
+fn rollback_of(fields: &[u8]) -> Option<Command<'_>>
+    ensures found { IfSome result (λ command. Spells (codes "rollback" ++ 32 ∷ fields.now) (command_of command)) }
+    ensures none { IfNone result (SpellsNone (codes "rollback" ++ 32 ∷ fields.now)) }
+{
+    let s = id_of(fields)?;
+    Some(Command::Rollback { s })
+}
+
 // the command of the line that is `open`, a space and these fields
 fn open_of(fields: &[u8]) -> Option<Command<'_>>
     ensures found { IfSome result (λ command. Spells (codes "open" ++ 32 ∷ fields.now) (command_of command)) }
@@ -100,12 +109,29 @@ fn close_of(fields: &[u8]) -> Option<Command<'_>>
     Some(Command::CloseCursor { s, name })
 }
 
+// the command of a line that is one word
+fn command_alone(word: &[u8]) -> Option<Command<'_>>
+    requires { IsTrue (is_word word.now) }
+    ensures found { IfSome result (λ command. Spells word.now (command_of command)) }
+    ensures none { IfNone result (SpellsNone word.now) }
+{
+    if word == b"marks".as_slice() {
+        return Some(Command::Marks);
+    }
+    if word == b"checkpoint".as_slice() {
+        return Some(Command::Checkpoint);
+    }
+    None
+}
+
 /// The command that the line spells, without the bytes that end it. None exactly where it spells none.
 pub fn parse(line: &[u8]) -> Option<Command<'_>>
     ensures found { IfSome result (λ command. Spells line.now (command_of command)) }
     ensures none { IfNone result (SpellsNone line.now) }
 {
-    let (word, fields) = split(line)?;
+    let Some((word, fields)) = split(line) else {
+        return command_alone(line);
+    };
     if word == b"insert".as_slice() {
         return insert_of(fields);
     }
@@ -117,6 +143,9 @@ pub fn parse(line: &[u8]) -> Option<Command<'_>>
     }
     if word == b"commit".as_slice() {
         return commit_of(fields);
+    }
+    if word == b"rollback".as_slice() {
+        return rollback_of(fields);
     }
     if word == b"open".as_slice() {
         return open_of(fields);

@@ -1,5 +1,7 @@
 //! The replies to the lines of a script. The shell makes one for each command, and writes its text.
 ghost use Rattle.std.specs.Prelude.{◌≡◌, [], ◌∷◌, ◌++◌, ◌+◌, ◌≤◌, length};
+ghost use Rattle.rb_model.specs.Calls.{number_text, refusal_text};
+ghost use Rattle.rb_model.specs.Lines.{caller_text};
 ghost use Rattle.std.specs.Fmt.{decimal};
 ghost use Rattle.arrayvec.specs.ArrayVec.{array_vec_len};
 ghost use Rattle.rb_script.specs.Replies.{text_of_reply, FitsALine};
@@ -11,8 +13,8 @@ use rb_model::Refusal;
 /// What a line is answered by.
 #[derive(Clone, Copy, Debug)]
 pub enum Reply<'a> {
-    /// `S ok`.
-    Done { s: u16 },
+    /// `S ok`, or `ok`.
+    Done { s: Option<u16> },
     /// `S committed NUMBER`.
     Committed { s: u16, number: u64 },
     /// `S row KEY VALUE`.
@@ -21,8 +23,10 @@ pub enum Reply<'a> {
     End { s: u16 },
     /// `S waits ON`.
     Waits { s: u16, on: u16 },
-    /// `S` and the text of the refusal.
-    Refused { s: u16, why: Refusal },
+    /// `S` and the text of the refusal, or that alone.
+    Refused { s: Option<u16>, why: Refusal },
+    /// `segment SEG writes WRITES lost LOST`.
+    Marks { seg: u16, writes: u64, lost: u64 },
     /// `bad line`.
     BadLine,
 }
@@ -47,6 +51,41 @@ fn put_number(number: u64, into: &mut Line)
     put(Buffer::new().format(number).as_bytes(), into);
 }
 
+// appends a space and a number
+fn put_part(number: u64, into: &mut Line)
+    requires { array_vec_len into.old + 21 ≤ 512 }
+    ensures items { into.new.items ≡ into.old.items ++ number_text number }
+    ensures len { array_vec_len into.new ≤ array_vec_len into.old + 21 }
+{
+    put(b" ", into);
+    put_number(number, into);
+}
+
+// puts the session that a reply is to, if there is one, and a space
+fn put_caller(s: Option<u16>, into: &mut Line)
+    requires { into.old.items ≡ [] }
+    ensures items { into.new.items ≡ caller_text s }
+    ensures len { array_vec_len into.new ≤ 21 }
+{
+    if let Some(s) = s {
+        put_number(u64::from(s), into);
+        put(b" ", into);
+    }
+}
+
+// appends the text of a refusal
+fn put_refusal(why: Refusal, into: &mut Line)
+    requires { array_vec_len into.old + 74 ≤ 512 }
+    ensures items { into.new.items ≡ into.old.items ++ refusal_text why }
+    ensures len { array_vec_len into.new ≤ array_vec_len into.old + 74 }
+{
+    put(why.words(), into);
+    if let Refusal::RollbackFull { seg, since } = why {
+        put_part(u64::from(seg), into);
+        put_part(since, into);
+    }
+}
+
 // all but the LF
 fn put_reply(reply: &Reply<'_>, into: &mut Line)
     requires empty { into.old.items ≡ [] }
@@ -56,34 +95,41 @@ fn put_reply(reply: &Reply<'_>, into: &mut Line)
 {
     match *reply {
         Reply::Done { s } => {
-            put_number(u64::from(s), into);
-            put(b" ok", into);
+            put_caller(s, into);
+            put(b"ok", into);
         }
         Reply::Committed { s, number } => {
-            put_number(u64::from(s), into);
-            put(b" committed ", into);
-            put_number(number, into);
+            put_caller(Some(s), into);
+            put(b"committed", into);
+            put_part(number, into);
         }
         Reply::Row { s, key, value } => {
-            put_number(u64::from(s), into);
-            put(b" row ", into);
-            put_number(key, into);
+            put_caller(Some(s), into);
+            put(b"row", into);
+            put_part(key, into);
             put(b" ", into);
             put(value, into);
         }
         Reply::End { s } => {
-            put_number(u64::from(s), into);
-            put(b" end", into);
+            put_caller(Some(s), into);
+            put(b"end", into);
         }
         Reply::Waits { s, on } => {
-            put_number(u64::from(s), into);
-            put(b" waits ", into);
-            put_number(u64::from(on), into);
+            put_caller(Some(s), into);
+            put(b"waits", into);
+            put_part(u64::from(on), into);
         }
         Reply::Refused { s, why } => {
-            put_number(u64::from(s), into);
-            put(b" ", into);
-            put(why.text(), into);
+            put_caller(s, into);
+            put_refusal(why, into);
+        }
+        Reply::Marks { seg, writes, lost } => {
+            put(b"segment", into);
+            put_part(u64::from(seg), into);
+            put(b" writes", into);
+            put_part(writes, into);
+            put(b" lost", into);
+            put_part(lost, into);
         }
         Reply::BadLine => put(b"bad line", into),
     }

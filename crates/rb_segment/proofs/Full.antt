@@ -57,7 +57,7 @@ is_pins slot turn is =
     by_first test = grind (arith, nat_tests)
 
 -- the first k have a turn, and the others none
-counted : (xs : List Extent) (k : ℕ) → k ≤ length xs → ((e : ℕ) → e < k → 1 ≤ (get_or xs e no_extent).ord) → ((e : ℕ) → k ≤ e → e < length xs → (get_or xs e no_extent).ord ≡ 0) → length (filter (λ (x : Extent). nat_le 1 x.ord) xs) ≡ k
+pub counted : (xs : List Extent) (k : ℕ) → k ≤ length xs → ((e : ℕ) → e < k → 1 ≤ (get_or xs e no_extent).ord) → ((e : ℕ) → k ≤ e → e < length xs → (get_or xs e no_extent).ord ≡ 0) → length (filter (λ (x : Extent). nat_le 1 x.ord) xs) ≡ k
 counted [] zero le some none = refl
 counted [] (suc k) le some none = absurd (omega (arith, le))
 counted (x ∷ xs) zero le some none =

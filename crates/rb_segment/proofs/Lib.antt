@@ -13,7 +13,6 @@ pub mod Fresh
 pub mod Full
 pub mod Later
 pub mod Limits
-pub mod Loading
 pub mod MayTurns
 pub mod Moments
 pub mod Numbers

@@ -4,7 +4,7 @@ use Rattle.std.proofs.lemmas.Bool.{cases_lt}
 use Rattle.byteorder.specs.Endian.{big_bytes}
 use Rattle.byteorder.specs.Numbers.{big_number-reads_back}
 use Rattle.rb_base.specs.declared.shape.Shape.{Shape}
-use Rattle.rb_base.specs.Blocks.{block_of, patched, after_group, commit_block, header_block, table_blocks, shape_blocks, IsShape, AreBlocks}
+use Rattle.rb_base.specs.Blocks.{block_of, patched, after_group, header_block, table_blocks, shape_blocks, IsShape, AreBlocks}
 use Rattle.rb_base.specs.Fields.{number_at, AreApart}
 use Rattle.rb_base.specs.Groups.{Patch, patch}
 use Rattle.rb_base.proofs.Blocks.{block_long}
@@ -62,22 +62,18 @@ commit_patch shape n = scn_patch shape (n + 1)
 abbrev pub committed : Shape → List (List ℕ) → ℕ → ℕ → List (List ℕ)
 committed shape blocks number n = after_group number (commit_patch shape n ∷ []) blocks
 
--- the header of the first segment is the block of commits
-first_header : (shape : Shape) → header_block shape 0 ≡ commit_block shape
-first_header shape = omega arith
-
-within_file : (shape : Shape) → IsShape shape → commit_block shape < shape_blocks shape
+-- the header of the first segment, which commits patch, is there
+within_file : (shape : Shape) → IsShape shape → header_block shape 0 < shape_blocks shape
 within_file shape is = omega (arith, is.few_segments.0)
 
 pub header_there : (shape : Shape) (blocks : List (List ℕ)) (number n : ℕ) → IsShape shape → AreBlocks shape blocks → n + 1 < 2 ^ 64
     → HasNewest (block_of blocks (header_block shape 0)) (block_of (committed shape blocks number n) (header_block shape 0)) (n + 1)
 header_there shape blocks number n is are fits =
-    let at = commit_block shape in
+    let at = header_block shape 0 in
     let lt = within_file shape is in
     let there = block_there shape blocks number (commit_patch shape n) are lt in
     let has = has_newest (block_of blocks at) number at (n + 1) (block_long shape blocks at are lt) fits in
-    subst (λ (b : ℕ). HasNewest (block_of blocks b) (block_of (committed shape blocks number n) b) (n + 1)) (sym (first_header shape))
-    (subst (λ (block : List ℕ). HasNewest (block_of blocks at) block (n + 1)) (sym there) has)
+    subst (λ (block : List ℕ). HasNewest (block_of blocks at) block (n + 1)) (sym there) has
 
 pub header_elsewhere : (shape : Shape) (blocks : List (List ℕ)) (number n g : ℕ) → 1 ≤ g → block_of (committed shape blocks number n) (header_block shape g) ≡ block_of blocks (header_block shape g)
 header_elsewhere shape blocks number n g more = block_elsewhere blocks number (header_block shape g) (commit_patch shape n) (λ same. omega (arith, more, same))
@@ -87,7 +83,7 @@ rows_kept shape blocks number n b lt = block_elsewhere blocks number b (commit_p
 
 pub commit_numbered : (shape : Shape) (blocks : List (List ℕ)) (number n : ℕ) → IsShape shape → AreBlocks shape blocks → number < 2 ^ 64 → commit_lsn shape (committed shape blocks number n) ≡ number
 commit_numbered shape blocks number n is are fits =
-    let at = commit_block shape in
+    let at = header_block shape 0 in
     ap (λ (block : List ℕ). number_at block 0 8) (block_there shape blocks number (commit_patch shape n) are (within_file shape is)) ∙ number_patched (block_of blocks at) number (commit_patch shape n) fits
 
 pub commit_next : (shape : Shape) (blocks : List (List ℕ)) (number n : ℕ) → IsShape shape → AreBlocks shape blocks → commit_scn shape blocks ≡ n → n + 1 < 2 ^ 64 → commit_scn shape (committed shape blocks number n) ≡ n + 1

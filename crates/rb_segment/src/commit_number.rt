@@ -1,10 +1,9 @@
 //! The block that each commit patches: the group by which a commit writes its number there, and the log number that the
 //! block has in front. The engine's commit and its opening call it.
-ghost use Rattle.std.specs.Prelude.{◌≡◌, [], ◌∷◌, false, IfOk, OnOk};
+ghost use Rattle.std.specs.Prelude.{◌≡◌, [], ◌∷◌, false, not, IfOk, OnOk};
 ghost use Rattle.std.specs.Result.{is_err};
 ghost use Rattle.rb_base.specs.Blocks.{AreBlocks, IsShape};
-ghost use Rattle.rb_base.specs.Counts.{IsCounted};
-ghost use Rattle.rb_base.specs.Loads.{OnlyLoads};
+ghost use Rattle.rb_base.specs.Logs.{Logs};
 ghost use Rattle.rb_segment.specs.Segments.{commit_lsn, scn_patch};
 
 use rb_base::{Failed, Group, Lsn, Scn, Shape, Store, put_u64, u64_at};
@@ -25,11 +24,9 @@ pub fn commit_group(shape: Shape, scn: Scn) -> Group
 /// The log number of the block that each commit patches.
 pub fn commit_lsn_of<S: Store>(store: &mut S) -> Result<Lsn, Failed>
     requires { S.failed store.old ≡ false }
+    ensures logs { Logs S.Store store.old store.new [] (not (is_err result)) }
     ensures told { S.tells → IfOk result (λ lsn. lsn ≡ commit_lsn (S.shape_of store.old) (S.blocks store.old)) }
     ensures whole { S.tells → OnOk result (AreBlocks (S.shape_of store.old) (S.blocks store.old)) }
-    ensures only_loads { OnlyLoads S.Store store.old store.new }
-    ensures failed { S.failed store.new ≡ is_err result }
-    ensures counted { IsCounted (S.faults store.old) (S.faults store.new) result }
 {
     let shape = store.shape();
     store.load(shape.header_block(0))?;

@@ -1,3 +1,4 @@
+pub mod NewFile
 pub mod Returns
 pub mod RunLemmas
 pub mod SaidLemmas

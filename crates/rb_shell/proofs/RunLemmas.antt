@@ -1,21 +1,16 @@
 -- From the engine that an opening made to the run over the file that it opened.
-use Rattle.std.proofs.Common.{◌≡◌, ◌∙◌, ◌⊎◌, inl, inr, ⊎_elim, ap, sym, subst, refl, arith, ℕ, false, ◌+◌, ◌<◌, List, [], ◌++◌, length, Some}
-use Rattle.std.specs.List.{flat_map}
-use Rattle.std.proofs.lemmas.List.{length-append, take_all}
-use Rattle.rb_base.specs.Moments.{LeavesNoMore, joined, still_leaves, weaker}
-use Rattle.rb_base.specs.declared.faults.OpenFault.{OpenFault}
-use Rattle.rb_base.specs.declared.faults.OpenFault.TheVariants.{Failed}
-use Rattle.rb_base.specs.declared.faults.OpenFault.TheVariants as faults
+use Rattle.std.proofs.Common.{◌≡◌, ◌∙◌, ◌⊎◌, inl, inr, ⊎_elim, ap, sym, subst, refl, arith, ℕ, false, ◌+◌, ◌<◌, ◌≤◌, List, [], ◌++◌, length, Option, Some}
+use Rattle.std.proofs.lemmas.List.{length-append}
+use Rattle.rb_base.specs.Blocks.{IsShape}
+use Rattle.rb_base.specs.Moments.{LeavesOnly, joined, weaker}
+use Rattle.rb_base.specs.Stores.{room_of}
 use Rattle.rb_base.specs.declared.shape.Shape.{Shape}
 use Rattle.rb_base.specs.declared.store.Store.{Ghosts}
 use Rattle.rb_disk.specs.Moments.{Leaves, Rests, rests_leave}
 use Rattle.rb_disk.specs.declared.disk.Disk.{Ghosts as DiskGhosts}
-use Rattle.rb_engine.specs.Crash.{AtEnd, OnTheWay, Restarts}
-use Rattle.rb_engine.specs.Restarts.{Extends, reached}
-use Rattle.rb_engine.specs.Engine.{EngineView}
-use Rattle.rb_engine.specs.Holds.{CanOpen, Holds, OpensAs}
-use Rattle.rb_engine.proofs.CrashLemmas.{extends_later, rows_later}
-use Rattle.rb_layout.specs.OneLayout.{SameNumbers}
+use Rattle.rb_engine.specs.Does.{EngineView, Stands}
+use Rattle.rb_image.proofs.Crashes.{extends_later, restarts_later}
+use Rattle.rb_image.specs.Crash.{AtEnd, Extends, OnTheWay, Restarts, reached}
 use Rattle.rb_layout.specs.Regions.{shape_of}
 use Rattle.rb_layout.specs.declared.layout.Layout.{Layout}
 use Rattle.rb_lines.specs.Ends.{Halted}
@@ -23,17 +18,20 @@ use Rattle.rb_lines.specs.Ran.{Ran, CutOff}
 use Rattle.rb_lines.proofs.Runs.{ran-append}
 use Rattle.rb_model.specs.Lines.{lines_of}
 use Rattle.rb_model.specs.Out.{Logged}
-use Rattle.rb_model.specs.Rows.{TableRow, last_scn, over, rows_at}
-use Rattle.rb_model.specs.State.{State, opened}
-use Rattle.rb_shell.specs.Runs.{IsSound, HasHalted, HasOpened, HasRun, RanOver, WasCutOff, Endures, LeftAlone, OpensSame, OpensToNone, EndsRun, IsDoneOrNoMemory, file_opens}
+use Rattle.rb_model.specs.Rows.{last_scn}
+use Rattle.rb_model.specs.State.{State}
+use Rattle.rb_opening.specs.Opens.{CanOpen, OpensAs}
+use Rattle.rb_segment.specs.Segments.{owed_in}
+use Rattle.rb_shell.specs.Runs.{IsSound, IsStore, HasHalted, HasOpened, HasRun, WasCutOff, Endures, LeftAlone, OpensSame, OpensToNone, EndsRun, IsDoneOrNoMemory, first_of}
 use Rattle.rb_shell.specs.declared.script.TheConstants.{SCRIPT_BYTES}
-use Rattle.rb_shell.specs.Since.{StandsAs}
+use Rattle.rb_shell.specs.Since.{slots_of}
 use Rattle.rb_shell.specs.Statuses.{EndsFormat}
 use Rattle.rb_shell.specs.declared.status.Status.{Status}
 use Rattle.rb_shell.specs.declared.status.Status.TheVariants.{Done, Usage, SourceFault, DiskFault, SinkFault, NotAStore, NoMemory, NotEmpty, TooLong}
-use Rattle.rb_store.specs.OneOpening.{one_opening, one_number, opens_alike, opens_moves}
-use Rattle.rb_store.specs.LapLaws.{stable_opens}
-use Rattle.rb_store.specs.Laps.{LapState, IsStable, Opens, OpensTo, OpensAt}
+use Rattle.rb_standing.specs.Standing.{logged_of}
+use Rattle.rb_store.proofs.NumberLemmas.{last_number}
+use Rattle.rb_store.specs.OneOpening.{Agree, one_opening, opens_alike}
+use Rattle.rb_store.specs.Laps.{LapState, IsStable, Opens, OpensAt}
 
 -- the lines before a fault of the disk, and the one in which it came
 all_ran : (slots most : ℕ) (m now : Logged) (left left2 : List ℕ) (tells : Type 0) (before held : List ℕ) → Halted slots most m now left left2 tells before held → Ran slots m now (lines_of left) tells before held
@@ -41,168 +39,159 @@ all_ran slots most m now left left2 tells before held halted =
     subst (λ (ls : List (List ℕ)). Ran slots m now ls tells before held) (sym halted.lines)
     (ran-append slots m halted.middle now _ _ tells before halted.held held halted.done halted.going halted.fault)
 
--- an image that opens to the blocks of a state has its rows
+-- an image that has a state is on the way to a later one
+restarts_on_the_way : (slots : Option ℕ) (h h2 : State) (c : List ℕ) → Extends h h2 → Restarts Opens slots h c → OnTheWay Opens slots h h2 c
+restarts_on_the_way slots h h2 c e r = reached (last_scn h.commits) (omega arith) (extends_later h h2 e) (restarts_later Opens slots h h2 h.books h2.books (last_scn h.commits) c e (omega arith) e.marks r)
 
-rows_opened : (blocks number : ℕ) (rows : List TableRow) → rows_at blocks (record { base = number; rows = rows; list = [] }) number ≡ rows
-rows_opened blocks number rows = ap (λ xs. over blocks rows (flat_map (λ changes. changes) xs)) (take_all _ [] (omega arith))
+-- the shape of a layout is in range
+pub in_range : (l : Layout) → IsShape (shape_of l)
+in_range l = record { few_tables = l.few_tables; few_blocks = l.few_blocks; few_segments = l.few_segments }
 
-opening_holds : (shape : Shape) (blocks : List (List ℕ)) (number : ℕ) (rows : List TableRow) → Holds shape blocks number rows
-    → Holds shape blocks (last_scn (opened shape number rows).commits) (rows_at shape.blocks (opened shape number rows).commits (last_scn (opened shape number rows).commits))
-opening_holds shape blocks number rows holds =
-    subst (λ (n : ℕ). Holds shape blocks n (rows_at shape.blocks (opened shape number rows).commits n)) (omega arith)
-    (subst (λ (rs : List TableRow). Holds shape blocks number rs) (sym (rows_opened shape.blocks number rows)) holds)
-
-pub opened_restarts : (l : Layout) (blocks : List (List ℕ)) (h : State) (c : List ℕ) → OpensAs (shape_of l) blocks h → OpensTo l c blocks → Restarts (file_opens l) h c
-opened_restarts l blocks h c opening to = subst (λ (x : State). Restarts (file_opens l) x c) (sym opening.state) (record {
-  blocks = blocks;
-  opening = record { layout = l; shape_is = refl; slots_are = refl; opens = to };
-  holds = opening_holds (shape_of l) blocks opening.number opening.rows opening.holds;
-})
-
--- it has them at a later state too
-restarts_on_the_way : (l : Layout) (h h2 : State) (c : List ℕ) → Extends h h2 → Restarts (file_opens l) h c → OnTheWay (file_opens l) h h2 c
-restarts_on_the_way l h h2 c e r = reached (last_scn h.commits) (omega arith) (extends_later h h2 e) (record {
-  blocks = r.blocks;
-  opening = subst (λ (shape : Shape). file_opens l shape c r.blocks) (sym e.shape) r.opening;
-  holds = rows_later h h2 (last_scn h.commits) r.blocks e (omega arith) r.holds;
-})
-
--- two layouts of the same shape and slots have the same numbers
-numbers_of : (l m : Layout) → shape_of l ≡ shape_of m → l.log ≡ m.log → SameNumbers l m
-numbers_of l m shape log = record { tables = ap (λ (s : Shape). s.tables) shape; blocks = ap (λ (s : Shape). s.blocks) shape; segments = ap (λ (s : Shape). s.segments) shape; log = log }
-
--- to which blocks images of that many slots open
-abbrev pub images_open : ℕ → Shape → List ℕ → List (List ℕ) → Type 0
-images_open slots shape image blocks = Opens shape (Some slots) image blocks
-
--- what was given for the loads of a store over a disk
-pub record Loaded {D : Type 0} (d : DiskGhosts D) (old new : LapState D) : Type 0 where
-  pub shape : shape_of new.layout ≡ shape_of old.layout
-  pub log : new.layout.log ≡ old.layout.log
-  pub stable : (b : List (List ℕ)) → IsStable d old b → IsStable d new b
-  pub crashes : LeavesNoMore d.image d.moment d.image_since old.disk new.disk
-
--- and for the opening before them
+-- what the opening of a store gave
 pub record Found {D : Type 0} (d : DiskGhosts D) (old : D) (s : LapState D) : Type 0 where
   pub opens : OpensAt s.layout (d.content old) s.blocks s.lsn
-  pub stable : IsStable d s s.blocks
-  pub any_moment : OpensSame d old s.disk
-  pub only_now : (c : List ℕ) → d.image_since s.disk (d.moment s.disk) c → d.image s.disk c
+  pub stable : IsStable d s s.blocks s.lsn
+  pub none_waits : s.pending ≡ []
+  pub rests : Rests d old s.disk
+  pub only_old : (c : List ℕ) → d.image_since old (d.moment old) c → d.image old c
+
+-- Blocks are only one list with one number: what a sound file opens to is what was found in it.
+pub record Same {file : List ℕ} (sound : IsSound file) (l : Layout) (blocks : List (List ℕ)) (lsn : ℕ) : Type 0 where
+  pub log : l.log ≡ sound.store.layout.log
+  pub opening : OpensAs (shape_of l) blocks sound.state
+  pub logged : lsn ≡ logged_of (shape_of l) blocks
+  pub fits : owed_in (shape_of l) blocks ≤ room_of (Some l.log) lsn
+  pub next : sound.store.lsn + owed_in (shape_of sound.store.layout) sound.store.blocks ≡ lsn + owed_in (shape_of l) blocks
+
+can_move : (l m : Layout) (first second : List (List ℕ)) (n k : ℕ) → Agree l m first second n k → CanOpen (shape_of l) first (room_of (Some l.log) n) → CanOpen (shape_of m) second (room_of (Some m.log) k)
+can_move l m first second n k agree can =
+    subst (λ (slots : ℕ). CanOpen (shape_of m) second (room_of (Some slots) k)) agree.numbers.log
+    (subst (λ (number : ℕ). CanOpen (shape_of m) second (room_of (Some l.log) number)) agree.lsn
+    (subst (λ (b : List (List ℕ)). CanOpen (shape_of m) b (room_of (Some l.log) n)) agree.blocks
+    (subst (λ (shape : Shape). CanOpen shape first (room_of (Some l.log) n)) agree.shape can)))
+
+pub same_of : {file : List ℕ} (sound : IsSound file) (l : Layout) (blocks : List (List ℕ)) (lsn : ℕ) → OpensAt l file blocks lsn → Same sound l blocks lsn
+same_of {file} sound l blocks lsn opens =
+    let st = sound.store in
+    let agree = one_opening st.layout l file st.blocks blocks st.lsn lsn st.opens opens in
+    record {
+      log = sym agree.numbers.log;
+      opening = subst (λ (b : List (List ℕ)). OpensAs (shape_of l) b sound.state) agree.blocks (subst (λ (shape : Shape). OpensAs shape st.blocks sound.state) agree.shape sound.opening);
+      logged = sym (last_number l file blocks lsn opens);
+      fits = (can_move st.layout l st.blocks blocks st.lsn lsn agree st.can_open).fits;
+      next = ap (λ (n : ℕ). n + owed_in (shape_of st.layout) st.blocks) agree.lsn
+          ∙ ap (λ (shape : Shape). lsn + owed_in shape st.blocks) agree.shape
+          ∙ ap (λ (b : List (List ℕ)). lsn + owed_in (shape_of l) b) agree.blocks;
+    }
+
+-- moments of a store over a disk are those of the disk
+pub disk_leaves : {D : Type 0} (d : DiskGhosts D) (s : Ghosts (LapState D)) (old new : LapState D) (P : List ℕ → Type 0)
+    → LeavesOnly (λ (t : LapState D). d.moment t.disk) (λ (t : LapState D). d.image_since t.disk) old new P → Leaves d old.disk new.disk P
+disk_leaves d s old new P x = record { later = x.later; each = x.each; earlier = x.earlier }
 
 module _ {D : Type 0} (d : DiskGhosts D) (old : D) where
-  -- loads behind an opening leave what it left
-  pub loads_leave : (s new : LapState D) → Found d old s → Loaded d s new → OpensSame d old new.disk
-  loads_leave s new found loads = λ l blocks opens.
-      let here : (c : List ℕ) → d.image s.disk c → d.image old c ⊎ OpensTo l c blocks =
-      λ c is. inr (opens_alike s.layout l (d.content old) c s.blocks blocks found.opens.opens opens (stable_opens d s s.blocks c found.stable (found.stable.images c is))) in
-      joined d.moment d.image_since old s.disk new.disk (λ c. d.image old c ⊎ OpensTo l c blocks) (found.any_moment l blocks opens)
-      (still_leaves d.image d.moment d.image_since s.disk new.disk (λ c. d.image old c ⊎ OpensTo l c blocks) found.only_now here loads.crashes)
+  -- the store that was found is one
+  pub is_store : (s : LapState D) → Found d old s → CanOpen (shape_of s.layout) s.blocks (room_of (Some s.layout.log) s.lsn) → IsStore (d.content old)
+  is_store s found can = record { layout = s.layout; blocks = s.blocks; lsn = s.lsn; opens = found.opens; can_open = can }
 
-  -- and the file as it was
-  file_stays : (s new : LapState D) → Found d old s → Loaded d s new → (l : Layout) (blocks : List (List ℕ)) → OpensTo l (d.content old) blocks → OpensTo l (d.content new.disk) blocks
-  file_stays s new found loads l blocks opens =
-      let st = loads.stable s.blocks found.stable in
-      let here = opens_moves new.layout s.layout (d.content new.disk) s.blocks (numbers_of new.layout s.layout loads.shape loads.log) (stable_opens d new s.blocks (d.content new.disk) st st.file) in
-      opens_alike s.layout l (d.content old) (d.content new.disk) s.blocks blocks found.opens.opens opens here
+  -- where it was refused, the file is none
+  pub not_store : (s : LapState D) → Found d old s → (CanOpen (shape_of s.layout) s.blocks (room_of (Some s.layout.log) s.lsn) → ⊥) → IsStore (d.content old) → ⊥
+  not_store s found refused st =
+      refused (can_move st.layout s.layout st.blocks s.blocks st.lsn s.lsn (one_opening st.layout s.layout (d.content old) st.blocks s.blocks st.lsn s.lsn st.opens found.opens) st.can_open)
 
-  pub loads_alone : (s new : LapState D) → Found d old s → Loaded d s new → LeftAlone d old new.disk
-  loads_alone s new found loads = record {
-    file = file_stays s new found loads;
-    images = loads_leave s new found loads;
-    none = λ nothing. absurd (nothing s.layout s.blocks found.opens.opens);
-  }
+  -- what an opening left, of the store that was found
+  pub opens_same : (s : LapState D) (new : D) (sound : IsSound (d.content old)) → Found d old s → Leaves d s.disk new (Restarts Opens (Some s.layout.log) sound.state) → OpensSame d old new sound
+  opens_same s new sound found stays =
+      let P : List ℕ → Type 0 = λ c. d.image old c ⊎ Restarts Opens (Some sound.store.layout.log) sound.state c in
+      let same = same_of sound s.layout s.blocks s.lsn found.opens in
+      joined d.moment d.image_since old s.disk new P
+      (rests_leave d old s.disk P found.only_old (λ c here. inl here) found.rests)
+      (weaker d.moment d.image_since s.disk new (Restarts Opens (Some s.layout.log) sound.state) P
+      (λ c r. inr (subst (λ (k : ℕ). Restarts Opens (Some k) sound.state c) same.log r)) stays)
 
   -- calls that change nothing leave it alone
+  pub rests_same : (new : D) (sound : IsSound (d.content old)) → ((c : List ℕ) → d.image_since old (d.moment old) c → d.image old c) → Rests d old new → OpensSame d old new sound
+  rests_same new sound only_now still = rests_leave d old new (λ c. d.image old c ⊎ Restarts Opens (Some sound.store.layout.log) sound.state c) only_now (λ c here. inl here) still
+
   pub rests_alone : (new : D) → ((c : List ℕ) → d.image_since old (d.moment old) c → d.image old c) → Rests d old new → LeftAlone d old new
   rests_alone new only_now still = record {
-    file = λ l blocks opens. subst (λ (c : List ℕ). OpensTo l c blocks) (sym still.same) opens;
-    images = λ l blocks opens. rests_leave d old new (λ c. d.image old c ⊎ OpensTo l c blocks) only_now (λ c here. inl here) still;
+    file = λ l blocks lsn opens. subst (λ (c : List ℕ). OpensAt l c blocks lsn) (sym still.same) opens;
+    images = λ l blocks lsn opens. rests_leave d old new (λ c. d.image old c ⊎ OpensAt l c blocks lsn) only_now (λ c here. inl here) still;
     none = λ nothing. still;
   }
 
-  -- an engine over it
-  pub has_opened : (g : Ghosts (LapState D)) (s : LapState D) (e : EngineView (LapState D)) (h : State) → Found d old s → Loaded d s e.store → OpensAs (shape_of s.layout) s.blocks h
-      → CanOpen (shape_of s.layout) s.blocks s.lsn → StandsAs g e (record { state = h; lsn = s.lsn }) → HasOpened d g old e
-  has_opened g s e h found loads opening sound stands = record {
-    sound = record { layout = s.layout; blocks = s.blocks; lsn = s.lsn; opens = found.opens; can_open = sound };
-    state = h;
-    opening = opening;
-    slots = loads.log;
-    stands = stands;
-    any_moment = weaker d.moment d.image_since old e.store.disk (λ c. d.image old c ⊎ OpensTo s.layout c s.blocks) (λ c. d.image old c ⊎ Restarts (file_opens s.layout) h c)
-        (λ c p. ⊎_elim (λ was. inl was) (λ to. inr (opened_restarts s.layout s.blocks h c opening to)) p)
-        (loads_leave s e.store found loads s.layout s.blocks found.opens.opens);
+  -- and so do calls of the store that was found
+  pub stays_alone : (s : LapState D) (new : LapState D) → Found d old s → OpensAt s.layout (d.content new.disk) s.blocks s.lsn
+      → Leaves d s.disk new.disk (λ c. OpensAt s.layout c s.blocks s.lsn) → LeftAlone d old new.disk
+  stays_alone s new found file leaves = record {
+    file = λ l blocks lsn opens. opens_alike s.layout l (d.content old) (d.content new.disk) s.blocks blocks s.lsn lsn found.opens opens file;
+    images = λ l blocks lsn opens.
+        let P : List ℕ → Type 0 = λ c. d.image old c ⊎ OpensAt l c blocks lsn in
+        joined d.moment d.image_since old s.disk new.disk P
+        (rests_leave d old s.disk P found.only_old (λ c here. inl here) found.rests)
+        (weaker d.moment d.image_since s.disk new.disk (λ c. OpensAt s.layout c s.blocks s.lsn) P
+        (λ c at. inr (opens_alike s.layout l (d.content old) c s.blocks blocks s.lsn lsn found.opens opens at)) leaves);
+    none = λ nothing. absurd (nothing s.layout s.blocks s.lsn found.opens);
   }
 
-  -- where it was refused, the file isn't sound
-  pub not_sound : (s : LapState D) → Found d old s → (CanOpen (shape_of s.layout) s.blocks s.lsn → ⊥) → IsSound (d.content old) → ⊥
-  not_sound s found refused sound =
-      let agree = one_opening sound.layout s.layout (d.content old) sound.blocks s.blocks sound.opens.opens found.opens.opens in
-      let numbers = one_number sound.layout s.layout (d.content old) sound.blocks s.blocks sound.lsn s.lsn sound.opens found.opens in
-      refused (subst (λ (n : ℕ). CanOpen (shape_of s.layout) s.blocks n) numbers
-      (subst (λ (b : List (List ℕ)). CanOpen (shape_of s.layout) b sound.lsn) agree.blocks
-      (subst (λ (shape : Shape). CanOpen shape sound.blocks sound.lsn) agree.shape sound.can_open)))
+  -- an engine over it
+  pub has_opened : (g : Ghosts (LapState D)) (s : LapState D) (e : EngineView (LapState D)) (sound : IsSound (d.content old)) → Found d old s → e.store.layout.log ≡ s.layout.log
+      → g.slots e.store ≡ Some e.store.layout.log → Stands g sound.state e → g.lsn e.store ≡ s.lsn + owed_in (shape_of s.layout) s.blocks
+      → Leaves d s.disk e.store.disk (Restarts Opens (Some s.layout.log) sound.state) → HasOpened d g old e sound
+  has_opened g s e sound found slots ended stands lsn stays =
+      let same = same_of sound s.layout s.blocks s.lsn found.opens in
+      record {
+        slots = slots ∙ same.log;
+        stands = record { engine = stands; lsn = same.next ∙ sym lsn; ended = subst (λ (o : Option ℕ). o ≡ Some (slots_of o)) (sym ended) refl };
+        any_moment = opens_same s e.store.disk sound found stays;
+      }
 
   -- an opening, and the lines after it
-  pub endures : (g : Ghosts (LapState D)) (e : EngineView (LapState D)) (h2 : State) (new : D) (o : HasOpened d g old e) → Extends o.state h2
-      → Leaves d e.store.disk new (λ c. OnTheWay (images_open e.store.layout.log) o.state h2 c) → ((c : List ℕ) → d.image new c → AtEnd (images_open e.store.layout.log) h2 c)
-      → Endures d old new o.sound.layout o.state h2
-  endures g e h2 new o extends any end =
-      let l = o.sound.layout in
+  pub endures : (g : Ghosts (LapState D)) (e : EngineView (LapState D)) (h2 : State) (new : D) (sound : IsSound (d.content old)) → HasOpened d g old e sound → Extends sound.state h2
+      → Leaves d e.store.disk new (OnTheWay Opens (Some e.store.layout.log) sound.state h2) → ((c : List ℕ) → d.image new c → AtEnd Opens (Some e.store.layout.log) h2 c)
+      → Endures d old new sound.store.layout sound.state h2
+  endures g e h2 new sound o extends any end =
+      let l = sound.store.layout in
+      let h = sound.state in
+      let P : List ℕ → Type 0 = λ c. d.image old c ⊎ OnTheWay Opens (Some l.log) h h2 c in
       record {
-        any_moment = joined d.moment d.image_since old e.store.disk new (λ c. d.image old c ⊎ OnTheWay (file_opens l) o.state h2 c)
-            (weaker d.moment d.image_since old e.store.disk (λ c. d.image old c ⊎ Restarts (file_opens l) o.state c) (λ c. d.image old c ⊎ OnTheWay (file_opens l) o.state h2 c)
-            (λ c p. ⊎_elim (λ was. inl was) (λ r. inr (restarts_on_the_way l o.state h2 c extends r)) p) o.any_moment)
-            (weaker d.moment d.image_since e.store.disk new (λ c. OnTheWay (images_open e.store.layout.log) o.state h2 c) (λ c. d.image old c ⊎ OnTheWay (file_opens l) o.state h2 c)
-            (λ c way. inr (subst (λ (k : ℕ). OnTheWay (images_open k) o.state h2 c) o.slots way)) any);
-        now_only = λ c here. subst (λ (k : ℕ). AtEnd (images_open k) h2 c) o.slots (end c here);
+        any_moment = joined d.moment d.image_since old e.store.disk new P
+            (weaker d.moment d.image_since old e.store.disk (λ c. d.image old c ⊎ Restarts Opens (Some l.log) h c) P
+            (λ c p. ⊎_elim (λ was. inl was) (λ r. inr (restarts_on_the_way (Some l.log) h h2 c extends r)) p) o.any_moment)
+            (weaker d.moment d.image_since e.store.disk new (OnTheWay Opens (Some e.store.layout.log) h h2) P
+            (λ c way. inr (subst (λ (k : ℕ). OnTheWay Opens (Some k) h h2 c) o.slots way)) any);
+        now_only = λ c here. subst (λ (k : ℕ). AtEnd Opens (Some k) h2 c) o.slots (end c here);
       }
 
   -- what was done over the engine was done over the file
-  module _ (g : Ghosts (LapState D)) (e : EngineView (LapState D)) (o : HasOpened d g old e) where
-    abbrev start : Logged
-    start = record { state = o.state; lsn = o.sound.lsn }
-
-    abbrev pub ran_over : (now : Logged) (lines : List (List ℕ)) (tells : Type 0) (before held : List ℕ) (endures : Layout → State → State → Type 0)
-        → Ran e.store.layout.log start now lines tells before held → endures o.sound.layout o.state now.state → RanOver (d.content old) lines tells before held endures
-    ran_over now lines tells before held endures ran endured = record {
-      sound = o.sound;
-      state = o.state;
-      opening = o.opening;
-      did = record { now = now; ran = subst (λ (k : ℕ). Ran k start now lines tells before held) o.slots ran; endured = endured };
-    }
-
+  module _ (g : Ghosts (LapState D)) (e : EngineView (LapState D)) (sound : IsSound (d.content old)) (o : HasOpened d g old e sound) where
     pub has_run : (now : Logged) (lines : List (List ℕ)) (tells : Type 0) (before held : List ℕ) (endures : Layout → State → State → Type 0)
-        → Ran e.store.layout.log start now lines tells before held → now.state.stopped ≡ false → endures o.sound.layout o.state now.state → HasRun (d.content old) lines tells before held endures
-    has_run now lines tells before held endures ran going endured = record { run = ran_over now lines tells before held endures ran endured; going = going }
+        → Ran e.store.layout.log (first_of sound) now lines tells before held → now.state.stopped ≡ false → endures sound.store.layout sound.state now.state → HasRun sound lines tells before held endures
+    has_run now lines tells before held endures ran going endured = record {
+      run = record { now = now; ran = subst (λ (k : ℕ). Ran k (first_of sound) now lines tells before held) o.slots ran; endured = endured };
+      going = going;
+    }
 
     pub has_halted : (now : Logged) (left left2 : List ℕ) (tells : Type 0) (before held : List ℕ) (endures : Layout → State → State → Type 0)
-        → Halted e.store.layout.log SCRIPT_BYTES start now left left2 tells before held → endures o.sound.layout o.state now.state → HasHalted (d.content old) left left2 tells before held endures
-    has_halted now left left2 tells before held endures halted endured = record {
-      run = ran_over now (lines_of left) tells before held endures (all_ran e.store.layout.log SCRIPT_BYTES start now left left2 tells before held halted) endured;
-      halted = subst (λ (k : ℕ). Halted k SCRIPT_BYTES start now left left2 tells before held) o.slots halted;
-    }
+        → Halted e.store.layout.log SCRIPT_BYTES (first_of sound) now left left2 tells before held → endures sound.store.layout sound.state now.state → HasHalted sound left left2 tells before held endures
+    has_halted now left left2 tells before held endures halted endured =
+        let here = subst (λ (k : ℕ). Halted k SCRIPT_BYTES (first_of sound) now left left2 tells before held) o.slots halted in
+        record {
+          run = record { now = now; ran = all_ran sound.store.layout.log SCRIPT_BYTES (first_of sound) now left left2 tells before held here; endured = endured };
+          halted = here;
+        }
 
     pub was_cut_off : (now : Logged) (lines : List (List ℕ)) (before held : List ℕ) (endures : Layout → State → State → Type 0)
-        → CutOff e.store.layout.log start now lines before held → endures o.sound.layout o.state now.state → WasCutOff (d.content old) lines before held endures
+        → CutOff e.store.layout.log (first_of sound) now lines before held → endures sound.store.layout sound.state now.state → WasCutOff sound lines before held endures
     was_cut_off now lines before held endures cut endured = record {
-      sound = o.sound;
-      state = o.state;
-      opening = o.opening;
       now = now;
-      cut = subst (λ (k : ℕ). CutOff k start now lines before held) o.slots cut;
+      cut = subst (λ (k : ℕ). CutOff k (first_of sound) now lines before held) o.slots cut;
       endured = endured;
     }
 
--- a file that opens to nothing isn't sound
-pub no_opening : (file : List ℕ) → OpensToNone file → IsSound file → ⊥
-no_opening file none sound = none sound.layout sound.blocks sound.opens.opens
-
--- a fault that is none of the disk
-pub neither_failed : {P : Type 0} (fault : OpenFault) → (fault ≡ Failed → ⊥) → (fault ≡ faults.NotAStore → P) → (fault ≡ faults.NoMemory → P) → P
-neither_failed Failed other store memory = absurd (other refl)
-neither_failed faults.NotAStore other store memory = store refl
-neither_failed faults.NoMemory other store memory = memory refl
+-- a file that opens to nothing is no store
+pub no_opening : (file : List ℕ) → OpensToNone file → IsStore file → ⊥
+no_opening file none st = none st.layout st.blocks st.lsn st.opens
 
 -- what is left where nothing failed
 pub complete_format : (status : Status) → EndsFormat status → (status ≡ DiskFault → ⊥) → (status ≡ NotEmpty → ⊥) → status ≡ Done

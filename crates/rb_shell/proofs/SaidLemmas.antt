@@ -5,10 +5,9 @@ use Rattle.std.proofs.lemmas.List.{append-nil, length-append, length-set, drop-a
 use Rattle.std.proofs.Math.Seq.{drop-append_seam, take-add, take-nil}
 use Rattle.std.specs.Bool.{MatchBool}
 use Rattle.std.specs.List.{list_all}
-use Rattle.std.specs.Prelude.{not, IfErr, OnErr, OnOk, Option, Some}
+use Rattle.std.specs.Prelude.{not, if◌then◌else◌, IfErr, OnErr, OnOk, Option, None, Some}
 use Rattle.rb_base.specs.declared.store.Store.{Ghosts}
-use Rattle.rb_engine.specs.Does.{Does, SameStore}
-use Rattle.rb_engine.specs.Engine.{EngineView, room_left}
+use Rattle.rb_engine.specs.Does.{Does, EngineView, SameStore, room_left}
 use Rattle.rb_lines.specs.Ran.{CutShort, Did, Replied, RepliedAs, SameButCursors}
 use Rattle.rb_lines.specs.declared.runner.StepFault.{StepFault}
 use Rattle.rb_lines.specs.declared.runner.StepFault.TheVariants.{Disk, Sink}
@@ -16,21 +15,24 @@ use Rattle.rb_model.specs.Answers.{answer_of}
 use Rattle.rb_model.specs.declared.answer.Answer as code
 use Rattle.rb_model.specs.declared.answer.Answer.TheVariants as answers
 use Rattle.rb_model.specs.declared.row.Row.{Row}
-use Rattle.rb_model.specs.Lines.{reply_text}
-use Rattle.rb_model.specs.Out.{Logged, room, CallOut, CallsOut, is_given}
-use Rattle.rb_model.specs.Reply.{Answer, Call, Fetch, Done, Waits, Numbered, Given, End, Refused, Reply, after, after_grant, early_tests, expected, granted, is_fault, later_tests}
-use Rattle.rb_model.specs.State.{State, Session, Cursor, fresh_session, session_of, with_taken}
-use Rattle.rb_model.proofs.Stops.{after_same_stop, after_stops, expected_fine, first_keeps, refused_same}
+use Rattle.rb_model.specs.Calls.{Action, Answer, Call, Write, Commit, Rollback, OpenCursor, Fetch, CloseCursor, Marks, Checkpoint, Done, Waits, Numbered, Given, End, Marked, Refused, Reply, early, later, cursor_tests, early_tests, first_of, granted, is_fault, none_applies, waited, write_tests}
+use Rattle.rb_model.specs.Calls as calls
+use Rattle.rb_model.specs.Lines.{Command, WriteLine, CommitLine, RollbackLine, OpenLine, FetchLine, CloseLine, MarksLine, CheckpointLine, call_of, caller, reply_text}
+use Rattle.rb_model.specs.NextState.{After, Grows, cursors_of, with_cursors, with_taken}
+use Rattle.rb_model.specs.Out.{Logged, room, CallOut, CallsOut, goes_on}
+use Rattle.rb_model.specs.State.{State, Session, Cursor, no_session}
+use Rattle.rb_model.proofs.Stops.{after_stops, early_no_fault, fine_stays, first_keeps, granted_fine}
+use Rattle.rb_model.specs.Tests.{holder}
 use Rattle.rb_shell.specs.Since.{IsSince, StandsAs, slots_of}
 use Rattle.rb_shell.specs.Steps.{Added, CalledOnce, Calls, Lost, Said, SaidAs, SaidSoFar, Told}
 
 -- a state and itself, and what differs by fetches
 
 pub itself : (m : Logged) → SameButCursors m m
-itself m = record { lsn = refl; shape = refl; commits = refl; sessions = refl; own = λ s. refl; stopped = refl }
+itself m = record { lsn = refl; shape = refl; commits = refl; books = refl; sessions = refl; own = λ s. refl; stopped = refl }
 
 same_joined : (a b c : Logged) → SameButCursors a b → SameButCursors b c → SameButCursors a c
-same_joined a b c x y = record { lsn = x.lsn ∙ y.lsn; shape = x.shape ∙ y.shape; commits = x.commits ∙ y.commits; sessions = x.sessions ∙ y.sessions; own = λ s. x.own s ∙ y.own s; stopped = x.stopped ∙ y.stopped }
+same_joined a b c x y = record { lsn = x.lsn ∙ y.lsn; shape = x.shape ∙ y.shape; commits = x.commits ∙ y.commits; books = x.books ∙ y.books; sessions = x.sessions ∙ y.sessions; own = λ s. x.own s ∙ y.own s; stopped = x.stopped ∙ y.stopped }
 
 own_stays : (sessions : List Session) (i j : ℕ) (d : Session) (cursors : List Cursor) → (get_or (set sessions i (record { own = (get_or sessions i d).own; cursors = cursors })) j d).own ≡ (get_or sessions j d).own
 own_stays [] i j d cursors = refl
@@ -39,64 +41,129 @@ own_stays (x ∷ sessions) zero (suc j) d cursors = refl
 own_stays (x ∷ sessions) (suc i) zero d cursors = refl
 own_stays (x ∷ sessions) (suc i) (suc j) d cursors = own_stays sessions i j d cursors
 
-taken_same : (h : State) (s : ℕ) (name : List ℕ) (n : ℕ) → SameButCursors (record { state = after_grant h (Fetch s name); lsn = n }) (record { state = h; lsn = n })
-taken_same h s name n = record { lsn = refl; shape = refl; commits = refl; sessions = length-set h.sessions (s - 1) _; own = λ t. own_stays h.sessions (s - 1) (t - 1) fresh_session (with_taken name (session_of h s).cursors); stopped = refl }
+taken_same : (h : State) (s : ℕ) (name : List ℕ) (n : ℕ) → SameButCursors (record { state = with_cursors h s (with_taken name (cursors_of h s)); lsn = n }) (record { state = h; lsn = n })
+taken_same h s name n = record { lsn = refl; shape = refl; commits = refl; books = refl; sessions = length-set h.sessions (s - 1) _; own = λ t. own_stays h.sessions (s - 1) (t - 1) no_session (with_taken name (cursors_of h s)); stopped = refl }
 
-fetch_same : (h : State) (n s : ℕ) (name : List ℕ) (r : Answer) → is_fault r ≡ false → SameButCursors (record { state = after h (Fetch s name) r; lsn = n }) (record { state = h; lsn = n })
-fetch_same h n s name Done e = taken_same h s name n
-fetch_same h n s name (Waits on) e = itself (record { state = h; lsn = n })
-fetch_same h n s name (Numbered k) e = taken_same h s name n
-fetch_same h n s name (Given key value) e = taken_same h s name n
-fetch_same h n s name End e = itself (record { state = h; lsn = n })
-fetch_same h n s name (Refused why) e = subst (λ (x : State). SameButCursors (record { state = x; lsn = n }) (record { state = h; lsn = n })) (sym (refused_same h why e)) (itself (record { state = h; lsn = n }))
+-- A state after a call that reads, whatever it answered but a fault, and no group that it gave.
+abbrev AfterRead : State → ℕ → Call → Answer → Type 0
+AfterRead h n c r = (h2 : State) × After h c r h2 × Grows h c r 0 × SameButCursors (record { state = h2; lsn = n }) (record { state = h; lsn = n })
 
--- only a fetch gives a row
+same_after : (h : State) (n : ℕ) (c : Call) (r : Answer) → After h c r h → Grows h c r 0 → AfterRead h n c r
+same_after h n c r after grows = (h, after, grows, itself (record { state = h; lsn = n }))
 
-tests_give_none : (h : State) (number more : ℕ) (c : Call) → list_all (λ test. not (is_given test.1)) (early_tests h c ++ later_tests h number more c) ≡ true
-tests_give_none h number more c = grind arith
+after_fetch : (h : State) (n s : ℕ) (name : List ℕ) (r : Answer) → is_fault r ≡ false → AfterRead h n (Fetch s name) r
+after_fetch h n s name Done e = (with_cursors h s (with_taken name (cursors_of h s)), refl, refl, taken_same h s name n)
+after_fetch h n s name (Waits on) e = same_after h n (Fetch s name) (Waits on) refl refl
+after_fetch h n s name (Numbered k) e = (with_cursors h s (with_taken name (cursors_of h s)), refl, refl, taken_same h s name n)
+after_fetch h n s name (Given key value) e = (with_cursors h s (with_taken name (cursors_of h s)), refl, refl, taken_same h s name n)
+after_fetch h n s name End e = same_after h n (Fetch s name) End refl refl
+after_fetch h n s name (Marked seg writes lost) e = same_after h n (Fetch s name) (Marked seg writes lost) refl refl
+after_fetch h n s name (Refused why) e = same_after h n (Fetch s name) (Refused why) (subst (λ (b : Bool). h ≡ (if b then record h { stopped = true } else h)) (sym e) refl) refl
 
--- a call is a fetch, or it is granted no row
-granted_none : (h : State) (c : Call) → ((s : ℕ) × (name : List ℕ) × (c ≡ Fetch s name)) ⊎ (not (is_given (granted h c)) ≡ true)
-granted_none h (Fetch s name) = inl (s, name, refl)
-granted_none h c = inr (grind arith)
+after_marks : (h : State) (n seg : ℕ) (r : Answer) → is_fault r ≡ false → AfterRead h n (Marks seg) r
+after_marks h n seg Done e = same_after h n (Marks seg) Done refl refl
+after_marks h n seg (Waits on) e = same_after h n (Marks seg) (Waits on) refl refl
+after_marks h n seg (Numbered k) e = same_after h n (Marks seg) (Numbered k) refl refl
+after_marks h n seg (Given key value) e = same_after h n (Marks seg) (Given key value) refl refl
+after_marks h n seg End e = same_after h n (Marks seg) End refl refl
+after_marks h n seg (Marked g writes lost) e = same_after h n (Marks seg) (Marked g writes lost) refl refl
+after_marks h n seg (Refused why) e = same_after h n (Marks seg) (Refused why) (subst (λ (b : Bool). h ≡ (if b then record h { stopped = true } else h)) (sym e) refl) refl
 
-gives_none : (h : State) (number more : ℕ) (c : Call) → ((s : ℕ) × (name : List ℕ) × (c ≡ Fetch s name)) ⊎ (is_given (expected h number more c) ≡ false)
-gives_none h number more c = ⊎_elim (λ fetch. inl fetch)
-    (λ none. inr (not-true (is_given (expected h number more c))
-    (first_keeps (λ r. not (is_given r)) (early_tests h c ++ later_tests h number more c) (granted h c) (tests_give_none h number more c) none)))
-    (granted_none h c)
+-- the commands that make more than one call
+abbrev pub Reads : Command → Type 0
+Reads c = ((s : ℕ) × (name : List ℕ) × (count : ℕ) × (c ≡ FetchLine s name count)) ⊎ (c ≡ MarksLine)
 
--- a call that gave a row was a fetch
-pub given_fetches : (h : State) (number more : ℕ) (c : Call) (r : Answer) → Reply h number more c r → is_given r ≡ true → (s : ℕ) × (name : List ℕ) × (c ≡ Fetch s name)
-given_fetches h number more c r reply gives =
-    ⊎_elim (λ is. is) (λ none. absurd (⊎_elim
-    (λ (e : r ≡ expected h number more c). false≢true (sym none ∙ ap is_given (sym e) ∙ gives))
-    (λ e. false≢true (ap is_given (sym e.0) ∙ gives)) reply)) (gives_none h number more c)
+-- a call of theirs has an answer that is no fault, and leaves all but cursors
+record Answered (h : State) (n more : ℕ) (c : Call) : Type 0 where
+  answer : Answer
+  reply : Reply h n more c answer
+  after : AfterRead h n c answer
+
+answered_by : (h : State) (n more : ℕ) (c : Call) → ((r : Answer) → none_applies (early_tests h c) ≡ true → r ≡ first_of (cursor_tests h c) (granted h c) → Reply h n more c r)
+    → ((r : Answer) → is_fault r ≡ false → AfterRead h n c r) → is_fault (first_of (cursor_tests h c) (granted h c)) ≡ false → Answered h n more c
+answered_by h n more c tested leaves fine = ⊎_elim
+    (λ yes. record { answer = first_of (cursor_tests h c) (granted h c); reply = tested _ yes refl; after = leaves _ fine })
+    (λ no. record { answer = first_of (early_tests h c) Done; reply = early no refl; after = leaves _ (early_no_fault h c) })
+    (cases_Bool (none_applies (early_tests h c)))
+
+late_fine : (h : State) (c : Call) → is_fault (first_of (cursor_tests h c) (granted h c)) ≡ false
+late_fine h c = not-true (is_fault (first_of (cursor_tests h c) (granted h c))) (first_keeps (λ r. not (is_fault r)) (cursor_tests h c) (granted h c) (tests_fine h c) (granted_fine h c))
+  where
+    tests_fine : (h : State) (c : Call) → list_all (λ test. not (is_fault test.1)) (cursor_tests h c) ≡ true
+    tests_fine h c = grind arith
+
+answered : (h : State) (n more : ℕ) (c : Command) (k : ℕ) → Reads c → Answered h n more (call_of c k)
+answered h n more c k reading = ⊎_elim
+    (λ f. subst (λ (x : Command). Answered h n more (call_of x k)) (sym f.3) (answered_by h n more (Fetch f.0 f.1) (λ r yes is. later (cursor_tests h (Fetch f.0 f.1)) yes refl is) (λ r fine. after_fetch h n f.0 f.1 r fine) (late_fine h (Fetch f.0 f.1))))
+    (λ f. subst (λ (x : Command). Answered h n more (call_of x k)) (sym f) (answered_by h n more (Marks k) (λ r yes is. later (cursor_tests h (Marks k)) yes refl is) (λ r fine. after_marks h n k r fine) (late_fine h (Marks k))))
+    reading
+
+-- after an answer of each other command it makes no call more
+
+waited_ends : (s : ℕ) (o : Option ℕ) → list_all (λ test. not (goes_on test.1)) (waited s o) ≡ true
+waited_ends s None = refl
+waited_ends s (Some u) = refl
+
+early_ends : (h : State) (c : Call) → goes_on (first_of (early_tests h c) Done) ≡ false
+early_ends h c = not-true (goes_on (first_of (early_tests h c) Done)) (first_keeps (λ r. not (goes_on r)) (early_tests h c) Done (tests_end h c) refl)
+  where
+    tests_end : (h : State) (c : Call) → list_all (λ test. not (goes_on test.1)) (early_tests h c) ≡ true
+    tests_end h c = grind arith
+
+write_ends : (h : State) (n more g i s table key : ℕ) (action : Action) → goes_on (first_of (write_tests h n more g i s table key action) Done) ≡ false
+write_ends h n more g i s table key action = not-true (goes_on (first_of (write_tests h n more g i s table key action) Done)) (first_keeps (λ r. not (goes_on r)) (write_tests h n more g i s table key action) Done (tests_end (holder h table key)) refl)
+  where
+    tests_end : (o : Option ℕ) → list_all (λ test. not (goes_on test.1)) (write_tests h n more g i s table key action) ≡ true
+    tests_end o = grind (arith, waited_ends)
+
+cursor_ends : (h : State) (c : Call) → not (goes_on (granted h c)) ≡ true → goes_on (first_of (cursor_tests h c) (granted h c)) ≡ false
+cursor_ends h c none = not-true (goes_on (first_of (cursor_tests h c) (granted h c))) (first_keeps (λ r. not (goes_on r)) (cursor_tests h c) (granted h c) (tests_end h c) none)
+  where
+    tests_end : (h : State) (c : Call) → list_all (λ test. not (goes_on test.1)) (cursor_tests h c) ≡ true
+    tests_end h c = grind arith
+
+-- what answers so
+clash : {P : Type 0} (r q : Answer) → r ≡ q → goes_on q ≡ false → goes_on r ≡ true → P
+clash r q is none gives = absurd (false≢true (sym none ∙ ap goes_on (sym is) ∙ gives))
+
+commit_ends : (h : State) (s : ℕ) → not (goes_on (granted h (Commit s))) ≡ true
+commit_ends h s = grind arith
+
+reads : (c : Command) (k : ℕ) (h : State) (n more : ℕ) (r : Answer) → Reply h n more (call_of c k) r → goes_on r ≡ true → Reads c
+reads c k h n more r (early some is) gives = clash r _ is (early_ends h (call_of c k)) gives
+reads c k h n more r (calls.fault none is) gives = clash r _ is refl gives
+reads (FetchLine s name count) k h n more r (later tests none which is) gives = inl (s, name, count, refl)
+reads MarksLine k h n more r (later tests none which is) gives = inr refl
+reads (WriteLine s table key action) k h n more r (later tests none (g, i, w, e) is) gives = clash r _ (is ∙ ap (λ (ts : List (Bool × Answer)). first_of ts Done) e) (write_ends h n more g i s table key action) gives
+reads (CommitLine s) k h n more r (later tests none which is) gives = clash r _ (is ∙ ap (λ (ts : List (Bool × Answer)). first_of ts (granted h (Commit s))) which) (cursor_ends h (Commit s) (commit_ends h s)) gives
+reads (RollbackLine s) k h n more r (later tests none which is) gives = clash r _ (is ∙ ap (λ (ts : List (Bool × Answer)). first_of ts Done) which) refl gives
+reads (OpenLine s name table lo hi) k h n more r (later tests none which is) gives = clash r _ (is ∙ ap (λ (ts : List (Bool × Answer)). first_of ts Done) which) (cursor_ends h (OpenCursor s name table lo hi) refl) gives
+reads (CloseLine s name) k h n more r (later tests none which is) gives = clash r _ (is ∙ ap (λ (ts : List (Bool × Answer)). first_of ts Done) which) (cursor_ends h (CloseCursor s name) refl) gives
+reads CheckpointLine k h n more r (later tests none which is) gives = clash r _ (is ∙ ap (λ (ts : List (Bool × Answer)). first_of ts Done) which) refl gives
 
 -- calls one after another
 
-once_more : (m mid end : Logged) (slots s : ℕ) (c : Call) (more : ℕ) (r : Answer) (rest : List ℕ) → CallOut m slots c r mid → is_given r ≡ true → CallsOut mid slots s c more rest end → CallsOut m slots s c (suc more) (reply_text s r ++ rest) end
-once_more m mid end slots s c more r rest once gives f =
-    (r, rest, mid, once, refl, subst (λ (b : Bool). MatchBool b (CallsOut mid slots s c more rest end) ((rest ≡ []) × (end ≡ mid))) (sym gives) f)
+once_more : (m mid end : Logged) (slots : ℕ) (c : Command) (k more : ℕ) (r : Answer) (rest : List ℕ) → CallOut m slots (call_of c k) r mid → goes_on r ≡ true → CallsOut mid slots c (suc k) more rest end → CallsOut m slots c k (suc more) (reply_text (caller c) r ++ rest) end
+once_more m mid end slots c k more r rest once gives f =
+    (r, rest, mid, once, refl, subst (λ (b : Bool). MatchBool b (CallsOut mid slots c (suc k) more rest end) ((rest ≡ []) × (end ≡ mid))) (sym gives) f)
 
-once_last : (m mid : Logged) (slots s : ℕ) (c : Call) (more : ℕ) (r : Answer) → CallOut m slots c r mid → is_given r ≡ false → CallsOut m slots s c (suc more) (reply_text s r) mid
-once_last m mid slots s c more r once gives =
+once_last : (m mid : Logged) (slots : ℕ) (c : Command) (k more : ℕ) (r : Answer) → CallOut m slots (call_of c k) r mid → goes_on r ≡ false → CallsOut m slots c k (suc more) (reply_text (caller c) r) mid
+once_last m mid slots c k more r once gives =
     let none : ◌≡◌ {A = List ℕ} [] [] = refl in
-    (r, [], mid, once, sym (append-nil (reply_text s r)), subst (λ (b : Bool). MatchBool b (CallsOut mid slots s c more [] mid) (◌≡◌ {A = List ℕ} [] [] × (mid ≡ mid))) (sym gives) (none, refl))
+    (r, [], mid, once, sym (append-nil (reply_text (caller c) r)), subst (λ (b : Bool). MatchBool b (CallsOut mid slots c (suc k) more [] mid) (◌≡◌ {A = List ℕ} [] [] × (mid ≡ mid))) (sym gives) (none, refl))
 
 -- there is always a reply to go on with
-some_fetches : (more : ℕ) (m : Logged) (slots s t : ℕ) (name : List ℕ) → (out : List ℕ) × (end : Logged) × SameButCursors end m × CallsOut m slots s (Fetch t name) more out end
-some_fetches zero m slots s t name = ([], m, itself m, (refl, refl))
-some_fetches (suc more) m slots s t name =
-    let r = expected m.state m.lsn (room slots m.lsn) (Fetch t name) in
-    let mid : Logged = record { state = after m.state (Fetch t name) r; lsn = m.lsn } in
-    let rest = some_fetches more mid slots s t name in
-    let same : SameButCursors mid m = fetch_same m.state m.lsn t name r (expected_fine m.state m.lsn (room slots m.lsn) (Fetch t name)) in
-    let once : CallOut m slots (Fetch t name) r mid = record { reply = inl refl; state = refl; groups = 0; grows = λ going. refl; lsn = λ going. omega arith } in
+some_calls : (more : ℕ) (m : Logged) (slots : ℕ) (c : Command) (k : ℕ) → Reads c → (out : List ℕ) × (end : Logged) × SameButCursors end m × CallsOut m slots c k more out end
+some_calls zero m slots c k reading = ([], m, itself m, (refl, refl))
+some_calls (suc more) m slots c k reading =
+    let a = answered m.state m.lsn (room slots m.lsn) c k reading in
+    let mid : Logged = record { state = a.after.0; lsn = m.lsn } in
+    let rest = some_calls more mid slots c (suc k) reading in
+    let once : CallOut m slots (call_of c k) a.answer mid = record { reply = a.reply; state = a.after.1; groups = 0; grows = λ going. a.after.2; lsn = λ going. omega arith } in
     ⊎_elim
-    (λ g. (reply_text s r ++ rest.0, rest.1, same_joined rest.1 mid m rest.2 same, once_more m mid rest.1 slots s (Fetch t name) more r rest.0 once g rest.3))
-    (λ g. (reply_text s r, mid, same, once_last m mid slots s (Fetch t name) more r once g))
-    (cases_Bool (is_given r))
+    (λ g. (reply_text (caller c) a.answer ++ rest.0, rest.1, same_joined rest.1 mid m rest.2 a.after.3, once_more m mid rest.1 slots c k more a.answer rest.0 once g rest.3))
+    (λ g. (reply_text (caller c) a.answer, mid, a.after.3, once_last m mid slots c k more a.answer once g))
+    (cases_Bool (goes_on a.answer))
 
 -- texts that were added, of which some were sent
 
@@ -141,12 +208,12 @@ lost_holds tells before held waiting held2 out sent holds waits lost t =
           ∙ append_assoc before (take sent out) (take l.0 (drop sent out)) ∙ ap (λ (xs : List ℕ). before ++ xs) (sym (take-add sent l.0 out)),
     )
 
--- calls of a line, each with a row
+-- calls of a line, each of which goes on
 
-pub so_far_none : (m : Logged) (slots s : ℕ) (c : Call) (tells : Type 0) (before waiting : List ℕ) → waiting ≡ [] → m.state.stopped ≡ false → SaidSoFar m slots s c 0 m tells before before waiting
-so_far_none m slots s c tells before waiting none going = record {
+pub so_far_none : (m : Logged) (slots : ℕ) (c : Command) (tells : Type 0) (before waiting : List ℕ) → waiting ≡ [] → m.state.stopped ≡ false → SaidSoFar m slots c 0 m tells before before waiting
+so_far_none m slots c tells before waiting none going = record {
   out = [];
-  goes_on = λ more rest end f. subst (λ (n : ℕ). CallsOut m slots s c n rest end) (omega arith) f;
+  goes_on = λ more rest end f. subst (λ (n : ℕ). CallsOut m slots c 0 n rest end) (omega arith) f;
   sent = 0;
   few = omega arith;
   holds = λ told. sym (append-nil before);
@@ -154,16 +221,21 @@ so_far_none m slots s c tells before waiting none going = record {
   going = going;
 }
 
-pub so_far_more : (start m mid : Logged) (slots s : ℕ) (c : Call) (count : ℕ) (r : Answer) (tells : Type 0) (before held waiting held2 waiting2 : List ℕ) → SaidSoFar start slots s c count m tells before held waiting
-    → CalledOnce m slots s c r mid tells held waiting held2 waiting2 → is_given r ≡ true → mid.state.stopped ≡ false → SaidSoFar start slots s c (count + 1) mid tells before held2 waiting2
-so_far_more start m mid slots s c count r tells before held waiting held2 waiting2 so once gives going =
-    let a = added_holds tells before held waiting held2 waiting2 so.out (reply_text s r) so.sent so.few so.holds so.waits once.added in
+-- from the next call on
+next_on : (mid end : Logged) (slots : ℕ) (c : Command) (count more : ℕ) (rest : List ℕ) → CallsOut mid slots c (count + 1) more rest end → CallsOut mid slots c (suc count) more rest end
+next_on mid end slots c count more rest f = subst (λ (k : ℕ). CallsOut mid slots c k more rest end) (omega arith) f
+
+pub so_far_more : (start m mid : Logged) (slots : ℕ) (c : Command) (count : ℕ) (r : Answer) (tells : Type 0) (before held waiting held2 waiting2 : List ℕ) → SaidSoFar start slots c count m tells before held waiting
+    → CalledOnce m slots (caller c) (call_of c count) r mid tells held waiting held2 waiting2 → goes_on r ≡ true → mid.state.stopped ≡ false → SaidSoFar start slots c (count + 1) mid tells before held2 waiting2
+so_far_more start m mid slots c count r tells before held waiting held2 waiting2 so once gives going =
+    let text = reply_text (caller c) r in
+    let a = added_holds tells before held waiting held2 waiting2 so.out text so.sent so.few so.holds so.waits once.added in
     record {
-      out = so.out ++ reply_text s r;
+      out = so.out ++ text;
       goes_on = λ more rest end f.
-          subst (λ (n : ℕ). CallsOut start slots s c n ((so.out ++ reply_text s r) ++ rest) end) (omega arith)
-          (subst (λ (xs : List ℕ). CallsOut start slots s c (count + suc more) xs end) (sym (append_assoc so.out (reply_text s r) rest))
-          (so.goes_on (suc more) (reply_text s r ++ rest) end (once_more m mid end slots s c more r rest once.made gives f)));
+          subst (λ (n : ℕ). CallsOut start slots c 0 n ((so.out ++ text) ++ rest) end) (omega arith)
+          (subst (λ (xs : List ℕ). CallsOut start slots c 0 (count + suc more) xs end) (sym (append_assoc so.out text rest))
+          (so.goes_on (suc more) (text ++ rest) end (once_more m mid end slots c count more r rest once.made gives (next_on mid end slots c count more rest f))));
       sent = a.0;
       few = a.1.0;
       holds = a.1.1;
@@ -171,24 +243,24 @@ so_far_more start m mid slots s c count r tells before held waiting held2 waitin
       going = going;
     }
 
-so_far_last : (start m mid : Logged) (slots s : ℕ) (c : Call) (count all : ℕ) (r : Answer) (tells : Type 0) (before held waiting : List ℕ) (so : SaidSoFar start slots s c count m tells before held waiting) → count < all
-    → CallOut m slots c r mid → is_given r ≡ false → CallsOut start slots s c all (so.out ++ reply_text s r) mid
-so_far_last start m mid slots s c count all r tells before held waiting so lt once gives =
-    subst (λ (n : ℕ). CallsOut start slots s c n (so.out ++ reply_text s r) mid) (omega (arith, lt)) (so.goes_on (suc (all - (count + 1))) (reply_text s r) mid (once_last m mid slots s c (all - (count + 1)) r once gives))
+so_far_last : (start m mid : Logged) (slots : ℕ) (c : Command) (count all : ℕ) (r : Answer) (tells : Type 0) (before held waiting : List ℕ) (so : SaidSoFar start slots c count m tells before held waiting) → count < all
+    → CallOut m slots (call_of c count) r mid → goes_on r ≡ false → CallsOut start slots c 0 all (so.out ++ reply_text (caller c) r) mid
+so_far_last start m mid slots c count all r tells before held waiting so lt once gives =
+    subst (λ (n : ℕ). CallsOut start slots c 0 n (so.out ++ reply_text (caller c) r) mid) (omega (arith, lt)) (so.goes_on (suc (all - (count + 1))) (reply_text (caller c) r) mid (once_last m mid slots c count (all - (count + 1)) r once gives))
 
--- one gave no row
-pub so_far_stop : (start m mid : Logged) (slots s : ℕ) (c : Call) (count all : ℕ) (r : Answer) (tells : Type 0) (before held waiting held2 waiting2 : List ℕ) → SaidSoFar start slots s c count m tells before held waiting → count < all
-    → CalledOnce m slots s c r mid tells held waiting held2 waiting2 → is_given r ≡ false → Said (CallsOut start slots s c all) mid tells before held2 waiting2
-so_far_stop start m mid slots s c count all r tells before held waiting held2 waiting2 so lt once gives =
-    let a = added_holds tells before held waiting held2 waiting2 so.out (reply_text s r) so.sent so.few so.holds so.waits once.added in
-    record { out = so.out ++ reply_text s r; reply = so_far_last start m mid slots s c count all r tells before held waiting so lt once.made gives; sent = a.0; few = a.1.0; holds = a.1.1; waits = a.1.2 }
+-- one was the last
+pub so_far_stop : (start m mid : Logged) (slots : ℕ) (c : Command) (count all : ℕ) (r : Answer) (tells : Type 0) (before held waiting held2 waiting2 : List ℕ) → SaidSoFar start slots c count m tells before held waiting → count < all
+    → CalledOnce m slots (caller c) (call_of c count) r mid tells held waiting held2 waiting2 → goes_on r ≡ false → Said (CallsOut start slots c 0 all) mid tells before held2 waiting2
+so_far_stop start m mid slots c count all r tells before held waiting held2 waiting2 so lt once gives =
+    let a = added_holds tells before held waiting held2 waiting2 so.out (reply_text (caller c) r) so.sent so.few so.holds so.waits once.added in
+    record { out = so.out ++ reply_text (caller c) r; reply = so_far_last start m mid slots c count all r tells before held waiting so lt once.made gives; sent = a.0; few = a.1.0; holds = a.1.1; waits = a.1.2 }
 
--- all did
-pub so_far_all : (start m : Logged) (slots s : ℕ) (c : Call) (count : ℕ) (tells : Type 0) (before held waiting : List ℕ) → SaidSoFar start slots s c count m tells before held waiting → Said (CallsOut start slots s c count) m tells before held waiting
-so_far_all start m slots s c count tells before held waiting so = record {
+-- all went on
+pub so_far_all : (start m : Logged) (slots : ℕ) (c : Command) (count : ℕ) (tells : Type 0) (before held waiting : List ℕ) → SaidSoFar start slots c count m tells before held waiting → Said (CallsOut start slots c 0 count) m tells before held waiting
+so_far_all start m slots c count tells before held waiting so = record {
   out = so.out;
-  reply = subst (λ (n : ℕ). CallsOut start slots s c n so.out m) (omega arith)
-      (subst (λ (xs : List ℕ). CallsOut start slots s c (count + 0) xs m) (append-nil so.out) (so.goes_on 0 [] m (refl, refl)));
+  reply = subst (λ (n : ℕ). CallsOut start slots c 0 n so.out m) (omega arith)
+      (subst (λ (xs : List ℕ). CallsOut start slots c 0 (count + 0) xs m) (append-nil so.out) (so.goes_on 0 [] m (refl, refl)));
   sent = so.sent;
   few = so.few;
   holds = so.holds;
@@ -196,33 +268,32 @@ so_far_all start m slots s c count tells before held waiting so = record {
 }
 
 -- the sink failed
-pub so_far_cut : (start m mid : Logged) (slots s : ℕ) (c : Call) (count all : ℕ) (r : Answer) (tells : Type 0) (before held waiting held2 : List ℕ) → SaidSoFar start slots s c count m tells before held waiting → count < all
-    → CallOut m slots c r mid → Lost tells held waiting held2 → tells → CutShort (CallsOut start slots s c all) mid before held2
-so_far_cut start m mid slots s c count all r tells before held waiting held2 so lt once lost t =
+pub so_far_cut : (start m mid : Logged) (slots : ℕ) (c : Command) (count all : ℕ) (r : Answer) (tells : Type 0) (before held waiting held2 : List ℕ) → SaidSoFar start slots c count m tells before held waiting → count < all
+    → CallOut m slots (call_of c count) r mid → Lost tells held waiting held2 → tells → CutShort (CallsOut start slots c 0 all) mid before held2
+so_far_cut start m mid slots c count all r tells before held waiting held2 so lt once lost t =
+    let text = reply_text (caller c) r in
     let l = lost_holds tells before held waiting held2 so.out so.sent so.holds so.waits lost t in
     let left = all - (count + 1) in
     ⊎_elim
-    (λ (gives : is_given r ≡ true).
-    let f = given_fetches m.state m.lsn (room slots m.lsn) c r once.reply gives in
-    let rest = some_fetches left mid slots s f.0 f.1 in
-    let on : CallsOut mid slots s c left rest.0 rest.1 = subst (λ (x : Call). CallsOut mid slots s x left rest.0 rest.1) (sym f.2) rest.3 in
+    (λ (gives : goes_on r ≡ true).
+    let rest = some_calls left mid slots c (suc count) (reads c count m.state m.lsn (room slots m.lsn) r once.reply gives) in
     record {
-      out = so.out ++ (reply_text s r ++ rest.0);
+      out = so.out ++ (text ++ rest.0);
       state = rest.1;
-      reply = subst (λ (n : ℕ). CallsOut start slots s c n (so.out ++ (reply_text s r ++ rest.0)) rest.1) (omega (arith, lt)) (so.goes_on (suc left) (reply_text s r ++ rest.0) rest.1 (once_more m mid rest.1 slots s c left r rest.0 once gives on));
+      reply = subst (λ (n : ℕ). CallsOut start slots c 0 n (so.out ++ (text ++ rest.0)) rest.1) (omega (arith, lt)) (so.goes_on (suc left) (text ++ rest.0) rest.1 (once_more m mid rest.1 slots c count left r rest.0 once gives rest.3));
       same = rest.2;
       size = min l.0 (length so.out);
-      written = l.1 ∙ ap (λ (xs : List ℕ). before ++ xs) (sym (take_within l.0 so.out (reply_text s r ++ rest.0)));
+      written = l.1 ∙ ap (λ (xs : List ℕ). before ++ xs) (sym (take_within l.0 so.out (text ++ rest.0)));
     })
-    (λ (gives : is_given r ≡ false). record {
-      out = so.out ++ reply_text s r;
+    (λ (gives : goes_on r ≡ false). record {
+      out = so.out ++ text;
       state = mid;
-      reply = so_far_last start m mid slots s c count all r tells before held waiting so lt once gives;
+      reply = so_far_last start m mid slots c count all r tells before held waiting so lt once gives;
       same = itself mid;
       size = min l.0 (length so.out);
-      written = l.1 ∙ ap (λ (xs : List ℕ). before ++ xs) (sym (take_within l.0 so.out (reply_text s r)));
+      written = l.1 ∙ ap (λ (xs : List ℕ). before ++ xs) (sym (take_within l.0 so.out text));
     })
-    (cases_Bool (is_given r))
+    (cases_Bool (goes_on r))
 
 -- a line without a call
 
@@ -279,19 +350,26 @@ disk_lost R now tells before held waiting held2 (said, stopped) lost = some_sent
 -- one call, as the engine tells it
 
 module _ {S : Type 0} (s : Ghosts S) where
+  -- the memory has room for all that the log has room for
+  all_room : (e : EngineView S) (m : Logged) → m.state.stopped ≡ false → StandsAs s e m → room_left (s.slots e.store) (s.lsn e.store) e.memory.spare ≡ room (slots_of (s.slots e.store)) (s.lsn e.store)
+  all_room e m going is =
+      let few = is.engine.enough going (slots_of (s.slots e.store)) is.ended in
+      ap (λ (slots : Option ℕ). room_left slots (s.lsn e.store) e.memory.spare) is.ended ∙ omega (arith, few)
+
   -- from a state that the engine stood for, to the one that it stands for after the call
   pub did_call : (m : Logged) (c : Call) (r : Answer) (old new : EngineView S) (P : Logged → Type 0) → StandsAs s old m → m.state.stopped ≡ false → Does s m.state c r old new → SameStore s old.store new.store
-      → ((now : Logged) → now.state ≡ after m.state c r → CallOut m (slots_of (s.slots old.store)) c r now → P now) → Did (StandsAs s) (IsSince s) old new m P
+      → ((now : Logged) → CallOut m (slots_of (s.slots old.store)) c r now → P now) → Did (StandsAs s) (IsSince s) old new m P
   did_call m c r old new P is going does same so =
-      let now : Logged = record { state = after m.state c r; lsn = s.lsn new.store } in
+      let slots = slots_of (s.slots old.store) in
+      let now : Logged = record { state = does.now; lsn = s.lsn new.store } in
       record {
         now = now;
         reached = record { engine = does.stands; lsn = refl; ended = subst (λ (slots : Option ℕ). slots ≡ Some (slots_of slots)) (sym same.slots) is.ended };
         passed = record { same = same; crash = λ kept. does.survives going kept };
-        ran = so now refl (record {
-          reply = subst (λ (n : ℕ). Reply m.state n (room (slots_of (s.slots old.store)) n) c r) (sym is.lsn)
-              (subst (λ (slots : Option ℕ). Reply m.state (s.lsn old.store) (room_left slots (s.lsn old.store) old.spare) c r) is.ended does.reply);
-          state = refl;
+        ran = so now (record {
+          reply = subst (λ (n : ℕ). Reply m.state n (room slots n) c r) (sym is.lsn)
+              (subst (λ (more : ℕ). Reply m.state (s.lsn old.store) more c r) (all_room old m going is) does.reply);
+          state = does.after;
           groups = does.groups;
           grows = does.grows;
           lsn = λ on. does.lsn on ∙ ap (λ (n : ℕ). n + does.groups) (sym is.lsn);
@@ -304,61 +382,73 @@ MatchTold (Ok done) answer result = result ≡ Ok answer
 MatchTold (Err fault) answer result = result ≡ Err fault
 
 -- its answer was told
-pub calls_as : (m now : Logged) (slots t : ℕ) (c : Call) (answer : code.Answer) (row : Row) (text : List ℕ) (fault : Bool) (tells : Type 0) (held waiting held2 waiting2 : List ℕ) (told : Result (Unit {0}) StepFault)
-    → now.state ≡ after m.state c (answer_of answer row) → m.state.stopped ≡ false → CallOut m slots c (answer_of answer row) now → text ≡ reply_text t (answer_of answer row) → fault ≡ is_fault (answer_of answer row)
+pub calls_as : (m now : Logged) (slots : ℕ) (t : Option ℕ) (c : Call) (answer : code.Answer) (row : Row) (text : List ℕ) (fault : Bool) (tells : Type 0) (held waiting held2 waiting2 : List ℕ) (told : Result (Unit {0}) StepFault)
+    → m.state.stopped ≡ false → CallOut m slots c (answer_of answer row) now → text ≡ reply_text t (answer_of answer row) → fault ≡ is_fault (answer_of answer row)
     → Told text fault tells held waiting held2 waiting2 told → (result : Result code.Answer StepFault) → MatchTold told answer result → Calls m slots t c row now tells held waiting held2 waiting2 result
-calls_as m now slots t c answer row text fault tells held waiting held2 waiting2 (Ok done) state going once is f (fine, added) result e =
+calls_as m now slots t c answer row text fault tells held waiting held2 waiting2 (Ok done) going once is f (fine, added) result e =
     subst (λ (x : Result code.Answer StepFault). Calls m slots t c row now tells held waiting held2 waiting2 x) (sym e)
-    (record { made = once; added = subst (λ (xs : List ℕ). Added xs tells held waiting held2 waiting2) is added }, ap (λ (x : State). x.stopped) state ∙ after_same_stop m.state c (answer_of answer row) (sym f ∙ fine) ∙ going)
-calls_as m now slots t c answer row text fault tells held waiting held2 waiting2 (Err Disk) state going once is f (fine, added) result e =
+    (record { made = once; added = subst (λ (xs : List ℕ). Added xs tells held waiting held2 waiting2) is added }, (fine_stays m.state now.state c (answer_of answer row) (sym f ∙ fine) once.state).stopped ∙ going)
+calls_as m now slots t c answer row text fault tells held waiting held2 waiting2 (Err Disk) going once is f (fine, added) result e =
     subst (λ (x : Result code.Answer StepFault). Calls m slots t c row now tells held waiting held2 waiting2 x) (sym e)
-    (answer_of answer row, record { made = once; added = subst (λ (xs : List ℕ). Added xs tells held waiting held2 waiting2) is added }, ap (λ (x : State). x.stopped) state ∙ after_stops m.state c (answer_of answer row) (sym f ∙ fine))
-calls_as m now slots t c answer row text fault tells held waiting held2 waiting2 (Err Sink) state going once is f lost result e =
+    (answer_of answer row, record { made = once; added = subst (λ (xs : List ℕ). Added xs tells held waiting held2 waiting2) is added }, ap (λ (x : State). x.stopped) (after_stops m.state now.state c (answer_of answer row) (sym f ∙ fine) once.state))
+calls_as m now slots t c answer row text fault tells held waiting held2 waiting2 (Err Sink) going once is f lost result e =
     subst (λ (x : Result code.Answer StepFault). Calls m slots t c row now tells held waiting held2 waiting2 x) (sym e) (answer_of answer row, once, lost)
 
 -- calls as they end
 
-not_given : (answer : code.Answer) (row : Row) → (answer ≡ answers.Row → ⊥) → is_given (answer_of answer row) ≡ false
-not_given answers.Done row other = refl
-not_given (answers.Waits on) row other = refl
-not_given (answers.Committed number) row other = refl
-not_given answers.Row row other = absurd (other refl)
-not_given answers.End row other = refl
-not_given (answers.Refused why) row other = refl
+-- the code's answers after which a command goes on, whatever the row
+pub on_calls : (answer : code.Answer) (row : Row) → (answer ≡ answers.Row) ⊎ ((seg : ℕ) × (writes : ℕ) × (lost : ℕ) × (answer ≡ answers.Marked seg writes lost)) → goes_on (answer_of answer row) ≡ true
+on_calls answer row is = ⊎_elim
+    (λ e. ap (λ (a : code.Answer). goes_on (answer_of a row)) e)
+    (λ m. ap (λ (a : code.Answer). goes_on (answer_of a row)) m.3)
+    is
 
-given_no_fault : (r : Answer) → is_given r ≡ true → is_fault r ≡ false
-given_no_fault Done e = refl
-given_no_fault (Waits on) e = refl
-given_no_fault (Numbered n) e = refl
-given_no_fault (Given key value) e = refl
-given_no_fault End e = refl
-given_no_fault (Refused why) e = absurd (false≢true e)
+pub ends_calls : (answer : code.Answer) (row : Row) → (answer ≡ answers.Row → ⊥) → ((seg writes lost : ℕ) → answer ≡ answers.Marked seg writes lost → ⊥) → goes_on (answer_of answer row) ≡ false
+ends_calls answers.Done row other marks = refl
+ends_calls (answers.Waits on) row other marks = refl
+ends_calls (answers.Committed number) row other marks = refl
+ends_calls answers.Row row other marks = absurd (other refl)
+ends_calls answers.End row other marks = refl
+ends_calls (answers.Marked seg writes lost) row other marks = absurd (marks seg writes lost refl)
+ends_calls (answers.Refused why) row other marks = refl
 
-module _ (start m now : Logged) (slots slots1 s : ℕ) (c : Call) (count : ℕ) (row : Row) (tells : Type 0) (before held waiting held2 waiting2 : List ℕ)
-    (so : SaidSoFar start slots s c count m tells before held waiting) (same : slots1 ≡ slots) where
-  pub calls_more : Calls m slots1 s c row now tells held waiting held2 waiting2 (Ok answers.Row) → SaidSoFar start slots s c (count + 1) now tells before held2 waiting2
-  calls_more calls =
-      let here = subst (λ (k : ℕ). Calls m k s c row now tells held waiting held2 waiting2 (Ok answers.Row)) same calls in
-      so_far_more start m now slots s c count (answer_of answers.Row row) tells before held waiting held2 waiting2 so here.0 refl here.1
+on_no_fault : (r : Answer) → goes_on r ≡ true → is_fault r ≡ false
+on_no_fault Done e = refl
+on_no_fault (Waits on) e = refl
+on_no_fault (Numbered n) e = refl
+on_no_fault (Given key value) e = refl
+on_no_fault End e = refl
+on_no_fault (Marked seg writes lost) e = refl
+on_no_fault (Refused why) e = absurd (false≢true e)
 
-  pub calls_stop : (all : ℕ) (answer : code.Answer) → count < all → (answer ≡ answers.Row → ⊥) → Calls m slots1 s c row now tells held waiting held2 waiting2 (Ok answer)
-      → SaidAs (CallsOut start slots s c all) now tells before held2 waiting2 (Ok tt)
+module _ (start m now : Logged) (slots slots1 : ℕ) (c : Command) (count : ℕ) (row : Row) (tells : Type 0) (before held waiting held2 waiting2 : List ℕ)
+    (so : SaidSoFar start slots c count m tells before held waiting) (same : slots1 ≡ slots) where
+  abbrev Here : Result code.Answer StepFault → ℕ → Type 0
+  Here result k = Calls m k (caller c) (call_of c count) row now tells held waiting held2 waiting2 result
+
+  pub calls_more : (answer : code.Answer) → goes_on (answer_of answer row) ≡ true → Here (Ok answer) slots1 → SaidSoFar start slots c (count + 1) now tells before held2 waiting2
+  calls_more answer gives calls =
+      let here = subst (Here (Ok answer)) same calls in
+      so_far_more start m now slots c count (answer_of answer row) tells before held waiting held2 waiting2 so here.0 gives here.1
+
+  pub calls_stop : (all : ℕ) (answer : code.Answer) → count < all → goes_on (answer_of answer row) ≡ false → Here (Ok answer) slots1
+      → SaidAs (CallsOut start slots c 0 all) now tells before held2 waiting2 (Ok tt)
   calls_stop all answer lt other calls =
-      let here = subst (λ (k : ℕ). Calls m k s c row now tells held waiting held2 waiting2 (Ok answer)) same calls in
-      (so_far_stop start m now slots s c count all (answer_of answer row) tells before held waiting held2 waiting2 so lt here.0 (not_given answer row other), here.1)
+      let here = subst (Here (Ok answer)) same calls in
+      (so_far_stop start m now slots c count all (answer_of answer row) tells before held waiting held2 waiting2 so lt here.0 other, here.1)
 
-  pub calls_fault : (all : ℕ) (fault : StepFault) → count < all → Calls m slots1 s c row now tells held waiting held2 waiting2 (Err fault) → SaidAs (CallsOut start slots s c all) now tells before held2 waiting2 (Err fault)
+  pub calls_fault : (all : ℕ) (fault : StepFault) → count < all → Here (Err fault) slots1 → SaidAs (CallsOut start slots c 0 all) now tells before held2 waiting2 (Err fault)
   calls_fault all Disk lt calls =
-      let here = subst (λ (k : ℕ). Calls m k s c row now tells held waiting held2 waiting2 (Err Disk)) same calls in
+      let here = subst (Here (Err Disk)) same calls in
       let r = here.0 in
       ⊎_elim
-      (λ (gives : is_given r ≡ true). absurd (false≢true (sym (ap (λ (x : State). x.stopped) here.1.made.state ∙ after_same_stop m.state c r (given_no_fault r gives) ∙ so.going) ∙ here.2)))
-      (λ (gives : is_given r ≡ false). (so_far_stop start m now slots s c count all r tells before held waiting held2 waiting2 so lt here.1 gives, here.2))
-      (cases_Bool (is_given r))
+      (λ (gives : goes_on r ≡ true). absurd (false≢true (sym ((fine_stays m.state now.state (call_of c count) r (on_no_fault r gives) here.1.made.state).stopped ∙ so.going) ∙ here.2)))
+      (λ (gives : goes_on r ≡ false). (so_far_stop start m now slots c count all r tells before held waiting held2 waiting2 so lt here.1 gives, here.2))
+      (cases_Bool (goes_on r))
   calls_fault all Sink lt calls = λ t.
-      let here = subst (λ (k : ℕ). Calls m k s c row now tells held waiting held2 waiting2 (Err Sink)) same calls in
-      so_far_cut start m now slots s c count all here.0 tells before held waiting held2 so lt here.1 here.2 t
+      let here = subst (Here (Err Sink)) same calls in
+      so_far_cut start m now slots c count all here.0 tells before held waiting held2 so lt here.1 here.2 t
 
-pub calls_end : (start m : Logged) (slots s : ℕ) (c : Call) (count all : ℕ) (tells : Type 0) (before held waiting : List ℕ) → count ≡ all → SaidSoFar start slots s c count m tells before held waiting → SaidAs (CallsOut start slots s c all) m tells before held waiting (Ok tt)
-calls_end start m slots s c count all tells before held waiting is so =
-    (subst (λ (n : ℕ). Said (CallsOut start slots s c n) m tells before held waiting) is (so_far_all start m slots s c count tells before held waiting so), so.going)
+pub calls_end : (start m : Logged) (slots : ℕ) (c : Command) (count all : ℕ) (tells : Type 0) (before held waiting : List ℕ) → count ≡ all → SaidSoFar start slots c count m tells before held waiting → SaidAs (CallsOut start slots c 0 all) m tells before held waiting (Ok tt)
+calls_end start m slots c count all tells before held waiting is so =
+    (subst (λ (n : ℕ). Said (CallsOut start slots c 0 n) m tells before held waiting) is (so_far_all start m slots c count tells before held waiting so), so.going)

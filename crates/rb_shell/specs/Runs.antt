@@ -1,39 +1,51 @@
 -- What a run of a script over a file does.
-use Rattle.std.specs.Prelude.{◌≡◌, ◌⊎◌, ℕ, false, List, ◌++◌, Some}
-use Rattle.rb_base.specs.declared.shape.Shape.{Shape}
+use Rattle.std.specs.Prelude.{◌≡◌, ◌⊎◌, ℕ, ◌+◌, false, List, ◌++◌, Some}
+use Rattle.rb_base.specs.Stores.{room_of}
+use Rattle.rb_base.specs.declared.store.Store.{Ghosts}
 use Rattle.rb_disk.specs.Moments.{Leaves, Rests}
 use Rattle.rb_disk.specs.declared.disk.Disk.{Ghosts as DiskGhosts}
-use Rattle.rb_engine.specs.Crash.{AtEnd, OnTheWay, Restarts, Survives}
-use Rattle.rb_base.specs.declared.store.Store.{Ghosts}
-use Rattle.rb_engine.specs.Engine.{EngineView}
-use Rattle.rb_engine.specs.Holds.{CanOpen, OpensAs}
+use Rattle.rb_engine.specs.Does.{EngineView}
+use Rattle.rb_image.specs.Crash.{AtEnd, OnTheWay, Restarts, Survives}
 use Rattle.rb_layout.specs.Regions.{shape_of}
 use Rattle.rb_layout.specs.declared.layout.Layout.{Layout}
 use Rattle.rb_lines.specs.Ends.{EndsAs, Halted}
 use Rattle.rb_lines.specs.Ran.{Ran, CutOff}
 use Rattle.rb_lines.specs.declared.lines.LinesEnd.{LinesEnd}
-use Rattle.rb_model.specs.Out.{Logged}
 use Rattle.rb_model.specs.Lines.{lines_of}
+use Rattle.rb_model.specs.Out.{Logged}
 use Rattle.rb_model.specs.State.{State}
+use Rattle.rb_opening.specs.Opens.{CanOpen, OpensAs}
+use Rattle.rb_segment.specs.Segments.{owed_in}
 use Rattle.rb_shell.specs.Since.{StandsAs}
 use Rattle.rb_shell.specs.Statuses.{status_of}
 use Rattle.rb_shell.specs.declared.script.TheConstants.{SCRIPT_BYTES}
 use Rattle.rb_shell.specs.declared.status.Status.{Status}
 use Rattle.rb_shell.specs.declared.status.Status.TheVariants.{Done, Usage, SourceFault, DiskFault, SinkFault, NotAStore}
 use Rattle.rb_shell.specs.declared.status.Status.TheVariants.{NoMemory, NotEmpty, TooLong}
-use Rattle.rb_store.specs.Laps.{LapState, Opens, OpensTo, OpensAt}
+use Rattle.rb_store.specs.Laps.{LapState, Opens, OpensAt}
 
--- The file is a store of some layout: its log gives these blocks and that last log number, and they are in order.
-pub record IsSound (file : List ℕ) : Type 0 where
+-- The file is a store of some layout: its log gives these blocks and that last log number, they are in order, and the
+-- log has room for the groups that put back what is under way.
+pub record IsStore (file : List ℕ) : Type 0 where
   pub layout : Layout
   pub blocks : List (List ℕ)
   pub lsn : ℕ
   pub opens : OpensAt layout file blocks lsn
-  pub can_open : CanOpen (shape_of layout) blocks lsn
+  pub can_open : CanOpen (shape_of layout) blocks (room_of (Some layout.log) lsn)
 
--- to which blocks images of a file of that layout open
-abbrev pub file_opens : Layout → Shape → List ℕ → List (List ℕ) → Type 0
-file_opens l shape image blocks = Opens shape (Some l.log) image blocks
+-- A store whose blocks open to a state: the rows after some commits once what is under way is put back. A new file is
+-- one, and so is each that the program leaves, at any moment.
+pub record IsSound (file : List ℕ) : Type 0 where
+  pub store : IsStore file
+  pub state : State
+  pub opening : OpensAs (shape_of store.layout) store.blocks state
+
+-- The state that a file opens to, and the last log number then: what was under way is put back.
+abbrev pub first_of : {file : List ℕ} → IsSound file → Logged
+first_of sound = record {
+  state = sound.state;
+  lsn = sound.store.lsn + owed_in (shape_of sound.store.layout) sound.store.blocks;
+}
 
 -- From a state and log number it did these lines, and came to others. A crash may leave no more than `endures` says of
 -- the state that it came to.
@@ -45,88 +57,77 @@ pub record HasDone (slots : ℕ) (before : Logged) (lines : List (List ℕ)) (te
 
 -- The machine that opened with the file's rows did these lines: the sink holds the replies then, where it tells. A
 -- crash may leave no more than `endures` says of the states before and after them.
-pub record RanOver (file : List ℕ) (lines : List (List ℕ)) (tells : Type 0) (before now : List ℕ)
-    (endures : Layout → State → State → Type 0) : Type 0 where
-  pub sound : IsSound file
-  pub state : State
-  pub opening : OpensAs (shape_of sound.layout) sound.blocks state
-  pub did : HasDone sound.layout.log (record { state = state; lsn = sound.lsn }) lines tells before now
-      (endures sound.layout state)
+abbrev pub RanOver : {file : List ℕ} → IsSound file → List (List ℕ) → Type 0 → List ℕ → List ℕ
+    → (Layout → State → State → Type 0) → Type 0
+RanOver sound lines tells before now endures = HasDone sound.store.layout.log (first_of sound) lines tells before now
+    (endures sound.store.layout sound.state)
 
 -- It did them all, and the disk never failed.
-pub record HasRun (file : List ℕ) (lines : List (List ℕ)) (tells : Type 0) (before now : List ℕ)
-    (endures : Layout → State → State → Type 0) : Type 0 where
-  pub run : RanOver file lines tells before now endures
-  pub going : run.did.now.state.stopped ≡ false
+pub record HasRun {file : List ℕ} (sound : IsSound file) (lines : List (List ℕ)) (tells : Type 0)
+    (before now : List ℕ) (endures : Layout → State → State → Type 0) : Type 0 where
+  pub run : RanOver sound lines tells before now endures
+  pub going : run.now.state.stopped ≡ false
 
 -- It was cut off in one of these lines: the sink holds a front of replies that the lines may have.
-pub record WasCutOff (file : List ℕ) (lines : List (List ℕ)) (before now_held : List ℕ) (endures : Layout
-    → State
-    → State → Type 0) : Type 0 where
-  pub sound : IsSound file
-  pub state : State
-  pub opening : OpensAs (shape_of sound.layout) sound.blocks state
+pub record WasCutOff {file : List ℕ} (sound : IsSound file) (lines : List (List ℕ)) (before now_held : List ℕ)
+    (endures : Layout → State → State → Type 0) : Type 0 where
   pub now : Logged
-  pub cut : CutOff sound.layout.log (record { state = state; lsn = sound.lsn }) now lines before now_held
-  pub endured : endures sound.layout state now.state
+  pub cut : CutOff sound.store.layout.log (first_of sound) now lines before now_held
+  pub endured : endures sound.store.layout sound.state now.state
 
 -- A fault of the disk ended the lines: its reply is the last, and nothing was asked for after it. The script was asked
 -- for in pieces of at most 65,536 bytes.
-pub record HasHalted (file left_before left_now : List ℕ) (tells : Type 0) (before now : List ℕ) (endures : Layout
-    → State → State → Type 0) : Type 0 where
-  pub run : RanOver file (lines_of left_before) tells before now endures
-  pub halted : Halted run.sound.layout.log SCRIPT_BYTES (record { state = run.state; lsn = run.sound.lsn })
-      run.did.now left_before left_now tells before now
+pub record HasHalted {file : List ℕ} (sound : IsSound file) (left_before left_now : List ℕ) (tells : Type 0)
+    (before now : List ℕ) (endures : Layout → State → State → Type 0) : Type 0 where
+  pub run : RanOver sound (lines_of left_before) tells before now endures
+  pub halted : Halted sound.store.layout.log SCRIPT_BYTES (first_of sound) run.now left_before left_now tells before now
 
 -- What a crash may leave over a run, which opens the file first: at any moment since its start an image that the disk
 -- had at the start, or a file on the way from the state opened; and at its end all commits of the state.
 pub record Endures {D : Type 0} (d : DiskGhosts D) (old new : D) (l : Layout) (before now : State) : Type 0 where
-  pub any_moment : Leaves d old new (λ c. d.image old c ⊎ OnTheWay (file_opens l) before now c)
-  pub now_only : (c : List ℕ) → d.image new c → AtEnd (file_opens l) now c
+  pub any_moment : Leaves d old new (λ c. d.image old c ⊎ OnTheWay Opens (Some l.log) before now c)
+  pub now_only : (c : List ℕ) → d.image new c → AtEnd Opens (Some l.log) now c
+
+-- At any moment since the start of an opening a crash leaves an image that the disk had at the start, or one that
+-- restarts to the state to which the file opens.
+abbrev pub OpensSame : {D : Type 0} (d : DiskGhosts D) (old : D) → D → IsSound (d.content old) → Type 0
+OpensSame d old new sound = Leaves d old new
+    (λ c. d.image old c ⊎ Restarts Opens (Some sound.store.layout.log) sound.state c)
 
 -- An engine was opened over the file of a disk, whose log it goes on with, and stands for the state to which the file
--- opens. At any moment since the start a crash leaves an image that the disk had at the start, or one that opens to its
--- rows.
-pub record HasOpened {D : Type 0} (d : DiskGhosts D) (s : Ghosts (LapState D)) (old : D)
-    (e : EngineView (LapState D)) : Type 0 where
-  pub sound : IsSound (d.content old)
-  pub state : State
-  pub opening : OpensAs (shape_of sound.layout) sound.blocks state
-  pub slots : e.store.layout.log ≡ sound.layout.log
-  pub stands : StandsAs s e (record { state = state; lsn = sound.lsn })
-  pub any_moment : Leaves d old e.store.disk (λ c. d.image old c ⊎ Restarts (file_opens sound.layout) state c)
+-- opens.
+pub record HasOpened {D : Type 0} (d : DiskGhosts D) (s : Ghosts (LapState D)) (old : D) (e : EngineView (LapState D))
+    (sound : IsSound (d.content old)) : Type 0 where
+  pub slots : e.store.layout.log ≡ sound.store.layout.log
+  pub stands : StandsAs s e (first_of sound)
+  pub any_moment : OpensSame d old e.store.disk sound
 
 -- Lines were done over a store, from one state to another. They ended as a status says.
 pub record RanOn {S : Type 0} (s : Ghosts S) (old new : S) (slots most : ℕ) (before : Logged)
     (left_before left_now : List ℕ)
     (tells : Type 0) (held_before held_now : List ℕ) (status : Status) : Type 0 where
   pub now : Logged
-  pub crash : s.tells_crashes → Survives s (s.slots old) before.state now.state old new
+  pub crash : s.keeps → Survives s (s.slots old) before.state now.state old new
   pub end : LinesEnd
   pub is : status ≡ status_of end
   pub ends : EndsAs slots most before now left_before left_now tells held_before held_now end
 
--- At any moment since the start a crash leaves an image that the disk had at the start, or one that opens to the blocks
--- to which the file opened.
-abbrev pub OpensSame : {D : Type 0} → DiskGhosts D → D → D → Type 0
-OpensSame d old new = (l : Layout) (blocks : List (List ℕ)) → OpensTo l (d.content old) blocks
-    → Leaves d old new (λ c. d.image old c ⊎ OpensTo l c blocks)
-
 -- a file opens to no blocks
 abbrev pub OpensToNone : List ℕ → Type 0
-OpensToNone file = (l : Layout) (blocks : List (List ℕ)) → OpensTo l file blocks → ⊥
+OpensToNone file = (l : Layout) (blocks : List (List ℕ)) (lsn : ℕ) → OpensAt l file blocks lsn → ⊥
 
 -- An opening was stopped: the images are as `OpensSame` says, and a file that opens to no blocks is as it was.
 pub record WasStopped {D : Type 0} (d : DiskGhosts D) (old new : D) : Type 0 where
-  pub images : OpensSame d old new
+  pub images : (sound : IsSound (d.content old)) → OpensSame d old new sound
   pub none : OpensToNone (d.content old) → Rests d old new
 
--- Nothing was done but an opening, which may take away what was logged behind the last commit: the file and each image
--- open as before. A file that opens to no blocks is as it was.
+-- Nothing was done but that the file was read: the file and each image open to the same blocks as before, with the same
+-- last log number. A file that opens to no blocks is as it was.
 pub record LeftAlone {D : Type 0} (d : DiskGhosts D) (old new : D) : Type 0 where
-  pub file : (l : Layout) (blocks : List (List ℕ)) → OpensTo l (d.content old) blocks
-      → OpensTo l (d.content new) blocks
-  pub images : OpensSame d old new
+  pub file : (l : Layout) (blocks : List (List ℕ)) (lsn : ℕ) → OpensAt l (d.content old) blocks lsn
+      → OpensAt l (d.content new) blocks lsn
+  pub images : (l : Layout) (blocks : List (List ℕ)) (lsn : ℕ) → OpensAt l (d.content old) blocks lsn
+      → Leaves d old new (λ c. d.image old c ⊎ OpensAt l c blocks lsn)
   pub none : OpensToNone (d.content old) → Rests d old new
 
 -- these bytes were taken from what was left, and nothing else

@@ -1,12 +1,16 @@
 -- For which states the shell's engine stands, and what may have become of its store over lines of a script.
 use Rattle.std.proofs.Common.{◌≡◌, ◌∙◌, refl, subst, ℕ, false, Option, None, Some}
+use Rattle.rb_base.specs.Logs.{Laws}
+use Rattle.rb_base.specs.Moments.{begun}
 use Rattle.rb_base.specs.declared.store.Store.{Ghosts}
-use Rattle.rb_engine.specs.Crash.{Survives, has_rows}
-use Rattle.rb_engine.specs.Does.{SameStore, Stands}
-use Rattle.rb_engine.specs.Engine.{EngineView}
-use Rattle.rb_engine.proofs.CrashLemmas.{Laws, rows_later, survives_on}
-use Rattle.rb_engine.proofs.DoesLemmas.{stands_still}
+use Rattle.rb_engine.specs.Does.{EngineView, SameStore, Stands}
+use Rattle.rb_image.proofs.Crashes.{extends_same, grow_same, survives_on}
+use Rattle.rb_image.proofs.Steps.{left_with, restarts}
+use Rattle.rb_image.specs.Crash.{OnTheWay, Restarts, Survives, at_end, whole}
+use Rattle.rb_image.specs.Images.{HasState}
 use Rattle.rb_model.specs.Out.{Logged}
+use Rattle.rb_model.specs.Rows.{last_scn}
+use Rattle.rb_model.specs.State.{State}
 
 -- the slots of a log, where there is an end of it
 abbrev pub slots_of : Option ℕ → ℕ
@@ -22,22 +26,35 @@ pub record StandsAs {S : Type 0} (s : Ghosts S) (e : EngineView S) (m : Logged) 
 -- The store has as many slots, and the same shape, and a crash may leave no more than `Survives` says.
 pub record IsSince {S : Type 0} (s : Ghosts S) (old new : EngineView S) (before now : Logged) : Type 0 where
   pub same : SameStore s old.store new.store
-  pub crash : s.tells_crashes → Survives s (s.slots old.store) before.state now.state old.store new.store
+  pub crash : s.keeps → Survives s (s.slots old.store) before.state now.state old.store new.store
 
 module _ {S : Type 0} {s : Ghosts S} where
-  pub since_same : (e : EngineView S) (m : Logged) → (s.tells_crashes → Laws s) → StandsAs s e m
+  -- an image of an engine's store has its state
+  image_has : Laws s → (e : EngineView S) (h : State) → Stands s h e → h.stopped ≡ false → s.keeps
+      → (i : s.image) → s.left e.store i → Restarts s.opens (s.slots e.store) h i
+  image_has laws e h stands going kept i here =
+      restarts s laws kept h h.books (last_scn h.commits) e.store i stands.shape
+      (left_with s laws kept (HasState h h.books (last_scn h.commits) (s.slots e.store)) e.store
+      ((stands.holds going).images kept) i here)
+
+  pub since_same : (e : EngineView S) (m : Logged) → (s.keeps → Laws s) → StandsAs s e m
       → m.state.stopped ≡ false → IsSince s e e m m
   since_same e m laws is going = record {
     same = record { shape = refl; slots = refl };
-    crash = λ kept. stands_still s (laws kept) m.state e is.engine going kept;
+    crash = λ kept. record {
+      extends = extends_same m.state m.state refl refl (grow_same m.state.shape m.state.books);
+      any_moment = begun s.moment s.left_since e.store (OnTheWay s.opens (s.slots e.store) m.state m.state)
+          (λ i left. at_end (whole (image_has (laws kept) e m.state is.engine going kept i
+          ((laws kept).only_now e.store i kept left))));
+      now_only = λ i here. whole (image_has (laws kept) e m.state is.engine going kept i here);
+    };
   }
 
   pub since_joined : (a b c : EngineView S) (m n k : Logged) → n.state.stopped ≡ false → IsSince s a b m n
       → IsSince s b c n k → IsSince s a c m k
   since_joined a b c m n k going x y = record {
     same = record { shape = y.same.shape ∙ x.same.shape; slots = y.same.slots ∙ x.same.slots };
-    crash = λ kept. survives_on has_rows rows_later s
-        (s.slots a.store) m.state n.state k.state a.store b.store c.store going
+    crash = λ kept. survives_on s (s.slots a.store) m.state n.state k.state a.store b.store c.store going
         (x.crash kept)
         (subst (λ (slots : Option ℕ). Survives s slots n.state k.state b.store c.store) x.same.slots (y.crash kept));
   }

@@ -1,14 +1,15 @@
 -- What a line's calls and replies leave, while some of the replies wait to be sent.
 use Rattle.std.specs.Prelude.{◌≡◌, ◌⊎◌, ℕ, ◌+◌, ◌≤◌, Bool, true, false, List, ◌++◌, length}
-use Rattle.std.specs.Prelude.{take, drop, Result, Ok, Err}
+use Rattle.std.specs.Prelude.{take, drop, Option, None, Some, Result, Ok, Err}
 use Rattle.rb_lines.specs.Ran.{CutShort}
 use Rattle.rb_lines.specs.declared.runner.StepFault.{StepFault}
 use Rattle.rb_lines.specs.declared.runner.StepFault.TheVariants.{Disk, Sink}
 use Rattle.rb_model.specs.Answers.{answer_of}
-use Rattle.rb_model.specs.Lines.{reply_text}
+use Rattle.rb_model.specs.Lines.{Command, reply_text}
 use Rattle.rb_model.specs.Out.{Logged, CallOut, CallsOut}
-use Rattle.rb_model.specs.Reply.{Answer, Call, is_disk_fault}
+use Rattle.rb_model.specs.Calls.{Answer, Call, is_disk_fault}
 use Rattle.rb_model.specs.declared.answer.Answer as code
+use Rattle.rb_model.specs.declared.answer.Answer.TheVariants as answers
 use Rattle.rb_model.specs.declared.row.Row.{Row}
 use Rattle.rb_script.specs.declared.reply.Reply.{Reply}
 use Rattle.rb_script.specs.declared.reply.Reply.TheVariants as replies
@@ -21,7 +22,24 @@ tells_fault (replies.Row s key value) = false
 tells_fault (replies.End s) = false
 tells_fault (replies.Waits s on) = false
 tells_fault (replies.Refused s why) = is_disk_fault why
+tells_fault (replies.Marks seg writes lost) = false
 tells_fault replies.BadLine = false
+
+-- An answer that a call of that session has, or one of none: the marks of a segment are told to none, and what only a
+-- session's call answers to a session.
+abbrev pub FitsCaller : Option ℕ → code.Answer → Type 0
+FitsCaller to answers.Done = Unit {0}
+FitsCaller to (answers.Refused why) = Unit {0}
+FitsCaller None (answers.Marked seg writes lost) = Unit {0}
+FitsCaller (Some s) (answers.Marked seg writes lost) = ⊥
+FitsCaller None (answers.Waits on) = ⊥
+FitsCaller (Some s) (answers.Waits on) = Unit {0}
+FitsCaller None (answers.Committed number) = ⊥
+FitsCaller (Some s) (answers.Committed number) = Unit {0}
+FitsCaller None answers.Row = ⊥
+FitsCaller (Some s) answers.Row = Unit {0}
+FitsCaller None answers.End = ⊥
+FitsCaller (Some s) answers.End = Unit {0}
 
 -- A text was added to what waits. It waits with it, or all that waited before was sent.
 abbrev pub Added : List ℕ → Type 0 → (held_before waiting_before held_now waiting_now : List ℕ) → Type 0
@@ -44,22 +62,23 @@ Told text fault tells held_before waiting_before held_now waiting_now (Err Disk)
 Told text fault tells held_before waiting_before held_now waiting_now (Err Sink) =
     Lost tells held_before waiting_before held_now
 
--- One call of a session was made, and its reply added.
-pub record CalledOnce (m : Logged) (slots s : ℕ) (call : Call) (answer : Answer) (now : Logged) (tells : Type 0)
-    (held_before waiting_before held_now waiting_now : List ℕ) : Type 0 where
+-- One call was made, and its reply added.
+pub record CalledOnce (m : Logged) (slots : ℕ) (to : Option ℕ) (call : Call) (answer : Answer)
+    (now : Logged) (tells : Type 0) (held_before waiting_before held_now waiting_now : List ℕ) : Type 0 where
   pub made : CallOut m slots call answer now
-  pub added : Added (reply_text s answer) tells held_before waiting_before held_now waiting_now
+  pub added : Added (reply_text to answer) tells held_before waiting_before held_now waiting_now
 
 -- One call by its end: its answer, a fault of the disk, or its reply was lost.
-abbrev pub Calls : (m : Logged) (slots s : ℕ) (call : Call) (row : Row) (now : Logged) (tells : Type 0)
-    (held_before waiting_before held_now waiting_now : List ℕ) → Result code.Answer StepFault → Type 0
-Calls m slots s call row now tells held_before waiting_before held_now waiting_now (Ok answer) =
-    CalledOnce m slots s call (answer_of answer row) now tells held_before waiting_before held_now waiting_now
+abbrev pub Calls : (m : Logged) (slots : ℕ) (to : Option ℕ) (call : Call) (row : Row) (now : Logged)
+    (tells : Type 0) (held_before waiting_before held_now waiting_now : List ℕ)
+    → Result code.Answer StepFault → Type 0
+Calls m slots to call row now tells held_before waiting_before held_now waiting_now (Ok answer) =
+    CalledOnce m slots to call (answer_of answer row) now tells held_before waiting_before held_now waiting_now
     × (now.state.stopped ≡ false)
-Calls m slots s call row now tells held_before waiting_before held_now waiting_now (Err Disk) =
-    (answer : Answer) × CalledOnce m slots s call answer now tells held_before waiting_before held_now waiting_now
+Calls m slots to call row now tells held_before waiting_before held_now waiting_now (Err Disk) =
+    (answer : Answer) × CalledOnce m slots to call answer now tells held_before waiting_before held_now waiting_now
     × (now.state.stopped ≡ true)
-Calls m slots s call row now tells held_before waiting_before held_now waiting_now (Err Sink) =
+Calls m slots to call row now tells held_before waiting_before held_now waiting_now (Err Sink) =
     (answer : Answer) × CallOut m slots call answer now × Lost tells held_before waiting_before held_now
 
 -- Replies as a relation allows them, and the state after them. The first `sent` bytes were sent, and the others wait.
@@ -81,12 +100,12 @@ SaidAs allows now tells before held waiting (Err Disk) = Said allows now tells b
     × (now.state.stopped ≡ true)
 SaidAs allows now tells before held waiting (Err Sink) = tells → CutShort allows now before held
 
--- So many calls were made, each with a row for an answer: what goes on from here goes on from the start.
-pub record SaidSoFar (start : Logged) (slots s : ℕ) (call : Call) (count : ℕ) (now : Logged) (tells : Type 0)
+-- So many calls of a command were made, each of which goes on: what goes on from here goes on from the start.
+pub record SaidSoFar (start : Logged) (slots : ℕ) (c : Command) (count : ℕ) (now : Logged) (tells : Type 0)
     (before held waiting : List ℕ) : Type 0 where
   pub out : List ℕ
-  pub goes_on : (more : ℕ) (rest : List ℕ) (end : Logged) → CallsOut now slots s call more rest end
-      → CallsOut start slots s call (count + more) (out ++ rest) end
+  pub goes_on : (more : ℕ) (rest : List ℕ) (end : Logged) → CallsOut now slots c count more rest end
+      → CallsOut start slots c 0 (count + more) (out ++ rest) end
   pub sent : ℕ
   pub few : sent ≤ length out
   pub holds : tells → held ≡ before ++ take sent out

@@ -9,7 +9,8 @@ ghost use Rattle.rb_layout.specs.Regions.{fresh_file};
 ghost use Rattle.rb_lines.specs.Faults.{IsCountedBeside};
 ghost use Rattle.rb_lines.specs.Whole.{whole_lines};
 ghost use Rattle.rb_model.specs.Lines.{lines_of};
-ghost use Rattle.rb_shell.specs.Runs.{IsSound, HasHalted, HasRun, WasCutOff, Endures, LeftAlone, WasStopped, WasTaken};
+ghost use Rattle.rb_shell.specs.Runs.{IsSound, IsStore, HasHalted, HasRun, WasCutOff, Endures, LeftAlone};
+ghost use Rattle.rb_shell.specs.Runs.{WasStopped, WasTaken};
 ghost use Rattle.rb_shell.specs.Runs.{EndsRun, AsksScript, AsksNothing, IsDoneOrNoMemory};
 ghost use Rattle.rb_shell.specs.Statuses.{EndsFormat, by_disk, by_sink, by_source};
 ghost use Rattle.rb_shell.specs.Words.{AsksFormat, AsksRun, IsUsage};
@@ -56,43 +57,43 @@ pub fn run<S: Source, K: Sink, D: Disk>(
     // of the whole source. Here and below `Endures` says what a crash may leave at any moment of the run, and at its
     // end.
     ensures replies { D.tells → S.tells → (n : ℕ) → AsksRun words.now n → result.0 ≡ Status.Done →
-        HasRun (D.content disk) (lines_of (S.left source.old)) K.tells (K.held sink.old) (K.held sink.new)
-        (Endures D.Disk disk result.1) }
+        (sound : IsSound (D.content disk)) → HasRun sound (lines_of (S.left source.old)) K.tells (K.held sink.old)
+        (K.held sink.new) (Endures D.Disk disk result.1) }
     ensures at_end { S.tells → (n : ℕ) → AsksRun words.now n → result.0 ≡ Status.Done
         → S.left source.new ≡ [] }
     ensures few { S.tells → (n : ℕ) → AsksRun words.now n → result.0 ≡ Status.Done
         → length (S.left source.old) < 1000000000 }
 
     // A run that ends at a fault of the source, or is too long: the whole lines of what was taken are done.
-    ensures source_done { D.tells → S.tells → result.0 ≡ Status.SourceFault →
-        ((taken : List ℕ) × WasTaken taken (S.left source.old) (S.left source.new)
-        × HasRun (D.content disk) (whole_lines taken) K.tells (K.held sink.old) (K.held sink.new)
+    ensures source_done { D.tells → S.tells → result.0 ≡ Status.SourceFault
+        → (sound : IsSound (D.content disk))
+        → ((taken : List ℕ) × WasTaken taken (S.left source.old) (S.left source.new)
+        × HasRun sound (whole_lines taken) K.tells (K.held sink.old) (K.held sink.new)
         (Endures D.Disk disk result.1)) }
-    ensures too_long { D.tells → S.tells → result.0 ≡ Status.TooLong →
+    ensures too_long { D.tells → S.tells → result.0 ≡ Status.TooLong → (sound : IsSound (D.content disk)) →
         ((taken : List ℕ) × (length taken ≡ 1000000000) × WasTaken taken (S.left source.old) (S.left source.new)
-        × HasRun (D.content disk) (whole_lines taken) K.tells (K.held sink.old) (K.held sink.new)
+        × HasRun sound (whole_lines taken) K.tells (K.held sink.old) (K.held sink.new)
         (Endures D.Disk disk result.1)) }
 
-    // At a fault of the disk nothing was asked for and the file opens as before, or is as it was where it opens to
-    // nothing; or the reply that tells of it is the last, and nothing was asked for after it. At one of the sink the
-    // replies are cut off.
+    // At a fault of the disk in the opening nothing was asked for, and a crash leaves what restarts to the state that a
+    // sound file opens to; a file that opens to nothing is as it was. Else the reply that tells of the fault is the
+    // last, and nothing was asked for after it. At a fault of the sink the replies are cut off.
     ensures disk_done { D.tells → S.tells → (n : ℕ) → AsksRun words.now n → result.0 ≡ Status.DiskFault →
         ((source.new ≡ source.old) × (sink.new ≡ sink.old)
         × WasStopped D.Disk disk result.1)
-        ⊎ HasHalted (D.content disk) (S.left source.old) (S.left source.new) K.tells (K.held sink.old)
-        (K.held sink.new)
-        (Endures D.Disk disk result.1) }
+        ⊎ ((sound : IsSound (D.content disk)) → HasHalted sound (S.left source.old) (S.left source.new) K.tells
+        (K.held sink.old) (K.held sink.new) (Endures D.Disk disk result.1)) }
     ensures cut_off { D.tells → S.tells → K.tells → result.0 ≡ Status.SinkFault →
-        WasCutOff (D.content disk) (lines_of (S.left source.old)) (K.held sink.old) (K.held sink.new)
-        (Endures D.Disk disk result.1) }
+        (sound : IsSound (D.content disk)) → WasCutOff sound (lines_of (S.left source.old)) (K.held sink.old)
+        (K.held sink.new) (Endures D.Disk disk result.1) }
 
     // Where the script isn't asked for, the file opens as before. It is asked for just where the file is a store.
     ensures source_same { AsksNothing result.0 → source.new ≡ source.old }
     ensures sink_same { AsksNothing result.0 → sink.new ≡ sink.old }
     ensures untouched { D.tells → (n : ℕ) → AsksRun words.now n → AsksNothing result.0
         → LeftAlone D.Disk disk result.1 }
-    ensures not_a_store { D.tells → result.0 ≡ Status.NotAStore → ¬ IsSound (D.content disk) }
-    ensures sound { D.tells → (n : ℕ) → AsksRun words.now n → AsksScript result.0 → IsSound (D.content disk) }
+    ensures not_a_store { D.tells → result.0 ≡ Status.NotAStore → ¬ IsStore (D.content disk) }
+    ensures store { D.tells → (n : ℕ) → AsksRun words.now n → AsksScript result.0 → IsStore (D.content disk) }
 
     // It ends by a fault only where that count rose, and else the count is as before. A fault of the sink may hide one
     // of the disk. Where none rises, all is done.

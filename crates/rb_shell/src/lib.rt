@@ -11,7 +11,7 @@ mod status;
 mod words;
 
 pub use command::run;
-pub use laws::{restarts_sound, script_pieces};
+pub use laws::{new_file_sound, restarts_sound, script_pieces};
 pub use line::step;
 pub use rb_engine::Engine;
 pub use status::Status;

@@ -1,5 +1,5 @@
 //! `step`: one line through the engine to the sink. The run of a script does each line by `do_line`.
-ghost use Rattle.std.specs.Prelude.{◌≡◌, ◌++◌, ℕ, false, [], IfErr, OnErr, OnOk};
+ghost use Rattle.std.specs.Prelude.{◌≡◌, ◌++◌, ◌<◌, ℕ, false, [], None, IfErr, OnErr, OnOk};
 ghost use Rattle.rb_base.specs.Counts.{IsCounted, IsCountedAs, err_is};
 ghost use Rattle.rb_engine.specs.Does.{Does, SameStore, Stands};
 ghost use Rattle.rb_lines.specs.Faults.{IsCountedBeside, is_disk, is_sink};
@@ -8,18 +8,19 @@ ghost use Rattle.rb_model.specs.Answers.{answer_of};
 ghost use Rattle.rb_model.specs.Lines as lines;
 ghost use Rattle.rb_model.specs.Lines.{call_of, caller, most_calls};
 ghost use Rattle.rb_model.specs.Out.{Logged, CommandOut, LineOut};
-ghost use Rattle.rb_model.specs.Reply.{is_fault};
+ghost use Rattle.rb_model.specs.Calls.{is_fault};
+ghost use Rattle.rb_model.specs.Calls as machine;
 ghost use Rattle.rb_model.specs.State.{State};
 ghost use Rattle.rb_script.specs.Commands.{command_of};
 ghost use Rattle.rb_shell.specs.Since.{IsSince, StandsAs, slots_of};
-ghost use Rattle.rb_shell.specs.Steps.{Calls, Lost, SaidAs};
+ghost use Rattle.rb_shell.specs.Steps.{Calls, FitsCaller, Lost, SaidAs};
 
 use crate::replies::{
-    Waiting, answer_to_call, answer_to_commit, answer_to_fetch, answer_to_write, reply_of, send,
-    tell,
+    Waiting, answer_to_call, answer_to_commit, answer_to_fetch, answer_to_marks, answer_to_write,
+    reply_of, send, tell,
 };
 use arrayvec::ArrayVec;
-use rb_base::Store;
+use rb_base::{Shape, Store};
 use rb_engine::Engine;
 use rb_lines::StepFault;
 use rb_model::{Answer, Row};
@@ -49,8 +50,8 @@ fn is_remark(line: &[u8]) -> bool
     }
 }
 
-/// The session that a command names.
-fn caller_of(command: &Command<'_>) -> u16
+/// The session that a command names, if it names one.
+fn caller_of(command: &Command<'_>) -> Option<u16>
     ensures { result ≡ caller (command_of command.now) }
 {
     match command {
@@ -59,34 +60,55 @@ fn caller_of(command: &Command<'_>) -> u16
             t: _,
             k: _,
             op: _,
-        } => *s,
-        Command::Commit { s } => *s,
+        } => Some(*s),
+        Command::Commit { s } => Some(*s),
+        Command::Rollback { s } => Some(*s),
         Command::OpenCursor {
             s,
             name: _,
             t: _,
             lo: _,
             hi: _,
-        } => *s,
-        Command::Fetch { s, name: _, n: _ } => *s,
-        Command::CloseCursor { s, name: _ } => *s,
+        } => Some(*s),
+        Command::Fetch { s, name: _, n: _ } => Some(*s),
+        Command::CloseCursor { s, name: _ } => Some(*s),
+        Command::Marks => None,
+        Command::Checkpoint => None,
     }
 }
 
-/// How many calls a command makes at most.
-fn calls_of(command: &Command<'_>) -> u32
-    ensures { result ≡ most_calls (command_of command.now) }
+/// How many calls a command makes at most over a file of that shape.
+fn calls_of(command: &Command<'_>, shape: Shape) -> u32
+    ensures { result ≡ most_calls shape (command_of command.now) }
 {
     match command {
         Command::Fetch { s: _, name: _, n } => *n,
+        Command::Marks => u32::from(shape.segments),
         _ => 1,
     }
 }
 
-/// Makes a command's call once. A row that it gives is in `row` then.
-fn answer<T: Store>(engine: &mut Engine<T>, command: &Command<'_>, row: &mut Row) -> Answer
+/// Asks what segment `k` has made and given up.
+fn answer_of_segment<T: Store>(engine: &mut Engine<T>, k: u32) -> Answer
+    requires { k < (T.shape_of engine.old.store).segments }
+    ensures did { (h : State) (row : Row) → Stands T.Store h engine.old → Does T.Store h
+        (machine.Marks k) (answer_of result row) engine.old engine.new }
+    ensures fits { FitsCaller None result }
+    ensures same { SameStore T.Store engine.old.store engine.new.store }
+    ensures disk { (row : Row) → IsCountedAs (T.faults engine.old.store) (T.faults engine.new.store)
+        (is_fault (answer_of result row)) }
+{
+    prove!(k < u32::from(engine.shape().segments));
+    let seg = k as u16;
+    answer_to_marks(seg, engine.marks(seg))
+}
+
+/// Makes the k-th call of a command, from 0 on. A row that it gives is in `row` then.
+fn answer<T: Store>(engine: &mut Engine<T>, command: &Command<'_>, k: u32, row: &mut Row) -> Answer
+    requires { k < most_calls (T.shape_of engine.old.store) (command_of command.now) }
     ensures did { (h : State) → Stands T.Store h engine.old → Does T.Store h
-        (call_of (command_of command.now)) (answer_of result row.new) engine.old engine.new }
+        (call_of (command_of command.now) k) (answer_of result row.new) engine.old engine.new }
+    ensures fits { FitsCaller (caller (command_of command.now)) result }
     ensures same { SameStore T.Store engine.old.store engine.new.store }
     ensures disk { IsCountedAs (T.faults engine.old.store) (T.faults engine.new.store)
         (is_fault (answer_of result row.new)) }
@@ -94,37 +116,43 @@ fn answer<T: Store>(engine: &mut Engine<T>, command: &Command<'_>, row: &mut Row
     match command {
         Command::Write { s, t, k, op } => answer_to_write(engine.write(*s, *t, *k, *op)),
         Command::Commit { s } => answer_to_commit(engine.commit(*s)),
+        Command::Rollback { s } => answer_to_call(engine.rollback(*s)),
         Command::OpenCursor { s, name, t, lo, hi } => {
             answer_to_call(engine.open_cursor(*s, name, *t, *lo, *hi))
         }
         Command::Fetch { s, name, n: _ } => answer_to_fetch(engine.fetch(*s, name, row)),
         Command::CloseCursor { s, name } => answer_to_call(engine.close_cursor(*s, name)),
+        Command::Marks => answer_of_segment(engine, k),
+        Command::Checkpoint => answer_to_call(engine.checkpoint()),
     }
 }
 
-/// Makes a command's call once, and tells its answer.
+/// Makes the k-th call of a command, from 0 on, and tells its answer.
 fn call_once<T: Store, K: Sink>(
     engine: &mut Engine<T>,
     command: &Command<'_>,
+    k: u32,
     row: &mut Row,
     waiting: &mut Waiting,
     sink: &mut K,
 ) -> Result<Answer, StepFault>
+    requires { k < most_calls (T.shape_of engine.old.store) (command_of command.now) }
     ensures did { (m : Logged) → StandsAs T.Store engine.old m → m.state.stopped ≡ false
         → Did (StandsAs T.Store) (IsSince T.Store) engine.old engine.new m (λ now. Calls m
-        (slots_of (T.slots engine.old.store)) (caller (command_of command.now)) (call_of (command_of command.now))
+        (slots_of (T.slots engine.old.store)) (caller (command_of command.now)) (call_of (command_of command.now) k)
         row.new now K.tells (K.held sink.old) waiting.old.items (K.held sink.new) waiting.new.items result) }
     ensures same { SameStore T.Store engine.old.store engine.new.store }
     ensures disk { IsCountedBeside (T.faults engine.old.store) (T.faults engine.new.store) (err_is is_disk result)
         (err_is is_sink result) }
     ensures sink { IsCountedAs (K.faults sink.old) (K.faults sink.new) (err_is is_sink result) }
 {
-    let answer = answer(engine, command, row);
+    let answer = answer(engine, command, k, row);
     tell(&reply_of(caller_of(command), answer, row), waiting, sink)?;
     Ok(answer)
 }
 
-/// Makes a command's calls and tells their answers. They end at the first that is no row.
+/// Makes a command's calls and tells their answers. They end at the first that is neither a row nor the marks of a
+/// segment.
 fn run_command<T: Store, K: Sink>(
     engine: &mut Engine<T>,
     command: &Command<'_>,
@@ -145,9 +173,9 @@ fn run_command<T: Store, K: Sink>(
         key: 0,
         value: ArrayVec::new(),
     };
-    for _ in 0..calls_of(command) {
-        match call_once(engine, command, &mut row, waiting, sink)? {
-            Answer::Row => {}
+    for k in 0..calls_of(command, engine.shape()) {
+        match call_once(engine, command, k, &mut row, waiting, sink)? {
+            Answer::Row | Answer::Marked { .. } => {}
             _ => return Ok(()),
         }
     }

@@ -1,20 +1,21 @@
 //! The replies of a line, which wait until it is done and are put in few pieces. `line` tells them.
-ghost use Rattle.std.specs.Prelude.{◌≡◌, ◌+◌, ◌≤◌, ◌++◌, List, length, [], IsTrue, OnOk, OnErr};
-ghost use Rattle.std.specs.Prelude.{◌↔◌};
+ghost use Rattle.std.specs.Prelude.{◌≡◌, ◌+◌, ◌≤◌, ◌++◌, ℕ, List, length, [], OnOk, OnErr};
+ghost use Rattle.std.specs.Prelude.{IsTrue, ◌↔◌, Option, None, Some};
 ghost use Rattle.arrayvec.specs.ArrayVec.{array_vec_len};
 ghost use Rattle.rb_base.specs.Counts.{IsCounted, IsCountedAs, err_is};
 ghost use Rattle.rb_lines.specs.Faults.{is_sink};
 ghost use Rattle.rb_model.specs.Answers.{answer_of, write_answer, plain_answer, commit_answer, fetch_answer};
+ghost use Rattle.rb_model.specs.Answers.{marks_answer};
 ghost use Rattle.rb_model.specs.Lines.{reply_text};
-ghost use Rattle.rb_model.specs.Reply.{is_disk_fault as is_fault_of_disk, is_fault};
+ghost use Rattle.rb_model.specs.Calls.{is_disk_fault as is_fault_of_disk, is_fault};
 ghost use Rattle.rb_script.specs.Replies.{text_of_reply, FitsALine};
-ghost use Rattle.rb_shell.specs.Steps.{Added, Lost, Told, tells_fault};
+ghost use Rattle.rb_shell.specs.Steps.{Added, FitsCaller, Lost, Told, tells_fault};
 ghost use Rattle.rb_stream.specs.StreamModel.{Puts};
 
 use arrayvec::ArrayVec;
 use rb_base::Failed;
 use rb_lines::StepFault;
-use rb_model::{Answer, Fetched, Refusal, Row, Wrote};
+use rb_model::{Answer, Fetched, Marks, Refusal, Row, Wrote};
 use rb_script::{Reply, print};
 use rb_stream::Sink;
 
@@ -31,6 +32,7 @@ pub type Waiting = ArrayVec<u8, WAITING_BYTES>;
 pub fn answer_to_write(outcome: Result<Wrote, Refusal>) -> Answer
     ensures answer { (row : Row) → answer_of result row ≡ write_answer outcome }
     ensures fault { (row : Row) → is_fault (answer_of result row) ≡ err_is is_fault_of_disk outcome }
+    ensures fits { (s : ℕ) → FitsCaller (Some s) result }
 {
     match outcome {
         Ok(Wrote::Done) => Answer::Done,
@@ -43,6 +45,7 @@ pub fn answer_to_write(outcome: Result<Wrote, Refusal>) -> Answer
 pub fn answer_to_commit(outcome: Result<Option<u64>, Refusal>) -> Answer
     ensures answer { (row : Row) → answer_of result row ≡ commit_answer outcome }
     ensures fault { (row : Row) → is_fault (answer_of result row) ≡ err_is is_fault_of_disk outcome }
+    ensures fits { (s : ℕ) → FitsCaller (Some s) result }
 {
     match outcome {
         Ok(None) => Answer::Done,
@@ -55,6 +58,7 @@ pub fn answer_to_commit(outcome: Result<Option<u64>, Refusal>) -> Answer
 pub fn answer_to_call(outcome: Result<(), Refusal>) -> Answer
     ensures answer { (row : Row) → answer_of result row ≡ plain_answer outcome }
     ensures fault { (row : Row) → is_fault (answer_of result row) ≡ err_is is_fault_of_disk outcome }
+    ensures fits { (s : Option ℕ) → FitsCaller s result }
 {
     match outcome {
         Ok(()) => Answer::Done,
@@ -66,6 +70,7 @@ pub fn answer_to_call(outcome: Result<(), Refusal>) -> Answer
 pub fn answer_to_fetch(outcome: Result<Fetched, Refusal>) -> Answer
     ensures answer { (row : Row) → answer_of result row ≡ fetch_answer outcome row }
     ensures fault { (row : Row) → is_fault (answer_of result row) ≡ err_is is_fault_of_disk outcome }
+    ensures fits { (s : ℕ) → FitsCaller (Some s) result }
 {
     match outcome {
         Ok(Fetched::Row) => Answer::Row,
@@ -74,23 +79,38 @@ pub fn answer_to_fetch(outcome: Result<Fetched, Refusal>) -> Answer
     }
 }
 
-/// The reply to session `s`.
-pub fn reply_of(s: u16, answer: Answer, row: &Row) -> Reply<'_>
+/// The answer of what a segment tells of itself.
+pub fn answer_to_marks(seg: u16, outcome: Result<Marks, Refusal>) -> Answer
+    ensures answer { (row : Row) → answer_of result row ≡ marks_answer seg outcome }
+    ensures fault { (row : Row) → is_fault (answer_of result row) ≡ err_is is_fault_of_disk outcome }
+    ensures fits { FitsCaller None result }
+{
+    match outcome {
+        Ok(Marks { writes, lost }) => Answer::Marked { seg, writes, lost },
+        Err(why) => Answer::Refused { why },
+    }
+}
+
+/// The reply to session `s`, or to none, where that answer has one.
+pub fn reply_of(s: Option<u16>, answer: Answer, row: &Row) -> Reply<'_>
+    requires { FitsCaller s answer }
     ensures text { text_of_reply result ≡ reply_text s (answer_of answer row.now) }
     ensures fault { tells_fault result ≡ is_fault (answer_of answer row.now) }
     ensures fits { FitsALine result }
 {
-    match answer {
-        Answer::Done => Reply::Done { s },
-        Answer::Waits { on } => Reply::Waits { s, on },
-        Answer::Committed { number } => Reply::Committed { s, number },
-        Answer::Row => Reply::Row {
+    match (answer, s) {
+        (Answer::Done, _) => Reply::Done { s },
+        (Answer::Refused { why }, _) => Reply::Refused { s, why },
+        (Answer::Marked { seg, writes, lost }, None) => Reply::Marks { seg, writes, lost },
+        (Answer::Waits { on }, Some(s)) => Reply::Waits { s, on },
+        (Answer::Committed { number }, Some(s)) => Reply::Committed { s, number },
+        (Answer::Row, Some(s)) => Reply::Row {
             s,
             key: row.key,
             value: row.value.as_slice(),
         },
-        Answer::End => Reply::End { s },
-        Answer::Refused { why } => Reply::Refused { s, why },
+        (Answer::End, Some(s)) => Reply::End { s },
+        _ => unreachable!(),
     }
 }
 

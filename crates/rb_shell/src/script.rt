@@ -1,13 +1,13 @@
 //! Runs a script over a store: its lines, one after another, through the engine to the sink. `run` calls it.
 ghost use Rattle.std.specs.Prelude.{◌≡◌, ◌≢◌, ◌⊎◌, ℕ, ◌<◌, ◌≤◌, List, [], ◌++◌};
-ghost use Rattle.std.specs.Prelude.{length, false, true, IfErr, IfOk};
+ghost use Rattle.std.specs.Prelude.{length, false, true, IfErr, IfOk, OnOk};
 ghost use Rattle.rb_base.specs.Counts.{IsCountedAs, is_failed};
 ghost use Rattle.rb_lines.specs.Faults.{IsCountedBeside};
 ghost use Rattle.rb_lines.specs.Whole.{whole_lines};
 ghost use Rattle.rb_model.specs.Lines.{lines_of};
 ghost use Rattle.rb_model.specs.Out.{Logged};
-ghost use Rattle.rb_shell.specs.Runs.{IsSound, HasHalted, HasOpened, HasRun, RanOn, WasCutOff, Endures, LeftAlone};
-ghost use Rattle.rb_shell.specs.Runs.{WasStopped, WasTaken, EndsRun, AsksScript, AsksNothing};
+ghost use Rattle.rb_shell.specs.Runs.{IsSound, IsStore, HasHalted, HasOpened, HasRun, RanOn, WasCutOff, Endures};
+ghost use Rattle.rb_shell.specs.Runs.{LeftAlone, WasStopped, WasTaken, EndsRun, AsksScript, AsksNothing};
 ghost use Rattle.rb_shell.specs.Since.{IsSince, StandsAs, slots_of};
 ghost use Rattle.rb_shell.specs.Statuses.{by_disk, by_sink, by_source, status_of, status_of_opening};
 
@@ -45,8 +45,11 @@ impl<T: Store> LineRunner for Interpreter<T> {
     ghost since = { λ a b m n. IsSince T.Store a.engine b.engine m n };
 
     ghost since_same = { λ r m stands going. since_same r.engine m (λ kept. record {
-      left_opens = λ store b i stands here. T.stable_left store b i kept stands here;
-      read_patched = λ store i left. T.only_now store i kept left;
+      stable_left = λ store b n i told stable here. T.stable_left store b n i told stable here;
+      stable_numbered = λ store b n told stable. T.stable_numbered store b n told stable;
+      stable_patched = λ store b n told stable. T.stable_patched store b n told stable;
+      now_counts = λ store t i told le here. T.now_counts store t i told le here;
+      only_now = λ store i told left. T.only_now store i told left;
     }) stands going };
 
     ghost since_joined = { λ a b c m n k. since_joined a.engine b.engine c.engine m n k };
@@ -120,9 +123,10 @@ fn run_engine<S: Source, K: Sink, T: Store>(
 
 /// Opens the engine over the store of a disk. An Err gives the disk back.
 fn open_engine<D: Disk>(alloc: Global, disk: D) -> Result<Engine<LapStore<D>>, (OpenFault, D)>
-    ensures opened { D.tells → IfOk result
-        (λ e. HasOpened D.Disk ⟦<LapStore<D> as Store>⟧ disk e) }
-    ensures none { D.tells → IfErr result (λ r. r.0 ≡ OpenFault.NotAStore → ¬ IsSound (D.content disk)) }
+    ensures opened { D.tells → (sound : IsSound (D.content disk)) → IfOk result
+        (λ e. HasOpened D.Disk ⟦<LapStore<D> as Store>⟧ disk e sound) }
+    ensures store { D.tells → OnOk result (IsStore (D.content disk)) }
+    ensures none { D.tells → IfErr result (λ r. r.0 ≡ OpenFault.NotAStore → ¬ IsStore (D.content disk)) }
     ensures images { D.tells → IfErr result (λ r. WasStopped D.Disk disk r.1) }
     ensures left_alone { D.tells → IfErr result
         (λ r. r.0 ≢ OpenFault.Failed → LeftAlone D.Disk disk r.1) }
@@ -148,26 +152,27 @@ pub fn run_script<S: Source, K: Sink, D: Disk>(
 
     // The script was done to its end, to a fault, or as far as it may be long.
     ensures done { D.tells → S.tells → result.0 ≡ Status.Done
-        → HasRun (D.content disk) (lines_of (S.left source.old))
+        → (sound : IsSound (D.content disk)) → HasRun sound (lines_of (S.left source.old))
         K.tells (K.held sink.old) (K.held sink.new) (Endures D.Disk disk result.1) }
     ensures at_end { S.tells → result.0 ≡ Status.Done → S.left source.new ≡ [] }
     ensures few { S.tells → result.0 ≡ Status.Done → length (S.left source.old) < 1000000000 }
-    ensures source_done { D.tells → S.tells → result.0 ≡ Status.SourceFault →
-        ((taken : List ℕ) × WasTaken taken (S.left source.old) (S.left source.new)
-        × HasRun (D.content disk) (whole_lines taken) K.tells (K.held sink.old) (K.held sink.new)
+    ensures source_done { D.tells → S.tells → result.0 ≡ Status.SourceFault
+        → (sound : IsSound (D.content disk))
+        → ((taken : List ℕ) × WasTaken taken (S.left source.old) (S.left source.new)
+        × HasRun sound (whole_lines taken) K.tells (K.held sink.old) (K.held sink.new)
         (Endures D.Disk disk result.1)) }
-    ensures too_long { D.tells → S.tells → result.0 ≡ Status.TooLong →
+    ensures too_long { D.tells → S.tells → result.0 ≡ Status.TooLong → (sound : IsSound (D.content disk)) →
         ((taken : List ℕ) × (length taken ≡ 1000000000) × WasTaken taken (S.left source.old) (S.left source.new)
-        × HasRun (D.content disk) (whole_lines taken) K.tells (K.held sink.old) (K.held sink.new)
+        × HasRun sound (whole_lines taken) K.tells (K.held sink.old) (K.held sink.new)
         (Endures D.Disk disk result.1)) }
     ensures disk_done { D.tells → S.tells → result.0 ≡ Status.DiskFault →
         ((source.new ≡ source.old) × (sink.new ≡ sink.old)
         × WasStopped D.Disk disk result.1)
-        ⊎ HasHalted (D.content disk) (S.left source.old) (S.left source.new) K.tells (K.held sink.old)
+        ⊎ ((sound : IsSound (D.content disk)) → HasHalted sound (S.left source.old) (S.left source.new) K.tells
+        (K.held sink.old) (K.held sink.new) (Endures D.Disk disk result.1)) }
+    ensures cut_off { D.tells → S.tells → K.tells → result.0 ≡ Status.SinkFault
+        → (sound : IsSound (D.content disk)) → WasCutOff sound (lines_of (S.left source.old)) (K.held sink.old)
         (K.held sink.new)
-        (Endures D.Disk disk result.1) }
-    ensures cut_off { D.tells → S.tells → K.tells → result.0 ≡ Status.SinkFault → WasCutOff (D.content disk)
-        (lines_of (S.left source.old)) (K.held sink.old) (K.held sink.new)
         (Endures D.Disk disk result.1) }
 
     // Nothing was asked for.
@@ -175,8 +180,8 @@ pub fn run_script<S: Source, K: Sink, D: Disk>(
     ensures sink_same { AsksNothing result.0 → sink.new ≡ sink.old }
     ensures untouched { D.tells → AsksNothing result.0 → LeftAlone D.Disk disk
         result.1 }
-    ensures not_a_store { D.tells → result.0 ≡ Status.NotAStore → ¬ IsSound (D.content disk) }
-    ensures sound { D.tells → AsksScript result.0 → IsSound (D.content disk) }
+    ensures not_a_store { D.tells → result.0 ≡ Status.NotAStore → ¬ IsStore (D.content disk) }
+    ensures store { D.tells → AsksScript result.0 → IsStore (D.content disk) }
 
     // It ends by a fault only where that count rose, and else the count is as before. A fault of the sink may hide one
     // of the disk.

@@ -1,6 +1,5 @@
-pub mod CellWritten
-pub mod CommitWritten
+pub mod Chains
 pub mod Fresh
-pub mod Kept
 pub mod Keys
+pub mod Short
 pub mod Together

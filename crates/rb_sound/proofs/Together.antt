@@ -5,6 +5,7 @@ use Rattle.rb_base.specs.Blocks.{block_of}
 use Rattle.rb_itl.specs.declared.slots.Entry.{Entry}
 use Rattle.rb_heap.specs.Soundness.{IsTaken, IsHomeSound}
 use Rattle.rb_segment.specs.Segments.{commit_scn, wrap_at}
+use Rattle.rb_sound.specs.Active.{AreActive}
 use Rattle.rb_sound.specs.Sound.{AreSegmentsSound, AreHomesSound, AreSound}
 
 -- the two are alike at each slot of the segments of a file
@@ -32,16 +33,20 @@ home_later shape commit later wrap_of other home block le same sound = record {
 homes_alike : (shape : Shape) (commit : ℕ) (wrap_of other : ℕ → ℕ → ℕ) (blocks : List (List ℕ)) → AreAlike shape wrap_of other → AreHomesSound shape commit wrap_of blocks → AreHomesSound shape commit other blocks
 homes_alike shape commit wrap_of other blocks same homes which lt = home_later shape commit commit wrap_of other (which % shape.blocks) (block_of blocks which) (omega arith) same (homes which lt)
 
-pub all_sound : (shape : Shape) (blocks : List (List ℕ)) (commit : ℕ) (wrap_of : ℕ → ℕ → ℕ) (sound : Bool) → commit ≡ commit_scn shape blocks → AreAlike shape wrap_of (wrap_at shape blocks) → AreSegmentsSound shape commit blocks
-    → (sound ≡ true ↔ AreHomesSound shape commit wrap_of blocks) → sound ≡ true ↔ AreSound shape blocks
-all_sound shape blocks commit wrap_of sound commit_is same segments is = (
+-- where the headers are, the blocks of rows are in order by a table of the wraps and by the headers alike
+pub homes_by : (shape : Shape) (blocks : List (List ℕ)) (commit : ℕ) (wrap_of : ℕ → ℕ → ℕ) → commit ≡ commit_scn shape blocks → AreAlike shape wrap_of (wrap_at shape blocks) → AreSound shape blocks → AreHomesSound shape commit wrap_of blocks
+homes_by shape blocks commit wrap_of commit_is same all =
+    homes_alike shape commit (wrap_at shape blocks) wrap_of blocks (λ seg slot there few. sym (same seg slot there few)) (subst (λ (number : ℕ). AreHomesSound shape number (wrap_at shape blocks) blocks) (sym commit_is) all.homes)
+
+pub all_sound : (shape : Shape) (blocks : List (List ℕ)) (commit : ℕ) (wrap_of : ℕ → ℕ → ℕ) (sound : Bool) → commit ≡ commit_scn shape blocks → AreAlike shape wrap_of (wrap_at shape blocks) → AreSegmentsSound shape commit blocks → AreHomesSound shape commit wrap_of blocks
+    → (sound ≡ true ↔ AreActive shape blocks) → sound ≡ true ↔ AreSound shape blocks
+all_sound shape blocks commit wrap_of sound commit_is same segments homes is = (
   (λ (e : sound ≡ true). record {
     segments = subst (λ (number : ℕ). AreSegmentsSound shape number blocks) commit_is segments;
-    homes = subst (λ (number : ℕ). AreHomesSound shape number (wrap_at shape blocks) blocks) commit_is (homes_alike shape commit wrap_of (wrap_at shape blocks) blocks same (is.0 e));
+    homes = subst (λ (number : ℕ). AreHomesSound shape number (wrap_at shape blocks) blocks) commit_is (homes_alike shape commit wrap_of (wrap_at shape blocks) blocks same homes);
+    active = is.0 e;
   }),
-  λ all.
-      let homes = subst (λ (number : ℕ). AreHomesSound shape number (wrap_at shape blocks) blocks) (sym commit_is) all.homes in
-      is.1 (homes_alike shape commit (wrap_at shape blocks) wrap_of blocks (λ seg slot there few. sym (same seg slot there few)) homes),
+  λ all. is.1 all.active,
 )
 
 -- the same of the shape and the blocks that are equal
@@ -53,7 +58,10 @@ pub wraps_moved : (wrap_of : ℕ → ℕ → ℕ) (now shape : Shape) (blocks_no
 wraps_moved wrap_of now shape blocks_now blocks shape_is blocks_are same =
     subst (λ (s : Shape). AreAlike s wrap_of (wrap_at s blocks)) shape_is (subst (λ (b : List (List ℕ)). AreAlike now wrap_of (wrap_at now b)) blocks_are same)
 
-pub homes_moved : (commit : ℕ) (wrap_of : ℕ → ℕ → ℕ) (sound : Bool) (now shape : Shape) (blocks_now blocks : List (List ℕ)) → now ≡ shape → blocks_now ≡ blocks
-    → (sound ≡ true ↔ AreHomesSound now commit wrap_of blocks_now) → sound ≡ true ↔ AreHomesSound shape commit wrap_of blocks
-homes_moved commit wrap_of sound now shape blocks_now blocks shape_is blocks_are is =
-    subst (λ (s : Shape). sound ≡ true ↔ AreHomesSound s commit wrap_of blocks) shape_is (subst (λ (b : List (List ℕ)). sound ≡ true ↔ AreHomesSound now commit wrap_of b) blocks_are is)
+pub homes_moved : (commit : ℕ) (wrap_of : ℕ → ℕ → ℕ) (now shape : Shape) (blocks_now blocks : List (List ℕ)) → now ≡ shape → blocks_now ≡ blocks → AreHomesSound now commit wrap_of blocks_now ↔ AreHomesSound shape commit wrap_of blocks
+homes_moved commit wrap_of now shape blocks_now blocks shape_is blocks_are =
+    subst (λ (s : Shape). AreHomesSound now commit wrap_of blocks_now ↔ AreHomesSound s commit wrap_of blocks) shape_is (subst (λ (b : List (List ℕ)). AreHomesSound now commit wrap_of blocks_now ↔ AreHomesSound now commit wrap_of b) blocks_are (λ a. a, λ a. a))
+
+pub active_moved : (sound : Bool) (now shape : Shape) (blocks_now blocks : List (List ℕ)) → now ≡ shape → blocks_now ≡ blocks → (sound ≡ true ↔ AreActive now blocks_now) → sound ≡ true ↔ AreActive shape blocks
+active_moved sound now shape blocks_now blocks shape_is blocks_are is =
+    subst (λ (s : Shape). sound ≡ true ↔ AreActive s blocks) shape_is (subst (λ (b : List (List ℕ)). sound ≡ true ↔ AreActive now b) blocks_are is)

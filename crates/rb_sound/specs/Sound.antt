@@ -1,4 +1,5 @@
--- What an opening tests on the blocks of a file: each header of a segment, and each block of rows.
+-- What an opening tests on the blocks of a file: each header of a segment, each block of rows, and the live records of
+-- each Active table slot.
 use Rattle.std.specs.Prelude.{ℕ, ◌%◌, ◌<◌, ◌≤◌, List}
 use Rattle.rb_base.specs.Blocks.{block_of, header_block, table_blocks}
 use Rattle.rb_base.specs.declared.shape.Shape.{Shape}
@@ -7,6 +8,7 @@ use Rattle.rb_heap.specs.Soundness.{IsHomeSound}
 use Rattle.rb_ring.specs.Ring.{extent_ord, extent_newest, head_extent, head_records, lost_number, IsRing}
 use Rattle.rb_ring.specs.declared.extents.TheConstants.{EXTENTS, EXTENT_RECORDS}
 use Rattle.rb_segment.specs.Segments.{commit_scn, wrap_at}
+use Rattle.rb_sound.specs.Active.{AreActive}
 use Rattle.rb_txntable.specs.Slots.{IsSlot}
 
 -- the header of a segment is in order, in a file of that commit number
@@ -31,3 +33,4 @@ AreHomesSound shape commit wrap_of blocks = (which : ℕ) → which < table_bloc
 pub record AreSound (shape : Shape) (blocks : List (List ℕ)) : Type 0 where
   pub segments : AreSegmentsSound shape (commit_scn shape blocks) blocks
   pub homes : AreHomesSound shape (commit_scn shape blocks) (wrap_at shape blocks) blocks
+  pub active : AreActive shape blocks

@@ -1,13 +1,13 @@
 //! Tests the blocks of a file. The engine's opening calls it.
-ghost use Rattle.std.specs.Prelude.{◌≡◌, ◌↔◌, ◌%◌, ◌<◌, true, false, IfOk};
+ghost use Rattle.std.specs.Prelude.{◌≡◌, ◌↔◌, ◌%◌, ◌<◌, true, false, not, [], IfOk};
 ghost use Rattle.std.specs.Result.{is_err};
 ghost use Rattle.rb_base.specs.Blocks.{block_of, header_block, table_blocks, IsShape};
-ghost use Rattle.rb_base.specs.Counts.{IsCounted};
-ghost use Rattle.rb_base.specs.Loads.{OnlyLoads};
+ghost use Rattle.rb_base.specs.Logs.{Logs};
 ghost use Rattle.rb_heap.specs.Soundness.{IsHomeSound};
 ghost use Rattle.rb_segment.specs.Segments.{wrap_in};
 ghost use Rattle.rb_sound.specs.Sound.{IsSegment, AreSegmentsSound, AreHomesSound, AreSound};
 
+use crate::active::active_sound;
 use crate::home::{Limits, home_sound};
 use crate::segment::segment_sound;
 use rb_base::{BlockNo, Failed, Scn, Shape, Store};
@@ -21,9 +21,7 @@ fn header_sound<S: Store>(store: &mut S, shape: Shape, g: u16, commit: Scn) -> R
     requires there { g < shape.segments }
     ensures told { S.tells → IfOk result (λ sound. sound ≡ true
         ↔ IsSegment commit (block_of (S.blocks store.old) (header_block shape g))) }
-    ensures only_loads { OnlyLoads S.Store store.old store.new }
-    ensures failed { S.failed store.new ≡ is_err result }
-    ensures counted { IsCounted (S.faults store.old) (S.faults store.new) result }
+    ensures logs { Logs S.Store store.old store.new [] (not (is_err result)) }
 {
     store.load(shape.header_block(g))?;
     Ok(segment_sound(store.block(), commit))
@@ -34,9 +32,7 @@ fn segments_sound<S: Store>(store: &mut S, commit: Scn) -> Result<bool, Failed>
     requires { S.failed store.old ≡ false }
     ensures told { S.tells → IfOk result (λ sound. sound ≡ true
         ↔ AreSegmentsSound (S.shape_of store.old) commit (S.blocks store.old)) }
-    ensures only_loads { OnlyLoads S.Store store.old store.new }
-    ensures failed { S.failed store.new ≡ is_err result }
-    ensures counted { IsCounted (S.faults store.old) (S.faults store.new) result }
+    ensures logs { Logs S.Store store.old store.new [] (not (is_err result)) }
 {
     let shape = store.shape();
     for g in 0..shape.segments {
@@ -56,9 +52,7 @@ fn rows_sound<S: Store>(store: &mut S, no: BlockNo, limits: &Limits) -> Result<b
     ensures told { S.tells → IfOk result (λ sound. sound ≡ true
         ↔ IsHomeSound limits.now.shape limits.now.commit (wrap_in limits.now.wraps) (no % limits.now.shape.blocks)
         (block_of (S.blocks store.old) no)) }
-    ensures only_loads { OnlyLoads S.Store store.old store.new }
-    ensures failed { S.failed store.new ≡ is_err result }
-    ensures counted { IsCounted (S.faults store.old) (S.faults store.new) result }
+    ensures logs { Logs S.Store store.old store.new [] (not (is_err result)) }
 {
     store.load(no)?;
     Ok(home_sound(store.block(), no % limits.shape.blocks, limits))
@@ -71,9 +65,7 @@ fn homes_sound<S: Store>(store: &mut S, limits: &Limits) -> Result<bool, Failed>
     requires in_range { IsShape limits.now.shape }
     ensures told { S.tells → IfOk result (λ sound. sound ≡ true
         ↔ AreHomesSound limits.now.shape limits.now.commit (wrap_in limits.now.wraps) (S.blocks store.old)) }
-    ensures only_loads { OnlyLoads S.Store store.old store.new }
-    ensures failed { S.failed store.new ≡ is_err result }
-    ensures counted { IsCounted (S.faults store.old) (S.faults store.new) result }
+    ensures logs { Logs S.Store store.old store.new [] (not (is_err result)) }
 {
     for no in 0..limits.shape.table_blocks() {
         if !rows_sound(store, no, limits)? {
@@ -83,14 +75,13 @@ fn homes_sound<S: Store>(store: &mut S, limits: &Limits) -> Result<bool, Failed>
     Ok(true)
 }
 
-/// Whether the blocks of the file are in order: the header of each segment, and each block of rows.
+/// Whether the blocks of the file are in order: the header of each segment, each block of rows, and the live records of
+/// each Active table slot.
 pub fn blocks_sound<S: Store>(store: &mut S) -> Result<bool, Failed>
     requires { S.failed store.old ≡ false }
     ensures told { S.tells → IfOk result (λ sound. sound ≡ true
         ↔ AreSound (S.shape_of store.old) (S.blocks store.old)) }
-    ensures only_loads { OnlyLoads S.Store store.old store.new }
-    ensures failed { S.failed store.new ≡ is_err result }
-    ensures counted { IsCounted (S.faults store.old) (S.faults store.new) result }
+    ensures logs { Logs S.Store store.old store.new [] (not (is_err result)) }
 {
     let commit = commit_scn_of(store)?;
     if !segments_sound(store, commit)? {
@@ -101,5 +92,8 @@ pub fn blocks_sound<S: Store>(store: &mut S) -> Result<bool, Failed>
         commit,
         wraps: wraps_of(store)?,
     };
-    homes_sound(store, &limits)
+    if !homes_sound(store, &limits)? {
+        return Ok(false);
+    }
+    active_sound(store)
 }

@@ -1,7 +1,8 @@
-//! Whether the blocks of a file are in order: the header of each segment, and each block of rows. The engine's opening
-//! asks it, and its laws say what leaves them so.
+//! Whether the blocks of a file are in order: the header of each segment, each block of rows, and the live records of
+//! each Active table slot. An opening asks it, and its laws say what leaves them so.
 #![tactic(auto)]
 
+mod active;
 mod blocks;
 mod home;
 mod laws;
@@ -9,5 +10,5 @@ mod segment;
 
 pub use blocks::blocks_sound;
 pub use home::{Limits, home_sound};
-pub use laws::{cell_written, commit_written, fresh_sound, homes_by_table};
+pub use laws::{chains_short, fresh_sound, homes_by_table};
 pub use segment::segment_sound;

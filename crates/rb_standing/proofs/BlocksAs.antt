@@ -4,7 +4,7 @@ use Rattle.std.proofs.Common.{◌≤◌, ◌/◌, ◌%◌, ℕ, List, arith}
 use Rattle.std.proofs.Math.Nat.{div-add-mod}
 use Rattle.rb_base.specs.declared.ids.Xid.{Xid}
 use Rattle.rb_base.specs.declared.shape.Shape.{Shape}
-use Rattle.rb_model.specs.Machine.{State}
+use Rattle.rb_model.specs.State.{State}
 use Rattle.rb_segment.specs.Segments.{commit_scn}
 use Rattle.rb_standing.specs.Standing.{Standing, logged_of, segments_of, homes_of}
 use Rattle.rb_standing.specs.States.{BlocksStand, BlocksStandAs}

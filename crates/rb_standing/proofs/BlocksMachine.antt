@@ -1,7 +1,7 @@
 -- A commit, and the end of a transaction without a change, keep what the blocks of a file stand for with the machine's state.
 use Rattle.std.proofs.Common.{◌≡◌, ◌<◌, ◌+◌, ◌*◌, ◌++◌, ℕ, List, [], ◌∷◌, refl, sym, ◌∙◌, ap, subst, arith}
 use Rattle.rb_base.specs.declared.ids.Xid.{Xid}
-use Rattle.rb_model.specs.Machine.{State, Cursor, session_own}
+use Rattle.rb_model.specs.State.{State, Cursor, session_own}
 use Rattle.rb_segment.specs.Header.{Segment}
 use Rattle.rb_segment.specs.Segments.{commit_scn}
 use Rattle.rb_standing.specs.Groups.{IsCommitted, IsEnded}

@@ -10,7 +10,7 @@ use Rattle.rb_base.specs.declared.shape.Shape.{Shape}
 use Rattle.rb_itl.specs.Entries.{entry_of}
 use Rattle.rb_model.specs.Change.{Put}
 use Rattle.rb_model.specs.Change as model
-use Rattle.rb_model.specs.Machine.{Session, no_session, session_own}
+use Rattle.rb_model.specs.State.{Session, no_session, session_own}
 use Rattle.rb_segment.specs.Books.{fresh_header, fresh_segment}
 use Rattle.rb_segment.specs.Header.{Segment, has_bit}
 use Rattle.rb_segment.specs.Moves.{claimed, with_header, with_record, with_segment, Also, Records}

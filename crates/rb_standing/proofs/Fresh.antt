@@ -16,7 +16,7 @@ use Rattle.std.proofs.lemmas.Bool.{cases_lt}
 use Rattle.std.proofs.lemmas.List.{length-replicate, get_or_past}
 use Rattle.rb_base.specs.Blocks.{IsShape}
 use Rattle.rb_model.specs.Book.{Book, BookSlot, free_slot, fresh_book, book_at, slot_owner}
-use Rattle.rb_model.specs.Machine.{State, Session, session_own, owner_at}
+use Rattle.rb_model.specs.State.{State, Session, session_own, owner_at}
 use Rattle.rb_segment.specs.Books.{IsBook}
 use Rattle.rb_segment.proofs.Fresh.{fresh_is_book}
 use Rattle.rb_standing.specs.Fresh.{fresh_state}

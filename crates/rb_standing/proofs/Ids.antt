@@ -5,7 +5,7 @@ use Rattle.std.proofs.Math.Nat.{div-add-mod}
 use Rattle.rb_base.specs.declared.ids.Xid.{Xid}
 use Rattle.rb_base.specs.declared.shape.Shape.{Shape}
 use Rattle.rb_model.specs.Book.{Owner, book_at}
-use Rattle.rb_model.specs.Machine.{State, owner_at}
+use Rattle.rb_model.specs.State.{State, owner_at}
 use Rattle.rb_segment.specs.Books.{IsOwned, IsBook}
 use Rattle.rb_segment.specs.Header.{Segment}
 use Rattle.rb_standing.specs.States.{IsMade}

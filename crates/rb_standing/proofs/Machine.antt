@@ -5,7 +5,7 @@ use Rattle.std.proofs.lemmas.List.{get_or-set_same, get_or-set_other, length-set
 use Rattle.std.proofs.lemmas.List.FromFn.{length-map-range_with_len}
 use Rattle.rb_base.specs.declared.ids.Xid.{Xid}
 use Rattle.rb_base.specs.declared.shape.Shape.{Shape}
-use Rattle.rb_model.specs.Machine.{State, owner_at}
+use Rattle.rb_model.specs.State.{State, owner_at}
 use Rattle.rb_standing.specs.States.{owned, walk_change, newest_first, lives_of, commits_from}
 use Rattle.rb_walk.specs.Walk.{Change, Commit, Env}
 use Rattle.rb_standing.proofs.States.{lives_at}

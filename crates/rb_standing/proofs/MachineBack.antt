@@ -5,7 +5,7 @@ use Rattle.std.proofs.lemmas.List.{get_or-set_same, get_or-set_other, length-set
 use Rattle.std.proofs.Math.Nat.{div-add-mod}
 use Rattle.rb_base.specs.declared.ids.Xid.{Xid}
 use Rattle.rb_model.specs.Book.{Owner, Book, BookSlot, free_slot, fresh_book, book_at, left}
-use Rattle.rb_model.specs.Machine.{State, Session, no_session, with_changes, session_own, owner_at}
+use Rattle.rb_model.specs.State.{State, Session, no_session, with_changes, session_own, owner_at}
 use Rattle.rb_segment.specs.Books.{IsOwned, IsBook}
 use Rattle.rb_segment.specs.Header.{Segment, slot_in, SegmentInOrder}
 use Rattle.rb_segment.specs.Moves.{taken_back, ended, with_header, with_segment}

@@ -3,7 +3,7 @@ use Rattle.std.proofs.Common.{◌≡◌, ◌<◌, ◌+◌, ◌*◌, ◌/◌, ℕ
 use Rattle.rb_base.specs.Blocks.{table_blocks}
 use Rattle.rb_base.specs.declared.ids.Xid.{Xid}
 use Rattle.rb_model.specs.Change as model
-use Rattle.rb_model.specs.Machine.{State, session_own}
+use Rattle.rb_model.specs.State.{State, session_own}
 use Rattle.rb_segment.specs.Header.{Segment, record_in}
 use Rattle.rb_segment.specs.Segments.{commit_scn}
 use Rattle.rb_standing.specs.BlockLaws.{HasNext}

@@ -7,7 +7,7 @@ use Rattle.std.proofs.Math.Nat.{div-add-mod}
 use Rattle.rb_base.specs.declared.ids.Xid.{Xid}
 use Rattle.rb_base.specs.declared.shape.Shape.{Shape}
 use Rattle.rb_model.specs.Book.{Owner, Book, BookSlot, free_slot, fresh_book, book_at, finished}
-use Rattle.rb_model.specs.Machine.{State, Session, Cursor, no_session, session_own, owner_at}
+use Rattle.rb_model.specs.State.{State, Session, Cursor, no_session, session_own, owner_at}
 use Rattle.rb_segment.specs.Books.{IsOwned, IsBook}
 use Rattle.rb_segment.specs.Header.{Segment, slot_in}
 use Rattle.rb_segment.specs.Moves.{committed, with_header, with_segment}

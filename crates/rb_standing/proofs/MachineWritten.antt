@@ -9,7 +9,7 @@ use Rattle.rb_base.specs.declared.ids.Uba.{Uba}
 use Rattle.rb_base.specs.declared.ids.Xid.{Xid}
 use Rattle.rb_model.specs.Book.{Owner, Book, BookSlot, free_slot, fresh_book, book_at, needs_turn, is_pinned, oldest_number, later_numbers, touches, turned, marked, taken, turn_of}
 use Rattle.rb_model.specs.Change.{Kind, Place}
-use Rattle.rb_model.specs.Machine.{State, Session, no_session, with_changes, session_own, owner_at}
+use Rattle.rb_model.specs.State.{State, Session, no_session, with_changes, session_own, owner_at}
 use Rattle.rb_segment.specs.Books.{IsOwned, IsBook}
 use Rattle.rb_segment.specs.Header.{Segment, slot_in}
 use Rattle.rb_segment.specs.MoveLaws.{book_ready}
@@ -127,7 +127,7 @@ module _ (h : State) (xids : List Xid) (commit logged : ℕ) (segments : ℕ →
       by true = book.slots
       by false = simp length-set book.slots
 
-  owner_own : (o : Owner) × (owner_at Next t ≡ Some o) × (o.session ≡ s)
+  pub owner_own : (o : Owner) × (owner_at Next t ≡ Some o) × (o.session ≡ s)
   owner_own = let r = ready_own in (
     record r.0 { touched = turn_of ((turned (book_ready s I State0 B)).writes + 1) ∷ r.0.touched },
     ap (λ (z : Book). (get_or z.slots I free_slot).owner) next_book ∙ (marked_own I (book_ready s I State0 B) (omega (arith, i_few, ready_slots)) ∙ ap (touches (turn_of ((turned (book_ready s I State0 B)).writes + 1))) r.1),

@@ -3,7 +3,7 @@ use Rattle.std.proofs.Common.{◌≡◌, ◌<◌, ◌+◌, ◌*◌, ℕ, List, [
 use Rattle.std.proofs.lemmas.List.FromFn.{get_or-map-range_with_len}
 use Rattle.rb_base.specs.declared.ids.Xid.{Xid}
 use Rattle.rb_base.specs.declared.shape.Shape.{Shape}
-use Rattle.rb_model.specs.Machine.{State, session_own, owner_at}
+use Rattle.rb_model.specs.State.{State, session_own, owner_at}
 use Rattle.rb_standing.specs.States.{owned, walk_change, newest_first, lives_of, Owns}
 use Rattle.rb_walk.specs.Walk.{Change, Env, own}
 use Rattle.rb_model.specs.Change as model

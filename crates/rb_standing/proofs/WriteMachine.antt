@@ -1,5 +1,5 @@
 -- A write keeps what the blocks of a file stand for with the machine's state.
-use Rattle.std.proofs.Common.{◌≡◌, ◌<◌, ◌≤◌, ◌+◌, ◌-◌, ◌*◌, ◌/◌, ◌%◌, ℕ, Bool, List, length, refl, sym, ◌∙◌, ap, arith}
+use Rattle.std.proofs.Common.{◌≡◌, ◌<◌, ◌≤◌, ◌==◌, ◌+◌, ◌-◌, ◌*◌, ◌/◌, ◌%◌, ℕ, Bool, if◌then◌else◌, List, length, refl, sym, ◌∙◌, ap, arith}
 use Rattle.std.proofs.Math.Nat.{mod-lt}
 use Rattle.std.proofs.lemmas.Nat.{mod-mul-add}
 use Rattle.rb_base.specs.Blocks.{block_of, table_blocks}
@@ -9,19 +9,21 @@ use Rattle.rb_heap.specs.Cleaning.{cleaned_home}
 use Rattle.rb_heap.specs.Homes.{home_of}
 use Rattle.rb_model.specs.Change as model
 use Rattle.rb_model.specs.Change.{Kind}
-use Rattle.rb_model.specs.Machine.{State}
+use Rattle.rb_model.specs.State.{State}
 use Rattle.rb_segment.specs.Header.{Segment}
 use Rattle.rb_segment.specs.Segments.{commit_scn}
 use Rattle.rb_standing.specs.BlockLaws.{HasRoomFor}
 use Rattle.rb_standing.specs.NextStates.{SameChange, Takes, after_write}
-use Rattle.rb_standing.specs.Says.{says}
+use Rattle.rb_standing.specs.Says.{says, xid_by}
 use Rattle.rb_standing.specs.Standing.{env_of, homes_of, logged_of, segments_of}
-use Rattle.rb_standing.specs.States.{BlocksStand, BlocksStandAs, lives_of, past_of}
-use Rattle.rb_standing.specs.Values.{slot_of}
+use Rattle.rb_standing.specs.States.{BlocksStand, BlocksStandAs, Owns, lives_of, past_of}
+use Rattle.rb_standing.specs.Values.{owed, slot_of}
 use Rattle.rb_standing.specs.Writing.{IsNotHeld, IsWritten}
 use Rattle.rb_standing.proofs.BlocksAs.{blocks_as}
 use Rattle.rb_standing.proofs.BlocksMachine.{told_blocks}
-use Rattle.rb_standing.proofs.MachineWritten.{stands_written}
+use Rattle.rb_standing.proofs.BlocksWritten.{xid_after}
+use Rattle.rb_standing.proofs.MachineWritten.{owner_own, stands_written}
+use Rattle.rb_standing.proofs.OwedMoves.{owed_written}
 use Rattle.rb_standing.proofs.WriteMoves as write
 use Rattle.rb_undoblock.specs.declared.record.UndoRecord.{UndoRecord}
 use Rattle.rb_walk.specs.Walk.{Change, Home}
@@ -58,3 +60,23 @@ module _ (h : State) (xids : List Xid) (before now : List (List ℕ)) (s t : ℕ
   write_keeps_machine = told_blocks Next xids now After
       (write.moved h.shape before now (past_of h xids) Lives stand.standing stand.tell.running t t_in adds kind address u home_in is free key_here) values.tell
       (write.write_moves h.shape before now (past_of h xids) Lives stand.standing stand.tell.running t t_in adds kind address u home_in is free key_here room (past_of Next xids) (lives_of Next (says h.shape After)) refl values.stands)
+
+  -- the session owns the slot then,
+  pub owns_after : Owns Next s t
+  owns_after =
+      let own = owner_own h xids (commit_scn h.shape before) (logged_of h.shape before) Segs (homes_of h.shape before) (blocks_as h xids before stand) After Homes2 s t c kind address u t_in s_in takes
+      (write.values h.shape before now (past_of h xids) Lives stand.standing stand.tell.running t t_in adds kind address u home_in is free key_here) same in
+      record { owner = own.0; at = own.1; session = own.2 }
+
+  -- under the id of the record,
+  pub id_after : xid_by (segments_of h.shape now) t ≡ record { seg = t / 16; slot = t % 16; wrap = u.wrap }
+  id_after =
+      ap (λ (z : ℕ → Segment). xid_by z t) (write.moved h.shape before now (past_of h xids) Lives stand.standing stand.tell.running t t_in adds kind address u home_in is free key_here)
+      ∙ xid_after h.shape before now (past_of h xids) Lives stand.standing stand.tell.running t t_in adds kind address u home_in is
+
+  -- and one group more is owed, or two where it took the slot
+  pub owed_after : owed h.shape (segments_of h.shape now) ≡ owed h.shape Segs + (if (slot_of Segs t).state == 1 then 1 else 2)
+  owed_after =
+      ap (owed h.shape) (write.moved h.shape before now (past_of h xids) Lives stand.standing stand.tell.running t t_in adds kind address u home_in is free key_here)
+      ∙ owed_written h.shape (commit_scn h.shape before) (logged_of h.shape before) Segs (homes_of h.shape before) (past_of h xids) Lives stand.standing.stands t t_in stand.tell.running After Homes2 kind address u
+      (write.values h.shape before now (past_of h xids) Lives stand.standing stand.tell.running t t_in adds kind address u home_in is free key_here)

@@ -10,7 +10,7 @@ use Rattle.rb_heap.specs.Cleaning.{cleaned_home}
 use Rattle.rb_heap.specs.Homes.{home_of}
 use Rattle.rb_model.specs.Change as model
 use Rattle.rb_model.specs.Change.{Kind}
-use Rattle.rb_model.specs.Machine.{State, Cursor, session_own}
+use Rattle.rb_model.specs.State.{State, Cursor, session_own}
 use Rattle.rb_segment.specs.Header.{record_in}
 use Rattle.rb_segment.specs.Segments.{commit_scn}
 use Rattle.rb_standing.specs.Groups.{IsCleaned, IsPutBack, IsCommitted, IsEnded}

@@ -4,7 +4,7 @@ use Rattle.rb_base.specs.Blocks.{IsShape}
 use Rattle.rb_base.specs.declared.ids.Uba.{Uba}
 use Rattle.rb_base.specs.declared.shape.Shape.{Shape}
 use Rattle.rb_model.specs.Change.{Change, Kind}
-use Rattle.rb_model.specs.Machine.{Session, session_own}
+use Rattle.rb_model.specs.State.{Session, session_own}
 use Rattle.rb_segment.specs.Header.{Segment}
 use Rattle.rb_standing.specs.Fresh.{IsFresh, fresh_state}
 use Rattle.rb_standing.specs.NextStates.{Takes, SameChange}

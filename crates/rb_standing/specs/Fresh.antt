@@ -5,7 +5,7 @@ use Rattle.rb_base.specs.declared.shape.Shape.{Shape}
 use Rattle.rb_itl.specs.declared.slots.TheConstants.{ENTRIES}
 use Rattle.rb_cell.specs.declared.cell.TheConstants.{CELLS}
 use Rattle.rb_model.specs.Book.{fresh_book}
-use Rattle.rb_model.specs.Machine.{State, Session}
+use Rattle.rb_model.specs.State.{State, Session}
 use Rattle.rb_segment.specs.Books.{fresh_header}
 use Rattle.rb_segment.specs.Header.{Segment}
 use Rattle.rb_standing.specs.Values.{Past}

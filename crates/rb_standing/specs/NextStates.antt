@@ -7,7 +7,7 @@ use Rattle.rb_base.specs.declared.shape.Shape.{Shape}
 use Rattle.rb_base.specs.declared.sizes.TheConstants.{ACTIVE}
 use Rattle.rb_model.specs.Book.{marked, finished, left, book_at}
 use Rattle.rb_model.specs.Change.{Change, Kind}
-use Rattle.rb_model.specs.Machine.{State, Cursor, session_own, with_changes}
+use Rattle.rb_model.specs.State.{State, Cursor, session_own, with_changes}
 use Rattle.rb_segment.specs.Header.{Segment}
 use Rattle.rb_segment.specs.MoveLaws.{book_ready}
 use Rattle.rb_standing.specs.Says.{place_of}

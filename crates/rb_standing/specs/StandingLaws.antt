@@ -8,7 +8,7 @@ use Rattle.rb_base.specs.declared.shape.Shape.{Shape}
 use Rattle.rb_base.specs.declared.sizes.TheConstants.{ACTIVE}
 use Rattle.rb_model.specs.Change as model
 use Rattle.rb_model.specs.Change.{Kind}
-use Rattle.rb_model.specs.Machine.{State, Session, Cursor, session_own}
+use Rattle.rb_model.specs.State.{State, Session, Cursor, session_own}
 use Rattle.rb_model.specs.Rows.{TableRow}
 use Rattle.rb_ring.specs.declared.extents.TheConstants.{EXTENT_RECORDS}
 use Rattle.rb_segment.specs.Books.{fresh_segment}

@@ -9,7 +9,7 @@ use Rattle.rb_base.specs.declared.shape.Shape.{Shape}
 use Rattle.rb_base.specs.declared.sizes.TheConstants.{ACTIVE}
 use Rattle.rb_model.specs.Book.{Owner, book_at}
 use Rattle.rb_model.specs.Change as model
-use Rattle.rb_model.specs.Machine.{State, session_own, owner_at}
+use Rattle.rb_model.specs.State.{State, session_own, owner_at}
 use Rattle.rb_segment.specs.Books.{IsBook}
 use Rattle.rb_segment.specs.Header.{Segment}
 use Rattle.rb_standing.specs.Says.{says, xid_by}

@@ -1,5 +1,4 @@
-pub mod HeaderLemmas
 mod LapLemmas
-mod OpenLemmas
+pub mod NumberLemmas
 mod ScanLemmas
 mod Units

@@ -1,6 +1,6 @@
 -- Files whose log has groups of patches: what they open to, and what a contract sees of the store over one.
 use Rattle.std.specs.Prelude.{◌≡◌, ℕ, ◌+◌, Bool, List, length, Option, Some}
-use Rattle.rb_base.specs.Blocks.{after_groups, up_to_last, commit_block, fresh_blocks}
+use Rattle.rb_base.specs.Blocks.{after_groups, fresh_blocks}
 use Rattle.rb_base.specs.Groups.{Patch}
 use Rattle.rb_base.specs.declared.shape.Shape.{Shape}
 use Rattle.rb_disk.specs.declared.disk.Disk.{Ghosts}
@@ -13,27 +13,21 @@ pub record IsLap (l : Layout) (groups : List (List Patch)) (file : List ℕ) : T
   pub identity : HasIdentity file_version l file
   pub log : GroupsAre l file 0 groups
 
--- the groups of a file of that shape up to the last commit
-abbrev pub committed_groups : Shape → List (List Patch) → List (List Patch)
-committed_groups shape groups = up_to_last (commit_block shape) groups
-
--- The blocks that a file of a layout opens to: those of a new file after the groups of its log up to the last commit.
-pub record OpensTo (l : Layout) (file : List ℕ) (blocks : List (List ℕ)) : Type 0 where
+-- The blocks that a file of a layout opens to, and their last log number: those of a new file after the groups of its
+-- log.
+pub record OpensAt (l : Layout) (file : List ℕ) (blocks : List (List ℕ)) (lsn : ℕ) : Type 0 where
   pub groups : List (List Patch)
   pub lap : IsLap l groups file
-  pub made : blocks ≡ after_groups 1 (committed_groups (shape_of l) groups) (fresh_blocks (shape_of l))
-
--- The same, and the last log number of these groups.
-pub record OpensAt (l : Layout) (file : List ℕ) (blocks : List (List ℕ)) (lsn : ℕ) : Type 0 where
-  pub opens : OpensTo l file blocks
-  pub last : length (committed_groups (shape_of l) opens.groups) ≡ lsn
+  pub made : blocks ≡ after_groups 1 groups (fresh_blocks (shape_of l))
+  pub last : length groups ≡ lsn
 
 -- what a file opens to, by the shape and the slots of the layout
-pub record Opens (shape : Shape) (slots : Option ℕ) (file : List ℕ) (blocks : List (List ℕ)) : Type 0 where
+pub record Opens (shape : Shape) (slots : Option ℕ) (file : List ℕ) (blocks : List (List ℕ))
+    (lsn : ℕ) : Type 0 where
   pub layout : Layout
   pub shape_is : shape_of layout ≡ shape
   pub slots_are : Some layout.log ≡ slots
-  pub opens : OpensTo layout file blocks
+  pub opens : OpensAt layout file blocks lsn
 
 -- a store over a disk
 pub record LapState (D : Type 0) : Type 0 where
@@ -47,13 +41,10 @@ pub record LapState (D : Type 0) : Type 0 where
   pub failed : Bool
   pub disk : D
 
--- The file and each image have the same groups, of which the last is a commit. Those that wait are behind them. The
--- blocks are those after all of them.
-pub record IsStable {D : Type 0} (d : Ghosts D) (s : LapState D) (blocks : List (List ℕ)) : Type 0 where
-  pub groups : List (List Patch)
-  pub count : length groups + length s.pending ≡ s.lsn
-  pub whole : committed_groups (shape_of s.layout) groups ≡ groups
-  pub made : blocks ≡ after_groups 1 groups (fresh_blocks (shape_of s.layout))
-  pub patched : s.blocks ≡ after_groups (length groups + 1) s.pending blocks
-  pub file : IsLap s.layout groups (d.content s.disk)
-  pub images : (c : List ℕ) → d.image s.disk c → IsLap s.layout groups c
+-- The file and each image open to these blocks, with this last log number. The groups that wait are behind it, and the
+-- store reads the blocks after all of them.
+pub record IsStable {D : Type 0} (d : Ghosts D) (s : LapState D) (blocks : List (List ℕ)) (lsn : ℕ) : Type 0 where
+  pub file : OpensAt s.layout (d.content s.disk) blocks lsn
+  pub images : (c : List ℕ) → d.image s.disk c → OpensAt s.layout c blocks lsn
+  pub numbered : lsn + length s.pending ≡ s.lsn
+  pub patched : s.blocks ≡ after_groups (lsn + 1) s.pending blocks

@@ -1,4 +1,4 @@
--- A file of groups opens to one list of blocks, for the crates above.
+-- A file of groups opens to one list of blocks and one last log number, for the crates above.
 use Rattle.std.proofs.Common.{◌≡◌, inl, inr, ⊎_elim, ℕ, ◌+◌, List, [], ◌∷◌, length, arith, ap, sym}
 use Rattle.std.proofs.Common.{◌∙◌, subst}
 use Rattle.rb_base.specs.Blocks.{AreWithin, after_groups, fresh_blocks}
@@ -9,7 +9,7 @@ use Rattle.rb_layout.specs.Regions.{file_version, identity, file_length, shape_o
 use Rattle.rb_layout.specs.declared.layout.Layout.{Layout}
 use Rattle.rb_log.specs.GroupLaws.{one_group_log}
 use Rattle.rb_log.specs.GroupSlots.{GroupsAre, HoldsGroup}
-use Rattle.rb_store.specs.Laps.{IsLap, OpensTo, OpensAt, committed_groups}
+use Rattle.rb_store.specs.Laps.{IsLap, OpensAt}
 
 same_shape : (l m : Layout) → SameNumbers l m → shape_of l ≡ shape_of m
 same_shape l m s = let t = s.tables in let b = s.blocks in let g = s.segments in cc
@@ -51,53 +51,41 @@ lap_moves l m groups file same lap =
       log = log_moves l m file 0 groups (same_shape l m same) same.log lap.log;
     }
 
-pub opens_moves : (l m : Layout) (file : List ℕ) (blocks : List (List ℕ)) → SameNumbers l m
-    → OpensTo l file blocks → OpensTo m file blocks
-opens_moves l m file blocks same opens = record {
+-- a file opens as well by a layout of the same numbers
+pub opens_moves : (l m : Layout) (file : List ℕ) (blocks : List (List ℕ)) (n : ℕ) → SameNumbers l m
+    → OpensAt l file blocks n → OpensAt m file blocks n
+opens_moves l m file blocks n same opens = record {
   groups = opens.groups;
   lap = lap_moves l m opens.groups file same opens.lap;
-  made = opens.made ∙ ap (λ (s : Shape). after_groups 1 (committed_groups s opens.groups) (fresh_blocks s))
-      (same_shape l m same);
+  made = opens.made ∙ ap (λ (s : Shape). after_groups 1 opens.groups (fresh_blocks s)) (same_shape l m same);
+  last = opens.last;
 }
 
 -- two openings of a file agree
-pub record Agree (l m : Layout) (first second : List (List ℕ)) : Type 0 where
+pub record Agree (l m : Layout) (first second : List (List ℕ)) (n k : ℕ) : Type 0 where
   pub numbers : SameNumbers l m
   pub shape : shape_of l ≡ shape_of m
   pub blocks : first ≡ second
+  pub lsn : n ≡ k
 
-same_groups : (l m : Layout) (file : List ℕ) (first second : List (List ℕ)) (one : OpensTo l file first)
-    (two : OpensTo m file second) → one.groups ≡ two.groups
-same_groups l m file first second one two =
+pub one_opening : (l m : Layout) (file : List ℕ) (first second : List (List ℕ)) (n k : ℕ)
+    → OpensAt l file first n → OpensAt m file second k → Agree l m first second n k
+one_opening l m file first second n k one two =
     let same = one_layout file_version l m file one.lap.identity two.lap.identity in
-    one_group_log m file 0 one.groups two.groups (log_moves l m file 0 one.groups (same_shape l m same) same.log
-    one.lap.log) two.lap.log
-
-pub one_opening : (l m : Layout) (file : List ℕ) (first second : List (List ℕ)) → OpensTo l file first
-    → OpensTo m file second → Agree l m first second
-one_opening l m file first second one two =
-    let same = one_layout file_version l m file one.lap.identity two.lap.identity in
-    let shape = same_shape l m same in
-    record {
+    let moved = (lap_moves l m one.groups file same one.lap).log in
+    let groups = one_group_log m file 0 one.groups two.groups moved two.lap.log in record {
       numbers = same;
-      shape = shape;
-      blocks = one.made ∙ ap (λ (s : Shape). after_groups 1 (committed_groups s one.groups) (fresh_blocks s)) shape
-          ∙ ap (λ (gs : List (List Patch)). after_groups 1 (committed_groups (shape_of m) gs)
-          (fresh_blocks (shape_of m))) (same_groups l m file first second one two) ∙ sym two.made;
+      shape = same_shape l m same;
+      blocks = one.made ∙ ap (λ (s : Shape). after_groups 1 one.groups (fresh_blocks s)) (same_shape l m same)
+          ∙ ap (λ (gs : List (List Patch)). after_groups 1 gs (fresh_blocks (shape_of m))) groups ∙ sym two.made;
+      lsn = sym one.last ∙ ap length groups ∙ two.last;
     }
 
--- what opens to the blocks of one of them opens to those of the other
-pub opens_alike : (l m : Layout) (file other : List ℕ) (first second : List (List ℕ)) → OpensTo l file first
-    → OpensTo m file second → OpensTo l other first → OpensTo m other second
-opens_alike l m file other first second one two at =
-    let agree = one_opening l m file first second one two in
-    subst (λ (blocks : List (List ℕ)). OpensTo m other blocks) agree.blocks
-    (opens_moves l m other first agree.numbers at)
-
-pub one_number : (l m : Layout) (file : List ℕ) (first second : List (List ℕ)) (n k : ℕ)
-    → OpensAt l file first n → OpensAt m file second k → n ≡ k
-one_number l m file first second n k one two =
-    sym one.last ∙ ap (λ (s : Shape). length (committed_groups s one.opens.groups))
-    (one_opening l m file first second one.opens two.opens).shape
-    ∙ ap (λ (gs : List (List Patch)). length (committed_groups (shape_of m) gs))
-    (same_groups l m file first second one.opens two.opens) ∙ two.last
+-- what opens as one of them does opens as the other
+pub opens_alike : (l m : Layout) (file other : List ℕ) (first second : List (List ℕ)) (n k : ℕ)
+    → OpensAt l file first n → OpensAt m file second k → OpensAt l other first n → OpensAt m other second k
+opens_alike l m file other first second n k one two at =
+    let agree = one_opening l m file first second n k one two in
+    subst (λ (lsn : ℕ). OpensAt m other second lsn) agree.lsn
+    (subst (λ (blocks : List (List ℕ)). OpensAt m other blocks n) agree.blocks
+    (opens_moves l m other first n agree.numbers at))

@@ -6,7 +6,7 @@ ghost use Rattle.rb_disk.specs.Moments.{Rests};
 ghost use Rattle.rb_layout.specs.declared.layout.Layout.{Layout};
 ghost use Rattle.rb_log.specs.GroupSlots.{LogState};
 ghost use Rattle.rb_plainstore.specs.Plain.{PlainState};
-ghost use Rattle.rb_store.specs.Laps.{LapState, OpensTo, IsStable};
+ghost use Rattle.rb_store.specs.Laps.{LapState, IsStable};
 
 use rb_base::{BlockNo, Failed, Group, Lsn, Shape, Store};
 use rb_disk::Disk;
@@ -71,11 +71,11 @@ impl<D: Disk> Store for LapStore<D> {
     ghost use Rattle.std.specs.Prelude.{Some, ℕ, List};
     ghost use Rattle.rb_layout.specs.Regions.{shape_of as layout_shape};
     ghost use Rattle.rb_store.specs.Laps.{Opens, IsStable};
-    ghost use Rattle.rb_store.specs.LapLaws.{stable_left as left_opens, stable_patched as patched_is_read};
+    ghost use Rattle.rb_store.specs.LapLaws.{stable_left as left_opens};
 
-    ghost tells = { Unit {0} };
+    ghost tells = { D.tells };
 
-    ghost tells_crashes = { D.tells };
+    ghost keeps = { D.tells };
 
     ghost shape_of = { λ s. layout_shape s.layout };
 
@@ -103,13 +103,13 @@ impl<D: Disk> Store for LapStore<D> {
 
     ghost opens = { Opens };
 
-    ghost stable = { λ s b. IsStable D.Disk s b };
+    ghost stable = { λ s b n. IsStable D.Disk s b n };
 
-    ghost crashes_told = { λ told. tt };
+    ghost stable_left = { λ s b n i told stands here. left_opens _ s b n i stands here };
 
-    ghost stable_left = { λ s b i told stands here. left_opens _ s b i stands here };
+    ghost stable_numbered = { λ s b n told stands. stands.numbered };
 
-    ghost stable_patched = { λ s b told stands. patched_is_read _ s b stands };
+    ghost stable_patched = { λ s b n told stands. stands.patched };
 
     ghost now_counts = { λ s t i told le here. D.now_counts s.disk t i told le here };
 

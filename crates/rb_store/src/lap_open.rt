@@ -1,21 +1,18 @@
-//! Opens a file of groups: scans its log into blocks in memory, and drops the groups behind the last commit. `LapStore`
-//! is made here.
-ghost use Rattle.std.specs.Prelude.{◌≡◌, ◌⊎◌, ◌+◌, ◌≤◌, ◌<◌, [], ◌++◌, ◌∷◌, ℕ};
-ghost use Rattle.std.specs.Prelude.{List, length, true, false, vec_capacity, IfOk, IfErr, OnOk, OnErr, IsOk, IsErrOf};
-ghost use Rattle.std.specs.List.{AllByRecursion};
-ghost use Rattle.rb_base.specs.Blocks.{after_groups, fresh_blocks, patches_block, commit_block};
-ghost use Rattle.rb_base.specs.Counts.{IsCounted, IsCountedAs, err_is, is_failed};
+//! Opens a file of groups: scans its log, and puts all of its groups into blocks in memory. `LapStore` is made here.
+ghost use Rattle.std.specs.Prelude.{◌≡◌, ◌+◌, ◌<◌, [], ℕ};
+ghost use Rattle.std.specs.Prelude.{List, length, true, false, IfOk, IfErr, OnOk, IsErrOf};
+ghost use Rattle.rb_base.specs.Counts.{IsCountedAs, err_is, is_failed};
 ghost use Rattle.rb_base.specs.Groups.{Patch};
 ghost use Rattle.rb_disk.specs.DiskModel.{Only};
-ghost use Rattle.rb_disk.specs.Moments.{Leaves, Rests};
+ghost use Rattle.rb_disk.specs.Moments.{Rests};
 ghost use Rattle.rb_layout.specs.declared.layout.Layout.{Layout};
-ghost use Rattle.rb_layout.specs.Regions.{file_length, shape_of, HasIdentity};
-ghost use Rattle.rb_log.specs.GroupSlots.{GroupsAre, IsLoggable};
-ghost use Rattle.rb_store.specs.Laps.{LapState, OpensTo, OpensAt, IsLap, IsStable};
-ghost use Rattle.rb_store.specs.Scanned.{HasScanned, HasScannedAll, HasScannedOpen, TakesGroup};
+ghost use Rattle.rb_layout.specs.Regions.{file_length, HasIdentity};
+ghost use Rattle.rb_log.specs.GroupSlots.{GroupsAre};
+ghost use Rattle.rb_store.specs.Laps.{LapState, OpensAt, IsStable};
+ghost use Rattle.rb_store.specs.Scanned.{HasScanned, HasScannedAll};
 
 use crate::lap::LapStore;
-use rb_base::{BlockNo, Group, OpenFault, Store};
+use rb_base::{OpenFault, Store};
 use rb_disk::Disk;
 use rb_layout::{Head, Layout, VERSION};
 use rb_log::Log;
@@ -25,104 +22,38 @@ use std::alloc::Global;
 /// A file's blocks as far as its log is scanned.
 #[derive(Drop)]
 struct Scan {
+    layout: Layout,
     plain: PlainStore,
     log: Log,
-    // The groups behind the last commit so far.
-    waiting: Vec<Group>,
 }
 
-/// Whether one of the group's patches is of the block that each commit patches.
-fn is_commit(group: &Group, commit: BlockNo) -> bool
-    ensures { result ≡ patches_block commit group.now }
-{
-    for i in 0..group.patches() {
-        if group.patch_block(i) == commit {
-            return true;
-        }
-    }
-    false
-}
-
-/// Patches the blocks by groups, the oldest first.
-fn apply_all(plain: &mut PlainStore, groups: &[Group], layout: &Layout)
-    requires shape { plain.old.shape ≡ shape_of layout.now }
-    requires each { AllByRecursion (IsLoggable layout.now) groups.now }
-    requires few { plain.old.lsn + length groups.now ≤ 4096 }
-    ensures blocks { plain.new.blocks ≡ after_groups (plain.old.lsn + 1) groups.now plain.old.blocks }
-    ensures lsn { plain.new.lsn ≡ plain.old.lsn + length groups.now }
-    ensures shape { plain.new.shape ≡ plain.old.shape }
-{
-    for group in groups {
-        let Ok(()) = plain.apply(group) else {
-            unreachable!()
-        };
-    }
-}
-
-/// TakesGroup all the memory that a store of this layout needs. Nothing is read yet.
-fn fresh_scan<D: Disk>(alloc: Global, disk: &mut D, layout: &Layout) -> Result<Scan, OpenFault>
-    ensures scanned { IfOk result (λ s. (file : List ℕ)
-        → HasScanned D.tells layout.now file s.plain s.log s.waiting.items) }
-    ensures room { IfOk result (λ s. layout.now.log ≤ vec_capacity s.waiting) }
+/// Takes all the memory that a store of this layout needs. Nothing is read yet.
+fn fresh_scan<D: Disk>(alloc: Global, disk: &mut D, layout: Layout) -> Result<Scan, OpenFault>
+    ensures layout { IfOk result (λ s. s.layout ≡ layout) }
+    ensures scanned { IfOk result (λ s. (file : List ℕ) → HasScanned D.tells layout file s.plain s.log) }
     ensures memory { IfErr result (λ fault. fault ≡ OpenFault.NoMemory) }
     ensures untouched { disk.new ≡ disk.old }
 {
     let head = Head { slot: 0, number: 1 };
-    let log = Log::open(alloc, disk, layout, head)?;
+    let log = Log::open(alloc, disk, &layout, head)?;
     let Ok(plain) = PlainStore::new(alloc, layout.shape()) else {
         return Err(OpenFault::NoMemory);
     };
-    let Ok(waiting) = Vec::with_capacity(alloc, layout.log as usize) else {
-        return Err(OpenFault::NoMemory);
-    };
-    Ok(Scan {
-        plain,
-        log,
-        waiting,
-    })
+    Ok(Scan { layout, plain, log })
 }
 
-/// The block that each commit patches.
-fn commit_block_of(layout: &Layout) -> BlockNo
-    ensures { result ≡ commit_block (shape_of layout.now) }
-{
-    layout.shape().header_block(0)
-}
-
-/// TakesGroup the group that the log has behind those before. A commit puts all that wait into the blocks.
-fn take_group(scan: &mut Scan, group: Group, layout: &Layout)
-    requires shape { scan.old.plain.shape ≡ shape_of layout.now }
-    requires each { AllByRecursion (IsLoggable layout.now) (scan.old.waiting.items ++ group ∷ []) }
-    requires few { scan.old.plain.lsn + length scan.old.waiting.items < layout.now.log }
-    requires room { layout.now.log ≤ vec_capacity scan.old.waiting }
-    ensures log { scan.new.log ≡ scan.old.log }
-    ensures shape { scan.new.plain.shape ≡ scan.old.plain.shape }
-    ensures taken { TakesGroup (commit_block (shape_of layout.now)) scan.old.plain scan.new.plain scan.old.waiting.items
-        group scan.new.waiting.items }
-    ensures room { layout.now.log ≤ vec_capacity scan.new.waiting }
-{
-    let commit = is_commit(&group, commit_block_of(layout));
-    scan.waiting.push_reserved(group);
-    if commit {
-        apply_all(&mut scan.plain, &scan.waiting, layout);
-        scan.waiting.clear();
-    }
-}
-
-/// Reads the group behind those that were read, if there is one, and says whether there was.
-fn scan_one<D: Disk>(scan: &mut Scan, disk: &mut D, layout: &Layout) -> Result<bool, OpenFault>
-    requires so_far { HasScanned D.tells layout.now (D.content disk.old) scan.old.plain scan.old.log
-        scan.old.waiting.items }
-    requires room { layout.now.log ≤ vec_capacity scan.old.waiting }
-    requires whole { D.tells → length (D.content disk.old) ≡ file_length layout.now }
-    ensures more { result ≡ Ok true → HasScanned D.tells layout.now (D.content disk.old) scan.new.plain scan.new.log
-        scan.new.waiting.items }
+/// Puts the group behind those that were read into the blocks, if there is one, and says whether there was.
+fn scan_one<D: Disk>(scan: &mut Scan, disk: &mut D) -> Result<bool, OpenFault>
+    requires so_far { HasScanned D.tells scan.old.layout (D.content disk.old) scan.old.plain scan.old.log }
+    requires whole { D.tells → length (D.content disk.old) ≡ file_length scan.old.layout }
+    ensures layout { scan.new.layout ≡ scan.old.layout }
+    ensures more { result ≡ Ok true → HasScanned D.tells scan.old.layout (D.content disk.old) scan.new.plain
+        scan.new.log }
     ensures used { result ≡ Ok true → scan.new.log.used ≡ scan.old.log.used + 1 }
-    ensures end { result ≡ Ok false → HasScannedAll D.tells layout.now (D.content disk.old) scan.new.plain
-        scan.new.log scan.new.waiting.items }
-    ensures room { layout.now.log ≤ vec_capacity scan.new.waiting }
+    ensures end { result ≡ Ok false → HasScannedAll D.tells scan.old.layout (D.content disk.old) scan.new.plain
+        scan.new.log }
     ensures none { D.tells → IsErrOf result OpenFault.NotAStore → (groups : List (List Patch))
-        → ¬ GroupsAre layout.now (D.content disk.old) 0 groups }
+        → ¬ GroupsAre scan.old.layout (D.content disk.old) 0 groups }
     ensures no_memory { ¬ IsErrOf result OpenFault.NoMemory }
     ensures counted { IsCountedAs (D.faults disk.old) (D.faults disk.new) (err_is is_failed result) }
     ensures same { D.tells → Rests D.Disk disk.old disk.new }
@@ -131,71 +62,32 @@ fn scan_one<D: Disk>(scan: &mut Scan, disk: &mut D, layout: &Layout) -> Result<b
     let Some(group) = scan.log.scan(disk, next)? else {
         return Ok(false);
     };
-    take_group(scan, group, layout);
+    let Ok(()) = scan.plain.apply(&group) else {
+        unreachable!()
+    };
     Ok(true)
 }
 
-/// Reads the groups of the log up to its end.
-fn scan_all<D: Disk>(scan: &mut Scan, disk: &mut D, layout: &Layout) -> Result<(), OpenFault>
-    requires so_far { HasScanned D.tells layout.now (D.content disk.old) scan.old.plain scan.old.log
-        scan.old.waiting.items }
-    requires room { layout.now.log ≤ vec_capacity scan.old.waiting }
-    requires whole { D.tells → length (D.content disk.old) ≡ file_length layout.now }
-    ensures found { OnOk result (HasScannedAll D.tells layout.now (D.content disk.old) scan.new.plain scan.new.log
-        scan.new.waiting.items) }
+/// Puts the groups of the log into the blocks, up to its end.
+fn scan_all<D: Disk>(scan: &mut Scan, disk: &mut D) -> Result<(), OpenFault>
+    requires so_far { HasScanned D.tells scan.old.layout (D.content disk.old) scan.old.plain scan.old.log }
+    requires whole { D.tells → length (D.content disk.old) ≡ file_length scan.old.layout }
+    ensures layout { scan.new.layout ≡ scan.old.layout }
+    ensures found { OnOk result (HasScannedAll D.tells scan.old.layout (D.content disk.old) scan.new.plain
+        scan.new.log) }
     ensures none { D.tells → IsErrOf result OpenFault.NotAStore → (groups : List (List Patch))
-        → ¬ GroupsAre layout.now (D.content disk.old) 0 groups }
+        → ¬ GroupsAre scan.old.layout (D.content disk.old) 0 groups }
     ensures no_memory { ¬ IsErrOf result OpenFault.NoMemory }
     ensures counted { IsCountedAs (D.faults disk.old) (D.faults disk.new) (err_is is_failed result) }
     ensures same { D.tells → Rests D.Disk disk.old disk.new }
 {
-    for _ in 0..layout.log {
-        if !scan_one(scan, disk, layout)? {
+    for _ in 0..scan.layout.log {
+        if !scan_one(scan, disk)? {
             return Ok(());
         }
     }
     // Each turn takes a slot, and the last slot has no group.
     unreachable!()
-}
-
-/// Drops the groups behind the last commit, so that the next ones stand behind it.
-fn drop_uncommitted<D: Disk>(
-    scan: &mut Scan,
-    disk: &mut D,
-    layout: &Layout,
-) -> Result<(), OpenFault>
-    requires all { HasScannedAll D.tells layout.now (D.content disk.old) scan.old.plain scan.old.log
-        scan.old.waiting.items }
-    requires identity { D.tells → HasIdentity VERSION layout.now (D.content disk.old) }
-    requires synced { D.tells → Only (D.content disk.old) (D.image disk.old) }
-    ensures opened { OnOk result (HasScannedOpen D.Disk layout.now scan.new.plain scan.new.log disk.new) }
-    ensures blocks { scan.new.plain ≡ scan.old.plain }
-    ensures any_moment { D.tells → Leaves D.Disk disk.old disk.new
-        (λ c. OpensTo layout.now c scan.old.plain.blocks) }
-    ensures fault { IfErr result (λ e. e ≡ OpenFault.Failed) }
-    ensures counted { IsCounted (D.faults disk.old) (D.faults disk.new) result }
-{
-    let kept = scan.plain.logged() as u32;
-    if kept == scan.log.used() {
-        return Ok(());
-    }
-    scan.log.drop_behind(disk, kept)?;
-    Ok(())
-}
-
-/// Reads the log of a file of this layout, which a sync has made the only one that a crash may leave.
-fn scan_file<D: Disk>(alloc: Global, disk: &mut D, layout: &Layout) -> Result<Scan, OpenFault>
-    requires whole { D.tells → length (D.content disk.old) ≡ file_length layout.now }
-    ensures found { IfOk result (λ s. HasScannedAll D.tells layout.now (D.content disk.old) s.plain s.log
-        s.waiting.items) }
-    ensures none { D.tells → IsErrOf result OpenFault.NotAStore → (groups : List (List Patch))
-        → ¬ GroupsAre layout.now (D.content disk.old) 0 groups }
-    ensures counted { IsCountedAs (D.faults disk.old) (D.faults disk.new) (err_is is_failed result) }
-    ensures same { D.tells → Rests D.Disk disk.old disk.new }
-{
-    let mut scan = fresh_scan(alloc, disk, layout)?;
-    scan_all(&mut scan, disk, layout)?;
-    Ok(scan)
 }
 
 /// Which layout the file has, once a sync has made the file the only one that a crash may leave.
@@ -212,73 +104,44 @@ fn synced_layout<D: Disk>(disk: &mut D) -> Result<Layout, OpenFault>
     Layout::read(disk)
 }
 
-/// All of a store but its disk.
-#[derive(Drop)]
-struct Parts {
-    scan: Scan,
-    layout: Layout,
-}
-
-/// Opens the file: its layout, its groups, and none behind the last commit.
-fn open_parts<D: Disk>(alloc: Global, disk: &mut D) -> Result<Parts, OpenFault>
-    ensures opened { IfOk result (λ p. HasScannedOpen D.Disk p.layout p.scan.plain p.scan.log disk.new) }
-    ensures found { D.tells → IfOk result (λ p. OpensAt p.layout (D.content disk.old) p.scan.plain.blocks
-        p.scan.plain.lsn) }
-    ensures none { D.tells → IsErrOf result OpenFault.NotAStore → (l : Layout) (b : List (List ℕ))
-        → ¬ OpensTo l (D.content disk.old) b }
+/// Syncs the file, and then reads its layout and all groups of its log.
+fn scan_file<D: Disk>(alloc: Global, disk: &mut D) -> Result<Scan, OpenFault>
+    ensures scanned { IfOk result (λ s. HasScannedAll D.tells s.layout (D.content disk.old) s.plain s.log) }
+    ensures identity { D.tells → IfOk result (λ s. HasIdentity VERSION s.layout (D.content disk.old)) }
+    ensures none { D.tells → IsErrOf result OpenFault.NotAStore → (l : Layout) (b : List (List ℕ)) (n : ℕ)
+        → ¬ OpensAt l (D.content disk.old) b n }
     ensures counted { IsCountedAs (D.faults disk.old) (D.faults disk.new) (err_is is_failed result) }
-    ensures any_moment { D.tells → (l : Layout) (b : List (List ℕ)) → OpensTo l (D.content disk.old) b
-        → Leaves D.Disk disk.old disk.new (λ c. D.image disk.old c ⊎ OpensTo l c b) }
-    ensures not_a_store { D.tells → IsErrOf result OpenFault.NotAStore
-        → Rests D.Disk disk.old disk.new }
-    ensures no_memory { D.tells → IsErrOf result OpenFault.NoMemory
-        → Rests D.Disk disk.old disk.new }
-    ensures nothing { D.tells → OnErr result (((l : Layout) (b : List (List ℕ))
-        → ¬ OpensTo l (D.content disk.old) b) → Rests D.Disk disk.old disk.new) }
+    ensures same { D.tells → Rests D.Disk disk.old disk.new }
+    ensures durable { D.tells → OnOk result (Only (D.content disk.old) (D.image disk.new)) }
 {
     let layout = synced_layout(disk)?;
-    let mut scan = scan_file(alloc, disk, &layout)?;
-    drop_uncommitted(&mut scan, disk, &layout)?;
-    Ok(Parts { scan, layout })
+    let mut scan = fresh_scan(alloc, disk, layout)?;
+    scan_all(&mut scan, disk)?;
+    Ok(scan)
 }
 
 impl<D: Disk> LapStore<D> {
-    /// Opens the store of a disk: the groups of its log up to the last commit make its blocks, and those behind it
-    /// are dropped. It begins with a sync. An Err gives the disk back: NotAStore where the file is no store of this
-    /// form, Failed where a call of the disk failed. Until the sync has answered, a crash leaves what it would have
-    /// left before; from then on a file that opens to the same blocks. A file that opens to none is left as it was.
+    /// Opens the store of a disk: the groups of its log make its blocks, and the last of them gives the last log
+    /// number. It begins with a sync, and then it only reads: after an Ok a crash leaves the file alone. An Err gives
+    /// the disk back: NotAStore where the file is no store of this form, Failed where a call of the disk failed.
     pub fn open(alloc: Global, disk: D) -> Result<LapStore<D>, (OpenFault, D)>
         ensures found { D.tells → IfOk result (λ s. OpensAt s.layout (D.content disk) s.blocks s.lsn) }
-        ensures stable { D.tells → IfOk result (λ s. IsStable D.Disk s s.blocks) }
+        ensures stable { D.tells → IfOk result (λ s. IsStable D.Disk s s.blocks s.lsn) }
         ensures pending { IfOk result (λ s. s.pending ≡ []) }
         ensures few { IfOk result (λ s. s.lsn < s.layout.log) }
         ensures going { IfOk result (λ s. s.failed ≡ false) }
         ensures none { D.tells → IfErr result (λ r. r.0 ≡ OpenFault.NotAStore
-            → (l : Layout) (b : List (List ℕ)) → ¬ OpensTo l (D.content disk) b) }
+            → (l : Layout) (b : List (List ℕ)) (n : ℕ) → ¬ OpensAt l (D.content disk) b n) }
         ensures counted_ok { IfOk result (λ s. D.faults s.disk ≡ D.faults disk) }
         ensures counted_err { IfErr result (λ r. IsCountedAs (D.faults disk) (D.faults r.1) (is_failed r.0)) }
-        ensures any_moment_ok { D.tells → IfOk result (λ s. (l : Layout) (b : List (List ℕ))
-            → OpensTo l (D.content disk) b → Leaves D.Disk disk s.disk (λ c. D.image disk c
-            ⊎ OpensTo l c b)) }
-        ensures any_moment_err { D.tells → IfErr result (λ r. (l : Layout) (b : List (List ℕ))
-            → OpensTo l (D.content disk) b → Leaves D.Disk disk r.1 (λ c. D.image disk c
-            ⊎ OpensTo l c b)) }
-        ensures unchanged { D.tells → IfErr result (λ r. r.0 ≡ OpenFault.NotAStore
-            → Rests D.Disk disk r.1) }
-        ensures no_memory { D.tells → IfErr result (λ r. r.0 ≡ OpenFault.NoMemory
-            → Rests D.Disk disk r.1) }
-        ensures nothing { D.tells → IfErr result (λ r. ((l : Layout) (b : List (List ℕ))
-            → ¬ OpensTo l (D.content disk) b) → Rests D.Disk disk r.1) }
+        ensures rests_ok { D.tells → IfOk result (λ s. Rests D.Disk disk s.disk) }
+        ensures rests_err { D.tells → IfErr result (λ r. Rests D.Disk disk r.1) }
+        ensures synced { D.tells → IfOk result (λ s. Only (D.content disk) (D.image s.disk)) }
     {
         let mut disk = disk;
-        match open_parts(alloc, &mut disk) {
-            Ok(parts) => {
-                let Parts { scan, layout } = parts;
-                let Scan {
-                    plain,
-                    log,
-                    waiting: _,
-                } = scan;
+        match scan_file(alloc, &mut disk) {
+            Ok(scan) => {
+                let Scan { layout, plain, log } = scan;
                 Ok(LapStore {
                     plain,
                     log,

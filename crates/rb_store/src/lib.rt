@@ -7,5 +7,5 @@ mod laws;
 mod new_file;
 
 pub use lap::LapStore;
-pub use laws::{fresh_lap, last_header, one_opening};
+pub use laws::{fresh_lap, last_number, one_opening};
 pub use new_file::{FormatFault, format};

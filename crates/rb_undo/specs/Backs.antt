@@ -1,7 +1,7 @@
 -- The newest live change of a transaction and what puts it back, in the blocks of a file.
-use Rattle.std.specs.Prelude.{◌≡◌, ◌≢◌, ℕ, ◌<◌, ◌≤◌, List, ◌++◌}
-use Rattle.rb_base.specs.Blocks.{block_of, header_block, shape_blocks, table_blocks}
-use Rattle.rb_base.specs.Groups.{Patch}
+use Rattle.std.specs.Prelude.{◌≡◌, ◌≢◌, ℕ, ◌+◌, ◌<◌, ◌≤◌, List, [], ◌∷◌, ◌++◌}
+use Rattle.rb_base.specs.Blocks.{after_groups, block_of, header_block, shape_blocks, table_blocks}
+use Rattle.rb_base.specs.Groups.{Patch, IsGroup}
 use Rattle.rb_base.specs.declared.ids.Uba.{Uba}
 use Rattle.rb_base.specs.declared.ids.Xid.{Xid}
 use Rattle.rb_base.specs.declared.shape.Shape.{Shape}
@@ -12,7 +12,7 @@ use Rattle.rb_heap.specs.Homes.{home_of, home_patches}
 use Rattle.rb_heap.specs.Soundness.{StaysShort}
 use Rattle.rb_itl.specs.Entries.{entry_of}
 use Rattle.rb_itl.specs.declared.slots.TheConstants.{ENTRIES}
-use Rattle.rb_segment.specs.Calls.{slot_patches}
+use Rattle.rb_segment.specs.Calls.{slot_patches, Runs}
 use Rattle.rb_segment.specs.Header.{Header, header_of, slot_in}
 use Rattle.rb_segment.specs.Moves.{taken_back}
 use Rattle.rb_undoblock.specs.Undo.{undo_at}
@@ -31,8 +31,11 @@ abbrev pub newest_record : Shape → List (List ℕ) → Xid → UndoRecord
 newest_record shape blocks x =
     undo_at (block_of blocks (newest_of shape blocks x).block) (newest_of shape blocks x).rec
 
--- The address is of a record in the file, and the record names a block of rows, an entry and a cell that there are.
+-- The transaction runs and has a live record. The address of its newest one is of a record in the file, and the record
+-- names a block of rows, an entry and a cell that there are.
 pub record CanBack (shape : Shape) (blocks : List (List ℕ)) (x : Xid) : Type 0 where
+  pub runs : Runs (header_for shape blocks x) x
+  pub live : 1 ≤ (slot_in (header_for shape blocks x) x.slot).live
   pub some : 1 ≤ (newest_of shape blocks x).ord
   pub block : (newest_of shape blocks x).block < shape_blocks shape
   pub place : (newest_of shape blocks x).rec < UNDO_RECORDS
@@ -53,3 +56,11 @@ pub record TakesBack (shape : Shape) (x : Xid) (u : UndoRecord) (before now : Li
   pub short : StaysShort (block_of before u.home) (block_of now u.home)
   pub header : header_for shape now x ≡ taken_back x.slot u.previous (header_for shape before x)
   pub others : (b : ℕ) → b ≢ u.home → b ≢ header_block shape x.seg → block_of now b ≡ block_of before b
+
+-- The groups are one that puts it back, in blocks whose last log number is lsn.
+pub record ArePutBack (shape : Shape) (x : Xid) (lsn : ℕ) (blocks : List (List ℕ)) (groups : List (List Patch))
+    : Type 0 where
+  pub can : CanBack shape blocks x
+  pub one : groups ≡ back_patches shape x (newest_record shape blocks x) (header_for shape blocks x) ∷ []
+  pub valid : IsGroup (back_patches shape x (newest_record shape blocks x) (header_for shape blocks x))
+  pub takes : TakesBack shape x (newest_record shape blocks x) blocks (after_groups (lsn + 1) groups blocks)

@@ -66,8 +66,6 @@ pub fn newest<S: Store>(
     requires header { length header.now ≡ UNIT }
     requires slot { xid.slot < SLOTS }
     requires told { S.tells → header.now ≡ block_of (S.blocks store.old) (header_block shape.now xid.seg) }
-    requires live { S.tells → Runs (header_of header.now) xid
-        × (1 ≤ (slot_in (header_of header.now) xid.slot).live) }
     ensures logs { Logs S.Store store.old store.new [] (not (is_err result)) }
     ensures live { IfOk result (λ found. IfSome found (λ _. Runs (header_of header.now) xid
         × (1 ≤ (slot_in (header_of header.now) xid.slot).live))) }

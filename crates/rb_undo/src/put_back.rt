@@ -2,12 +2,10 @@
 ghost use Rattle.std.specs.Prelude.{◌≡◌, ◌⊎◌, ◌+◌, ◌^◌, ◌<◌, ◌≤◌, false, true, not};
 ghost use Rattle.std.specs.Prelude.{List, [], ◌∷◌, length, OnOk};
 ghost use Rattle.std.specs.Result.{is_err};
-ghost use Rattle.rb_base.specs.Groups.{Patch, IsGroup};
+ghost use Rattle.rb_base.specs.Groups.{Patch};
 ghost use Rattle.rb_base.specs.Logs.{Logs};
 ghost use Rattle.rb_base.specs.Stores.{room_of};
-ghost use Rattle.rb_segment.specs.Calls.{Runs};
-ghost use Rattle.rb_segment.specs.Header.{slot_in};
-ghost use Rattle.rb_undo.specs.Backs.{back_patches, header_for, newest_record, CanBack, TakesBack};
+ghost use Rattle.rb_undo.specs.Backs.{back_patches, header_for, newest_record, ArePutBack, CanBack, TakesBack};
 
 use crate::find::newest;
 use rb_base::{Failed, Group, SLOTS, Store, UNIT, Xid};
@@ -16,22 +14,21 @@ use rb_heap::change;
 use rb_itl::entry_from;
 use rb_segment::take_back;
 
-/// Puts back the newest live change of a transaction that runs and has one, by one group: the cell and the slot entry
-/// of its block become what the change's undo record kept, and the transaction has one live record less. What `group`
-/// held is dropped. Where no record of the file is found, as in a damaged one, nothing is done. `Failed` only where a
-/// call of the store failed. (Oracle7 Server Concepts, *Rollback Segments*: how a transaction is rolled back.)
+/// Puts back the newest live change of a transaction, by one group: the cell and the slot entry of its block become
+/// what the change's undo record kept, and the transaction has one live record less. What `group` held is dropped.
+/// Nothing is done where the transaction doesn't run or has no live change, and where no record of the change is found,
+/// as in a damaged file. `Failed` only where a call of the store failed. (Oracle7 Server Concepts, *Rollback Segments*:
+/// how a transaction is rolled back.)
 pub fn back<S: Store>(store: &mut S, xid: Xid, group: &mut Group) -> Result<(), Failed>
     requires going { S.failed store.old ≡ false }
     requires there { xid.seg < (S.shape_of store.old).segments }
     requires slot { xid.slot < SLOTS }
-    requires live { S.tells → Runs (header_for (S.shape_of store.old) (S.blocks store.old) xid) xid
-        × (1 ≤ (slot_in (header_for (S.shape_of store.old) (S.blocks store.old) xid) xid.slot).live) }
     requires room { 1 ≤ room_of (S.slots store.old) (S.lsn store.old) }
     requires few { S.lsn store.old < 2 ^ 62 }
     ensures logs { (groups : List (List Patch)) × Logs S.Store store.old store.new groups (not (is_err result))
-        × (S.tells → (groups ≡ []) ⊎ (groups ≡ back_patches (S.shape_of store.old) xid
-        (newest_record (S.shape_of store.old) (S.blocks store.old) xid)
-        (header_for (S.shape_of store.old) (S.blocks store.old) xid) ∷ [])) × (length groups ≤ 1) }
+        × (S.tells → (groups ≡ [])
+        ⊎ ArePutBack (S.shape_of store.old) xid (S.lsn store.old) (S.blocks store.old) groups)
+        × (length groups ≤ 1) }
     ensures put_back { S.tells → CanBack (S.shape_of store.old) (S.blocks store.old) xid
         → OnOk result (Logs S.Store store.old store.new (back_patches (S.shape_of store.old) xid
         (newest_record (S.shape_of store.old) (S.blocks store.old) xid)
@@ -39,10 +36,6 @@ pub fn back<S: Store>(store: &mut S, xid: Xid, group: &mut Group) -> Result<(), 
     ensures means { S.tells → CanBack (S.shape_of store.old) (S.blocks store.old) xid
         → OnOk result (TakesBack (S.shape_of store.old) xid
         (newest_record (S.shape_of store.old) (S.blocks store.old) xid) (S.blocks store.old) (S.blocks store.new)) }
-    ensures patches { S.tells → CanBack (S.shape_of store.old) (S.blocks store.old) xid
-        → OnOk result (IsGroup (back_patches (S.shape_of store.old) xid
-        (newest_record (S.shape_of store.old) (S.blocks store.old) xid)
-        (header_for (S.shape_of store.old) (S.blocks store.old) xid))) }
     ensures nothing { S.tells → ¬ CanBack (S.shape_of store.old) (S.blocks store.old) xid
         → OnOk result (Logs S.Store store.old store.new [] true) }
 {

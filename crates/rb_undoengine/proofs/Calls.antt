@@ -1,10 +1,11 @@
 -- What an attempt over a store tells of a write is the machine's answer, and its next state.
-use Rattle.std.proofs.Common.{◌≡◌, ◌<◌, ◌≤◌, ◌+◌, ◌*◌, ◌^◌, ℕ, true, not, List, [], ◌∷◌, length, Result, Ok, Err, IfOk, IfErr, OnOk, OnErr, Some, refl, sym, ap, subst, arith}
+use Rattle.std.proofs.Common.{◌≡◌, ◌<◌, ◌≤◌, ◌+◌, ◌*◌, ◌^◌, min, ℕ, true, false, not, List, [], ◌∷◌, length, Result, Ok, Err, IfOk, IfErr, OnOk, OnErr, Some, refl, sym, ap, subst, arith}
 use Rattle.rb_attempt.specs.Asks.{IsWriterOf, adds_row, home_for, kind_of}
+use Rattle.rb_attempt.specs.Making.{MakesIfAny}
 use Rattle.rb_attempt.specs.Refusals.{Refuses, TakesWrite, has_failed}
 use Rattle.rb_attempt.specs.declared.ask.Ask.{Ask}
 use Rattle.rb_attempt.specs.declared.ask.AttemptFault.{AttemptFault}
-use Rattle.rb_base.specs.Blocks.{home_block, table_blocks}
+use Rattle.rb_base.specs.Blocks.{after_group, home_block, table_blocks}
 use Rattle.rb_base.specs.Groups.{Patch}
 use Rattle.rb_base.specs.Logs.{Logs, group_of}
 use Rattle.rb_base.specs.Stores.{room_of}
@@ -13,8 +14,9 @@ use Rattle.rb_base.specs.declared.ids.Xid.{Xid}
 use Rattle.rb_base.specs.declared.shape.Shape.{Shape}
 use Rattle.rb_base.specs.declared.sizes.TheConstants.{WORN}
 use Rattle.rb_base.specs.declared.store.Store.{Ghosts}
+use Rattle.rb_image.specs.Made.{GivesOne, WriteMade}
 use Rattle.rb_model.specs.Calls.{Answer, Done, Refused, WritesIn, first_of, write_tests}
-use Rattle.rb_model.specs.Machine.{State}
+use Rattle.rb_model.specs.State.{State}
 use Rattle.rb_model.specs.NextState.{change_in, written}
 use Rattle.rb_model.specs.declared.op.Op.{Op}
 use Rattle.rb_segment.specs.Header.{Header}
@@ -24,8 +26,8 @@ use Rattle.rb_standing.specs.Writing.{IsWritten}
 use Rattle.rb_undoblock.specs.declared.record.UndoRecord.{UndoRecord}
 use Rattle.rb_undoengine.specs.StepLaws.{IsAsked}
 use Rattle.rb_model.specs.Answers.{action_of}
-use Rattle.rb_undoengine.specs.Steps.{IsAbout, NotOthers, cause_of, kept_room}
-use Rattle.rb_undoengine.proofs.Done.{answered, stands}
+use Rattle.rb_undoengine.specs.Steps.{IsAbout, NotOthers, refusal_of, kept_room}
+use Rattle.rb_undoengine.proofs.Done.{answered, fits_is, id_is, stands}
 use Rattle.rb_undoengine.proofs.HomeWords.{which_in}
 use Rattle.rb_undoengine.proofs.Logged.{write_logged}
 use Rattle.rb_undoengine.proofs.Refused.{refused}
@@ -51,66 +53,79 @@ module _ {S : Type 0} (store : Ghosts S) (told : store.tells) (old new : S) (h :
   Now = store.blocks new
 
   abbrev Room : ℕ
-  Room = room_of (store.slots old) (store.lsn old)
+  Room = min (room_of (store.slots old) (store.lsn old)) ask.room
 
   -- the machine's answer where the transaction writes
   abbrev pub Answered : ℕ → ℕ → ℕ → Answer
   Answered logged g i = first_of (write_tests h logged Room g i s ask.table ask.key (action_of op)) Done
 
-  -- the write is done
-  abbrev pub IsDone : Xid → Type 0
-  IsDone x = WritesIn h s x.seg x.slot
-      × (Answered (store.lsn old) x.seg x.slot ≡ Done)
-      × BlocksStand (written h s x.seg x.slot (change_in h x.seg ask.table ask.key (action_of op))) xids Now
-      × (store.lsn new ≡ logged_of h.shape Now)
-      × (store.lsn new ≡ store.lsn old + 1)
-
   abbrev pub IsRefused : AttemptFault → Type 0
   IsRefused fault = (x : Xid) × WritesIn h s x.seg x.slot
-      × (Answered (store.lsn old) x.seg x.slot ≡ Refused (cause_of fault))
-      × Logs store old new [] true
+      × (Answered (store.lsn old) x.seg x.slot ≡ Refused (refusal_of fault))
 
-  -- blocks with another log number are those after a group
-  one_logged : (patches : List Patch) → Logs store old new (group_of patches) true → logged_of h.shape Now ≡ logged_of h.shape Before + 1 → store.lsn new ≡ store.lsn old + 1
-  one_logged [] logs more =
-      let still : logged_of h.shape Now ≡ logged_of h.shape Before = ap (logged_of h.shape) (logs.blocks told refl) in
-      absurd (omega (arith, still, more))
-  one_logged (p ∷ patches) logs more = logs.number refl
+  -- blocks in which the write that was asked for is made, and which no test of it refused
+  module _ (x : Xid) (now : List (List ℕ)) (s_in : s ≤ length h.sessions) (number : store.lsn old ≡ logged_of h.shape Before) (few : kept_room h.shape Before ask.own ≤ 2 ^ 13) (w : IsAskMade h.shape Before now ask x)
+      (takes : TakesWrite (home_for h.shape Before ask) (adds_row ask.op) ask.key) (young : store.lsn old < WORN) (enough : 1 + kept_room h.shape Before ask.own ≤ Room) where
+    asked : IsAsked h ask x w.1
+    asked = record { table = w.4; key = w.5; wrap = w.6; home = w.7 }
 
+    early : logged_of h.shape Before < WORN
+    early = omega (arith, number, young)
+
+    home_in : (w.1).home < table_blocks h.shape
+    home_in = subst (λ (b : ℕ). b < table_blocks h.shape) (sym w.7) (which_in h xids Before about.stand ask.table ask.key first last)
+
+    t_in : 16 * x.seg + x.slot < 16 * h.shape.segments
+    t_in =
+        let g = writers.within h xids Before s ask.own about x w.2 w.3 in
+        let i = writers.few h xids Before s ask.own about x w.2 w.3 in
+        omega (arith, g, i)
+
+    -- the write, as it is made
+    pub write_made : WriteMade h xids s ask.table ask.key (action_of op) Room x Before now
+    write_made =
+        let more = write_logged h xids Before now (16 * x.seg + x.slot) (adds_row ask.op) (kind_of ask.op) w.0 w.1 about.stand t_in home_in w.8 in
+        record {
+          in_slot = writers.writes_in h xids Before s ask.own about x w.2 w.3;
+          granted = answered h xids Before now s Room ask op about s_in op_is first last mine x w.2 w.3 w.0 w.1 asked takes w.8 early enough few;
+          stand = stands h xids Before now s Room ask op about s_in op_is first last mine x w.2 w.3 w.0 w.1 asked takes w.8 early enough few;
+          last = more;
+          id = id_is h xids Before now s Room ask op about s_in op_is first last mine x w.2 w.3 w.0 w.1 asked takes w.8 early enough few;
+          fits = fits_is h xids Before now s Room ask op about s_in op_is first last mine x w.2 w.3 w.0 w.1 asked takes w.8 early enough few;
+        }
+
+  -- what a group makes, where one is given
+  pub makes : (patches : List Patch) → s ≤ length h.sessions → store.lsn old ≡ logged_of h.shape Before → kept_room h.shape Before ask.own ≤ 2 ^ 13 → MakesIfAny (store.shape_of old) Before ask (store.lsn old) Room patches
+      → 0 < length patches → (x : Xid) × WriteMade h xids s ask.table ask.key (action_of op) Room x Before (after_group (store.lsn old + 1) patches Before)
+  makes patches s_in number few made some =
+      let m = subst (λ (k : Shape). MakesIfAny k Before ask (store.lsn old) Room patches) same made some in
+      let now = after_group (store.lsn old + 1) patches Before in
+      let may = m.0 in
+      (m.1.0, write_made m.1.0 now s_in number few m.1.1 may.takes may.numbers may.fits)
+
+  -- a write that is done
   done_one : (x : Xid) (patches : List Patch) → s ≤ length h.sessions → store.lsn old ≡ logged_of h.shape Before → kept_room h.shape Before ask.own ≤ 2 ^ 13 → Logs store old new (group_of patches) true
-      → IsAskMade h.shape Before Now ask x → TakesWrite (home_for h.shape Before ask) (adds_row ask.op) ask.key → store.lsn old < WORN → 1 + kept_room h.shape Before ask.own ≤ Room → IsDone x
-  done_one x patches s_in number few logs w takes young enough = (
-    writers.writes_in h xids Before s ask.own about x w.2 w.3,
-    subst (λ (n : ℕ). Answered n x.seg x.slot ≡ Done) (sym number) (answered h xids Before Now s Room ask op about s_in op_is first last mine x w.2 w.3 w.0 w.1 asked takes w.8 early enough few),
-    stands h xids Before Now s Room ask op about s_in op_is first last mine x w.2 w.3 w.0 w.1 asked takes w.8 early enough few,
-    omega (arith, lsn, more, number),
-    lsn,
-  )
+      → IsAskMade h.shape Before Now ask x → TakesWrite (home_for h.shape Before ask) (adds_row ask.op) ask.key → store.lsn old < WORN → 1 + kept_room h.shape Before ask.own ≤ Room
+      → GivesOne store old new true (λ now. WriteMade h xids s ask.table ask.key (action_of op) Room x Before now)
+  done_one x patches s_in number few logs w takes young enough =
+      let made = write_made x Now s_in number few w takes young enough in
+      by patches logs made
     where
-      asked : IsAsked h ask x w.1
-      asked = record { table = w.4; key = w.5; wrap = w.6; home = w.7 }
-
-      early : logged_of h.shape Before < WORN
-      early = omega (arith, number, young)
-
-      home_in : (w.1).home < table_blocks h.shape
-      home_in = subst (λ (b : ℕ). b < table_blocks h.shape) (sym w.7) (which_in h xids Before about.stand ask.table ask.key first last)
-
-      t_in : 16 * x.seg + x.slot < 16 * h.shape.segments
-      t_in =
-          let g = writers.within h xids Before s ask.own about x w.2 w.3 in
-          let i = writers.few h xids Before s ask.own about x w.2 w.3 in
-          omega (arith, g, i)
-
-      more : logged_of h.shape Now ≡ logged_of h.shape Before + 1
-      more = write_logged h xids Before Now (16 * x.seg + x.slot) (adds_row ask.op) (kind_of ask.op) w.0 w.1 about.stand t_in home_in w.8
-
-      lsn : store.lsn new ≡ store.lsn old + 1
-      lsn = one_logged patches logs more
+      by : (l : List Patch) → Logs store old new (group_of l) true → WriteMade h xids s ask.table ask.key (action_of op) Room x Before Now → GivesOne store old new true (λ now. WriteMade h xids s ask.table ask.key (action_of op) Room x Before now)
+      by [] logs made =
+          let still : logged_of h.shape Now ≡ logged_of h.shape Before = ap (logged_of h.shape) (logs.blocks told refl) in
+          absurd (let last = made.last in omega (arith, still, last))
+      by (p ∷ l) logs made = record {
+        groups = (p ∷ l) ∷ [];
+        logs = logs;
+        few = omega arith;
+        one = λ goes. refl;
+        made = λ some. subst (λ (b : List (List ℕ)). WriteMade h xids s ask.table ask.key (action_of op) Room x Before b) (logs.blocks told refl) made;
+      }
 
   pub done : (r : Result Xid AttemptFault) (patches : List Patch) → s ≤ length h.sessions → store.lsn old ≡ logged_of h.shape Before → kept_room h.shape Before ask.own ≤ 2 ^ 13 → Logs store old new (group_of patches) (not (has_failed r))
-      → IfOk r (IsAskMade (store.shape_of old) Before Now ask) → OnOk r (TakesWrite (home_for (store.shape_of old) Before ask) (adds_row ask.op) ask.key) → IfOk r (λ x. store.lsn old < WORN) → IfOk r (λ x. 1 + kept_room (store.shape_of old) Before ask.own ≤ Room)
-      → IfOk r IsDone
+      → IfOk r (IsAskMade (store.shape_of old) Before Now ask) → OnOk r (TakesWrite (home_for (store.shape_of old) Before ask) (adds_row ask.op) ask.key) → OnOk r (store.lsn old < WORN) → OnOk r (1 + kept_room (store.shape_of old) Before ask.own ≤ Room)
+      → IfOk r (λ x. GivesOne store old new true (λ now. WriteMade h xids s ask.table ask.key (action_of op) Room x Before now))
   done (Ok x) patches s_in number few logs made takes young enough =
       done_one x patches s_in number few logs
       (subst (λ (k : Shape). IsAskMade k Before Now ask x) same made)
@@ -119,12 +134,36 @@ module _ {S : Type 0} (store : Ghosts S) (told : store.tells) (old new : S) (h :
       (subst (λ (k : Shape). 1 + kept_room k Before ask.own ≤ Room) same enough)
   done (Err fault) patches s_in number few logs made takes young enough = tt
 
-  pub refused_as : (r : Result Xid AttemptFault) → OnErr r (Logs store old new [] true) → IfErr r (IsAskRefused (store.shape_of old) Before ask (store.lsn old) Room) → IfErr r IsRefused
-  refused_as (Ok x) logs why = tt
-  refused_as (Err fault) logs why =
+  -- a call of the store failed, with the group or before it
+  pub failed_as : (patches : List Patch) → Logs store old new (group_of patches) false → (0 < length patches → (x : Xid) × WriteMade h xids s ask.table ask.key (action_of op) Room x Before (after_group (store.lsn old + 1) patches Before))
+      → (x : Xid) × GivesOne store old new false (λ now. WriteMade h xids s ask.table ask.key (action_of op) Room x Before now)
+  failed_as [] logs made = (
+    record { seg = 0; slot = 0; wrap = 0 },
+    record {
+      groups = [];
+      logs = logs;
+      few = omega arith;
+      one = λ goes. (let clash : false ≡ true = goes in absurd cc);
+      made = λ some. absurd (omega (arith, some));
+    },
+  )
+  failed_as (p ∷ l) logs made =
+      let m = made (omega arith) in (
+        m.0,
+        record {
+          groups = (p ∷ l) ∷ [];
+          logs = logs;
+          few = omega arith;
+          one = λ goes. refl;
+          made = λ some. m.1;
+        },
+      )
+
+  pub refused_as : (r : Result Xid AttemptFault) → IfErr r (IsAskRefused (store.shape_of old) Before ask (store.lsn old) Room) → IfErr r IsRefused
+  refused_as (Ok x) why = tt
+  refused_as (Err fault) why =
       let w = subst (λ (k : Shape). IsAskRefused k Before ask (store.lsn old) Room fault) same why in (
         w.0,
         writers.writes_in h xids Before s ask.own about w.0 w.1 w.2,
         refused h xids Before s (store.lsn old) Room ask op about op_is first last mine w.0 w.1 w.2 fault w.3,
-        logs,
       )

@@ -1,5 +1,5 @@
 -- A write that is done is one that no test refuses, and after it the blocks stand for the machine's next state.
-use Rattle.std.proofs.Common.{◌≡◌, inl, inr, ◌<◌, ◌≤◌, ◌+◌, ◌-◌, ◌*◌, ◌/◌, ◌%◌, ◌^◌, ◌==◌, ◌++◌, if◌then◌else◌, ℕ, Bool, true, false, List, [], ◌∷◌, length, set, Some, is_some, sym, ◌∙◌, ap, subst, arith}
+use Rattle.std.proofs.Common.{◌≡◌, inl, inr, ◌<◌, ◌≤◌, ◌+◌, ◌-◌, ◌*◌, ◌/◌, ◌%◌, ◌^◌, ◌==◌, ◌++◌, if◌then◌else◌, ℕ, Bool, true, false, List, [], ◌∷◌, length, set, Some, is_some, sym, ◌∙◌, ap, subst, arith, refl}
 use Rattle.rb_attempt.specs.Asks.{IsWriterOf, adds_row, home_for, kind_of}
 use Rattle.rb_attempt.specs.Refusals.{TakesWrite}
 use Rattle.rb_attempt.specs.declared.ask.Ask.{Ask}
@@ -13,7 +13,7 @@ use Rattle.rb_heap.specs.Homes.{Home, home_entry, home_of}
 use Rattle.rb_model.specs.Book.{Book, book_at, marked, taken}
 use Rattle.rb_model.specs.Calls.{Done, first_of, has_slot, write_tests}
 use Rattle.rb_model.specs.Change.{Change, Place}
-use Rattle.rb_model.specs.Machine.{State, session_own, with_changes}
+use Rattle.rb_model.specs.State.{State, session_own, with_changes}
 use Rattle.rb_model.specs.NextState.{change_in, written}
 use Rattle.rb_model.specs.declared.op.Op.{Op}
 use Rattle.rb_segment.specs.Header.{Header, Segment, SegmentInOrder}
@@ -24,14 +24,15 @@ use Rattle.rb_standing.specs.BlockLaws.{HasRoomFor}
 use Rattle.rb_standing.specs.NextStates.{SameChange, after_write}
 use Rattle.rb_standing.specs.Says.{place_of}
 use Rattle.rb_standing.specs.Standing.{env_of, logged_of, segments_of}
-use Rattle.rb_standing.specs.States.{BlocksStand}
-use Rattle.rb_standing.specs.Values.{slot_of}
+use Rattle.rb_standing.specs.States.{BlocksStand, Owns}
+use Rattle.rb_standing.specs.Values.{slot_of, owed}
 use Rattle.rb_standing.specs.Writing.{HasHeaderRoom, IsHeaderReady, IsNotHeld, IsWritten}
 use Rattle.rb_standing.proofs.Addresses.{next_place_is}
 use Rattle.rb_standing.proofs.Seen.{one_xid}
 use Rattle.rb_standing.proofs.SegmentRead.{header_is}
 use Rattle.rb_standing.proofs.SegmentRecorded as segment
-use Rattle.rb_standing.proofs.WriteMachine.{write_keeps_machine}
+use Rattle.rb_standing.proofs.WriteMachine.{id_after, owed_after, owns_after, write_keeps_machine}
+use Rattle.rb_restart.proofs.Slots.{owed_is}
 use Rattle.rb_undoblock.specs.declared.record.UndoRecord.{UndoRecord}
 use Rattle.rb_undoengine.specs.StepLaws.{IsAsked}
 use Rattle.rb_model.specs.Answers.{action_of}
@@ -42,6 +43,7 @@ use Rattle.rb_undoengine.proofs.Refused.{not_refused}
 use Rattle.rb_undoengine.proofs.WriterWords as words
 use Rattle.rb_undoengine.proofs.Writers as writers
 use Rattle.rb_undoengine.proofs.Writers.{owed_same}
+use Rattle.rb_verdict.specs.Verdict.{IsOwnId}
 use Rattle.rb_verdict.proofs.Told as told
 
 -- the book of segment g once slot i is the session's
@@ -166,3 +168,36 @@ module _ (h : State) (xids : List Xid) (before now : List (List ℕ)) (s room : 
   stands = subst (λ (z : State). BlocksStand z xids now) next_is
       (write_keeps_machine h xids before now s At (adds_row ask.op) Made (kind_of ask.op) address u (let g = g_in in let i = i_few in omega (arith, g, i)) (about.session, s_in) about.stand
       (writers.takes_at h xids before s ask.own about x ready writer) home_in not_held is same_change has_room)
+
+  t_in : At < 16 * h.shape.segments
+  t_in = let g = g_in in let i = i_few in omega (arith, g, i)
+
+  abbrev Next : State
+  Next = written h s x.seg x.slot Made
+
+  owns : Owns Next s At
+  owns = subst (λ (z : State). Owns z s At) next_is
+      (owns_after h xids before now s At (adds_row ask.op) Made (kind_of ask.op) address u t_in (about.session, s_in) about.stand
+      (writers.takes_at h xids before s ask.own about x ready writer) home_in not_held is same_change has_room)
+
+  -- the session's id is the transaction's
+  pub id_is : IsOwnId Next (env_of h.shape now) s (Some x)
+  id_is =
+      let here : (env_of h.shape now).xid At ≡ x =
+      id_after h xids before now s At (adds_row ask.op) Made (kind_of ask.op) address u t_in (about.session, s_in) about.stand
+      (writers.takes_at h xids before s ask.own about x ready writer) home_in not_held is same_change has_room ∙ sym xid_is in
+      record {
+        owns = λ t o. let one : At ≡ t = stands.tell.one_slot s At t owns o in sym (ap (λ (z : ℕ). Some ((env_of h.shape now).xid z)) (sym one) ∙ ap Some here);
+        owned = λ y same. let yes : x ≡ y = cc in (At, owns, sym yes ∙ sym here);
+      }
+
+  -- the room that was kept for the write is enough for all that is owed
+  pub fits_is : owed_in h.shape now + 1 ≤ room
+  fits_is =
+      let more = owed_after h xids before now s At (adds_row ask.op) Made (kind_of ask.op) address u t_in (about.session, s_in) about.stand
+      (writers.takes_at h xids before s ask.own about x ready writer) home_in not_held is same_change has_room in
+      by (is_some ask.own) (writers.active_is h xids before s ask.own about x ready writer) enough more
+    where
+      by : (b : Bool) → ((slot_of Segs At).state == 1) ≡ b → 1 + (owed_in h.shape before + (if b then 1 else 2)) ≤ room → owed h.shape (segments_of h.shape now) ≡ owed h.shape Segs + (if (slot_of Segs At).state == 1 then 1 else 2) → owed_in h.shape now + 1 ≤ room
+      by true test kept more = let a = owed_is h.shape before in let b = owed_is h.shape now in let m : owed h.shape (segments_of h.shape now) ≡ owed h.shape Segs + 1 = more ∙ rw test refl in omega (arith, kept, m, a, b)
+      by false test kept more = let a = owed_is h.shape before in let b = owed_is h.shape now in let m : owed h.shape (segments_of h.shape now) ≡ owed h.shape Segs + 2 = more ∙ rw test refl in omega (arith, kept, m, a, b)

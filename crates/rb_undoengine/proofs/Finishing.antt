@@ -11,9 +11,11 @@ use Rattle.rb_base.specs.declared.ids.Xid.{Xid}
 use Rattle.rb_model.specs.Book.{Owner}
 use Rattle.rb_model.specs.Calls.{Owned}
 use Rattle.rb_model.specs.Change as model
-use Rattle.rb_model.specs.Machine.{Cursor, Session, State, no_session, owner_at, session_own}
+use Rattle.rb_model.specs.State.{Cursor, Session, State, no_session, owner_at, session_own}
 use Rattle.rb_model.specs.NextState.{committed, cursors_of, ended, not_present, without_owner}
 use Rattle.rb_model.specs.Rows.{last_scn}
+use Rattle.rb_image.specs.Made.{CommitMade, EndMade}
+use Rattle.rb_restart.proofs.Slots.{owed_is, slot_for}
 use Rattle.rb_segment.proofs.HeaderAfter.{header_after}
 use Rattle.rb_segment.specs.Calls.{commit_patches, slot_patches, stamp_patch, Runs}
 use Rattle.rb_segment.specs.Header.{Header, has_bit, header_of, slot_in}
@@ -22,11 +24,17 @@ use Rattle.rb_segment.specs.Segments.{commit_scn}
 use Rattle.rb_standing.proofs.BlocksMachine.{commit_keeps_machine, end_keeps_machine}
 use Rattle.rb_standing.proofs.Group.{logged_next}
 use Rattle.rb_standing.proofs.MachineDone.{last_commits}
+use Rattle.rb_standing.proofs.OwedMoves.{owed_committed, owed_ended}
+use Rattle.rb_standing.proofs.SegmentRead.{segments_committed, segments_ended}
+use Rattle.rb_standing.proofs.States.{lives_at, lives_owned, length_newest}
 use Rattle.rb_standing.specs.Groups.{GroupOn, IsCommitted, IsEnded, header_at}
 use Rattle.rb_standing.specs.NextStates.{after_commit, after_end}
 use Rattle.rb_standing.specs.Says.{xid_by}
-use Rattle.rb_standing.specs.Standing.{Standing, env_of, logged_of, segments_of}
-use Rattle.rb_standing.specs.States.{BlocksStand, Owns, SegmentsTell, lives_of, owned, past_of}
+use Rattle.rb_standing.specs.Standing.{Standing, env_of, homes_of, logged_of, segments_of}
+use Rattle.rb_standing.specs.States.{BlocksStand, Owns, SegmentsTell, lives_of, newest_first, owned, past_of}
+use Rattle.rb_standing.specs.Values.{owed, slot_of}
+use Rattle.rb_txntable.specs.declared.slots.TableSlot.{TableSlot}
+use Rattle.rb_walk.specs.Walk.{own}
 
 -- The block of each patch of a commit is the header's.
 stamps_there : (block bits : ℕ) (h : Header) (es : List ℕ) → AllByRecursion (λ p. p.block ≡ block) (flat_map (stamp_patch block bits h) es)
@@ -125,6 +133,19 @@ module _ (h : State) (xids : List Xid) (before now : List (List ℕ)) (s : ℕ) 
   header_now : header_at h.shape now T ≡ header_of (block_of now at)
   header_now = ap (λ (g : ℕ). header_of (block_of now (header_block h.shape g))) seg_is
 
+  -- Its live changes are the session's.
+  pub live_is : (slot_in (header_of (block_of before at)) x.slot).live ≡ length (session_own h s)
+  live_is =
+      let slot = slot_is_read in
+      let count = ((stand.standing.stands.slots T t_in).active (ap (λ (z : TableSlot). z.state) slot ∙ runs.active)).count in
+      let env = env_of h.shape before in
+      let all : length (own (lives_of h env) T) ≡ length (session_own h owned_by.0.session) + 0 = ap (λ (l : List Rattle.rb_walk.specs.Walk.Change). length l) (lives_at h env T t_in ∙ ap (owned h (env.xid T)) owned_by.1) ∙ length_newest h.shape (env.xid T) 1 (session_own h owned_by.0.session) [] in
+      let mine = ap (λ (r : ℕ). length (session_own h r)) owned_by.2 in
+      omega (arith, count, all, mine, ap (λ (z : TableSlot). z.live) slot)
+    where
+      slot_is_read : slot_of (segments_of h.shape before) T ≡ slot_in (header_of (block_of before at)) x.slot
+      slot_is_read = slot_for h.shape before x few
+
   -- one group of the header's block
   module _ (group : List Patch) (some : 1 ≤ length group) (is_group : IsGroup group) (only : AllByRecursion (λ p. p.block ≡ at) group) (made : now ≡ after_group (logged_of h.shape before + 1) group before) where
     on : GroupOn h.shape (λ b. b ≡ header_block h.shape (T / 16)) before now
@@ -145,8 +166,11 @@ module _ (h : State) (xids : List Xid) (before now : List (List ℕ)) (s : ℕ) 
     pub logged : logged_of h.shape now ≡ logged_of h.shape before + 1
     logged = logged_next h.shape (λ b. b ≡ header_block h.shape (T / 16)) before now on stand.standing.whole (λ b is. omega (arith, is, seg_is, there)) (let a = stand.standing.ahead in omega (arith, a))
 
+    active : (slot_of (segments_of h.shape before) T).state ≡ 1
+    active = ap (λ (z : TableSlot). z.state) (slot_for h.shape before x few) ∙ runs.active
+
     pub commits : (n : ℕ) → n ≡ last_scn h.commits + 1 → (header : List ℕ) → header ≡ written_to at group (block_of before at) → header_of header ≡ moves.committed n x.slot (header_of (block_of before at))
-        → BlocksStand (committed h s x.seg x.slot) (xids ++ x ∷ []) now
+        → CommitMade h xids s x before now
     commits n next header copied means =
         let scn = scn_is h xids before stand in
         let number : n ≡ commit_scn h.shape before + 1 = omega (arith, next, scn) in
@@ -157,7 +181,15 @@ module _ (h : State) (xids : List Xid) (before now : List (List ℕ)) (s : ℕ) 
         let kept = commit_keeps_machine h xids before now stand s T t_in owns (map not_present (cursors_of h s)) is in
         let state : after_commit h s T (commit_scn h.shape before + 1) (map not_present (cursors_of h s)) ≡ committed h s x.seg x.slot = rw (seg_is, slot_is, scn) refl in
         let id : xid_by (segments_of h.shape before) T ≡ x = xid_is in
-        subst (λ (z : State). BlocksStand z (xids ++ x ∷ []) now) state (subst (λ (z : Xid). BlocksStand (after_commit h s T (commit_scn h.shape before + 1) (map not_present (cursors_of h s))) (xids ++ z ∷ []) now) id kept)
+        let less = owed_committed h.shape (commit_scn h.shape before) (logged_of h.shape before) (segments_of h.shape before) (homes_of h.shape before) (past_of h xids) (lives_of h (env_of h.shape before)) stand.standing.stands T t_in active (commit_scn h.shape before + 1) in
+        let moved_segments = ap (owed h.shape) (segments_committed h.shape T (commit_scn h.shape before + 1) before now is) in
+        let a = owed_is h.shape before in
+        let b = owed_is h.shape now in
+        record {
+          stand = subst (λ (z : State). BlocksStand z (xids ++ x ∷ []) now) state (subst (λ (z : Xid). BlocksStand (after_commit h s T (commit_scn h.shape before + 1) (map not_present (cursors_of h s))) (xids ++ z ∷ []) now) id kept);
+          last = logged;
+          owed = omega (arith, less, moved_segments, a, b);
+        }
       where
         xid_is : xid_by (segments_of h.shape before) T ≡ x
         xid_is =
@@ -165,14 +197,25 @@ module _ (h : State) (xids : List Xid) (before now : List (List ℕ)) (s : ℕ) 
             let wrap : (slot_in (segments_of h.shape before (T / 16)).header (T % 16)).wrap ≡ x.wrap = ap (λ (k : Header). (slot_in k (T % 16)).wrap) head ∙ (ap (λ (i : ℕ). (slot_in (header_of (block_of before at)) i).wrap) slot_is ∙ runs.wrap) in
             Rattle.rb_standing.proofs.Seen.one_xid (xid_by (segments_of h.shape before) T) x seg_is slot_is wrap
 
-    pub ends : session_own h s ≡ [] → (cursors : List Cursor) → (header : List ℕ) → header ≡ written_to at group (block_of before at) → header_of header ≡ moves.ended x.slot (header_of (block_of before at))
-        → BlocksStand (without_owner x.seg x.slot (ended h s cursors)) xids now
-    ends empty cursors header copied means =
+    pub ends : session_own h s ≡ [] → (header : List ℕ) → header ≡ written_to at group (block_of before at) → header_of header ≡ moves.ended x.slot (header_of (block_of before at))
+        → EndMade h xids s x before now
+    ends empty header copied means =
         let header_moved : header_at h.shape now T ≡ moves.ended (T % 16) (header_at h.shape before T) = header_now ∙ (moved header copied ∙ (means
         ∙ (ap (λ (i : ℕ). moves.ended i (header_of (block_of before at))) (sym slot_is) ∙ ap (moves.ended (T % 16)) (sym header_is)))) in
         let is : IsEnded h.shape T before now = record { group = on; header = header_moved } in
         let kept = end_keeps_machine h xids before now stand s T t_in owns empty is in
         let s_in = stand.tell.owner_there s T owns in
-        let free = cursors_free (after_end h T) s (record { own = []; cursors = map not_present cursors }) s_in (sym empty) xids now kept in
-        let state : record (after_end h T) { sessions = set h.sessions (s - 1) (record { own = []; cursors = map not_present cursors }) } ≡ without_owner x.seg x.slot (ended h s cursors) = rw (seg_is, slot_is) refl in
-        subst (λ (z : State). BlocksStand z xids now) state free
+        let env = env_of h.shape before in
+        let none : own (lives_of h env) T ≡ [] = lives_owned h env s T t_in owns ∙ ap (λ (z : List model.Change). newest_first h.shape (xid_by (segments_of h.shape before) T) 1 z []) empty in
+        let less = owed_ended h.shape (commit_scn h.shape before) (logged_of h.shape before) (segments_of h.shape before) (homes_of h.shape before) (past_of h xids) (lives_of h env) stand.standing.stands T t_in active none in
+        let moved_segments = ap (owed h.shape) (segments_ended h.shape T before now is) in
+        let a = owed_is h.shape before in
+        let b = owed_is h.shape now in
+        let free : (cursors : List Cursor) → BlocksStand (record (after_end h T) { sessions = set h.sessions (s - 1) (record { own = []; cursors = map not_present cursors }) }) xids now = λ cursors.
+        cursors_free (after_end h T) s (record { own = []; cursors = map not_present cursors }) s_in (sym empty) xids now kept in
+        let state : (cursors : List Cursor) → record (after_end h T) { sessions = set h.sessions (s - 1) (record { own = []; cursors = map not_present cursors }) } ≡ without_owner x.seg x.slot (ended h s cursors) = λ cursors. rw (seg_is, slot_is) refl in
+        record {
+          stand = λ cursors. subst (λ (z : State). BlocksStand z xids now) (state cursors) (free cursors);
+          last = logged;
+          owed = omega (arith, less, moved_segments, a, b);
+        }

@@ -5,11 +5,12 @@ use Rattle.rb_attempt.specs.Asks.{adds_row, kind_of}
 use Rattle.rb_base.specs.declared.sizes.TheConstants.{WORN}
 use Rattle.rb_model.specs.Book.{book_at, is_full}
 use Rattle.rb_model.specs.Calls as calls
+use Rattle.rb_model.specs.declared.refusal.Refusal.TheVariants as refusals
 use Rattle.rb_model.specs.Calls.{Answer, Done, Refused, first_of, needed_room, waited, write_tests}
 use Rattle.rb_model.specs.Full.{full_block}
-use Rattle.rb_model.specs.Machine.{State, plain}
+use Rattle.rb_model.specs.State.{State}
 use Rattle.rb_model.specs.NextState.{kind_by}
-use Rattle.rb_model.specs.Reply.{adds, rows_now}
+use Rattle.rb_model.specs.Calls.{adds, rows_now}
 use Rattle.rb_model.specs.Rows.{has_row}
 use Rattle.rb_model.specs.Tests.{full_slots, holder, made_since}
 use Rattle.rb_model.specs.declared.op.Op.{Op}
@@ -40,15 +41,15 @@ nobody_waits s (Some u) tests own =
 -- the answer that goes with what those tests find
 abbrev pub answer_of : Verdict → ℕ → ℕ → Answer → Answer
 answer_of (verdict.Waits u) g since later = calls.Waits u
-answer_of verdict.Duplicate g since later = Refused calls.Duplicate
-answer_of verdict.NotFound g since later = Refused calls.NotFound
-answer_of verdict.BlockFull g since later = Refused calls.BlockFull
-answer_of verdict.SlotsFull g since later = Refused calls.SlotsFull
-answer_of verdict.RollbackFull g since later = Refused (calls.RollbackFull g since)
+answer_of verdict.Duplicate g since later = Refused refusals.Duplicate
+answer_of verdict.NotFound g since later = Refused refusals.NotFound
+answer_of verdict.BlockFull g since later = Refused refusals.BlockFull
+answer_of verdict.SlotsFull g since later = Refused refusals.SlotsFull
+answer_of verdict.RollbackFull g since later = Refused (refusals.RollbackFull g since)
 answer_of verdict.Fine g since later = later
 
 first_tested : (a p f e r : Bool) (g since : ℕ) (tests : List (Bool × Answer))
-    → first_of ((a && p, Refused calls.Duplicate) ∷ (not a && not p, Refused calls.NotFound) ∷ (a && f, Refused calls.BlockFull) ∷ (e, Refused calls.SlotsFull) ∷ (r, Refused (calls.RollbackFull g since)) ∷ tests) Done
+    → first_of ((a && p, Refused refusals.Duplicate) ∷ (not a && not p, Refused refusals.NotFound) ∷ (a && f, Refused refusals.BlockFull) ∷ (e, Refused refusals.SlotsFull) ∷ (r, Refused (refusals.RollbackFull g since)) ∷ tests) Done
     ≡ answer_of (tested a p f e r) g since (first_of tests Done)
 first_tested true true f e r g since tests = refl
 first_tested true false true e r g since tests = refl
@@ -62,17 +63,17 @@ first_tested false false f e r g since tests = refl
 
 -- the tests of the log
 abbrev pub log_tests : ℕ → ℕ → ℕ → List (Bool × Answer)
-log_tests logged room needed = (nat_le WORN logged, Refused calls.WornOut) ∷ (nat_lt room needed, Refused calls.LogFull) ∷ []
+log_tests logged room needed = (nat_le WORN logged, Refused refusals.WornOut) ∷ (nat_lt room needed, Refused refusals.LogFull) ∷ []
 
 module _ (h : State) (s table key g i : ℕ) (op : Op) where
   -- what the tests before the log find
   abbrev pub Found : Verdict
-  Found = tested (adds_row (Some op)) (has_row table key (rows_now (plain h) s)) (full_block (plain h) table key) (full_slots h s table key) (is_full (book_at h.books g))
+  Found = tested (adds_row (Some op)) (has_row table key (rows_now h s)) (full_block h table key) (full_slots h s table key) (is_full (book_at h.books g))
 
   pub first_found : (logged room : ℕ) → ((u : ℕ) → holder h table key ≡ Some u → u ≡ s)
       → first_of (write_tests h logged room g i s table key (action_of op)) Done
       ≡ answer_of Found g (made_since (book_at h.books g)) (first_of (log_tests logged room (needed_room h s g i)) Done)
   first_found logged room own =
       nobody_waits s (holder h table key) _ own
-      ∙ (first_tested (adds (action_of op)) (has_row table key (rows_now (plain h) s)) (full_block (plain h) table key) (full_slots h s table key) (is_full (book_at h.books g)) g (made_since (book_at h.books g)) (log_tests logged room (needed_room h s g i))
-      ∙ ap (λ a. answer_of (tested a (has_row table key (rows_now (plain h) s)) (full_block (plain h) table key) (full_slots h s table key) (is_full (book_at h.books g))) g (made_since (book_at h.books g)) (first_of (log_tests logged room (needed_room h s g i)) Done)) (adds_is op))
+      ∙ (first_tested (adds (action_of op)) (has_row table key (rows_now h s)) (full_block h table key) (full_slots h s table key) (is_full (book_at h.books g)) g (made_since (book_at h.books g)) (log_tests logged room (needed_room h s g i))
+      ∙ ap (λ a. answer_of (tested a (has_row table key (rows_now h s)) (full_block h table key) (full_slots h s table key) (is_full (book_at h.books g))) g (made_since (book_at h.books g)) (first_of (log_tests logged room (needed_room h s g i)) Done)) (adds_is op))

@@ -9,8 +9,8 @@ use Rattle.rb_heap.specs.Choices.{HasNoChoice}
 use Rattle.rb_heap.specs.Homes.{Home, home_entry}
 use Rattle.rb_model.specs.Book.{book_at, is_full}
 use Rattle.rb_model.specs.Full.{full_block}
-use Rattle.rb_model.specs.Machine.{State, plain}
-use Rattle.rb_model.specs.Reply.{rows_now}
+use Rattle.rb_model.specs.State.{State}
+use Rattle.rb_model.specs.Calls.{rows_now}
 use Rattle.rb_model.specs.Rows.{has_row}
 use Rattle.rb_model.specs.Tests.{full_slots}
 use Rattle.rb_model.specs.declared.op.Op.{Op}
@@ -33,10 +33,10 @@ module _ (h : State) (xids : List Xid) (blocks : List (List ℕ)) (s : ℕ) (ask
   Adds = adds_row ask.op
 
   abbrev Present : Bool
-  Present = has_row ask.table ask.key (rows_now (plain h) s)
+  Present = has_row ask.table ask.key (rows_now h s)
 
   abbrev Full : Bool
-  Full = full_block (plain h) ask.table ask.key
+  Full = full_block h ask.table ask.key
 
   abbrev Slots : Bool
   Slots = full_slots h s ask.table ask.key

@@ -14,8 +14,8 @@ use Rattle.rb_heap.specs.Homes.{empty_cell, home_cell, home_of, is_free, is_keye
 use Rattle.rb_heap.specs.Soundness.{IsCellSound}
 use Rattle.rb_heap.proofs.Reading.{cells_counted}
 use Rattle.rb_model.specs.Full.{full_block}
-use Rattle.rb_model.specs.Machine.{State, plain}
-use Rattle.rb_model.specs.Reply.{rows_now}
+use Rattle.rb_model.specs.State.{State}
+use Rattle.rb_model.specs.Calls.{rows_now}
 use Rattle.rb_model.specs.Rows.{has_row}
 use Rattle.rb_model.specs.Tests.{holder, holds}
 use Rattle.rb_segment.specs.Header.{Segment}
@@ -136,14 +136,14 @@ module _ (h : State) (xids : List Xid) (blocks : List (List ℕ)) (stand : Block
     others = presence.not_others h xids Segs (clean_home h blocks) stood table key first last s nobody
 
     -- the session sees a row of the key where its cell has one
-    pub row_there : HasRow Cleaned key → has_row table key (rows_now (plain h) s) ≡ true
+    pub row_there : HasRow Cleaned key → has_row table key (rows_now h s) ≡ true
     row_there (c, found, is) =
         let x = home_cell Cleaned c in
         let parts = and_parts ((x.state == ROW) || not (x.lock == 0)) (x.key == key) found.passes in
         presence.present_sees h xids Segs (clean_home h blocks) stood table key first last s low others c x.value.items (ap (λ (z : Cell). row_of z key) (cell_is c) ∙ row_walked key x is (eqb-true x.key key parts.1))
 
-    pub no_row : HasNoRow Cleaned key → has_row table key (rows_now (plain h) s) ≡ false
-    no_row none = elim (cases_Bool (has_row table key (rows_now (plain h) s))) [
+    pub no_row : HasNoRow Cleaned key → has_row table key (rows_now h s) ≡ false
+    no_row none = elim (cases_Bool (has_row table key (rows_now h s))) [
       | inl is ↦
           let f : (j : ℕ) × (v : List ℕ) × (row_of (cell_at Walked j) key ≡ Some v) = presence.sees_present h xids Segs (clean_home h blocks) stood table key first last s low others is in
           let row = walked_row key (home_cell Cleaned f.0) f.1 (sym (ap (λ (z : Cell). row_of z key) (cell_is f.0)) ∙ f.2) in
@@ -153,7 +153,7 @@ module _ (h : State) (xids : List Xid) (blocks : List (List ℕ)) (stand : Block
     ]
 
   -- all cells are taken by other keys where none has the key and none is free
-  pub no_cell : HasNoCell Cleaned key → full_block (plain h) table key ≡ true
+  pub no_cell : HasNoCell Cleaned key → full_block h table key ≡ true
   no_cell none = full.full_block_when h xids Segs (clean_home h blocks) stood table first last key is_clean_here all
     where
       all : AllTaken Walked key
@@ -163,8 +163,8 @@ module _ (h : State) (xids : List Xid) (blocks : List (List ℕ)) (stand : Block
           let has : taken (cell_at Walked j) ≡ Some x.key = ap taken (cell_is j) ∙ (taken_is x ∙ cond-true ((x.state == ROW) || not (x.lock == 0)) (Some x.key) None kept) in
           (x.key, has, λ same. false≢true (sym (none.none_keyed j few) ∙ and_from ((x.state == ROW) || not (x.lock == 0)) (x.key == key) kept (eq-eqb x.key key same)))
 
-  pub some_cell : ¬ HasNoCell Cleaned key → full_block (plain h) table key ≡ false
-  some_cell some = elim (cases_Bool (full_block (plain h) table key)) [
+  pub some_cell : ¬ HasNoCell Cleaned key → full_block h table key ≡ false
+  some_cell some = elim (cases_Bool (full_block h table key)) [
     | inl is ↦ absurd (some (none (full.full_block_then h xids Segs (clean_home h blocks) stood table first last key is_clean_here is)))
     | inr not_is ↦ not_is
   ]

@@ -6,7 +6,7 @@ use Rattle.std.proofs.lemmas.List.Sums.{sum_by-cons}
 use Rattle.std.specs.List.{range_with_len, sum_by}
 use Rattle.rb_base.specs.declared.ids.Xid.{Xid}
 use Rattle.rb_model.specs.Book.{Owner}
-use Rattle.rb_model.specs.Machine.{State, owner_at}
+use Rattle.rb_model.specs.State.{State, owner_at}
 use Rattle.rb_segment.specs.Books.{IsOwned}
 use Rattle.rb_segment.specs.Header.{Segment, SegmentInOrder, slot_in, slot_owed}
 use Rattle.rb_segment.specs.Segments.{commit_scn, owed_in}

@@ -2,7 +2,7 @@
 use Rattle.std.proofs.Common.{◌≡◌, ◌<◌, ◌≤◌, ◌-◌, ◌++◌, ℕ, zero, suc, List, [], ◌∷◌, length, set, take, refl, ◌∙◌, ap, arith}
 use Rattle.std.proofs.lemmas.List.{get_or-set_same, set-get_or, set-set}
 use Rattle.rb_model.specs.Change.{Change}
-use Rattle.rb_model.specs.Machine.{State, Session, no_session, session_own, with_changes}
+use Rattle.rb_model.specs.State.{State, Session, no_session, session_own, with_changes}
 use Rattle.rb_standing.specs.NextStates.{with_own}
 
 -- the first items of a list, and the next one

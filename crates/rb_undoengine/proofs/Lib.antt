@@ -1,14 +1,13 @@
 mod Calls
 mod Done
-mod Finishing
+pub mod Finishing
 mod Firsts
 mod Found
 mod HomeWords
 mod Kept
-mod LeftOwn
+pub mod LeftOwn
 mod Logged
-mod ManyBack
-mod May
+pub mod May
 mod OneBack
 mod Refused
 mod StepBack

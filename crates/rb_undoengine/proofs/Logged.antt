@@ -5,7 +5,7 @@ use Rattle.rb_base.specs.Blocks.{header_block, shape_blocks, table_blocks}
 use Rattle.rb_base.specs.declared.ids.Uba.{Uba}
 use Rattle.rb_base.specs.declared.ids.Xid.{Xid}
 use Rattle.rb_model.specs.Change.{Kind}
-use Rattle.rb_model.specs.Machine.{State}
+use Rattle.rb_model.specs.State.{State}
 use Rattle.rb_segment.specs.Header.{SegmentInOrder}
 use Rattle.rb_segment.specs.Segments.{commit_scn}
 use Rattle.rb_standing.specs.Standing.{logged_of, segments_of}

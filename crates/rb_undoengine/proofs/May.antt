@@ -6,7 +6,7 @@ use Rattle.std.proofs.lemmas.Bool.{cases_eq}
 use Rattle.rb_attempt.specs.Asks.{MayWrite, header_in}
 use Rattle.rb_base.specs.declared.ids.Xid.{Xid}
 use Rattle.rb_model.specs.Book.{Owner, book_at, slot_owner}
-use Rattle.rb_model.specs.Machine.{State, owner_at}
+use Rattle.rb_model.specs.State.{State, owner_at}
 use Rattle.rb_segment.specs.Books.{IsOwned}
 use Rattle.rb_segment.specs.Calls.{Runs}
 use Rattle.rb_segment.specs.Header.{Header, Segment, slot_in}
@@ -44,7 +44,7 @@ module _ (h : State) (xids : List Xid) (blocks : List (List ℕ)) (s : ℕ) (own
   sixteen : 0 < 16
   sixteen = omega arith
 
-  runs : (x : Xid) → own ≡ Some x → Runs (header_in h.shape blocks x.seg) x
+  pub runs : (x : Xid) → own ≡ Some x → Runs (header_in h.shape blocks x.seg) x
   runs x is =
       let f : (t : ℕ) × Owns h s t × (x ≡ (env_of h.shape blocks).xid t) = about.id.owned x is in
       let t_in = owner_within h xids Segs (homes_of h.shape blocks) (stood_of h xids blocks about.stand) f.0 f.1.owner f.1.at in

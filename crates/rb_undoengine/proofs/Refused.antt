@@ -10,14 +10,15 @@ use Rattle.rb_base.specs.declared.ids.Xid.{Xid}
 use Rattle.rb_base.specs.declared.sizes.TheConstants.{WORN}
 use Rattle.rb_model.specs.Book.{book_at}
 use Rattle.rb_model.specs.Calls as calls
+use Rattle.rb_model.specs.declared.refusal.Refusal.TheVariants as refusals
 use Rattle.rb_model.specs.Calls.{Answer, Done, Refused, first_of, needed_room, write_tests}
-use Rattle.rb_model.specs.Machine.{State}
+use Rattle.rb_model.specs.State.{State}
 use Rattle.rb_model.specs.Tests.{made_since}
 use Rattle.rb_model.specs.declared.op.Op.{Op}
 use Rattle.rb_segment.specs.Header.{Header}
 use Rattle.rb_segment.specs.Moves.{NoneMayTurn}
 use Rattle.rb_model.specs.Answers.{action_of}
-use Rattle.rb_undoengine.specs.Steps.{IsAbout, NotOthers, cause_of, kept_room}
+use Rattle.rb_undoengine.specs.Steps.{IsAbout, NotOthers, refusal_of, kept_room}
 use Rattle.rb_undoengine.proofs.Firsts.{answer_of, first_found, log_tests}
 use Rattle.rb_undoengine.proofs.Found as found
 use Rattle.rb_undoengine.proofs.Writers as writers
@@ -26,10 +27,10 @@ use Rattle.rb_verdict.specs.Verdict.{Verdict}
 use Rattle.rb_verdict.proofs.Since.{since_is}
 
 -- what the tests of the log answer
-worn_out : (logged room needed : ℕ) → WORN ≤ logged → first_of (log_tests logged room needed) Done ≡ Refused calls.WornOut
+worn_out : (logged room needed : ℕ) → WORN ≤ logged → first_of (log_tests logged room needed) Done ≡ Refused refusals.WornOut
 worn_out logged room needed worn = let test : nat_le WORN logged ≡ true = grind (arith, nat_tests) in rw test refl
 
-log_full : (logged room needed : ℕ) → logged < WORN → room < needed → first_of (log_tests logged room needed) Done ≡ Refused calls.LogFull
+log_full : (logged room needed : ℕ) → logged < WORN → room < needed → first_of (log_tests logged room needed) Done ≡ Refused refusals.LogFull
 log_full logged room needed young less =
     let test : nat_le WORN logged ≡ false = grind (arith, nat_tests) in
     let room_test : nat_lt room needed ≡ true = grind (arith, nat_tests) in
@@ -59,7 +60,7 @@ module _ (h : State) (xids : List Xid) (blocks : List (List ℕ)) (s logged room
   answered v is = first_found h s ask.table ask.key x.seg x.slot op logged room mine ∙ ap (λ (z : Verdict). answer_of z x.seg Since Log) is
 
   pub refused : (fault : AttemptFault) → Refuses fault (home_for h.shape blocks ask) (found.Adds h xids blocks s ask op about op_is first last mine x ready writer) ask.key x ready logged room (kept_room h.shape blocks ask.own)
-      → First ≡ Refused (cause_of fault)
+      → First ≡ Refused (refusal_of fault)
   refused faults.Failed never = absurd never
   refused faults.Duplicate why = answered verdict.Duplicate (found.duplicate h xids blocks s ask op about op_is first last mine x ready writer why.0 why.1)
   refused faults.NotFound why = answered verdict.NotFound (found.not_found h xids blocks s ask op about op_is first last mine x ready writer why.0 why.1)
@@ -68,7 +69,7 @@ module _ (h : State) (xids : List Xid) (blocks : List (List ℕ)) (s logged room
   refused (faults.RollbackFull seg since) why =
       let told : since ≡ Since = since_is h xids blocks about.stand x.seg (writers.within h xids blocks s ask.own about x ready writer) x.slot since ready (writers.is_ready h xids blocks s ask.own about x ready writer) why.3 in
       answered verdict.RollbackFull (found.rollback_full h xids blocks s ask op about op_is first last mine x ready writer why.0 why.1)
-      ∙ (ap (λ (n : ℕ). Refused (calls.RollbackFull n Since)) (sym why.2) ∙ ap (λ (n : ℕ). Refused (calls.RollbackFull seg n)) (sym told))
+      ∙ (ap (λ (n : ℕ). Refused (refusals.RollbackFull n Since)) (sym why.2) ∙ ap (λ (n : ℕ). Refused (refusals.RollbackFull seg n)) (sym told))
   refused faults.WornOut why =
       answered verdict.Fine (found.fine h xids blocks s ask op about op_is first last mine x ready writer why.0 why.1) ∙ worn_out logged room (needed_room h s x.seg x.slot) why.2
   refused faults.LogFull why =

@@ -2,6 +2,7 @@
 -- then stand with that change less.
 use Rattle.std.proofs.Common.{◌≡◌, inl, inr, ◌<◌, ◌≤◌, ◌+◌, ◌*◌, ◌/◌, ◌%◌, ◌++◌, ℕ, List, [], ◌∷◌, length, Some, refl, sym, ◌∙◌, ap, subst, arith}
 use Rattle.std.proofs.Math.Nat.{div-add-mod}
+use Rattle.rb_attempt.specs.Asks.{header_in}
 use Rattle.rb_base.specs.Blocks.{after_group, block_of, shape_blocks, table_blocks}
 use Rattle.rb_base.specs.Groups.{IsGroup}
 use Rattle.rb_base.specs.declared.ids.Uba.{Uba}
@@ -9,12 +10,16 @@ use Rattle.rb_base.specs.declared.ids.Xid.{Xid}
 use Rattle.rb_base.specs.declared.sizes.TheConstants.{ACTIVE}
 use Rattle.rb_model.specs.Calls.{Owned}
 use Rattle.rb_model.specs.Change as model
-use Rattle.rb_model.specs.Machine.{State, session_own}
+use Rattle.rb_model.specs.State.{State, session_own}
 use Rattle.rb_restart.proofs.Backs.{back_group}
-use Rattle.rb_restart.proofs.Slots.{slot_is, xid_is, xid_of}
+use Rattle.rb_restart.proofs.Slots.{owed_is, slot_is, xid_is, xid_of}
+use Rattle.rb_segment.specs.Calls.{Runs}
 use Rattle.rb_segment.specs.Header.{Segment, record_in}
-use Rattle.rb_segment.specs.Segments.{commit_scn}
+use Rattle.rb_segment.specs.Segments.{commit_scn, owed_in}
 use Rattle.rb_standing.specs.Groups.{IsPutBack}
+use Rattle.rb_standing.proofs.OwedMoves.{owed_back}
+use Rattle.rb_standing.proofs.StandingBack.{xid_back}
+use Rattle.rb_image.specs.Made.{BackMade}
 use Rattle.rb_standing.specs.NextStates.{with_own}
 use Rattle.rb_standing.specs.Says.{xid_by}
 use Rattle.rb_standing.specs.Standing.{env_of, homes_of, logged_of, segments_of}
@@ -39,7 +44,7 @@ record Newest (h : State) (blocks : List (List ℕ)) (t wrap : ℕ) (c : model.C
   can : CanBack h.shape blocks (xid_of t wrap)
   read : newest_record h.shape blocks (xid_of t wrap) ≡ u
 
-module _ (h : State) (xids : List Xid) (before : List (List ℕ)) (stand : BlocksStand h xids before) (s t wrap : ℕ) (t_in : t < 16 * h.shape.segments) (owns : Owns h s t) (front : List model.Change) (c : model.Change) (own_is : session_own h s ≡ front ++ c ∷ []) where
+module _ (h : State) (xids : List Xid) (before : List (List ℕ)) (stand : BlocksStand h xids before) (s t wrap : ℕ) (t_in : t < 16 * h.shape.segments) (owns : Owns h s t) (front : List model.Change) (c : model.Change) (runs : Runs (header_in h.shape before (t / 16)) (xid_of t wrap)) (own_is : session_own h s ≡ front ++ c ∷ []) where
   abbrev Segs : ℕ → Segment
   Segs = segments_of h.shape before
 
@@ -79,6 +84,8 @@ module _ (h : State) (xids : List Xid) (before : List (List ℕ)) (stand : Block
         u = u;
         there = listed.4.1;
         can = record {
+          runs = runs;
+          live = let count = ((stand.standing.stands.slots t t_in).active active).count in let l = ap length has in let at = ap (λ (z : TableSlot). z.live) (slot_is h.shape before t wrap) in omega (arith, count, l, at);
           some = subst (λ (z : Uba). 1 ≤ z.ord) same listed.0;
           block = subst (λ (z : Uba). z.block < shape_blocks h.shape) same (omega (arith, listed.1.within, g_in, t_in));
           place = subst (λ (z : Uba). z.rec < 10) same listed.1.rec;
@@ -115,6 +122,16 @@ module _ (h : State) (xids : List Xid) (before : List (List ℕ)) (stand : Block
     stands_at : BlocksStand (with_own h s front) xids now
     stands_at = machine_back h xids before now s t newest.u front c t_in stand owns own_is newest.there puts
 
+    owed_at : owed_in h.shape now + 1 ≤ owed_in h.shape before
+    owed_at =
+        let less = owed_back h.shape (commit_scn h.shape before) (logged_of h.shape before) Segs (homes_of h.shape before) (past_of h xids) Lives stand.standing.stands t t_in (segments_of h.shape now) (back.Homes2 h.shape before now (past_of h xids) Lives t newest.u Last More stand.tell.in_range t_in stand.standing has newest.there puts) newest.u (back.put_values h.shape before now (past_of h xids) Lives t newest.u Last More stand.tell.in_range t_in stand.standing has newest.there puts) Last More has in
+        let a = owed_is h.shape before in
+        let b = owed_is h.shape now in
+        omega (arith, less, a, b)
+
+    ids_at : (v : ℕ) → (env_of h.shape now).xid v ≡ (env_of h.shape before).xid v
+    ids_at v = xid_back h.shape (commit_scn h.shape before) (logged_of h.shape before) Segs (homes_of h.shape before) (past_of h xids) Lives stand.standing.stands (back.Homes2 h.shape before now (past_of h xids) Lives t newest.u Last More stand.tell.in_range t_in stand.standing has newest.there puts) t newest.u t_in (segments_of h.shape now) (back.put_values h.shape before now (past_of h xids) Lives t newest.u Last More stand.tell.in_range t_in stand.standing has newest.there puts) Last More has v
+
     logged_at : logged_of h.shape now ≡ logged_of h.shape before + 1
     logged_at = back.logged h.shape before now (past_of h xids) Lives t newest.u Last More stand.tell.in_range t_in stand.standing has newest.there puts
 
@@ -122,14 +139,20 @@ module _ (h : State) (xids : List Xid) (before : List (List ℕ)) (stand : Block
 pub record BackIs (h : State) (xids : List Xid) (before : List (List ℕ)) (s : ℕ) (front : List model.Change) (x : Xid) : Type 0 where
   pub can : CanBack h.shape before x
   pub after : (now : List (List ℕ)) → IsGroup (back_group h.shape before x) → now ≡ after_group (logged_of h.shape before + 1) (back_group h.shape before x) before → TakesBack h.shape x (newest_record h.shape before x) before now
-      → BlocksStand (with_own h s front) xids now × (logged_of h.shape now ≡ logged_of h.shape before + 1)
+      → BackMade h xids s front before now
 
-pub back_is : (h : State) (xids : List Xid) (before : List (List ℕ)) → BlocksStand h xids before → (s : ℕ) (x : Xid) → x.seg < h.shape.segments → x.slot < 16 → Owned h s x.seg x.slot → (front : List model.Change) (c : model.Change) → session_own h s ≡ front ++ c ∷ [] → BackIs h xids before s front x
-back_is h xids before stand s x there few owned front c own_is =
+pub back_is : (h : State) (xids : List Xid) (before : List (List ℕ)) → BlocksStand h xids before → (s : ℕ) (x : Xid) → x.seg < h.shape.segments → x.slot < 16 → Owned h s x.seg x.slot → Runs (header_in h.shape before x.seg) x → (front : List model.Change) (c : model.Change) → session_own h s ≡ front ++ c ∷ [] → BackIs h xids before s front x
+back_is h xids before stand s x there few owned runs front c own_is =
     let t = 16 * x.seg + x.slot in
     let t_in : t < 16 * h.shape.segments = omega (arith, there, few) in
     let owns : Owns h s t = record { owner = owned.0; at = owned.1; session = owned.2 } in
+    let running : Runs (header_in h.shape before (t / 16)) (xid_of t x.wrap) = subst (λ (z : Xid). Runs (header_in h.shape before z.seg) z) (xid_is x few) runs in
     subst (BackIs h xids before s front) (sym (xid_is x few)) (record {
-      can = can_at h xids before stand s t x.wrap t_in owns front c own_is;
-      after = λ now valid made takes. (stands_at h xids before stand s t x.wrap t_in owns front c own_is now valid made takes, logged_at h xids before stand s t x.wrap t_in owns front c own_is now valid made takes);
+      can = can_at h xids before stand s t x.wrap t_in owns front c running own_is;
+      after = λ now valid made takes. record {
+        stand = stands_at h xids before stand s t x.wrap t_in owns front c running own_is now valid made takes;
+        last = logged_at h xids before stand s t x.wrap t_in owns front c running own_is now valid made takes;
+        ids = ids_at h xids before stand s t x.wrap t_in owns front c running own_is now valid made takes;
+        owed = owed_at h xids before stand s t x.wrap t_in owns front c running own_is now valid made takes;
+      };
     })

@@ -13,7 +13,7 @@ use Rattle.rb_heap.specs.Homes.{Home, home_cell, home_entry, home_of}
 use Rattle.rb_heap.proofs.Reading.{entries_counted}
 use Rattle.rb_itl.specs.Entries.{free_entry}
 use Rattle.rb_itl.specs.declared.slots.Entry as entries
-use Rattle.rb_model.specs.Machine.{State}
+use Rattle.rb_model.specs.State.{State}
 use Rattle.rb_model.specs.Tests.{full_slots, holder}
 use Rattle.rb_segment.specs.Header.{Header, Segment, slot_in}
 use Rattle.rb_standing.specs.Says.{walk_entry, walk_home}

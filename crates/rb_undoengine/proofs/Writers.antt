@@ -7,7 +7,7 @@ use Rattle.rb_attempt.specs.Asks.{IsFewest, IsWriterOf, header_in}
 use Rattle.rb_base.specs.declared.ids.Xid.{Xid}
 use Rattle.rb_model.specs.Book.{Owner, book_at, slot_owner}
 use Rattle.rb_model.specs.Calls.{WritesIn, has_slot, is_owner, needed_room}
-use Rattle.rb_model.specs.Machine.{State, owner_at}
+use Rattle.rb_model.specs.State.{State, owner_at}
 use Rattle.rb_model.specs.Tests.{live_changes, owners_counted}
 use Rattle.rb_segment.specs.Header.{Header, Segment, segment_of, slot_in}
 use Rattle.rb_segment.specs.Moves.{MayClaim, claimed, claimed_slot}

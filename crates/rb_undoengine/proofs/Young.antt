@@ -8,7 +8,7 @@ use Rattle.rb_heap.specs.Soundness.{IsTaken}
 use Rattle.rb_heap.proofs.Reading.{entry_read}
 use Rattle.rb_itl.specs.Entries.{entry_at, free_entry}
 use Rattle.rb_itl.specs.declared.slots.Entry.{Entry}
-use Rattle.rb_model.specs.Machine.{State}
+use Rattle.rb_model.specs.State.{State}
 use Rattle.rb_segment.specs.Calls.{IsYoung}
 use Rattle.rb_segment.specs.Header.{Segment, SegmentInOrder}
 use Rattle.rb_segment.specs.Segments.{commit_scn}

@@ -10,7 +10,7 @@ use Rattle.rb_base.specs.declared.ids.Uba.{Uba}
 use Rattle.rb_base.specs.declared.ids.Xid.{Xid}
 use Rattle.rb_base.specs.declared.sizes.TheConstants.{WORN}
 use Rattle.rb_model.specs.Calls.{Refused, Done, WritesIn, first_of, write_tests}
-use Rattle.rb_model.specs.Machine.{State}
+use Rattle.rb_model.specs.State.{State}
 use Rattle.rb_model.specs.NextState.{change_in, written}
 use Rattle.rb_model.specs.declared.op.Op.{Op}
 use Rattle.rb_segment.specs.Header.{Header}
@@ -19,7 +19,7 @@ use Rattle.rb_standing.specs.States.{BlocksStand}
 use Rattle.rb_standing.specs.Writing.{IsWritten}
 use Rattle.rb_undoblock.specs.declared.record.UndoRecord.{UndoRecord}
 use Rattle.rb_model.specs.Answers.{action_of}
-use Rattle.rb_undoengine.specs.Steps.{cause_of, kept_room, IsAbout, NotOthers}
+use Rattle.rb_undoengine.specs.Steps.{refusal_of, kept_room, IsAbout, NotOthers}
 
 -- the record is that of the ask, by that transaction
 pub record IsAsked (h : State) (ask : Ask) (x : Xid) (u : UndoRecord) : Type 0 where
@@ -39,7 +39,7 @@ RefusedAsMachine = (h : State) (xids : List Xid) (blocks : List (List ℕ)) (s l
     (kept_room h.shape blocks ask.own)
     → WritesIn h s x.seg x.slot
     × (first_of (write_tests h logged room x.seg x.slot s ask.table ask.key (action_of op)) Done
-    ≡ Refused (cause_of fault))
+    ≡ Refused (refusal_of fault))
 
 -- A write that is done is one that no test of the machine refuses, and the blocks stand for the state after it.
 abbrev pub DoneAsMachine : Type 0

@@ -3,9 +3,9 @@ use Rattle.std.specs.Prelude.{◌≡◌, ◌≤◌, ◌+◌, ℕ, if◌then◌el
 use Rattle.rb_attempt.specs.declared.ask.AttemptFault.{AttemptFault}
 use Rattle.rb_attempt.specs.declared.ask.AttemptFault.TheVariants as faults
 use Rattle.rb_base.specs.declared.shape.Shape.{Shape}
-use Rattle.rb_model.specs.Calls as calls
-use Rattle.rb_model.specs.Calls.{Cause}
-use Rattle.rb_model.specs.Machine.{State}
+use Rattle.rb_model.specs.declared.refusal.Refusal.{Refusal}
+use Rattle.rb_model.specs.declared.refusal.Refusal.TheVariants as refusals
+use Rattle.rb_model.specs.State.{State}
 use Rattle.rb_model.specs.Tests.{holder}
 use Rattle.rb_segment.specs.Segments.{owed_in}
 use Rattle.rb_standing.specs.Standing.{env_of}
@@ -13,16 +13,16 @@ use Rattle.rb_standing.specs.States.{BlocksStand}
 use Rattle.rb_verdict.specs.Verdict.{IsOwnId}
 use Rattle.rb_base.specs.declared.ids.Xid.{Xid}
 
--- what the machine calls a fault of an attempt
-abbrev pub cause_of : AttemptFault → Cause
-cause_of faults.Failed = calls.DiskFault
-cause_of faults.Duplicate = calls.Duplicate
-cause_of faults.NotFound = calls.NotFound
-cause_of faults.BlockFull = calls.BlockFull
-cause_of faults.SlotsFull = calls.SlotsFull
-cause_of (faults.RollbackFull seg since) = calls.RollbackFull seg since
-cause_of faults.WornOut = calls.WornOut
-cause_of faults.LogFull = calls.LogFull
+-- what a fault of an attempt is called
+abbrev pub refusal_of : AttemptFault → Refusal
+refusal_of faults.Failed = refusals.DiskFault
+refusal_of faults.Duplicate = refusals.Duplicate
+refusal_of faults.NotFound = refusals.NotFound
+refusal_of faults.BlockFull = refusals.BlockFull
+refusal_of faults.SlotsFull = refusals.SlotsFull
+refusal_of (faults.RollbackFull seg since) = refusals.RollbackFull seg since
+refusal_of faults.WornOut = refusals.WornOut
+refusal_of faults.LogFull = refusals.LogFull
 
 -- another session than s doesn't hold the key
 abbrev pub NotOthers : State → ℕ → ℕ → ℕ → Type 0

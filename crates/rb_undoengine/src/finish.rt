@@ -1,15 +1,15 @@
-//! The end of a session's transaction, with a number or without. The engine's commit and its rollback will call it.
+//! The end of a session's transaction, with a number or without. The engine's commit and its rollback call it.
 ghost use Rattle.std.specs.Prelude.{IsTrue, ◌↔◌, ◌≡◌, ◌≢◌, ◌+◌, ◌^◌, ◌<◌, ◌≤◌, ℕ};
-ghost use Rattle.std.specs.Prelude.{List, [], ◌∷◌, ◌++◌, false, not, length, OnOk};
+ghost use Rattle.std.specs.Prelude.{List, [], false, not, length};
 ghost use Rattle.std.specs.Result.{is_err};
 ghost use Rattle.rb_attempt.specs.Asks.{header_in};
 ghost use Rattle.rb_base.specs.Groups.{Patch};
 ghost use Rattle.rb_base.specs.Logs.{Logs};
 ghost use Rattle.rb_base.specs.Stores.{room_of};
 ghost use Rattle.rb_base.specs.declared.ids.Xid.{Xid};
+ghost use Rattle.rb_image.specs.Made.{CommitMade, EndMade, GivesOne};
 ghost use Rattle.rb_model.specs.Calls.{Owned};
-ghost use Rattle.rb_model.specs.Machine.{Cursor, State, session_own};
-ghost use Rattle.rb_model.specs.NextState.{committed, ended, without_owner};
+ghost use Rattle.rb_model.specs.State.{State, session_own};
 ghost use Rattle.rb_model.specs.Rows.{last_scn};
 ghost use Rattle.rb_segment.specs.Calls.{Runs};
 ghost use Rattle.rb_segment.specs.Header.{header_of, slot_in};
@@ -32,8 +32,8 @@ fn has_live(header: &[u8], xid: Xid) -> bool
     slot.state == ACTIVE && slot.wrap == xid.wrap && slot.live != 0
 }
 
-/// Commits the transaction, which runs and has a live change, at `scn`, by one group, which isn't flushed. What `group`
-/// held is dropped. `Failed` only where a call of the store failed.
+/// Commits the transaction at `scn` by one group, which isn't flushed. What `group` held is dropped. Nothing is done
+/// where the transaction doesn't run or has no live change. `Failed` only where a call of the store failed.
 pub fn commit_step<S: Store>(
     store: &mut S,
     xid: Xid,
@@ -43,17 +43,15 @@ pub fn commit_step<S: Store>(
     requires going { S.failed store.old ≡ false }
     requires there { xid.seg < (S.shape_of store.old).segments }
     requires slot { xid.slot < SLOTS }
-    requires runs { S.tells → Runs (header_in (S.shape_of store.old) (S.blocks store.old) xid.seg) xid
-        × (1 ≤ (slot_in (header_in (S.shape_of store.old) (S.blocks store.old) xid.seg) xid.slot).live) }
     requires room { 1 ≤ room_of (S.slots store.old) (S.lsn store.old) }
     requires few { S.lsn store.old < 2 ^ 62 }
     ensures logs { (groups : List (List Patch))
         × Logs S.Store store.old store.new groups (not (is_err result)) × (length groups ≤ 1) }
-    ensures stands { S.tells → (h : State) (xids : List Xid) (s : ℕ) → BlocksStand h xids (S.blocks store.old)
+    ensures gives { S.tells → (h : State) (xids : List Xid) (s : ℕ) → BlocksStand h xids (S.blocks store.old)
         → S.shape_of store.old ≡ h.shape → Owned h s xid.seg xid.slot
+        → Runs (header_in h.shape (S.blocks store.old) xid.seg) xid → 1 ≤ length (session_own h s)
         → S.lsn store.old ≡ logged_of h.shape (S.blocks store.old) → scn ≡ last_scn h.commits + 1
-        → OnOk result (BlocksStand (committed h s xid.seg xid.slot) (xids ++ xid ∷ []) (S.blocks store.new)
-        × (S.lsn store.new ≡ logged_of h.shape (S.blocks store.new)) × (S.lsn store.new ≡ S.lsn store.old + 1)) }
+        → GivesOne S.Store store.old store.new (not (is_err result)) (CommitMade h xids s xid (S.blocks store.old)) }
 {
     let shape = store.shape();
     store.load(shape.header_block(xid.seg))?;
@@ -64,29 +62,26 @@ pub fn commit_step<S: Store>(
     }
     *group = Group::new();
     commit(&mut header, &shape, xid, scn, group);
-    if group.patches() > 0 {
-        store.apply(group)?;
-    }
-    Ok(())
+    // For the proof: what a group holds is a group of patches.
+    let _count = group.patches();
+    store.apply(group)
 }
 
-/// Ends the slot of the transaction, which runs and has no live change, by one group. What `group` held is dropped.
-/// `Failed` only where a call of the store failed.
+/// Ends the slot of the transaction by one group. What `group` held is dropped. Nothing is done where the transaction
+/// doesn't run or has a live change. `Failed` only where a call of the store failed.
 pub fn end_step<S: Store>(store: &mut S, xid: Xid, group: &mut Group) -> Result<(), Failed>
     requires going { S.failed store.old ≡ false }
     requires there { xid.seg < (S.shape_of store.old).segments }
     requires slot { xid.slot < SLOTS }
-    requires runs { S.tells → Runs (header_in (S.shape_of store.old) (S.blocks store.old) xid.seg) xid
-        × ((slot_in (header_in (S.shape_of store.old) (S.blocks store.old) xid.seg) xid.slot).live ≡ 0) }
     requires room { 1 ≤ room_of (S.slots store.old) (S.lsn store.old) }
     requires few { S.lsn store.old < 2 ^ 62 }
     ensures logs { (groups : List (List Patch))
         × Logs S.Store store.old store.new groups (not (is_err result)) × (length groups ≤ 1) }
-    ensures stands { S.tells → (h : State) (xids : List Xid) (s : ℕ) (cursors : List Cursor)
-        → BlocksStand h xids (S.blocks store.old) → S.shape_of store.old ≡ h.shape → Owned h s xid.seg xid.slot
-        → session_own h s ≡ [] → S.lsn store.old ≡ logged_of h.shape (S.blocks store.old)
-        → OnOk result (BlocksStand (without_owner xid.seg xid.slot (ended h s cursors)) xids (S.blocks store.new)
-        × (S.lsn store.new ≡ logged_of h.shape (S.blocks store.new)) × (S.lsn store.new ≡ S.lsn store.old + 1)) }
+    ensures gives { S.tells → (h : State) (xids : List Xid) (s : ℕ) → BlocksStand h xids (S.blocks store.old)
+        → S.shape_of store.old ≡ h.shape → Owned h s xid.seg xid.slot
+        → Runs (header_in h.shape (S.blocks store.old) xid.seg) xid → session_own h s ≡ []
+        → S.lsn store.old ≡ logged_of h.shape (S.blocks store.old)
+        → GivesOne S.Store store.old store.new (not (is_err result)) (EndMade h xids s xid (S.blocks store.old)) }
 {
     let shape = store.shape();
     store.load(shape.header_block(xid.seg))?;
@@ -97,8 +92,7 @@ pub fn end_step<S: Store>(store: &mut S, xid: Xid, group: &mut Group) -> Result<
     }
     *group = Group::new();
     end(&mut header, &shape, xid, group);
-    if group.patches() > 0 {
-        store.apply(group)?;
-    }
-    Ok(())
+    // For the proof: what a group holds is a group of patches.
+    let _count = group.patches();
+    store.apply(group)
 }

@@ -1,5 +1,5 @@
-//! The calls of a session over a store that keeps undo. It takes the place of rb_engine as the program keeps undo;
-//! today it has what those calls do to the store, each with the machine's next state, and no memory of a session.
+//! What the calls of a session do to a store that keeps undo: one group each, with the machine's next state. It has no
+//! memory of a session; rb_engine has that, and calls it.
 #![tactic(auto)]
 
 mod finish;
@@ -9,5 +9,5 @@ mod write;
 
 pub use finish::{commit_step, end_step};
 pub use laws::step_laws;
-pub use rollback::rollback_step;
+pub use rollback::back_step;
 pub use write::write_step;

@@ -2,7 +2,7 @@
 use Rattle.std.proofs.Common.{◌≡◌, ◌<◌, ℕ, List, sym, ◌∙◌, arith}
 use Rattle.rb_base.specs.declared.ids.Xid.{Xid}
 use Rattle.rb_model.specs.Book.{IsBegun, book_at, owners}
-use Rattle.rb_model.specs.Machine.{State}
+use Rattle.rb_model.specs.State.{State}
 use Rattle.rb_segment.specs.Moves.{MayClaim}
 use Rattle.rb_segment.proofs.Choices.{claims_first_free}
 use Rattle.rb_standing.specs.States.{BlocksStand}

@@ -2,7 +2,7 @@
 use Rattle.std.proofs.Common.{◌≡◌, ℕ, List, map, Some, refl, sym, ◌∙◌, ap, arith}
 use Rattle.std.proofs.lemmas.List.{length-map}
 use Rattle.rb_base.specs.declared.ids.Xid.{Xid}
-use Rattle.rb_model.specs.Machine.{State}
+use Rattle.rb_model.specs.State.{State}
 use Rattle.rb_segment.specs.Header.{Segment}
 use Rattle.rb_standing.specs.Says.{says}
 use Rattle.rb_standing.specs.States.{lives_of, past_of}

@@ -9,9 +9,8 @@ use Rattle.std.specs.List.{list_any, flat_map, range_with_len}
 use Rattle.rb_base.specs.Blocks.{home_block}
 use Rattle.rb_base.specs.declared.ids.Xid.{Xid}
 use Rattle.rb_model.specs.Full.{has_key, held, used_keys, full_block}
-use Rattle.rb_model.specs.Machine.{State, Session, no_session, plain, plain_session}
+use Rattle.rb_model.specs.State.{State, Session, no_session}
 use Rattle.rb_model.specs.Rows.{value_of, has_row}
-use Rattle.rb_model.specs.State as machine
 use Rattle.rb_model.specs.Tests.{is_change, holds}
 use Rattle.rb_model.proofs.UsedKeys.{rows_last, uses, used_has, used_home, distinct_used, distinct_within}
 use Rattle.rb_model.proofs.Values.{has_value}
@@ -40,25 +39,25 @@ or_left a b e = ap (λ z. z || b) e
 
 -- what all sessions hold
 
-held_more : (t q : ℕ) (s : Session) (ss : List Session) → list_any (is_change t q) (flat_map (λ (x : machine.Session). x.own) (map plain_session (s ∷ ss))) ≡ (list_any (is_change t q) s.own || list_any (is_change t q) (flat_map (λ (x : machine.Session). x.own) (map plain_session ss)))
-held_more t q s ss = list_any-append (is_change t q) s.own (flat_map (λ (x : machine.Session). x.own) (map plain_session ss))
+held_more : (t q : ℕ) (s : Session) (ss : List Session) → list_any (is_change t q) (flat_map (λ (x : Session). x.own) (s ∷ ss)) ≡ (list_any (is_change t q) s.own || list_any (is_change t q) (flat_map (λ (x : Session). x.own) ss))
+held_more t q s ss = list_any-append (is_change t q) s.own (flat_map (λ (x : Session). x.own) ss)
 
-any_at : (t q : ℕ) (ss : List Session) (i : ℕ) → list_any (is_change t q) (get_or ss i no_session).own ≡ true → list_any (is_change t q) (flat_map (λ (x : machine.Session). x.own) (map plain_session ss)) ≡ true
+any_at : (t q : ℕ) (ss : List Session) (i : ℕ) → list_any (is_change t q) (get_or ss i no_session).own ≡ true → list_any (is_change t q) (flat_map (λ (x : Session). x.own) ss) ≡ true
 any_at t q [] i is = absurd (false≢true is)
 any_at t q (s ∷ ss) zero is = held_more t q s ss ∙ or_left (list_any (is_change t q) s.own) _ is
 any_at t q (s ∷ ss) (suc i) is = held_more t q s ss ∙ or_right (list_any (is_change t q) s.own) _ (any_at t q ss i is)
 
-at_any : (t q : ℕ) (ss : List Session) → list_any (is_change t q) (flat_map (λ (x : machine.Session). x.own) (map plain_session ss)) ≡ true → (i : ℕ) × (list_any (is_change t q) (get_or ss i no_session).own ≡ true)
+at_any : (t q : ℕ) (ss : List Session) → list_any (is_change t q) (flat_map (λ (x : Session). x.own) ss) ≡ true → (i : ℕ) × (list_any (is_change t q) (get_or ss i no_session).own ≡ true)
 at_any t q [] is = absurd (false≢true is)
 at_any t q (s ∷ ss) is = ⊎_elim
     (λ here. (0, here))
     (λ later. let f : (i : ℕ) × (list_any (is_change t q) (get_or ss i no_session).own ≡ true) = at_any t q ss later in (suc f.0, f.1))
-    (or_cases (list_any (is_change t q) s.own) (list_any (is_change t q) (flat_map (λ (x : machine.Session). x.own) (map plain_session ss))) (sym (held_more t q s ss) ∙ is))
+    (or_cases (list_any (is_change t q) s.own) (list_any (is_change t q) (flat_map (λ (x : Session). x.own) ss)) (sym (held_more t q s ss) ∙ is))
 
-held_holds : (h : State) (t q : ℕ) → list_any (is_change t q) (held (plain h)) ≡ true → (s : ℕ) × (1 ≤ s) × (holds h s t q ≡ true)
+held_holds : (h : State) (t q : ℕ) → list_any (is_change t q) (held h) ≡ true → (s : ℕ) × (1 ≤ s) × (holds h s t q ≡ true)
 held_holds h t q is = let f : (i : ℕ) × (list_any (is_change t q) (get_or h.sessions i no_session).own ≡ true) = at_any t q h.sessions is in (f.0 + 1, omega arith, subst (λ z. list_any (is_change t q) (get_or h.sessions z no_session).own ≡ true) (omega arith) f.1)
 
-holds_held : (h : State) (s t q : ℕ) → holds h s t q ≡ true → list_any (is_change t q) (held (plain h)) ≡ true
+holds_held : (h : State) (s t q : ℕ) → holds h s t q ≡ true → list_any (is_change t q) (held h) ≡ true
 holds_held h s t q is = any_at t q h.sessions (s - 1) is
 
 -- a cell that is taken and not locked is a row
@@ -77,20 +76,20 @@ module _ (h : State) (xids : List Xid) (segments : ℕ → Segment) (homes : ℕ
   env = says h.shape segments
 
   -- a key in use has a cell in its home
-  used_cell : (q : ℕ) → uses (plain h) table q ≡ true → (j : ℕ) × (taken (cell_at (homes (home_block h.shape table q)) j) ≡ Some q)
+  used_cell : (q : ℕ) → uses h table q ≡ true → (j : ℕ) × (taken (cell_at (homes (home_block h.shape table q)) j) ≡ Some q)
   used_cell q in_use = ⊎_elim
       (λ some. let f : (t : ℕ) × Owns h some.0 t × Names (own (map (here (home_block h.shape table q)) (lives_of h env)) t) q = presence.held_slot h xids segments homes stood table q first last some.0 some.1 some.2 in
       let home : StoodHome h xids segments (home_block h.shape table q) (homes (home_block h.shape table q)) = presence.home h xids segments homes stood table q first last in
       let c : HeldCell env (homes (home_block h.shape table q)) f.0 q = held_cell env _ home.m _ (homes (home_block h.shape table q)) home.tree f.0 q f.2 in
       (c.cell, c.has_key))
       (λ nobody.
-      let not_held : list_any (is_change table q) (held (plain h)) ≡ false = elim (cases_Bool (list_any (is_change table q) (held (plain h)))) [ inl is ↦ let f : (s : ℕ) × (1 ≤ s) × (holds h s table q ≡ true) = held_holds h table q is in absurd (false≢true (sym (nobody f.0 f.1) ∙ f.2)) | inr none ↦ none ] in
-      let row : has_row table q (rows_last (plain h)) ≡ true = ⊎_elim (λ row. row) (λ is. absurd (false≢true (sym not_held ∙ is))) (or_cases (has_row table q (rows_last (plain h))) (list_any (is_change table q) (held (plain h))) in_use) in
-      shown (value_of table q (rows_last (plain h))) refl row (presence.present_base h xids segments homes stood table q first last nobody))
+      let not_held : list_any (is_change table q) (held h) ≡ false = elim (cases_Bool (list_any (is_change table q) (held h))) [ inl is ↦ let f : (s : ℕ) × (1 ≤ s) × (holds h s table q ≡ true) = held_holds h table q is in absurd (false≢true (sym (nobody f.0 f.1) ∙ f.2)) | inr none ↦ none ] in
+      let row : has_row table q (rows_last h) ≡ true = ⊎_elim (λ row. row) (λ is. absurd (false≢true (sym not_held ∙ is))) (or_cases (has_row table q (rows_last h)) (list_any (is_change table q) (held h)) in_use) in
+      shown (value_of table q (rows_last h)) refl row (presence.present_base h xids segments homes stood table q first last nobody))
       (presence.some_holder h xids segments homes stood table q first last)
     where
-      shown : (x : Option (List ℕ)) → value_of table q (rows_last (plain h)) ≡ x → has_row table q (rows_last (plain h)) ≡ true → KeyMatch (homes (home_block h.shape table q)) q (value_of table q (rows_last (plain h))) → (j : ℕ) × (taken (cell_at (homes (home_block h.shape table q)) j) ≡ Some q)
-      shown None is row match = absurd (false≢true (sym (has_value table q (rows_last (plain h)) ∙ ap is_some is) ∙ row))
+      shown : (x : Option (List ℕ)) → value_of table q (rows_last h) ≡ x → has_row table q (rows_last h) ≡ true → KeyMatch (homes (home_block h.shape table q)) q (value_of table q (rows_last h)) → (j : ℕ) × (taken (cell_at (homes (home_block h.shape table q)) j) ≡ Some q)
+      shown None is row match = absurd (false≢true (sym (has_value table q (rows_last h) ∙ ap is_some is) ∙ row))
       shown (Some v) is row match = let p : (j : ℕ) × (row_of (cell_at (homes (home_block h.shape table q)) j) q ≡ Some v) = match.complete v is in (p.0, shown_taken (cell_at (homes (home_block h.shape table q)) p.0) q v p.1)
 
   module _ (q : ℕ) where
@@ -101,13 +100,13 @@ module _ (h : State) (xids : List Xid) (segments : ℕ → Segment) (homes : ℕ
     home = presence.home h xids segments homes stood table q first last
 
     -- a cell that is taken, in a home that is cleaned, is of a key in use
-    cell_used : (j : ℕ) → IsClean env b → taken (cell_at b j) ≡ Some q → uses (plain h) table q ≡ true
+    cell_used : (j : ℕ) → IsClean env b → taken (cell_at b j) ≡ Some q → uses h table q ≡ true
     cell_used j clean has = ⊎_elim
-        (λ some. or_right (has_row table q (rows_last (plain h))) (list_any (is_change table q) (held (plain h))) (holds_held h some.0 table q some.2))
+        (λ some. or_right (has_row table q (rows_last h)) (list_any (is_change table q) (held h)) (holds_held h some.0 table q some.2))
         (λ nobody. ⊎_elim
         (λ free. let r : (v : List ℕ) × (row_of (cell_at b j) q ≡ Some v) = free_row (cell_at b j) q has free in
-        let match : KeyMatch b q (value_of table q (rows_last (plain h))) = presence.present_base h xids segments homes stood table q first last nobody in
-        or_left (has_row table q (rows_last (plain h))) (list_any (is_change table q) (held (plain h))) (has_value table q (rows_last (plain h)) ∙ ap is_some (match.sound j r.0 r.1)))
+        let match : KeyMatch b q (value_of table q (rows_last h)) = presence.present_base h xids segments homes stood table q first last nobody in
+        or_left (has_row table q (rows_last h)) (list_any (is_change table q) (held h)) (has_value table q (rows_last h) ∙ ap is_some (match.sound j r.0 r.1)))
         (λ locked. let open_at = home.locks locked.0 j locked.1 in
         let active : IsActive env (entry_at b locked.0) = (open_at, clean locked.0 open_at) in
         let o : HolderOf h xids segments homes stood table q first last locked.0 = presence.holder_of_lock h xids segments homes stood table q first last locked.0 j active has locked.1 in
@@ -132,17 +131,17 @@ module _ (h : State) (xids : List Xid) (segments : ℕ → Segment) (homes : ℕ
     taken_near : (q j : ℕ) → taken (cell_at there j) ≡ Some q → q % h.shape.blocks ≡ key % h.shape.blocks
     taken_near q j has = stood.keys which j q (row_block h.shape table key (some_blocks h xids segments homes stood) first last) has ∙ home_mod h.shape table key (some_blocks h xids segments homes stood)
 
-    key_cell : (q : ℕ) → has_key q (used_keys (plain h) table key) ≡ true → (j : ℕ) × (taken (cell_at there j) ≡ Some q)
+    key_cell : (q : ℕ) → has_key q (used_keys h table key) ≡ true → (j : ℕ) × (taken (cell_at there j) ≡ Some q)
     key_cell q has =
-        let near : q % h.shape.blocks ≡ key % h.shape.blocks = used_home (plain h) table key q has in
-        let c : (j : ℕ) × (taken (cell_at (homes (home_block h.shape table q)) j) ≡ Some q) = used_cell q (sym (used_has (plain h) table key q near) ∙ has) in
+        let near : q % h.shape.blocks ≡ key % h.shape.blocks = used_home h table key q has in
+        let c : (j : ℕ) × (taken (cell_at (homes (home_block h.shape table q)) j) ≡ Some q) = used_cell q (sym (used_has h table key q near) ∙ has) in
         (c.0, subst (λ (w : ℕ). taken (cell_at (homes w) c.0) ≡ Some q) (same_block q near) c.1)
 
-    cell_key : (q j : ℕ) → taken (cell_at there j) ≡ Some q → has_key q (used_keys (plain h) table key) ≡ true
+    cell_key : (q j : ℕ) → taken (cell_at there j) ≡ Some q → has_key q (used_keys h table key) ≡ true
     cell_key q j has =
         let near : q % h.shape.blocks ≡ key % h.shape.blocks = taken_near q j has in
         let at : which ≡ home_block h.shape table q = sym (same_block q near) in
-        used_has (plain h) table key q near ∙ cell_used q j (subst (λ (w : ℕ). IsClean env (homes w)) at clean) (subst (λ (w : ℕ). taken (cell_at (homes w) j) ≡ Some q) at has)
+        used_has h table key q near ∙ cell_used q j (subst (λ (w : ℕ). IsClean env (homes w)) at clean) (subst (λ (w : ℕ). taken (cell_at (homes w) j) ≡ Some q) at has)
 
     abbrev Keeps : ℕ → ℕ → Type 0
     Keeps j q = taken (cell_at there j) ≡ Some q
@@ -156,9 +155,9 @@ module _ (h : State) (xids : List Xid) (segments : ℕ → Segment) (homes : ℕ
     one_key j q r a c = let same : Some q ≡ Some r = sym a ∙ c in cc
 
     -- Where sixteen cells are taken, none by the key, the block is full.
-    pub full_block_when : AllTaken there key → full_block (plain h) table key ≡ true
+    pub full_block_when : AllTaken there key → full_block h table key ≡ true
     full_block_when all =
-        let keys : List ℕ = used_keys (plain h) table key in
+        let keys : List ℕ = used_keys h table key in
         let le = no_more Keeps (λ i j q a c. whole.unique i j q a c) keys (range_with_len 0 16) (distinct_range 0 16)
         (λ j has. let c : (q : ℕ) × (taken (cell_at there j) ≡ Some q) × (q ≢ key) = all j (let r = range_has 0 16 j has in r.1) in (c.0, cell_key c.0 j c.1, c.1)) in
         let l = length-range_with_len 0 16 in
@@ -172,12 +171,12 @@ module _ (h : State) (xids : List Xid) (segments : ℕ → Segment) (homes : ℕ
         and_from (not (has_key key keys)) (nat_le 16 (length keys)) (ap not unused) (le-leb 16 (length keys) (omega (arith, le, l)))
 
     -- And where the block is full, sixteen cells are taken, none by the key.
-    pub full_block_then : full_block (plain h) table key ≡ true → AllTaken there key
+    pub full_block_then : full_block h table key ≡ true → AllTaken there key
     full_block_then full j few =
-        let keys : List ℕ = used_keys (plain h) table key in
+        let keys : List ℕ = used_keys h table key in
         let parts = and_parts (not (has_key key keys)) (nat_le 16 (length keys)) full in
         let many : 16 ≤ length keys = leb-true 16 (length keys) parts.1 in
-        let st : Sent (λ q i. Keeps i q) keys (range_with_len 0 16) = sent (λ q i. Keeps i q) (λ q r i a c. one_key i q r a c) (range_with_len 0 16) keys (distinct_used (plain h) table key)
+        let st : Sent (λ q i. Keeps i q) keys (range_with_len 0 16) = sent (λ q i. Keeps i q) (λ q r i a c. one_key i q r a c) (range_with_len 0 16) keys (distinct_used h table key)
         (λ q has. let c : (i : ℕ) × (taken (cell_at there i) ≡ Some q) = key_cell q has in (c.0, has_range 0 16 c.0 (omega arith) (let w = cell_within q c.0 c.1 in omega (arith, w)), c.1)) in
         elim (cases_Bool (has_key j st.images)) [
           | inl here ↦
@@ -195,5 +194,5 @@ module _ (h : State) (xids : List Xid) (segments : ℕ → Segment) (homes : ℕ
         later q ne xs has = sym (ap (λ b. b || has_key q xs) (ne_eqb j q (λ same. ne (sym same)))) ∙ has
 
     -- as a key is in use where it has a cell
-    pub unused_then : has_key key (used_keys (plain h) table key) ≡ false → (j : ℕ) → taken (cell_at there j) ≢ Some key
+    pub unused_then : has_key key (used_keys h table key) ≡ false → (j : ℕ) → taken (cell_at there j) ≢ Some key
     unused_then free j has = false≢true (sym free ∙ cell_key key j has)

@@ -9,7 +9,7 @@ use Rattle.rb_base.specs.declared.ids.Xid.{Xid}
 use Rattle.rb_base.specs.declared.shape.Shape.{Shape}
 use Rattle.rb_model.specs.Change as model
 use Rattle.rb_model.specs.Change.{Kind, Put, Gone, Held}
-use Rattle.rb_model.specs.Machine.{State}
+use Rattle.rb_model.specs.State.{State}
 use Rattle.rb_model.specs.Rows.{TableRow, value_of, changed_by, over}
 use Rattle.rb_model.proofs.Values.{value_changed, value_by, over-append}
 use Rattle.rb_standing.specs.States.{InTables, walk_change, newest_first, lives_of, commits_from}

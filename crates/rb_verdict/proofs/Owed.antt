@@ -6,7 +6,7 @@ use Rattle.std.specs.List.{sum_by, range_with_len}
 use Rattle.rb_base.specs.declared.ids.Xid.{Xid}
 use Rattle.rb_model.specs.Book.{Owner}
 use Rattle.rb_model.specs.Change as model
-use Rattle.rb_model.specs.Machine.{State, session_own, owner_at}
+use Rattle.rb_model.specs.State.{State, session_own, owner_at}
 use Rattle.rb_model.specs.Tests.{live_changes, owners_counted}
 use Rattle.rb_segment.specs.Books.{IsOwned}
 use Rattle.rb_segment.specs.Header.{Segment, slot_owed}

@@ -10,8 +10,8 @@ use Rattle.rb_base.specs.declared.ids.Xid.{Xid}
 use Rattle.rb_base.specs.declared.shape.Shape.{Shape}
 use Rattle.rb_model.specs.Book.{Owner, Book, BookSlot, book_at, free_slot, fresh_book}
 use Rattle.rb_model.specs.Change as model
-use Rattle.rb_model.specs.Machine.{State, no_session, plain, plain_session, session_own, owner_at}
-use Rattle.rb_model.specs.Reply.{rows_now}
+use Rattle.rb_model.specs.State.{State, session_own, owner_at}
+use Rattle.rb_model.specs.Calls.{rows_now}
 use Rattle.rb_model.specs.Rows.{value_of, has_row, over, rows_at, last_scn}
 use Rattle.rb_model.specs.State as machine
 use Rattle.rb_model.specs.Tests.{is_change, holds, holder}
@@ -33,10 +33,6 @@ use Rattle.rb_walk.specs.Steps.{HeldCell, Names}
 use Rattle.rb_walk.specs.Walk.{Change, Env, Home, Walk, IsActive, own, behind, rows_of, row_of, cell_at, entry_at, lock_of, taken}
 use Rattle.rb_walk.proofs.Holding.{held_cell, one_slot_names}
 use Rattle.rb_walk.proofs.Holding as holding
-
--- the changes of a session, in both words
-pub plain_own : (h : State) (s : ℕ) → (machine.session_of (plain h) s).own ≡ session_own h s
-plain_own h s = ap (λ (x : machine.Session). x.own) (lists.get_or-map plain_session h.sessions (s - 1) no_session)
 
 -- the rows after all commits
 pub rows_last_is : (h : State) → rows_at h.shape.blocks h.commits (last_scn h.commits) ≡ over h.shape.blocks h.commits.rows (flat_map (λ changes. changes) h.commits.list)
@@ -154,7 +150,7 @@ module _ (h : State) (xids : List Xid) (segments : ℕ → Segment) (homes : ℕ
     shown_alone t alone = tree_key env h.commits.base (rows_here h.shape which h.commits.rows) (map (narrow which) (past_of h xids).list) t k home.m local b home.unique alone home.tree
 
     -- The cells show of a key that no other session holds what the session sees.
-    pub present : (s : ℕ) → 1 ≤ s → ((u : ℕ) → 1 ≤ u → u ≢ s → holds h u table k ≡ false) → KeyMatch b k (value_of table k (rows_now (plain h) s))
+    pub present : (s : ℕ) → 1 ≤ s → ((u : ℕ) → 1 ≤ u → u ≢ s → holds h u table k ≡ false) → KeyMatch b k (value_of table k (rows_now h s))
     present s low others = elim (cases_own (session_own h s) refl) [
       | inl none ↦
           let t : ℕ = 16 * h.shape.segments in
@@ -164,9 +160,9 @@ module _ (h : State) (xids : List Xid) (segments : ℕ → Segment) (homes : ℕ
             | inr other ↦ false≢true (sym (others f.0.session (stood.owners u f.0 f.1).0 other) ∙ f.2)
           ] in
           let empty : own local t ≡ [] = own_here which lives t ∙ ap (here which) (own_beyond h env t (omega arith)) in
-          let sees : behind (own local t) (rows_of (rows_here h.shape which h.commits.rows) (map (narrow which) (past_of h xids).list)) k ≡ value_of table k (rows_now (plain h) s) =
+          let sees : behind (own local t) (rows_of (rows_here h.shape which h.commits.rows) (map (narrow which) (past_of h xids).list)) k ≡ value_of table k (rows_now h s) =
           ap (λ (l : List Change). behind l (rows_of (rows_here h.shape which h.commits.rows) (map (narrow which) (past_of h xids).list)) k) empty
-          ∙ base_rows ∙ ap (λ cs. value_of table k (over h.shape.blocks (rows_at h.shape.blocks h.commits (last_scn h.commits)) cs)) (sym (plain_own h s ∙ none)) in
+          ∙ base_rows ∙ ap (λ cs. value_of table k (over h.shape.blocks (rows_at h.shape.blocks h.commits (last_scn h.commits)) cs)) (sym none) in
           subst (λ x. KeyMatch b k x) sees (shown_alone t alone)
       | inr some ↦
           let slot : (t : ℕ) × (t < 16 * h.shape.segments) × Owns h s t = stood.has_slot s some.0 some.1 low some.2 in
@@ -177,10 +173,9 @@ module _ (h : State) (xids : List Xid) (segments : ℕ → Segment) (homes : ℕ
             | inr other ↦ false≢true (sym (others f.0.session (stood.owners u f.0 f.1).0 other) ∙ f.2)
           ] in
           let own_is : own local slot.0 ≡ here which (newest_first h.shape (env.xid slot.0) 1 (session_own h s) []) = local_of slot.0 owns.owner owns.at ∙ ap (λ z. here which (newest_first h.shape (env.xid slot.0) 1 (session_own h z) [])) owns.session in
-          let sees : behind (own local slot.0) (rows_of (rows_here h.shape which h.commits.rows) (map (narrow which) (past_of h xids).list)) k ≡ value_of table k (rows_now (plain h) s) =
+          let sees : behind (own local slot.0) (rows_of (rows_here h.shape which h.commits.rows) (map (narrow which) (past_of h xids).list)) k ≡ value_of table k (rows_now h s) =
           ap (λ (l : List Change). behind l (rows_of (rows_here h.shape which h.commits.rows) (map (narrow which) (past_of h xids).list)) k) own_is
-          ∙ behind_over h.shape table k some_blocks first (env.xid slot.0) 1 (session_own h s) [] (rows_of (rows_here h.shape which h.commits.rows) (map (narrow which) (past_of h xids).list)) (rows_at h.shape.blocks h.commits (last_scn h.commits)) (stood.tables s) base_rows
-          ∙ ap (λ cs. value_of table k (over h.shape.blocks (rows_at h.shape.blocks h.commits (last_scn h.commits)) cs)) (sym (plain_own h s)) in
+          ∙ behind_over h.shape table k some_blocks first (env.xid slot.0) 1 (session_own h s) [] (rows_of (rows_here h.shape which h.commits.rows) (map (narrow which) (past_of h xids).list)) (rows_at h.shape.blocks h.commits (last_scn h.commits)) (stood.tables s) base_rows in
           subst (λ x. KeyMatch b k x) sees (shown_alone slot.0 alone)
     ]
       where
@@ -189,14 +184,14 @@ module _ (h : State) (xids : List Xid) (segments : ℕ → Segment) (homes : ℕ
         cases_own (c ∷ more) is = inr (c, more, is)
 
     -- and so the row is there where the session sees one
-    pub present_sees : (s : ℕ) → 1 ≤ s → ((u : ℕ) → 1 ≤ u → u ≢ s → holds h u table k ≡ false) → (j : ℕ) (v : List ℕ) → row_of (cell_at b j) k ≡ Some v → has_row table k (rows_now (plain h) s) ≡ true
-    present_sees s low others j v shown = has_value table k (rows_now (plain h) s) ∙ ap is_some ((present s low others).sound j v shown)
+    pub present_sees : (s : ℕ) → 1 ≤ s → ((u : ℕ) → 1 ≤ u → u ≢ s → holds h u table k ≡ false) → (j : ℕ) (v : List ℕ) → row_of (cell_at b j) k ≡ Some v → has_row table k (rows_now h s) ≡ true
+    present_sees s low others j v shown = has_value table k (rows_now h s) ∙ ap is_some ((present s low others).sound j v shown)
 
-    pub sees_present : (s : ℕ) → 1 ≤ s → ((u : ℕ) → 1 ≤ u → u ≢ s → holds h u table k ≡ false) → has_row table k (rows_now (plain h) s) ≡ true → (j : ℕ) × (v : List ℕ) × (row_of (cell_at b j) k ≡ Some v)
-    sees_present s low others has = by_value (value_of table k (rows_now (plain h) s)) refl
+    pub sees_present : (s : ℕ) → 1 ≤ s → ((u : ℕ) → 1 ≤ u → u ≢ s → holds h u table k ≡ false) → has_row table k (rows_now h s) ≡ true → (j : ℕ) × (v : List ℕ) × (row_of (cell_at b j) k ≡ Some v)
+    sees_present s low others has = by_value (value_of table k (rows_now h s)) refl
       where
-        by_value : (x : Option (List ℕ)) → value_of table k (rows_now (plain h) s) ≡ x → (j : ℕ) × (v : List ℕ) × (row_of (cell_at b j) k ≡ Some v)
-        by_value None is = absurd (false≢true (sym (ap is_some is) ∙ (sym (has_value table k (rows_now (plain h) s)) ∙ has)))
+        by_value : (x : Option (List ℕ)) → value_of table k (rows_now h s) ≡ x → (j : ℕ) × (v : List ℕ) × (row_of (cell_at b j) k ≡ Some v)
+        by_value None is = absurd (false≢true (sym (ap is_some is) ∙ (sym (has_value table k (rows_now h s)) ∙ has)))
         by_value (Some v) is = let p : (j : ℕ) × (row_of (cell_at b j) k ≡ Some v) = (present s low others).complete v is in (p.0, v, p.1)
 
     -- At most one session holds a key.

@@ -4,7 +4,7 @@ use Rattle.std.proofs.lemmas.Bool.{cases_eq, cases_lt}
 use Rattle.std.proofs.lemmas.List.{get_or-set_same}
 use Rattle.rb_base.specs.declared.ids.Xid.{Xid}
 use Rattle.rb_model.specs.Book.{Owner, Book, BookSlot, free_slot, is_full, slot_owner}
-use Rattle.rb_model.specs.Machine.{State}
+use Rattle.rb_model.specs.State.{State}
 use Rattle.rb_model.specs.Tests.{earlier_start, least_start, made_since}
 use Rattle.rb_model.proofs.BookLemmas.{full_since}
 use Rattle.rb_segment.specs.Calls.{IsSince}

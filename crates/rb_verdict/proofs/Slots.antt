@@ -8,7 +8,7 @@ use Rattle.rb_base.specs.declared.ids.Xid.{Xid}
 use Rattle.rb_model.specs.Book.{Owner}
 use Rattle.rb_model.specs.Change as model
 use Rattle.rb_model.specs.Full.{has_key}
-use Rattle.rb_model.specs.Machine.{State, session_own, owner_at}
+use Rattle.rb_model.specs.State.{State, session_own, owner_at}
 use Rattle.rb_model.specs.Tests.{is_in_home, works_in, full_slots}
 use Rattle.rb_model.proofs.UsedKeys.{distinct_within}
 use Rattle.rb_segment.specs.Header.{Segment}

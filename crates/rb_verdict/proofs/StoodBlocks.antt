@@ -15,7 +15,7 @@ use Rattle.rb_heap.specs.Soundness.{IsCellSound}
 use Rattle.rb_heap.proofs.Reading.{entries_counted, cells_counted, cell_read, entry_read}
 use Rattle.rb_itl.specs.Entries as itl
 use Rattle.rb_itl.specs.declared.slots.Entry as entries
-use Rattle.rb_model.specs.Machine.{State}
+use Rattle.rb_model.specs.State.{State}
 use Rattle.rb_standing.specs.Says.{walk_entry, walk_cell, walk_home}
 use Rattle.rb_standing.specs.Standing.{env_of, homes_of, segments_of}
 use Rattle.rb_standing.specs.States.{BlocksStand}

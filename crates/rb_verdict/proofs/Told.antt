@@ -6,7 +6,7 @@ use Rattle.std.specs.List.{list_any, AllByRecursion}
 use Rattle.rb_base.specs.declared.ids.Xid.{Xid}
 use Rattle.rb_model.specs.Book.{Owner, Book, BookSlot, book_at, first_turn, free_slot, is_full, last_turn, oldest_turn, slot_owner}
 use Rattle.rb_model.specs.BookLaws.{IsBookSound}
-use Rattle.rb_model.specs.Machine.{State}
+use Rattle.rb_model.specs.State.{State}
 use Rattle.rb_segment.specs.Books.{IsBook, IsOwned, IsOwner, is_first_in, least_turn, next_is_full, ring_count}
 use Rattle.rb_segment.specs.Header.{Header, Segment, head_turn, ord_in, slot_in, SegmentInOrder}
 use Rattle.rb_segment.specs.MoveLaws.{TellsBook}

@@ -8,8 +8,8 @@ use Rattle.rb_base.specs.Blocks.{home_block}
 use Rattle.rb_base.specs.declared.ids.Xid.{Xid}
 use Rattle.rb_model.specs.Book.{Book, is_full}
 use Rattle.rb_model.specs.Full.{full_block}
-use Rattle.rb_model.specs.Machine.{State, plain, owner_at}
-use Rattle.rb_model.specs.Reply.{rows_now}
+use Rattle.rb_model.specs.State.{State, owner_at}
+use Rattle.rb_model.specs.Calls.{rows_now}
 use Rattle.rb_model.specs.Rows.{has_row}
 use Rattle.rb_model.specs.Tests.{holder, holds, full_slots}
 use Rattle.rb_segment.specs.Books.{next_is_full}
@@ -162,8 +162,8 @@ module _ (h : State) (xids : List Xid) (segments : ℕ → Segment) (homes : ℕ
           by_find None is = is
           by_find (Some u) is = let f : (t : ℕ) × Owns h u t × HeldCell env b t key = presence.lock_of_holder h xids segments homes stood table key first last u is in absurd (never u is f.0 f.2)
 
-  present_is : ((u : ℕ) → 1 ≤ u → u ≢ s → holds h u table key ≡ false) → list_any (shows_key key) b.cells ≡ has_row table key (rows_now (plain h) s)
-  present_is others = bool_same (list_any (shows_key key) b.cells) (has_row table key (rows_now (plain h) s))
+  present_is : ((u : ℕ) → 1 ≤ u → u ≢ s → holds h u table key ≡ false) → list_any (shows_key key) b.cells ≡ has_row table key (rows_now h s)
+  present_is others = bool_same (list_any (shows_key key) b.cells) (has_row table key (rows_now h s))
       (λ is. let f = any_get (shows_key key) b.cells Empty is in
       let v : (v : List ℕ) × (row_of (cell_at b f.0) key ≡ Some v) = shows_is key (cell_at b f.0) f.2 in
       presence.present_sees h xids segments homes stood table key first last s low others f.0 v.0 v.1)
@@ -171,8 +171,8 @@ module _ (h : State) (xids : List Xid) (segments : ℕ → Segment) (homes : ℕ
       let within : f.0 < length b.cells = ⊎_elim (λ lt. lt) (λ le. let out : cell_at b f.0 ≡ Empty = lists.get_or-eq_default b.cells Empty le in let none : None ≡ Some f.1 = sym (ap (λ (x : Cell). row_of x key) out) ∙ f.2 in absurd cc) (cases_lt f.0 (length b.cells)) in
       get_any (shows_key key) b.cells Empty f.0 within (is_shows key f.1 (cell_at b f.0) f.2))
 
-  full_is : is_full_without key b.cells ≡ full_block (plain h) table key
-  full_is = bool_same (is_full_without key b.cells) (full_block (plain h) table key)
+  full_is : is_full_without key b.cells ≡ full_block h table key
+  full_is = bool_same (is_full_without key b.cells) (full_block h table key)
       (λ is. full.full_block_when h xids segments homes stood table first last key clean (all_taken (and_parts (not (list_any (keeps_key key) b.cells)) (list_all (λ x. is_some (taken x)) b.cells) is)))
       (λ is. taken_all (full.full_block_then h xids segments homes stood table first last key clean is))
     where
@@ -242,7 +242,7 @@ module _ (h : State) (xids : List Xid) (segments : ℕ → Segment) (homes : ℕ
     where
       rest : (holder h table key ≡ None) ⊎ (holder h table key ≡ Some s)
           → tested adds (list_any (shows_key key) b.cells) (is_full_without key b.cells) (list_all (is_others own) b.entries) (next_is_full header)
-          ≡ tested adds (has_row table key (rows_now (plain h) s)) (full_block (plain h) table key) (full_slots h s table key) (is_full book)
+          ≡ tested adds (has_row table key (rows_now h s)) (full_block h table key) (full_slots h s table key) (is_full book)
       rest nobody = rw (present_is (presence.not_others h xids segments homes stood table key first last s nobody), full_is, slots_is own id, ring) refl
 
       by_wait : (o : Option ℕ) → holder h table key ≡ o
@@ -252,5 +252,5 @@ module _ (h : State) (xids : List Xid) (segments : ℕ → Segment) (homes : ℕ
         | inl same ↦ ap (first_wait (if_other s (holder h table key))) (rest (inr (is ∙ ap (λ (z : ℕ). Some z) same)))
         | inr ne ↦
             let other : if_other s (holder h table key) ≡ Some u = ap (if_other s) is ∙ cond-false (u == s) None (Some u) (ne_eqb u s ne) in
-            ap (λ (o : Option ℕ). first_wait o (tested adds (list_any (shows_key key) b.cells) (is_full_without key b.cells) (list_all (is_others own) b.entries) (next_is_full header))) other ∙ sym (ap (λ (o : Option ℕ). first_wait o (tested adds (has_row table key (rows_now (plain h) s)) (full_block (plain h) table key) (full_slots h s table key) (is_full book))) other)
+            ap (λ (o : Option ℕ). first_wait o (tested adds (list_any (shows_key key) b.cells) (is_full_without key b.cells) (list_all (is_others own) b.entries) (next_is_full header))) other ∙ sym (ap (λ (o : Option ℕ). first_wait o (tested adds (has_row table key (rows_now h s)) (full_block h table key) (full_slots h s table key) (is_full book))) other)
       ]

@@ -3,7 +3,7 @@ use Rattle.std.proofs.Common.{◌≡◌, ℕ, true, false, [], ◌∷◌, map, N
 use Rattle.std.specs.List.{range_with_len}
 use Rattle.rb_base.specs.declared.ids.Xid.{Xid}
 use Rattle.rb_model.specs.Book.{fresh_book, taken}
-use Rattle.rb_model.specs.Machine.{State, no_session}
+use Rattle.rb_model.specs.State.{State, no_session}
 use Rattle.rb_segment.specs.Books.{fresh_header}
 use Rattle.rb_segment.specs.Header.{Header}
 use Rattle.rb_txntable.specs.Slots.{no_slot}

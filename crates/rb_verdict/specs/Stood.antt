@@ -8,7 +8,7 @@ use Rattle.rb_cell.specs.declared.cell.TheConstants.{CELLS}
 use Rattle.rb_itl.specs.declared.slots.TheConstants.{ENTRIES}
 use Rattle.rb_model.specs.Book.{Owner, book_at}
 use Rattle.rb_model.specs.Change as model
-use Rattle.rb_model.specs.Machine.{State, session_own, owner_at}
+use Rattle.rb_model.specs.State.{State, session_own, owner_at}
 use Rattle.rb_segment.specs.Books.{IsBook}
 use Rattle.rb_segment.specs.Header.{Segment}
 use Rattle.rb_standing.specs.Says.{says}

@@ -6,8 +6,8 @@ use Rattle.rb_base.specs.declared.ids.Xid.{Xid}
 use Rattle.rb_base.specs.declared.sizes.TheConstants.{SLOTS}
 use Rattle.rb_model.specs.Book.{Book, Owner, is_full}
 use Rattle.rb_model.specs.Full.{full_block}
-use Rattle.rb_model.specs.Machine.{State, plain, owner_at}
-use Rattle.rb_model.specs.Reply.{rows_now}
+use Rattle.rb_model.specs.State.{State, owner_at}
+use Rattle.rb_model.specs.Calls.{rows_now}
 use Rattle.rb_model.specs.Rows.{has_row}
 use Rattle.rb_model.specs.Tests.{holder, full_slots}
 use Rattle.rb_segment.specs.Books.{next_is_full}
@@ -53,7 +53,7 @@ if_other s (Some u) = if u == s then None else Some u
 abbrev pub model_verdict : State → Book → ℕ → ℕ → ℕ → Bool → Verdict
 model_verdict h book s table key adds =
     first_wait (if_other s (holder h table key))
-    (tested adds (has_row table key (rows_now (plain h) s)) (full_block (plain h) table key)
+    (tested adds (has_row table key (rows_now h s)) (full_block h table key)
     (full_slots h s table key) (is_full book))
 
 abbrev pub is_key : ℕ → Option ℕ → Bool

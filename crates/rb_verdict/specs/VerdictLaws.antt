@@ -8,7 +8,7 @@ use Rattle.rb_heap.specs.Cleaning.{cleaned_home}
 use Rattle.rb_heap.specs.Homes.{home_of}
 use Rattle.rb_model.specs.Book.{Book, IsBegun, book_at, is_full, owners}
 use Rattle.rb_model.specs.BookLaws.{IsBookSound}
-use Rattle.rb_model.specs.Machine.{State}
+use Rattle.rb_model.specs.State.{State}
 use Rattle.rb_model.specs.Tests.{live_changes, made_since, owners_counted}
 use Rattle.rb_segment.specs.Books.{next_is_full}
 use Rattle.rb_segment.specs.Calls.{IsSince}

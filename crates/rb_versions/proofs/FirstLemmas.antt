@@ -9,14 +9,14 @@ use Rattle.rb_versions.specs.declared.change.RowChange.{RowChange}
 use Rattle.rb_versions.specs.declared.change.RowKind.{RowKind}
 use Rattle.rb_versions.specs.declared.change.RowKind.TheVariants.{Put, Gone}
 use Rattle.rb_versions.specs.declared.query.Query.{Query}
-use Rattle.rb_versions.specs.Changes.{changes_of, is_change_of, row_of, row_of_kind, is_put, makes_row}
+use Rattle.rb_versions.specs.Changes.{changes_of, row_of, row_of_kind, is_put, makes_row}
 use Rattle.rb_versions.specs.Next.{next_of, is_wanted, is_after}
 use Rattle.rb_versions.specs.Entries.{wants}
 use Rattle.rb_versions.specs.Index.{Precedes, IsFirstWanted}
 use Rattle.rb_model.proofs.Order.{key_trans, key_same, key_total, same_place, same_itself, row_before_in_table}
 use Rattle.rb_model.proofs.RowLemmas.{key_row, agree_in_rows, none_in_rows, first_in_rows, none_is_some, some_same}
 use Rattle.rb_versions.proofs.EntryLemmas.{wanted_table}
-use Rattle.rb_versions.proofs.RowLemmas.{rows_of, ordered-rows, row-newest, row-named}
+use Rattle.rb_versions.proofs.RowLemmas.{is_change_of, rows_of, ordered-rows, row-newest, row-named}
 
 same_key_before : (blocks x y z : ℕ) → y ≡ x → key_before blocks x z ≡ true → key_before blocks y z ≡ true
 same_key_before blocks x y z e h = rw e h

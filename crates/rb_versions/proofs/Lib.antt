@@ -3,9 +3,7 @@ pub mod EntryLemmas
 pub mod FirstLemmas
 pub mod FrontLemmas
 pub mod GivenLemmas
-pub mod HomeLemmas
 pub mod JoinLemmas
-pub mod NewestLemmas
 pub mod RowLemmas
 pub mod RunLemmas
 pub mod SortLemmas

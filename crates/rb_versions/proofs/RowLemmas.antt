@@ -1,13 +1,17 @@
 -- The rows that a list of changes makes: each is that of its key's newest change.
-use Rattle.std.proofs.Common.{◌≡◌, ℕ, zero, suc, ◌<◌, ◌≤◌, true, false, ◌&&◌, cond, ◌==◌, List, [], ◌∷◌, ◌++◌, length, take, get_or, None, Some, refl, ap, sym, ◌∙◌, ⊎_elim, arith, add-one}
+use Rattle.std.proofs.Common.{◌≡◌, ℕ, Bool, zero, suc, ◌<◌, ◌≤◌, true, false, ◌&&◌, cond, ◌==◌, List, [], ◌∷◌, ◌++◌, length, take, get_or, None, Some, refl, ap, sym, ◌∙◌, ⊎_elim, arith, add-one}
 use Rattle.std.proofs.lemmas.Bool.{cases_Bool, cond-true, cond-false, cases_eq}
 use Rattle.std.proofs.lemmas.List.{take_more}
 use Rattle.rb_model.specs.Rows.{TableRow, changed_by, over, InOrder}
 use Rattle.rb_versions.specs.declared.change.RowChange.{RowChange}
 use Rattle.rb_versions.specs.declared.change.RowKind.{RowKind}
 use Rattle.rb_versions.specs.declared.change.RowKind.TheVariants.{Put, Gone}
-use Rattle.rb_versions.specs.Changes.{changes_of, is_change_of, kind_of, row_of, row_of_kind}
+use Rattle.rb_versions.specs.Changes.{changes_of, kind_of, row_of, row_of_kind}
 use Rattle.rb_model.proofs.RowLemmas.{ordered-over, key_row, row-with_row, row-without_row, none_is_some}
+
+-- the change is of this key
+abbrev pub is_change_of : ℕ → ℕ → RowChange → Bool
+is_change_of table key p = p.table == table && p.key == key
 
 row-changed : (blocks table key t k : ℕ) (kind : RowKind) (rows : List TableRow) → key_row table key (changed_by blocks t k (kind_of kind) rows) ≡ cond (t == table && k == key) (row_of_kind t k kind) (key_row table key rows)
 row-changed blocks table key t k (Put value) rows = row-with_row blocks table key (record { table = t; key = k; value = value.items }) rows

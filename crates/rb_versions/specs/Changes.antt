@@ -1,5 +1,5 @@
 -- What the machine sees of the changes in memory.
-use Rattle.std.specs.Prelude.{ℕ, Bool, true, false, ◌&&◌, ◌==◌, List, map, Option, None, Some}
+use Rattle.std.specs.Prelude.{ℕ, Bool, true, false, List, map, Option, None, Some}
 use Rattle.std.proofs.Common.{Bor}
 use Rattle.rb_model.specs.Change.{Change, Kind}
 use Rattle.rb_model.specs.Change as model
@@ -17,10 +17,6 @@ change_of p = record { table = p.table; key = p.key; kind = kind_of p.kind; plac
 
 abbrev pub changes_of : List RowChange → List Change
 changes_of changes = map change_of changes
-
--- the change is of this key
-abbrev pub is_change_of : ℕ → ℕ → RowChange → Bool
-is_change_of table key p = p.table == table && p.key == key
 
 -- the row of this key and kind, where there is one
 abbrev pub row_of_kind : ℕ → ℕ → RowKind → Option TableRow

@@ -2,4 +2,3 @@ pub mod Changes
 pub mod Entries
 pub mod Next
 pub mod Index
-pub mod Homes

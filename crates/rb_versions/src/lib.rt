@@ -1,11 +1,10 @@
-//! The rows found at an opening and the changes made since, in memory, with an index in scan order. The engine's state
-//! keeps its changes here, and asks for rows and for full homes.
+//! The rows found at an opening and the changes made since, in memory, with an index in scan order. The engine's memory
+//! keeps its changes here, and asks for rows.
 #![tactic(auto)]
 
 mod change;
 mod entry;
 mod front;
-mod homes;
 mod index;
 mod query;
 mod run;

@@ -1,4 +1,4 @@
-//! The search in all runs of the index. `Versions` looks for rows and for changes of a key with it.
+//! The search in all runs of the index. `Versions` looks for rows with it.
 ghost use Rattle.std.specs.Prelude.{◌≡◌, ℕ, ◌-◌, ◌<◌, ◌≤◌, length, take, drop, IfSome};
 ghost use Rattle.rb_versions.specs.Index.{IsIndex, IsFirstWanted};
 

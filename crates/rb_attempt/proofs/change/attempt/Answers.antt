@@ -1,15 +1,15 @@
-use Rattle.std.proofs.Common.{◌≡◌, ◌+◌, ◌<◌, ℕ, List, [], ◌∷◌, length, true, false, Ok, Err, refl, ap, sym, subst, ◌∙◌, arith}
+use Rattle.std.proofs.Common.{◌≡◌, ◌+◌, ℕ, List, [], ◌∷◌, true, false, Ok, Err, refl, ap, sym, subst, ◌∙◌, arith}
+use Rattle.std.proofs.lemmas.Result.{err_from_is_err_and}
+use Rattle.rb_attempt.proofs.Causes.{logs_on}
 use Rattle.rb_attempt.specs.Making.{IsMade}
+use Rattle.rb_attempt.specs.declared.ask.AttemptFault.{AttemptFault}
+use Rattle.rb_base.specs.declared.ids.Xid.{Xid}
 use Rattle.rb_base.specs.Blocks.{after_group}
 use Rattle.rb_base.specs.Groups.{Patch}
-use Rattle.rb_base.specs.Logs.{Logs, apply_logs, group_of, more_logs}
+use Rattle.rb_base.specs.Logs.{Logs, apply_logs, more_logs}
+use Rattle.rb_cleanout.proofs.Grouped.{one_group}
 use Rattle.rb_standing.specs.Standing.{logged_of}
 use Rattle.rb_attempt.proofs.change.attempt.Goals as goal
-
--- a group that has a patch is one
-one_group : (patches : List Patch) → 0 < length patches → patches ∷ [] ≡ group_of patches
-one_group [] some = absurd (omega arith)
-one_group (p ∷ patches) some = refl
 
 pub returns-in-Ok-clause-logs : goal.returns-in-Ok-clause-logs
 returns-in-Ok-clause-logs g c =
@@ -19,7 +19,7 @@ returns-in-Ok-clause-logs g c =
     let new = c.apply.new.self in
     let group = c.prepare.new.group in
     let call = c.in-Ok.ensures in
-    let applied = apply_logs s mid new group (Ok c.in-Ok.field-0) call.shape call.slots call.failed call.counted call.lsn call.blocks call.pending call.stable call.crashes in (
+    let applied = apply_logs s mid new group (Ok c.in-Ok.field-0) call.shape call.slots call.failed call.counted call.lsn call.blocks call.settles call.any_moment in (
       group,
       subst (λ (l : List (List Patch)). Logs s old new l true) (one_group group c.in_ok-xid.ensures.some)
           (more_logs s old mid new [] (group ∷ []) true c.in_ok-xid.ensures.logs applied),
@@ -33,7 +33,7 @@ returns-in-Err-clause-logs g c =
     let new = c.apply.new.self in
     let group = c.prepare.new.group in
     let call = c.in-Err.ensures in
-    let applied = apply_logs s mid new group (Err c.in-Err.field-0) call.shape call.slots call.failed call.counted call.lsn call.blocks call.pending call.stable call.crashes in (
+    let applied = apply_logs s mid new group (Err c.in-Err.field-0) call.shape call.slots call.failed call.counted call.lsn call.blocks call.settles call.any_moment in (
       group,
       subst (λ (l : List (List Patch)). Logs s old new l false) (one_group group c.in_ok-xid.ensures.some)
           (more_logs s old mid new [] (group ∷ []) false c.in_ok-xid.ensures.logs applied),
@@ -52,3 +52,48 @@ returns-in-Ok-clause-written g c told number young =
     ∙ ap (λ (n : ℕ). after_group n group (s.blocks c.prepare.new.store)) last
     ∙ ap (after_group (logged_of shape blocks + 1) group) (logs.blocks told refl) in
     subst (λ (l : List (List ℕ)). IsMade shape blocks l c.args.ask.now c.in_ok-xid.xid) (sym now) (c.in_ok-xid.ensures.made told young)
+
+-- nothing was prepared, and no group is given
+pub returns-in_err-xid-clause-group : goal.returns-in_err-xid-clause-group
+returns-in_err-xid-clause-group g c told number young =
+    let s = g.S.Store in
+    let fault = c.in_err-xid.field-0.0 in
+    let p = err_from_is_err_and c.from_residual.result c.from_residual.ensures.1 in (
+      [],
+      logs_on s c.args.store.now c.prepare.new.store Xid Xid c.from_residual.result fault (p.1 ∙ ap (λ (f : AttemptFault). Err f) p.2) c.in_err-xid.ensures.logs,
+      λ some. absurd (omega (arith, some)),
+    )
+
+pub returns-in-Ok-clause-group : goal.returns-in-Ok-clause-group
+unfolding returns-in-Ok-clause-logs
+returns-in-Ok-clause-group g c told number young =
+    let s = g.S.Store in
+    let old = c.args.store.now in
+    let shape = s.shape_of old in
+    let blocks = s.blocks old in
+    let logs = returns-in-Ok-clause-logs g c in
+    let made = c.in_ok-xid.ensures in (
+      logs.0,
+      logs.1,
+      λ some. (
+        record { takes = made.takes told young; numbers = made.room.0; fits = made.kept told },
+        (c.in_ok-xid.xid, subst (λ (n : ℕ). IsMade shape blocks (after_group (n + 1) c.prepare.new.group blocks) c.args.ask.now c.in_ok-xid.xid) (sym number) (made.made told young)),
+      ),
+    )
+
+pub returns-in-Err-clause-group : goal.returns-in-Err-clause-group
+unfolding returns-in-Err-clause-logs
+returns-in-Err-clause-group g c told number young =
+    let s = g.S.Store in
+    let old = c.args.store.now in
+    let shape = s.shape_of old in
+    let blocks = s.blocks old in
+    let logs = returns-in-Err-clause-logs g c in
+    let made = c.in_ok-xid.ensures in (
+      logs.0,
+      logs.1,
+      λ some. (
+        record { takes = made.takes told young; numbers = made.room.0; fits = made.kept told },
+        (c.in_ok-xid.xid, subst (λ (n : ℕ). IsMade shape blocks (after_group (n + 1) c.prepare.new.group blocks) c.args.ask.now c.in_ok-xid.xid) (sym number) (made.made told young)),
+      ),
+    )

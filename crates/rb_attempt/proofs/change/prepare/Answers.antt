@@ -1,8 +1,8 @@
-use Rattle.std.proofs.Common.{◌≡◌, ◌+◌, ◌<◌, ◌≤◌, ◌^◌, ℕ, Bool, List, [], ◌++◌, true, if◌then◌else◌, Option, Result, Err, IfErr, refl, ap, sym, subst, ◌∙◌, arith}
+use Rattle.std.proofs.Common.{◌≡◌, ◌+◌, ◌<◌, ◌≤◌, ◌^◌, ℕ, Bool, List, [], ◌++◌, true, not, if◌then◌else◌, min, Option, Result, Err, IfErr, refl, ap, sym, subst, ◌∙◌, arith}
 use Rattle.std.specs.Prelude.{is_some}
 use Rattle.std.specs.List.{AllByRecursion}
 use Rattle.std.proofs.lemmas.Result.{err_from_is_err_and}
-use Rattle.rb_attempt.proofs.Causes.{both_ways, fails_same, log_refuses, takes_writer}
+use Rattle.rb_attempt.proofs.Causes.{both_ways, fails_same, log_refuses, logs_on, takes_writer}
 use Rattle.rb_attempt.proofs.Choices.{chain_short, choice_agrees, none_agrees}
 use Rattle.rb_attempt.proofs.Headers.{ready_is, turned_may, young_at}
 use Rattle.rb_attempt.proofs.Writers.{writer_there}
@@ -11,6 +11,7 @@ use Rattle.rb_attempt.specs.Asks.{adds_row, home_for, AreYoung, IsWriterOf}
 use Rattle.rb_attempt.specs.Making.{Changes}
 use Rattle.rb_attempt.specs.Refusals.{has_failed, HasCause, LogRefuses, Refuses, TakesWrite, TakesWriter}
 use Rattle.rb_attempt.specs.declared.ask.AttemptFault.{AttemptFault}
+use Rattle.rb_attempt.specs.declared.ask.AttemptFault.TheVariants.{RollbackFull}
 use Rattle.rb_attempt.specs.declared.home.Place.{Place}
 use Rattle.rb_base.proofs.Each.{all_so}
 use Rattle.rb_base.specs.Blocks.{block_of, header_block, home_block, shape_blocks, table_blocks, written_to, AreWithin}
@@ -32,7 +33,7 @@ use Rattle.rb_standing.specs.Standing.{env_of}
 use Rattle.rb_attempt.proofs.change.prepare.Goals as goal
 
 pub returns-in_err-cell-clause-cause : goal.returns-in_err-cell-clause-cause
-returns-in_err-cell-clause-cause g c told young going =
+returns-in_err-cell-clause-cause g c told young may going =
     let s = g.S.Store in
     let old = c.args.store.now in
     let shape = s.shape_of old in
@@ -44,9 +45,9 @@ returns-in_err-cell-clause-cause g c told young going =
     let number = c.home_block-block.ensures.number ∙ ap (λ (k : Shape). home_block k ask.table ask.key) same in
     let home : home_of c.clean_home.new.home ≡ home_for shape blocks ask = c.in_ok-clean_home.ensures.cleaned told young
     ∙ ap (λ (b : ℕ). cleaned_home (env_of shape blocks).look (home_of (block_of blocks b))) number in
-    let writer = writer_there shape blocks ask.own some (c.requires.may told) in
+    let writer = writer_there shape blocks ask.own some may in
     let logged = s.lsn old in
-    let room = room_of (s.slots old) logged in
+    let room = min (room_of (s.slots old) logged) ask.room in
     let kept : ℕ = owed_in shape blocks + (if is_some ask.own then 1 else 2) in
     let p = err_from_is_err_and c.from_residual-in_err-cell.result c.from_residual-in_err-cell.ensures.1 in
     let is : c.from_residual-in_err-cell.result ≡ Err fault = p.1 ∙ ap (λ (f : AttemptFault). Err f) p.2 in
@@ -58,7 +59,7 @@ returns-in_err-cell-clause-cause g c told young going =
     )
 
 pub returns-in_default-clause-cause : goal.returns-in_default-clause-cause
-returns-in_default-clause-cause g c told young going =
+returns-in_default-clause-cause g c told young may going =
     let s = g.S.Store in
     let old = c.args.store.now in
     let mid = c.clean_home.new.store in
@@ -82,7 +83,7 @@ returns-in_default-clause-cause g c told young going =
     )
 
 pub returns-in_err-put_change-clause-cause : goal.returns-in_err-put_change-clause-cause
-returns-in_err-put_change-clause-cause g c told young going =
+returns-in_err-put_change-clause-cause g c told young may going =
     let s = g.S.Store in
     let old = c.args.store.now in
     let mid = c.clean_home.new.store in
@@ -104,7 +105,7 @@ returns-in_err-put_change-clause-cause g c told young going =
     let fault = c.in_err-put_change.field-0.0 in
     let full = c.in_err-put_change.ensures.full in
     let logged = s.lsn old in
-    let room = room_of (s.slots old) logged in
+    let room = min (room_of (s.slots old) logged) ask.room in
     let kept : ℕ = owed_in shape blocks + (if is_some ask.own then 1 else 2) in
     let p = err_from_is_err_and c.from_residual-in_err-put_change.result c.from_residual-in_err-put_change.ensures.1 in
     let is : c.from_residual-in_err-put_change.result ≡ Err fault = p.1 ∙ ap (λ (f : AttemptFault). Err f) p.2 in
@@ -116,7 +117,7 @@ returns-in_err-put_change-clause-cause g c told young going =
     )
 
 pub returns-in_err-check_room-clause-cause : goal.returns-in_err-check_room-clause-cause
-returns-in_err-check_room-clause-cause g c told young going =
+returns-in_err-check_room-clause-cause g c told young may going =
     let s = g.S.Store in
     let old = c.args.store.now in
     let mid = c.clean_home.new.store in
@@ -149,16 +150,16 @@ returns-in_err-check_room-clause-cause g c told young going =
     let made = c.in_ok-put_change.ensures.made young_ready chain in
     let turns = turned_may (header_block c.shape-shape.result x.seg) ready made.recorded.room made.recorded.before made.recorded.has_turned in
     let logged = s.lsn old in
-    let room = room_of (s.slots old) logged in
+    let room = min (room_of (s.slots old) logged) ask.room in
     let kept : ℕ = owed_in shape blocks + (if is_some ask.own then 1 else 2) in
     let same_lsn : s.lsn late ≡ logged = omega (arith, logs_late.number refl) in
-    let same_room : room_of (s.slots late) (s.lsn late) ≡ room = ap (λ (o : Option ℕ). room_of o (s.lsn late)) logs_late.same_slots ∙ ap (room_of (s.slots old)) same_lsn in
+    let same_room : min (room_of (s.slots late) (s.lsn late)) ask.room ≡ room = ap (λ (o : Option ℕ). min (room_of o (s.lsn late)) ask.room) logs_late.same_slots ∙ ap (λ (n : ℕ). min (room_of (s.slots old) n) ask.room) same_lsn in
     let owed = ap (λ (k : Shape). owed_in k (s.blocks late)) logs_late.same_shape ∙ ap (owed_in shape) (logs_late.blocks told refl) in
     let same_kept : owed_in (s.shape_of late) (s.blocks late) + (if c.is_some.result then 1 else 2) ≡ kept = ap (λ (n : ℕ). n + (if c.is_some.result then 1 else 2)) owed
     ∙ ap (λ (b : Bool). owed_in shape blocks + (if b then 1 else 2)) c.is_some.ensures in
     let log = subst (λ (n : ℕ). LogRefuses fault n room kept) same_lsn
     (subst (λ (n : ℕ). LogRefuses fault (s.lsn late) n kept) same_room
-    (subst (LogRefuses fault (s.lsn late) (room_of (s.slots late) (s.lsn late))) same_kept
+    (subst (LogRefuses fault (s.lsn late) (min (room_of (s.slots late) (s.lsn late)) ask.room)) same_kept
     (c.in_err-check_room.ensures.refused told (fails_same (Unit {0}) Xid fault ∙ ap (λ (r : Result Xid AttemptFault). has_failed r) (sym is) ∙ going)))) in
     subst (λ (r : Result Xid AttemptFault). IfErr r (HasCause shape blocks ask logged room)) (sym is) (
       x,
@@ -240,7 +241,7 @@ returns-clause-made g c told young =
       takes = subst (λ (k : Shape). AllByRecursion (λ (q : Patch). q.block ≡ header_block k x.seg) taking.0) same_shape taking.2;
       taken = both_ways (λ (k : Shape) (l : List (List ℕ)). c.writer.new.header ≡ written_to (header_block k x.seg) taking.0 (block_of l (header_block k x.seg))) (s.shape_of mid) shape (s.blocks mid) blocks same_shape same_blocks (taking.3 told);
       runs = c.in_ok-xid.ensures.runs;
-      ready = ready_is shape blocks x ready seg ask.own (c.requires.may told) writer;
+      ready = ready_is shape blocks x ready seg ask.own c.in_ok-xid.ensures.runs writer;
       young = young_ready;
       header2 = c.put_change.new.header;
       changes = subst (λ (k : Shape). Changes k ask x place copy c.writer.new.header c.put_change.new.header (c.clean_home.new.group ++ taking.0) group) same
@@ -263,3 +264,42 @@ returns-clause-takes g c told young =
     let home : home_of copy ≡ home_for shape blocks ask = c.in_ok-clean_home.ensures.cleaned told young
     ∙ ap (λ (b : ℕ). cleaned_home (env_of shape blocks).look (home_of (block_of blocks b))) number in
     subst (λ (h : Home). TakesWrite h (adds_row ask.op) ask.key) home c.in_ok-cell.ensures.takes
+
+pub returns-in_err-xid-clause-logs : goal.returns-in_err-xid-clause-logs
+returns-in_err-xid-clause-logs g c =
+    let s = g.S.Store in
+    let old = c.args.store.now in
+    let fault = c.in_err-xid.field-0.0 in
+    let p = err_from_is_err_and c.from_residual-in_err-xid.result c.from_residual-in_err-xid.ensures.1 in
+    logs_on s old c.writer.new.store Xid Xid c.from_residual-in_err-xid.result fault (p.1 ∙ ap (λ (f : AttemptFault). Err f) p.2)
+    (more_logs s old c.clean_home.new.store c.writer.new.store [] [] (not (has_failed {T = Xid} (Err fault))) c.in_ok-clean_home.ensures.logs c.in_err-xid.ensures.logs)
+
+pub returns-in_err-check_room-clause-logs : goal.returns-in_err-check_room-clause-logs
+returns-in_err-check_room-clause-logs g c =
+    let s = g.S.Store in
+    let old = c.args.store.now in
+    let fault = c.in_err-check_room.field-0.0 in
+    let p = err_from_is_err_and c.from_residual-in_err-check_room.result c.from_residual-in_err-check_room.ensures.1 in
+    logs_on s old c.check_room.new.store Xid (Unit {0}) c.from_residual-in_err-check_room.result fault (p.1 ∙ ap (λ (f : AttemptFault). Err f) p.2)
+    (more_logs s old c.writer.new.store c.check_room.new.store [] [] (not (has_failed {T = Unit {0}} (Err fault))) (more_logs s old c.clean_home.new.store c.writer.new.store [] [] true c.in_ok-clean_home.ensures.logs c.in_ok-xid.ensures.logs) c.in_err-check_room.ensures.logs)
+
+-- the segment has no room
+pub returns-in_err-put_change-clause-logs : goal.returns-in_err-put_change-clause-logs
+returns-in_err-put_change-clause-logs g c =
+    let s = g.S.Store in
+    let old = c.args.store.now in
+    let full = c.in_err-put_change.ensures.full in
+    let p = err_from_is_err_and c.from_residual-in_err-put_change.result c.from_residual-in_err-put_change.ensures.1 in
+    logs_on s old c.writer.new.store Xid Xid c.from_residual-in_err-put_change.result (RollbackFull c.in_ok-xid.xid.seg full.0) (p.1 ∙ ap (λ (f : AttemptFault). Err f) (p.2 ∙ full.1))
+    (more_logs s old c.clean_home.new.store c.writer.new.store [] [] true c.in_ok-clean_home.ensures.logs c.in_ok-xid.ensures.logs)
+
+pub returns-in_default-clause-logs : goal.returns-in_default-clause-logs
+returns-in_default-clause-logs g c = more_logs g.S.Store c.args.store.now c.clean_home.new.store c.writer.new.store [] [] true c.in_ok-clean_home.ensures.logs c.in_ok-xid.ensures.logs
+
+pub returns-clause-logs : goal.returns-clause-logs
+returns-clause-logs g c =
+    let s = g.S.Store in
+    let old = c.args.store.now in
+    more_logs s old c.writer.new.store c.check_room.new.store [] [] true
+    (more_logs s old c.clean_home.new.store c.writer.new.store [] [] true c.in_ok-clean_home.ensures.logs c.in_ok-xid.ensures.logs)
+    c.in_ok-check_room.ensures.logs

@@ -1,10 +1,14 @@
-use Rattle.std.proofs.Common.{◌≡◌, ◌≤◌, ℕ, List, [], true, refl, ap, subst, ◌∙◌, arith}
+use Rattle.std.proofs.Common.{◌≡◌, ◌≤◌, ℕ, List, [], true, false, refl, ap, subst, ◌∙◌, arith}
 use Rattle.rb_base.specs.Blocks.{block_of, header_block}
 use Rattle.rb_base.specs.Logs.{more_logs}
 use Rattle.rb_base.specs.declared.shape.Shape.{Shape}
 use Rattle.rb_attempt.proofs.Writers.{active_few, fewest_of, less, no_less, run_in, IsSoFar}
 use Rattle.rb_attempt.proofs.segment.fewest.Goals as goal
 use Rattle.rb_attempt.proofs.segment.fewest.Goals.{then-count-least, else-count-least}
+
+pub returns-in_err-count-clause-logs : goal.returns-in_err-count-clause-logs
+returns-in_err-count-clause-logs g c =
+    rw c.from_residual.ensures.0 (more_logs g.S.Store c.args.store.now c.loop-g.store c.active_in.new.store [] [] false c.loop-g.invariant.logs c.in_err-count.ensures.logs)
 
 pub loop-g-preserved : goal.loop-g-preserved
 loop-g-preserved g c =

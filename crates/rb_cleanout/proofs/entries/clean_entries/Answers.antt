@@ -1,4 +1,4 @@
-use Rattle.std.proofs.Common.{◌+◌, ◌*◌, [], true, arith, ◌∙◌}
+use Rattle.std.proofs.Common.{◌+◌, ◌*◌, [], true, false, arith, ◌∙◌}
 use Rattle.std.proofs.lemmas.List.{length-set}
 use Rattle.rb_base.specs.Logs.{more_logs}
 use Rattle.rb_cleanout.proofs.Cleaning.{next_seen}
@@ -13,6 +13,10 @@ returns-in_err-cleaned-clause-made g c =
     let i = c.loop-i.i in
     let call = c.clean_entry.new in
     more_cleans c.args.no c.args.copy.now c.loop-i.copy call.copy c.args.group.now c.loop-i.group call.group i (i * 56) 1 56 8 448 c.loop-i.invariant.made c.clean_entry.ensures.made (omega arith) (omega arith)
+
+pub returns-in_err-cleaned-clause-logs : goal.returns-in_err-cleaned-clause-logs
+returns-in_err-cleaned-clause-logs g c =
+    rw c.from_residual.ensures.0 (more_logs g.S.Store c.args.store.now c.loop-i.store c.clean_entry.new.store [] [] false c.loop-i.invariant.logs c.in_err-cleaned.ensures.logs)
 
 pub loop-i-preserved : goal.loop-i-preserved
 loop-i-preserved g c =

@@ -1,4 +1,4 @@
-use Rattle.std.proofs.Common.{◌<◌, ◌+◌, ◌*◌, ◌^◌, inl, inr, ℕ, true, sym, subst, arith}
+use Rattle.std.proofs.Common.{◌<◌, ◌+◌, ◌*◌, ◌^◌, inl, inr, ◌≡◌, ℕ, true, false, sym, subst, arith}
 use Rattle.std.proofs.lemmas.Bool.{cases_eq}
 use Rattle.rb_base.specs.Logs.{no_logs}
 use Rattle.rb_restart.specs.Steps.{IsIdle}
@@ -11,6 +11,16 @@ loop-i-init g c =
     record {
       rolls = none_rolls g.S.Store c.args.shape old old 0 true (λ now. (j : ℕ) → j < 0 → IsIdle c.args.shape now (16 * c.args.seg + j)) (no_logs g.S.Store old c.requires.going) (λ told goes number rows may same j lt. absurd (omega (arith, lt)));
     }
+
+pub returns-in_err-roll_back_slot : goal.returns-in_err-roll_back_slot
+returns-in_err-roll_back_slot g c =
+    let i = c.loop-i.i in
+    let shape = c.args.shape in
+    rw c.from_residual.ensures.0
+    (rolls_joined g.S.Store shape c.args.store.now c.loop-i.store c.roll_back_slot.new.store (i * 2 ^ 32) (2 ^ 32) (2 ^ 36) false
+    (λ now. (j : ℕ) → j < i → IsIdle shape now (16 * c.args.seg + j)) (λ now. IsIdle shape now (16 * c.args.seg + i)) (λ now. (j : ℕ) → j < 16 → IsIdle shape now (16 * c.args.seg + j))
+    (omega (arith, c.loop-i-test.true)) c.loop-i.invariant.rolls c.in_err-roll_back_slot.ensures
+    (λ told goes number rows may idle first second. let clash : false ≡ true = goes in absurd cc))
 
 pub loop-i-preserved : goal.loop-i-preserved
 loop-i-preserved g c =

@@ -1,4 +1,4 @@
-use Rattle.std.proofs.Common.{rules, ◌+◌, ◌*◌, ◌^◌, [], true, not, Ok, Err, refl, ◌∙◌, ap, arith}
+use Rattle.std.proofs.Common.{rules, ◌+◌, ◌*◌, ◌^◌, ◌≡◌, true, false, not, Ok, Err, refl, ◌∙◌, ap, arith}
 use Rattle.std.specs.Result.{is_err}
 use Rattle.rb_base.specs.Blocks.{block_of, header_block}
 use Rattle.rb_base.specs.Logs.{load_logs}
@@ -11,9 +11,10 @@ use Rattle.rb_restart.proofs.rollback.roll_back_slot.Goals as goal
 
 pub returns-in_err-load : goal.returns-in_err-load
 returns-in_err-load g c =
+    let load = c.in_err-load.ensures in
     rw c.from_residual.ensures.0
-    (fault_rolls g.S.Store c.args.shape c.args.store.now c.load.new.self [] (2 ^ 32) (λ now. IsIdle c.args.shape now (16 * c.args.seg + c.args.i))
-    (load_logs g.S.Store c.args.store.now c.load.new.self (Err c.in_err-load.field-0.0) c.in_err-load.ensures.only_loads c.in_err-load.ensures.failed c.in_err-load.ensures.counted))
+    (fault_rolls g.S.Store c.args.shape c.args.store.now c.load.new.self (2 ^ 32) (λ now. IsIdle c.args.shape now (16 * c.args.seg + c.args.i))
+    (load_logs g.S.Store c.args.store.now c.load.new.self (Err c.in_err-load.field-0.0) load.shape load.slots load.failed load.counted load.lsn load.blocks load.settles load.any_moment))
 
 pub returns-then-slot-ne-ACTIVE : goal.returns-then-slot-ne-ACTIVE
 returns-then-slot-ne-ACTIVE g c =
@@ -22,17 +23,27 @@ returns-then-slot-ne-ACTIVE g c =
     let mid = c.load.new.self in
     let shape = c.args.shape in
     let x : Xid = record { seg = c.args.seg; slot = c.args.i; wrap = 0 } in
-    let loads = c.in_ok-load.ensures.only_loads in
-    none_rolls s shape old mid (2 ^ 32) true (λ now. IsIdle shape now (16 * c.args.seg + c.args.i)) (load_logs s old mid (Ok c.in_ok-load.field-0) loads c.in_ok-load.ensures.failed c.in_ok-load.ensures.counted)
+    let load = c.in_ok-load.ensures in
+    none_rolls s shape old mid (2 ^ 32) true (λ now. IsIdle shape now (16 * c.args.seg + c.args.i)) (load_logs s old mid (Ok c.in_ok-load.field-0) load.shape load.slots load.failed load.counted load.lsn load.blocks load.settles load.any_moment)
     (λ told goes number rows may same.
-    let read = block_read s old mid c.header_block.result (header_block shape x.seg) c.block.result.now told loads c.block.ensures.block c.in_ok-load.ensures.loaded c.header_block.ensures.number in
+    let read = block_read s old mid c.header_block.result (header_block shape x.seg) c.block.result.now told (load.blocks told) c.block.ensures.block load.loaded c.header_block.ensures.number in
     idle_read shape (s.blocks old) x c.slot_at-slot.result c.block.result.now c.requires.slot read c.slot_at-slot.ensures c.if-slot-ne-ACTIVE.true)
 
-pub roll_back-requires-clause-live : goal.roll_back-requires-clause-live
-roll_back-requires-clause-live g c = λ told.
+-- the put back of its changes failed
+pub returns-in_err-roll_back : goal.returns-in_err-roll_back
+returns-in_err-roll_back g c =
+    let s = g.S.Store in
+    let old = c.args.store.now in
+    let loaded = c.load.new.self in
+    let shape = c.args.shape in
     let x : Xid = record { seg = c.args.seg; slot = c.args.i; wrap = c.slot_at-slot.result.wrap } in
-    let read = c.block.ensures.block told c.header_block.result c.in_ok-load.ensures.loaded ∙ ap (block_of (g.S.Store.blocks c.load.new.self)) c.header_block.ensures.number in
-    live_read c.args.shape (g.S.Store.blocks c.load.new.self) x c.slot_at-slot.result c.block.result.now c.requires.slot read c.slot_at-slot.ensures c.if-slot-ne-ACTIVE.false refl
+    let load = c.in_ok-load.ensures in
+    let logs = load_logs s old loaded (Ok c.in_ok-load.field-0) load.shape load.slots load.failed load.counted load.lsn load.blocks load.settles load.any_moment in
+    let first : Rolls s shape old loaded 0 true (λ now. Unit {0}) = none_rolls s shape old loaded 0 true (λ now. Unit {0}) logs (λ told goes number rows may same. tt) in
+    let live = c.slot_at-slot.result.live in
+    rw c.from_residual-in_err-roll_back.ensures.0
+    (rolls_joined s shape old loaded c.roll_back.new.store 0 live (2 ^ 32) false (λ now. Unit {0}) (λ now. HasLive shape (s.blocks loaded) x live → HasLive shape now x 0) (λ now. IsIdle shape now (16 * c.args.seg + c.args.i)) (search rules) first c.in_err-roll_back.ensures
+    (λ told goes number rows may idle first second. let clash : false ≡ true = goes in absurd cc))
 
 pub returns : goal.returns
 returns g c =
@@ -43,8 +54,11 @@ returns g c =
     let new = c.end_slot.new.store in
     let shape = c.args.shape in
     let x : Xid = record { seg = c.args.seg; slot = c.args.i; wrap = c.slot_at-slot.result.wrap } in
-    let logs = load_logs s old loaded (Ok c.in_ok-load.field-0) c.in_ok-load.ensures.only_loads c.in_ok-load.ensures.failed c.in_ok-load.ensures.counted in
-    let load : Rolls s shape old loaded 0 true (λ now. Unit {0}) = none_rolls s shape old loaded 0 true (λ now. Unit {0}) logs (λ told goes number rows may same. tt) in
+    let load = c.in_ok-load.ensures in
+    let logs = load_logs s old loaded (Ok c.in_ok-load.field-0) load.shape load.slots load.failed load.counted load.lsn load.blocks load.settles load.any_moment in
+    let first : Rolls s shape old loaded 0 true (λ now. Unit {0}) = none_rolls s shape old loaded 0 true (λ now. Unit {0}) logs (λ told goes number rows may same. tt) in
     let live = c.slot_at-slot.result.live in
-    let back : Rolls s shape old mid live true (λ now. HasLive shape now x 0) = rolls_joined s shape old loaded mid 0 live live true (λ now. Unit {0}) (λ now. HasLive shape now x 0) (λ now. HasLive shape now x 0) (omega arith) load c.in_ok-roll_back.ensures (λ told goes number rows may idle first second. second) in
+    let back : Rolls s shape old mid live true (λ now. HasLive shape now x 0) = rolls_joined s shape old loaded mid 0 live live true (λ now. Unit {0}) (λ now. HasLive shape (s.blocks loaded) x live → HasLive shape now x 0) (λ now. HasLive shape now x 0) (omega arith) first c.in_ok-roll_back.ensures (λ told goes number rows may idle first second.
+    let read = c.block.ensures.block told c.header_block.result load.loaded ∙ ap (block_of (s.blocks loaded)) c.header_block.ensures.number in
+    second (live_read shape (s.blocks loaded) x c.slot_at-slot.result c.block.result.now c.requires.slot read c.slot_at-slot.ensures c.if-slot-ne-ACTIVE.false refl)) in
     rolls_joined s shape old mid new live 1 (2 ^ 32) (not (is_err c.end_slot.result)) (λ now. HasLive shape now x 0) (Ends s shape x mid new) (λ now. IsIdle shape now (16 * c.args.seg + c.args.i)) (search rules) back c.end_slot.ensures (λ told goes number rows may idle first second. second first)

@@ -1,4 +1,4 @@
-use Rattle.rb_model.specs.Reply.{Delete}
+use Rattle.rb_model.specs.Calls.{Delete}
 use Rattle.rb_model.specs.Lines.{WriteLine, Id}
 use Rattle.rb_script.proofs.Spaced.{if_none}
 use Rattle.rb_script.specs.Words.{IdKind, KeyKind}

@@ -4,4 +4,4 @@ use Rattle.rb_script.proofs.grammar.parse.Goals as goal
 
 pub returns-clause-none : goal.returns-clause-none
 returns-clause-none c =
-    no_command c.args.line.now c.in_ok-word.word.now c.in_ok-word.fields.now c.in_ok-word.ensures.found.0 c.in_ok-word.ensures.found.1 (λ w e. grind arith)
+    no_command c.args.line.now c.in-Some.word.now c.in-Some.fields.now c.in-Some.ensures.found.0 c.in-Some.ensures.found.1 (λ w e. grind arith)

@@ -1,4 +1,4 @@
-use Rattle.std.proofs.Common.{◌≡◌, ◌+◌, ◌*◌, ◌^◌, ◌≤◌, ℕ, ap, sym, ◌∙◌, arith}
+use Rattle.std.proofs.Common.{ℕ, ap, sym, ◌∙◌, arith}
 use Rattle.rb_segment.proofs.Parts.{slot_read}
 use Rattle.rb_segment.proofs.SlotSums.{sum_next}
 use Rattle.rb_segment.specs.Header.{header_of, slot_in, slot_owed}

@@ -1,4 +1,4 @@
-use Rattle.std.proofs.Common.{◌≡◌, ◌+◌, ◌*◌, ◌/◌, ◌%◌, ◌^◌, ◌<◌, ◌≤◌, ℕ, List, [], true, refl, ap, sym, ◌∙◌, arith}
+use Rattle.std.proofs.Common.{◌≡◌, ◌+◌, ◌*◌, ◌/◌, ◌%◌, ◌<◌, ℕ, List, [], true, false, refl, ap, ◌∙◌, arith}
 use Rattle.std.specs.List.{range_with_len, sum_by}
 use Rattle.rb_base.specs.Blocks.{block_of, header_block}
 use Rattle.rb_base.specs.Logs.{more_logs}
@@ -35,6 +35,10 @@ loop-g-preserved g c =
           ∙ ap (λ (k : Shape). sum_by (owes k blocks c.loop-g.g) (range_with_len 0 16)) c.shape-shape.ensures.shape);
       few = omega (arith, so_far.few, call.few);
     }
+
+pub returns-in_err-owed-clause-logs : goal.returns-in_err-owed-clause-logs
+returns-in_err-owed-clause-logs g c =
+    rw c.from_residual.ensures.0 (more_logs g.S.Store c.args.store.now c.loop-g.store c.segment_owed.new.store [] [] false c.loop-g.invariant.logs c.in_err-owed.ensures.logs)
 
 pub returns-clause-sum : goal.returns-clause-sum
 unfolding owed_in

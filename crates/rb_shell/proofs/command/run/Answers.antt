@@ -75,8 +75,8 @@ returns-in-Some-Format-clause-untouched g c = λ disk n asked is. absurd (no_run
 pub returns-in-Some-Format-clause-not_a_store : goal.returns-in-Some-Format-clause-not_a_store
 returns-in-Some-Format-clause-not_a_store g c = λ disk is. absurd (rw is at c.run_format.ensures.ends)
 
-pub returns-in-Some-Format-clause-sound : goal.returns-in-Some-Format-clause-sound
-returns-in-Some-Format-clause-sound g c = λ disk n asked is. absurd (no_run g c n asked)
+pub returns-in-Some-Format-clause-store : goal.returns-in-Some-Format-clause-store
+returns-in-Some-Format-clause-store g c = λ disk n asked is. absurd (no_run g c n asked)
 
 pub returns-in-Some-Format-clause-complete_format : goal.returns-in-Some-Format-clause-complete_format
 returns-in-Some-Format-clause-complete_format g c = λ told l asked empty same.
@@ -119,7 +119,7 @@ pub returns-in-Some-Run-clause-format_sink : goal.returns-in-Some-Run-clause-for
 returns-in-Some-Run-clause-format_sink g c = λ none. absurd (none c.in-Some-Run.field-0-0 (rw c.in-Some-Run.field-0-is at c.in-Some-Run.ensures.found))
 
 pub returns-in-Some-Run-clause-replies : goal.returns-in-Some-Run-clause-replies
-returns-in-Some-Run-clause-replies g c = λ disk told n asked is. c.run_script.ensures.done disk told is
+returns-in-Some-Run-clause-replies g c = λ disk told n asked is sound. c.run_script.ensures.done disk told is sound
 
 pub returns-in-Some-Run-clause-at_end : goal.returns-in-Some-Run-clause-at_end
 returns-in-Some-Run-clause-at_end g c = λ told n asked is. c.run_script.ensures.at_end told is
@@ -128,13 +128,13 @@ pub returns-in-Some-Run-clause-few : goal.returns-in-Some-Run-clause-few
 returns-in-Some-Run-clause-few g c = λ told n asked is. c.run_script.ensures.few told is
 
 pub returns-in-Some-Run-clause-source_done : goal.returns-in-Some-Run-clause-source_done
-returns-in-Some-Run-clause-source_done g c = λ disk told is. c.run_script.ensures.source_done disk told is
+returns-in-Some-Run-clause-source_done g c = λ disk told is sound. c.run_script.ensures.source_done disk told is sound
 
 pub returns-in-Some-Run-clause-too_long : goal.returns-in-Some-Run-clause-too_long
-returns-in-Some-Run-clause-too_long g c = λ disk told is. c.run_script.ensures.too_long disk told is
+returns-in-Some-Run-clause-too_long g c = λ disk told is sound. c.run_script.ensures.too_long disk told is sound
 
 pub returns-in-Some-Run-clause-cut_off : goal.returns-in-Some-Run-clause-cut_off
-returns-in-Some-Run-clause-cut_off g c = λ disk told tells is. c.run_script.ensures.cut_off disk told tells is
+returns-in-Some-Run-clause-cut_off g c = λ disk told tells is sound. c.run_script.ensures.cut_off disk told tells is sound
 
 pub returns-in-Some-Run-clause-source_same : goal.returns-in-Some-Run-clause-source_same
 returns-in-Some-Run-clause-source_same g c = λ is. c.run_script.ensures.source_same is
@@ -151,8 +151,8 @@ returns-in-Some-Run-clause-disk_done g c = λ disk told n asked is. c.run_script
 pub returns-in-Some-Run-clause-untouched : goal.returns-in-Some-Run-clause-untouched
 returns-in-Some-Run-clause-untouched g c = λ disk n asked is. c.run_script.ensures.untouched disk is
 
-pub returns-in-Some-Run-clause-sound : goal.returns-in-Some-Run-clause-sound
-returns-in-Some-Run-clause-sound g c = λ disk n asked is. c.run_script.ensures.sound disk is
+pub returns-in-Some-Run-clause-store : goal.returns-in-Some-Run-clause-store
+returns-in-Some-Run-clause-store g c = λ disk n asked is. c.run_script.ensures.store disk is
 
 pub returns-in-Some-Run-clause-complete_format : goal.returns-in-Some-Run-clause-complete_format
 returns-in-Some-Run-clause-complete_format g c = λ told l asked some same. absurd (no_format g c l asked)
@@ -162,8 +162,8 @@ returns-in-Some-Run-clause-complete g c = λ disk told n asked sound few same_so
     (λ is. same_source (c.run_script.ensures.source.cause (ap by_source is)))
     (λ is. same_disk (c.run_script.ensures.disk.cause (ap by_disk is)))
     (λ is. same_sink (c.run_script.ensures.sink.cause (ap by_sink is)))
-    (λ is. c.run_script.ensures.not_a_store disk is sound)
-    (λ is. let all = c.run_script.ensures.too_long disk told is in not_longer all.0 _ _ all.2 all.1 few)
+    (λ is. c.run_script.ensures.not_a_store disk is sound.store)
+    (λ is. let all = c.run_script.ensures.too_long disk told is sound in not_longer all.0 _ _ all.2 all.1 few)
 
 pub returns-in-None-clause-usage : goal.returns-in-None-clause-usage
 returns-in-None-clause-usage g c = (λ is. (λ l asked. c.in-None.ensures.none (Format l) asked, λ n asked. c.in-None.ensures.none (Run n) asked), λ none. refl)

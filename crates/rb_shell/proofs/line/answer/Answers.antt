@@ -1,50 +1,95 @@
-use Rattle.std.proofs.Common.{sym, subst}
+use Rattle.std.proofs.Common.{sym, subst, None, Some}
 use Rattle.rb_engine.specs.Does.{Does}
 use Rattle.rb_model.specs.Answers.{answer_of}
-use Rattle.rb_model.specs.Lines.{call_of}
-use Rattle.rb_model.specs.Reply.{Answer}
+use Rattle.rb_model.specs.Calls.{Answer}
+use Rattle.rb_model.specs.Lines.{call_of, caller}
 use Rattle.rb_script.specs.Commands.{command_of}
 use Rattle.rb_script.specs.declared.command.Command.{Command}
 use Rattle.rb_script.specs.declared.command.Command.TheVariants as commands
+use Rattle.rb_shell.specs.Steps.{FitsCaller}
 use Rattle.rb_shell.proofs.StatusLemmas.{counted_as}
 use Rattle.rb_shell.proofs.line.answer.Goals as goal
 
 pub returns-in-Write-clause-did : goal.returns-in-Write-clause-did
 returns-in-Write-clause-did g c = λ h st.
-    subst (λ (command : Command). Does g.T.Store h (call_of (command_of command)) (answer_of c.answer_to_write.result c.args.row.now) c.args.engine.now c.write.new.self) (sym c.in-Write.is)
-    (subst (λ (r : Answer). Does g.T.Store h (call_of (command_of (commands.Write c.in-Write.s c.in-Write.t c.in-Write.k c.in-Write.op))) r c.args.engine.now c.write.new.self) (sym (c.answer_to_write.ensures.answer c.args.row.now)) (c.write.ensures.did h st))
+    subst (λ (command : Command). Does g.T.Store h (call_of (command_of command) c.args.k) (answer_of c.answer_to_write.result c.args.row.now) c.args.engine.now c.write.new.self) (sym c.in-Write.is)
+    (subst (λ (r : Answer). Does g.T.Store h (call_of (command_of (commands.Write c.in-Write.s c.in-Write.t c.in-Write.k c.in-Write.op)) c.args.k) r c.args.engine.now c.write.new.self) (sym (c.answer_to_write.ensures.answer c.args.row.now)) (c.write.ensures.did h st))
 
 pub returns-in-Write-clause-disk : goal.returns-in-Write-clause-disk
 returns-in-Write-clause-disk g c = counted_as _ _ _ _ (sym (c.answer_to_write.ensures.fault c.args.row.now)) c.write.ensures.disk
 
+pub returns-in-Write-clause-fits : goal.returns-in-Write-clause-fits
+returns-in-Write-clause-fits g c = subst (λ (command : Command). FitsCaller (caller (command_of command)) c.answer_to_write.result) (sym c.in-Write.is) (c.answer_to_write.ensures.fits c.in-Write.s)
+
 pub returns-in-Commit-clause-did : goal.returns-in-Commit-clause-did
 returns-in-Commit-clause-did g c = λ h st.
-    subst (λ (command : Command). Does g.T.Store h (call_of (command_of command)) (answer_of c.answer_to_commit.result c.args.row.now) c.args.engine.now c.commit.new.self) (sym c.in-Commit.is)
-    (subst (λ (r : Answer). Does g.T.Store h (call_of (command_of (commands.Commit c.in-Commit.s))) r c.args.engine.now c.commit.new.self) (sym (c.answer_to_commit.ensures.answer c.args.row.now)) (c.commit.ensures.did h st))
+    subst (λ (command : Command). Does g.T.Store h (call_of (command_of command) c.args.k) (answer_of c.answer_to_commit.result c.args.row.now) c.args.engine.now c.commit.new.self) (sym c.in-Commit.is)
+    (subst (λ (r : Answer). Does g.T.Store h (call_of (command_of (commands.Commit c.in-Commit.s)) c.args.k) r c.args.engine.now c.commit.new.self) (sym (c.answer_to_commit.ensures.answer c.args.row.now)) (c.commit.ensures.did h st))
 
 pub returns-in-Commit-clause-disk : goal.returns-in-Commit-clause-disk
 returns-in-Commit-clause-disk g c = counted_as _ _ _ _ (sym (c.answer_to_commit.ensures.fault c.args.row.now)) c.commit.ensures.disk
 
+pub returns-in-Commit-clause-fits : goal.returns-in-Commit-clause-fits
+returns-in-Commit-clause-fits g c = subst (λ (command : Command). FitsCaller (caller (command_of command)) c.answer_to_commit.result) (sym c.in-Commit.is) (c.answer_to_commit.ensures.fits c.in-Commit.s)
+
+pub returns-in-Rollback-clause-did : goal.returns-in-Rollback-clause-did
+returns-in-Rollback-clause-did g c = λ h st.
+    subst (λ (command : Command). Does g.T.Store h (call_of (command_of command) c.args.k) (answer_of c.answer_to_call.result c.args.row.now) c.args.engine.now c.rollback.new.self) (sym c.in-Rollback.is)
+    (subst (λ (r : Answer). Does g.T.Store h (call_of (command_of (commands.Rollback c.in-Rollback.s)) c.args.k) r c.args.engine.now c.rollback.new.self) (sym (c.answer_to_call.ensures.answer c.args.row.now)) (c.rollback.ensures.did h st))
+
+pub returns-in-Rollback-clause-disk : goal.returns-in-Rollback-clause-disk
+returns-in-Rollback-clause-disk g c = counted_as _ _ _ _ (sym (c.answer_to_call.ensures.fault c.args.row.now)) c.rollback.ensures.disk
+
+pub returns-in-Rollback-clause-fits : goal.returns-in-Rollback-clause-fits
+returns-in-Rollback-clause-fits g c = subst (λ (command : Command). FitsCaller (caller (command_of command)) c.answer_to_call.result) (sym c.in-Rollback.is) (c.answer_to_call.ensures.fits (Some c.in-Rollback.s))
+
 pub returns-in-OpenCursor-clause-did : goal.returns-in-OpenCursor-clause-did
 returns-in-OpenCursor-clause-did g c = λ h st.
-    subst (λ (command : Command). Does g.T.Store h (call_of (command_of command)) (answer_of c.answer_to_call.result c.args.row.now) c.args.engine.now c.open_cursor.new.self) (sym c.in-OpenCursor.is)
-    (subst (λ (r : Answer). Does g.T.Store h (call_of (command_of (commands.OpenCursor c.in-OpenCursor.s c.in-OpenCursor.name c.in-OpenCursor.t c.in-OpenCursor.lo c.in-OpenCursor.hi))) r c.args.engine.now c.open_cursor.new.self) (sym (c.answer_to_call.ensures.answer c.args.row.now)) (c.open_cursor.ensures.did h st))
+    subst (λ (command : Command). Does g.T.Store h (call_of (command_of command) c.args.k) (answer_of c.answer_to_call-in-OpenCursor.result c.args.row.now) c.args.engine.now c.open_cursor.new.self) (sym c.in-OpenCursor.is)
+    (subst (λ (r : Answer). Does g.T.Store h (call_of (command_of (commands.OpenCursor c.in-OpenCursor.s c.in-OpenCursor.name c.in-OpenCursor.t c.in-OpenCursor.lo c.in-OpenCursor.hi)) c.args.k) r c.args.engine.now c.open_cursor.new.self) (sym (c.answer_to_call-in-OpenCursor.ensures.answer c.args.row.now)) (c.open_cursor.ensures.did h st))
 
 pub returns-in-OpenCursor-clause-disk : goal.returns-in-OpenCursor-clause-disk
-returns-in-OpenCursor-clause-disk g c = counted_as _ _ _ _ (sym (c.answer_to_call.ensures.fault c.args.row.now)) c.open_cursor.ensures.disk
+returns-in-OpenCursor-clause-disk g c = counted_as _ _ _ _ (sym (c.answer_to_call-in-OpenCursor.ensures.fault c.args.row.now)) c.open_cursor.ensures.disk
+
+pub returns-in-OpenCursor-clause-fits : goal.returns-in-OpenCursor-clause-fits
+returns-in-OpenCursor-clause-fits g c = subst (λ (command : Command). FitsCaller (caller (command_of command)) c.answer_to_call-in-OpenCursor.result) (sym c.in-OpenCursor.is) (c.answer_to_call-in-OpenCursor.ensures.fits (Some c.in-OpenCursor.s))
 
 pub returns-in-Fetch-clause-did : goal.returns-in-Fetch-clause-did
 returns-in-Fetch-clause-did g c = λ h st.
-    subst (λ (command : Command). Does g.T.Store h (call_of (command_of command)) (answer_of c.answer_to_fetch.result c.fetch.new.row) c.args.engine.now c.fetch.new.self) (sym c.in-Fetch.is)
-    (subst (λ (r : Answer). Does g.T.Store h (call_of (command_of (commands.Fetch c.in-Fetch.s c.in-Fetch.name c.in-Fetch.n))) r c.args.engine.now c.fetch.new.self) (sym (c.answer_to_fetch.ensures.answer c.fetch.new.row)) (c.fetch.ensures.did h st))
+    subst (λ (command : Command). Does g.T.Store h (call_of (command_of command) c.args.k) (answer_of c.answer_to_fetch.result c.fetch.new.row) c.args.engine.now c.fetch.new.self) (sym c.in-Fetch.is)
+    (subst (λ (r : Answer). Does g.T.Store h (call_of (command_of (commands.Fetch c.in-Fetch.s c.in-Fetch.name c.in-Fetch.n)) c.args.k) r c.args.engine.now c.fetch.new.self) (sym (c.answer_to_fetch.ensures.answer c.fetch.new.row)) (c.fetch.ensures.did h st))
 
 pub returns-in-Fetch-clause-disk : goal.returns-in-Fetch-clause-disk
 returns-in-Fetch-clause-disk g c = counted_as _ _ _ _ (sym (c.answer_to_fetch.ensures.fault c.fetch.new.row)) c.fetch.ensures.disk
 
+pub returns-in-Fetch-clause-fits : goal.returns-in-Fetch-clause-fits
+returns-in-Fetch-clause-fits g c = subst (λ (command : Command). FitsCaller (caller (command_of command)) c.answer_to_fetch.result) (sym c.in-Fetch.is) (c.answer_to_fetch.ensures.fits c.in-Fetch.s)
+
 pub returns-in-CloseCursor-clause-did : goal.returns-in-CloseCursor-clause-did
 returns-in-CloseCursor-clause-did g c = λ h st.
-    subst (λ (command : Command). Does g.T.Store h (call_of (command_of command)) (answer_of c.answer_to_call-in-CloseCursor.result c.args.row.now) c.args.engine.now c.close_cursor.new.self) (sym c.in-CloseCursor.is)
-    (subst (λ (r : Answer). Does g.T.Store h (call_of (command_of (commands.CloseCursor c.in-CloseCursor.s c.in-CloseCursor.name))) r c.args.engine.now c.close_cursor.new.self) (sym (c.answer_to_call-in-CloseCursor.ensures.answer c.args.row.now)) (c.close_cursor.ensures.did h st))
+    subst (λ (command : Command). Does g.T.Store h (call_of (command_of command) c.args.k) (answer_of c.answer_to_call-in-CloseCursor.result c.args.row.now) c.args.engine.now c.close_cursor.new.self) (sym c.in-CloseCursor.is)
+    (subst (λ (r : Answer). Does g.T.Store h (call_of (command_of (commands.CloseCursor c.in-CloseCursor.s c.in-CloseCursor.name)) c.args.k) r c.args.engine.now c.close_cursor.new.self) (sym (c.answer_to_call-in-CloseCursor.ensures.answer c.args.row.now)) (c.close_cursor.ensures.did h st))
 
 pub returns-in-CloseCursor-clause-disk : goal.returns-in-CloseCursor-clause-disk
 returns-in-CloseCursor-clause-disk g c = counted_as _ _ _ _ (sym (c.answer_to_call-in-CloseCursor.ensures.fault c.args.row.now)) c.close_cursor.ensures.disk
+
+pub returns-in-CloseCursor-clause-fits : goal.returns-in-CloseCursor-clause-fits
+returns-in-CloseCursor-clause-fits g c = subst (λ (command : Command). FitsCaller (caller (command_of command)) c.answer_to_call-in-CloseCursor.result) (sym c.in-CloseCursor.is) (c.answer_to_call-in-CloseCursor.ensures.fits (Some c.in-CloseCursor.s))
+
+pub returns-in-Checkpoint-clause-did : goal.returns-in-Checkpoint-clause-did
+returns-in-Checkpoint-clause-did g c = λ h st.
+    subst (λ (command : Command). Does g.T.Store h (call_of (command_of command) c.args.k) (answer_of c.answer_to_call-in-Checkpoint.result c.args.row.now) c.args.engine.now c.checkpoint.new.self) (sym c.in-Checkpoint.is)
+    (subst (λ (r : Answer). Does g.T.Store h (call_of (command_of (commands.Checkpoint)) c.args.k) r c.args.engine.now c.checkpoint.new.self) (sym (c.answer_to_call-in-Checkpoint.ensures.answer c.args.row.now)) (c.checkpoint.ensures.did h st))
+
+pub returns-in-Checkpoint-clause-disk : goal.returns-in-Checkpoint-clause-disk
+returns-in-Checkpoint-clause-disk g c = counted_as _ _ _ _ (sym (c.answer_to_call-in-Checkpoint.ensures.fault c.args.row.now)) c.checkpoint.ensures.disk
+
+pub returns-in-Checkpoint-clause-fits : goal.returns-in-Checkpoint-clause-fits
+returns-in-Checkpoint-clause-fits g c = subst (λ (command : Command). FitsCaller (caller (command_of command)) c.answer_to_call-in-Checkpoint.result) (sym c.in-Checkpoint.is) (c.answer_to_call-in-Checkpoint.ensures.fits None)
+
+pub returns-in-Marks-clause-did : goal.returns-in-Marks-clause-did
+returns-in-Marks-clause-did g c = λ h st.
+    subst (λ (command : Command). Does g.T.Store h (call_of (command_of command) c.args.k) (answer_of c.answer_of_segment.result c.args.row.now) c.args.engine.now c.answer_of_segment.new.engine) (sym c.in-Marks.is) (c.answer_of_segment.ensures.did h c.args.row.now st)
+
+pub returns-in-Marks-clause-fits : goal.returns-in-Marks-clause-fits
+returns-in-Marks-clause-fits g c = subst (λ (command : Command). FitsCaller (caller (command_of command)) c.answer_of_segment.result) (sym c.in-Marks.is) c.answer_of_segment.ensures.fits

@@ -3,7 +3,7 @@ use Rattle.rb_model.specs.Lines.{bad_line_text, Spells, SpellsNone, is_remark}
 use Rattle.rb_model.specs.Out.{LineOut, CommandOut, Logged, too_long, skipped, bad, command}
 use Rattle.rb_lines.proofs.Dids.{did_as}
 use Rattle.rb_script.specs.Commands.{command_of}
-use Rattle.rb_engine.specs.Engine.{EngineView}
+use Rattle.rb_engine.specs.Does.{EngineView}
 use Rattle.rb_shell.specs.Since.{IsSince, StandsAs, slots_of, since_same}
 use Rattle.rb_shell.proofs.SaidLemmas.{bad_said, said_nothing, said_weaker}
 use Rattle.rb_shell.proofs.line.say_line.Given.{Over}
@@ -12,8 +12,11 @@ use Rattle.rb_shell.proofs.line.say_line.Goals as goal
 -- where no call is made, the store stays
 still : (g : Over) (e : EngineView g.row.T.Denot) (m : Logged) → StandsAs g.T.Store e m → m.state.stopped ≡ false → IsSince g.T.Store e e m m
 still g e m is going = since_same e m (λ kept. record {
-  left_opens = λ store b i stands here. g.met.T.Store.stable_left store b i kept stands here;
-  read_patched = λ store i left. g.met.T.Store.only_now store i kept left;
+  stable_left = g.met.T.Store.stable_left;
+  stable_numbered = g.met.T.Store.stable_numbered;
+  stable_patched = g.met.T.Store.stable_patched;
+  now_counts = g.met.T.Store.now_counts;
+  only_now = g.met.T.Store.only_now;
 }) is going
 
 pub returns-then-line-gt-LINE_BYTES-clause-did : goal.returns-then-line-gt-LINE_BYTES-clause-did

@@ -1,10 +1,22 @@
-use Rattle.std.proofs.Common.{◌≡◌, ap, sym, subst, refl, Result, Ok, Err, IsErrAnd, IfErr}
-use Rattle.rb_base.specs.Moments.{LeavesNoMore}
-use Rattle.rb_disk.specs.declared.disk.Disk.{Ghosts as DiskGhosts}
-use Rattle.rb_store.specs.Laps.{LapState}
-use Rattle.rb_shell.specs.Runs.{LeftAlone}
+use Rattle.std.proofs.Common.{◌≡◌, ◌≤◌, ◌+◌, ℕ, true, List, [], ◌++◌, length, take, Some, arith, ap, sym, subst, refl, Result, Ok, Err, IsErrAnd, IfErr}
+use Rattle.rb_base.specs.Logs.{Laws, Logs}
+use Rattle.rb_base.specs.Moments.{weaker}
+use Rattle.rb_base.specs.Settling.{told_same}
+use Rattle.rb_base.specs.Stores.{OpensToSome}
+use Rattle.rb_base.specs.Blocks.{after_groups}
+use Rattle.rb_base.specs.Groups.{Patch}
+use Rattle.rb_base.specs.declared.shape.Shape.{Shape}
+use Rattle.rb_engine.specs.Opened.{OpensTo}
+use Rattle.rb_layout.specs.OneLayout.{SameNumbers}
+use Rattle.rb_layout.specs.Regions.{shape_of}
+use Rattle.rb_layout.specs.declared.layout.Layout.{Layout}
+use Rattle.rb_store.specs.LapLaws.{stable_left}
+use Rattle.rb_store.specs.Laps.{IsStable, Opens, OpensAt}
+use Rattle.rb_store.specs.OneOpening.{opens_moves}
+use Rattle.rb_store.specs.contracts.lap.LapStoreStore.TheImpl.{ghosts}
+use Rattle.rb_shell.specs.Runs.{IsSound, LeftAlone, WasStopped}
 use Rattle.rb_shell.specs.Since.{slots_of}
-use Rattle.rb_shell.proofs.RunLemmas.{Found, has_opened, loads_alone, not_sound, no_opening, rests_alone, neither_failed}
+use Rattle.rb_shell.proofs.RunLemmas.{Found, disk_leaves, has_opened, in_range, is_store, no_opening, not_store, opens_same, rests_alone, rests_same, same_of, stays_alone}
 use Rattle.rb_shell.proofs.script.open_engine.Given.{Over}
 use Rattle.rb_shell.proofs.script.open_engine.Goals.{After-close, After-from_residual, In_ok-store}
 use Rattle.rb_shell.proofs.script.open_engine.Goals as goal
@@ -19,56 +31,100 @@ found : (g : Over) (c : In_ok-store g) → g.D.Disk.tells → Found g.D.Disk c.a
 found g c told = record {
   opens = c.in_ok-store.ensures.found told;
   stable = c.in_ok-store.ensures.stable told;
-  any_moment = c.in_ok-store.ensures.any_moment_ok told;
-  only_now = λ im left. g.met.D.Disk.only_now c.in_ok-store.store.disk im told left;
+  none_waits = c.in_ok-store.ensures.pending;
+  rests = c.in_ok-store.ensures.rests_ok told;
+  only_old = λ im left. g.met.D.Disk.only_now c.args.disk im told left;
 }
 
--- what loads left of the disk
-still : {D : Type 0} (d : DiskGhosts D) (old new : LapState D) → LeavesNoMore (λ s. d.image s.disk) (λ s. d.moment s.disk) (λ s. d.image_since s.disk) old new → LeavesNoMore d.image d.moment d.image_since old.disk new.disk
-still d old new x = record { no_more = x.no_more; later = x.later; nothing_else = x.nothing_else; stay = x.stay }
+-- the laws of a store over that disk
+laws : (g : Over) → g.D.Disk.tells → Laws (ghosts g.row.D g.D.Disk g.D.Disk-dict)
+laws g told = record {
+  stable_left = λ s b n i kept stands here. stable_left g.D.Disk s b n i stands here;
+  stable_numbered = λ s b n kept stands. stands.numbered;
+  stable_patched = λ s b n kept stands. stands.patched;
+  now_counts = λ s t i kept le here. g.met.D.Disk.now_counts s.disk t i told le here;
+  only_now = λ s i kept left. g.met.D.Disk.only_now s.disk i told left;
+}
 
--- the engine that wasn't opened over it only loaded
-alone : (g : Over) (c : After-close g) → g.D.Disk.tells → LeftAlone g.D.Disk c.args.disk c.close.result
-alone g c told =
-    let loads = c.in-Err.ensures.loads_err in
-    subst (λ d. LeftAlone g.D.Disk c.args.disk d) (sym c.close.ensures)
-    (loads_alone g.D.Disk c.args.disk c.in_ok-store.store c.in-Err.store (found g (goal.at.returns-in-Err-clause-none g c).In_ok-store told) (record {
-      shape = loads.same_shape;
-      log = ap slots_of loads.same_slots;
-      stable = loads.still_stable told;
-      crashes = still g.D.Disk c.in_ok-store.store c.in-Err.store (loads.crashes told);
-    }))
+-- the state that a sound file opens to is that of the blocks that were found
+opens_to : (g : Over) (c : In_ok-store g) → g.D.Disk.tells → (sound : IsSound (g.D.Disk.content c.args.disk)) → OpensTo (ghosts g.row.D g.D.Disk g.D.Disk-dict) sound.state c.in_ok-store.store
+opens_to g c told sound =
+    let s = c.in_ok-store.store in
+    let same = same_of sound s.layout s.blocks s.lsn (c.in_ok-store.ensures.found told) in
+    record {
+      in_range = in_range s.layout;
+      opening = same.opening;
+      fits = same.fits;
+      logged = same.logged;
+      none_waits = λ kept. c.in_ok-store.ensures.pending;
+      stable = λ kept. c.in_ok-store.ensures.stable told;
+    }
+
+-- calls that gave no group leave what the store opens to
+unchanged : (g : Over) (c : After-close g) → g.D.Disk.tells → Logs (ghosts g.row.D g.D.Disk g.D.Disk-dict) (c.in_ok-store.store) c.in-Err.store [] true → LeftAlone g.D.Disk c.args.disk c.in-Err.store.disk
+unchanged g c told logs =
+    let s = c.in_ok-store.store in
+    let new = c.in-Err.store in
+    let l = s.layout in
+    let stands = c.in_ok-store.ensures.stable told in
+    let none : length (s.pending ++ []) ≡ 0 = ap (λ (l : List (List Patch)). length (l ++ [])) c.in_ok-store.ensures.pending in
+    let back : (k : ℕ) → k ≤ length (s.pending ++ []) → k ≡ 0 = λ k few. omega (arith, few, none) in
+    let numbers : (m : Layout) → shape_of m ≡ shape_of l → m.log ≡ l.log → SameNumbers m l = λ m shape log. record { tables = ap (λ (x : Shape). x.tables) shape; blocks = ap (λ (x : Shape). x.blocks) shape; segments = ap (λ (x : Shape). x.segments) shape; log = log } in
+    let groups = s.pending ++ [] in
+    let made : (k : ℕ) → k ≡ 0 → after_groups (s.lsn + 1) (take k groups) s.blocks ≡ s.blocks = λ k z. ap (λ (j : ℕ). after_groups (s.lsn + 1) (take j groups) s.blocks) z in
+    let number : (k : ℕ) → k ≡ 0 → s.lsn + k ≡ s.lsn = λ k z. omega (arith, z) in
+    let settled = logs.settles told refl s.blocks s.lsn stands in
+    let zero_settled = back settled.count settled.few in
+    let after : IsStable g.D.Disk new s.blocks s.lsn = told_same (IsStable g.D.Disk new) _ _ _ _ (made settled.count zero_settled) (number settled.count zero_settled) settled.settled in
+    let opens : (c2 : List ℕ) → OpensToSome (Opens (shape_of l) (Some l.log)) s.lsn groups s.blocks c2 → OpensAt l c2 s.blocks s.lsn =
+    λ c2 some. let o = some.opening in let z = back some.count some.few in
+    opens_moves o.layout l c2 s.blocks s.lsn (numbers o.layout o.shape_is (ap slots_of o.slots_are)) (told_same (OpensAt o.layout c2) _ _ _ _ (made some.count z) (number some.count z) o.opens) in
+    stays_alone g.D.Disk c.args.disk s new (found g (goal.at.returns-in-Err-clause-none g c).In_ok-store told)
+    (opens_moves new.layout l (g.D.Disk.content new.disk) s.blocks s.lsn (numbers new.layout logs.same_shape (ap slots_of logs.same_slots)) after.file)
+    (weaker g.D.Disk.moment g.D.Disk.image_since s.disk new.disk _ (λ c2. OpensAt l c2 s.blocks s.lsn) opens
+    (disk_leaves g.D.Disk (ghosts g.row.D g.D.Disk g.D.Disk-dict) s new (OpensToSome (Opens (shape_of l) (Some l.log)) s.lsn groups s.blocks)
+    (logs.any_moment told (laws g told) s.blocks s.lsn stands)))
 
 pub returns-in-Ok-clause-opened : goal.returns-in-Ok-clause-opened
-returns-in-Ok-clause-opened g c = λ told.
-    let call = c.in-Ok.ensures in
-    let opened = call.stands tt (λ kept. (c.in_ok-store.ensures.pending, c.in_ok-store.ensures.stable told)) in
-    has_opened g.D.Disk c.args.disk _ c.in_ok-store.store c.in-Ok.engine opened.state (found g (goal.at.returns-in-Ok-clause-opened g c).In_ok-store told) (record {
-      shape = call.loads_ok.same_shape;
-      log = ap slots_of call.loads_ok.same_slots;
-      stable = call.loads_ok.still_stable told;
-      crashes = still g.D.Disk c.in_ok-store.store c.in-Ok.engine.store (call.loads_ok.crashes told);
-    }) opened.opening (call.sound tt) (record { engine = opened.stands; lsn = sym call.loads_ok.same_lsn; ended = refl })
+returns-in-Ok-clause-opened g c = λ told sound.
+    let a = (goal.at.returns-in-Ok-clause-opened g c).In_ok-store in
+    let o = c.in-Ok.ensures.opened told sound.state (opens_to g a told sound) in
+    let stays = o.stays told in
+    has_opened g.D.Disk c.args.disk (ghosts g.row.D g.D.Disk g.D.Disk-dict) c.in_ok-store.store c.in-Ok.engine sound (found g a told) (ap slots_of c.in-Ok.ensures.same_ok.slots) refl o.stands o.lsn
+    (record { later = stays.later; each = stays.each; earlier = stays.earlier })
+
+pub returns-in-Ok-clause-store : goal.returns-in-Ok-clause-store
+returns-in-Ok-clause-store g c = λ told.
+    is_store g.D.Disk c.args.disk c.in_ok-store.store (found g (goal.at.returns-in-Ok-clause-store g c).In_ok-store told) (c.in-Ok.ensures.sound told)
 
 pub returns-in-Err-clause-none : goal.returns-in-Err-clause-none
-returns-in-Err-clause-none g c = λ told is sound.
-    not_sound g.D.Disk c.args.disk c.in_ok-store.store (found g (goal.at.returns-in-Err-clause-none g c).In_ok-store told) (c.in-Err.ensures.none tt is) sound
+returns-in-Err-clause-none g c = λ told is st.
+    not_store g.D.Disk c.args.disk c.in_ok-store.store (found g (goal.at.returns-in-Err-clause-none g c).In_ok-store told) (c.in-Err.ensures.none told is) st
 
 pub returns-in-Err-clause-images : goal.returns-in-Err-clause-images
-returns-in-Err-clause-images g c = λ told. let left = alone g c told in record { images = left.images; none = left.none }
+returns-in-Err-clause-images g c = λ told.
+    let a = (goal.at.returns-in-Err-clause-images g c).In_ok-store in
+    subst (λ d. WasStopped g.D.Disk c.args.disk d) (sym c.close.ensures) (record {
+      images = λ sound. let stays = c.in-Err.ensures.stays told sound.state (opens_to g a told sound) told in
+          opens_same g.D.Disk c.args.disk c.in_ok-store.store c.in-Err.store.disk sound (found g a told) (record { later = stays.later; each = stays.each; earlier = stays.earlier });
+      none = λ nothing. absurd (nothing c.in_ok-store.store.layout c.in_ok-store.store.blocks c.in_ok-store.store.lsn (c.in_ok-store.ensures.found told));
+    })
 
 pub returns-in-Err-clause-left_alone : goal.returns-in-Err-clause-left_alone
-returns-in-Err-clause-left_alone g c = λ told other. alone g c told
+returns-in-Err-clause-left_alone g c = λ told other.
+    subst (λ d. LeftAlone g.D.Disk c.args.disk d) (sym c.close.ensures) (unchanged g c told (c.in-Err.ensures.unchanged other))
 
 pub returns-in_err-store-clause-none : goal.returns-in_err-store-clause-none
 returns-in_err-store-clause-none g c = λ told. handed_on _ c.in_err-store.field-0.0 _ c.from_residual.ensures.1
-    (λ is sound. no_opening (g.D.Disk.content c.args.disk) (c.in_err-store.ensures.none told is) sound)
+    (λ is st. no_opening (g.D.Disk.content c.args.disk) (c.in_err-store.ensures.none told is) st)
 
 pub returns-in_err-store-clause-images : goal.returns-in_err-store-clause-images
 returns-in_err-store-clause-images g c = λ told. handed_on _ c.in_err-store.field-0.0 _ c.from_residual.ensures.1
-    (record { images = c.in_err-store.ensures.any_moment_err told; none = c.in_err-store.ensures.nothing told })
+    (record {
+      images = λ sound. rests_same g.D.Disk c.args.disk c.in_err-store.field-0.0.1 sound (λ im left. g.met.D.Disk.only_now c.args.disk im told left) (c.in_err-store.ensures.rests_err told);
+      none = λ nothing. c.in_err-store.ensures.rests_err told;
+    })
 
 pub returns-in_err-store-clause-left_alone : goal.returns-in_err-store-clause-left_alone
 returns-in_err-store-clause-left_alone g c = λ told. handed_on _ c.in_err-store.field-0.0 _ c.from_residual.ensures.1
-    (λ other. rests_alone g.D.Disk c.args.disk c.in_err-store.field-0.0.1 (λ im left. g.met.D.Disk.only_now c.args.disk im told left)
-    (neither_failed c.in_err-store.field-0.0.0 other (λ is. c.in_err-store.ensures.unchanged told is) (λ is. c.in_err-store.ensures.no_memory told is)))
+    (λ other. rests_alone g.D.Disk c.args.disk c.in_err-store.field-0.0.1 (λ im left. g.met.D.Disk.only_now c.args.disk im told left) (c.in_err-store.ensures.rests_err told))

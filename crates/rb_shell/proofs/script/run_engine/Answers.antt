@@ -4,7 +4,7 @@ use Rattle.rb_shell.specs.Since.{slots_of}
 use Rattle.rb_lines.specs.Faults.{IsCountedBeside}
 use Rattle.rb_lines.specs.Ends as lines
 use Rattle.rb_shell.specs.Statuses.{by_disk, by_sink, by_source}
-use Rattle.rb_engine.specs.Crash.{Survives}
+use Rattle.rb_image.specs.Crash.{Survives}
 use Rattle.rb_shell.proofs.StatusLemmas.{counted_as, counted_beside, disk_of, done_of, sink_of, source_of}
 use Rattle.rb_shell.proofs.script.run_engine.Goals as goal
 

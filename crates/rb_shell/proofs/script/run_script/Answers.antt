@@ -1,11 +1,12 @@
 use Rattle.std.proofs.Common.{◌≡◌, ◌∙◌, ℕ, List, Some, inr, sym, ap, subst, refl, false}
-use Rattle.rb_engine.specs.Crash.{Survives}
+use Rattle.rb_image.specs.Crash.{Survives}
 use Rattle.rb_lines.specs.Ends.{EndsAs}
 use Rattle.rb_lines.specs.Faults.{IsCountedBeside}
 use Rattle.rb_lines.specs.Ran.{Ran}
 use Rattle.rb_lines.specs.declared.lines.LinesEnd.{LinesEnd}
 use Rattle.rb_lines.specs.declared.lines.LinesEnd.TheVariants as ends
 use Rattle.rb_model.specs.State.{State}
+use Rattle.rb_shell.specs.Runs.{IsSound, first_of}
 use Rattle.rb_store.specs.contracts.lap.LapStoreStore.TheImpl.{ghosts}
 use Rattle.rb_shell.specs.Runs.{Endures, HasOpened, HasRun, RanOn}
 use Rattle.rb_shell.specs.Statuses.{by_disk, by_sink}
@@ -15,64 +16,64 @@ use Rattle.rb_shell.proofs.script.run_script.Given.{Over}
 use Rattle.rb_shell.proofs.script.run_script.Goals.{After-close}
 use Rattle.rb_shell.proofs.script.run_script.Goals as goal
 
-module _ (g : Over) (c : After-close g) (disk : g.D.Disk.tells) (told : g.S.Source.tells) where
-  opened : HasOpened g.D.Disk (ghosts g.row.D g.D.Disk g.D.Disk-dict) c.args.disk c.in-Ok-open_engine.engine
-  opened = c.in-Ok-open_engine.ensures.opened disk
+module _ (g : Over) (c : After-close g) (disk : g.D.Disk.tells) (told : g.S.Source.tells) (sound : IsSound (g.D.Disk.content c.args.disk)) where
+  opened : HasOpened g.D.Disk (ghosts g.row.D g.D.Disk g.D.Disk-dict) c.args.disk c.in-Ok-open_engine.engine sound
+  opened = c.in-Ok-open_engine.ensures.opened disk sound
 
-  did : RanOn (ghosts g.row.D g.D.Disk g.D.Disk-dict) c.in-Ok-open_engine.engine.store c.run_engine-status.result.1 c.in-Ok-open_engine.engine.store.layout.log 65536 (record { state = opened.state; lsn = opened.sound.lsn })
+  did : RanOn (ghosts g.row.D g.D.Disk g.D.Disk-dict) c.in-Ok-open_engine.engine.store c.run_engine-status.result.1 c.in-Ok-open_engine.engine.store.layout.log 65536 (first_of sound)
       (g.S.Source.left c.args.source.now) (g.S.Source.left c.run_engine-status.new.source) g.K.Sink.tells (g.K.Sink.held c.args.sink.now) (g.K.Sink.held c.run_engine-status.new.sink) c.run_engine-status.result.0
-  did = c.run_engine-status.ensures.did told (record { state = opened.state; lsn = opened.sound.lsn }) opened.stands (ap (λ (h : State). h.stopped) opened.opening.state)
+  did = c.run_engine-status.ensures.did told (first_of sound) opened.stands (ap (λ (h : State). h.stopped) sound.opening.state)
 
   -- it endures
-  endured : (h : State) → (g.D.Disk.tells → Survives (ghosts g.row.D g.D.Disk g.D.Disk-dict) (Some c.in-Ok-open_engine.engine.store.layout.log) opened.state h c.in-Ok-open_engine.engine.store c.run_engine-status.result.1)
-      → Endures g.D.Disk c.args.disk c.close.result opened.sound.layout opened.state h
+  endured : (h : State) → (g.D.Disk.tells → Survives (ghosts g.row.D g.D.Disk g.D.Disk-dict) (Some c.in-Ok-open_engine.engine.store.layout.log) sound.state h c.in-Ok-open_engine.engine.store c.run_engine-status.result.1)
+      → Endures g.D.Disk c.args.disk c.close.result sound.store.layout sound.state h
   endured h survives =
       let v = survives disk in
-      subst (λ d. Endures g.D.Disk c.args.disk d opened.sound.layout opened.state h) (sym c.close.ensures)
-      (endures g.D.Disk c.args.disk (ghosts g.row.D g.D.Disk g.D.Disk-dict) c.in-Ok-open_engine.engine h c.run_engine-status.result.1.disk opened v.extends (record { later = v.any_moment.later; each = v.any_moment.each; earlier = v.any_moment.earlier }) v.now_only)
+      subst (λ d. Endures g.D.Disk c.args.disk d sound.store.layout sound.state h) (sym c.close.ensures)
+      (endures g.D.Disk c.args.disk (ghosts g.row.D g.D.Disk g.D.Disk-dict) c.in-Ok-open_engine.engine h c.run_engine-status.result.1.disk sound opened v.extends (record { later = v.any_moment.later; each = v.any_moment.each; earlier = v.any_moment.earlier }) v.now_only)
 
   -- how the lines ended
   ended : (end : LinesEnd) → did.end ≡ end
-      → EndsAs c.in-Ok-open_engine.engine.store.layout.log 65536 (record { state = opened.state; lsn = opened.sound.lsn }) did.now (g.S.Source.left c.args.source.now) (g.S.Source.left c.run_engine-status.new.source) g.K.Sink.tells (g.K.Sink.held c.args.sink.now) (g.K.Sink.held c.run_engine-status.new.sink) end
-  ended end is = subst (λ (e : LinesEnd). EndsAs c.in-Ok-open_engine.engine.store.layout.log 65536 (record { state = opened.state; lsn = opened.sound.lsn }) did.now (g.S.Source.left c.args.source.now) (g.S.Source.left c.run_engine-status.new.source) g.K.Sink.tells (g.K.Sink.held c.args.sink.now) (g.K.Sink.held c.run_engine-status.new.sink) e) is did.ends
+      → EndsAs c.in-Ok-open_engine.engine.store.layout.log 65536 (first_of sound) did.now (g.S.Source.left c.args.source.now) (g.S.Source.left c.run_engine-status.new.source) g.K.Sink.tells (g.K.Sink.held c.args.sink.now) (g.K.Sink.held c.run_engine-status.new.sink) end
+  ended end is = subst (λ (e : LinesEnd). EndsAs c.in-Ok-open_engine.engine.store.layout.log 65536 (first_of sound) did.now (g.S.Source.left c.args.source.now) (g.S.Source.left c.run_engine-status.new.source) g.K.Sink.tells (g.K.Sink.held c.args.sink.now) (g.K.Sink.held c.run_engine-status.new.sink) e) is did.ends
 
   -- what was done over the engine was done over the file
-  ran : (lines : List (List ℕ)) → Ran c.in-Ok-open_engine.engine.store.layout.log (record { state = opened.state; lsn = opened.sound.lsn }) did.now lines g.K.Sink.tells (g.K.Sink.held c.args.sink.now) (g.K.Sink.held c.run_engine-status.new.sink) → did.now.state.stopped ≡ false
-      → HasRun (g.D.Disk.content c.args.disk) lines g.K.Sink.tells (g.K.Sink.held c.args.sink.now) (g.K.Sink.held c.run_engine-status.new.sink) (Endures g.D.Disk c.args.disk c.close.result)
-  ran lines r going = has_run g.D.Disk c.args.disk (ghosts g.row.D g.D.Disk g.D.Disk-dict) c.in-Ok-open_engine.engine opened did.now lines g.K.Sink.tells _ _ _ r going (endured did.now.state did.crash)
+  ran : (lines : List (List ℕ)) → Ran c.in-Ok-open_engine.engine.store.layout.log (first_of sound) did.now lines g.K.Sink.tells (g.K.Sink.held c.args.sink.now) (g.K.Sink.held c.run_engine-status.new.sink) → did.now.state.stopped ≡ false
+      → HasRun sound lines g.K.Sink.tells (g.K.Sink.held c.args.sink.now) (g.K.Sink.held c.run_engine-status.new.sink) (Endures g.D.Disk c.args.disk c.close.result)
+  ran lines r going = has_run g.D.Disk c.args.disk (ghosts g.row.D g.D.Disk g.D.Disk-dict) c.in-Ok-open_engine.engine sound opened did.now lines g.K.Sink.tells _ _ _ r going (endured did.now.state did.crash)
 
 pub returns-in-Ok-open_engine-clause-done : goal.returns-in-Ok-open_engine-clause-done
-returns-in-Ok-open_engine-clause-done g c = λ disk told is.
+returns-in-Ok-open_engine-clause-done g c = λ disk told is sound.
     let a = (goal.at.returns-in-Ok-open_engine-clause-done g c).After-close in
-    let e = ended g a disk told ends.Done (done_of (did g a disk told).end (sym (did g a disk told).is ∙ is)) in
-    ran g a disk told _ e.0 e.1
+    let e = ended g a disk told sound ends.Done (done_of (did g a disk told sound).end (sym (did g a disk told sound).is ∙ is)) in
+    ran g a disk told sound _ e.0 e.1
 
 pub returns-in-Ok-open_engine-clause-source_done : goal.returns-in-Ok-open_engine-clause-source_done
-returns-in-Ok-open_engine-clause-source_done g c = λ disk told is.
+returns-in-Ok-open_engine-clause-source_done g c = λ disk told is sound.
     let a = (goal.at.returns-in-Ok-open_engine-clause-source_done g c).After-close in
-    let e = ended g a disk told ends.SourceFault (source_fault_of (did g a disk told).end (sym (did g a disk told).is ∙ is)) in
-    (e.0, e.1.split, ran g a disk told _ e.1.ran e.1.going)
+    let e = ended g a disk told sound ends.SourceFault (source_fault_of (did g a disk told sound).end (sym (did g a disk told sound).is ∙ is)) in
+    (e.0, e.1.split, ran g a disk told sound _ e.1.ran e.1.going)
 
 pub returns-in-Ok-open_engine-clause-too_long : goal.returns-in-Ok-open_engine-clause-too_long
-returns-in-Ok-open_engine-clause-too_long g c = λ disk told is.
+returns-in-Ok-open_engine-clause-too_long g c = λ disk told is sound.
     let a = (goal.at.returns-in-Ok-open_engine-clause-too_long g c).After-close in
-    let e = ended g a disk told ends.TooLong (too_long_of (did g a disk told).end (sym (did g a disk told).is ∙ is)) in
-    (e.0, e.1, e.2.split, ran g a disk told _ e.2.ran e.2.going)
+    let e = ended g a disk told sound ends.TooLong (too_long_of (did g a disk told sound).end (sym (did g a disk told sound).is ∙ is)) in
+    (e.0, e.1, e.2.split, ran g a disk told sound _ e.2.ran e.2.going)
 
 pub returns-in-Ok-open_engine-clause-disk_done : goal.returns-in-Ok-open_engine-clause-disk_done
-returns-in-Ok-open_engine-clause-disk_done g c = λ disk told is.
+returns-in-Ok-open_engine-clause-disk_done g c = λ disk told is. inr (λ sound.
     let a = (goal.at.returns-in-Ok-open_engine-clause-disk_done g c).After-close in
-    let e = ended g a disk told ends.DiskFault (disk_fault_of (did g a disk told).end (sym (did g a disk told).is ∙ is)) in
-    inr (has_halted g.D.Disk c.args.disk (ghosts g.row.D g.D.Disk g.D.Disk-dict) c.in-Ok-open_engine.engine (opened g a disk told) (did g a disk told).now _ _ g.K.Sink.tells _ _ _ e (endured g a disk told (did g a disk told).now.state (did g a disk told).crash))
+    let e = ended g a disk told sound ends.DiskFault (disk_fault_of (did g a disk told sound).end (sym (did g a disk told sound).is ∙ is)) in
+    has_halted g.D.Disk c.args.disk (ghosts g.row.D g.D.Disk g.D.Disk-dict) c.in-Ok-open_engine.engine sound (opened g a disk told sound) (did g a disk told sound).now _ _ g.K.Sink.tells _ _ _ e (endured g a disk told sound (did g a disk told sound).now.state (did g a disk told sound).crash))
 
 pub returns-in-Ok-open_engine-clause-cut_off : goal.returns-in-Ok-open_engine-clause-cut_off
-returns-in-Ok-open_engine-clause-cut_off g c = λ disk told tells is.
+returns-in-Ok-open_engine-clause-cut_off g c = λ disk told tells is sound.
     let a = (goal.at.returns-in-Ok-open_engine-clause-cut_off g c).After-close in
-    let e = ended g a disk told ends.SinkFault (sink_fault_of (did g a disk told).end (sym (did g a disk told).is ∙ is)) in
-    was_cut_off g.D.Disk c.args.disk (ghosts g.row.D g.D.Disk g.D.Disk-dict) c.in-Ok-open_engine.engine (opened g a disk told) (did g a disk told).now _ _ _ _ (e tells) (endured g a disk told (did g a disk told).now.state (did g a disk told).crash)
+    let e = ended g a disk told sound ends.SinkFault (sink_fault_of (did g a disk told sound).end (sym (did g a disk told sound).is ∙ is)) in
+    was_cut_off g.D.Disk c.args.disk (ghosts g.row.D g.D.Disk g.D.Disk-dict) c.in-Ok-open_engine.engine sound (opened g a disk told sound) (did g a disk told sound).now _ _ _ _ (e tells) (endured g a disk told sound (did g a disk told sound).now.state (did g a disk told sound).crash)
 
-pub returns-in-Ok-open_engine-clause-sound : goal.returns-in-Ok-open_engine-clause-sound
-returns-in-Ok-open_engine-clause-sound g c = λ disk asks. let o = c.in-Ok-open_engine.ensures.opened disk in o.sound
+pub returns-in-Ok-open_engine-clause-store : goal.returns-in-Ok-open_engine-clause-store
+returns-in-Ok-open_engine-clause-store g c = λ disk asks. c.in-Ok-open_engine.ensures.store disk
 
 pub returns-in-Ok-open_engine-clause-ends : goal.returns-in-Ok-open_engine-clause-ends
 returns-in-Ok-open_engine-clause-ends g c = c.run_engine-status.ensures.ends
@@ -89,7 +90,7 @@ returns-in-Ok-open_engine-clause-disk g c =
     (subst (λ (n : ℕ). IsCountedBeside n (g.D.Disk.faults c.run_engine-status.result.1.disk) (by_disk c.run_engine-status.result.0) (by_sink c.run_engine-status.result.0)) c.in-Ok-open_engine.ensures.counted_ok c.run_engine-status.ensures.disk)
 
 pub returns-clause-done : goal.returns-clause-done
-returns-clause-done g c = λ disk told is. absurd (c.status_of_fault.ensures.no_script (rw is tt))
+returns-clause-done g c = λ disk told is sound. absurd (c.status_of_fault.ensures.no_script (rw is tt))
 
 pub returns-clause-at_end : goal.returns-clause-at_end
 returns-clause-at_end g c = λ told is. absurd (c.status_of_fault.ensures.no_script (rw is tt))
@@ -98,13 +99,13 @@ pub returns-clause-few : goal.returns-clause-few
 returns-clause-few g c = λ told is. absurd (c.status_of_fault.ensures.no_script (rw is tt))
 
 pub returns-clause-source_done : goal.returns-clause-source_done
-returns-clause-source_done g c = λ disk told is. absurd (c.status_of_fault.ensures.no_script (rw is tt))
+returns-clause-source_done g c = λ disk told is sound. absurd (c.status_of_fault.ensures.no_script (rw is tt))
 
 pub returns-clause-too_long : goal.returns-clause-too_long
-returns-clause-too_long g c = λ disk told is. absurd (c.status_of_fault.ensures.no_script (rw is tt))
+returns-clause-too_long g c = λ disk told is sound. absurd (c.status_of_fault.ensures.no_script (rw is tt))
 
 pub returns-clause-cut_off : goal.returns-clause-cut_off
-returns-clause-cut_off g c = λ disk told tells is. absurd (c.status_of_fault.ensures.no_script (rw is tt))
+returns-clause-cut_off g c = λ disk told tells is sound. absurd (c.status_of_fault.ensures.no_script (rw is tt))
 
 pub returns-clause-untouched : goal.returns-clause-untouched
 returns-clause-untouched g c = λ disk asks. c.in-Err.ensures.left_alone disk (λ is. c.status_of_fault.ensures.not_asked is asks)
@@ -112,8 +113,8 @@ returns-clause-untouched g c = λ disk asks. c.in-Err.ensures.left_alone disk (�
 pub returns-clause-not_a_store : goal.returns-clause-not_a_store
 returns-clause-not_a_store g c = λ disk is sound. c.in-Err.ensures.none disk (c.status_of_fault.ensures.none is) sound
 
-pub returns-clause-sound : goal.returns-clause-sound
-returns-clause-sound g c = λ disk asks. absurd (c.status_of_fault.ensures.no_script asks)
+pub returns-clause-store : goal.returns-clause-store
+returns-clause-store g c = λ disk asks. absurd (c.status_of_fault.ensures.no_script asks)
 
 pub returns-clause-source : goal.returns-clause-source
 returns-clause-source g c = uncounted _ _ _ c.status_of_fault.ensures.by_source refl

@@ -1,10 +1,8 @@
 use Rattle.std.proofs.Common.{◌≡◌, ◌-◌, [], length, drop, replicate, get_or, refl, arith, ◌∙◌, inr}
 use Rattle.std.proofs.lemmas.List.{get_or-take, get_or-drop, get_or-append_right, get_or-replicate}
 use Rattle.rb_layout.specs.Fresh.{fresh_has_identity}
-use Rattle.rb_base.specs.Blocks.{fresh_blocks}
-use Rattle.rb_layout.specs.Regions.{file_version, identity, fresh_file, file_length, shape_of}
+use Rattle.rb_layout.specs.Regions.{file_version, identity, fresh_file, file_length}
 use Rattle.rb_layout.specs.declared.layout.Layout.{Layout}
-use Rattle.rb_store.specs.Laps.{OpensTo}
 use Rattle.rb_store.proofs.laws.fresh_lap.Goals as goal
 
 -- the first gate of a new file is closed
@@ -13,18 +11,13 @@ first_gate l =
     let long : length (identity file_version l) ≡ 24 = omega arith in
     get_or-append_right (identity file_version l) (replicate (file_length l - 24) 0) 24 8192 0 long (omega arith) ∙ get_or-replicate (file_length l - 24) (8192 - 24) 0 0 (omega arith)
 
-abbrev opens : (l : Layout) → OpensTo l (fresh_file file_version l) (fresh_blocks (shape_of l))
-opens l = record {
+pub returns : goal.returns
+returns c = λ l. record {
   groups = [];
   lap = record {
     identity = fresh_has_identity file_version l;
     log = inr (λ is. let gate = get_or-take 2048 (drop 8192 (fresh_file file_version l)) 0 0 (omega arith) ∙ get_or-drop 8192 (fresh_file file_version l) 0 0 ∙ first_gate l in omega (arith, gate, is));
   };
   made = refl;
+  last = refl;
 }
-
-pub returns-clause-opens : goal.returns-clause-opens
-returns-clause-opens c = λ l. opens l
-
-pub returns-clause-at : goal.returns-clause-at
-returns-clause-at c = λ l. record { opens = opens l; last = refl }

@@ -1,5 +1,8 @@
 use Rattle.rb_store.specs.OneOpening.{one_opening}
 use Rattle.rb_store.proofs.laws.one_opening.Goals as goal
 
-pub returns : goal.returns
-returns c = λ l file first second one two. (one_opening l l file first second one two).blocks
+pub returns-clause-blocks : goal.returns-clause-blocks
+returns-clause-blocks c = λ l file first second n k one two. (one_opening l l file first second n k one two).blocks
+
+pub returns-clause-lsn : goal.returns-clause-lsn
+returns-clause-lsn c = λ l file first second n k one two. (one_opening l l file first second n k one two).lsn

@@ -1,6 +1,6 @@
 use Rattle.std.proofs.Common.{◌≡◌, ◌+◌, ◌∷◌, [], ℕ, List, false, true, not, Ok, Err, inl, inr, refl, ap, sym, subst, ◌∙◌, arith}
 use Rattle.std.specs.Result.{is_err}
-use Rattle.rb_base.specs.Blocks.{block_of, header_block, written_to, AreBlocks, IsShape}
+use Rattle.rb_base.specs.Blocks.{after_group, block_of, header_block, written_to, AreBlocks, IsShape}
 use Rattle.rb_base.specs.Groups.{Patch}
 use Rattle.rb_base.specs.Logs.{Logs, load_logs, more_logs, apply_logs}
 use Rattle.rb_base.specs.declared.shape.Shape.{Shape}
@@ -11,42 +11,52 @@ use Rattle.rb_segment.specs.Header.{header_of}
 use Rattle.rb_segment.specs.Moves.{taken_back}
 use Rattle.rb_undo.proofs.TakenBack.{home_short, group_made, is_group, takes_back, on_ok, logs_ok}
 use Rattle.rb_undo.proofs.put_back.back.Given.{Over}
-use Rattle.rb_undo.specs.Backs.{back_patches, header_for, newest_record, TakesBack}
+use Rattle.rb_undo.specs.Backs.{back_patches, header_for, newest_record, ArePutBack, CanBack, TakesBack}
 use Rattle.rb_undoblock.specs.declared.record.UndoRecord.{UndoRecord}
 use Rattle.rb_undo.proofs.put_back.back.Goals as goal
 
 -- a fault of the first load
 pub returns-in_err-load-clause-logs : goal.returns-in_err-load-clause-logs
-returns-in_err-load-clause-logs g c = (
-  [],
-  rw c.from_residual.ensures.0
-      (load_logs g.S.Store c.args.store.now c.load.new.self (Err c.in_err-load.field-0.0) c.in_err-load.ensures.only_loads c.in_err-load.ensures.failed c.in_err-load.ensures.counted),
-  λ told. inl refl,
-  omega arith,
-)
+returns-in_err-load-clause-logs g c =
+    let load = c.in_err-load.ensures in (
+      [],
+      rw c.from_residual.ensures.0
+          (load_logs g.S.Store c.args.store.now c.load.new.self (Err c.in_err-load.field-0.0) load.shape load.slots load.failed load.counted load.lsn load.blocks load.settles load.any_moment),
+      λ told. inl refl,
+      omega arith,
+    )
 
 -- and of the second one
 pub returns-in_err-undo-clause-logs : goal.returns-in_err-undo-clause-logs
-returns-in_err-undo-clause-logs g c = (
-  [],
-  rw c.from_residual-in_err-undo.ensures.0
-      (more_logs g.S.Store c.args.store.now c.load.new.self c.newest.new.store [] [] false
-      (load_logs g.S.Store c.args.store.now c.load.new.self (Ok c.in_ok-load.field-0) c.in_ok-load.ensures.only_loads c.in_ok-load.ensures.failed c.in_ok-load.ensures.counted)
-      c.in_err-undo.ensures.logs),
-  λ told. inl refl,
-  omega arith,
-)
+returns-in_err-undo-clause-logs g c =
+    let load = c.in_ok-load.ensures in (
+      [],
+      rw c.from_residual-in_err-undo.ensures.0
+          (more_logs g.S.Store c.args.store.now c.load.new.self c.newest.new.store [] [] false
+          (load_logs g.S.Store c.args.store.now c.load.new.self (Ok c.in_ok-load.field-0) load.shape load.slots load.failed load.counted load.lsn load.blocks load.settles load.any_moment)
+          c.in_err-undo.ensures.logs),
+      λ told. inl refl,
+      omega arith,
+    )
 
 -- no record was found
 pub returns-in_default-clause-logs : goal.returns-in_default-clause-logs
-returns-in_default-clause-logs g c = (
-  [],
-  more_logs g.S.Store c.args.store.now c.load.new.self c.newest.new.store [] [] true
-      (load_logs g.S.Store c.args.store.now c.load.new.self (Ok c.in_ok-load.field-0) c.in_ok-load.ensures.only_loads c.in_ok-load.ensures.failed c.in_ok-load.ensures.counted)
-      c.in_ok-undo.ensures.logs,
-  λ told. inl refl,
-  omega arith,
-)
+returns-in_default-clause-logs g c =
+    let load = c.in_ok-load.ensures in (
+      [],
+      more_logs g.S.Store c.args.store.now c.load.new.self c.newest.new.store [] [] true
+          (load_logs g.S.Store c.args.store.now c.load.new.self (Ok c.in_ok-load.field-0) load.shape load.slots load.failed load.counted load.lsn load.blocks load.settles load.any_moment)
+          c.in_ok-undo.ensures.logs,
+      λ told. inl refl,
+      omega arith,
+    )
+
+pub returns-in_default-clause-nothing : goal.returns-in_default-clause-nothing
+returns-in_default-clause-nothing g c told not =
+    let load = c.in_ok-load.ensures in
+    more_logs g.S.Store c.args.store.now c.load.new.self c.newest.new.store [] [] true
+    (load_logs g.S.Store c.args.store.now c.load.new.self (Ok c.in_ok-load.field-0) load.shape load.slots load.failed load.counted load.lsn load.blocks load.settles load.any_moment)
+    c.in_ok-undo.ensures.logs
 
 pub take_back-requires-clause-room : goal.take_back-requires-clause-room
 take_back-requires-clause-room g c = home_short _ _ _ _ _ _ _ c.new.ensures c.change.ensures.patches c.change.ensures.cell_sound
@@ -56,7 +66,7 @@ copied : (g : Over) (c : goal.After-apply g) → g.S.Store.tells → c.copy_from
 copied g c told =
     let no = c.header_block.ensures.number ∙ ap (λ (shape : Shape). header_block shape c.args.xid.seg) c.shape-shape.ensures.shape in
     c.copy_from_slice.ensures.after ∙ c.block.ensures.block told c.header_block.result c.in_ok-load.ensures.loaded
-    ∙ ap (λ (blocks : List (List ℕ)). block_of blocks c.header_block.result) (c.in_ok-load.ensures.only_loads.same_blocks told)
+    ∙ ap (λ (blocks : List (List ℕ)). block_of blocks c.header_block.result) (c.in_ok-load.ensures.blocks told)
     ∙ ap (block_of (g.S.Store.blocks c.args.store.now)) no
 
 -- the record is the newest one
@@ -64,7 +74,7 @@ found : (g : Over) (c : goal.After-apply g) → g.S.Store.tells → c.in-Some.un
 found g c told =
     let is = rw c.in-Some.is at (c.in_ok-undo.ensures.found told) in
     is.1 ∙ ap (λ (shape : Shape). newest_record shape (g.S.Store.blocks c.load.new.self) c.args.xid) c.shape-shape.ensures.shape
-    ∙ ap (λ (blocks : List (List ℕ)). newest_record (g.S.Store.shape_of c.args.store.now) blocks c.args.xid) (c.in_ok-load.ensures.only_loads.same_blocks told)
+    ∙ ap (λ (blocks : List (List ℕ)). newest_record (g.S.Store.shape_of c.args.store.now) blocks c.args.xid) (c.in_ok-load.ensures.blocks told)
 
 -- so the group is the one that the contract says
 group_is : (g : Over) (c : goal.After-apply g) → g.S.Store.tells → c.take_back.new.group ≡ back_patches (g.S.Store.shape_of c.args.store.now) c.args.xid (newest_record (g.S.Store.shape_of c.args.store.now) (g.S.Store.blocks c.args.store.now) c.args.xid) (header_for (g.S.Store.shape_of c.args.store.now) (g.S.Store.blocks c.args.store.now) c.args.xid)
@@ -84,12 +94,51 @@ applied g c =
     let old = c.args.store.now in
     let mid = c.newest.new.store in
     let call = c.apply.ensures in
-    let loaded = load_logs s old c.load.new.self (Ok c.in_ok-load.field-0) c.in_ok-load.ensures.only_loads c.in_ok-load.ensures.failed c.in_ok-load.ensures.counted in
+    let load = c.in_ok-load.ensures in
+    let loaded = load_logs s old c.load.new.self (Ok c.in_ok-load.field-0) load.shape load.slots load.failed load.counted load.lsn load.blocks load.settles load.any_moment in
     more_logs s old mid c.apply.new.self [] (c.take_back.new.group ∷ []) (not (is_err c.apply.result)) (more_logs s old c.load.new.self mid [] [] true loaded c.in_ok-undo.ensures.logs)
-    (apply_logs s mid c.apply.new.self c.take_back.new.group c.apply.result call.shape call.slots call.failed call.counted call.lsn call.blocks call.pending call.stable call.crashes)
+    (apply_logs s mid c.apply.new.self c.take_back.new.group c.apply.result call.shape call.slots call.failed call.counted call.lsn call.blocks call.settles call.any_moment)
+
+-- it can be put back
+can : (g : Over) (c : goal.After-apply g) → g.S.Store.tells → CanBack (g.S.Store.shape_of c.args.store.now) (g.S.Store.blocks c.args.store.now) c.args.xid
+can g c told =
+    let is = rw c.in-Some.is at (c.in_ok-undo.ensures.found told) in
+    subst (λ (shape : Shape). CanBack shape (g.S.Store.blocks c.args.store.now) c.args.xid) c.shape-shape.ensures.shape
+    (subst (λ (blocks : List (List ℕ)). CanBack c.shape-shape.result blocks c.args.xid) (c.in_ok-load.ensures.blocks told) is.0)
+
+-- and the group is one that does
+makes : (g : Over) (c : goal.After-apply g) → (told : g.S.Store.tells) → ArePutBack (g.S.Store.shape_of c.args.store.now) c.args.xid (g.S.Store.lsn c.args.store.now) (g.S.Store.blocks c.args.store.now) (c.take_back.new.group ∷ [])
+makes g c told =
+    let s = g.S.Store in
+    let old = c.args.store.now in
+    let shape = s.shape_of old in
+    let blocks = s.blocks old in
+    let x = c.args.xid in
+    let u = newest_record shape blocks x in
+    let header = c.take_back.new.header in
+    let may = can g c told in
+    let are = subst (λ (s : Shape). AreBlocks s blocks) c.in_ok-load.ensures.shape (subst (AreBlocks (s.shape_of c.load.new.self)) (c.in_ok-load.ensures.blocks told) (c.in_ok-load.ensures.whole told)) in
+    let is = found g c told in
+    let cell_sound = subst IsCell (c.cell_from-cell.ensures ∙ ap (λ (u : UndoRecord). cell_of u.cell_before) is) c.change.ensures.cell_sound in
+    let entry_sound = subst IsEntry (c.entry_from-entry.ensures ∙ ap (λ (u : UndoRecord). entry_of u.entry_before) is) c.change.ensures.entry_sound in
+    let in_range = subst IsShape c.shape-shape.ensures.shape c.shape-shape.ensures.in_range in
+    let copy = c.take_back.ensures.copy
+    ∙ ap (λ (s : Shape). written_to (header_block s x.seg) (slot_patches (header_block s x.seg) x.slot (header_of header)) c.copy_from_slice.new.self) c.shape-shape.ensures.shape
+    ∙ ap (written_to (header_block shape x.seg) (slot_patches (header_block shape x.seg) x.slot (header_of header))) (copied g c told) in
+    let moved = c.take_back.ensures.moved
+    ∙ ap (λ (l : List ℕ). taken_back x.slot c.in-Some.undo.previous (header_of l)) (copied g c told)
+    ∙ ap (λ (u : UndoRecord). taken_back x.slot u.previous (header_for shape blocks x)) is in
+    let group = group_is g c told in
+    let back = takes_back shape x u (s.lsn old + 1) blocks header are c.requires.there c.requires.slot may.home may.entry may.cell cell_sound entry_sound copy moved in
+    record {
+      can = may;
+      one = ap (λ (l : List Patch). l ∷ []) group;
+      valid = is_group shape x u (s.lsn old + 1) blocks header are c.requires.there c.requires.slot may.home may.entry may.cell cell_sound entry_sound in_range;
+      takes = subst (λ (l : List Patch). TakesBack shape x u blocks (after_group (s.lsn old + 1) l blocks)) (sym group) back;
+    }
 
 pub returns-clause-logs : goal.returns-clause-logs
-returns-clause-logs g c = (c.take_back.new.group ∷ [], applied g c, λ told. inr (ap (λ (group : List Patch). group ∷ []) (group_is g c told)), omega arith)
+returns-clause-logs g c = (c.take_back.new.group ∷ [], applied g c, λ told. inr (makes g c told), omega arith)
 
 pub returns-clause-put_back : goal.returns-clause-put_back
 returns-clause-put_back g c told can =
@@ -100,37 +149,9 @@ pub returns-clause-means : goal.returns-clause-means
 returns-clause-means g c told can =
     let s = g.S.Store in
     let old = c.args.store.now in
+    let new = c.apply.new.self in
     let shape = s.shape_of old in
-    let blocks = s.blocks old in
-    let x = c.args.xid in
-    let u = newest_record shape blocks x in
-    let header = c.take_back.new.header in
-    let are = subst (λ (s : Shape). AreBlocks s blocks) c.in_ok-load.ensures.only_loads.same_shape (subst (AreBlocks (s.shape_of c.load.new.self)) (c.in_ok-load.ensures.only_loads.same_blocks told) (c.in_ok-load.ensures.whole told)) in
-    let is = found g c told in
-    let cell_sound = subst IsCell (c.cell_from-cell.ensures ∙ ap (λ (u : UndoRecord). cell_of u.cell_before) is) c.change.ensures.cell_sound in
-    let entry_sound = subst IsEntry (c.entry_from-entry.ensures ∙ ap (λ (u : UndoRecord). entry_of u.entry_before) is) c.change.ensures.entry_sound in
-    let copy = c.take_back.ensures.copy
-    ∙ ap (λ (s : Shape). written_to (header_block s x.seg) (slot_patches (header_block s x.seg) x.slot (header_of header)) c.copy_from_slice.new.self) c.shape-shape.ensures.shape
-    ∙ ap (written_to (header_block shape x.seg) (slot_patches (header_block shape x.seg) x.slot (header_of header))) (copied g c told) in
-    let moved = c.take_back.ensures.moved
-    ∙ ap (λ (l : List ℕ). taken_back x.slot c.in-Some.undo.previous (header_of l)) (copied g c told)
-    ∙ ap (λ (u : UndoRecord). taken_back x.slot u.previous (header_for shape blocks x)) is in
-    let back = takes_back shape x u (s.lsn old + 1) blocks header are c.requires.there c.requires.slot can.home can.entry can.cell cell_sound entry_sound copy moved in
+    let u = newest_record shape (s.blocks old) c.args.xid in
     on_ok c.apply.result
-    (λ (logs : Logs s old c.apply.new.self (back_patches shape x u (header_for shape blocks x) ∷ []) true). subst (TakesBack shape x u blocks) (sym (logs.blocks told refl)) back)
-    (returns-clause-put_back g c told can)
-
-pub returns-clause-patches : goal.returns-clause-patches
-returns-clause-patches g c told can =
-    let s = g.S.Store in
-    let shape = s.shape_of c.args.store.now in
-    let blocks = s.blocks c.args.store.now in
-    let x = c.args.xid in
-    let u = newest_record shape blocks x in
-    let are = subst (λ (s : Shape). AreBlocks s blocks) c.in_ok-load.ensures.only_loads.same_shape (subst (AreBlocks (s.shape_of c.load.new.self)) (c.in_ok-load.ensures.only_loads.same_blocks told) (c.in_ok-load.ensures.whole told)) in
-    let is = found g c told in
-    let cell_sound = subst IsCell (c.cell_from-cell.ensures ∙ ap (λ (u : UndoRecord). cell_of u.cell_before) is) c.change.ensures.cell_sound in
-    let entry_sound = subst IsEntry (c.entry_from-entry.ensures ∙ ap (λ (u : UndoRecord). entry_of u.entry_before) is) c.change.ensures.entry_sound in
-    let in_range = subst IsShape c.shape-shape.ensures.shape c.shape-shape.ensures.in_range in
-    let grouped = is_group shape x u (s.lsn c.args.store.now + 1) blocks c.take_back.new.header are c.requires.there c.requires.slot can.home can.entry can.cell cell_sound entry_sound in_range in
-    on_ok c.apply.result (λ _. grouped) (returns-clause-put_back g c told can)
+    (λ (logs : Logs s old new (c.take_back.new.group ∷ []) true). subst (TakesBack shape c.args.xid u (s.blocks old)) (sym (logs.blocks told refl)) (makes g c told).takes)
+    (logs_ok s old new (c.take_back.new.group ∷ []) c.apply.result (applied g c))

@@ -1,38 +1,46 @@
-use Rattle.std.proofs.Common.{◌≤◌, Some, refl, sym, ◌∙◌, ap, subst}
+use Rattle.std.proofs.Common.{◌≤◌, Bool, not, Some, refl, sym, ◌∙◌, ap, subst}
 use Rattle.rb_attempt.specs.Asks.{AreYoung, MayWrite}
 use Rattle.rb_attempt.specs.declared.ask.Ask.{Ask}
+use Rattle.rb_base.specs.Logs.{Logs, group_of}
 use Rattle.rb_base.specs.declared.shape.Shape.{Shape}
 use Rattle.rb_standing.specs.Standing.{logged_of}
-use Rattle.rb_undoengine.proofs.Calls.{done, refused_as}
+use Rattle.rb_undo.proofs.TakenBack.{on_ok}
+use Rattle.rb_undoengine.proofs.Calls.{done, failed_as, makes, refused_as}
 use Rattle.rb_undoengine.proofs.Kept.{kept_few}
 use Rattle.rb_undoengine.proofs.May.{may_write}
 use Rattle.rb_undoengine.proofs.Young.{young}
 use Rattle.rb_undoengine.proofs.write.write_step.Goals as goal
 
-pub attempt-requires-clause-may : goal.attempt-requires-clause-may
-attempt-requires-clause-may g c told =
-    let blocks = g.S.Store.blocks c.args.store.now in
-    let is = c.requires.about told in
-    subst (λ (k : Shape). MayWrite k blocks c.args.own) (sym is.4) (may_write is.0 is.1 blocks is.2 c.args.own is.3 is.5 is.6)
-
-pub returns-clause-done : goal.returns-clause-done
-returns-clause-done g c told h xids s about same s_in mine number sixteen =
+pub returns-clause-gives : goal.returns-clause-gives
+returns-clause-gives g c told h xids s about same s_in mine number sixteen =
     let s_of = g.S.Store in
     let old = c.args.store.now in
-    let ask : Ask = record { own = c.args.own; table = c.args.table; key = c.args.key; op = Some c.args.op } in
+    let ask : Ask = record { own = c.args.own; table = c.args.table; key = c.args.key; op = Some c.args.op; room = c.args.room } in
     let are_young : AreYoung (s_of.shape_of old) (s_of.blocks old) = subst (λ (k : Shape). AreYoung k (s_of.blocks old)) (sym same) (young h xids (s_of.blocks old) about.stand) in
     let last : c.args.table ≤ h.shape.tables = subst (λ (k : Shape). c.args.table ≤ k.tables) same c.requires.table.1 in
     let call = c.attempt.ensures in
     done s_of told old c.attempt.new.store h xids s ask c.args.op about same refl c.requires.table.0 last mine c.attempt.result call.logs.0 s_in number (kept_few h xids (s_of.blocks old) c.args.own about.stand sixteen) call.logs.1
     (call.written told (number ∙ ap (λ (k : Shape). logged_of k (s_of.blocks old)) (sym same)) are_young)
-    (call.takes told are_young) call.room (call.kept told)
+    (call.takes told are_young) (on_ok c.attempt.result (λ room. room.0) call.room) (call.kept told)
 
 pub returns-clause-refused : goal.returns-clause-refused
-returns-clause-refused g c told going h xids s about same mine =
+returns-clause-refused g c told going h xids s about same s_in mine sixteen =
     let s_of = g.S.Store in
     let old = c.args.store.now in
-    let ask : Ask = record { own = c.args.own; table = c.args.table; key = c.args.key; op = Some c.args.op } in
+    let ask : Ask = record { own = c.args.own; table = c.args.table; key = c.args.key; op = Some c.args.op; room = c.args.room } in
     let are_young : AreYoung (s_of.shape_of old) (s_of.blocks old) = subst (λ (k : Shape). AreYoung k (s_of.blocks old)) (sym same) (young h xids (s_of.blocks old) about.stand) in
     let last : c.args.table ≤ h.shape.tables = subst (λ (k : Shape). c.args.table ≤ k.tables) same c.requires.table.1 in
+    let may = subst (λ (k : Shape). MayWrite k (s_of.blocks old) c.args.own) (sym same) (may_write h xids (s_of.blocks old) s c.args.own about s_in sixteen) in
     let call = c.attempt.ensures in
-    refused_as s_of told old c.attempt.new.store h xids s ask c.args.op about same refl c.requires.table.0 last mine c.attempt.result (call.refused going) (call.cause told are_young going)
+    refused_as s_of told old c.attempt.new.store h xids s ask c.args.op about same refl c.requires.table.0 last mine c.attempt.result (call.cause told are_young may going)
+
+pub returns-clause-failed : goal.returns-clause-failed
+returns-clause-failed g c told fails h xids s about same s_in mine number sixteen =
+    let s_of = g.S.Store in
+    let old = c.args.store.now in
+    let ask : Ask = record { own = c.args.own; table = c.args.table; key = c.args.key; op = Some c.args.op; room = c.args.room } in
+    let are_young : AreYoung (s_of.shape_of old) (s_of.blocks old) = subst (λ (k : Shape). AreYoung k (s_of.blocks old)) (sym same) (young h xids (s_of.blocks old) about.stand) in
+    let last : c.args.table ≤ h.shape.tables = subst (λ (k : Shape). c.args.table ≤ k.tables) same c.requires.table.1 in
+    let group = c.attempt.ensures.group told (number ∙ ap (λ (k : Shape). logged_of k (s_of.blocks old)) (sym same)) are_young in
+    failed_as s_of told old c.attempt.new.store h xids s ask c.args.op about same refl c.requires.table.0 last mine group.0 (subst (λ (b : Bool). Logs s_of old c.attempt.new.store (group_of group.0) (not b)) fails group.1)
+    (makes s_of told old c.attempt.new.store h xids s ask c.args.op about same refl c.requires.table.0 last mine group.0 s_in number (kept_few h xids (s_of.blocks old) c.args.own about.stand sixteen) group.2)

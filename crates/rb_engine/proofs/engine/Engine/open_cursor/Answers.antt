@@ -1,30 +1,27 @@
-use Rattle.std.proofs.Common.{refl, ap}
-use Rattle.rb_model.proofs.Stops.{plain_fine}
-use Rattle.rb_model.specs.Answers.{plain_answer}
+use Rattle.std.proofs.Common.{◌++◌, ◌∷◌, [], sym, ◌∙◌, subst, refl}
+use Rattle.rb_base.specs.Logs.{Laws}
+use Rattle.rb_engine.specs.Does.{Does, EngineView, Stands}
+use Rattle.rb_model.specs.Answers.{plain_answer, fetch_answer}
+use Rattle.rb_model.specs.Calls as machine
 use Rattle.rb_model.specs.Names.{name_text}
-use Rattle.rb_model.specs.Reply as machine
-use Rattle.rb_engine.specs.Engine.{EngineView}
-use Rattle.rb_engine.proofs.EngineLemmas.{in_step_still}
-use Rattle.rb_engine.proofs.MemoryLemmas.{does_in_memory, none_counted}
+use Rattle.rb_model.specs.NextState.{cursors_of, opened_cursor, with_taken, without_cursor}
+use Rattle.rb_model.proofs.Stops.{fault_of_fetch, fault_of_plain}
+use Rattle.rb_engine.proofs.DoesLemmas.{does_answered, no_fault}
 use Rattle.rb_engine.proofs.engine.Engine.open_cursor.Goals as goal
 
-pub invariant_of-self : goal.invariant_of-self
-invariant_of-self g c =
-    let e = c.open_cursor.ensures in
-    in_step_still g.T.Store c.self.inside.state c.open_cursor.new.self c.self.inside.store (machine.OpenCursor c.args.s (name_text c.args.name.now) c.args.table c.args.lo c.args.hi) (plain_answer c.open_cursor.result)
-    e.state e.shape e.commits e.stopped e.own e.spare c.self.invariant
-
 pub returns-clause-did : goal.returns-clause-did
-returns-clause-did g c =
-    let e = c.open_cursor.ensures in
-    rw (← c.self.view_is) (λ h st.
-    does_in_memory g.T.Store (λ keeps. record { left_opens = λ store b i. g.met.T.Store.stable_left store b i keeps; read_patched = λ store i. g.met.T.Store.only_now store i keeps })
-    h (machine.OpenCursor c.args.s (name_text c.args.name.now) c.args.table c.args.lo c.args.hi) (plain_answer c.open_cursor.result) c.self.inside.state c.open_cursor.new.self c.self.inside.store st c.self.invariant e.answer e.state e.shape e.commits refl)
-
-pub returns-clause-same : goal.returns-clause-same
-returns-clause-same g c = rw (← c.self.view_is) (record { shape = refl; slots = refl })
-
-pub returns-clause-disk : goal.returns-clause-disk
-returns-clause-disk g c =
-    none_counted _ _ _ (ap (λ (e : EngineView g.row.T.Denot). g.T.Store.faults e.store) c.self.view_is)
-    (plain_fine c.open_cursor.result c.self.inside.state.state 0 0 (machine.OpenCursor c.args.s (name_text c.args.name.now) c.args.table c.args.lo c.args.hi) (c.open_cursor.ensures.answer 0 0))
+returns-clause-did g c = λ h st.
+    let s = g.T.Store in
+    let call = c.open_cursor in
+    let store = c.self.inside.store in
+    let laws : Laws s = record {
+      stable_left = λ store b n i keeps stable here. g.met.T.Store.stable_left store b n i keeps stable here;
+      stable_numbered = λ store b n keeps stable. g.met.T.Store.stable_numbered store b n keeps stable;
+      stable_patched = λ store b n keeps stable. g.met.T.Store.stable_patched store b n keeps stable;
+      now_counts = λ store t i keeps le here. g.met.T.Store.now_counts store t i keeps le here;
+      only_now = λ store i keeps here. g.met.T.Store.only_now store i keeps here;
+    } in
+    let here = subst (Stands s h) (sym c.self.view_is) st in
+    subst (λ e. Does s h (machine.OpenCursor c.args.s (name_text c.args.name.now) c.args.table c.args.lo c.args.hi) (plain_answer call.result) e (record { memory = call.new.self; store = store })) c.self.view_is
+    (does_answered s laws h (machine.OpenCursor c.args.s (name_text c.args.name.now) c.args.table c.args.lo c.args.hi) (plain_answer call.result) (record { memory = c.self.inside.memory; store = store }) (record { memory = call.new.self; store = store }) here c.self.invariant.going
+    (sym (fault_of_plain call.result) ∙ no_fault call.result call.ensures.other) (λ now e. (c.args.s, cursors_of h c.args.s ++ opened_cursor h c.args.s (name_text c.args.name.now) c.args.table c.args.lo c.args.hi ∷ [], e)) refl (call.ensures.did h here.memory) call.ensures.own call.ensures.spare refl)

@@ -1,11 +1,11 @@
-use Rattle.rb_model.specs.Answers.{write_answer, action_of}
-use Rattle.rb_model.specs.Reply as machine
-use Rattle.rb_engine.proofs.DoesLemmas.{does_by}
+use Rattle.std.proofs.Common.{sym, subst}
+use Rattle.rb_engine.specs.Does.{Does, EngineView, Stands}
+use Rattle.rb_model.specs.Answers.{action_of, write_answer}
+use Rattle.rb_model.specs.Calls as machine
 use Rattle.rb_engine.proofs.engine.Engine.write.Goals as goal
 
 pub returns-clause-did : goal.returns-clause-did
 returns-clause-did g c = λ h st.
     let s = g.T.Store in
-    let e = c.do_write.ensures in
-    does_by s h (machine.Write c.args.s c.args.table c.args.key (action_of c.args.op)) (write_answer c.do_write.result) c.args.self.now c.do_write.new.self st
-    (λ told. e.answer told) e.state e.same.shape (λ going. e.number going) (λ kept durable. e.crash kept durable)
+    let call = c.do_write in
+    subst (λ e. Does s h (machine.Write c.args.s c.args.table c.args.key (action_of c.args.op)) (write_answer call.result) e (record { memory = call.new.memory; store = call.new.store })) c.self.view_is (call.ensures.did h (subst (Stands s h) (sym c.self.view_is) st))

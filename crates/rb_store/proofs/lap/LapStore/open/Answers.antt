@@ -1,17 +1,16 @@
-use Rattle.std.proofs.Common.{List, ℕ, length, refl, arith, ap, sym, subst}
+use Rattle.std.proofs.Common.{◌≡◌, ◌∙◌, List, ℕ, length, refl, arith, ap, sym, subst}
 use Rattle.rb_log.specs.GroupSlots.{LogState}
 use Rattle.rb_log.specs.Slots.{SameSlots}
 use Rattle.rb_store.proofs.lap.LapStore.open.Goals as goal
 
 -- each file has its own slots
-same_file : (slots : ℕ) (file : List ℕ) → SameSlots slots file file
-same_file slots file = record { long = refl; same = refl }
+same_file : (slots : ℕ) (file other : List ℕ) → other ≡ file → SameSlots slots file other
+same_file slots file other is = subst (SameSlots slots file) (sym is) (record { long = refl; same = refl })
 
 pub invariant_of-result : goal.invariant_of-result
 invariant_of-result g c =
-    let h = c.in-Ok.ensures.opened in
-    let l = c.in-Ok.parts.layout in
-    let log = c.in-Ok.parts.scan.log in
+    let call = c.in-Ok.ensures in
+    let h = call.scanned in
     let waiting = ap length (ap (λ (x : LogState). x.pending) h.log_is) in (
       record {
         same_layout = ap (λ (x : LogState). x.layout) h.log_is;
@@ -19,9 +18,9 @@ invariant_of-result g c =
         ended = ap (λ (x : LogState). x.scanned) h.log_is;
         numbers = omega (arith, h.lsn, ap (λ (x : LogState). x.used) h.log_is, waiting);
       },
-      λ told. (h.file told).identity.whole,
-      λ told going im here. subst (λ (f : List ℕ). SameSlots l.log (g.D.Disk.content c.open_parts.new.disk) f) (sym (h.only told im here)) (same_file l.log (g.D.Disk.content c.open_parts.new.disk)),
+      λ told. ap length (call.same told).same ∙ (call.identity told).whole,
+      λ told going im here. same_file c.in-Ok.scan.layout.log (g.D.Disk.content c.scan_file.new.disk) im (call.durable told im here ∙ sym (call.same told).same),
     )
 
 pub returns-in-Err-clause-none : goal.returns-in-Err-clause-none
-returns-in-Err-clause-none g c told e l b opens = let i = c.in-Err.is in c.in-Err.ensures.none told (cc (i, e)) l b opens
+returns-in-Err-clause-none g c told e l b n opens = c.in-Err.ensures.none told (cc e) l b n opens

@@ -1,0 +1,271 @@
+-- What a rollback leaves, change by change, from the groups of its steps.
+use Rattle.std.proofs.Common.{◌≡◌, ◌<◌, ◌≤◌, ◌+◌, ◌-◌, ◌*◌, ◌^◌, ◌∷◌, ◌++◌, inl, ℕ, suc, Bool, true, false, not, List, [], length, length-append, map, set, take, Option, Some, None, Result, Ok, Err, OnOk, refl, sym, ◌∙◌, ap, subst, arith}
+use Rattle.std.proofs.lemmas.List.{set-set, take_all}
+use Rattle.std.specs.Result.{is_err}
+use Rattle.rb_attempt.specs.Asks.{header_in}
+use Rattle.rb_base.specs.Blocks.{after_groups}
+use Rattle.rb_base.specs.Counts.{IsCounted}
+use Rattle.rb_base.specs.Groups.{Patch}
+use Rattle.rb_base.specs.Logs.{Laws, Logs, more_logs, no_logs}
+use Rattle.rb_base.specs.Stores.{room_of}
+use Rattle.rb_base.specs.declared.ids.Xid.{Xid}
+use Rattle.rb_base.specs.declared.shape.Shape.{Shape}
+use Rattle.rb_base.specs.declared.store.Store.{Ghosts}
+use Rattle.rb_engine.specs.Does.{Does, EngineView, SameStore, Stands}
+use Rattle.rb_engine.specs.Finishing.{Fails, PutsAllBack}
+use Rattle.rb_engine.proofs.DoesLemmas.{does_by, survives_same}
+use Rattle.rb_engine.proofs.FinishLemmas.{holds_own, no_early, own_known, runs_in}
+use Rattle.rb_image.specs.Crash.{MarksGrow, Survives}
+use Rattle.rb_image.specs.Holds.{Holds}
+use Rattle.rb_image.specs.Images.{HasState}
+use Rattle.rb_image.specs.Made.{BackMade, EndMade, GivesOne}
+use Rattle.rb_image.proofs.Crashes.{grow_same, has_later, has_state, survives_on}
+use Rattle.rb_image.proofs.Marks.{shrinks_left}
+use Rattle.rb_image.proofs.Owners.{OwnedBy, owned_by}
+use Rattle.rb_image.proofs.Steps.{read_has, survives_going}
+use Rattle.rb_image.proofs.StepsHeld.{few_each, holds_back, holds_ended, room_less}
+use Rattle.rb_model.specs.Book.{Book}
+use Rattle.rb_memory.specs.Remembers.{Remembers}
+use Rattle.rb_model.specs.Calls.{Done, Owned, Reply, Rollback}
+use Rattle.rb_model.specs.Change.{Change}
+use Rattle.rb_model.specs.NextState.{EndsAs, cursors_of, ended, left_open, not_present, without_owner}
+use Rattle.rb_model.specs.Rows.{last_scn}
+use Rattle.rb_model.specs.State.{Session, State, session_own, with_changes}
+use Rattle.rb_restart.proofs.Joined.{room_on}
+use Rattle.rb_restart.proofs.Slots.{owed_is, slot_for}
+use Rattle.rb_segment.specs.Calls.{Runs}
+use Rattle.rb_segment.specs.Segments.{commit_scn, owed_in}
+use Rattle.rb_standing.specs.NextStates.{with_own}
+use Rattle.rb_standing.specs.Standing.{env_of, homes_of, logged_of, segments_of}
+use Rattle.rb_standing.specs.States.{BlocksStand, lives_of, past_of}
+use Rattle.rb_standing.specs.Values.{slot_of}
+use Rattle.rb_standing.proofs.OwedMoves.{owed_committed}
+use Rattle.rb_standing.proofs.States.{length_newest, lives_owned}
+use Rattle.rb_txntable.specs.declared.slots.TableSlot.{TableSlot}
+use Rattle.rb_undoengine.proofs.LeftOwn.{last_of, own_again, own_all, own_left}
+use Rattle.rb_walk.specs.Walk as walk
+use Rattle.rb_walk.specs.Walk.{own}
+
+module _ {S : Type 0} (s : Ghosts S) where
+  -- The state with these changes left is what the store has, so many groups later, and of a crash no more is left.
+  pub record IsLeft (h : State) (x : Xid) (left : List Change) (turn : ℕ) (old now : S) : Type 0 where
+    pub holds : Holds s (with_own h 1 left) (Some x) now
+    pub lsn : s.lsn now ≡ s.lsn old + turn
+    pub survives : s.keeps → Survives s (s.slots old) h (with_own h 1 left) old now
+
+  -- a state that a rollback of so many changes starts from
+  pub record Starts (h : State) (x : Xid) (count : ℕ) (old : S) : Type 0 where
+    pub shape : s.shape_of old ≡ h.shape
+    pub holds : Holds s h (Some x) old
+    pub alone : length h.sessions ≡ 1
+    pub going : h.stopped ≡ false
+    pub own : length (session_own h 1) ≡ count
+
+  -- As many of `count` changes are put back.
+  pub record PutBacks (x : Xid) (count turn : ℕ) (old now : S) : Type 0 where
+    pub groups : List (List Patch)
+    pub logs : Logs s old now groups true
+    pub few : length groups ≤ turn
+    pub left : s.tells → (h : State) → Starts h x count old → IsLeft h x (take (count - turn) (session_own h 1)) turn old now
+
+  -- what groups are to a count of faults, and to the store's shape
+  pub logs_counted : {T E : Type 0} (old new : S) (groups : List (List Patch)) (r : Result T E) → Logs s old new groups (not (is_err r)) → IsCounted (s.faults old) (s.faults new) r
+  logs_counted old new groups (Ok value) logs = record { no_less = logs.no_less; cause = tt; still = logs.still refl }
+  logs_counted old new groups (Err fault) logs = record { no_less = logs.no_less; cause = logs.cause refl; still = tt }
+
+  pub logs_same : (old new : S) (groups : List (List Patch)) (going : Bool) → Logs s old new groups going → SameStore s old new
+  logs_same old new groups going logs = record { shape = logs.same_shape; slots = logs.same_slots }
+
+  pub logs_number : {T E : Type 0} (old new : S) (groups : List (List Patch)) (n : ℕ) (r : Result T E) → Logs s old new groups (not (is_err r)) → length groups ≤ n + 1 → OnOk r (s.lsn new ≤ s.lsn old + n + 1)
+  logs_number old new groups n (Ok value) logs few = omega (arith, few, logs.number refl)
+  logs_number old new groups n (Err fault) logs few = tt
+
+  module _ (told : s.tells) (laws : Laws s) where
+    -- A step that failed, whose group leaves the commits and no more marks: whatever changes the sessions have left.
+    step_fails : (m : State) (own : Option Xid) (old new : S) (all left : List Session) (books : List Book) (xids : List Xid) (Is : List (List ℕ) → Type 0) → s.shape_of old ≡ m.shape → Holds s m own old → MarksGrow m.shape books m.books
+        → ((now : List (List ℕ)) → Is now → BlocksStand (record m { sessions = left; books = books }) xids now × (logged_of m.shape now ≡ logged_of m.shape (s.blocks old) + 1) × (owed_in m.shape now + 1 ≤ owed_in m.shape (s.blocks old)))
+        → GivesOne s old new false Is → s.keeps → Survives s (s.slots old) m (record m { sessions = all; stopped = true }) old new
+    step_fails m own old new all left books xids Is shape holds marks is one keeps =
+        let P : List (List ℕ) → ℕ → Type 0 = HasState m m.books (last_scn m.commits) (s.slots old) in
+        let h2 : State = record m { sessions = all; stopped = true } in
+        let h3 : State = record m { sessions = left; books = books } in
+        let Q : List (List ℕ) → ℕ → Type 0 = HasState h2 h2.books (last_scn h2.commits) (s.slots old) in
+        let so : (b : List (List ℕ)) (n : ℕ) → P b n → Q b n = λ b n has. has_later m h2 m.books m.books (last_scn m.commits) (s.slots old) b n refl refl (grow_same m.shape m.books) has in
+        let now = after_groups (s.lsn old + 1) one.groups (s.blocks old) in
+        let after : 1 ≤ length one.groups → Q now (s.lsn old + 1) = λ some.
+        let k = is now (one.made some) in
+        has_later h3 h2 books m.books (last_scn m.commits) (s.slots old) now (s.lsn old + 1) refl refl marks
+        (has_state h3 xids now (s.slots old) (s.lsn old + 1) k.0 (ap (λ (n : ℕ). n + 1) holds.logged ∙ sym k.1) (room_less (s.slots old) (s.lsn old) (owed_in m.shape now) (omega (arith, k.2, holds.fits)))) in
+        survives_going s laws keeps m h2 old new one.groups shape refl refl (grow_same m.shape m.books) (holds.images keeps) false one.logs
+        (few_each s told laws Q one.groups (s.blocks old) (s.lsn old) keeps one.few (so _ _ (read_has s laws keeps P old (holds.images keeps))) after)
+
+    -- the slot that the transaction has, with some changes left
+    id_left : (h : State) (x : Xid) (left : List Change) (turn : ℕ) (old now : S) → (is : IsLeft h x left turn old now) → OwnedBy (with_own h 1 left) (s.blocks now) 1 x
+    id_left h x left turn old now is = owned_by (with_own h 1 left) is.holds.xids (s.blocks now) 1 x is.holds.blocks is.holds.id
+
+    module _ (h : State) (x : Xid) (count : ℕ) (old mid new : S) (st : Starts h x count old) (same : SameStore s old mid) where
+      -- the calls before, and a step that failed
+      fails_on : (a : List Change) (turn : ℕ) → IsLeft h x a turn old mid → (s.keeps → Survives s (s.slots mid) (with_own h 1 a) (record h { stopped = true }) mid new) → Fails s h old new
+      fails_on a turn left step keeps = survives_on s (s.slots old) h (with_own h 1 a) (record h { stopped = true }) old mid new st.going (left.survives keeps)
+          (subst (λ (k : Option ℕ). Survives s k (with_own h 1 a) (record h { stopped = true }) mid new) same.slots (step keeps))
+
+      module _ (a front : List Change) (turn : ℕ) (left : IsLeft h x a turn old mid) where
+        pub back_fails : GivesOne s mid new false (λ now. BackMade (with_own h 1 a) left.holds.xids 1 front (s.blocks mid) now) → Fails s h old new
+        back_fails one =
+            let m : State = with_own h 1 a in
+            fails_on a turn left (step_fails m (Some x) mid new h.sessions (set m.sessions 0 (with_changes m 1 front)) m.books left.holds.xids (λ now. BackMade m left.holds.xids 1 front (s.blocks mid) now) (same.shape ∙ st.shape) left.holds (grow_same m.shape m.books)
+            (λ now made. (made.stand, made.last, made.owed)) one)
+
+        pub back_done : GivesOne s mid new true (λ now. BackMade (with_own h 1 a) left.holds.xids 1 front (s.blocks mid) now) → IsLeft h x front (turn + 1) old new
+        back_done one =
+            let m : State = with_own h 1 a in
+            let all = holds_back s told laws m (Some x) mid new front (same.shape ∙ st.shape) left.holds one in
+            let again : with_own m 1 front ≡ with_own h 1 front = own_again h 1 (omega arith) (omega (arith, st.alone)) a front in
+            record {
+              holds = subst (λ (z : State). Holds s z (Some x) new) again all.0;
+              lsn = let n = one.logs.number refl in let k = one.one refl in omega (arith, n, k, left.lsn);
+              survives = λ keeps. subst (λ (z : State). Survives s (s.slots old) h z old new) again
+                  (survives_on s (s.slots old) h m (with_own m 1 front) old mid new st.going (left.survives keeps) (subst (λ (k : Option ℕ). Survives s k m (with_own m 1 front) mid new) same.slots (all.1 keeps)));
+            }
+
+      -- the end of the slot, once no change is left
+      pub ends_all : (left : IsLeft h x [] count old mid) (going : Bool) → GivesOne s mid new going (λ now. EndMade (with_own h 1 []) left.holds.xids 1 x (s.blocks mid) now) → PutsAllBack s h x old new going
+      ends_all left true one = λ cursors.
+          let m : State = with_own h 1 [] in
+          let all = holds_ended s told laws m x mid new (same.shape ∙ st.shape) left.holds cursors one in
+          let again : without_owner x.seg x.slot (ended m 1 cursors) ≡ without_owner x.seg x.slot (ended h 1 cursors) =
+          ap (λ (z : List Session). without_owner x.seg x.slot (record h { sessions = z })) (set-set h.sessions 0 (with_changes h 1 []) (record { own = []; cursors = map not_present cursors })) in (
+            subst (λ (z : State). Holds s z None new) again all.0,
+            (let n = one.logs.number refl in let k = one.one refl in omega (arith, n, k, left.lsn, st.own)),
+            λ keeps. subst (λ (z : State). Survives s (s.slots old) h z old new) again
+                (survives_on s (s.slots old) h m (without_owner x.seg x.slot (ended m 1 cursors)) old mid new st.going (left.survives keeps)
+                (subst (λ (k : Option ℕ). Survives s k m (without_owner x.seg x.slot (ended m 1 cursors)) mid new) same.slots (all.1 keeps))),
+          )
+      ends_all left false one =
+          let m : State = with_own h 1 [] in
+          let id = id_left h x [] count old mid left in
+          let ends : State = without_owner x.seg x.slot (ended m 1 []) in
+          fails_on [] count left (step_fails m (Some x) mid new h.sessions ends.sessions ends.books left.holds.xids (λ now. EndMade m left.holds.xids 1 x (s.blocks mid) now) (same.shape ∙ st.shape) left.holds (shrinks_left m.shape m.books x.seg x.slot left.holds.blocks.tell.books_counted)
+          (λ now made. (made.stand [], made.last, made.owed)) one)
+
+  -- Before the first.
+  pub none_back : (laws : Laws s) (x : Xid) (count : ℕ) (old : S) → s.failed old ≡ false → PutBacks x count 0 old old
+  none_back laws x count old runs = record {
+    groups = [];
+    logs = no_logs s old runs;
+    few = omega arith;
+    left = λ told h st.
+        let all : h ≡ with_own h 1 (take (count - 0) (session_own h 1)) = sym (ap (with_own h 1) (take_all (count - 0) (session_own h 1) (omega (arith, st.own))) ∙ own_all h 1) in
+        record {
+          holds = subst (λ (z : State). Holds s z (Some x) old) all st.holds;
+          lsn = omega arith;
+          survives = λ keeps. subst (λ (z : State). Survives s (s.slots old) h z old old) all
+              (survives_same s told laws h h (Some x) old old true st.shape refl refl refl st.holds (no_logs s old runs) keeps);
+        };
+  }
+
+  -- What a step of one change, and the end of the slot, say of the state that they are called for.
+  abbrev pub BackGives : S → S → Xid → Bool → Type 0
+  BackGives old new x going = s.tells → (h : State) (xids : List Xid) (who : ℕ) (front : List Change) (c : Change) → BlocksStand h xids (s.blocks old) → s.shape_of old ≡ h.shape → Owned h who x.seg x.slot → Runs (header_in h.shape (s.blocks old) x.seg) x
+      → session_own h who ≡ front ++ c ∷ [] → s.lsn old ≡ logged_of h.shape (s.blocks old) → GivesOne s old new going (BackMade h xids who front (s.blocks old))
+
+  abbrev pub EndGives : S → S → Xid → Bool → Type 0
+  EndGives old new x going = s.tells → (h : State) (xids : List Xid) (who : ℕ) → BlocksStand h xids (s.blocks old) → s.shape_of old ≡ h.shape → Owned h who x.seg x.slot → Runs (header_in h.shape (s.blocks old) x.seg) x
+      → session_own h who ≡ [] → s.lsn old ≡ logged_of h.shape (s.blocks old) → GivesOne s old new going (EndMade h xids who x (s.blocks old))
+
+  module _ (x : Xid) (count turn : ℕ) (old mid : S) (first : PutBacks x count turn old mid) where
+    same : SameStore s old mid
+    same = record { shape = first.logs.same_shape; slots = first.logs.same_slots }
+
+    -- the groups of one call more, also of one that fails
+    pub groups_more : (new : S) (going : Bool) → (groups : List (List Patch)) × Logs s mid new groups going × (length groups ≤ 1) → (groups : List (List Patch)) × Logs s old new groups going × (length groups ≤ turn + 1)
+    groups_more new going second = (first.groups ++ second.0, more_logs s old mid new first.groups second.0 going first.logs second.1, (let f = first.few in let l = length-append first.groups second.0 in let w = second.2 in omega (arith, f, l, w)))
+
+    pub there : x.seg < (s.shape_of old).segments → x.seg < (s.shape_of mid).segments
+    there is = subst (λ (z : Shape). x.seg < z.segments) (sym first.logs.same_shape) is
+
+    pub room_left : turn ≤ count → count < room_of (s.slots old) (s.lsn old) → 1 ≤ room_of (s.slots mid) (s.lsn mid)
+    room_left turns room =
+        let f = first.few in
+        let rest = room_on (s.slots old) (s.lsn old) (s.lsn mid) (count + 1) (count + 1 - length first.groups) (length first.groups) (first.logs.number refl) (omega (arith, f, turns)) (omega (arith, room)) in
+        rw first.logs.same_slots (omega (arith, f, turns, rest))
+
+    pub few_left : turn ≤ count → s.lsn old + count < 2 ^ 62 - 1 → s.lsn mid < 2 ^ 62
+    few_left turns is = let n = first.logs.number refl in let f = first.few in omega (arith, is, n, f, turns)
+
+    module _ (laws : Laws s) (more : turn < count) where
+      -- what the next call is about
+      about : (told : s.tells) (h : State) (st : Starts h x count old) (new : S) (going : Bool) → BackGives mid new x going
+          → (a : List Change) × (left : IsLeft h x a turn old mid) × GivesOne s mid new going (λ now. BackMade (with_own h 1 a) left.holds.xids 1 (take (count - (turn + 1)) (session_own h 1)) (s.blocks mid) now)
+      about told h st new going gives =
+          let mine = session_own h 1 in
+          let m = count - (turn + 1) in
+          let a = take (count - turn) mine in
+          let left = first.left told h st in
+          let id = id_left told laws h x a turn old mid left in
+          let last : (c : Change) × (take (suc m) mine ≡ take m mine ++ c ∷ []) = last_of mine m (omega (arith, st.own, more)) in
+          let count_is : count - turn ≡ suc m = omega (arith, more) in
+          let front : a ≡ take m mine ++ last.0 ∷ [] = ap (λ (n : ℕ). take n mine) count_is ∙ last.1 in (
+            a,
+            left,
+            gives told (with_own h 1 a) left.holds.xids 1 (take m mine) last.0 left.holds.blocks (same.shape ∙ st.shape) id.owned (runs_in (with_own h 1 a) (s.blocks mid) x id.runs)
+                (own_left h 1 (omega arith) (omega (arith, st.alone)) a ∙ front) left.holds.logged,
+          )
+
+      pub one_fails : (new : S) → BackGives mid new x false → s.tells → (h : State) → Starts h x count old → Fails s h old new
+      one_fails new gives told h st = let w = about told h st new false gives in back_fails told laws h x count old mid new st same w.0 (take (count - (turn + 1)) (session_own h 1)) turn w.1 w.2
+
+      pub one_more : (new : S) → (groups : List (List Patch)) × Logs s mid new groups true × (length groups ≤ 1) → BackGives mid new x true → PutBacks x count (turn + 1) old new
+      one_more new second gives =
+          let g = groups_more new true second in record {
+            groups = g.0;
+            logs = g.1;
+            few = g.2;
+            left = λ told h st. let w = about told h st new true gives in back_done told laws h x count old mid new st same w.0 (take (count - (turn + 1)) (session_own h 1)) turn w.1 w.2;
+          }
+
+    -- all are
+    pub all_back : Laws s → turn ≡ count → (new : S) (going : Bool) → EndGives mid new x going → s.tells → (h : State) → Starts h x count old → PutsAllBack s h x old new going
+    all_back laws is new going gives told h st =
+        let none : take (count - turn) (session_own h 1) ≡ [] = ap (λ (n : ℕ). take n (session_own h 1)) (let z : count - turn ≡ 0 = omega (arith, is) in z) in
+        let left : IsLeft h x [] count old mid = subst (λ (n : ℕ). IsLeft h x [] n old mid) is (subst (λ (l : List Change). IsLeft h x l turn old mid) none (first.left told h st)) in
+        let id = id_left told laws h x [] count old mid left in
+        ends_all told laws h x count old mid new st same left going
+        (gives told (with_own h 1 []) left.holds.xids 1 left.holds.blocks (same.shape ∙ st.shape) id.owned (runs_in (with_own h 1 []) (s.blocks mid) x id.runs) (own_left h 1 (omega arith) (omega (arith, st.alone)) []) left.holds.logged)
+
+-- The log has room for the put backs of all changes of a transaction, and for its end.
+module _ {S : Type 0} (s : Ghosts S) (told : s.tells) (laws : Laws s) (h : State) (old : EngineView S) (x : Xid) (st : Stands s h old) (going : h.stopped ≡ false) (own_is : old.memory.own ≡ Some x) where
+  holds : Holds s h (Some x) old.store
+  holds = holds_own s told laws h old x st going own_is
+
+  id : OwnedBy h (s.blocks old.store) 1 x
+  id = owned_by h holds.xids (s.blocks old.store) 1 x holds.blocks holds.id
+
+  pub room_back : length (session_own h 1) + 1 ≤ room_of (s.slots old.store) (s.lsn old.store)
+  room_back =
+      let blocks = s.blocks old.store in
+      let env = env_of h.shape blocks in
+      let t = 16 * x.seg + x.slot in
+      let t_in : t < 16 * h.shape.segments = omega (arith, id.there, id.few) in
+      let active : (slot_of (segments_of h.shape blocks) t).state ≡ 1 = ap (λ (z : TableSlot). z.state) (slot_for h.shape blocks x id.few) ∙ (runs_in h blocks x id.runs).active in
+      let less = owed_committed h.shape (commit_scn h.shape blocks) (logged_of h.shape blocks) (segments_of h.shape blocks) (homes_of h.shape blocks) (past_of h holds.xids) (lives_of h env) holds.blocks.standing.stands t t_in active 0 in
+      let all : length (own (lives_of h env) t) ≡ length (session_own h 1) + 0 = ap (λ (l : List walk.Change). length l) (lives_owned h env 1 t t_in (record { owner = id.owned.0; at = id.owned.1; session = id.owned.2 })) ∙ length_newest h.shape (env.xid t) 1 (session_own h 1) [] in
+      omega (arith, less, all, owed_is h.shape blocks, holds.fits)
+
+  module _ (new : EngineView S) (same : SameStore s old.store new.store) where
+    -- a rollback that went well
+    pub does_back : PutsAllBack s h x old.store new.store true → ((h2 : State) → EndsAs h 1 (left_open 0 (cursors_of h 1)) h2 → Remembers h2 new.memory)
+        → new.memory.own ≡ None → new.memory.spare ≡ old.memory.spare + length (session_own old.memory.state 1) → Does s h (Rollback 1) Done old new
+    does_back done knows none spare =
+        let cursors = left_open 0 (cursors_of h 1) in
+        let now = without_owner x.seg x.slot (ended h 1 cursors) in
+        let after : EndsAs h 1 cursors now = inl (x.seg, x.slot, id.owned, refl) in
+        let all = done cursors in
+        does_by s h now (Rollback 1) Done old new (length (session_own h 1) + 1) st (Reply.later [] (no_early h st.alone going) refl refl) after (knows now after) same
+        (λ _. (
+          inl (x.seg, x.slot, id.owned, refl),
+          all.1,
+          (let count = own_known h old.memory st.alone st.memory in omega (arith, spare, count)),
+          subst (λ (o : Option Xid). Holds s now o new.store) (sym none) all.0,
+        ))
+        (λ _ keeps. all.2 keeps)

@@ -1,0 +1,45 @@
+use Rattle.std.proofs.Common.{◌≡◌, ◌<◌, Bool, true, false, not, [], Ok, Err, refl, sym, ◌∙◌, ap, subst, arith}
+use Rattle.std.specs.Result.{is_err}
+use Rattle.rb_base.specs.Logs.{Laws, Logs, flush_logs, load_logs}
+use Rattle.rb_base.specs.declared.shape.Shape.{Shape}
+use Rattle.rb_base.specs.Blocks.{block_of, header_block}
+use Rattle.rb_engine.specs.Does.{Does, EngineView, SameStore, Stands}
+use Rattle.rb_model.specs.Book.{book_at}
+use Rattle.rb_model.specs.Calls as machine
+use Rattle.rb_model.specs.Calls.{Reply, early_tests, none_applies}
+use Rattle.rb_model.specs.State.{State}
+use Rattle.rb_engine.proofs.DoesLemmas.{does_fault, does_loaded, fault_survives}
+use Rattle.rb_restart.proofs.SlotEnded.{block_read}
+use Rattle.rb_segment.specs.Header.{header_of}
+use Rattle.rb_standing.specs.Standing.{segments_of}
+use Rattle.rb_engine.proofs.marks.do_checkpoint.Given.{Over}
+use Rattle.rb_engine.proofs.marks.do_checkpoint.Goals as goal
+
+laws_of : (g : Over) → Laws g.T.Store
+laws_of g = record {
+  stable_left = λ store b n i keeps stable here. g.met.T.Store.stable_left store b n i keeps stable here;
+  stable_numbered = λ store b n keeps stable. g.met.T.Store.stable_numbered store b n keeps stable;
+  stable_patched = λ store b n keeps stable. g.met.T.Store.stable_patched store b n keeps stable;
+  now_counts = λ store t i keeps le here. g.met.T.Store.now_counts store t i keeps le here;
+  only_now = λ store i keeps here. g.met.T.Store.only_now store i keeps here;
+}
+
+pub returns-in-Err-clause-did : goal.returns-in-Err-clause-did
+returns-in-Err-clause-did g c = λ h st.
+    let s = g.T.Store in
+    let old : EngineView _ = record { memory = c.args.memory.now; store = c.args.store.now } in
+    let going : h.stopped ≡ false = ap (λ (x : State). x.stopped) (sym st.memory) ∙ (sym c.is_stopped.ensures ∙ c.if-is_stopped.false) in
+    let e = c.in-Err.ensures in
+    let logs : Logs s c.args.store.now c.checkpoint.new.self [] false = flush_logs s c.args.store.now c.checkpoint.new.self (Err c.in-Err.field-0) e.shape e.slots e.failed e.counted e.lsn e.blocks e.settles e.any_moment in
+    does_fault s st.told (laws_of g) h machine.Checkpoint old (record { memory = c.stop.new.self; store = c.checkpoint.new.self }) st going (rw going refl) (c.stop.ensures.stops h st.memory)
+    (record { shape = e.shape; slots = e.slots }) (λ keeps. fault_survives s st.told (laws_of g) h old.memory.own old.store c.checkpoint.new.self st.shape (st.holds going) logs keeps)
+
+pub returns-in-Ok-clause-did : goal.returns-in-Ok-clause-did
+returns-in-Ok-clause-did g c = λ h st.
+    let s = g.T.Store in
+    let old : EngineView _ = record { memory = c.args.memory.now; store = c.args.store.now } in
+    let going : h.stopped ≡ false = ap (λ (x : State). x.stopped) (sym st.memory) ∙ (sym c.is_stopped.ensures ∙ c.if-is_stopped.false) in
+    let e = c.in-Ok.ensures in
+    let logs : Logs s c.args.store.now c.checkpoint.new.self [] true = flush_logs s c.args.store.now c.checkpoint.new.self (Ok c.in-Ok.field-0) e.shape e.slots e.failed e.counted e.lsn e.blocks e.settles e.any_moment in
+    does_loaded s st.told (laws_of g) h machine.Checkpoint machine.Done old (record { memory = c.args.memory.now; store = c.checkpoint.new.self }) st
+    (Reply.later [] (rw going refl) refl refl) refl refl refl (λ _. logs) (record { shape = e.shape; slots = e.slots })

@@ -1,0 +1,116 @@
+use Rattle.std.proofs.Common.{rules, ◌≡◌, ◌≢◌, ◌≤◌, ◌+◌, ◌*◌, [], true, refl, Err, sym, ◌∙◌, ap, subst, arith}
+use Rattle.rb_base.specs.Blocks.{table_blocks}
+use Rattle.rb_base.specs.Logs.{Laws, Logs, more_logs}
+use Rattle.rb_base.specs.declared.faults.OpenFault.TheVariants.{Failed}
+use Rattle.rb_base.specs.declared.shape.Shape.{Shape}
+use Rattle.rb_engine.specs.Does.{IsInStep}
+use Rattle.rb_engine.specs.Opened.{Opened}
+use Rattle.rb_engine.proofs.OpenLemmas.{in_step, loaded_on, memory_is, moved, opened_engine, refused, stays, unchanged_stays}
+use Rattle.rb_memory.specs.Kept.{Kept}
+use Rattle.rb_model.specs.State.{State, opened}
+use Rattle.rb_restart.specs.Rollback.{RolledBack, StaySound}
+use Rattle.rb_segment.specs.Segments.{commit_scn}
+use Rattle.rb_standing.specs.Standing.{SoundAs, logged_of}
+use Rattle.rb_engine.proofs.open.open_memory.Given.{Over}
+use Rattle.rb_engine.proofs.open.open_memory.Goals as goal
+
+laws_of : (g : Over) → Laws g.T.Store
+laws_of g = record {
+  stable_left = λ store b n i keeps stable here. g.met.T.Store.stable_left store b n i keeps stable here;
+  stable_numbered = λ store b n keeps stable. g.met.T.Store.stable_numbered store b n keeps stable;
+  stable_patched = λ store b n keeps stable. g.met.T.Store.stable_patched store b n keeps stable;
+  now_counts = λ store t i keeps le here. g.met.T.Store.now_counts store t i keeps le here;
+  only_now = λ store i keeps here. g.met.T.Store.only_now store i keeps here;
+}
+
+pub returns-in_err-memory-clause-stays : goal.returns-in_err-memory-clause-stays
+returns-in_err-memory-clause-stays g c = λ told h opens. unchanged_stays g.T.Store (laws_of g) told h c.args.store.now opens c.new_memory.new.store _ c.in_err-memory.ensures.logs
+
+pub returns-in_err-open_blocks-clause-stays : goal.returns-in_err-open_blocks-clause-stays
+returns-in_err-open_blocks-clause-stays g c = λ told h opens.
+    let s = g.T.Store in
+    let old = c.args.store.now in
+    let mid = c.new_memory.new.store in
+    let new = c.open_blocks.new.store in
+    let back = c.in_err-open_blocks.ensures.rolled_back in
+    let first = c.in_ok-memory.ensures.logs in
+    stays s (laws_of g) told h old opens new back.0 _ (more_logs s old mid new [] back.0 _ first back.1)
+    (moved s old mid (λ shape slots lsn blocks. lsn ≡ logged_of shape blocks → SoundAs shape blocks opens.opening.number opens.opening.rows → StaySound shape opens.opening.number opens.opening.rows lsn back.0 blocks) first told
+    (λ logged sound. (back.4 opens.opening.number opens.opening.rows told logged sound).0) opens.logged opens.opening.sound)
+
+pub returns-in_err-open_blocks-clause-unchanged : goal.returns-in_err-open_blocks-clause-unchanged
+returns-in_err-open_blocks-clause-unchanged g c =
+    let s = g.T.Store in
+    let old = c.args.store.now in
+    let mid = c.new_memory.new.store in
+    let new = c.open_blocks.new.store in
+    let fault = c.in_err-open_blocks.field-0.0 in
+    let back = c.in_err-open_blocks.ensures.rolled_back in
+    let kept : fault ≢ Failed → Logs s old new [] true = refused s old mid new (Err fault) back.0 c.in_ok-memory.ensures.logs back.1 back.2 c.in_err-open_blocks.ensures.no_memory in
+    search (rules, kept)
+
+pub returns-in_err-take_rows-clause-stays : goal.returns-in_err-take_rows-clause-stays
+returns-in_err-take_rows-clause-stays g c = λ told h opens.
+    let s = g.T.Store in
+    let old = c.args.store.now in
+    let mid = c.new_memory.new.store in
+    let then = c.open_blocks.new.store in
+    let new = c.take_rows.new.store in
+    let back = c.in_ok-open_blocks.ensures.rolled_back in
+    let first = c.in_ok-memory.ensures.logs in
+    stays s (laws_of g) told h old opens new back.0 _ (loaded_on s old then new back.0 _ (more_logs s old mid then [] back.0 true first back.1) c.in_err-take_rows.ensures.logs)
+    (moved s old mid (λ shape slots lsn blocks. lsn ≡ logged_of shape blocks → SoundAs shape blocks opens.opening.number opens.opening.rows → StaySound shape opens.opening.number opens.opening.rows lsn back.0 blocks) first told
+    (λ logged sound. (back.4 opens.opening.number opens.opening.rows told logged sound).0) opens.logged opens.opening.sound)
+
+pub returns-clause-stays : goal.returns-clause-stays
+returns-clause-stays g c = λ told h opens.
+    let s = g.T.Store in
+    let old = c.args.store.now in
+    let mid = c.new_memory.new.store in
+    let then = c.open_blocks.new.store in
+    let new = c.take_rows.new.store in
+    let back = c.in_ok-open_blocks.ensures.rolled_back in
+    let first = c.in_ok-memory.ensures.logs in
+    stays s (laws_of g) told h old opens new back.0 true (loaded_on s old then new back.0 true (more_logs s old mid then [] back.0 true first back.1) c.in_ok-take_rows.ensures.logs)
+    (moved s old mid (λ shape slots lsn blocks. lsn ≡ logged_of shape blocks → SoundAs shape blocks opens.opening.number opens.opening.rows → StaySound shape opens.opening.number opens.opening.rows lsn back.0 blocks) first told
+    (λ logged sound. (back.4 opens.opening.number opens.opening.rows told logged sound).0) opens.logged opens.opening.sound)
+
+pub returns-clause-step : goal.returns-clause-step
+returns-clause-step g c =
+    let s = g.T.Store in
+    let old = c.args.store.now in
+    let mid = c.new_memory.new.store in
+    let then = c.open_blocks.new.store in
+    let new = c.take_rows.new.store in
+    let back = c.in_ok-open_blocks.ensures.rolled_back in
+    let found = c.take_rows.new.memory in
+    let first = c.in_ok-memory.ensures in
+    let shape : c.in_ok-memory.memory.state.shape ≡ s.shape_of old = ap (λ (h : State). h.shape) first.opening in
+    let logs = loaded_on s old then new back.0 true (more_logs s old mid then [] back.0 true first.logs back.1) c.in_ok-take_rows.ensures.logs in
+    subst (λ (kept : Kept). IsInStep s kept new) (sym c.join_rows.ensures)
+    (in_step s found old new back.0 c.in_ok-memory.memory.state.commits.base found.state.commits.rows logs back.3 c.requires.few first.in_range (c.in_ok-take_rows.ensures.own ∙ first.own)
+    (c.in_ok-take_rows.ensures.opening ∙ ap (λ (x : Shape). opened x c.in_ok-memory.memory.state.commits.base found.state.commits.rows []) shape))
+
+pub returns-clause-opened : goal.returns-clause-opened
+returns-clause-opened g c = λ told h opens.
+    let s = g.T.Store in
+    let old = c.args.store.now in
+    let mid = c.new_memory.new.store in
+    let then = c.open_blocks.new.store in
+    let new = c.take_rows.new.store in
+    let back = c.in_ok-open_blocks.ensures.rolled_back in
+    let found = c.take_rows.new.memory in
+    let first = c.in_ok-memory.ensures in
+    let made = c.in_ok-memory.memory in
+    let shape : made.state.shape ≡ s.shape_of old = ap (λ (x : State). x.shape) first.opening in
+    let logs = loaded_on s old then new back.0 true (more_logs s old mid then [] back.0 true first.logs back.1) c.in_ok-take_rows.ensures.logs in
+    let both = moved s old mid (λ shape slots lsn blocks. lsn ≡ logged_of shape blocks → SoundAs shape blocks opens.opening.number opens.opening.rows → StaySound shape opens.opening.number opens.opening.rows lsn back.0 blocks × RolledBack shape back.0 blocks (s.blocks then)) first.logs told
+    (λ logged sound. back.4 opens.opening.number opens.opening.rows told logged sound) opens.logged opens.opening.sound in
+    let read : s.blocks then ≡ s.blocks new = sym (c.in_ok-take_rows.ensures.logs.blocks told refl) in
+    subst (λ (kept : Kept). Opened s h old (record { memory = kept; store = new })) (sym c.join_rows.ensures)
+    (opened_engine s (laws_of g) told h old opens new back.0 logs both.0 (subst (RolledBack (s.shape_of old) back.0 (s.blocks old)) read both.1) found (c.in_ok-take_rows.ensures.own ∙ first.own)
+    (memory_is (s.shape_of old) made.state.shape (s.blocks new) (s.blocks then) made.state.commits.base (commit_scn (s.shape_of old) (s.blocks old)) found.state shape (first.number told) read c.in_ok-take_rows.ensures.opening (c.in_ok-take_rows.ensures.rows told))
+    (λ slots has.
+    let room = first.enough slots has in
+    let spare = subst (λ (x : Shape). made.spare ≤ found.spare + 16 * table_blocks x) shape c.in_ok-take_rows.ensures.spare in
+    omega (arith, room, spare)))

@@ -1,0 +1,173 @@
+//! The end of the session's transaction: a commit, or a rollback. `Engine::commit` and `Engine::rollback` call it.
+ghost use Rattle.std.specs.Prelude.{◌≡◌, ◌≤◌, ◌<◌, ◌+◌, ◌-◌, ◌^◌, ℕ, length, true};
+ghost use Rattle.std.specs.Prelude.{false, not, [], Some, None, OnOk};
+ghost use Rattle.std.specs.Result.{is_err};
+ghost use Rattle.rb_base.specs.Counts.{IsCounted, IsCountedAs, err_is};
+ghost use Rattle.rb_base.specs.Logs.{Logs};
+ghost use Rattle.rb_base.specs.Stores.{room_of};
+ghost use Rattle.rb_engine.specs.Does.{Does, IsInStep, SameStore, Stands};
+ghost use Rattle.rb_engine.specs.Finishing.{Commits, PutsAllBack};
+ghost use Rattle.rb_image.specs.Holds.{Holds};
+ghost use Rattle.rb_model.specs.Answers.{commit_answer, plain_answer};
+ghost use Rattle.rb_model.specs.Calls.{is_disk_fault};
+ghost use Rattle.rb_model.specs.Calls as machine;
+ghost use Rattle.rb_model.specs.Rows.{last_scn};
+ghost use Rattle.rb_model.specs.State.{State, session_own};
+
+use rb_base::{Failed, Group, SLOTS, Scn, Store, Xid};
+use rb_memory::Memory;
+use rb_model::Refusal;
+use rb_undoengine::{back_step, commit_step, end_step};
+
+/// Gives the store the group of a commit, and makes all groups last.
+fn commit_and_flush<T: Store>(store: &mut T, xid: Xid, scn: Scn) -> Result<(), Failed>
+    requires going { T.failed store.old ≡ false }
+    requires there { xid.seg < (T.shape_of store.old).segments }
+    requires slot { xid.slot < SLOTS }
+    requires room { 1 ≤ room_of (T.slots store.old) (T.lsn store.old) }
+    requires few { T.lsn store.old < 2 ^ 62 }
+    ensures commits { T.tells → (h : State) → T.shape_of store.old ≡ h.shape
+        → Holds T.Store h (Some xid) store.old → 0 < length (session_own h 1) → scn ≡ last_scn h.commits + 1
+        → Commits T.Store h xid store.old store.new (not (is_err result)) }
+    ensures lsn { OnOk result (T.lsn store.new ≤ T.lsn store.old + 1) }
+    ensures same { SameStore T.Store store.old store.new }
+    ensures failed { T.failed store.new ≡ is_err result }
+    ensures counted { IsCounted (T.faults store.old) (T.faults store.new) result }
+{
+    let mut group = Group::new();
+    commit_step(store, xid, scn, &mut group)?;
+    store.flush()
+}
+
+/// Puts back so many changes of a transaction, its newest first, and ends its table slot.
+fn put_all_back<T: Store>(store: &mut T, xid: Xid, count: u32) -> Result<(), Failed>
+    requires going { T.failed store.old ≡ false }
+    requires there { xid.seg < (T.shape_of store.old).segments }
+    requires slot { xid.slot < SLOTS }
+    requires room { count < room_of (T.slots store.old) (T.lsn store.old) }
+    requires few { T.lsn store.old + count < 2 ^ 62 - 1 }
+    ensures puts_back { T.tells → (h : State) → T.shape_of store.old ≡ h.shape
+        → Holds T.Store h (Some xid) store.old → length h.sessions ≡ 1 → h.stopped ≡ false
+        → length (session_own h 1) ≡ count
+        → PutsAllBack T.Store h xid store.old store.new (not (is_err result)) }
+    ensures lsn { OnOk result (T.lsn store.new ≤ T.lsn store.old + count + 1) }
+    ensures same { SameStore T.Store store.old store.new }
+    ensures failed { T.failed store.new ≡ is_err result }
+    ensures counted { IsCounted (T.faults store.old) (T.faults store.new) result }
+{
+    let mut group = Group::new();
+    for _change in 0..count {
+        back_step(store, xid, &mut group)?;
+    }
+    end_step(store, xid, &mut group)
+}
+
+/// Commits the session's changes, of which there are some.
+fn commit_changes<T: Store>(
+    memory: &mut Memory,
+    store: &mut T,
+    xid: Xid,
+) -> Result<Option<u64>, Refusal>
+    requires step { IsInStep T.Store memory.old store.old }
+    requires going { memory.old.state.stopped ≡ false }
+    requires own { memory.old.own ≡ Some xid }
+    requires some { 0 < length (session_own memory.old.state 1) }
+    ensures step { IsInStep T.Store memory.new store.new }
+    ensures did { (h : State) → Stands T.Store h (record { memory = memory.old; store = store.old })
+        → Does T.Store h (machine.Commit 1) (commit_answer result)
+        (record { memory = memory.old; store = store.old }) (record { memory = memory.new; store = store.new }) }
+    ensures same { SameStore T.Store store.old store.new }
+    ensures disk { IsCountedAs (T.faults store.old) (T.faults store.new) (err_is is_disk_fault result) }
+{
+    // Room is kept for it; a damaged file alone may have none.
+    if store.room() == 0 {
+        return Err(Refusal::LogFull);
+    }
+    let scn = memory.scn().saturating_add(1);
+    match commit_and_flush(store, xid, scn) {
+        Ok(()) => {
+            memory.commit();
+            Ok(Some(scn))
+        }
+        Err(_) => {
+            memory.stop();
+            Err(Refusal::DiskFault)
+        }
+    }
+}
+
+/// Puts back the changes of the session's transaction, and ends it.
+fn roll_back_changes<T: Store>(memory: &mut Memory, store: &mut T, xid: Xid) -> Result<(), Refusal>
+    requires step { IsInStep T.Store memory.old store.old }
+    requires going { memory.old.state.stopped ≡ false }
+    requires own { memory.old.own ≡ Some xid }
+    ensures step { IsInStep T.Store memory.new store.new }
+    ensures did { (h : State) → Stands T.Store h (record { memory = memory.old; store = store.old })
+        → Does T.Store h (machine.Rollback 1) (plain_answer result)
+        (record { memory = memory.old; store = store.old }) (record { memory = memory.new; store = store.new }) }
+    ensures same { SameStore T.Store store.old store.new }
+    ensures disk { IsCountedAs (T.faults store.old) (T.faults store.new) (err_is is_disk_fault result) }
+{
+    let count = memory.count();
+    if store.room() <= u64::from(count) {
+        return Err(Refusal::LogFull);
+    }
+    match put_all_back(store, xid, count) {
+        Ok(()) => {
+            memory.rollback();
+            Ok(())
+        }
+        Err(_) => {
+            memory.stop();
+            Err(Refusal::DiskFault)
+        }
+    }
+}
+
+/// Makes the session's changes one more commit. Without changes it ends the transaction and answers None.
+pub fn do_commit<T: Store>(
+    memory: &mut Memory,
+    store: &mut T,
+    s: u16,
+) -> Result<Option<u64>, Refusal>
+    requires step { IsInStep T.Store memory.old store.old }
+    ensures step { IsInStep T.Store memory.new store.new }
+    ensures did { (h : State) → Stands T.Store h (record { memory = memory.old; store = store.old })
+        → Does T.Store h (machine.Commit s) (commit_answer result)
+        (record { memory = memory.old; store = store.old }) (record { memory = memory.new; store = store.new }) }
+    ensures same { SameStore T.Store store.old store.new }
+    ensures disk { IsCountedAs (T.faults store.old) (T.faults store.new) (err_is is_disk_fault result) }
+{
+    if let Err(why) = memory.check_session(s) {
+        return Err(why);
+    }
+    match memory.own() {
+        Some(xid) => commit_changes(memory, store, xid),
+        None => {
+            memory.end();
+            Ok(None)
+        }
+    }
+}
+
+/// Puts the session's changes back, closes the cursors that saw them, and ends the transaction.
+pub fn do_rollback<T: Store>(memory: &mut Memory, store: &mut T, s: u16) -> Result<(), Refusal>
+    requires step { IsInStep T.Store memory.old store.old }
+    ensures step { IsInStep T.Store memory.new store.new }
+    ensures did { (h : State) → Stands T.Store h (record { memory = memory.old; store = store.old })
+        → Does T.Store h (machine.Rollback s) (plain_answer result)
+        (record { memory = memory.old; store = store.old }) (record { memory = memory.new; store = store.new }) }
+    ensures same { SameStore T.Store store.old store.new }
+    ensures disk { IsCountedAs (T.faults store.old) (T.faults store.new) (err_is is_disk_fault result) }
+{
+    if let Err(why) = memory.check_session(s) {
+        return Err(why);
+    }
+    match memory.own() {
+        Some(xid) => roll_back_changes(memory, store, xid),
+        None => {
+            memory.rollback();
+            Ok(())
+        }
+    }
+}

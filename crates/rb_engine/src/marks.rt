@@ -1,0 +1,62 @@
+//! What a segment tells of itself, and a checkpoint. `Engine::marks` and `Engine::checkpoint` call it.
+ghost use Rattle.std.specs.Prelude.{◌≡◌, ◌<◌, [], OnOk};
+ghost use Rattle.rb_base.specs.Counts.{IsCountedAs, err_is};
+ghost use Rattle.rb_engine.specs.Does.{Does, IsInStep, SameStore, Stands};
+ghost use Rattle.rb_model.specs.Answers.{marks_answer, plain_answer};
+ghost use Rattle.rb_model.specs.Calls.{is_disk_fault};
+ghost use Rattle.rb_model.specs.Calls as machine;
+ghost use Rattle.rb_model.specs.State.{State};
+
+use rb_base::Store;
+use rb_memory::Memory;
+use rb_model::{Marks, Refusal};
+use rb_ring::{lost, writes};
+
+/// How many records segment `seg` has made, and the greatest commit number of which it gave something up.
+pub fn do_marks<T: Store>(memory: &mut Memory, store: &mut T, seg: u16) -> Result<Marks, Refusal>
+    requires step { IsInStep T.Store memory.old store.old }
+    requires there { seg < (T.shape_of store.old).segments }
+    ensures step { IsInStep T.Store memory.new store.new }
+    ensures did { (h : State) → Stands T.Store h (record { memory = memory.old; store = store.old })
+        → Does T.Store h (machine.Marks seg) (marks_answer seg result)
+        (record { memory = memory.old; store = store.old }) (record { memory = memory.new; store = store.new }) }
+    ensures same { SameStore T.Store store.old store.new }
+    ensures disk { IsCountedAs (T.faults store.old) (T.faults store.new) (err_is is_disk_fault result) }
+{
+    if memory.is_stopped() {
+        return Err(Refusal::Stopped);
+    }
+    let header = store.shape().header_block(seg);
+    if store.load(header).is_err() {
+        memory.stop();
+        return Err(Refusal::DiskFault);
+    }
+    let block = store.block();
+    Ok(Marks {
+        writes: writes(block),
+        lost: lost(block),
+    })
+}
+
+/// Makes all that was done last, also what isn't committed.
+pub fn do_checkpoint<T: Store>(memory: &mut Memory, store: &mut T) -> Result<(), Refusal>
+    requires step { IsInStep T.Store memory.old store.old }
+    ensures step { IsInStep T.Store memory.new store.new }
+    ensures did { (h : State) → Stands T.Store h (record { memory = memory.old; store = store.old })
+        → Does T.Store h machine.Checkpoint (plain_answer result)
+        (record { memory = memory.old; store = store.old }) (record { memory = memory.new; store = store.new }) }
+    ensures nothing_waits { T.keeps → OnOk result (T.pending store.new ≡ []) }
+    ensures same { SameStore T.Store store.old store.new }
+    ensures disk { IsCountedAs (T.faults store.old) (T.faults store.new) (err_is is_disk_fault result) }
+{
+    if memory.is_stopped() {
+        return Err(Refusal::Stopped);
+    }
+    match store.checkpoint() {
+        Ok(()) => Ok(()),
+        Err(_) => {
+            memory.stop();
+            Err(Refusal::DiskFault)
+        }
+    }
+}

@@ -1,0 +1,4 @@
+pub mod Crash
+pub mod Holds
+pub mod Images
+pub mod Made

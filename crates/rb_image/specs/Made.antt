@@ -1,0 +1,59 @@
+-- What one group makes of blocks that stand for a state, by each step of a session: a write, the put back of a change,
+-- a commit, the end of a transaction without one.
+use Rattle.std.specs.Prelude.{◌≡◌, ◌≤◌, ◌+◌, ◌*◌, ◌∷◌, ◌++◌, ℕ, Bool, true, List, []}
+use Rattle.std.specs.Prelude.{length, Some}
+use Rattle.rb_base.specs.Blocks.{after_groups}
+use Rattle.rb_base.specs.Groups.{Patch}
+use Rattle.rb_base.specs.Logs.{Logs}
+use Rattle.rb_base.specs.declared.ids.Xid.{Xid}
+use Rattle.rb_base.specs.declared.store.Store.{Ghosts}
+use Rattle.rb_model.specs.Calls.{Action, Done, WritesIn, first_of, write_tests}
+use Rattle.rb_model.specs.Change.{Change}
+use Rattle.rb_model.specs.NextState.{change_in, committed, ended, without_owner, written}
+use Rattle.rb_model.specs.State.{Cursor, State}
+use Rattle.rb_segment.specs.Segments.{owed_in}
+use Rattle.rb_standing.specs.NextStates.{with_own}
+use Rattle.rb_standing.specs.Standing.{env_of, logged_of}
+use Rattle.rb_standing.specs.States.{BlocksStand}
+use Rattle.rb_verdict.specs.Verdict.{IsOwnId}
+
+-- Calls of a store gave it one group, or failed and perhaps gave none. Where one was given, `Is` holds of the blocks
+-- that it makes.
+pub record GivesOne {S : Type 0} (s : Ghosts S) (old new : S) (going : Bool) (Is : List (List ℕ) → Type 0) : Type 0
+  where
+    pub groups : List (List Patch)
+    pub logs : Logs s old new groups going
+    pub few : length groups ≤ 1
+    pub one : going ≡ true → length groups ≡ 1
+    pub made : 1 ≤ length groups → Is (after_groups (s.lsn old + 1) groups (s.blocks old))
+
+-- A write of session s, in a log with so much room: its transaction has that id then, no test of the machine refuses
+-- it, and there is room for what puts all live changes back.
+pub record WriteMade (h : State) (xids : List Xid) (s table key : ℕ) (action : Action) (room : ℕ) (x : Xid)
+    (before now : List (List ℕ)) : Type 0 where
+  pub in_slot : WritesIn h s x.seg x.slot
+  pub granted : first_of (write_tests h (logged_of h.shape before) room x.seg x.slot s table key action) Done ≡ Done
+  pub stand : BlocksStand (written h s x.seg x.slot (change_in h x.seg table key action)) xids now
+  pub last : logged_of h.shape now ≡ logged_of h.shape before + 1
+  pub id : IsOwnId (written h s x.seg x.slot (change_in h x.seg table key action)) (env_of h.shape now) s (Some x)
+  pub fits : owed_in h.shape now + 1 ≤ room
+
+-- The put back of the last change of session s, which has these left. No table slot gets another transaction.
+pub record BackMade (h : State) (xids : List Xid) (s : ℕ) (front : List Change) (before now : List (List ℕ)) : Type
+    0 where
+  pub stand : BlocksStand (with_own h s front) xids now
+  pub last : logged_of h.shape now ≡ logged_of h.shape before + 1
+  pub ids : (t : ℕ) → (env_of h.shape now).xid t ≡ (env_of h.shape before).xid t
+  pub owed : owed_in h.shape now + 1 ≤ owed_in h.shape before
+
+-- A commit of session s, whose transaction has that id.
+pub record CommitMade (h : State) (xids : List Xid) (s : ℕ) (x : Xid) (before now : List (List ℕ)) : Type 0 where
+  pub stand : BlocksStand (committed h s x.seg x.slot) (xids ++ x ∷ []) now
+  pub last : logged_of h.shape now ≡ logged_of h.shape before + 1
+  pub owed : owed_in h.shape now + 1 ≤ owed_in h.shape before
+
+-- The end of its transaction, which has no live change, whatever cursors it keeps.
+pub record EndMade (h : State) (xids : List Xid) (s : ℕ) (x : Xid) (before now : List (List ℕ)) : Type 0 where
+  pub stand : (cursors : List Cursor) → BlocksStand (without_owner x.seg x.slot (ended h s cursors)) xids now
+  pub last : logged_of h.shape now ≡ logged_of h.shape before + 1
+  pub owed : owed_in h.shape now + 1 ≤ owed_in h.shape before

@@ -1,0 +1,3 @@
+pub mod BareLemmas
+pub mod KeptLemmas
+pub mod StateLemmas

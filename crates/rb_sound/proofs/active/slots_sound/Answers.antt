@@ -1,0 +1,28 @@
+use Rattle.std.proofs.Common.{◌≡◌, ℕ, List, [], true, false, refl, subst}
+use borrow.Author.Count.{below_more}
+use Rattle.rb_base.specs.Logs.{more_logs}
+use Rattle.rb_base.specs.declared.sizes.TheConstants.{ACTIVE}
+use Rattle.rb_segment.specs.Header.{segment_of, slot_in}
+use Rattle.rb_sound.specs.Active.{IsActive}
+use Rattle.rb_sound.proofs.active.slots_sound.Goals as goal
+
+pub returns-in_err-slot_sound-clause-logs : goal.returns-in_err-slot_sound-clause-logs
+returns-in_err-slot_sound-clause-logs g c =
+    rw c.from_residual-in_err-slot_sound.ensures.0 (more_logs g.S.Store c.args.store.now c.loop-i.store c.slot_sound.new.store [] [] false c.loop-i.invariant.logs c.in_err-slot_sound.ensures.logs)
+
+pub returns-then-not-branch-clause-logs : goal.returns-then-not-branch-clause-logs
+returns-then-not-branch-clause-logs g c = more_logs g.S.Store c.args.store.now c.loop-i.store c.slot_sound.new.store [] [] true c.loop-i.invariant.logs c.in_ok-slot_sound.ensures.logs
+
+pub loop-i-preserved : goal.loop-i-preserved
+loop-i-preserved g c =
+    let s = g.S.Store in
+    let old = c.args.store.now in
+    let shape = c.args.shape in
+    let inv = c.loop-i.invariant in
+    record {
+      logs = more_logs s old c.loop-i.store c.slot_sound.new.store [] [] true inv.logs c.in_ok-slot_sound.ensures.logs;
+      so_far = λ told.
+          let here = (c.in_ok-slot_sound.ensures.told told).0 c.if-not-branch.false in
+          below_more (λ (k : ℕ). (slot_in (segment_of shape (s.blocks old) c.args.g).header k).state ≡ ACTIVE → IsActive shape c.args.g (segment_of shape (s.blocks old) c.args.g) k) c.loop-i.i (inv.so_far told)
+          (subst (λ (b : List (List ℕ)). (slot_in (segment_of shape b c.args.g).header c.loop-i.i).state ≡ ACTIVE → IsActive shape c.args.g (segment_of shape b c.args.g) c.loop-i.i) (inv.logs.blocks told refl) here);
+    }

@@ -1,0 +1,5 @@
+use Rattle.rb_sound.proofs.Short.{short}
+use Rattle.rb_sound.proofs.laws.chains_short.Goals as goal
+
+pub returns : goal.returns
+returns c = short

@@ -1,4 +1,0 @@
-pub mod Valued
-pub mod Changed
-pub mod Placed
-pub mod Faults
