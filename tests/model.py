@@ -140,6 +140,10 @@ class Model:
         for owed in range(left.owed - 1, -1, -1):
             self.moments.append(Moment(left.rows, left.number, self.books if owed == 0 else left.books, owed))
 
+    def end(self):
+        """The end of the script: what waits is made last, what was put back among it."""
+        self.durable = self.logged
+
     @property
     def number(self):
         return self.base + len(self.history) - 1

@@ -45,6 +45,15 @@ impl Model for Group {
     ghost invariant = { λ a. IsKept a.bytes.items a.heads.items };
 }
 
+// The bytes of no patch, filled apart from the heads. One fill of both is longer than 2,048 bytes, and for such a one
+// the C library takes one instruction that fills byte by byte.
+#[inline(never)]
+fn no_bytes() -> ArrayVec<u8, GROUP_BYTES>
+    ensures { result.items ≡ [] }
+{
+    ArrayVec::new()
+}
+
 impl Group {
     /// The group of no patch.
     pub fn new() -> Group
@@ -52,7 +61,7 @@ impl Group {
     {
         Group {
             heads: ArrayVec::new(),
-            bytes: ArrayVec::new(),
+            bytes: no_bytes(),
         }
     }
 

@@ -16,7 +16,7 @@ use Rattle.rb_image.proofs.Crashes.{grow_same, has_later}
 use Rattle.rb_image.proofs.Owners.{id_same}
 use Rattle.rb_image.proofs.Steps.{none_each, read_has, survives_going}
 use Rattle.rb_memory.specs.Remembers.{Answered, Refuses, Remembers}
-use Rattle.rb_model.specs.Calls.{Answer, Call, Done, Waits, Numbered, Given, End, Marked, Refused, Reply, early_tests, first_of, granted, is_disk_fault, is_fault, none_applies}
+use Rattle.rb_model.specs.Calls.{Answer, Call, Done, Waits, Numbered, Given, End, Marked, Refused, Reply, early_tests, failed_in, first_of, granted, is_disk_fault, is_fault, none_applies}
 use Rattle.rb_model.specs.Change.{Change}
 use Rattle.rb_model.specs.NextState.{After, AfterGrant, Grows, GrowsBy, with_cursors}
 use Rattle.rb_model.specs.Rows.{last_scn}
@@ -32,7 +32,7 @@ use Rattle.rb_ring.specs.Ring.{lost_number, record_count}
 use Rattle.rb_segment.specs.Header.{Header, header_of}
 use Rattle.rb_verdict.proofs.Told as told
 use Rattle.rb_undoengine.proofs.Finishing.{cursors_free}
-use Rattle.rb_engine.specs.Does.{Does, EngineView, SameStore, Stands, room_left}
+use Rattle.rb_engine.specs.Does.{Does, EngineView, Keeps as Retained, SameStore, Stands, room_left}
 
 -- no call changes how many sessions there are
 pub after_sessions : (h h2 : State) (c : Call) (r : Answer) → After h c r h2 → length h2.sessions ≡ length h.sessions
@@ -44,15 +44,16 @@ after_sessions h h2 c r after = ⊎_elim
 module _ {S : Type 0} (s : Ghosts S) where
   -- from the state after the call, and what the store has of it unless it is stopped
   pub does_by : (h now : State) (call : Call) (answer : Answer) (old new : EngineView S) (n : ℕ) → Stands s h old
-      → Reply h (s.lsn old.store) (room_left (s.slots old.store) (s.lsn old.store) old.memory.spare) call answer → After h call answer now
+      → Reply h (s.lsn old.store) (room_left (s.slots old.store) (s.lsn old.store) old.memory.spare) call answer → After h call answer now → (h.stopped ≡ false → Retained h call answer now)
       → Remembers now new.memory → SameStore s old.store new.store
       → (now.stopped ≡ false → Grows h call answer n × (s.lsn new.store ≡ s.lsn old.store + n) × (old.memory.spare ≤ new.memory.spare + n) × Holds s now new.memory.own new.store)
-      → (h.stopped ≡ false → s.keeps → Survives s (s.slots old.store) h now old.store new.store)
+      → ((before : Option Call) → h.stopped ≡ false → s.keeps → Survives s (s.slots old.store) (failed_in call answer before) h now old.store new.store)
       → Does s h call answer old new
-  does_by h now call answer old new n st reply after remembers same goes survives = record {
+  does_by h now call answer old new n st reply after retains remembers same goes survives = record {
     reply = reply;
     now = now;
     after = after;
+    keeps = retains;
     stands = record {
       told = st.told;
       shape = same.shape ∙ st.shape ∙ sym (after_shape h now call answer after);
@@ -72,8 +73,8 @@ module _ {S : Type 0} (s : Ghosts S) where
 
   module _ (told : s.tells) (laws : Laws s) where
     -- Calls that gave no group leave a state with the same commits and books.
-    pub survives_same : (h h2 : State) (own : Option Xid) (old new : S) (going : Bool) → s.shape_of old ≡ h.shape → h2.shape ≡ h.shape → h2.commits ≡ h.commits → h2.books ≡ h.books → Holds s h own old → Logs s old new [] going
-        → s.keeps → Survives s (s.slots old) h h2 old new
+    pub survives_same : {fault : Option Call} → (h h2 : State) (own : Option Xid) (old new : S) (going : Bool) → s.shape_of old ≡ h.shape → h2.shape ≡ h.shape → h2.commits ≡ h.commits → h2.books ≡ h.books → Holds s h own old → Logs s old new [] going
+        → s.keeps → Survives s (s.slots old) fault h h2 old new
     survives_same h h2 own old new going shape shapes commits books holds logs keeps =
         let P : List (List ℕ) → ℕ → Type 0 = HasState h h.books (last_scn h.commits) (s.slots old) in
         let Q : List (List ℕ) → ℕ → Type 0 = HasState h2 h2.books (last_scn h2.commits) (s.slots old) in
@@ -120,29 +121,29 @@ module _ {S : Type 0} (s : Ghosts S) where
 
     -- A call that does nothing but load or make groups last, with an answer that leaves the state.
     pub does_loaded : (h : State) (call : Call) (answer : Answer) (old new : EngineView S) → Stands s h old
-        → Reply h (s.lsn old.store) (room_left (s.slots old.store) (s.lsn old.store) old.memory.spare) call answer → After h call answer h → Grows h call answer 0
+        → Reply h (s.lsn old.store) (room_left (s.slots old.store) (s.lsn old.store) old.memory.spare) call answer → After h call answer h → Grows h call answer 0 → Retained h call answer h
         → new.memory ≡ old.memory → (h.stopped ≡ false → Logs s old.store new.store [] true) → SameStore s old.store new.store → Does s h call answer old new
-    does_loaded h call answer old new st reply after grows memory logs same =
-        does_by h h call answer old new 0 st reply after (subst (Remembers h) (sym memory) st.memory) same
+    does_loaded h call answer old new st reply after grows retains memory logs same =
+        does_by h h call answer old new 0 st reply after (λ _. retains) (subst (Remembers h) (sym memory) st.memory) same
         (λ going. (
           grows,
           (logs going).number refl,
           (let spare = ap (λ k. k.spare) memory in omega (arith, spare)),
           subst (λ (x : Option Xid). Holds s h x new.store) (ap (λ k. k.own) (sym memory)) (holds_logged h old.memory.own old.store new.store (st.holds going) (logs going)),
         ))
-        (λ going keeps. survives_same h h old.memory.own old.store new.store true st.shape refl refl refl (st.holds going) (logs going) keeps)
+        (λ before going keeps. survives_same h h old.memory.own old.store new.store true st.shape refl refl refl (st.holds going) (logs going) keeps)
 
     -- A fault of the disk, in calls that gave no group.
     pub does_fault : (h : State) (call : Call) (old new : EngineView S) → Stands s h old → h.stopped ≡ false
         → none_applies (early_tests h call) ≡ true → Remembers (record h { stopped = true }) new.memory
-        → SameStore s old.store new.store → (s.keeps → Survives s (s.slots old.store) h (record h { stopped = true }) old.store new.store)
+        → SameStore s old.store new.store → (s.keeps → Survives s (s.slots old.store) (Some call) h (record h { stopped = true }) old.store new.store)
         → Does s h call (Refused DiskFault) old new
     does_fault h call old new st going early remembers same survives =
-        does_by h (record h { stopped = true }) call (Refused DiskFault) old new 0 st (Reply.fault early refl) refl remembers same
+        does_by h (record h { stopped = true }) call (Refused DiskFault) old new 0 st (Reply.fault early refl) refl (λ _ s t k a is done. cc) remembers same
         (λ clash. absurd (false≢true (sym clash)))
-        (λ going keeps. survives keeps)
+        (λ before going keeps. survives keeps)
 
-    pub fault_survives : (h : State) (own : Option Xid) (old new : S) → s.shape_of old ≡ h.shape → Holds s h own old → Logs s old new [] false → s.keeps → Survives s (s.slots old) h (record h { stopped = true }) old new
+    pub fault_survives : {fault : Option Call} → (h : State) (own : Option Xid) (old new : S) → s.shape_of old ≡ h.shape → Holds s h own old → Logs s old new [] false → s.keeps → Survives s (s.slots old) fault h (record h { stopped = true }) old new
     fault_survives h own old new shape holds logs keeps = survives_same h (record h { stopped = true }) own old new false shape refl refl refl holds logs keeps
 
 -- cursors of a session that there isn't change nothing
@@ -181,10 +182,10 @@ grows_none h call (Refused why) by = refl
 
 -- A call of a cursor is the memory's alone.
 pub does_answered : {S : Type 0} (s : Ghosts S) (laws : Laws s) (h : State) (call : Call) (answer : Answer) (old new : EngineView S) → Stands s h old
-    → (old.memory.state.stopped ≡ false → s.failed old.store ≡ false) → is_fault answer ≡ false
+    → (old.memory.state.stopped ≡ false → s.failed old.store ≡ false) → is_fault answer ≡ false → ((now : State) → Retained h call answer now)
     → ((now : State) → AfterGrant h call now → (s : ℕ) × (cursors : List Cursor) × (now ≡ with_cursors h s cursors)) → GrowsBy h call 0
     → Answered h call answer new.memory → new.memory.own ≡ old.memory.own → new.memory.spare ≡ old.memory.spare → new.store ≡ old.store → Does s h call answer old new
-does_answered s laws h call answer old new st runs fine grant grows answered own spare store =
+does_answered s laws h call answer old new st runs fine retains grant grows answered own spare store =
     let now = answered.now in
     let logs : h.stopped ≡ false → Logs s old.store old.store [] true = λ going. no_logs s old.store (runs (ap (λ (x : State). x.stopped) st.memory ∙ going)) in
     let shapes = after_shape h now call answer answered.after in
@@ -193,7 +194,7 @@ does_answered s laws h call answer old new st runs fine grant grows answered own
     let books : now.books ≡ h.books = ⊎_elim (λ e. ap (λ (x : State). x.books) e) (λ w. ap (λ (x : State). x.books) w.1) which in
     let holds : h.stopped ≡ false → Holds s now old.memory.own old.store = λ going. ⊎_elim (λ e. subst (λ (x : State). Holds s x old.memory.own old.store) (sym e) (st.holds going))
     (λ w. subst (λ (x : State). Holds s x old.memory.own old.store) (sym w.1) (holds_cursors s st.told laws h old.memory.own old.store w.0 st.alone (st.holds going))) which in
-    does_by s h now call answer old new 0 st (answered.reply (s.lsn old.store) (room_left (s.slots old.store) (s.lsn old.store) old.memory.spare)) answered.after answered.remembers
+    does_by s h now call answer old new 0 st (answered.reply (s.lsn old.store) (room_left (s.slots old.store) (s.lsn old.store) old.memory.spare)) answered.after (λ _. retains now) answered.remembers
     (record { shape = ap s.shape_of store; slots = ap s.slots store })
     (λ going. (
       grows_none h call answer grows,
@@ -201,7 +202,7 @@ does_answered s laws h call answer old new st runs fine grant grows answered own
       omega (arith, spare),
       subst (Holds s now new.memory.own) (sym store) (subst (λ (x : Option Xid). Holds s now x old.store) (sym own) (holds (went_on h now call answer answered.after going))),
     ))
-    (λ going keeps. subst (Survives s (s.slots old.store) h now old.store) (sym store) (survives_same s st.told laws h now old.memory.own old.store old.store true st.shape shapes commits books (st.holds going) (logs going) keeps))
+    (λ before going keeps. subst (Survives s (s.slots old.store) (failed_in call answer before) h now old.store) (sym store) (survives_same s st.told laws h now old.memory.own old.store old.store true st.shape shapes commits books (st.holds going) (logs going) keeps))
 
 -- a result that isn't a fault of the disk
 pub no_fault : {T : Type 0} (r : Result T Refusal) → IfErr r (λ why. why ≢ DiskFault) → err_is is_disk_fault r ≡ false
@@ -228,5 +229,5 @@ ok_of (Err fault) fine so = (let clash : true ≡ false = fine in absurd cc)
 pub does_refused : {S : Type 0} (s : Ghosts S) (laws : Laws s) (h : State) (call : Call) (why : Refusal) (old : EngineView S) → Stands s h old
     → (old.memory.state.stopped ≡ false → s.failed old.store ≡ false) → Refuses (early_tests h call) why → why ≢ DiskFault → Does s h call (Refused why) old old
 does_refused s laws h call why old st runs refuses other =
-    does_loaded s st.told laws h call (Refused why) old old st (Reply.early refuses.0 refuses.1) (rw (other_refusal why other) refl) refl refl
+    does_loaded s st.told laws h call (Refused why) old old st (Reply.early refuses.0 refuses.1) (rw (other_refusal why other) refl) refl (λ s t k a is done. cc) refl
     (λ going. no_logs s old.store (runs (ap (λ (x : State). x.stopped) st.memory ∙ going))) (record { shape = refl; slots = refl })

@@ -9,7 +9,7 @@ use Rattle.rb_base.specs.Logs.{Laws, Logs, more_logs, no_logs}
 use Rattle.rb_base.specs.Stores.{room_of}
 use Rattle.rb_base.specs.declared.ids.Xid.{Xid}
 use Rattle.rb_base.specs.declared.store.Store.{Ghosts}
-use Rattle.rb_engine.specs.Does.{Does, EngineView, SameStore, Stands, room_left}
+use Rattle.rb_engine.specs.Does.{Does, EngineView, Keeps, SameStore, Stands, room_left}
 use Rattle.rb_engine.specs.Finishing.{Commits, Fails}
 use Rattle.rb_engine.proofs.DoesLemmas.{does_by, does_fault, holds_cursors, survives_same}
 use Rattle.rb_image.specs.Crash.{Survives}
@@ -41,14 +41,14 @@ some_own [] some = absurd (omega (arith, some))
 some_own (c ∷ l) some = refl
 
 module _ {S : Type 0} (s : Ghosts S) (told : s.tells) (laws : Laws s) (h : State) (x : Xid) (old : S) (shape : s.shape_of old ≡ h.shape) (holds : Holds s h (Some x) old) (some : 0 < length (session_own h 1)) where
-  pub commits_failed : (new : S) (groups : List (List Patch)) → length groups ≤ 1 → Logs s old new groups false → (1 ≤ length groups → CommitMade h holds.xids 1 x (s.blocks old) (after_groups (s.lsn old + 1) groups (s.blocks old))) → Fails s h old new
+  pub commits_failed : (new : S) (groups : List (List Patch)) → length groups ≤ 1 → Logs s old new groups false → (1 ≤ length groups → CommitMade h holds.xids 1 x (s.blocks old) (after_groups (s.lsn old + 1) groups (s.blocks old))) → Fails s (Some (Commit 1)) h old new
   commits_failed new groups few logs made keeps = commit_fault s told laws h x old shape holds new groups few logs made (some_own (session_own h 1) some) keeps
 
   pub commits_done : {T E : Type 0} (mid new : S) → GivesOne s old mid true (λ now. CommitMade h holds.xids 1 x (s.blocks old) now) → (r : Result T E) → Logs s mid new [] (not (is_err r)) → (s.keeps → OnOk r (s.pending new ≡ [])) → Commits s h x old new (not (is_err r))
   commits_done mid new one (Ok value) flush none =
-      let all = holds_committed s told laws h x old shape holds mid new one flush none in
+      let all = holds_committed s told laws h x old shape holds None mid new one flush none in
       let number : s.lsn new ≡ s.lsn old + 1 = let a = one.logs.number refl in let b = flush.number refl in let k = one.one refl in omega (arith, a, b, k) in
-      (all.0, number, all.1)
+      (all.0, number, λ before. (holds_committed s told laws h x old shape holds before mid new one flush none).1)
   commits_done mid new one (Err fault) flush none =
       let both : Logs s old new one.groups false = subst (λ (l : List (List Patch)). Logs s old new l false) (append-nil one.groups) (more_logs s old mid new one.groups [] false one.logs flush) in
       commits_failed new one.groups one.few both one.made
@@ -103,20 +103,20 @@ module _ {S : Type 0} (s : Ghosts S) (told : s.tells) (laws : Laws s) (h : State
         let full = some_own (session_own h 1) some in
         does_by s h (committed h 1 x.seg x.slot) (Commit 1) (Numbered n) old new 1 st
         (Reply.later [] (no_early h st.alone going) refl (rw (full, next) refl))
-        (inl (full, (x.seg, x.slot, id.owned, refl))) (knows x.seg x.slot) same
+        (inl (full, (x.seg, x.slot, id.owned, refl))) (λ _ s t k a is done. cc) (knows x.seg x.slot) same
         (λ _. (inl (full, refl), done.1, omega (arith, spare), subst (λ (o : Option Xid). Holds s (committed h 1 x.seg x.slot) o new.store) (sym none) done.0))
-        (λ _ keeps. done.2 keeps)
+        (λ before _ keeps. done.2 before keeps)
 
-    pub does_not : (call : Call) → none_applies (early_tests h call) ≡ true → Fails s h old.store new.store → Remembers (record h { stopped = true }) new.memory → Does s h call (Refused DiskFault) old new
+    pub does_not : (call : Call) → none_applies (early_tests h call) ≡ true → Fails s (Some call) h old.store new.store → Remembers (record h { stopped = true }) new.memory → Does s h call (Refused DiskFault) old new
     does_not call early fails knows = does_fault s told laws h call old new st going early knows same fails
 
 -- A transaction without a table slot ends in memory alone.
 pub does_ended : {S : Type 0} (s : Ghosts S) (laws : Laws s) (h : State) (call : Call) (cursors : List Cursor) (old new : EngineView S) → Stands s h old → h.stopped ≡ false
-    → (s.failed old.store ≡ false) → old.memory.own ≡ None → length (session_own h 1) ≡ 0 → none_applies (early_tests h call) ≡ true
+    → (s.failed old.store ≡ false) → ((now : State) → Keeps h call Done now) → old.memory.own ≡ None → length (session_own h 1) ≡ 0 → none_applies (early_tests h call) ≡ true
     → (HasNoSlot h 1 → Reply h (s.lsn old.store) (room_left (s.slots old.store) (s.lsn old.store) old.memory.spare) call Done)
     → (HasNoSlot h 1 → After h call Done (ended h 1 cursors)) → (HasNoSlot h 1 → GrowsBy h call 0)
     → (HasNoSlot h 1 → Remembers (ended h 1 cursors) new.memory) → new.memory.own ≡ None → old.memory.spare ≤ new.memory.spare → new.store ≡ old.store → Does s h call Done old new
-does_ended s laws h call cursors old new st going runs own empty early reply after grows knows none spare store =
+does_ended s laws h call cursors old new st going runs retains own empty early reply after grows knows none spare store =
     let holds = subst (λ (o : Option Xid). Holds s h o old.store) own (st.holds going) in
     let free = none_owned h (env_of h.shape (s.blocks old.store)) 1 holds.id in
     let now = ended h 1 cursors in
@@ -124,10 +124,10 @@ does_ended s laws h call cursors old new st going runs own empty early reply aft
     let same : now ≡ with_cursors h 1 (map not_present cursors) = ap (λ (l : List Change). let n : State = record h { sessions = set h.sessions 0 (record { own = l; cursors = map not_present cursors }) } in n) (sym own_is) in
     let logs = no_logs s old.store runs in
     let kept : Holds s now None old.store = subst (λ (y : State). Holds s y None old.store) (sym same) (holds_cursors s st.told laws h None old.store (map not_present cursors) st.alone holds) in
-    does_by s h now call Done old new 0 st (reply free) (after free) (knows free)
+    does_by s h now call Done old new 0 st (reply free) (after free) (λ _. retains now) (knows free)
     (record { shape = ap s.shape_of store; slots = ap s.slots store })
     (λ _. (grows free, omega (arith, ap s.lsn store), omega (arith, spare), subst (λ (y : _). Holds s now new.memory.own y) (sym store) (subst (λ (o : Option Xid). Holds s now o old.store) (sym none) kept)))
-    (λ _ keeps. subst (λ (y : _). Survives s (s.slots old.store) h now old.store y) (sym store) (survives_same s st.told laws h now None old.store old.store true st.shape refl refl refl holds logs keeps))
+    (λ before _ keeps. subst (λ (y : _). Survives s (s.slots old.store) before h now old.store y) (sym store) (survives_same s st.told laws h now None old.store old.store true st.shape refl refl refl holds logs keeps))
   where
     no_items : (l : List Change) → length l ≡ 0 → l ≡ []
     no_items [] e = refl

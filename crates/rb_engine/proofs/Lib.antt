@@ -7,3 +7,4 @@ pub mod OneList
 pub mod IdleRows
 pub mod OpenLemmas
 pub mod RollbackLemmas
+pub mod RetainsLemmas

@@ -26,7 +26,7 @@ use Rattle.rb_image.proofs.Steps.{read_has, survives_going}
 use Rattle.rb_image.proofs.StepsHeld.{few_each, holds_back, holds_ended, room_less}
 use Rattle.rb_model.specs.Book.{Book}
 use Rattle.rb_memory.specs.Remembers.{Remembers}
-use Rattle.rb_model.specs.Calls.{Done, Owned, Reply, Rollback}
+use Rattle.rb_model.specs.Calls.{Call, Done, Owned, Reply, Rollback}
 use Rattle.rb_model.specs.Change.{Change}
 use Rattle.rb_model.specs.NextState.{EndsAs, cursors_of, ended, left_open, not_present, without_owner}
 use Rattle.rb_model.specs.Rows.{last_scn}
@@ -51,7 +51,7 @@ module _ {S : Type 0} (s : Ghosts S) where
   pub record IsLeft (h : State) (x : Xid) (left : List Change) (turn : ℕ) (old now : S) : Type 0 where
     pub holds : Holds s (with_own h 1 left) (Some x) now
     pub lsn : s.lsn now ≡ s.lsn old + turn
-    pub survives : s.keeps → Survives s (s.slots old) h (with_own h 1 left) old now
+    pub survives : (before : Option Call) → s.keeps → Survives s (s.slots old) before h (with_own h 1 left) old now
 
   -- a state that a rollback of so many changes starts from
   pub record Starts (h : State) (x : Xid) (count : ℕ) (old : S) : Type 0 where
@@ -82,9 +82,9 @@ module _ {S : Type 0} (s : Ghosts S) where
 
   module _ (told : s.tells) (laws : Laws s) where
     -- A step that failed, whose group leaves the commits and no more marks: whatever changes the sessions have left.
-    step_fails : (m : State) (own : Option Xid) (old new : S) (all left : List Session) (books : List Book) (xids : List Xid) (Is : List (List ℕ) → Type 0) → s.shape_of old ≡ m.shape → Holds s m own old → MarksGrow m.shape books m.books
+    step_fails : {fault : Option Call} → (m : State) (own : Option Xid) (old new : S) (all left : List Session) (books : List Book) (xids : List Xid) (Is : List (List ℕ) → Type 0) → s.shape_of old ≡ m.shape → Holds s m own old → MarksGrow m.shape books m.books
         → ((now : List (List ℕ)) → Is now → BlocksStand (record m { sessions = left; books = books }) xids now × (logged_of m.shape now ≡ logged_of m.shape (s.blocks old) + 1) × (owed_in m.shape now + 1 ≤ owed_in m.shape (s.blocks old)))
-        → GivesOne s old new false Is → s.keeps → Survives s (s.slots old) m (record m { sessions = all; stopped = true }) old new
+        → GivesOne s old new false Is → s.keeps → Survives s (s.slots old) fault m (record m { sessions = all; stopped = true }) old new
     step_fails m own old new all left books xids Is shape holds marks is one keeps =
         let P : List (List ℕ) → ℕ → Type 0 = HasState m m.books (last_scn m.commits) (s.slots old) in
         let h2 : State = record m { sessions = all; stopped = true } in
@@ -105,47 +105,47 @@ module _ {S : Type 0} (s : Ghosts S) where
 
     module _ (h : State) (x : Xid) (count : ℕ) (old mid new : S) (st : Starts h x count old) (same : SameStore s old mid) where
       -- the calls before, and a step that failed
-      fails_on : (a : List Change) (turn : ℕ) → IsLeft h x a turn old mid → (s.keeps → Survives s (s.slots mid) (with_own h 1 a) (record h { stopped = true }) mid new) → Fails s h old new
-      fails_on a turn left step keeps = survives_on s (s.slots old) h (with_own h 1 a) (record h { stopped = true }) old mid new st.going (left.survives keeps)
-          (subst (λ (k : Option ℕ). Survives s k (with_own h 1 a) (record h { stopped = true }) mid new) same.slots (step keeps))
+      fails_on : (fault : Option Call) (a : List Change) (turn : ℕ) → IsLeft h x a turn old mid → (s.keeps → Survives s (s.slots mid) fault (with_own h 1 a) (record h { stopped = true }) mid new) → Fails s fault h old new
+      fails_on fault a turn left step keeps = survives_on s (s.slots old) h (with_own h 1 a) (record h { stopped = true }) old mid new st.going (left.survives fault keeps)
+          (subst (λ (k : Option ℕ). Survives s k fault (with_own h 1 a) (record h { stopped = true }) mid new) same.slots (step keeps))
 
       module _ (a front : List Change) (turn : ℕ) (left : IsLeft h x a turn old mid) where
-        pub back_fails : GivesOne s mid new false (λ now. BackMade (with_own h 1 a) left.holds.xids 1 front (s.blocks mid) now) → Fails s h old new
-        back_fails one =
+        pub back_fails : GivesOne s mid new false (λ now. BackMade (with_own h 1 a) left.holds.xids 1 front (s.blocks mid) now) → (fault : Option Call) → Fails s fault h old new
+        back_fails one fault =
             let m : State = with_own h 1 a in
-            fails_on a turn left (step_fails m (Some x) mid new h.sessions (set m.sessions 0 (with_changes m 1 front)) m.books left.holds.xids (λ now. BackMade m left.holds.xids 1 front (s.blocks mid) now) (same.shape ∙ st.shape) left.holds (grow_same m.shape m.books)
+            fails_on fault a turn left (step_fails m (Some x) mid new h.sessions (set m.sessions 0 (with_changes m 1 front)) m.books left.holds.xids (λ now. BackMade m left.holds.xids 1 front (s.blocks mid) now) (same.shape ∙ st.shape) left.holds (grow_same m.shape m.books)
             (λ now made. (made.stand, made.last, made.owed)) one)
 
         pub back_done : GivesOne s mid new true (λ now. BackMade (with_own h 1 a) left.holds.xids 1 front (s.blocks mid) now) → IsLeft h x front (turn + 1) old new
         back_done one =
             let m : State = with_own h 1 a in
-            let all = holds_back s told laws m (Some x) mid new front (same.shape ∙ st.shape) left.holds one in
+            let all : (before : Option Call) → Holds s (with_own m 1 front) (Some x) new × (s.keeps → Survives s (s.slots mid) before m (with_own m 1 front) mid new) = λ before. holds_back s told laws m (Some x) mid new front (same.shape ∙ st.shape) left.holds before one in
             let again : with_own m 1 front ≡ with_own h 1 front = own_again h 1 (omega arith) (omega (arith, st.alone)) a front in
             record {
-              holds = subst (λ (z : State). Holds s z (Some x) new) again all.0;
+              holds = subst (λ (z : State). Holds s z (Some x) new) again (all None).0;
               lsn = let n = one.logs.number refl in let k = one.one refl in omega (arith, n, k, left.lsn);
-              survives = λ keeps. subst (λ (z : State). Survives s (s.slots old) h z old new) again
-                  (survives_on s (s.slots old) h m (with_own m 1 front) old mid new st.going (left.survives keeps) (subst (λ (k : Option ℕ). Survives s k m (with_own m 1 front) mid new) same.slots (all.1 keeps)));
+              survives = λ before keeps. subst (λ (z : State). Survives s (s.slots old) before h z old new) again
+                  (survives_on s (s.slots old) h m (with_own m 1 front) old mid new st.going (left.survives before keeps) (subst (λ (k : Option ℕ). Survives s k before m (with_own m 1 front) mid new) same.slots ((all before).1 keeps)));
             }
 
       -- the end of the slot, once no change is left
       pub ends_all : (left : IsLeft h x [] count old mid) (going : Bool) → GivesOne s mid new going (λ now. EndMade (with_own h 1 []) left.holds.xids 1 x (s.blocks mid) now) → PutsAllBack s h x old new going
       ends_all left true one = λ cursors.
           let m : State = with_own h 1 [] in
-          let all = holds_ended s told laws m x mid new (same.shape ∙ st.shape) left.holds cursors one in
+          let all : (before : Option Call) → Holds s (without_owner x.seg x.slot (ended m 1 cursors)) None new × (s.keeps → Survives s (s.slots mid) before m (without_owner x.seg x.slot (ended m 1 cursors)) mid new) = λ before. holds_ended s told laws m x mid new (same.shape ∙ st.shape) left.holds before cursors one in
           let again : without_owner x.seg x.slot (ended m 1 cursors) ≡ without_owner x.seg x.slot (ended h 1 cursors) =
           ap (λ (z : List Session). without_owner x.seg x.slot (record h { sessions = z })) (set-set h.sessions 0 (with_changes h 1 []) (record { own = []; cursors = map not_present cursors })) in (
-            subst (λ (z : State). Holds s z None new) again all.0,
+            subst (λ (z : State). Holds s z None new) again (all None).0,
             (let n = one.logs.number refl in let k = one.one refl in omega (arith, n, k, left.lsn, st.own)),
-            λ keeps. subst (λ (z : State). Survives s (s.slots old) h z old new) again
-                (survives_on s (s.slots old) h m (without_owner x.seg x.slot (ended m 1 cursors)) old mid new st.going (left.survives keeps)
-                (subst (λ (k : Option ℕ). Survives s k m (without_owner x.seg x.slot (ended m 1 cursors)) mid new) same.slots (all.1 keeps))),
+            λ before keeps. subst (λ (z : State). Survives s (s.slots old) before h z old new) again
+                (survives_on s (s.slots old) h m (without_owner x.seg x.slot (ended m 1 cursors)) old mid new st.going (left.survives before keeps)
+                (subst (λ (k : Option ℕ). Survives s k before m (without_owner x.seg x.slot (ended m 1 cursors)) mid new) same.slots ((all before).1 keeps))),
           )
-      ends_all left false one =
+      ends_all left false one = λ fault.
           let m : State = with_own h 1 [] in
           let id = id_left h x [] count old mid left in
           let ends : State = without_owner x.seg x.slot (ended m 1 []) in
-          fails_on [] count left (step_fails m (Some x) mid new h.sessions ends.sessions ends.books left.holds.xids (λ now. EndMade m left.holds.xids 1 x (s.blocks mid) now) (same.shape ∙ st.shape) left.holds (shrinks_left m.shape m.books x.seg x.slot left.holds.blocks.tell.books_counted)
+          fails_on fault [] count left (step_fails m (Some x) mid new h.sessions ends.sessions ends.books left.holds.xids (λ now. EndMade m left.holds.xids 1 x (s.blocks mid) now) (same.shape ∙ st.shape) left.holds (shrinks_left m.shape m.books x.seg x.slot left.holds.blocks.tell.books_counted)
           (λ now made. (made.stand [], made.last, made.owed)) one)
 
   -- Before the first.
@@ -159,7 +159,7 @@ module _ {S : Type 0} (s : Ghosts S) where
         record {
           holds = subst (λ (z : State). Holds s z (Some x) old) all st.holds;
           lsn = omega arith;
-          survives = λ keeps. subst (λ (z : State). Survives s (s.slots old) h z old old) all
+          survives = λ before keeps. subst (λ (z : State). Survives s (s.slots old) before h z old old) all
               (survives_same s told laws h h (Some x) old old true st.shape refl refl refl st.holds (no_logs s old runs) keeps);
         };
   }
@@ -212,8 +212,8 @@ module _ {S : Type 0} (s : Ghosts S) where
                 (own_left h 1 (omega arith) (omega (arith, st.alone)) a ∙ front) left.holds.logged,
           )
 
-      pub one_fails : (new : S) → BackGives mid new x false → s.tells → (h : State) → Starts h x count old → Fails s h old new
-      one_fails new gives told h st = let w = about told h st new false gives in back_fails told laws h x count old mid new st same w.0 (take (count - (turn + 1)) (session_own h 1)) turn w.1 w.2
+      pub one_fails : (new : S) → BackGives mid new x false → s.tells → (h : State) → Starts h x count old → (fault : Option Call) → Fails s fault h old new
+      one_fails new gives told h st fault = let w = about told h st new false gives in back_fails told laws h x count old mid new st same w.0 (take (count - (turn + 1)) (session_own h 1)) turn w.1 w.2 fault
 
       pub one_more : (new : S) → (groups : List (List Patch)) × Logs s mid new groups true × (length groups ≤ 1) → BackGives mid new x true → PutBacks x count (turn + 1) old new
       one_more new second gives =
@@ -261,11 +261,11 @@ module _ {S : Type 0} (s : Ghosts S) (told : s.tells) (laws : Laws s) (h : State
         let now = without_owner x.seg x.slot (ended h 1 cursors) in
         let after : EndsAs h 1 cursors now = inl (x.seg, x.slot, id.owned, refl) in
         let all = done cursors in
-        does_by s h now (Rollback 1) Done old new (length (session_own h 1) + 1) st (Reply.later [] (no_early h st.alone going) refl refl) after (knows now after) same
+        does_by s h now (Rollback 1) Done old new (length (session_own h 1) + 1) st (Reply.later [] (no_early h st.alone going) refl refl) after (λ _ s t k a is done. cc) (knows now after) same
         (λ _. (
           inl (x.seg, x.slot, id.owned, refl),
           all.1,
           (let count = own_known h old.memory st.alone st.memory in omega (arith, spare, count)),
           subst (λ (o : Option Xid). Holds s now o new.store) (sym none) all.0,
         ))
-        (λ _ keeps. all.2 keeps)
+        (λ before _ keeps. all.2 before keeps)

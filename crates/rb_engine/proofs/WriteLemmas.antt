@@ -11,8 +11,11 @@ use Rattle.rb_memory.specs.Kept.{Kept}
 use Rattle.rb_base.specs.Stores.{room_of}
 use Rattle.rb_base.specs.declared.ids.Xid.{Xid}
 use Rattle.rb_base.specs.declared.store.Store.{Ghosts}
-use Rattle.rb_engine.specs.Does.{Does, EngineView, SameStore, Stands, room_left}
+use Rattle.rb_engine.specs.Does.{Does, EngineView, Keeps, SameStore, Stands, room_left}
+use Rattle.rb_engine.specs.Retains.{Retains}
 use Rattle.rb_engine.proofs.DoesLemmas.{does_by, does_fault, does_loaded}
+use Rattle.rb_engine.proofs.RetainsLemmas.{retains}
+use Rattle.rb_image.proofs.Owners.{OwnedBy, owned_by}
 use Rattle.rb_image.specs.Holds.{Holds}
 use Rattle.rb_image.specs.Made.{GivesOne, WriteMade}
 use Rattle.rb_image.proofs.StepsHeld.{holds_written, write_fault}
@@ -56,6 +59,14 @@ module _ {S : Type 0} (s : Ghosts S) (told : s.tells) (laws : Laws s) (h : State
   pub about : IsAbout h held.xids 1 old.memory.own (s.blocks old.store)
   about = record { stand = held.blocks; session = omega arith; id = held.id }
 
+  -- what it gives up is old enough
+  kept_undo : {blocks now : List (List ℕ)} (room : ℕ) (x : Xid) → WriteMade h held.xids 1 table key action room x blocks now → Keeps h (Write 1 table key action) Done (written h 1 x.seg x.slot (change_in h x.seg table key action))
+  kept_undo {now = now} room x made who t k a is done =
+      let after : State = written h 1 x.seg x.slot (change_in h x.seg table key action) in
+      let id : OwnedBy after now 1 x = owned_by after held.xids now 1 x made.stand made.id in
+      let one : 1 ≡ who = cc in
+      subst (λ (n : ℕ). Retains h n after) one (retains h held.xids (s.blocks old.store) held.blocks 1 x.seg x.slot made.in_slot id.there id.few after (change_in h x.seg table key action) refl)
+
   -- by that log number
   answered : (x : Xid) → (a : WritesIn h 1 x.seg x.slot) → (r : Rattle.rb_model.specs.Calls.Answer) → first_of (write_tests h (s.lsn old.store) Room x.seg x.slot 1 table key action) Done ≡ r
       → Reply h (s.lsn old.store) (room_left (s.slots old.store) (s.lsn old.store) old.memory.spare) (Write 1 table key action) r
@@ -67,12 +78,12 @@ module _ {S : Type 0} (s : Ghosts S) (told : s.tells) (laws : Laws s) (h : State
     does_written x one knows own spare =
         let single = one.one refl in
         let made = one.made (omega (arith, single)) in
-        let all = holds_written s told laws h old.memory.own old.store new.store table key action Room x st.shape held (omega arith) one in
+        let all = holds_written s told laws h old.memory.own old.store new.store table key action Room x st.shape held (omega arith) None one in
         let granted : first_of (write_tests h (s.lsn old.store) Room x.seg x.slot 1 table key action) Done ≡ Done = subst (λ (n : ℕ). first_of (write_tests h n Room x.seg x.slot 1 table key action) Done ≡ Done) (sym held.logged) made.granted in
         does_by s h (written h 1 x.seg x.slot (change_in h x.seg table key action)) (Write 1 table key action) Done old new 1 st
-        (answered x made.in_slot Done granted) (x.seg, x.slot, made.in_slot, refl) (knows x.seg x.slot) same
+        (answered x made.in_slot Done granted) (x.seg, x.slot, made.in_slot, refl) (λ _. kept_undo Room x made) (knows x.seg x.slot) same
         (λ _. (refl, (let n = one.logs.number refl in omega (arith, n, single)), omega (arith, spare), subst (λ (o : Option Xid). Holds s (written h 1 x.seg x.slot (change_in h x.seg table key action)) o new.store) (sym own) all.0))
-        (λ _ keeps. all.1 keeps)
+        (λ before _ keeps. (holds_written s told laws h old.memory.own old.store new.store table key action Room x st.shape held (omega arith) before one).1 keeps)
 
     -- a call of the store failed
     pub does_failed : (x : Xid) → GivesOne s old.store new.store false (λ now. WriteMade h held.xids 1 table key action Room x (s.blocks old.store) now)
@@ -84,7 +95,7 @@ module _ {S : Type 0} (s : Ghosts S) (told : s.tells) (laws : Laws s) (h : State
     pub does_not_write : (why : Refusal) → is_disk_fault why ≡ false → (x : Xid) → WritesIn h 1 x.seg x.slot → first_of (write_tests h (s.lsn old.store) Room x.seg x.slot 1 table key action) Done ≡ Refused why
         → new.memory ≡ old.memory → Logs s old.store new.store [] true → Does s h (Write 1 table key action) (Refused why) old new
     does_not_write why other x within is memory logs =
-        does_loaded s told laws h (Write 1 table key action) (Refused why) old new st (answered x within (Refused why) is) (rw other refl) refl memory (λ _. logs) same
+        does_loaded s told laws h (Write 1 table key action) (Refused why) old new st (answered x within (Refused why) is) (rw other refl) refl (λ s t k a is done. cc) memory (λ _. logs) same
 
   -- The same from the clauses of the step, which took that id and that room.
   module _ (new : EngineView S) (same : SameStore s old.store new.store) (own : Option Xid) (room : ℕ) (own_is : own ≡ old.memory.own) (room_is : room ≡ old.memory.spare) where

@@ -1,26 +1,28 @@
 -- What a commit and a rollback leave of a store that has a state, or of which a call failed on the way.
-use Rattle.std.specs.Prelude.{◌≡◌, ◌+◌, Bool, true, false, length, None, List}
+use Rattle.std.specs.Prelude.{◌≡◌, ◌+◌, Bool, true, false, length, Option, None, Some, List}
 use Rattle.rb_base.specs.declared.ids.Xid.{Xid}
 use Rattle.rb_base.specs.declared.store.Store.{Ghosts}
 use Rattle.rb_image.specs.Crash.{Survives}
 use Rattle.rb_image.specs.Holds.{Holds}
+use Rattle.rb_model.specs.Calls.{Call, Commit}
 use Rattle.rb_model.specs.NextState.{committed, ended, without_owner}
 use Rattle.rb_model.specs.State.{Cursor, State, session_own}
 
--- where a call failed, a crash leaves the state or what the fault may have left
-abbrev pub Fails : {S : Type 0} → Ghosts S → State → S → S → Type 0
-Fails s h old new = s.keeps → Survives s (s.slots old) h (record h { stopped = true }) old new
+-- where the disk failed in a call, a crash leaves the state or what such a call may have left
+abbrev pub Fails : {S : Type 0} → Ghosts S → Option Call → State → S → S → Type 0
+Fails s fault h old new = s.keeps → Survives s (s.slots old) fault h (record h { stopped = true }) old new
 
 -- a commit of the session whose transaction has that id
 abbrev pub Commits : {S : Type 0} → Ghosts S → State → Xid → S → S → Bool → Type 0
 Commits s h x old new true = Holds s (committed h 1 x.seg x.slot) None new × (s.lsn new ≡ s.lsn old + 1)
-    × (s.keeps → Survives s (s.slots old) h (committed h 1 x.seg x.slot) old new)
-Commits s h x old new false = Fails s h old new
+    × ((before : Option Call) → s.keeps → Survives s (s.slots old) before h (committed h 1 x.seg x.slot) old new)
+Commits s h x old new false = Fails s (Some (Commit 1)) h old new
 
 -- its rollback, whatever cursors it keeps
 abbrev pub PutsAllBack : {S : Type 0} → Ghosts S → State → Xid → S → S → Bool → Type 0
 PutsAllBack s h x old new true = (cursors : List Cursor)
     → Holds s (without_owner x.seg x.slot (ended h 1 cursors)) None new
     × (s.lsn new ≡ s.lsn old + (length (session_own h 1) + 1))
-    × (s.keeps → Survives s (s.slots old) h (without_owner x.seg x.slot (ended h 1 cursors)) old new)
-PutsAllBack s h x old new false = Fails s h old new
+    × ((before : Option Call) → s.keeps
+    → Survives s (s.slots old) before h (without_owner x.seg x.slot (ended h 1 cursors)) old new)
+PutsAllBack s h x old new false = (fault : Option Call) → Fails s fault h old new

@@ -1,7 +1,7 @@
 //! The calls of `Engine`, as the abstract machine sees them. The shell makes one for each command.
-ghost use Rattle.std.specs.Prelude.{◌≡◌, ◌<◌, Ok, [], OnOk};
+ghost use Rattle.std.specs.Prelude.{◌≡◌, ◌<◌, false, Ok, [], OnOk};
 ghost use Rattle.rb_base.specs.Counts.{IsCountedAs, err_is};
-ghost use Rattle.rb_engine.specs.Does.{Does, SameStore, Stands};
+ghost use Rattle.rb_engine.specs.Does.{Does, LeavesState, SameStore, Stands};
 ghost use Rattle.rb_model.specs.Answers.{action_of, write_answer, plain_answer, fetch_answer, commit_answer, LeavesRow};
 ghost use Rattle.rb_model.specs.Answers.{marks_answer};
 ghost use Rattle.rb_model.specs.Calls.{is_disk_fault};
@@ -105,10 +105,13 @@ impl<T: Store> Engine<T> {
         do_marks(&mut self.memory, &mut self.store, seg)
     }
 
-    /// Makes all that was done last, also what isn't committed yet: a restart finds it and puts it back.
+    /// Makes all that was done last, also what isn't committed yet: a restart finds it and puts it back. Whatever it
+    /// answers, a crash in it or after it leaves the state.
     pub fn checkpoint(&mut self) -> Result<(), Refusal>
         ensures did { (h : State) → Stands T.Store h self.old → Does T.Store h
             machine.Checkpoint (plain_answer result) self.old self.new }
+        ensures leaves { (h : State) → Stands T.Store h self.old → h.stopped ≡ false
+            → LeavesState T.Store h self.old.store self.new.store }
         ensures nothing_waits { T.keeps → OnOk result (T.pending self.new.store ≡ []) }
         ensures same { SameStore T.Store self.old.store self.new.store }
         ensures disk { IsCountedAs (T.faults self.old.store) (T.faults self.new.store)

@@ -1,6 +1,8 @@
 //! `Engine`: the memory of its session with the store that makes changes last. The shell runs lines through it.
 ghost use Rattle.std.specs.Prelude.{◌≡◌, ◌^◌, ◌-◌, min};
+ghost use Rattle.rb_engine.specs.Does.{Stands};
 ghost use Rattle.rb_model.specs.Rows.{last_scn};
+ghost use Rattle.rb_model.specs.State.{State};
 
 use rb_base::{Scn, Shape, Store};
 use rb_memory::Memory;
@@ -27,7 +29,7 @@ impl<T: Store> Model for Engine<T> {
 impl<T: Store> Engine<T> {
     /// The number of the last commit, up to 2^64 - 1.
     pub fn now(&self) -> Scn
-        ensures { result ≡ min (last_scn self.now.memory.state.commits) (2 ^ 64 - 1) }
+        ensures { (h : State) → Stands T.Store h self.now → result ≡ min (last_scn h.commits) (2 ^ 64 - 1) }
     {
         self.memory.scn()
     }

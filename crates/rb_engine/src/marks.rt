@@ -1,7 +1,7 @@
 //! What a segment tells of itself, and a checkpoint. `Engine::marks` and `Engine::checkpoint` call it.
-ghost use Rattle.std.specs.Prelude.{◌≡◌, ◌<◌, [], OnOk};
+ghost use Rattle.std.specs.Prelude.{◌≡◌, ◌<◌, false, [], OnOk};
 ghost use Rattle.rb_base.specs.Counts.{IsCountedAs, err_is};
-ghost use Rattle.rb_engine.specs.Does.{Does, IsInStep, SameStore, Stands};
+ghost use Rattle.rb_engine.specs.Does.{Does, IsInStep, LeavesState, SameStore, Stands};
 ghost use Rattle.rb_model.specs.Answers.{marks_answer, plain_answer};
 ghost use Rattle.rb_model.specs.Calls.{is_disk_fault};
 ghost use Rattle.rb_model.specs.Calls as machine;
@@ -45,6 +45,8 @@ pub fn do_checkpoint<T: Store>(memory: &mut Memory, store: &mut T) -> Result<(),
     ensures did { (h : State) → Stands T.Store h (record { memory = memory.old; store = store.old })
         → Does T.Store h machine.Checkpoint (plain_answer result)
         (record { memory = memory.old; store = store.old }) (record { memory = memory.new; store = store.new }) }
+    ensures leaves { (h : State) → Stands T.Store h (record { memory = memory.old; store = store.old })
+        → h.stopped ≡ false → LeavesState T.Store h store.old store.new }
     ensures nothing_waits { T.keeps → OnOk result (T.pending store.new ≡ []) }
     ensures same { SameStore T.Store store.old store.new }
     ensures disk { IsCountedAs (T.faults store.old) (T.faults store.new) (err_is is_disk_fault result) }

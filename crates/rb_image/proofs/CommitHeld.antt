@@ -16,7 +16,7 @@ use Rattle.rb_image.proofs.Owners.{OwnedBy, few_slots, finished_else, finished_h
 use Rattle.rb_image.proofs.Steps.{commit_failed, read_has, survives_commit}
 use Rattle.rb_image.proofs.StepsHeld.{few_each, room_less}
 use Rattle.rb_model.specs.Book.{book_at, finished}
-use Rattle.rb_model.specs.Calls.{is_empty}
+use Rattle.rb_model.specs.Calls.{Call, Commit, is_empty}
 use Rattle.rb_model.specs.NextState.{committed}
 use Rattle.rb_model.specs.Rows.{last_scn}
 use Rattle.rb_model.specs.State.{State, session_own}
@@ -49,9 +49,9 @@ module _ {S : Type 0} (s : Ghosts S) (told : s.tells) (laws : Laws s) (h : State
   one_group (g ∷ k ∷ more) e = absurd (omega (arith, e))
 
   -- The commit's group was given, and all groups were made last.
-  pub holds_committed : (mid new : S) → GivesOne s old mid true (λ now. CommitMade h holds.xids 1 x (s.blocks old) now) → Logs s mid new [] true → (s.keeps → s.pending new ≡ [])
-      → Holds s next None new × (s.keeps → Survives s (s.slots old) h next old new)
-  holds_committed mid new one flush none =
+  pub holds_committed : (fault : Option Call) (mid new : S) → GivesOne s old mid true (λ now. CommitMade h holds.xids 1 x (s.blocks old) now) → Logs s mid new [] true → (s.keeps → s.pending new ≡ [])
+      → Holds s next None new × (s.keeps → Survives s (s.slots old) fault h next old new)
+  holds_committed fault mid new one flush none =
       let single = one_group one.groups (one.one refl) in
       let g = single.0 in
       let logs : Logs s old mid (g ∷ []) true = subst (λ (l : List (List Patch)). Logs s old mid l true) single.1 one.logs in
@@ -63,7 +63,7 @@ module _ {S : Type 0} (s : Ghosts S) (told : s.tells) (laws : Laws s) (h : State
       let has : HasState next next.books (last_scn next.commits) (s.slots old) (s.blocks new) (s.lsn new) = subst (λ (n : ℕ). HasState next next.books (last_scn next.commits) (s.slots old) (s.blocks new) n) (sym number) (made_has (s.blocks new) is) in
       let free = freed h next holds.xids (s.blocks old) 1 x.seg x.slot (finished (last_scn h.commits + 1) x.slot (book_at h.books x.seg)) holds.blocks id.few id.there id.owned refl
       (finished_here (last_scn h.commits + 1) x.slot (book_at h.books x.seg) (few_slots holds.blocks x.seg id.there x.slot id.few)) (finished_else (last_scn h.commits + 1) x.slot (book_at h.books x.seg)) in
-      let crash : (keeps : s.keeps) → Survives s (s.slots old) h next old new × Rattle.rb_base.specs.Keeps.Keeps s (HasState next next.books (last_scn next.commits) (s.slots old)) new = λ keeps.
+      let crash : (keeps : s.keeps) → Survives s (s.slots old) fault h next old new × Rattle.rb_base.specs.Keeps.Keeps s (HasState next next.books (last_scn next.commits) (s.slots old)) new = λ keeps.
       survives_commit s laws keeps h next old mid new g shape extends (holds.images keeps) logs flush both (none keeps) has read number in (
         record {
           xids = holds.xids ++ x ∷ [];
@@ -78,7 +78,7 @@ module _ {S : Type 0} (s : Ghosts S) (told : s.tells) (laws : Laws s) (h : State
 
   -- A call failed, with the group or before it.
   pub commit_fault : (new : S) (groups : List (List Patch)) → length groups ≤ 1 → Logs s old new groups false → (1 ≤ length groups → CommitMade h holds.xids 1 x (s.blocks old) (after_groups (s.lsn old + 1) groups (s.blocks old)))
-      → is_empty (session_own h 1) ≡ false → s.keeps → Survives s (s.slots old) h (record h { stopped = true }) old new
+      → is_empty (session_own h 1) ≡ false → s.keeps → Survives s (s.slots old) (Some (Commit 1)) h (record h { stopped = true }) old new
   commit_fault new groups few logs made some keeps =
       let P : List (List ℕ) → ℕ → Type 0 = HasState h h.books (last_scn h.commits) (s.slots old) in
       let Q : List (List ℕ) → ℕ → Type 0 = λ b n. HasState h h.books (last_scn h.commits) (s.slots old) b n ⊎ HasState (with_commit h 1) h.books (last_scn h.commits + 1) (s.slots old) b n in

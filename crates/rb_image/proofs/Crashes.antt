@@ -1,5 +1,5 @@
 -- What a crash may leave: from state to state, over calls that give a store groups, and over several calls.
-use Rattle.std.proofs.Common.{◌≡◌, ◌⊎◌, inl, inr, ⊎_elim, ℕ, ◌+◌, ◌-◌, ◌<◌, ◌≤◌, true, false, List, [], ◌∷◌, ◌++◌, length, take, refl, arith, ap, sym, ◌∙◌, subst, length-append, append_assoc, append-nil, Option}
+use Rattle.std.proofs.Common.{◌≡◌, ◌≢◌, ◌⊎◌, inl, inr, ⊎_elim, ℕ, ◌+◌, ◌-◌, ◌<◌, ◌≤◌, true, false, List, [], ◌∷◌, ◌++◌, length, take, refl, arith, ap, sym, ◌∙◌, subst, length-append, append_assoc, append-nil, Option, Some}
 use Rattle.std.proofs.lemmas.Bool.{false≢true}
 use Rattle.std.proofs.lemmas.List.{take-append-le}
 use Rattle.std.specs.List.{flat_map}
@@ -12,6 +12,7 @@ use Rattle.rb_image.specs.Crash.{AtEnd, whole, one_commit, one_write, OnTheWay, 
 use Rattle.rb_image.specs.Images.{HasState, MarksWithin}
 use Rattle.rb_image.proofs.Past.{sound_as}
 use Rattle.rb_model.specs.Book.{Book, book_at}
+use Rattle.rb_model.specs.Calls.{Action, Call, Commit, Write}
 use Rattle.rb_model.specs.Rows.{Commits, TableRow, last_scn, over, rows_at}
 use Rattle.rb_model.specs.State.{State, session_own}
 use Rattle.rb_segment.specs.Segments.{commit_scn, owed_in}
@@ -104,26 +105,32 @@ module _ {I : Type 0} (opens : Shape → Option ℕ → I → List (List ℕ) �
   }
 
   -- an engine that goes on stands for its state
-  pub stands_at_end : (h : State) (i : I) → h.stopped ≡ false → AtEnd opens slots h i → Restarts opens slots h i
-  stands_at_end h i going (whole r) = r
-  stands_at_end h i going (one_commit s stopped some r) = absurd (false≢true (sym going ∙ stopped))
-  stands_at_end h i going (one_write s g k stopped writes r) = absurd (false≢true (sym going ∙ stopped))
+  pub stands_at_end : (fault : Option Call) (h : State) (i : I) → h.stopped ≡ false → AtEnd opens slots fault h i → Restarts opens slots h i
+  stands_at_end fault h i going (whole r) = r
+  stands_at_end fault h i going (one_commit s by stopped some r) = absurd (false≢true (sym going ∙ stopped))
+  stands_at_end fault h i going (one_write s table key action g k by stopped writes r) = absurd (false≢true (sym going ∙ stopped))
 
-  way_further : (h m h2 : State) (i : I) → Extends h m → Extends m h2 → m.stopped ≡ false → OnTheWay opens slots h m i → OnTheWay opens slots h h2 i
-  way_further h m h2 i d e going (reached n low high r) = reached n low (omega (arith, high, extends_later m h2 e)) (restarts_later m h2 m.books h2.books n i e high e.marks r)
-  way_further h m h2 i d e going (at_end a) = reached (last_scn m.commits) (extends_later h m d) (extends_later m h2 e) (restarts_later m h2 m.books h2.books (last_scn m.commits) i e (omega arith) e.marks (stands_at_end m i going a))
+  -- nor does a fault in a call that neither commits nor writes leave anything else
+  pub whole_after : (fault : Option Call) (h : State) (i : I) → ((s : ℕ) → fault ≢ Some (Commit s)) → ((s table key : ℕ) (action : Action) → fault ≢ Some (Write s table key action)) → AtEnd opens slots fault h i → Restarts opens slots h i
+  whole_after fault h i commit write (whole r) = r
+  whole_after fault h i commit write (one_commit s by stopped some r) = absurd (commit s by)
+  whole_after fault h i commit write (one_write s table key action g k by stopped writes r) = absurd (write s table key action by)
 
-  way_longer : (h m h2 : State) (i : I) → Extends h m → OnTheWay opens slots m h2 i → OnTheWay opens slots h h2 i
-  way_longer h m h2 i d (reached n low high r) = reached n (omega (arith, low, extends_later h m d)) high r
-  way_longer h m h2 i d (at_end a) = at_end a
+  way_further : (first fault : Option Call) (h m h2 : State) (i : I) → Extends h m → Extends m h2 → m.stopped ≡ false → OnTheWay opens slots first h m i → OnTheWay opens slots fault h h2 i
+  way_further first fault h m h2 i d e going (reached n low high r) = reached n low (omega (arith, high, extends_later m h2 e)) (restarts_later m h2 m.books h2.books n i e high e.marks r)
+  way_further first fault h m h2 i d e going (at_end a) = reached (last_scn m.commits) (extends_later h m d) (extends_later m h2 e) (restarts_later m h2 m.books h2.books (last_scn m.commits) i e (omega arith) e.marks (stands_at_end first m i going a))
+
+  way_longer : (fault : Option Call) (h m h2 : State) (i : I) → Extends h m → OnTheWay opens slots fault m h2 i → OnTheWay opens slots fault h h2 i
+  way_longer fault h m h2 i d (reached n low high r) = reached n (omega (arith, low, extends_later h m d)) high r
+  way_longer fault h m h2 i d (at_end a) = at_end a
 
 module _ {S : Type 0} (s : Ghosts S) (slots : Option ℕ) where
-  -- over calls, and then others
-  pub survives_on : (h m h2 : State) (old mid new : S) → m.stopped ≡ false → Survives s slots h m old mid → Survives s slots m h2 mid new → Survives s slots h h2 old new
-  survives_on h m h2 old mid new going a b = record {
+  -- over calls in which the disk didn't fail, and then others
+  pub survives_on : {first fault : Option Call} → (h m h2 : State) (old mid new : S) → m.stopped ≡ false → Survives s slots first h m old mid → Survives s slots fault m h2 mid new → Survives s slots fault h h2 old new
+  survives_on {first = first} {fault = fault} h m h2 old mid new going a b = record {
     extends = extends_on h m h2 a.extends b.extends;
-    any_moment = joined s.moment s.left_since old mid new (OnTheWay s.opens slots h h2)
-        (weaker s.moment s.left_since old mid (OnTheWay s.opens slots h m) (OnTheWay s.opens slots h h2) (λ i w. way_further s.opens slots h m h2 i a.extends b.extends going w) a.any_moment)
-        (weaker s.moment s.left_since mid new (OnTheWay s.opens slots m h2) (OnTheWay s.opens slots h h2) (λ i w. way_longer s.opens slots h m h2 i a.extends w) b.any_moment);
+    any_moment = joined s.moment s.left_since old mid new (OnTheWay s.opens slots fault h h2)
+        (weaker s.moment s.left_since old mid (OnTheWay s.opens slots first h m) (OnTheWay s.opens slots fault h h2) (λ i w. way_further s.opens slots first fault h m h2 i a.extends b.extends going w) a.any_moment)
+        (weaker s.moment s.left_since mid new (OnTheWay s.opens slots fault m h2) (OnTheWay s.opens slots fault h h2) (λ i w. way_longer s.opens slots fault h m h2 i a.extends w) b.any_moment);
     now_only = b.now_only;
   }

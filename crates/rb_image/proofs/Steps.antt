@@ -1,6 +1,6 @@
 -- What calls leave of a store whose images have a state: by the groups that they gave it, each of which makes blocks that
 -- have the state or a later one.
-use Rattle.std.proofs.Common.{◌≡◌, ◌⊎◌, inl, inr, ⊎_elim, ℕ, ◌+◌, ◌-◌, ◌<◌, ◌≤◌, Bool, true, false, List, [], ◌∷◌, ◌++◌, length, take, refl, arith, ap, sym, ◌∙◌, subst, length-append, append-nil, Option}
+use Rattle.std.proofs.Common.{◌≡◌, ◌⊎◌, inl, inr, ⊎_elim, ℕ, ◌+◌, ◌-◌, ◌<◌, ◌≤◌, Bool, true, false, List, [], ◌∷◌, ◌++◌, length, take, refl, arith, ap, sym, ◌∙◌, subst, length-append, append-nil, Option, Some}
 use Rattle.std.proofs.lemmas.Bool.{cases_lt, false≢true}
 use Rattle.std.proofs.lemmas.List.{take-append-le}
 use Rattle.std.proofs.Math.Seq.{take-append-add}
@@ -12,11 +12,11 @@ use Rattle.rb_base.specs.Moments.{LeavesOnly, weaker}
 use Rattle.rb_base.specs.Settling.{after_joined, told_same}
 use Rattle.rb_base.specs.declared.shape.Shape.{Shape}
 use Rattle.rb_base.specs.declared.store.Store.{Ghosts}
-use Rattle.rb_image.specs.Crash.{AtEnd, whole, one_commit, one_write, OnTheWay, reached, at_end, Extends, MarksGrow, Restarts, RestartsAt, Survives, with_commit}
+use Rattle.rb_image.specs.Crash.{AtEnd, whole, one_commit, one_write, OnTheWay, reached, at_end, Extends, MarksGrow, OpensUpTo, Restarts, RestartsAt, Survives, with_commit}
 use Rattle.rb_image.specs.Images.{HasState}
 use Rattle.rb_image.proofs.Crashes.{extends_later, extends_same, grow_same, has_later, restarts_later, rows_stay}
 use Rattle.rb_model.specs.Book.{Book}
-use Rattle.rb_model.specs.Calls.{WritesIn, has_slot, is_empty}
+use Rattle.rb_model.specs.Calls.{Action, Call, Commit, Write, WritesIn, has_slot, is_empty}
 use Rattle.rb_model.specs.NextState.{books_written}
 use Rattle.rb_model.specs.Rows.{Commits, last_scn, rows_at}
 use Rattle.rb_model.specs.State.{State, session_own}
@@ -99,6 +99,17 @@ module _ {S : Type 0} (s : Ghosts S) (laws : Laws s) (keeps : s.keeps) where
   pub left_with : (Q : Property) (store : S) → Keeps s Q store → (i : s.image) → s.left store i → OpensWith s Q store i
   left_with Q store kept i here = (kept.base, kept.first, laws.stable_left store kept.base kept.first i keeps kept.stable here, told_same Q _ _ _ _ refl (omega arith) (kept.each 0 (omega arith)))
 
+  -- Where nothing waits, an image opens to the last group.
+  pub opens_last : (P : Property) (store : S) → Keeps s P store → s.pending store ≡ [] → (i : s.image) → s.left store i → OpensUpTo s.opens (s.slots store) (s.shape_of store) (s.lsn store) i
+  opens_last P store kept none i here =
+      let numbered : kept.first + length (s.pending store) ≡ s.lsn store = laws.stable_numbered store kept.base kept.first keeps kept.stable in
+      let nothing : length (s.pending store) ≡ 0 = ap (λ (l : List (List Patch)). length l) none in
+      let last : kept.first ≡ s.lsn store = omega (arith, numbered, nothing) in
+      record {
+        blocks = kept.base;
+        opening = subst (λ (n : ℕ). s.opens (s.shape_of store) (s.slots store) i kept.base n) last (laws.stable_left store kept.base kept.first i keeps kept.stable here);
+      }
+
   -- An image opens to what has a state: it restarts there.
   pub restarts : (h : State) (books : List Book) (n : ℕ) (store : S) (i : s.image) → s.shape_of store ≡ h.shape → OpensWith s (HasState h books n (s.slots store)) store i → RestartsAt s.opens (s.slots store) books h n i
   restarts h books n store i shape (b, m, opening, has) = record {
@@ -109,11 +120,11 @@ module _ {S : Type 0} (s : Ghosts S) (laws : Laws s) (keeps : s.keeps) where
   }
 
   -- Calls that went well, or gave no group: the state then has the same commits, and no less marks.
-  pub survives_going : (h h2 : State) (old new : S) (groups : List (List Patch)) → s.shape_of old ≡ h.shape → h2.shape ≡ h.shape → h2.commits ≡ h.commits → MarksGrow h.shape h.books h2.books
+  pub survives_going : {fault : Option Call} → (h h2 : State) (old new : S) (groups : List (List Patch)) → s.shape_of old ≡ h.shape → h2.shape ≡ h.shape → h2.commits ≡ h.commits → MarksGrow h.shape h.books h2.books
       → Keeps s (HasState h h.books (last_scn h.commits) (s.slots old)) old → (going : Bool) → Logs s old new groups going
       → AfterEach (HasState h2 h2.books (last_scn h2.commits) (s.slots old)) (s.lsn old) groups (s.blocks old)
-      → Survives s (s.slots old) h h2 old new
-  survives_going h h2 old new groups shape shapes commits grow kept going logs each =
+      → Survives s (s.slots old) fault h h2 old new
+  survives_going {fault = fault} h h2 old new groups shape shapes commits grow kept going logs each =
       let Q : Property = HasState h2 h2.books (last_scn h2.commits) (s.slots old) in
       let P : Property = HasState h h.books (last_scn h.commits) (s.slots old) in
       let number : last_scn h.commits ≡ last_scn h2.commits = ap last_scn (sym commits) in
@@ -123,26 +134,26 @@ module _ {S : Type 0} (s : Ghosts S) (laws : Laws s) (keeps : s.keeps) where
       let leaves = leaves_on P Q so old new groups going kept logs each in
       let at : s.shape_of old ≡ h2.shape = shape ∙ sym shapes in record {
         extends = extends_same h h2 shapes commits grow;
-        any_moment = weaker s.moment s.left_since old new (OpensWith s Q old) (OnTheWay s.opens (s.slots old) h h2) (λ i opens. at_end (whole (restarts h2 h2.books (last_scn h2.commits) old i at opens))) leaves;
+        any_moment = weaker s.moment s.left_since old new (OpensWith s Q old) (OnTheWay s.opens (s.slots old) fault h h2) (λ i opens. at_end (whole (restarts h2 h2.books (last_scn h2.commits) old i at opens))) leaves;
         now_only = λ i here. whole (restarts h2 h2.books (last_scn h2.commits) old i at (left_now Q old new leaves i here));
       }
 
   -- A write that answered a fault: its group may be there.
-  pub survives_write : (h : State) (t g k : ℕ) (old new : S) (groups : List (List Patch)) → s.shape_of old ≡ h.shape → WritesIn h t g k
+  pub survives_write : (h : State) (t table key : ℕ) (action : Action) (g k : ℕ) (old new : S) (groups : List (List Patch)) → s.shape_of old ≡ h.shape → WritesIn h t g k
       → MarksGrow h.shape h.books (books_written t g k (has_slot h t g k) h.books) → Keeps s (HasState h h.books (last_scn h.commits) (s.slots old)) old → Logs s old new groups false
       → AfterEach (HasState h (books_written t g k (has_slot h t g k) h.books) (last_scn h.commits) (s.slots old)) (s.lsn old) groups (s.blocks old)
-      → Survives s (s.slots old) h (record h { stopped = true }) old new
-  survives_write h t g k old new groups shape writes grow kept logs each =
+      → Survives s (s.slots old) (Some (Write t table key action)) h (record h { stopped = true }) old new
+  survives_write h t table key action g k old new groups shape writes grow kept logs each =
       let books = books_written t g k (has_slot h t g k) h.books in
       let h2 : State = record h { stopped = true } in
       let Q : Property = HasState h books (last_scn h.commits) (s.slots old) in
       let P : Property = HasState h h.books (last_scn h.commits) (s.slots old) in
       let so : (b : List (List ℕ)) (n : ℕ) → P b n → Q b n = λ b n has. has_later h h h.books books (last_scn h.commits) (s.slots old) b n refl refl grow has in
       let leaves = leaves_on P Q so old new groups false kept logs each in
-      let end : (i : s.image) → OpensWith s Q old i → AtEnd s.opens (s.slots old) h2 i = λ i opens.
-      one_write t g k refl writes (restarts_later s.opens (s.slots old) h h2 books books (last_scn h.commits) i (extends_same h h2 refl refl (grow_same h.shape h.books)) (omega arith) (grow_same h.shape books) (restarts h books (last_scn h.commits) old i shape opens)) in record {
+      let end : (i : s.image) → OpensWith s Q old i → AtEnd s.opens (s.slots old) (Some (Write t table key action)) h2 i = λ i opens.
+      one_write t table key action g k refl refl writes (restarts_later s.opens (s.slots old) h h2 books books (last_scn h.commits) i (extends_same h h2 refl refl (grow_same h.shape h.books)) (omega arith) (grow_same h.shape books) (restarts h books (last_scn h.commits) old i shape opens)) in record {
         extends = extends_same h h2 refl refl (grow_same h.shape h.books);
-        any_moment = weaker s.moment s.left_since old new (OpensWith s Q old) (OnTheWay s.opens (s.slots old) h h2) (λ i opens. at_end (end i opens)) leaves;
+        any_moment = weaker s.moment s.left_since old new (OpensWith s Q old) (OnTheWay s.opens (s.slots old) (Some (Write t table key action)) h h2) (λ i opens. at_end (end i opens)) leaves;
         now_only = λ i here. end i (left_now Q old new leaves i here);
       }
 
@@ -151,10 +162,10 @@ module _ {S : Type 0} (s : Ghosts S) (laws : Laws s) (keeps : s.keeps) where
   BeforeOrAfter h h2 slots b n = HasState h h.books (last_scn h.commits) slots b n ⊎ HasState h2 h2.books (last_scn h2.commits) slots b n
 
   -- A commit that answered its number: the group was given, and then all were made last.
-  pub survives_commit : (h h2 : State) (old mid new : S) (g : List Patch) → s.shape_of old ≡ h.shape → Extends h h2 → Keeps s (HasState h h.books (last_scn h.commits) (s.slots old)) old
+  pub survives_commit : {fault : Option Call} → (h h2 : State) (old mid new : S) (g : List Patch) → s.shape_of old ≡ h.shape → Extends h h2 → Keeps s (HasState h h.books (last_scn h.commits) (s.slots old)) old
       → Logs s old mid (g ∷ []) true → Logs s mid new [] true → Logs s old new (g ∷ []) true → s.pending new ≡ [] → HasState h2 h2.books (last_scn h2.commits) (s.slots old) (s.blocks new) (s.lsn new) → s.blocks new ≡ after_group (s.lsn old + 1) g (s.blocks old) → s.lsn new ≡ s.lsn old + 1
-      → Survives s (s.slots old) h h2 old new × Keeps s (HasState h2 h2.books (last_scn h2.commits) (s.slots old)) new
-  survives_commit h h2 old mid new g shape extends kept one two both none has made number =
+      → Survives s (s.slots old) fault h h2 old new × Keeps s (HasState h2 h2.books (last_scn h2.commits) (s.slots old)) new
+  survives_commit {fault = fault} h h2 old mid new g shape extends kept one two both none has made number =
       let P : Property = HasState h h.books (last_scn h.commits) (s.slots old) in
       let Q : Property = BeforeOrAfter h h2 (s.slots old) in
       let R : Property = HasState h2 h2.books (last_scn h2.commits) (s.slots old) in
@@ -175,7 +186,7 @@ module _ {S : Type 0} (s : Ghosts S) (laws : Laws s) (keeps : s.keeps) where
       (restarts h2 h2.books (last_scn h2.commits) new i (both.same_shape ∙ at) (opens.0, opens.1, opens.2, subst (λ (slots : Option ℕ). HasState h2 h2.books (last_scn h2.commits) slots opens.0 opens.1) (sym both.same_slots) opens.3)) in (
         record {
           extends = extends;
-          any_moment = weaker s.moment s.left_since old new (OpensWith s Q old) (OnTheWay s.opens (s.slots old) h h2) (λ i opens. ⊎_elim
+          any_moment = weaker s.moment s.left_since old new (OpensWith s Q old) (OnTheWay s.opens (s.slots old) fault h h2) (λ i opens. ⊎_elim
               (λ (was : HasState h h.books (last_scn h.commits) (s.slots old) opens.0 opens.1). reached (last_scn h.commits) (omega arith) (extends_later h h2 extends)
               (restarts_later s.opens (s.slots old) h h2 h.books h2.books (last_scn h.commits) i extends (omega arith) extends.marks (restarts h h.books (last_scn h.commits) old i shape (opens.0, opens.1, opens.2, was))))
               (λ (is : HasState h2 h2.books (last_scn h2.commits) (s.slots old) opens.0 opens.1). at_end (whole (restarts h2 h2.books (last_scn h2.commits) old i at (opens.0, opens.1, opens.2, is))))
@@ -188,19 +199,19 @@ module _ {S : Type 0} (s : Ghosts S) (laws : Laws s) (keeps : s.keeps) where
   -- A commit that answered a fault: its group may be there.
   pub commit_failed : (h : State) (t : ℕ) (old new : S) (groups : List (List Patch)) → s.shape_of old ≡ h.shape → is_empty (session_own h t) ≡ false → Keeps s (HasState h h.books (last_scn h.commits) (s.slots old)) old → Logs s old new groups false
       → AfterEach (λ b n. HasState h h.books (last_scn h.commits) (s.slots old) b n ⊎ HasState (with_commit h t) h.books (last_scn h.commits + 1) (s.slots old) b n) (s.lsn old) groups (s.blocks old)
-      → Survives s (s.slots old) h (record h { stopped = true }) old new
+      → Survives s (s.slots old) (Some (Commit t)) h (record h { stopped = true }) old new
   commit_failed h t old new groups shape some kept logs each =
       let h2 : State = record h { stopped = true } in
       let P : Property = HasState h h.books (last_scn h.commits) (s.slots old) in
       let Q : Property = λ b n. HasState h h.books (last_scn h.commits) (s.slots old) b n ⊎ HasState (with_commit h t) h.books (last_scn h.commits + 1) (s.slots old) b n in
       let leaves = leaves_on P Q (λ b n has. inl has) old new groups false kept logs each in
-      let end : (i : s.image) → OpensWith s Q old i → AtEnd s.opens (s.slots old) h2 i = λ i opens. ⊎_elim
+      let end : (i : s.image) → OpensWith s Q old i → AtEnd s.opens (s.slots old) (Some (Commit t)) h2 i = λ i opens. ⊎_elim
       (λ (was : HasState h h.books (last_scn h.commits) (s.slots old) opens.0 opens.1). whole (restarts_later s.opens (s.slots old) h h2 h.books h.books (last_scn h.commits) i (extends_same h h2 refl refl (grow_same h.shape h.books)) (omega arith) (grow_same h.shape h.books) (restarts h h.books (last_scn h.commits) old i shape (opens.0, opens.1, opens.2, was))))
       (λ (is : HasState (with_commit h t) h.books (last_scn h.commits + 1) (s.slots old) opens.0 opens.1).
       let r : RestartsAt s.opens (s.slots old) h.books (with_commit h t) (last_scn h.commits + 1) i = restarts (with_commit h t) h.books (last_scn h.commits + 1) old i shape (opens.0, opens.1, opens.2, is) in
-      one_commit t refl some (record { blocks = r.blocks; lsn = r.lsn; opening = r.opening; has = record { logged = r.has.logged; sound = r.has.sound; fits = r.has.fits; marks = r.has.marks } }))
+      one_commit t refl refl some (record { blocks = r.blocks; lsn = r.lsn; opening = r.opening; has = record { logged = r.has.logged; sound = r.has.sound; fits = r.has.fits; marks = r.has.marks } }))
       opens.3 in record {
         extends = extends_same h h2 refl refl (grow_same h.shape h.books);
-        any_moment = weaker s.moment s.left_since old new (OpensWith s Q old) (OnTheWay s.opens (s.slots old) h h2) (λ i opens. at_end (end i opens)) leaves;
+        any_moment = weaker s.moment s.left_since old new (OpensWith s Q old) (OnTheWay s.opens (s.slots old) (Some (Commit t)) h h2) (λ i opens. at_end (end i opens)) leaves;
         now_only = λ i here. end i (left_now Q old new leaves i here);
       }

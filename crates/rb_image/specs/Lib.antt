@@ -1,4 +1,5 @@
 pub mod Crash
 pub mod Holds
+pub mod ImageLaws
 pub mod Images
 pub mod Made

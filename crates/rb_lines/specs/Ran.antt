@@ -21,6 +21,7 @@ pub record SameButCursors (h other : Logged) : Type 0 where
   pub sessions : length h.state.sessions ≡ length other.state.sessions
   pub own : (s : ℕ) → (session_of h.state s).own ≡ (session_of other.state s).own
   pub stopped : h.state.stopped ≡ other.state.stopped
+  pub fault : h.fault ≡ other.fault
 
 -- A front of replies as a relation allows them. They may go on where a fetch was cut off, so the state after them may
 -- have other cursors than the one that is left.

@@ -112,6 +112,10 @@ abbrev pub is_fault : Answer → Bool
 is_fault (Refused why) = is_disk_fault why
 is_fault _ = false
 
+-- the call in which the disk failed, where that is what the answer tells; else it is the one of before, if any
+abbrev pub failed_in : Call → Answer → Option Call → Option Call
+failed_in call answer before = if is_fault answer then Some call else before
+
 -- Segment g and slot i are those of a session: it has that slot, or has none and would begin there.
 abbrev pub Owned : State → ℕ → ℕ → ℕ → Type 0
 Owned h s g i = (o : Owner) × (owner_at h (16 * g + i) ≡ Some o) × (o.session ≡ s)

@@ -1,16 +1,17 @@
 -- What is written for a script, line by line.
 use Rattle.std.specs.Prelude.{◌≡◌, ℕ, zero, suc, ◌+◌, ◌-◌, ◌<◌, ◌≤◌, Bool, true, false}
-use Rattle.std.specs.Prelude.{MatchBool, List, [], ◌∷◌, ◌++◌, length}
+use Rattle.std.specs.Prelude.{MatchBool, List, [], ◌∷◌, ◌++◌, length, Option}
 use Rattle.rb_model.specs.State.{State}
-use Rattle.rb_model.specs.Calls.{Call, Answer, Given, Marked, Reply}
+use Rattle.rb_model.specs.Calls.{Call, Answer, Given, Marked, Reply, failed_in}
 use Rattle.rb_model.specs.NextState.{After, Grows}
 use Rattle.rb_model.specs.Lines.{Command, Spells, SpellsNone, call_of, most_calls, caller}
 use Rattle.rb_model.specs.Lines.{without_return, is_remark, reply_text, bad_line_text}
 
--- a state, and the last log number that was given
+-- a state, the last log number that was given, and the call in which the disk failed, if it has
 pub record Logged : Type 0 where
   pub state : State
   pub lsn : ℕ
+  pub fault : Option Call
 
 -- How many more groups a log of so many slots has room for, behind that number. One slot stays free.
 abbrev pub room : ℕ → ℕ → ℕ
@@ -20,6 +21,7 @@ room slots lsn = slots - 1 - lsn
 pub record CallOut (m : Logged) (slots : ℕ) (call : Call) (answer : Answer) (m2 : Logged) : Type 0 where
   pub reply : Reply m.state m.lsn (room slots m.lsn) call answer
   pub state : After m.state call answer m2.state
+  pub fault : m2.fault ≡ failed_in call answer m.fault
   pub groups : ℕ
   pub grows : m2.state.stopped ≡ false → Grows m.state call answer groups
   pub lsn : m2.state.stopped ≡ false → m2.lsn ≡ m.lsn + groups

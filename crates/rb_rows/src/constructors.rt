@@ -1,6 +1,6 @@
 //! Each call that may answer that memory ran out, where there is enough of it: it answers Ok, and what it made is used.
-use crate::commits::image;
 use crate::doubles::{FORMAT_SMALL, formatted};
+use crate::stories::image;
 use rb_base::{Shape, Store};
 use rb_engine::Engine;
 use rb_layout::{Head, Layout};

@@ -2,6 +2,7 @@
 use rb_base::NoMemory;
 use rb_memdisk::MemDisk;
 use rb_shell::{Status, run};
+use rb_store::LapStore;
 use rb_stream::{MemSink, MemSource};
 use std::alloc::{AllocError, Global};
 
@@ -20,8 +21,8 @@ pub const RUN: &str = "f run frames=16";
 // More than the largest file of the rows.
 const FORMAT_ROOM: u64 = 2_500_000;
 
-// More bytes than any script of the rows writes.
-pub const SCRIPT_ROOM: u64 = 1_000_000;
+// More bytes than any script of the rows writes: a log of 1,024 slots is filled once.
+pub const SCRIPT_ROOM: u64 = 2_200_000;
 
 // More calls than any line of the rows makes.
 pub const CALLS: usize = 5_000;
@@ -98,6 +99,15 @@ pub fn run_stopped(
     let room = file.len() as u64 + SCRIPT_ROOM;
     let disk = MemDisk::new(alloc, file, room, call as usize, &[])?;
     run_on(alloc, RUN, script, NONE, disk)
+}
+
+/// The disk of a file whose store was opened, which writes nothing.
+pub fn opened(alloc: Global, file: &[u8]) -> Result<MemDisk, NoMemory> {
+    let disk = MemDisk::new(alloc, file, file.len() as u64, CALLS, &[])?;
+    match LapStore::open(alloc, disk) {
+        Ok(store) => Ok(store.close()),
+        Err((_fault, disk)) => Ok(disk),
+    }
 }
 
 /// The file that a `format` line makes.

@@ -1,10 +1,20 @@
-//! The table of failures: each call of the disk, the source and the sink fails alone, in a run of five commits.
-use crate::commits::{answered, check_left, script_and_replies};
-use crate::doubles::{FORMAT_STOPS, Failing, NONE, RUN, formatted, run_over};
+//! The tables of failures: each call of the disk, the source and the sink fails alone, in a run of five commits, and
+//! each call of the disk in a run in which a transaction is under way at nearly each.
+use crate::commits::five_commits;
+use crate::doubles::{
+    Ended, FORMAT_SMALL, FORMAT_STOPS, Failing, NONE, RUN, formatted, opened, run_over,
+};
+use crate::stories::{Story, answered, check_left};
+use crate::under_way::four_transactions;
 use rb_base::NoMemory;
+use rb_memdisk::Pick;
 use rb_shell::Status;
 use std::alloc::Global;
+use std::process::Abort;
 use std::test::Fail;
+
+// A write that fails may be cut short. What else may be left behind a call that failed, a stop before it leaves too.
+const TORN: [Pick; 2] = [Pick::New, Pick::Fill(1)];
 
 // How many bytes of the source the program takes at once.
 const TAKEN: usize = 65_536;
@@ -27,43 +37,84 @@ fn count_lines(text: &[u8]) -> usize {
     text.iter().filter(|byte| **byte == b'\n').count()
 }
 
-// Whether the replies are those of the good run up to a commit, and a fault of the disk in the place of its number.
-fn ends_with_a_fault(replies: &[u8], good: &[u8]) -> bool {
-    let Some(done) = replies.strip_suffix(b"1 disk fault\n") else {
+// Whether the replies are those of the good run up to one like this, and a fault in its place.
+fn ends_with(replies: &[u8], good: &[u8], fault: &[u8], reply: &[u8]) -> bool {
+    let Some(done) = replies.strip_suffix(fault) else {
         return false;
     };
     let Some(left) = good.strip_prefix(done) else {
         return false;
     };
-    left.starts_with(b"1 committed ")
+    (done.is_empty() || done.ends_with(b"\n")) && left.starts_with(reply)
 }
 
-// A failed call of the opening answers nothing, and one of a commit is the last reply.
-#[test]
-fn each_disk_call_fails(rt: HostRuntime) -> Result<(), Fail> {
-    let file = formatted(rt.alloc(), FORMAT_STOPS)?;
-    let (script, replies) = script_and_replies(rt.alloc())?;
-    let opening = run_over(rt.alloc(), RUN, &file, b"", NONE)?;
-    let good = run_over(rt.alloc(), RUN, &file, script.as_bytes(), NONE)?;
-    assert!(rt; opening.disk.calls() > 0);
-    assert!(rt; good.disk.calls() > opening.disk.calls());
-    for call in 1..=good.disk.calls() {
+// Whether the replies are right where the disk failed behind the opening: a fault in the place of a commit's number or
+// of a checkpoint's reply; or those of all lines, where that was at the end of the script.
+fn are_faulty(replies: &[u8], good: &[u8]) -> bool {
+    ends_with(replies, good, b"1 disk fault\n", b"1 committed ")
+        || ends_with(replies, good, b"disk fault\n", b"ok\n")
+        || replies == good
+}
+
+// Checks how a run ended whose last call of the disk failed: one of the opening, where nothing is answered, or another.
+fn check_fault(rt: &impl Abort, story: &Story, end: &Ended, call: u64, is_opening: bool) {
+    let held = end.sink.bytes();
+    let right = if is_opening {
+        held.is_empty()
+    } else {
+        are_faulty(held, &story.replies)
+    };
+    assert!(rt; end.status == Status::DiskFault, "call {call}");
+    assert!(rt; right, "call {call}");
+    assert_eq!(rt; end.disk.calls(), call);
+}
+
+// Each call of the disk fails in a run over a file.
+fn check_disk_calls(
+    rt: &impl Abort,
+    alloc: Global,
+    story: &Story,
+    file: &[u8],
+) -> Result<(), NoMemory> {
+    let script = story.script.as_bytes();
+    let calls = run_over(alloc, RUN, file, script, NONE)?.disk.calls();
+    let opened = opened(alloc, file)?;
+    assert!(rt; 0 < opened.calls() && opened.calls() < calls);
+    let mut syncs = 0;
+    for call in 1..=calls {
         let failing = Failing {
             disk: &[call],
             ..NONE
         };
-        let end = run_over(rt.alloc(), RUN, &file, script.as_bytes(), failing)?;
-        let held = end.sink.bytes();
-        let right = if call <= opening.disk.calls() {
-            held.is_empty()
-        } else {
-            ends_with_a_fault(held, replies.as_bytes())
-        };
-        assert!(rt; end.status == Status::DiskFault, "call {call}");
-        assert!(rt; right, "call {call}");
-        assert_eq!(rt; end.disk.calls(), call);
-        check_left(&rt, rt.alloc(), &end.disk, answered(held))?;
+        let end = run_over(alloc, RUN, file, script, failing)?;
+        let is_opening = call <= opened.calls();
+        check_fault(rt, story, &end, call, is_opening);
+        let writes = !is_opening && end.disk.syncs() == syncs;
+        check_left(
+            rt,
+            alloc,
+            story,
+            &end,
+            if writes { &TORN } else { &[Pick::New] },
+        )?;
+        syncs = end.disk.syncs();
     }
+    Ok(())
+}
+
+#[test]
+fn each_disk_call_fails(rt: HostRuntime) -> Result<(), Fail> {
+    let file = formatted(rt.alloc(), FORMAT_STOPS)?;
+    let story = five_commits(rt.alloc())?;
+    check_disk_calls(&rt, rt.alloc(), &story, &file)?;
+    Ok(())
+}
+
+#[test]
+fn each_disk_call_fails_under_way(rt: HostRuntime) -> Result<(), Fail> {
+    let file = formatted(rt.alloc(), FORMAT_SMALL)?;
+    let story = four_transactions(rt.alloc())?;
+    check_disk_calls(&rt, rt.alloc(), &story, &file)?;
     Ok(())
 }
 
@@ -80,8 +131,8 @@ fn behind_empty_lines(alloc: Global, script: &[u8], front: usize) -> Result<Vec<
 #[test]
 fn each_take_fails(rt: HostRuntime) -> Result<(), Fail> {
     let file = formatted(rt.alloc(), FORMAT_STOPS)?;
-    let (script, replies) = script_and_replies(rt.alloc())?;
-    let script = script.as_bytes();
+    let story = five_commits(rt.alloc())?;
+    let script = story.script.as_bytes();
     let rows: [(u64, usize); 10] = [
         (1, 100),
         (2, 0),
@@ -106,13 +157,13 @@ fn each_take_fails(rt: HostRuntime) -> Result<(), Fail> {
             2 => script.get(..front).unwrap_or(script),
             _ => script,
         };
-        let held = first_lines(replies.as_bytes(), count_lines(done));
+        let held = first_lines(&story.replies, count_lines(done));
         assert!(rt;
             end.status == Status::SourceFault,
             "take {take}, byte {front}"
         );
         assert_eq!(rt; end.sink.bytes(), held, "take {take}, byte {front}");
-        check_left(&rt, rt.alloc(), &end.disk, answered(held))?;
+        check_left(&rt, rt.alloc(), &story, &end, &[Pick::New])?;
     }
     Ok(())
 }
@@ -122,20 +173,20 @@ fn each_take_fails(rt: HostRuntime) -> Result<(), Fail> {
 #[test]
 fn each_put_fails(rt: HostRuntime) -> Result<(), Fail> {
     let file = formatted(rt.alloc(), FORMAT_STOPS)?;
-    let (script, replies) = script_and_replies(rt.alloc())?;
+    let story = five_commits(rt.alloc())?;
     let mut checked = (0, 0);
-    for before in 0..count_lines(replies.as_bytes()) {
+    for before in 0..count_lines(&story.replies) {
         let failing = Failing {
             sink: &[before as u64 + 1],
             ..NONE
         };
-        let end = run_over(rt.alloc(), RUN, &file, script.as_bytes(), failing)?;
-        let held = first_lines(replies.as_bytes(), before);
+        let end = run_over(rt.alloc(), RUN, &file, story.script.as_bytes(), failing)?;
+        let held = first_lines(&story.replies, before);
         assert!(rt; end.status == Status::SinkFault, "put behind {before}");
         assert_eq!(rt; end.sink.bytes(), held, "put behind {before}");
         let left = (end.disk.calls(), answered(held));
         if left != checked {
-            check_left(&rt, rt.alloc(), &end.disk, answered(held))?;
+            check_left(&rt, rt.alloc(), &story, &end, &[Pick::New])?;
             checked = left;
         }
     }

@@ -17,9 +17,13 @@ mod engines;
 #[cfg(test)]
 mod failures;
 #[cfg(test)]
+mod restarts;
+#[cfg(test)]
 mod stops;
 #[cfg(test)]
 mod stores;
+#[cfg(test)]
+mod stories;
 #[cfg(test)]
 mod tests;
 #[cfg(test)]

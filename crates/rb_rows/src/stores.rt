@@ -1,8 +1,8 @@
 //! Both stores under one list of calls, and the store of one lap over the files that a crash leaves of three commits.
 ghost use Rattle.std.specs.Prelude.{◌≡◌, ◌≤◌, ◌<◌, false, IfOk, OnOk};
 
-use crate::commits::{PICKS, image};
 use crate::doubles::{CALLS, SCRIPT_ROOM};
+use crate::stories::{PICKS, image_now};
 use rb_base::{BlockNo, Failed, Group, NoMemory, Shape, Store};
 use rb_layout::Layout;
 use rb_memdisk::MemDisk;
@@ -256,11 +256,12 @@ fn check_stop(rt: &impl Abort, alloc: Global, file: &[u8], calls: usize) -> Resu
     let most = runs_of(made.saturating_add(1));
     let mut halved = false;
     for pick in PICKS {
-        let left = image(alloc, &stopped.disk, stopped.disk.calls(), pick)?;
-        let found = found(alloc, &left)?;
-        let right = is_left(found, runs_of(made), most);
-        assert!(rt; right, "{calls}, {pick:?}: {made} made, {found:?} found");
-        halved |= found == Some(left_by(2));
+        if let Some(left) = image_now(alloc, &stopped.disk, pick)? {
+            let found = found(alloc, &left)?;
+            let right = is_left(found, runs_of(made), most);
+            assert!(rt; right, "{calls}, {pick:?}: {made} made, {found:?} found");
+            halved |= found == Some(left_by(2));
+        }
     }
     Ok(halved)
 }

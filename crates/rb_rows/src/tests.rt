@@ -1,8 +1,8 @@
 //! The worked rows: dialogues, and what a run leaves for the next one. What is expected stands in the rows, and is no
 //! output of the program.
-use crate::commits::image;
 use crate::dialogues::{check, check_each, replies_of};
 use crate::doubles::{FORMAT_LARGE, FORMAT_SMALL, Failing, NONE, RUN, formatted, run_over};
+use crate::stories::{PICKS, image};
 use rb_base::NoMemory;
 use rb_engine::Engine;
 use rb_memdisk::{MemDisk, Pick};
@@ -122,14 +122,16 @@ INSERT 1 1 1 a
 #> bad line
 commit 1\r
 #> 1 committed 1
-marks
-#> segment 0 writes 1 lost 0
 ";
 
 #[test]
 fn line_bounds(rt: HostRuntime) -> Result<(), Fail> {
     let file = formatted(rt.alloc(), FORMAT_LARGE)?;
     let _ = check(&rt, rt.alloc(), "line bounds", &file, LINE_BOUNDS)?;
+    let mut dialogue = LINE_BOUNDS.to_vec(rt.alloc())?;
+    // The last line has no end.
+    dialogue.extend_from_slice(b"#> segment 0 writes 1 lost 0\nmarks")?;
+    let _ = check(&rt, rt.alloc(), "last line", &file, &dialogue)?;
     Ok(())
 }
 
@@ -786,19 +788,15 @@ insert 1 1 1 a
     Ok(())
 }
 
-// Without a checkpoint nothing of it is in the file, and as much has room again. Once a checkpoint wrote all of it, the
-// next opening puts it back, and there is no room.
+// All of it is made last at the end of the script. So the next opening puts it back, and there is no room.
 #[test]
 fn log_full_keeps_rollback_room_second_run(rt: HostRuntime) -> Result<(), Fail> {
     let file = formatted(rt.alloc(), FORMAT_SMALL)?;
-    let mut dialogue = full_transaction(rt.alloc())?;
-    let lost = check(&rt, rt.alloc(), "no checkpoint", &file, &dialogue)?;
-    let _ = check(&rt, rt.alloc(), "again", lost.bytes(), &dialogue)?;
-    dialogue.extend_from_slice(b"checkpoint\n#> ok\n")?;
-    let left = check(&rt, rt.alloc(), "checkpoint", &file, &dialogue)?;
+    let dialogue = full_transaction(rt.alloc())?;
+    let first = check(&rt, rt.alloc(), "full", &file, &dialogue)?;
     let full = b"insert 1 1 1 a\n#> 1 log full\n";
-    let _ = check(&rt, rt.alloc(), "no room", left.bytes(), full)?;
-    let _ = check(&rt, rt.alloc(), "rows", left.bytes(), NO_ROW)?;
+    let second = check(&rt, rt.alloc(), "no room", first.bytes(), full)?;
+    let _ = check(&rt, rt.alloc(), "rows", second.bytes(), NO_ROW)?;
     Ok(())
 }
 
@@ -863,6 +861,21 @@ fn restart_rolls_back(rt: HostRuntime) -> Result<(), Fail> {
     Ok(())
 }
 
+// The same rows where an earlier second run was stopped after any of its calls, by each pick.
+#[test]
+fn restart_rolls_back_behind_stops(rt: HostRuntime) -> Result<(), Fail> {
+    let file = formatted(rt.alloc(), FORMAT_SMALL)?;
+    let left = check(&rt, rt.alloc(), "first", &file, COMMIT_AND_CHECKPOINT)?;
+    let second = check(&rt, rt.alloc(), "second", left.bytes(), ONE_ROW)?;
+    for call in 1..=second.calls() {
+        for pick in PICKS {
+            let stopped = image(rt.alloc(), &second, call, pick)?;
+            let _ = check(&rt, rt.alloc(), "behind a stop", &stopped, ONE_ROW)?;
+        }
+    }
+    Ok(())
+}
+
 // The record of what was put back stays counted.
 #[test]
 fn restart_rolls_back_marks(rt: HostRuntime) -> Result<(), Fail> {
@@ -919,21 +932,125 @@ const TURNS: [(usize, &[u8]); 11] = [
     ),
 ];
 
-// The extents of a segment are filled, take new turns, and a third one joins. A second run finds the marks of the
-// last commit.
+// The same of one transaction that began in the oldest turn: an extent joins for each 40 records, up to eight. Once it
+// is committed, others of 40 records take the next turns.
+const EXTENTS: [(usize, &[u8]); 27] = [
+    (39, b"marks\n#> segment 0 writes 40 lost 0\n"),
+    (1, b"marks\n#> segment 0 writes 41 lost 0\n"),
+    (39, b"marks\n#> segment 0 writes 80 lost 0\n"),
+    // The third extent.
+    (1, b"marks\n#> segment 0 writes 81 lost 0\n"),
+    (39, b"marks\n#> segment 0 writes 120 lost 0\n"),
+    (1, b"marks\n#> segment 0 writes 121 lost 0\n"),
+    (39, b"marks\n#> segment 0 writes 160 lost 0\n"),
+    (1, b"marks\n#> segment 0 writes 161 lost 0\n"),
+    (39, b"marks\n#> segment 0 writes 200 lost 0\n"),
+    (1, b"marks\n#> segment 0 writes 201 lost 0\n"),
+    (39, b"marks\n#> segment 0 writes 240 lost 0\n"),
+    (1, b"marks\n#> segment 0 writes 241 lost 0\n"),
+    (39, b"marks\n#> segment 0 writes 280 lost 0\n"),
+    // The eighth.
+    (1, b"marks\n#> segment 0 writes 281 lost 0\n"),
+    (
+        39,
+        b"\
+marks
+#> segment 0 writes 320 lost 0
+update 1 1 1 a
+#> 1 rollback full 0 320
+commit 1
+#> 1 committed 1
+marks
+#> segment 0 writes 320 lost 0
+",
+    ),
+    // The first turn of commit 1 is given up, and then the others.
+    (1, b"marks\n#> segment 0 writes 321 lost 1\n"),
+    (
+        39,
+        b"marks\n#> segment 0 writes 360 lost 1\ncommit 1\n#> 1 committed 2\n",
+    ),
+    (
+        40,
+        b"marks\n#> segment 0 writes 400 lost 1\ncommit 1\n#> 1 committed 3\n",
+    ),
+    (
+        40,
+        b"marks\n#> segment 0 writes 440 lost 1\ncommit 1\n#> 1 committed 4\n",
+    ),
+    (
+        40,
+        b"marks\n#> segment 0 writes 480 lost 1\ncommit 1\n#> 1 committed 5\n",
+    ),
+    (
+        40,
+        b"marks\n#> segment 0 writes 520 lost 1\ncommit 1\n#> 1 committed 6\n",
+    ),
+    (
+        40,
+        b"marks\n#> segment 0 writes 560 lost 1\ncommit 1\n#> 1 committed 7\n",
+    ),
+    (
+        40,
+        b"marks\n#> segment 0 writes 600 lost 1\ncommit 1\n#> 1 committed 8\n",
+    ),
+    (
+        40,
+        b"marks\n#> segment 0 writes 640 lost 1\ncommit 1\n#> 1 committed 9\n",
+    ),
+    // Each of the eight extents has a later turn now: that of commit 2 is given up, and then that of commit 3.
+    (1, b"marks\n#> segment 0 writes 641 lost 2\n"),
+    (
+        39,
+        b"marks\n#> segment 0 writes 680 lost 2\ncommit 1\n#> 1 committed 10\n",
+    ),
+    (
+        1,
+        b"marks\n#> segment 0 writes 681 lost 3\ncommit 1\n#> 1 committed 11\n",
+    ),
+];
+
+// A dialogue that makes a row, and then so many updates of it with what follows them.
+fn turns(alloc: Global, rows: &[(usize, &[u8])]) -> Result<Vec<u8>, NoMemory> {
+    let mut dialogue = b"marks\n#> segment 0 writes 0 lost 0\n"
+        .to_vec(alloc)
+        .map_err(|_| NoMemory)?;
+    dialogue
+        .extend_from_slice(INSERT_ONE)
+        .map_err(|_| NoMemory)?;
+    for (count, rest) in rows {
+        let updates = repeated(alloc, b"update 1 1 1 a\n#> 1 ok\n", *count)?;
+        dialogue.extend_from_slice(&updates).map_err(|_| NoMemory)?;
+        dialogue.extend_from_slice(rest).map_err(|_| NoMemory)?;
+    }
+    Ok(dialogue)
+}
+
+// The row, and these marks.
+fn row_and_marks(alloc: Global, marks: &[u8]) -> Result<Vec<u8>, NoMemory> {
+    let mut dialogue = ONE_ROW.to_vec(alloc).map_err(|_| NoMemory)?;
+    dialogue.extend_from_slice(marks).map_err(|_| NoMemory)?;
+    Ok(dialogue)
+}
+
+// The extents of a segment are filled, take new turns, and a third one joins. A second run finds the same marks.
 #[test]
 fn undo_turns(rt: HostRuntime) -> Result<(), Fail> {
     let file = formatted(rt.alloc(), FORMAT_LARGE)?;
-    let mut dialogue = b"marks\n#> segment 0 writes 0 lost 0\n".to_vec(rt.alloc())?;
-    dialogue.extend_from_slice(INSERT_ONE)?;
-    for (count, rest) in TURNS {
-        let updates = repeated(rt.alloc(), b"update 1 1 1 a\n#> 1 ok\n", count)?;
-        dialogue.extend_from_slice(&updates)?;
-        dialogue.extend_from_slice(rest)?;
-    }
-    let left = check(&rt, rt.alloc(), "turns", &file, &dialogue)?;
-    let mut second = ONE_ROW.to_vec(rt.alloc())?;
-    second.extend_from_slice(b"marks\n#> segment 0 writes 241 lost 6\n")?;
+    let first = turns(rt.alloc(), &TURNS)?;
+    let left = check(&rt, rt.alloc(), "turns", &file, &first)?;
+    let second = row_and_marks(rt.alloc(), b"marks\n#> segment 0 writes 243 lost 6\n")?;
+    let _ = check(&rt, rt.alloc(), "second run", left.bytes(), &second)?;
+    Ok(())
+}
+
+// All eight extents join, are full, and take new turns.
+#[test]
+fn undo_extents(rt: HostRuntime) -> Result<(), Fail> {
+    let file = formatted(rt.alloc(), FORMAT_LARGE)?;
+    let first = turns(rt.alloc(), &EXTENTS)?;
+    let left = check(&rt, rt.alloc(), "extents", &file, &first)?;
+    let second = row_and_marks(rt.alloc(), b"marks\n#> segment 0 writes 681 lost 3\n")?;
     let _ = check(&rt, rt.alloc(), "second run", left.bytes(), &second)?;
     Ok(())
 }
@@ -1105,6 +1222,28 @@ fn failed_sync(rt: HostRuntime) -> Result<(), Fail> {
     assert_eq!(rt; engine.commit(1), Err(Refusal::DiskFault));
     assert_eq!(rt; engine.commit(1), Err(Refusal::Stopped));
     assert_eq!(rt; engine.write(1, 1, 1, Op::Delete), Err(Refusal::Stopped));
+    Ok(())
+}
+
+// The disk fails as what waits is made last at the end of the script: all lines are answered, no reply tells of it, and
+// nothing of it is found.
+#[test]
+fn failed_end(rt: HostRuntime) -> Result<(), Fail> {
+    let file = formatted(rt.alloc(), FORMAT_SMALL)?;
+    let good = check(&rt, rt.alloc(), "no fault", &file, INSERT_ONE)?;
+    let replies = replies_of(rt.alloc(), INSERT_ONE)?;
+    // The groups, a sync, the gate and a sync.
+    for behind in 0..4 {
+        let call = [good.calls().saturating_sub(behind)];
+        let failing = Failing {
+            disk: &call,
+            ..NONE
+        };
+        let end = run_over(rt.alloc(), RUN, &file, INSERT_ONE, failing)?;
+        assert_eq!(rt; end.status.code(), 3);
+        assert_eq!(rt; end.sink.bytes(), replies.as_slice());
+        let _ = check(&rt, rt.alloc(), "rows", end.disk.bytes(), NO_ROW)?;
+    }
     Ok(())
 }
 

@@ -1,132 +1,116 @@
-//! The table of stops of a run that never commits: a crash after any call of the disk, where checkpoints made changes
-//! last. The next run shows the rows of the last commit alone.
-use crate::commits::{PICKS, Stop, image_now};
-use crate::dialogues::check;
-use crate::doubles::{FORMAT_SMALL, NONE, RUN, formatted, run_over, run_stopped};
+//! Runs in which a transaction is under way at nearly each call of the disk, and what a second run shows of them. The
+//! tables of stops, of failures and of openings run them.
+use crate::dialogues::replies_of;
+use crate::stories::Story;
 use rb_base::NoMemory;
-use rb_memdisk::Pick;
-use rb_shell::Status;
 use std::alloc::Global;
-use std::process::Abort;
-use std::test::Fail;
 
-// The last commit.
-const COMMIT: &[u8] = b"\
+// The first transaction commits. The second is put back, when a checkpoint has made a part of it last. The third
+// commits, after a checkpoint made last both that put back and a part of the third. The fourth is under way at the end.
+const TRANSACTIONS: &str = "\
 insert 1 1 1 a
 #> 1 ok
 insert 1 1 2 b
 #> 1 ok
 commit 1
 #> 1 committed 1
-";
-
-// Changes without a commit. Each checkpoint makes two of them last.
-const CHANGES: &[u8] = b"\
 update 1 1 1 c
+#> 1 ok
 delete 1 1 2
+#> 1 ok
 checkpoint
+#> ok
 insert 1 1 3 d
-update 1 1 1 e
+#> 1 ok
+rollback 1
+#> 1 ok
+update 1 1 2 e
+#> 1 ok
+insert 1 1 4 f
+#> 1 ok
 checkpoint
+#> ok
 delete 1 1 1
-insert 1 1 2 f
-checkpoint
-update 1 1 3 g
-marks
+#> 1 ok
+commit 1
+#> 1 committed 2
+update 1 1 4 g
+#> 1 ok
+insert 1 1 1 h
+#> 1 ok
 ";
 
-const REPLIES: &[u8] = b"\
-1 ok
-1 ok
-ok
-1 ok
-1 ok
-ok
-1 ok
-1 ok
-ok
-1 ok
-segment 0 writes 9 lost 0
-";
+// The rows of a commit, how many records were made and the number of the next commit, after each flush: the commit, two
+// checkpoints, the commit, and the end.
+const LEFT: [(&str, u64, u64); 6] = [
+    ("", 0, 1),
+    (FIRST_ROWS, 2, 2),
+    (FIRST_ROWS, 4, 2),
+    (FIRST_ROWS, 7, 2),
+    (SECOND_ROWS, 8, 3),
+    (SECOND_ROWS, 10, 3),
+];
 
-// Shows the rows and the marks.
+const FIRST_ROWS: &str = "1 row 1 a\n1 row 2 b\n";
+
+const SECOND_ROWS: &str = "1 row 2 e\n1 row 4 f\n";
+
+// A transaction of more changes than one run of the log has, whose records lie in two extents: 40 and 1.
+const LONG: usize = 41;
+
+// The same after nothing, after the first run of the log, of 32 groups, and after the second.
+const LONG_LEFT: [(&str, u64, u64); 3] = [("", 0, 1), ("", 32, 1), ("", 41, 1)];
+
+// Shows the rows and the marks, and goes on with one more commit, which has the next number.
 const SECOND: &[u8] = b"\
-open 1 c 1 0 9
-fetch 1 c 5
+open 1 c 1 0 99
+fetch 1 c 99
 marks
+insert 1 1 99 z
+commit 1
 ";
 
-// How many records a file tells where so many checkpoints were written: two of the commit, and two of each.
-const WRITES: [u64; 4] = [2, 4, 6, 8];
-
-// What the second run answers where the file tells of so many records.
-fn second_replies(alloc: Global, writes: u64) -> Result<String, NoMemory> {
-    let rows = "1 ok\n1 row 1 a\n1 row 2 b\n1 end\n";
-    let mut replies = String::from_str(alloc, rows).map_err(|_| NoMemory)?;
-    write!(replies, "segment 0 writes {writes} lost 0\n").map_err(|_| NoMemory)?;
+// What the second run answers.
+fn second_replies(alloc: Global, rows: &str, writes: u64, next: u64) -> Result<String, NoMemory> {
+    let mut replies = String::from_str(alloc, "1 ok\n").map_err(|_| NoMemory)?;
+    replies.push_str(rows).map_err(|_| NoMemory)?;
+    write!(
+        replies,
+        "1 end\nsegment 0 writes {writes} lost 0\n1 ok\n1 committed {next}\n"
+    )
+    .map_err(|_| NoMemory)?;
     Ok(replies)
 }
 
-// How many checkpoints a file tells of to a second run. None where that answers otherwise.
-fn told(alloc: Global, file: &[u8]) -> Result<Option<usize>, NoMemory> {
-    let end = run_over(alloc, RUN, file, SECOND, NONE)?;
-    if end.status != Status::Done {
-        return Ok(None);
+// The story of a dialogue that leaves these.
+fn story_of(alloc: Global, script: String, left: &[(&str, u64, u64)]) -> Result<Story, NoMemory> {
+    let mut told = Vec::new(alloc);
+    for (rows, writes, next) in left {
+        told.push(second_replies(alloc, rows, *writes, *next)?)
+            .map_err(|_| NoMemory)?;
     }
-    for (checkpoints, writes) in WRITES.into_iter().enumerate() {
-        let replies = second_replies(alloc, writes)?;
-        if end.sink.bytes() == replies.as_bytes() {
-            return Ok(Some(checkpoints));
-        }
-    }
-    Ok(None)
+    let replies = replies_of(alloc, script.as_bytes())?;
+    Ok(Story {
+        script,
+        replies,
+        second: SECOND,
+        told,
+    })
 }
 
-// How many checkpoints the replies answer.
-fn answered(replies: &[u8]) -> usize {
-    replies
-        .split(|byte| *byte == b'\n')
-        .filter(|line| *line == b"ok".as_slice())
-        .count()
+/// Four transactions, of which two commit.
+pub fn four_transactions(alloc: Global) -> Result<Story, NoMemory> {
+    let script = String::from_str(alloc, TRANSACTIONS).map_err(|_| NoMemory)?;
+    story_of(alloc, script, &LEFT)
 }
 
-// Whether a file tells of each checkpoint that was answered, and at most of the one under way besides.
-fn is_kept(told: Option<usize>, answered: usize) -> bool {
-    match told {
-        Some(checkpoints) => answered <= checkpoints && checkpoints - answered <= 1,
-        None => false,
+/// One transaction that takes two runs of the log and two extents, and is under way at the end.
+pub fn long_transaction(alloc: Global) -> Result<Story, NoMemory> {
+    let mut script = String::from_str(alloc, "insert 1 1 1 a\n#> 1 ok\n").map_err(|_| NoMemory)?;
+    for _ in 1..LONG {
+        script
+            .push_str("update 1 1 1 b\n#> 1 ok\n")
+            .map_err(|_| NoMemory)?;
     }
-}
-
-// A stop after a call, by each pick.
-fn check_stop(rt: &impl Abort, alloc: Global, file: &[u8], call: u64) -> Result<(), NoMemory> {
-    let stopped = run_stopped(alloc, file, CHANGES, call)?;
-    let answered = answered(stopped.sink.bytes());
-    assert_eq!(rt; stopped.disk.calls(), call);
-    for pick in PICKS {
-        let left = image_now(alloc, &stopped.disk, pick)?;
-        if pick == Pick::New || left.as_slice() != stopped.disk.bytes() {
-            let found = told(alloc, &left)?;
-            let stop = Stop { call, pick };
-            assert!(rt;
-                is_kept(found, answered),
-                "{stop:?}: {found:?} of {answered}"
-            );
-        }
-    }
-    Ok(())
-}
-
-#[test]
-fn stops_under_way(rt: HostRuntime) -> Result<(), Fail> {
-    let file = formatted(rt.alloc(), FORMAT_SMALL)?;
-    let committed = check(&rt, rt.alloc(), "commit", &file, COMMIT)?;
-    let good = run_over(rt.alloc(), RUN, committed.bytes(), CHANGES, NONE)?;
-    assert!(rt; good.status == Status::Done);
-    assert_eq!(rt; good.sink.bytes(), REPLIES);
-    assert_eq!(rt; told(rt.alloc(), good.disk.bytes())?, Some(3));
-    for call in 1..=good.disk.calls() {
-        check_stop(&rt, rt.alloc(), committed.bytes(), call)?;
-    }
-    Ok(())
+    story_of(alloc, script, &LONG_LEFT)
 }

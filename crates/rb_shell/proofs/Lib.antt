@@ -4,3 +4,4 @@ pub mod RunLemmas
 pub mod SaidLemmas
 pub mod Spelling
 pub mod StatusLemmas
+pub mod LastLemmas

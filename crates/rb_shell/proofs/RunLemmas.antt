@@ -16,6 +16,7 @@ use Rattle.rb_layout.specs.declared.layout.Layout.{Layout}
 use Rattle.rb_lines.specs.Ends.{Halted}
 use Rattle.rb_lines.specs.Ran.{Ran, CutOff}
 use Rattle.rb_lines.proofs.Runs.{ran-append}
+use Rattle.rb_model.specs.Calls.{Call}
 use Rattle.rb_model.specs.Lines.{lines_of}
 use Rattle.rb_model.specs.Out.{Logged}
 use Rattle.rb_model.specs.Rows.{last_scn}
@@ -40,8 +41,8 @@ all_ran slots most m now left left2 tells before held halted =
     (ran-append slots m halted.middle now _ _ tells before halted.held held halted.done halted.going halted.fault)
 
 -- an image that has a state is on the way to a later one
-restarts_on_the_way : (slots : Option ℕ) (h h2 : State) (c : List ℕ) → Extends h h2 → Restarts Opens slots h c → OnTheWay Opens slots h h2 c
-restarts_on_the_way slots h h2 c e r = reached (last_scn h.commits) (omega arith) (extends_later h h2 e) (restarts_later Opens slots h h2 h.books h2.books (last_scn h.commits) c e (omega arith) e.marks r)
+restarts_on_the_way : (slots : Option ℕ) (fault : Option Call) (h h2 : State) (c : List ℕ) → Extends h h2 → Restarts Opens slots h c → OnTheWay Opens slots fault h h2 c
+restarts_on_the_way slots fault h h2 c e r = reached (last_scn h.commits) (omega arith) (extends_later h h2 e) (restarts_later Opens slots h h2 h.books h2.books (last_scn h.commits) c e (omega arith) e.marks r)
 
 -- the shape of a layout is in range
 pub in_range : (l : Layout) → IsShape (shape_of l)
@@ -147,33 +148,33 @@ module _ {D : Type 0} (d : DiskGhosts D) (old : D) where
       }
 
   -- an opening, and the lines after it
-  pub endures : (g : Ghosts (LapState D)) (e : EngineView (LapState D)) (h2 : State) (new : D) (sound : IsSound (d.content old)) → HasOpened d g old e sound → Extends sound.state h2
-      → Leaves d e.store.disk new (OnTheWay Opens (Some e.store.layout.log) sound.state h2) → ((c : List ℕ) → d.image new c → AtEnd Opens (Some e.store.layout.log) h2 c)
-      → Endures d old new sound.store.layout sound.state h2
-  endures g e h2 new sound o extends any end =
+  pub endures : (g : Ghosts (LapState D)) (e : EngineView (LapState D)) (m : Logged) (new : D) (sound : IsSound (d.content old)) → HasOpened d g old e sound → Extends sound.state m.state
+      → Leaves d e.store.disk new (OnTheWay Opens (Some e.store.layout.log) m.fault sound.state m.state) → ((c : List ℕ) → d.image new c → AtEnd Opens (Some e.store.layout.log) m.fault m.state c)
+      → Endures d old new sound.store.layout sound.state m
+  endures g e m new sound o extends any end =
       let l = sound.store.layout in
       let h = sound.state in
-      let P : List ℕ → Type 0 = λ c. d.image old c ⊎ OnTheWay Opens (Some l.log) h h2 c in
+      let P : List ℕ → Type 0 = λ c. d.image old c ⊎ OnTheWay Opens (Some l.log) m.fault h m.state c in
       record {
         any_moment = joined d.moment d.image_since old e.store.disk new P
             (weaker d.moment d.image_since old e.store.disk (λ c. d.image old c ⊎ Restarts Opens (Some l.log) h c) P
-            (λ c p. ⊎_elim (λ was. inl was) (λ r. inr (restarts_on_the_way (Some l.log) h h2 c extends r)) p) o.any_moment)
-            (weaker d.moment d.image_since e.store.disk new (OnTheWay Opens (Some e.store.layout.log) h h2) P
-            (λ c way. inr (subst (λ (k : ℕ). OnTheWay Opens (Some k) h h2 c) o.slots way)) any);
-        now_only = λ c here. subst (λ (k : ℕ). AtEnd Opens (Some k) h2 c) o.slots (end c here);
+            (λ c p. ⊎_elim (λ was. inl was) (λ r. inr (restarts_on_the_way (Some l.log) m.fault h m.state c extends r)) p) o.any_moment)
+            (weaker d.moment d.image_since e.store.disk new (OnTheWay Opens (Some e.store.layout.log) m.fault h m.state) P
+            (λ c way. inr (subst (λ (k : ℕ). OnTheWay Opens (Some k) m.fault h m.state c) o.slots way)) any);
+        now_only = λ c here. subst (λ (k : ℕ). AtEnd Opens (Some k) m.fault m.state c) o.slots (end c here);
       }
 
   -- what was done over the engine was done over the file
   module _ (g : Ghosts (LapState D)) (e : EngineView (LapState D)) (sound : IsSound (d.content old)) (o : HasOpened d g old e sound) where
-    pub has_run : (now : Logged) (lines : List (List ℕ)) (tells : Type 0) (before held : List ℕ) (endures : Layout → State → State → Type 0)
-        → Ran e.store.layout.log (first_of sound) now lines tells before held → now.state.stopped ≡ false → endures sound.store.layout sound.state now.state → HasRun sound lines tells before held endures
+    pub has_run : (now : Logged) (lines : List (List ℕ)) (tells : Type 0) (before held : List ℕ) (endures : Layout → State → Logged → Type 0)
+        → Ran e.store.layout.log (first_of sound) now lines tells before held → now.state.stopped ≡ false → endures sound.store.layout sound.state now → HasRun sound lines tells before held endures
     has_run now lines tells before held endures ran going endured = record {
       run = record { now = now; ran = subst (λ (k : ℕ). Ran k (first_of sound) now lines tells before held) o.slots ran; endured = endured };
       going = going;
     }
 
-    pub has_halted : (now : Logged) (left left2 : List ℕ) (tells : Type 0) (before held : List ℕ) (endures : Layout → State → State → Type 0)
-        → Halted e.store.layout.log SCRIPT_BYTES (first_of sound) now left left2 tells before held → endures sound.store.layout sound.state now.state → HasHalted sound left left2 tells before held endures
+    pub has_halted : (now : Logged) (left left2 : List ℕ) (tells : Type 0) (before held : List ℕ) (endures : Layout → State → Logged → Type 0)
+        → Halted e.store.layout.log SCRIPT_BYTES (first_of sound) now left left2 tells before held → endures sound.store.layout sound.state now → HasHalted sound left left2 tells before held endures
     has_halted now left left2 tells before held endures halted endured =
         let here = subst (λ (k : ℕ). Halted k SCRIPT_BYTES (first_of sound) now left left2 tells before held) o.slots halted in
         record {
@@ -181,8 +182,8 @@ module _ {D : Type 0} (d : DiskGhosts D) (old : D) where
           halted = here;
         }
 
-    pub was_cut_off : (now : Logged) (lines : List (List ℕ)) (before held : List ℕ) (endures : Layout → State → State → Type 0)
-        → CutOff e.store.layout.log (first_of sound) now lines before held → endures sound.store.layout sound.state now.state → WasCutOff sound lines before held endures
+    pub was_cut_off : (now : Logged) (lines : List (List ℕ)) (before held : List ℕ) (endures : Layout → State → Logged → Type 0)
+        → CutOff e.store.layout.log (first_of sound) now lines before held → endures sound.store.layout sound.state now → WasCutOff sound lines before held endures
     was_cut_off now lines before held endures cut endured = record {
       now = now;
       cut = subst (λ (k : ℕ). CutOff k (first_of sound) now lines before held) o.slots cut;

@@ -15,7 +15,7 @@ use Rattle.rb_model.specs.Answers.{answer_of}
 use Rattle.rb_model.specs.declared.answer.Answer as code
 use Rattle.rb_model.specs.declared.answer.Answer.TheVariants as answers
 use Rattle.rb_model.specs.declared.row.Row.{Row}
-use Rattle.rb_model.specs.Calls.{Action, Answer, Call, Write, Commit, Rollback, OpenCursor, Fetch, CloseCursor, Marks, Checkpoint, Done, Waits, Numbered, Given, End, Marked, Refused, Reply, early, later, cursor_tests, early_tests, first_of, granted, is_fault, none_applies, waited, write_tests}
+use Rattle.rb_model.specs.Calls.{Action, Answer, Call, Write, Commit, Rollback, OpenCursor, Fetch, CloseCursor, Marks, Checkpoint, Done, Waits, Numbered, Given, End, Marked, Refused, Reply, early, later, cursor_tests, early_tests, failed_in, first_of, granted, is_fault, none_applies, waited, write_tests}
 use Rattle.rb_model.specs.Calls as calls
 use Rattle.rb_model.specs.Lines.{Command, WriteLine, CommitLine, RollbackLine, OpenLine, FetchLine, CloseLine, MarksLine, CheckpointLine, call_of, caller, reply_text}
 use Rattle.rb_model.specs.NextState.{After, Grows, cursors_of, with_cursors, with_taken}
@@ -29,10 +29,10 @@ use Rattle.rb_shell.specs.Steps.{Added, CalledOnce, Calls, Lost, Said, SaidAs, S
 -- a state and itself, and what differs by fetches
 
 pub itself : (m : Logged) → SameButCursors m m
-itself m = record { lsn = refl; shape = refl; commits = refl; books = refl; sessions = refl; own = λ s. refl; stopped = refl }
+itself m = record { lsn = refl; shape = refl; commits = refl; books = refl; sessions = refl; own = λ s. refl; stopped = refl; fault = refl }
 
 same_joined : (a b c : Logged) → SameButCursors a b → SameButCursors b c → SameButCursors a c
-same_joined a b c x y = record { lsn = x.lsn ∙ y.lsn; shape = x.shape ∙ y.shape; commits = x.commits ∙ y.commits; books = x.books ∙ y.books; sessions = x.sessions ∙ y.sessions; own = λ s. x.own s ∙ y.own s; stopped = x.stopped ∙ y.stopped }
+same_joined a b c x y = record { lsn = x.lsn ∙ y.lsn; shape = x.shape ∙ y.shape; commits = x.commits ∙ y.commits; books = x.books ∙ y.books; sessions = x.sessions ∙ y.sessions; own = λ s. x.own s ∙ y.own s; stopped = x.stopped ∙ y.stopped; fault = x.fault ∙ y.fault }
 
 own_stays : (sessions : List Session) (i j : ℕ) (d : Session) (cursors : List Cursor) → (get_or (set sessions i (record { own = (get_or sessions i d).own; cursors = cursors })) j d).own ≡ (get_or sessions j d).own
 own_stays [] i j d cursors = refl
@@ -41,21 +41,22 @@ own_stays (x ∷ sessions) zero (suc j) d cursors = refl
 own_stays (x ∷ sessions) (suc i) zero d cursors = refl
 own_stays (x ∷ sessions) (suc i) (suc j) d cursors = own_stays sessions i j d cursors
 
-taken_same : (h : State) (s : ℕ) (name : List ℕ) (n : ℕ) → SameButCursors (record { state = with_cursors h s (with_taken name (cursors_of h s)); lsn = n }) (record { state = h; lsn = n })
-taken_same h s name n = record { lsn = refl; shape = refl; commits = refl; books = refl; sessions = length-set h.sessions (s - 1) _; own = λ t. own_stays h.sessions (s - 1) (t - 1) no_session (with_taken name (cursors_of h s)); stopped = refl }
+taken_same : (h : State) (f : Option Call) (s : ℕ) (name : List ℕ) (n : ℕ) → SameButCursors (record { state = with_cursors h s (with_taken name (cursors_of h s)); lsn = n; fault = f }) (record { state = h; lsn = n; fault = f })
+taken_same h f s name n = record { lsn = refl; shape = refl; commits = refl; books = refl; sessions = length-set h.sessions (s - 1) _; own = λ t. own_stays h.sessions (s - 1) (t - 1) no_session (with_taken name (cursors_of h s)); stopped = refl; fault = refl }
 
 -- A state after a call that reads, whatever it answered but a fault, and no group that it gave.
 abbrev AfterRead : State → ℕ → Call → Answer → Type 0
-AfterRead h n c r = (h2 : State) × After h c r h2 × Grows h c r 0 × SameButCursors (record { state = h2; lsn = n }) (record { state = h; lsn = n })
+AfterRead h n c r = (h2 : State) × After h c r h2 × Grows h c r 0
+    × ((f : Option Call) → SameButCursors (record { state = h2; lsn = n; fault = f }) (record { state = h; lsn = n; fault = f }))
 
 same_after : (h : State) (n : ℕ) (c : Call) (r : Answer) → After h c r h → Grows h c r 0 → AfterRead h n c r
-same_after h n c r after grows = (h, after, grows, itself (record { state = h; lsn = n }))
+same_after h n c r after grows = (h, after, grows, λ f. itself (record { state = h; lsn = n; fault = f }))
 
 after_fetch : (h : State) (n s : ℕ) (name : List ℕ) (r : Answer) → is_fault r ≡ false → AfterRead h n (Fetch s name) r
-after_fetch h n s name Done e = (with_cursors h s (with_taken name (cursors_of h s)), refl, refl, taken_same h s name n)
+after_fetch h n s name Done e = (with_cursors h s (with_taken name (cursors_of h s)), refl, refl, λ f. taken_same h f s name n)
 after_fetch h n s name (Waits on) e = same_after h n (Fetch s name) (Waits on) refl refl
-after_fetch h n s name (Numbered k) e = (with_cursors h s (with_taken name (cursors_of h s)), refl, refl, taken_same h s name n)
-after_fetch h n s name (Given key value) e = (with_cursors h s (with_taken name (cursors_of h s)), refl, refl, taken_same h s name n)
+after_fetch h n s name (Numbered k) e = (with_cursors h s (with_taken name (cursors_of h s)), refl, refl, λ f. taken_same h f s name n)
+after_fetch h n s name (Given key value) e = (with_cursors h s (with_taken name (cursors_of h s)), refl, refl, λ f. taken_same h f s name n)
 after_fetch h n s name End e = same_after h n (Fetch s name) End refl refl
 after_fetch h n s name (Marked seg writes lost) e = same_after h n (Fetch s name) (Marked seg writes lost) refl refl
 after_fetch h n s name (Refused why) e = same_after h n (Fetch s name) (Refused why) (subst (λ (b : Bool). h ≡ (if b then record h { stopped = true } else h)) (sym e) refl) refl
@@ -77,13 +78,14 @@ Reads c = ((s : ℕ) × (name : List ℕ) × (count : ℕ) × (c ≡ FetchLine s
 record Answered (h : State) (n more : ℕ) (c : Call) : Type 0 where
   answer : Answer
   reply : Reply h n more c answer
+  fine : is_fault answer ≡ false
   after : AfterRead h n c answer
 
 answered_by : (h : State) (n more : ℕ) (c : Call) → ((r : Answer) → none_applies (early_tests h c) ≡ true → r ≡ first_of (cursor_tests h c) (granted h c) → Reply h n more c r)
     → ((r : Answer) → is_fault r ≡ false → AfterRead h n c r) → is_fault (first_of (cursor_tests h c) (granted h c)) ≡ false → Answered h n more c
 answered_by h n more c tested leaves fine = ⊎_elim
-    (λ yes. record { answer = first_of (cursor_tests h c) (granted h c); reply = tested _ yes refl; after = leaves _ fine })
-    (λ no. record { answer = first_of (early_tests h c) Done; reply = early no refl; after = leaves _ (early_no_fault h c) })
+    (λ yes. record { answer = first_of (cursor_tests h c) (granted h c); reply = tested _ yes refl; fine = fine; after = leaves _ fine })
+    (λ no. record { answer = first_of (early_tests h c) Done; reply = early no refl; fine = early_no_fault h c; after = leaves _ (early_no_fault h c) })
     (cases_Bool (none_applies (early_tests h c)))
 
 late_fine : (h : State) (c : Call) → is_fault (first_of (cursor_tests h c) (granted h c)) ≡ false
@@ -157,12 +159,12 @@ some_calls : (more : ℕ) (m : Logged) (slots : ℕ) (c : Command) (k : ℕ) →
 some_calls zero m slots c k reading = ([], m, itself m, (refl, refl))
 some_calls (suc more) m slots c k reading =
     let a = answered m.state m.lsn (room slots m.lsn) c k reading in
-    let mid : Logged = record { state = a.after.0; lsn = m.lsn } in
+    let mid : Logged = record { state = a.after.0; lsn = m.lsn; fault = m.fault } in
     let rest = some_calls more mid slots c (suc k) reading in
-    let once : CallOut m slots (call_of c k) a.answer mid = record { reply = a.reply; state = a.after.1; groups = 0; grows = λ going. a.after.2; lsn = λ going. omega arith } in
+    let once : CallOut m slots (call_of c k) a.answer mid = record { reply = a.reply; state = a.after.1; fault = rw a.fine refl; groups = 0; grows = λ going. a.after.2; lsn = λ going. omega arith } in
     ⊎_elim
-    (λ g. (reply_text (caller c) a.answer ++ rest.0, rest.1, same_joined rest.1 mid m rest.2 a.after.3, once_more m mid rest.1 slots c k more a.answer rest.0 once g rest.3))
-    (λ g. (reply_text (caller c) a.answer, mid, a.after.3, once_last m mid slots c k more a.answer once g))
+    (λ g. (reply_text (caller c) a.answer ++ rest.0, rest.1, same_joined rest.1 mid m rest.2 (a.after.3 m.fault), once_more m mid rest.1 slots c k more a.answer rest.0 once g rest.3))
+    (λ g. (reply_text (caller c) a.answer, mid, a.after.3 m.fault, once_last m mid slots c k more a.answer once g))
     (cases_Bool (goes_on a.answer))
 
 -- texts that were added, of which some were sent
@@ -361,15 +363,16 @@ module _ {S : Type 0} (s : Ghosts S) where
       → ((now : Logged) → CallOut m (slots_of (s.slots old.store)) c r now → P now) → Did (StandsAs s) (IsSince s) old new m P
   did_call m c r old new P is going does same so =
       let slots = slots_of (s.slots old.store) in
-      let now : Logged = record { state = does.now; lsn = s.lsn new.store } in
+      let now : Logged = record { state = does.now; lsn = s.lsn new.store; fault = failed_in c r m.fault } in
       record {
         now = now;
         reached = record { engine = does.stands; lsn = refl; ended = subst (λ (slots : Option ℕ). slots ≡ Some (slots_of slots)) (sym same.slots) is.ended };
-        passed = record { same = same; crash = λ kept. does.survives going kept };
+        passed = record { same = same; crash = λ kept. does.survives m.fault going kept };
         ran = so now (record {
           reply = subst (λ (n : ℕ). Reply m.state n (room slots n) c r) (sym is.lsn)
               (subst (λ (more : ℕ). Reply m.state (s.lsn old.store) more c r) (all_room old m going is) does.reply);
           state = does.after;
+          fault = refl;
           groups = does.groups;
           grows = does.grows;
           lsn = λ on. does.lsn on ∙ ap (λ (n : ℕ). n + does.groups) (sym is.lsn);

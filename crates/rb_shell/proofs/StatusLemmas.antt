@@ -1,11 +1,12 @@
 -- Which status comes of which end.
 use Rattle.std.proofs.lemmas.Bool.{false≢true}
-use Rattle.std.proofs.Common.{arith, ◌≡◌, ◌∙◌, refl, sym, subst, ℕ, Bool, false}
+use Rattle.std.proofs.Common.{arith, ◌≡◌, ◌≢◌, ◌⊎◌, ◌∙◌, inl, inr, ap, refl, sym, subst, ℕ, Bool, false}
 use Rattle.rb_base.specs.Counts.{IsCountedAs}
 use Rattle.rb_lines.specs.declared.lines.LinesEnd.{LinesEnd}
 use Rattle.rb_lines.specs.declared.lines.LinesEnd.TheVariants as ends
 use Rattle.rb_lines.specs.Ends as lines
 use Rattle.rb_lines.specs.Faults.{IsCountedBeside}
+use Rattle.rb_shell.specs.Runs.{AsksNothing, EndsBy, EndsRun, as_lines, last_fault}
 use Rattle.rb_shell.specs.Statuses.{EndsFormat, by_disk, by_sink, by_source, status_of}
 use Rattle.rb_shell.specs.declared.status.Status.{Status}
 use Rattle.rb_shell.specs.declared.status.Status.TheVariants.{Done, Usage, SourceFault, DiskFault, SinkFault, NotAStore, NoMemory, NotEmpty, TooLong}
@@ -68,6 +69,60 @@ sink_of ends.DiskFault = refl
 sink_of ends.SinkFault = refl
 sink_of ends.TooLong = refl
 
+-- all was done only where the lines were
+pub done_by : (e : LinesEnd) (s : Status) → s ≡ Done → EndsBy e s → e ≡ ends.Done
+done_by e s done (as_lines is) = done_of e (sym is ∙ done)
+done_by e s done (last_fault end is) = end
+
+-- the lines ended so
+
+pub source_by : (e : LinesEnd) (s : Status) → s ≡ SourceFault → EndsBy e s → e ≡ ends.SourceFault
+source_by e s fault (as_lines is) = source_fault_of e (sym is ∙ fault)
+source_by e s fault (last_fault end is) = (let clash : SourceFault ≡ DiskFault = sym fault ∙ is in absurd cc)
+
+pub sink_by : (e : LinesEnd) (s : Status) → s ≡ SinkFault → EndsBy e s → e ≡ ends.SinkFault
+sink_by e s fault (as_lines is) = sink_fault_of e (sym is ∙ fault)
+sink_by e s fault (last_fault end is) = (let clash : SinkFault ≡ DiskFault = sym fault ∙ is in absurd cc)
+
+pub long_by : (e : LinesEnd) (s : Status) → s ≡ TooLong → EndsBy e s → e ≡ ends.TooLong
+long_by e s long (as_lines is) = too_long_of e (sym is ∙ long)
+long_by e s long (last_fault end is) = (let clash : TooLong ≡ DiskFault = sym long ∙ is in absurd cc)
+
+-- a fault of the disk came in a line or behind them all
+pub disk_by : (e : LinesEnd) (s : Status) → s ≡ DiskFault → EndsBy e s → (e ≡ ends.DiskFault) ⊎ (e ≡ ends.Done)
+disk_by e s fault (as_lines is) = inl (disk_fault_of e (sym is ∙ fault))
+disk_by e s fault (last_fault end is) = inr end
+
+-- lines came to their own end or not
+pub cases_end : (e : LinesEnd) → (e ≡ ends.Done) ⊎ (e ≢ ends.Done)
+cases_end ends.Done = inl refl
+cases_end ends.SourceFault = inr (λ is. cc)
+cases_end ends.DiskFault = inr (λ is. cc)
+cases_end ends.SinkFault = inr (λ is. cc)
+cases_end ends.TooLong = inr (λ is. cc)
+
+-- the statuses of lines that came to their own end
+
+pub last_source : (e : LinesEnd) (s : Status) → e ≡ ends.Done → EndsBy e s → by_source s ≡ false
+last_source e s done (as_lines is) = ap by_source (is ∙ ap status_of done)
+last_source e s done (last_fault _ is) = ap by_source is
+
+pub last_sink : (e : LinesEnd) (s : Status) → e ≡ ends.Done → EndsBy e s → by_sink s ≡ false
+last_sink e s done (as_lines is) = ap by_sink (is ∙ ap status_of done)
+last_sink e s done (last_fault _ is) = ap by_sink is
+
+-- a status of lines, however they ended, is one of a run that asked for the script
+pub line_ends : (e : LinesEnd) (s : Status) → EndsBy e s → EndsRun s × (AsksNothing s → ⊥)
+line_ends e s (as_lines is) = rw is (by e)
+  where
+    by : (e : LinesEnd) → EndsRun (status_of e) × (AsksNothing (status_of e) → ⊥)
+    by ends.Done = (tt, λ none. none)
+    by ends.SourceFault = (tt, λ none. none)
+    by ends.DiskFault = (tt, λ none. none)
+    by ends.SinkFault = (tt, λ none. none)
+    by ends.TooLong = (tt, λ none. none)
+line_ends e s (last_fault done is) = rw is (tt, λ none. none)
+
 -- a new file is made without a source or a sink
 
 pub format_source : (s : Status) → EndsFormat s → by_source s ≡ false
@@ -112,3 +167,9 @@ uncounted before now a none same = record {
   cause = λ fault. absurd (false≢true (sym none ∙ fault));
   still = λ other. same;
 }
+
+-- a count that stood, and then one that rose just where it says
+pub counted_on : (before mid now : ℕ) (fault hidden : Bool) → IsCountedBeside before mid false false → IsCountedAs mid now fault → IsCountedBeside before now fault hidden
+counted_on before mid now fault hidden first then =
+    let same : mid ≡ before = first.still refl refl in
+    beside before now fault hidden (subst (λ (n : ℕ). IsCountedAs n now fault) same then)

@@ -1,16 +1,18 @@
 -- What a run of a script over a file does.
-use Rattle.std.specs.Prelude.{◌≡◌, ◌⊎◌, ℕ, ◌+◌, false, List, ◌++◌, Some}
+use Rattle.std.specs.Prelude.{◌≡◌, ◌⊎◌, ℕ, ◌+◌, false, List, [], ◌++◌, Option, None, Some}
 use Rattle.rb_base.specs.Stores.{room_of}
 use Rattle.rb_base.specs.declared.store.Store.{Ghosts}
 use Rattle.rb_disk.specs.Moments.{Leaves, Rests}
 use Rattle.rb_disk.specs.declared.disk.Disk.{Ghosts as DiskGhosts}
 use Rattle.rb_engine.specs.Does.{EngineView}
-use Rattle.rb_image.specs.Crash.{AtEnd, OnTheWay, Restarts, Survives}
+use Rattle.rb_image.specs.Crash.{AtEnd, OnTheWay, OpensUpTo, Restarts, Survives}
 use Rattle.rb_layout.specs.Regions.{shape_of}
 use Rattle.rb_layout.specs.declared.layout.Layout.{Layout}
 use Rattle.rb_lines.specs.Ends.{EndsAs, Halted}
 use Rattle.rb_lines.specs.Ran.{Ran, CutOff}
 use Rattle.rb_lines.specs.declared.lines.LinesEnd.{LinesEnd}
+use Rattle.rb_lines.specs.declared.lines.LinesEnd.TheVariants as ends
+use Rattle.rb_model.specs.Calls.{Call}
 use Rattle.rb_model.specs.Lines.{lines_of}
 use Rattle.rb_model.specs.Out.{Logged}
 use Rattle.rb_model.specs.State.{State}
@@ -45,48 +47,63 @@ abbrev pub first_of : {file : List ℕ} → IsSound file → Logged
 first_of sound = record {
   state = sound.state;
   lsn = sound.store.lsn + owed_in (shape_of sound.store.layout) sound.store.blocks;
+  fault = None;
 }
 
 -- From a state and log number it did these lines, and came to others. A crash may leave no more than `endures` says of
 -- the state that it came to.
 pub record HasDone (slots : ℕ) (before : Logged) (lines : List (List ℕ)) (tells : Type 0)
-    (held_before held_now : List ℕ) (endures : State → Type 0) : Type 0 where
+    (held_before held_now : List ℕ) (endures : Logged → Type 0) : Type 0 where
   pub now : Logged
   pub ran : Ran slots before now lines tells held_before held_now
-  pub endured : endures now.state
+  pub endured : endures now
 
 -- The machine that opened with the file's rows did these lines: the sink holds the replies then, where it tells. A
 -- crash may leave no more than `endures` says of the states before and after them.
 abbrev pub RanOver : {file : List ℕ} → IsSound file → List (List ℕ) → Type 0 → List ℕ → List ℕ
-    → (Layout → State → State → Type 0) → Type 0
+    → (Layout → State → Logged → Type 0) → Type 0
 RanOver sound lines tells before now endures = HasDone sound.store.layout.log (first_of sound) lines tells before now
     (endures sound.store.layout sound.state)
 
 -- It did them all, and the disk never failed.
 pub record HasRun {file : List ℕ} (sound : IsSound file) (lines : List (List ℕ)) (tells : Type 0)
-    (before now : List ℕ) (endures : Layout → State → State → Type 0) : Type 0 where
+    (before now : List ℕ) (endures : Layout → State → Logged → Type 0) : Type 0 where
   pub run : RanOver sound lines tells before now endures
   pub going : run.now.state.stopped ≡ false
 
 -- It was cut off in one of these lines: the sink holds a front of replies that the lines may have.
 pub record WasCutOff {file : List ℕ} (sound : IsSound file) (lines : List (List ℕ)) (before now_held : List ℕ)
-    (endures : Layout → State → State → Type 0) : Type 0 where
+    (endures : Layout → State → Logged → Type 0) : Type 0 where
   pub now : Logged
   pub cut : CutOff sound.store.layout.log (first_of sound) now lines before now_held
-  pub endured : endures sound.store.layout sound.state now.state
+  pub endured : endures sound.store.layout sound.state now
 
 -- A fault of the disk ended the lines: its reply is the last, and nothing was asked for after it. The script was asked
 -- for in pieces of at most 65,536 bytes.
 pub record HasHalted {file : List ℕ} (sound : IsSound file) (left_before left_now : List ℕ) (tells : Type 0)
-    (before now : List ℕ) (endures : Layout → State → State → Type 0) : Type 0 where
+    (before now : List ℕ) (endures : Layout → State → Logged → Type 0) : Type 0 where
   pub run : RanOver sound (lines_of left_before) tells before now endures
   pub halted : Halted sound.store.layout.log SCRIPT_BYTES (first_of sound) run.now left_before left_now tells before now
 
+-- All lines were done, and then the disk failed as what waited was made last. No reply tells of it, as nothing is lost
+-- but what isn't committed.
+pub record HasRunOut {file : List ℕ} (sound : IsSound file) (left_before left_now : List ℕ) (tells : Type 0)
+    (before now : List ℕ) (endures : Layout → State → Logged → Type 0) : Type 0 where
+  pub run : HasRun sound (lines_of left_before) tells before now endures
+  pub all_taken : left_now ≡ []
+
 -- What a crash may leave over a run, which opens the file first: at any moment since its start an image that the disk
 -- had at the start, or a file on the way from the state opened; and at its end all commits of the state.
-pub record Endures {D : Type 0} (d : DiskGhosts D) (old new : D) (l : Layout) (before now : State) : Type 0 where
-  pub any_moment : Leaves d old new (λ c. d.image old c ⊎ OnTheWay Opens (Some l.log) before now c)
-  pub now_only : (c : List ℕ) → d.image new c → AtEnd Opens (Some l.log) now c
+pub record Endures {D : Type 0} (d : DiskGhosts D) (old new : D) (l : Layout) (before : State) (now : Logged) : Type 0
+  where
+    pub any_moment : Leaves d old new (λ c. d.image old c ⊎ OnTheWay Opens (Some l.log) now.fault before now.state c)
+    pub now_only : (c : List ℕ) → d.image new c → AtEnd Opens (Some l.log) now.fault now.state c
+
+-- The same, and at its end a crash leaves what was done to the last group, also what isn't committed: nothing waits.
+pub record Lasts {D : Type 0} (d : DiskGhosts D) (old new : D) (l : Layout) (before : State) (now : Logged) : Type 0
+  where
+    pub endured : Endures d old new l before now
+    pub last : (c : List ℕ) → d.image new c → OpensUpTo Opens (Some l.log) now.state.shape now.lsn c
 
 -- At any moment since the start of an opening a crash leaves an image that the disk had at the start, or one that
 -- restarts to the state to which the file opens.
@@ -102,14 +119,30 @@ pub record HasOpened {D : Type 0} (d : DiskGhosts D) (s : Ghosts (LapState D)) (
   pub stands : StandsAs s e (first_of sound)
   pub any_moment : OpensSame d old e.store.disk sound
 
--- Lines were done over a store, from one state to another. They ended as a status says.
+-- The status of lines that ended so. At their own end what waits is made last, and the disk may fail in that.
+pub data EndsBy (end : LinesEnd) (status : Status) : Type 0 where
+  as_lines : status ≡ status_of end → EndsBy end status
+  last_fault : end ≡ ends.Done → status ≡ DiskFault → EndsBy end status
+
+-- What waited was made last over a store, in the state that its calls came to: a crash leaves that state, and where
+-- the status says that all is well, all of it to the last group.
+pub record MadeLast {S : Type 0} (s : Ghosts S) (old new : S) (m : Logged) (status : Status) : Type 0 where
+  pub crash : (fault : Option Call) → s.keeps → Survives s (s.slots old) fault m.state m.state old new
+  pub last : s.keeps → status ≡ Done → (i : s.image) → s.left new i
+      → OpensUpTo s.opens (s.slots old) m.state.shape m.lsn i
+
+-- Lines were done over a store, from one state to another. They ended as a status says, and where all is well a crash
+-- leaves them to the last group.
 pub record RanOn {S : Type 0} (s : Ghosts S) (old new : S) (slots most : ℕ) (before : Logged)
     (left_before left_now : List ℕ)
     (tells : Type 0) (held_before held_now : List ℕ) (status : Status) : Type 0 where
   pub now : Logged
-  pub crash : s.keeps → Survives s (s.slots old) before.state now.state old new
+  pub crash : s.keeps → Survives s (s.slots old) now.fault before.state now.state old new
+  pub last : s.keeps → status ≡ Done → (i : s.image) → s.left new i
+      → OpensUpTo s.opens (s.slots old) now.state.shape now.lsn i
   pub end : LinesEnd
-  pub is : status ≡ status_of end
+  pub is : EndsBy end status
+  pub all_taken : end ≡ ends.Done → left_now ≡ []
   pub ends : EndsAs slots most before now left_before left_now tells held_before held_now end
 
 -- a file opens to no blocks

@@ -26,7 +26,7 @@ pub record StandsAs {S : Type 0} (s : Ghosts S) (e : EngineView S) (m : Logged) 
 -- The store has as many slots, and the same shape, and a crash may leave no more than `Survives` says.
 pub record IsSince {S : Type 0} (s : Ghosts S) (old new : EngineView S) (before now : Logged) : Type 0 where
   pub same : SameStore s old.store new.store
-  pub crash : s.keeps → Survives s (s.slots old.store) before.state now.state old.store new.store
+  pub crash : s.keeps → Survives s (s.slots old.store) now.fault before.state now.state old.store new.store
 
 module _ {S : Type 0} {s : Ghosts S} where
   -- an image of an engine's store has its state
@@ -43,7 +43,7 @@ module _ {S : Type 0} {s : Ghosts S} where
     same = record { shape = refl; slots = refl };
     crash = λ kept. record {
       extends = extends_same m.state m.state refl refl (grow_same m.state.shape m.state.books);
-      any_moment = begun s.moment s.left_since e.store (OnTheWay s.opens (s.slots e.store) m.state m.state)
+      any_moment = begun s.moment s.left_since e.store (OnTheWay s.opens (s.slots e.store) m.fault m.state m.state)
           (λ i left. at_end (whole (image_has (laws kept) e m.state is.engine going kept i
           ((laws kept).only_now e.store i kept left))));
       now_only = λ i here. whole (image_has (laws kept) e m.state is.engine going kept i here);
@@ -56,5 +56,6 @@ module _ {S : Type 0} {s : Ghosts S} where
     same = record { shape = y.same.shape ∙ x.same.shape; slots = y.same.slots ∙ x.same.slots };
     crash = λ kept. survives_on s (s.slots a.store) m.state n.state k.state a.store b.store c.store going
         (x.crash kept)
-        (subst (λ (slots : Option ℕ). Survives s slots n.state k.state b.store c.store) x.same.slots (y.crash kept));
+        (subst (λ (slots : Option ℕ). Survives s slots k.fault n.state k.state b.store c.store)
+        x.same.slots (y.crash kept));
   }

@@ -10,7 +10,7 @@ ghost use Rattle.rb_lines.specs.Faults.{IsCountedBeside};
 ghost use Rattle.rb_lines.specs.Whole.{whole_lines};
 ghost use Rattle.rb_model.specs.Lines.{lines_of};
 ghost use Rattle.rb_shell.specs.Runs.{IsSound, IsStore, HasHalted, HasRun, WasCutOff, Endures, LeftAlone};
-ghost use Rattle.rb_shell.specs.Runs.{WasStopped, WasTaken};
+ghost use Rattle.rb_shell.specs.Runs.{HasRunOut, Lasts, WasStopped, WasTaken};
 ghost use Rattle.rb_shell.specs.Runs.{EndsRun, AsksScript, AsksNothing, IsDoneOrNoMemory};
 ghost use Rattle.rb_shell.specs.Statuses.{EndsFormat, by_disk, by_sink, by_source};
 ghost use Rattle.rb_shell.specs.Words.{AsksFormat, AsksRun, IsUsage};
@@ -54,11 +54,11 @@ pub fn run<S: Source, K: Sink, D: Disk>(
     ensures format_sink { ((n : ℕ) → ¬ AsksRun words.now n) → sink.new ≡ sink.old }
 
     // A run to its end: the replies are those that the machine opened with the file's rows allows for the lines
-    // of the whole source. Here and below `Endures` says what a crash may leave at any moment of the run, and at its
-    // end.
+    // of the whole source, and what wasn't committed was made last too. Here and below `Endures` says what a crash may
+    // leave at any moment of the run, and at its end.
     ensures replies { D.tells → S.tells → (n : ℕ) → AsksRun words.now n → result.0 ≡ Status.Done →
         (sound : IsSound (D.content disk)) → HasRun sound (lines_of (S.left source.old)) K.tells (K.held sink.old)
-        (K.held sink.new) (Endures D.Disk disk result.1) }
+        (K.held sink.new) (Lasts D.Disk disk result.1) }
     ensures at_end { S.tells → (n : ℕ) → AsksRun words.now n → result.0 ≡ Status.Done
         → S.left source.new ≡ [] }
     ensures few { S.tells → (n : ℕ) → AsksRun words.now n → result.0 ≡ Status.Done
@@ -77,12 +77,15 @@ pub fn run<S: Source, K: Sink, D: Disk>(
 
     // At a fault of the disk in the opening nothing was asked for, and a crash leaves what restarts to the state that a
     // sound file opens to; a file that opens to nothing is as it was. Else the reply that tells of the fault is the
-    // last, and nothing was asked for after it. At a fault of the sink the replies are cut off.
+    // last, and nothing was asked for after it; or all lines were done, and the fault came as what waited was made
+    // last. At a fault of the sink the replies are cut off.
     ensures disk_done { D.tells → S.tells → (n : ℕ) → AsksRun words.now n → result.0 ≡ Status.DiskFault →
         ((source.new ≡ source.old) × (sink.new ≡ sink.old)
         × WasStopped D.Disk disk result.1)
         ⊎ ((sound : IsSound (D.content disk)) → HasHalted sound (S.left source.old) (S.left source.new) K.tells
-        (K.held sink.old) (K.held sink.new) (Endures D.Disk disk result.1)) }
+        (K.held sink.old) (K.held sink.new) (Endures D.Disk disk result.1)
+        ⊎ HasRunOut sound (S.left source.old) (S.left source.new) K.tells (K.held sink.old) (K.held sink.new)
+        (Endures D.Disk disk result.1)) }
     ensures cut_off { D.tells → S.tells → K.tells → result.0 ≡ Status.SinkFault →
         (sound : IsSound (D.content disk)) → WasCutOff sound (lines_of (S.left source.old)) (K.held sink.old)
         (K.held sink.new) (Endures D.Disk disk result.1) }

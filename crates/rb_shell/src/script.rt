@@ -6,8 +6,9 @@ ghost use Rattle.rb_lines.specs.Faults.{IsCountedBeside};
 ghost use Rattle.rb_lines.specs.Whole.{whole_lines};
 ghost use Rattle.rb_model.specs.Lines.{lines_of};
 ghost use Rattle.rb_model.specs.Out.{Logged};
-ghost use Rattle.rb_shell.specs.Runs.{IsSound, IsStore, HasHalted, HasOpened, HasRun, RanOn, WasCutOff, Endures};
+ghost use Rattle.rb_shell.specs.Runs.{IsSound, IsStore, HasHalted, HasOpened, HasRun, HasRunOut, RanOn, WasCutOff};
 ghost use Rattle.rb_shell.specs.Runs.{LeftAlone, WasStopped, WasTaken, EndsRun, AsksScript, AsksNothing};
+ghost use Rattle.rb_shell.specs.Runs.{Endures, EndsBy, Lasts, MadeLast};
 ghost use Rattle.rb_shell.specs.Since.{IsSince, StandsAs, slots_of};
 ghost use Rattle.rb_shell.specs.Statuses.{by_disk, by_sink, by_source, status_of, status_of_opening};
 
@@ -19,6 +20,7 @@ use rb_base::{OpenFault, Store};
 use rb_disk::Disk;
 use rb_engine::Engine;
 use rb_lines::{LineRunner, LinesEnd, StepFault, run_lines};
+use rb_model::Refusal;
 use rb_store::LapStore;
 use rb_stream::{Sink, Source};
 use std::alloc::Global;
@@ -78,14 +80,35 @@ fn status_of_fault(fault: OpenFault) -> Status
     }
 }
 
-/// The status of a script that was asked for.
-fn status_of_end(end: LinesEnd) -> Status
-    ensures is { result ≡ status_of end }
-    ensures ends { EndsRun result }
-    ensures asks { ¬ AsksNothing result }
+/// Makes last what waits at the end of the script, so that the next opening finds it and puts it back. No reply tells
+/// of it: each commit was made last before its number was answered.
+fn make_last<T: Store>(engine: &mut Engine<T>) -> Status
+    ensures is { EndsBy LinesEnd.Done result }
+    ensures lasts { (m : Logged) → StandsAs T.Store engine.old m → m.state.stopped ≡ false
+        → MadeLast T.Store engine.old.store engine.new.store m result }
+    ensures disk { IsCountedAs (T.faults engine.old.store) (T.faults engine.new.store) (by_disk result) }
+{
+    let Err(why) = engine.checkpoint() else {
+        return Status::Done;
+    };
+    if why == Refusal::DiskFault {
+        return Status::DiskFault;
+    }
+    // A stopped engine makes nothing last any more.
+    Status::Done
+}
+
+/// The status of a script that was asked for. Where it came to its end, what waits is made last.
+fn end_script<T: Store>(engine: &mut Engine<T>, end: LinesEnd) -> Status
+    ensures is { EndsBy end result }
+    ensures lasts { end ≡ LinesEnd.Done → (m : Logged) → StandsAs T.Store engine.old m
+        → m.state.stopped ≡ false → MadeLast T.Store engine.old.store engine.new.store m result }
+    ensures disk { end ≡ LinesEnd.Done
+        → IsCountedAs (T.faults engine.old.store) (T.faults engine.new.store) (by_disk result) }
+    ensures same { end ≢ LinesEnd.Done → (result ≡ status_of end) × (engine.new ≡ engine.old) }
 {
     match end {
-        LinesEnd::Done => Status::Done,
+        LinesEnd::Done => make_last(engine),
         LinesEnd::SourceFault => Status::SourceFault,
         LinesEnd::DiskFault => Status::DiskFault,
         LinesEnd::SinkFault => Status::SinkFault,
@@ -117,8 +140,12 @@ fn run_engine<S: Source, K: Sink, T: Store>(
         waiting: ArrayVec::new(),
     };
     let end = run_lines(&mut interpreter, source, sink, buffer);
-    let Interpreter { engine, waiting: _ } = interpreter;
-    (status_of_end(end), engine.close())
+    let Interpreter {
+        mut engine,
+        waiting: _,
+    } = interpreter;
+    let status = end_script(&mut engine, end);
+    (status, engine.close())
 }
 
 /// Opens the engine over the store of a disk. An Err gives the disk back.
@@ -153,7 +180,7 @@ pub fn run_script<S: Source, K: Sink, D: Disk>(
     // The script was done to its end, to a fault, or as far as it may be long.
     ensures done { D.tells → S.tells → result.0 ≡ Status.Done
         → (sound : IsSound (D.content disk)) → HasRun sound (lines_of (S.left source.old))
-        K.tells (K.held sink.old) (K.held sink.new) (Endures D.Disk disk result.1) }
+        K.tells (K.held sink.old) (K.held sink.new) (Lasts D.Disk disk result.1) }
     ensures at_end { S.tells → result.0 ≡ Status.Done → S.left source.new ≡ [] }
     ensures few { S.tells → result.0 ≡ Status.Done → length (S.left source.old) < 1000000000 }
     ensures source_done { D.tells → S.tells → result.0 ≡ Status.SourceFault
@@ -169,7 +196,9 @@ pub fn run_script<S: Source, K: Sink, D: Disk>(
         ((source.new ≡ source.old) × (sink.new ≡ sink.old)
         × WasStopped D.Disk disk result.1)
         ⊎ ((sound : IsSound (D.content disk)) → HasHalted sound (S.left source.old) (S.left source.new) K.tells
-        (K.held sink.old) (K.held sink.new) (Endures D.Disk disk result.1)) }
+        (K.held sink.old) (K.held sink.new) (Endures D.Disk disk result.1)
+        ⊎ HasRunOut sound (S.left source.old) (S.left source.new) K.tells (K.held sink.old) (K.held sink.new)
+        (Endures D.Disk disk result.1)) }
     ensures cut_off { D.tells → S.tells → K.tells → result.0 ≡ Status.SinkFault
         → (sound : IsSound (D.content disk)) → WasCutOff sound (lines_of (S.left source.old)) (K.held sink.old)
         (K.held sink.new)

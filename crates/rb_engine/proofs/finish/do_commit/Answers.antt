@@ -41,6 +41,6 @@ returns-in-None-clause-did g c = λ h st.
     let empty : length (session_own h 1) ≡ 0 = omega (arith, c.requires.step.idle own, own_known h old.memory st.alone st.memory) in
     let none = none_own (session_own h 1) empty in
     subst (λ (k : ℕ). Does s h (machine.Commit k) machine.Done old new) (sym (c.in_default.ensures.session refl))
-    (does_ended s (laws_of g) h (machine.Commit 1) (cursors_of h 1) old new st going (c.requires.step.going (c.in_default.ensures.going refl)) own empty (no_early h st.alone going)
+    (does_ended s (laws_of g) h (machine.Commit 1) (cursors_of h 1) old new st going (c.requires.step.going (c.in_default.ensures.going refl)) (λ now s t k a is done. cc) own empty (no_early h st.alone going)
     (λ free. Reply.later [] (no_early h st.alone going) refl (rw none refl)) (λ free. inr (none, inr (free, refl))) (λ free. inr (none, inr (free, refl)))
     (λ free. c.end.ensures.ended h _ st.memory (inr (free, refl))) c.end.ensures.own (omega (arith, c.end.ensures.spare)) refl)

@@ -27,7 +27,7 @@ returns-in-Err-clause-did g c = λ h st.
     let old : EngineView _ = record { memory = c.args.memory.now; store = c.args.store.now } in
     let why = c.in-Err.why in
     let refused = c.in-Err.ensures.refused h st.memory in
-    does_loaded s st.told (laws_of g) h (machine.Rollback c.args.s) (machine.Refused why) old old st (Reply.early refused.0 refused.1) (rw (other_refusal why c.in-Err.ensures.other) refl) refl refl
+    does_loaded s st.told (laws_of g) h (machine.Rollback c.args.s) (machine.Refused why) old old st (Reply.early refused.0 refused.1) (rw (other_refusal why c.in-Err.ensures.other) refl) refl (λ s t k a is done. cc) refl
     (λ going. no_logs s old.store (c.requires.step.going (ap (λ (x : State). x.stopped) st.memory ∙ going))) (record { shape = refl; slots = refl })
 
 pub returns-in-Some-clause-did : goal.returns-in-Some-clause-did
@@ -46,6 +46,6 @@ returns-in-None-clause-did g c = λ h st.
     let own = sym c.own.ensures ∙ c.in-None.is in
     let early = no_early h st.alone going in
     subst (λ (k : ℕ). Does s h (machine.Rollback k) machine.Done old new) (sym (c.in_default.ensures.session refl))
-    (does_ended s (laws_of g) h (machine.Rollback 1) (left_open 0 (cursors_of h 1)) old new st going (c.requires.step.going goes) own (sym (own_known h old.memory st.alone st.memory) ∙ c.requires.step.idle own) early
+    (does_ended s (laws_of g) h (machine.Rollback 1) (left_open 0 (cursors_of h 1)) old new st going (c.requires.step.going goes) (λ now s t k a is done. cc) own (sym (own_known h old.memory st.alone st.memory) ∙ c.requires.step.idle own) early
     (λ free. Reply.later [] early refl refl) (λ free. inr (free, refl)) (λ free. inr (free, refl))
     (λ free. c.rollback.ensures.rolled_back h (ended h 1 (left_open 0 (cursors_of h 1))) st.memory (inr (free, refl))) c.rollback.ensures.own (omega (arith, c.rollback.ensures.spare)) refl)

@@ -62,5 +62,5 @@ returns-in-Err-clause-did g c = λ h st.
     let some : 0 < length (session_own h 1) = omega (arith, c.requires.step.busy c.args.xid c.requires.own, own_known h old.memory st.alone st.memory) in
     let count = sym (own_known h old.memory st.alone st.memory) ∙ sym c.count-count.ensures in
     does_not s st.told (laws_of g) h old c.args.xid st going c.requires.own some new c.put_all_back.ensures.same (machine.Rollback 1) (no_early h st.alone going)
-    (c.in-Err.ensures.puts_back st.told h st.shape (holds_own s st.told (laws_of g) h old c.args.xid st going c.requires.own) st.alone going count)
+    (c.in-Err.ensures.puts_back st.told h st.shape (holds_own s st.told (laws_of g) h old c.args.xid st going c.requires.own) st.alone going count (Some (machine.Rollback 1)))
     (c.stop.ensures.stops h st.memory)

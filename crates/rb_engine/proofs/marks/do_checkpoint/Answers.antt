@@ -8,7 +8,7 @@ use Rattle.rb_model.specs.Book.{book_at}
 use Rattle.rb_model.specs.Calls as machine
 use Rattle.rb_model.specs.Calls.{Reply, early_tests, none_applies}
 use Rattle.rb_model.specs.State.{State}
-use Rattle.rb_engine.proofs.DoesLemmas.{does_fault, does_loaded, fault_survives}
+use Rattle.rb_engine.proofs.DoesLemmas.{does_fault, does_loaded, fault_survives, survives_same}
 use Rattle.rb_restart.proofs.SlotEnded.{block_read}
 use Rattle.rb_segment.specs.Header.{header_of}
 use Rattle.rb_standing.specs.Standing.{segments_of}
@@ -42,4 +42,18 @@ returns-in-Ok-clause-did g c = λ h st.
     let e = c.in-Ok.ensures in
     let logs : Logs s c.args.store.now c.checkpoint.new.self [] true = flush_logs s c.args.store.now c.checkpoint.new.self (Ok c.in-Ok.field-0) e.shape e.slots e.failed e.counted e.lsn e.blocks e.settles e.any_moment in
     does_loaded s st.told (laws_of g) h machine.Checkpoint machine.Done old (record { memory = c.args.memory.now; store = c.checkpoint.new.self }) st
-    (Reply.later [] (rw going refl) refl refl) refl refl refl (λ _. logs) (record { shape = e.shape; slots = e.slots })
+    (Reply.later [] (rw going refl) refl refl) refl refl (λ s t k a is done. cc) refl (λ _. logs) (record { shape = e.shape; slots = e.slots })
+
+pub returns-in-Err-clause-leaves : goal.returns-in-Err-clause-leaves
+returns-in-Err-clause-leaves g c = λ h st going fault keeps.
+    let s = g.T.Store in
+    let e = c.in-Err.ensures in
+    let logs : Logs s c.args.store.now c.checkpoint.new.self [] false = flush_logs s c.args.store.now c.checkpoint.new.self (Err c.in-Err.field-0) e.shape e.slots e.failed e.counted e.lsn e.blocks e.settles e.any_moment in
+    survives_same s st.told (laws_of g) h h c.args.memory.now.own c.args.store.now c.checkpoint.new.self false st.shape refl refl refl (st.holds going) logs keeps
+
+pub returns-in-Ok-clause-leaves : goal.returns-in-Ok-clause-leaves
+returns-in-Ok-clause-leaves g c = λ h st going fault keeps.
+    let s = g.T.Store in
+    let e = c.in-Ok.ensures in
+    let logs : Logs s c.args.store.now c.checkpoint.new.self [] true = flush_logs s c.args.store.now c.checkpoint.new.self (Ok c.in-Ok.field-0) e.shape e.slots e.failed e.counted e.lsn e.blocks e.settles e.any_moment in
+    survives_same s st.told (laws_of g) h h c.args.memory.now.own c.args.store.now c.checkpoint.new.self true st.shape refl refl refl (st.holds going) logs keeps

@@ -51,4 +51,4 @@ returns-clause-did g c = λ h st.
     let answer = marks_told h holds.xids (s.blocks c.args.store.now) holds.blocks c.args.seg there c.block-block.result.now
     (subst (λ x. x) refl (block_read s c.args.store.now c.load.new.self c.header_block-header.result (header_block h.shape c.args.seg) c.block-block.result.now st.told (logs.blocks st.told refl) c.block-block.ensures.block (ok_of c.load.result fine e.loaded) at)) c.writes.result c.lost.result c.writes.ensures c.lost.ensures in
     does_loaded s st.told (laws_of g) h (machine.Marks c.args.seg) (machine.Marked c.args.seg c.writes.result c.lost.result) old (record { memory = c.args.memory.now; store = c.load.new.self }) st
-    (Reply.later [] (rw going refl) refl answer) refl refl refl (λ _. logs) (record { shape = e.shape; slots = e.slots })
+    (Reply.later [] (rw going refl) refl answer) refl refl (λ s t k a is done. cc) refl (λ _. logs) (record { shape = e.shape; slots = e.slots })

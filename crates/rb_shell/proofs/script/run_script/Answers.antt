@@ -1,17 +1,21 @@
-use Rattle.std.proofs.Common.{◌≡◌, ◌∙◌, ℕ, List, Some, inr, sym, ap, subst, refl, false}
-use Rattle.rb_image.specs.Crash.{Survives}
+use Rattle.std.proofs.Common.{◌≡◌, ◌∙◌, ⊎_elim, ℕ, List, Some, inl, inr, sym, ap, subst, refl, false}
+use Rattle.rb_image.specs.Crash.{OpensUpTo}
+use Rattle.rb_layout.specs.declared.layout.Layout.{Layout}
 use Rattle.rb_lines.specs.Ends.{EndsAs}
 use Rattle.rb_lines.specs.Faults.{IsCountedBeside}
 use Rattle.rb_lines.specs.Ran.{Ran}
 use Rattle.rb_lines.specs.declared.lines.LinesEnd.{LinesEnd}
 use Rattle.rb_lines.specs.declared.lines.LinesEnd.TheVariants as ends
+use Rattle.rb_model.specs.Out.{Logged}
 use Rattle.rb_model.specs.State.{State}
 use Rattle.rb_shell.specs.Runs.{IsSound, first_of}
+use Rattle.rb_store.specs.Laps.{Opens}
 use Rattle.rb_store.specs.contracts.lap.LapStoreStore.TheImpl.{ghosts}
-use Rattle.rb_shell.specs.Runs.{Endures, HasOpened, HasRun, RanOn}
+use Rattle.rb_shell.specs.Runs.{Endures, HasOpened, HasRun, Lasts, RanOn}
 use Rattle.rb_shell.specs.Statuses.{by_disk, by_sink}
+use Rattle.rb_shell.specs.declared.status.Status.TheVariants.{Done}
 use Rattle.rb_shell.proofs.RunLemmas.{endures, has_halted, has_run, was_cut_off}
-use Rattle.rb_shell.proofs.StatusLemmas.{beside, counted_as, disk_fault_of, done_of, sink_fault_of, source_fault_of, too_long_of, uncounted}
+use Rattle.rb_shell.proofs.StatusLemmas.{beside, counted_as, disk_by, done_by, long_by, sink_by, source_by, uncounted}
 use Rattle.rb_shell.proofs.script.run_script.Given.{Over}
 use Rattle.rb_shell.proofs.script.run_script.Goals.{After-close}
 use Rattle.rb_shell.proofs.script.run_script.Goals as goal
@@ -25,12 +29,19 @@ module _ (g : Over) (c : After-close g) (disk : g.D.Disk.tells) (told : g.S.Sour
   did = c.run_engine-status.ensures.did told (first_of sound) opened.stands (ap (λ (h : State). h.stopped) sound.opening.state)
 
   -- it endures
-  endured : (h : State) → (g.D.Disk.tells → Survives (ghosts g.row.D g.D.Disk g.D.Disk-dict) (Some c.in-Ok-open_engine.engine.store.layout.log) sound.state h c.in-Ok-open_engine.engine.store c.run_engine-status.result.1)
-      → Endures g.D.Disk c.args.disk c.close.result sound.store.layout sound.state h
-  endured h survives =
-      let v = survives disk in
-      subst (λ d. Endures g.D.Disk c.args.disk d sound.store.layout sound.state h) (sym c.close.ensures)
-      (endures g.D.Disk c.args.disk (ghosts g.row.D g.D.Disk g.D.Disk-dict) c.in-Ok-open_engine.engine h c.run_engine-status.result.1.disk sound opened v.extends (record { later = v.any_moment.later; each = v.any_moment.each; earlier = v.any_moment.earlier }) v.now_only)
+  endured : Endures g.D.Disk c.args.disk c.close.result sound.store.layout sound.state did.now
+  endured =
+      let v = did.crash disk in
+      subst (λ d. Endures g.D.Disk c.args.disk d sound.store.layout sound.state did.now) (sym c.close.ensures)
+      (endures g.D.Disk c.args.disk (ghosts g.row.D g.D.Disk g.D.Disk-dict) c.in-Ok-open_engine.engine did.now c.run_engine-status.result.1.disk sound opened v.extends (record { later = v.any_moment.later; each = v.any_moment.each; earlier = v.any_moment.earlier }) v.now_only)
+
+  -- and where all is well, to the last group
+  lasts : c.run_engine-status.result.0 ≡ Done → Lasts g.D.Disk c.args.disk c.close.result sound.store.layout sound.state did.now
+  lasts fine = record {
+    endured = endured;
+    last = λ file here. subst (λ (k : ℕ). OpensUpTo Opens (Some k) did.now.state.shape did.now.lsn file) opened.slots
+        (did.last disk fine file (subst (λ d. g.D.Disk.image d file) c.close.ensures here));
+  }
 
   -- how the lines ended
   ended : (end : LinesEnd) → did.end ≡ end
@@ -38,39 +49,48 @@ module _ (g : Over) (c : After-close g) (disk : g.D.Disk.tells) (told : g.S.Sour
   ended end is = subst (λ (e : LinesEnd). EndsAs c.in-Ok-open_engine.engine.store.layout.log 65536 (first_of sound) did.now (g.S.Source.left c.args.source.now) (g.S.Source.left c.run_engine-status.new.source) g.K.Sink.tells (g.K.Sink.held c.args.sink.now) (g.K.Sink.held c.run_engine-status.new.sink) e) is did.ends
 
   -- what was done over the engine was done over the file
-  ran : (lines : List (List ℕ)) → Ran c.in-Ok-open_engine.engine.store.layout.log (first_of sound) did.now lines g.K.Sink.tells (g.K.Sink.held c.args.sink.now) (g.K.Sink.held c.run_engine-status.new.sink) → did.now.state.stopped ≡ false
-      → HasRun sound lines g.K.Sink.tells (g.K.Sink.held c.args.sink.now) (g.K.Sink.held c.run_engine-status.new.sink) (Endures g.D.Disk c.args.disk c.close.result)
-  ran lines r going = has_run g.D.Disk c.args.disk (ghosts g.row.D g.D.Disk g.D.Disk-dict) c.in-Ok-open_engine.engine sound opened did.now lines g.K.Sink.tells _ _ _ r going (endured did.now.state did.crash)
+  ran : (lines : List (List ℕ)) (left : Layout → State → Logged → Type 0) → Ran c.in-Ok-open_engine.engine.store.layout.log (first_of sound) did.now lines g.K.Sink.tells (g.K.Sink.held c.args.sink.now) (g.K.Sink.held c.run_engine-status.new.sink) → did.now.state.stopped ≡ false
+      → left sound.store.layout sound.state did.now → HasRun sound lines g.K.Sink.tells (g.K.Sink.held c.args.sink.now) (g.K.Sink.held c.run_engine-status.new.sink) left
+  ran lines left r going is = has_run g.D.Disk c.args.disk (ghosts g.row.D g.D.Disk g.D.Disk-dict) c.in-Ok-open_engine.engine sound opened did.now lines g.K.Sink.tells _ _ left r going is
 
 pub returns-in-Ok-open_engine-clause-done : goal.returns-in-Ok-open_engine-clause-done
 returns-in-Ok-open_engine-clause-done g c = λ disk told is sound.
     let a = (goal.at.returns-in-Ok-open_engine-clause-done g c).After-close in
-    let e = ended g a disk told sound ends.Done (done_of (did g a disk told sound).end (sym (did g a disk told sound).is ∙ is)) in
-    ran g a disk told sound _ e.0 e.1
+    let d = did g a disk told sound in
+    let e = ended g a disk told sound ends.Done (done_by d.end _ is d.is) in
+    ran g a disk told sound _ (Lasts g.D.Disk c.args.disk c.close.result) e.0 e.1 (lasts g a disk told sound is)
 
 pub returns-in-Ok-open_engine-clause-source_done : goal.returns-in-Ok-open_engine-clause-source_done
 returns-in-Ok-open_engine-clause-source_done g c = λ disk told is sound.
     let a = (goal.at.returns-in-Ok-open_engine-clause-source_done g c).After-close in
-    let e = ended g a disk told sound ends.SourceFault (source_fault_of (did g a disk told sound).end (sym (did g a disk told sound).is ∙ is)) in
-    (e.0, e.1.split, ran g a disk told sound _ e.1.ran e.1.going)
+    let d = did g a disk told sound in
+    let e = ended g a disk told sound ends.SourceFault (source_by d.end _ is d.is) in
+    (e.0, e.1.split, ran g a disk told sound _ (Endures g.D.Disk c.args.disk c.close.result) e.1.ran e.1.going (endured g a disk told sound))
 
 pub returns-in-Ok-open_engine-clause-too_long : goal.returns-in-Ok-open_engine-clause-too_long
 returns-in-Ok-open_engine-clause-too_long g c = λ disk told is sound.
     let a = (goal.at.returns-in-Ok-open_engine-clause-too_long g c).After-close in
-    let e = ended g a disk told sound ends.TooLong (too_long_of (did g a disk told sound).end (sym (did g a disk told sound).is ∙ is)) in
-    (e.0, e.1, e.2.split, ran g a disk told sound _ e.2.ran e.2.going)
+    let d = did g a disk told sound in
+    let e = ended g a disk told sound ends.TooLong (long_by d.end _ is d.is) in
+    (e.0, e.1, e.2.split, ran g a disk told sound _ (Endures g.D.Disk c.args.disk c.close.result) e.2.ran e.2.going (endured g a disk told sound))
 
 pub returns-in-Ok-open_engine-clause-disk_done : goal.returns-in-Ok-open_engine-clause-disk_done
 returns-in-Ok-open_engine-clause-disk_done g c = λ disk told is. inr (λ sound.
     let a = (goal.at.returns-in-Ok-open_engine-clause-disk_done g c).After-close in
-    let e = ended g a disk told sound ends.DiskFault (disk_fault_of (did g a disk told sound).end (sym (did g a disk told sound).is ∙ is)) in
-    has_halted g.D.Disk c.args.disk (ghosts g.row.D g.D.Disk g.D.Disk-dict) c.in-Ok-open_engine.engine sound (opened g a disk told sound) (did g a disk told sound).now _ _ g.K.Sink.tells _ _ _ e (endured g a disk told sound (did g a disk told sound).now.state (did g a disk told sound).crash))
+    let d = did g a disk told sound in
+    ⊎_elim
+    (λ (line : d.end ≡ ends.DiskFault). inl (has_halted g.D.Disk c.args.disk (ghosts g.row.D g.D.Disk g.D.Disk-dict) c.in-Ok-open_engine.engine sound (opened g a disk told sound) d.now _ _ g.K.Sink.tells _ _ _ (ended g a disk told sound ends.DiskFault line) (endured g a disk told sound)))
+    (λ (behind : d.end ≡ ends.Done).
+    let e = ended g a disk told sound ends.Done behind in
+    inr (record { run = ran g a disk told sound _ (Endures g.D.Disk c.args.disk c.close.result) e.0 e.1 (endured g a disk told sound); all_taken = d.all_taken behind }))
+    (disk_by d.end _ is d.is))
 
 pub returns-in-Ok-open_engine-clause-cut_off : goal.returns-in-Ok-open_engine-clause-cut_off
 returns-in-Ok-open_engine-clause-cut_off g c = λ disk told tells is sound.
     let a = (goal.at.returns-in-Ok-open_engine-clause-cut_off g c).After-close in
-    let e = ended g a disk told sound ends.SinkFault (sink_fault_of (did g a disk told sound).end (sym (did g a disk told sound).is ∙ is)) in
-    was_cut_off g.D.Disk c.args.disk (ghosts g.row.D g.D.Disk g.D.Disk-dict) c.in-Ok-open_engine.engine sound (opened g a disk told sound) (did g a disk told sound).now _ _ _ _ (e tells) (endured g a disk told sound (did g a disk told sound).now.state (did g a disk told sound).crash)
+    let d = did g a disk told sound in
+    let e = ended g a disk told sound ends.SinkFault (sink_by d.end _ is d.is) in
+    was_cut_off g.D.Disk c.args.disk (ghosts g.row.D g.D.Disk g.D.Disk-dict) c.in-Ok-open_engine.engine sound (opened g a disk told sound) d.now _ _ _ _ (e tells) (endured g a disk told sound)
 
 pub returns-in-Ok-open_engine-clause-store : goal.returns-in-Ok-open_engine-clause-store
 returns-in-Ok-open_engine-clause-store g c = λ disk asks. c.in-Ok-open_engine.ensures.store disk

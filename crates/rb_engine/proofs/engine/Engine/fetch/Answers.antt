@@ -24,4 +24,4 @@ returns-clause-did g c = λ h st.
     let here = subst (Stands s h) (sym c.self.view_is) st in
     subst (λ e. Does s h (machine.Fetch c.args.s (name_text c.args.name.now)) (fetch_answer call.result call.new.row) e (record { memory = call.new.self; store = store })) c.self.view_is
     (does_answered s laws h (machine.Fetch c.args.s (name_text c.args.name.now)) (fetch_answer call.result call.new.row) (record { memory = c.self.inside.memory; store = store }) (record { memory = call.new.self; store = store }) here c.self.invariant.going
-    (sym (fault_of_fetch call.result call.new.row) ∙ no_fault call.result call.ensures.other) (λ now e. (c.args.s, with_taken (name_text c.args.name.now) (cursors_of h c.args.s), e)) refl (call.ensures.did h here.memory) call.ensures.own call.ensures.spare refl)
+    (sym (fault_of_fetch call.result call.new.row) ∙ no_fault call.result call.ensures.other) (λ now s t k a is done. cc) (λ now e. (c.args.s, with_taken (name_text c.args.name.now) (cursors_of h c.args.s), e)) refl (call.ensures.did h here.memory) call.ensures.own call.ensures.spare refl)

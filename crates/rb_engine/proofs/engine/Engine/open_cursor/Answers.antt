@@ -24,4 +24,4 @@ returns-clause-did g c = λ h st.
     let here = subst (Stands s h) (sym c.self.view_is) st in
     subst (λ e. Does s h (machine.OpenCursor c.args.s (name_text c.args.name.now) c.args.table c.args.lo c.args.hi) (plain_answer call.result) e (record { memory = call.new.self; store = store })) c.self.view_is
     (does_answered s laws h (machine.OpenCursor c.args.s (name_text c.args.name.now) c.args.table c.args.lo c.args.hi) (plain_answer call.result) (record { memory = c.self.inside.memory; store = store }) (record { memory = call.new.self; store = store }) here c.self.invariant.going
-    (sym (fault_of_plain call.result) ∙ no_fault call.result call.ensures.other) (λ now e. (c.args.s, cursors_of h c.args.s ++ opened_cursor h c.args.s (name_text c.args.name.now) c.args.table c.args.lo c.args.hi ∷ [], e)) refl (call.ensures.did h here.memory) call.ensures.own call.ensures.spare refl)
+    (sym (fault_of_plain call.result) ∙ no_fault call.result call.ensures.other) (λ now s t k a is done. cc) (λ now e. (c.args.s, cursors_of h c.args.s ++ opened_cursor h c.args.s (name_text c.args.name.now) c.args.table c.args.lo c.args.hi ∷ [], e)) refl (call.ensures.did h here.memory) call.ensures.own call.ensures.spare refl)

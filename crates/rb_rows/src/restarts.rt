@@ -1,0 +1,246 @@
+//! The tables of openings behind a stop, which put back what was under way and make that last at the end of an empty
+//! script: a stop after any call of one, and of one behind that, and each call failing alone.
+use crate::doubles::{
+    FORMAT_SMALL, FORMAT_STOPS, Failing, NONE, RUN, formatted, opened, run_over, run_stopped,
+};
+use crate::stories::{Story, image_now, shown};
+use crate::under_way::{four_transactions, long_transaction};
+use rb_base::NoMemory;
+use rb_memdisk::{MemDisk, Pick};
+use rb_shell::Status;
+use std::alloc::Global;
+use std::process::Abort;
+use std::test::Fail;
+
+// What a stop may leave of an opening: all that was written, or bytes of which each is 1.
+const PICKS: [Pick; 2] = [Pick::New, Pick::Fill(1)];
+
+// Adds what a stop after the last call of a disk may leave, by these picks.
+fn add_left(
+    alloc: Global,
+    disk: &MemDisk,
+    picks: &[Pick],
+    images: &mut Vec<Vec<u8>>,
+) -> Result<(), NoMemory> {
+    for pick in picks {
+        if let Some(left) = image_now(alloc, disk, *pick)? {
+            images.push(left).map_err(|_| NoMemory)?;
+        }
+    }
+    Ok(())
+}
+
+// What a stop after any call of a run may leave of a file, by these picks, but for the file itself. A call that doesn't
+// write leaves nothing more; nor does the pick Old, as what was synced last is what the disk read as then.
+fn left_by(
+    alloc: Global,
+    file: &[u8],
+    script: &[u8],
+    picks: &[Pick],
+) -> Result<Vec<Vec<u8>>, NoMemory> {
+    let opened = opened(alloc, file)?;
+    let good = run_over(alloc, RUN, file, script, NONE)?;
+    let mut images = Vec::new(alloc);
+    let mut syncs = opened.syncs();
+    for call in 1..=good.disk.calls() {
+        if call > opened.calls() {
+            let stopped = run_stopped(alloc, file, script, call)?;
+            if stopped.disk.syncs() == syncs {
+                add_left(alloc, &stopped.disk, picks, &mut images)?;
+            }
+            syncs = stopped.disk.syncs();
+        }
+    }
+    Ok(images)
+}
+
+// Checks that a stop after any call of an opening of a file leaves what shows so many flushes, and answers what it may
+// leave.
+fn check_stops(
+    rt: &impl Abort,
+    alloc: Global,
+    story: &Story,
+    file: &[u8],
+    flushes: Option<usize>,
+) -> Result<Vec<Vec<u8>>, NoMemory> {
+    let images = left_by(alloc, file, b"", &PICKS)?;
+    for image in &images {
+        assert_eq!(rt; shown(alloc, story, image)?, flushes);
+    }
+    Ok(images)
+}
+
+// Checks that a run of an empty script ends where a call of the disk fails, and leaves what shows so many flushes.
+fn check_failure(
+    rt: &impl Abort,
+    alloc: Global,
+    story: &Story,
+    file: &[u8],
+    call: u64,
+    flushes: Option<usize>,
+) -> Result<(), NoMemory> {
+    let failing = Failing {
+        disk: &[call],
+        ..NONE
+    };
+    let end = run_over(alloc, RUN, file, b"", failing)?;
+    assert!(rt; end.status == Status::DiskFault, "call {call}");
+    assert!(rt; end.sink.bytes().is_empty(), "call {call}");
+    assert_eq!(rt; end.disk.calls(), call);
+    let found = shown(alloc, story, end.disk.bytes())?;
+    assert_eq!(rt; found, flushes, "call {call}");
+    Ok(())
+}
+
+// Each call of an opening of a file fails.
+fn check_failures(
+    rt: &impl Abort,
+    alloc: Global,
+    story: &Story,
+    file: &[u8],
+    flushes: Option<usize>,
+) -> Result<(), NoMemory> {
+    let good = run_over(alloc, RUN, file, b"", NONE)?;
+    assert!(rt; good.status == Status::Done);
+    for call in 1..=good.disk.calls() {
+        check_failure(rt, alloc, story, file, call, flushes)?;
+    }
+    Ok(())
+}
+
+// The stops of the opening behind a stop that left this file, and of the opening behind each of those. Answers whether
+// the first opening wrote anything.
+fn check_stops_behind(
+    rt: &impl Abort,
+    alloc: Global,
+    story: &Story,
+    file: &[u8],
+) -> Result<bool, NoMemory> {
+    let flushes = shown(alloc, story, file)?;
+    assert!(rt; flushes.is_some());
+    let images = check_stops(rt, alloc, story, file, flushes)?;
+    for image in &images {
+        let _ = check_stops(rt, alloc, story, image, flushes)?;
+    }
+    Ok(!images.is_empty())
+}
+
+// Each call failing of the opening behind a stop that left this file.
+fn check_failures_behind(
+    rt: &impl Abort,
+    alloc: Global,
+    story: &Story,
+    file: &[u8],
+) -> Result<(), NoMemory> {
+    let flushes = shown(alloc, story, file)?;
+    assert!(rt; flushes.is_some());
+    check_failures(rt, alloc, story, file, flushes)
+}
+
+// Each call failing of the openings behind the stops of that opening. Answers whether that wrote anything.
+fn check_failures_later(
+    rt: &impl Abort,
+    alloc: Global,
+    story: &Story,
+    file: &[u8],
+) -> Result<bool, NoMemory> {
+    let flushes = shown(alloc, story, file)?;
+    let images = left_by(alloc, file, b"", &PICKS)?;
+    for image in &images {
+        check_failures(rt, alloc, story, image, flushes)?;
+    }
+    Ok(!images.is_empty())
+}
+
+// What stops of a run over a new file leave, by these picks.
+fn first_left(
+    alloc: Global,
+    line: &str,
+    story: &Story,
+    picks: &[Pick],
+) -> Result<Vec<Vec<u8>>, NoMemory> {
+    let file = formatted(alloc, line)?;
+    left_by(alloc, &file, story.script.as_bytes(), picks)
+}
+
+// Of the images that stops of the four transactions leave, by a pick: the stops of the openings behind them.
+fn check_all_stops(rt: &impl Abort, alloc: Global, pick: Pick) -> Result<(), NoMemory> {
+    let story = four_transactions(alloc)?;
+    let mut wrote = false;
+    for image in &first_left(alloc, FORMAT_SMALL, &story, &[pick])? {
+        wrote |= check_stops_behind(rt, alloc, &story, image)?;
+    }
+    assert!(rt; wrote);
+    Ok(())
+}
+
+#[test]
+fn stops(rt: HostRuntime) -> Result<(), Fail> {
+    check_all_stops(&rt, rt.alloc(), Pick::New)?;
+    Ok(())
+}
+
+#[test]
+fn stops_behind_torn_writes(rt: HostRuntime) -> Result<(), Fail> {
+    check_all_stops(&rt, rt.alloc(), Pick::Fill(1))?;
+    Ok(())
+}
+
+#[test]
+fn failures(rt: HostRuntime) -> Result<(), Fail> {
+    let story = four_transactions(rt.alloc())?;
+    for image in &first_left(rt.alloc(), FORMAT_SMALL, &story, &PICKS)? {
+        check_failures_behind(&rt, rt.alloc(), &story, image)?;
+    }
+    Ok(())
+}
+
+// The same of the failures of the openings behind those.
+fn check_later_failures(rt: &impl Abort, alloc: Global, pick: Pick) -> Result<(), NoMemory> {
+    let story = four_transactions(alloc)?;
+    let mut wrote = false;
+    for image in &first_left(alloc, FORMAT_SMALL, &story, &[pick])? {
+        wrote |= check_failures_later(rt, alloc, &story, image)?;
+    }
+    assert!(rt; wrote);
+    Ok(())
+}
+
+#[test]
+fn later_failures(rt: HostRuntime) -> Result<(), Fail> {
+    check_later_failures(&rt, rt.alloc(), Pick::New)?;
+    Ok(())
+}
+
+#[test]
+fn later_failures_behind_torn_writes(rt: HostRuntime) -> Result<(), Fail> {
+    check_later_failures(&rt, rt.alloc(), Pick::Fill(1))?;
+    Ok(())
+}
+
+// The stops of openings behind those stops of the long transaction that left so many runs of the log.
+fn check_long(rt: &impl Abort, alloc: Global, runs: usize) -> Result<(), NoMemory> {
+    let story = long_transaction(alloc)?;
+    let mut wrote = false;
+    for image in &first_left(alloc, FORMAT_STOPS, &story, &[Pick::New])? {
+        if shown(alloc, &story, image)? == Some(runs) {
+            wrote |= check_stops_behind(rt, alloc, &story, image)?;
+        }
+    }
+    assert!(rt; wrote);
+    Ok(())
+}
+
+// What puts back 32 changes takes two runs of the log, of which the first may be there alone.
+#[test]
+fn stops_behind_first_run(rt: HostRuntime) -> Result<(), Fail> {
+    check_long(&rt, rt.alloc(), 1)?;
+    Ok(())
+}
+
+// The records of 41 changes lie in two extents.
+#[test]
+fn stops_behind_both_runs(rt: HostRuntime) -> Result<(), Fail> {
+    check_long(&rt, rt.alloc(), 2)?;
+    Ok(())
+}

@@ -1,0 +1,100 @@
+//! Scripts whose replies are known, with what a second run answers after each of their flushes; and whether a file that
+//! a crash left shows what it must. The tables of stops and of failures stand on them.
+use crate::doubles::{Ended, NONE, RUN, run_over};
+use rb_base::NoMemory;
+use rb_memdisk::{MemDisk, Pick};
+use rb_shell::Status;
+use std::alloc::Global;
+use std::process::Abort;
+
+/// A script, its replies where no call fails, and what the second script answers behind it.
+#[derive(Drop)]
+pub struct Story {
+    pub script: String,
+    pub replies: Vec<u8>,
+    pub second: &'static [u8],
+    /// Of a file without any of the flushes first, then of one with the first, and so on to the last.
+    pub told: Vec<String>,
+}
+
+/// What a crash may leave, as it is picked in the tables: 1 is the byte that opens a gate.
+pub const PICKS: [Pick; 4] = [Pick::New, Pick::Old, Pick::Fill(1), Pick::Fill(0x7f)];
+
+/// How many flushes the replies tell of: those of commits and of checkpoints.
+pub fn answered(replies: &[u8]) -> usize {
+    replies
+        .split(|byte| *byte == b'\n')
+        .filter(|line| line.starts_with(b"1 committed ") || *line == b"ok".as_slice())
+        .count()
+}
+
+/// How many flushes the file of a run must have: all where the run was done, as what waits is made last at its end.
+pub fn owed(story: &Story, end: &Ended) -> usize {
+    if end.status == Status::Done {
+        return story.told.len().saturating_sub(1);
+    }
+    answered(end.sink.bytes())
+}
+
+/// How many of the flushes a file shows to a second run. None where that answers otherwise than after one of them.
+pub fn shown(alloc: Global, story: &Story, file: &[u8]) -> Result<Option<usize>, NoMemory> {
+    let end = run_over(alloc, RUN, file, story.second, NONE)?;
+    if end.status != Status::Done {
+        return Ok(None);
+    }
+    for (flushes, told) in story.told.iter().enumerate() {
+        if end.sink.bytes() == told.as_bytes() {
+            return Ok(Some(flushes));
+        }
+    }
+    Ok(None)
+}
+
+// Whether a file shows each flush that it must have, and at most the one under way besides.
+fn is_kept(shown: Option<usize>, owed: usize) -> bool {
+    match shown {
+        Some(flushes) => owed <= flushes && flushes - owed <= 1,
+        None => false,
+    }
+}
+
+/// An image after a call that the disk made, picked so.
+pub fn image(alloc: Global, disk: &MemDisk, k: u64, pick: Pick) -> Result<Vec<u8>, NoMemory> {
+    if k > disk.calls() {
+        return Err(NoMemory);
+    }
+    disk.image(alloc, k, pick)
+}
+
+/// What a crash after the last call of a disk may leave, picked so. None where another pick than New leaves what New
+/// does.
+pub fn image_now(alloc: Global, disk: &MemDisk, pick: Pick) -> Result<Option<Vec<u8>>, NoMemory> {
+    if pick == Pick::New {
+        let read = disk.bytes().to_vec(alloc).map_err(|_| NoMemory)?;
+        return Ok(Some(read));
+    }
+    let left = image(alloc, disk, disk.calls(), pick)?;
+    Ok((left.as_slice() != disk.bytes()).then_some(left))
+}
+
+/// Checks what a crash after the last call of a run may leave, by these picks.
+pub fn check_left(
+    rt: &impl Abort,
+    alloc: Global,
+    story: &Story,
+    end: &Ended,
+    picks: &[Pick],
+) -> Result<(), NoMemory> {
+    let call = end.disk.calls();
+    let owed = owed(story, end);
+    for pick in picks {
+        if let Some(left) = image_now(alloc, &end.disk, *pick)? {
+            let found = shown(alloc, story, &left)?;
+            assert!(rt;
+                is_kept(found, owed),
+                "{call}, {pick:?}: {found:?} of {owed}"
+            );
+        }
+    }
+    Ok(())
+}

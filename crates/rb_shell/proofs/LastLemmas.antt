@@ -1,0 +1,53 @@
+-- What is left where a script's end makes last what waits.
+use Rattle.std.proofs.Common.{◌≡◌, ◌≢◌, ◌∙◌, ◌+◌, ℕ, Bool, true, false, List, [], Option, refl, sym, ap, subst, arith}
+use Rattle.std.proofs.lemmas.Bool.{false≢true}
+use Rattle.rb_base.specs.Logs.{Laws}
+use Rattle.rb_base.specs.declared.shape.Shape.{Shape}
+use Rattle.rb_base.specs.declared.store.Store.{Ghosts}
+use Rattle.rb_engine.specs.Does.{Does, EngineView, LeavesState, SameStore}
+use Rattle.rb_image.proofs.Steps.{opens_last}
+use Rattle.rb_image.specs.Crash.{OpensUpTo}
+use Rattle.rb_image.specs.Images.{HasState}
+use Rattle.rb_model.specs.Calls.{Answer, Checkpoint, Done, Refused, Reply, early, later, first_of}
+use Rattle.rb_model.specs.Calls as calls
+use Rattle.rb_model.specs.Out.{Logged}
+use Rattle.rb_model.specs.Rows.{last_scn}
+use Rattle.rb_model.specs.State.{State}
+use Rattle.rb_model.specs.declared.refusal.Refusal.{Refusal}
+use Rattle.rb_model.specs.declared.refusal.Refusal.TheVariants.{DiskFault}
+use Rattle.rb_shell.specs.Runs.{MadeLast}
+use Rattle.rb_shell.specs.Since.{StandsAs}
+use Rattle.rb_shell.specs.declared.status.Status.{Status}
+use Rattle.rb_shell.specs.declared.status.Status.TheVariants as ends
+
+-- a checkpoint of an engine that goes on is refused for a fault of the disk alone
+pub only_fault : (h : State) (n more : ℕ) (why : Refusal) → h.stopped ≡ false → Reply h n more Checkpoint (Refused why) → why ≡ DiskFault
+only_fault h n more why going (early some is) = absurd (false≢true (sym some ∙ rw going refl))
+only_fault h n more why going (later tests none which is) = let clash : Refused why ≡ Done = is ∙ ap (λ ts. first_of ts Done) which in absurd cc
+only_fault h n more why going (calls.fault none is) = cc
+
+module _ {S : Type 0} (s : Ghosts S) (laws : Laws s) (m : Logged) (old new : EngineView S) (is : StandsAs s old m) (going : m.state.stopped ≡ false) where
+  -- an image has all to the last group
+  last_of : Does s m.state Checkpoint Done old new → SameStore s old.store new.store → s.keeps → s.pending new.store ≡ [] → (i : s.image) → s.left new.store i
+      → OpensUpTo s.opens (s.slots old.store) m.state.shape m.lsn i
+  last_of does same kept none i here =
+      let state : does.now ≡ m.state = does.after in
+      let on : does.now.stopped ≡ false = ap (λ (h : State). h.stopped) state ∙ going in
+      let holds = does.stands.holds on in
+      let groups : does.groups ≡ 0 = does.grows on in
+      let number : s.lsn new.store ≡ m.lsn = does.lsn on ∙ omega (arith, groups, is.lsn) in
+      let shape : s.shape_of new.store ≡ m.state.shape = does.stands.shape ∙ ap (λ (h : State). h.shape) state in
+      let opens = opens_last s laws kept (HasState does.now does.now.books (last_scn does.now.commits) (s.slots new.store)) new.store (holds.images kept) none i here in
+      subst (λ (n : ℕ). OpensUpTo s.opens (s.slots old.store) m.state.shape n i) number
+      (subst (λ (x : Shape). OpensUpTo s.opens (s.slots old.store) x (s.lsn new.store) i) shape
+      (subst (λ (k : Option ℕ). OpensUpTo s.opens k (s.shape_of new.store) (s.lsn new.store) i) same.slots opens))
+
+  pub made_last : Does s m.state Checkpoint Done old new → SameStore s old.store new.store → LeavesState s m.state old.store new.store → (s.keeps → s.pending new.store ≡ []) → (status : Status)
+      → MadeLast s old.store new.store m status
+  made_last does same leaves none status = record {
+    crash = leaves;
+    last = λ kept done i here. last_of does same kept (none kept) i here;
+  }
+
+  pub not_made : LeavesState s m.state old.store new.store → (status : Status) → status ≢ ends.Done → MadeLast s old.store new.store m status
+  not_made leaves status other = record { crash = leaves; last = λ kept done. absurd (other done) }
