@@ -17,10 +17,10 @@ const SHAPE: Shape = Shape {
 };
 
 /// More groups than any test makes.
-const ROOM: u64 = 1000;
+pub(crate) const ROOM: u64 = 1000;
 
 /// Asks for a write of a key by a transaction, or by one that begins, whose caller takes so many groups more.
-fn asked<S: Store>(
+pub(crate) fn asked<S: Store>(
     store: &mut S,
     own: Option<Xid>,
     key: u64,

@@ -9,6 +9,8 @@ mod base;
 #[cfg(test)]
 mod cell;
 #[cfg(test)]
+mod cr;
+#[cfg(test)]
 mod filedisk;
 #[cfg(test)]
 mod group;

@@ -55,7 +55,7 @@ fn has_room(group: &Group) -> bool
 }
 
 /// A copy of a block of the file.
-fn copy_of<S: Store>(store: &mut S, no: BlockNo) -> Result<[u8; UNIT], Failed>
+pub(crate) fn copy_of<S: Store>(store: &mut S, no: BlockNo) -> Result<[u8; UNIT], Failed>
     requires { S.failed store.old ≡ false }
     ensures { OnOk result (S.failed store.new ≡ false) }
 {
@@ -69,7 +69,7 @@ fn copy_of<S: Store>(store: &mut S, no: BlockNo) -> Result<[u8; UNIT], Failed>
 }
 
 /// Applies the group.
-fn apply<S: Store>(store: &mut S, group: &Group) -> Result<(), Failed>
+pub(crate) fn apply<S: Store>(store: &mut S, group: &Group) -> Result<(), Failed>
     requires { S.failed store.old ≡ false }
 {
     let within = are_below(group, store.shape().block_count());

@@ -1,0 +1,11 @@
+pub mod Beyond
+pub mod Decoded
+pub mod Extents
+pub mod Found
+pub mod Homes
+pub mod Loaded
+pub mod Overlays
+pub mod Rebuilding
+pub mod Rooms
+pub mod Stepping
+pub mod Tops

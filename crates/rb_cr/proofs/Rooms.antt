@@ -1,0 +1,33 @@
+-- A chain that can't be taken back for want of room would keep more rows than there is room for.
+use Rattle.std.proofs.Common.{◌≡◌, ◌⊎◌, inl, inr, ⊎_elim, ◌<◌, ◌≤◌, ◌+◌, ◌-◌, ℕ, suc, false, length, Option, Some, None}
+use Rattle.std.proofs.Common.{sym, subst, arith}
+use Rattle.rb_base.specs.declared.ids.Xid.{Xid}
+use Rattle.rb_cr.specs.Parts.{Took}
+use Rattle.rb_rebuild.specs.Chains.{applied, unwound, fits}
+use Rattle.rb_rebuild.specs.Keeping.{kept_room, Kept, keep, kept_one, kept_go, kept_after}
+use Rattle.rb_walk.specs.Kinds.{Undo}
+use Rattle.rb_walk.specs.Walk.{Home, Env, entry_at, back}
+use Rattle.rb_rebuild.proofs.Keeping.{kept_grows, bools}
+use Rattle.rb_rebuild.proofs.Unwinding.{step_on}
+
+one_grows : (env : Env) (mine : Option Xid) (upto n i : ℕ) (xid : Xid) (b : Home) (kept : Kept)
+    → length (kept_one mine upto i xid b (env.store (entry_at b i).newest) kept) ≤ length (kept_after env mine upto (suc n) i xid b kept)
+one_grows env mine upto n i xid b kept = by_store (env.store (entry_at b i).newest)
+  where
+    by_store : (o : Option Undo) → length (kept_one mine upto i xid b o kept) ≤ length (kept_go (applied i xid b o) (λ b2. kept_after env mine upto n i xid b2 (kept_one mine upto i xid b o kept)) kept)
+    by_store None = omega arith
+    by_store (Some r) = elim (bools (fits i xid b r)) [
+      | inl yes_fits ↦ rw yes_fits (kept_grows env mine upto n i xid (back r b) (keep mine upto r b kept))
+      | inr no_fit ↦ rw no_fit (omega arith)
+    ]
+
+pub step_fails : (env : Env) (mine : Option Xid) (upto n k i : ℕ) (xid : Xid) (b : Home) (kept : Kept) (b2 : Home) (kept2 : Kept) → k < n → Took env mine upto i xid b kept b2 kept2 false
+    → (unwound env (n - k) i xid b ≡ None) ⊎ (kept_room < length (kept_after env mine upto (n - k) i xid b kept))
+step_fails env mine upto n k i xid b kept b2 kept2 lt took = ⊎_elim (λ none. inl (step_on env n k i xid b None lt none)) (λ full. inr (more full)) took
+  where
+    e : n - k ≡ suc (n - (k + 1))
+    e = omega arith
+
+    more : kept_room < length (kept_one mine upto i xid b (env.store (entry_at b i).newest) kept) → kept_room < length (kept_after env mine upto (n - k) i xid b kept)
+    more full = let grown : length (kept_one mine upto i xid b (env.store (entry_at b i).newest) kept) ≤ length (kept_after env mine upto (suc (n - (k + 1))) i xid b kept) = one_grows env mine upto (n - (k + 1)) i xid b kept in
+        subst (λ (z : ℕ). kept_room < length (kept_after env mine upto z i xid b kept)) (sym e) (omega (arith, full, grown))

@@ -1,0 +1,45 @@
+-- One record taken back in a decoded home is one step of the walk's home.
+use Rattle.std.proofs.Common.{◌≡◌, inr, ◌<◌, ◌==◌, ◌&&◌, nat_lt, ℕ, Bool, true, false, if◌then◌else◌, length, get_or}
+use Rattle.std.proofs.Common.{Option, Some, None, refl, sym, ◌∙◌, ap, subst, arith}
+use Rattle.std.proofs.lemmas.List.{length-map}
+use Rattle.rb_base.specs.declared.ids.Xid.{Xid}
+use Rattle.rb_base.specs.declared.shape.Shape.{Shape}
+use Rattle.rb_cr.specs.Parts.{Took}
+use Rattle.rb_cr.specs.Records.{fits_at, maker_of, record_of, walk_found}
+use Rattle.rb_cr.specs.Scratches.{kept_with, scratch_home}
+use Rattle.rb_cr.specs.declared.records.SegmentRecord.{SegmentRecord}
+use Rattle.rb_cr.specs.declared.scratch.Scratch.{Scratch}
+use Rattle.rb_cr.specs.declared.scratch.Snapshot.{Snapshot}
+use Rattle.rb_itl.specs.Entries.{free_entry as zero_entry}
+use Rattle.rb_rebuild.specs.Chains.{same_xid, fits, applied, stepped}
+use Rattle.rb_rebuild.specs.Keeping.{Kept, keep, kept_one, kept_room}
+use Rattle.rb_standing.specs.Says.{place_of, walk_cell}
+use Rattle.rb_walk.specs.Kinds.{Entry, Undo}
+use Rattle.rb_walk.specs.Walk.{Env, Home, entry_at, back}
+use Rattle.rb_cr.proofs.Tops.{entry_is}
+
+module _ (shape : Shape) (env : Env) (snap : Snapshot) (s : Scratch) (i : ℕ) (xid : Xid) (eight : length s.entries ≡ 8) (sixteen : length s.cells ≡ 16) (there : i < 8) (found : SegmentRecord)
+    (told : walk_found shape (Some found) ≡ env.store (place_of shape (get_or s.entries i zero_entry).newest)) where
+  abbrev b : Home
+  b = scratch_home shape s
+
+  abbrev r : Undo
+  r = record_of shape found
+
+  stored : env.store (entry_at b i).newest ≡ Some r
+  stored = ap (λ (e : Entry). env.store e.newest) (entry_is shape s.entries i (omega (arith, eight, there))) ∙ sym told
+
+  fits_is : fits i xid b r ≡ fits_at i xid found
+  fits_is = ap (λ (n : ℕ). (found.undo.entry == i) && (same_xid (maker_of found) xid && nat_lt found.undo.cell n)) (length-map s.cells walk_cell ∙ sixteen)
+
+  pub unfit : fits_at i xid found ≡ false → stepped env i xid b ≡ None
+  unfit not = ap (applied i xid b) stored ∙ ap (λ (t : Bool). if t then Some (back r b) else None) (fits_is ∙ not)
+
+  module _ (yes_fits : fits_at i xid found ≡ true) where
+    kept_is : kept_one snap.own snap.upto i xid b (env.store (entry_at b i).newest) s.kept ≡ kept_with snap found s
+    kept_is = ap (λ (o : Option Undo). kept_one snap.own snap.upto i xid b o s.kept) stored ∙ ap (λ (t : Bool). if t then keep snap.own snap.upto r b s.kept else s.kept) (fits_is ∙ yes_fits)
+
+    pub took : (t : Bool) (s2 : Scratch) → scratch_home shape s2 ≡ back r b → (t ≡ true → s2.kept ≡ kept_with snap found s) → (t ≡ false → kept_room < length (kept_with snap found s))
+        → Took env snap.own snap.upto i xid b s.kept (scratch_home shape s2) s2.kept t
+    took true s2 home kept full = (ap (applied i xid b) stored ∙ (ap (λ (t : Bool). if t then Some (back r b) else None) (fits_is ∙ yes_fits) ∙ ap Some (sym home)), kept refl ∙ sym kept_is)
+    took false s2 home kept full = inr (subst (λ (z : Kept). kept_room < length z) (sym kept_is) (full refl))

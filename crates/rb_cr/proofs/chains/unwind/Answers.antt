@@ -1,0 +1,46 @@
+use Rattle.std.proofs.Common.{⊎_elim, inl, inr, ◌<◌, ◌∙◌, Bool, true, false, length, Some, refl, sym, subst, arith}
+use Rattle.rb_cr.specs.Calls.{Said}
+use Rattle.rb_cr.specs.Clauses.{StepsBack}
+use Rattle.rb_cr.specs.Parts.{Took}
+use Rattle.rb_cr.specs.Reads.{more_reads}
+use Rattle.rb_cr.specs.Scratches.{scratch_home}
+use Rattle.rb_rebuild.specs.Keeping.{kept_room, Kept}
+use Rattle.rb_cr.proofs.Rooms.{step_fails}
+use Rattle.rb_rebuild.proofs.Keeping.{kept_on}
+use Rattle.rb_rebuild.proofs.Unwinding.{step_on}
+use Rattle.rb_cr.proofs.chains.unwind.Goals as goal
+
+pub returns-then-not-branch-clause-told : goal.returns-then-not-branch-clause-told
+returns-then-not-branch-clause-told g c = λ told.
+    let said = g.S.Segments.says c.args.segments.now in
+    let snap = c.args.snapshot.now in
+    let inv = c.loop-k.invariant in
+    let b = scratch_home said.shape c.loop-k.scratch in
+    let b2 = scratch_home said.shape c.step.new.scratch in
+    let kept = c.loop-k.scratch.kept in
+    let kept2 = c.step.new.scratch.kept in
+    let here : StepsBack said snap c.args.i c.args.xid c.loop-k.scratch c.step.new.scratch c.in_ok-step.field-0 = subst (λ (z : Said). StepsBack z snap c.args.i c.args.xid c.loop-k.scratch c.step.new.scratch c.in_ok-step.field-0) (inv.reads.same told refl) (c.in_ok-step.ensures.told told) in
+    let took : Took said.env snap.own snap.upto c.args.i c.args.xid b kept b2 kept2 false = subst (λ (z : Bool). Took said.env snap.own snap.upto c.args.i c.args.xid b kept b2 kept2 z) c.if-not-branch.true here in
+    ⊎_elim (λ none. inl (sym (inv.rest told) ∙ none)) (λ full. inr (subst (λ (z : Kept). kept_room < length z) (inv.kept told) full))
+    (step_fails said.env snap.own snap.upto c.args.count c.loop-k._k c.args.i c.args.xid b kept b2 kept2 c.loop-k-test.true took)
+
+pub loop-k-preserved : goal.loop-k-preserved
+loop-k-preserved g c =
+    let s = g.S.Segments in
+    let said = s.says c.args.segments.now in
+    let snap = c.args.snapshot.now in
+    let inv = c.loop-k.invariant in
+    let b = scratch_home said.shape c.loop-k.scratch in
+    let b2 = scratch_home said.shape c.step.new.scratch in
+    let kept = c.loop-k.scratch.kept in
+    let kept2 = c.step.new.scratch.kept in
+    let took = λ (told : s.tells).
+    (let here : StepsBack said snap c.args.i c.args.xid c.loop-k.scratch c.step.new.scratch c.in_ok-step.field-0 = subst (λ (z : Said). StepsBack z snap c.args.i c.args.xid c.loop-k.scratch c.step.new.scratch c.in_ok-step.field-0) (inv.reads.same told refl) (c.in_ok-step.ensures.told told) in
+    let whole : Took said.env snap.own snap.upto c.args.i c.args.xid b kept b2 kept2 true = subst (λ (z : Bool). Took said.env snap.own snap.upto c.args.i c.args.xid b kept b2 kept2 z) c.if-not-branch.false here in
+    whole) in
+    record {
+      reads = more_reads s c.args.segments.now c.loop-k.segments c.step.new.segments true g.met.S.Segments.more_calls inv.reads c.in_ok-step.ensures.reads;
+      count = omega (arith, c.tick.ensures, inv.count);
+      rest = λ told. sym (step_on said.env c.args.count c.loop-k._k c.args.i c.args.xid b (Some b2) c.loop-k-test.true (took told).0) ∙ inv.rest told;
+      kept = λ told. sym (kept_on said.env snap.own snap.upto c.args.count c.loop-k._k c.args.i c.args.xid b b2 kept kept2 c.loop-k-test.true (took told).0 (took told).1) ∙ inv.kept told;
+    }

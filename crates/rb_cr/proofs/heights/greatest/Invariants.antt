@@ -1,0 +1,15 @@
+use Rattle.std.proofs.Common.{◌<◌, ◌≤◌, ℕ, true}
+use Rattle.rb_cr.specs.Reads.{Reads}
+use Rattle.rb_cr.specs.Scratches.{scratch_home}
+use Rattle.rb_rebuild.specs.Heights.{AtMost, Numbered}
+use Rattle.rb_walk.specs.Walk.{entry_at}
+use Rattle.rb_cr.proofs.heights.greatest.Given as goal
+
+abbrev pub invariant-loop-i : goal.invariant-loop-i
+invariant-loop-i g l = record {
+  reads : Reads g.S.Segments l.fn.segments l.segments true;
+  within : l.at < 8;
+  least : l.scn ≤ l.number;
+  most : g.S.Segments.tells → (j : ℕ) → j < l.i → AtMost (g.S.Segments.says l.fn.segments).env l.scn l.number (entry_at (scratch_home (g.S.Segments.says l.fn.segments).shape l.scratch) j);
+  number : g.S.Segments.tells → l.scn < l.number → Numbered (g.S.Segments.says l.fn.segments).env (entry_at (scratch_home (g.S.Segments.says l.fn.segments).shape l.scratch) l.at) l.number;
+}

@@ -1,0 +1,23 @@
+use Rattle.std.proofs.Common.{◌≡◌, ◌∙◌, sym, ap}
+use Rattle.rb_base.specs.Blocks.{block_of, header_block}
+use Rattle.rb_base.specs.declared.shape.Shape.{Shape}
+use Rattle.rb_ring.specs.Ring.{lost_number}
+use Rattle.rb_cr.proofs.Beyond.{lost_none, lost_there}
+use Rattle.rb_cr.proofs.Loaded.{behind_shape, loaded_is}
+use Rattle.rb_cr.proofs.reads.read_lost.Goals as goal
+
+pub returns-then-seg-shape-clause-told : goal.returns-then-seg-shape-clause-told
+returns-then-seg-shape-clause-told g c = λ told.
+    let s = g.S.Store in
+    let old = c.args.store.now in
+    sym (lost_none (s.shape_of old) (s.blocks old) c.args.seg (c.requires.whole told) (behind_shape c.shape-shape.result (s.shape_of old) c.args.seg c.shape-shape.ensures.shape c.if-seg-shape.true))
+
+pub returns-clause-told : goal.returns-clause-told
+returns-clause-told g c = λ told.
+    let s = g.S.Store in
+    let old = c.args.store.now in
+    let one = c.header_block.result in
+    let which = header_block (s.shape_of old) c.args.seg in
+    let at : one ≡ which = c.header_block.ensures.number ∙ ap (λ (z : Shape). header_block z c.args.seg) c.shape-shape.ensures.shape in
+    let block : c.block.result.now ≡ block_of (s.blocks old) which = loaded_is c.block.result.now (s.blocks old) (s.blocks c.load.new.self) one which (c.block.ensures.block told one c.in_ok-load.ensures.loaded) (c.in_ok-load.ensures.blocks told) at in
+    c.lost.ensures ∙ (ap lost_number block ∙ sym (lost_there (s.shape_of old) (s.blocks old) c.args.seg))

@@ -1,0 +1,13 @@
+use Rattle.rb_cr.proofs.restore.rebuild.Goals as goal
+
+pub returns-clause-rows : goal.returns-clause-rows
+returns-clause-rows g c = λ told h reading. (c.take_all_back.ensures.told told h reading).rows
+
+pub returns-clause-count : goal.returns-clause-count
+returns-clause-count g c = λ told h reading. (c.take_all_back.ensures.told told h reading).counted
+
+pub returns-clause-most : goal.returns-clause-most
+returns-clause-most g c = λ told h reading. (c.take_all_back.ensures.told told h reading).most
+
+pub returns-clause-old : goal.returns-clause-old
+returns-clause-old g c = λ told h reading. (c.take_all_back.ensures.told told h reading).old

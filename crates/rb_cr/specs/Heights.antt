@@ -1,0 +1,30 @@
+-- The height of an entry over a snapshot, and the highest one.
+use Rattle.std.specs.Prelude.{◌≡◌, ◌<◌, ◌≤◌, ℕ, Bool, true, false, Option, Some, None}
+use Rattle.rb_cr.specs.declared.heights.Top.{Top}
+use Rattle.rb_cr.specs.declared.heights.Top.TheVariants as tops
+use Rattle.rb_rebuild.specs.Heights.{LookAtMost, LookNumbered, LookOver, AtMost, Numbered, Over}
+use Rattle.rb_txntable.specs.declared.looks.Look.{Look}
+use Rattle.rb_walk.specs.Kinds.{Entry}
+use Rattle.rb_walk.specs.Walk.{Home, Env, IsActive, entry_at}
+
+-- the height of a look, and of an entry, over n: none where it is over it
+abbrev pub LookTall : ℕ → Look → Option ℕ → Type 0
+LookTall n look None = LookOver n look
+LookTall n look (Some c) = (n ≤ c) × LookAtMost n c look × (n < c → LookNumbered look c)
+
+abbrev pub Tall : Env → ℕ → Entry → Option ℕ → Type 0
+Tall env n e None = Over env n e
+Tall env n e (Some c) = (n ≤ c) × AtMost env n c e × (n < c → Numbered env e c)
+
+abbrev pub IsTop : Env → ℕ → Home → Top → Type 0
+IsTop env n b (tops.At i c) =
+    (n ≤ c) × ((j : ℕ) → AtMost env n c (entry_at b j)) × (n < c → Numbered env (entry_at b i) c)
+IsTop env n b (tops.Over seg) = (j : ℕ) × Over env n (entry_at b j) × ((entry_at b j).xid.seg ≡ seg)
+
+abbrev pub IsTopWithin : Top → Type 0
+IsTopWithin (tops.At i c) = i < 8
+IsTopWithin (tops.Over seg) = Unit {0}
+
+abbrev pub ActiveIs : Env → Entry → Bool → Type 0
+ActiveIs env e true = IsActive env e
+ActiveIs env e false = IsActive env e → ⊥

@@ -1,0 +1,11 @@
+pub mod Builds
+pub mod Calls
+pub mod Clauses
+pub mod Faults
+pub mod Heights
+pub mod KeptRows
+pub mod Parts
+pub mod Reads
+pub mod Records
+pub mod Rows
+pub mod Scratches

@@ -1,0 +1,34 @@
+-- A record as a segment gives it, as the walk sees it, and a row that is kept.
+use Rattle.std.specs.Prelude.{◌==◌, ◌&&◌, ℕ, Bool, nat_lt, List, Option, Some, None}
+use Rattle.arrayvec.specs.ArrayVec.{ArrayVec}
+use Rattle.rb_base.specs.declared.ids.Xid.{Xid}
+use Rattle.rb_base.specs.declared.shape.Shape.{Shape}
+use Rattle.rb_cell.specs.declared.cell.TheConstants.{CELLS}
+use Rattle.rb_cr.specs.declared.records.SegmentRecord.{SegmentRecord}
+use Rattle.rb_rebuild.specs.Chains.{same_xid}
+use Rattle.rb_standing.specs.Says.{walk_undo}
+use Rattle.rb_walk.specs.Kinds.{Undo}
+
+abbrev pub record_of : Shape → SegmentRecord → Undo
+record_of shape found = walk_undo shape found.seg found.undo
+
+abbrev pub walk_found : Shape → Option SegmentRecord → Option Undo
+walk_found shape None = None
+walk_found shape (Some found) = Some (record_of shape found)
+
+-- the transaction that made it
+abbrev pub maker_of : SegmentRecord → Xid
+maker_of found = record { seg = found.seg; slot = found.undo.slot; wrap = found.undo.wrap }
+
+-- it is of this entry and transaction, and names a cell that there is
+abbrev pub fits_at : ℕ → Xid → SegmentRecord → Bool
+fits_at i xid found =
+    (found.undo.entry == i) && (same_xid (maker_of found) xid && nat_lt found.undo.cell CELLS)
+
+abbrev pub row_items : Option (ArrayVec ℕ) → Option (List ℕ)
+row_items None = None
+row_items (Some value) = Some value.items
+
+abbrev pub kept_items : Option (Option (ArrayVec ℕ)) → Option (Option (List ℕ))
+kept_items None = None
+kept_items (Some row) = Some (row_items row)

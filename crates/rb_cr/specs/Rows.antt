@@ -1,0 +1,38 @@
+-- Which row of a home is the next one.
+use Rattle.std.specs.Prelude.{◌≡◌, ◌<◌, ◌≤◌, ◌==◌, ℕ, if◌then◌else◌, is_some, true}
+use Rattle.std.specs.Prelude.{List, [], ◌∷◌, get_or, Option, Some, None}
+use Rattle.rb_model.specs.declared.row.Row.{Row}
+use Rattle.rb_rebuild.specs.Keeping.{Kept}
+use Rattle.rb_walk.specs.Walk.{Rows}
+
+abbrev pub IsBehind : Option ℕ → ℕ → Type 0
+IsBehind None key = Unit {0}
+IsBehind (Some after) key = after < key
+
+-- a key behind one, from one on and up to one
+abbrev pub IsWanted : Option ℕ → ℕ → ℕ → ℕ → Type 0
+IsWanted after lo hi key = IsBehind after key × (lo ≤ key) × (key ≤ hi)
+
+-- the row of the least key that is wanted
+pub record IsNext (after : Option ℕ) (lo hi : ℕ) (rows : Rows) (row : Row) : Type 0 where
+  pub wanted : IsWanted after lo hi row.key
+  pub shows : rows row.key ≡ Some row.value.items
+  pub least : (key : ℕ) (value : List ℕ) → IsWanted after lo hi key → rows key ≡ Some value
+      → row.key ≤ key
+
+-- a key that is wanted, and has a row
+abbrev pub IsFound : Option ℕ → ℕ → ℕ → Rows → ℕ → Type 0
+IsFound after lo hi rows key = IsWanted after lo hi key × (is_some (rows key) ≡ true)
+
+-- a key that was found, up to this one
+abbrev pub Reaches : Option ℕ → ℕ → Type 0
+Reaches found key = (least : ℕ) × (found ≡ Some least) × (least ≤ key)
+
+-- the key of the row that was kept as the i-th, from 0 on
+abbrev pub kept_key : Kept → ℕ → ℕ
+kept_key kept i = (get_or kept i (0, None)).0
+
+-- what is kept of a key: its row, or that it had none
+abbrev pub kept_row : Kept → ℕ → Option (Option (List ℕ))
+kept_row [] key = None
+kept_row (x ∷ kept) key = if key == x.0 then Some x.1 else kept_row kept key

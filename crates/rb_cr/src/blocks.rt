@@ -1,0 +1,49 @@
+//! The home of a block of a store as it was at a snapshot. Whoever reads by a rebuild calls it.
+ghost use Rattle.std.specs.Prelude.{[], ◌≡◌, ◌+◌, ◌<◌, ◌≤◌, ℕ, false, not};
+ghost use Rattle.std.specs.Prelude.{IfErr, OnOk};
+ghost use Rattle.rb_base.specs.Blocks.{shape_blocks};
+ghost use Rattle.rb_base.specs.Logs.{Logs};
+ghost use Rattle.rb_cr.specs.Builds.{IsHomeRead, IsHomeOld};
+ghost use Rattle.rb_cr.specs.Clauses.{answer_to};
+ghost use Rattle.rb_cr.specs.Faults.{is_failed};
+ghost use Rattle.rb_cr.specs.Scratches.{shown_by};
+ghost use Rattle.rb_rebuild.specs.Reading.{needed, History};
+
+use crate::faults::CrFault;
+use crate::restore::rebuild;
+use crate::scratch::{Scratch, Snapshot};
+use crate::steps::Steps;
+use rb_base::{BlockNo, Store};
+use std::sync::ledger::Ledger;
+
+/// Makes of a scratch the home of a block as it was at a snapshot, and keeps the reader's own first changes beside it.
+/// What the scratch had is forgotten, and what it has after a refusal is open. For each history that the home stands
+/// for, the rows are those at the snapshot with these changes over them. Each record that is taken back is counted: as
+/// many as changes stand above the snapshot. `TooOld` only where what that needs was given up by a segment, above the
+/// snapshot; `Failed` only where a call failed. The store is only loaded from. (Oracle7 Server Concepts, *Multiversion
+/// Consistency Model*.)
+pub fn build<S: Store, L: Ledger>(
+    store: &mut S,
+    block: BlockNo,
+    snapshot: &Snapshot,
+    scratch: &mut Scratch,
+    steps: &mut Steps<L>,
+) -> Result<(), CrFault>
+    requires going { S.failed store.old ≡ false }
+    requires there { block < shape_blocks (S.shape_of store.old) }
+    ensures rows { S.tells → (h : History) → IsHomeRead (S.shape_of store.old) (S.blocks store.old) block h
+        snapshot.now → OnOk result ((k : ℕ) → shown_by scratch.new k ≡ answer_to h snapshot.now k) }
+    ensures count { S.tells → (h : History) → IsHomeRead (S.shape_of store.old) (S.blocks store.old) block h
+        snapshot.now → OnOk result (steps.new ≡ steps.old + needed h snapshot.now.scn) }
+    ensures most { S.tells → (h : History) → IsHomeRead (S.shape_of store.old) (S.blocks store.old) block h
+        snapshot.now → steps.new ≤ steps.old + needed h snapshot.now.scn }
+    ensures old { S.tells → (h : History) → IsHomeRead (S.shape_of store.old) (S.blocks store.old) block h
+        snapshot.now → IfErr result (IsHomeOld (S.shape_of store.old) (S.blocks store.old) block h snapshot.now) }
+    ensures logs { Logs S.Store store.old store.new [] (not (is_failed result)) }
+{
+    let Ok(()) = store.load(block) else {
+        return Err(CrFault::Failed);
+    };
+    scratch.decode(store.block());
+    rebuild(store, scratch, snapshot, steps)
+}

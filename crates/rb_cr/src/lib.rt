@@ -1,0 +1,27 @@
+//! Consistent read: a home of rows is rebuilt as it was at a commit number, in memory, by the undo records of the
+//! changes that stand above it. Nothing in the file is changed. (Oracle7 Server Concepts, *Multiversion Consistency
+//! Model*.)
+#![tactic(auto)]
+
+mod blocks;
+mod chains;
+mod faults;
+mod heights;
+mod kept;
+mod reads;
+mod records;
+mod restore;
+mod rows;
+mod scratch;
+mod segments;
+mod steps;
+mod stores;
+
+pub use blocks::build;
+pub use faults::CrFault;
+pub use kept::KEPT_ROWS;
+pub use records::SegmentRecord;
+pub use restore::rebuild;
+pub use scratch::{Scratch, Snapshot};
+pub use segments::Segments;
+pub use steps::Steps;

@@ -1,0 +1,182 @@
+//! A home as it was at a snapshot, by undo. `build` calls it over a store.
+ghost use Rattle.std.specs.Prelude.{[], ◌≡◌, ◌+◌, ◌<◌, ◌≤◌, ℕ, true, false, not};
+ghost use Rattle.std.specs.Prelude.{IfOk, IfErr, OnOk};
+ghost use Rattle.std.specs.Result.{is_err};
+ghost use Rattle.rb_cr.specs.Clauses.{answer_to, Rewinds, UndoesEntry, UndoesActive, Builds, IsRead, IsOld};
+ghost use Rattle.rb_cr.specs.Faults.{is_failed};
+ghost use Rattle.rb_cr.specs.Heights.{ActiveIs};
+ghost use Rattle.rb_cr.specs.Parts.{Highest};
+ghost use Rattle.rb_cr.specs.Reads.{Reads};
+ghost use Rattle.rb_cr.specs.Scratches.{scratch_home, shown_by};
+ghost use Rattle.rb_rebuild.specs.Reading.{needed, History};
+ghost use Rattle.rb_standing.specs.Says.{walk_entry};
+
+use crate::chains::{too_old, unwind_at};
+use crate::faults::CrFault;
+use crate::heights::{Top, greatest};
+use crate::scratch::{Scratch, Snapshot};
+use crate::segments::Segments;
+use crate::steps::Steps;
+use rb_base::{Failed, Scn};
+use rb_itl::{Entry, OPEN};
+use rb_txntable::Look;
+use std::sync::ledger::Ledger;
+
+/// The entry with the greatest number above a snapshot, and that number: the snapshot's where none is above it.
+fn highest<S: Segments>(
+    segments: &mut S,
+    scratch: &Scratch,
+    scn: Scn,
+) -> Result<(usize, Scn), CrFault>
+    requires { S.ready segments.old }
+    ensures told { S.tells → Highest (S.says segments.old).env scn
+        (scratch_home (S.says segments.old).shape scratch.now) result }
+    ensures within { IfOk result (λ top. top.0 < 8) }
+    ensures reads { Reads S.Segments segments.old segments.new (not (is_failed result)) }
+{
+    match greatest(segments, scratch, scn) {
+        Err(_) => Err(CrFault::Failed),
+        Ok(top) => match top {
+            Top::At { entry, number } => Ok((entry, number)),
+            Top::Over { seg } => Err(too_old(segments, seg, scn)),
+        },
+    }
+}
+
+/// The commits above the snapshot taken back, the greatest number first.
+fn rewind<S: Segments, L: Ledger>(
+    segments: &mut S,
+    scratch: &mut Scratch,
+    snapshot: &Snapshot,
+    steps: &mut Steps<L>,
+) -> Result<(), CrFault>
+    requires { S.ready segments.old }
+    ensures told { S.tells → Rewinds (S.says segments.old) snapshot.now scratch.old steps.old
+        result scratch.new steps.new }
+    ensures reads { Reads S.Segments segments.old segments.new (not (is_failed result)) }
+{
+    let mut limit = u64::MAX;
+    'peel: loop {
+        let top = match highest(segments, scratch, snapshot.scn) {
+            Ok(top) => top,
+            Err(fault) => return Err(fault),
+        };
+        if top.1 <= snapshot.scn {
+            return Ok(());
+        }
+        // Over blocks that stand the numbers fall. Over others this ends the loop.
+        if limit <= top.1 {
+            return Err(too_old(segments, scratch.entries[top.0].xid.seg, snapshot.scn));
+        }
+        limit = top.1;
+        match unwind_at(segments, scratch, snapshot, top.0, steps) {
+            Ok(()) => {}
+            Err(fault) => return Err(fault),
+        }
+    }
+}
+
+/// Whether the transaction of an entry goes on.
+fn is_active<S: Segments>(segments: &mut S, entry: &Entry) -> Result<bool, Failed>
+    requires { S.ready segments.old }
+    ensures told { S.tells → IfOk result (λ active.
+        ActiveIs (S.says segments.old).env (walk_entry (S.says segments.old).shape entry.now) active) }
+    ensures reads { Reads S.Segments segments.old segments.new (not (is_err result)) }
+{
+    if entry.kind != OPEN {
+        return Ok(false);
+    }
+    match segments.look(entry.xid)? {
+        Look::Active => Ok(true),
+        _ => Ok(false),
+    }
+}
+
+/// The changes of an entry taken back, if its transaction goes on.
+fn undo_entry<S: Segments, L: Ledger>(
+    segments: &mut S,
+    scratch: &mut Scratch,
+    snapshot: &Snapshot,
+    i: usize,
+    steps: &mut Steps<L>,
+) -> Result<(), CrFault>
+    requires ready { S.ready segments.old }
+    requires there { i < 8 }
+    ensures told { S.tells → UndoesEntry (S.says segments.old) snapshot.now i scratch.old
+        steps.old result scratch.new steps.new }
+    ensures reads { Reads S.Segments segments.old segments.new (not (is_failed result)) }
+{
+    let entry = scratch.entries[i];
+    match is_active(segments, &entry) {
+        Err(_) => Err(CrFault::Failed),
+        Ok(false) => Ok(()),
+        Ok(true) => unwind_at(segments, scratch, snapshot, i, steps),
+    }
+}
+
+/// All live changes taken back, one entry after another.
+fn undo_active<S: Segments, L: Ledger>(
+    segments: &mut S,
+    scratch: &mut Scratch,
+    snapshot: &Snapshot,
+    steps: &mut Steps<L>,
+) -> Result<(), CrFault>
+    requires { S.ready segments.old }
+    ensures told { S.tells → UndoesActive (S.says segments.old) snapshot.now scratch.old
+        steps.old result scratch.new steps.new }
+    ensures reads { Reads S.Segments segments.old segments.new (not (is_failed result)) }
+{
+    for i in 0..scratch.entries.len() {
+        match undo_entry(segments, scratch, snapshot, i, steps) {
+            Ok(()) => {}
+            Err(fault) => return Err(fault),
+        }
+    }
+    Ok(())
+}
+
+/// Takes back the live changes first, and then the commits above the snapshot.
+fn take_all_back<S: Segments, L: Ledger>(
+    segments: &mut S,
+    scratch: &mut Scratch,
+    snapshot: &Snapshot,
+    steps: &mut Steps<L>,
+) -> Result<(), CrFault>
+    requires ready { S.ready segments.old }
+    requires none { scratch.old.kept ≡ [] }
+    ensures told { S.tells → Builds (S.says segments.old) snapshot.now scratch.old steps.old
+        result scratch.new steps.new }
+    ensures reads { Reads S.Segments segments.old segments.new (not (is_failed result)) }
+{
+    match undo_active(segments, scratch, snapshot, steps) {
+        Err(fault) => Err(fault),
+        Ok(()) => rewind(segments, scratch, snapshot, steps),
+    }
+}
+
+/// Makes of a decoded home what it was at a snapshot, and keeps the reader's own first changes beside it. For each
+/// history that the home stands for, the rows are those at the snapshot with these changes over them. Each record that
+/// is taken back is counted: as many as changes stand above the snapshot. `TooOld` only where what that needs was given
+/// up by a segment, above the snapshot; `Failed` only where a call failed. (Oracle7 Server Concepts, *Multiversion
+/// Consistency Model*: older versions are rebuilt from rollback segments. The order is this project's choice: what
+/// isn't committed first, and then the greatest number.)
+pub fn rebuild<S: Segments, L: Ledger>(
+    segments: &mut S,
+    scratch: &mut Scratch,
+    snapshot: &Snapshot,
+    steps: &mut Steps<L>,
+) -> Result<(), CrFault>
+    requires { S.ready segments.old }
+    ensures rows { S.tells → (h : History) → IsRead (S.says segments.old) h snapshot.now
+        scratch.old → OnOk result ((k : ℕ) → shown_by scratch.new k ≡ answer_to h snapshot.now k) }
+    ensures count { S.tells → (h : History) → IsRead (S.says segments.old) h snapshot.now
+        scratch.old → OnOk result (steps.new ≡ steps.old + needed h snapshot.now.scn) }
+    ensures most { S.tells → (h : History) → IsRead (S.says segments.old) h snapshot.now
+        scratch.old → steps.new ≤ steps.old + needed h snapshot.now.scn }
+    ensures old { S.tells → (h : History) → IsRead (S.says segments.old) h snapshot.now
+        scratch.old → IfErr result (IsOld (S.says segments.old) h snapshot.now scratch.old) }
+    ensures reads { Reads S.Segments segments.old segments.new (not (is_failed result)) }
+{
+    scratch.kept.clear();
+    take_all_back(segments, scratch, snapshot, steps)
+}

@@ -1,0 +1,179 @@
+//! A home decoded once, in which records are taken back, and what the reader keeps of it. A rebuild works on it.
+ghost use Rattle.std.specs.Prelude.{◌≡◌, ◌<◌, ℕ, true, false, length};
+ghost use Rattle.rb_base.specs.declared.shape.Shape.{Shape};
+ghost use Rattle.rb_cr.specs.Records.{fits_at, maker_of, record_of, row_items};
+ghost use Rattle.rb_cr.specs.Scratches.{kept_with, scratch_home, shown_in};
+ghost use Rattle.rb_heap.specs.Homes.{home_of};
+ghost use Rattle.rb_rebuild.specs.Chains.{same_xid};
+ghost use Rattle.rb_rebuild.specs.Keeping.{is_first, is_held, kept_room};
+ghost use Rattle.rb_standing.specs.Says.{walk_cell, sort_by};
+ghost use Rattle.rb_walk.specs.Walk.{row_of, back as taken_back};
+
+use crate::kept::{KeptRows, copied};
+use crate::records::SegmentRecord;
+use arrayvec::ArrayVec;
+use rb_base::{NoMemory, Scn, UNIT, VALUE_BYTES, Xid};
+use rb_cell::{CELLS, Cell, EMPTY, ROW, cell_from, cells};
+use rb_itl::{ENTRIES, Entry, entry, entry_from};
+use rb_undoblock::{GONE, PUT, UndoRecord};
+use std::alloc::Global;
+use std::{array, mem};
+
+/// What a reader sees: the commits up to a number, and over them the first changes of a transaction of its own.
+#[derive(Clone, Copy, Debug, PartialEq, Eq)]
+pub struct Snapshot {
+    /// The last commit number that it sees.
+    pub scn: Scn,
+    /// Its transaction, where it has one. It may have committed since.
+    pub own: Option<Xid>,
+    /// How many of the changes of that transaction it sees.
+    pub upto: u32,
+}
+
+/// The entries and cells of a home, and the reader's own rows that were taken back from it.
+#[derive(Drop)]
+pub struct Scratch {
+    pub(crate) entries: [Entry; ENTRIES as usize],
+    pub(crate) cells: [Cell; CELLS as usize],
+    pub(crate) kept: KeptRows,
+}
+
+/// The cell that holds nothing.
+fn empty_cell() -> Cell {
+    Cell {
+        state: EMPTY,
+        lock: 0,
+        key: 0,
+        value: ArrayVec::new(),
+    }
+}
+
+impl Scratch {
+    /// One that no home was decoded into. Its room is taken here; `NoMemory` where there is none.
+    pub fn new(alloc: Global) -> Result<Scratch, NoMemory> {
+        Ok(Scratch {
+            entries: [Entry::default(); ENTRIES as usize],
+            cells: array::from_fn(|_| empty_cell()),
+            kept: KeptRows::new(alloc)?,
+        })
+    }
+
+    /// Decodes the slot entries of a block.
+    fn decode_entries(&mut self, block: &[u8])
+        requires { length block.now ≡ UNIT }
+        ensures entries { self.new.entries ≡ (home_of block.now).entries }
+        ensures cells { self.new.cells ≡ self.old.cells }
+    {
+        for i in 0..ENTRIES {
+            self.entries[i as usize] = entry(block, i);
+        }
+    }
+
+    /// Decodes the cells of a block.
+    fn decode_cells(&mut self, block: &[u8])
+        requires { length block.now ≡ UNIT }
+        ensures entries { self.new.entries ≡ self.old.entries }
+        ensures cells { self.new.cells ≡ (home_of block.now).cells }
+    {
+        for c in 0..CELLS {
+            self.cells[c as usize] = cells(block, c);
+        }
+    }
+
+    /// Decodes the home that a block's bytes say, in the place of the one that it had.
+    pub(crate) fn decode(&mut self, block: &[u8])
+        requires { length block.now ≡ UNIT }
+        ensures entries { self.new.entries ≡ (home_of block.now).entries }
+        ensures cells { self.new.cells ≡ (home_of block.now).cells }
+    {
+        self.decode_entries(block);
+        self.decode_cells(block);
+    }
+}
+
+/// Whether two ids are one.
+fn same(a: Xid, b: Xid) -> bool
+    ensures { result ≡ same_xid a b }
+{
+    a.seg == b.seg && a.slot == b.slot && a.wrap == b.wrap
+}
+
+/// The transaction that made a record.
+fn maker(found: &SegmentRecord) -> Xid
+    ensures { result ≡ maker_of found.now }
+{
+    Xid {
+        seg: found.seg,
+        slot: u16::from(found.undo.slot),
+        wrap: found.undo.wrap,
+    }
+}
+
+/// Whether a record is of one of the reader's first changes.
+fn is_first_of(snapshot: &Snapshot, found: &SegmentRecord) -> bool
+    ensures { result
+        ≡ is_first snapshot.now.own snapshot.now.upto (maker_of found.now) found.now.undo.number }
+{
+    match snapshot.own {
+        None => false,
+        Some(own) => same(own, maker(found)) && found.undo.number <= snapshot.upto,
+    }
+}
+
+/// Whether a change of this kind held its row as it was.
+fn holds(kind: u8) -> bool
+    ensures { result ≡ is_held (sort_by kind) }
+{
+    kind != PUT && kind != GONE
+}
+
+/// The row that a cell shows for this key.
+pub(crate) fn row_in(cell: &Cell, key: u64) -> Option<ArrayVec<u8, VALUE_BYTES>>
+    ensures { row_items result ≡ row_of (walk_cell cell.now) key }
+{
+    if cell.state == ROW && key == cell.key {
+        return Some(copied(&cell.value));
+    }
+    None
+}
+
+/// Whether a record is of this entry and transaction, and its cell is there. One that isn't stands where another was.
+pub(crate) fn fits(found: &SegmentRecord, i: usize, xid: Xid) -> bool
+    ensures { result ≡ fits_at i xid found.now }
+{
+    found.undo.entry as usize == i && same(maker(found), xid) && found.undo.cell < CELLS
+}
+
+/// Puts back the entry and the cell that a record kept, and answers the cell as it was before.
+fn back(scratch: &mut Scratch, undo: &UndoRecord) -> Cell
+    requires entry { undo.now.entry < ENTRIES }
+    requires cell { undo.now.cell < CELLS }
+    ensures home { (shape : Shape) (seg : ℕ) → scratch_home shape scratch.new
+        ≡ taken_back (record_of shape (record { seg = seg; undo = undo.now })) (scratch_home shape scratch.old) }
+    ensures kept { scratch.new.kept ≡ scratch.old.kept }
+    ensures cell { (key : ℕ) → row_of (walk_cell result) key ≡ shown_in scratch.old undo.now.cell key }
+{
+    scratch.entries[undo.entry as usize] = entry_from(&undo.entry_before);
+    mem::replace(
+        &mut scratch.cells[undo.cell as usize],
+        cell_from(&undo.cell_before),
+    )
+}
+
+/// Takes one record back, and keeps the reader's row before it. False where the room for rows is used up.
+pub(crate) fn apply(scratch: &mut Scratch, found: &SegmentRecord, snapshot: &Snapshot) -> bool
+    requires entry { found.now.undo.entry < ENTRIES }
+    requires cell { found.now.undo.cell < CELLS }
+    ensures home { (shape : Shape) → scratch_home shape scratch.new
+        ≡ taken_back (record_of shape found.now) (scratch_home shape scratch.old) }
+    ensures kept { result ≡ true → scratch.new.kept ≡ kept_with snapshot.now found.now scratch.old }
+    ensures full { result ≡ false → kept_room < length (kept_with snapshot.now found.now scratch.old) }
+{
+    let key = found.undo.key;
+    let wanted = is_first_of(snapshot, found) && !holds(found.undo.kind) && !scratch.kept.has(key);
+    let cell = back(scratch, &found.undo);
+    if wanted {
+        return scratch.kept.add(key, row_in(&cell, key));
+    }
+    true
+}

@@ -1,0 +1,6 @@
+pub mod Chains
+pub mod Heights
+pub mod Keeping
+pub mod Laws
+pub mod Reading
+pub mod Turns

@@ -1,0 +1,20 @@
+//! What holds of a home that is read at a snapshot, as clauses for proofs to cite. Nothing calls it.
+ghost use Rattle.rb_rebuild.specs.Laws.{StandingIsRead, FirstAreFew, LiveBegin, QuietIsPassed, ActiveIsTakenBack};
+ghost use Rattle.rb_rebuild.specs.Laws.{LiveAreTakenBack, CommitsBegin, CommitIsTakenBack, NoneAboveIsRead};
+ghost use Rattle.rb_rebuild.specs.Laws.{BoundIsWorn, CellsShowRows};
+
+/// A home that stands can be read. The live changes are taken back entry by entry, and none of their records is gone;
+/// then the commits above the snapshot, the greatest number first. In the end the cells show the rows at the snapshot,
+/// what is kept lies over them as the reader's first changes do, and as many records were taken back as changes stand
+/// above the snapshot. Where that can't be done, a segment lost what was needed, above the snapshot.
+pub fn rebuild_laws()
+    ensures read { StandingIsRead × FirstAreFew }
+    ensures live { LiveBegin × QuietIsPassed }
+    ensures active { ActiveIsTakenBack }
+    ensures taken_back { LiveAreTakenBack }
+    ensures commits { CommitsBegin }
+    ensures commit { CommitIsTakenBack }
+    ensures answered { NoneAboveIsRead }
+    ensures bound { BoundIsWorn }
+    ensures shown { CellsShowRows }
+{}
