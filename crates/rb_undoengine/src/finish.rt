@@ -1,6 +1,6 @@
 //! The end of a session's transaction, with a number or without. The engine's commit and its rollback call it.
 ghost use Rattle.std.specs.Prelude.{IsTrue, ◌↔◌, ◌≡◌, ◌≢◌, ◌+◌, ◌^◌, ◌<◌, ◌≤◌, ℕ};
-ghost use Rattle.std.specs.Prelude.{List, [], false, not, length};
+ghost use Rattle.std.specs.Prelude.{List, [], true, false, not, length, OnOk};
 ghost use Rattle.std.specs.Result.{is_err};
 ghost use Rattle.rb_attempt.specs.Asks.{header_in};
 ghost use Rattle.rb_base.specs.Groups.{Patch};
@@ -52,6 +52,10 @@ pub fn commit_step<S: Store>(
         → Runs (header_in h.shape (S.blocks store.old) xid.seg) xid → 1 ≤ length (session_own h s)
         → S.lsn store.old ≡ logged_of h.shape (S.blocks store.old) → scn ≡ last_scn h.commits + 1
         → GivesOne S.Store store.old store.new (not (is_err result)) (CommitMade h xids s xid (S.blocks store.old)) }
+    ensures nothing { S.tells
+        → ¬ (Runs (header_in (S.shape_of store.old) (S.blocks store.old) xid.seg) xid
+        × ((slot_in (header_in (S.shape_of store.old) (S.blocks store.old) xid.seg) xid.slot).live ≢ 0))
+        → OnOk result (Logs S.Store store.old store.new [] true) }
 {
     let shape = store.shape();
     store.load(shape.header_block(xid.seg))?;
@@ -82,6 +86,10 @@ pub fn end_step<S: Store>(store: &mut S, xid: Xid, group: &mut Group) -> Result<
         → Runs (header_in h.shape (S.blocks store.old) xid.seg) xid → session_own h s ≡ []
         → S.lsn store.old ≡ logged_of h.shape (S.blocks store.old)
         → GivesOne S.Store store.old store.new (not (is_err result)) (EndMade h xids s xid (S.blocks store.old)) }
+    ensures nothing { S.tells
+        → ¬ (Runs (header_in (S.shape_of store.old) (S.blocks store.old) xid.seg) xid
+        × ((slot_in (header_in (S.shape_of store.old) (S.blocks store.old) xid.seg) xid.slot).live ≡ 0))
+        → OnOk result (Logs S.Store store.old store.new [] true) }
 {
     let shape = store.shape();
     store.load(shape.header_block(xid.seg))?;

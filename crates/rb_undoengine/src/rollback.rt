@@ -1,6 +1,6 @@
 //! The newest change of a session's transaction put back. The engine's rollback calls it for each.
 ghost use Rattle.std.specs.Prelude.{◌≡◌, ◌^◌, ◌<◌, ◌≤◌, ℕ, List, [], ◌∷◌, ◌++◌};
-ghost use Rattle.std.specs.Prelude.{false, not, length};
+ghost use Rattle.std.specs.Prelude.{true, false, not, length, OnOk};
 ghost use Rattle.std.specs.Result.{is_err};
 ghost use Rattle.rb_attempt.specs.Asks.{header_in};
 ghost use Rattle.rb_base.specs.Groups.{Patch};
@@ -14,6 +14,7 @@ ghost use Rattle.rb_model.specs.State.{State, session_own};
 ghost use Rattle.rb_segment.specs.Calls.{Runs};
 ghost use Rattle.rb_standing.specs.Standing.{logged_of};
 ghost use Rattle.rb_standing.specs.States.{BlocksStand};
+ghost use Rattle.rb_undo.specs.Backs.{CanBack};
 
 use rb_base::{Failed, Group, SLOTS, Store, Xid};
 use rb_undo::back;
@@ -34,6 +35,8 @@ pub fn back_step<S: Store>(store: &mut S, xid: Xid, group: &mut Group) -> Result
         → Runs (header_in h.shape (S.blocks store.old) xid.seg) xid
         → session_own h s ≡ front ++ c ∷ [] → S.lsn store.old ≡ logged_of h.shape (S.blocks store.old)
         → GivesOne S.Store store.old store.new (not (is_err result)) (BackMade h xids s front (S.blocks store.old)) }
+    ensures nothing { S.tells → ¬ CanBack (S.shape_of store.old) (S.blocks store.old) xid
+        → OnOk result (Logs S.Store store.old store.new [] true) }
 {
     back(store, xid, group)
 }

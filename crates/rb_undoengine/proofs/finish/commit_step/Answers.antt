@@ -132,3 +132,20 @@ apply-requires-clause-within g c =
     let shape_is : c.shape-shape.result ≡ s.shape_of c.load.new.self = c.shape-shape.ensures.shape ∙ sym c.in_ok-load.ensures.shape in
     let below : at < shape_blocks (s.shape_of c.load.new.self) = omega (arith, c.requires.there, ap (λ (k : Shape). k.segments) c.shape-shape.ensures.shape, ap shape_blocks shape_is) in
     all_so (λ (p : Patch). p.block ≡ at) (λ (p : Patch). p.block < shape_blocks (s.shape_of c.load.new.self)) c.commit.new.group (λ p is. omega (arith, is, below)) only
+
+-- where it isn't so, no group was given
+pub returns-then-not-has_live-clause-nothing : goal.returns-then-not-has_live-clause-nothing
+returns-then-not-has_live-clause-nothing g c = λ told none.
+    let load = c.in_ok-load.ensures in
+    load_logs g.S.Store c.args.store.now c.load.new.self (Ok c.in_ok-load.field-0) load.shape load.slots load.failed load.counted load.lsn load.blocks load.settles load.any_moment
+
+pub returns-clause-nothing : goal.returns-clause-nothing
+returns-clause-nothing g c = λ told none.
+    let s = g.S.Store in
+    let old = c.args.store.now in
+    let x = c.args.xid in
+    let at = header_block (s.shape_of old) x.seg in
+    let load = c.in_ok-load.ensures in
+    let block_is : header_block c.shape-shape.result x.seg ≡ at = ap (λ (k : Shape). header_block k x.seg) c.shape-shape.ensures.shape in
+    let read = c.copy_from_slice.ensures.after ∙ block_read s old c.load.new.self c.header_block.result at c.block.result.now told (load.blocks told) c.block.ensures.block load.loaded (c.header_block.ensures.number ∙ block_is) in
+    absurd (none (subst (λ (l : List ℕ). Runs (header_of l) x × ((slot_in (header_of l) x.slot).live ≡ 0 → ⊥)) read (c.has_live.ensures.0 c.if-not-has_live.false)))
