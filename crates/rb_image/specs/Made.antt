@@ -14,8 +14,13 @@ use Rattle.rb_model.specs.State.{Cursor, State}
 use Rattle.rb_segment.specs.Segments.{owed_in}
 use Rattle.rb_standing.specs.NextStates.{with_own}
 use Rattle.rb_standing.specs.Standing.{env_of, logged_of}
-use Rattle.rb_standing.specs.States.{BlocksStand}
+use Rattle.rb_standing.specs.States.{BlocksStand, Owns}
 use Rattle.rb_verdict.specs.Verdict.{IsOwnId}
+use Rattle.rb_walk.specs.Walk.{Env}
+
+-- the slots that are owned keep their transactions
+abbrev pub KeepsIds : State → Env → Env → Type 0
+KeepsIds h env env2 = (s t : ℕ) → Owns h s t → env2.xid t ≡ env.xid t
 
 -- Calls of a store gave it one group, or failed and perhaps gave none. Where one was given, `Is` holds of the blocks
 -- that it makes.
@@ -36,24 +41,27 @@ pub record WriteMade (h : State) (xids : List Xid) (s table key : ℕ) (action :
   pub stand : BlocksStand (written h s x.seg x.slot (change_in h x.seg table key action)) xids now
   pub last : logged_of h.shape now ≡ logged_of h.shape before + 1
   pub id : IsOwnId (written h s x.seg x.slot (change_in h x.seg table key action)) (env_of h.shape now) s (Some x)
+  pub ids : KeepsIds h (env_of h.shape before) (env_of h.shape now)
   pub fits : owed_in h.shape now + 1 ≤ room
 
--- The put back of the last change of session s, which has these left. No table slot gets another transaction.
+-- The put back of the last change of session s, which has these left.
 pub record BackMade (h : State) (xids : List Xid) (s : ℕ) (front : List Change) (before now : List (List ℕ)) : Type
     0 where
   pub stand : BlocksStand (with_own h s front) xids now
   pub last : logged_of h.shape now ≡ logged_of h.shape before + 1
-  pub ids : (t : ℕ) → (env_of h.shape now).xid t ≡ (env_of h.shape before).xid t
+  pub ids : KeepsIds h (env_of h.shape before) (env_of h.shape now)
   pub owed : owed_in h.shape now + 1 ≤ owed_in h.shape before
 
 -- A commit of session s, whose transaction has that id.
 pub record CommitMade (h : State) (xids : List Xid) (s : ℕ) (x : Xid) (before now : List (List ℕ)) : Type 0 where
   pub stand : BlocksStand (committed h s x.seg x.slot) (xids ++ x ∷ []) now
+  pub ids : KeepsIds h (env_of h.shape before) (env_of h.shape now)
   pub last : logged_of h.shape now ≡ logged_of h.shape before + 1
   pub owed : owed_in h.shape now + 1 ≤ owed_in h.shape before
 
 -- The end of its transaction, which has no live change, whatever cursors it keeps.
 pub record EndMade (h : State) (xids : List Xid) (s : ℕ) (x : Xid) (before now : List (List ℕ)) : Type 0 where
   pub stand : (cursors : List Cursor) → BlocksStand (without_owner x.seg x.slot (ended h s cursors)) xids now
+  pub ids : KeepsIds h (env_of h.shape before) (env_of h.shape now)
   pub last : logged_of h.shape now ≡ logged_of h.shape before + 1
   pub owed : owed_in h.shape now + 1 ≤ owed_in h.shape before

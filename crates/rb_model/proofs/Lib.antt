@@ -3,6 +3,7 @@ mod Worked
 mod WorkedBooks
 mod WorkedCalls
 mod WorkedTests
+pub mod Given
 pub mod Order
 pub mod RowLemmas
 pub mod Stops

@@ -14,7 +14,7 @@ use Rattle.rb_model.specs.State.{State, Cursor, session_of, session_own, owner_a
 use Rattle.rb_model.specs.State.{cursor_rows}
 use Rattle.rb_model.specs.Tests.{holder, full_slots, live_changes, made_since, owners_counted}
 use Rattle.rb_model.specs.declared.refusal.Refusal.{Refusal}
-use Rattle.rb_model.specs.declared.refusal.Refusal.TheVariants.{NoSession, NoTable, ValueTooLong, Duplicate, NotFound}
+use Rattle.rb_model.specs.declared.refusal.Refusal.TheVariants.{NoSession, NoTable, ValueTooLong, TooOld, Duplicate, NotFound}
 use Rattle.rb_model.specs.declared.refusal.Refusal.TheVariants.{BlockFull, SlotsFull, RollbackFull, NoCursor}
 use Rattle.rb_model.specs.declared.refusal.Refusal.TheVariants.{CursorThere, TooManyCursors, WornOut, DiskFault}
 use Rattle.rb_model.specs.declared.refusal.Refusal.TheVariants.{Stopped, LogFull}
@@ -76,6 +76,7 @@ abbrev pub refusal_words : Refusal → List ℕ
 refusal_words NoSession = codes "no session"
 refusal_words NoTable = codes "no table"
 refusal_words ValueTooLong = codes "value too long"
+refusal_words (TooOld scn lost) = codes "too old"
 refusal_words Duplicate = codes "duplicate"
 refusal_words NotFound = codes "not found"
 refusal_words BlockFull = codes "block full"
@@ -95,6 +96,7 @@ number_text n = 32 ∷ decimal n
 
 -- the numbers that a refusal tells
 abbrev pub refusal_numbers : Refusal → List ℕ
+refusal_numbers (TooOld scn lost) = number_text scn ++ number_text lost
 refusal_numbers (RollbackFull seg since) = number_text seg ++ number_text since
 refusal_numbers _ = []
 
@@ -222,11 +224,24 @@ LaterTests h logged room (Write s table key action) tests =
     (g : ℕ) × (i : ℕ) × WritesIn h s g i × (tests ≡ write_tests h logged room g i s table key action)
 LaterTests h logged room call tests = tests ≡ cursor_tests h call
 
--- The call may have this answer: that of the first test that applies, or else the good one; or a fault of the disk in
--- the place of any answer that comes after the early tests.
+-- A fetch is refused as too old: a segment has given up a number above the cursor's snapshot, and both are told.
+pub record IsTooOld (h : State) (call : Call) (r : Answer) : Type 0 where
+  pub session : ℕ
+  pub name : List ℕ
+  pub fetches : call ≡ Fetch session name
+  pub cursor : Cursor
+  pub named : cursor_of h session name ≡ Some cursor
+  pub seg : ℕ
+  pub there : seg < length h.books
+  pub above : cursor.number < (book_at h.books seg).lost
+  pub answer : r ≡ Refused (TooOld cursor.number (book_at h.books seg).lost)
+
+-- The call may have this answer: that of the first test that applies, or else the good one; a fault of the disk in the
+-- place of any answer that comes after the early tests; or, in the place of a row or the end, that it is too old.
 pub data Reply (h : State) (logged room : ℕ) (call : Call) (r : Answer) : Type 0 where
   early : none_applies (early_tests h call) ≡ false → r ≡ first_of (early_tests h call) Done
       → Reply h logged room call r
   later : (tests : List (Bool × Answer)) → none_applies (early_tests h call) ≡ true
       → LaterTests h logged room call tests → r ≡ first_of tests (granted h call) → Reply h logged room call r
   fault : none_applies (early_tests h call) ≡ true → r ≡ Refused DiskFault → Reply h logged room call r
+  old : none_applies (early_tests h call) ≡ true → IsTooOld h call r → Reply h logged room call r

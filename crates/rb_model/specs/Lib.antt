@@ -7,6 +7,7 @@ pub mod Full
 pub mod Lines
 pub mod NameTest
 pub mod Names
+pub mod Next
 pub mod NextState
 pub mod Out
 pub mod Rows

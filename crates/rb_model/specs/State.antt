@@ -40,7 +40,7 @@ pub record State : Type 0 where
 
 -- how many sessions there are
 abbrev pub session_count : ℕ
-session_count = 1
+session_count = 16
 
 abbrev pub no_session : Session
 no_session = record { own = []; cursors = [] }

@@ -14,6 +14,13 @@ pub enum Refusal {
     NoTable,
     /// The value has more than 80 bytes.
     ValueTooLong,
+    /// What the snapshot needs was given up (Oracle7's "snapshot too old").
+    TooOld {
+        /// The snapshot.
+        scn: u64,
+        /// The greatest commit number of which the segment concerned has given something up, above the snapshot.
+        lost: u64,
+    },
     /// The key is there already.
     Duplicate,
     /// The key has no row.
@@ -55,6 +62,7 @@ impl Refusal {
             Refusal::NoSession => b"no session",
             Refusal::NoTable => b"no table",
             Refusal::ValueTooLong => b"value too long",
+            Refusal::TooOld { scn: _, lost: _ } => b"too old",
             Refusal::Duplicate => b"duplicate",
             Refusal::NotFound => b"not found",
             Refusal::BlockFull => b"block full",

@@ -1,3 +1,0 @@
-pub mod BareLemmas
-pub mod KeptLemmas
-pub mod StateLemmas

@@ -1,0 +1,82 @@
+-- What a contract sees of the table of sessions, and how its calls change it.
+use Rattle.std.specs.Prelude.{ℕ, ◌+◌, ◌-◌, ◌^◌, Bool, false, not, ◌&&◌, nat_lt, min, cond, List, [], ◌∷◌, ◌++◌}
+use Rattle.std.specs.Prelude.{map, filter, get_or, set, Option, None, Some}
+use Rattle.std.specs.Str.{bytes_eq}
+use Rattle.rb_base.specs.declared.ids.Xid.{Xid}
+use Rattle.rb_sessions.specs.declared.cursor.Cursor.{Cursor}
+use Rattle.rb_sessions.specs.declared.cursor.Named.{Named}
+use Rattle.rb_sessions.specs.declared.entry.Entry.{Entry}
+
+-- a cursor under its name
+pub record KeptCursor : Type 0 where
+  pub name : List ℕ
+  pub cursor : Cursor
+
+-- a session: the id of its transaction, where that has a table slot, how many live changes that has, and the open
+-- cursors in order of opening
+pub record KeptSession : Type 0 where
+  pub own : Option Xid
+  pub count : ℕ
+  pub cursors : List KeptCursor
+
+abbrev pub cursor_view : Named → KeptCursor
+cursor_view n = record { name = n.name.items; cursor = n.cursor }
+
+abbrev pub session_view : Entry → KeptSession
+session_view e = record { own = e.own; count = e.count; cursors = map cursor_view e.cursors.items }
+
+-- a session without a transaction and without a cursor
+abbrev pub fresh : KeptSession
+fresh = record { own = None; count = 0; cursors = [] }
+
+-- the session of a number, from 1 on
+abbrev pub kept_at : List KeptSession → ℕ → KeptSession
+kept_at sessions s = get_or sessions (s - 1) fresh
+
+-- the table with another one in its place
+abbrev pub with_kept : List KeptSession → ℕ → KeptSession → List KeptSession
+with_kept sessions s k = set sessions (s - 1) k
+
+-- one change more, of the transaction of that id
+abbrev pub wrote : Xid → KeptSession → KeptSession
+wrote x k = record k { own = Some x; count = min (k.count + 1) (2 ^ 32 - 1) }
+
+-- the cursor as one of no present transaction
+abbrev pub passed : KeptCursor → KeptCursor
+passed c = record c { cursor = record c.cursor { present = false } }
+
+-- the cursors that stay as the changes behind the first `kept` go: those of the present transaction that see more close
+abbrev pub left_open : ℕ → List KeptCursor → List KeptCursor
+left_open kept cursors = filter (λ c. not (c.cursor.present && nat_lt kept c.cursor.upto)) cursors
+
+-- without a transaction, with these cursors, which are of no present one
+abbrev pub ended : List KeptCursor → KeptSession
+ended cursors = record { own = None; count = 0; cursors = map passed cursors }
+
+abbrev pub committed : KeptSession → KeptSession
+committed k = ended k.cursors
+
+abbrev pub rolled_back : KeptSession → KeptSession
+rolled_back k = ended (left_open 0 k.cursors)
+
+abbrev pub with_cursors : KeptSession → List KeptCursor → KeptSession
+with_cursors k cursors = record k { cursors = cursors }
+
+-- one cursor more
+abbrev pub with_cursor : List ℕ → Cursor → KeptSession → KeptSession
+with_cursor name c k = with_cursors k (k.cursors ++ record { name = name; cursor = c } ∷ [])
+
+-- the first cursor of that name
+abbrev pub named : List ℕ → List KeptCursor → Option Cursor
+named name [] = None
+named name (c ∷ cursors) = cond (bytes_eq c.name name) (Some c.cursor) (named name cursors)
+
+-- the cursors with that key as the last one of the first cursor of that name, and without it
+abbrev pub with_last : List ℕ → ℕ → List KeptCursor → List KeptCursor
+with_last name key [] = []
+with_last name key (c ∷ cursors) = cond (bytes_eq c.name name)
+    (record c { cursor = record c.cursor { last = Some key } } ∷ cursors) (c ∷ with_last name key cursors)
+
+abbrev pub without : List ℕ → List KeptCursor → List KeptCursor
+without name [] = []
+without name (c ∷ cursors) = cond (bytes_eq c.name name) cursors (c ∷ without name cursors)

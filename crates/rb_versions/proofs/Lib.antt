@@ -1,9 +1,0 @@
-pub mod CutLemmas
-pub mod EntryLemmas
-pub mod FirstLemmas
-pub mod FrontLemmas
-pub mod GivenLemmas
-pub mod JoinLemmas
-pub mod RowLemmas
-pub mod RunLemmas
-pub mod SortLemmas

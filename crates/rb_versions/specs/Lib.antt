@@ -1,4 +1,0 @@
-pub mod Changes
-pub mod Entries
-pub mod Next
-pub mod Index

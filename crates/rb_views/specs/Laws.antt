@@ -1,0 +1,158 @@
+-- What holds of a table of sessions that remembers a state for which blocks stand.
+use Rattle.std.specs.Prelude.{◌≡◌, ◌<◌, ◌≤◌, ◌+◌, ℕ, true, List, [], ◌∷◌, ◌++◌, length, replicate, Option, Some, None}
+use Rattle.rb_base.specs.declared.ids.Xid.{Xid}
+use Rattle.rb_model.specs.Book.{Book, book_at}
+use Rattle.rb_model.specs.Calls.{Action, End, Given, HasNoSlot, Owned, WritesIn, next_row}
+use Rattle.rb_model.specs.NextState.{EndsAs, change_in, cursors_of, left_open, opened_cursor, with_cursors}
+use Rattle.rb_model.specs.NextState.{with_taken, without_cursor, written}
+use Rattle.rb_model.specs.NextState as machine
+use Rattle.rb_model.specs.Rows.{TableRow, last_scn}
+use Rattle.rb_model.specs.State as model
+use Rattle.rb_model.specs.State.{State, cursor_of, is_table, opened, session_own}
+use Rattle.rb_base.specs.declared.shape.Shape.{Shape}
+use Rattle.rb_image.specs.Made.{KeepsIds}
+use Rattle.rb_rebuild.specs.Reading.{Reading, answer}
+use Rattle.rb_sessions.specs.Kept as kept
+use Rattle.rb_sessions.specs.Kept.{KeptSession, fresh, kept_at, named, with_cursor, with_kept, with_last, without}
+use Rattle.rb_sessions.specs.declared.cursor.Cursor.{Cursor}
+use Rattle.rb_sessions.specs.declared.sessions.TheConstants.{SESSIONS}
+use Rattle.rb_standing.specs.Standing.{env_of, homes_of}
+use Rattle.rb_standing.specs.States.{BlocksStand}
+use Rattle.rb_verdict.specs.Verdict.{IsOwnId}
+use Rattle.rb_views.specs.Scan.{IsNextIn, NoneIn}
+use Rattle.rb_views.specs.Views.{IsCursor, Remembers, history, home_in}
+use Rattle.rb_walk.specs.Walk.{Env, Rows}
+
+-- A new table remembers the state that a file opens to, where no session has a slot.
+abbrev pub FirstIsRemembered : Type 0
+FirstIsRemembered = (shape : Shape) (number : ℕ) (rows : List TableRow) (books : List Book) (env : Env)
+    → ((s : ℕ) → HasNoSlot (opened shape number rows books) s)
+    → Remembers (opened shape number rows books) [] env (replicate SESSIONS fresh)
+
+-- A write of session s that is done, after which its transaction has the id x.
+abbrev pub WrittenIsRemembered : Type 0
+WrittenIsRemembered = (h : State) (xids : List Xid) (blocks now : List (List ℕ)) (table_of : List KeptSession)
+    (s g i table key : ℕ) (action : Action) (x : Xid)
+    → BlocksStand h xids blocks → Remembers h xids (env_of h.shape blocks) table_of → 1 ≤ s → s ≤ SESSIONS
+    → WritesIn h s g i
+    → BlocksStand (written h s g i (change_in h g table key action)) xids now
+    → IsOwnId (written h s g i (change_in h g table key action)) (env_of h.shape now) s (Some x)
+    → KeepsIds h (env_of h.shape blocks) (env_of h.shape now)
+    → Remembers (written h s g i (change_in h g table key action)) xids (env_of h.shape now)
+    (with_kept table_of s (kept.wrote x (kept_at table_of s)))
+
+-- A commit of session s, whose transaction has the id x.
+abbrev pub CommittedIsRemembered : Type 0
+CommittedIsRemembered = (h : State) (xids : List Xid) (blocks now : List (List ℕ)) (table_of : List KeptSession)
+    (s : ℕ) (x : Xid)
+    → BlocksStand h xids blocks → Remembers h xids (env_of h.shape blocks) table_of → 1 ≤ s → s ≤ SESSIONS
+    → (kept_at table_of s).own ≡ Some x
+    → KeepsIds h (env_of h.shape blocks) (env_of h.shape now)
+    → Remembers (machine.committed h s x.seg x.slot) (xids ++ x ∷ []) (env_of h.shape now)
+    (with_kept table_of s (kept.committed (kept_at table_of s)))
+
+-- The end of a transaction of session s without changes, whose cursors stay open.
+abbrev pub EndedIsRemembered : Type 0
+EndedIsRemembered = (h h2 : State) (xids : List Xid) (blocks now : List (List ℕ)) (table_of : List KeptSession)
+    (s : ℕ)
+    → BlocksStand h xids blocks → Remembers h xids (env_of h.shape blocks) table_of → 1 ≤ s → s ≤ SESSIONS
+    → session_own h s ≡ [] → EndsAs h s (cursors_of h s) h2
+    → KeepsIds h (env_of h.shape blocks) (env_of h.shape now)
+    → Remembers h2 xids (env_of h.shape now) (with_kept table_of s (kept.committed (kept_at table_of s)))
+
+-- A rollback of session s.
+abbrev pub RolledBackIsRemembered : Type 0
+RolledBackIsRemembered = (h h2 : State) (xids : List Xid) (blocks now : List (List ℕ))
+    (table_of : List KeptSession) (s : ℕ)
+    → BlocksStand h xids blocks → Remembers h xids (env_of h.shape blocks) table_of → 1 ≤ s → s ≤ SESSIONS
+    → EndsAs h s (left_open 0 (cursors_of h s)) h2
+    → KeepsIds h (env_of h.shape blocks) (env_of h.shape now)
+    → Remembers h2 xids (env_of h.shape now) (with_kept table_of s (kept.rolled_back (kept_at table_of s)))
+
+-- the cursor in memory that session s opens now
+abbrev pub cursor_opened : State → KeptSession → ℕ → ℕ → ℕ → Cursor
+cursor_opened h k table lo hi = record {
+  table = table;
+  lo = lo;
+  hi = hi;
+  scn = last_scn h.commits;
+  own = k.own;
+  upto = k.count;
+  last = None;
+  present = true;
+}
+
+abbrev pub OpenedIsRemembered : Type 0
+OpenedIsRemembered = (h : State) (xids : List Xid) (blocks : List (List ℕ)) (table_of : List KeptSession)
+    (s : ℕ) (name : List ℕ) (table lo hi : ℕ)
+    → BlocksStand h xids blocks → Remembers h xids (env_of h.shape blocks) table_of → 1 ≤ s → s ≤ SESSIONS
+    → is_table h table ≡ true
+    → Remembers (with_cursors h s (cursors_of h s ++ opened_cursor h s name table lo hi ∷ [])) xids
+    (env_of h.shape blocks)
+    (with_kept table_of s (with_cursor name (cursor_opened h (kept_at table_of s) table lo hi) (kept_at table_of s)))
+
+abbrev pub ClosedIsRemembered : Type 0
+ClosedIsRemembered = (h : State) (xids : List Xid) (env : Env) (table_of : List KeptSession) (s : ℕ)
+    (name : List ℕ)
+    → Remembers h xids env table_of → 1 ≤ s → s ≤ SESSIONS
+    → Remembers (with_cursors h s (without_cursor name (cursors_of h s))) xids env
+    (with_kept table_of s (kept.with_cursors (kept_at table_of s) (without name (kept_at table_of s).cursors)))
+
+-- The cursor of a name is in memory exactly where it is in the machine, and there are as many cursors in both.
+abbrev pub CursorIsNamed : Type 0
+CursorIsNamed = (h : State) (xids : List Xid) (env : Env) (table_of : List KeptSession) (s : ℕ) (name : List ℕ)
+    → Remembers h xids env table_of → 1 ≤ s → s ≤ SESSIONS
+    → (named name (kept_at table_of s).cursors ≡ None → cursor_of h s name ≡ None)
+    × ((m : Cursor) → named name (kept_at table_of s).cursors ≡ Some m → (c : model.Cursor)
+    × (cursor_of h s name ≡ Some c) × IsCursor h xids env s (record { name = name; cursor = m }) c)
+    × (length (kept_at table_of s).cursors ≡ length (cursors_of h s))
+
+-- Block g of a cursor's table may be read at its snapshot.
+abbrev pub CursorReads : Type 0
+CursorReads = (h : State) (xids : List Xid) (blocks : List (List ℕ)) (s : ℕ) (name : List ℕ) (m : Cursor)
+    (c : model.Cursor) (g : ℕ)
+    → BlocksStand h xids blocks → IsCursor h xids (env_of h.shape blocks) s (record { name = name; cursor = m }) c
+    → 1 ≤ s → g < h.shape.blocks
+    → Reading (env_of h.shape blocks) (history h xids blocks (home_in h.shape m.table g) m.own) m.own m.upto m.scn
+    (homes_of h.shape blocks (home_in h.shape m.table g))
+
+-- the rows of block g of a cursor's table, as it sees them
+abbrev pub rows_seen : State → List Xid → List (List ℕ) → Cursor → ℕ → Rows
+rows_seen h xids blocks m g =
+    answer (history h xids blocks (home_in h.shape m.table g) m.own) m.own m.upto m.scn
+
+-- The least key behind the last one, in the first home that has one, is the cursor's next row.
+abbrev pub FetchGives : Type 0
+FetchGives = (h : State) (xids : List Xid) (blocks : List (List ℕ)) (s : ℕ) (name : List ℕ) (m : Cursor)
+    (c : model.Cursor) (g key : ℕ) (value : List ℕ)
+    → BlocksStand h xids blocks → IsCursor h xids (env_of h.shape blocks) s (record { name = name; cursor = m }) c
+    → 1 ≤ s → g < h.shape.blocks
+    → ((f : ℕ) → f < g → NoneIn h.shape.blocks m.lo m.hi m.last (rows_seen h xids blocks m f) f)
+    → IsNextIn h.shape.blocks m.lo m.hi m.last (rows_seen h xids blocks m g) g key value
+    → next_row h (Some c) ≡ Given key value
+
+-- And the table remembers that it was given.
+abbrev pub TakenIsRemembered : Type 0
+TakenIsRemembered = (h : State) (xids : List Xid) (blocks : List (List ℕ)) (table_of : List KeptSession) (s : ℕ)
+    (name : List ℕ) (m : Cursor) (g key : ℕ) (value : List ℕ)
+    → BlocksStand h xids blocks → Remembers h xids (env_of h.shape blocks) table_of → 1 ≤ s → s ≤ SESSIONS
+    → named name (kept_at table_of s).cursors ≡ Some m → g < h.shape.blocks
+    → ((f : ℕ) → f < g → NoneIn h.shape.blocks m.lo m.hi m.last (rows_seen h xids blocks m f) f)
+    → IsNextIn h.shape.blocks m.lo m.hi m.last (rows_seen h xids blocks m g) g key value
+    → Remembers (with_cursors h s (with_taken name (cursors_of h s))) xids (env_of h.shape blocks)
+    (with_kept table_of s (kept.with_cursors (kept_at table_of s) (with_last name key (kept_at table_of s).cursors)))
+
+-- Where no home has one, all rows are given.
+abbrev pub FetchEnds : Type 0
+FetchEnds = (h : State) (xids : List Xid) (blocks : List (List ℕ)) (s : ℕ) (name : List ℕ) (m : Cursor)
+    (c : model.Cursor)
+    → BlocksStand h xids blocks → IsCursor h xids (env_of h.shape blocks) s (record { name = name; cursor = m }) c
+    → 1 ≤ s
+    → ((g : ℕ) → g < h.shape.blocks → NoneIn h.shape.blocks m.lo m.hi m.last (rows_seen h xids blocks m g) g)
+    → next_row h (Some c) ≡ End
+
+-- What a segment lost is what its book says; one that there isn't lost nothing.
+abbrev pub LostIsBooks : Type 0
+LostIsBooks = (h : State) (xids : List Xid) (blocks : List (List ℕ)) (seg n : ℕ)
+    → BlocksStand h xids blocks → n < (env_of h.shape blocks).lost seg
+    → (seg < length h.books) × ((book_at h.books seg).lost ≡ (env_of h.shape blocks).lost seg)
