@@ -1,16 +1,15 @@
 -- When a state is stopped: after a fault of the disk, and else where it was before. No call changes the shape or how many
 -- sessions there are.
-use Rattle.std.proofs.Common.{arith, not, ◌≡◌, ◌≢◌, ◌∙◌, ◌⊎◌, inl, inr, ⊎_elim, refl, sym, ap, ℕ, ◌-◌, Bool, true, false, List, [], ◌∷◌, ◌++◌, length, set, length-set, Option, None, Some, Result, Ok, Err}
+use Rattle.std.proofs.Common.{arith, not, ◌≡◌, ◌≢◌, ◌∙◌, inl, inr, ⊎_elim, refl, sym, ap, ℕ, ◌-◌, Bool, true, false, List, [], ◌∷◌, length, length-set, Option, None, Some, Result, Ok, Err}
 use Rattle.std.specs.List.{list_all}
 use Rattle.std.specs.Prelude.{slice_get}
 use Rattle.std.proofs.lemmas.Bool.{cond_both, cases_Bool, false≢true, and_parts, not-true}
 use Rattle.rb_base.specs.Counts.{err_is}
-use Rattle.rb_base.specs.declared.shape.Shape.{Shape}
 use Rattle.rb_model.specs.Answers.{commit_answer, fetch_answer, marks_answer, plain_answer, write_answer}
-use Rattle.rb_model.specs.Calls.{Call, Write, Commit, Rollback, OpenCursor, Fetch, CloseCursor, Marks, Checkpoint, Answer, Done, Waits, Numbered, Given, End, Marked, Refused, cursor_tests, early_tests, first_of, given, granted, is_disk_fault, is_fault, next_row, waited, write_tests, LaterTests}
+use Rattle.rb_model.specs.Calls.{Call, Write, Commit, Rollback, OpenCursor, Fetch, CloseCursor, Marks, Checkpoint, Answer, Done, Waits, Numbered, Given, End, Marked, Refused, early_tests, first_of, given, granted, is_disk_fault, is_fault, next_row}
 use Rattle.rb_model.specs.NextState.{After, AfterGrant, EndsAs}
 use Rattle.rb_model.specs.Rows.{TableRow}
-use Rattle.rb_model.specs.State.{State, Session, Cursor, cursor_rows}
+use Rattle.rb_model.specs.State.{State, Cursor, cursor_rows}
 use Rattle.rb_model.specs.declared.marks.Marks.{Marks as CodeMarks}
 use Rattle.rb_model.specs.declared.row.Row.{Row}
 use Rattle.rb_model.specs.declared.row.Fetched.{Fetched}

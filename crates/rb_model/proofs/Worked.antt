@@ -1,10 +1,10 @@
 -- The definitions computed on worked rows.
-use Rattle.std.proofs.Common.{◌≡◌, ℕ, List, [], ◌∷◌, ◌++◌, map, false, refl, arith, Some, None}
+use Rattle.std.proofs.Common.{◌≡◌, ℕ, List, [], ◌∷◌, ◌++◌, map, refl, arith, Some, None}
 use Rattle.std.specs.Prelude.{codes}
 use Rattle.std.proofs.lemmas.Fmt.{decimal_digit}
 use Rattle.std.specs.List.{range_with_len}
 use Rattle.rb_model.specs.Book.{fresh_book}
-use Rattle.rb_model.specs.Calls.{Action, Answer, Insert, Update, Delete, Write, Commit, Fetch, Done, Numbered, Given, End, Refused, Marked, granted, first_of, early_tests, cursor_tests, write_tests}
+use Rattle.rb_model.specs.Calls.{Action, Answer, Insert, Update, Delete, Commit, Fetch, Done, Numbered, Given, End, Refused, Marked, granted, first_of, early_tests, write_tests}
 use Rattle.rb_model.specs.Change.{put, no_place, Gone, Held}
 use Rattle.rb_model.specs.Lines.{WriteLine, OpenLine, RollbackLine, MarksLine, spelling, lines_of, without_return, reply_text}
 use Rattle.rb_model.specs.NextState as next
@@ -82,7 +82,7 @@ gone_and_held = refl
 duplicate : answer_to committed 1 (Insert b) ≡ Refused Duplicate
 duplicate = refl
 
-no_such_session : first_of (early_tests start (Commit 2)) Done ≡ Refused NoSession
+no_such_session : first_of (early_tests start (Commit 17)) Done ≡ Refused NoSession
 no_such_session = refl
 
 not_found : answer_to committed 2 (Update b) ≡ Refused NotFound

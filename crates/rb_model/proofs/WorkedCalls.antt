@@ -1,5 +1,5 @@
 -- The calls of the machine, computed on worked rows.
-use Rattle.std.proofs.Common.{◌≡◌, ◌+◌, ◌-◌, ℕ, zero, suc, false, List, [], ◌∷◌, length, get_or, None, refl}
+use Rattle.std.proofs.Common.{◌≡◌, ◌-◌, ℕ, zero, suc, false, List, [], ◌∷◌, length, get_or, None, refl}
 use Rattle.rb_model.specs.Book.{book_at, book_slot, fresh_book}
 use Rattle.rb_model.specs.Calls.{Action, Insert, Update, Delete, Answer, Done, Refused, first_of, needed_room, write_tests}
 use Rattle.rb_model.specs.State.{State, Cursor, no_session, session_own}

@@ -1,12 +1,12 @@
 -- The calls of the machine: their tests in their order, their answers, and what its refusals are called.
-use Rattle.std.specs.Prelude.{◌≡◌, ◌≢◌, ◌⊎◌, ℕ, ◌+◌, ◌*◌, ◌-◌, ◌/◌, ◌%◌}
+use Rattle.std.specs.Prelude.{◌≡◌, ◌≢◌, ◌⊎◌, ℕ, ◌+◌, ◌*◌}
 use Rattle.std.specs.Prelude.{◌<◌, Bool, true, false, not, ◌&&◌}
 use Rattle.std.specs.Prelude.{nat_lt, nat_le, if◌then◌else◌, is_some, is_none, List, [], ◌∷◌, ◌++◌}
 use Rattle.std.specs.Prelude.{length, codes}
 use Rattle.std.specs.Prelude.{slice_get, Option, None, Some}
 use Rattle.std.specs.Fmt.{decimal}
 use Rattle.rb_base.specs.declared.sizes.TheConstants.{VALUE_BYTES, WORN}
-use Rattle.rb_model.specs.Book.{Book, Owner, IsBegun, book_at, is_full}
+use Rattle.rb_model.specs.Book.{Owner, IsBegun, book_at, is_full}
 use Rattle.rb_model.specs.Change.{Change}
 use Rattle.rb_model.specs.Full.{full_block}
 use Rattle.rb_model.specs.Rows.{TableRow, has_row, last_scn, over, rows_at}

@@ -1,5 +1,5 @@
 -- The state of the machine after each call, and how many groups the call gives the log.
-use Rattle.std.specs.Prelude.{◌≡◌, ◌⊎◌, ℕ, suc, ◌+◌, ◌*◌, ◌-◌, Bool, true, false, not}
+use Rattle.std.specs.Prelude.{◌≡◌, ◌⊎◌, ℕ, suc, ◌+◌, ◌-◌, Bool, true, false, not}
 use Rattle.std.specs.Prelude.{◌&&◌, nat_lt}
 use Rattle.std.specs.Prelude.{if◌then◌else◌, cond, List, [], ◌∷◌, ◌++◌, length, set, map, filter}
 use Rattle.std.specs.Str.{bytes_eq}
@@ -9,7 +9,7 @@ use Rattle.rb_model.specs.Calls.{Answer, Done, Waits, Numbered, Given, End, Mark
 use Rattle.rb_model.specs.Calls.{Action, Insert, Update, Delete, is_empty}
 use Rattle.rb_model.specs.Calls.{Owned, HasNoSlot, WritesIn, has_slot}
 use Rattle.rb_model.specs.Change.{Change, Kind, Put, Gone}
-use Rattle.rb_model.specs.State.{State, Session, Cursor, session_of, session_own, with_changes}
+use Rattle.rb_model.specs.State.{State, Cursor, session_of, session_own, with_changes}
 use Rattle.rb_model.specs.Rows.{last_scn}
 
 abbrev pub kind_by : Action → Kind
