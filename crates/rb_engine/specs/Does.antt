@@ -1,53 +1,77 @@
 -- For which states an engine stands, and what a call does with each of them.
-use Rattle.std.specs.Prelude.{◌≡◌, ◌<◌, ◌≤◌, ◌+◌, ◌-◌, ◌*◌, ◌^◌, ℕ, false, min}
+use Rattle.std.specs.Prelude.{◌≡◌, ◌<◌, ◌≤◌, ◌+◌, ◌*◌, ◌^◌, ℕ, Bool, false, List}
 use Rattle.std.specs.Prelude.{length, Option, None, Some}
+use Rattle.std.specs.List.{AllByRecursion, sum_by}
 use Rattle.rb_base.specs.Blocks.{IsShape}
 use Rattle.rb_base.specs.Stores.{room_of}
 use Rattle.rb_base.specs.declared.ids.Xid.{Xid}
+use Rattle.rb_base.specs.declared.shape.Shape.{Shape}
 use Rattle.rb_base.specs.declared.sizes.TheConstants.{SLOTS}
 use Rattle.rb_base.specs.declared.store.Store.{Ghosts}
-use Rattle.rb_image.specs.Crash.{Survives}
 use Rattle.rb_engine.specs.Retains.{Retains}
+use Rattle.rb_image.specs.Crash.{Survives}
 use Rattle.rb_image.specs.Holds.{Holds}
-use Rattle.rb_memory.specs.Kept.{Kept}
-use Rattle.rb_memory.specs.Remembers.{Remembers}
 use Rattle.rb_model.specs.Calls.{Action, Answer, Call, Done, Reply, Write, failed_in}
 use Rattle.rb_model.specs.NextState.{After, Grows}
-use Rattle.rb_model.specs.State.{State, session_own}
+use Rattle.rb_model.specs.Rows.{last_scn}
+use Rattle.rb_model.specs.State.{State}
+use Rattle.rb_sessions.specs.Kept.{KeptSession, kept_at}
+use Rattle.rb_sessions.specs.declared.sessions.TheConstants.{SESSIONS}
+use Rattle.rb_standing.specs.Standing.{env_of}
+use Rattle.rb_views.specs.Views.{Remembers}
+
+-- what the engine has in memory: the table of sessions, the last commit number, and whether the disk has failed
+pub record Kept : Type 0 where
+  pub sessions : List KeptSession
+  pub scn : ℕ
+  pub stopped : Bool
 
 -- an engine: its memory, and the store
 pub record EngineView (S : Type 0) : Type 0 where
   pub memory : Kept
   pub store : S
 
--- What keeps an engine in order, whatever its store tells: the memory is of the store's shape, the transaction's id is
--- of a slot that there is, and there is one exactly where there are changes. As long as the engine isn't stopped, its
--- store goes on and has numbers for a rollback: one for each change and one for the slot, at most two for each.
+-- the session's open cursors are of tables that there are
+abbrev pub InTables : Shape → KeptSession → Type 0
+InTables shape k = AllByRecursion (λ c. (1 ≤ c.cursor.table) × (c.cursor.table ≤ shape.tables)) k.cursors
+
+-- how many live changes all sessions have
+abbrev pub changes_kept : List KeptSession → ℕ
+changes_kept sessions = sum_by (λ k. k.count) sessions
+
+-- What keeps an engine in order, whatever its store tells: each transaction's id is of a slot that there is, and a session
+-- has one exactly where it has changes. As long as the engine isn't stopped, its store goes on and has numbers for each
+-- rollback: one for each change and one for the slot, at most two for each change.
 pub record IsInStep {S : Type 0} (s : Ghosts S) (kept : Kept) (store : S) : Type 0 where
-  pub same_shape : s.shape_of store ≡ kept.state.shape
-  pub in_range : IsShape kept.state.shape
-  pub own : (x : Xid) → kept.own ≡ Some x → (x.seg < kept.state.shape.segments) × (x.slot < SLOTS)
-  pub idle : kept.own ≡ None → length (session_own kept.state 1) ≡ 0
-  pub busy : (x : Xid) → kept.own ≡ Some x → 0 < length (session_own kept.state 1)
-  pub going : kept.state.stopped ≡ false → s.failed store ≡ false
-  pub few : kept.state.stopped ≡ false
-      → s.lsn store + 2 * length (session_own kept.state 1) ≤ 2 ^ 61 + 2 ^ 60
+  pub in_range : IsShape (s.shape_of store)
+  pub counted : length kept.sessions ≡ SESSIONS
+  pub tables : (u : ℕ) → InTables (s.shape_of store) (kept_at kept.sessions u)
+  pub own : (u : ℕ) (x : Xid) → (kept_at kept.sessions u).own ≡ Some x
+      → (x.seg < (s.shape_of store).segments) × (x.slot < SLOTS)
+  pub idle : (u : ℕ) → (kept_at kept.sessions u).own ≡ None → (kept_at kept.sessions u).count ≡ 0
+  pub busy : (u : ℕ) (x : Xid) → (kept_at kept.sessions u).own ≡ Some x → 0 < (kept_at kept.sessions u).count
+  pub going : kept.stopped ≡ false → s.failed store ≡ false
+  pub few : kept.stopped ≡ false → s.lsn store + 2 * changes_kept kept.sessions ≤ 2 ^ 61 + 2 ^ 60
 
--- the room that a write is told of: that of the log, or of the memory where the log has no end
-abbrev pub room_left : Option ℕ → ℕ → ℕ → ℕ
-room_left slots lsn spare = min (room_of slots lsn) spare
+-- what memory alone says of a state
+pub record Knows (h : State) (kept : Kept) : Type 0 where
+  pub sixteen : length h.sessions ≡ SESSIONS
+  pub stopped : kept.stopped ≡ h.stopped
+  pub scn : kept.scn ≡ last_scn h.commits
 
--- An engine stands for a state: its memory has all of it but books and places, and unless it is stopped, its store has
--- the rest. Where the log has an end, the memory has room for all that the log has room for. An engine over a store
+-- An engine that goes on stands for a state: its store's blocks do, and the table of sessions remembers it.
+pub record Goes {S : Type 0} (s : Ghosts S) (h : State) (e : EngineView S) : Type 0 where
+  pub xids : List Xid
+  pub holds : Holds s h xids e.store
+  pub remembers : Remembers h xids (env_of h.shape (s.blocks e.store)) e.memory.sessions
+
+-- An engine stands for a state. Of one that is stopped only the answers that are left are told. An engine over a store
 -- that tells nothing stands for none.
 pub record Stands {S : Type 0} (s : Ghosts S) (h : State) (e : EngineView S) : Type 0 where
   pub told : s.tells
   pub shape : s.shape_of e.store ≡ h.shape
-  pub alone : length h.sessions ≡ 1
-  pub memory : Remembers h e.memory
-  pub enough : h.stopped ≡ false → (slots : ℕ) → s.slots e.store ≡ Some slots
-      → slots - 1 - s.lsn e.store ≤ e.memory.spare
-  pub holds : h.stopped ≡ false → Holds s h e.memory.own e.store
+  pub knows : Knows h e.memory
+  pub goes : h.stopped ≡ false → Goes s h e
 
 -- what a call keeps for readers, where it is a write that is done
 abbrev pub Keeps : State → Call → Answer → State → Type 0
@@ -59,8 +83,7 @@ Keeps h call answer now = (s table key : ℕ) (action : Action)
 -- states before and after it; where the call answers a fault of the disk, what such a call may have left besides.
 pub record Does {S : Type 0} (s : Ghosts S) (h : State) (call : Call) (answer : Answer) (old new : EngineView S) : Type
     0 where
-  pub reply : Reply h (s.lsn old.store) (room_left (s.slots old.store) (s.lsn old.store) old.memory.spare) call
-      answer
+  pub reply : Reply h (s.lsn old.store) (room_of (s.slots old.store) (s.lsn old.store)) call answer
   pub now : State
   pub after : After h call answer now
   pub keeps : h.stopped ≡ false → Keeps h call answer now

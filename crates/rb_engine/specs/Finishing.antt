@@ -1,28 +1,36 @@
 -- What a commit and a rollback leave of a store that has a state, or of which a call failed on the way.
-use Rattle.std.specs.Prelude.{◌≡◌, ◌+◌, Bool, true, false, length, Option, None, Some, List}
+use Rattle.std.specs.Prelude.{◌≡◌, ◌+◌, ◌∷◌, ◌++◌, ℕ, Bool, true, false, length, [], Option, Some, List}
 use Rattle.rb_base.specs.declared.ids.Xid.{Xid}
 use Rattle.rb_base.specs.declared.store.Store.{Ghosts}
 use Rattle.rb_image.specs.Crash.{Survives}
 use Rattle.rb_image.specs.Holds.{Holds}
+use Rattle.rb_image.specs.Made.{KeepsIds}
 use Rattle.rb_model.specs.Calls.{Call, Commit}
 use Rattle.rb_model.specs.NextState.{committed, ended, without_owner}
 use Rattle.rb_model.specs.State.{Cursor, State, session_own}
+use Rattle.rb_standing.specs.Standing.{env_of}
 
 -- where the disk failed in a call, a crash leaves the state or what such a call may have left
 abbrev pub Fails : {S : Type 0} → Ghosts S → Option Call → State → S → S → Type 0
 Fails s fault h old new = s.keeps → Survives s (s.slots old) fault h (record h { stopped = true }) old new
 
--- a commit of the session whose transaction has that id
-abbrev pub Commits : {S : Type 0} → Ghosts S → State → Xid → S → S → Bool → Type 0
-Commits s h x old new true = Holds s (committed h 1 x.seg x.slot) None new × (s.lsn new ≡ s.lsn old + 1)
-    × ((before : Option Call) → s.keeps → Survives s (s.slots old) before h (committed h 1 x.seg x.slot) old new)
-Commits s h x old new false = Fails s (Some (Commit 1)) h old new
+-- the slots that are owned keep their transactions over calls of a store
+abbrev pub SameIds : {S : Type 0} → Ghosts S → State → S → S → Type 0
+SameIds s h old new = KeepsIds h (env_of h.shape (s.blocks old)) (env_of h.shape (s.blocks new))
+
+-- a commit of that session, whose transaction has that id
+abbrev pub Commits : {S : Type 0} → Ghosts S → State → List Xid → ℕ → Xid → S → S → Bool → Type 0
+Commits s h xids who x old new true = Holds s (committed h who x.seg x.slot) (xids ++ x ∷ []) new
+    × SameIds s h old new × (s.lsn new ≡ s.lsn old + 1)
+    × ((before : Option Call) → s.keeps
+    → Survives s (s.slots old) before h (committed h who x.seg x.slot) old new)
+Commits s h xids who x old new false = Fails s (Some (Commit who)) h old new
 
 -- its rollback, whatever cursors it keeps
-abbrev pub PutsAllBack : {S : Type 0} → Ghosts S → State → Xid → S → S → Bool → Type 0
-PutsAllBack s h x old new true = (cursors : List Cursor)
-    → Holds s (without_owner x.seg x.slot (ended h 1 cursors)) None new
-    × (s.lsn new ≡ s.lsn old + (length (session_own h 1) + 1))
+abbrev pub PutsAllBack : {S : Type 0} → Ghosts S → State → List Xid → ℕ → Xid → S → S → Bool → Type 0
+PutsAllBack s h xids who x old new true = (cursors : List Cursor)
+    → Holds s (without_owner x.seg x.slot (ended h who cursors)) xids new
+    × SameIds s h old new × (s.lsn new ≡ s.lsn old + (length (session_own h who) + 1))
     × ((before : Option Call) → s.keeps
-    → Survives s (s.slots old) before h (without_owner x.seg x.slot (ended h 1 cursors)) old new)
-PutsAllBack s h x old new false = (fault : Option Call) → Fails s fault h old new
+    → Survives s (s.slots old) before h (without_owner x.seg x.slot (ended h who cursors)) old new)
+PutsAllBack s h xids who x old new false = (fault : Option Call) → Fails s fault h old new

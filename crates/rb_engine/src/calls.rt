@@ -9,7 +9,9 @@ ghost use Rattle.rb_model.specs.Calls as machine;
 ghost use Rattle.rb_model.specs.Names.{name_text};
 ghost use Rattle.rb_model.specs.State.{State};
 
+use crate::cursors::{do_close_cursor, do_open_cursor};
 use crate::engine::Engine;
+use crate::fetch::do_fetch;
 use crate::finish::{do_commit, do_rollback};
 use crate::marks::{do_checkpoint, do_marks};
 use crate::write::do_write;
@@ -17,8 +19,9 @@ use rb_base::Store;
 use rb_model::{Fetched, Marks, Name, Op, Refusal, Row, Wrote};
 
 impl<T: Store> Engine<T> {
-    /// Inserts, updates or deletes the row of a key. It may be refused, and then nothing is changed, unless a call of
-    /// the store failed. (Oracle7 Server Concepts, *Transaction Management*.)
+    /// Inserts, updates or deletes the row of a key. Where another session holds the key, the answer is `Waits` and
+    /// nothing is changed. It may be refused, and then nothing is changed either, unless a call of the store failed.
+    /// (Oracle7 Server Concepts, *Transaction Management*.)
     pub fn write(&mut self, s: u16, table: u16, key: u64, op: Op<'_>) -> Result<Wrote, Refusal>
         ensures did { (h : State) → Stands T.Store h self.old → Does T.Store h
             (machine.Write s table key (action_of op.entry)) (write_answer result) self.old self.new }
@@ -67,10 +70,11 @@ impl<T: Store> Engine<T> {
         ensures disk { IsCountedAs (T.faults self.old.store) (T.faults self.new.store)
             (err_is is_disk_fault result) }
     {
-        self.memory.open_cursor(s, name, table, lo, hi)
+        do_open_cursor(&mut self.memory, &self.store, s, name, table, lo, hi)
     }
 
-    /// Gives the next row of a cursor into `row`, or the end.
+    /// Gives the next row of a cursor into `row`, or the end. It takes no lock and waits for nobody. Where what its
+    /// snapshot needs was given up, it may be refused as `TooOld`, and may be tried again.
     pub fn fetch(&mut self, s: u16, name: &Name, row: &mut Row) -> Result<Fetched, Refusal>
         ensures did { (h : State) → Stands T.Store h self.old → Does T.Store h
             (machine.Fetch s (name_text name.now)) (fetch_answer result row.new) self.old self.new }
@@ -79,7 +83,14 @@ impl<T: Store> Engine<T> {
         ensures disk { IsCountedAs (T.faults self.old.store) (T.faults self.new.store)
             (err_is is_disk_fault result) }
     {
-        self.memory.fetch(s, name, row)
+        do_fetch(
+            &mut self.memory,
+            &mut self.scratch,
+            &mut self.store,
+            s,
+            name,
+            row,
+        )
     }
 
     /// Closes the session's cursor of a name.
@@ -90,7 +101,7 @@ impl<T: Store> Engine<T> {
         ensures disk { IsCountedAs (T.faults self.old.store) (T.faults self.new.store)
             (err_is is_disk_fault result) }
     {
-        self.memory.close_cursor(s, name)
+        do_close_cursor(&mut self.memory, &self.store, s, name)
     }
 
     /// What segment `seg` has made and given up.

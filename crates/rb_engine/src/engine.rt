@@ -1,18 +1,20 @@
-//! `Engine`: the memory of its session with the store that makes changes last. The shell runs lines through it.
-ghost use Rattle.std.specs.Prelude.{◌≡◌, ◌^◌, ◌-◌, min};
+//! `Engine`: the memory of its sessions with the store that keeps their changes. The shell runs lines through it.
+ghost use Rattle.std.specs.Prelude.{◌≡◌};
 ghost use Rattle.rb_engine.specs.Does.{Stands};
 ghost use Rattle.rb_model.specs.Rows.{last_scn};
 ghost use Rattle.rb_model.specs.State.{State};
 
+use crate::memory::Memory;
 use rb_base::{Scn, Shape, Store};
-use rb_memory::Memory;
+use rb_cr::Scratch;
 use std::marker::Model;
 
-/// One session over the blocks of a store. A call that answers `DiskFault` stops it for good; then the store is opened
-/// again.
+/// Sixteen sessions over the blocks of a store. A call that answers `DiskFault` stops it for good; then the store is
+/// opened again.
 #[derive(Drop)]
 pub struct Engine<T: Store> {
     pub(crate) memory: Memory,
+    pub(crate) scratch: Scratch,
     pub(crate) store: T,
 }
 
@@ -27,11 +29,11 @@ impl<T: Store> Model for Engine<T> {
 }
 
 impl<T: Store> Engine<T> {
-    /// The number of the last commit, up to 2^64 - 1.
+    /// The number of the last commit.
     pub fn now(&self) -> Scn
-        ensures { (h : State) → Stands T.Store h self.now → result ≡ min (last_scn h.commits) (2 ^ 64 - 1) }
+        ensures { (h : State) → Stands T.Store h self.now → result ≡ last_scn h.commits }
     {
-        self.memory.scn()
+        self.memory.scn
     }
 
     /// The store's shape.
@@ -45,7 +47,11 @@ impl<T: Store> Engine<T> {
     pub fn close(self) -> T
         ensures { result ≡ self.store }
     {
-        let Engine { memory: _, store } = self;
+        let Engine {
+            memory: _,
+            scratch: _,
+            store,
+        } = self;
         store
     }
 }

@@ -1,9 +1,8 @@
-//! The end of the session's transaction: a commit, or a rollback. `Engine::commit` and `Engine::rollback` call it.
-ghost use Rattle.std.specs.Prelude.{◌≡◌, ◌≤◌, ◌<◌, ◌+◌, ◌-◌, ◌^◌, ℕ, length, true};
-ghost use Rattle.std.specs.Prelude.{false, not, [], Some, None, OnOk};
+//! The end of a session's transaction: a commit, or a rollback. `Engine::commit` and `Engine::rollback` call it.
+ghost use Rattle.std.specs.Prelude.{◌≡◌, ◌≤◌, ◌<◌, ◌+◌, ◌-◌, ◌^◌, ℕ, List, length};
+ghost use Rattle.std.specs.Prelude.{false, not, Some, OnOk};
 ghost use Rattle.std.specs.Result.{is_err};
 ghost use Rattle.rb_base.specs.Counts.{IsCounted, IsCountedAs, err_is};
-ghost use Rattle.rb_base.specs.Logs.{Logs};
 ghost use Rattle.rb_base.specs.Stores.{room_of};
 ghost use Rattle.rb_engine.specs.Does.{Does, IsInStep, SameStore, Stands};
 ghost use Rattle.rb_engine.specs.Finishing.{Commits, PutsAllBack};
@@ -13,10 +12,15 @@ ghost use Rattle.rb_model.specs.Calls.{is_disk_fault};
 ghost use Rattle.rb_model.specs.Calls as machine;
 ghost use Rattle.rb_model.specs.Rows.{last_scn};
 ghost use Rattle.rb_model.specs.State.{State, session_own};
+ghost use Rattle.rb_sessions.specs.Kept.{kept_at};
+ghost use Rattle.rb_standing.specs.Standing.{env_of};
+ghost use Rattle.rb_verdict.specs.Verdict.{IsOwnId};
 
+use crate::checks::check_session;
+use crate::memory::Memory;
 use rb_base::{Failed, Group, SLOTS, Scn, Store, Xid};
-use rb_memory::Memory;
 use rb_model::Refusal;
+use rb_sessions::SESSIONS;
 use rb_undoengine::{back_step, commit_step, end_step};
 
 /// Gives the store the group of a commit, and makes all groups last.
@@ -26,9 +30,11 @@ fn commit_and_flush<T: Store>(store: &mut T, xid: Xid, scn: Scn) -> Result<(), F
     requires slot { xid.slot < SLOTS }
     requires room { 1 ≤ room_of (T.slots store.old) (T.lsn store.old) }
     requires few { T.lsn store.old < 2 ^ 62 }
-    ensures commits { T.tells → (h : State) → T.shape_of store.old ≡ h.shape
-        → Holds T.Store h (Some xid) store.old → 0 < length (session_own h 1) → scn ≡ last_scn h.commits + 1
-        → Commits T.Store h xid store.old store.new (not (is_err result)) }
+    ensures commits { T.tells → (h : State) (xids : List Xid) (who : ℕ) → T.shape_of store.old ≡ h.shape
+        → Holds T.Store h xids store.old → 1 ≤ who → who ≤ length h.sessions
+        → IsOwnId h (env_of h.shape (T.blocks store.old)) who (Some xid)
+        → 0 < length (session_own h who) → scn ≡ last_scn h.commits + 1
+        → Commits T.Store h xids who xid store.old store.new (not (is_err result)) }
     ensures lsn { OnOk result (T.lsn store.new ≤ T.lsn store.old + 1) }
     ensures same { SameStore T.Store store.old store.new }
     ensures failed { T.failed store.new ≡ is_err result }
@@ -46,10 +52,11 @@ fn put_all_back<T: Store>(store: &mut T, xid: Xid, count: u32) -> Result<(), Fai
     requires slot { xid.slot < SLOTS }
     requires room { count < room_of (T.slots store.old) (T.lsn store.old) }
     requires few { T.lsn store.old + count < 2 ^ 62 - 1 }
-    ensures puts_back { T.tells → (h : State) → T.shape_of store.old ≡ h.shape
-        → Holds T.Store h (Some xid) store.old → length h.sessions ≡ 1 → h.stopped ≡ false
-        → length (session_own h 1) ≡ count
-        → PutsAllBack T.Store h xid store.old store.new (not (is_err result)) }
+    ensures puts_back { T.tells → (h : State) (xids : List Xid) (who : ℕ) → T.shape_of store.old ≡ h.shape
+        → Holds T.Store h xids store.old → 1 ≤ who → who ≤ length h.sessions
+        → IsOwnId h (env_of h.shape (T.blocks store.old)) who (Some xid) → h.stopped ≡ false
+        → length (session_own h who) ≡ count
+        → PutsAllBack T.Store h xids who xid store.old store.new (not (is_err result)) }
     ensures lsn { OnOk result (T.lsn store.new ≤ T.lsn store.old + count + 1) }
     ensures same { SameStore T.Store store.old store.new }
     ensures failed { T.failed store.new ≡ is_err result }
@@ -62,19 +69,20 @@ fn put_all_back<T: Store>(store: &mut T, xid: Xid, count: u32) -> Result<(), Fai
     end_step(store, xid, &mut group)
 }
 
-/// Commits the session's changes, of which there are some.
+/// Commits a session's changes, of which there are some.
 fn commit_changes<T: Store>(
     memory: &mut Memory,
     store: &mut T,
+    s: u16,
     xid: Xid,
 ) -> Result<Option<u64>, Refusal>
     requires step { IsInStep T.Store memory.old store.old }
-    requires going { memory.old.state.stopped ≡ false }
-    requires own { memory.old.own ≡ Some xid }
-    requires some { 0 < length (session_own memory.old.state 1) }
+    requires going { memory.old.stopped ≡ false }
+    requires session { (1 ≤ s) × (s ≤ SESSIONS) }
+    requires own { (kept_at memory.old.sessions s).own ≡ Some xid }
     ensures step { IsInStep T.Store memory.new store.new }
     ensures did { (h : State) → Stands T.Store h (record { memory = memory.old; store = store.old })
-        → Does T.Store h (machine.Commit 1) (commit_answer result)
+        → Does T.Store h (machine.Commit s) (commit_answer result)
         (record { memory = memory.old; store = store.old }) (record { memory = memory.new; store = store.new }) }
     ensures same { SameStore T.Store store.old store.new }
     ensures disk { IsCountedAs (T.faults store.old) (T.faults store.new) (err_is is_disk_fault result) }
@@ -83,10 +91,11 @@ fn commit_changes<T: Store>(
     if store.room() == 0 {
         return Err(Refusal::LogFull);
     }
-    let scn = memory.scn().saturating_add(1);
+    let scn = memory.scn.saturating_add(1);
     match commit_and_flush(store, xid, scn) {
         Ok(()) => {
-            memory.commit();
+            memory.sessions.commit(s);
+            memory.scn = scn;
             Ok(Some(scn))
         }
         Err(_) => {
@@ -96,25 +105,31 @@ fn commit_changes<T: Store>(
     }
 }
 
-/// Puts back the changes of the session's transaction, and ends it.
-fn roll_back_changes<T: Store>(memory: &mut Memory, store: &mut T, xid: Xid) -> Result<(), Refusal>
+/// Puts back the changes of a session's transaction, and ends it.
+fn roll_back_changes<T: Store>(
+    memory: &mut Memory,
+    store: &mut T,
+    s: u16,
+    xid: Xid,
+) -> Result<(), Refusal>
     requires step { IsInStep T.Store memory.old store.old }
-    requires going { memory.old.state.stopped ≡ false }
-    requires own { memory.old.own ≡ Some xid }
+    requires going { memory.old.stopped ≡ false }
+    requires session { (1 ≤ s) × (s ≤ SESSIONS) }
+    requires own { (kept_at memory.old.sessions s).own ≡ Some xid }
     ensures step { IsInStep T.Store memory.new store.new }
     ensures did { (h : State) → Stands T.Store h (record { memory = memory.old; store = store.old })
-        → Does T.Store h (machine.Rollback 1) (plain_answer result)
+        → Does T.Store h (machine.Rollback s) (plain_answer result)
         (record { memory = memory.old; store = store.old }) (record { memory = memory.new; store = store.new }) }
     ensures same { SameStore T.Store store.old store.new }
     ensures disk { IsCountedAs (T.faults store.old) (T.faults store.new) (err_is is_disk_fault result) }
 {
-    let count = memory.count();
+    let count = memory.sessions.session(s).length;
     if store.room() <= u64::from(count) {
         return Err(Refusal::LogFull);
     }
     match put_all_back(store, xid, count) {
         Ok(()) => {
-            memory.rollback();
+            memory.sessions.rollback(s);
             Ok(())
         }
         Err(_) => {
@@ -138,13 +153,13 @@ pub fn do_commit<T: Store>(
     ensures same { SameStore T.Store store.old store.new }
     ensures disk { IsCountedAs (T.faults store.old) (T.faults store.new) (err_is is_disk_fault result) }
 {
-    if let Err(why) = memory.check_session(s) {
+    if let Err(why) = check_session(memory, s) {
         return Err(why);
     }
-    match memory.own() {
-        Some(xid) => commit_changes(memory, store, xid),
+    match memory.sessions.session(s).own {
+        Some(xid) => commit_changes(memory, store, s, xid),
         None => {
-            memory.end();
+            memory.sessions.commit(s);
             Ok(None)
         }
     }
@@ -160,13 +175,13 @@ pub fn do_rollback<T: Store>(memory: &mut Memory, store: &mut T, s: u16) -> Resu
     ensures same { SameStore T.Store store.old store.new }
     ensures disk { IsCountedAs (T.faults store.old) (T.faults store.new) (err_is is_disk_fault result) }
 {
-    if let Err(why) = memory.check_session(s) {
+    if let Err(why) = check_session(memory, s) {
         return Err(why);
     }
-    match memory.own() {
-        Some(xid) => roll_back_changes(memory, store, xid),
+    match memory.sessions.session(s).own {
+        Some(xid) => roll_back_changes(memory, store, s, xid),
         None => {
-            memory.rollback();
+            memory.sessions.rollback(s);
             Ok(())
         }
     }

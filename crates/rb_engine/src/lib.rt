@@ -1,12 +1,17 @@
-//! The engine over a store of blocks: one session that inserts, updates, deletes, commits, rolls back and reads by
+//! The engine over a store of blocks: sixteen sessions that insert, update, delete, commit, roll back and read by
 //! cursors. The shell runs the lines of a script by it.
 #![tactic(auto)]
 
 mod calls;
+mod checks;
+mod cursors;
 mod engine;
+mod fetch;
 mod finish;
 mod marks;
+mod memory;
 mod open;
+mod scan;
 mod write;
 
 pub use engine::Engine;

@@ -7,8 +7,8 @@ ghost use Rattle.rb_model.specs.Calls.{is_disk_fault};
 ghost use Rattle.rb_model.specs.Calls as machine;
 ghost use Rattle.rb_model.specs.State.{State};
 
+use crate::memory::Memory;
 use rb_base::Store;
-use rb_memory::Memory;
 use rb_model::{Marks, Refusal};
 use rb_ring::{lost, writes};
 
@@ -23,7 +23,7 @@ pub fn do_marks<T: Store>(memory: &mut Memory, store: &mut T, seg: u16) -> Resul
     ensures same { SameStore T.Store store.old store.new }
     ensures disk { IsCountedAs (T.faults store.old) (T.faults store.new) (err_is is_disk_fault result) }
 {
-    if memory.is_stopped() {
+    if memory.stopped {
         return Err(Refusal::Stopped);
     }
     let header = store.shape().header_block(seg);
@@ -51,7 +51,7 @@ pub fn do_checkpoint<T: Store>(memory: &mut Memory, store: &mut T) -> Result<(),
     ensures same { SameStore T.Store store.old store.new }
     ensures disk { IsCountedAs (T.faults store.old) (T.faults store.new) (err_is is_disk_fault result) }
 {
-    if memory.is_stopped() {
+    if memory.stopped {
         return Err(Refusal::Stopped);
     }
     match store.checkpoint() {

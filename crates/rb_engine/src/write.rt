@@ -1,18 +1,27 @@
-//! A write of the session. `Engine::write` calls it.
-ghost use Rattle.std.specs.Prelude.{◌≡◌, ◌≤◌, ◌<◌, true, false, IsErrOf};
+//! A write of a session. `Engine::write` calls it.
+ghost use Rattle.std.specs.Prelude.{◌≡◌, ◌≤◌, ◌<◌, ℕ, List, [], true, false, not, IfOk};
+ghost use Rattle.std.specs.Result.{is_err};
 ghost use Rattle.rb_base.specs.Counts.{IsCountedAs, err_is};
+ghost use Rattle.rb_base.specs.Logs.{Logs};
+ghost use Rattle.rb_base.specs.declared.ids.Xid.{Xid};
 ghost use Rattle.rb_engine.specs.Does.{Does, IsInStep, SameStore, Stands};
+ghost use Rattle.rb_engine.specs.Scanning.{OtherHolds};
 ghost use Rattle.rb_model.specs.Answers.{action_of, write_answer};
 ghost use Rattle.rb_model.specs.Calls.{is_disk_fault, is_too_long};
 ghost use Rattle.rb_model.specs.Calls as machine;
 ghost use Rattle.rb_model.specs.State.{State};
-ghost use Rattle.rb_undoengine.specs.Steps.{refusal_of};
+ghost use Rattle.rb_standing.specs.Standing.{env_of};
+ghost use Rattle.rb_standing.specs.States.{BlocksStand};
+ghost use Rattle.rb_undoengine.specs.Steps.{NotOthers, refusal_of};
+ghost use Rattle.rb_views.specs.Views.{Remembers};
 
+use crate::checks::check_write;
+use crate::memory::Memory;
 use rb_attempt::AttemptFault;
-use rb_base::{Group, Store};
-use rb_memory::Memory;
+use rb_base::{Failed, Group, Store};
 use rb_model::{Op, Refusal, Wrote};
-use rb_undoengine::write_step;
+use rb_sessions::SESSIONS;
+use rb_undoengine::{holder_step, write_step};
 
 /// What a write that wasn't made is refused by.
 fn refusal(fault: AttemptFault) -> Refusal
@@ -33,8 +42,7 @@ fn refusal(fault: AttemptFault) -> Refusal
 /// Notes that a write wasn't made: where a call of the store failed, the engine is stopped.
 fn refuse(memory: &mut Memory, fault: AttemptFault) -> Refusal
     ensures why { result ≡ refusal_of fault }
-    ensures stopped { is_disk_fault result ≡ true → memory.new ≡ record memory.old
-        { state = record memory.old.state { stopped = true } } }
+    ensures stopped { is_disk_fault result ≡ true → memory.new ≡ record memory.old { stopped = true } }
     ensures same { is_disk_fault result ≡ false → memory.new ≡ memory.old }
 {
     if matches!(fault, AttemptFault::Failed) {
@@ -43,34 +51,94 @@ fn refuse(memory: &mut Memory, fault: AttemptFault) -> Refusal
     refusal(fault)
 }
 
-/// Makes a write that no early test refuses.
+/// Another session that holds the key.
+fn other_holder<T: Store>(
+    memory: &Memory,
+    store: &mut T,
+    s: u16,
+    table: u16,
+    key: u64,
+) -> Result<Option<u16>, Failed>
+    requires going { T.failed store.old ≡ false }
+    requires table { (1 ≤ table) × (table ≤ (T.shape_of store.old).tables) }
+    ensures other { T.tells → (h : State) (xids : List Xid) → BlocksStand h xids (T.blocks store.old)
+        → T.shape_of store.old ≡ h.shape
+        → Remembers h xids (env_of h.shape (T.blocks store.old)) memory.now.sessions
+        → IfOk result (OtherHolds h s table key) }
+    ensures logs { Logs T.Store store.old store.new [] (not (is_err result)) }
+{
+    let Some(xid) = holder_step(store, table, key)? else {
+        return Ok(None);
+    };
+    match memory.sessions.owner(xid) {
+        Some(on) if on != s => Ok(Some(on)),
+        _ => Ok(None),
+    }
+}
+
+/// Makes a write that no early test refuses, of a key that no other session holds.
 fn make_write<T: Store>(
     memory: &mut Memory,
     store: &mut T,
+    s: u16,
     table: u16,
     key: u64,
     op: Op<'_>,
 ) -> Result<Wrote, Refusal>
     requires step { IsInStep T.Store memory.old store.old }
-    requires going { memory.old.state.stopped ≡ false }
-    requires table { (1 ≤ table) × (table ≤ memory.old.state.shape.tables) }
+    requires going { memory.old.stopped ≡ false }
+    requires session { (1 ≤ s) × (s ≤ SESSIONS) }
+    requires table { (1 ≤ table) × (table ≤ (T.shape_of store.old).tables) }
     requires short { is_too_long (action_of op) ≡ false }
     ensures step { IsInStep T.Store memory.new store.new }
     ensures did { (h : State) → Stands T.Store h (record { memory = memory.old; store = store.old })
-        → machine.none_applies (machine.early_tests h (machine.Write 1 table key (action_of op.entry))) ≡ true
-        → Does T.Store h (machine.Write 1 table key (action_of op.entry)) (write_answer result)
+        → machine.none_applies (machine.early_tests h (machine.Write s table key (action_of op.entry))) ≡ true
+        → NotOthers h s table key
+        → Does T.Store h (machine.Write s table key (action_of op.entry)) (write_answer result)
         (record { memory = memory.old; store = store.old }) (record { memory = memory.new; store = store.new }) }
     ensures same { SameStore T.Store store.old store.new }
     ensures disk { IsCountedAs (T.faults store.old) (T.faults store.new) (err_is is_disk_fault result) }
 {
-    let room = memory.spare() as u64;
     let mut group = Group::new();
-    match write_step(store, memory.own(), table, key, op, room, &mut group) {
+    let own = memory.sessions.session(s).own;
+    match write_step(store, own, table, key, op, &mut group) {
         Ok(xid) => {
-            memory.keep_write(xid, table, key, op);
+            memory.sessions.wrote(s, xid);
             Ok(Wrote::Done)
         }
         Err(fault) => Err(refuse(memory, fault)),
+    }
+}
+
+/// Makes a write that no early test refuses, or tells which session it would wait for.
+fn try_write<T: Store>(
+    memory: &mut Memory,
+    store: &mut T,
+    s: u16,
+    table: u16,
+    key: u64,
+    op: Op<'_>,
+) -> Result<Wrote, Refusal>
+    requires step { IsInStep T.Store memory.old store.old }
+    requires going { memory.old.stopped ≡ false }
+    requires session { (1 ≤ s) × (s ≤ SESSIONS) }
+    requires table { (1 ≤ table) × (table ≤ (T.shape_of store.old).tables) }
+    requires short { is_too_long (action_of op) ≡ false }
+    ensures step { IsInStep T.Store memory.new store.new }
+    ensures did { (h : State) → Stands T.Store h (record { memory = memory.old; store = store.old })
+        → machine.none_applies (machine.early_tests h (machine.Write s table key (action_of op.entry))) ≡ true
+        → Does T.Store h (machine.Write s table key (action_of op.entry)) (write_answer result)
+        (record { memory = memory.old; store = store.old }) (record { memory = memory.new; store = store.new }) }
+    ensures same { SameStore T.Store store.old store.new }
+    ensures disk { IsCountedAs (T.faults store.old) (T.faults store.new) (err_is is_disk_fault result) }
+{
+    match other_holder(memory, store, s, table, key) {
+        Err(_) => {
+            memory.stop();
+            Err(Refusal::DiskFault)
+        }
+        Ok(Some(on)) => Ok(Wrote::Waits { on }),
+        Ok(None) => make_write(memory, store, s, table, key, op),
     }
 }
 
@@ -91,8 +159,8 @@ pub fn do_write<T: Store>(
     ensures same { SameStore T.Store store.old store.new }
     ensures disk { IsCountedAs (T.faults store.old) (T.faults store.new) (err_is is_disk_fault result) }
 {
-    if let Err(why) = memory.check_write(s, table, op) {
+    if let Err(why) = check_write(memory, store.shape(), s, table, op) {
         return Err(why);
     }
-    make_write(memory, store, table, key, op)
+    try_write(memory, store, s, table, key, op)
 }

@@ -1,0 +1,54 @@
+-- What a search for a cursor's next row finds, home by home.
+use Rattle.std.specs.Prelude.{◌≡◌, ◌≢◌, ◌<◌, ◌≤◌, ◌%◌, ℕ, List, Option, None, Some, Result, Ok, Err}
+use Rattle.rb_base.specs.declared.ids.Xid.{Xid}
+use Rattle.rb_cr.specs.declared.faults.CrFault.{CrFault}
+use Rattle.rb_cr.specs.declared.faults.CrFault.TheVariants as faults
+use Rattle.rb_model.specs.State as machine
+use Rattle.rb_model.specs.State.{State}
+use Rattle.rb_model.specs.Tests.{holder}
+use Rattle.rb_model.specs.declared.row.Fetched.{Fetched}
+use Rattle.rb_model.specs.declared.row.Fetched.TheVariants as fetched
+use Rattle.rb_model.specs.declared.row.Row.{Row}
+use Rattle.rb_sessions.specs.declared.cursor.Cursor.{Cursor}
+use Rattle.rb_standing.specs.Standing.{env_of}
+use Rattle.rb_standing.specs.States.{BlocksStand}
+use Rattle.rb_undoengine.specs.Steps.{NotOthers}
+use Rattle.rb_views.specs.Laws.{rows_seen}
+use Rattle.rb_views.specs.Scan.{IsNextIn, NoneIn}
+use Rattle.rb_views.specs.Views.{IsCursor}
+
+-- Blocks stand for a state of which this is a cursor.
+pub record IsReader (h : State) (xids : List Xid) (blocks : List (List ℕ)) (m : Cursor) : Type 0 where
+  pub stand : BlocksStand h xids blocks
+  pub session : ℕ
+  pub low : 1 ≤ session
+  pub name : List ℕ
+  pub cursor : machine.Cursor
+  pub is : IsCursor h xids (env_of h.shape blocks) session (record { name = name; cursor = m }) cursor
+
+-- home g has no row that the cursor gives next
+abbrev pub HasNone : State → List Xid → List (List ℕ) → Cursor → ℕ → Type 0
+HasNone h xids blocks m g = NoneIn h.shape.blocks m.lo m.hi m.last (rows_seen h xids blocks m g) g
+
+-- it has this one
+abbrev pub HasNext : State → List Xid → List (List ℕ) → Cursor → ℕ → Row → Type 0
+HasNext h xids blocks m g row =
+    IsNextIn h.shape.blocks m.lo m.hi m.last (rows_seen h xids blocks m g) g row.key row.value.items
+
+-- the cursor's snapshot, and what a segment lost above it
+abbrev pub IsBehind : State → List (List ℕ) → Cursor → CrFault → Type 0
+IsBehind h blocks m faults.Failed = Unit {0}
+IsBehind h blocks m (faults.TooOld scn lost) = (scn ≡ m.scn) × (scn < lost)
+    × ((seg : ℕ) × (lost ≡ (env_of h.shape blocks).lost seg))
+
+-- the first row of the homes in order, or that there is none, or that a home can't be read
+abbrev pub Finds : State → List Xid → List (List ℕ) → Cursor → Result Fetched CrFault → Row → Type 0
+Finds h xids blocks m (Ok fetched.Row) row = (g : ℕ) × (g < h.shape.blocks)
+    × ((f : ℕ) → f < g → HasNone h xids blocks m f) × HasNext h xids blocks m g row
+Finds h xids blocks m (Ok fetched.End) row = (g : ℕ) → g < h.shape.blocks → HasNone h xids blocks m g
+Finds h xids blocks m (Err fault) row = IsBehind h blocks m fault
+
+-- another session that holds the key, or that none does
+abbrev pub OtherHolds : State → ℕ → ℕ → ℕ → Option ℕ → Type 0
+OtherHolds h s table key None = NotOthers h s table key
+OtherHolds h s table key (Some u) = (holder h table key ≡ Some u) × (u ≢ s)

@@ -1,0 +1,88 @@
+//! The tests of a call that need memory and the file's shape alone, in the machine's order. Each call makes them first.
+ghost use Rattle.std.specs.Prelude.{◌≡◌, ◌≢◌, ℕ, ◌<◌, ◌≤◌, true, false, IfErr, OnOk};
+ghost use Rattle.rb_engine.specs.Checks.{session_tests, table_tests, Refuses};
+ghost use Rattle.rb_engine.specs.Does.{Knows};
+ghost use Rattle.rb_model.specs.Answers.{action_of};
+ghost use Rattle.rb_model.specs.Calls.{early_tests, is_too_long, none_applies};
+ghost use Rattle.rb_model.specs.Calls as machine;
+ghost use Rattle.rb_model.specs.State.{State};
+
+use crate::memory::Memory;
+use rb_base::{Shape, VALUE_BYTES};
+use rb_model::{Op, Refusal};
+use rb_sessions::SESSIONS;
+
+/// How many bytes the value of a write has.
+fn value_length(op: Op<'_>) -> usize
+    ensures long { VALUE_BYTES < result → is_too_long (action_of op.entry) ≡ true }
+    ensures short { result ≤ VALUE_BYTES → is_too_long (action_of op.entry) ≡ false }
+{
+    match op {
+        Op::Insert(value) | Op::Update(value) => value.len(),
+        Op::Delete => 0,
+    }
+}
+
+/// Whether a call of that session goes on, or why it is refused: Stopped or NoSession.
+pub fn check_session(memory: &Memory, s: u16) -> Result<(), Refusal>
+    ensures refused { IfErr result (λ why. (h : State) → Knows h memory.now → Refuses (session_tests h s) why) }
+    ensures granted { OnOk result ((h : State) → Knows h memory.now → none_applies (session_tests h s) ≡ true) }
+    ensures other { IfErr result (λ why. why ≢ Refusal.DiskFault) }
+    ensures session { OnOk result ((1 ≤ s) × (s ≤ SESSIONS)) }
+    ensures going { OnOk result (memory.now.stopped ≡ false) }
+{
+    if memory.stopped {
+        return Err(Refusal::Stopped);
+    }
+    if s < 1 || s as usize > SESSIONS {
+        return Err(Refusal::NoSession);
+    }
+    Ok(())
+}
+
+/// Whether a call of that session and table goes on, or why it is refused: as by `check_session`, or NoTable.
+pub fn check_table(memory: &Memory, shape: Shape, s: u16, table: u16) -> Result<(), Refusal>
+    ensures refused { IfErr result (λ why. (h : State) → Knows h memory.now → shape ≡ h.shape
+        → Refuses (table_tests h s table) why) }
+    ensures granted { OnOk result ((h : State) → Knows h memory.now → shape ≡ h.shape
+        → none_applies (table_tests h s table) ≡ true) }
+    ensures other { IfErr result (λ why. why ≢ Refusal.DiskFault) }
+    ensures session { OnOk result ((1 ≤ s) × (s ≤ SESSIONS)) }
+    ensures table { OnOk result ((1 ≤ table) × (table ≤ shape.tables)) }
+    ensures going { OnOk result (memory.now.stopped ≡ false) }
+{
+    if let Err(why) = check_session(memory, s) {
+        return Err(why);
+    }
+    if table < 1 || table > shape.tables {
+        return Err(Refusal::NoTable);
+    }
+    Ok(())
+}
+
+/// Whether a write goes on, or why it is refused: as by `check_table`, or ValueTooLong.
+pub fn check_write(
+    memory: &Memory,
+    shape: Shape,
+    s: u16,
+    table: u16,
+    op: Op<'_>,
+) -> Result<(), Refusal>
+    ensures refused { IfErr result (λ why. (h : State) (key : ℕ) → Knows h memory.now → shape ≡ h.shape
+        → Refuses (early_tests h (machine.Write s table key (action_of op.entry))) why) }
+    ensures granted { OnOk result ((h : State) (key : ℕ) → Knows h memory.now → shape ≡ h.shape
+        → none_applies (early_tests h (machine.Write s table key (action_of op.entry))) ≡ true) }
+    ensures other { IfErr result (λ why. why ≢ Refusal.DiskFault) }
+    ensures session { OnOk result ((1 ≤ s) × (s ≤ SESSIONS)) }
+    ensures table { OnOk result ((1 ≤ table) × (table ≤ shape.tables)) }
+    ensures short { OnOk result (is_too_long (action_of op.entry) ≡ false) }
+    ensures going { OnOk result (memory.now.stopped ≡ false) }
+{
+    if let Err(why) = check_table(memory, shape, s, table) {
+        return Err(why);
+    }
+    if value_length(op) > VALUE_BYTES {
+        return Err(Refusal::ValueTooLong);
+    }
+    Ok(())
+}

@@ -1,0 +1,82 @@
+//! Cursors opened and closed: calls of memory alone. `Engine::open_cursor` and `Engine::close_cursor` call it.
+ghost use Rattle.std.specs.Prelude.{◌≡◌, ◌≢◌, ℕ, IfErr};
+ghost use Rattle.rb_engine.specs.Does.{Does, IsInStep, Stands};
+ghost use Rattle.rb_model.specs.Answers.{plain_answer};
+ghost use Rattle.rb_model.specs.Calls as machine;
+ghost use Rattle.rb_model.specs.Names.{name_text};
+ghost use Rattle.rb_model.specs.State.{State};
+
+use crate::checks::{check_session, check_table};
+use crate::memory::Memory;
+use rb_base::Store;
+use rb_model::{Name, Refusal};
+use rb_sessions::Cursor;
+
+/// The most cursors of a session that are open.
+const CURSORS: u8 = 16;
+
+/// Opens a cursor over the rows as the session sees them now: it notes the last commit number, and how many changes the
+/// session's transaction has.
+pub fn do_open_cursor<T: Store>(
+    memory: &mut Memory,
+    store: &T,
+    s: u16,
+    name: &Name,
+    table: u16,
+    lo: u64,
+    hi: u64,
+) -> Result<(), Refusal>
+    requires step { IsInStep T.Store memory.old store.now }
+    ensures step { IsInStep T.Store memory.new store.now }
+    ensures did { (h : State) → Stands T.Store h (record { memory = memory.old; store = store.now })
+        → Does T.Store h (machine.OpenCursor s (name_text name.now) table lo hi) (plain_answer result)
+        (record { memory = memory.old; store = store.now }) (record { memory = memory.new; store = store.now }) }
+    ensures other { IfErr result (λ why. why ≢ Refusal.DiskFault) }
+{
+    if let Err(why) = check_table(memory, store.shape(), s, table) {
+        return Err(why);
+    }
+    if memory.sessions.cursor(s, name).is_some() {
+        return Err(Refusal::CursorThere);
+    }
+    let session = memory.sessions.session(s);
+    if session.cursors >= CURSORS {
+        return Err(Refusal::TooManyCursors);
+    }
+    let cursor = Cursor {
+        table,
+        lo,
+        hi,
+        scn: memory.scn,
+        own: session.own,
+        upto: session.length,
+        last: None,
+        present: true,
+    };
+    memory.sessions.open_cursor(s, name, cursor);
+    Ok(())
+}
+
+/// Closes the session's cursor of a name.
+pub fn do_close_cursor<T: Store>(
+    memory: &mut Memory,
+    store: &T,
+    s: u16,
+    name: &Name,
+) -> Result<(), Refusal>
+    requires step { IsInStep T.Store memory.old store.now }
+    ensures step { IsInStep T.Store memory.new store.now }
+    ensures did { (h : State) → Stands T.Store h (record { memory = memory.old; store = store.now })
+        → Does T.Store h (machine.CloseCursor s (name_text name.now)) (plain_answer result)
+        (record { memory = memory.old; store = store.now }) (record { memory = memory.new; store = store.now }) }
+    ensures other { IfErr result (λ why. why ≢ Refusal.DiskFault) }
+{
+    if let Err(why) = check_session(memory, s) {
+        return Err(why);
+    }
+    if memory.sessions.cursor(s, name).is_none() {
+        return Err(Refusal::NoCursor);
+    }
+    memory.sessions.close_cursor(s, name);
+    Ok(())
+}

@@ -1,0 +1,55 @@
+//! One row of a cursor. `Engine::fetch` calls it.
+ghost use Rattle.std.specs.Prelude.{◌≡◌};
+ghost use Rattle.rb_base.specs.Counts.{IsCountedAs, err_is};
+ghost use Rattle.rb_engine.specs.Does.{Does, IsInStep, SameStore, Stands};
+ghost use Rattle.rb_model.specs.Answers.{fetch_answer, LeavesRow};
+ghost use Rattle.rb_model.specs.Calls.{is_disk_fault};
+ghost use Rattle.rb_model.specs.Calls as machine;
+ghost use Rattle.rb_model.specs.Names.{name_text};
+ghost use Rattle.rb_model.specs.State.{State};
+
+use crate::checks::check_session;
+use crate::memory::Memory;
+use crate::scan::next_row;
+use rb_base::Store;
+use rb_cr::{CrFault, Scratch};
+use rb_model::{Fetched, Name, Refusal, Row};
+
+/// Gives the next row of a cursor into `row`, or the end: as the rows were at its opening, rebuilt from undo. It may be
+/// refused as too old, and then nothing is changed. (Oracle7 Server Concepts, *Multiversion Consistency Model*.)
+pub fn do_fetch<T: Store>(
+    memory: &mut Memory,
+    scratch: &mut Scratch,
+    store: &mut T,
+    s: u16,
+    name: &Name,
+    row: &mut Row,
+) -> Result<Fetched, Refusal>
+    requires step { IsInStep T.Store memory.old store.old }
+    ensures step { IsInStep T.Store memory.new store.new }
+    ensures did { (h : State) → Stands T.Store h (record { memory = memory.old; store = store.old })
+        → Does T.Store h (machine.Fetch s (name_text name.now)) (fetch_answer result row.new)
+        (record { memory = memory.old; store = store.old }) (record { memory = memory.new; store = store.new }) }
+    ensures row { LeavesRow result row.old row.new }
+    ensures same { SameStore T.Store store.old store.new }
+    ensures disk { IsCountedAs (T.faults store.old) (T.faults store.new) (err_is is_disk_fault result) }
+{
+    if let Err(why) = check_session(memory, s) {
+        return Err(why);
+    }
+    let Some(cursor) = memory.sessions.cursor(s, name) else {
+        return Err(Refusal::NoCursor);
+    };
+    match next_row(store, scratch, &cursor, row) {
+        Ok(Fetched::Row) => {
+            memory.sessions.took(s, name, row.key);
+            Ok(Fetched::Row)
+        }
+        Ok(Fetched::End) => Ok(Fetched::End),
+        Err(CrFault::TooOld { scn, lost }) => Err(Refusal::TooOld { scn, lost }),
+        Err(CrFault::Failed) => {
+            memory.stop();
+            Err(Refusal::DiskFault)
+        }
+    }
+}

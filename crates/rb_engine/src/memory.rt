@@ -1,0 +1,31 @@
+//! What the engine has in memory. It takes no more of it however many changes are made.
+use rb_base::Scn;
+use rb_sessions::Sessions;
+use std::marker::Model;
+
+/// The sessions, the last commit number, and whether the disk has failed.
+#[derive(Drop)]
+pub struct Memory {
+    pub(crate) sessions: Sessions,
+    pub(crate) scn: Scn,
+    pub(crate) stopped: bool,
+}
+
+impl Model for Memory {
+    ghost use Rattle.rb_engine.specs.Does.{Kept};
+
+    ghost Value = { Kept };
+
+    ghost view = { λ a. record { sessions = a.sessions; scn = a.scn; stopped = a.stopped } };
+}
+
+impl Memory {
+    ghost use Rattle.std.specs.Prelude.{◌≡◌, true};
+
+    /// Notes that the disk failed: no later call does anything.
+    pub(crate) fn stop(&mut self)
+        ensures { self.new ≡ record self.old { stopped = true } }
+    {
+        self.stopped = true;
+    }
+}
