@@ -1,7 +1,7 @@
 """What right replies are: a second machine of lines, replies, rows and books, by docs/MODEL.md alone. It knows no block
 and no file, and shares nothing with the program or with tools/. tests/model_check compares it with the program.
 
-All replies but one follow from the lines. Where what a `fetch` needs was given up, it may be answered `too old`, and it may
+All replies but one follow from the lines. Where what a `fetch` needs was given up it may be answered `too old`, and may
 go on all the same. So the machine is told what the program said, and takes a `too old` over where one may come."""
 import re
 
