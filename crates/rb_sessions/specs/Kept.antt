@@ -1,5 +1,5 @@
 -- What a contract sees of the table of sessions, and how its calls change it.
-use Rattle.std.specs.Prelude.{ℕ, ◌+◌, ◌-◌, ◌^◌, Bool, false, not, ◌&&◌, nat_lt, min, cond, List, [], ◌∷◌, ◌++◌}
+use Rattle.std.specs.Prelude.{ℕ, ◌+◌, ◌-◌, ◌^◌, false, not, ◌&&◌, nat_lt, min, cond, List, [], ◌∷◌, ◌++◌}
 use Rattle.std.specs.Prelude.{map, filter, get_or, set, Option, None, Some}
 use Rattle.std.specs.Str.{bytes_eq}
 use Rattle.rb_base.specs.declared.ids.Xid.{Xid}
