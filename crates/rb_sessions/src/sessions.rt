@@ -1,5 +1,6 @@
 //! The table itself. The engine owns one, asks it who works in which transaction, and notes each call in it.
-ghost use Rattle.std.specs.Prelude.{◌≡◌, ◌≢◌, ◌≤◌, ◌<◌, ℕ, length, replicate, Some, IfSome, IfNone};
+ghost use Rattle.std.specs.Prelude.{◌≡◌, ◌≢◌, ◌≤◌, ◌<◌, ℕ, length, replicate};
+ghost use Rattle.std.specs.Prelude.{Some, IfSome, IfNone};
 ghost use Rattle.rb_model.specs.Names.{name_text};
 ghost use Rattle.rb_sessions.specs.Kept as kept;
 ghost use Rattle.rb_sessions.specs.Kept.{fresh, kept_at, with_kept};
@@ -57,7 +58,8 @@ impl Sessions {
     /// The first session whose transaction has that id.
     pub fn owner(&self, xid: Xid) -> Option<u16>
         ensures found { IfSome result (λ s. (1 ≤ s) × (s ≤ SESSIONS) × ((kept_at self.now s).own ≡ Some xid)) }
-        ensures none { IfNone result ((s : ℕ) → 1 ≤ s → s ≤ SESSIONS → (kept_at self.now s).own ≢ Some xid) }
+        ensures none { IfNone result ((s : ℕ) → 1 ≤ s → s ≤ SESSIONS
+            → (kept_at self.now s).own ≢ Some xid) }
     {
         for i in 0..SESSIONS {
             if self.entries[i].own == Some(xid) {
