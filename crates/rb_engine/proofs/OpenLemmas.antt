@@ -1,11 +1,11 @@
 -- What an opening makes of a store whose blocks open to a state: an engine that stands for it, and images that restart
 -- in it.
-use Rattle.std.proofs.Common.{◌≡◌, ◌≢◌, ◌<◌, ◌≤◌, ◌+◌, ◌-◌, ◌^◌, ℕ, Bool, true, not, List, [], length, take, Option, Some, None, Result, Ok, Err, IfErr, IsErrOf, append-nil, refl, sym, ◌∙◌, ap, subst, arith}
+use Rattle.std.proofs.Common.{◌≡◌, ◌≢◌, ◌<◌, ◌≤◌, ◌+◌, ◌-◌, ◌*◌, ◌^◌, ℕ, zero, suc, Bool, true, false, not, List, [], length, take, get_or, replicate, Option, Some, None, Result, Ok, Err, IfErr, IsErrOf, append-nil, refl, sym, ◌∙◌, ap, subst, arith}
 use Rattle.std.proofs.Math.Seq.{take-nil}
 use Rattle.std.proofs.lemmas.List.{take_all}
 use Rattle.std.proofs.lemmas.List.FromFn.{get_or-map-range_with_len}
 use Rattle.std.specs.List.{flat_map}
-use Rattle.rb_base.specs.Blocks.{IsShape, after_groups, table_blocks}
+use Rattle.rb_base.specs.Blocks.{IsShape, after_groups}
 use Rattle.rb_base.specs.Counts.{err_is, is_failed}
 use Rattle.rb_base.specs.Groups.{Patch}
 use Rattle.rb_base.specs.Keeps.{AfterEach, Keeps}
@@ -17,22 +17,17 @@ use Rattle.rb_base.specs.declared.faults.OpenFault.TheVariants.{Failed, NoMemory
 use Rattle.rb_base.specs.declared.ids.Xid.{Xid}
 use Rattle.rb_base.specs.declared.shape.Shape.{Shape}
 use Rattle.rb_base.specs.declared.store.Store.{Ghosts}
-use Rattle.rb_engine.specs.Does.{IsInStep}
-use Rattle.rb_engine.specs.Found.{rows_found}
+use Rattle.rb_engine.specs.Does.{InTables, IsInStep, Kept, changes_kept}
 use Rattle.rb_engine.specs.Opened.{Opened, OpensTo, StaysOpen}
-use Rattle.rb_engine.proofs.IdleRows.{rows_are}
 use Rattle.rb_image.specs.Crash.{Restarts}
 use Rattle.rb_image.specs.Holds.{Holds}
 use Rattle.rb_image.specs.Images.{HasState}
-use Rattle.rb_image.proofs.Owners.{id_none}
 use Rattle.rb_image.proofs.Steps.{OpensWith, Property, keeps_on, leaves_on, restarts}
-use Rattle.rb_memory.specs.Kept.{Kept}
-use Rattle.rb_memory.specs.Remembers.{bare}
 use Rattle.rb_model.specs.Book.{Book, book_at, fresh_book}
 use Rattle.rb_model.specs.Calls.{HasNoSlot}
 use Rattle.rb_model.specs.Change.{Change}
 use Rattle.rb_model.specs.Rows.{TableRow, last_scn, over, rows_at}
-use Rattle.rb_model.specs.State.{State, opened, owner_at, session_own}
+use Rattle.rb_model.specs.State.{State, opened, owner_at}
 use Rattle.rb_opening.specs.Opens.{books_of}
 use Rattle.rb_opening.proofs.Opened.{books_same, unowned}
 use Rattle.rb_opening.proofs.Rolled.{none_sound, opened_by}
@@ -41,9 +36,13 @@ use Rattle.rb_restart.proofs.Joined.{room_on}
 use Rattle.rb_restart.proofs.Slots.{owed_none}
 use Rattle.rb_segment.specs.Header.{segment_of}
 use Rattle.rb_segment.specs.Segments.{commit_scn, owed_in}
+use Rattle.rb_sessions.specs.Kept.{KeptSession, fresh, kept_at}
+use Rattle.rb_sessions.specs.declared.sessions.TheConstants.{SESSIONS}
 use Rattle.rb_standing.specs.Standing.{SoundAs, env_of, logged_of, segments_of}
 use Rattle.rb_standing.specs.States.{BlocksStand}
 use Rattle.rb_standing.proofs.SegmentRead.{header_is}
+use Rattle.rb_views.specs.Views.{Remembers}
+use Rattle.rb_views.proofs.Remembering.{first_is_remembered}
 
 -- what holds of the store behind loads holds of the one before them
 pub moved : {S : Type 0} (s : Ghosts S) (old mid : S) (F : Shape → Option ℕ → ℕ → List (List ℕ) → Type 0) → Logs s old mid [] true → s.tells → F (s.shape_of mid) (s.slots mid) (s.lsn mid) (s.blocks mid) → F (s.shape_of old) (s.slots old) (s.lsn old) (s.blocks old)
@@ -215,7 +214,7 @@ module _ {S : Type 0} (s : Ghosts S) (laws : Laws s) (told : s.tells) (h : State
               (first_is_remembered Sh Number Rows (books_of Sh (s.blocks old)) (env_of h.shape (s.blocks new)) none_owns));
         };
       };
-      lsn = let number = logs.number refl in let owed = back.count in omega (arith, number, owed);
+      lsn = logs.number refl ∙ ap (λ (n : ℕ). s.lsn old + n) back.count;
       stays = stays new groups true logs stay;
     }
       where
