@@ -12,7 +12,7 @@ use Rattle.rb_cr.specs.Rows.{IsBehind as IsBehindKey, IsNext, IsWanted}
 use Rattle.rb_cr.specs.declared.faults.CrFault.{CrFault}
 use Rattle.rb_cr.specs.declared.faults.CrFault.TheVariants as faults
 use Rattle.rb_engine.specs.Does.{Does, EngineView, Goes, SameStore, Stands}
-use Rattle.rb_engine.specs.Scanning.{Finds, HasNext, HasNone, IsBehind, IsReader}
+use Rattle.rb_engine.specs.Scanning.{Begins, Finds, HasNext, HasNone, IsBehind, IsReader}
 use Rattle.rb_engine.proofs.DoesLemmas.{does_cursors, does_fault, does_loaded, fault_survives}
 use Rattle.rb_engine.proofs.FinishLemmas.{no_early}
 use Rattle.rb_engine.proofs.SeenHomes.{seen_in_home}
@@ -39,10 +39,6 @@ use Rattle.rb_views.specs.Views.{IsCursor, Remembers, history, home_in}
 use Rattle.rb_views.proofs.Fetching.{cursor_reads, fetch_ends, fetch_gives, taken_is_remembered}
 use Rattle.rb_views.proofs.Remembering.{cursor_is_named}
 use Rattle.rb_views.proofs.Lost.{lost_is_books}
-
--- where the search of a home begins
-abbrev pub Begins : (blocks first g : ℕ) (last : Option ℕ) → Type 0
-Begins blocks first g last = (first ≤ g) × (last ≡ None → first ≡ 0) × ((l : ℕ) → last ≡ Some l → first ≡ l % blocks)
 
 behind_of : (blocks first g : ℕ) (last : Option ℕ) → Begins blocks first g last → (k : ℕ) → k % blocks ≡ g → is_after blocks last k ≡ true → IsBehindKey (if g == first then last else None) k
 behind_of blocks first g None begins k home after = cond_both (g == first) None None (λ (o : Option ℕ). IsBehindKey o k) (λ yes. tt) (λ no. tt)
