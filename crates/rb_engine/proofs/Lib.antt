@@ -1,10 +1,9 @@
 pub mod DoesLemmas
+pub mod SeenHomes
+pub mod FetchLemmas
 pub mod FinishLemmas
-pub mod WriteLemmas
-pub mod FoundLemmas
-pub mod FoundValues
-pub mod OneList
-pub mod IdleRows
 pub mod OpenLemmas
-pub mod RollbackLemmas
 pub mod RetainsLemmas
+pub mod RollbackLemmas
+pub mod StepLemmas
+pub mod WriteLemmas

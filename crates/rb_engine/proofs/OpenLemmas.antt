@@ -1,11 +1,11 @@
 -- What an opening makes of a store whose blocks open to a state: an engine that stands for it, and images that restart
 -- in it.
-use Rattle.std.proofs.Common.{◌≡◌, ◌≢◌, ◌<◌, ◌≤◌, ◌+◌, ◌-◌, ◌^◌, ℕ, Bool, true, not, List, [], length, take, Option, Some, None, Result, Ok, Err, IfErr, IsErrOf, append-nil, refl, sym, ◌∙◌, ap, subst, arith}
+use Rattle.std.proofs.Common.{◌≡◌, ◌≢◌, ◌<◌, ◌≤◌, ◌+◌, ◌-◌, ◌*◌, ◌^◌, ℕ, zero, suc, Bool, true, false, not, List, [], length, take, get_or, replicate, Option, Some, None, Result, Ok, Err, IfErr, IsErrOf, append-nil, refl, sym, ◌∙◌, ap, subst, arith}
 use Rattle.std.proofs.Math.Seq.{take-nil}
 use Rattle.std.proofs.lemmas.List.{take_all}
 use Rattle.std.proofs.lemmas.List.FromFn.{get_or-map-range_with_len}
 use Rattle.std.specs.List.{flat_map}
-use Rattle.rb_base.specs.Blocks.{IsShape, after_groups, table_blocks}
+use Rattle.rb_base.specs.Blocks.{IsShape, after_groups}
 use Rattle.rb_base.specs.Counts.{err_is, is_failed}
 use Rattle.rb_base.specs.Groups.{Patch}
 use Rattle.rb_base.specs.Keeps.{AfterEach, Keeps}
@@ -17,22 +17,17 @@ use Rattle.rb_base.specs.declared.faults.OpenFault.TheVariants.{Failed, NoMemory
 use Rattle.rb_base.specs.declared.ids.Xid.{Xid}
 use Rattle.rb_base.specs.declared.shape.Shape.{Shape}
 use Rattle.rb_base.specs.declared.store.Store.{Ghosts}
-use Rattle.rb_engine.specs.Does.{IsInStep}
-use Rattle.rb_engine.specs.Found.{rows_found}
+use Rattle.rb_engine.specs.Does.{InTables, IsInStep, Kept, changes_kept}
 use Rattle.rb_engine.specs.Opened.{Opened, OpensTo, StaysOpen}
-use Rattle.rb_engine.proofs.IdleRows.{rows_are}
 use Rattle.rb_image.specs.Crash.{Restarts}
 use Rattle.rb_image.specs.Holds.{Holds}
 use Rattle.rb_image.specs.Images.{HasState}
-use Rattle.rb_image.proofs.Owners.{id_none}
 use Rattle.rb_image.proofs.Steps.{OpensWith, Property, keeps_on, leaves_on, restarts}
-use Rattle.rb_memory.specs.Kept.{Kept}
-use Rattle.rb_memory.specs.Remembers.{bare}
 use Rattle.rb_model.specs.Book.{Book, book_at, fresh_book}
 use Rattle.rb_model.specs.Calls.{HasNoSlot}
 use Rattle.rb_model.specs.Change.{Change}
 use Rattle.rb_model.specs.Rows.{TableRow, last_scn, over, rows_at}
-use Rattle.rb_model.specs.State.{State, opened, owner_at, session_own}
+use Rattle.rb_model.specs.State.{State, opened, owner_at}
 use Rattle.rb_opening.specs.Opens.{books_of}
 use Rattle.rb_opening.proofs.Opened.{books_same, unowned}
 use Rattle.rb_opening.proofs.Rolled.{none_sound, opened_by}
@@ -41,9 +36,13 @@ use Rattle.rb_restart.proofs.Joined.{room_on}
 use Rattle.rb_restart.proofs.Slots.{owed_none}
 use Rattle.rb_segment.specs.Header.{segment_of}
 use Rattle.rb_segment.specs.Segments.{commit_scn, owed_in}
+use Rattle.rb_sessions.specs.Kept.{KeptSession, fresh, kept_at}
+use Rattle.rb_sessions.specs.declared.sessions.TheConstants.{SESSIONS}
 use Rattle.rb_standing.specs.Standing.{SoundAs, env_of, logged_of, segments_of}
 use Rattle.rb_standing.specs.States.{BlocksStand}
 use Rattle.rb_standing.proofs.SegmentRead.{header_is}
+use Rattle.rb_views.specs.Views.{Remembers}
+use Rattle.rb_views.proofs.Remembering.{first_is_remembered}
 
 -- what holds of the store behind loads holds of the one before them
 pub moved : {S : Type 0} (s : Ghosts S) (old mid : S) (F : Shape → Option ℕ → ℕ → List (List ℕ) → Type 0) → Logs s old mid [] true → s.tells → F (s.shape_of mid) (s.slots mid) (s.lsn mid) (s.blocks mid) → F (s.shape_of old) (s.slots old) (s.lsn old) (s.blocks old)
@@ -65,29 +64,29 @@ refused s old mid new (Err Failed) groups first logs none no_memory = λ other. 
 pub loaded_on : {S : Type 0} (s : Ghosts S) (old mid new : S) (groups : List (List Patch)) (going : Bool) → Logs s old mid groups true → Logs s mid new [] going → Logs s old new groups going
 loaded_on s old mid new groups going logs loads = subst (λ (l : List (List Patch)). Logs s old new l going) (append-nil groups) (more_logs s old mid new groups [] going logs loads)
 
--- what stands in the memory
-pub memory_is : (shape there : Shape) (blocks read : List (List ℕ)) (base number : ℕ) (state : State) → there ≡ shape → base ≡ number → read ≡ blocks → state ≡ opened there base state.commits.rows [] → state.commits.rows ≡ rows_found there read (table_blocks there)
-    → state ≡ opened shape number (rows_found shape blocks (table_blocks shape)) []
-memory_is shape there blocks read base number state same is same_blocks opening found =
-    opening
-    ∙ ap (λ (rows : List TableRow). opened there base rows []) found
-    ∙ ap (λ (x : Shape). opened x base (rows_found x read (table_blocks x)) []) same
-    ∙ ap (λ (n : ℕ). opened shape n (rows_found shape read (table_blocks shape)) []) is
-    ∙ ap (λ (b : List (List ℕ)). opened shape number (rows_found shape b (table_blocks shape)) []) same_blocks
+-- a new table is that of sessions that have done nothing
+fresh_at : (u : ℕ) → kept_at (replicate SESSIONS fresh) u ≡ fresh
+fresh_at u = by (u - 1) 16
+  where
+    by : (i n : ℕ) → get_or (replicate n fresh) i fresh ≡ fresh
+    by i zero = refl
+    by zero (suc n) = refl
+    by (suc i) (suc n) = by i n
 
 -- an engine that was just opened is in step
-pub in_step : {S : Type 0} (s : Ghosts S) (kept : Kept) (old new : S) (groups : List (List Patch)) (base : ℕ) (rows : List TableRow) → Logs s old new groups true → length groups ≤ 2 ^ 40 → s.lsn old ≤ 2 ^ 61 + 4096 → IsShape (s.shape_of old)
-    → kept.own ≡ None → kept.state ≡ opened (s.shape_of old) base rows [] → IsInStep s kept new
-in_step s kept old new groups base rows logs few low in_range idle is =
-    let shape : kept.state.shape ≡ s.shape_of old = ap (λ (h : State). h.shape) is in
-    let none : length (session_own kept.state 1) ≡ 0 = ap (λ (h : State). length (session_own h 1)) is in record {
-      same_shape = logs.same_shape ∙ sym shape;
-      in_range = subst IsShape (sym shape) in_range;
-      own = λ x has. let clash : None ≡ Some x = sym idle ∙ has in absurd cc;
-      idle = λ _. none;
-      busy = λ x has. let clash : None ≡ Some x = sym idle ∙ has in absurd cc;
+pub in_step : {S : Type 0} (s : Ghosts S) (kept : Kept) (old new : S) (groups : List (List Patch)) → Logs s old new groups true → length groups ≤ 2 ^ 40 → s.lsn old ≤ 2 ^ 61 + 4096 → IsShape (s.shape_of old)
+    → kept.sessions ≡ replicate SESSIONS fresh → IsInStep s kept new
+in_step s kept old new groups logs few low in_range is =
+    let at : (u : ℕ) → kept_at kept.sessions u ≡ fresh = λ u. ap (λ (l : List KeptSession). kept_at l u) is ∙ fresh_at u in record {
+      in_range = subst IsShape (sym logs.same_shape) in_range;
+      counted = ap (λ (l : List KeptSession). length l) is;
+      tables = λ u. subst (InTables (s.shape_of new)) (sym (at u)) tt;
+      own = λ u x has. let clash : None ≡ Some x = ap (λ (k : KeptSession). k.own) (sym (at u)) ∙ has in absurd cc;
+      small = λ u. let none = ap (λ (k : KeptSession). k.count) (at u) in omega (arith, none);
+      idle = λ u _. ap (λ (k : KeptSession). k.count) (at u);
+      busy = λ u x has. let clash : None ≡ Some x = ap (λ (k : KeptSession). k.own) (sym (at u)) ∙ has in absurd cc;
       going = λ _. logs.failed;
-      few = λ _. let number = logs.number refl in omega (arith, number, few, low, none);
+      few = λ _. let number = logs.number refl in let none = ap changes_kept is in omega (arith, number, few, low, none);
     }
 
 -- the rows of an opened state at its last commit are its base
@@ -173,23 +172,17 @@ module _ {S : Type 0} (s : Ghosts S) (laws : Laws s) (told : s.tells) (h : State
         let made = logs.blocks told refl ∙ ap (λ (l : List (List Patch)). after_groups (s.lsn old + 1) l (s.blocks old)) (sym (take_all (length groups) groups (omega arith))) in
         subst (λ (blocks : List (List ℕ)). SoundAs Sh blocks Number Rows) (sym made) (stay (length groups) (omega arith)).sound
 
-    -- the rows that are found behind the put back are the state's
-    pub found_is : rows_found Sh (s.blocks new) (table_blocks Sh) ≡ Rows
-    found_is = rows_are Sh (s.blocks new) Number Rows opens.in_range sound_new back.idle
-
-    none_owns : HasNoSlot (First Sh (s.blocks old) Number Rows) 1
-    none_owns t o at is =
+    none_owns : (who : ℕ) → HasNoSlot (First Sh (s.blocks old) Number Rows) who
+    none_owns who t o at is =
         let none : owner_at (First Sh (s.blocks new) Number Rows) t ≡ None = unowned Sh (s.blocks new) Number Rows opens.in_range sound_new back.idle t in
         let same = ap (λ (books : List Book). owner_at (opened Sh Number Rows books) t) (books_same Sh (s.blocks old) (s.blocks new) back.books) in
         let clash : None ≡ Some o = sym none ∙ (same ∙ at) in
         cc
 
-    holds_first : (s.keeps → Keeps s (HasState (First Sh (s.blocks old) Number Rows) (First Sh (s.blocks old) Number Rows).books (last_scn (First Sh (s.blocks old) Number Rows).commits) (s.slots new)) new) → Holds s (First Sh (s.blocks old) Number Rows) None new
+    holds_first : (s.keeps → Keeps s (HasState (First Sh (s.blocks old) Number Rows) (First Sh (s.blocks old) Number Rows).books (last_scn (First Sh (s.blocks old) Number Rows).commits) (s.slots new)) new) → Holds s (First Sh (s.blocks old) Number Rows) [] new
     holds_first images = record {
-      xids = [];
       blocks = stand.0;
       logged = stand.1;
-      id = id_none (First Sh (s.blocks old) Number Rows) (env_of Sh (s.blocks new)) 1 none_owns;
       fits = let none = owed_none Sh (s.blocks new) back.idle in omega (arith, none);
       images = images;
     }
@@ -198,25 +191,32 @@ module _ {S : Type 0} (s : Ghosts S) (laws : Laws s) (told : s.tells) (h : State
     images_new keeps = subst (λ (slots : Option ℕ). Keeps s (HasState h h.books (last_scn h.commits) slots) new) (sym logs.same_slots)
         (keeps_on s laws keeps Has Has (λ b n has. has) old new groups (kept keeps) logs (each groups stay))
 
-    holds : Holds s h None new
+    holds : Holds s h [] new
     holds =
-        subst (λ (x : State). (s.keeps → Keeps s (HasState x x.books (last_scn x.commits) (s.slots new)) new) → Holds s x None new) (sym opens.opening.state) holds_first images_new
+        subst (λ (x : State). (s.keeps → Keeps s (HasState x x.books (last_scn x.commits) (s.slots new)) new) → Holds s x [] new) (sym opens.opening.state) holds_first images_new
 
     -- an engine with such a memory
-    pub opened_engine : (memory : Kept) → memory.own ≡ None → memory.state ≡ opened Sh (commit_scn Sh (s.blocks old)) (rows_found Sh (s.blocks new) (table_blocks Sh)) []
-        → ((slots : ℕ) → s.slots old ≡ Some slots → slots - 1 - s.lsn old ≤ memory.spare) → Opened s h old (record { memory = memory; store = new })
-    opened_engine memory idle is room = record {
+    pub opened_engine : (memory : Kept) → memory.sessions ≡ replicate SESSIONS fresh → memory.scn ≡ commit_scn Sh (s.blocks old) → memory.stopped ≡ false → Opened s h old (record { memory = memory; store = new })
+    opened_engine memory table_is scn going = record {
       stands = record {
         told = told;
         shape = logs.same_shape ∙ shape_is;
-        alone = ap (λ (x : State). length x.sessions) opens.opening.state;
-        memory = is
-            ∙ ap (λ (n : ℕ). opened Sh n (rows_found Sh (s.blocks new) (table_blocks Sh)) []) opens.opening.sound.standing.stands.number
-            ∙ ap (λ (rows : List TableRow). opened Sh Number rows []) found_is
-            ∙ sym (ap bare opens.opening.state);
-        enough = λ going slots has. let spare = room slots (sym logs.same_slots ∙ has) in let later = logs.number refl in omega (arith, spare, later);
-        holds = λ going. subst (λ (own : Option Xid). Holds s h own new) (sym idle) holds;
+        knows = record {
+          sixteen = ap (λ (x : State). length x.sessions) opens.opening.state;
+          stopped = going ∙ sym (ap (λ (x : State). x.stopped) opens.opening.state);
+          scn = scn ∙ (opens.opening.sound.standing.stands.number ∙ (first_number ∙ sym (ap (λ (x : State). last_scn x.commits) opens.opening.state)));
+        };
+        goes = λ _. record {
+          xids = [];
+          holds = holds;
+          remembers = subst (Remembers h [] (env_of h.shape (s.blocks new))) (sym table_is)
+              (subst (λ (x : State). Remembers x [] (env_of h.shape (s.blocks new)) (replicate SESSIONS fresh)) (sym opens.opening.state)
+              (first_is_remembered Sh Number Rows (books_of Sh (s.blocks old)) (env_of h.shape (s.blocks new)) none_owns));
+        };
       };
       lsn = logs.number refl ∙ ap (λ (n : ℕ). s.lsn old + n) back.count;
       stays = stays new groups true logs stay;
     }
+      where
+        first_number : Number ≡ last_scn (First Sh (s.blocks old) Number Rows).commits
+        first_number = omega arith

@@ -1,6 +1,6 @@
 -- What a rollback leaves, change by change, from the groups of its steps.
 use Rattle.std.proofs.Common.{◌≡◌, ◌<◌, ◌≤◌, ◌+◌, ◌-◌, ◌*◌, ◌^◌, ◌∷◌, ◌++◌, inl, ℕ, suc, Bool, true, false, not, List, [], length, length-append, map, set, take, Option, Some, None, Result, Ok, Err, OnOk, refl, sym, ◌∙◌, ap, subst, arith}
-use Rattle.std.proofs.lemmas.List.{set-set, take_all}
+use Rattle.std.proofs.lemmas.List.{length-set, set-set, take_all}
 use Rattle.std.specs.Result.{is_err}
 use Rattle.rb_attempt.specs.Asks.{header_in}
 use Rattle.rb_base.specs.Blocks.{after_groups}
@@ -11,21 +11,20 @@ use Rattle.rb_base.specs.Stores.{room_of}
 use Rattle.rb_base.specs.declared.ids.Xid.{Xid}
 use Rattle.rb_base.specs.declared.shape.Shape.{Shape}
 use Rattle.rb_base.specs.declared.store.Store.{Ghosts}
-use Rattle.rb_engine.specs.Does.{Does, EngineView, SameStore, Stands}
-use Rattle.rb_engine.specs.Finishing.{Fails, PutsAllBack}
-use Rattle.rb_engine.proofs.DoesLemmas.{does_by, survives_same}
-use Rattle.rb_engine.proofs.FinishLemmas.{holds_own, no_early, own_known, runs_in}
+use Rattle.rb_engine.specs.Does.{Does, EngineView, Goes, SameStore, Stands}
+use Rattle.rb_engine.specs.Finishing.{Fails, PutsAllBack, SameIds}
+use Rattle.rb_engine.proofs.DoesLemmas.{does_by, knows_on, survives_same}
+use Rattle.rb_engine.proofs.FinishLemmas.{goes, no_early, own_by, own_id, runs_in}
 use Rattle.rb_image.specs.Crash.{MarksGrow, Survives}
 use Rattle.rb_image.specs.Holds.{Holds}
 use Rattle.rb_image.specs.Images.{HasState}
-use Rattle.rb_image.specs.Made.{BackMade, EndMade, GivesOne}
+use Rattle.rb_image.specs.Made.{BackMade, EndMade, GivesOne, KeepsIds}
 use Rattle.rb_image.proofs.Crashes.{grow_same, has_later, has_state, survives_on}
 use Rattle.rb_image.proofs.Marks.{shrinks_left}
-use Rattle.rb_image.proofs.Owners.{OwnedBy, owned_by}
+use Rattle.rb_image.proofs.Owners.{OwnedBy, owned_by, same_owners}
 use Rattle.rb_image.proofs.Steps.{read_has, survives_going}
 use Rattle.rb_image.proofs.StepsHeld.{few_each, holds_back, holds_ended, room_less}
 use Rattle.rb_model.specs.Book.{Book}
-use Rattle.rb_memory.specs.Remembers.{Remembers}
 use Rattle.rb_model.specs.Calls.{Call, Done, Owned, Reply, Rollback}
 use Rattle.rb_model.specs.Change.{Change}
 use Rattle.rb_model.specs.NextState.{EndsAs, cursors_of, ended, left_open, not_present, without_owner}
@@ -35,38 +34,60 @@ use Rattle.rb_restart.proofs.Joined.{room_on}
 use Rattle.rb_restart.proofs.Slots.{owed_is, slot_for}
 use Rattle.rb_segment.specs.Calls.{Runs}
 use Rattle.rb_segment.specs.Segments.{commit_scn, owed_in}
+use Rattle.rb_sessions.specs.Kept.{kept_at, rolled_back, with_kept}
 use Rattle.rb_standing.specs.NextStates.{with_own}
 use Rattle.rb_standing.specs.Standing.{env_of, homes_of, logged_of, segments_of}
-use Rattle.rb_standing.specs.States.{BlocksStand, lives_of, past_of}
+use Rattle.rb_standing.specs.States.{BlocksStand, Owns, lives_of, past_of}
 use Rattle.rb_standing.specs.Values.{slot_of}
 use Rattle.rb_standing.proofs.OwedMoves.{owed_committed}
 use Rattle.rb_standing.proofs.States.{length_newest, lives_owned}
 use Rattle.rb_txntable.specs.declared.slots.TableSlot.{TableSlot}
 use Rattle.rb_undoengine.proofs.LeftOwn.{last_of, own_again, own_all, own_left}
+use Rattle.rb_verdict.specs.Verdict.{IsOwnId}
+use Rattle.rb_views.specs.Views.{Remembers}
+use Rattle.rb_views.proofs.Remembering.{rolled_back_is_remembered}
 use Rattle.rb_walk.specs.Walk as walk
-use Rattle.rb_walk.specs.Walk.{own}
+use Rattle.rb_walk.specs.Walk.{Env, own}
+
+-- An id stays its session's over a step that changes no owner.
+pub id_kept : (h h2 : State) (env env2 : Env) (who : ℕ) (own : Option Xid) → h2.books ≡ h.books → KeepsIds h env env2 → IsOwnId h env who own → IsOwnId h2 env2 who own
+id_kept h h2 env env2 who own books ids id = record {
+  owns = λ t o.
+      let was : Owns h who t = record { owner = o.owner; at = sym (same_owners h h2 t books) ∙ o.at; session = o.session } in
+      id.owns t was ∙ ap (λ (y : Xid). Some y) (sym (ids who t was));
+  owned = λ x is.
+      let f : (t : ℕ) × Owns h who t × (x ≡ env.xid t) = id.owned x is in
+      (f.0, record { owner = f.1.owner; at = same_owners h h2 f.0 books ∙ f.1.at; session = f.1.session }, f.2 ∙ sym (ids who f.0 f.1));
+}
+
+ids_on : (h m : State) (a b c : Env) → m.books ≡ h.books → KeepsIds h a b → KeepsIds m b c → KeepsIds h a c
+ids_on h m a b c books one two u t owns = two u t (record { owner = owns.owner; at = same_owners h m t books ∙ owns.at; session = owns.session }) ∙ one u t owns
 
 module _ {S : Type 0} (s : Ghosts S) where
   -- The state with these changes left is what the store has, so many groups later, and of a crash no more is left.
-  pub record IsLeft (h : State) (x : Xid) (left : List Change) (turn : ℕ) (old now : S) : Type 0 where
-    pub holds : Holds s (with_own h 1 left) (Some x) now
+  pub record IsLeft (h : State) (xids : List Xid) (who : ℕ) (x : Xid) (left : List Change) (turn : ℕ) (old now : S) : Type 0 where
+    pub holds : Holds s (with_own h who left) xids now
+    pub ids : SameIds s h old now
+    pub id : IsOwnId (with_own h who left) (env_of h.shape (s.blocks now)) who (Some x)
     pub lsn : s.lsn now ≡ s.lsn old + turn
-    pub survives : (before : Option Call) → s.keeps → Survives s (s.slots old) before h (with_own h 1 left) old now
+    pub survives : (before : Option Call) → s.keeps → Survives s (s.slots old) before h (with_own h who left) old now
 
   -- a state that a rollback of so many changes starts from
-  pub record Starts (h : State) (x : Xid) (count : ℕ) (old : S) : Type 0 where
+  pub record Starts (h : State) (xids : List Xid) (who : ℕ) (x : Xid) (count : ℕ) (old : S) : Type 0 where
     pub shape : s.shape_of old ≡ h.shape
-    pub holds : Holds s h (Some x) old
-    pub alone : length h.sessions ≡ 1
+    pub holds : Holds s h xids old
+    pub low : 1 ≤ who
+    pub high : who ≤ length h.sessions
+    pub id : IsOwnId h (env_of h.shape (s.blocks old)) who (Some x)
     pub going : h.stopped ≡ false
-    pub own : length (session_own h 1) ≡ count
+    pub own : length (session_own h who) ≡ count
 
   -- As many of `count` changes are put back.
   pub record PutBacks (x : Xid) (count turn : ℕ) (old now : S) : Type 0 where
     pub groups : List (List Patch)
     pub logs : Logs s old now groups true
     pub few : length groups ≤ turn
-    pub left : s.tells → (h : State) → Starts h x count old → IsLeft h x (take (count - turn) (session_own h 1)) turn old now
+    pub left : s.tells → (h : State) (xids : List Xid) (who : ℕ) → Starts h xids who x count old → IsLeft h xids who x (take (count - turn) (session_own h who)) turn old now
 
   -- what groups are to a count of faults, and to the store's shape
   pub logs_counted : {T E : Type 0} (old new : S) (groups : List (List Patch)) (r : Result T E) → Logs s old new groups (not (is_err r)) → IsCounted (s.faults old) (s.faults new) r
@@ -82,10 +103,10 @@ module _ {S : Type 0} (s : Ghosts S) where
 
   module _ (told : s.tells) (laws : Laws s) where
     -- A step that failed, whose group leaves the commits and no more marks: whatever changes the sessions have left.
-    step_fails : {fault : Option Call} → (m : State) (own : Option Xid) (old new : S) (all left : List Session) (books : List Book) (xids : List Xid) (Is : List (List ℕ) → Type 0) → s.shape_of old ≡ m.shape → Holds s m own old → MarksGrow m.shape books m.books
+    step_fails : {fault : Option Call} → (m : State) (xids : List Xid) (old new : S) (all left : List Session) (books : List Book) (Is : List (List ℕ) → Type 0) → s.shape_of old ≡ m.shape → Holds s m xids old → MarksGrow m.shape books m.books
         → ((now : List (List ℕ)) → Is now → BlocksStand (record m { sessions = left; books = books }) xids now × (logged_of m.shape now ≡ logged_of m.shape (s.blocks old) + 1) × (owed_in m.shape now + 1 ≤ owed_in m.shape (s.blocks old)))
         → GivesOne s old new false Is → s.keeps → Survives s (s.slots old) fault m (record m { sessions = all; stopped = true }) old new
-    step_fails m own old new all left books xids Is shape holds marks is one keeps =
+    step_fails m xids old new all left books Is shape holds marks is one keeps =
         let P : List (List ℕ) → ℕ → Type 0 = HasState m m.books (last_scn m.commits) (s.slots old) in
         let h2 : State = record m { sessions = all; stopped = true } in
         let h3 : State = record m { sessions = left; books = books } in
@@ -100,52 +121,57 @@ module _ {S : Type 0} (s : Ghosts S) where
         (few_each s told laws Q one.groups (s.blocks old) (s.lsn old) keeps one.few (so _ _ (read_has s laws keeps P old (holds.images keeps))) after)
 
     -- the slot that the transaction has, with some changes left
-    id_left : (h : State) (x : Xid) (left : List Change) (turn : ℕ) (old now : S) → (is : IsLeft h x left turn old now) → OwnedBy (with_own h 1 left) (s.blocks now) 1 x
-    id_left h x left turn old now is = owned_by (with_own h 1 left) is.holds.xids (s.blocks now) 1 x is.holds.blocks is.holds.id
+    id_left : (h : State) (xids : List Xid) (who : ℕ) (x : Xid) (left : List Change) (turn : ℕ) (old now : S) → (is : IsLeft h xids who x left turn old now) → OwnedBy (with_own h who left) (s.blocks now) who x
+    id_left h xids who x left turn old now is = owned_by (with_own h who left) xids (s.blocks now) who x is.holds.blocks is.id
 
-    module _ (h : State) (x : Xid) (count : ℕ) (old mid new : S) (st : Starts h x count old) (same : SameStore s old mid) where
+    module _ (h : State) (xids : List Xid) (who : ℕ) (x : Xid) (count : ℕ) (old mid new : S) (st : Starts h xids who x count old) (same : SameStore s old mid) where
       -- the calls before, and a step that failed
-      fails_on : (fault : Option Call) (a : List Change) (turn : ℕ) → IsLeft h x a turn old mid → (s.keeps → Survives s (s.slots mid) fault (with_own h 1 a) (record h { stopped = true }) mid new) → Fails s fault h old new
-      fails_on fault a turn left step keeps = survives_on s (s.slots old) h (with_own h 1 a) (record h { stopped = true }) old mid new st.going (left.survives fault keeps)
-          (subst (λ (k : Option ℕ). Survives s k fault (with_own h 1 a) (record h { stopped = true }) mid new) same.slots (step keeps))
+      fails_on : (fault : Option Call) (a : List Change) (turn : ℕ) → IsLeft h xids who x a turn old mid → (s.keeps → Survives s (s.slots mid) fault (with_own h who a) (record h { stopped = true }) mid new) → Fails s fault h old new
+      fails_on fault a turn left step keeps = survives_on s (s.slots old) h (with_own h who a) (record h { stopped = true }) old mid new st.going (left.survives fault keeps)
+          (subst (λ (k : Option ℕ). Survives s k fault (with_own h who a) (record h { stopped = true }) mid new) same.slots (step keeps))
 
-      module _ (a front : List Change) (turn : ℕ) (left : IsLeft h x a turn old mid) where
-        pub back_fails : GivesOne s mid new false (λ now. BackMade (with_own h 1 a) left.holds.xids 1 front (s.blocks mid) now) → (fault : Option Call) → Fails s fault h old new
+      module _ (a front : List Change) (turn : ℕ) (left : IsLeft h xids who x a turn old mid) where
+        pub back_fails : GivesOne s mid new false (λ now. BackMade (with_own h who a) xids who front (s.blocks mid) now) → (fault : Option Call) → Fails s fault h old new
         back_fails one fault =
-            let m : State = with_own h 1 a in
-            fails_on fault a turn left (step_fails m (Some x) mid new h.sessions (set m.sessions 0 (with_changes m 1 front)) m.books left.holds.xids (λ now. BackMade m left.holds.xids 1 front (s.blocks mid) now) (same.shape ∙ st.shape) left.holds (grow_same m.shape m.books)
+            let m : State = with_own h who a in
+            fails_on fault a turn left (step_fails m xids mid new h.sessions (set m.sessions (who - 1) (with_changes m who front)) m.books (λ now. BackMade m xids who front (s.blocks mid) now) (same.shape ∙ st.shape) left.holds (grow_same m.shape m.books)
             (λ now made. (made.stand, made.last, made.owed)) one)
 
-        pub back_done : GivesOne s mid new true (λ now. BackMade (with_own h 1 a) left.holds.xids 1 front (s.blocks mid) now) → IsLeft h x front (turn + 1) old new
+        pub back_done : GivesOne s mid new true (λ now. BackMade (with_own h who a) xids who front (s.blocks mid) now) → IsLeft h xids who x front (turn + 1) old new
         back_done one =
-            let m : State = with_own h 1 a in
-            let all : (before : Option Call) → Holds s (with_own m 1 front) (Some x) new × (s.keeps → Survives s (s.slots mid) before m (with_own m 1 front) mid new) = λ before. holds_back s told laws m (Some x) mid new front (same.shape ∙ st.shape) left.holds before one in
-            let again : with_own m 1 front ≡ with_own h 1 front = own_again h 1 (omega arith) (omega (arith, st.alone)) a front in
+            let m : State = with_own h who a in
+            let all : (before : Option Call) → Holds s (with_own m who front) xids new × (s.keeps → Survives s (s.slots mid) before m (with_own m who front) mid new) = λ before. holds_back s told laws m xids who mid new front (same.shape ∙ st.shape) left.holds before one in
+            let again : with_own m who front ≡ with_own h who front = own_again h who st.low st.high a front in
+            let made : BackMade m xids who front (s.blocks mid) (s.blocks new) = subst (λ b. BackMade m xids who front (s.blocks mid) b) (sym (one.logs.blocks told refl)) (one.made (let k = one.one refl in omega (arith, k))) in
             record {
-              holds = subst (λ (z : State). Holds s z (Some x) new) again (all None).0;
+              holds = subst (λ (z : State). Holds s z xids new) again (all None).0;
+              ids = ids_on h m (env_of h.shape (s.blocks old)) (env_of h.shape (s.blocks mid)) (env_of h.shape (s.blocks new)) refl left.ids made.ids;
+              id = id_kept m (with_own h who front) (env_of h.shape (s.blocks mid)) (env_of h.shape (s.blocks new)) who (Some x) refl made.ids left.id;
               lsn = let n = one.logs.number refl in let k = one.one refl in omega (arith, n, k, left.lsn);
               survives = λ before keeps. subst (λ (z : State). Survives s (s.slots old) before h z old new) again
-                  (survives_on s (s.slots old) h m (with_own m 1 front) old mid new st.going (left.survives before keeps) (subst (λ (k : Option ℕ). Survives s k before m (with_own m 1 front) mid new) same.slots ((all before).1 keeps)));
+                  (survives_on s (s.slots old) h m (with_own m who front) old mid new st.going (left.survives before keeps) (subst (λ (k : Option ℕ). Survives s k before m (with_own m who front) mid new) same.slots ((all before).1 keeps)));
             }
 
       -- the end of the slot, once no change is left
-      pub ends_all : (left : IsLeft h x [] count old mid) (going : Bool) → GivesOne s mid new going (λ now. EndMade (with_own h 1 []) left.holds.xids 1 x (s.blocks mid) now) → PutsAllBack s h x old new going
+      pub ends_all : (left : IsLeft h xids who x [] count old mid) (going : Bool) → GivesOne s mid new going (λ now. EndMade (with_own h who []) xids who x (s.blocks mid) now) → PutsAllBack s h xids who x old new going
       ends_all left true one = λ cursors.
-          let m : State = with_own h 1 [] in
-          let all : (before : Option Call) → Holds s (without_owner x.seg x.slot (ended m 1 cursors)) None new × (s.keeps → Survives s (s.slots mid) before m (without_owner x.seg x.slot (ended m 1 cursors)) mid new) = λ before. holds_ended s told laws m x mid new (same.shape ∙ st.shape) left.holds before cursors one in
-          let again : without_owner x.seg x.slot (ended m 1 cursors) ≡ without_owner x.seg x.slot (ended h 1 cursors) =
-          ap (λ (z : List Session). without_owner x.seg x.slot (record h { sessions = z })) (set-set h.sessions 0 (with_changes h 1 []) (record { own = []; cursors = map not_present cursors })) in (
-            subst (λ (z : State). Holds s z None new) again (all None).0,
+          let m : State = with_own h who [] in
+          let all : (before : Option Call) → Holds s (without_owner x.seg x.slot (ended m who cursors)) xids new × (s.keeps → Survives s (s.slots mid) before m (without_owner x.seg x.slot (ended m who cursors)) mid new) = λ before. holds_ended s told laws m xids who x mid new (same.shape ∙ st.shape) left.holds before cursors one in
+          let made : EndMade m xids who x (s.blocks mid) (s.blocks new) = subst (λ b. EndMade m xids who x (s.blocks mid) b) (sym (one.logs.blocks told refl)) (one.made (let k = one.one refl in omega (arith, k))) in
+          let again : without_owner x.seg x.slot (ended m who cursors) ≡ without_owner x.seg x.slot (ended h who cursors) =
+          ap (λ (z : List Session). without_owner x.seg x.slot (record h { sessions = z })) (set-set h.sessions (who - 1) (with_changes h who []) (record { own = []; cursors = map not_present cursors })) in (
+            subst (λ (z : State). Holds s z xids new) again (all None).0,
+            ids_on h m (env_of h.shape (s.blocks old)) (env_of h.shape (s.blocks mid)) (env_of h.shape (s.blocks new)) refl left.ids made.ids,
             (let n = one.logs.number refl in let k = one.one refl in omega (arith, n, k, left.lsn, st.own)),
             λ before keeps. subst (λ (z : State). Survives s (s.slots old) before h z old new) again
-                (survives_on s (s.slots old) h m (without_owner x.seg x.slot (ended m 1 cursors)) old mid new st.going (left.survives before keeps)
-                (subst (λ (k : Option ℕ). Survives s k before m (without_owner x.seg x.slot (ended m 1 cursors)) mid new) same.slots ((all before).1 keeps))),
+                (survives_on s (s.slots old) h m (without_owner x.seg x.slot (ended m who cursors)) old mid new st.going (left.survives before keeps)
+                (subst (λ (k : Option ℕ). Survives s k before m (without_owner x.seg x.slot (ended m who cursors)) mid new) same.slots ((all before).1 keeps))),
           )
       ends_all left false one = λ fault.
-          let m : State = with_own h 1 [] in
-          let id = id_left h x [] count old mid left in
-          let ends : State = without_owner x.seg x.slot (ended m 1 []) in
-          fails_on fault [] count left (step_fails m (Some x) mid new h.sessions ends.sessions ends.books left.holds.xids (λ now. EndMade m left.holds.xids 1 x (s.blocks mid) now) (same.shape ∙ st.shape) left.holds (shrinks_left m.shape m.books x.seg x.slot left.holds.blocks.tell.books_counted)
+          let m : State = with_own h who [] in
+          let id = id_left h xids who x [] count old mid left in
+          let ends : State = without_owner x.seg x.slot (ended m who []) in
+          fails_on fault [] count left (step_fails m xids mid new h.sessions ends.sessions ends.books (λ now. EndMade m xids who x (s.blocks mid) now) (same.shape ∙ st.shape) left.holds (shrinks_left m.shape m.books x.seg x.slot left.holds.blocks.tell.books_counted)
           (λ now made. (made.stand [], made.last, made.owed)) one)
 
   -- Before the first.
@@ -154,13 +180,15 @@ module _ {S : Type 0} (s : Ghosts S) where
     groups = [];
     logs = no_logs s old runs;
     few = omega arith;
-    left = λ told h st.
-        let all : h ≡ with_own h 1 (take (count - 0) (session_own h 1)) = sym (ap (with_own h 1) (take_all (count - 0) (session_own h 1) (omega (arith, st.own))) ∙ own_all h 1) in
+    left = λ told h xids who st.
+        let all : h ≡ with_own h who (take (count - 0) (session_own h who)) = sym (ap (with_own h who) (take_all (count - 0) (session_own h who) (omega (arith, st.own))) ∙ own_all h who) in
         record {
-          holds = subst (λ (z : State). Holds s z (Some x) old) all st.holds;
+          holds = subst (λ (z : State). Holds s z xids old) all st.holds;
+          ids = λ u t owns. refl;
+          id = subst (λ (z : State). IsOwnId z (env_of h.shape (s.blocks old)) who (Some x)) all st.id;
           lsn = omega arith;
           survives = λ before keeps. subst (λ (z : State). Survives s (s.slots old) before h z old old) all
-              (survives_same s told laws h h (Some x) old old true st.shape refl refl refl st.holds (no_logs s old runs) keeps);
+              (survives_same s told laws h h xids old old true st.shape refl refl refl st.holds (no_logs s old runs) keeps);
         };
   }
 
@@ -195,25 +223,25 @@ module _ {S : Type 0} (s : Ghosts S) where
 
     module _ (laws : Laws s) (more : turn < count) where
       -- what the next call is about
-      about : (told : s.tells) (h : State) (st : Starts h x count old) (new : S) (going : Bool) → BackGives mid new x going
-          → (a : List Change) × (left : IsLeft h x a turn old mid) × GivesOne s mid new going (λ now. BackMade (with_own h 1 a) left.holds.xids 1 (take (count - (turn + 1)) (session_own h 1)) (s.blocks mid) now)
-      about told h st new going gives =
-          let mine = session_own h 1 in
+      about : (told : s.tells) (h : State) (xids : List Xid) (who : ℕ) (st : Starts h xids who x count old) (new : S) (going : Bool) → BackGives mid new x going
+          → (a : List Change) × (left : IsLeft h xids who x a turn old mid) × GivesOne s mid new going (λ now. BackMade (with_own h who a) xids who (take (count - (turn + 1)) (session_own h who)) (s.blocks mid) now)
+      about told h xids who st new going gives =
+          let mine = session_own h who in
           let m = count - (turn + 1) in
           let a = take (count - turn) mine in
-          let left = first.left told h st in
-          let id = id_left told laws h x a turn old mid left in
+          let left = first.left told h xids who st in
+          let id = id_left told laws h xids who x a turn old mid left in
           let last : (c : Change) × (take (suc m) mine ≡ take m mine ++ c ∷ []) = last_of mine m (omega (arith, st.own, more)) in
           let count_is : count - turn ≡ suc m = omega (arith, more) in
           let front : a ≡ take m mine ++ last.0 ∷ [] = ap (λ (n : ℕ). take n mine) count_is ∙ last.1 in (
             a,
             left,
-            gives told (with_own h 1 a) left.holds.xids 1 (take m mine) last.0 left.holds.blocks (same.shape ∙ st.shape) id.owned (runs_in (with_own h 1 a) (s.blocks mid) x id.runs)
-                (own_left h 1 (omega arith) (omega (arith, st.alone)) a ∙ front) left.holds.logged,
+            gives told (with_own h who a) xids who (take m mine) last.0 left.holds.blocks (same.shape ∙ st.shape) id.owned (runs_in (with_own h who a) (s.blocks mid) x id.runs)
+                (own_left h who st.low st.high a ∙ front) left.holds.logged,
           )
 
-      pub one_fails : (new : S) → BackGives mid new x false → s.tells → (h : State) → Starts h x count old → (fault : Option Call) → Fails s fault h old new
-      one_fails new gives told h st fault = let w = about told h st new false gives in back_fails told laws h x count old mid new st same w.0 (take (count - (turn + 1)) (session_own h 1)) turn w.1 w.2 fault
+      pub one_fails : (new : S) → BackGives mid new x false → s.tells → (h : State) (xids : List Xid) (who : ℕ) → Starts h xids who x count old → (fault : Option Call) → Fails s fault h old new
+      one_fails new gives told h xids who st fault = let w = about told h xids who st new false gives in back_fails told laws h xids who x count old mid new st same w.0 (take (count - (turn + 1)) (session_own h who)) turn w.1 w.2 fault
 
       pub one_more : (new : S) → (groups : List (List Patch)) × Logs s mid new groups true × (length groups ≤ 1) → BackGives mid new x true → PutBacks x count (turn + 1) old new
       one_more new second gives =
@@ -221,51 +249,64 @@ module _ {S : Type 0} (s : Ghosts S) where
             groups = g.0;
             logs = g.1;
             few = g.2;
-            left = λ told h st. let w = about told h st new true gives in back_done told laws h x count old mid new st same w.0 (take (count - (turn + 1)) (session_own h 1)) turn w.1 w.2;
+            left = λ told h xids who st. let w = about told h xids who st new true gives in back_done told laws h xids who x count old mid new st same w.0 (take (count - (turn + 1)) (session_own h who)) turn w.1 w.2;
           }
 
     -- all are
-    pub all_back : Laws s → turn ≡ count → (new : S) (going : Bool) → EndGives mid new x going → s.tells → (h : State) → Starts h x count old → PutsAllBack s h x old new going
-    all_back laws is new going gives told h st =
-        let none : take (count - turn) (session_own h 1) ≡ [] = ap (λ (n : ℕ). take n (session_own h 1)) (let z : count - turn ≡ 0 = omega (arith, is) in z) in
-        let left : IsLeft h x [] count old mid = subst (λ (n : ℕ). IsLeft h x [] n old mid) is (subst (λ (l : List Change). IsLeft h x l turn old mid) none (first.left told h st)) in
-        let id = id_left told laws h x [] count old mid left in
-        ends_all told laws h x count old mid new st same left going
-        (gives told (with_own h 1 []) left.holds.xids 1 left.holds.blocks (same.shape ∙ st.shape) id.owned (runs_in (with_own h 1 []) (s.blocks mid) x id.runs) (own_left h 1 (omega arith) (omega (arith, st.alone)) []) left.holds.logged)
+    pub all_back : Laws s → turn ≡ count → (new : S) (going : Bool) → EndGives mid new x going → s.tells → (h : State) (xids : List Xid) (who : ℕ) → Starts h xids who x count old → PutsAllBack s h xids who x old new going
+    all_back laws is new going gives told h xids who st =
+        let none : take (count - turn) (session_own h who) ≡ [] = ap (λ (n : ℕ). take n (session_own h who)) (let z : count - turn ≡ 0 = omega (arith, is) in z) in
+        let left : IsLeft h xids who x [] count old mid = subst (λ (n : ℕ). IsLeft h xids who x [] n old mid) is (subst (λ (l : List Change). IsLeft h xids who x l turn old mid) none (first.left told h xids who st)) in
+        let id = id_left told laws h xids who x [] count old mid left in
+        ends_all told laws h xids who x count old mid new st same left going
+        (gives told (with_own h who []) xids who left.holds.blocks (same.shape ∙ st.shape) id.owned (runs_in (with_own h who []) (s.blocks mid) x id.runs) (own_left h who st.low st.high []) left.holds.logged)
 
 -- The log has room for the put backs of all changes of a transaction, and for its end.
-module _ {S : Type 0} (s : Ghosts S) (told : s.tells) (laws : Laws s) (h : State) (old : EngineView S) (x : Xid) (st : Stands s h old) (going : h.stopped ≡ false) (own_is : old.memory.own ≡ Some x) where
-  holds : Holds s h (Some x) old.store
-  holds = holds_own s told laws h old x st going own_is
+module _ {S : Type 0} (s : Ghosts S) (told : s.tells) (laws : Laws s) (h : State) (old : EngineView S) (who : ℕ) (x : Xid) (st : Stands s h old) (going : h.stopped ≡ false)
+    (there : (1 ≤ who) × (who ≤ 16)) (own_is : (kept_at old.memory.sessions who).own ≡ Some x) where
+  held : Goes s h old
+  held = goes s told laws h old who x st going there own_is
 
-  id : OwnedBy h (s.blocks old.store) 1 x
-  id = owned_by h holds.xids (s.blocks old.store) 1 x holds.blocks holds.id
+  id : OwnedBy h (s.blocks old.store) who x
+  id = own_by s told laws h old who x st going there own_is
 
-  pub room_back : length (session_own h 1) + 1 ≤ room_of (s.slots old.store) (s.lsn old.store)
+  pub starts : Starts s h held.xids who x (length (session_own h who)) old.store
+  starts = record {
+    shape = st.shape;
+    holds = held.holds;
+    low = there.0;
+    high = let n = st.knows.sixteen in omega (arith, there, n);
+    id = own_id s told laws h old who x st going there own_is;
+    going = going;
+    own = refl;
+  }
+
+  pub room_back : length (session_own h who) + 1 ≤ room_of (s.slots old.store) (s.lsn old.store)
   room_back =
       let blocks = s.blocks old.store in
       let env = env_of h.shape blocks in
       let t = 16 * x.seg + x.slot in
       let t_in : t < 16 * h.shape.segments = omega (arith, id.there, id.few) in
       let active : (slot_of (segments_of h.shape blocks) t).state ≡ 1 = ap (λ (z : TableSlot). z.state) (slot_for h.shape blocks x id.few) ∙ (runs_in h blocks x id.runs).active in
-      let less = owed_committed h.shape (commit_scn h.shape blocks) (logged_of h.shape blocks) (segments_of h.shape blocks) (homes_of h.shape blocks) (past_of h holds.xids) (lives_of h env) holds.blocks.standing.stands t t_in active 0 in
-      let all : length (own (lives_of h env) t) ≡ length (session_own h 1) + 0 = ap (λ (l : List walk.Change). length l) (lives_owned h env 1 t t_in (record { owner = id.owned.0; at = id.owned.1; session = id.owned.2 })) ∙ length_newest h.shape (env.xid t) 1 (session_own h 1) [] in
-      omega (arith, less, all, owed_is h.shape blocks, holds.fits)
+      let less = owed_committed h.shape (commit_scn h.shape blocks) (logged_of h.shape blocks) (segments_of h.shape blocks) (homes_of h.shape blocks) (past_of h held.xids) (lives_of h env) held.holds.blocks.standing.stands t t_in active 0 in
+      let all : length (own (lives_of h env) t) ≡ length (session_own h who) + 0 = ap (λ (l : List walk.Change). length l) (lives_owned h env who t t_in (record { owner = id.owned.0; at = id.owned.1; session = id.owned.2 })) ∙ length_newest h.shape (env.xid t) 1 (session_own h who) [] in
+      omega (arith, less, all, owed_is h.shape blocks, held.holds.fits)
 
   module _ (new : EngineView S) (same : SameStore s old.store new.store) where
     -- a rollback that went well
-    pub does_back : PutsAllBack s h x old.store new.store true → ((h2 : State) → EndsAs h 1 (left_open 0 (cursors_of h 1)) h2 → Remembers h2 new.memory)
-        → new.memory.own ≡ None → new.memory.spare ≡ old.memory.spare + length (session_own old.memory.state 1) → Does s h (Rollback 1) Done old new
-    does_back done knows none spare =
-        let cursors = left_open 0 (cursors_of h 1) in
-        let now = without_owner x.seg x.slot (ended h 1 cursors) in
-        let after : EndsAs h 1 cursors now = inl (x.seg, x.slot, id.owned, refl) in
+    pub does_back : PutsAllBack s h held.xids who x old.store new.store true
+        → new.memory.sessions ≡ with_kept old.memory.sessions who (rolled_back (kept_at old.memory.sessions who)) → new.memory.scn ≡ old.memory.scn → new.memory.stopped ≡ old.memory.stopped → Does s h (Rollback who) Done old new
+    does_back done table_is scn stopped =
+        let cursors = left_open 0 (cursors_of h who) in
+        let now = without_owner x.seg x.slot (ended h who cursors) in
+        let after : EndsAs h who cursors now = inl (x.seg, x.slot, id.owned, refl) in
         let all = done cursors in
-        does_by s h now (Rollback 1) Done old new (length (session_own h 1) + 1) st (Reply.later [] (no_early h st.alone going) refl refl) after (λ _ s t k a is done. cc) (knows now after) same
-        (λ _. (
-          inl (x.seg, x.slot, id.owned, refl),
-          all.1,
-          (let count = own_known h old.memory st.alone st.memory in omega (arith, spare, count)),
-          subst (λ (o : Option Xid). Holds s now o new.store) (sym none) all.0,
-        ))
-        (λ before _ keeps. all.2 before keeps)
+        does_by s h now (Rollback who) Done old new (length (session_own h who) + 1) st (Reply.later [] (no_early h who there st.knows.sixteen going) refl refl) after (λ _ s t k a is done. cc)
+        (knows_on h now old.memory new.memory st.knows (length-set h.sessions _ _) refl refl stopped scn) same
+        (λ _. (inl (x.seg, x.slot, id.owned, refl), all.2, record {
+          xids = held.xids;
+          holds = all.0;
+          remembers = subst (Remembers now held.xids (env_of h.shape (s.blocks new.store))) (sym table_is)
+              (rolled_back_is_remembered h now held.xids (s.blocks old.store) (s.blocks new.store) old.memory.sessions who held.holds.blocks held.remembers there.0 there.1 after all.1);
+        }))
+        (λ before _ keeps. all.3 before keeps)

@@ -1,38 +1,40 @@
--- What a write of the session does with the state, from the group of its step.
-use Rattle.std.proofs.Common.{◌≡◌, ◌≢◌, ◌⊎◌, inl, inr, ◌<◌, ◌≤◌, ◌+◌, ◌-◌, ◌^◌, ℕ, Bool, true, false, not, min, List, [], ◌∷◌, length, find, Option, Some, None, Result, Ok, Err, refl, sym, ◌∙◌, ap, subst, arith}
-use Rattle.std.proofs.lemmas.Bool.{cond_both}
-use Rattle.std.specs.List.{range_with_len}
+-- What a write of a session does with the state, from the group of its step.
+use Rattle.std.proofs.Common.{◌≡◌, ◌≢◌, ◌⊎◌, inl, inr, ◌<◌, ◌≤◌, ◌+◌, ◌*◌, ◌/◌, ◌%◌, ◌==◌, ◌&&◌, ℕ, Bool, true, false, not, nat_le, List, [], ◌∷◌, ◌++◌, length, Option, Some, None, Result, Ok, Err, refl, sym, ◌∙◌, ap, subst, arith}
+use Rattle.std.proofs.Math.Nat.{div-add-mod}
+use Rattle.std.proofs.lemmas.List.{length-set}
+use Rattle.std.proofs.lemmas.Bool.Decides.{nat_tests}
 use Rattle.rb_attempt.specs.Refusals.{has_failed}
 use Rattle.rb_attempt.specs.declared.ask.AttemptFault.{AttemptFault}
 use Rattle.rb_attempt.specs.declared.ask.AttemptFault.TheVariants as faults
 use Rattle.rb_base.specs.Groups.{Patch}
 use Rattle.rb_base.specs.Logs.{Laws, Logs, group_of}
-use Rattle.rb_memory.specs.Kept.{Kept}
 use Rattle.rb_base.specs.Stores.{room_of}
 use Rattle.rb_base.specs.declared.ids.Xid.{Xid}
 use Rattle.rb_base.specs.declared.store.Store.{Ghosts}
-use Rattle.rb_engine.specs.Does.{Does, EngineView, Keeps, SameStore, Stands, room_left}
+use Rattle.rb_engine.specs.Does.{Does, EngineView, Goes, Kept, Keeps, Knows, SameStore, Stands}
 use Rattle.rb_engine.specs.Retains.{Retains}
-use Rattle.rb_engine.proofs.DoesLemmas.{does_by, does_fault, does_loaded}
+use Rattle.rb_engine.specs.Scanning.{OtherHolds}
+use Rattle.rb_engine.proofs.DoesLemmas.{does_by, does_fault, does_loaded, knows_on}
 use Rattle.rb_engine.proofs.RetainsLemmas.{retains}
 use Rattle.rb_image.proofs.Owners.{OwnedBy, owned_by}
+use Rattle.rb_image.proofs.StepsHeld.{holds_written, write_fault}
 use Rattle.rb_image.specs.Holds.{Holds}
 use Rattle.rb_image.specs.Made.{GivesOne, WriteMade}
-use Rattle.rb_image.proofs.StepsHeld.{holds_written, write_fault}
-use Rattle.rb_memory.specs.Remembers.{Remembers}
-use Rattle.rb_model.specs.Calls.{Action, Call, Done, Refused, Reply, Write, early_tests, first_of, is_disk_fault, none_applies, write_tests, WritesIn}
+use Rattle.rb_model.specs.Calls.{Action, Answer, Done, Refused, Reply, Waits, Write, early_tests, first_of, is_disk_fault, none_applies, waited, write_tests, WritesIn}
 use Rattle.rb_model.specs.NextState.{change_in, written}
-use Rattle.rb_model.specs.State.{State}
-use Rattle.rb_model.specs.Tests.{holder, holds}
+use Rattle.rb_model.specs.Book.{Owner}
+use Rattle.rb_model.specs.State.{State, owner_at}
+use Rattle.rb_model.specs.Tests.{holder}
 use Rattle.rb_model.specs.declared.refusal.Refusal.{Refusal}
 use Rattle.rb_model.specs.declared.refusal.Refusal.TheVariants.{DiskFault}
-use Rattle.rb_undoengine.specs.Steps.{IsAbout, NotOthers, refusal_of}
-
--- where there is one session no other holds a key
-pub none_other : (h : State) (table key : ℕ) → length h.sessions ≡ 1 → NotOthers h 1 table key
-none_other h table key alone u is =
-    let one : find (λ (s : ℕ). holds h s table key) (range_with_len 1 1) ≡ Some u = subst (λ (n : ℕ). find (λ (s : ℕ). holds h s table key) (range_with_len 1 n) ≡ Some u) alone is in
-    cond_both (holds h 1 table key) (Some 1) None (λ (r : Option ℕ). r ≡ Some u → u ≡ 1) (λ yes e. cc) (λ no e. (let clash : None ≡ Some u = e in absurd cc)) one
+use Rattle.rb_model.proofs.Stops.{the_fault}
+use Rattle.rb_sessions.specs.Kept.{KeptSession, kept_at, with_kept, wrote}
+use Rattle.rb_standing.specs.Standing.{env_of}
+use Rattle.rb_standing.specs.States.{BlocksStand, Owns}
+use Rattle.rb_undoengine.specs.Steps.{IsAbout, IsHolder, NotOthers, refusal_of}
+use Rattle.rb_verdict.specs.Verdict.{IsOwnId}
+use Rattle.rb_views.specs.Views.{Remembers}
+use Rattle.rb_views.proofs.Remembering.{written_is_remembered}
 
 -- a fault of an attempt is one of the disk exactly where a call failed
 pub failed_is : (fault : AttemptFault) → is_disk_fault (refusal_of fault) ≡ has_failed {T = Xid} (Err fault)
@@ -46,93 +48,112 @@ failed_is faults.WornOut = refl
 failed_is faults.LogFull = refl
 
 pub the_failure : (fault : AttemptFault) → is_disk_fault (refusal_of fault) ≡ true → refusal_of fault ≡ DiskFault
-the_failure fault is = Rattle.rb_model.proofs.Stops.the_fault (refusal_of fault) is
-
-module _ {S : Type 0} (s : Ghosts S) (told : s.tells) (laws : Laws s) (h : State) (old : EngineView S) (st : Stands s h old) (going : h.stopped ≡ false) (table key : ℕ) (action : Action)
-    (early : none_applies (early_tests h (Write 1 table key action)) ≡ true) where
-  abbrev pub Room : ℕ
-  Room = min (room_of (s.slots old.store) (s.lsn old.store)) old.memory.spare
-
-  pub held : Holds s h old.memory.own old.store
-  held = st.holds going
-
-  pub about : IsAbout h held.xids 1 old.memory.own (s.blocks old.store)
-  about = record { stand = held.blocks; session = omega arith; id = held.id }
-
-  -- what it gives up is old enough
-  kept_undo : {blocks now : List (List ℕ)} (room : ℕ) (x : Xid) → WriteMade h held.xids 1 table key action room x blocks now → Keeps h (Write 1 table key action) Done (written h 1 x.seg x.slot (change_in h x.seg table key action))
-  kept_undo {now = now} room x made who t k a is done =
-      let after : State = written h 1 x.seg x.slot (change_in h x.seg table key action) in
-      let id : OwnedBy after now 1 x = owned_by after held.xids now 1 x made.stand made.id in
-      let one : 1 ≡ who = cc in
-      subst (λ (n : ℕ). Retains h n after) one (retains h held.xids (s.blocks old.store) held.blocks 1 x.seg x.slot made.in_slot id.there id.few after (change_in h x.seg table key action) refl)
-
-  -- by that log number
-  answered : (x : Xid) → (a : WritesIn h 1 x.seg x.slot) → (r : Rattle.rb_model.specs.Calls.Answer) → first_of (write_tests h (s.lsn old.store) Room x.seg x.slot 1 table key action) Done ≡ r
-      → Reply h (s.lsn old.store) (room_left (s.slots old.store) (s.lsn old.store) old.memory.spare) (Write 1 table key action) r
-  answered x within r is = Reply.later (write_tests h (s.lsn old.store) Room x.seg x.slot 1 table key action) early (x.seg, x.slot, within, refl) (sym is)
-
-  module _ (new : EngineView S) (same : SameStore s old.store new.store) where
-    pub does_written : (x : Xid) → GivesOne s old.store new.store true (λ now. WriteMade h held.xids 1 table key action Room x (s.blocks old.store) now)
-        → ((g i : ℕ) → Remembers (written h 1 g i (change_in h g table key action)) new.memory) → new.memory.own ≡ Some x → new.memory.spare + 1 ≡ old.memory.spare → Does s h (Write 1 table key action) Done old new
-    does_written x one knows own spare =
-        let single = one.one refl in
-        let made = one.made (omega (arith, single)) in
-        let all = holds_written s told laws h old.memory.own old.store new.store table key action Room x st.shape held (omega arith) None one in
-        let granted : first_of (write_tests h (s.lsn old.store) Room x.seg x.slot 1 table key action) Done ≡ Done = subst (λ (n : ℕ). first_of (write_tests h n Room x.seg x.slot 1 table key action) Done ≡ Done) (sym held.logged) made.granted in
-        does_by s h (written h 1 x.seg x.slot (change_in h x.seg table key action)) (Write 1 table key action) Done old new 1 st
-        (answered x made.in_slot Done granted) (x.seg, x.slot, made.in_slot, refl) (λ _. kept_undo Room x made) (knows x.seg x.slot) same
-        (λ _. (refl, (let n = one.logs.number refl in omega (arith, n, single)), omega (arith, spare), subst (λ (o : Option Xid). Holds s (written h 1 x.seg x.slot (change_in h x.seg table key action)) o new.store) (sym own) all.0))
-        (λ before _ keeps. (holds_written s told laws h old.memory.own old.store new.store table key action Room x st.shape held (omega arith) before one).1 keeps)
-
-    -- a call of the store failed
-    pub does_failed : (x : Xid) → GivesOne s old.store new.store false (λ now. WriteMade h held.xids 1 table key action Room x (s.blocks old.store) now)
-        → Remembers (record h { stopped = true }) new.memory → Does s h (Write 1 table key action) (Refused DiskFault) old new
-    does_failed x one knows = does_fault s told laws h (Write 1 table key action) old new st going early knows same
-        (λ keeps. write_fault s told laws h old.memory.own old.store new.store table key action Room x st.shape held (omega arith) one keeps)
-
-    -- or the write was refused
-    pub does_not_write : (why : Refusal) → is_disk_fault why ≡ false → (x : Xid) → WritesIn h 1 x.seg x.slot → first_of (write_tests h (s.lsn old.store) Room x.seg x.slot 1 table key action) Done ≡ Refused why
-        → new.memory ≡ old.memory → Logs s old.store new.store [] true → Does s h (Write 1 table key action) (Refused why) old new
-    does_not_write why other x within is memory logs =
-        does_loaded s told laws h (Write 1 table key action) (Refused why) old new st (answered x within (Refused why) is) (rw other refl) refl (λ s t k a is done. cc) memory (λ _. logs) same
-
-  -- The same from the clauses of the step, which took that id and that room.
-  module _ (new : EngineView S) (same : SameStore s old.store new.store) (own : Option Xid) (room : ℕ) (own_is : own ≡ old.memory.own) (room_is : room ≡ old.memory.spare) where
-    abbrev pub At : List Xid → Type 0
-    At xids = IsAbout h xids 1 own (s.blocks old.store)
-
-    abbrev pub Logged : Type 0
-    Logged = s.lsn old.store ≡ Rattle.rb_standing.specs.Standing.logged_of h.shape (s.blocks old.store)
-
-    about_own : At held.xids
-    about_own = subst (λ (o : Option Xid). IsAbout h held.xids 1 o (s.blocks old.store)) (sym own_is) about
-
-    abbrev pub R : ℕ
-    R = min (room_of (s.slots old.store) (s.lsn old.store)) room
-
-    pub step_done : (x : Xid) → ((xids : List Xid) → At xids → NotOthers h 1 table key → Logged → GivesOne s old.store new.store true (λ now. WriteMade h xids 1 table key action R x (s.blocks old.store) now))
-        → ((g i : ℕ) → Remembers (written h 1 g i (change_in h g table key action)) new.memory) → new.memory.own ≡ Some x → new.memory.spare + 1 ≡ old.memory.spare → Does s h (Write 1 table key action) Done old new
-    step_done x gives knows mine spare = does_written new same x
-        (subst (λ (r : ℕ). GivesOne s old.store new.store true (λ now. WriteMade h held.xids 1 table key action (min (room_of (s.slots old.store) (s.lsn old.store)) r) x (s.blocks old.store) now)) room_is
-        (gives held.xids about_own (none_other h table key st.alone) held.logged)) knows mine spare
-
-    pub step_failed : ((xids : List Xid) → At xids → NotOthers h 1 table key → Logged → (x : Xid) × GivesOne s old.store new.store false (λ now. WriteMade h xids 1 table key action R x (s.blocks old.store) now))
-        → Remembers (record h { stopped = true }) new.memory → Does s h (Write 1 table key action) (Refused DiskFault) old new
-    step_failed gives knows =
-        let one = gives held.xids about_own (none_other h table key st.alone) held.logged in
-        does_failed new same one.0 (subst (λ (r : ℕ). GivesOne s old.store new.store false (λ now. WriteMade h held.xids 1 table key action (min (room_of (s.slots old.store) (s.lsn old.store)) r) one.0 (s.blocks old.store) now)) room_is one.1) knows
-
-    pub step_refused : (why : Refusal) → is_disk_fault why ≡ false → ((xids : List Xid) → At xids → NotOthers h 1 table key → (x : Xid) × WritesIn h 1 x.seg x.slot × (first_of (write_tests h (s.lsn old.store) R x.seg x.slot 1 table key action) Done ≡ Refused why))
-        → new.memory ≡ old.memory → Logs s old.store new.store [] true → Does s h (Write 1 table key action) (Refused why) old new
-    step_refused why other refused memory logs =
-        let one = refused held.xids about_own (none_other h table key st.alone) in
-        does_not_write new same why other one.0 one.1 (subst (λ (r : ℕ). first_of (write_tests h (s.lsn old.store) (min (room_of (s.slots old.store) (s.lsn old.store)) r) one.0.seg one.0.slot 1 table key action) Done ≡ Refused why) room_is one.2) memory logs
+the_failure fault is = the_fault (refusal_of fault) is
 
 pub few_group : (patches : List Patch) → length (group_of patches) ≤ 1
 few_group [] = omega arith
 few_group (p ∷ patches) = omega arith
 
--- a memory that is stopped remembers the state that is stopped
-pub memory_stops : (h : State) (kept now : Kept) → Remembers h kept → now ≡ record kept { state = record kept.state { stopped = true } } → Remembers (record h { stopped = true }) now
-memory_stops h kept now is stops = ap (λ (k : Kept). k.state) stops ∙ ap (λ (x : State). let n : State = record x { stopped = true } in n) is
+-- the session's id in the table is that of its slot
+pub own_id : {S : Type 0} (s : Ghosts S) (h : State) (old : EngineView S) (goes : Goes s h old) (who : ℕ) → (1 ≤ who) × (who ≤ 16) → IsOwnId h (env_of h.shape (s.blocks old.store)) who (kept_at old.memory.sessions who).own
+own_id s h old goes who there = (goes.remembers.each who there.0 there.1).id
+
+module _ {S : Type 0} (s : Ghosts S) (told : s.tells) (laws : Laws s) (h : State) (old : EngineView S) (st : Stands s h old) (going : h.stopped ≡ false) (who table key : ℕ) (action : Action)
+    (there : (1 ≤ who) × (who ≤ 16)) (early : none_applies (early_tests h (Write who table key action)) ≡ true) where
+  goes : Goes s h old
+  goes = st.goes going
+
+  abbrev pub Room : ℕ
+  Room = room_of (s.slots old.store) (s.lsn old.store)
+
+  pub about : IsAbout h goes.xids who (kept_at old.memory.sessions who).own (s.blocks old.store)
+  about = record { stand = goes.holds.blocks; session = there.0; id = own_id s h old goes who there }
+
+  -- what it gives up is old enough
+  kept_undo : {blocks now : List (List ℕ)} (room : ℕ) (x : Xid) → WriteMade h goes.xids who table key action room x blocks now → Keeps h (Write who table key action) Done (written h who x.seg x.slot (change_in h x.seg table key action))
+  kept_undo {now = now} room x made u t k a is done =
+      let after : State = written h who x.seg x.slot (change_in h x.seg table key action) in
+      let id : OwnedBy after now who x = owned_by after goes.xids now who x made.stand made.id in
+      let one : who ≡ u = cc in
+      subst (λ (n : ℕ). Retains h n after) one (retains h goes.xids (s.blocks old.store) goes.holds.blocks who x.seg x.slot made.in_slot id.there id.few after (change_in h x.seg table key action) refl)
+
+  -- by that log number
+  answered : (g i : ℕ) → (a : WritesIn h who g i) → (r : Answer) → first_of (write_tests h (s.lsn old.store) Room g i who table key action) Done ≡ r
+      → Reply h (s.lsn old.store) Room (Write who table key action) r
+  answered g i within r is = Reply.later (write_tests h (s.lsn old.store) Room g i who table key action) early (g, i, within, refl) (sym is)
+
+  module _ (new : EngineView S) (same : SameStore s old.store new.store) where
+    pub step_done : (x : Xid) → GivesOne s old.store new.store true (λ now. WriteMade h goes.xids who table key action Room x (s.blocks old.store) now)
+        → new.memory.sessions ≡ with_kept old.memory.sessions who (wrote x (kept_at old.memory.sessions who)) → new.memory.scn ≡ old.memory.scn → new.memory.stopped ≡ old.memory.stopped → Does s h (Write who table key action) Done old new
+    step_done x one table_is scn stopped =
+        let after : State = written h who x.seg x.slot (change_in h x.seg table key action) in
+        let single = one.one refl in
+        let blocks : s.blocks new.store ≡ _ = one.logs.blocks told refl in
+        let made : WriteMade h goes.xids who table key action Room x (s.blocks old.store) (s.blocks new.store) = subst (λ b. WriteMade h goes.xids who table key action Room x (s.blocks old.store) b) (sym blocks) (one.made (omega (arith, single))) in
+        let all : (fault : _) → _ = λ fault. holds_written s told laws h goes.xids who old.store new.store table key action Room x st.shape goes.holds (omega arith) fault one in
+        let granted : first_of (write_tests h (s.lsn old.store) Room x.seg x.slot who table key action) Done ≡ Done = subst (λ (n : ℕ). first_of (write_tests h n Room x.seg x.slot who table key action) Done ≡ Done) (sym goes.holds.logged) made.granted in
+        let knows = written_is_remembered h goes.xids (s.blocks old.store) (s.blocks new.store) old.memory.sessions who x.seg x.slot table key action x goes.holds.blocks goes.remembers there.0 there.1 made.in_slot made.stand made.id made.ids in
+        does_by s h after (Write who table key action) Done old new 1 st
+        (answered x.seg x.slot made.in_slot Done granted) (x.seg, x.slot, made.in_slot, refl) (λ _. kept_undo Room x made)
+        (knows_on h after old.memory new.memory st.knows (length-set h.sessions _ _) refl refl stopped scn) same
+        (λ _. (refl, (let n = one.logs.number refl in omega (arith, n, single)), record {
+          xids = goes.xids;
+          holds = (all None).0;
+          remembers = subst (Remembers after goes.xids (env_of h.shape (s.blocks new.store))) (sym table_is) knows;
+        }))
+        (λ before _ keeps. (all before).1 keeps)
+
+    -- a call of the store failed
+    pub step_failed : (x : Xid) → GivesOne s old.store new.store false (λ now. WriteMade h goes.xids who table key action Room x (s.blocks old.store) now)
+        → new.memory ≡ record old.memory { stopped = true } → Does s h (Write who table key action) (Refused DiskFault) old new
+    step_failed x one stops = does_fault s told laws h (Write who table key action) old new st going early stops same
+        (λ keeps. write_fault s told laws h goes.xids who old.store new.store table key action Room x st.shape goes.holds (omega arith) one keeps)
+
+    -- or the write was refused
+    pub step_refused : (why : Refusal) → is_disk_fault why ≡ false → (x : Xid) → WritesIn h who x.seg x.slot → first_of (write_tests h (s.lsn old.store) Room x.seg x.slot who table key action) Done ≡ Refused why
+        → new.memory ≡ old.memory → Logs s old.store new.store [] true → Does s h (Write who table key action) (Refused why) old new
+    step_refused why other x within is memory logs =
+        does_loaded s told laws h (Write who table key action) (Refused why) old new st (answered x.seg x.slot within (Refused why) is) (rw other refl) refl (λ s t k a is done. cc) memory (λ _. logs) same
+
+    -- or another session holds the key
+    pub step_waits : (u : ℕ) → OtherHolds h who table key (Some u) → (place : (g : ℕ) × (i : ℕ) × WritesIn h who g i) → new.memory ≡ old.memory → Logs s old.store new.store [] true → Does s h (Write who table key action) (Waits u) old new
+    step_waits u held place memory logs =
+        let tests = write_tests h (s.lsn old.store) Room place.0 place.1 who table key action in
+        does_loaded s told laws h (Write who table key action) (Waits u) old new st (answered place.0 place.1 place.2 (Waits u) (waits_first u held.1 (holder h table key) held.0)) refl refl (λ s t k a is done. cc) memory (λ _. logs) same
+      where
+        waits_first : (u : ℕ) → u ≢ who → (o : Option ℕ) → o ≡ Some u → {rest : List (Bool × Answer)} → first_of (waited who o ++ rest) Done ≡ Waits u
+        waits_first u ne o is = subst (λ (p : Option ℕ). first_of (waited who p ++ _) Done ≡ Waits u) (sym is) (rw (differ u ne) refl)
+
+        differ : (u : ℕ) → u ≢ who → not (nat_le u who && nat_le who u) ≡ true
+        differ u ne = grind (arith, nat_tests)
+
+-- Who holds the key, by the table.
+module _ (h : State) (xids : List Xid) (blocks : List (List ℕ)) (sessions : List KeptSession) (knows : Remembers h xids (env_of h.shape blocks) sessions) (table key : ℕ) (x : Xid) (held : IsHolder h (env_of h.shape blocks) table key (Some x)) where
+  -- The session that has the id in the table is the machine's.
+  pub holder_is : (u : ℕ) → (1 ≤ u) × (u ≤ 16) → (kept_at sessions u).own ≡ Some x → holder h table key ≡ Some u
+  holder_is u there own =
+      let mine : (t : ℕ) × Owns h u t × (x ≡ (env_of h.shape blocks).xid t) = (knows.each u there.0 there.1).id.owned x own in
+      let seg : x.seg ≡ held.1 / 16 = ap (λ (y : Xid). y.seg) held.4 in
+      let slot : x.slot ≡ held.1 % 16 = ap (λ (y : Xid). y.slot) held.4 in
+      let seg2 : x.seg ≡ mine.0 / 16 = ap (λ (y : Xid). y.seg) mine.2 in
+      let slot2 : x.slot ≡ mine.0 % 16 = ap (λ (y : Xid). y.slot) mine.2 in
+      let a = div-add-mod held.1 16 in
+      let b = div-add-mod mine.0 16 in
+      let at : held.1 ≡ mine.0 = omega (arith, seg, slot, seg2, slot2, a, b) in
+      let owner : Some held.3.owner ≡ Some mine.1.owner = sym held.3.at ∙ (ap (owner_at h) at ∙ mine.1.at) in
+      let one : held.3.owner ≡ mine.1.owner = cc in
+      held.2 ∙ ap (λ (n : ℕ). Some n) (sym held.3.session ∙ (ap (λ (o : Owner). o.session) one ∙ mine.1.session))
+
+  -- Some session has it.
+  pub holder_there : BlocksStand h xids blocks → length h.sessions ≡ 16 → ((u : ℕ) → 1 ≤ u → u ≤ 16 → (kept_at sessions u).own ≢ Some x) → ⊥
+  holder_there stand sixteen none =
+      let range = stand.tell.owner_there held.0 held.1 held.3 in
+      let up : held.0 ≤ 16 = omega (arith, range.1, sixteen) in
+      none held.0 range.0 up ((knows.each held.0 range.0 up).id.owns held.1 held.3 ∙ ap (λ (y : Xid). Some y) (sym held.4))
+
+-- whom nobody, or oneself, holds a key against
+pub none_holds : (h : State) (who table key : ℕ) → holder h table key ≡ None → NotOthers h who table key
+none_holds h who table key none u is = (let clash : None ≡ Some u = sym none ∙ is in absurd cc)
+
+pub self_holds : (h : State) (who table key : ℕ) → holder h table key ≡ Some who → NotOthers h who table key
+self_holds h who table key mine u is = let same : Some u ≡ Some who = sym is ∙ mine in cc

@@ -48,6 +48,7 @@ pub record IsInStep {S : Type 0} (s : Ghosts S) (kept : Kept) (store : S) : Type
   pub tables : (u : ℕ) → InTables (s.shape_of store) (kept_at kept.sessions u)
   pub own : (u : ℕ) (x : Xid) → (kept_at kept.sessions u).own ≡ Some x
       → (x.seg < (s.shape_of store).segments) × (x.slot < SLOTS)
+  pub small : (u : ℕ) → (kept_at kept.sessions u).count < 2 ^ 32
   pub idle : (u : ℕ) → (kept_at kept.sessions u).own ≡ None → (kept_at kept.sessions u).count ≡ 0
   pub busy : (u : ℕ) (x : Xid) → (kept_at kept.sessions u).own ≡ Some x → 0 < (kept_at kept.sessions u).count
   pub going : kept.stopped ≡ false → s.failed store ≡ false

@@ -2,20 +2,19 @@
 //! calls it.
 ghost use Rattle.std.specs.Prelude.{◌≡◌, ◌<◌, ◌≤◌, ◌%◌, ◌*◌, ℕ, List, [], true, false, not, None, Some};
 ghost use Rattle.std.specs.Prelude.{IfOk, IfErr};
+ghost use Rattle.rb_base.specs.Blocks.{IsShape};
 ghost use Rattle.rb_base.specs.Logs.{Logs};
 ghost use Rattle.rb_base.specs.declared.ids.Xid.{Xid};
 ghost use Rattle.rb_cr.specs.Faults.{is_failed};
-ghost use Rattle.rb_engine.specs.Scanning.{Finds, HasNext, HasNone, IsBehind, IsReader};
+ghost use Rattle.rb_engine.specs.Scanning.{Begins, Finds, HasNext, HasNone, IsBehind, IsReader};
 ghost use Rattle.rb_model.specs.Next.{is_after};
 ghost use Rattle.rb_model.specs.State.{State};
 ghost use Rattle.rb_views.specs.Scan.{IsAskedKey};
 
 use rb_base::Store;
-use rb_cr::{CrFault, Scratch, Snapshot, Steps, build};
+use rb_cr::{CrFault, Scratch, Snapshot, Wanted, next_at};
 use rb_model::{Fetched, Row};
 use rb_sessions::Cursor;
-use std::marker::Brand;
-use std::sync::ledger::{Blank, Ledger};
 
 /// The first home that may have a row behind the last one: that of its key.
 fn first_home(cursor: &Cursor, blocks: u32) -> u32
@@ -56,21 +55,19 @@ fn is_asked(cursor: &Cursor, blocks: u32, g: u32) -> bool
 }
 
 /// Puts the next row of home `g` into `row`, where it has one.
-fn next_in<S: Store, L: Ledger>(
+fn next_in<S: Store>(
     store: &mut S,
     scratch: &mut Scratch,
     cursor: &Cursor,
     g: u32,
     first: u32,
     row: &mut Row,
-    steps: &mut Steps<L>,
 ) -> Result<bool, CrFault>
     requires going { S.failed store.old ≡ false }
     requires table { (1 ≤ cursor.now.table) × (cursor.now.table ≤ (S.shape_of store.old).tables) }
+    requires shape { IsShape (S.shape_of store.old) }
     requires there { g < (S.shape_of store.old).blocks }
-    requires behind { first ≤ g }
-    requires from { (cursor.now.last ≡ None → first ≡ 0)
-        × ((last : ℕ) → cursor.now.last ≡ Some last → first ≡ last % (S.shape_of store.old).blocks) }
+    requires begins { Begins (S.shape_of store.old).blocks first g cursor.now.last }
     ensures told { S.tells → (h : State) (xids : List Xid) → S.shape_of store.old ≡ h.shape
         → IsReader h xids (S.blocks store.old) cursor.now → IfOk result (λ found.
         (found ≡ true → HasNext h xids (S.blocks store.old) cursor.now g row.new)
@@ -91,27 +88,26 @@ fn next_in<S: Store, L: Ledger>(
         own: cursor.own,
         upto: cursor.upto,
     };
+    let wanted = Wanted {
+        after: after_in(cursor, first, g),
+        lo: cursor.lo,
+        hi: cursor.hi,
+    };
     let block = (u32::from(cursor.table) - 1) * blocks + g;
-    match build(store, block, &snapshot, scratch, steps) {
-        Err(fault) => Err(fault),
-        Ok(()) => Ok(scratch.next(after_in(cursor, first, g), cursor.lo, cursor.hi, row)),
-    }
+    next_at(store, block, &snapshot, wanted, scratch, row)
 }
 
 /// Puts the cursor's next row into `row`, where there is one. The homes are read from that of the last row on, up to the
-/// one that has the next row. Records are counted in a ledger of the proof.
-fn next_from<S: Store, L: Ledger>(
+/// one that has the next row, and no other.
+pub fn next_row<S: Store>(
     store: &mut S,
     scratch: &mut Scratch,
     cursor: &Cursor,
     row: &mut Row,
-    blank: Blank,
 ) -> Result<Fetched, CrFault>
-    requires name { blank.name ≡ L.name }
-    requires parts { blank.parts ≡ L.parts }
-    requires some { 0 < blank.parts }
     requires going { S.failed store.old ≡ false }
     requires table { (1 ≤ cursor.now.table) × (cursor.now.table ≤ (S.shape_of store.old).tables) }
+    requires shape { IsShape (S.shape_of store.old) }
     ensures found { S.tells → (h : State) (xids : List Xid) → S.shape_of store.old ≡ h.shape
         → IsReader h xids (S.blocks store.old) cursor.now
         → Finds h xids (S.blocks store.old) cursor.now result row.new }
@@ -121,32 +117,12 @@ fn next_from<S: Store, L: Ledger>(
 {
     let blocks = store.shape().blocks;
     let first = first_home(cursor, blocks);
-    let mut steps = Steps::<L>::new(blank);
     for g in first..blocks {
-        match next_in(store, scratch, cursor, g, first, row, &mut steps) {
+        match next_in(store, scratch, cursor, g, first, row) {
             Err(fault) => return Err(fault),
             Ok(true) => return Ok(Fetched::Row),
             Ok(false) => {}
         }
     }
     Ok(Fetched::End)
-}
-
-/// The same, with a ledger that nobody reads.
-pub fn next_row<S: Store>(
-    store: &mut S,
-    scratch: &mut Scratch,
-    cursor: &Cursor,
-    row: &mut Row,
-) -> Result<Fetched, CrFault>
-    requires going { S.failed store.old ≡ false }
-    requires table { (1 ≤ cursor.now.table) × (cursor.now.table ≤ (S.shape_of store.old).tables) }
-    ensures found { S.tells → (h : State) (xids : List Xid) → S.shape_of store.old ≡ h.shape
-        → IsReader h xids (S.blocks store.old) cursor.now
-        → Finds h xids (S.blocks store.old) cursor.now result row.new }
-    ensures kept { IfOk result (λ f. f ≡ Fetched.End → row.new ≡ row.old) }
-    ensures same { IfErr result (λ fault. row.new ≡ row.old) }
-    ensures logs { Logs S.Store store.old store.new [] (not (is_failed result)) }
-{
-    next_from::<S, Brand>(store, scratch, cursor, row, Blank::new(1))
 }

@@ -1,5 +1,5 @@
 -- What a commit leaves of a store that has a state: one commit more, in each image once its number is answered.
-use Rattle.std.proofs.Common.{◌≡◌, ◌≢◌, ◌⊎◌, inl, inr, ⊎_elim, ◌<◌, ◌≤◌, ◌+◌, ◌-◌, ◌*◌, ℕ, Bool, true, false, List, [], ◌∷◌, ◌++◌, length, Option, Some, None, refl, sym, ◌∙◌, ap, subst, arith, length-append, append-nil}
+use Rattle.std.proofs.Common.{◌≡◌, ◌⊎◌, inl, inr, ◌≤◌, ◌+◌, ℕ, true, false, List, [], ◌∷◌, ◌++◌, length, Option, Some, refl, sym, ◌∙◌, ap, subst, arith, length-append}
 use Rattle.rb_base.specs.Blocks.{after_group, after_groups}
 use Rattle.rb_base.specs.Groups.{Patch}
 use Rattle.rb_base.specs.Logs.{Laws, Logs, more_logs}
@@ -10,38 +10,32 @@ use Rattle.rb_image.specs.Crash.{Extends, Survives, with_commit}
 use Rattle.rb_image.specs.Holds.{Holds}
 use Rattle.rb_image.specs.Images.{HasState}
 use Rattle.rb_image.specs.Made.{CommitMade, GivesOne}
-use Rattle.rb_image.proofs.Crashes.{grow_same, has_later, has_state}
+use Rattle.rb_image.proofs.Crashes.{has_later, has_state}
 use Rattle.rb_image.proofs.Marks.{grows_finished, shrinks_finished}
-use Rattle.rb_image.proofs.Owners.{OwnedBy, few_slots, finished_else, finished_here, freed, id_none, owned_by}
 use Rattle.rb_image.proofs.Steps.{commit_failed, read_has, survives_commit}
 use Rattle.rb_image.proofs.StepsHeld.{few_each, room_less}
-use Rattle.rb_model.specs.Book.{book_at, finished}
 use Rattle.rb_model.specs.Calls.{Call, Commit, is_empty}
 use Rattle.rb_model.specs.NextState.{committed}
 use Rattle.rb_model.specs.Rows.{last_scn}
 use Rattle.rb_model.specs.State.{State, session_own}
 use Rattle.rb_segment.specs.Segments.{owed_in}
-use Rattle.rb_standing.specs.Standing.{env_of, logged_of}
 
-module _ {S : Type 0} (s : Ghosts S) (told : s.tells) (laws : Laws s) (h : State) (x : Xid) (old : S) (shape : s.shape_of old ≡ h.shape) (holds : Holds s h (Some x) old) where
+module _ {S : Type 0} (s : Ghosts S) (told : s.tells) (laws : Laws s) (h : State) (xids : List Xid) (who : ℕ) (x : Xid) (old : S) (shape : s.shape_of old ≡ h.shape) (holds : Holds s h xids old) where
   abbrev pub next : State
-  next = committed h 1 x.seg x.slot
+  next = committed h who x.seg x.slot
 
   abbrev Is : List (List ℕ) → Type 0
-  Is now = CommitMade h holds.xids 1 x (s.blocks old) now
+  Is now = CommitMade h xids who x (s.blocks old) now
 
   pub next_number : last_scn next.commits ≡ last_scn h.commits + 1
-  next_number = let long = length-append h.commits.list (session_own h 1 ∷ []) in omega (arith, long)
-
-  id : OwnedBy h (s.blocks old) 1 x
-  id = owned_by h holds.xids (s.blocks old) 1 x holds.blocks holds.id
+  next_number = let long = length-append h.commits.list (session_own h who ∷ []) in omega (arith, long)
 
   pub extends : Extends h next
-  extends = record { shape = refl; base = refl; rows = refl; more = session_own h 1 ∷ []; list = refl; marks = grows_finished h.shape h.books (last_scn h.commits + 1) x.seg x.slot holds.blocks.tell.books_counted }
+  extends = record { shape = refl; base = refl; rows = refl; more = session_own h who ∷ []; list = refl; marks = grows_finished h.shape h.books (last_scn h.commits + 1) x.seg x.slot holds.blocks.tell.books_counted }
 
   -- the blocks that the group makes have the next state
-  made_has : (now : List (List ℕ)) → CommitMade h holds.xids 1 x (s.blocks old) now → HasState next next.books (last_scn next.commits) (s.slots old) now (s.lsn old + 1)
-  made_has now m = has_state next (holds.xids ++ x ∷ []) now (s.slots old) (s.lsn old + 1) m.stand (ap (λ (n : ℕ). n + 1) holds.logged ∙ sym m.last) (room_less (s.slots old) (s.lsn old) (owed_in h.shape now) (omega (arith, m.owed, holds.fits)))
+  made_has : (now : List (List ℕ)) → CommitMade h xids who x (s.blocks old) now → HasState next next.books (last_scn next.commits) (s.slots old) now (s.lsn old + 1)
+  made_has now m = has_state next (xids ++ x ∷ []) now (s.slots old) (s.lsn old + 1) m.stand (ap (λ (n : ℕ). n + 1) holds.logged ∙ sym m.last) (room_less (s.slots old) (s.lsn old) (owed_in h.shape now) (omega (arith, m.owed, holds.fits)))
 
   one_group : (groups : List (List Patch)) → length groups ≡ 1 → (g : List Patch) × (groups ≡ g ∷ [])
   one_group [] e = absurd (omega (arith, e))
@@ -49,27 +43,23 @@ module _ {S : Type 0} (s : Ghosts S) (told : s.tells) (laws : Laws s) (h : State
   one_group (g ∷ k ∷ more) e = absurd (omega (arith, e))
 
   -- The commit's group was given, and all groups were made last.
-  pub holds_committed : (fault : Option Call) (mid new : S) → GivesOne s old mid true (λ now. CommitMade h holds.xids 1 x (s.blocks old) now) → Logs s mid new [] true → (s.keeps → s.pending new ≡ [])
-      → Holds s next None new × (s.keeps → Survives s (s.slots old) fault h next old new)
+  pub holds_committed : (fault : Option Call) (mid new : S) → GivesOne s old mid true (λ now. CommitMade h xids who x (s.blocks old) now) → Logs s mid new [] true → (s.keeps → s.pending new ≡ [])
+      → Holds s next (xids ++ x ∷ []) new × (s.keeps → Survives s (s.slots old) fault h next old new)
   holds_committed fault mid new one flush none =
       let single = one_group one.groups (one.one refl) in
       let g = single.0 in
       let logs : Logs s old mid (g ∷ []) true = subst (λ (l : List (List Patch)). Logs s old mid l true) single.1 one.logs in
       let both : Logs s old new (g ∷ []) true = more_logs s old mid new (g ∷ []) [] true logs flush in
-      let made : CommitMade h holds.xids 1 x (s.blocks old) (after_groups (s.lsn old + 1) one.groups (s.blocks old)) = one.made (let n = one.one refl in omega (arith, n)) in
+      let made : CommitMade h xids who x (s.blocks old) (after_groups (s.lsn old + 1) one.groups (s.blocks old)) = one.made (let n = one.one refl in omega (arith, n)) in
       let read : s.blocks new ≡ after_group (s.lsn old + 1) g (s.blocks old) = both.blocks told refl in
-      let is : CommitMade h holds.xids 1 x (s.blocks old) (s.blocks new) = subst Is (ap (λ (l : List (List Patch)). after_groups (s.lsn old + 1) l (s.blocks old)) single.1 ∙ sym read) made in
+      let is : CommitMade h xids who x (s.blocks old) (s.blocks new) = subst Is (ap (λ (l : List (List Patch)). after_groups (s.lsn old + 1) l (s.blocks old)) single.1 ∙ sym read) made in
       let number : s.lsn new ≡ s.lsn old + 1 = both.number refl in
       let has : HasState next next.books (last_scn next.commits) (s.slots old) (s.blocks new) (s.lsn new) = subst (λ (n : ℕ). HasState next next.books (last_scn next.commits) (s.slots old) (s.blocks new) n) (sym number) (made_has (s.blocks new) is) in
-      let free = freed h next holds.xids (s.blocks old) 1 x.seg x.slot (finished (last_scn h.commits + 1) x.slot (book_at h.books x.seg)) holds.blocks id.few id.there id.owned refl
-      (finished_here (last_scn h.commits + 1) x.slot (book_at h.books x.seg) (few_slots holds.blocks x.seg id.there x.slot id.few)) (finished_else (last_scn h.commits + 1) x.slot (book_at h.books x.seg)) in
       let crash : (keeps : s.keeps) → Survives s (s.slots old) fault h next old new × Rattle.rb_base.specs.Keeps.Keeps s (HasState next next.books (last_scn next.commits) (s.slots old)) new = λ keeps.
       survives_commit s laws keeps h next old mid new g shape extends (holds.images keeps) logs flush both (none keeps) has read number in (
         record {
-          xids = holds.xids ++ x ∷ [];
           blocks = is.stand;
           logged = has.logged;
-          id = id_none next (env_of h.shape (s.blocks new)) 1 free;
           fits = subst (λ (k : Option ℕ). owed_in h.shape (s.blocks new) ≤ room_of k (s.lsn new)) (sym both.same_slots) has.fits;
           images = λ keeps. subst (λ (k : Option ℕ). Rattle.rb_base.specs.Keeps.Keeps s (HasState next next.books (last_scn next.commits) k) new) (sym both.same_slots) (crash keeps).1;
         },
@@ -77,14 +67,14 @@ module _ {S : Type 0} (s : Ghosts S) (told : s.tells) (laws : Laws s) (h : State
       )
 
   -- A call failed, with the group or before it.
-  pub commit_fault : (new : S) (groups : List (List Patch)) → length groups ≤ 1 → Logs s old new groups false → (1 ≤ length groups → CommitMade h holds.xids 1 x (s.blocks old) (after_groups (s.lsn old + 1) groups (s.blocks old)))
-      → is_empty (session_own h 1) ≡ false → s.keeps → Survives s (s.slots old) (Some (Commit 1)) h (record h { stopped = true }) old new
+  pub commit_fault : (new : S) (groups : List (List Patch)) → length groups ≤ 1 → Logs s old new groups false → (1 ≤ length groups → CommitMade h xids who x (s.blocks old) (after_groups (s.lsn old + 1) groups (s.blocks old)))
+      → is_empty (session_own h who) ≡ false → s.keeps → Survives s (s.slots old) (Some (Commit who)) h (record h { stopped = true }) old new
   commit_fault new groups few logs made some keeps =
       let P : List (List ℕ) → ℕ → Type 0 = HasState h h.books (last_scn h.commits) (s.slots old) in
-      let Q : List (List ℕ) → ℕ → Type 0 = λ b n. HasState h h.books (last_scn h.commits) (s.slots old) b n ⊎ HasState (with_commit h 1) h.books (last_scn h.commits + 1) (s.slots old) b n in
-      commit_failed s laws keeps h 1 old new groups shape some (holds.images keeps) logs
+      let Q : List (List ℕ) → ℕ → Type 0 = λ b n. HasState h h.books (last_scn h.commits) (s.slots old) b n ⊎ HasState (with_commit h who) h.books (last_scn h.commits + 1) (s.slots old) b n in
+      commit_failed s laws keeps h who old new groups shape some (holds.images keeps) logs
       (few_each s told laws Q groups (s.blocks old) (s.lsn old) keeps few (inl (read_has s laws keeps P old (holds.images keeps)))
       (λ one. inr (
       let now = after_groups (s.lsn old + 1) groups (s.blocks old) in
-      has_later next (with_commit h 1) next.books h.books (last_scn h.commits + 1) (s.slots old) now (s.lsn old + 1) refl refl (shrinks_finished h.shape h.books (last_scn h.commits + 1) x.seg x.slot holds.blocks.tell.books_counted)
+      has_later next (with_commit h who) next.books h.books (last_scn h.commits + 1) (s.slots old) now (s.lsn old + 1) refl refl (shrinks_finished h.shape h.books (last_scn h.commits + 1) x.seg x.slot holds.blocks.tell.books_counted)
       (subst (λ (n : ℕ). HasState next next.books n (s.slots old) now (s.lsn old + 1)) next_number (made_has now (made one))))))

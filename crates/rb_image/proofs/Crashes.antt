@@ -1,21 +1,21 @@
 -- What a crash may leave: from state to state, over calls that give a store groups, and over several calls.
-use Rattle.std.proofs.Common.{◌≡◌, ◌≢◌, ◌⊎◌, inl, inr, ⊎_elim, ℕ, ◌+◌, ◌-◌, ◌<◌, ◌≤◌, true, false, List, [], ◌∷◌, ◌++◌, length, take, refl, arith, ap, sym, ◌∙◌, subst, length-append, append_assoc, append-nil, Option, Some}
+use Rattle.std.proofs.Common.{◌≡◌, ◌≢◌, ℕ, ◌-◌, ◌≤◌, false, List, [], ◌++◌, length, take, refl, arith, ap, sym, ◌∙◌, subst, length-append, append_assoc, append-nil, Option, Some}
 use Rattle.std.proofs.lemmas.Bool.{false≢true}
 use Rattle.std.proofs.lemmas.List.{take-append-le}
 use Rattle.std.specs.List.{flat_map}
-use Rattle.rb_base.specs.Moments.{LeavesOnly, joined, weaker}
+use Rattle.rb_base.specs.Moments.{joined, weaker}
 use Rattle.rb_base.specs.Stores.{room_of}
 use Rattle.rb_base.specs.declared.ids.Xid.{Xid}
 use Rattle.rb_base.specs.declared.shape.Shape.{Shape}
 use Rattle.rb_base.specs.declared.store.Store.{Ghosts}
-use Rattle.rb_image.specs.Crash.{AtEnd, whole, one_commit, one_write, OnTheWay, reached, at_end, Extends, MarksGrow, Restarts, RestartsAt, Survives, with_commit}
+use Rattle.rb_image.specs.Crash.{AtEnd, whole, one_commit, one_write, OnTheWay, reached, at_end, Extends, MarksGrow, Restarts, RestartsAt, Survives}
 use Rattle.rb_image.specs.Images.{HasState, MarksWithin}
 use Rattle.rb_image.proofs.Past.{sound_as}
-use Rattle.rb_model.specs.Book.{Book, book_at}
+use Rattle.rb_model.specs.Book.{Book}
 use Rattle.rb_model.specs.Calls.{Action, Call, Commit, Write}
-use Rattle.rb_model.specs.Rows.{Commits, TableRow, last_scn, over, rows_at}
-use Rattle.rb_model.specs.State.{State, session_own}
-use Rattle.rb_segment.specs.Segments.{commit_scn, owed_in}
+use Rattle.rb_model.specs.Rows.{Commits, last_scn, over, rows_at}
+use Rattle.rb_model.specs.State.{State}
+use Rattle.rb_segment.specs.Segments.{owed_in}
 use Rattle.rb_standing.specs.Standing.{SoundAs, logged_of}
 use Rattle.rb_standing.specs.States.{BlocksStand}
 use Rattle.rb_standing.proofs.MachineDone.{last_commits}

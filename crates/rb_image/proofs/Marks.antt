@@ -1,5 +1,5 @@
 -- The marks of the books after each step: a write makes one record more and may give something up, and nothing else does.
-use Rattle.std.proofs.Common.{◌≡◌, ◌≢◌, inl, inr, ◌<◌, ◌≤◌, ◌+◌, max, ℕ, Bool, true, false, List, length, refl, sym, ◌∙◌, ap, subst, arith, set}
+use Rattle.std.proofs.Common.{◌≡◌, inl, inr, ◌<◌, ◌≤◌, ℕ, Bool, true, false, List, length, refl, ◌∙◌, ap, arith, set}
 use Rattle.std.proofs.lemmas.Bool.{cases_eq, cond_both}
 use Rattle.std.proofs.lemmas.List.{get_or-set_same, get_or-set_other}
 use Rattle.rb_base.specs.declared.shape.Shape.{Shape}

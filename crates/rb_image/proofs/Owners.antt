@@ -1,15 +1,15 @@
 -- A session and its id over the steps: who owns a slot, and under which id.
-use Rattle.std.proofs.Common.{◌≡◌, ◌≢◌, ◌⊎◌, inl, inr, ⊎_elim, ◌<◌, ◌≤◌, ◌+◌, ◌-◌, ◌*◌, ◌/◌, ◌%◌, ℕ, List, [], length, set, get_or, Option, Some, None, refl, sym, ◌∙◌, ap, subst, arith}
+use Rattle.std.proofs.Common.{◌≡◌, ◌≢◌, inl, inr, ◌<◌, ◌+◌, ◌*◌, ◌/◌, ◌%◌, ℕ, List, length, set, Option, Some, None, refl, sym, ◌∙◌, ap, subst, arith}
 use Rattle.std.proofs.lemmas.Bool.{cases_eq}
-use Rattle.std.proofs.lemmas.List.{get_or-set_same, get_or-set_other, length-set}
+use Rattle.std.proofs.lemmas.List.{get_or-set_same, get_or-set_other}
 use Rattle.rb_base.specs.declared.ids.Xid.{Xid}
-use Rattle.rb_base.specs.declared.sizes.TheConstants.{ACTIVE}
+use Rattle.rb_image.specs.Made.{KeepsIds}
 use Rattle.rb_model.specs.Book.{Book, BookSlot, Owner, book_at, book_slot, finished, free_slot, fresh_book, left, slot_owner}
 use Rattle.rb_model.specs.Calls.{HasNoSlot, Owned}
 use Rattle.rb_model.specs.State.{State, owner_at}
 use Rattle.rb_segment.specs.Books.{IsOwned}
 use Rattle.rb_segment.specs.Calls.{Runs}
-use Rattle.rb_segment.specs.Header.{Segment, slot_in}
+use Rattle.rb_segment.specs.Header.{slot_in}
 use Rattle.rb_standing.specs.Standing.{env_of, homes_of, segments_of}
 use Rattle.rb_standing.specs.States.{BlocksStand, Owns}
 use Rattle.rb_standing.specs.Values.{slot_of}
@@ -22,12 +22,14 @@ use Rattle.rb_walk.specs.Walk.{Env}
 pub same_owners : (h h2 : State) (t : ℕ) → h2.books ≡ h.books → owner_at h2 t ≡ owner_at h t
 same_owners h h2 t e = ap (λ (books : List Book). slot_owner (book_at books (t / 16)) (t % 16)) e
 
-pub id_same : (h h2 : State) (env env2 : Env) (s : ℕ) (own : Option Xid) → h2.books ≡ h.books → ((t : ℕ) → env2.xid t ≡ env.xid t) → IsOwnId h env s own → IsOwnId h2 env2 s own
+pub id_same : (h h2 : State) (env env2 : Env) (s : ℕ) (own : Option Xid) → h2.books ≡ h.books → KeepsIds h env env2 → IsOwnId h env s own → IsOwnId h2 env2 s own
 id_same h h2 env env2 s own books ids id = record {
-  owns = λ t o. id.owns t (record { owner = o.owner; at = sym (same_owners h h2 t books) ∙ o.at; session = o.session }) ∙ ap Some (sym (ids t));
+  owns = λ t o.
+      let was : Owns h s t = record { owner = o.owner; at = sym (same_owners h h2 t books) ∙ o.at; session = o.session } in
+      id.owns t was ∙ ap Some (sym (ids s t was));
   owned = λ x is.
       let f : (t : ℕ) × Owns h s t × (x ≡ env.xid t) = id.owned x is in
-      (f.0, record { owner = f.1.owner; at = same_owners h h2 f.0 books ∙ f.1.at; session = f.1.session }, f.2 ∙ sym (ids f.0));
+      (f.0, record { owner = f.1.owner; at = same_owners h h2 f.0 books ∙ f.1.at; session = f.1.session }, f.2 ∙ sym (ids s f.0 f.1));
 }
 
 -- a session that owns nothing has no id

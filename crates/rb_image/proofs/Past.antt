@@ -1,21 +1,20 @@
 -- The rows after all commits are what the past of blocks that stand for a state leads to: so that past may be forgotten.
-use Rattle.std.proofs.Common.{◌≡◌, ◌≢◌, inl, inr, ◌<◌, ◌≤◌, ◌+◌, ◌-◌, ◌*◌, ◌/◌, ◌%◌, ◌==◌, ℕ, List, [], ◌∷◌, ◌++◌, length, map, None, refl, sym, ◌∙◌, ap, subst, arith}
+use Rattle.std.proofs.Common.{◌≡◌, ◌≢◌, inl, inr, ◌≤◌, ◌+◌, ◌-◌, ◌*◌, ◌/◌, ◌%◌, ◌==◌, ℕ, List, [], ◌∷◌, ◌++◌, map, None, refl, sym, ◌∙◌, ap, subst, arith}
 use Rattle.std.proofs.lemmas.Nat.{div-add-mod'}
 use Rattle.std.proofs.lemmas.Bool.{cases_eq, cond-false, ne_eqb}
 use Rattle.std.specs.List.{flat_map, AllByRecursion}
-use Rattle.rb_base.specs.Blocks.{home_block, table_blocks}
+use Rattle.rb_base.specs.Blocks.{home_block}
 use Rattle.rb_base.specs.declared.ids.Xid.{Xid}
 use Rattle.rb_base.specs.declared.shape.Shape.{Shape}
-use Rattle.rb_image.specs.Images.{HasState}
 use Rattle.rb_model.specs.Change as model
 use Rattle.rb_model.specs.Rows.{TableRow, InOrder, changed_by, last_scn, over, rows_at, value_of}
 use Rattle.rb_model.specs.State.{State}
 use Rattle.rb_model.proofs.RowLemmas.{ordered-over}
 use Rattle.rb_model.proofs.Values.{tables_changed}
-use Rattle.rb_standing.specs.Forgotten.{IsAfter, forgotten_past}
+use Rattle.rb_standing.specs.Forgotten.{IsAfter}
 use Rattle.rb_standing.specs.Standing.{Standing, SoundAs, env_of, homes_of, logged_of, segments_of}
 use Rattle.rb_standing.specs.States.{BlocksStand, InTables, commits_from, lives_of, newest_first, past_of, walk_change}
-use Rattle.rb_standing.specs.Values.{Past, rows_here}
+use Rattle.rb_standing.specs.Values.{rows_here}
 use Rattle.rb_standing.proofs.Forgotten.{standing_forgotten}
 use Rattle.rb_segment.specs.Segments.{commit_scn}
 use Rattle.rb_verdict.proofs.Homes.{rows_over, rows_here_is}

@@ -1,7 +1,7 @@
 -- What calls leave of a store whose images have a state: by the groups that they gave it, each of which makes blocks that
 -- have the state or a later one.
-use Rattle.std.proofs.Common.{◌≡◌, ◌⊎◌, inl, inr, ⊎_elim, ℕ, ◌+◌, ◌-◌, ◌<◌, ◌≤◌, Bool, true, false, List, [], ◌∷◌, ◌++◌, length, take, refl, arith, ap, sym, ◌∙◌, subst, length-append, append-nil, Option, Some}
-use Rattle.std.proofs.lemmas.Bool.{cases_lt, false≢true}
+use Rattle.std.proofs.Common.{◌≡◌, ◌⊎◌, inl, inr, ⊎_elim, ℕ, ◌+◌, ◌-◌, ◌<◌, ◌≤◌, Bool, true, false, List, [], ◌∷◌, ◌++◌, length, take, refl, arith, ap, sym, ◌∙◌, subst, length-append, Option, Some}
+use Rattle.std.proofs.lemmas.Bool.{cases_lt}
 use Rattle.std.proofs.lemmas.List.{take-append-le}
 use Rattle.std.proofs.Math.Seq.{take-append-add}
 use Rattle.rb_base.specs.Blocks.{after_group, after_groups}
@@ -14,7 +14,7 @@ use Rattle.rb_base.specs.declared.shape.Shape.{Shape}
 use Rattle.rb_base.specs.declared.store.Store.{Ghosts}
 use Rattle.rb_image.specs.Crash.{AtEnd, whole, one_commit, one_write, OnTheWay, reached, at_end, Extends, MarksGrow, OpensUpTo, Restarts, RestartsAt, Survives, with_commit}
 use Rattle.rb_image.specs.Images.{HasState}
-use Rattle.rb_image.proofs.Crashes.{extends_later, extends_same, grow_same, has_later, restarts_later, rows_stay}
+use Rattle.rb_image.proofs.Crashes.{extends_later, extends_same, grow_same, has_later, restarts_later}
 use Rattle.rb_model.specs.Book.{Book}
 use Rattle.rb_model.specs.Calls.{Action, Call, Commit, Write, WritesIn, has_slot, is_empty}
 use Rattle.rb_model.specs.NextState.{books_written}

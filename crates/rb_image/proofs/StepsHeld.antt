@@ -1,30 +1,27 @@
 -- What each step of a session leaves of a store that has a state: the next state, and of a crash no more than the two.
-use Rattle.std.proofs.Common.{◌≡◌, ◌≢◌, ◌⊎◌, inl, inr, ⊎_elim, ◌<◌, ◌≤◌, ◌+◌, ◌-◌, ◌*◌, ◌^◌, ℕ, zero, suc, Bool, true, false, List, [], ◌∷◌, ◌++◌, length, set, get_or, Option, Some, None, refl, sym, ◌∙◌, ap, subst, arith, length-append}
-use Rattle.std.proofs.lemmas.List.{get_or-set_same, get_or-set_other}
-use Rattle.rb_base.specs.Blocks.{after_group, after_groups}
+use Rattle.std.proofs.Common.{◌≡◌, ◌≤◌, ◌+◌, ℕ, true, false, List, [], ◌∷◌, length, Option, Some, None, refl, sym, ◌∙◌, ap, subst, arith}
+use Rattle.rb_base.specs.Blocks.{after_groups}
 use Rattle.rb_base.specs.Groups.{Patch}
 use Rattle.rb_base.specs.Keeps.{AfterEach, Keeps}
-use Rattle.rb_base.specs.Logs.{Laws, Logs, more_logs}
+use Rattle.rb_base.specs.Logs.{Laws}
 use Rattle.rb_base.specs.Stores.{room_of}
 use Rattle.rb_base.specs.declared.ids.Xid.{Xid}
 use Rattle.rb_base.specs.declared.store.Store.{Ghosts}
-use Rattle.rb_image.specs.Crash.{Extends, MarksGrow, Survives, with_commit}
+use Rattle.rb_image.specs.Crash.{MarksGrow, Survives}
 use Rattle.rb_image.specs.Holds.{Holds}
 use Rattle.rb_image.specs.Images.{HasState}
-use Rattle.rb_image.specs.Made.{BackMade, CommitMade, EndMade, GivesOne, WriteMade}
+use Rattle.rb_image.specs.Made.{BackMade, EndMade, GivesOne, WriteMade}
 use Rattle.rb_image.proofs.Crashes.{grow_same, has_later, has_state}
-use Rattle.rb_image.proofs.Marks.{grows_finished, grows_left, grows_written, shrinks_finished, shrinks_left}
-use Rattle.rb_image.proofs.Owners.{OwnedBy, few_slots, finished_else, finished_here, freed, id_none, id_same, left_else, left_here, owned_by}
-use Rattle.rb_image.proofs.Steps.{commit_failed, keeps_on, none_each, one_each, read_has, survives_commit, survives_going, survives_write}
-use Rattle.rb_model.specs.Book.{Book, book_at, finished, free_slot, left, slot_owner}
-use Rattle.rb_model.specs.Calls.{Action, Call, Owned, Write, has_slot, is_empty}
+use Rattle.rb_image.proofs.Marks.{grows_left, grows_written}
+use Rattle.rb_image.proofs.Steps.{keeps_on, none_each, one_each, read_has, survives_going, survives_write}
+use Rattle.rb_model.specs.Calls.{Action, Call, Write, has_slot}
 use Rattle.rb_model.specs.Change.{Change}
-use Rattle.rb_model.specs.NextState.{books_written, change_in, committed, ended, without_owner, written}
+use Rattle.rb_model.specs.NextState.{books_written, change_in, ended, without_owner, written}
 use Rattle.rb_model.specs.Rows.{last_scn}
-use Rattle.rb_model.specs.State.{Cursor, State, session_own}
+use Rattle.rb_model.specs.State.{Cursor, State}
 use Rattle.rb_segment.specs.Segments.{owed_in}
 use Rattle.rb_standing.specs.NextStates.{with_own}
-use Rattle.rb_standing.specs.Standing.{env_of, logged_of}
+use Rattle.rb_standing.specs.Standing.{logged_of}
 use Rattle.rb_standing.specs.States.{BlocksStand}
 
 -- room for one group less
@@ -46,11 +43,11 @@ module _ {S : Type 0} (s : Ghosts S) (told : s.tells) (laws : Laws s) where
       (subst Is (sym (one.logs.blocks told refl)) (one.made (omega (arith, single))), omega (arith, one.logs.number refl, single))
 
   -- A step that leaves the commits: the state is the next one, and each image has that or the one before.
-  module _ (h h2 : State) (xids : List Xid) (own own2 : Option Xid) (old new : S) (shape : s.shape_of old ≡ h.shape) (shapes : h2.shape ≡ h.shape) (commits : h2.commits ≡ h.commits)
-      (grow : MarksGrow h.shape h.books h2.books) (holds : Holds s h own old) where
+  module _ (h h2 : State) (xids : List Xid) (old new : S) (shape : s.shape_of old ≡ h.shape) (shapes : h2.shape ≡ h.shape) (commits : h2.commits ≡ h.commits)
+      (grow : MarksGrow h.shape h.books h2.books) (holds : Holds s h xids old) where
     step_holds : (fault : Option Call) (one : GivesOne s old new true (λ now. BlocksStand h2 xids now × (logged_of h.shape now ≡ logged_of h.shape (s.blocks old) + 1) × (owed_in h.shape now + 1 ≤ room_of (s.slots old) (s.lsn old))))
-        → Rattle.rb_verdict.specs.Verdict.IsOwnId h2 (env_of h2.shape (s.blocks new)) 1 own2 → Holds s h2 own2 new × (s.keeps → Survives s (s.slots old) fault h h2 old new)
-    step_holds fault one id =
+        → Holds s h2 xids new × (s.keeps → Survives s (s.slots old) fault h h2 old new)
+    step_holds fault one =
         let made = made_now (λ now. BlocksStand h2 xids now × (logged_of h.shape now ≡ logged_of h.shape (s.blocks old) + 1) × (owed_in h.shape now + 1 ≤ room_of (s.slots old) (s.lsn old))) old new one in
         let number : s.lsn new ≡ logged_of h2.shape (s.blocks new) = made.1 ∙ (ap (λ (n : ℕ). n + 1) holds.logged ∙ (sym made.0.1 ∙ ap (λ x. logged_of x (s.blocks new)) (sym shapes))) in
         let P : List (List ℕ) → ℕ → Type 0 = HasState h h.books (last_scn h.commits) (s.slots old) in
@@ -66,10 +63,8 @@ module _ {S : Type 0} (s : Ghosts S) (told : s.tells) (laws : Laws s) where
         let each : (keeps : s.keeps) → AfterEach Q (s.lsn old) one.groups (s.blocks old) = λ keeps.
         few_each Q one.groups (s.blocks old) (s.lsn old) keeps one.few (so _ _ (read_has s laws keeps P old (holds.images keeps))) (after keeps) in (
           record {
-            xids = xids;
             blocks = made.0.0;
             logged = number;
-            id = id;
             fits = subst (λ x. owed_in x (s.blocks new) ≤ room_of (s.slots new) (s.lsn new)) (sym shapes)
                 (subst (λ (k : Option ℕ). owed_in h.shape (s.blocks new) ≤ room_of k (s.lsn new)) (sym one.logs.same_slots)
                 (subst (λ (n : ℕ). owed_in h.shape (s.blocks new) ≤ room_of (s.slots old) n) (sym made.1) (room_less (s.slots old) (s.lsn old) (owed_in h.shape (s.blocks new)) made.0.2)));
@@ -79,9 +74,9 @@ module _ {S : Type 0} (s : Ghosts S) (told : s.tells) (laws : Laws s) where
         )
 
   -- What calls that gave at most one group leave where a call failed, if the group changes neither commits nor marks.
-  step_fault : {fault : Option Call} → (h : State) (own : Option Xid) (old new : S) → s.shape_of old ≡ h.shape → Holds s h own old
+  step_fault : {fault : Option Call} → (h : State) (xids : List Xid) (old new : S) → s.shape_of old ≡ h.shape → Holds s h xids old
       → (one : GivesOne s old new false (λ now. HasState h h.books (last_scn h.commits) (s.slots old) now (s.lsn old + 1))) → s.keeps → Survives s (s.slots old) fault h (record h { stopped = true }) old new
-  step_fault h own old new shape holds one keeps =
+  step_fault h xids old new shape holds one keeps =
       let P : List (List ℕ) → ℕ → Type 0 = HasState h h.books (last_scn h.commits) (s.slots old) in
       let h2 : State = record h { stopped = true } in
       let Q : List (List ℕ) → ℕ → Type 0 = HasState h2 h2.books (last_scn h2.commits) (s.slots old) in
@@ -90,61 +85,53 @@ module _ {S : Type 0} (s : Ghosts S) (told : s.tells) (laws : Laws s) where
       (few_each Q one.groups (s.blocks old) (s.lsn old) keeps one.few (so _ _ (read_has s laws keeps P old (holds.images keeps))) (λ some. so _ _ (one.made some)))
 
   -- A write.
-  module _ (h : State) (own : Option Xid) (old new : S) (table key : ℕ) (action : Action) (room : ℕ) (x : Xid) (shape : s.shape_of old ≡ h.shape) (holds : Holds s h own old)
+  module _ (h : State) (xids : List Xid) (who : ℕ) (old new : S) (table key : ℕ) (action : Action) (room : ℕ) (x : Xid) (shape : s.shape_of old ≡ h.shape) (holds : Holds s h xids old)
       (less : room ≤ room_of (s.slots old) (s.lsn old)) where
     abbrev pub after_it : State
-    after_it = written h 1 x.seg x.slot (change_in h x.seg table key action)
+    after_it = written h who x.seg x.slot (change_in h x.seg table key action)
 
     abbrev Is : List (List ℕ) → Type 0
-    Is now = WriteMade h holds.xids 1 table key action room x (s.blocks old) now
+    Is now = WriteMade h xids who table key action room x (s.blocks old) now
 
-    pub holds_written : (fault : Option Call) → GivesOne s old new true (λ now. WriteMade h holds.xids 1 table key action room x (s.blocks old) now) → Holds s after_it (Some x) new × (s.keeps → Survives s (s.slots old) fault h after_it old new)
+    pub holds_written : (fault : Option Call) → GivesOne s old new true (λ now. WriteMade h xids who table key action room x (s.blocks old) now) → Holds s after_it xids new × (s.keeps → Survives s (s.slots old) fault h after_it old new)
     holds_written fault one =
-        let made : WriteMade h holds.xids 1 table key action room x (s.blocks old) (s.blocks new) × (s.lsn new ≡ s.lsn old + 1) = made_now Is old new one in
-        step_holds h after_it holds.xids own (Some x) old new shape refl refl (grows_written h.shape h.books 1 x.seg x.slot (has_slot h 1 x.seg x.slot) holds.blocks.tell.books_counted) holds fault
-        (record { groups = one.groups; logs = one.logs; few = one.few; one = one.one; made = λ some. let m = one.made some in (m.stand, m.last, omega (arith, m.fits, less)) }) made.0.id
+        step_holds h after_it xids old new shape refl refl (grows_written h.shape h.books who x.seg x.slot (has_slot h who x.seg x.slot) holds.blocks.tell.books_counted) holds fault
+        (record { groups = one.groups; logs = one.logs; few = one.few; one = one.one; made = λ some. let m = one.made some in (m.stand, m.last, omega (arith, m.fits, less)) })
 
-    pub write_fault : GivesOne s old new false (λ now. WriteMade h holds.xids 1 table key action room x (s.blocks old) now) → s.keeps → Survives s (s.slots old) (Some (Write 1 table key action)) h (record h { stopped = true }) old new
+    pub write_fault : GivesOne s old new false (λ now. WriteMade h xids who table key action room x (s.blocks old) now) → s.keeps → Survives s (s.slots old) (Some (Write who table key action)) h (record h { stopped = true }) old new
     write_fault one keeps = by one.groups refl
       where
         P : List (List ℕ) → ℕ → Type 0
         P = HasState h h.books (last_scn h.commits) (s.slots old)
 
-        by : (groups : List (List Patch)) → one.groups ≡ groups → Survives s (s.slots old) (Some (Write 1 table key action)) h (record h { stopped = true }) old new
-        by [] e = step_fault h own old new shape holds (record { groups = one.groups; logs = one.logs; few = one.few; one = one.one; made = λ some. absurd (omega (arith, some, ap length e)) }) keeps
+        by : (groups : List (List Patch)) → one.groups ≡ groups → Survives s (s.slots old) (Some (Write who table key action)) h (record h { stopped = true }) old new
+        by [] e = step_fault h xids old new shape holds (record { groups = one.groups; logs = one.logs; few = one.few; one = one.one; made = λ some. absurd (omega (arith, some, ap length e)) }) keeps
         by (g ∷ more) e =
             let some : 1 ≤ length one.groups = omega (arith, ap length e) in
             let m = one.made some in
-            let books = books_written 1 x.seg x.slot (has_slot h 1 x.seg x.slot) h.books in
-            let grow = grows_written h.shape h.books 1 x.seg x.slot (has_slot h 1 x.seg x.slot) holds.blocks.tell.books_counted in
+            let books = books_written who x.seg x.slot (has_slot h who x.seg x.slot) h.books in
+            let grow = grows_written h.shape h.books who x.seg x.slot (has_slot h who x.seg x.slot) holds.blocks.tell.books_counted in
             let Q : List (List ℕ) → ℕ → Type 0 = HasState h books (last_scn h.commits) (s.slots old) in
             let so : (b : List (List ℕ)) (n : ℕ) → P b n → Q b n = λ b n has. has_later h h h.books books (last_scn h.commits) (s.slots old) b n refl refl grow has in
             let now = after_groups (s.lsn old + 1) one.groups (s.blocks old) in
-            let has : HasState after_it after_it.books (last_scn after_it.commits) (s.slots old) now (s.lsn old + 1) = has_state after_it holds.xids now (s.slots old) (s.lsn old + 1) m.stand (ap (λ (n : ℕ). n + 1) holds.logged ∙ sym m.last)
+            let has : HasState after_it after_it.books (last_scn after_it.commits) (s.slots old) now (s.lsn old + 1) = has_state after_it xids now (s.slots old) (s.lsn old + 1) m.stand (ap (λ (n : ℕ). n + 1) holds.logged ∙ sym m.last)
             (room_less (s.slots old) (s.lsn old) (owed_in h.shape now) (omega (arith, m.fits, less))) in
-            survives_write s laws keeps h 1 table key action x.seg x.slot old new one.groups shape m.in_slot grow (holds.images keeps) one.logs
+            survives_write s laws keeps h who table key action x.seg x.slot old new one.groups shape m.in_slot grow (holds.images keeps) one.logs
             (few_each Q one.groups (s.blocks old) (s.lsn old) keeps one.few (so _ _ (read_has s laws keeps P old (holds.images keeps)))
             (λ _. has_later after_it h after_it.books books (last_scn h.commits) (s.slots old) now (s.lsn old + 1) refl refl (grow_same h.shape books) has))
 
   -- The put back of the session's last change.
-  module _ (h : State) (own : Option Xid) (old new : S) (front : List Change) (shape : s.shape_of old ≡ h.shape) (holds : Holds s h own old) where
-    pub holds_back : (fault : Option Call) → GivesOne s old new true (λ now. BackMade h holds.xids 1 front (s.blocks old) now) → Holds s (with_own h 1 front) own new × (s.keeps → Survives s (s.slots old) fault h (with_own h 1 front) old new)
+  module _ (h : State) (xids : List Xid) (who : ℕ) (old new : S) (front : List Change) (shape : s.shape_of old ≡ h.shape) (holds : Holds s h xids old) where
+    pub holds_back : (fault : Option Call) → GivesOne s old new true (λ now. BackMade h xids who front (s.blocks old) now) → Holds s (with_own h who front) xids new × (s.keeps → Survives s (s.slots old) fault h (with_own h who front) old new)
     holds_back fault one =
-        let made : BackMade h holds.xids 1 front (s.blocks old) (s.blocks new) × (s.lsn new ≡ s.lsn old + 1) = made_now (λ now. BackMade h holds.xids 1 front (s.blocks old) now) old new one in
-        step_holds h (with_own h 1 front) holds.xids own own old new shape refl refl (grow_same h.shape h.books) holds fault
+        step_holds h (with_own h who front) xids old new shape refl refl (grow_same h.shape h.books) holds fault
         (record { groups = one.groups; logs = one.logs; few = one.few; one = one.one; made = λ some. let m = one.made some in (m.stand, m.last, omega (arith, m.owed, holds.fits)) })
-        (id_same h (with_own h 1 front) (env_of h.shape (s.blocks old)) (env_of h.shape (s.blocks new)) 1 own refl made.0.ids holds.id)
 
   -- The end of the session's transaction without a change.
-  module _ (h : State) (x : Xid) (old new : S) (shape : s.shape_of old ≡ h.shape) (holds : Holds s h (Some x) old) where
-    id : OwnedBy h (s.blocks old) 1 x
-    id = owned_by h holds.xids (s.blocks old) 1 x holds.blocks holds.id
-
-    pub holds_ended : (fault : Option Call) (cursors : List Cursor) → GivesOne s old new true (λ now. EndMade h holds.xids 1 x (s.blocks old) now)
-        → Holds s (without_owner x.seg x.slot (ended h 1 cursors)) None new × (s.keeps → Survives s (s.slots old) fault h (without_owner x.seg x.slot (ended h 1 cursors)) old new)
+  module _ (h : State) (xids : List Xid) (who : ℕ) (x : Xid) (old new : S) (shape : s.shape_of old ≡ h.shape) (holds : Holds s h xids old) where
+    pub holds_ended : (fault : Option Call) (cursors : List Cursor) → GivesOne s old new true (λ now. EndMade h xids who x (s.blocks old) now)
+        → Holds s (without_owner x.seg x.slot (ended h who cursors)) xids new × (s.keeps → Survives s (s.slots old) fault h (without_owner x.seg x.slot (ended h who cursors)) old new)
     holds_ended fault cursors one =
-        let h2 : State = without_owner x.seg x.slot (ended h 1 cursors) in
-        let none = freed h h2 holds.xids (s.blocks old) 1 x.seg x.slot (left x.slot (book_at h.books x.seg)) holds.blocks id.few id.there id.owned refl (left_here x.slot (book_at h.books x.seg) (few_slots holds.blocks x.seg id.there x.slot id.few)) (left_else x.slot (book_at h.books x.seg)) in
-        step_holds h h2 holds.xids (Some x) None old new shape refl refl (grows_left h.shape h.books x.seg x.slot holds.blocks.tell.books_counted) holds fault
+        let h2 : State = without_owner x.seg x.slot (ended h who cursors) in
+        step_holds h h2 xids old new shape refl refl (grows_left h.shape h.books x.seg x.slot holds.blocks.tell.books_counted) holds fault
         (record { groups = one.groups; logs = one.logs; few = one.few; one = one.one; made = λ some. let m = one.made some in (m.stand cursors, m.last, omega (arith, m.owed, holds.fits)) })
-        (id_none h2 (env_of h.shape (s.blocks new)) 1 none)

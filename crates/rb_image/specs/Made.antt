@@ -1,6 +1,6 @@
 -- What one group makes of blocks that stand for a state, by each step of a session: a write, the put back of a change,
 -- a commit, the end of a transaction without one.
-use Rattle.std.specs.Prelude.{◌≡◌, ◌≤◌, ◌+◌, ◌*◌, ◌∷◌, ◌++◌, ℕ, Bool, true, List, []}
+use Rattle.std.specs.Prelude.{◌≡◌, ◌≤◌, ◌+◌, ◌∷◌, ◌++◌, ℕ, Bool, true, List, []}
 use Rattle.std.specs.Prelude.{length, Some}
 use Rattle.rb_base.specs.Blocks.{after_groups}
 use Rattle.rb_base.specs.Groups.{Patch}

@@ -25,8 +25,6 @@ mod log;
 #[cfg(test)]
 mod memdisk;
 #[cfg(test)]
-mod memory;
-#[cfg(test)]
 mod opening;
 #[cfg(test)]
 mod plainstore;
@@ -37,6 +35,8 @@ mod script;
 #[cfg(test)]
 mod segment;
 #[cfg(test)]
+mod sessions;
+#[cfg(test)]
 mod sound;
 #[cfg(test)]
 mod stream;
@@ -46,5 +46,3 @@ mod txntable;
 mod undo;
 #[cfg(test)]
 mod undoblock;
-#[cfg(test)]
-mod versions;

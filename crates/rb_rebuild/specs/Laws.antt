@@ -5,7 +5,7 @@ use Rattle.rb_rebuild.specs.Chains.{spent}
 use Rattle.rb_rebuild.specs.Heights.{AtMost, Numbered, Over}
 use Rattle.rb_rebuild.specs.Keeping.{Kept, behind_mine, first_count, kept_room, kept_whole, overlay}
 use Rattle.rb_rebuild.specs.Reading.{History, Honest, Reader, Reading, Runs, Down, count_above, flat, rows_at}
-use Rattle.rb_rebuild.specs.Reading.{rows_in, total}
+use Rattle.rb_rebuild.specs.Reading.{answer, needed, rows_in, total}
 use Rattle.rb_rebuild.specs.Turns.{Ends, Peeled, Running, Starts, WornIn, WornLive}
 use Rattle.rb_rebuild.specs.Heights.{BeyondIn}
 use Rattle.rb_walk.specs.Steps.{Stands}
@@ -102,3 +102,10 @@ BoundIsWorn = (env : Env) (base : ℕ) (rows : Rows) (mine : Option Xid) (upto n
 -- The cells of a home show exactly the rows that it has.
 abbrev pub CellsShowRows : Type 0
 CellsShowRows = (b : Home) (rows : Rows) → Match b rows → (k : ℕ) → rows_in b.cells k ≡ rows k
+
+-- Where no entry of a home is active or above n, its cells show the rows at n with the reader's first changes over them, and
+-- nothing is to be taken back.
+abbrev pub QuietIsRead : Type 0
+QuietIsRead = (env : Env) (h : History) (mine : Option Xid) (upto n : ℕ) (b : Home) → Reading env h mine upto n b
+    → ((j : ℕ) → AtMost env n n (entry_at b j))
+    → ((k : ℕ) → rows_in b.cells k ≡ answer h mine upto n k) × (needed h n ≡ 0)

@@ -1,12 +1,13 @@
 //! What holds of a home that is read at a snapshot, as clauses for proofs to cite. Nothing calls it.
 ghost use Rattle.rb_rebuild.specs.Laws.{StandingIsRead, FirstAreFew, LiveBegin, QuietIsPassed, ActiveIsTakenBack};
 ghost use Rattle.rb_rebuild.specs.Laws.{LiveAreTakenBack, CommitsBegin, CommitIsTakenBack, NoneAboveIsRead};
-ghost use Rattle.rb_rebuild.specs.Laws.{BoundIsWorn, CellsShowRows};
+ghost use Rattle.rb_rebuild.specs.Laws.{BoundIsWorn, CellsShowRows, QuietIsRead};
 
 /// A home that stands can be read. The live changes are taken back entry by entry, and none of their records is gone;
 /// then the commits above the snapshot, the greatest number first. In the end the cells show the rows at the snapshot,
 /// what is kept lies over them as the reader's first changes do, and as many records were taken back as changes stand
-/// above the snapshot. Where that can't be done, a segment lost what was needed, above the snapshot.
+/// above the snapshot. Where that can't be done, a segment lost what was needed, above the snapshot. A home in which
+/// nothing is active or above the snapshot shows these rows as it is.
 pub fn rebuild_laws()
     ensures read { StandingIsRead × FirstAreFew }
     ensures live { LiveBegin × QuietIsPassed }
@@ -17,4 +18,5 @@ pub fn rebuild_laws()
     ensures answered { NoneAboveIsRead }
     ensures bound { BoundIsWorn }
     ensures shown { CellsShowRows }
+    ensures quiet { QuietIsRead }
 {}

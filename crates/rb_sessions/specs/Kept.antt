@@ -1,6 +1,6 @@
 -- What a contract sees of the table of sessions, and how its calls change it.
-use Rattle.std.specs.Prelude.{ℕ, ◌+◌, ◌-◌, ◌^◌, Bool, false, not, ◌&&◌, nat_lt, min, cond, List, [], ◌∷◌, ◌++◌}
-use Rattle.std.specs.Prelude.{map, filter, get_or, set, Option, None, Some}
+use Rattle.std.specs.Prelude.{ℕ, ◌+◌, ◌-◌, ◌^◌, false, not, ◌&&◌, nat_lt, min, cond}
+use Rattle.std.specs.Prelude.{List, [], ◌∷◌, ◌++◌, map, filter, get_or, set, Option, None, Some}
 use Rattle.std.specs.Str.{bytes_eq}
 use Rattle.rb_base.specs.declared.ids.Xid.{Xid}
 use Rattle.rb_sessions.specs.declared.cursor.Cursor.{Cursor}

@@ -1,7 +1,15 @@
-//! One session in the table, and what is told of it. `Sessions` keeps sixteen.
-use crate::cursor::{CURSORS, Named};
+//! One session in the table: what is told of it, and how each call changes it. `Sessions` keeps sixteen.
+ghost use Rattle.std.specs.Prelude.{◌≡◌, ◌<◌, length, map};
+ghost use Rattle.std.specs.List.{position};
+ghost use Rattle.std.specs.Str.{bytes_eq};
+ghost use Rattle.rb_model.specs.Names.{name_text};
+ghost use Rattle.rb_sessions.specs.Kept as kept;
+ghost use Rattle.rb_sessions.specs.Kept.{cursor_view, session_view};
+
+use crate::cursor::{CURSORS, Cursor, Named};
 use arrayvec::ArrayVec;
-use rb_base::Xid;
+use rb_base::{Xid, array_of};
+use rb_model::Name;
 
 /// What the table tells of a session.
 #[derive(Clone, Copy, Debug, PartialEq, Eq)]
@@ -15,9 +23,119 @@ pub struct Session {
 }
 
 /// A session in the table.
-#[derive(Debug, Default, Drop)]
+#[derive(Debug, Drop)]
 pub(crate) struct Entry {
     pub own: Option<Xid>,
     pub count: u32,
     pub cursors: ArrayVec<Named, CURSORS>,
+}
+
+/// The place of the first cursor of a name.
+fn position_of(cursors: &[Named], name: &[u8]) -> Option<usize>
+    ensures { result ≡ position (λ n. bytes_eq n.name.items name.now) cursors.now }
+{
+    cursors
+        .iter()
+        .position(|named| named.name.as_slice() == name)
+}
+
+/// Notes the key of the last row that the first cursor of a name gave.
+fn mark_given(cursors: &mut [Named], name: &[u8], key: u64)
+    ensures { map cursor_view cursors.new ≡ kept.with_last name.now key (map cursor_view cursors.old) }
+{
+    if let Some(place) = position_of(cursors, name) {
+        cursors[place].cursor.last = Some(key);
+    }
+}
+
+/// Notes that the transaction ends in which the cursors were opened.
+fn pass_all(cursors: &mut [Named])
+    ensures { map cursor_view cursors.new ≡ map kept.passed (map cursor_view cursors.old) }
+{
+    for named in cursors.iter_mut() {
+        named.cursor.present = false;
+    }
+}
+
+/// Closes the cursors of the present transaction that see more than its first `first` changes.
+fn close_seeing(cursors: &mut ArrayVec<Named, CURSORS>, first: u32)
+    ensures { map cursor_view cursors.new.items ≡ kept.left_open first (map cursor_view cursors.old.items) }
+{
+    cursors.retain(|named| !(named.cursor.present && first < named.cursor.upto));
+}
+
+impl Entry {
+    /// One without a transaction and without a cursor.
+    pub fn new() -> Entry
+        ensures { session_view result ≡ kept.fresh }
+    {
+        Entry {
+            own: None,
+            count: 0,
+            cursors: ArrayVec::new(),
+        }
+    }
+
+    /// Notes one change more, of the transaction of that id.
+    pub fn write(&mut self, own: Xid)
+        ensures { session_view self.new ≡ kept.wrote own (session_view self.old) }
+    {
+        self.own = Some(own);
+        self.count = self.count.saturating_add(1);
+    }
+
+    /// Notes that the transaction has committed, or ended without changes. The cursors stay open.
+    pub fn commit(&mut self)
+        ensures { session_view self.new ≡ kept.committed (session_view self.old) }
+    {
+        self.own = None;
+        self.count = 0;
+        pass_all(self.cursors.as_mut_slice());
+    }
+
+    /// Notes that the transaction has rolled back, and closes the cursors that saw a change of it.
+    pub fn rollback(&mut self)
+        ensures { session_view self.new ≡ kept.rolled_back (session_view self.old) }
+    {
+        close_seeing(&mut self.cursors, 0);
+        self.commit();
+    }
+
+    /// Adds a cursor under a name. Fewer than sixteen are open.
+    pub fn open_cursor(&mut self, name: &Name, cursor: Cursor)
+        requires { length self.old.cursors.items < CURSORS }
+        ensures { session_view self.new ≡ kept.with_cursor (name_text name.now) cursor (session_view self.old) }
+    {
+        self.cursors.push(Named {
+            name: array_of(name.as_bytes()),
+            cursor,
+        });
+    }
+
+    /// The cursor of that name, where it is open.
+    pub fn cursor(&self, name: &Name) -> Option<Cursor>
+        ensures { result ≡ kept.named (name_text name.now) (session_view self.now).cursors }
+    {
+        let cursors = self.cursors.as_slice();
+        let place = position_of(cursors, name.as_bytes())?;
+        Some(cursors[place].cursor)
+    }
+
+    /// Notes the key of the last row that the cursor of that name gave.
+    pub fn take(&mut self, name: &Name, key: u64)
+        ensures { session_view self.new ≡ kept.with_cursors (session_view self.old)
+            (kept.with_last (name_text name.now) key (session_view self.old).cursors) }
+    {
+        mark_given(self.cursors.as_mut_slice(), name.as_bytes(), key);
+    }
+
+    /// Closes the cursor of that name, if it is open.
+    pub fn close_cursor(&mut self, name: &Name)
+        ensures { session_view self.new ≡ kept.with_cursors (session_view self.old)
+            (kept.without (name_text name.now) (session_view self.old).cursors) }
+    {
+        if let Some(place) = position_of(self.cursors.as_slice(), name.as_bytes()) {
+            self.cursors.remove(place);
+        }
+    }
 }

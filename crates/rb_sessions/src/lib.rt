@@ -1,5 +1,5 @@
-//! The table of sessions: what the engine keeps in memory of each one's transaction and cursors. It knows no block and no
-//! row; the engine notes here what it has done to the store.
+//! The table of sessions: what the engine keeps in memory of each one's transaction and cursors. It knows no block and
+//! no row; the engine notes here what it has done to the store.
 #![tactic(auto)]
 
 mod cursor;

@@ -1,15 +1,13 @@
 //! The table itself. The engine owns one, asks it who works in which transaction, and notes each call in it.
-ghost use Rattle.std.specs.Prelude.{◌≡◌, ◌≢◌, ◌≤◌, ◌<◌, ℕ, length, replicate, map, filter, not, ◌&&◌};
-ghost use Rattle.std.specs.Prelude.{Some, IfSome, IfNone, slice_index_or, slice_set, nat_lt};
-ghost use Rattle.std.specs.Str.{bytes_eq};
+ghost use Rattle.std.specs.Prelude.{◌≡◌, ◌≢◌, ◌≤◌, ◌<◌, ℕ, length, replicate};
+ghost use Rattle.std.specs.Prelude.{Some, IfSome, IfNone};
 ghost use Rattle.rb_model.specs.Names.{name_text};
 ghost use Rattle.rb_sessions.specs.Kept as kept;
-ghost use Rattle.rb_sessions.specs.Kept.{KeptSession, cursor_view, session_view, fresh, kept_at, with_kept, wrote};
+ghost use Rattle.rb_sessions.specs.Kept.{fresh, kept_at, with_kept};
 
-use crate::cursor::{CURSORS, Cursor, Named};
+use crate::cursor::{CURSORS, Cursor};
 use crate::entry::{Entry, Session};
-use arrayvec::ArrayVec;
-use rb_base::{Xid, array_of};
+use rb_base::Xid;
 use rb_model::Name;
 use std::array;
 use std::marker::Model;
@@ -32,39 +30,13 @@ impl Model for Sessions {
     ghost view = { λ a. map session_view a.entries };
 }
 
-/// The place of the first cursor of a name.
-fn position_of(cursors: &[Named], name: &[u8]) -> Option<usize> {
-    for (i, named) in cursors.iter().enumerate() {
-        if named.name.as_slice() == name {
-            return Some(i);
-        }
-    }
-    None
-}
-
-/// Notes that the transaction ends in which the cursors were opened.
-fn pass_all(cursors: &mut [Named])
-    ensures { map cursor_view cursors.new ≡ map kept.passed (map cursor_view cursors.old) }
-{
-    for named in cursors.iter_mut() {
-        named.cursor.present = false;
-    }
-}
-
-/// Closes the cursors of the present transaction that see more than its first `kept` changes.
-fn close_seeing(cursors: &mut ArrayVec<Named, CURSORS>, kept: u32)
-    ensures { map cursor_view cursors.new.items ≡ kept.left_open kept (map cursor_view cursors.old.items) }
-{
-    cursors.retain(|named| !(named.cursor.present && kept < named.cursor.upto));
-}
-
 impl Sessions {
     /// All sessions without a transaction and without a cursor.
     pub fn new() -> Sessions
         ensures { result ≡ replicate SESSIONS fresh }
     {
         Sessions {
-            entries: array::from_fn(|_| Entry::default()),
+            entries: array::from_fn(|_| Entry::new()),
         }
     }
 
@@ -83,10 +55,11 @@ impl Sessions {
         }
     }
 
-    /// The first session whose transaction has that id.
+    /// A session whose transaction has that id. None exactly where there is none.
     pub fn owner(&self, xid: Xid) -> Option<u16>
         ensures found { IfSome result (λ s. (1 ≤ s) × (s ≤ SESSIONS) × ((kept_at self.now s).own ≡ Some xid)) }
-        ensures none { IfNone result ((s : ℕ) → 1 ≤ s → s ≤ SESSIONS → (kept_at self.now s).own ≢ Some xid) }
+        ensures none { IfNone result ((s : ℕ) → 1 ≤ s → s ≤ SESSIONS
+            → (kept_at self.now s).own ≢ Some xid) }
     {
         for i in 0..SESSIONS {
             if self.entries[i].own == Some(xid) {
@@ -99,11 +72,9 @@ impl Sessions {
     /// Notes one change more of session `s`, whose transaction has that id.
     pub fn wrote(&mut self, s: u16, own: Xid)
         requires { (1 ≤ s) × (s ≤ SESSIONS) }
-        ensures { self.new ≡ with_kept self.old s (wrote own (kept_at self.old s)) }
+        ensures { self.new ≡ with_kept self.old s (kept.wrote own (kept_at self.old s)) }
     {
-        let entry = &mut self.entries[s as usize - 1];
-        entry.own = Some(own);
-        entry.count = entry.count.saturating_add(1);
+        self.entries[s as usize - 1].write(own);
     }
 
     /// Notes that session `s` has committed, or ended a transaction without changes. Its cursors stay open.
@@ -111,10 +82,7 @@ impl Sessions {
         requires { (1 ≤ s) × (s ≤ SESSIONS) }
         ensures { self.new ≡ with_kept self.old s (kept.committed (kept_at self.old s)) }
     {
-        let entry = &mut self.entries[s as usize - 1];
-        entry.own = None;
-        entry.count = 0;
-        pass_all(entry.cursors.as_mut_slice());
+        self.entries[s as usize - 1].commit();
     }
 
     /// Notes that session `s` has rolled back, and closes the cursors that saw a change of the transaction.
@@ -122,11 +90,7 @@ impl Sessions {
         requires { (1 ≤ s) × (s ≤ SESSIONS) }
         ensures { self.new ≡ with_kept self.old s (kept.rolled_back (kept_at self.old s)) }
     {
-        let entry = &mut self.entries[s as usize - 1];
-        entry.own = None;
-        entry.count = 0;
-        close_seeing(&mut entry.cursors, 0);
-        pass_all(entry.cursors.as_mut_slice());
+        self.entries[s as usize - 1].rollback();
     }
 
     /// Adds a cursor of session `s` under a name. Fewer than sixteen are open.
@@ -136,21 +100,15 @@ impl Sessions {
         ensures { self.new
             ≡ with_kept self.old s (kept.with_cursor (name_text name.now) cursor (kept_at self.old s)) }
     {
-        let named = Named {
-            name: array_of(name.as_bytes()),
-            cursor,
-        };
-        self.entries[s as usize - 1].cursors.push(named);
+        self.entries[s as usize - 1].open_cursor(name, cursor);
     }
 
-    /// The cursor of that name. None exactly where session `s` has none open.
+    /// The cursor of that name. None exactly where session `s` has no such one open.
     pub fn cursor(&self, s: u16, name: &Name) -> Option<Cursor>
         requires { (1 ≤ s) × (s ≤ SESSIONS) }
         ensures { result ≡ kept.named (name_text name.now) (kept_at self.now s).cursors }
     {
-        let cursors = self.entries[s as usize - 1].cursors.as_slice();
-        let place = position_of(cursors, name.as_bytes())?;
-        Some(cursors[place].cursor)
+        self.entries[s as usize - 1].cursor(name)
     }
 
     /// Notes the key of the last row that the cursor of that name gave.
@@ -159,10 +117,7 @@ impl Sessions {
         ensures { self.new ≡ with_kept self.old s (kept.with_cursors (kept_at self.old s)
             (kept.with_last (name_text name.now) key (kept_at self.old s).cursors)) }
     {
-        let cursors = self.entries[s as usize - 1].cursors.as_mut_slice();
-        if let Some(place) = position_of(cursors, name.as_bytes()) {
-            cursors[place].cursor.last = Some(key);
-        }
+        self.entries[s as usize - 1].take(name, key);
     }
 
     /// Closes the cursor of that name, if it is open.
@@ -171,9 +126,6 @@ impl Sessions {
         ensures { self.new ≡ with_kept self.old s (kept.with_cursors (kept_at self.old s)
             (kept.without (name_text name.now) (kept_at self.old s).cursors)) }
     {
-        let cursors = &mut self.entries[s as usize - 1].cursors;
-        if let Some(place) = position_of(cursors.as_slice(), name.as_bytes()) {
-            cursors.remove(place);
-        }
+        self.entries[s as usize - 1].close_cursor(name);
     }
 }

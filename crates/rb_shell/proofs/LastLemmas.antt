@@ -8,7 +8,7 @@ use Rattle.rb_engine.specs.Does.{Does, EngineView, LeavesState, SameStore}
 use Rattle.rb_image.proofs.Steps.{opens_last}
 use Rattle.rb_image.specs.Crash.{OpensUpTo}
 use Rattle.rb_image.specs.Images.{HasState}
-use Rattle.rb_model.specs.Calls.{Answer, Checkpoint, Done, Refused, Reply, early, later, first_of}
+use Rattle.rb_model.specs.Calls.{Answer, Checkpoint, Done, Fetch, Refused, Reply, early, later, first_of}
 use Rattle.rb_model.specs.Calls as calls
 use Rattle.rb_model.specs.Out.{Logged}
 use Rattle.rb_model.specs.Rows.{last_scn}
@@ -25,6 +25,7 @@ pub only_fault : (h : State) (n more : ℕ) (why : Refusal) → h.stopped ≡ fa
 only_fault h n more why going (early some is) = absurd (false≢true (sym some ∙ rw going refl))
 only_fault h n more why going (later tests none which is) = let clash : Refused why ≡ Done = is ∙ ap (λ ts. first_of ts Done) which in absurd cc
 only_fault h n more why going (calls.fault none is) = cc
+only_fault h n more why going (calls.old none late) = let clash : Checkpoint ≡ Fetch late.session late.name = late.fetches in absurd cc
 
 module _ {S : Type 0} (s : Ghosts S) (laws : Laws s) (m : Logged) (old new : EngineView S) (is : StandsAs s old m) (going : m.state.stopped ≡ false) where
   -- an image has all to the last group
@@ -33,7 +34,7 @@ module _ {S : Type 0} (s : Ghosts S) (laws : Laws s) (m : Logged) (old new : Eng
   last_of does same kept none i here =
       let state : does.now ≡ m.state = does.after in
       let on : does.now.stopped ≡ false = ap (λ (h : State). h.stopped) state ∙ going in
-      let holds = does.stands.holds on in
+      let holds = (does.stands.goes on).holds in
       let groups : does.groups ≡ 0 = does.grows on in
       let number : s.lsn new.store ≡ m.lsn = does.lsn on ∙ omega (arith, groups, is.lsn) in
       let shape : s.shape_of new.store ≡ m.state.shape = does.stands.shape ∙ ap (λ (h : State). h.shape) state in

@@ -7,7 +7,8 @@ use Rattle.std.specs.Bool.{MatchBool}
 use Rattle.std.specs.List.{list_all}
 use Rattle.std.specs.Prelude.{not, if◌then◌else◌, IfErr, OnErr, OnOk, Option, None, Some}
 use Rattle.rb_base.specs.declared.store.Store.{Ghosts}
-use Rattle.rb_engine.specs.Does.{Does, EngineView, SameStore, room_left}
+use Rattle.rb_base.specs.Stores.{room_of}
+use Rattle.rb_engine.specs.Does.{Does, EngineView, SameStore}
 use Rattle.rb_lines.specs.Ran.{CutShort, Did, Replied, RepliedAs, SameButCursors}
 use Rattle.rb_lines.specs.declared.runner.StepFault.{StepFault}
 use Rattle.rb_lines.specs.declared.runner.StepFault.TheVariants.{Disk, Sink}
@@ -134,6 +135,7 @@ commit_ends h s = grind arith
 reads : (c : Command) (k : ℕ) (h : State) (n more : ℕ) (r : Answer) → Reply h n more (call_of c k) r → goes_on r ≡ true → Reads c
 reads c k h n more r (early some is) gives = clash r _ is (early_ends h (call_of c k)) gives
 reads c k h n more r (calls.fault none is) gives = clash r _ is refl gives
+reads c k h n more r (calls.old none late) gives = clash r _ late.answer refl gives
 reads (FetchLine s name count) k h n more r (later tests none which is) gives = inl (s, name, count, refl)
 reads MarksLine k h n more r (later tests none which is) gives = inr refl
 reads (WriteLine s table key action) k h n more r (later tests none (g, i, w, e) is) gives = clash r _ (is ∙ ap (λ (ts : List (Bool × Answer)). first_of ts Done) e) (write_ends h n more g i s table key action) gives
@@ -352,11 +354,9 @@ disk_lost R now tells before held waiting held2 (said, stopped) lost = some_sent
 -- one call, as the engine tells it
 
 module _ {S : Type 0} (s : Ghosts S) where
-  -- the memory has room for all that the log has room for
-  all_room : (e : EngineView S) (m : Logged) → m.state.stopped ≡ false → StandsAs s e m → room_left (s.slots e.store) (s.lsn e.store) e.memory.spare ≡ room (slots_of (s.slots e.store)) (s.lsn e.store)
-  all_room e m going is =
-      let few = is.engine.enough going (slots_of (s.slots e.store)) is.ended in
-      ap (λ (slots : Option ℕ). room_left slots (s.lsn e.store) e.memory.spare) is.ended ∙ omega (arith, few)
+  -- the room that the engine tells is that of its log
+  all_room : (e : EngineView S) (m : Logged) → StandsAs s e m → room_of (s.slots e.store) (s.lsn e.store) ≡ room (slots_of (s.slots e.store)) (s.lsn e.store)
+  all_room e m is = ap (λ (slots : Option ℕ). room_of slots (s.lsn e.store)) is.ended
 
   -- from a state that the engine stood for, to the one that it stands for after the call
   pub did_call : (m : Logged) (c : Call) (r : Answer) (old new : EngineView S) (P : Logged → Type 0) → StandsAs s old m → m.state.stopped ≡ false → Does s m.state c r old new → SameStore s old.store new.store
@@ -370,7 +370,7 @@ module _ {S : Type 0} (s : Ghosts S) where
         passed = record { same = same; crash = λ kept. does.survives m.fault going kept };
         ran = so now (record {
           reply = subst (λ (n : ℕ). Reply m.state n (room slots n) c r) (sym is.lsn)
-              (subst (λ (more : ℕ). Reply m.state (s.lsn old.store) more c r) (all_room old m going is) does.reply);
+              (subst (λ (more : ℕ). Reply m.state (s.lsn old.store) more c r) (all_room old m is) does.reply);
           state = does.after;
           fault = refl;
           groups = does.groups;

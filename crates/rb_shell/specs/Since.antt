@@ -35,7 +35,7 @@ module _ {S : Type 0} {s : Ghosts S} where
   image_has laws e h stands going kept i here =
       restarts s laws kept h h.books (last_scn h.commits) e.store i stands.shape
       (left_with s laws kept (HasState h h.books (last_scn h.commits) (s.slots e.store)) e.store
-      ((stands.holds going).images kept) i here)
+      ((stands.goes going).holds.images kept) i here)
 
   pub since_same : (e : EngineView S) (m : Logged) → (s.keeps → Laws s) → StandsAs s e m
       → m.state.stopped ≡ false → IsSince s e e m m

@@ -1,5 +1,6 @@
 use Rattle.rb_rebuild.proofs.Numbering.{first_few}
 use Rattle.rb_rebuild.proofs.Peeling.{begins, fails, finishes, turns}
+use Rattle.rb_rebuild.proofs.Quiet.{quiet_reads}
 use Rattle.rb_rebuild.proofs.Showing.{match_rows, reading_of}
 use Rattle.rb_rebuild.proofs.Undoing.{allows, passes_by, starts_running, taken_back, taken_whole}
 use Rattle.rb_rebuild.proofs.laws.rebuild_laws.Goals as goal
@@ -39,3 +40,6 @@ returns-clause-bound c env base rows mine upto n below steps list f start b hone
 
 pub returns-clause-shown : goal.returns-clause-shown
 returns-clause-shown c = match_rows
+
+pub returns-clause-quiet : goal.returns-clause-quiet
+returns-clause-quiet c = quiet_reads

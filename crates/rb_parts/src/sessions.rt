@@ -1,0 +1,125 @@
+//! The table of sessions by hand: two sessions write and open cursors, and what a rollback of the one and a commit of
+//! the other leave of them.
+ghost use Rattle.std.specs.Prelude.{◌≤◌};
+
+use rb_base::Xid;
+use rb_model::Name;
+use rb_sessions::{Cursor, Session, Sessions};
+use std::test::Fail;
+
+/// The transaction of session 1.
+const FIRST: Xid = Xid {
+    seg: 0,
+    slot: 3,
+    wrap: 1,
+};
+
+/// That of session 16.
+const LAST: Xid = Xid {
+    seg: 0,
+    slot: 4,
+    wrap: 1,
+};
+
+fn name(text: &[u8]) -> Result<Name, Fail> {
+    let Some(name) = Name::new(text) else {
+        return Err(Fail::new("no name"));
+    };
+    Ok(name)
+}
+
+/// A cursor of the present transaction that sees so many changes of it.
+fn seeing(own: Option<Xid>, upto: u32) -> Cursor {
+    Cursor {
+        table: 1,
+        hi: 9,
+        scn: 5,
+        own,
+        upto,
+        present: true,
+        ..Cursor::default()
+    }
+}
+
+/// The cursor behind the end of its transaction.
+fn passed(cursor: Cursor) -> Cursor {
+    Cursor {
+        present: false,
+        ..cursor
+    }
+}
+
+/// Opens a cursor of session `s`, where there is room.
+fn open(table: &mut Sessions, s: u16, name: &Name, cursor: Cursor) -> Result<(), Fail>
+    requires { (1 ≤ s) × (s ≤ 16) }
+{
+    if table.session(s).cursors >= 16 {
+        return Err(Fail::new("no room"));
+    }
+    table.open_cursor(s, name, cursor);
+    Ok(())
+}
+
+/// A table in which session 1 has a cursor opened before its only change and one after it, and session 16 one that sees
+/// both changes of its transaction.
+fn written(early: &Name, late: &Name) -> Result<Sessions, Fail> {
+    let mut table = Sessions::new();
+    open(&mut table, 1, early, seeing(None, 0))?;
+    table.wrote(1, FIRST);
+    open(&mut table, 1, late, seeing(Some(FIRST), 1))?;
+    table.wrote(16, LAST);
+    table.wrote(16, LAST);
+    open(&mut table, 16, late, seeing(Some(LAST), 2))?;
+    Ok(table)
+}
+
+/// A session with a transaction of that id and length, and so many cursors.
+fn session(own: Option<Xid>, length: u32, cursors: u8) -> Session {
+    Session {
+        own,
+        length,
+        cursors,
+    }
+}
+
+#[test]
+fn one_rolls_back(rt: HostRuntime) -> Result<(), Fail> {
+    let (early, late) = (name(b"early")?, name(b"late")?);
+    let mut table = written(&early, &late)?;
+    assert_eq!(rt; table.session(1), session(Some(FIRST), 1, 2));
+    assert_eq!(rt;
+        (table.owner(FIRST), table.owner(LAST)),
+        (Some(1), Some(16))
+    );
+    table.rollback(1);
+    assert_eq!(rt; table.session(1), session(None, 0, 1));
+    assert_eq!(rt; table.cursor(1, &early), Some(passed(seeing(None, 0))));
+    assert_eq!(rt; table.cursor(1, &late), None);
+    assert_eq!(rt; table.session(16), session(Some(LAST), 2, 1));
+    assert_eq!(rt; table.cursor(16, &late), Some(seeing(Some(LAST), 2)));
+    assert_eq!(rt; (table.owner(FIRST), table.owner(LAST)), (None, Some(16)));
+    Ok(())
+}
+
+#[test]
+fn one_commits(rt: HostRuntime) -> Result<(), Fail> {
+    let (early, late) = (name(b"early")?, name(b"late")?);
+    let mut table = written(&early, &late)?;
+    table.took(1, &late, 7);
+    table.commit(1);
+    let given = Cursor {
+        last: Some(7),
+        ..seeing(Some(FIRST), 1)
+    };
+    assert_eq!(rt; table.session(1), session(None, 0, 2));
+    assert_eq!(rt; table.cursor(1, &late), Some(passed(given)));
+    assert_eq!(rt; table.cursor(1, &early), Some(passed(seeing(None, 0))));
+    assert_eq!(rt; table.cursor(16, &late), Some(seeing(Some(LAST), 2)));
+    table.wrote(1, LAST);
+    table.rollback(1);
+    assert_eq!(rt; table.session(1), session(None, 0, 2));
+    table.close_cursor(1, &early);
+    assert_eq!(rt; table.cursor(1, &early), None);
+    assert_eq!(rt; table.cursor(1, &late), Some(passed(given)));
+    Ok(())
+}

@@ -1,0 +1,8 @@
+use Rattle.std.proofs.Common.{◌-◌, rules}
+use Rattle.rb_model.specs.Names.{name_text}
+use Rattle.rb_sessions.specs.Kept as kept
+use Rattle.rb_sessions.proofs.Table.{changed_at}
+use Rattle.rb_sessions.proofs.sessions.Sessions.open_cursor.Goals as goal
+
+pub returns : goal.returns
+returns c = changed_at c.self.inside.entries (c.args.s - 1) c.open_cursor.new.self c.index-self-s.result (kept.with_cursor (name_text c.args.name.now) c.args.cursor) c.args.self.now (search rules) c.self.view_is c.open_cursor.ensures

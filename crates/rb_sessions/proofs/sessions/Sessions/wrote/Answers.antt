@@ -1,0 +1,7 @@
+use Rattle.std.proofs.Common.{◌-◌, rules}
+use Rattle.rb_sessions.specs.Kept as kept
+use Rattle.rb_sessions.proofs.Table.{changed_at}
+use Rattle.rb_sessions.proofs.sessions.Sessions.wrote.Goals as goal
+
+pub returns : goal.returns
+returns c = changed_at c.self.inside.entries (c.args.s - 1) c.write.new.self c.index-self-s.result (kept.wrote c.args.own) c.args.self.now (search rules) c.self.view_is c.write.ensures
