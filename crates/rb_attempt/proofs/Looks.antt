@@ -25,7 +25,7 @@ use Rattle.rb_txntable.specs.declared.looks.Look.TheVariants.{Active, At, Before
 use Rattle.rb_txntable.specs.declared.slots.TableSlot.{TableSlot}
 use Rattle.rb_attempt.specs.Asks.{AreYoung}
 
-look_same : (shape : Shape) (blocks : List (List ℕ)) (x : Xid) → x.seg < shape.segments → x.slot < 16 → look_of shape blocks x ≡ (env_of shape blocks).look x
+pub look_same : (shape : Shape) (blocks : List (List ℕ)) (x : Xid) → x.seg < shape.segments → x.slot < 16 → look_of shape blocks x ≡ (env_of shape blocks).look x
 look_same shape blocks x seg slot =
     let one : nat_lt x.seg shape.segments ≡ true = grind (arith, nat_tests) in
     let two : nat_lt x.slot 16 ≡ true = grind (arith, nat_tests) in

@@ -1,3 +1,4 @@
 pub mod Asks
+pub mod Holding
 pub mod Making
 pub mod Refusals

@@ -42,7 +42,7 @@ pub record TakesWriter (home : Home) (adds : Bool) (key : ℕ) (x : Xid) : Type 
   pub entry : ¬ HasNoChoice (home_entry home) x
 
 -- why a write is refused, by its cleaned home, its transaction with the segment's header, the last log number, and the
--- room that there is, the lesser of the log's and the caller's, beside what must be kept
+-- log's room beside what must be kept
 abbrev pub Refuses : AttemptFault → Home → Bool → ℕ → Xid → Header → ℕ → ℕ → ℕ → Type 0
 Refuses Duplicate home adds key x ready logged room kept = (adds ≡ true) × HasRow home key
 Refuses NotFound home adds key x ready logged room kept = (adds ≡ false) × HasNoRow home key

@@ -15,8 +15,6 @@ pub struct Ask<'a> {
     pub key: u64,
     /// What is done. None needs the key's row, and holds it as it is.
     pub op: Option<Op<'a>>,
-    /// How many more groups the caller takes, whatever room the log has: a list in memory that writes fill has an end.
-    pub room: u64,
 }
 
 /// Why a write isn't made.
@@ -48,7 +46,7 @@ pub enum AttemptFault {
     /// 2^60 groups or more are logged.
     #[error("the log numbers are used up")]
     WornOut,
-    /// The log, or the caller, wouldn't have room for what puts all live changes back.
+    /// The log wouldn't have room for what puts all live changes back.
     #[error("the log has no room")]
     LogFull,
 }

@@ -1,6 +1,6 @@
 //! One attempt of a write: what stands in its way, and the group that makes it. rb_undoengine calls it.
 ghost use Rattle.std.specs.Prelude.{◌≡◌, ◌*◌, ◌+◌, ◌<◌, ◌≤◌, List, [], true, false, not};
-ghost use Rattle.std.specs.Prelude.{if◌then◌else◌, is_some, length, min, Some, IfOk, IfErr, OnErr, OnOk};
+ghost use Rattle.std.specs.Prelude.{if◌then◌else◌, is_some, length, Some, IfOk, IfErr, OnErr, OnOk};
 ghost use Rattle.rb_attempt.specs.Asks.{adds_row, home_for, kind_of, AreYoung, IsShort, IsWriterOf, MayWrite};
 ghost use Rattle.rb_attempt.specs.Making.{IsMade, MakesIfAny};
 ghost use Rattle.rb_attempt.specs.Refusals.{has_failed, HasCause, Refuses, TakesWrite};
@@ -46,12 +46,11 @@ fn prepare<S: Store>(store: &mut S, ask: &Ask<'_>, group: &mut Group) -> Result<
     ensures cause { S.tells → AreYoung (S.shape_of store.old) (S.blocks store.old)
         → MayWrite (S.shape_of store.old) (S.blocks store.old) ask.now.own → has_failed result ≡ false
         → IfErr result (HasCause (S.shape_of store.old) (S.blocks store.old) ask.now (S.lsn store.old)
-        (min (room_of (S.slots store.old) (S.lsn store.old)) ask.now.room)) }
-    ensures room { OnOk result ((S.lsn store.old < WORN) × (1 ≤ room_of (S.slots store.old) (S.lsn store.old))
-        × (1 ≤ ask.now.room)) }
+        (room_of (S.slots store.old) (S.lsn store.old))) }
+    ensures room { OnOk result ((S.lsn store.old < WORN) × (1 ≤ room_of (S.slots store.old) (S.lsn store.old))) }
     ensures kept { S.tells → OnOk result (1 + (owed_in (S.shape_of store.old) (S.blocks store.old)
         + (if is_some ask.now.own then 1 else 2))
-        ≤ min (room_of (S.slots store.old) (S.lsn store.old)) ask.now.room) }
+        ≤ room_of (S.slots store.old) (S.lsn store.old)) }
 {
     let shape = store.shape();
     let block = shape.home_block(ask.table, ask.key);
@@ -66,17 +65,17 @@ fn prepare<S: Store>(store: &mut S, ask: &Ask<'_>, group: &mut Group) -> Result<
     };
     let place = Place { block, entry, cell };
     put_change(&home, &mut header, &shape, ask, xid, place, group)?;
-    check_room(store, ask.own.is_some(), ask.room)?;
+    check_room(store, ask.own.is_some())?;
     Ok(xid)
 }
 
 /// Writes a key of a table by one group, or refuses to and logs none. The transaction runs, or takes a table slot of
 /// the segment with the fewest that run. Its block is cleaned; the change takes a slot entry and a cell of it, and what
 /// they were is kept in an undo record. The tests come in this order: whether the key has a row, a cell for an insert,
-/// an entry, room for the record, the log's numbers, and the room of the log and of the caller, which both must hold
-/// what puts back all live changes. `Failed` only where a call of the store failed. What `group` holds afterwards is
-/// open. In a damaged file, where the transaction doesn't run or no table slot is idle, it is `RollbackFull`. The key
-/// is no other transaction's. (Oracle7 Server Concepts, *Rollback Segments*.)
+/// an entry, room for the record, the log's numbers, and the room of the log, which must hold what puts back all live
+/// changes. `Failed` only where a call of the store failed. What `group` holds afterwards is open. In a damaged file,
+/// where the transaction doesn't run or no table slot is idle, it is `RollbackFull`. The key is no other transaction's.
+/// (Oracle7 Server Concepts, *Rollback Segments*.)
 pub fn attempt<S: Store>(
     store: &mut S,
     ask: &Ask<'_>,
@@ -95,7 +94,7 @@ pub fn attempt<S: Store>(
         → AreYoung (S.shape_of store.old) (S.blocks store.old)
         → (patches : List Patch) × Logs S.Store store.old store.new (group_of patches) (not (has_failed result))
         × MakesIfAny (S.shape_of store.old) (S.blocks store.old) ask.now (S.lsn store.old)
-        (min (room_of (S.slots store.old) (S.lsn store.old)) ask.now.room) patches }
+        (room_of (S.slots store.old) (S.lsn store.old)) patches }
     ensures written { S.tells → S.lsn store.old ≡ logged_of (S.shape_of store.old) (S.blocks store.old)
         → AreYoung (S.shape_of store.old) (S.blocks store.old)
         → IfOk result (λ x. (address : Uba) × (u : UndoRecord) × (ready : Header)
@@ -112,13 +111,12 @@ pub fn attempt<S: Store>(
         → IfErr result (λ fault. (x : Xid) × (ready : Header)
         × IsWriterOf (S.shape_of store.old) (S.blocks store.old) ask.now.own x ready
         × Refuses fault (home_for (S.shape_of store.old) (S.blocks store.old) ask.now) (adds_row ask.now.op)
-        ask.now.key x ready (S.lsn store.old) (min (room_of (S.slots store.old) (S.lsn store.old)) ask.now.room)
+        ask.now.key x ready (S.lsn store.old) (room_of (S.slots store.old) (S.lsn store.old))
         (owed_in (S.shape_of store.old) (S.blocks store.old) + (if is_some ask.now.own then 1 else 2))) }
-    ensures room { OnOk result ((S.lsn store.old < WORN) × (1 ≤ room_of (S.slots store.old) (S.lsn store.old))
-        × (1 ≤ ask.now.room)) }
+    ensures room { OnOk result ((S.lsn store.old < WORN) × (1 ≤ room_of (S.slots store.old) (S.lsn store.old))) }
     ensures kept { S.tells → OnOk result (1 + (owed_in (S.shape_of store.old) (S.blocks store.old)
         + (if is_some ask.now.own then 1 else 2))
-        ≤ min (room_of (S.slots store.old) (S.lsn store.old)) ask.now.room) }
+        ≤ room_of (S.slots store.old) (S.lsn store.old)) }
 {
     let xid = prepare(store, ask, group)?;
     match store.apply(group) {

@@ -1,5 +1,5 @@
-//! The tests of the log before a write: its numbers, and the room that it and the caller have. `attempt` calls it.
-ghost use Rattle.std.specs.Prelude.{◌≡◌, ◌+◌, ◌<◌, ◌≤◌, false, min, not};
+//! The tests of the log before a write: its numbers, and the room that it has. `attempt` calls it.
+ghost use Rattle.std.specs.Prelude.{◌≡◌, ◌+◌, ◌<◌, ◌≤◌, false, not};
 ghost use Rattle.std.specs.Prelude.{if◌then◌else◌, [], IfErr, OnOk};
 ghost use Rattle.rb_attempt.specs.Refusals.{has_failed, LogRefuses};
 ghost use Rattle.rb_base.specs.Logs.{Logs};
@@ -11,17 +11,15 @@ use rb_base::{Store, WORN};
 use rb_segment::owed;
 
 /// Tests that the log takes one more group, and has room then for what puts back all that is under way: also the record
-/// that is added, and its transaction's table slot, where that hasn't one yet. The caller takes `room` groups more, and
-/// the lesser room counts.
-pub fn check_room<S: Store>(store: &mut S, has_slot: bool, room: u64) -> Result<(), AttemptFault>
+/// that is added, and its transaction's table slot, where that hasn't one yet.
+pub fn check_room<S: Store>(store: &mut S, has_slot: bool) -> Result<(), AttemptFault>
     requires going { S.failed store.old ≡ false }
     ensures logs { Logs S.Store store.old store.new [] (not (has_failed result)) }
-    ensures room { OnOk result ((S.lsn store.old < WORN) × (1 ≤ room_of (S.slots store.old) (S.lsn store.old))
-        × (1 ≤ room)) }
+    ensures room { OnOk result ((S.lsn store.old < WORN) × (1 ≤ room_of (S.slots store.old) (S.lsn store.old))) }
     ensures kept { S.tells → OnOk result (1 + (owed_in (S.shape_of store.old) (S.blocks store.old)
-        + (if has_slot then 1 else 2)) ≤ min (room_of (S.slots store.old) (S.lsn store.old)) room) }
+        + (if has_slot then 1 else 2)) ≤ room_of (S.slots store.old) (S.lsn store.old)) }
     ensures refused { S.tells → has_failed result ≡ false → IfErr result (λ fault. LogRefuses fault
-        (S.lsn store.old) (min (room_of (S.slots store.old) (S.lsn store.old)) room)
+        (S.lsn store.old) (room_of (S.slots store.old) (S.lsn store.old))
         (owed_in (S.shape_of store.old) (S.blocks store.old) + (if has_slot then 1 else 2))) }
 {
     if store.logged() >= WORN {
@@ -31,7 +29,7 @@ pub fn check_room<S: Store>(store: &mut S, has_slot: bool, room: u64) -> Result<
         return Err(AttemptFault::Failed);
     };
     let kept = owed + if has_slot { 1 } else { 2 };
-    if store.room().min(room) < 1 + kept {
+    if store.room() < 1 + kept {
         return Err(AttemptFault::LogFull);
     }
     Ok(())

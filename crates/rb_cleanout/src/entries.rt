@@ -1,4 +1,4 @@
-//! Cleans the slot entries of a block's copy. `clean_copy` calls it.
+//! Cleans the slot entries of a block's copy. `clean_copy` calls it; rb_attempt asks how a transaction stands.
 ghost use Rattle.std.specs.Prelude.{◌≡◌, ◌+◌, ◌*◌, ◌<◌, ◌≤◌, true, false, not, [], length};
 ghost use Rattle.std.specs.Prelude.{IfOk, MatchOption, OnOk};
 ghost use Rattle.std.specs.Result.{is_err};
@@ -13,8 +13,9 @@ use rb_heap::set_entry;
 use rb_itl::{BOUND, ENTRIES, ENTRY_BYTES, EXACT, Entry, OPEN, entry};
 use rb_txntable::{Look, look};
 
-/// How the transaction stands. One of a slot that isn't there counts as running.
-fn look_up<S: Store>(store: &mut S, xid: Xid) -> Result<Look, Failed>
+/// How the transaction stands, by the header of its segment, which is loaded. One of a slot that isn't there counts as
+/// running.
+pub fn look_up<S: Store>(store: &mut S, xid: Xid) -> Result<Look, Failed>
     requires going { S.failed store.old ≡ false }
     ensures logs { Logs S.Store store.old store.new [] (not (is_err result)) }
     ensures look { S.tells → IfOk result (λ look. look ≡ look_of (S.shape_of store.old) (S.blocks store.old) xid) }

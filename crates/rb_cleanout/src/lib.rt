@@ -8,3 +8,4 @@ mod entries;
 mod locks;
 
 pub use blocks::{CLEAN_BYTES, CLEAN_PATCHES, clean, clean_copy};
+pub use entries::look_up;

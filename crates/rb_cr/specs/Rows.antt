@@ -1,8 +1,11 @@
 -- Which row of a home is the next one.
 use Rattle.std.specs.Prelude.{◌≡◌, ◌<◌, ◌≤◌, ◌==◌, ℕ, if◌then◌else◌, is_some, true}
-use Rattle.std.specs.Prelude.{List, [], ◌∷◌, get_or, Option, Some, None}
+use Rattle.std.specs.Prelude.{List, [], ◌∷◌, get_or, map, Option, Some, None}
+use Rattle.rb_heap.specs.Homes.{home_of}
 use Rattle.rb_model.specs.declared.row.Row.{Row}
 use Rattle.rb_rebuild.specs.Keeping.{Kept}
+use Rattle.rb_rebuild.specs.Reading.{rows_in}
+use Rattle.rb_standing.specs.Says.{walk_cell}
 use Rattle.rb_walk.specs.Walk.{Rows}
 
 abbrev pub IsBehind : Option ℕ → ℕ → Type 0
@@ -27,6 +30,10 @@ IsFound after lo hi rows key = IsWanted after lo hi key × (is_some (rows key) �
 -- a key that was found, up to this one
 abbrev pub Reaches : Option ℕ → ℕ → Type 0
 Reaches found key = (least : ℕ) × (found ≡ Some least) × (least ≤ key)
+
+-- the rows that a block's cells show as they stand
+abbrev pub block_rows : List ℕ → Rows
+block_rows block = rows_in (map walk_cell (home_of block).cells)
 
 -- the key of the row that was kept as the i-th, from 0 on
 abbrev pub kept_key : Kept → ℕ → ℕ

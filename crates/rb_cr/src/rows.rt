@@ -28,7 +28,7 @@ pub struct Wanted {
 
 impl Wanted {
     /// Whether a key is asked for.
-    fn has(self, key: u64) -> bool
+    pub(crate) fn has(self, key: u64) -> bool
         ensures { IsTrue result ↔ IsWanted self.after self.lo self.hi key }
     {
         match self.after {

@@ -59,7 +59,7 @@ impl Scratch {
     }
 
     /// Decodes the slot entries of a block.
-    fn decode_entries(&mut self, block: &[u8])
+    pub(crate) fn decode_entries(&mut self, block: &[u8])
         requires { length block.now ≡ UNIT }
         ensures entries { self.new.entries ≡ (home_of block.now).entries }
         ensures cells { self.new.cells ≡ self.old.cells }

@@ -55,7 +55,7 @@ impl Sessions {
         }
     }
 
-    /// The first session whose transaction has that id.
+    /// A session whose transaction has that id. None exactly where there is none.
     pub fn owner(&self, xid: Xid) -> Option<u16>
         ensures found { IfSome result (λ s. (1 ≤ s) × (s ≤ SESSIONS) × ((kept_at self.now s).own ≡ Some xid)) }
         ensures none { IfNone result ((s : ℕ) → 1 ≤ s → s ≤ SESSIONS
@@ -103,7 +103,7 @@ impl Sessions {
         self.entries[s as usize - 1].open_cursor(name, cursor);
     }
 
-    /// The cursor of that name. None exactly where session `s` has none open.
+    /// The cursor of that name. None exactly where session `s` has no such one open.
     pub fn cursor(&self, s: u16, name: &Name) -> Option<Cursor>
         requires { (1 ≤ s) × (s ≤ SESSIONS) }
         ensures { result ≡ kept.named (name_text name.now) (kept_at self.now s).cursors }

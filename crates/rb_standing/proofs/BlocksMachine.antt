@@ -15,8 +15,8 @@ use Rattle.rb_walk.specs.Walk.{Change, own}
 use Rattle.rb_standing.proofs.BlocksAs.{blocks_as, commit_logged}
 use Rattle.rb_standing.proofs.BlocksDone.{commit_moves, end_moves}
 use Rattle.rb_standing.proofs.Ids.{active_of}
-use Rattle.rb_standing.proofs.MachineBack.{stands_ended}
-use Rattle.rb_standing.proofs.MachineDone.{stands_committed}
+use Rattle.rb_standing.proofs.MachineBack.{stands_ended, wrap_still}
+use Rattle.rb_standing.proofs.MachineDone.{stands_committed, xid_same}
 use Rattle.rb_standing.proofs.SegmentRead.{segments_committed, segments_ended}
 use Rattle.rb_standing.proofs.States.{lives_owned}
 use Rattle.rb_model.specs.Change as model
@@ -53,6 +53,12 @@ module _ (h : State) (xids : List Xid) (before now : List (List ℕ)) (stand : B
       told_blocks next ids now done (segments_committed h.shape t (N + 1) before now is) values.tell
       (commit_moves h.shape before now (past_of h xids) Lives stand.standing t t_in (N + 1) (omega arith) is active (past_of next ids) (lives_of next (says h.shape done)) refl values.stands)
 
+  -- each slot keeps its id,
+  pub ids_committed : IsCommitted h.shape t (N + 1) before now → (v : ℕ) → (env_of h.shape now).xid v ≡ (env_of h.shape before).xid v
+  ids_committed is v =
+      ap (λ (z : ℕ → Segment). xid_by z v) (segments_committed h.shape t (N + 1) before now is)
+      ∙ xid_same h xids N L Segs (homes_of h.shape before) (blocks_as h xids before stand) s t t_in owns (commit_logged h.shape before (past_of h xids) Lives stand.standing) [] v
+
   pub end_keeps_machine : session_own h s ≡ [] → IsEnded h.shape t before now → BlocksStand (after_end h t) xids now
   end_keeps_machine empty is =
       let next = after_end h t in
@@ -61,3 +67,9 @@ module _ (h : State) (xids : List Xid) (before now : List (List ℕ)) (stand : B
       let none : own Lives t ≡ [] = lives_owned h (env_of h.shape before) s t t_in owns ∙ ap (λ (z : List model.Change). newest_first h.shape (xid_by Segs t) 1 z []) empty in
       told_blocks next xids now ended (segments_ended h.shape t before now is) values.tell
       (end_moves h.shape before now (past_of h xids) Lives stand.standing t t_in active none is (past_of next xids) (lives_of next (says h.shape ended)) refl values.stands)
+
+  -- as it does then
+  pub ids_ended : session_own h s ≡ [] → IsEnded h.shape t before now → (v : ℕ) → (env_of h.shape now).xid v ≡ (env_of h.shape before).xid v
+  ids_ended empty is v =
+      ap (λ (z : ℕ → Segment). xid_by z v) (segments_ended h.shape t before now is)
+      ∙ wrap_still h xids N L Segs (homes_of h.shape before) (blocks_as h xids before stand) s t t_in owns empty v

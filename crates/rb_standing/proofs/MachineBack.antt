@@ -169,7 +169,8 @@ module _ (h : State) (xids : List Xid) (commit logged : ℕ) (segments : ℕ →
           ap (λ (z : ℕ). (get_or (book_at Ended.books z).slots (v % 16) free_slot).owner) seg ∙ (ap (λ (z : Book). (get_or z.slots (v % 16) free_slot).owner) ended_book ∙ (ap (λ (z : BookSlot). z.owner) (get_or-set_other B.slots I (v % 16) (let y = get_or B.slots I free_slot in record y { owner = None }) free_slot nj) ∙ ap (λ (z : ℕ). (get_or (book_at h.books z).slots (v % 16) free_slot).owner) (sym seg)))
     ]
 
-    wrap_still : (v : ℕ) → Last.xid v ≡ Old.xid v
+    -- each slot keeps its id
+    pub wrap_still : (v : ℕ) → Last.xid v ≡ Old.xid v
     wrap_still v = one_xid (Last.xid v) (Old.xid v) refl refl (by (cases_eq (v / 16) G))
       where
         here : (j : ℕ) → (slot_in (ended I S.header) j).wrap ≡ (slot_in S.header j).wrap

@@ -105,7 +105,8 @@ module _ (h : State) (xids : List Xid) (commit logged : ℕ) (segments : ℕ →
   not_mine : (v : ℕ) (o : Owner) → v ≢ t → owner_at h v ≡ Some o → o.session ≢ s
   not_mine v o ne at is = ne (stand.tell.one_slot s v t (record { owner = o; at = at; session = is }) owns)
 
-  xid_same : (v : ℕ) → New.xid v ≡ Old.xid v
+  -- each slot keeps its id
+  pub xid_same : (v : ℕ) → New.xid v ≡ Old.xid v
   xid_same v = one_xid (New.xid v) (Old.xid v) refl refl (by (cases_eq (v / 16) G))
     where
       wrap_same : (j : ℕ) → (slot_in (committed N I S.header) j).wrap ≡ (slot_in S.header j).wrap

@@ -149,7 +149,7 @@ module _ (h : State) (xids : List Xid) (commit logged : ℕ) (segments : ℕ →
   ]
 
   -- a slot that is owned keeps its id
-  xid_stays : (v : ℕ) (o : Owner) → v < 16 * h.shape.segments → owner_at h v ≡ Some o → New.xid v ≡ Old.xid v
+  pub xid_stays : (v : ℕ) (o : Owner) → v < 16 * h.shape.segments → owner_at h v ≡ Some o → New.xid v ≡ Old.xid v
   xid_stays v o v_in at = one_xid (New.xid v) (Old.xid v) refl refl (wrap_stays (cases_eq (v / 16) G))
     where
       v_book : IsBook (segments (v / 16)).header (book_at h.books (v / 16))

@@ -1,5 +1,5 @@
 -- A write keeps what the blocks of a file stand for with the machine's state.
-use Rattle.std.proofs.Common.{◌≡◌, ◌<◌, ◌≤◌, ◌==◌, ◌+◌, ◌-◌, ◌*◌, ◌/◌, ◌%◌, ℕ, Bool, if◌then◌else◌, List, length, refl, sym, ◌∙◌, ap, arith}
+use Rattle.std.proofs.Common.{◌≡◌, ◌<◌, ◌≤◌, ◌==◌, ◌+◌, ◌-◌, ◌*◌, ◌/◌, ◌%◌, ℕ, Bool, if◌then◌else◌, List, length, Some, refl, sym, ◌∙◌, ap, arith}
 use Rattle.std.proofs.Math.Nat.{mod-lt}
 use Rattle.std.proofs.lemmas.Nat.{mod-mul-add}
 use Rattle.rb_base.specs.Blocks.{block_of, table_blocks}
@@ -7,9 +7,10 @@ use Rattle.rb_base.specs.declared.ids.Uba.{Uba}
 use Rattle.rb_base.specs.declared.ids.Xid.{Xid}
 use Rattle.rb_heap.specs.Cleaning.{cleaned_home}
 use Rattle.rb_heap.specs.Homes.{home_of}
+use Rattle.rb_model.specs.Book.{Owner}
 use Rattle.rb_model.specs.Change as model
 use Rattle.rb_model.specs.Change.{Kind}
-use Rattle.rb_model.specs.State.{State}
+use Rattle.rb_model.specs.State.{State, owner_at}
 use Rattle.rb_segment.specs.Header.{Segment}
 use Rattle.rb_segment.specs.Segments.{commit_scn}
 use Rattle.rb_standing.specs.BlockLaws.{HasRoomFor}
@@ -22,7 +23,7 @@ use Rattle.rb_standing.specs.Writing.{IsNotHeld, IsWritten}
 use Rattle.rb_standing.proofs.BlocksAs.{blocks_as}
 use Rattle.rb_standing.proofs.BlocksMachine.{told_blocks}
 use Rattle.rb_standing.proofs.BlocksWritten.{xid_after}
-use Rattle.rb_standing.proofs.MachineWritten.{owner_own, stands_written}
+use Rattle.rb_standing.proofs.MachineWritten.{owner_own, stands_written, xid_stays}
 use Rattle.rb_standing.proofs.OwedMoves.{owed_written}
 use Rattle.rb_standing.proofs.WriteMoves as write
 use Rattle.rb_undoblock.specs.declared.record.UndoRecord.{UndoRecord}
@@ -73,6 +74,13 @@ module _ (h : State) (xids : List Xid) (before now : List (List ℕ)) (s t : ℕ
   id_after =
       ap (λ (z : ℕ → Segment). xid_by z t) (write.moved h.shape before now (past_of h xids) Lives stand.standing stand.tell.running t t_in adds kind address u home_in is free key_here)
       ∙ xid_after h.shape before now (past_of h xids) Lives stand.standing stand.tell.running t t_in adds kind address u home_in is
+
+  -- and each slot that was owned keeps its own,
+  pub ids_after : (v : ℕ) (o : Owner) → v < 16 * h.shape.segments → owner_at h v ≡ Some o → xid_by (segments_of h.shape now) v ≡ xid_by Segs v
+  ids_after v o v_in at =
+      ap (λ (z : ℕ → Segment). xid_by z v) (write.moved h.shape before now (past_of h xids) Lives stand.standing stand.tell.running t t_in adds kind address u home_in is free key_here)
+      ∙ xid_stays h xids (commit_scn h.shape before) (logged_of h.shape before) Segs (homes_of h.shape before) (blocks_as h xids before stand) After Homes2 s t c kind address u t_in s_in takes
+      (write.values h.shape before now (past_of h xids) Lives stand.standing stand.tell.running t t_in adds kind address u home_in is free key_here) same v o v_in at
 
   -- and one group more is owed, or two where it took the slot
   pub owed_after : owed h.shape (segments_of h.shape now) ≡ owed h.shape Segs + (if (slot_of Segs t).state == 1 then 1 else 2)

@@ -1,4 +1,4 @@
-use Rattle.std.proofs.Common.{◌≡◌, ◌+◌, ◌<◌, ◌≤◌, ◌^◌, ℕ, Bool, List, [], ◌++◌, true, not, if◌then◌else◌, min, Option, Result, Err, IfErr, refl, ap, sym, subst, ◌∙◌, arith}
+use Rattle.std.proofs.Common.{◌≡◌, ◌+◌, ◌<◌, ◌≤◌, ◌^◌, ℕ, Bool, List, [], ◌++◌, true, not, if◌then◌else◌, Option, Result, Err, IfErr, refl, ap, sym, subst, ◌∙◌, arith}
 use Rattle.std.specs.Prelude.{is_some}
 use Rattle.std.specs.List.{AllByRecursion}
 use Rattle.std.proofs.lemmas.Result.{err_from_is_err_and}
@@ -47,7 +47,7 @@ returns-in_err-cell-clause-cause g c told young may going =
     ∙ ap (λ (b : ℕ). cleaned_home (env_of shape blocks).look (home_of (block_of blocks b))) number in
     let writer = writer_there shape blocks ask.own some may in
     let logged = s.lsn old in
-    let room = min (room_of (s.slots old) logged) ask.room in
+    let room = room_of (s.slots old) logged in
     let kept : ℕ = owed_in shape blocks + (if is_some ask.own then 1 else 2) in
     let p = err_from_is_err_and c.from_residual-in_err-cell.result c.from_residual-in_err-cell.ensures.1 in
     let is : c.from_residual-in_err-cell.result ≡ Err fault = p.1 ∙ ap (λ (f : AttemptFault). Err f) p.2 in
@@ -105,7 +105,7 @@ returns-in_err-put_change-clause-cause g c told young may going =
     let fault = c.in_err-put_change.field-0.0 in
     let full = c.in_err-put_change.ensures.full in
     let logged = s.lsn old in
-    let room = min (room_of (s.slots old) logged) ask.room in
+    let room = room_of (s.slots old) logged in
     let kept : ℕ = owed_in shape blocks + (if is_some ask.own then 1 else 2) in
     let p = err_from_is_err_and c.from_residual-in_err-put_change.result c.from_residual-in_err-put_change.ensures.1 in
     let is : c.from_residual-in_err-put_change.result ≡ Err fault = p.1 ∙ ap (λ (f : AttemptFault). Err f) p.2 in
@@ -150,16 +150,16 @@ returns-in_err-check_room-clause-cause g c told young may going =
     let made = c.in_ok-put_change.ensures.made young_ready chain in
     let turns = turned_may (header_block c.shape-shape.result x.seg) ready made.recorded.room made.recorded.before made.recorded.has_turned in
     let logged = s.lsn old in
-    let room = min (room_of (s.slots old) logged) ask.room in
+    let room = room_of (s.slots old) logged in
     let kept : ℕ = owed_in shape blocks + (if is_some ask.own then 1 else 2) in
     let same_lsn : s.lsn late ≡ logged = omega (arith, logs_late.number refl) in
-    let same_room : min (room_of (s.slots late) (s.lsn late)) ask.room ≡ room = ap (λ (o : Option ℕ). min (room_of o (s.lsn late)) ask.room) logs_late.same_slots ∙ ap (λ (n : ℕ). min (room_of (s.slots old) n) ask.room) same_lsn in
+    let same_room : room_of (s.slots late) (s.lsn late) ≡ room = ap (λ (o : Option ℕ). room_of o (s.lsn late)) logs_late.same_slots ∙ ap (λ (n : ℕ). room_of (s.slots old) n) same_lsn in
     let owed = ap (λ (k : Shape). owed_in k (s.blocks late)) logs_late.same_shape ∙ ap (owed_in shape) (logs_late.blocks told refl) in
     let same_kept : owed_in (s.shape_of late) (s.blocks late) + (if c.is_some.result then 1 else 2) ≡ kept = ap (λ (n : ℕ). n + (if c.is_some.result then 1 else 2)) owed
     ∙ ap (λ (b : Bool). owed_in shape blocks + (if b then 1 else 2)) c.is_some.ensures in
     let log = subst (λ (n : ℕ). LogRefuses fault n room kept) same_lsn
     (subst (λ (n : ℕ). LogRefuses fault (s.lsn late) n kept) same_room
-    (subst (LogRefuses fault (s.lsn late) (min (room_of (s.slots late) (s.lsn late)) ask.room)) same_kept
+    (subst (LogRefuses fault (s.lsn late) (room_of (s.slots late) (s.lsn late))) same_kept
     (c.in_err-check_room.ensures.refused told (fails_same (Unit {0}) Xid fault ∙ ap (λ (r : Result Xid AttemptFault). has_failed r) (sym is) ∙ going)))) in
     subst (λ (r : Result Xid AttemptFault). IfErr r (HasCause shape blocks ask logged room)) (sym is) (
       x,
