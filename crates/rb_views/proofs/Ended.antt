@@ -4,6 +4,8 @@ use Rattle.std.proofs.Math.ListN as lists
 use Rattle.std.proofs.Math.Seq as seq
 use Rattle.std.proofs.lemmas.List.{length-set}
 use Rattle.rb_base.specs.declared.ids.Xid.{Xid}
+use Rattle.rb_image.specs.Made.{KeepsIds}
+use Rattle.rb_image.proofs.Owners.{OwnedBy, few_slots, finished_else, finished_here, freed, id_none, left_else, left_here, owned_by, same_owners}
 use Rattle.rb_model.specs.Book.{Book, Owner, book_at, book_slot, finished, left, slot_owner}
 use Rattle.rb_model.specs.Calls.{HasNoSlot, Owned}
 use Rattle.rb_model.specs.Change.{Change}
@@ -19,12 +21,10 @@ use Rattle.rb_sessions.specs.declared.sessions.TheConstants.{SESSIONS}
 use Rattle.rb_standing.specs.Standing.{env_of}
 use Rattle.rb_standing.specs.States.{BlocksStand, Owns, no_xid}
 use Rattle.rb_verdict.specs.Verdict.{IsOwnId}
-use Rattle.rb_image.specs.Made.{KeepsIds}
 use Rattle.rb_views.specs.Views.{AreCursors, IsCursor, IsSession, Remembers}
 use Rattle.rb_views.proofs.Lasting.{Keeps, cursor_told, frozen_commits}
 use Rattle.rb_views.proofs.Owning.{owner_else, owner_had, place_of}
 use Rattle.rb_views.proofs.Tables.{Moves, cursors_left, cursors_passed, one_passed, set_others, set_this, table_last}
-use Rattle.rb_image.proofs.Owners.{OwnedBy, few_slots, finished_else, finished_here, freed, id_none, left_else, left_here, owned_by, same_owners}
 use Rattle.rb_walk.specs.Walk.{Env}
 
 -- a state in which the session has no change, and these cursors, of no present transaction

@@ -2,6 +2,7 @@
 use Rattle.std.proofs.Common.{◌≡◌, ◌-◌, ℕ, List, [], length, replicate, sym, ap, subst, arith}
 use Rattle.std.proofs.lemmas.List.{get_or-replicate, length-replicate}
 use Rattle.rb_base.specs.declared.shape.Shape.{Shape}
+use Rattle.rb_image.proofs.Owners.{id_none}
 use Rattle.rb_model.specs.Book.{Book}
 use Rattle.rb_model.specs.Calls.{HasNoSlot}
 use Rattle.rb_model.specs.Rows.{TableRow}
@@ -9,7 +10,6 @@ use Rattle.rb_model.specs.State.{Session, no_session, opened, session_count, ses
 use Rattle.rb_sessions.specs.Kept.{KeptSession, fresh, kept_at}
 use Rattle.rb_sessions.specs.declared.sessions.TheConstants.{SESSIONS}
 use Rattle.rb_views.specs.Views.{AreCursors, IsSession, Remembers}
-use Rattle.rb_image.proofs.Owners.{id_none}
 use Rattle.rb_walk.specs.Walk.{Env}
 
 pub first_remembered : (shape : Shape) (number : ℕ) (rows : List TableRow) (books : List Book) (env : Env) → ((s : ℕ) → HasNoSlot (opened shape number rows books) s) → Remembers (opened shape number rows books) [] env (replicate SESSIONS fresh)

@@ -2,6 +2,7 @@
 use Rattle.std.proofs.Common.{◌≡◌, ◌≢◌, inl, inr, ◌≤◌, ◌+◌, ◌-◌, ◌*◌, ◌%◌, ◌^◌, ℕ, Bool, true, false, if◌then◌else◌, List, [], ◌∷◌, ◌++◌, length, min, take, Some, None, refl, sym, ◌∙◌, ap, subst, arith, append-nil, length-append}
 use Rattle.std.proofs.lemmas.List.{length-set, take-append-le}
 use Rattle.rb_base.specs.declared.ids.Xid.{Xid}
+use Rattle.rb_image.specs.Made.{KeepsIds}
 use Rattle.rb_model.specs.Book.{Book, BookSlot, Owner, IsBegun, book_at, marked, slot_owner, taken}
 use Rattle.rb_model.specs.Calls.{WritesIn, has_slot}
 use Rattle.rb_model.specs.Change.{Change}
@@ -13,7 +14,6 @@ use Rattle.rb_sessions.specs.declared.sessions.TheConstants.{SESSIONS}
 use Rattle.rb_standing.specs.Standing.{env_of}
 use Rattle.rb_standing.specs.States.{BlocksStand, Owns}
 use Rattle.rb_verdict.specs.Verdict.{IsOwnId}
-use Rattle.rb_image.specs.Made.{KeepsIds}
 use Rattle.rb_views.specs.Views.{AreCursors, IsSession, Remembers}
 use Rattle.rb_views.proofs.Few.{session_few}
 use Rattle.rb_views.proofs.Lasting.{Keeps, Stays, cursor_stays}

@@ -2,6 +2,7 @@
 use Rattle.std.specs.Prelude.{◌≡◌, ◌<◌, ◌≤◌, ℕ, true, List, [], ◌∷◌, ◌++◌}
 use Rattle.std.specs.Prelude.{length, replicate, Some, None}
 use Rattle.rb_base.specs.declared.ids.Xid.{Xid}
+use Rattle.rb_image.specs.Made.{KeepsIds}
 use Rattle.rb_model.specs.Book.{Book, book_at}
 use Rattle.rb_model.specs.Calls.{Action, End, Given, HasNoSlot, WritesIn, next_row}
 use Rattle.rb_model.specs.NextState.{EndsAs, change_in, cursors_of, ended, left_open, opened_cursor, with_cursors}
@@ -11,7 +12,6 @@ use Rattle.rb_model.specs.Rows.{TableRow, last_scn}
 use Rattle.rb_model.specs.State as model
 use Rattle.rb_model.specs.State.{State, cursor_of, is_table, opened, session_own}
 use Rattle.rb_base.specs.declared.shape.Shape.{Shape}
-use Rattle.rb_image.specs.Made.{KeepsIds}
 use Rattle.rb_rebuild.specs.Reading.{Reading, answer}
 use Rattle.rb_sessions.specs.Kept as kept
 use Rattle.rb_sessions.specs.Kept.{KeptSession, fresh, kept_at, named, with_cursor, with_kept, with_last, without}
