@@ -1,5 +1,6 @@
 -- Who holds a key, and whether it has a row, by its home as the blocks have it, which isn't cleaned.
-use Rattle.std.specs.Prelude.{◌==◌, ℕ, zero, suc, Bool, false, if◌then◌else◌, List, Option, None, Some, find}
+use Rattle.std.specs.Prelude.{◌==◌, ℕ, zero, suc, Bool, false, if◌then◌else◌, List, find}
+use Rattle.std.specs.Prelude.{Option, None, Some}
 use Rattle.rb_base.specs.Blocks.{block_of, home_block}
 use Rattle.rb_base.specs.declared.ids.Xid.{Xid}
 use Rattle.rb_base.specs.declared.shape.Shape.{Shape}

@@ -60,7 +60,8 @@ pub fn find<S: Store>(store: &mut S, table: u16, key: u64) -> Result<Found, Fail
     requires going { S.failed store.old ≡ false }
     requires table { (1 ≤ table) × (table ≤ (S.shape_of store.old).tables) }
     ensures logs { Logs S.Store store.old store.new [] (not (is_err result)) }
-    ensures holder { S.tells → AreYoung (S.shape_of store.old) (S.blocks store.old) → IfOk result (λ found. found.holder
+    ensures holder { S.tells → AreYoung (S.shape_of store.old) (S.blocks store.old)
+        → IfOk result (λ found. found.holder
         ≡ holder_in (S.shape_of store.old) (S.blocks store.old) table key) }
     ensures present { S.tells → IfOk result (λ found. found.present
         ≡ is_present (S.shape_of store.old) (S.blocks store.old) table key) }

@@ -1,5 +1,5 @@
 -- The home of a block that a store loaded, and what its segments say then.
-use Rattle.std.proofs.Common.{◌≡◌, ◌∙◌, ℕ, List, ap, subst}
+use Rattle.std.proofs.Common.{◌≡◌, ◌∙◌, ℕ, List, ap, subst, sym}
 use Rattle.rb_base.specs.Blocks.{block_of}
 use Rattle.rb_base.specs.declared.shape.Shape.{Shape}
 use Rattle.rb_cr.specs.declared.scratch.Scratch.{Scratch}
@@ -29,3 +29,7 @@ home_stays s shape shape2 block blocks blocks2 which e c read same kept =
 -- what holds of one home and what the segments say of it, of the same ones
 pub both : (P : Env → Home → Type 0) (env env2 : Env) (b b2 : Home) → env2 ≡ env → b2 ≡ b → P env2 b2 → P env b
 both P env env2 b b2 same is holds = subst (λ (z : Env). P z b) same (subst (P env2) is holds)
+
+-- what holds of a file's blocks, of the same ones
+pub carried : (P : Shape → List (List ℕ) → Type 0) (shape shape2 : Shape) (blocks blocks2 : List (List ℕ)) → shape2 ≡ shape → blocks2 ≡ blocks → P shape blocks → P shape2 blocks2
+carried P shape shape2 blocks blocks2 same kept holds = subst (λ (z : Shape). P z blocks2) (sym same) (subst (P shape) (sym kept) holds)

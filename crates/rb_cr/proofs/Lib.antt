@@ -7,5 +7,6 @@ pub mod Loaded
 pub mod Overlays
 pub mod Rebuilding
 pub mod Rooms
+pub mod Shown
 pub mod Stepping
 pub mod Tops

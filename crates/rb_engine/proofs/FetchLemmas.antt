@@ -36,9 +36,7 @@ use Rattle.rb_standing.specs.States.{BlocksStand}
 use Rattle.rb_views.specs.Laws.{rows_seen}
 use Rattle.rb_views.specs.Scan.{IsAskedKey, IsNextIn, NoneIn}
 use Rattle.rb_views.specs.Views.{IsCursor, Remembers, history, home_in}
-use Rattle.rb_views.proofs.Fetching.{cursor_reads, fetch_ends, fetch_gives, taken_is_remembered}
-use Rattle.rb_views.proofs.Remembering.{cursor_is_named}
-use Rattle.rb_views.proofs.Lost.{lost_is_books}
+use Rattle.rb_views.proofs.Fetching as views
 
 behind_of : (blocks first g : ℕ) (last : Option ℕ) → Begins blocks first g last → (k : ℕ) → k % blocks ≡ g → is_after blocks last k ≡ true → IsBehindKey (if g == first then last else None) k
 behind_of blocks first g None begins k home after = cond_both (g == first) None None (λ (o : Option ℕ). IsBehindKey o k) (λ yes. tt) (λ no. tt)
@@ -68,7 +66,7 @@ after_of blocks first g (Some l) begins k home behind = elim (cases_Bool (g == f
 
 module _ (h : State) (xids : List Xid) (blocks : List (List ℕ)) (m : Cursor) (reader : IsReader h xids blocks m) (g : ℕ) (g_in : g < h.shape.blocks) where
   pub may_read : Reading (env_of h.shape blocks) (history h xids blocks (home_in h.shape m.table g) m.own) m.own m.upto m.scn (homes_of h.shape blocks (home_in h.shape m.table g))
-  may_read = cursor_reads h xids blocks reader.session reader.name m reader.cursor g reader.stand reader.is reader.low g_in
+  may_read = views.reads h xids blocks reader.stand reader.session (record { name = reader.name; cursor = m }) reader.cursor reader.is g g_in
 
   module _ (first : ℕ) (begins : Begins h.shape.blocks first g m.last) (after : Option ℕ) (after_is : after ≡ (if g == first then m.last else None)) (shown : ℕ → Option (List ℕ)) (shows : (k : ℕ) → shown k ≡ rows_seen h xids blocks m g k) where
     wanted_of : (k : ℕ) → IsAskedKey h.shape.blocks m.lo m.hi m.last g k → IsWanted after m.lo m.hi k

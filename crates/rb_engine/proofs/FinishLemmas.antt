@@ -36,7 +36,7 @@ use Rattle.rb_standing.proofs.SegmentRead.{header_is}
 use Rattle.rb_undoengine.proofs.Finishing.{scn_is}
 use Rattle.rb_verdict.specs.Verdict.{IsOwnId}
 use Rattle.rb_views.specs.Views.{Remembers}
-use Rattle.rb_views.proofs.Remembering.{committed_is_remembered}
+use Rattle.rb_views.proofs.Ended.{committed_remembered}
 
 -- the header of a segment, read as the steps read it
 pub runs_in : (h : State) (blocks : List (List ℕ)) (x : Xid) → Runs (segments_of h.shape blocks x.seg).header x → Runs (header_in h.shape blocks x.seg) x
@@ -126,7 +126,7 @@ module _ {S : Type 0} (s : Ghosts S) (told : s.tells) (laws : Laws s) (h : State
           xids = goes.xids ++ x ∷ [];
           holds = done.0;
           remembers = subst (Remembers now (goes.xids ++ x ∷ []) (env_of h.shape (s.blocks new.store))) (sym table_is)
-              (committed_is_remembered h goes.xids (s.blocks old.store) (s.blocks new.store) old.memory.sessions who x goes.holds.blocks goes.remembers there.0 there.1 own done.1);
+              (committed_remembered h goes.xids (s.blocks old.store) (s.blocks new.store) old.memory.sessions who x goes.holds.blocks goes.remembers there.0 there.1 own done.1);
         }))
         (λ before _ keeps. done.3 before keeps)
 

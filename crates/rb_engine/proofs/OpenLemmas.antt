@@ -42,7 +42,7 @@ use Rattle.rb_standing.specs.Standing.{SoundAs, env_of, logged_of, segments_of}
 use Rattle.rb_standing.specs.States.{BlocksStand}
 use Rattle.rb_standing.proofs.SegmentRead.{header_is}
 use Rattle.rb_views.specs.Views.{Remembers}
-use Rattle.rb_views.proofs.Remembering.{first_is_remembered}
+use Rattle.rb_views.proofs.Opened.{first_remembered}
 
 -- what holds of the store behind loads holds of the one before them
 pub moved : {S : Type 0} (s : Ghosts S) (old mid : S) (F : Shape → Option ℕ → ℕ → List (List ℕ) → Type 0) → Logs s old mid [] true → s.tells → F (s.shape_of mid) (s.slots mid) (s.lsn mid) (s.blocks mid) → F (s.shape_of old) (s.slots old) (s.lsn old) (s.blocks old)
@@ -211,7 +211,7 @@ module _ {S : Type 0} (s : Ghosts S) (laws : Laws s) (told : s.tells) (h : State
           holds = holds;
           remembers = subst (Remembers h [] (env_of h.shape (s.blocks new))) (sym table_is)
               (subst (λ (x : State). Remembers x [] (env_of h.shape (s.blocks new)) (replicate SESSIONS fresh)) (sym opens.opening.state)
-              (first_is_remembered Sh Number Rows (books_of Sh (s.blocks old)) (env_of h.shape (s.blocks new)) none_owns));
+              (first_remembered Sh Number Rows (books_of Sh (s.blocks old)) (env_of h.shape (s.blocks new)) none_owns));
         };
       };
       lsn = logs.number refl ∙ ap (λ (n : ℕ). s.lsn old + n) back.count;

@@ -45,7 +45,7 @@ use Rattle.rb_txntable.specs.declared.slots.TableSlot.{TableSlot}
 use Rattle.rb_undoengine.proofs.LeftOwn.{last_of, own_again, own_all, own_left}
 use Rattle.rb_verdict.specs.Verdict.{IsOwnId}
 use Rattle.rb_views.specs.Views.{Remembers}
-use Rattle.rb_views.proofs.Remembering.{rolled_back_is_remembered}
+use Rattle.rb_views.proofs.Ended.{back_remembered, none_left}
 use Rattle.rb_walk.specs.Walk as walk
 use Rattle.rb_walk.specs.Walk.{Env, own}
 
@@ -307,6 +307,6 @@ module _ {S : Type 0} (s : Ghosts S) (told : s.tells) (laws : Laws s) (h : State
           xids = held.xids;
           holds = all.0;
           remembers = subst (Remembers now held.xids (env_of h.shape (s.blocks new.store))) (sym table_is)
-              (rolled_back_is_remembered h now held.xids (s.blocks old.store) (s.blocks new.store) old.memory.sessions who held.holds.blocks held.remembers there.0 there.1 after all.1);
+              (back_remembered h now held.xids (env_of h.shape (s.blocks old.store)) (env_of h.shape (s.blocks new.store)) old.memory.sessions who held.remembers there.0 there.1 after (none_left h held.xids (s.blocks old.store) who x cursors held.holds.blocks (own_id s told laws h old who x st going there own_is)) all.1);
         }))
         (λ before _ keeps. all.3 before keeps)

@@ -34,7 +34,7 @@ use Rattle.rb_standing.specs.States.{BlocksStand, Owns}
 use Rattle.rb_undoengine.specs.Steps.{IsAbout, IsHolder, NotOthers, refusal_of}
 use Rattle.rb_verdict.specs.Verdict.{IsOwnId}
 use Rattle.rb_views.specs.Views.{Remembers}
-use Rattle.rb_views.proofs.Remembering.{written_is_remembered}
+use Rattle.rb_views.proofs.Written.{written_remembered}
 
 -- a fault of an attempt is one of the disk exactly where a call failed
 pub failed_is : (fault : AttemptFault) → is_disk_fault (refusal_of fault) ≡ has_failed {T = Xid} (Err fault)
@@ -87,12 +87,13 @@ module _ {S : Type 0} (s : Ghosts S) (told : s.tells) (laws : Laws s) (h : State
         → new.memory.sessions ≡ with_kept old.memory.sessions who (wrote x (kept_at old.memory.sessions who)) → new.memory.scn ≡ old.memory.scn → new.memory.stopped ≡ old.memory.stopped → Does s h (Write who table key action) Done old new
     step_done x one table_is scn stopped =
         let after : State = written h who x.seg x.slot (change_in h x.seg table key action) in
+        let high : who ≤ length h.sessions = let n = st.knows.sixteen in omega (arith, n, there.1) in
         let single = one.one refl in
         let blocks : s.blocks new.store ≡ _ = one.logs.blocks told refl in
         let made : WriteMade h goes.xids who table key action Room x (s.blocks old.store) (s.blocks new.store) = subst (λ b. WriteMade h goes.xids who table key action Room x (s.blocks old.store) b) (sym blocks) (one.made (omega (arith, single))) in
         let all : (fault : _) → _ = λ fault. holds_written s told laws h goes.xids who old.store new.store table key action Room x st.shape goes.holds (omega arith) fault one in
         let granted : first_of (write_tests h (s.lsn old.store) Room x.seg x.slot who table key action) Done ≡ Done = subst (λ (n : ℕ). first_of (write_tests h n Room x.seg x.slot who table key action) Done ≡ Done) (sym goes.holds.logged) made.granted in
-        let knows = written_is_remembered h goes.xids (s.blocks old.store) (s.blocks new.store) old.memory.sessions who x.seg x.slot table key action x goes.holds.blocks goes.remembers there.0 there.1 made.in_slot made.stand made.id made.ids in
+        let knows = written_remembered h goes.xids (s.blocks old.store) (s.blocks new.store) who x.seg x.slot (change_in h x.seg table key action) x goes.holds.blocks there.0 high made.in_slot made.stand made.id made.ids old.memory.sessions there.1 goes.remembers in
         does_by s h after (Write who table key action) Done old new 1 st
         (answered x.seg x.slot made.in_slot Done granted) (x.seg, x.slot, made.in_slot, refl) (λ _. kept_undo Room x made)
         (knows_on h after old.memory new.memory st.knows (length-set h.sessions _ _) refl refl stopped scn) same

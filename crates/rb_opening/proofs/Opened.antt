@@ -7,7 +7,7 @@ use Rattle.rb_base.specs.Blocks.{IsShape}
 use Rattle.rb_base.specs.declared.shape.Shape.{Shape}
 use Rattle.rb_base.specs.declared.sizes.TheConstants.{ACTIVE}
 use Rattle.rb_model.specs.Book.{Book, BookSlot, book_at, free_slot, fresh_book, slot_owner}
-use Rattle.rb_model.specs.State.{Session, State, no_session, opened, owner_at, session_own}
+use Rattle.rb_model.specs.State.{Session, State, no_session, opened, owner_at, session_count, session_own}
 use Rattle.rb_model.specs.Rows.{TableRow}
 use Rattle.rb_opening.specs.Opens.{books_of}
 use Rattle.rb_restart.specs.Rollback.{AreIdle, SameBooks, found_book}
@@ -77,7 +77,7 @@ module _ (shape : Shape) (blocks : List (List ℕ)) (number : ℕ) (rows : List 
   nobody s t owns = let none = unowned t in let some : owner_at First t ≡ Some owns.owner = owns.at in cc
 
   no_change : (s : ℕ) → session_own First s ≡ []
-  no_change s = ap (λ (z : Session). z.own) (all_same no_session 1 (s - 1))
+  no_change s = ap (λ (z : Session). z.own) (all_same no_session session_count (s - 1))
 
   -- so there is no live change, neither in the machine nor in the blocks
   lives_none : (t : ℕ) → t < 16 * shape.segments → own (lives_of First Now) t ≡ []

@@ -1,5 +1,5 @@
 -- What an attempt over a store tells of a write is the machine's answer, and its next state.
-use Rattle.std.proofs.Common.{◌≡◌, ◌<◌, ◌≤◌, ◌+◌, ◌*◌, ◌^◌, min, ℕ, true, false, not, List, [], ◌∷◌, length, Result, Ok, Err, IfOk, IfErr, OnOk, OnErr, Some, refl, sym, ap, subst, arith}
+use Rattle.std.proofs.Common.{◌≡◌, ◌<◌, ◌≤◌, ◌+◌, ◌*◌, ◌^◌, ℕ, true, false, not, List, [], ◌∷◌, length, Result, Ok, Err, IfOk, IfErr, OnOk, Some, refl, sym, ap, subst, arith}
 use Rattle.rb_attempt.specs.Asks.{IsWriterOf, adds_row, home_for, kind_of}
 use Rattle.rb_attempt.specs.Making.{MakesIfAny}
 use Rattle.rb_attempt.specs.Refusals.{Refuses, TakesWrite, has_failed}
@@ -17,21 +17,21 @@ use Rattle.rb_base.specs.declared.store.Store.{Ghosts}
 use Rattle.rb_image.specs.Made.{GivesOne, WriteMade}
 use Rattle.rb_model.specs.Calls.{Answer, Done, Refused, WritesIn, first_of, write_tests}
 use Rattle.rb_model.specs.State.{State}
-use Rattle.rb_model.specs.NextState.{change_in, written}
 use Rattle.rb_model.specs.declared.op.Op.{Op}
 use Rattle.rb_segment.specs.Header.{Header}
-use Rattle.rb_standing.specs.Standing.{logged_of}
-use Rattle.rb_standing.specs.States.{BlocksStand}
+use Rattle.rb_standing.specs.Standing.{homes_of, logged_of, segments_of}
 use Rattle.rb_standing.specs.Writing.{IsWritten}
 use Rattle.rb_undoblock.specs.declared.record.UndoRecord.{UndoRecord}
 use Rattle.rb_undoengine.specs.StepLaws.{IsAsked}
 use Rattle.rb_model.specs.Answers.{action_of}
 use Rattle.rb_undoengine.specs.Steps.{IsAbout, NotOthers, refusal_of, kept_room}
-use Rattle.rb_undoengine.proofs.Done.{answered, fits_is, id_is, stands}
+use Rattle.rb_undoengine.proofs.Done.{answered, fits_is, id_is, ids_are, stands}
 use Rattle.rb_undoengine.proofs.HomeWords.{which_in}
 use Rattle.rb_undoengine.proofs.Logged.{write_logged}
 use Rattle.rb_undoengine.proofs.Refused.{refused}
 use Rattle.rb_undoengine.proofs.Writers as writers
+use Rattle.rb_verdict.proofs.Presence.{owner_within}
+use Rattle.rb_verdict.proofs.StoodBlocks.{stood_of}
 
 -- the ask is made by transaction x
 abbrev pub IsAskMade : Shape → List (List ℕ) → List (List ℕ) → Ask → Xid → Type 0
@@ -53,7 +53,7 @@ module _ {S : Type 0} (store : Ghosts S) (told : store.tells) (old new : S) (h :
   Now = store.blocks new
 
   abbrev Room : ℕ
-  Room = min (room_of (store.slots old) (store.lsn old)) ask.room
+  Room = room_of (store.slots old) (store.lsn old)
 
   -- the machine's answer where the transaction writes
   abbrev pub Answered : ℕ → ℕ → ℕ → Answer
@@ -90,6 +90,7 @@ module _ {S : Type 0} (store : Ghosts S) (told : store.tells) (old new : S) (h :
           granted = answered h xids Before now s Room ask op about s_in op_is first last mine x w.2 w.3 w.0 w.1 asked takes w.8 early enough few;
           stand = stands h xids Before now s Room ask op about s_in op_is first last mine x w.2 w.3 w.0 w.1 asked takes w.8 early enough few;
           last = more;
+          ids = λ r t owns. ids_are h xids Before now s Room ask op about s_in op_is first last mine x w.2 w.3 w.0 w.1 asked takes w.8 early enough few t owns.owner (owner_within h xids (segments_of h.shape Before) (homes_of h.shape Before) (stood_of h xids Before about.stand) t owns.owner owns.at) owns.at;
           id = id_is h xids Before now s Room ask op about s_in op_is first last mine x w.2 w.3 w.0 w.1 asked takes w.8 early enough few;
           fits = fits_is h xids Before now s Room ask op about s_in op_is first last mine x w.2 w.3 w.0 w.1 asked takes w.8 early enough few;
         }

@@ -10,10 +10,10 @@ use Rattle.rb_base.specs.declared.sizes.TheConstants.{WORN}
 use Rattle.rb_heap.specs.Choices.{HasNoChoice, IsEntryChoice}
 use Rattle.rb_heap.specs.Cleaning.{cleaned_home}
 use Rattle.rb_heap.specs.Homes.{Home, home_entry, home_of}
-use Rattle.rb_model.specs.Book.{Book, book_at, marked, taken}
+use Rattle.rb_model.specs.Book.{Book, Owner, book_at, marked, taken}
 use Rattle.rb_model.specs.Calls.{Done, first_of, has_slot, write_tests}
 use Rattle.rb_model.specs.Change.{Change, Place}
-use Rattle.rb_model.specs.State.{State, session_own, with_changes}
+use Rattle.rb_model.specs.State.{State, owner_at, session_own, with_changes}
 use Rattle.rb_model.specs.NextState.{change_in, written}
 use Rattle.rb_model.specs.declared.op.Op.{Op}
 use Rattle.rb_segment.specs.Header.{Header, Segment, SegmentInOrder}
@@ -31,7 +31,7 @@ use Rattle.rb_standing.proofs.Addresses.{next_place_is}
 use Rattle.rb_standing.proofs.Seen.{one_xid}
 use Rattle.rb_standing.proofs.SegmentRead.{header_is}
 use Rattle.rb_standing.proofs.SegmentRecorded as segment
-use Rattle.rb_standing.proofs.WriteMachine.{id_after, owed_after, owns_after, write_keeps_machine}
+use Rattle.rb_standing.proofs.WriteMachine.{id_after, ids_after, owed_after, owns_after, write_keeps_machine}
 use Rattle.rb_restart.proofs.Slots.{owed_is}
 use Rattle.rb_undoblock.specs.declared.record.UndoRecord.{UndoRecord}
 use Rattle.rb_undoengine.specs.StepLaws.{IsAsked}
@@ -190,6 +190,11 @@ module _ (h : State) (xids : List Xid) (before now : List (List ℕ)) (s room : 
         owns = λ t o. let one : At ≡ t = stands.tell.one_slot s At t owns o in sym (ap (λ (z : ℕ). Some ((env_of h.shape now).xid z)) (sym one) ∙ ap Some here);
         owned = λ y same. let yes : x ≡ y = cc in (At, owns, sym yes ∙ sym here);
       }
+
+  -- and each slot that was owned keeps its own
+  pub ids_are : (v : ℕ) (o : Owner) → v < 16 * h.shape.segments → owner_at h v ≡ Some o → (env_of h.shape now).xid v ≡ (env_of h.shape before).xid v
+  ids_are = ids_after h xids before now s At (adds_row ask.op) Made (kind_of ask.op) address u t_in (about.session, s_in) about.stand
+      (writers.takes_at h xids before s ask.own about x ready writer) home_in not_held is same_change has_room
 
   -- the room that was kept for the write is enough for all that is owed
   pub fits_is : owed_in h.shape now + 1 ≤ room

@@ -21,7 +21,7 @@ use Rattle.rb_segment.specs.Calls.{commit_patches, slot_patches, stamp_patch, Ru
 use Rattle.rb_segment.specs.Header.{Header, has_bit, header_of, slot_in}
 use Rattle.rb_segment.specs.Moves as moves
 use Rattle.rb_segment.specs.Segments.{commit_scn}
-use Rattle.rb_standing.proofs.BlocksMachine.{commit_keeps_machine, end_keeps_machine}
+use Rattle.rb_standing.proofs.BlocksMachine.{commit_keeps_machine, end_keeps_machine, ids_committed, ids_ended}
 use Rattle.rb_standing.proofs.Group.{logged_next}
 use Rattle.rb_standing.proofs.MachineDone.{last_commits}
 use Rattle.rb_standing.proofs.OwedMoves.{owed_committed, owed_ended}
@@ -187,6 +187,7 @@ module _ (h : State) (xids : List Xid) (before now : List (List ℕ)) (s : ℕ) 
         let b = owed_is h.shape now in
         record {
           stand = subst (λ (z : State). BlocksStand z (xids ++ x ∷ []) now) state (subst (λ (z : Xid). BlocksStand (after_commit h s T (commit_scn h.shape before + 1) (map not_present (cursors_of h s))) (xids ++ z ∷ []) now) id kept);
+          ids = λ r v mine. ids_committed h xids before now stand s T t_in owns is v;
           last = logged;
           owed = omega (arith, less, moved_segments, a, b);
         }
@@ -216,6 +217,7 @@ module _ (h : State) (xids : List Xid) (before now : List (List ℕ)) (s : ℕ) 
         let state : (cursors : List Cursor) → record (after_end h T) { sessions = set h.sessions (s - 1) (record { own = []; cursors = map not_present cursors }) } ≡ without_owner x.seg x.slot (ended h s cursors) = λ cursors. rw (seg_is, slot_is) refl in
         record {
           stand = λ cursors. subst (λ (z : State). BlocksStand z xids now) (state cursors) (free cursors);
+          ids = λ r v mine. ids_ended h xids before now stand s T t_in owns empty is v;
           last = logged;
           owed = omega (arith, less, moved_segments, a, b);
         }

@@ -3,6 +3,7 @@ mod Done
 pub mod Finishing
 mod Firsts
 mod Found
+mod HolderWords
 mod HomeWords
 mod Kept
 pub mod LeftOwn
@@ -10,6 +11,7 @@ mod Logged
 pub mod May
 mod OneBack
 mod Refused
+mod Somewhere
 mod StepBack
 mod WriterWords
 mod Writers

@@ -1,6 +1,6 @@
 -- The transaction of a session that is about to write runs, or there is a table slot for it: fewer than sixteen other
 -- sessions have one.
-use Rattle.std.proofs.Common.{◌≡◌, ◌≢◌, ◌⊎◌, inl, inr, ◌<◌, ◌≤◌, ◌+◌, ◌/◌, ◌%◌, ℕ, zero, suc, List, length, Option, Some, None, refl, sym, ◌∙◌, ap, subst, arith}
+use Rattle.std.proofs.Common.{◌≡◌, ◌≢◌, ◌⊎◌, inl, inr, ◌<◌, ◌≤◌, ◌+◌, ◌*◌, ◌/◌, ◌%◌, ℕ, zero, suc, List, length, Option, Some, None, refl, sym, ◌∙◌, ap, subst, arith}
 use Rattle.std.proofs.Math.Nat.{div-add-mod, mod-lt}
 use Rattle.std.proofs.lemmas.Bool.{cases_eq}
 use Rattle.rb_attempt.specs.Asks.{MayWrite, header_in}
@@ -83,24 +83,38 @@ module _ (h : State) (xids : List Xid) (blocks : List (List ℕ)) (s : ℕ) (own
           let zero_is : o.session ≡ 0 = sym (ap session_of is) ∙ none in
           absurd (omega (arith, there, zero_is))
 
+  -- a slot of a segment, in its book
+  pub slot_is : (g i : ℕ) → i < 16 → owner_at h (16 * g + i) ≡ slot_owner (book_at h.books g) i
+  slot_is g i few =
+      let seg : (16 * g + i) / 16 ≡ g = omega (arith, few) in
+      let slot : (16 * g + i) % 16 ≡ i = omega (arith, few) in
+      ap (λ z. slot_owner (book_at h.books z) ((16 * g + i) % 16)) seg ∙ ap (slot_owner (book_at h.books g)) slot
+
+  -- a slot that a session owns has one
+  pub some_session : (t : ℕ) (o : Owner) → owner_at h t ≡ Some o → 1 ≤ Session t
+  some_session t o is =
+      let there = (about.stand.tell.owner_there o.session t (record { owner = o; at = is; session = refl })).0 in
+      let same : Session t ≡ o.session = ap session_of is in
+      omega (arith, there, same)
+
   module _ (there : s ≤ length h.sessions) (few : length h.sessions ≤ 16) where
-    -- sixteen slots of sessions would be of each session, also of this one
-    all_owned : own ≡ None → ((t : ℕ) → t < 16 → 1 ≤ Session t) → ⊥
-    all_owned is each =
+    -- sixteen slots of a segment that sessions own would be of each session, also of this one
+    pub all_owned : own ≡ None → (g : ℕ) → ((i : ℕ) → i < 16 → 1 ≤ Session (16 * g + i)) → ⊥
+    all_owned is g each =
         let up = about.session in
-        let at : (t : ℕ) × (t < 16) × (Session t ≡ s) = onto 16 1 Session range apart s up (omega (arith, there, few)) in
-        let mine : Owns h s at.0 = subst (λ (z : ℕ). Owns h z at.0) at.2 (owns_there at.0 (each at.0 at.1)) in
-        let some = about.id.owns at.0 mine in
-        let never : None ≡ Some ((env_of h.shape blocks).xid at.0) = sym is ∙ some in
+        let at : (i : ℕ) × (i < 16) × (Session (16 * g + i) ≡ s) = onto 16 1 (λ i. Session (16 * g + i)) range apart s up (omega (arith, there, few)) in
+        let mine : Owns h s (16 * g + at.0) = subst (λ (z : ℕ). Owns h z (16 * g + at.0)) at.2 (owns_there (16 * g + at.0) (each at.0 at.1)) in
+        let some = about.id.owns (16 * g + at.0) mine in
+        let never : None ≡ Some ((env_of h.shape blocks).xid (16 * g + at.0)) = sym is ∙ some in
         cc
       where
-        range : (t : ℕ) → t < 16 → (1 ≤ Session t) × (Session t < 1 + 16)
-        range t lt = let n = about.stand.tell.owner_there (Session t) t (owns_there t (each t lt)) in let high = n.1 in (each t lt, omega (arith, high, few))
+        range : (i : ℕ) → i < 16 → (1 ≤ Session (16 * g + i)) × (Session (16 * g + i) < 1 + 16)
+        range i lt = let n = about.stand.tell.owner_there (Session (16 * g + i)) (16 * g + i) (owns_there (16 * g + i) (each i lt)) in let high = n.1 in (each i lt, omega (arith, high, few))
 
-        apart : (t : ℕ) → t < 16 → (lower : ℕ) → lower < t → Session lower ≢ Session t
-        apart t lt lower below same =
-            let low : Owns h (Session t) lower = subst (λ (z : ℕ). Owns h z lower) same (owns_there lower (each lower (omega (arith, lt, below)))) in
-            let one = about.stand.tell.one_slot (Session t) lower t low (owns_there t (each t lt)) in
+        apart : (i : ℕ) → i < 16 → (lower : ℕ) → lower < i → Session (16 * g + lower) ≢ Session (16 * g + i)
+        apart i lt lower below same =
+            let low : Owns h (Session (16 * g + i)) (16 * g + lower) = subst (λ (z : ℕ). Owns h z (16 * g + lower)) same (owns_there (16 * g + lower) (each lower (omega (arith, lt, below)))) in
+            let one = about.stand.tell.one_slot (Session (16 * g + i)) (16 * g + lower) (16 * g + i) low (owns_there (16 * g + i) (each i lt)) in
             omega (arith, one, below)
 
     pub may_write : MayWrite h.shape blocks own
@@ -112,6 +126,6 @@ module _ (h : State) (xids : List Xid) (blocks : List (List ℕ)) (s : ℕ) (own
           let a = about.stand.tell.in_range.few_segments.0 in omega (arith, a),
           (free.0, free.1, subst (λ (z : Header). (slot_in z free.0).state ≢ 1) (header_is h.shape blocks 0) (idle free.0 free.1 free.2)),
         )
-        | inr each ↦ absurd (all_owned is each)
+        | inr each ↦ absurd (all_owned is 0 (λ i lt. let at : i ≡ 16 * 0 + i = omega arith in subst (λ (z : ℕ). 1 ≤ Session z) at (each i lt)))
       ];
     }

@@ -1,22 +1,18 @@
 -- What one call that puts back a change says, in blocks that stand for the machine's state and in any others.
-use Rattle.std.proofs.Common.{◌≡◌, ◌≤◌, ◌<◌, ◌+◌, ◌-◌, ◌++◌, inl, inr, ℕ, Bool, true, List, [], ◌∷◌, length, refl, sym, ◌∙◌, ap, subst, arith}
+use Rattle.std.proofs.Common.{◌≡◌, ◌<◌, ◌+◌, ◌++◌, inl, inr, ℕ, Bool, List, [], ◌∷◌, length, ◌∙◌, ap, arith}
 use Rattle.rb_attempt.specs.Asks.{header_in}
 use Rattle.rb_base.specs.Blocks.{after_group, after_groups}
 use Rattle.rb_base.specs.Groups.{Patch}
 use Rattle.rb_base.specs.declared.ids.Xid.{Xid}
-use Rattle.rb_base.specs.declared.shape.Shape.{Shape}
 use Rattle.rb_base.specs.declared.store.Store.{Ghosts}
 use Rattle.rb_model.specs.Calls.{Owned}
 use Rattle.rb_model.specs.Change.{Change}
 use Rattle.rb_model.specs.State.{State, session_own}
-use Rattle.rb_restart.proofs.Backs.{back_group, less_live}
+use Rattle.rb_restart.proofs.Backs.{back_group}
 use Rattle.rb_restart.proofs.Stepped.{Says}
 use Rattle.rb_segment.specs.Calls.{Runs}
-use Rattle.rb_segment.specs.Header.{slot_in}
-use Rattle.rb_standing.specs.NextStates.{with_own}
 use Rattle.rb_standing.specs.Standing.{logged_of}
 use Rattle.rb_standing.specs.States.{BlocksStand}
-use Rattle.rb_undo.specs.Backs.{newest_record, TakesBack}
 use Rattle.rb_image.specs.Made.{BackMade, GivesOne}
 use Rattle.rb_undoengine.proofs.StepBack.{BackIs, back_is}
 

@@ -9,7 +9,6 @@ use Rattle.rb_attempt.specs.declared.ask.AttemptFault.TheVariants as faults
 use Rattle.rb_base.specs.declared.ids.Xid.{Xid}
 use Rattle.rb_base.specs.declared.sizes.TheConstants.{WORN}
 use Rattle.rb_model.specs.Book.{book_at}
-use Rattle.rb_model.specs.Calls as calls
 use Rattle.rb_model.specs.declared.refusal.Refusal.TheVariants as refusals
 use Rattle.rb_model.specs.Calls.{Answer, Done, Refused, first_of, needed_room, write_tests}
 use Rattle.rb_model.specs.State.{State}

@@ -152,7 +152,7 @@ back_is h xids before stand s x there few owned runs front c own_is =
       after = λ now valid made takes. record {
         stand = stands_at h xids before stand s t x.wrap t_in owns front c running own_is now valid made takes;
         last = logged_at h xids before stand s t x.wrap t_in owns front c running own_is now valid made takes;
-        ids = ids_at h xids before stand s t x.wrap t_in owns front c running own_is now valid made takes;
+        ids = λ r v mine. ids_at h xids before stand s t x.wrap t_in owns front c running own_is now valid made takes v;
         owed = owed_at h xids before stand s t x.wrap t_in owns front c running own_is now valid made takes;
       };
     })

@@ -1,7 +1,9 @@
 -- An attempt's answer is the machine's: a refusal is the first of its tests that applies, and a write that is done is
--- one that no test refuses, after which the blocks stand for the machine's next state.
-use Rattle.std.specs.Prelude.{◌≡◌, ◌<◌, ◌≤◌, ◌+◌, ◌*◌, ◌^◌, ℕ, List, length, Some}
+-- one that no test refuses, after which the blocks stand for the machine's next state. Who holds a key is who does in
+-- the machine, and a session that is about to write has a place for it.
+use Rattle.std.specs.Prelude.{◌≡◌, ◌<◌, ◌≤◌, ◌+◌, ◌*◌, ◌^◌, ℕ, List, length, Option, Some}
 use Rattle.rb_attempt.specs.Asks.{adds_row, home_for, kind_of, IsWriterOf}
+use Rattle.rb_attempt.specs.Holding.{holder_in}
 use Rattle.rb_attempt.specs.Refusals.{Refuses, TakesWrite}
 use Rattle.rb_attempt.specs.declared.ask.Ask.{Ask}
 use Rattle.rb_attempt.specs.declared.ask.AttemptFault.{AttemptFault}
@@ -14,12 +16,12 @@ use Rattle.rb_model.specs.State.{State}
 use Rattle.rb_model.specs.NextState.{change_in, written}
 use Rattle.rb_model.specs.declared.op.Op.{Op}
 use Rattle.rb_segment.specs.Header.{Header}
-use Rattle.rb_standing.specs.Standing.{logged_of}
+use Rattle.rb_standing.specs.Standing.{env_of, logged_of}
 use Rattle.rb_standing.specs.States.{BlocksStand}
 use Rattle.rb_standing.specs.Writing.{IsWritten}
 use Rattle.rb_undoblock.specs.declared.record.UndoRecord.{UndoRecord}
 use Rattle.rb_model.specs.Answers.{action_of}
-use Rattle.rb_undoengine.specs.Steps.{refusal_of, kept_room, IsAbout, NotOthers}
+use Rattle.rb_undoengine.specs.Steps.{refusal_of, kept_room, IsAbout, IsHolder, NotOthers}
 
 -- the record is that of the ask, by that transaction
 pub record IsAsked (h : State) (ask : Ask) (x : Xid) (u : UndoRecord) : Type 0 where
@@ -55,3 +57,15 @@ DoneAsMachine = (h : State) (xids : List Xid) (before now : List (List ℕ)) (s 
     × (first_of (write_tests h (logged_of h.shape before) room x.seg x.slot s ask.table ask.key (action_of op)) Done
     ≡ Done)
     × BlocksStand (written h s x.seg x.slot (change_in h x.seg ask.table ask.key (action_of op))) xids now
+
+-- Who holds a key by its home, as it is, and by the headers, is who holds it in the machine.
+abbrev pub HolderIsMachines : Type 0
+HolderIsMachines = (h : State) (xids : List Xid) (blocks : List (List ℕ)) (table key : ℕ)
+    → BlocksStand h xids blocks → 1 ≤ table → table ≤ h.shape.tables
+    → IsHolder h (env_of h.shape blocks) table key (holder_in h.shape blocks table key)
+
+-- A session writes in its slot, or would begin somewhere, as at most fifteen others have one.
+abbrev pub WritesSomewhere : Type 0
+WritesSomewhere = (h : State) (xids : List Xid) (blocks : List (List ℕ)) (s : ℕ) (own : Option Xid)
+    → IsAbout h xids s own blocks → s ≤ length h.sessions → length h.sessions ≤ 16
+    → (g : ℕ) × (i : ℕ) × WritesIn h s g i

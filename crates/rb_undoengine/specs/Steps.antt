@@ -1,5 +1,6 @@
 -- What the engine's calls of the store are to the machine.
-use Rattle.std.specs.Prelude.{◌≡◌, ◌≤◌, ◌+◌, ℕ, if◌then◌else◌, is_some, List, Option, Some}
+use Rattle.std.specs.Prelude.{◌≡◌, ◌≤◌, ◌+◌, ℕ, if◌then◌else◌, is_some, List, Option}
+use Rattle.std.specs.Prelude.{None, Some}
 use Rattle.rb_attempt.specs.declared.ask.AttemptFault.{AttemptFault}
 use Rattle.rb_attempt.specs.declared.ask.AttemptFault.TheVariants as faults
 use Rattle.rb_base.specs.declared.shape.Shape.{Shape}
@@ -9,9 +10,10 @@ use Rattle.rb_model.specs.State.{State}
 use Rattle.rb_model.specs.Tests.{holder}
 use Rattle.rb_segment.specs.Segments.{owed_in}
 use Rattle.rb_standing.specs.Standing.{env_of}
-use Rattle.rb_standing.specs.States.{BlocksStand}
+use Rattle.rb_standing.specs.States.{BlocksStand, Owns}
 use Rattle.rb_verdict.specs.Verdict.{IsOwnId}
 use Rattle.rb_base.specs.declared.ids.Xid.{Xid}
+use Rattle.rb_walk.specs.Walk.{Env}
 
 -- what a fault of an attempt is called
 abbrev pub refusal_of : AttemptFault → Refusal
@@ -27,6 +29,12 @@ refusal_of faults.LogFull = refusals.LogFull
 -- another session than s doesn't hold the key
 abbrev pub NotOthers : State → ℕ → ℕ → ℕ → Type 0
 NotOthers h s table key = (u : ℕ) → holder h table key ≡ Some u → u ≡ s
+
+-- The transaction that holds the key is that of the session which does in the machine; none is, where none does.
+abbrev pub IsHolder : State → Env → ℕ → ℕ → Option Xid → Type 0
+IsHolder h env table key None = holder h table key ≡ None
+IsHolder h env table key (Some x) =
+    (u : ℕ) × (t : ℕ) × (holder h table key ≡ Some u) × Owns h u t × (x ≡ env.xid t)
 
 -- the room that the log must keep after a write of a transaction that has its slot, or takes one
 abbrev pub kept_room : Shape → List (List ℕ) → Option Xid → ℕ

@@ -1,6 +1,6 @@
 //! One write of a session. The engine's write calls it.
 ghost use Rattle.std.specs.Prelude.{◌≡◌, ◌<◌, ◌≤◌, ℕ, List, [], true, false, not};
-ghost use Rattle.std.specs.Prelude.{length, min, Some, IfOk, IfErr, OnErr, OnOk};
+ghost use Rattle.std.specs.Prelude.{length, Some, IfOk, IfErr, OnErr, OnOk};
 ghost use Rattle.rb_attempt.specs.Asks.{IsShort};
 ghost use Rattle.rb_attempt.specs.Refusals.{has_failed};
 ghost use Rattle.rb_base.specs.Groups.{Patch};
@@ -19,16 +19,14 @@ use rb_base::{Group, SLOTS, Store, WORN, Xid};
 use rb_model::Op;
 
 /// Writes a key of a table for a session, whose transaction has the id `own`, if it has a table slot. The answer is the
-/// transaction's id, or why nothing is written. The caller takes `room` groups more, whatever room the log has.
-/// `Failed` only where a call of the store failed. What `group` holds afterwards is open. No other session holds the
-/// key.
+/// transaction's id, or why nothing is written. `Failed` only where a call of the store failed. What `group` holds
+/// afterwards is open. No other session holds the key.
 pub fn write_step<S: Store>(
     store: &mut S,
     own: Option<Xid>,
     table: u16,
     key: u64,
     op: Op<'_>,
-    room: u64,
     group: &mut Group,
 ) -> Result<Xid, AttemptFault>
     requires going { S.failed store.old ≡ false }
@@ -42,29 +40,27 @@ pub fn write_step<S: Store>(
         → S.shape_of store.old ≡ h.shape → s ≤ length h.sessions → NotOthers h s table key
         → S.lsn store.old ≡ logged_of h.shape (S.blocks store.old) → length h.sessions ≤ 16
         → IfOk result (λ x. GivesOne S.Store store.old store.new true (WriteMade h xids s table key
-        (action_of op.entry) (min (room_of (S.slots store.old) (S.lsn store.old)) room) x (S.blocks store.old))) }
+        (action_of op.entry) (room_of (S.slots store.old) (S.lsn store.old)) x (S.blocks store.old))) }
     ensures failed { S.tells → has_failed result ≡ true → (h : State) (xids : List Xid) (s : ℕ)
         → IsAbout h xids s own (S.blocks store.old) → S.shape_of store.old ≡ h.shape → s ≤ length h.sessions
         → NotOthers h s table key → S.lsn store.old ≡ logged_of h.shape (S.blocks store.old)
         → length h.sessions ≤ 16
         → (x : Xid) × GivesOne S.Store store.old store.new false (WriteMade h xids s table key
-        (action_of op.entry) (min (room_of (S.slots store.old) (S.lsn store.old)) room) x (S.blocks store.old)) }
+        (action_of op.entry) (room_of (S.slots store.old) (S.lsn store.old)) x (S.blocks store.old)) }
     ensures refused { S.tells → has_failed result ≡ false → (h : State) (xids : List Xid) (s : ℕ)
         → IsAbout h xids s own (S.blocks store.old) → S.shape_of store.old ≡ h.shape → s ≤ length h.sessions
         → NotOthers h s table key → length h.sessions ≤ 16
         → IfErr result (λ fault. (x : Xid) × WritesIn h s x.seg x.slot
-        × (first_of (write_tests h (S.lsn store.old) (min (room_of (S.slots store.old) (S.lsn store.old)) room)
+        × (first_of (write_tests h (S.lsn store.old) (room_of (S.slots store.old) (S.lsn store.old))
         x.seg x.slot s table key (action_of op.entry)) Done ≡ Refused (refusal_of fault))) }
     ensures unchanged { has_failed result ≡ false → OnErr result (Logs S.Store store.old store.new [] true) }
-    ensures room { OnOk result ((S.lsn store.old < WORN) × (1 ≤ room_of (S.slots store.old) (S.lsn store.old))
-        × (1 ≤ room)) }
+    ensures room { OnOk result ((S.lsn store.old < WORN) × (1 ≤ room_of (S.slots store.old) (S.lsn store.old))) }
 {
     let ask = Ask {
         own,
         table,
         key,
         op: Some(op),
-        room,
     };
     attempt(store, &ask, group)
 }

@@ -14,8 +14,8 @@ abbrev pub NoneIn : (blocks lo hi : ℕ) (last : Option ℕ) (rows : ℕ → Opt
 NoneIn blocks lo hi last rows g = (k : ℕ) → IsAskedKey blocks lo hi last g k → rows k ≡ None
 
 -- the least key of home g that is asked for and has a row
-pub record IsNextIn (blocks lo hi : ℕ) (last : Option ℕ) (rows : ℕ → Option (List ℕ)) (g key : ℕ) (value : List ℕ)
-    : Type 0 where
+pub record IsNextIn (blocks lo hi : ℕ) (last : Option ℕ) (rows : ℕ → Option (List ℕ)) (g key : ℕ)
+    (value : List ℕ) : Type 0 where
   pub asked : IsAskedKey blocks lo hi last g key
   pub row : rows key ≡ Some value
   pub least : (k : ℕ) → IsAskedKey blocks lo hi last g k → k < key → rows k ≡ None

@@ -1,11 +1,12 @@
 -- What a table of sessions is to the machine's state, by what the segments of its blocks say.
-use Rattle.std.specs.Prelude.{◌≡◌, ◌<◌, ◌≤◌, ◌+◌, ◌*◌, ◌-◌, ℕ, true, List, [], ◌∷◌, length, map, take, get_or}
-use Rattle.std.specs.Prelude.{Option, Some, None}
+use Rattle.std.specs.Prelude.{◌≡◌, ◌<◌, ◌≤◌, ◌+◌, ◌*◌, ◌-◌, ℕ, true}
+use Rattle.std.specs.Prelude.{List, [], ◌∷◌, length, map, take, get_or, Option, Some, None}
 use Rattle.rb_base.specs.declared.ids.Xid.{Xid}
 use Rattle.rb_base.specs.declared.shape.Shape.{Shape}
 use Rattle.rb_model.specs.Next.{given_count}
 use Rattle.rb_model.specs.State as machine
 use Rattle.rb_model.specs.State.{State, cursor_rows, session_of, session_own}
+use Rattle.rb_rebuild.specs.Keeping.{kept_room}
 use Rattle.rb_rebuild.specs.Reading.{History}
 use Rattle.rb_sessions.specs.Kept.{KeptCursor, KeptSession, kept_at}
 use Rattle.rb_sessions.specs.declared.cursor.Cursor.{Cursor}
@@ -17,8 +18,8 @@ use Rattle.rb_verdict.specs.Verdict.{IsOwnId}
 use Rattle.rb_walk.specs.Homes.{here, narrow}
 use Rattle.rb_walk.specs.Walk.{Env}
 
--- Which changes of its session's transaction a cursor sees: none; or the first ones of those that are live, where it was
--- opened in the present transaction; or the first ones of a commit above its snapshot.
+-- Which changes of its session's transaction a cursor sees: none; or the first ones of those that are live, where it
+-- was opened in the present transaction; or the first ones of a commit above its snapshot.
 pub data Frozen (h : State) (xids : List Xid) (env : Env) (s : ℕ) (m : Cursor) (c : machine.Cursor) : Type 0 where
   none : m.upto ≡ 0 → Frozen h xids env s m c
   live : (t : ℕ) → m.present ≡ true → Owns h s t → m.own ≡ Some (env.xid t)
@@ -40,6 +41,8 @@ pub record IsCursor (h : State) (xids : List Xid) (env : Env) (s : ℕ) (m : Kep
   pub above : h.commits.base ≤ c.number
   pub below : c.number ≤ h.commits.base + length h.commits.list
   pub upto : m.cursor.upto ≡ length c.own
+  -- as many changes as a transaction has at most
+  pub few : m.cursor.upto ≤ kept_room
   pub frozen : Frozen h xids env s m.cursor c
   pub taken : c.taken ≡ given_count h.shape.blocks m.cursor.last (cursor_rows h c)
 

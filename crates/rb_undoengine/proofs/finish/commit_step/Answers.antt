@@ -9,8 +9,7 @@ use Rattle.rb_base.specs.declared.ids.Xid.{Xid}
 use Rattle.rb_base.specs.declared.shape.Shape.{Shape}
 use Rattle.rb_image.specs.Made.{CommitMade}
 use Rattle.rb_model.specs.Calls.{Owned}
-use Rattle.rb_model.specs.State.{State, session_own}
-use Rattle.rb_model.specs.NextState.{committed}
+use Rattle.rb_model.specs.State.{State}
 use Rattle.rb_model.specs.Rows.{last_scn}
 use Rattle.rb_restart.proofs.SlotEnded.{block_read}
 use Rattle.rb_segment.specs.Calls.{commit_patches, Runs}
@@ -18,8 +17,7 @@ use Rattle.rb_segment.specs.Header.{header_of, slot_in}
 use Rattle.rb_segment.specs.Moves as moves
 use Rattle.rb_standing.specs.Standing.{logged_of}
 use Rattle.rb_standing.specs.States.{BlocksStand}
-use Rattle.rb_undo.proofs.TakenBack.{logs_ok, on_ok}
-use Rattle.rb_undoengine.proofs.Finishing.{commit_there, live_is, logged, commits}
+use Rattle.rb_undoengine.proofs.Finishing.{commit_there, live_is, commits}
 use Rattle.rb_undoengine.proofs.finish.commit_step.Given.{Over}
 use Rattle.rb_undoengine.proofs.finish.commit_step.Goals as goal
 

@@ -9,16 +9,14 @@ use Rattle.rb_base.specs.declared.ids.Xid.{Xid}
 use Rattle.rb_base.specs.declared.shape.Shape.{Shape}
 use Rattle.rb_image.specs.Made.{EndMade}
 use Rattle.rb_model.specs.Calls.{Owned}
-use Rattle.rb_model.specs.State.{Cursor, State, session_own}
-use Rattle.rb_model.specs.NextState.{ended, without_owner}
+use Rattle.rb_model.specs.State.{State, session_own}
 use Rattle.rb_restart.proofs.SlotEnded.{block_read}
 use Rattle.rb_segment.specs.Calls.{slot_patches, Runs}
 use Rattle.rb_segment.specs.Header.{header_of, slot_in}
 use Rattle.rb_segment.specs.Moves as moves
 use Rattle.rb_standing.specs.Standing.{logged_of}
 use Rattle.rb_standing.specs.States.{BlocksStand}
-use Rattle.rb_undo.proofs.TakenBack.{logs_ok, on_ok}
-use Rattle.rb_undoengine.proofs.Finishing.{end_there, live_is, logged, ends}
+use Rattle.rb_undoengine.proofs.Finishing.{end_there, live_is, ends}
 use Rattle.rb_undoengine.proofs.finish.end_step.Given.{Over}
 use Rattle.rb_undoengine.proofs.finish.end_step.Goals as goal
 

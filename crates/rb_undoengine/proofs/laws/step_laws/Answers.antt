@@ -1,5 +1,7 @@
 use Rattle.rb_undoengine.proofs.Done.{answered, stands}
+use Rattle.rb_undoengine.proofs.HolderWords.{holder_is}
 use Rattle.rb_undoengine.proofs.Refused.{refused}
+use Rattle.rb_undoengine.proofs.Somewhere.{somewhere}
 use Rattle.rb_undoengine.proofs.Writers.{writes_in}
 use Rattle.rb_undoengine.proofs.laws.step_laws.Goals as goal
 
@@ -13,3 +15,9 @@ returns-clause-done c = λ h xids before now s room ask op x ready address u abo
   answered h xids before now s room ask op about s_in op_is first last mine x ready writer address u asked takes is young enough few,
   stands h xids before now s room ask op about s_in op_is first last mine x ready writer address u asked takes is young enough few,
 )
+
+pub returns-clause-holder : goal.returns-clause-holder
+returns-clause-holder c = λ h xids blocks table key stand first last. holder_is h xids blocks stand table key first last
+
+pub returns-clause-somewhere : goal.returns-clause-somewhere
+returns-clause-somewhere c = λ h xids blocks s own about there few. somewhere h xids blocks s own about there few

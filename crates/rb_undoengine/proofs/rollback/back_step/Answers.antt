@@ -1,4 +1,4 @@
-use Rattle.std.proofs.Common.{◌≡◌, ◌<◌, Bool, false, not, OnOk, Result, Ok, Err, refl, subst}
+use Rattle.std.proofs.Common.{◌<◌, not, subst}
 use Rattle.std.specs.Result.{is_err}
 use Rattle.rb_base.specs.declared.shape.Shape.{Shape}
 use Rattle.rb_restart.proofs.Stepped.{Says, says}

@@ -15,7 +15,7 @@ pub returns-clause-gives : goal.returns-clause-gives
 returns-clause-gives g c told h xids s about same s_in mine number sixteen =
     let s_of = g.S.Store in
     let old = c.args.store.now in
-    let ask : Ask = record { own = c.args.own; table = c.args.table; key = c.args.key; op = Some c.args.op; room = c.args.room } in
+    let ask : Ask = record { own = c.args.own; table = c.args.table; key = c.args.key; op = Some c.args.op } in
     let are_young : AreYoung (s_of.shape_of old) (s_of.blocks old) = subst (λ (k : Shape). AreYoung k (s_of.blocks old)) (sym same) (young h xids (s_of.blocks old) about.stand) in
     let last : c.args.table ≤ h.shape.tables = subst (λ (k : Shape). c.args.table ≤ k.tables) same c.requires.table.1 in
     let call = c.attempt.ensures in
@@ -27,7 +27,7 @@ pub returns-clause-refused : goal.returns-clause-refused
 returns-clause-refused g c told going h xids s about same s_in mine sixteen =
     let s_of = g.S.Store in
     let old = c.args.store.now in
-    let ask : Ask = record { own = c.args.own; table = c.args.table; key = c.args.key; op = Some c.args.op; room = c.args.room } in
+    let ask : Ask = record { own = c.args.own; table = c.args.table; key = c.args.key; op = Some c.args.op } in
     let are_young : AreYoung (s_of.shape_of old) (s_of.blocks old) = subst (λ (k : Shape). AreYoung k (s_of.blocks old)) (sym same) (young h xids (s_of.blocks old) about.stand) in
     let last : c.args.table ≤ h.shape.tables = subst (λ (k : Shape). c.args.table ≤ k.tables) same c.requires.table.1 in
     let may = subst (λ (k : Shape). MayWrite k (s_of.blocks old) c.args.own) (sym same) (may_write h xids (s_of.blocks old) s c.args.own about s_in sixteen) in
@@ -38,7 +38,7 @@ pub returns-clause-failed : goal.returns-clause-failed
 returns-clause-failed g c told fails h xids s about same s_in mine number sixteen =
     let s_of = g.S.Store in
     let old = c.args.store.now in
-    let ask : Ask = record { own = c.args.own; table = c.args.table; key = c.args.key; op = Some c.args.op; room = c.args.room } in
+    let ask : Ask = record { own = c.args.own; table = c.args.table; key = c.args.key; op = Some c.args.op } in
     let are_young : AreYoung (s_of.shape_of old) (s_of.blocks old) = subst (λ (k : Shape). AreYoung k (s_of.blocks old)) (sym same) (young h xids (s_of.blocks old) about.stand) in
     let last : c.args.table ≤ h.shape.tables = subst (λ (k : Shape). c.args.table ≤ k.tables) same c.requires.table.1 in
     let group = c.attempt.ensures.group told (number ∙ ap (λ (k : Shape). logged_of k (s_of.blocks old)) (sym same)) are_young in

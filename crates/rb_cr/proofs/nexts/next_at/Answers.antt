@@ -1,0 +1,72 @@
+use Rattle.std.proofs.Common.{◌≡◌, ◌∙◌, [], ℕ, List, Ok, Err, not, refl, sym, ap, true, false}
+use Rattle.rb_base.specs.Blocks.{block_of}
+use Rattle.rb_base.specs.Logs.{load_logs, more_logs}
+use Rattle.rb_base.specs.declared.shape.Shape.{Shape}
+use Rattle.rb_cr.specs.Builds.{IsHomeOld, IsHomeRead}
+use Rattle.rb_cr.specs.Clauses.{answer_to}
+use Rattle.rb_cr.specs.Faults.{is_failed}
+use Rattle.rb_cr.specs.Rows.{block_rows}
+use Rattle.rb_rebuild.specs.Reading.{History}
+use Rattle.rb_rebuild.proofs.Quiet.{quiet_reads}
+use Rattle.rb_standing.specs.Standing.{env_of, homes_of}
+use Rattle.rb_cr.proofs.Homes.{carried}
+use Rattle.rb_cr.proofs.Shown.{next_same}
+use Rattle.rb_cr.proofs.nexts.next_at.Given.{Over}
+use Rattle.rb_cr.proofs.nexts.next_at.Goals as goal
+
+-- the home is read after the look at its entries as it was before
+after : (g : Over) (c : goal.After-next_rebuilt g) → g.S.Store.tells → (h : History)
+    → IsHomeRead (g.S.Store.shape_of c.args.store.now) (g.S.Store.blocks c.args.store.now) c.args.block h c.args.snapshot.now
+    → IsHomeRead (g.S.Store.shape_of c.is_plain.new.store) (g.S.Store.blocks c.is_plain.new.store) c.args.block h c.args.snapshot.now
+after g c told h reading =
+    let s = g.S.Store in
+    let logs = c.in-Ok-false.ensures.logs in
+    carried (λ shape blocks. IsHomeRead shape blocks c.args.block h c.args.snapshot.now) (s.shape_of c.args.store.now) (s.shape_of c.is_plain.new.store) (s.blocks c.args.store.now) (s.blocks c.is_plain.new.store)
+    logs.same_shape (logs.blocks told refl) reading
+
+pub returns-in-Ok-false-clause-given : goal.returns-in-Ok-false-clause-given
+returns-in-Ok-false-clause-given g c = λ told h reading. c.next_rebuilt.ensures.given told h (after g c told h reading)
+
+pub returns-in-Ok-false-clause-none : goal.returns-in-Ok-false-clause-none
+returns-in-Ok-false-clause-none g c = λ told h reading. c.next_rebuilt.ensures.none told h (after g c told h reading)
+
+pub returns-in-Ok-false-clause-logs : goal.returns-in-Ok-false-clause-logs
+returns-in-Ok-false-clause-logs g c = more_logs g.S.Store c.args.store.now c.is_plain.new.store c.next_rebuilt.new.store [] [] (not (is_failed c.next_rebuilt.result)) c.in-Ok-false.ensures.logs c.next_rebuilt.ensures.logs
+
+pub returns-in-Err-load-clause-logs : goal.returns-in-Err-load-clause-logs
+returns-in-Err-load-clause-logs g c =
+    let s = g.S.Store in
+    let mid = c.is_plain.new.store in
+    let new = c.load.new.self in
+    let load = c.in-Err-load.ensures in
+    more_logs s c.args.store.now mid new [] [] false c.in-Ok-true.ensures.logs (load_logs s mid new (Err c.in-Err-load.field-0) load.shape load.slots load.failed load.counted load.lsn load.blocks load.settles load.any_moment)
+
+pub returns-in-Ok-clause-logs : goal.returns-in-Ok-clause-logs
+returns-in-Ok-clause-logs g c =
+    let s = g.S.Store in
+    let mid = c.is_plain.new.store in
+    let new = c.load.new.self in
+    let load = c.in-Ok.ensures in
+    more_logs s c.args.store.now mid new [] [] true c.in-Ok-true.ensures.logs (load_logs s mid new (Ok c.in-Ok.field-0) load.shape load.slots load.failed load.counted load.lsn load.blocks load.settles load.any_moment)
+
+-- no change is above the snapshot, so the block that is read shows the rows as they were
+shown : (g : Over) (c : goal.After-next_plain g) → g.S.Store.tells → (h : History)
+    → IsHomeRead (g.S.Store.shape_of c.args.store.now) (g.S.Store.blocks c.args.store.now) c.args.block h c.args.snapshot.now
+    → (k : ℕ) → block_rows c.block.result.now k ≡ answer_to h c.args.snapshot.now k
+shown g c told h reading k =
+    let s = g.S.Store in
+    let shape = s.shape_of c.args.store.now in
+    let blocks = s.blocks c.args.store.now in
+    let snap = c.args.snapshot.now in
+    let read : c.block.result.now ≡ block_of (s.blocks c.load.new.self) c.args.block = c.block.ensures.block told c.args.block c.in-Ok.ensures.loaded in
+    let same : s.blocks c.load.new.self ≡ blocks = c.in-Ok.ensures.blocks told ∙ c.in-Ok-true.ensures.logs.blocks told refl in
+    let plain = quiet_reads (env_of shape blocks) h snap.own snap.upto snap.scn (homes_of shape blocks c.args.block) reading (c.in-Ok-true.ensures.told told c.in-Ok-true.field-0-test) in
+    ap (λ (block : List ℕ). block_rows block k) (read ∙ ap (λ (z : List (List ℕ)). block_of z c.args.block) same) ∙ plain.0 k
+
+pub returns-in-Ok-clause-given : goal.returns-in-Ok-clause-given
+returns-in-Ok-clause-given g c = λ told h reading found.
+    let w = c.args.wanted in
+    next_same w.after w.lo w.hi (block_rows c.block.result.now) (answer_to h c.args.snapshot.now) c.next_plain.new.row (shown g c told h reading) (c.next_plain.ensures.given found)
+
+pub returns-in-Ok-clause-none : goal.returns-in-Ok-clause-none
+returns-in-Ok-clause-none g c = λ told h reading none k wanted. sym (shown g c told h reading k) ∙ c.next_plain.ensures.none none k wanted

@@ -1,0 +1,190 @@
+-- The table remembers the end of a transaction: a commit, a rollback, or the end of one without changes.
+use Rattle.std.proofs.Common.{◌≡◌, ◌≢◌, inl, inr, ⊎_elim, ◌≤◌, ◌+◌, ◌-◌, ℕ, zero, suc, false, List, [], ◌∷◌, ◌++◌, length, map, get_or, set, take, Option, Some, None, refl, sym, ◌∙◌, ap, subst, arith, append-nil}
+use Rattle.std.proofs.Math.ListN as lists
+use Rattle.std.proofs.Math.Seq as seq
+use Rattle.std.proofs.lemmas.List.{length-set}
+use Rattle.rb_base.specs.declared.ids.Xid.{Xid}
+use Rattle.rb_image.specs.Made.{KeepsIds}
+use Rattle.rb_image.proofs.Owners.{OwnedBy, few_slots, finished_else, finished_here, freed, id_none, left_else, left_here, owned_by, same_owners}
+use Rattle.rb_model.specs.Book.{Book, Owner, book_at, book_slot, finished, left, slot_owner}
+use Rattle.rb_model.specs.Calls.{HasNoSlot, Owned}
+use Rattle.rb_model.specs.Change.{Change}
+use Rattle.rb_model.specs.NextState.{EndsAs, cursors_of, left_open, not_present, without_owner}
+use Rattle.rb_model.specs.NextState as next
+use Rattle.rb_model.specs.Rows.{Commits, last_scn}
+use Rattle.rb_model.specs.State as machine
+use Rattle.rb_model.specs.State.{Session, State, owner_at, session_of, session_own}
+use Rattle.rb_model.proofs.BookLemmas.{owner_set}
+use Rattle.rb_sessions.specs.Kept as kept
+use Rattle.rb_sessions.specs.Kept.{KeptCursor, KeptSession, kept_at, passed, with_kept}
+use Rattle.rb_sessions.specs.declared.sessions.TheConstants.{SESSIONS}
+use Rattle.rb_standing.specs.Standing.{env_of}
+use Rattle.rb_standing.specs.States.{BlocksStand, Owns, no_xid}
+use Rattle.rb_verdict.specs.Verdict.{IsOwnId}
+use Rattle.rb_views.specs.Views.{AreCursors, IsCursor, IsSession, Remembers}
+use Rattle.rb_views.proofs.Lasting.{Keeps, cursor_told, frozen_commits}
+use Rattle.rb_views.proofs.Owning.{owner_else, owner_had, place_of}
+use Rattle.rb_views.proofs.Tables.{Moves, cursors_left, cursors_passed, one_passed, set_others, set_this, table_last}
+use Rattle.rb_walk.specs.Walk.{Env}
+
+-- a state in which the session has no change, and these cursors, of no present transaction
+module _ (h h2 : State) (xids xids2 : List Xid) (env env2 : Env) (s : ℕ) (cursors : List machine.Cursor) (low : 1 ≤ s) (high : s ≤ length h.sessions)
+    (sessions : h2.sessions ≡ set h.sessions (s - 1) (record { own = []; cursors = map not_present cursors })) (keeps : Keeps h h2 xids xids2) (none : HasNoSlot h2 s)
+    (owns : (u t : ℕ) → u ≢ s → Owns h u t → Owns h2 u t) (owned : (u t : ℕ) → u ≢ s → Owns h2 u t → Owns h u t) (ids : KeepsIds h env env2) where
+  abbrev ended : Session
+  ended = record { own = []; cursors = map not_present cursors }
+
+  moves : Moves h h2 xids xids2 env env2 s
+  moves = record {
+    keeps = keeps;
+    counted = ap (λ (l : List Session). length l) sessions ∙ length-set h.sessions (s - 1) ended;
+    others = λ u u_low ne. ap (λ (l : List Session). get_or l (u - 1) machine.no_session) sessions ∙ set_others h.sessions s u ended low u_low ne;
+    owns = owns;
+    owned = owned;
+    ids = ids;
+  }
+
+  session : session_of h2 s ≡ ended
+  session = ap (λ (l : List Session). get_or l (s - 1) machine.no_session) sessions ∙ set_this h.sessions s ended low high
+
+  -- the table with the session's cursors in memory passed, too
+  pub ended_remembered : (table : List KeptSession) (ms : List KeptCursor) → s ≤ SESSIONS → Remembers h xids env table → AreCursors h2 xids2 env2 s (map passed ms) (map not_present cursors) → Remembers h2 xids2 env2 (with_kept table s (kept.ended ms))
+  ended_remembered table ms few is are = table_last h h2 xids xids2 env env2 s moves table (kept.ended ms) low few is (record {
+    id = id_none h2 env2 s none;
+    count = sym (ap (λ (z : Session). length z.own) session);
+    cursors = subst (λ (z : Session). AreCursors h2 xids2 env2 s (map passed ms) z.cursors) (sym session) are;
+  })
+
+-- the owners of a book in which one left, or committed
+fewer_left : (i j : ℕ) (b : Book) (o : Owner) → slot_owner (left i b) j ≡ Some o → slot_owner b j ≡ Some o
+fewer_left i j b o is = ⊎_elim (λ gone. let clash : None ≡ Some o = gone in absurd cc) (λ had. had) (owner_set b.slots i j (record (book_slot b i) { owner = None }) o is)
+
+fewer_finished : (n i j : ℕ) (b : Book) (o : Owner) → slot_owner (finished n i b) j ≡ Some o → slot_owner b j ≡ Some o
+fewer_finished n i j b o is = ⊎_elim (λ gone. let clash : None ≡ Some o = gone in absurd cc) (λ had. had) (owner_set b.slots i j (record { newest = n; owner = None }) o is)
+
+-- The other sessions' slots, where slot i of segment g, which was the session's, loses its owner.
+module _ (h h2 : State) (s g i : ℕ) (b : Book) (books : h2.books ≡ set h.books g b) (slot : Owned h s g i) (else_same : (j : ℕ) → j ≢ i → slot_owner b j ≡ slot_owner (book_at h.books g) j) (fewer : (j : ℕ) (o : Owner) → slot_owner b j ≡ Some o → slot_owner (book_at h.books g) j ≡ Some o) where
+  others_own : (u t : ℕ) → u ≢ s → Owns h u t → Owns h2 u t
+  others_own u t ne o = record {
+    owner = o.owner;
+    at = owner_else h h2 g i b books else_same t (λ at.
+        let both : Some slot.0 ≡ Some o.owner = sym slot.1 ∙ (ap (owner_at h) (sym (place_of g i t at)) ∙ o.at) in
+        let same : slot.0 ≡ o.owner = cc in
+        ne (sym o.session ∙ (ap (λ (z : Owner). z.session) (sym same) ∙ slot.2))) ∙ o.at;
+    session = o.session;
+  }
+
+  others_owned : (u t : ℕ) → Owns h2 u t → Owns h u t
+  others_owned u t o = record { owner = o.owner; at = owner_had h h2 g b books fewer t o.owner o.at; session = o.session }
+
+-- a commit
+module _ (h : State) (xids : List Xid) (blocks now : List (List ℕ)) (table : List KeptSession) (s : ℕ) (x : Xid) (stand : BlocksStand h xids blocks) (is : Remembers h xids (env_of h.shape blocks) table) (low : 1 ≤ s) (high : s ≤ SESSIONS) (own : (kept_at table s).own ≡ Some x) (ids : KeepsIds h (env_of h.shape blocks) (env_of h.shape now)) where
+  abbrev h2 : State
+  h2 = next.committed h s x.seg x.slot
+
+  abbrev env : Env
+  env = env_of h.shape blocks
+
+  abbrev env2 : Env
+  env2 = env_of h.shape now
+
+  abbrev of_session : IsSession h xids env s (kept_at table s)
+  of_session = is.each s low high
+
+  abbrev its : OwnedBy h blocks s x
+  its = owned_by h xids blocks s x stand (subst (λ (z : Option Xid). IsOwnId h env s z) own of_session.id)
+
+  abbrev b : Book
+  b = book_at h.books x.seg
+
+  abbrev n : ℕ
+  n = last_scn h.commits + 1
+
+  abbrev keeps : Keeps h h2 xids (xids ++ x ∷ [])
+  keeps = record {
+    shape = refl;
+    base = refl;
+    rows = refl;
+    more = session_own h s ∷ [];
+    list = refl;
+    ids = λ i lt. lists.get_or-append xids (x ∷ []) no_xid i (let c = stand.tell.counted in omega (arith, c, lt));
+  }
+
+  cursor_now : (m : KeptCursor) (c : machine.Cursor) → IsCursor h xids env s m c → IsCursor h2 (xids ++ x ∷ []) env2 s (passed m) (not_present c)
+  cursor_now m c is = cursor_told h h2 xids (xids ++ x ∷ []) env env2 s keeps m c false false refl is
+      (frozen_commits h h2 xids (xids ++ x ∷ []) env env2 s keeps m c x refl last_xid (λ t owns. let both : Some x ≡ Some (env.xid t) = sym own ∙ of_session.id.owns t owns in cc) is)
+    where
+      last_xid : get_or (xids ++ x ∷ []) (length h.commits.list) no_xid ≡ x
+      last_xid = ap (λ i. get_or (xids ++ x ∷ []) i no_xid) (sym stand.tell.counted) ∙ seq.get_or-append_seam xids x [] no_xid
+
+  pub committed_remembered : Remembers h2 (xids ++ x ∷ []) env2 (with_kept table s (kept.committed (kept_at table s)))
+  committed_remembered =
+      ended_remembered h h2 xids (xids ++ x ∷ []) env env2 s (cursors_of h s) low (let c = is.as_many in omega (arith, c, high)) refl keeps
+      (freed h h2 xids blocks s x.seg x.slot (finished n x.slot b) stand its.few its.there its.owned refl (finished_here n x.slot b (few_slots stand x.seg its.there x.slot its.few)) (finished_else n x.slot b))
+      (others_own h h2 s x.seg x.slot (finished n x.slot b) refl its.owned (finished_else n x.slot b) (λ j. fewer_finished n x.slot j b))
+      (λ u t ne. others_owned h h2 s x.seg x.slot (finished n x.slot b) refl its.owned (finished_else n x.slot b) (λ j. fewer_finished n x.slot j b) u t) ids
+      table (kept_at table s).cursors high is
+      (cursors_passed h h2 xids (xids ++ x ∷ []) env env2 s cursor_now (kept_at table s).cursors (cursors_of h s) of_session.cursors)
+
+-- the end of a transaction without a number
+module _ (h h2 : State) (xids : List Xid) (env env2 : Env) (table : List KeptSession) (s : ℕ) (cursors : List machine.Cursor) (is : Remembers h xids env table) (low : 1 ≤ s) (high : s ≤ SESSIONS) (ids : KeepsIds h env env2) (none : HasNoSlot h2 s) where
+  many : s ≤ length h.sessions
+  many = let c = is.as_many in omega (arith, c, high)
+
+  kept_by : h2.shape ≡ h.shape → h2.commits ≡ h.commits → Keeps h h2 xids xids
+  kept_by shape commits = record {
+    shape = shape;
+    base = ap (λ (z : Commits). z.base) commits;
+    rows = ap (λ (z : Commits). z.rows) commits;
+    more = [];
+    list = ap (λ (z : Commits). z.list) commits ∙ sym (append-nil h.commits.list);
+    ids = λ i lt. refl;
+  }
+
+  pub ends_remembered : EndsAs h s cursors h2 → (ms : List KeptCursor) → ((keeps : Keeps h h2 xids xids) → AreCursors h2 xids env2 s (map passed ms) (map not_present cursors)) → Remembers h2 xids env2 (with_kept table s (kept.ended ms))
+  ends_remembered (inl f) ms are =
+      let g : ℕ = f.0 in
+      let i : ℕ = f.1 in
+      let b : Book = book_at h.books g in
+      let books : h2.books ≡ set h.books g (left i b) = ap (λ (z : State). z.books) f.3 in
+      let keeps : Keeps h h2 xids xids = kept_by (ap (λ (z : State). z.shape) f.3) (ap (λ (z : State). z.commits) f.3) in
+      ended_remembered h h2 xids xids env env2 s cursors low many (ap (λ (z : State). z.sessions) f.3) keeps none
+      (others_own h h2 s g i (left i b) books f.2 (left_else i b) (λ j. fewer_left i j b))
+      (λ u t ne. others_owned h h2 s g i (left i b) books f.2 (left_else i b) (λ j. fewer_left i j b) u t) ids
+      table ms high is (are keeps)
+  ends_remembered (inr f) ms are =
+      let books : h2.books ≡ h.books = ap (λ (z : State). z.books) f.1 in
+      let keeps : Keeps h h2 xids xids = kept_by (ap (λ (z : State). z.shape) f.1) (ap (λ (z : State). z.commits) f.1) in
+      ended_remembered h h2 xids xids env env2 s cursors low many (ap (λ (z : State). z.sessions) f.1) keeps none
+      (λ u t ne o. record { owner = o.owner; at = same_owners h h2 t books ∙ o.at; session = o.session })
+      (λ u t ne o. record { owner = o.owner; at = sym (same_owners h h2 t books) ∙ o.at; session = o.session }) ids
+      table ms high is (are keeps)
+
+-- it leaves the session no slot, where that is the one of its id
+pub none_left : (h : State) (xids : List Xid) (blocks : List (List ℕ)) (s : ℕ) (x : Xid) (cursors : List machine.Cursor) → BlocksStand h xids blocks → IsOwnId h (env_of h.shape blocks) s (Some x) → HasNoSlot (without_owner x.seg x.slot (next.ended h s cursors)) s
+none_left h xids blocks s x cursors stand id =
+    let its : OwnedBy h blocks s x = owned_by h xids blocks s x stand id in
+    let b : Book = book_at h.books x.seg in
+    freed h (without_owner x.seg x.slot (next.ended h s cursors)) xids blocks s x.seg x.slot (left x.slot b) stand its.few its.there its.owned refl (left_here x.slot b (few_slots stand x.seg its.there x.slot its.few)) (left_else x.slot b)
+
+-- of one without changes, whose cursors stay open
+pub end_remembered : (h h2 : State) (xids : List Xid) (env env2 : Env) (table : List KeptSession) (s : ℕ) → Remembers h xids env table → 1 ≤ s → s ≤ SESSIONS → session_own h s ≡ [] → EndsAs h s (cursors_of h s) h2 → HasNoSlot h2 s → KeepsIds h env env2
+    → Remembers h2 xids env2 (with_kept table s (kept.committed (kept_at table s)))
+end_remembered h h2 xids env env2 table s is low high empty ends none ids =
+    let are = (is.each s low high).cursors in
+    ends_remembered h h2 xids env env2 table s (cursors_of h s) is low high ids none ends (kept_at table s).cursors
+    (λ keeps. cursors_passed h h2 xids xids env env2 s (λ m c of. one_passed h h2 xids xids env env2 s keeps m c (λ present seen. sees_none m c seen of) of) (kept_at table s).cursors (cursors_of h s) are)
+  where
+    take_nothing : (n : ℕ) → take {A = Change} n [] ≡ []
+    take_nothing zero = refl
+    take_nothing (suc n) = refl
+
+    sees_none : (m : KeptCursor) (c : machine.Cursor) → c.own ≡ take m.cursor.upto (session_own h s) → IsCursor h xids env s m c → m.cursor.upto ≡ 0
+    sees_none m c seen of = of.upto ∙ ap (λ (l : List Change). length l) (seen ∙ ap (take m.cursor.upto) empty ∙ take_nothing m.cursor.upto)
+
+-- a rollback
+pub back_remembered : (h h2 : State) (xids : List Xid) (env env2 : Env) (table : List KeptSession) (s : ℕ) → Remembers h xids env table → 1 ≤ s → s ≤ SESSIONS → EndsAs h s (left_open 0 (cursors_of h s)) h2 → HasNoSlot h2 s → KeepsIds h env env2
+    → Remembers h2 xids env2 (with_kept table s (kept.rolled_back (kept_at table s)))
+back_remembered h h2 xids env env2 table s is low high ends none ids =
+    ends_remembered h h2 xids env env2 table s (left_open 0 (cursors_of h s)) is low high ids none ends (kept.left_open 0 (kept_at table s).cursors)
+    (λ keeps. cursors_left h h2 xids xids env env2 s keeps (kept_at table s).cursors (cursors_of h s) (is.each s low high).cursors)

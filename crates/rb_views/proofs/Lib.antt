@@ -1,0 +1,15 @@
+pub mod Cursors
+pub mod Ended
+pub mod Fetching
+pub mod Few
+pub mod Freezing
+pub mod Honest
+pub mod Lasting
+pub mod Lost
+pub mod Opened
+pub mod Owning
+pub mod Scanning
+pub mod Seeing
+pub mod Tables
+pub mod Taken
+pub mod Written
