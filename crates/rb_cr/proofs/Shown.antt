@@ -7,7 +7,7 @@ use Rattle.std.proofs.lemmas.List.FromFn.{get_or-map-range_with_len, length-map-
 use Rattle.rb_cell.specs.Cells.{cell_at}
 use Rattle.rb_cell.specs.declared.cell.Cell.{Cell}
 use Rattle.rb_cell.specs.declared.cell.TheConstants.{ROW, EMPTY}
-use Rattle.rb_cr.specs.Rows.{IsNext, IsWanted, block_rows}
+use Rattle.rb_cr.specs.Rows.{IsNext, block_rows}
 use Rattle.rb_heap.specs.Homes.{empty_cell, home_of}
 use Rattle.rb_rebuild.specs.Reading.{or_else, rows_in}
 use Rattle.rb_model.specs.declared.row.Row.{Row}

@@ -30,7 +30,8 @@ use std::sync::ledger::{Blank, Ledger};
 /// Whether no entry of a home is above a snapshot. Its rows are then those at the snapshot as they stand.
 fn is_quiet<S: Segments>(segments: &mut S, scratch: &Scratch, scn: Scn) -> Result<bool, Failed>
     requires { S.ready segments.old }
-    ensures told { S.tells → IfOk result (λ quiet. quiet ≡ true → (j : ℕ) → AtMost (S.says segments.old).env scn scn
+    ensures told { S.tells → IfOk result (λ quiet. quiet ≡ true → (j : ℕ)
+        → AtMost (S.says segments.old).env scn scn
         (entry_at (scratch_home (S.says segments.old).shape scratch.now) j)) }
     ensures reads { Reads S.Segments segments.old segments.new (not (is_err result)) }
 {

@@ -174,11 +174,15 @@ module _ {S : Type 0} (s : Ghosts S) where
         let goes = st.goes going in
         does_by h h2 call answer old new 0 st reply after (λ _. retains)
         (knows_on h h2 old.memory new.memory st.knows (after_sessions h h2 call answer after) refl refl stopped scn) same
-        (λ _. (grows, logs.number refl, record {
-          xids = goes.xids;
-          holds = holds_cursors h who goes.xids new.store cursors there (holds_logged h goes.xids old.store new.store goes.holds logs);
-          remembers = remembers_logged h2 goes.xids new.memory.sessions old.store new.store logs (remembers goes.xids goes.holds.blocks goes.remembers);
-        }))
+        (λ _. (
+          grows,
+          logs.number refl,
+          record {
+            xids = goes.xids;
+            holds = holds_cursors h who goes.xids new.store cursors there (holds_logged h goes.xids old.store new.store goes.holds logs);
+            remembers = remembers_logged h2 goes.xids new.memory.sessions old.store new.store logs (remembers goes.xids goes.holds.blocks goes.remembers);
+          },
+        ))
         (λ before _ keeps. survives_same h h2 goes.xids old.store new.store true st.shape refl refl refl goes.holds logs keeps)
 
 -- a result that isn't a fault of the disk

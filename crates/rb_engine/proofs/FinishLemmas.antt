@@ -122,12 +122,16 @@ module _ {S : Type 0} (s : Ghosts S) (told : s.tells) (laws : Laws s) (h : State
         (Reply.later [] (no_early h who there st.knows.sixteen going) refl (rw (full, next) refl))
         (inl (full, (x.seg, x.slot, own_by.owned, refl))) (λ _ s t k a is done. cc)
         (record { sixteen = length-set h.sessions _ _ ∙ st.knows.sixteen; stopped = stopped ∙ st.knows.stopped; scn = scn ∙ (next ∙ sym more) }) same
-        (λ _. (inl (full, refl), done.2, record {
-          xids = goes.xids ++ x ∷ [];
-          holds = done.0;
-          remembers = subst (Remembers now (goes.xids ++ x ∷ []) (env_of h.shape (s.blocks new.store))) (sym table_is)
-              (committed_remembered h goes.xids (s.blocks old.store) (s.blocks new.store) old.memory.sessions who x goes.holds.blocks goes.remembers there.0 there.1 own done.1);
-        }))
+        (λ _. (
+          inl (full, refl),
+          done.2,
+          record {
+            xids = goes.xids ++ x ∷ [];
+            holds = done.0;
+            remembers = subst (Remembers now (goes.xids ++ x ∷ []) (env_of h.shape (s.blocks new.store))) (sym table_is)
+                (committed_remembered h goes.xids (s.blocks old.store) (s.blocks new.store) old.memory.sessions who x goes.holds.blocks goes.remembers there.0 there.1 own done.1);
+          },
+        ))
         (λ before _ keeps. done.3 before keeps)
 
   pub does_not : (new : EngineView S) → SameStore s old.store new.store → (call : Call) → none_applies (early_tests h call) ≡ true → Fails s (Some call) h old.store new.store → new.memory ≡ record old.memory { stopped = true } → Does s h call (Refused DiskFault) old new
@@ -155,9 +159,13 @@ does_ended s laws h call who cursors old new st going there runs retains own emp
     does_by s h now call Done old new 0 st (reply free bare) (after free bare) (λ _. retains now)
     (knows_on h now old.memory new.memory st.knows (length-set h.sessions _ _) refl refl stopped scn)
     (record { shape = ap s.shape_of store; slots = ap s.slots store })
-    (λ _. (grows free bare, omega (arith, ap s.lsn store), record {
-      xids = goes.xids;
-      holds = subst (Holds s now goes.xids) (sym store) kept;
-      remembers = subst (λ (y : _). Remembers now goes.xids (env_of h.shape (s.blocks y)) new.memory.sessions) (sym store) (knows free own_is goes.xids goes.holds.blocks goes.remembers);
-    }))
+    (λ _. (
+      grows free bare,
+      omega (arith, ap s.lsn store),
+      record {
+        xids = goes.xids;
+        holds = subst (Holds s now goes.xids) (sym store) kept;
+        remembers = subst (λ (y : _). Remembers now goes.xids (env_of h.shape (s.blocks y)) new.memory.sessions) (sym store) (knows free own_is goes.xids goes.holds.blocks goes.remembers);
+      },
+    ))
     (λ before _ keeps. subst (λ (y : _). Survives s (s.slots old.store) before h now old.store y) (sym store) (survives_same s st.told laws h now goes.xids old.store old.store true st.shape refl refl refl goes.holds logs keeps))

@@ -303,10 +303,14 @@ module _ {S : Type 0} (s : Ghosts S) (told : s.tells) (laws : Laws s) (h : State
         let all = done cursors in
         does_by s h now (Rollback who) Done old new (length (session_own h who) + 1) st (Reply.later [] (no_early h who there st.knows.sixteen going) refl refl) after (λ _ s t k a is done. cc)
         (knows_on h now old.memory new.memory st.knows (length-set h.sessions _ _) refl refl stopped scn) same
-        (λ _. (inl (x.seg, x.slot, id.owned, refl), all.2, record {
-          xids = held.xids;
-          holds = all.0;
-          remembers = subst (Remembers now held.xids (env_of h.shape (s.blocks new.store))) (sym table_is)
-              (back_remembered h now held.xids (env_of h.shape (s.blocks old.store)) (env_of h.shape (s.blocks new.store)) old.memory.sessions who held.remembers there.0 there.1 after (none_left h held.xids (s.blocks old.store) who x cursors held.holds.blocks (own_id s told laws h old who x st going there own_is)) all.1);
-        }))
+        (λ _. (
+          inl (x.seg, x.slot, id.owned, refl),
+          all.2,
+          record {
+            xids = held.xids;
+            holds = all.0;
+            remembers = subst (Remembers now held.xids (env_of h.shape (s.blocks new.store))) (sym table_is)
+                (back_remembered h now held.xids (env_of h.shape (s.blocks old.store)) (env_of h.shape (s.blocks new.store)) old.memory.sessions who held.remembers there.0 there.1 after (none_left h held.xids (s.blocks old.store) who x cursors held.holds.blocks (own_id s told laws h old who x st going there own_is)) all.1);
+          },
+        ))
         (λ before _ keeps. all.3 before keeps)

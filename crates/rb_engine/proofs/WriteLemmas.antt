@@ -97,11 +97,15 @@ module _ {S : Type 0} (s : Ghosts S) (told : s.tells) (laws : Laws s) (h : State
         does_by s h after (Write who table key action) Done old new 1 st
         (answered x.seg x.slot made.in_slot Done granted) (x.seg, x.slot, made.in_slot, refl) (λ _. kept_undo Room x made)
         (knows_on h after old.memory new.memory st.knows (length-set h.sessions _ _) refl refl stopped scn) same
-        (λ _. (refl, (let n = one.logs.number refl in omega (arith, n, single)), record {
-          xids = goes.xids;
-          holds = (all None).0;
-          remembers = subst (Remembers after goes.xids (env_of h.shape (s.blocks new.store))) (sym table_is) knows;
-        }))
+        (λ _. (
+          refl,
+          (let n = one.logs.number refl in omega (arith, n, single)),
+          record {
+            xids = goes.xids;
+            holds = (all None).0;
+            remembers = subst (Remembers after goes.xids (env_of h.shape (s.blocks new.store))) (sym table_is) knows;
+          },
+        ))
         (λ before _ keeps. (all before).1 keeps)
 
     -- a call of the store failed

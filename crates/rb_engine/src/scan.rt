@@ -1,7 +1,7 @@
 //! A cursor's next row, by the homes of its table in scan order, each rebuilt as it was at the cursor's snapshot. `fetch`
 //! calls it.
 ghost use Rattle.std.specs.Prelude.{◌≡◌, ◌<◌, ◌≤◌, ◌%◌, ◌*◌, ℕ, List, [], true, false, not, None, Some};
-ghost use Rattle.std.specs.Prelude.{IfOk, IfErr};
+ghost use Rattle.std.specs.Prelude.{IfOk, IfErr, if◌then◌else◌, ◌==◌};
 ghost use Rattle.rb_base.specs.Blocks.{IsShape};
 ghost use Rattle.rb_base.specs.Logs.{Logs};
 ghost use Rattle.rb_base.specs.declared.ids.Xid.{Xid};
@@ -50,7 +50,11 @@ fn is_asked(cursor: &Cursor, blocks: u32, g: u32) -> bool
     let low = cursor.lo % blocks;
     let home = u64::from(g);
     // How far behind the least key the home's first one is.
-    let ahead = if low <= home { home - low } else { home + blocks - low };
+    let ahead = if low <= home {
+        home - low
+    } else {
+        home + blocks - low
+    };
     ahead <= cursor.hi - cursor.lo
 }
 

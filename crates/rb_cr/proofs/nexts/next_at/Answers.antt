@@ -1,8 +1,7 @@
 use Rattle.std.proofs.Common.{◌≡◌, ◌∙◌, [], ℕ, List, Ok, Err, not, refl, sym, ap, true, false}
 use Rattle.rb_base.specs.Blocks.{block_of}
 use Rattle.rb_base.specs.Logs.{load_logs, more_logs}
-use Rattle.rb_base.specs.declared.shape.Shape.{Shape}
-use Rattle.rb_cr.specs.Builds.{IsHomeOld, IsHomeRead}
+use Rattle.rb_cr.specs.Builds.{IsHomeRead}
 use Rattle.rb_cr.specs.Clauses.{answer_to}
 use Rattle.rb_cr.specs.Faults.{is_failed}
 use Rattle.rb_cr.specs.Rows.{block_rows}

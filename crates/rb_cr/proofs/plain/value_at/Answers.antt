@@ -1,5 +1,4 @@
-use Rattle.std.proofs.Common.{◌≡◌, ◌∙◌, inl, inr, ℕ, Some, refl, sym, ap}
-use Rattle.rb_cell.specs.Cells.{cell_at}
+use Rattle.std.proofs.Common.{◌≡◌, ◌∙◌, inl, inr, Some, refl, sym, ap}
 use Rattle.rb_cell.specs.declared.cell.Cell.{Cell}
 use Rattle.rb_cell.specs.declared.cell.TheConstants.{ROW}
 use Rattle.rb_cr.proofs.Shown.{from_end, from_here, from_later}
