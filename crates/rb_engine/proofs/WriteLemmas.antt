@@ -1,6 +1,5 @@
 -- What a write of a session does with the state, from the group of its step.
-use Rattle.std.proofs.Common.{◌≡◌, ◌≢◌, ◌⊎◌, inl, inr, ◌<◌, ◌≤◌, ◌+◌, ◌*◌, ◌/◌, ◌%◌, ◌==◌, ◌&&◌, ℕ, Bool, true, false, not, nat_le, List, [], ◌∷◌, ◌++◌, length, Option, Some, None, Result, Ok, Err, refl, sym, ◌∙◌, ap, subst, arith}
-use Rattle.std.proofs.Math.Nat.{div-add-mod}
+use Rattle.std.proofs.Common.{◌≡◌, ◌≢◌, ◌≤◌, ◌+◌, ◌&&◌, ℕ, Bool, true, false, not, nat_le, List, [], ◌∷◌, ◌++◌, length, Option, Some, None, Err, refl, sym, ◌∙◌, ap, subst, arith}
 use Rattle.std.proofs.lemmas.List.{length-set}
 use Rattle.std.proofs.lemmas.Bool.Decides.{nat_tests}
 use Rattle.rb_attempt.specs.Refusals.{has_failed}
@@ -20,20 +19,18 @@ use Rattle.rb_image.proofs.Crashes.{survives_on}
 use Rattle.rb_image.proofs.Owners.{OwnedBy, owned_by}
 use Rattle.rb_image.proofs.StepsHeld.{holds_written, write_fault}
 use Rattle.rb_image.specs.Crash.{Survives}
-use Rattle.rb_image.specs.Holds.{Holds}
 use Rattle.rb_image.specs.Made.{GivesOne, WriteMade}
 use Rattle.rb_model.specs.Calls.{Action, Answer, Call, Done, Refused, Reply, Waits, Write, early_tests, failed_in, first_of, is_disk_fault, none_applies, waited, write_tests, WritesIn}
 use Rattle.rb_model.specs.NextState.{change_in, written}
-use Rattle.rb_model.specs.Book.{Owner}
-use Rattle.rb_model.specs.State.{State, owner_at}
+use Rattle.rb_model.specs.State.{State}
 use Rattle.rb_model.specs.Tests.{holder}
 use Rattle.rb_model.specs.declared.refusal.Refusal.{Refusal}
 use Rattle.rb_model.specs.declared.refusal.Refusal.TheVariants.{DiskFault}
 use Rattle.rb_model.proofs.Stops.{the_fault}
 use Rattle.rb_sessions.specs.Kept.{KeptSession, kept_at, with_kept, wrote}
 use Rattle.rb_standing.specs.Standing.{env_of}
-use Rattle.rb_standing.specs.States.{BlocksStand, Owns}
-use Rattle.rb_undoengine.specs.Steps.{IsAbout, IsHolder, NotOthers, refusal_of}
+use Rattle.rb_standing.specs.States.{BlocksStand}
+use Rattle.rb_undoengine.specs.Steps.{IsAbout, IsHolder, refusal_of}
 use Rattle.rb_verdict.specs.Verdict.{IsOwnId}
 use Rattle.rb_views.specs.Views.{Remembers}
 use Rattle.rb_views.proofs.Written.{written_remembered}
@@ -134,36 +131,13 @@ module _ {S : Type 0} (s : Ghosts S) (told : s.tells) (laws : Laws s) (h : State
         waits_first : (u : ℕ) → u ≢ who → (o : Option ℕ) → o ≡ Some u → (rest : List (Bool × Answer)) → first_of (waited who o ++ rest) Done ≡ Waits u
         waits_first u ne o is rest = subst (λ (p : Option ℕ). first_of (waited who p ++ rest) Done ≡ Waits u) (sym is) (rw (differ u ne) refl)
 
--- Who holds the key, by the table.
+-- Some session in the table has the id of the transaction that holds a key.
 module _ (h : State) (xids : List Xid) (blocks : List (List ℕ)) (sessions : List KeptSession) (knows : Remembers h xids (env_of h.shape blocks) sessions) (table key : ℕ) (x : Xid) (held : IsHolder h (env_of h.shape blocks) table key (Some x)) where
-  -- The session that has the id in the table is the machine's.
-  pub holder_is : (u : ℕ) → (1 ≤ u) × (u ≤ 16) → (kept_at sessions u).own ≡ Some x → holder h table key ≡ Some u
-  holder_is u there own =
-      let mine : (t : ℕ) × Owns h u t × (x ≡ (env_of h.shape blocks).xid t) = (knows.each u there.0 there.1).id.owned x own in
-      let seg : x.seg ≡ held.1 / 16 = ap (λ (y : Xid). y.seg) held.4 in
-      let slot : x.slot ≡ held.1 % 16 = ap (λ (y : Xid). y.slot) held.4 in
-      let seg2 : x.seg ≡ mine.0 / 16 = ap (λ (y : Xid). y.seg) mine.2 in
-      let slot2 : x.slot ≡ mine.0 % 16 = ap (λ (y : Xid). y.slot) mine.2 in
-      let a = div-add-mod held.1 16 in
-      let b = div-add-mod mine.0 16 in
-      let at : held.1 ≡ mine.0 = omega (arith, seg, slot, seg2, slot2, a, b) in
-      let owner : Some held.3.owner ≡ Some mine.1.owner = sym held.3.at ∙ (ap (owner_at h) at ∙ mine.1.at) in
-      let one : held.3.owner ≡ mine.1.owner = cc in
-      held.2 ∙ ap (λ (n : ℕ). Some n) (sym held.3.session ∙ (ap (λ (o : Owner). o.session) one ∙ mine.1.session))
-
-  -- Some session has it.
   pub holder_there : BlocksStand h xids blocks → length h.sessions ≡ 16 → ((u : ℕ) → 1 ≤ u → u ≤ 16 → (kept_at sessions u).own ≢ Some x) → ⊥
   holder_there stand sixteen none =
       let range = stand.tell.owner_there held.0 held.1 held.3 in
       let up : held.0 ≤ 16 = omega (arith, range.1, sixteen) in
       none held.0 range.0 up ((knows.each held.0 range.0 up).id.owns held.1 held.3 ∙ ap (λ (y : Xid). Some y) (sym held.4))
-
--- whom nobody, or oneself, holds a key against
-pub none_holds : (h : State) (who table key : ℕ) → holder h table key ≡ None → NotOthers h who table key
-none_holds h who table key none u is = (let clash : None ≡ Some u = sym none ∙ is in absurd cc)
-
-pub self_holds : (h : State) (who table key : ℕ) → holder h table key ≡ Some who → NotOthers h who table key
-self_holds h who table key mine u is = let same : Some u ≡ Some who = sym is ∙ mine in cc
 
 -- Calls that gave no group, and what a call does after them.
 module _ {S : Type 0} (s : Ghosts S) (told : s.tells) (laws : Laws s) (h : State) (old mid : EngineView S) (st : Stands s h old) (memory : mid.memory ≡ old.memory) (logs : Logs s old.store mid.store [] true) where

@@ -1,6 +1,5 @@
-use Rattle.std.proofs.Common.{◌≡◌, ◌∙◌}
+use Rattle.std.proofs.Common.{◌∙◌}
 use Rattle.rb_base.specs.Logs.{Laws}
-use Rattle.rb_engine.specs.Does.{EngineView}
 use Rattle.rb_model.specs.Answers.{action_of}
 use Rattle.rb_model.specs.Calls as machine
 use Rattle.rb_engine.proofs.DoesLemmas.{does_refused}

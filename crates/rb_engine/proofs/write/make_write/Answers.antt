@@ -1,12 +1,11 @@
-use Rattle.std.proofs.Common.{◌≡◌, ◌<◌, ◌≤◌, ◌^◌, ◌*◌, ◌+◌, ⊎_elim, ℕ, Bool, true, false, not, List, [], length, Option, Some, None, refl, sym, ◌∙◌, ap, subst, arith}
+use Rattle.std.proofs.Common.{◌≡◌, ⊎_elim, true, false, List, Option, refl, sym, ◌∙◌, ap, subst, arith}
 use Rattle.std.proofs.lemmas.Bool.{cases_Bool, false≢true}
-use Rattle.rb_base.specs.Logs.{Laws, Logs}
+use Rattle.rb_base.specs.Logs.{Laws}
 use Rattle.rb_base.specs.declared.ids.Xid.{Xid}
-use Rattle.rb_engine.specs.Does.{Does, EngineView, Goes, IsInStep, Kept, SameStore, Stands}
+use Rattle.rb_engine.specs.Does.{Does, EngineView, Goes, Kept, SameStore}
 use Rattle.rb_model.specs.Answers.{action_of}
 use Rattle.rb_model.specs.Calls as machine
 use Rattle.rb_model.specs.Calls.{is_disk_fault}
-use Rattle.rb_model.specs.State.{State}
 use Rattle.rb_model.specs.declared.refusal.Refusal.{Refusal}
 use Rattle.rb_sessions.specs.Kept.{KeptSession, kept_at, with_kept, wrote}
 use Rattle.rb_undoengine.specs.Steps.{IsAbout, refusal_of}

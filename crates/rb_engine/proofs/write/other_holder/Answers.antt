@@ -1,10 +1,10 @@
-use Rattle.std.proofs.Common.{◌≡◌, ℕ, List, Option, Some, sym, ap, subst}
+use Rattle.std.proofs.Common.{◌≡◌, List, Option, Some, sym, ap, subst}
 use Rattle.rb_base.specs.declared.ids.Xid.{Xid}
 use Rattle.rb_engine.specs.Does.{Kept}
 use Rattle.rb_sessions.specs.Kept.{KeptSession, kept_at}
 use Rattle.rb_standing.specs.Standing.{env_of}
 use Rattle.rb_undoengine.specs.Steps.{IsHolder}
-use Rattle.rb_engine.proofs.WriteLemmas.{holder_is, holder_there, none_holds, self_holds}
+use Rattle.rb_engine.proofs.WriteLemmas.{holder_there}
 use Rattle.rb_engine.proofs.write.other_holder.Goals as goal
 
 pub returns-in_default-owner-2-clause-other : goal.returns-in_default-owner-2-clause-other

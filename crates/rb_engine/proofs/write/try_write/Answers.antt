@@ -1,10 +1,9 @@
-use Rattle.std.proofs.Common.{◌≡◌, ◌≤◌, ℕ, false, true, [], Option, Some, None, refl, sym, ◌∙◌, ap, subst, arith}
+use Rattle.std.proofs.Common.{◌≡◌, ℕ, false, true, [], Option, Some, None, refl, sym, ◌∙◌, subst, arith}
 use Rattle.rb_base.specs.Logs.{Laws, Logs}
-use Rattle.rb_engine.specs.Does.{EngineView, Goes, SameStore}
+use Rattle.rb_engine.specs.Does.{EngineView, Goes}
 use Rattle.rb_engine.specs.Scanning.{OtherHolds}
 use Rattle.rb_model.specs.Answers.{action_of, write_answer}
 use Rattle.rb_model.specs.Calls as machine
-use Rattle.rb_model.specs.State.{State}
 use Rattle.rb_sessions.specs.Kept.{kept_at}
 use Rattle.rb_undoengine.proofs.Somewhere.{somewhere}
 use Rattle.rb_engine.proofs.DoesLemmas.{does_fault, fault_survives}
