@@ -1,10 +1,12 @@
 -- What a search for a cursor's next row finds, from what the rebuilds of homes show.
-use Rattle.std.proofs.Common.{◌≡◌, inl, inr, ◌<◌, ◌≤◌, ◌+◌, ◌%◌, ◌==◌, ◌&&◌, ◌||◌, nat_lt, if◌then◌else◌, ℕ, Bool, true, false, List, Option, Some, None, Result, Ok, Err, IfOk, IfErr, refl, sym, ◌∙◌, subst, arith}
+use Rattle.std.proofs.Common.{◌≡◌, inl, inr, ◌<◌, ◌≤◌, ◌+◌, ◌%◌, ◌==◌, ◌&&◌, ◌||◌, nat_lt, if◌then◌else◌, ℕ, Bool, true, false, List, [], Option, Some, None, Result, Ok, Err, IfOk, IfErr, refl, sym, ◌∙◌, subst, arith}
 use Rattle.std.proofs.lemmas.Bool.{cases_Bool, cond_both}
 use Rattle.std.proofs.lemmas.Bool.Decides.{nat_tests}
 use Rattle.std.proofs.lemmas.Result.{IfErr-weaker}
+use Rattle.rb_base.specs.Logs.{Logs}
 use Rattle.rb_base.specs.declared.ids.Xid.{Xid}
 use Rattle.rb_base.specs.declared.shape.Shape.{Shape}
+use Rattle.rb_base.specs.declared.store.Store.{Ghosts}
 use Rattle.rb_cr.specs.Builds.{IsHomeRead}
 use Rattle.rb_cr.specs.Faults.{Because}
 use Rattle.rb_cr.specs.Rows.{IsBehind as IsBehindKey, IsNext, IsWanted}
@@ -106,6 +108,10 @@ is_behind h blocks m shape same why result because =
     IfErr-weaker result (Because (env_of shape blocks) m.scn why) (IsBehind h blocks m)
     (λ fault is. behind_by h blocks m why fault (subst (λ (k : Shape). Because (env_of k blocks) m.scn why fault) same is)) because
 
--- a reader stays one over loads
-pub reader_on : (h : State) (xids : List Xid) (blocks now : List (List ℕ)) (m : Cursor) → now ≡ blocks → IsReader h xids blocks m → IsReader h xids now m
-reader_on h xids blocks now m same reader = subst (λ (b : List (List ℕ)). IsReader h xids b m) (sym same) reader
+-- Loads leave the blocks, so a reader stays one.
+module _ {S : Type 0} (s : Ghosts S) (old new : S) (logs : Logs s old new [] true) (told : s.tells) where
+  pub same_blocks : s.blocks new ≡ s.blocks old
+  same_blocks = logs.blocks told refl
+
+  pub reader_on : (h : State) (xids : List Xid) (m : Cursor) → IsReader h xids (s.blocks old) m → IsReader h xids (s.blocks new) m
+  reader_on h xids m reader = subst (λ (b : List (List ℕ)). IsReader h xids b m) (sym same_blocks) reader
