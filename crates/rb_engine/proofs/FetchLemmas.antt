@@ -1,9 +1,9 @@
--- What a search for a cursor's next row finds, from what the rebuilds of homes show.
-use Rattle.std.proofs.Common.{◌≡◌, inl, inr, ◌<◌, ◌≤◌, ◌+◌, ◌%◌, ◌==◌, ◌&&◌, ◌||◌, nat_lt, if◌then◌else◌, ℕ, Bool, true, false, List, [], Option, Some, None, Result, Ok, Err, IfOk, IfErr, refl, sym, ◌∙◌, subst, arith}
+-- What a search for a cursor's next row finds, from what the rebuilds of homes show, and what a fetch makes of it.
+use Rattle.std.proofs.Common.{◌≡◌, inl, inr, ◌<◌, ◌≤◌, ◌%◌, ◌==◌, ◌&&◌, ◌||◌, nat_lt, if◌then◌else◌, ℕ, Bool, true, false, List, [], Option, Some, None, Result, Ok, Err, IfOk, IfErr, refl, sym, ◌∙◌, subst, arith, is_none, ◌∷◌}
 use Rattle.std.proofs.lemmas.Bool.{cases_Bool, cond_both}
 use Rattle.std.proofs.lemmas.Bool.Decides.{nat_tests}
 use Rattle.std.proofs.lemmas.Result.{IfErr-weaker}
-use Rattle.rb_base.specs.Logs.{Logs}
+use Rattle.rb_base.specs.Logs.{Logs, Laws}
 use Rattle.rb_base.specs.declared.ids.Xid.{Xid}
 use Rattle.rb_base.specs.declared.shape.Shape.{Shape}
 use Rattle.rb_base.specs.declared.store.Store.{Ghosts}
@@ -13,18 +13,34 @@ use Rattle.rb_cr.specs.Rows.{IsBehind as IsBehindKey, IsNext, IsWanted}
 use Rattle.rb_cr.specs.declared.faults.CrFault.{CrFault}
 use Rattle.rb_cr.specs.declared.faults.CrFault.TheVariants as faults
 use Rattle.rb_cr.specs.declared.scratch.Snapshot.{Snapshot}
-use Rattle.rb_engine.specs.Scanning.{Begins, HasNext, HasNone, IsBehind, IsReader}
+use Rattle.rb_engine.specs.Scanning.{Begins, HasNext, HasNone, IsBehind, IsReader, Finds}
 use Rattle.rb_engine.proofs.SeenHomes.{seen_in_home}
 use Rattle.rb_model.specs.Next.{is_after}
-use Rattle.rb_model.specs.State.{State}
+use Rattle.rb_model.specs.State.{State, cursor_of}
 use Rattle.rb_model.specs.declared.row.Row.{Row}
 use Rattle.rb_rebuild.specs.Reading.{Reading}
 use Rattle.rb_sessions.specs.declared.cursor.Cursor.{Cursor}
 use Rattle.rb_standing.specs.Standing.{env_of, homes_of}
 use Rattle.rb_views.specs.Laws.{rows_seen}
-use Rattle.rb_views.specs.Scan.{IsAskedKey, NoneIn}
-use Rattle.rb_views.specs.Views.{history, home_in}
+use Rattle.rb_views.specs.Scan.{IsAskedKey}
+use Rattle.rb_views.specs.Views.{history, home_in, IsCursor, Remembers}
 use Rattle.rb_views.proofs.Fetching as views
+use Rattle.rb_engine.specs.Does.{Does, EngineView, Goes, SameStore, Stands}
+use Rattle.rb_engine.proofs.DoesLemmas.{does_cursors, does_loaded}
+use Rattle.rb_model.specs.Book.{book_at}
+use Rattle.rb_model.specs.Calls as machine
+use Rattle.rb_model.specs.Calls.{Answer, Refused, Reply, early_tests, none_applies, next_row}
+use Rattle.rb_model.specs.NextState.{cursors_of, with_cursors, with_taken}
+use Rattle.rb_model.specs.State as state
+use Rattle.rb_model.specs.declared.refusal.Refusal.TheVariants.{NoCursor, TooOld}
+use Rattle.rb_model.specs.declared.row.Fetched.{Fetched}
+use Rattle.rb_model.specs.declared.row.Fetched.TheVariants as fetched
+use Rattle.rb_sessions.specs.Kept.{KeptSession, kept_at, named, with_kept, with_last}
+use Rattle.rb_sessions.specs.Kept as table
+use Rattle.rb_standing.specs.States.{BlocksStand}
+use Rattle.rb_views.proofs.Cursors.{named_is}
+use Rattle.rb_views.proofs.Lost.{lost_is}
+use Rattle.rb_views.proofs.Taken.{taken}
 
 behind_of : (blocks first g : ℕ) (last : Option ℕ) → Begins blocks first g last → (k : ℕ) → k % blocks ≡ g → is_after blocks last k ≡ true → IsBehindKey (if g == first then last else None) k
 behind_of blocks first g None begins k home after = cond_both (g == first) None None (λ (o : Option ℕ). IsBehindKey o k) (λ yes. tt) (λ no. tt)
@@ -115,3 +131,85 @@ module _ {S : Type 0} (s : Ghosts S) (old new : S) (logs : Logs s old new [] tru
 
   pub reader_on : (h : State) (xids : List Xid) (m : Cursor) → IsReader h xids (s.blocks old) m → IsReader h xids (s.blocks new) m
   reader_on h xids m reader = subst (λ (b : List (List ℕ)). IsReader h xids b m) (sym same_blocks) reader
+
+-- what a fetch answers behind its early tests, by the cursor of the name
+pub answer_by : (h : State) (who : ℕ) (name : List ℕ) (o : Option state.Cursor) (r : Answer) → cursor_of h who name ≡ o → r ≡ machine.first_of ((is_none o, Refused NoCursor) ∷ []) (next_row h o)
+    → r ≡ machine.first_of (machine.cursor_tests h (machine.Fetch who name)) (machine.granted h (machine.Fetch who name))
+answer_by h who name o r is answer = subst (λ (z : Option state.Cursor). r ≡ machine.first_of ((is_none z, Refused NoCursor) ∷ []) (next_row h z)) (sym is) answer
+
+-- an engine that stands for a state, and a cursor that its table has
+module _ {S : Type 0} (s : Ghosts S) (laws : Laws s) (h : State) (old : EngineView S) (st : Stands s h old) (going : h.stopped ≡ false) (who : ℕ) (there : (1 ≤ who) × (who ≤ 16)) (name : List ℕ) (early : none_applies (early_tests h (machine.Fetch who name)) ≡ true)
+    (m : Cursor) (is_named : named name (kept_at old.memory.sessions who).cursors ≡ Some m) where
+  abbrev blocks : List (List ℕ)
+  blocks = s.blocks old.store
+
+  abbrev goes : Goes s h old
+  goes = st.goes going
+
+  -- it is one in the machine
+  cursor_for : (xids : List Xid) → Remembers h xids (env_of h.shape blocks) old.memory.sessions
+      → (c : state.Cursor) × (cursor_of h who name ≡ Some c) × IsCursor h xids (env_of h.shape blocks) who (record { name = name; cursor = m }) c
+  cursor_for xids knows = (named_is h xids (env_of h.shape blocks) who name old.memory.sessions knows there.0 there.1).1 m is_named
+
+  reader_for : (xids : List Xid) → BlocksStand h xids blocks → Remembers h xids (env_of h.shape blocks) old.memory.sessions → IsReader h xids blocks m
+  reader_for xids stand knows =
+      let one = cursor_for xids knows in
+      record { stand = stand; session = who; low = there.0; name = name; cursor = one.0; is = one.2 }
+
+  reader : IsReader h goes.xids blocks m
+  reader = reader_for goes.xids goes.holds.blocks goes.remembers
+
+  one : (c : state.Cursor) × (cursor_of h who name ≡ Some c) × IsCursor h goes.xids (env_of h.shape blocks) who (record { name = name; cursor = m }) c
+  one = cursor_for goes.xids goes.remembers
+
+  answers : (logged room : ℕ) (r : Answer) → next_row h (Some one.0) ≡ r → Reply h logged room (machine.Fetch who name) r
+  answers logged room r is = Reply.later (machine.cursor_tests h (machine.Fetch who name)) early refl (answer_by h who name (Some one.0) r one.1 (sym is))
+
+  -- what the search found, and what that makes of the call
+  module _ (new : EngineView S) (same : SameStore s old.store new.store) (logs : Logs s old.store new.store [] true) (row : Row) (result : Result Fetched CrFault)
+      (found : (xids : List Xid) → IsReader h xids blocks m → Finds h xids blocks m result row) where
+    finds : (xids : List Xid) → IsReader h xids blocks m → (r : Result Fetched CrFault) → result ≡ r → Finds h xids blocks m r row
+    finds xids by r is = subst (λ (x : Result Fetched CrFault). Finds h xids blocks m x row) is (found xids by)
+
+    pub does_row : result ≡ Ok fetched.Row → new.memory.stopped ≡ old.memory.stopped → new.memory.scn ≡ old.memory.scn
+        → new.memory.sessions ≡ with_kept old.memory.sessions who (table.with_cursors (kept_at old.memory.sessions who) (with_last name row.key (kept_at old.memory.sessions who).cursors))
+        → Does s h (machine.Fetch who name) (machine.Given row.key row.value.items) old new
+    does_row is stopped scn moved =
+        let here = finds goes.xids reader (Ok fetched.Row) is in
+        let gives = views.gives h goes.xids blocks goes.holds.blocks who (record { name = name; cursor = m }) one.0 one.2 here.0 row.key row.value.items here.2 here.3 in
+        does_cursors s st.told laws h (machine.Fetch who name) (machine.Given row.key row.value.items) who (with_taken name (cursors_of h who)) old new st going
+        (there.0, (let n = st.knows.sixteen in omega (arith, n, there)))
+        (answers _ _ (machine.Given row.key row.value.items) gives) refl refl (λ s t k a is done. cc) refl stopped scn
+        (λ xids stand knows.
+        (let f = finds xids (reader_for xids stand knows) (Ok fetched.Row) is in
+        subst (Remembers (with_cursors h who (with_taken name (cursors_of h who))) xids (env_of h.shape blocks)) (sym moved)
+        (taken h xids blocks stand who name m f.0 row.key row.value.items f.2 f.3 old.memory.sessions knows there.0 there.1 is_named)))
+        logs same
+
+    pub does_end : result ≡ Ok fetched.End → new.memory ≡ old.memory → Does s h (machine.Fetch who name) machine.End old new
+    does_end is memory =
+        does_loaded s st.told laws h (machine.Fetch who name) machine.End old new st
+        (answers _ _ machine.End (views.ends h goes.xids blocks goes.holds.blocks who (record { name = name; cursor = m }) one.0 one.2 (finds goes.xids reader (Ok fetched.End) is))) refl refl (λ s t k a is done. cc) memory (λ _. logs) same
+
+    pub does_old : (scn lost : ℕ) → result ≡ Err (faults.TooOld scn lost) → new.memory ≡ old.memory → Does s h (machine.Fetch who name) (Refused (TooOld scn lost)) old new
+    does_old scn lost is memory =
+        let behind = finds goes.xids reader (Err (faults.TooOld scn lost)) is in
+        let seg = behind.2.0 in
+        let number : m.scn ≡ one.0.number = one.2.number in
+        let book = lost_is h goes.xids blocks seg scn goes.holds.blocks (let a = behind.1 in let b = behind.2.1 in omega (arith, a, b)) in
+        let given_up : (book_at h.books seg).lost ≡ lost = book.1 ∙ sym behind.2.1 in
+        does_loaded s st.told laws h (machine.Fetch who name) (Refused (TooOld scn lost)) old new st
+        (Reply.old early (record {
+          session = who;
+          name = name;
+          fetches = refl;
+          cursor = one.0;
+          named = one.1;
+          seg = seg;
+          there = book.0;
+          above = (let a = behind.0 in let b = behind.1 in omega (arith, a, b, number, given_up));
+          answer = too_old scn lost one.0.number (book_at h.books seg).lost (behind.0 ∙ number) (sym given_up);
+        })) refl refl (λ s t k a is done. cc) memory (λ _. logs) same
+      where
+        too_old : (a b x y : ℕ) → a ≡ x → b ≡ y → Refused (TooOld a b) ≡ Refused (TooOld x y)
+        too_old a b x y e f = rw (e, f) refl

@@ -1,4 +1,4 @@
-use Rattle.std.proofs.Common.{◌≡◌, ◌⊎◌, inl, inr, ⊎_elim, ◌<◌, ◌≤◌, ◌%◌, ◌*◌, ◌+◌, ◌-◌, ◌/◌, nat_le, nat_lt, ℕ, suc, refl, sym, ◌∙◌, ap, arith, rules, Bool, true, false}
+use Rattle.std.proofs.Common.{◌≡◌, ◌⊎◌, inl, inr, ◌<◌, ◌≤◌, ◌%◌, ◌*◌, ◌+◌, ◌-◌, ◌/◌, nat_le, ℕ, suc, ap, arith, false}
 use Rattle.std.proofs.Math.Nat.{div-add-mod, mod-lt, mul-le-mul_left, mul-suc}
 use Rattle.std.proofs.lemmas.Bool.{cases_lt, cases_eq}
 use Rattle.rb_engine.proofs.scan.is_asked.Goals.{then-low-home, else-low-home}

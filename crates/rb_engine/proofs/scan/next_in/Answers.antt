@@ -1,7 +1,6 @@
-use Rattle.std.proofs.Common.{◌≡◌, ◌<◌, ◌≤◌, ◌+◌, ◌-◌, ◌*◌, ℕ, Bool, true, false, List, Result, Ok, Err, IfOk, IfErr, sym, refl, ◌∙◌, ap, subst, arith}
+use Rattle.std.proofs.Common.{◌≡◌, ◌<◌, ◌+◌, ◌-◌, ◌*◌, ℕ, List, ◌∙◌, ap, subst}
 use Rattle.rb_base.specs.declared.ids.Xid.{Xid}
 use Rattle.rb_base.specs.declared.shape.Shape.{Shape}
-use Rattle.rb_cr.specs.Builds.{IsHomeRead}
 use Rattle.rb_engine.specs.Scanning.{HasNext, HasNone, IsBehind, IsReader}
 use Rattle.rb_model.specs.State.{State}
 use Rattle.rb_rebuild.specs.Reading.{History}

@@ -1,13 +1,10 @@
-use Rattle.std.proofs.Common.{rules, ◌≡◌, ◌<◌, ◌≤◌, ◌+◌, ◌%◌, inl, inr, ℕ, List, [], true, false, not, None, Some, sym, refl, ◌∙◌, ap, subst, arith}
-use Rattle.std.proofs.lemmas.Bool.{cases_lt, cases_eq}
+use Rattle.std.proofs.Common.{◌<◌, ◌≤◌, inl, inr, ℕ, List, [], true, not, sym, refl, ◌∙◌, subst, arith}
+use Rattle.std.proofs.lemmas.Bool.{cases_eq}
 use Rattle.rb_base.specs.Blocks.{IsShape}
-use Rattle.rb_base.specs.Logs.{Logs, more_logs, no_logs}
-use Rattle.rb_base.specs.declared.ids.Xid.{Xid}
+use Rattle.rb_base.specs.Logs.{more_logs, no_logs}
 use Rattle.rb_base.specs.declared.shape.Shape.{Shape}
 use Rattle.rb_cr.specs.Faults.{is_fault}
-use Rattle.rb_engine.specs.Scanning.{Begins, HasNext, HasNone, IsBehind, IsReader}
-use Rattle.rb_model.specs.State.{State}
-use Rattle.rb_model.specs.declared.row.Row.{Row}
+use Rattle.rb_engine.specs.Scanning.{Begins, HasNext, HasNone, IsBehind}
 use Rattle.rb_engine.proofs.FetchLemmas.{reader_on, same_blocks}
 use Rattle.rb_engine.proofs.scan.next_row.Goals as goal
 
