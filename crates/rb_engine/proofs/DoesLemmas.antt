@@ -1,5 +1,5 @@
 -- What a call does with the state that its engine stands for, from what it does with the memory and the store.
-use Rattle.std.proofs.Common.{◌≡◌, ◌≢◌, ◌⊎◌, inl, inr, ⊎_elim, ◌<◌, ◌≤◌, ◌+◌, ◌-◌, ℕ, Bool, true, false, not, List, [], ◌∷◌, length, set, get_or, Option, Some, None, Result, Ok, Err, IfErr, OnOk, refl, sym, ◌∙◌, ap, subst, arith}
+use Rattle.std.proofs.Common.{◌≡◌, ◌≢◌, ◌⊎◌, inl, inr, ⊎_elim, ◌<◌, ◌≤◌, ◌+◌, ◌-◌, ℕ, Bool, true, false, not, List, [], ◌∷◌, length, set, get_or, is_some, Option, Some, None, Result, Ok, Err, IfErr, OnOk, refl, sym, ◌∙◌, ap, subst, arith}
 use Rattle.std.proofs.lemmas.Bool.{cases_Bool, false≢true}
 use Rattle.std.specs.Result.{is_err}
 use Rattle.rb_base.specs.Blocks.{block_of, header_block}
@@ -219,3 +219,20 @@ pub does_refused_late : {S : Type 0} (s : Ghosts S) (laws : Laws s) (h : State) 
 does_refused_late s laws h call why old st runs reply other =
     does_loaded s st.told laws h call (Refused why) old old st reply (rw (other_refusal why other) refl) refl (λ s t k a is done. cc) refl
     (λ going. no_logs s old.store (runs (st.knows.stopped ∙ going))) (record { shape = refl; slots = refl })
+
+-- an option by what its test answered
+pub none_of : {X : Type 0} (o : Option X) (b : Bool) → is_some o ≡ not b → b ≡ true → o ≡ None
+none_of None b is at = refl
+none_of (Some x) b is at = (let clash : true ≡ false = is ∙ ap not at in absurd cc)
+
+pub some_of : {X : Type 0} (o : Option X) (b : Bool) → is_some o ≡ not b → b ≡ false → (x : X) × (o ≡ Some x)
+some_of None b is at = (let clash : false ≡ true = is ∙ ap not at in absurd cc)
+some_of (Some x) b is at = (x, refl)
+
+pub is_some_of : {X : Type 0} (o : Option X) → is_some o ≡ true → (x : X) × (o ≡ Some x)
+is_some_of None at = (let clash : false ≡ true = at in absurd cc)
+is_some_of (Some x) at = (x, refl)
+
+pub not_some : {X : Type 0} (o : Option X) → is_some o ≡ false → o ≡ None
+not_some None at = refl
+not_some (Some x) at = (let clash : true ≡ false = at in absurd cc)

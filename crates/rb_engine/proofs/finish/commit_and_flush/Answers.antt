@@ -1,0 +1,24 @@
+use Rattle.std.proofs.Common.{rules, ◌≡◌, ◌≤◌, ◌<◌, ◌+◌, ◌-◌, ◌^◌, ℕ, List, length, false, not, Some, OnOk, ◌*◌, ◌/◌, ◌%◌, Bool, true, nat_eq, nat_lt, [], ◌∷◌, ◌++◌, slice_index_or, slice_set, bit_and, bit_or, Fits, w8, w32, w64, Bor, MutBor}
+use Rattle.std.specs.Result.{is_err}
+use Rattle.rb_base.specs.Counts.{IsCounted, IsCountedAs, err_is}
+use Rattle.rb_base.specs.Stores.{room_of}
+use Rattle.rb_engine.specs.Does.{Does, IsInStep, SameStore, Stands}
+use Rattle.rb_engine.specs.Finishing.{Commits, PutsAllBack}
+use Rattle.rb_image.specs.Holds.{Holds}
+use Rattle.rb_model.specs.Answers.{commit_answer, plain_answer}
+use Rattle.rb_model.specs.Calls.{is_disk_fault}
+use Rattle.rb_model.specs.Calls as machine
+use Rattle.rb_model.specs.Rows.{last_scn}
+use Rattle.rb_model.specs.State.{State, session_own}
+use Rattle.rb_sessions.specs.Kept.{kept_at}
+use Rattle.rb_standing.specs.Standing.{env_of}
+use Rattle.rb_verdict.specs.Verdict.{IsOwnId}
+use Rattle.rb_engine.proofs.finish.commit_and_flush.Goals as goal
+
+-- src/finish.rt:44:5
+pub returns-in_err-commit_step-clause-commits : goal.returns-in_err-commit_step-clause-commits
+returns-in_err-commit_step-clause-commits g c = ?
+
+-- src/finish.rt:27:1
+pub returns-clause-commits : goal.returns-clause-commits
+returns-clause-commits g c = ?

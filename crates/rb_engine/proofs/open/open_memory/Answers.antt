@@ -1,0 +1,34 @@
+use Rattle.std.proofs.Common.{rules, ◌≡◌, ◌≢◌, ℕ, ◌+◌, ◌^◌, ◌≤◌, [], replicate, IfOk, IfErr, OnOk, not, true, false, ◌-◌, ◌*◌, ◌<◌, length, ◌/◌, ◌%◌, Bool, nat_eq, nat_lt, List, ◌∷◌, ◌++◌, slice_index_or, slice_set, bit_and, bit_or, Fits, w8, w32, w64, Bor, MutBor}
+use Rattle.std.specs.Result.{is_err}
+use Rattle.rb_base.specs.Blocks.{IsShape}
+use Rattle.rb_base.specs.Counts.{IsCountedAs, err_is, is_failed}
+use Rattle.rb_base.specs.Logs.{Logs}
+use Rattle.rb_base.specs.Stores.{room_of}
+use Rattle.rb_engine.specs.Does.{IsInStep, SameStore}
+use Rattle.rb_engine.specs.Opened.{Opened, OpensTo, StaysOpen}
+use Rattle.rb_model.specs.State.{State}
+use Rattle.rb_opening.specs.Opens.{CanOpen}
+use Rattle.rb_segment.specs.Segments.{commit_scn}
+use Rattle.rb_sessions.specs.Kept.{fresh}
+use Rattle.rb_sessions.specs.declared.sessions.TheConstants.{SESSIONS}
+use Rattle.rb_engine.proofs.open.open_memory.Goals as goal
+
+-- src/open.rt:62:18
+pub returns-in_err-memory-clause-stays : goal.returns-in_err-memory-clause-stays
+returns-in_err-memory-clause-stays g c = ?
+
+-- src/open.rt:63:5
+pub returns-in_err-open_blocks-clause-stays : goal.returns-in_err-open_blocks-clause-stays
+returns-in_err-open_blocks-clause-stays g c = ?
+
+-- src/open.rt:63:5
+pub returns-in_err-open_blocks-clause-unchanged : goal.returns-in_err-open_blocks-clause-unchanged
+returns-in_err-open_blocks-clause-unchanged g c = ?
+
+-- src/open.rt:45:1
+pub returns-clause-opened : goal.returns-clause-opened
+returns-clause-opened g c = ?
+
+-- src/open.rt:45:1
+pub returns-clause-stays : goal.returns-clause-stays
+returns-clause-stays g c = ?
