@@ -15,7 +15,7 @@ loop-g-init g c =
       logs = no_logs g.S.Store c.args.store.now c.requires.going;
       row = refl;
       none = λ told h xids shape reader f before k asked.
-      absurd (c.first_home-first.ensures.skips f k before (subst (λ (z : Shape). Rattle.rb_views.specs.Scan.IsAskedKey z.blocks m.lo m.hi m.last f k) (sym (c.shape-blocks.ensures.shape ∙ shape)) asked));
+          absurd (c.first_home-first.ensures.skips f k before (subst (λ (z : Shape). Rattle.rb_views.specs.Scan.IsAskedKey z.blocks m.lo m.hi m.last f k) (sym (c.shape-blocks.ensures.shape ∙ shape)) asked));
     }
 
 pub next_in-requires-clause-going : goal.next_in-requires-clause-going
@@ -49,8 +49,7 @@ returns-in-Err-clause-logs g c = more_logs g.S.Store c.args.store.now c.loop-g.s
 
 pub returns-in-Ok-true-clause-found : goal.returns-in-Ok-true-clause-found
 returns-in-Ok-true-clause-found g c = λ told h xids shape reader.
-    let next = (c.in-Ok-true.ensures.told told h xids (c.loop-g.invariant.logs.same_shape ∙ shape) (reader_on g.S.Store c.args.store.now c.loop-g.store c.loop-g.invariant.logs told h xids c.args.cursor.now reader)).0 c.in-Ok-true.field-0-test in
-    (
+    let next = (c.in-Ok-true.ensures.told told h xids (c.loop-g.invariant.logs.same_shape ∙ shape) (reader_on g.S.Store c.args.store.now c.loop-g.store c.loop-g.invariant.logs told h xids c.args.cursor.now reader)).0 c.in-Ok-true.field-0-test in (
       c.loop-g.g,
       subst (λ (z : Shape). c.loop-g.g < z.blocks) (c.shape-blocks.ensures.shape ∙ shape) c.loop-g-test.true,
       c.loop-g.invariant.none told h xids shape reader,
