@@ -38,16 +38,8 @@ laws_of g = record {
 pub returns-then-room-eq0-clause-did : goal.returns-then-room-eq0-clause-did
 returns-then-room-eq0-clause-did g c = λ h st.
     let s = g.T.Store in
-    let store = c.args.store.now in
-    let inside : Kept = record { sessions = c.memory.inside.sessions; scn = c.memory.inside.scn; stopped = c.memory.inside.stopped } in
-    let old : EngineView _ = record { memory = inside; store = store } in
-    let here : Stands s h old = subst (λ (k : Kept). Stands s h (record { memory = k; store = store })) (sym c.memory.view_is) st in
-    let own : (kept_at inside.sessions c.args.s).own ≡ Some c.args.xid = ap (λ (k : Kept). (kept_at k.sessions c.args.s).own) c.memory.view_is ∙ c.requires.own in
-    let going : h.stopped ≡ false = sym st.knows.stopped ∙ c.requires.going in
-    let there = c.requires.session in
-    let low = (subst (λ (k : Kept). IsInStep s k store) (sym c.memory.view_is) c.requires.step) in
-    let count = count_is s st.told (laws_of g) h old c.args.s c.args.xid here going there own in
-    let room = room_one s st.told (laws_of g) h old c.args.s c.args.xid here going there own in
+    let old : EngineView _ = record { memory = c.args.memory.now; store = c.args.store.now } in
+    let room = room_one s st.told (laws_of g) h old c.args.s c.args.xid st (sym st.knows.stopped ∙ c.requires.going) c.requires.session c.requires.own in
     absurd (omega (arith, room, c.room.ensures, c.if-room-eq0.true))
 
 pub returns-in-Ok-clause-step : goal.returns-in-Ok-clause-step
