@@ -24,9 +24,6 @@ next_in-requires-clause-going g c = c.loop-g.invariant.logs.failed
 pub next_in-requires-clause-table : goal.next_in-requires-clause-table
 next_in-requires-clause-table g c = subst (λ (z : Shape). (1 ≤ c.args.cursor.now.table) × (c.args.cursor.now.table ≤ z.tables)) (sym c.loop-g.invariant.logs.same_shape) c.requires.table
 
-pub next_in-requires-clause-shape : goal.next_in-requires-clause-shape
-next_in-requires-clause-shape g c = subst IsShape (sym c.loop-g.invariant.logs.same_shape) c.requires.shape
-
 pub next_in-requires-clause-there : goal.next_in-requires-clause-there
 next_in-requires-clause-there g c = subst (λ (z : Shape). c.loop-g.g < z.blocks) (c.shape-blocks.ensures.shape ∙ sym c.loop-g.invariant.logs.same_shape) c.loop-g-test.true
 
