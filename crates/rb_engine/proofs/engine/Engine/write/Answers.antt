@@ -1,0 +1,12 @@
+use Rattle.std.proofs.Common.{sym, subst}
+use Rattle.rb_engine.specs.Does.{Does, EngineView, LeavesState, Stands}
+use Rattle.rb_model.specs.Answers.{action_of, commit_answer, fetch_answer, marks_answer, plain_answer, write_answer}
+use Rattle.rb_model.specs.Calls as machine
+use Rattle.rb_model.specs.Names.{name_text}
+use Rattle.rb_engine.proofs.engine.Engine.write.Goals as goal
+
+pub returns-clause-did : goal.returns-clause-did
+returns-clause-did g c = λ h st.
+    let s = g.T.Store in
+    let call = c.do_write in
+    subst (λ e. Does s h (machine.Write c.args.s c.args.table c.args.key (action_of c.args.op)) (write_answer call.result) e (record { memory = call.new.memory; store = call.new.store })) c.self.view_is (call.ensures.did h (subst (Stands s h) (sym c.self.view_is) st))
