@@ -1,18 +1,17 @@
-use Rattle.std.proofs.Common.{◌≡◌, ◌++◌, ◌∷◌, [], ◌≤◌, ◌<◌, ℕ, List, length, is_some, nat_le, ◌&&◌, Option, None, Some, Bool, false, true, refl, sym, ◌∙◌, ap, subst, arith}
+use Rattle.std.proofs.Common.{◌≡◌, ◌++◌, ◌∷◌, [], ◌≤◌, ◌<◌, ℕ, List, length, nat_le, ◌&&◌, Option, None, Some, true, refl, sym, ◌∙◌, ap, subst, arith}
 use Rattle.std.proofs.lemmas.Bool.{le-leb, lt-leb, and_from}
 use Rattle.rb_base.specs.Logs.{Laws, no_logs}
 use Rattle.rb_base.specs.declared.ids.Xid.{Xid}
 use Rattle.rb_base.specs.declared.shape.Shape.{Shape}
-use Rattle.rb_engine.specs.Does.{Does, EngineView, Goes, IsInStep, Kept, Stands}
+use Rattle.rb_engine.specs.Does.{Does, Goes, IsInStep, Kept, Stands}
 use Rattle.rb_model.specs.Calls as machine
 use Rattle.rb_model.specs.Calls.{Reply, cursor_tests, early_tests, none_applies}
 use Rattle.rb_model.specs.Names.{name_text}
 use Rattle.rb_model.specs.NextState as next
 use Rattle.rb_model.specs.NextState.{cursors_of, opened_cursor, without_cursor}
-use Rattle.rb_model.specs.State as model
 use Rattle.rb_model.specs.Rows.{last_scn}
-use Rattle.rb_model.specs.State.{State, cursor_of, is_table}
-use Rattle.rb_model.specs.declared.refusal.Refusal.TheVariants.{CursorThere, NoCursor, TooManyCursors}
+use Rattle.rb_model.specs.State.{cursor_of, is_table}
+use Rattle.rb_model.specs.declared.refusal.Refusal.TheVariants.{CursorThere, TooManyCursors}
 use Rattle.rb_sessions.specs.Kept.{KeptSession, kept_at, named, with_cursor, with_kept}
 use Rattle.rb_sessions.specs.declared.cursor.Cursor.{Cursor}
 use Rattle.rb_standing.specs.Standing.{env_of}
@@ -20,8 +19,7 @@ use Rattle.rb_views.proofs.Cursors as views
 use Rattle.rb_views.specs.Laws.{cursor_opened}
 use Rattle.rb_views.specs.Views.{Remembers}
 use Rattle.rb_engine.proofs.DoesLemmas.{does_cursors, does_refused, does_refused_late, is_some_of, not_some}
-use Rattle.rb_engine.proofs.FinishLemmas.{no_early}
-use Rattle.rb_engine.proofs.StepLemmas.{few_less, fit_at, fit_closed, fit_opened, in_step_moved, in_step_same}
+use Rattle.rb_engine.proofs.StepLemmas.{few_less, fit_at, fit_opened, in_step_moved}
 use Rattle.rb_engine.proofs.cursors.do_open_cursor.Given.{Over}
 use Rattle.rb_engine.proofs.cursors.do_open_cursor.Goals as goal
 

@@ -1,28 +1,16 @@
-use Rattle.std.proofs.Common.{◌≡◌, ◌≢◌, ◌⊎◌, inl, inr, ◌++◌, ◌∷◌, [], ◌≤◌, ◌<◌, ◌+◌, ◌-◌, ◌*◌, ◌&&◌, not, ℕ, List, length, is_some, nat_le, Option, None, Some, Result, Ok, Err, Bool, false, true, refl, sym, ◌∙◌, ap, subst, arith, rules}
-use Rattle.std.specs.Result.{is_err}
-use Rattle.std.proofs.lemmas.Bool.{le-leb, and_from}
-use Rattle.rb_base.specs.Logs.{Laws, Logs, flush_logs, more_logs}
-use Rattle.rb_base.specs.declared.ids.Xid.{Xid}
-use Rattle.rb_base.specs.declared.shape.Shape.{Shape}
-use Rattle.rb_engine.specs.Does.{Does, EngineView, IsInStep, Kept, SameStore, Stands}
-use Rattle.rb_engine.specs.Finishing.{Commits, PutsAllBack}
-use Rattle.rb_image.specs.Holds.{Holds}
-use Rattle.rb_image.proofs.Owners.{owned_by}
+use Rattle.std.proofs.Common.{◌≡◌, inr, [], None, false, refl, sym, ◌∙◌, ap, subst, arith}
+use Rattle.rb_base.specs.Logs.{Laws}
+use Rattle.rb_engine.specs.Does.{Does, EngineView, IsInStep, Kept, Stands}
 use Rattle.rb_model.specs.Calls as machine
 use Rattle.rb_model.specs.Calls.{Reply, is_empty}
-use Rattle.rb_model.specs.NextState.{EndsAs, cursors_of, ended, left_open}
-use Rattle.rb_model.specs.Rows.{last_scn}
-use Rattle.rb_model.specs.State.{State, session_own}
-use Rattle.rb_model.specs.declared.refusal.Refusal.TheVariants.{DiskFault, LogFull}
+use Rattle.rb_model.specs.NextState.{cursors_of, ended}
 use Rattle.rb_sessions.specs.Kept.{KeptSession, kept_at}
 use Rattle.rb_sessions.specs.Kept as table
 use Rattle.rb_standing.specs.Standing.{env_of}
-use Rattle.rb_verdict.specs.Verdict.{IsOwnId}
-use Rattle.rb_views.proofs.Ended.{back_remembered, end_remembered}
+use Rattle.rb_views.proofs.Ended.{end_remembered}
 use Rattle.rb_engine.proofs.DoesLemmas.{does_refused}
-use Rattle.rb_engine.proofs.FinishLemmas.{commits_done, commits_failed, count_is, does_committed, does_ended, does_not, goes, next_known, no_early, own_id, room_one, runs_in, who_in}
-use Rattle.rb_engine.proofs.RollbackLemmas.{Starts, all_back, does_back, few_left, groups_more, logs_counted, logs_number, logs_same, none_back, one_fails, one_more, room_back, room_left, starts, there}
-use Rattle.rb_engine.proofs.StepLemmas.{few_less, fit_at, fit_committed, fit_rolled_back, in_step_moved}
+use Rattle.rb_engine.proofs.FinishLemmas.{does_ended, no_early}
+use Rattle.rb_engine.proofs.StepLemmas.{few_less, fit_at, fit_committed, in_step_moved}
 use Rattle.rb_views.specs.Views.{Remembers}
 use Rattle.rb_engine.proofs.finish.do_commit.Given.{Over}
 use Rattle.rb_engine.proofs.finish.do_commit.Goals as goal

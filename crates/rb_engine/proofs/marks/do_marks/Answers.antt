@@ -1,14 +1,13 @@
-use Rattle.std.proofs.Common.{◌≡◌, ◌≢◌, ◌⊎◌, inl, inr, ◌++◌, ◌∷◌, [], ◌≤◌, ◌<◌, ◌+◌, ◌-◌, ◌*◌, ◌&&◌, not, ℕ, List, length, is_some, nat_le, Option, None, Some, Result, Ok, Err, Bool, false, true, refl, sym, ◌∙◌, ap, subst, arith, rules}
+use Rattle.std.proofs.Common.{◌≡◌, [], ◌<◌, not, Bool, false, true, refl, sym, ◌∙◌, ap, subst, arith}
 use Rattle.std.specs.Result.{is_err}
-use Rattle.rb_base.specs.Blocks.{block_of, header_block}
-use Rattle.rb_base.specs.Logs.{Laws, Logs, flush_logs, load_logs}
+use Rattle.rb_base.specs.Blocks.{header_block}
+use Rattle.rb_base.specs.Logs.{Laws, Logs, load_logs}
 use Rattle.rb_base.specs.declared.shape.Shape.{Shape}
-use Rattle.rb_engine.specs.Does.{Does, EngineView, IsInStep, Kept, SameStore, Stands}
+use Rattle.rb_engine.specs.Does.{EngineView, Kept}
 use Rattle.rb_model.specs.Calls as machine
 use Rattle.rb_model.specs.Calls.{Reply}
-use Rattle.rb_model.specs.State.{State}
 use Rattle.rb_restart.proofs.SlotEnded.{block_read}
-use Rattle.rb_engine.proofs.DoesLemmas.{does_fault, does_loaded, fault_survives, marks_told, ok_of, survives_same}
+use Rattle.rb_engine.proofs.DoesLemmas.{does_fault, does_loaded, fault_survives, marks_told, ok_of}
 use Rattle.rb_engine.proofs.StepLemmas.{in_step_same}
 use Rattle.rb_engine.proofs.marks.do_marks.Given.{Over}
 use Rattle.rb_engine.proofs.marks.do_marks.Goals as goal

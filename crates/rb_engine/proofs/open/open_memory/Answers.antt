@@ -1,10 +1,7 @@
-use Rattle.std.proofs.Common.{◌≡◌, ◌≢◌, ◌⊎◌, inl, inr, ◌++◌, ◌∷◌, [], ◌≤◌, ◌<◌, ◌+◌, ◌-◌, ◌*◌, ◌&&◌, not, ℕ, List, length, is_some, nat_le, Option, None, Some, Result, Ok, Err, Bool, false, true, refl, sym, ◌∙◌, ap, subst, arith, rules}
-use Rattle.std.specs.Result.{is_err}
-use Rattle.rb_base.specs.Groups.{Patch}
+use Rattle.std.proofs.Common.{◌≡◌, ◌≢◌, [], Err, true, rules}
 use Rattle.rb_base.specs.Logs.{Laws, Logs, more_logs}
 use Rattle.rb_base.specs.declared.faults.OpenFault.TheVariants.{Failed}
-use Rattle.rb_engine.specs.Does.{IsInStep, Kept}
-use Rattle.rb_engine.proofs.OpenLemmas.{in_step, loaded_on, moved, opened_engine, refused, stays, unchanged_stays}
+use Rattle.rb_engine.proofs.OpenLemmas.{in_step, moved, opened_engine, refused, stays, unchanged_stays}
 use Rattle.rb_restart.specs.Rollback.{RolledBack, StaySound}
 use Rattle.rb_standing.specs.Standing.{SoundAs, logged_of}
 use Rattle.rb_engine.proofs.open.open_memory.Given.{Over}

@@ -1,5 +1,4 @@
-use Rattle.std.proofs.Common.{◌≡◌, ◌≢◌, ◌⊎◌, inl, inr, ◌++◌, ◌∷◌, [], ◌≤◌, ◌<◌, ◌+◌, ◌-◌, ◌*◌, ◌&&◌, not, ℕ, List, length, is_some, nat_le, Option, None, Some, Result, Ok, Err, Bool, false, true, refl, sym, ◌∙◌, ap, subst, arith, rules}
-use Rattle.std.specs.Result.{is_err}
+use Rattle.std.proofs.Common.{true}
 use Rattle.rb_base.specs.Logs.{Laws, no_logs}
 use Rattle.rb_engine.proofs.OpenLemmas.{unchanged_stays}
 use Rattle.rb_engine.proofs.engine.Engine.open.Given.{Over}

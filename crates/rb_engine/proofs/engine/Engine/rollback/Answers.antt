@@ -1,8 +1,7 @@
 use Rattle.std.proofs.Common.{sym, subst}
-use Rattle.rb_engine.specs.Does.{Does, EngineView, LeavesState, Stands}
-use Rattle.rb_model.specs.Answers.{action_of, commit_answer, fetch_answer, marks_answer, plain_answer, write_answer}
+use Rattle.rb_engine.specs.Does.{Does, Stands}
+use Rattle.rb_model.specs.Answers.{plain_answer}
 use Rattle.rb_model.specs.Calls as machine
-use Rattle.rb_model.specs.Names.{name_text}
 use Rattle.rb_engine.proofs.engine.Engine.rollback.Goals as goal
 
 pub returns-clause-did : goal.returns-clause-did
