@@ -74,11 +74,10 @@ fresh_at u = by (u - 1) 16
     by (suc i) (suc n) = by i n
 
 -- an engine that was just opened is in step
-pub in_step : {S : Type 0} (s : Ghosts S) (kept : Kept) (old new : S) (groups : List (List Patch)) → Logs s old new groups true → length groups ≤ 2 ^ 40 → s.lsn old ≤ 2 ^ 61 + 4096 → IsShape (s.shape_of old)
+pub in_step : {S : Type 0} (s : Ghosts S) (kept : Kept) (old new : S) (groups : List (List Patch)) → Logs s old new groups true → length groups ≤ 2 ^ 40 → s.lsn old ≤ 2 ^ 61 + 4096
     → kept.sessions ≡ replicate SESSIONS fresh → IsInStep s kept new
-in_step s kept old new groups logs few low in_range is =
+in_step s kept old new groups logs few low is =
     let at : (u : ℕ) → kept_at kept.sessions u ≡ fresh = λ u. ap (λ (l : List KeptSession). kept_at l u) is ∙ fresh_at u in record {
-      in_range = subst IsShape (sym logs.same_shape) in_range;
       counted = ap (λ (l : List KeptSession). length l) is;
       tables = λ u. subst (InTables (s.shape_of new)) (sym (at u)) tt;
       own = λ u x has. let clash : None ≡ Some x = ap (λ (k : KeptSession). k.own) (sym (at u)) ∙ has in absurd cc;

@@ -5,7 +5,6 @@ use Rattle.std.proofs.lemmas.List.{get_or-set_same, get_or-set_other, length-set
 use Rattle.std.proofs.lemmas.List.Sums.{sum_by-cons, sum_by-set}
 use Rattle.std.specs.List.{AllByRecursion, sum_by}
 use Rattle.std.specs.Str.{bytes_eq}
-use Rattle.rb_base.specs.Blocks.{IsShape}
 use Rattle.rb_base.specs.Logs.{Logs}
 use Rattle.rb_base.specs.Groups.{Patch}
 use Rattle.rb_base.specs.declared.ids.Xid.{Xid}
@@ -110,7 +109,6 @@ module _ {S : Type 0} (s : Ghosts S) where
     in_step_same same goes =
         let at : (u : ℕ) → kept_at now.sessions u ≡ kept_at kept.sessions u = λ u. ap (λ (l : List KeptSession). kept_at l u) same in
         record {
-          in_range = subst IsShape (sym shape) is.in_range;
           counted = ap (λ (l : List KeptSession). length l) same ∙ is.counted;
           tables = λ u. subst (λ (h : Shape). InTables h (kept_at now.sessions u)) (sym shape) (subst (InTables (s.shape_of old)) (sym (at u)) (is.tables u));
           own = λ u x mine. subst (λ (h : Shape). (x.seg < h.segments) × (x.slot < 16)) (sym shape) (is.own u x (ap (λ (k : KeptSession). k.own) (sym (at u)) ∙ mine));
@@ -147,7 +145,6 @@ module _ {S : Type 0} (s : Ghosts S) where
 
       pub in_step_moved : (now.stopped ≡ false → (s.failed new ≡ false) × (s.lsn new + 2 * changes_kept now.sessions ≤ 2 ^ 61 + 2 ^ 60)) → IsInStep s now new
       in_step_moved goes = record {
-        in_range = subst IsShape (sym shape) is.in_range;
         counted = ap (λ (l : List KeptSession). length l) moved ∙ (length-set kept.sessions (u - 1) k ∙ is.counted);
         tables = λ r. (fit_now r).tables;
         own = λ r. (fit_now r).own;

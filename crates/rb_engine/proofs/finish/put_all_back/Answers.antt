@@ -1,84 +1,107 @@
-use Rattle.std.proofs.Common.{rules, ◌≡◌, ◌≤◌, ◌<◌, ◌+◌, ◌-◌, ◌^◌, ℕ, List, length, false, not, Some, OnOk, ◌*◌, ◌/◌, ◌%◌, Bool, true, nat_eq, nat_lt, [], ◌∷◌, ◌++◌, slice_index_or, slice_set, bit_and, bit_or, Fits, w8, w32, w64, Bor, MutBor}
+use Rattle.std.proofs.Common.{◌≡◌, ◌≢◌, ◌⊎◌, inl, inr, ◌++◌, ◌∷◌, [], ◌≤◌, ◌<◌, ◌+◌, ◌-◌, ◌*◌, ◌&&◌, not, ℕ, List, length, is_some, nat_le, Option, None, Some, Result, Ok, Err, Bool, false, true, refl, sym, ◌∙◌, ap, subst, arith, rules}
 use Rattle.std.specs.Result.{is_err}
-use Rattle.rb_base.specs.Counts.{IsCounted, IsCountedAs, err_is}
-use Rattle.rb_base.specs.Stores.{room_of}
-use Rattle.rb_engine.specs.Does.{Does, IsInStep, SameStore, Stands}
+use Rattle.std.proofs.lemmas.Bool.{le-leb, and_from}
+use Rattle.rb_base.specs.Logs.{Laws, Logs, flush_logs, more_logs}
+use Rattle.rb_base.specs.declared.ids.Xid.{Xid}
+use Rattle.rb_base.specs.declared.shape.Shape.{Shape}
+use Rattle.rb_engine.specs.Does.{Does, EngineView, IsInStep, Kept, SameStore, Stands}
 use Rattle.rb_engine.specs.Finishing.{Commits, PutsAllBack}
 use Rattle.rb_image.specs.Holds.{Holds}
-use Rattle.rb_model.specs.Answers.{commit_answer, plain_answer}
-use Rattle.rb_model.specs.Calls.{is_disk_fault}
+use Rattle.rb_image.proofs.Owners.{owned_by}
 use Rattle.rb_model.specs.Calls as machine
+use Rattle.rb_model.specs.Calls.{Reply, is_empty}
+use Rattle.rb_model.specs.NextState.{EndsAs, cursors_of, ended, left_open}
 use Rattle.rb_model.specs.Rows.{last_scn}
 use Rattle.rb_model.specs.State.{State, session_own}
-use Rattle.rb_sessions.specs.Kept.{kept_at}
+use Rattle.rb_model.specs.declared.refusal.Refusal.TheVariants.{DiskFault, LogFull}
+use Rattle.rb_sessions.specs.Kept.{KeptSession, kept_at}
+use Rattle.rb_sessions.specs.Kept as table
 use Rattle.rb_standing.specs.Standing.{env_of}
 use Rattle.rb_verdict.specs.Verdict.{IsOwnId}
+use Rattle.rb_views.proofs.Ended.{back_remembered, end_remembered}
+use Rattle.rb_engine.proofs.DoesLemmas.{does_refused}
+use Rattle.rb_engine.proofs.FinishLemmas.{commits_done, commits_failed, count_is, does_committed, does_ended, does_not, goes, next_known, no_early, own_id, room_one, runs_in, who_in}
+use Rattle.rb_engine.proofs.RollbackLemmas.{Starts, all_back, does_back, few_left, groups_more, logs_counted, logs_number, logs_same, none_back, one_fails, one_more, room_back, room_left, starts, there}
+use Rattle.rb_engine.proofs.StepLemmas.{few_less, fit_at, fit_committed, fit_rolled_back, in_step_moved}
+use Rattle.rb_engine.proofs.finish.put_all_back.Given.{Over}
 use Rattle.rb_engine.proofs.finish.put_all_back.Goals as goal
 
--- src/finish.rt:66:5
+laws_of : (g : Over) → Laws g.T.Store
+laws_of g = record {
+  stable_left = λ store b n i keeps stable here. g.met.T.Store.stable_left store b n i keeps stable here;
+  stable_numbered = λ store b n keeps stable. g.met.T.Store.stable_numbered store b n keeps stable;
+  stable_patched = λ store b n keeps stable. g.met.T.Store.stable_patched store b n keeps stable;
+  now_counts = λ store t i keeps le here. g.met.T.Store.now_counts store t i keeps le here;
+  only_now = λ store i keeps here. g.met.T.Store.only_now store i keeps here;
+}
+
 pub loop-change-init : goal.loop-change-init
-loop-change-init g c = ?
+loop-change-init g c = none_back g.T.Store (laws_of g) c.args.xid c.args.count c.args.store.now c.requires.going
 
--- src/finish.rt:67:9
 pub back_step-requires-clause-going : goal.back_step-requires-clause-going
-back_step-requires-clause-going g c = ?
+back_step-requires-clause-going g c = c.loop-change.invariant.logs.failed
 
--- src/finish.rt:67:9
 pub back_step-requires-clause-there : goal.back_step-requires-clause-there
-back_step-requires-clause-there g c = ?
+back_step-requires-clause-there g c = there g.T.Store c.args.xid c.args.count c.loop-change._change c.args.store.now c.loop-change.store c.loop-change.invariant c.requires.there
 
--- src/finish.rt:67:9
 pub back_step-requires-clause-room : goal.back_step-requires-clause-room
-back_step-requires-clause-room g c = ?
+back_step-requires-clause-room g c = room_left g.T.Store c.args.xid c.args.count c.loop-change._change c.args.store.now c.loop-change.store c.loop-change.invariant c.loop-change.auto._change-end c.requires.room
 
--- src/finish.rt:67:9
 pub back_step-requires-clause-few : goal.back_step-requires-clause-few
-back_step-requires-clause-few g c = ?
+back_step-requires-clause-few g c = few_left g.T.Store c.args.xid c.args.count c.loop-change._change c.args.store.now c.loop-change.store c.loop-change.invariant c.loop-change.auto._change-end c.requires.few
 
--- src/finish.rt:67:9
 pub returns-in_err-back_step-clause-puts_back : goal.returns-in_err-back_step-clause-puts_back
-returns-in_err-back_step-clause-puts_back g c = ?
+returns-in_err-back_step-clause-puts_back g c = λ told h xids who shape holds low high mine going own.
+    let s = g.T.Store in
+    let x = c.args.xid in
+    let old = c.args.store.now in
+    let new = c.back_step.new.store in
+    let start : Starts s h xids who x c.args.count old = record { shape = shape; holds = holds; low = low; high = high; id = mine; going = going; own = own } in
+    subst (λ (b : Bool). PutsAllBack s h xids who x old new (not b)) (sym c.from_residual.ensures.0)
+    (one_fails s x c.args.count c.loop-change._change old c.loop-change.store c.loop-change.invariant (laws_of g) c.loop-change-test.true new c.in_err-back_step.ensures.gives told h xids who start)
 
--- src/finish.rt:67:9
 pub returns-in_err-back_step-clause-same : goal.returns-in_err-back_step-clause-same
-returns-in_err-back_step-clause-same g c = ?
+returns-in_err-back_step-clause-same g c =
+    let all = groups_more g.T.Store c.args.xid c.args.count c.loop-change._change c.args.store.now c.loop-change.store c.loop-change.invariant c.back_step.new.store false c.in_err-back_step.ensures.logs in
+    logs_same g.T.Store c.args.store.now c.back_step.new.store all.0 false all.1
 
--- src/finish.rt:67:9
 pub returns-in_err-back_step-clause-counted : goal.returns-in_err-back_step-clause-counted
-returns-in_err-back_step-clause-counted g c = ?
+returns-in_err-back_step-clause-counted g c =
+    let all = groups_more g.T.Store c.args.xid c.args.count c.loop-change._change c.args.store.now c.loop-change.store c.loop-change.invariant c.back_step.new.store false c.in_err-back_step.ensures.logs in
+    logs_counted g.T.Store c.args.store.now c.back_step.new.store all.0 c.from_residual.result (rw c.from_residual.ensures.0 all.1)
 
--- src/finish.rt:66:5
 pub loop-change-preserved : goal.loop-change-preserved
-loop-change-preserved g c = ?
+loop-change-preserved g c = one_more g.T.Store c.args.xid c.args.count c.loop-change._change c.args.store.now c.loop-change.store c.loop-change.invariant (laws_of g) c.loop-change-test.true c.back_step.new.store c.in_ok-back_step.ensures.logs c.in_ok-back_step.ensures.gives
 
--- src/finish.rt:69:5
 pub end_step-requires-clause-going : goal.end_step-requires-clause-going
-end_step-requires-clause-going g c = ?
+end_step-requires-clause-going g c = c.loop-change.invariant.logs.failed
 
--- src/finish.rt:69:5
 pub end_step-requires-clause-there : goal.end_step-requires-clause-there
-end_step-requires-clause-there g c = ?
+end_step-requires-clause-there g c = there g.T.Store c.args.xid c.args.count c.loop-change._change c.args.store.now c.loop-change.store c.loop-change.invariant c.requires.there
 
--- src/finish.rt:69:5
 pub end_step-requires-clause-room : goal.end_step-requires-clause-room
-end_step-requires-clause-room g c = ?
+end_step-requires-clause-room g c = room_left g.T.Store c.args.xid c.args.count c.loop-change._change c.args.store.now c.loop-change.store c.loop-change.invariant c.loop-change.auto._change-end c.requires.room
 
--- src/finish.rt:69:5
 pub end_step-requires-clause-few : goal.end_step-requires-clause-few
-end_step-requires-clause-few g c = ?
+end_step-requires-clause-few g c = few_left g.T.Store c.args.xid c.args.count c.loop-change._change c.args.store.now c.loop-change.store c.loop-change.invariant c.loop-change.auto._change-end c.requires.few
 
--- src/finish.rt:49:1
 pub returns-clause-puts_back : goal.returns-clause-puts_back
-returns-clause-puts_back g c = ?
+returns-clause-puts_back g c = λ told h xids who shape holds low high mine going own.
+    let turns : c.loop-change._change ≡ c.args.count = omega (arith, c.loop-change-test.false, c.loop-change.auto._change-end) in
+    all_back g.T.Store c.args.xid c.args.count c.loop-change._change c.args.store.now c.loop-change.store c.loop-change.invariant (laws_of g) turns c.end_step.new.store (not (is_err c.end_step.result)) c.end_step.ensures.gives
+    told h xids who (record { shape = shape; holds = holds; low = low; high = high; id = mine; going = going; own = own })
 
--- src/finish.rt:49:1
 pub returns-clause-lsn : goal.returns-clause-lsn
-returns-clause-lsn g c = ?
+returns-clause-lsn g c =
+    let all = groups_more g.T.Store c.args.xid c.args.count c.loop-change._change c.args.store.now c.loop-change.store c.loop-change.invariant c.end_step.new.store (not (is_err c.end_step.result)) c.end_step.ensures.logs in
+    logs_number g.T.Store c.args.store.now c.end_step.new.store all.0 c.args.count c.end_step.result all.1 (let w = all.2 in omega (arith, w, c.loop-change.auto._change-end))
 
--- src/finish.rt:49:1
 pub returns-clause-same : goal.returns-clause-same
-returns-clause-same g c = ?
+returns-clause-same g c =
+    let all = groups_more g.T.Store c.args.xid c.args.count c.loop-change._change c.args.store.now c.loop-change.store c.loop-change.invariant c.end_step.new.store (not (is_err c.end_step.result)) c.end_step.ensures.logs in
+    logs_same g.T.Store c.args.store.now c.end_step.new.store all.0 (not (is_err c.end_step.result)) all.1
 
--- src/finish.rt:49:1
 pub returns-clause-counted : goal.returns-clause-counted
-returns-clause-counted g c = ?
+returns-clause-counted g c =
+    let all = groups_more g.T.Store c.args.xid c.args.count c.loop-change._change c.args.store.now c.loop-change.store c.loop-change.invariant c.end_step.new.store (not (is_err c.end_step.result)) c.end_step.ensures.logs in
+    logs_counted g.T.Store c.args.store.now c.end_step.new.store all.0 c.end_step.result all.1

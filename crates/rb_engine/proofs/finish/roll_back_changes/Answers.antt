@@ -1,32 +1,109 @@
-use Rattle.std.proofs.Common.{rules, ◌≡◌, ◌≤◌, ◌<◌, ◌+◌, ◌-◌, ◌^◌, ℕ, List, length, false, not, Some, OnOk, ◌*◌, ◌/◌, ◌%◌, Bool, true, nat_eq, nat_lt, [], ◌∷◌, ◌++◌, slice_index_or, slice_set, bit_and, bit_or, Fits, w8, w32, w64, Bor, MutBor}
+use Rattle.std.proofs.Common.{◌≡◌, ◌≢◌, ◌⊎◌, inl, inr, ◌++◌, ◌∷◌, [], ◌≤◌, ◌<◌, ◌+◌, ◌-◌, ◌*◌, ◌&&◌, not, ℕ, List, length, is_some, nat_le, Option, None, Some, Result, Ok, Err, Bool, false, true, refl, sym, ◌∙◌, ap, subst, arith, rules}
 use Rattle.std.specs.Result.{is_err}
-use Rattle.rb_base.specs.Counts.{IsCounted, IsCountedAs, err_is}
-use Rattle.rb_base.specs.Stores.{room_of}
-use Rattle.rb_engine.specs.Does.{Does, IsInStep, SameStore, Stands}
+use Rattle.std.proofs.lemmas.Bool.{le-leb, and_from}
+use Rattle.rb_base.specs.Logs.{Laws, Logs, flush_logs, more_logs}
+use Rattle.rb_base.specs.declared.ids.Xid.{Xid}
+use Rattle.rb_base.specs.declared.shape.Shape.{Shape}
+use Rattle.rb_engine.specs.Does.{Does, EngineView, IsInStep, Kept, SameStore, Stands}
 use Rattle.rb_engine.specs.Finishing.{Commits, PutsAllBack}
 use Rattle.rb_image.specs.Holds.{Holds}
-use Rattle.rb_model.specs.Answers.{commit_answer, plain_answer}
-use Rattle.rb_model.specs.Calls.{is_disk_fault}
+use Rattle.rb_image.proofs.Owners.{owned_by}
 use Rattle.rb_model.specs.Calls as machine
+use Rattle.rb_model.specs.Calls.{Reply, is_empty}
+use Rattle.rb_model.specs.NextState.{EndsAs, cursors_of, ended, left_open}
 use Rattle.rb_model.specs.Rows.{last_scn}
 use Rattle.rb_model.specs.State.{State, session_own}
-use Rattle.rb_sessions.specs.Kept.{kept_at}
+use Rattle.rb_model.specs.declared.refusal.Refusal.TheVariants.{DiskFault, LogFull}
+use Rattle.rb_sessions.specs.Kept.{KeptSession, kept_at}
+use Rattle.rb_sessions.specs.Kept as table
 use Rattle.rb_standing.specs.Standing.{env_of}
 use Rattle.rb_verdict.specs.Verdict.{IsOwnId}
+use Rattle.rb_views.proofs.Ended.{back_remembered, end_remembered}
+use Rattle.rb_engine.proofs.DoesLemmas.{does_refused}
+use Rattle.rb_engine.proofs.FinishLemmas.{commits_done, commits_failed, count_is, does_committed, does_ended, does_not, goes, next_known, no_early, own_id, room_one, runs_in, who_in}
+use Rattle.rb_engine.proofs.RollbackLemmas.{Starts, all_back, does_back, few_left, groups_more, logs_counted, logs_number, logs_same, none_back, one_fails, one_more, room_back, room_left, starts, there}
+use Rattle.rb_engine.proofs.StepLemmas.{few_less, fit_at, fit_committed, fit_rolled_back, in_step_moved}
+use Rattle.rb_engine.proofs.finish.roll_back_changes.Given.{Over}
 use Rattle.rb_engine.proofs.finish.roll_back_changes.Goals as goal
 
--- src/finish.rt:128:9
+laws_of : (g : Over) → Laws g.T.Store
+laws_of g = record {
+  stable_left = λ store b n i keeps stable here. g.met.T.Store.stable_left store b n i keeps stable here;
+  stable_numbered = λ store b n keeps stable. g.met.T.Store.stable_numbered store b n keeps stable;
+  stable_patched = λ store b n keeps stable. g.met.T.Store.stable_patched store b n keeps stable;
+  now_counts = λ store t i keeps le here. g.met.T.Store.now_counts store t i keeps le here;
+  only_now = λ store i keeps here. g.met.T.Store.only_now store i keeps here;
+}
+
 pub returns-then-room-from-clause-did : goal.returns-then-room-from-clause-did
-returns-then-room-from-clause-did g c = ?
+returns-then-room-from-clause-did g c = λ h st.
+    let s = g.T.Store in
+    let store = c.args.store.now in
+    let inside : Kept = record { sessions = c.memory.inside.sessions; scn = c.memory.inside.scn; stopped = c.memory.inside.stopped } in
+    let old : EngineView _ = record { memory = inside; store = store } in
+    let here : Stands s h old = subst (λ (k : Kept). Stands s h (record { memory = k; store = store })) (sym c.memory.view_is) st in
+    let own : (kept_at inside.sessions c.args.s).own ≡ Some c.args.xid = ap (λ (k : Kept). (kept_at k.sessions c.args.s).own) c.memory.view_is ∙ c.requires.own in
+    let going : h.stopped ≡ false = sym st.knows.stopped ∙ c.requires.going in
+    let there = c.requires.session in
+    let low = (subst (λ (k : Kept). IsInStep s k store) (sym c.memory.view_is) c.requires.step) in
+    let count = count_is s st.told (laws_of g) h old c.args.s c.args.xid here going there own in
+    let room = room_back s st.told (laws_of g) h old c.args.s c.args.xid here going there own in
+    absurd (omega (arith, room, count, c.session-count.ensures.length, c.from.ensures, c.room.ensures, c.if-room-from.true))
 
--- src/finish.rt:109:1
 pub returns-in-Ok-clause-step : goal.returns-in-Ok-clause-step
-returns-in-Ok-clause-step g c = ?
+returns-in-Ok-clause-step g c =
+    let s = g.T.Store in
+    let store = c.args.store.now in
+    let new = c.put_all_back.new.store in
+    let inside : Kept = record { sessions = c.memory.inside.sessions; scn = c.memory.inside.scn; stopped = c.memory.inside.stopped } in
+    let now : Kept = record { sessions = c.rollback.new.self; scn = c.memory.inside.scn; stopped = c.memory.inside.stopped } in
+    let is : IsInStep s inside store = subst (λ (k : Kept). IsInStep s k store) (sym c.memory.view_is) c.requires.step in
+    let own : (kept_at inside.sessions c.args.s).own ≡ Some c.args.xid = ap (λ (k : Kept). (kept_at k.sessions c.args.s).own) c.memory.view_is ∙ c.requires.own in
+    let k = kept_at inside.sessions c.args.s in
+    let fit = fit_rolled_back (s.shape_of store) k (fit_at s inside store is c.args.s) in
+    let shape = c.put_all_back.ensures.same.shape in
+    let some = is.busy c.args.s c.args.xid own in
+    let lsn = c.in-Ok.ensures.lsn in
+    let length_is = c.session-count.ensures.length in
+    in_step_moved s inside now store new is shape c.args.s c.requires.session (table.rolled_back k) fit c.rollback.ensures
+    (λ going. (c.in-Ok.ensures.failed, few_less s inside now store new is shape c.args.s c.requires.session (table.rolled_back k) fit c.rollback.ensures going (omega (arith, lsn, some, length_is))))
 
--- src/finish.rt:109:1
 pub returns-in-Ok-clause-did : goal.returns-in-Ok-clause-did
-returns-in-Ok-clause-did g c = ?
+returns-in-Ok-clause-did g c = λ h st.
+    let s = g.T.Store in
+    let store = c.args.store.now in
+    let inside : Kept = record { sessions = c.memory.inside.sessions; scn = c.memory.inside.scn; stopped = c.memory.inside.stopped } in
+    let old : EngineView _ = record { memory = inside; store = store } in
+    let here : Stands s h old = subst (λ (k : Kept). Stands s h (record { memory = k; store = store })) (sym c.memory.view_is) st in
+    let own : (kept_at inside.sessions c.args.s).own ≡ Some c.args.xid = ap (λ (k : Kept). (kept_at k.sessions c.args.s).own) c.memory.view_is ∙ c.requires.own in
+    let going : h.stopped ≡ false = sym st.knows.stopped ∙ c.requires.going in
+    let there = c.requires.session in
+    let low = (subst (λ (k : Kept). IsInStep s k store) (sym c.memory.view_is) c.requires.step) in
+    let count = count_is s st.told (laws_of g) h old c.args.s c.args.xid here going there own in
+    let new : EngineView _ = record { memory = record { sessions = c.rollback.new.self; scn = c.memory.inside.scn; stopped = c.memory.inside.stopped }; store = c.put_all_back.new.store } in
+    let held = goes s st.told (laws_of g) h old c.args.s c.args.xid here going there own in
+    let who = who_in s st.told (laws_of g) h old c.args.s c.args.xid here going there own in
+    subst (λ (k : Kept). Does s h (machine.Rollback c.args.s) machine.Done (record { memory = k; store = store }) new) c.memory.view_is
+    (does_back s st.told (laws_of g) h old c.args.s c.args.xid here going there own new c.put_all_back.ensures.same
+    (c.in-Ok.ensures.puts_back st.told h held.xids c.args.s st.shape held.holds who.0 who.1 (own_id s st.told (laws_of g) h old c.args.s c.args.xid here going there own) going (sym count ∙ sym c.session-count.ensures.length))
+    c.rollback.ensures refl refl)
 
--- src/finish.rt:109:1
 pub returns-in-Err-clause-did : goal.returns-in-Err-clause-did
-returns-in-Err-clause-did g c = ?
+returns-in-Err-clause-did g c = λ h st.
+    let s = g.T.Store in
+    let store = c.args.store.now in
+    let inside : Kept = record { sessions = c.memory.inside.sessions; scn = c.memory.inside.scn; stopped = c.memory.inside.stopped } in
+    let old : EngineView _ = record { memory = inside; store = store } in
+    let here : Stands s h old = subst (λ (k : Kept). Stands s h (record { memory = k; store = store })) (sym c.memory.view_is) st in
+    let own : (kept_at inside.sessions c.args.s).own ≡ Some c.args.xid = ap (λ (k : Kept). (kept_at k.sessions c.args.s).own) c.memory.view_is ∙ c.requires.own in
+    let going : h.stopped ≡ false = sym st.knows.stopped ∙ c.requires.going in
+    let there = c.requires.session in
+    let low = (subst (λ (k : Kept). IsInStep s k store) (sym c.memory.view_is) c.requires.step) in
+    let count = count_is s st.told (laws_of g) h old c.args.s c.args.xid here going there own in
+    let new : EngineView _ = record { memory = c.stop.new.self; store = c.put_all_back.new.store } in
+    let held = goes s st.told (laws_of g) h old c.args.s c.args.xid here going there own in
+    let who = who_in s st.told (laws_of g) h old c.args.s c.args.xid here going there own in
+    subst (λ (k : Kept). Does s h (machine.Rollback c.args.s) (machine.Refused DiskFault) (record { memory = k; store = store }) new) c.memory.view_is
+    (does_not s st.told (laws_of g) h old c.args.s c.args.xid here going there own new c.put_all_back.ensures.same (machine.Rollback c.args.s) (no_early h c.args.s there st.knows.sixteen going)
+    (c.in-Err.ensures.puts_back st.told h held.xids c.args.s st.shape held.holds who.0 who.1 (own_id s st.told (laws_of g) h old c.args.s c.args.xid here going there own) going (sym count ∙ sym c.session-count.ensures.length) (Some (machine.Rollback c.args.s)))
+    (c.stop.ensures ∙ ap (λ (k : Kept). let n : Kept = record k { stopped = true } in n) (sym c.memory.view_is)))
