@@ -1,5 +1,5 @@
 -- What a call does with the state that its engine stands for, from what it does with the memory and the store.
-use Rattle.std.proofs.Common.{◌≡◌, ◌≢◌, ◌⊎◌, inl, inr, ⊎_elim, ◌<◌, ◌≤◌, ◌+◌, ◌-◌, ℕ, Bool, true, false, not, List, [], ◌∷◌, length, set, get_or, Option, Some, None, Result, Ok, Err, IfErr, OnOk, refl, sym, ◌∙◌, ap, subst, arith}
+use Rattle.std.proofs.Common.{◌≡◌, ◌≢◌, ⊎_elim, ◌<◌, ◌≤◌, ◌+◌, ℕ, Bool, true, false, not, List, [], length, is_some, Option, Some, None, Result, Ok, Err, IfErr, OnOk, refl, sym, ◌∙◌, ap, subst, arith}
 use Rattle.std.proofs.lemmas.Bool.{cases_Bool, false≢true}
 use Rattle.std.specs.Result.{is_err}
 use Rattle.rb_base.specs.Blocks.{block_of, header_block}
@@ -8,7 +8,6 @@ use Rattle.rb_base.specs.Keeps.{Keeps}
 use Rattle.rb_base.specs.Logs.{Laws, Logs, no_logs}
 use Rattle.rb_base.specs.Stores.{room_of}
 use Rattle.rb_base.specs.declared.ids.Xid.{Xid}
-use Rattle.rb_base.specs.declared.shape.Shape.{Shape}
 use Rattle.rb_base.specs.declared.store.Store.{Ghosts}
 use Rattle.rb_engine.specs.Checks.{Refuses}
 use Rattle.rb_engine.specs.Does.{Does, EngineView, Goes, Kept, Keeps as Retained, Knows, SameStore, Stands}
@@ -18,8 +17,8 @@ use Rattle.rb_image.specs.Images.{HasState}
 use Rattle.rb_image.proofs.Crashes.{grow_same, has_later}
 use Rattle.rb_image.proofs.Steps.{keeps_on, none_each, read_has, survives_going}
 use Rattle.rb_model.specs.Book.{book_at}
-use Rattle.rb_model.specs.Calls.{Answer, Call, Done, Waits, Numbered, Given, End, Marked, Refused, Reply, early_tests, failed_in, is_disk_fault, is_fault, none_applies}
-use Rattle.rb_model.specs.NextState.{After, Grows, GrowsBy, with_cursors}
+use Rattle.rb_model.specs.Calls.{Answer, Call, Marked, Refused, Reply, early_tests, failed_in, is_disk_fault, is_fault, none_applies}
+use Rattle.rb_model.specs.NextState.{After, Grows, with_cursors}
 use Rattle.rb_model.specs.Rows.{last_scn, rows_at}
 use Rattle.rb_model.specs.State.{Cursor, State, session_own}
 use Rattle.rb_model.specs.declared.refusal.Refusal.{Refusal}
@@ -219,3 +218,20 @@ pub does_refused_late : {S : Type 0} (s : Ghosts S) (laws : Laws s) (h : State) 
 does_refused_late s laws h call why old st runs reply other =
     does_loaded s st.told laws h call (Refused why) old old st reply (rw (other_refusal why other) refl) refl (λ s t k a is done. cc) refl
     (λ going. no_logs s old.store (runs (st.knows.stopped ∙ going))) (record { shape = refl; slots = refl })
+
+-- an option by what its test answered
+pub none_of : {X : Type 0} (o : Option X) (b : Bool) → is_some o ≡ not b → b ≡ true → o ≡ None
+none_of None b is at = refl
+none_of (Some x) b is at = (let clash : true ≡ false = is ∙ ap not at in absurd cc)
+
+pub some_of : {X : Type 0} (o : Option X) (b : Bool) → is_some o ≡ not b → b ≡ false → (x : X) × (o ≡ Some x)
+some_of None b is at = (let clash : false ≡ true = is ∙ ap not at in absurd cc)
+some_of (Some x) b is at = (x, refl)
+
+pub is_some_of : {X : Type 0} (o : Option X) → is_some o ≡ true → (x : X) × (o ≡ Some x)
+is_some_of None at = (let clash : false ≡ true = at in absurd cc)
+is_some_of (Some x) at = (x, refl)
+
+pub not_some : {X : Type 0} (o : Option X) → is_some o ≡ false → o ≡ None
+not_some None at = refl
+not_some (Some x) at = (let clash : true ≡ false = at in absurd cc)

@@ -1,42 +1,46 @@
 -- What a search for a cursor's next row finds, from what the rebuilds of homes show, and what a fetch makes of it.
-use Rattle.std.proofs.Common.{◌≡◌, ◌≢◌, ◌⊎◌, inl, inr, ⊎_elim, ◌<◌, ◌≤◌, ◌+◌, ◌%◌, ◌==◌, ◌&&◌, ◌||◌, nat_lt, if◌then◌else◌, ℕ, Bool, true, false, not, List, [], ◌∷◌, length, Option, Some, None, is_some, is_none, Result, Ok, Err, refl, sym, ◌∙◌, ap, subst, arith}
-use Rattle.std.proofs.lemmas.Bool.{cases_lt, cases_Bool, cond_both}
+use Rattle.std.proofs.Common.{◌≡◌, inl, inr, ◌<◌, ◌≤◌, ◌%◌, ◌==◌, ◌&&◌, ◌||◌, nat_lt, if◌then◌else◌, ℕ, Bool, true, false, List, [], Option, Some, None, Result, Ok, Err, IfOk, IfErr, refl, sym, ◌∙◌, subst, arith, is_none, ◌∷◌}
+use Rattle.std.proofs.lemmas.Bool.{cases_Bool, cond_both}
 use Rattle.std.proofs.lemmas.Bool.Decides.{nat_tests}
-use Rattle.rb_base.specs.Logs.{Laws, Logs}
-use Rattle.rb_base.specs.Stores.{room_of}
+use Rattle.std.proofs.lemmas.Result.{IfErr-weaker}
+use Rattle.rb_base.specs.Logs.{Logs, Laws}
 use Rattle.rb_base.specs.declared.ids.Xid.{Xid}
 use Rattle.rb_base.specs.declared.shape.Shape.{Shape}
 use Rattle.rb_base.specs.declared.store.Store.{Ghosts}
+use Rattle.rb_cr.specs.Builds.{IsHomeRead}
 use Rattle.rb_cr.specs.Faults.{Because}
 use Rattle.rb_cr.specs.Rows.{IsBehind as IsBehindKey, IsNext, IsWanted}
 use Rattle.rb_cr.specs.declared.faults.CrFault.{CrFault}
 use Rattle.rb_cr.specs.declared.faults.CrFault.TheVariants as faults
-use Rattle.rb_engine.specs.Does.{Does, EngineView, Goes, SameStore, Stands}
-use Rattle.rb_engine.specs.Scanning.{Begins, Finds, HasNext, HasNone, IsBehind, IsReader}
-use Rattle.rb_engine.proofs.DoesLemmas.{does_cursors, does_fault, does_loaded, fault_survives}
-use Rattle.rb_engine.proofs.FinishLemmas.{no_early}
+use Rattle.rb_cr.specs.declared.scratch.Snapshot.{Snapshot}
+use Rattle.rb_engine.specs.Scanning.{Begins, HasNext, HasNone, IsBehind, IsReader, Finds}
 use Rattle.rb_engine.proofs.SeenHomes.{seen_in_home}
-use Rattle.rb_model.specs.Calls.{Answer, Call, Done, End, Fetch, Given, IsTooOld, Refused, Reply, next_row}
-use Rattle.rb_model.specs.NextState.{cursors_of, with_cursors, with_taken}
 use Rattle.rb_model.specs.Next.{is_after}
-use Rattle.rb_model.specs.Rows.{key_before}
-use Rattle.rb_model.specs.State as machine
 use Rattle.rb_model.specs.State.{State, cursor_of}
-use Rattle.rb_model.specs.declared.refusal.Refusal.{Refusal}
-use Rattle.rb_model.specs.declared.refusal.Refusal.TheVariants.{DiskFault, NoCursor, TooOld}
-use Rattle.rb_model.specs.declared.row.Fetched.{Fetched}
-use Rattle.rb_model.specs.declared.row.Fetched.TheVariants as fetched
 use Rattle.rb_model.specs.declared.row.Row.{Row}
-use Rattle.rb_rebuild.specs.Reading.{Reading, Worn}
-use Rattle.rb_sessions.specs.Kept.{KeptSession, kept_at, named, with_kept, with_last}
-use Rattle.rb_sessions.specs.Kept as table
+use Rattle.rb_rebuild.specs.Reading.{Reading}
 use Rattle.rb_sessions.specs.declared.cursor.Cursor.{Cursor}
 use Rattle.rb_standing.specs.Standing.{env_of, homes_of}
-use Rattle.rb_standing.specs.States.{BlocksStand}
 use Rattle.rb_views.specs.Laws.{rows_seen}
-use Rattle.rb_views.specs.Scan.{IsAskedKey, IsNextIn, NoneIn}
-use Rattle.rb_views.specs.Views.{IsCursor, Remembers, history, home_in}
+use Rattle.rb_views.specs.Scan.{IsAskedKey}
+use Rattle.rb_views.specs.Views.{history, home_in, IsCursor, Remembers}
 use Rattle.rb_views.proofs.Fetching as views
+use Rattle.rb_engine.specs.Does.{Does, EngineView, Goes, SameStore, Stands}
+use Rattle.rb_engine.proofs.DoesLemmas.{does_cursors, does_loaded}
+use Rattle.rb_model.specs.Book.{book_at}
+use Rattle.rb_model.specs.Calls as machine
+use Rattle.rb_model.specs.Calls.{Answer, Refused, Reply, early_tests, none_applies, next_row}
+use Rattle.rb_model.specs.NextState.{cursors_of, with_cursors, with_taken}
+use Rattle.rb_model.specs.State as state
+use Rattle.rb_model.specs.declared.refusal.Refusal.TheVariants.{NoCursor, TooOld}
+use Rattle.rb_model.specs.declared.row.Fetched.{Fetched}
+use Rattle.rb_model.specs.declared.row.Fetched.TheVariants as fetched
+use Rattle.rb_sessions.specs.Kept.{KeptSession, kept_at, named, with_kept, with_last}
+use Rattle.rb_sessions.specs.Kept as table
+use Rattle.rb_standing.specs.States.{BlocksStand}
+use Rattle.rb_views.proofs.Cursors.{named_is}
+use Rattle.rb_views.proofs.Lost.{lost_is}
+use Rattle.rb_views.proofs.Taken.{taken}
 
 behind_of : (blocks first g : ℕ) (last : Option ℕ) → Begins blocks first g last → (k : ℕ) → k % blocks ≡ g → is_after blocks last k ≡ true → IsBehindKey (if g == first then last else None) k
 behind_of blocks first g None begins k home after = cond_both (g == first) None None (λ (o : Option ℕ). IsBehindKey o k) (λ yes. tt) (λ no. tt)
@@ -52,10 +56,10 @@ behind_of blocks first g (Some l) begins k home after = cond_both (g == first) (
 after_of : (blocks first g : ℕ) (last : Option ℕ) → Begins blocks first g last → (k : ℕ) → k % blocks ≡ g → IsBehindKey (if g == first then last else None) k → is_after blocks last k ≡ true
 after_of blocks first g None begins k home behind = refl
 after_of blocks first g (Some l) begins k home behind = elim (cases_Bool (g == first)) [
-  | inl yes ↦
-      let less : l < k = subst (λ (b : Bool). IsBehindKey (if b then Some l else None) k) yes behind in
-      same_home (l % blocks) (k % blocks) l k g first home (begins.2 l refl) yes less
-  | inr no ↦ later_home (l % blocks) (k % blocks) l k g first home (begins.2 l refl) begins.0 no
+  | inl first_one ↦
+      let less : l < k = subst (λ (b : Bool). IsBehindKey (if b then Some l else None) k) first_one behind in
+      same_home (l % blocks) (k % blocks) l k g first home (begins.2 l refl) first_one less
+  | inr later ↦ later_home (l % blocks) (k % blocks) l k g first home (begins.2 l refl) begins.0 later
 ]
   where
     same_home : (a b l k g first : ℕ) → b ≡ g → first ≡ a → (g == first) ≡ true → l < k → (nat_lt a b || ((a == b) && nat_lt l k)) ≡ true
@@ -65,17 +69,27 @@ after_of blocks first g (Some l) begins k home behind = elim (cases_Bool (g == f
     later_home a b l k g first x y le e = grind (arith, nat_tests)
 
 module _ (h : State) (xids : List Xid) (blocks : List (List ℕ)) (m : Cursor) (reader : IsReader h xids blocks m) (g : ℕ) (g_in : g < h.shape.blocks) where
-  pub may_read : Reading (env_of h.shape blocks) (history h xids blocks (home_in h.shape m.table g) m.own) m.own m.upto m.scn (homes_of h.shape blocks (home_in h.shape m.table g))
+  -- the home may be read at the cursor's snapshot
+  may_read : Reading (env_of h.shape blocks) (history h xids blocks (home_in h.shape m.table g) m.own) m.own m.upto m.scn (homes_of h.shape blocks (home_in h.shape m.table g))
   may_read = views.reads h xids blocks reader.stand reader.session (record { name = reader.name; cursor = m }) reader.cursor reader.is g g_in
 
-  module _ (first : ℕ) (begins : Begins h.shape.blocks first g m.last) (after : Option ℕ) (after_is : after ≡ (if g == first then m.last else None)) (shown : ℕ → Option (List ℕ)) (shows : (k : ℕ) → shown k ≡ rows_seen h xids blocks m g k) where
+  pub home_read : (shape : Shape) → shape ≡ h.shape → (block : ℕ) → block ≡ home_in h.shape m.table g
+      → IsHomeRead shape blocks block (history h xids blocks (home_in h.shape m.table g) m.own) (record { scn = m.scn; own = m.own; upto = m.upto })
+  home_read shape same block at =
+      let hist = history h xids blocks (home_in h.shape m.table g) m.own in
+      let snap : Snapshot = record { scn = m.scn; own = m.own; upto = m.upto } in
+      subst (λ (k : Shape). IsHomeRead k blocks block hist snap) (sym same) (subst (λ (n : ℕ). IsHomeRead h.shape blocks n hist snap) (sym at) may_read)
+
+  module _ (first : ℕ) (begins : Begins h.shape.blocks first g m.last) (after : Option ℕ) (after_is : after ≡ (if g == first then m.last else None)) where
+    abbrev seen : ℕ → Option (List ℕ)
+    seen = rows_seen h xids blocks m g
+
     wanted_of : (k : ℕ) → IsAskedKey h.shape.blocks m.lo m.hi m.last g k → IsWanted after m.lo m.hi k
     wanted_of k asked = (subst (λ (o : Option ℕ). IsBehindKey o k) (sym after_is) (behind_of h.shape.blocks first g m.last begins k asked.home asked.after), asked.low, asked.high)
 
-    pub has_next : (row : Row) → IsNext after m.lo m.hi shown row → HasNext h xids blocks m g row
+    has_next : (row : Row) → IsNext after m.lo m.hi seen row → HasNext h xids blocks m g row
     has_next row next =
-        let seen : rows_seen h xids blocks m g row.key ≡ Some row.value.items = sym (shows row.key) ∙ next.shows in
-        let home = seen_in_home h xids blocks m g row.key row.value.items (omega (arith, g_in)) g_in seen in
+        let home : row.key % h.shape.blocks ≡ g = seen_in_home h xids blocks m g row.key row.value.items (omega (arith, g_in)) g_in next.shows in
         record {
           asked = record {
             home = home;
@@ -83,22 +97,119 @@ module _ (h : State) (xids : List Xid) (blocks : List (List ℕ)) (m : Cursor) (
             high = next.wanted.2;
             after = after_of h.shape.blocks first g m.last begins row.key home (subst (λ (o : Option ℕ). IsBehindKey o row.key) after_is next.wanted.0);
           };
-          row = seen;
-          least = λ k asked less. nothing k asked less (rows_seen h xids blocks m g k) refl;
+          row = next.shows;
+          least = λ k asked less. nothing k asked less (seen k) refl;
         }
       where
-        nothing : (k : ℕ) → IsAskedKey h.shape.blocks m.lo m.hi m.last g k → k < row.key → (o : Option (List ℕ)) → rows_seen h xids blocks m g k ≡ o → rows_seen h xids blocks m g k ≡ None
+        nothing : (k : ℕ) → IsAskedKey h.shape.blocks m.lo m.hi m.last g k → k < row.key → (o : Option (List ℕ)) → seen k ≡ o → seen k ≡ None
         nothing k asked less None is = is
-        nothing k asked less (Some v) is = let low = next.least k v (wanted_of k asked) (shows k ∙ is) in absurd (omega (arith, low, less))
+        nothing k asked less (Some v) is = let low = next.least k v (wanted_of k asked) is in absurd (omega (arith, low, less))
 
-    pub has_none : ((k : ℕ) → IsWanted after m.lo m.hi k → shown k ≡ None) → HasNone h xids blocks m g
-    has_none none k asked = sym (shows k) ∙ none k (wanted_of k asked)
+    has_none : ((k : ℕ) → IsWanted after m.lo m.hi k → seen k ≡ None) → HasNone h xids blocks m g
+    has_none none k asked = none k (wanted_of k asked)
+
+    -- what the search of a home found
+    pub found_next : (row : Row) (result : Result Bool CrFault) → IfOk result (λ found. found ≡ true → IsNext after m.lo m.hi seen row) → IfOk result (λ found. found ≡ false → (k : ℕ) → IsWanted after m.lo m.hi k → seen k ≡ None)
+        → IfOk result (λ found. (found ≡ true → HasNext h xids blocks m g row) × (found ≡ false → HasNone h xids blocks m g))
+    found_next row (Ok found) given none = (λ yes. has_next row (given yes), λ no. has_none (none no))
+    found_next row (Err fault) given none = tt
 
 -- why a home couldn't be read
-pub is_behind : (h : State) (blocks : List (List ℕ)) (m : Cursor) (why : ℕ → Type 0) (fault : CrFault) → Because (env_of h.shape blocks) m.scn why fault → IsBehind h blocks m fault
-is_behind h blocks m why faults.Failed because = tt
-is_behind h blocks m why (faults.TooOld scn lost) because = (because.0, omega (arith, because.0, because.1), (because.2.0, because.2.1))
+behind_by : (h : State) (blocks : List (List ℕ)) (m : Cursor) (why : ℕ → Type 0) (fault : CrFault) → Because (env_of h.shape blocks) m.scn why fault → IsBehind h blocks m fault
+behind_by h blocks m why faults.Failed because = tt
+behind_by h blocks m why (faults.TooOld scn lost) because = (because.0, omega (arith, because.0, because.1), (because.2.0, because.2.1))
 
--- a reader stays one over loads
-pub reader_on : (h : State) (xids : List Xid) (blocks now : List (List ℕ)) (m : Cursor) → now ≡ blocks → IsReader h xids blocks m → IsReader h xids now m
-reader_on h xids blocks now m same reader = subst (λ (b : List (List ℕ)). IsReader h xids b m) (sym same) reader
+pub is_behind : (h : State) (blocks : List (List ℕ)) (m : Cursor) (shape : Shape) → shape ≡ h.shape → (why : ℕ → Type 0) (result : Result Bool CrFault) → IfErr result (Because (env_of shape blocks) m.scn why) → IfErr result (IsBehind h blocks m)
+is_behind h blocks m shape same why result because =
+    IfErr-weaker result (Because (env_of shape blocks) m.scn why) (IsBehind h blocks m)
+    (λ fault is. behind_by h blocks m why fault (subst (λ (k : Shape). Because (env_of k blocks) m.scn why fault) same is)) because
+
+-- Loads leave the blocks, so a reader stays one.
+module _ {S : Type 0} (s : Ghosts S) (old new : S) (logs : Logs s old new [] true) (told : s.tells) where
+  pub same_blocks : s.blocks new ≡ s.blocks old
+  same_blocks = logs.blocks told refl
+
+  pub reader_on : (h : State) (xids : List Xid) (m : Cursor) → IsReader h xids (s.blocks old) m → IsReader h xids (s.blocks new) m
+  reader_on h xids m reader = subst (λ (b : List (List ℕ)). IsReader h xids b m) (sym same_blocks) reader
+
+-- what a fetch answers behind its early tests, by the cursor of the name
+pub answer_by : (h : State) (who : ℕ) (name : List ℕ) (o : Option state.Cursor) (r : Answer) → cursor_of h who name ≡ o → r ≡ machine.first_of ((is_none o, Refused NoCursor) ∷ []) (next_row h o)
+    → r ≡ machine.first_of (machine.cursor_tests h (machine.Fetch who name)) (machine.granted h (machine.Fetch who name))
+answer_by h who name o r is answer = subst (λ (z : Option state.Cursor). r ≡ machine.first_of ((is_none z, Refused NoCursor) ∷ []) (next_row h z)) (sym is) answer
+
+-- an engine that stands for a state, and a cursor that its table has
+module _ {S : Type 0} (s : Ghosts S) (laws : Laws s) (h : State) (old : EngineView S) (st : Stands s h old) (going : h.stopped ≡ false) (who : ℕ) (there : (1 ≤ who) × (who ≤ 16)) (name : List ℕ) (early : none_applies (early_tests h (machine.Fetch who name)) ≡ true)
+    (m : Cursor) (is_named : named name (kept_at old.memory.sessions who).cursors ≡ Some m) where
+  abbrev blocks : List (List ℕ)
+  blocks = s.blocks old.store
+
+  abbrev goes : Goes s h old
+  goes = st.goes going
+
+  -- it is one in the machine
+  cursor_for : (xids : List Xid) → Remembers h xids (env_of h.shape blocks) old.memory.sessions
+      → (c : state.Cursor) × (cursor_of h who name ≡ Some c) × IsCursor h xids (env_of h.shape blocks) who (record { name = name; cursor = m }) c
+  cursor_for xids knows = (named_is h xids (env_of h.shape blocks) who name old.memory.sessions knows there.0 there.1).1 m is_named
+
+  reader_for : (xids : List Xid) → BlocksStand h xids blocks → Remembers h xids (env_of h.shape blocks) old.memory.sessions → IsReader h xids blocks m
+  reader_for xids stand knows =
+      let one = cursor_for xids knows in
+      record { stand = stand; session = who; low = there.0; name = name; cursor = one.0; is = one.2 }
+
+  reader : IsReader h goes.xids blocks m
+  reader = reader_for goes.xids goes.holds.blocks goes.remembers
+
+  one : (c : state.Cursor) × (cursor_of h who name ≡ Some c) × IsCursor h goes.xids (env_of h.shape blocks) who (record { name = name; cursor = m }) c
+  one = cursor_for goes.xids goes.remembers
+
+  answers : (logged room : ℕ) (r : Answer) → next_row h (Some one.0) ≡ r → Reply h logged room (machine.Fetch who name) r
+  answers logged room r is = Reply.later (machine.cursor_tests h (machine.Fetch who name)) early refl (answer_by h who name (Some one.0) r one.1 (sym is))
+
+  -- what the search found, and what that makes of the call
+  module _ (new : EngineView S) (same : SameStore s old.store new.store) (logs : Logs s old.store new.store [] true) (row : Row) (result : Result Fetched CrFault)
+      (found : (xids : List Xid) → IsReader h xids blocks m → Finds h xids blocks m result row) where
+    finds : (xids : List Xid) → IsReader h xids blocks m → (r : Result Fetched CrFault) → result ≡ r → Finds h xids blocks m r row
+    finds xids by r is = subst (λ (x : Result Fetched CrFault). Finds h xids blocks m x row) is (found xids by)
+
+    pub does_row : result ≡ Ok fetched.Row → new.memory.stopped ≡ old.memory.stopped → new.memory.scn ≡ old.memory.scn
+        → new.memory.sessions ≡ with_kept old.memory.sessions who (table.with_cursors (kept_at old.memory.sessions who) (with_last name row.key (kept_at old.memory.sessions who).cursors))
+        → Does s h (machine.Fetch who name) (machine.Given row.key row.value.items) old new
+    does_row is stopped scn moved =
+        let here = finds goes.xids reader (Ok fetched.Row) is in
+        let gives = views.gives h goes.xids blocks goes.holds.blocks who (record { name = name; cursor = m }) one.0 one.2 here.0 row.key row.value.items here.2 here.3 in
+        does_cursors s st.told laws h (machine.Fetch who name) (machine.Given row.key row.value.items) who (with_taken name (cursors_of h who)) old new st going
+        (there.0, (let n = st.knows.sixteen in omega (arith, n, there)))
+        (answers _ _ (machine.Given row.key row.value.items) gives) refl refl (λ s t k a is done. cc) refl stopped scn
+        (λ xids stand knows.
+        (let f = finds xids (reader_for xids stand knows) (Ok fetched.Row) is in
+        subst (Remembers (with_cursors h who (with_taken name (cursors_of h who))) xids (env_of h.shape blocks)) (sym moved)
+        (taken h xids blocks stand who name m f.0 row.key row.value.items f.2 f.3 old.memory.sessions knows there.0 there.1 is_named)))
+        logs same
+
+    pub does_end : result ≡ Ok fetched.End → new.memory ≡ old.memory → Does s h (machine.Fetch who name) machine.End old new
+    does_end is memory =
+        does_loaded s st.told laws h (machine.Fetch who name) machine.End old new st
+        (answers _ _ machine.End (views.ends h goes.xids blocks goes.holds.blocks who (record { name = name; cursor = m }) one.0 one.2 (finds goes.xids reader (Ok fetched.End) is))) refl refl (λ s t k a is done. cc) memory (λ _. logs) same
+
+    pub does_old : (scn lost : ℕ) → result ≡ Err (faults.TooOld scn lost) → new.memory ≡ old.memory → Does s h (machine.Fetch who name) (Refused (TooOld scn lost)) old new
+    does_old scn lost is memory =
+        let behind = finds goes.xids reader (Err (faults.TooOld scn lost)) is in
+        let seg = behind.2.0 in
+        let number : m.scn ≡ one.0.number = one.2.number in
+        let book = lost_is h goes.xids blocks seg scn goes.holds.blocks (let a = behind.1 in let b = behind.2.1 in omega (arith, a, b)) in
+        let given_up : (book_at h.books seg).lost ≡ lost = book.1 ∙ sym behind.2.1 in
+        does_loaded s st.told laws h (machine.Fetch who name) (Refused (TooOld scn lost)) old new st
+        (Reply.old early (record {
+          session = who;
+          name = name;
+          fetches = refl;
+          cursor = one.0;
+          named = one.1;
+          seg = seg;
+          there = book.0;
+          above = (let a = behind.0 in let b = behind.1 in omega (arith, a, b, number, given_up));
+          answer = too_old scn lost one.0.number (book_at h.books seg).lost (behind.0 ∙ number) (sym given_up);
+        })) refl refl (λ s t k a is done. cc) memory (λ _. logs) same
+      where
+        too_old : (a b x y : ℕ) → a ≡ x → b ≡ y → Refused (TooOld a b) ≡ Refused (TooOld x y)
+        too_old a b x y e f = rw (e, f) refl

@@ -1,7 +1,6 @@
 -- What a commit leaves, from the groups of its step, and what the end of a transaction without a slot does.
-use Rattle.std.proofs.Common.{◌≡◌, ◌≢◌, ◌⊎◌, inl, inr, ◌<◌, ◌≤◌, ◌+◌, ◌-◌, ◌*◌, ◌^◌, ◌∷◌, ◌++◌, ◌&&◌, nat_le, ℕ, Bool, true, false, not, min, List, [], length, map, set, Option, Some, None, Result, Ok, Err, OnOk, refl, sym, ◌∙◌, ap, subst, arith, append-nil, length-append}
+use Rattle.std.proofs.Common.{◌≡◌, inl, ◌<◌, ◌≤◌, ◌+◌, ◌-◌, ◌^◌, ◌∷◌, ◌++◌, ◌&&◌, nat_le, ℕ, true, false, not, min, List, [], length, map, set, Some, None, Result, Ok, Err, OnOk, refl, sym, ◌∙◌, ap, subst, arith, append-nil, length-append}
 use Rattle.std.proofs.lemmas.Bool.{le-leb, and_from}
-use Rattle.std.proofs.lemmas.Bool.Decides.{nat_tests}
 use Rattle.std.proofs.lemmas.List.{length-set}
 use Rattle.std.specs.Result.{is_err}
 use Rattle.rb_attempt.specs.Asks.{header_in}
@@ -11,7 +10,7 @@ use Rattle.rb_base.specs.Logs.{Laws, Logs, more_logs, no_logs}
 use Rattle.rb_base.specs.Stores.{room_of}
 use Rattle.rb_base.specs.declared.ids.Xid.{Xid}
 use Rattle.rb_base.specs.declared.store.Store.{Ghosts}
-use Rattle.rb_engine.specs.Does.{Does, EngineView, Goes, Kept, Keeps, SameStore, Stands}
+use Rattle.rb_engine.specs.Does.{Does, EngineView, Goes, Keeps, SameStore, Stands}
 use Rattle.rb_engine.specs.Finishing.{Commits, Fails}
 use Rattle.rb_engine.proofs.DoesLemmas.{does_by, does_fault, holds_cursors, knows_on, survives_same}
 use Rattle.rb_image.specs.Crash.{Survives}
@@ -19,7 +18,7 @@ use Rattle.rb_image.specs.Holds.{Holds}
 use Rattle.rb_image.specs.Made.{CommitMade, GivesOne}
 use Rattle.rb_image.proofs.CommitHeld.{commit_fault, holds_committed}
 use Rattle.rb_image.proofs.Owners.{OwnedBy, none_owned, owned_by}
-use Rattle.rb_model.specs.Calls.{Answer, Call, Commit, Done, HasNoSlot, Numbered, Refused, Reply, early_tests, is_empty, none_applies}
+use Rattle.rb_model.specs.Calls.{Call, Commit, Done, HasNoSlot, Numbered, Refused, Reply, early_tests, is_empty, none_applies}
 use Rattle.rb_model.specs.Change.{Change}
 use Rattle.rb_model.specs.NextState.{After, GrowsBy, committed, ended, not_present, with_cursors}
 use Rattle.rb_model.specs.Rows.{last_scn}

@@ -1,11 +1,11 @@
 -- What an opening makes of a store whose blocks open to a state: an engine that stands for it, and images that restart
 -- in it.
-use Rattle.std.proofs.Common.{◌≡◌, ◌≢◌, ◌<◌, ◌≤◌, ◌+◌, ◌-◌, ◌*◌, ◌^◌, ℕ, zero, suc, Bool, true, false, not, List, [], length, take, get_or, replicate, Option, Some, None, Result, Ok, Err, IfErr, IsErrOf, append-nil, refl, sym, ◌∙◌, ap, subst, arith}
+use Rattle.std.proofs.Common.{◌≡◌, ◌≢◌, ◌<◌, ◌≤◌, ◌+◌, ◌-◌, ◌^◌, ℕ, zero, suc, Bool, true, false, not, List, [], length, take, get_or, replicate, Option, Some, None, Result, Ok, Err, IfErr, IsErrOf, append-nil, refl, sym, ◌∙◌, ap, subst, arith}
 use Rattle.std.proofs.Math.Seq.{take-nil}
 use Rattle.std.proofs.lemmas.List.{take_all}
 use Rattle.std.proofs.lemmas.List.FromFn.{get_or-map-range_with_len}
 use Rattle.std.specs.List.{flat_map}
-use Rattle.rb_base.specs.Blocks.{IsShape, after_groups}
+use Rattle.rb_base.specs.Blocks.{after_groups}
 use Rattle.rb_base.specs.Counts.{err_is, is_failed}
 use Rattle.rb_base.specs.Groups.{Patch}
 use Rattle.rb_base.specs.Keeps.{AfterEach, Keeps}
@@ -14,7 +14,6 @@ use Rattle.rb_base.specs.Moments.{weaker}
 use Rattle.rb_base.specs.Stores.{room_of}
 use Rattle.rb_base.specs.declared.faults.OpenFault.{OpenFault}
 use Rattle.rb_base.specs.declared.faults.OpenFault.TheVariants.{Failed, NoMemory, NotAStore}
-use Rattle.rb_base.specs.declared.ids.Xid.{Xid}
 use Rattle.rb_base.specs.declared.shape.Shape.{Shape}
 use Rattle.rb_base.specs.declared.store.Store.{Ghosts}
 use Rattle.rb_engine.specs.Does.{InTables, IsInStep, Kept, changes_kept}
@@ -74,11 +73,10 @@ fresh_at u = by (u - 1) 16
     by (suc i) (suc n) = by i n
 
 -- an engine that was just opened is in step
-pub in_step : {S : Type 0} (s : Ghosts S) (kept : Kept) (old new : S) (groups : List (List Patch)) → Logs s old new groups true → length groups ≤ 2 ^ 40 → s.lsn old ≤ 2 ^ 61 + 4096 → IsShape (s.shape_of old)
+pub in_step : {S : Type 0} (s : Ghosts S) (kept : Kept) (old new : S) (groups : List (List Patch)) → Logs s old new groups true → length groups ≤ 2 ^ 40 → s.lsn old ≤ 2 ^ 61 + 4096
     → kept.sessions ≡ replicate SESSIONS fresh → IsInStep s kept new
-in_step s kept old new groups logs few low in_range is =
+in_step s kept old new groups logs few low is =
     let at : (u : ℕ) → kept_at kept.sessions u ≡ fresh = λ u. ap (λ (l : List KeptSession). kept_at l u) is ∙ fresh_at u in record {
-      in_range = subst IsShape (sym logs.same_shape) in_range;
       counted = ap (λ (l : List KeptSession). length l) is;
       tables = λ u. subst (InTables (s.shape_of new)) (sym (at u)) tt;
       own = λ u x has. let clash : None ≡ Some x = ap (λ (k : KeptSession). k.own) (sym (at u)) ∙ has in absurd cc;

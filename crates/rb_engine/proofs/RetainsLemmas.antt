@@ -1,17 +1,17 @@
 -- What a write that is done gives up, where blocks stand for the state before it.
-use Rattle.std.proofs.Common.{◌≡◌, ◌≢◌, ◌⊎◌, inl, inr, ⊎_elim, ◌<◌, ◌≤◌, ◌+◌, ◌*◌, ◌/◌, ◌%◌, ℕ, Bool, true, false, max, if◌then◌else◌, List, [], ◌∷◌, ◌++◌, length, set, Option, Some, None, IsTrue, is_some, refl, sym, ◌∙◌, ap, subst, arith}
+use Rattle.std.proofs.Common.{◌≡◌, ◌⊎◌, inl, inr, ⊎_elim, ◌<◌, ◌≤◌, ◌+◌, ◌*◌, ◌/◌, ◌%◌, ℕ, Bool, true, false, if◌then◌else◌, List, set, refl, sym, ◌∙◌, ap, subst, arith}
 use Rattle.std.proofs.lemmas.Bool.{cases_Bool, cases_lt, false≢true}
 use Rattle.std.proofs.lemmas.Bool.Decides.{nat_tests}
 use Rattle.std.proofs.lemmas.List.{get_or-set_same, get_or-set_other}
 use Rattle.rb_base.specs.declared.ids.Xid.{Xid}
 use Rattle.rb_engine.specs.Retains.{IsOldestSlot, Retains, book_ready}
-use Rattle.rb_model.specs.Book.{Book, BookSlot, IsBegun, IsFirstFree, book_at, book_slot, fresh_book, is_full, is_pinned, later_numbers, marked, needs_turn, oldest_number, taken, turned}
+use Rattle.rb_model.specs.Book.{Book, IsFirstFree, book_at, fresh_book, is_full, is_pinned, marked, needs_turn, taken}
 use Rattle.rb_model.specs.BookLaws.{AreSlotsApart, IsBookSound, IsTurnDropped}
-use Rattle.rb_model.specs.Calls.{Action, Owned, WritesIn, has_slot}
+use Rattle.rb_model.specs.Calls.{Owned, WritesIn, has_slot}
 use Rattle.rb_model.specs.NextState.{written}
 use Rattle.rb_model.specs.Change.{Change}
 use Rattle.rb_model.specs.State.{State}
-use Rattle.rb_model.proofs.BookLemmas.{drops_one, needs, reuses_one, taken_sound}
+use Rattle.rb_model.proofs.BookLemmas.{drops_one, reuses_one, taken_sound}
 use Rattle.rb_segment.specs.Books.{IsBook}
 use Rattle.rb_standing.specs.Standing.{segments_of}
 use Rattle.rb_standing.specs.States.{BlocksStand}

@@ -264,10 +264,10 @@ module _ {S : Type 0} (s : Ghosts S) where
 -- The log has room for the put backs of all changes of a transaction, and for its end.
 module _ {S : Type 0} (s : Ghosts S) (told : s.tells) (laws : Laws s) (h : State) (old : EngineView S) (who : ℕ) (x : Xid) (st : Stands s h old) (going : h.stopped ≡ false)
     (there : (1 ≤ who) × (who ≤ 16)) (own_is : (kept_at old.memory.sessions who).own ≡ Some x) where
-  held : Goes s h old
+  abbrev pub held : Goes s h old
   held = goes s told laws h old who x st going there own_is
 
-  id : OwnedBy h (s.blocks old.store) who x
+  abbrev pub id : OwnedBy h (s.blocks old.store) who x
   id = own_by s told laws h old who x st going there own_is
 
   pub starts : Starts s h held.xids who x (length (session_own h who)) old.store

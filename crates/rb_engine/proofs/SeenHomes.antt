@@ -1,5 +1,5 @@
 -- A cursor sees rows of a home's own keys in it, and no others.
-use Rattle.std.proofs.Common.{◌≡◌, ◌≢◌, inl, inr, ◌<◌, ◌≤◌, ◌+◌, ◌-◌, ◌*◌, ◌%◌, ◌==◌, nat_lt, ℕ, zero, suc, Bool, true, false, cond, List, [], ◌∷◌, ◌++◌, length, map, get_or, Option, Some, None, refl, sym, ◌∙◌, ap, subst, arith}
+use Rattle.std.proofs.Common.{◌≡◌, ◌≢◌, inl, inr, ◌<◌, ◌≤◌, ◌+◌, ◌-◌, ◌*◌, ◌%◌, ◌==◌, nat_lt, ℕ, zero, suc, true, List, [], ◌∷◌, ◌++◌, map, Option, Some, None, refl, sym, ◌∙◌, ap, subst, arith}
 use Rattle.std.proofs.lemmas.Bool.{cases_eq, cond_both, ne_eqb}
 use Rattle.std.proofs.lemmas.Nat.{mod-mul-add}
 use Rattle.std.specs.List.{range_with_len}
@@ -8,7 +8,6 @@ use Rattle.rb_base.specs.declared.shape.Shape.{Shape}
 use Rattle.rb_model.specs.Book.{Owner}
 use Rattle.rb_model.specs.Change as model
 use Rattle.rb_model.specs.Change.{Kind, Put, Gone, Held}
-use Rattle.rb_model.specs.Rows.{TableRow}
 use Rattle.rb_model.specs.State.{State, owner_at, session_own}
 use Rattle.rb_rebuild.specs.Keeping.{behind_mine, is_first}
 use Rattle.rb_rebuild.specs.Reading.{flat, rows_at}

@@ -1,12 +1,10 @@
 -- The engine stays in order as one session of its table moves.
-use Rattle.std.proofs.Common.{◌≡◌, ◌⊎◌, inl, inr, ⊎_elim, ◌<◌, ◌≤◌, ◌+◌, ◌-◌, ◌*◌, ◌^◌, ℕ, zero, suc, Bool, true, false, not, ◌&&◌, nat_lt, cond, min, List, [], ◌∷◌, ◌++◌, length, map, filter, set, get_or, replicate, Option, Some, None, refl, sym, ◌∙◌, ap, subst, arith}
+use Rattle.std.proofs.Common.{◌≡◌, inl, inr, ◌<◌, ◌≤◌, ◌+◌, ◌-◌, ◌*◌, ◌^◌, ℕ, suc, Bool, false, not, ◌&&◌, nat_lt, List, [], ◌∷◌, ◌++◌, length, map, filter, set, get_or, Option, Some, None, refl, sym, ◌∙◌, ap, subst, arith}
 use Rattle.std.proofs.lemmas.Bool.{cases_eq, cond_both}
 use Rattle.std.proofs.lemmas.List.{get_or-set_same, get_or-set_other, length-set}
-use Rattle.std.specs.List.{AllByRecursion, sum_by}
+use Rattle.std.proofs.lemmas.List.Sums.{sum_by-cons, sum_by-set}
+use Rattle.std.specs.List.{AllByRecursion}
 use Rattle.std.specs.Str.{bytes_eq}
-use Rattle.rb_base.specs.Blocks.{IsShape}
-use Rattle.rb_base.specs.Logs.{Logs}
-use Rattle.rb_base.specs.Groups.{Patch}
 use Rattle.rb_base.specs.declared.ids.Xid.{Xid}
 use Rattle.rb_base.specs.declared.shape.Shape.{Shape}
 use Rattle.rb_base.specs.declared.store.Store.{Ghosts}
@@ -47,17 +45,13 @@ named_in shape name (c ∷ l) m all is =
 
 -- How many changes all sessions have.
 
-pub changes_set : (l : List KeptSession) (i : ℕ) (k : KeptSession) → i < length l → changes_kept (set l i k) + (get_or l i fresh).count ≡ changes_kept l + k.count
-changes_set [] i k lt = absurd (omega (arith, lt))
-changes_set (x ∷ l) zero k lt = omega arith
-changes_set (x ∷ l) (suc i) k lt = let rest = changes_set l i k (omega (arith, lt)) in omega (arith, rest)
-
 changes_few : (l : List KeptSession) → ((i : ℕ) → (get_or l i fresh).count < 2 ^ 32) → changes_kept l ≤ 2 ^ 32 * length l
 changes_few [] small = omega arith
 changes_few (x ∷ l) small =
     let here = small 0 in
+    let all = sum_by-cons (λ (k : KeptSession). k.count) x l in
     let rest = changes_few l (λ i. small (suc i)) in
-    omega (arith, here, rest)
+    omega (arith, here, all, rest)
 
 -- one session's part of what is in order
 pub record IsFit (shape : Shape) (k : KeptSession) : Type 0 where
@@ -113,7 +107,6 @@ module _ {S : Type 0} (s : Ghosts S) where
     in_step_same same goes =
         let at : (u : ℕ) → kept_at now.sessions u ≡ kept_at kept.sessions u = λ u. ap (λ (l : List KeptSession). kept_at l u) same in
         record {
-          in_range = subst IsShape (sym shape) is.in_range;
           counted = ap (λ (l : List KeptSession). length l) same ∙ is.counted;
           tables = λ u. subst (λ (h : Shape). InTables h (kept_at now.sessions u)) (sym shape) (subst (InTables (s.shape_of old)) (sym (at u)) (is.tables u));
           own = λ u x mine. subst (λ (h : Shape). (x.seg < h.segments) × (x.slot < 16)) (sym shape) (is.own u x (ap (λ (k : KeptSession). k.own) (sym (at u)) ∙ mine));
@@ -146,11 +139,10 @@ module _ {S : Type 0} (s : Ghosts S) where
       ])
 
       pub sum_moved : changes_kept now.sessions + (kept_at kept.sessions u).count ≡ changes_kept kept.sessions + k.count
-      sum_moved = ap (λ (l : List KeptSession). changes_kept l + (kept_at kept.sessions u).count) moved ∙ changes_set kept.sessions (u - 1) k within
+      sum_moved = ap (λ (l : List KeptSession). changes_kept l + (kept_at kept.sessions u).count) moved ∙ sum_by-set (λ (x : KeptSession). x.count) kept.sessions (u - 1) k fresh within
 
       pub in_step_moved : (now.stopped ≡ false → (s.failed new ≡ false) × (s.lsn new + 2 * changes_kept now.sessions ≤ 2 ^ 61 + 2 ^ 60)) → IsInStep s now new
       in_step_moved goes = record {
-        in_range = subst IsShape (sym shape) is.in_range;
         counted = ap (λ (l : List KeptSession). length l) moved ∙ (length-set kept.sessions (u - 1) k ∙ is.counted);
         tables = λ r. (fit_now r).tables;
         own = λ r. (fit_now r).own;
@@ -165,7 +157,7 @@ module _ {S : Type 0} (s : Ghosts S) where
       pub few_wrote : s.lsn new ≤ 2 ^ 60 → k.count < 2 ^ 32 → s.lsn new + 2 * changes_kept now.sessions ≤ 2 ^ 61 + 2 ^ 60
       few_wrote low small =
           let sum = sum_moved in
-          let few = changes_few kept.sessions (λ i. let less = is.small (i + 1) in omega (arith, less)) in
+          let few = changes_few kept.sessions (λ i. subst (λ (j : ℕ). (get_or kept.sessions j fresh).count < 2 ^ 32) (let e : i + 1 - 1 ≡ i = omega arith in e) (is.small (i + 1))) in
           omega (arith, low, small, sum, few, is.counted)
 
       -- As many changes as before, or fewer by as many as twice the groups that it took.

@@ -1,6 +1,5 @@
 -- What a write of a session does with the state, from the group of its step.
-use Rattle.std.proofs.Common.{◌≡◌, ◌≢◌, ◌⊎◌, inl, inr, ◌<◌, ◌≤◌, ◌+◌, ◌*◌, ◌/◌, ◌%◌, ◌==◌, ◌&&◌, ℕ, Bool, true, false, not, nat_le, List, [], ◌∷◌, ◌++◌, length, Option, Some, None, Result, Ok, Err, refl, sym, ◌∙◌, ap, subst, arith}
-use Rattle.std.proofs.Math.Nat.{div-add-mod}
+use Rattle.std.proofs.Common.{◌≡◌, ◌≢◌, ◌≤◌, ◌+◌, ◌&&◌, ℕ, Bool, true, false, not, nat_le, List, [], ◌∷◌, ◌++◌, length, Option, Some, None, Err, refl, sym, ◌∙◌, ap, subst, arith}
 use Rattle.std.proofs.lemmas.List.{length-set}
 use Rattle.std.proofs.lemmas.Bool.Decides.{nat_tests}
 use Rattle.rb_attempt.specs.Refusals.{has_failed}
@@ -14,24 +13,24 @@ use Rattle.rb_base.specs.declared.store.Store.{Ghosts}
 use Rattle.rb_engine.specs.Does.{Does, EngineView, Goes, Kept, Keeps, Knows, SameStore, Stands}
 use Rattle.rb_engine.specs.Retains.{Retains}
 use Rattle.rb_engine.specs.Scanning.{OtherHolds}
-use Rattle.rb_engine.proofs.DoesLemmas.{does_by, does_fault, does_loaded, knows_on}
+use Rattle.rb_engine.proofs.DoesLemmas.{does_by, does_fault, does_loaded, goes_logged, knows_on, survives_same}
 use Rattle.rb_engine.proofs.RetainsLemmas.{retains}
+use Rattle.rb_image.proofs.Crashes.{survives_on}
 use Rattle.rb_image.proofs.Owners.{OwnedBy, owned_by}
 use Rattle.rb_image.proofs.StepsHeld.{holds_written, write_fault}
-use Rattle.rb_image.specs.Holds.{Holds}
+use Rattle.rb_image.specs.Crash.{Survives}
 use Rattle.rb_image.specs.Made.{GivesOne, WriteMade}
-use Rattle.rb_model.specs.Calls.{Action, Answer, Done, Refused, Reply, Waits, Write, early_tests, first_of, is_disk_fault, none_applies, waited, write_tests, WritesIn}
+use Rattle.rb_model.specs.Calls.{Action, Answer, Call, Done, Refused, Reply, Waits, Write, early_tests, failed_in, first_of, is_disk_fault, none_applies, waited, write_tests, WritesIn}
 use Rattle.rb_model.specs.NextState.{change_in, written}
-use Rattle.rb_model.specs.Book.{Owner}
-use Rattle.rb_model.specs.State.{State, owner_at}
+use Rattle.rb_model.specs.State.{State}
 use Rattle.rb_model.specs.Tests.{holder}
 use Rattle.rb_model.specs.declared.refusal.Refusal.{Refusal}
 use Rattle.rb_model.specs.declared.refusal.Refusal.TheVariants.{DiskFault}
 use Rattle.rb_model.proofs.Stops.{the_fault}
 use Rattle.rb_sessions.specs.Kept.{KeptSession, kept_at, with_kept, wrote}
 use Rattle.rb_standing.specs.Standing.{env_of}
-use Rattle.rb_standing.specs.States.{BlocksStand, Owns}
-use Rattle.rb_undoengine.specs.Steps.{IsAbout, IsHolder, NotOthers, refusal_of}
+use Rattle.rb_standing.specs.States.{BlocksStand}
+use Rattle.rb_undoengine.specs.Steps.{IsAbout, IsHolder, refusal_of}
 use Rattle.rb_verdict.specs.Verdict.{IsOwnId}
 use Rattle.rb_views.specs.Views.{Remembers}
 use Rattle.rb_views.proofs.Written.{written_remembered}
@@ -60,7 +59,7 @@ own_id s h old goes who there = (goes.remembers.each who there.0 there.1).id
 
 module _ {S : Type 0} (s : Ghosts S) (told : s.tells) (laws : Laws s) (h : State) (old : EngineView S) (st : Stands s h old) (going : h.stopped ≡ false) (who table key : ℕ) (action : Action)
     (there : (1 ≤ who) × (who ≤ 16)) (early : none_applies (early_tests h (Write who table key action)) ≡ true) where
-  goes : Goes s h old
+  abbrev pub goes : Goes s h old
   goes = st.goes going
 
   abbrev pub Room : ℕ
@@ -124,41 +123,47 @@ module _ {S : Type 0} (s : Ghosts S) (told : s.tells) (laws : Laws s) (h : State
     pub step_waits : (u : ℕ) → OtherHolds h who table key (Some u) → (place : (g : ℕ) × (i : ℕ) × WritesIn h who g i) → new.memory ≡ old.memory → Logs s old.store new.store [] true → Does s h (Write who table key action) (Waits u) old new
     step_waits u held place memory logs =
         let tests = write_tests h (s.lsn old.store) Room place.0 place.1 who table key action in
-        does_loaded s told laws h (Write who table key action) (Waits u) old new st (answered place.0 place.1 place.2 (Waits u) (waits_first u held.1 (holder h table key) held.0)) refl refl (λ s t k a is done. cc) memory (λ _. logs) same
+        does_loaded s told laws h (Write who table key action) (Waits u) old new st (answered place.0 place.1 place.2 (Waits u) (waits_first u held.1 (holder h table key) held.0 _)) refl refl (λ s t k a is done. cc) memory (λ _. logs) same
       where
-        waits_first : (u : ℕ) → u ≢ who → (o : Option ℕ) → o ≡ Some u → {rest : List (Bool × Answer)} → first_of (waited who o ++ rest) Done ≡ Waits u
-        waits_first u ne o is = subst (λ (p : Option ℕ). first_of (waited who p ++ _) Done ≡ Waits u) (sym is) (rw (differ u ne) refl)
-
         differ : (u : ℕ) → u ≢ who → not (nat_le u who && nat_le who u) ≡ true
         differ u ne = grind (arith, nat_tests)
 
--- Who holds the key, by the table.
-module _ (h : State) (xids : List Xid) (blocks : List (List ℕ)) (sessions : List KeptSession) (knows : Remembers h xids (env_of h.shape blocks) sessions) (table key : ℕ) (x : Xid) (held : IsHolder h (env_of h.shape blocks) table key (Some x)) where
-  -- The session that has the id in the table is the machine's.
-  pub holder_is : (u : ℕ) → (1 ≤ u) × (u ≤ 16) → (kept_at sessions u).own ≡ Some x → holder h table key ≡ Some u
-  holder_is u there own =
-      let mine : (t : ℕ) × Owns h u t × (x ≡ (env_of h.shape blocks).xid t) = (knows.each u there.0 there.1).id.owned x own in
-      let seg : x.seg ≡ held.1 / 16 = ap (λ (y : Xid). y.seg) held.4 in
-      let slot : x.slot ≡ held.1 % 16 = ap (λ (y : Xid). y.slot) held.4 in
-      let seg2 : x.seg ≡ mine.0 / 16 = ap (λ (y : Xid). y.seg) mine.2 in
-      let slot2 : x.slot ≡ mine.0 % 16 = ap (λ (y : Xid). y.slot) mine.2 in
-      let a = div-add-mod held.1 16 in
-      let b = div-add-mod mine.0 16 in
-      let at : held.1 ≡ mine.0 = omega (arith, seg, slot, seg2, slot2, a, b) in
-      let owner : Some held.3.owner ≡ Some mine.1.owner = sym held.3.at ∙ (ap (owner_at h) at ∙ mine.1.at) in
-      let one : held.3.owner ≡ mine.1.owner = cc in
-      held.2 ∙ ap (λ (n : ℕ). Some n) (sym held.3.session ∙ (ap (λ (o : Owner). o.session) one ∙ mine.1.session))
+        waits_first : (u : ℕ) → u ≢ who → (o : Option ℕ) → o ≡ Some u → (rest : List (Bool × Answer)) → first_of (waited who o ++ rest) Done ≡ Waits u
+        waits_first u ne o is rest = subst (λ (p : Option ℕ). first_of (waited who p ++ rest) Done ≡ Waits u) (sym is) (rw (differ u ne) refl)
 
-  -- Some session has it.
+-- Some session in the table has the id of the transaction that holds a key.
+module _ (h : State) (xids : List Xid) (blocks : List (List ℕ)) (sessions : List KeptSession) (knows : Remembers h xids (env_of h.shape blocks) sessions) (table key : ℕ) (x : Xid) (held : IsHolder h (env_of h.shape blocks) table key (Some x)) where
   pub holder_there : BlocksStand h xids blocks → length h.sessions ≡ 16 → ((u : ℕ) → 1 ≤ u → u ≤ 16 → (kept_at sessions u).own ≢ Some x) → ⊥
   holder_there stand sixteen none =
       let range = stand.tell.owner_there held.0 held.1 held.3 in
       let up : held.0 ≤ 16 = omega (arith, range.1, sixteen) in
       none held.0 range.0 up ((knows.each held.0 range.0 up).id.owns held.1 held.3 ∙ ap (λ (y : Xid). Some y) (sym held.4))
 
--- whom nobody, or oneself, holds a key against
-pub none_holds : (h : State) (who table key : ℕ) → holder h table key ≡ None → NotOthers h who table key
-none_holds h who table key none u is = (let clash : None ≡ Some u = sym none ∙ is in absurd cc)
+-- Calls that gave no group, and what a call does after them.
+module _ {S : Type 0} (s : Ghosts S) (told : s.tells) (laws : Laws s) (h : State) (old mid : EngineView S) (st : Stands s h old) (memory : mid.memory ≡ old.memory) (logs : Logs s old.store mid.store [] true) where
+  -- the engine stands for the same state
+  pub stands_loaded : Stands s h mid
+  stands_loaded = record {
+    told = told;
+    shape = logs.same_shape ∙ st.shape;
+    knows = subst (Knows h) (sym memory) st.knows;
+    goes = λ going. goes_logged s told laws h old mid (st.goes going) logs (ap (λ (k : Kept). k.sessions) memory);
+  }
 
-pub self_holds : (h : State) (who table key : ℕ) → holder h table key ≡ Some who → NotOthers h who table key
-self_holds h who table key mine u is = let same : Some u ≡ Some who = sym is ∙ mine in cc
+  -- the call does what it does without them
+  pub does_after : (call : Call) (answer : Answer) (new : EngineView S) → Does s h call answer mid new → Does s h call answer old new
+  does_after call answer new does =
+      let number : s.lsn mid.store ≡ s.lsn old.store = let n = logs.number refl in omega (arith, n) in record {
+        reply = subst (λ (k : Option ℕ). Reply h (s.lsn old.store) (room_of k (s.lsn old.store)) call answer) logs.same_slots
+            (subst (λ (n : ℕ). Reply h n (room_of (s.slots mid.store) n) call answer) number does.reply);
+        now = does.now;
+        after = does.after;
+        keeps = does.keeps;
+        stands = does.stands;
+        groups = does.groups;
+        grows = does.grows;
+        lsn = λ going. does.lsn going ∙ ap (λ (n : ℕ). n + does.groups) number;
+        survives = λ before going keeps. survives_on s (s.slots old.store) {first = None} {fault = failed_in call answer before} h h does.now old.store mid.store new.store going
+            (survives_same s told laws {fault = None} h h (st.goes going).xids old.store mid.store true st.shape refl refl refl (st.goes going).holds logs keeps)
+            (subst (λ (k : Option ℕ). Survives s k (failed_in call answer before) h does.now mid.store new.store) logs.same_slots (does.survives before going keeps));
+      }

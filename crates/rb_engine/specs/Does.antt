@@ -2,7 +2,6 @@
 use Rattle.std.specs.Prelude.{◌≡◌, ◌<◌, ◌≤◌, ◌+◌, ◌*◌, ◌^◌, ℕ, Bool, false, List}
 use Rattle.std.specs.Prelude.{length, Option, None, Some}
 use Rattle.std.specs.List.{AllByRecursion, sum_by}
-use Rattle.rb_base.specs.Blocks.{IsShape}
 use Rattle.rb_base.specs.Stores.{room_of}
 use Rattle.rb_base.specs.declared.ids.Xid.{Xid}
 use Rattle.rb_base.specs.declared.shape.Shape.{Shape}
@@ -43,7 +42,6 @@ changes_kept sessions = sum_by (λ k. k.count) sessions
 -- has one exactly where it has changes. As long as the engine isn't stopped, its store goes on and has numbers for each
 -- rollback: one for each change and one for the slot, at most two for each change.
 pub record IsInStep {S : Type 0} (s : Ghosts S) (kept : Kept) (store : S) : Type 0 where
-  pub in_range : IsShape (s.shape_of store)
   pub counted : length kept.sessions ≡ SESSIONS
   pub tables : (u : ℕ) → InTables (s.shape_of store) (kept_at kept.sessions u)
   pub own : (u : ℕ) (x : Xid) → (kept_at kept.sessions u).own ≡ Some x

@@ -2,7 +2,6 @@
 ghost use Rattle.std.specs.Prelude.{◌≡◌, ◌≢◌, ℕ, ◌+◌, ◌^◌, ◌≤◌, [], replicate};
 ghost use Rattle.std.specs.Prelude.{IfOk, IfErr, OnOk, not, true, false};
 ghost use Rattle.std.specs.Result.{is_err};
-ghost use Rattle.rb_base.specs.Blocks.{IsShape};
 ghost use Rattle.rb_base.specs.Counts.{IsCountedAs, err_is, is_failed};
 ghost use Rattle.rb_base.specs.Logs.{Logs};
 ghost use Rattle.rb_base.specs.Stores.{room_of};
@@ -30,7 +29,6 @@ fn new_memory<T: Store>(store: &mut T) -> Result<Memory, Failed>
     ensures scn { T.tells → IfOk result (λ memory. memory.scn
         ≡ commit_scn (T.shape_of store.old) (T.blocks store.old)) }
     ensures going { IfOk result (λ memory. memory.stopped ≡ false) }
-    ensures in_range { OnOk result (IsShape (T.shape_of store.old)) }
     ensures logs { Logs T.Store store.old store.new [] (not (is_err result)) }
 {
     let scn = commit_scn_of(store)?;

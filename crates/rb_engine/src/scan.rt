@@ -2,7 +2,6 @@
 //! calls it.
 ghost use Rattle.std.specs.Prelude.{◌≡◌, ◌<◌, ◌≤◌, ◌%◌, ◌*◌, ℕ, List, [], true, false, not, None, Some};
 ghost use Rattle.std.specs.Prelude.{IfOk, IfErr, if◌then◌else◌, ◌==◌};
-ghost use Rattle.rb_base.specs.Blocks.{IsShape};
 ghost use Rattle.rb_base.specs.Logs.{Logs};
 ghost use Rattle.rb_base.specs.declared.ids.Xid.{Xid};
 ghost use Rattle.rb_cr.specs.Faults.{is_failed};
@@ -69,7 +68,6 @@ fn next_in<S: Store>(
 ) -> Result<bool, CrFault>
     requires going { S.failed store.old ≡ false }
     requires table { (1 ≤ cursor.now.table) × (cursor.now.table ≤ (S.shape_of store.old).tables) }
-    requires shape { IsShape (S.shape_of store.old) }
     requires there { g < (S.shape_of store.old).blocks }
     requires begins { Begins (S.shape_of store.old).blocks first g cursor.now.last }
     ensures told { S.tells → (h : State) (xids : List Xid) → S.shape_of store.old ≡ h.shape
@@ -111,7 +109,6 @@ pub fn next_row<S: Store>(
 ) -> Result<Fetched, CrFault>
     requires going { S.failed store.old ≡ false }
     requires table { (1 ≤ cursor.now.table) × (cursor.now.table ≤ (S.shape_of store.old).tables) }
-    requires shape { IsShape (S.shape_of store.old) }
     ensures found { S.tells → (h : State) (xids : List Xid) → S.shape_of store.old ≡ h.shape
         → IsReader h xids (S.blocks store.old) cursor.now
         → Finds h xids (S.blocks store.old) cursor.now result row.new }

@@ -3,7 +3,7 @@
 ghost use Rattle.std.specs.Prelude.{◌≡◌, ◌<◌, false, Some};
 ghost use Rattle.rb_attempt.specs.Asks.{IsShort};
 
-use crate::attempt::{ROOM, asked};
+use crate::attempt::asked;
 use crate::segment::live_of;
 use crate::undo::{apply, copy_of};
 use arrayvec::ArrayVec;
@@ -43,7 +43,7 @@ fn commit_at<S: Store>(store: &mut S, xid: Xid, scn: Scn) -> Result<(), Failed>
 fn commit_one(store: &mut PlainStore, key: u64, op: Op<'_>, scn: Scn) -> Result<(), Failed>
     requires { IsShort (Some op) }
 {
-    match asked(store, None, key, Some(op), ROOM) {
+    match asked(store, None, key, Some(op)) {
         Ok(xid) => commit_at(store, xid, scn),
         Err(_) => Err(Failed),
     }
@@ -138,13 +138,13 @@ fn snapshot_before_an_update(rt: HostRuntime) -> Result<(), Fail> {
 fn own_entry_is_not_the_end(rt: HostRuntime) -> Result<(), Fail> {
     let mut store = PlainStore::new(rt.alloc(), SHAPE)?;
     let mut scratch = Scratch::new(rt.alloc())?;
-    let first = asked(&mut store, None, 2, Some(Op::Insert(b"a")), ROOM)?;
-    asked(&mut store, Some(first), 4, Some(Op::Insert(b"b")), ROOM)?;
+    let first = asked(&mut store, None, 2, Some(Op::Insert(b"a")))?;
+    asked(&mut store, Some(first), 4, Some(Op::Insert(b"b")))?;
     commit_at(&mut store, first, 1)?;
     for scn in 2..10 {
         commit_one(&mut store, 4, Op::Update(b"z"), scn)?;
     }
-    let own = asked(&mut store, None, 2, Some(Op::Update(b"x")), ROOM)?;
+    let own = asked(&mut store, None, 2, Some(Op::Update(b"x")))?;
     built(&mut store, 0, with_own(1, own, 1), &mut scratch)?;
     assert!(rt; shows(&scratch, &[(2, b"x"), (4, b"b")]));
     built(&mut store, 0, with_own(1, own, 0), &mut scratch)?;
@@ -187,7 +187,7 @@ fn extent_taken_again(rt: HostRuntime) -> Result<(), Fail> {
     }
     built(&mut store, 0, at(1), &mut scratch)?;
     assert!(rt; shows(&scratch, &[(0, b"a")]));
-    asked(&mut store, None, 0, Some(Op::Update(b"v")), ROOM)?;
+    asked(&mut store, None, 0, Some(Op::Update(b"v")))?;
     for scn in [1, 39] {
         let old = CrFault::TooOld { scn, lost: 65 };
         assert_eq!(rt; built(&mut store, 0, at(scn), &mut scratch), Err(old));
@@ -216,13 +216,13 @@ fn texts_of_faults(rt: HostRuntime) -> Result<(), Fail> {
 fn worked_home(rt: HostRuntime) -> Result<(), Fail> {
     let mut store = PlainStore::new(rt.alloc(), SHAPE)?;
     let mut scratch = Scratch::new(rt.alloc())?;
-    let first = asked(&mut store, None, 2, Some(Op::Insert(b"a")), ROOM)?;
-    asked(&mut store, Some(first), 4, Some(Op::Insert(b"b")), ROOM)?;
+    let first = asked(&mut store, None, 2, Some(Op::Insert(b"a")))?;
+    asked(&mut store, Some(first), 4, Some(Op::Insert(b"b")))?;
     commit_at(&mut store, first, 1)?;
     commit_one(&mut store, 4, Op::Update(b"z"), 2)?;
-    let own = asked(&mut store, None, 2, Some(Op::Update(b"x")), ROOM)?;
-    asked(&mut store, Some(own), 4, Some(Op::Delete), ROOM)?;
-    asked(&mut store, None, 6, Some(Op::Insert(b"c")), ROOM)?;
+    let own = asked(&mut store, None, 2, Some(Op::Update(b"x")))?;
+    asked(&mut store, Some(own), 4, Some(Op::Delete))?;
+    asked(&mut store, None, 6, Some(Op::Insert(b"c")))?;
     let home = copy_of(&mut store, 0)?;
     let entries = [(EXACT, 1, 2), (EXACT, 2, 1), (OPEN, 0, 2), (OPEN, 0, 1)];
     let states = [(ROW, 3), (STUB, 3), (ROW, 4), (EMPTY, 0)];
@@ -249,10 +249,10 @@ fn own_changes_up_to_one(rt: HostRuntime) -> Result<(), Fail> {
     let mut store = PlainStore::new(rt.alloc(), SHAPE)?;
     let mut scratch = Scratch::new(rt.alloc())?;
     commit_one(&mut store, 2, Op::Insert(b"a"), 1)?;
-    let own = asked(&mut store, None, 4, Some(Op::Insert(b"b")), ROOM)?;
-    asked(&mut store, Some(own), 2, Some(Op::Delete), ROOM)?;
-    asked(&mut store, Some(own), 4, Some(Op::Update(b"c")), ROOM)?;
-    asked(&mut store, Some(own), 2, Some(Op::Insert(b"d")), ROOM)?;
+    let own = asked(&mut store, None, 4, Some(Op::Insert(b"b")))?;
+    asked(&mut store, Some(own), 2, Some(Op::Delete))?;
+    asked(&mut store, Some(own), 4, Some(Op::Update(b"c")))?;
+    asked(&mut store, Some(own), 2, Some(Op::Insert(b"d")))?;
     let rows: [&[(u64, &[u8])]; 5] = [
         &[(2, b"a")],
         &[(2, b"a"), (4, b"b")],
@@ -281,7 +281,7 @@ fn next_in_order_and_bounds(rt: HostRuntime) -> Result<(), Fail> {
         commit_one(&mut store, key, Op::Insert(b"a"), scn)?;
     }
     // A row that is kept stands among those of the cells.
-    let own = asked(&mut store, None, 6, Some(Op::Insert(b"b")), ROOM)?;
+    let own = asked(&mut store, None, 6, Some(Op::Insert(b"b")))?;
     built(&mut store, 0, with_own(3, own, 1), &mut scratch)?;
     assert!(rt; shows(&scratch, &[(2, b"a"), (6, b"b"), (8, b"a"), (14, b"a")]));
     let rows = [

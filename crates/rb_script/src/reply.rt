@@ -80,9 +80,16 @@ fn put_refusal(why: Refusal, into: &mut Line)
     ensures len { array_vec_len into.new ≤ array_vec_len into.old + 74 }
 {
     put(why.words(), into);
-    if let Refusal::RollbackFull { seg, since } = why {
-        put_part(u64::from(seg), into);
-        put_part(since, into);
+    match why {
+        Refusal::TooOld { scn, lost } => {
+            put_part(scn, into);
+            put_part(lost, into);
+        }
+        Refusal::RollbackFull { seg, since } => {
+            put_part(u64::from(seg), into);
+            put_part(since, into);
+        }
+        _ => {}
     }
 }
 

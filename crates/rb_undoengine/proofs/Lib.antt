@@ -11,7 +11,7 @@ mod Logged
 pub mod May
 mod OneBack
 mod Refused
-mod Somewhere
+pub mod Somewhere
 mod StepBack
 mod WriterWords
 mod Writers

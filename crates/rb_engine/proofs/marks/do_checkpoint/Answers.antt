@@ -1,0 +1,62 @@
+use Rattle.std.proofs.Common.{◌≡◌, [], Ok, Err, false, true, refl, sym, ◌∙◌, ap, arith}
+use Rattle.rb_base.specs.Logs.{Laws, Logs, flush_logs}
+use Rattle.rb_engine.specs.Does.{EngineView, Kept}
+use Rattle.rb_model.specs.Calls as machine
+use Rattle.rb_model.specs.Calls.{Reply}
+use Rattle.rb_engine.proofs.DoesLemmas.{does_fault, does_loaded, fault_survives, survives_same}
+use Rattle.rb_engine.proofs.StepLemmas.{in_step_same}
+use Rattle.rb_engine.proofs.marks.do_checkpoint.Given.{Over}
+use Rattle.rb_engine.proofs.marks.do_checkpoint.Goals as goal
+
+laws_of : (g : Over) → Laws g.T.Store
+laws_of g = record {
+  stable_left = λ store b n i keeps stable here. g.met.T.Store.stable_left store b n i keeps stable here;
+  stable_numbered = λ store b n keeps stable. g.met.T.Store.stable_numbered store b n keeps stable;
+  stable_patched = λ store b n keeps stable. g.met.T.Store.stable_patched store b n keeps stable;
+  now_counts = λ store t i keeps le here. g.met.T.Store.now_counts store t i keeps le here;
+  only_now = λ store i keeps here. g.met.T.Store.only_now store i keeps here;
+}
+
+pub returns-in-Err-clause-did : goal.returns-in-Err-clause-did
+returns-in-Err-clause-did g c = λ h st.
+    let s = g.T.Store in
+    let old : EngineView _ = record { memory = c.args.memory.now; store = c.args.store.now } in
+    let going : h.stopped ≡ false = sym st.knows.stopped ∙ (ap (λ (k : Kept). k.stopped) (sym c.memory.view_is) ∙ c.if-memory.false) in
+    let e = c.in-Err.ensures in
+    let logs : Logs s c.args.store.now c.checkpoint.new.self [] false = flush_logs s c.args.store.now c.checkpoint.new.self (Err c.in-Err.field-0) e.shape e.slots e.failed e.counted e.lsn e.blocks e.settles e.any_moment in
+    let goes = st.goes going in
+    does_fault s st.told (laws_of g) h machine.Checkpoint old (record { memory = c.stop.new.self; store = c.checkpoint.new.self }) st going (rw going refl) c.stop.ensures
+    (record { shape = e.shape; slots = e.slots }) (λ keeps. fault_survives s st.told (laws_of g) h goes.xids old.store c.checkpoint.new.self st.shape goes.holds logs keeps)
+
+pub returns-in-Ok-clause-did : goal.returns-in-Ok-clause-did
+returns-in-Ok-clause-did g c = λ h st.
+    let s = g.T.Store in
+    let old : EngineView _ = record { memory = c.args.memory.now; store = c.args.store.now } in
+    let going : h.stopped ≡ false = sym st.knows.stopped ∙ (ap (λ (k : Kept). k.stopped) (sym c.memory.view_is) ∙ c.if-memory.false) in
+    let e = c.in-Ok.ensures in
+    let logs : Logs s c.args.store.now c.checkpoint.new.self [] true = flush_logs s c.args.store.now c.checkpoint.new.self (Ok c.in-Ok.field-0) e.shape e.slots e.failed e.counted e.lsn e.blocks e.settles e.any_moment in
+    does_loaded s st.told (laws_of g) h machine.Checkpoint machine.Done old (record { memory = c.args.memory.now; store = c.checkpoint.new.self }) st
+    (Reply.later [] (rw going refl) refl refl) refl refl (λ s t k a is done. cc) refl (λ _. logs) (record { shape = e.shape; slots = e.slots })
+
+pub returns-in-Ok-clause-step : goal.returns-in-Ok-clause-step
+returns-in-Ok-clause-step g c =
+    let s = g.T.Store in
+    let e = c.in-Ok.ensures in
+    let logs : Logs s c.args.store.now c.checkpoint.new.self [] true = flush_logs s c.args.store.now c.checkpoint.new.self (Ok c.in-Ok.field-0) e.shape e.slots e.failed e.counted e.lsn e.blocks e.settles e.any_moment in
+    in_step_same s c.args.memory.now c.args.memory.now c.args.store.now c.checkpoint.new.self c.requires.step e.shape refl (λ going. (logs.failed, (let n = logs.number refl in omega (arith, n)), going))
+
+pub returns-in-Err-clause-leaves : goal.returns-in-Err-clause-leaves
+returns-in-Err-clause-leaves g c = λ h st going fault keeps.
+    let s = g.T.Store in
+    let e = c.in-Err.ensures in
+    let goes = st.goes going in
+    let logs : Logs s c.args.store.now c.checkpoint.new.self [] false = flush_logs s c.args.store.now c.checkpoint.new.self (Err c.in-Err.field-0) e.shape e.slots e.failed e.counted e.lsn e.blocks e.settles e.any_moment in
+    survives_same s st.told (laws_of g) h h goes.xids c.args.store.now c.checkpoint.new.self false st.shape refl refl refl goes.holds logs keeps
+
+pub returns-in-Ok-clause-leaves : goal.returns-in-Ok-clause-leaves
+returns-in-Ok-clause-leaves g c = λ h st going fault keeps.
+    let s = g.T.Store in
+    let e = c.in-Ok.ensures in
+    let goes = st.goes going in
+    let logs : Logs s c.args.store.now c.checkpoint.new.self [] true = flush_logs s c.args.store.now c.checkpoint.new.self (Ok c.in-Ok.field-0) e.shape e.slots e.failed e.counted e.lsn e.blocks e.settles e.any_moment in
+    survives_same s st.told (laws_of g) h h goes.xids c.args.store.now c.checkpoint.new.self true st.shape refl refl refl goes.holds logs keeps

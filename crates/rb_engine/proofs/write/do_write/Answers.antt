@@ -1,0 +1,24 @@
+use Rattle.std.proofs.Common.{◌∙◌}
+use Rattle.rb_base.specs.Logs.{Laws}
+use Rattle.rb_model.specs.Answers.{action_of}
+use Rattle.rb_model.specs.Calls as machine
+use Rattle.rb_engine.proofs.DoesLemmas.{does_refused}
+use Rattle.rb_engine.proofs.write.do_write.Given.{Over}
+use Rattle.rb_engine.proofs.write.do_write.Goals as goal
+
+laws_of : (g : Over) → Laws g.T.Store
+laws_of g = record {
+  stable_left = λ store b n i keeps stable here. g.met.T.Store.stable_left store b n i keeps stable here;
+  stable_numbered = λ store b n keeps stable. g.met.T.Store.stable_numbered store b n keeps stable;
+  stable_patched = λ store b n keeps stable. g.met.T.Store.stable_patched store b n keeps stable;
+  now_counts = λ store t i keeps le here. g.met.T.Store.now_counts store t i keeps le here;
+  only_now = λ store i keeps here. g.met.T.Store.only_now store i keeps here;
+}
+
+pub returns-in-Err-clause-did : goal.returns-in-Err-clause-did
+returns-in-Err-clause-did g c = λ h st.
+    does_refused g.T.Store (laws_of g) h (machine.Write c.args.s c.args.table c.args.key (action_of c.args.op)) c.in-Err.why (record { memory = c.args.memory.now; store = c.args.store.now }) st c.requires.step.going
+    (c.in-Err.ensures.refused h c.args.key st.knows (c.shape.ensures.shape ∙ st.shape)) c.in-Err.ensures.other
+
+pub returns-clause-did : goal.returns-clause-did
+returns-clause-did g c = λ h st. c.try_write.ensures.did h st (c.in_default.ensures.granted h c.args.key st.knows (c.shape.ensures.shape ∙ st.shape))

@@ -1,0 +1,64 @@
+use Rattle.std.proofs.Common.{◌≡◌, ℕ, false, true, [], Option, Some, None, refl, sym, ◌∙◌, subst, arith}
+use Rattle.rb_base.specs.Logs.{Laws, Logs}
+use Rattle.rb_engine.specs.Does.{EngineView, Goes}
+use Rattle.rb_engine.specs.Scanning.{OtherHolds}
+use Rattle.rb_model.specs.Answers.{action_of, write_answer}
+use Rattle.rb_model.specs.Calls as machine
+use Rattle.rb_sessions.specs.Kept.{kept_at}
+use Rattle.rb_undoengine.proofs.Somewhere.{somewhere}
+use Rattle.rb_engine.proofs.DoesLemmas.{does_fault, fault_survives}
+use Rattle.rb_engine.proofs.WriteLemmas.{about, does_after, stands_loaded, step_waits}
+use Rattle.rb_engine.proofs.write.try_write.Given.{Over}
+use Rattle.rb_engine.proofs.write.try_write.Goals as goal
+
+laws_of : (g : Over) → Laws g.T.Store
+laws_of g = record {
+  stable_left = λ store b n i keeps stable here. g.met.T.Store.stable_left store b n i keeps stable here;
+  stable_numbered = λ store b n keeps stable. g.met.T.Store.stable_numbered store b n keeps stable;
+  stable_patched = λ store b n keeps stable. g.met.T.Store.stable_patched store b n keeps stable;
+  now_counts = λ store t i keeps le here. g.met.T.Store.now_counts store t i keeps le here;
+  only_now = λ store i keeps here. g.met.T.Store.only_now store i keeps here;
+}
+
+pub returns-in-Err-clause-did : goal.returns-in-Err-clause-did
+returns-in-Err-clause-did g c = λ h st early.
+    let s = g.T.Store in
+    let old : EngineView _ = record { memory = c.args.memory.now; store = c.args.store.now } in
+    let new : EngineView _ = record { memory = c.stop.new.self; store = c.other_holder.new.store } in
+    let going : h.stopped ≡ false = sym st.knows.stopped ∙ c.requires.going in
+    let logs : Logs s old.store new.store [] false = c.in-Err.ensures.logs in
+    let goes : Goes s h old = st.goes going in
+    does_fault s st.told (laws_of g) h (machine.Write c.args.s c.args.table c.args.key (action_of c.args.op)) old new st going early c.stop.ensures (record { shape = logs.same_shape; slots = logs.same_slots })
+    (fault_survives s st.told (laws_of g) h goes.xids old.store new.store st.shape goes.holds logs)
+
+pub returns-in-Ok-Some-clause-did : goal.returns-in-Ok-Some-clause-did
+returns-in-Ok-Some-clause-did g c = λ h st early.
+    let s = g.T.Store in
+    let u = c.args.s in
+    let old : EngineView _ = record { memory = c.args.memory.now; store = c.args.store.now } in
+    let new : EngineView _ = record { memory = c.args.memory.now; store = c.other_holder.new.store } in
+    let going : h.stopped ≡ false = sym st.knows.stopped ∙ c.requires.going in
+    let logs : Logs s old.store new.store [] true = c.in-Ok-Some.ensures.logs in
+    let goes : Goes s h old = st.goes going in
+    let action = action_of c.args.op in
+    let sixteen = st.knows.sixteen in
+    let there = c.requires.session in
+    let held : OtherHolds h u c.args.table c.args.key (Some c.in-Ok-Some.on) = subst (λ (o : Option ℕ). OtherHolds h u c.args.table c.args.key o) c.in-Ok-Some.field-0-is
+    (c.in-Ok-Some.ensures.other st.told h goes.xids goes.holds.blocks st.shape goes.remembers) in
+    let place = somewhere h goes.xids (s.blocks old.store) u (kept_at old.memory.sessions u).own (about s st.told (laws_of g) h old st going u c.args.table c.args.key action there early) (omega (arith, sixteen, there.1)) (omega (arith, sixteen)) in
+    step_waits s st.told (laws_of g) h old st going u c.args.table c.args.key action there early new (record { shape = logs.same_shape; slots = logs.same_slots }) c.in-Ok-Some.on held place refl logs
+
+pub returns-in-Ok-None-clause-did : goal.returns-in-Ok-None-clause-did
+returns-in-Ok-None-clause-did g c = λ h st early.
+    let s = g.T.Store in
+    let u = c.args.s in
+    let old : EngineView _ = record { memory = c.args.memory.now; store = c.args.store.now } in
+    let mid : EngineView _ = record { memory = c.args.memory.now; store = c.other_holder.new.store } in
+    let new : EngineView _ = record { memory = c.make_write.new.memory; store = c.make_write.new.store } in
+    let going : h.stopped ≡ false = sym st.knows.stopped ∙ c.requires.going in
+    let logs : Logs s old.store mid.store [] true = c.in-Ok-None.ensures.logs in
+    let goes : Goes s h old = st.goes going in
+    let others : OtherHolds h u c.args.table c.args.key None = subst (λ (o : Option ℕ). OtherHolds h u c.args.table c.args.key o) c.in-Ok-None.field-0-is
+    (c.in-Ok-None.ensures.other st.told h goes.xids goes.holds.blocks st.shape goes.remembers) in
+    does_after s st.told (laws_of g) h old mid st refl logs (machine.Write u c.args.table c.args.key (action_of c.args.op)) (write_answer c.make_write.result) new
+    (c.make_write.ensures.did h (stands_loaded s st.told (laws_of g) h old mid st refl logs) early others)
