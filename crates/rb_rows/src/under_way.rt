@@ -55,6 +55,55 @@ const FIRST_ROWS: &str = "1 row 1 a\n1 row 2 b\n";
 
 const SECOND_ROWS: &str = "1 row 2 e\n1 row 4 f\n";
 
+// Two transactions are under way beside a cursor that was opened before both. One commits, and the cursor doesn't see
+// it; the other is put back. Then both sessions have one under way again, at the end.
+const TWO_SESSIONS: &str = "\
+insert 1 1 1 a
+#> 1 ok
+insert 1 1 2 b
+#> 1 ok
+commit 1
+#> 1 committed 1
+open 3 all 1 0 99
+#> 3 ok
+update 2 1 1 x
+#> 2 ok
+insert 1 1 3 c
+#> 1 ok
+delete 1 1 1
+#> 1 waits 2
+fetch 3 all 1
+#> 3 row 1 a
+checkpoint
+#> ok
+delete 2 1 2
+#> 2 ok
+update 1 1 3 d
+#> 1 ok
+commit 1
+#> 1 committed 2
+fetch 3 all 9
+#> 3 row 2 b
+#> 3 end
+rollback 2
+#> 2 ok
+update 1 1 2 z
+#> 1 ok
+insert 2 1 4 w
+#> 2 ok
+";
+
+// The same after each flush: the commit, the checkpoint, the commit, and the end.
+const TWO_LEFT: [(&str, u64, u64); 5] = [
+    ("", 0, 1),
+    (FIRST_ROWS, 2, 2),
+    (FIRST_ROWS, 4, 2),
+    (BESIDE_ROWS, 6, 3),
+    (BESIDE_ROWS, 8, 3),
+];
+
+const BESIDE_ROWS: &str = "1 row 1 a\n1 row 2 b\n1 row 3 d\n";
+
 // A transaction of more changes than one run of the log has, whose records lie in two extents: 40 and 1.
 const LONG: usize = 41;
 
@@ -102,6 +151,12 @@ fn story_of(alloc: Global, script: String, left: &[(&str, u64, u64)]) -> Result<
 pub fn four_transactions(alloc: Global) -> Result<Story, NoMemory> {
     let script = String::from_str(alloc, TRANSACTIONS).map_err(|_| NoMemory)?;
     story_of(alloc, script, &LEFT)
+}
+
+/// Two sessions with a transaction each, beside a cursor of a third.
+pub fn two_sessions(alloc: Global) -> Result<Story, NoMemory> {
+    let script = String::from_str(alloc, TWO_SESSIONS).map_err(|_| NoMemory)?;
+    story_of(alloc, script, &TWO_LEFT)
 }
 
 /// One transaction that takes two runs of the log and two extents, and is under way at the end.
