@@ -1,10 +1,12 @@
 """What right replies are: a second machine of lines, replies, rows and books, by docs/MODEL.md alone. It knows no block
-and no file, and shares nothing with the program or with tools/. tests/model_check compares it with the program."""
-import copy
+and no file, and shares nothing with the program or with tools/. tests/model_check compares it with the program.
+
+All replies but one follow from the lines. Where what a `fetch` needs was given up it may be answered `too old`, and may
+go on all the same. So the machine is told what the program said, and takes a `too old` over where one may come."""
 import re
 
-SESSIONS = 1
-HOME_KEYS, VALUE_BYTES, LINE_BYTES, NAMES = 16, 80, 512, 16
+SESSIONS, HOME_KEYS, HOME_SESSIONS = 16, 16, 8
+VALUE_BYTES, LINE_BYTES, NAMES = 80, 512, 16
 SLOTS, TURN_RECORDS, MOST_TURNS = 16, 40, 8
 
 ID, KEY = (r"(0|[1-9]\d*)", 2**16 - 1), (r"(0|[1-9]\d*)", 2**64 - 1)
@@ -15,22 +17,28 @@ COMMANDS = {
     "open": [ID, NAME, ID, KEY, KEY], "fetch": [ID, NAME, COUNT], "close": [ID, NAME],
     "marks": [], "checkpoint": [],
 }
+FORMS = {word: re.compile(" ".join([word, *(pattern for pattern, _ in fields)]), re.ASCII)
+         for word, fields in COMMANDS.items()}
 
 
 def parsed(line):
     """The word and the parts of a command; None where the line is none."""
     text = line.decode("latin-1")
-    for word, fields in COMMANDS.items():
-        found = re.fullmatch(" ".join([word, *(pattern for pattern, _ in fields)]), text, re.ASCII)
-        if found:
-            parts = [int(part) if most else part for part, (_, most) in zip(found.groups(), fields)]
-            if all(most is None or part <= most for part, (_, most) in zip(parts, fields)):
-                return word, parts
-    return None
+    word = text.split(" ", 1)[0]
+    found = FORMS[word].fullmatch(text) if word in FORMS else None
+    if not found:
+        return None
+    parts = [int(part) if most else part for part, (_, most) in zip(found.groups(), COMMANDS[word])]
+    if any(most and part > most for part, (_, most) in zip(parts, COMMANDS[word])):
+        return None
+    return word, parts
 
 
 class Refused(Exception):
     """Why a call did nothing."""
+
+
+# ---- Books
 
 
 class Owner:
@@ -48,10 +56,27 @@ class Book:
         # Of each turn that is kept, the oldest first, the greatest number of a commit with a record there.
         self.turns = [0, 0]
         self.newest, self.owners = [0] * SLOTS, [None] * SLOTS
+        # How often each slot was taken, and its newest number as it was taken last.
+        self.wraps, self.before = [0] * SLOTS, [0] * SLOTS
+
+    def copied(self):
+        other = Book()
+        other.writes, other.lost, other.turns = self.writes, self.lost, list(self.turns)
+        other.newest, other.owners = list(self.newest), list(self.owners)
+        other.wraps, other.before = list(self.wraps), list(self.before)
+        return other
+
+    @staticmethod
+    def turn_of(record):
+        return 2 + (record - 1) // TURN_RECORDS
 
     @property
     def last_turn(self):
-        return 2 + max(self.writes - 1, 0) // TURN_RECORDS
+        return self.turn_of(max(self.writes, 1))
+
+    @property
+    def oldest_turn(self):
+        return self.last_turn - len(self.turns) + 1
 
     def running(self):
         return [owner for owner in self.owners if owner]
@@ -60,64 +85,87 @@ class Book:
         return self.writes > 0 and self.writes % TURN_RECORDS == 0
 
     def is_pinned(self):
-        oldest = self.last_turn - len(self.turns) + 1
-        return any(2 + owner.start // TURN_RECORDS == oldest for owner in self.running())
+        return any(self.turn_of(owner.start + 1) == self.oldest_turn for owner in self.running())
 
     def is_full(self):
-        return self.needs_turn() and self.is_pinned() and len(self.turns) == MOST_TURNS
+        return self.needs_turn() and len(self.turns) == MOST_TURNS and self.is_pinned()
 
     def begin(self):
         """Takes the slot without an owner that has the least newest number; gives its place."""
         slot = min((at for at in range(SLOTS) if not self.owners[at]), key=lambda at: (self.newest[at], at))
         self.owners[slot] = Owner(self.writes)
+        self.wraps[slot] += 1
+        self.before[slot] = self.newest[slot]
         self.lost = max(self.lost, self.newest[slot])
         return slot
 
     def mark(self, slot):
-        """One record more of that slot's owner."""
+        """One record more of that slot's owner; gives its number."""
         if self.needs_turn():
             if not self.is_pinned():
                 self.lost = max(self.lost, self.turns.pop(0))
             self.turns.append(0)
         self.writes += 1
         self.owners[slot].touched.add(self.last_turn)
+        return self.writes
 
     def finish(self, slot, number):
         """The owner committed."""
-        first = self.last_turn - len(self.turns) + 1
         for turn in self.owners[slot].touched:
-            self.turns[turn - first] = number
+            self.turns[turn - self.oldest_turn] = number
         self.newest[slot] = number
         self.owners[slot] = None
 
 
-class Cursor:
-    """A query: its range, the number of its snapshot, its transaction's changes then, and how many rows it gave."""
+class Visit:
+    """A commit's part in a home: its number, where its transaction had its slot, and its first record for the home."""
 
-    def __init__(self, table, lo, hi, number, own):
-        self.table, self.lo, self.hi, self.number, self.own = table, lo, hi, number, own
-        self.taken, self.present = 0, True
+    def __init__(self, number, segment, slot, wrap, record):
+        self.number, self.segment, self.slot, self.wrap, self.record = number, segment, slot, wrap, record
+        # The next write in the home notes the number there, or what bounds it where the slot was taken again by then (0
+        # is no bound). Also: behind how many groups of the log that was.
+        self.bound = self.noted = None
+
+
+# ---- Sessions
+
+
+class Session:
+    """The changes of a session's transaction, where it writes its records, and its open cursors."""
+
+    def __init__(self):
+        self.cursors = {}
+        self.fresh()
+
+    def fresh(self):
+        """No transaction runs. The cursors stay."""
+        # The value of each key that was changed, and the first record for each home.
+        self.live, self.own, self.homes, self.place = 0, {}, {}, None
+        for cursor in self.cursors.values():
+            cursor.saw_own = False
+
+
+class Cursor:
+    """A query: its table, the number of its snapshot, the rows that it gives, and whether a rollback closes it."""
+
+    def __init__(self, table, number, rows, saw_own):
+        self.table, self.number, self.rows, self.saw_own = table, number, rows, saw_own
+        self.taken = 0
 
 
 class Moment:
     """What a file has after some group of its log: its rows and number, its books, and what is under way."""
 
     def __init__(self, rows, number, books, owed):
-        self.rows, self.number, self.books, self.owed = rows, number, copy.deepcopy(books), owed
+        self.rows, self.number, self.books, self.owed = rows, number, tuple(books), owed
 
     def marks(self):
         return [(book.writes, book.lost) for book in self.books]
 
 
 def changed(rows, changes):
-    """The rows with the changes over them."""
-    rows = dict(rows)
-    for table, key, value in changes:
-        if value is None:
-            rows.pop((table, key), None)
-        else:
-            rows[table, key] = value
-    return rows
+    """The rows with the changes over them; a value of None is that of no row."""
+    return {at: value for at, value in {**rows, **changes}.items() if value is not None}
 
 
 class Model:
@@ -126,43 +174,52 @@ class Model:
     def __init__(self, tables, blocks, segments, log):
         self.tables, self.blocks, self.log = tables, blocks, log
         self.moments = [Moment({}, 0, [Book() for _ in range(segments)], 0)]
+        # Of each home, by its table and number, the commits with changes there, in order.
+        self.visits = {}
         self.restart(0)
 
     def restart(self, groups):
         """Opens the file as it is after so many groups: what was under way then is put back."""
         del self.moments[groups + 1 :]
         left = self.moments[groups]
-        self.base, self.history, self.books = left.number, [left.rows], copy.deepcopy(left.books)
+        self.rows, self.number, self.durable = left.rows, left.number, groups
+        self.sessions = {number: Session() for number in range(1, SESSIONS + 1)}
+        self.books = [book.copied() for book in left.books]
         for book in self.books:
             book.owners = [None] * SLOTS
-        self.own, self.place, self.cursors = [], None, {}
-        self.durable = groups
+        for home, visits in self.visits.items():
+            self.visits[home] = [visit for visit in visits if visit.number <= self.number]
+            for visit in self.visits[home]:
+                if visit.noted is not None and visit.noted > groups:
+                    visit.bound = visit.noted = None
         for owed in range(left.owed - 1, -1, -1):
-            self.moments.append(Moment(left.rows, left.number, self.books if owed == 0 else left.books, owed))
+            self.moments.append(Moment(self.rows, self.number, self.books, owed))
 
     def end(self):
         """The end of the script: what waits is made last, what was put back among it."""
         self.durable = self.logged
 
     @property
-    def number(self):
-        return self.base + len(self.history) - 1
-
-    @property
     def logged(self):
         return len(self.moments) - 1
 
-    def owners(self):
-        return sum(len(book.running()) for book in self.books)
+    def owed(self):
+        """How many groups put back what is under way: one for each live change, and one for each slot that is taken."""
+        return sum(session.live + (session.place is not None) for session in self.sessions.values())
 
-    def grow(self, live):
-        """One group more, after which so many live changes stand."""
-        self.moments.append(Moment(self.history[-1], self.number, self.books, live + self.owners()))
+    def grow(self):
+        """One group more."""
+        self.moments.append(Moment(self.rows, self.number, self.books, self.owed()))
+
+    def book(self, segment):
+        """A book to change. The moments keep those of before."""
+        book = self.books[segment] = self.books[segment].copied()
+        return book
 
     # ---- Lines
 
-    def line(self, line):
-        """The replies to a line."""
+    def line(self, line, said=lambda place: b""):
+        """The replies to a line, to which the program's are those that `said` gives by their places."""
         if len(line) > LINE_BYTES:
             return [b"bad line"]
         line = line[:-1] if line.endswith(b"\r") else line
@@ -178,122 +235,173 @@ class Model:
         if word == "checkpoint":
             self.durable = self.logged
             return [b"ok"]
-        return [b"%d %s" % (parts[0], text.encode("latin-1")) for text in self.answers(word, *parts)]
+        number, *parts = parts
+        if word == "fetch":
+            parts.append(lambda place: said(place).decode("latin-1").partition(" ")[2])
+        return [b"%d %s" % (number, text.encode("latin-1")) for text in self.answers(word, number, parts)]
 
-    def answers(self, word, session, *parts):
+    def answers(self, word, number, parts):
+        """The replies without the session's number."""
         given = []
         try:
-            if not 1 <= session <= SESSIONS:
+            if number not in self.sessions:
                 raise Refused("no session")
-            for text in self.calls(word, *parts):
+            for text in self.calls(word, self.sessions[number], parts):
                 given.append(text)
         except Refused as why:
             given.append(str(why))
         return given
 
-    def calls(self, word, *parts):
+    def calls(self, word, session, parts):
         if word in ("insert", "update", "delete"):
-            yield self.write(word, *parts)
-        elif word == "fetch":
-            yield from self.fetch(*parts)
-        else:
-            calls = {"commit": self.commit, "rollback": self.rollback, "open": self.open, "close": self.close}
-            yield calls[word](*parts)
+            return [self.write(session, word, *parts)]
+        if word == "fetch":
+            return self.fetch(session, *parts)
+        calls = {"commit": self.commit, "rollback": self.rollback, "open": self.open, "close": self.close}
+        return [calls[word](session, *parts)]
 
     # ---- Writes and their ends
 
     def home_full(self, table, key):
         """Whether sixteen other keys of the key's home are in use, and it isn't."""
         home = key % self.blocks
-        used = {k for t, k in self.history[-1] if t == table and k % self.blocks == home}
-        used |= {k for t, k, _ in self.own if t == table and k % self.blocks == home}
+        used = {k for t, k in self.rows if k % self.blocks == home and t == table}
+        for session in self.sessions.values():
+            used.update(k for t, k in session.own if k % self.blocks == home and t == table)
         return len(used) >= HOME_KEYS and key not in used
 
     def begins_in(self):
         """The segment with the fewest owners, the lowest of these."""
         return min(range(len(self.books)), key=lambda at: (len(self.books[at].running()), at))
 
-    def write(self, word, table, key, value=None):
+    def write(self, session, word, table, key, value=None):
         if not 1 <= table <= self.tables:
             raise Refused("no table")
         if value is not None and len(value) > VALUE_BYTES:
             raise Refused("value too long")
-        there = (table, key) in changed(self.history[-1], self.own)
+        at, home = (table, key), (table, key % self.blocks)
+        others = {number: other for number, other in self.sessions.items() if other is not session}
+        for number, other in others.items():
+            if at in other.own:
+                raise Refused(f"waits {number}")
+        there = (session.own[at] if at in session.own else self.rows.get(at)) is not None
         if there == (word == "insert"):
             raise Refused("duplicate" if there else "not found")
         if word == "insert" and self.home_full(table, key):
             raise Refused("block full")
-        segment = self.place[0] if self.place else self.begins_in()
+        if sum(home in other.homes for other in others.values()) >= HOME_SESSIONS:
+            raise Refused("slots full")
+        segment = session.place[0] if session.place else self.begins_in()
         book = self.books[segment]
         if book.is_full():
             raise Refused(f"rollback full {segment} {book.writes - min(owner.start for owner in book.running())}")
-        if self.log - 1 - self.logged < 1 + len(self.own) + 1 + self.owners() + (0 if self.place else 1):
+        if self.log - 1 - self.logged < 1 + self.owed() + (1 if session.place else 2):
             raise Refused("log full")
-        self.place = self.place or (segment, book.begin())
-        book.mark(self.place[1])
-        self.own.append((table, key, value))
-        self.grow(len(self.own))
+        book = self.book(segment)
+        session.place = session.place or (segment, book.begin())
+        record = book.mark(session.place[1])
+        session.live, session.own[at] = session.live + 1, value
+        session.homes.setdefault(home, record)
+        self.grow()
+        self.note(home)
         return "ok"
 
-    def commit(self):
-        own, self.own = self.own, []
-        self.end_present()
-        if not own:
+    def note(self, home):
+        """A write in the home notes there at which numbers the others have ended."""
+        for visit in reversed(self.visits.get(home, [])):
+            if visit.bound is not None:
+                break
+            visit.bound, visit.noted = self.bound(visit), self.logged
+
+    def commit(self, session):
+        if not session.place:
+            session.fresh()
             return "ok"
-        self.history.append(changed(self.history[-1], own))
-        segment, slot = self.place
-        self.books[segment].finish(slot, self.number)
-        self.place = None
-        self.grow(0)
+        segment, slot = session.place
+        book = self.book(segment)
+        self.rows, self.number = changed(self.rows, session.own), self.number + 1
+        book.finish(slot, self.number)
+        for home, record in session.homes.items():
+            self.visits.setdefault(home, []).append(Visit(self.number, segment, slot, book.wraps[slot], record))
+        session.fresh()
+        self.grow()
         self.durable = self.logged
         return f"committed {self.number}"
 
-    def rollback(self):
-        self.cursors = {name: c for name, c in self.cursors.items() if not (c.present and c.own)}
-        self.end_present()
-        for live in range(len(self.own) - 1, -1, -1):
-            self.grow(live)
-        self.own = []
-        if self.place:
-            segment, slot = self.place
-            self.books[segment].owners[slot] = self.place = None
-            self.grow(0)
+    def rollback(self, session):
+        session.cursors = {name: cursor for name, cursor in session.cursors.items() if not cursor.saw_own}
+        while session.live:
+            session.live -= 1
+            self.grow()
+        if session.place:
+            segment, slot = session.place
+            self.book(segment).owners[slot] = session.place = None
+            self.grow()
+        session.fresh()
         return "ok"
-
-    def end_present(self):
-        for cursor in self.cursors.values():
-            cursor.present = False
 
     # ---- Cursors
 
-    def open(self, name, table, lo, hi):
+    def open(self, session, name, table, lo, hi):
         if not 1 <= table <= self.tables:
             raise Refused("no table")
-        if name in self.cursors:
+        if name in session.cursors:
             raise Refused("cursor there")
-        if len(self.cursors) == NAMES:
+        if len(session.cursors) == NAMES:
             raise Refused("too many cursors")
-        self.cursors[name] = Cursor(table, lo, hi, self.number, list(self.own))
+        seen = changed(self.rows, session.own)
+        rows = [(key, value) for (t, key), value in seen.items() if t == table and lo <= key <= hi]
+        rows.sort(key=lambda row: (row[0] % self.blocks, row[0]))
+        session.cursors[name] = Cursor(table, self.number, rows, bool(session.own))
         return "ok"
 
-    def cursor(self, name):
-        if name not in self.cursors:
+    def cursor(self, session, name):
+        if name not in session.cursors:
             raise Refused("no cursor")
-        return self.cursors[name]
+        return session.cursors[name]
 
-    def fetch(self, name, count):
-        cursor = self.cursor(name)
-        seen = changed(self.history[cursor.number - self.base], cursor.own)
-        keys = [k for t, k in seen if t == cursor.table and cursor.lo <= k <= cursor.hi]
-        keys.sort(key=lambda key: (key % self.blocks, key))
-        for key in keys[cursor.taken : cursor.taken + count]:
+    def fetch(self, session, name, count, said):
+        cursor = self.cursor(session, name)
+        for place in range(count):
+            reply = said(place)
+            if reply.startswith("too old") and self.may_be_old(cursor, reply):
+                raise Refused(reply)
+            if cursor.taken == len(cursor.rows):
+                yield "end"
+                return
+            yield "row %d %s" % cursor.rows[cursor.taken]
             cursor.taken += 1
-            count -= 1
-            yield f"row {key} {seen[cursor.table, key]}"
-        if count:
-            yield "end"
 
-    def close(self, name):
-        self.cursor(name)
-        del self.cursors[name]
+    def close(self, session, name):
+        self.cursor(session, name)
+        del session.cursors[name]
         return "ok"
+
+    # ---- What is too old
+
+    def may_be_old(self, cursor, reply):
+        """Whether this is a `too old` that the next fetch of the cursor may have: it tells the snapshot, and what some
+        segment lost above it; and a home needs what was given up, from that of the last row to that of the next one."""
+        if reply not in {f"too old {cursor.number} {book.lost}" for book in self.books if book.lost > cursor.number}:
+            return False
+        homes = [key % self.blocks for key, _ in cursor.rows]
+        first = homes[cursor.taken - 1] if cursor.taken > 0 else 0
+        last = homes[cursor.taken] if cursor.taken < len(homes) else self.blocks - 1
+        return any(self.is_worn((cursor.table, home), cursor.number) for home in range(first, last + 1))
+
+    def is_worn(self, home, number):
+        """Whether a record of a commit above the number isn't kept, or a commit is only known to be at or before some
+        number above it. (What isn't committed keeps its records.)"""
+        return any(visit.number > number and self.is_gone(visit) or self.bound(visit) > number
+                   for visit in self.visits.get(home, []))
+
+    def is_gone(self, visit):
+        book = self.books[visit.segment]
+        return book.turn_of(visit.record) < book.oldest_turn
+
+    def bound(self, visit):
+        """The number at or before which the commit is only known to be; 0 where its own number is known."""
+        if visit.bound is not None:
+            return visit.bound
+        book = self.books[visit.segment]
+        return 0 if book.wraps[visit.slot] == visit.wrap else book.before[visit.slot]

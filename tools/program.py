@@ -56,8 +56,8 @@ def build():
         sys.exit(built.stdout.decode(errors="replace") + "the program wasn't built")
 
 
-def format_words(file, log=64, tables=1, blocks=1):
-    return [str(file), "format", f"tables={tables}", f"blocks={blocks}", "segments=1", f"log={log}"]
+def format_words(file, log=64, tables=1, blocks=1, segments=1):
+    return [str(file), "format", f"tables={tables}", f"blocks={blocks}", f"segments={segments}", f"log={log}"]
 
 
 def run_words(file):

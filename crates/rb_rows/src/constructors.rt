@@ -10,7 +10,6 @@ use rb_model::{Op, Wrote};
 use rb_plainstore::PlainStore;
 use rb_store::LapStore;
 use rb_stream::{MemSink, MemSource, Sink, Source};
-use rb_versions::Versions;
 use std::test::Fail;
 
 const SHAPE: Shape = Shape {
@@ -41,8 +40,6 @@ fn stores_and_engines_are_made(rt: HostRuntime) -> Result<(), Fail> {
     };
     assert_eq!(rt; engine.write(1, 1, 1, insert), Ok(Wrote::Done));
     assert_eq!(rt; engine.commit(1), Ok(Some(1)));
-    let versions = Versions::new(rt.alloc(), 1, 16)?;
-    assert_eq!(rt; versions.spare(), 16);
     Ok(())
 }
 

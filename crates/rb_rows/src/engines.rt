@@ -195,13 +195,13 @@ const LONGER: &[u8] =
 fn one_list_of_writes(rt: HostRuntime) -> Result<(), Fail> {
     let rows: [(Call<'_>, Answer<'_>); 26] = [
         (Call::Commit(1), Answer::Done),
-        (Call::Commit(2), Answer::Refused(Refusal::NoSession)),
+        (Call::Commit(17), Answer::Refused(Refusal::NoSession)),
         (
             Call::Write(0, 1, 1, Op::Insert(b"a")),
             Answer::Refused(Refusal::NoSession),
         ),
         (
-            Call::Write(2, 3, 1, Op::Delete),
+            Call::Write(17, 3, 1, Op::Delete),
             Answer::Refused(Refusal::NoSession),
         ),
         (
@@ -274,7 +274,7 @@ fn one_list_of_cursors(rt: HostRuntime) -> Result<(), Fail> {
         (Call::Write(1, 2, 2, Op::Insert(b"c")), Answer::Done),
         (Call::Commit(1), Answer::Numbered(1)),
         (
-            Call::Open(2, b"early", 1, 0, 9),
+            Call::Open(17, b"early", 1, 0, 9),
             Answer::Refused(Refusal::NoSession),
         ),
         (
@@ -293,11 +293,11 @@ fn one_list_of_cursors(rt: HostRuntime) -> Result<(), Fail> {
             Answer::Refused(Refusal::CursorThere),
         ),
         (
-            Call::Fetch(2, b"early"),
+            Call::Fetch(17, b"early"),
             Answer::Refused(Refusal::NoSession),
         ),
         (
-            Call::Close(2, b"early"),
+            Call::Close(17, b"early"),
             Answer::Refused(Refusal::NoSession),
         ),
         (Call::Fetch(1, b"early"), Answer::Given(2, b"b")),
@@ -342,7 +342,7 @@ fn one_list_of_rollbacks(rt: HostRuntime) -> Result<(), Fail> {
         (Call::Marks, Answer::Marked(0, 0)),
         (Call::Rollback(1), Answer::Done),
         (Call::Rollback(0), Answer::Refused(Refusal::NoSession)),
-        (Call::Rollback(2), Answer::Refused(Refusal::NoSession)),
+        (Call::Rollback(17), Answer::Refused(Refusal::NoSession)),
         (Call::Checkpoint, Answer::Done),
         (Call::Write(1, 1, 1, Op::Insert(b"a")), Answer::Done),
         (Call::Write(1, 1, 2, Op::Insert(b"b")), Answer::Done),

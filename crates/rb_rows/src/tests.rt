@@ -52,7 +52,7 @@ close 1 first
 fetch 1 second 1
 #> 1 row 1 a
 close 2 second
-#> 2 no session
+#> 2 no cursor
 open 1 first 1 0 9
 #> 1 ok
 fetch 1 first 1
@@ -106,6 +106,158 @@ fetch 1 d 1
     Ok(())
 }
 
+// Two sessions and more, over a fresh file each.
+#[test]
+fn several_sessions(rt: HostRuntime) -> Result<(), Fail> {
+    let rows: [(&str, &[u8]); 5] = [
+        (
+            "snapshot before update",
+            b"\
+insert 1 1 1 a
+#> 1 ok
+commit 1
+#> 1 committed 1
+open 1 c 1 0 9
+#> 1 ok
+update 2 1 1 b
+#> 2 ok
+commit 2
+#> 2 committed 2
+fetch 1 c 1
+#> 1 row 1 a
+",
+        ),
+        (
+            "snapshot across deletes",
+            b"\
+insert 1 1 1 a
+#> 1 ok
+insert 1 1 2 b
+#> 1 ok
+insert 1 1 3 c
+#> 1 ok
+commit 1
+#> 1 committed 1
+open 2 c 1 0 9
+#> 2 ok
+fetch 2 c 1
+#> 2 row 1 a
+delete 1 1 2
+#> 1 ok
+delete 1 1 3
+#> 1 ok
+commit 1
+#> 1 committed 2
+fetch 2 c 5
+#> 2 row 2 b
+#> 2 row 3 c
+#> 2 end
+",
+        ),
+        (
+            "cursor across commits",
+            b"\
+insert 1 1 1 a
+#> 1 ok
+commit 1
+#> 1 committed 1
+update 1 1 1 b
+#> 1 ok
+open 1 c 1 0 9
+#> 1 ok
+commit 1
+#> 1 committed 2
+update 2 1 1 z
+#> 2 ok
+commit 2
+#> 2 committed 3
+fetch 1 c 5
+#> 1 row 1 b
+#> 1 end
+",
+        ),
+        ("slots full", EIGHT_SESSIONS),
+        ("keys of another session", TWO_SESSIONS),
+    ];
+    let file = formatted(rt.alloc(), FORMAT_LARGE)?;
+    check_each(&rt, rt.alloc(), &file, &rows)?;
+    Ok(())
+}
+
+// A home has room for the changes of eight sessions.
+const EIGHT_SESSIONS: &[u8] = b"\
+insert 1 1 1 a
+#> 1 ok
+insert 2 1 2 a
+#> 2 ok
+insert 3 1 3 a
+#> 3 ok
+insert 4 1 4 a
+#> 4 ok
+insert 5 1 5 a
+#> 5 ok
+insert 6 1 6 a
+#> 6 ok
+insert 7 1 7 a
+#> 7 ok
+insert 8 1 8 a
+#> 8 ok
+insert 9 1 9 a
+#> 9 slots full
+insert 8 1 9 b
+#> 8 ok
+commit 1
+#> 1 committed 1
+insert 9 1 9 a
+#> 9 waits 8
+insert 9 1 10 a
+#> 9 ok
+";
+
+// A key belongs to the session that changed it until its transaction ends: also one that it deleted, or inserted and
+// deleted. That it waits is told after a value too long, and before whether there is a row. Nothing is changed by it.
+const TWO_SESSIONS: &[u8] = b"\
+insert 1 1 1 a
+#> 1 ok
+insert 1 1 2 a
+#> 1 ok
+delete 1 1 2
+#> 1 ok
+insert 2 1 1 b
+#> 2 waits 1
+update 2 1 2 b
+#> 2 waits 1
+delete 16 1 1
+#> 16 waits 1
+insert 2 2 1 b
+#> 2 no table
+commit 2
+#> 2 ok
+open 2 c 1 0 9
+#> 2 ok
+fetch 2 c 9
+#> 2 end
+rollback 1
+#> 1 ok
+update 2 1 1 b
+#> 2 not found
+insert 2 1 1 b
+#> 2 ok
+insert 1 1 1 a
+#> 1 waits 2
+open 2 d 1 0 9
+#> 2 ok
+commit 2
+#> 2 committed 1
+insert 1 1 1 a
+#> 1 duplicate
+rollback 2
+#> 2 ok
+fetch 2 d 9
+#> 2 row 1 b
+#> 2 end
+";
+
 // Values of 80 and 81 bytes.
 const LINE_BOUNDS: &[u8] = b"\
 insert 1 1 18446744073709551615 vvvvvvvvvvvvvvvvvvvvvvvvvvvvvvvvvvvvvvvvvvvvvvvvvvvvvvvvvvvvvvvvvvvvvvvvvvvvvvvv
@@ -146,22 +298,24 @@ commit 65535
 #> 65535 no session
 commit 0
 #> 0 no session
-commit 2
-#> 2 no session
-rollback 2
-#> 2 no session
-insert 2 1 1 a
-#> 2 no session
-open 2 c 1 0 9
-#> 2 no session
-fetch 2 c 1
-#> 2 no session
-update 2 1 1 a
-#> 2 no session
-delete 2 1 1
-#> 2 no session
-close 2 c
-#> 2 no session
+commit 16
+#> 16 ok
+commit 17
+#> 17 no session
+rollback 17
+#> 17 no session
+insert 17 1 1 a
+#> 17 no session
+open 17 c 1 0 9
+#> 17 no session
+fetch 17 c 1
+#> 17 no session
+update 17 1 1 a
+#> 17 no session
+delete 17 1 1
+#> 17 no session
+close 17 c
+#> 17 no session
 insert 1 2 1 a
 #> 1 no table
 insert 1 0 1 a
@@ -702,6 +856,23 @@ commit 1
     Ok(())
 }
 
+// The commits of these numbers, each of that write.
+fn add_commits_of(
+    dialogue: &mut String,
+    line: &str,
+    first: u64,
+    last: u64,
+) -> Result<(), NoMemory> {
+    for number in first..=last {
+        write!(
+            dialogue,
+            "{line}\n#> 1 ok\ncommit 1\n#> 1 committed {number}\n"
+        )
+        .map_err(|_| NoMemory)?;
+    }
+    Ok(())
+}
+
 // The commits of these numbers, of one write each.
 fn add_commits(dialogue: &mut String, first: u64, last: u64) -> Result<(), NoMemory> {
     for number in first..=last {
@@ -1079,14 +1250,88 @@ fn undo_slots(rt: HostRuntime) -> Result<(), Fail> {
     Ok(())
 }
 
+// 79 records lead back to the snapshot. Record 81 takes the place of the first one, and its transaction the table slot
+// of commit 65: so the other cursor, at the same snapshot, is too old.
+#[test]
+fn undo_ring_reuse(rt: HostRuntime) -> Result<(), Fail> {
+    let file = formatted(rt.alloc(), FORMAT_LARGE)?;
+    let mut dialogue = String::new(rt.alloc());
+    add_commits(&mut dialogue, 1, 1)?;
+    dialogue.push_str("open 2 c 1 0 9\n#> 2 ok\nopen 2 d 1 0 9\n#> 2 ok\n")?;
+    add_commits_of(&mut dialogue, "update 1 1 1 u", 2, 80)?;
+    dialogue.push_str(
+        "\
+fetch 2 c 1
+#> 2 row 1 a
+update 1 1 1 u
+#> 1 ok
+fetch 2 d 1
+#> 2 too old 1 65
+marks
+#> segment 0 writes 81 lost 65
+fetch 2 d 9
+#> 2 too old 1 65
+close 2 d
+#> 2 ok
+open 2 d 1 0 9
+#> 2 ok
+fetch 2 d 9
+#> 2 row 1 u
+#> 2 end
+",
+    )?;
+    let _ = check(
+        &rt,
+        rt.alloc(),
+        "undo ring reuse",
+        &file,
+        dialogue.as_bytes(),
+    )?;
+    Ok(())
+}
+
+// Commit 17 takes the table slot of commit 1, whose home nobody wrote since: only a bound is known of its number.
+#[test]
+fn bound_above_snapshot(rt: HostRuntime) -> Result<(), Fail> {
+    let format = "f format tables=1 blocks=2 segments=1 log=64";
+    let file = formatted(rt.alloc(), format)?;
+    let mut dialogue = String::new(rt.alloc());
+    dialogue.push_str("open 2 c 1 0 9\n#> 2 ok\n")?;
+    add_commits_of(&mut dialogue, "insert 1 1 0 a", 1, 1)?;
+    add_commits_of(&mut dialogue, "insert 1 1 1 b", 2, 2)?;
+    add_commits_of(&mut dialogue, "update 1 1 1 b", 3, 17)?;
+    dialogue.push_str(
+        "\
+fetch 2 c 1
+#> 2 too old 0 1
+open 2 d 1 0 9
+#> 2 ok
+fetch 2 d 5
+#> 2 row 0 a
+#> 2 row 1 b
+#> 2 end
+marks
+#> segment 0 writes 17 lost 1
+",
+    )?;
+    let _ = check(&rt, rt.alloc(), "bound", &file, dialogue.as_bytes())?;
+    Ok(())
+}
+
+// Sixteen keys of one home.
+fn sixteen_inserts(alloc: Global) -> Result<String, NoMemory> {
+    let mut dialogue = String::new(alloc);
+    for key in 0..16 {
+        write!(dialogue, "insert 1 1 {key} a\n#> 1 ok\n").map_err(|_| NoMemory)?;
+    }
+    Ok(dialogue)
+}
+
 // The cell of a deleted row is free once its delete is committed.
 #[test]
 fn block_full_until_commit(rt: HostRuntime) -> Result<(), Fail> {
     let file = formatted(rt.alloc(), FORMAT_LARGE)?;
-    let mut dialogue = String::new(rt.alloc());
-    for key in 0..16 {
-        write!(dialogue, "insert 1 1 {key} a\n#> 1 ok\n")?;
-    }
+    let mut dialogue = sixteen_inserts(rt.alloc())?;
     dialogue.push_str(
         "\
 commit 1
@@ -1099,6 +1344,33 @@ commit 1
 #> 1 committed 2
 insert 1 1 16 a
 #> 1 ok
+",
+    )?;
+    let _ = check(&rt, rt.alloc(), "block full", &file, dialogue.as_bytes())?;
+    Ok(())
+}
+
+// The same for another session: keys that one has changed are in use for all.
+#[test]
+fn block_full(rt: HostRuntime) -> Result<(), Fail> {
+    let file = formatted(rt.alloc(), FORMAT_LARGE)?;
+    let mut dialogue = sixteen_inserts(rt.alloc())?;
+    dialogue.push_str(
+        "\
+insert 1 1 16 a
+#> 1 block full
+insert 2 1 16 a
+#> 2 block full
+commit 1
+#> 1 committed 1
+delete 1 1 0
+#> 1 ok
+insert 2 1 16 a
+#> 2 block full
+commit 1
+#> 1 committed 2
+insert 2 1 16 a
+#> 2 ok
 ",
     )?;
     let _ = check(&rt, rt.alloc(), "block full", &file, dialogue.as_bytes())?;
