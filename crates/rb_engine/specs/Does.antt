@@ -38,9 +38,9 @@ InTables shape k = AllByRecursion (λ c. (1 ≤ c.cursor.table) × (c.cursor.tab
 abbrev pub changes_kept : List KeptSession → ℕ
 changes_kept sessions = sum_by (λ k. k.count) sessions
 
--- What keeps an engine in order, whatever its store tells: each transaction's id is of a slot that there is, and a session
--- has one exactly where it has changes. As long as the engine isn't stopped, its store goes on and has numbers for each
--- rollback: one for each change and one for the slot, at most two for each change.
+-- What keeps an engine in order, whatever its store tells: each transaction's id is of a slot that there is, and a
+-- session has one exactly where it has changes. As long as the engine isn't stopped, its store goes on and has numbers
+-- for each rollback: one for each change and one for the slot, at most two for each change.
 pub record IsInStep {S : Type 0} (s : Ghosts S) (kept : Kept) (store : S) : Type 0 where
   pub counted : length kept.sessions ≡ SESSIONS
   pub tables : (u : ℕ) → InTables (s.shape_of store) (kept_at kept.sessions u)

@@ -1,5 +1,6 @@
 -- What a commit and a rollback leave of a store that has a state, or of which a call failed on the way.
-use Rattle.std.specs.Prelude.{◌≡◌, ◌+◌, ◌∷◌, ◌++◌, ℕ, Bool, true, false, length, [], Option, Some, List}
+use Rattle.std.specs.Prelude.{◌≡◌, ◌+◌, ◌∷◌, ◌++◌, ℕ, Bool, true, false}
+use Rattle.std.specs.Prelude.{length, [], Option, Some, List}
 use Rattle.rb_base.specs.declared.ids.Xid.{Xid}
 use Rattle.rb_base.specs.declared.store.Store.{Ghosts}
 use Rattle.rb_image.specs.Crash.{Survives}
@@ -27,7 +28,8 @@ Commits s h xids who x old new true = Holds s (committed h who x.seg x.slot) (xi
 Commits s h xids who x old new false = Fails s (Some (Commit who)) h old new
 
 -- its rollback, whatever cursors it keeps
-abbrev pub PutsAllBack : {S : Type 0} → Ghosts S → State → List Xid → ℕ → Xid → S → S → Bool → Type 0
+abbrev pub PutsAllBack : {S : Type 0} → Ghosts S → State → List Xid → ℕ → Xid → S → S → Bool
+    → Type 0
 PutsAllBack s h xids who x old new true = (cursors : List Cursor)
     → Holds s (without_owner x.seg x.slot (ended h who cursors)) xids new
     × SameIds s h old new × (s.lsn new ≡ s.lsn old + (length (session_own h who) + 1))

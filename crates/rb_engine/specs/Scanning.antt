@@ -1,5 +1,6 @@
 -- What a search for a cursor's next row finds, home by home.
-use Rattle.std.specs.Prelude.{◌≡◌, ◌≢◌, ◌<◌, ◌≤◌, ◌%◌, ℕ, List, Option, None, Some, Result, Ok, Err}
+use Rattle.std.specs.Prelude.{◌≡◌, ◌≢◌, ◌<◌, ◌≤◌, ◌%◌, ℕ, List}
+use Rattle.std.specs.Prelude.{Option, None, Some, Result, Ok, Err}
 use Rattle.rb_base.specs.declared.ids.Xid.{Xid}
 use Rattle.rb_cr.specs.declared.faults.CrFault.{CrFault}
 use Rattle.rb_cr.specs.declared.faults.CrFault.TheVariants as faults

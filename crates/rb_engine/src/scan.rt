@@ -1,7 +1,7 @@
-//! A cursor's next row, by the homes of its table in scan order, each rebuilt as it was at the cursor's snapshot. `fetch`
-//! calls it.
-ghost use Rattle.std.specs.Prelude.{◌≡◌, ◌<◌, ◌≤◌, ◌%◌, ◌*◌, ℕ, List, [], true, false, not, None, Some};
-ghost use Rattle.std.specs.Prelude.{IfOk, IfErr, if◌then◌else◌, ◌==◌};
+//! A cursor's next row, by the homes of its table in scan order, each rebuilt as it was at the cursor's snapshot.
+//! `fetch` calls it.
+ghost use Rattle.std.specs.Prelude.{◌≡◌, ◌<◌, ◌≤◌, ◌%◌, ◌*◌, ℕ, List, [], true, false, not};
+ghost use Rattle.std.specs.Prelude.{None, Some, IfOk, IfErr, if◌then◌else◌, ◌==◌};
 ghost use Rattle.rb_base.specs.Logs.{Logs};
 ghost use Rattle.rb_base.specs.declared.ids.Xid.{Xid};
 ghost use Rattle.rb_cr.specs.Faults.{is_failed};
@@ -19,7 +19,8 @@ use rb_sessions::Cursor;
 fn first_home(cursor: &Cursor, blocks: u32) -> u32
     requires { 0 < blocks }
     ensures within { result < blocks }
-    ensures skips { (g k : ℕ) → g < result → IsAskedKey blocks cursor.now.lo cursor.now.hi cursor.now.last g k → ⊥ }
+    ensures skips { (g k : ℕ) → g < result
+        → IsAskedKey blocks cursor.now.lo cursor.now.hi cursor.now.last g k → ⊥ }
     ensures first { cursor.now.last ≡ None → result ≡ 0 }
     ensures last { (last : ℕ) → cursor.now.last ≡ Some last → result ≡ last % blocks }
 {
@@ -40,7 +41,8 @@ fn after_in(cursor: &Cursor, first: u32, g: u32) -> Option<u64>
 fn is_asked(cursor: &Cursor, blocks: u32, g: u32) -> bool
     requires some { 0 < blocks }
     requires there { g < blocks }
-    ensures { result ≡ false → (k : ℕ) → k % blocks ≡ g → cursor.now.lo ≤ k → k ≤ cursor.now.hi → ⊥ }
+    ensures { result ≡ false → (k : ℕ) → k % blocks ≡ g
+        → cursor.now.lo ≤ k → k ≤ cursor.now.hi → ⊥ }
 {
     if cursor.lo > cursor.hi {
         return false;
@@ -99,8 +101,8 @@ fn next_in<S: Store>(
     next_at(store, block, &snapshot, wanted, scratch, row)
 }
 
-/// Puts the cursor's next row into `row`, where there is one. The homes are read from that of the last row on, up to the
-/// one that has the next row, and no other.
+/// Puts the cursor's next row into `row`, where there is one. The homes are read from that of the last row on, up to
+/// the one that has the next row, and no other.
 pub fn next_row<S: Store>(
     store: &mut S,
     scratch: &mut Scratch,

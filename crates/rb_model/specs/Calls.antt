@@ -14,8 +14,8 @@ use Rattle.rb_model.specs.State.{State, Cursor, session_of, session_own, owner_a
 use Rattle.rb_model.specs.State.{cursor_rows}
 use Rattle.rb_model.specs.Tests.{holder, full_slots, live_changes, made_since, owners_counted}
 use Rattle.rb_model.specs.declared.refusal.Refusal.{Refusal}
-use Rattle.rb_model.specs.declared.refusal.Refusal.TheVariants.{NoSession, NoTable, ValueTooLong, TooOld, Duplicate, NotFound}
-use Rattle.rb_model.specs.declared.refusal.Refusal.TheVariants.{BlockFull, SlotsFull, RollbackFull, NoCursor}
+use Rattle.rb_model.specs.declared.refusal.Refusal.TheVariants.{NoSession, NoTable, ValueTooLong, TooOld, Duplicate}
+use Rattle.rb_model.specs.declared.refusal.Refusal.TheVariants.{NotFound, BlockFull, SlotsFull, RollbackFull, NoCursor}
 use Rattle.rb_model.specs.declared.refusal.Refusal.TheVariants.{CursorThere, TooManyCursors, WornOut, DiskFault}
 use Rattle.rb_model.specs.declared.refusal.Refusal.TheVariants.{Stopped, LogFull}
 

@@ -103,8 +103,8 @@ BoundIsWorn = (env : Env) (base : ℕ) (rows : Rows) (mine : Option Xid) (upto n
 abbrev pub CellsShowRows : Type 0
 CellsShowRows = (b : Home) (rows : Rows) → Match b rows → (k : ℕ) → rows_in b.cells k ≡ rows k
 
--- Where no entry of a home is active or above n, its cells show the rows at n with the reader's first changes over them, and
--- nothing is to be taken back.
+-- Where no entry of a home is active or above n, its cells show the rows at n with the reader's first changes over
+-- them, and nothing is to be taken back.
 abbrev pub QuietIsRead : Type 0
 QuietIsRead = (env : Env) (h : History) (mine : Option Xid) (upto n : ℕ) (b : Home) → Reading env h mine upto n b
     → ((j : ℕ) → AtMost env n n (entry_at b j))
