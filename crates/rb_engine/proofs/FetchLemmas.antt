@@ -1,5 +1,5 @@
 -- What a search for a cursor's next row finds, from what the rebuilds of homes show, and what a fetch makes of it.
-use Rattle.std.proofs.Common.{◌≡◌, inl, inr, ◌<◌, ◌≤◌, ◌%◌, ◌==◌, ◌&&◌, ◌||◌, nat_lt, if◌then◌else◌, ℕ, Bool, true, false, List, [], Option, Some, None, Result, Ok, Err, IfOk, IfErr, refl, sym, ◌∙◌, subst, arith, is_none, ◌∷◌}
+use Rattle.std.proofs.Common.{not, ap, ◌≡◌, inl, inr, ◌<◌, ◌≤◌, ◌%◌, ◌==◌, ◌&&◌, ◌||◌, nat_lt, if◌then◌else◌, ℕ, Bool, true, false, List, [], Option, Some, None, Result, Ok, Err, IfOk, IfErr, refl, sym, ◌∙◌, subst, arith, is_none, ◌∷◌}
 use Rattle.std.proofs.lemmas.Bool.{cases_Bool, cond_both}
 use Rattle.std.proofs.lemmas.Bool.Decides.{nat_tests}
 use Rattle.std.proofs.lemmas.Result.{IfErr-weaker}
@@ -7,16 +7,17 @@ use Rattle.rb_base.specs.Logs.{Logs, Laws}
 use Rattle.rb_base.specs.declared.ids.Xid.{Xid}
 use Rattle.rb_base.specs.declared.shape.Shape.{Shape}
 use Rattle.rb_base.specs.declared.store.Store.{Ghosts}
-use Rattle.rb_cr.specs.Builds.{IsHomeRead}
+use Rattle.rb_cr.specs.Builds.{IsHomeOld, IsHomeRead}
 use Rattle.rb_cr.specs.Faults.{Because}
 use Rattle.rb_cr.specs.Rows.{IsBehind as IsBehindKey, IsNext, IsWanted}
 use Rattle.rb_cr.specs.declared.faults.CrFault.{CrFault}
 use Rattle.rb_cr.specs.declared.faults.CrFault.TheVariants as faults
 use Rattle.rb_cr.specs.declared.scratch.Snapshot.{Snapshot}
-use Rattle.rb_engine.specs.Scanning.{Begins, HasNext, HasNone, IsBehind, IsReader, Finds}
+use Rattle.rb_engine.specs.Checks.{Refuses, session_tests}
+use Rattle.rb_engine.specs.Scanning.{Begins, CannotRead, Finds, HasKey, HasNext, HasNone, IsBehind, IsReader, NeedsLost}
 use Rattle.rb_engine.proofs.SeenHomes.{seen_in_home}
 use Rattle.rb_model.specs.Next.{is_after}
-use Rattle.rb_model.specs.State.{State, cursor_of}
+use Rattle.rb_model.specs.State.{State, cursor_of, is_session}
 use Rattle.rb_model.specs.declared.row.Row.{Row}
 use Rattle.rb_rebuild.specs.Reading.{Reading}
 use Rattle.rb_sessions.specs.declared.cursor.Cursor.{Cursor}
@@ -32,7 +33,8 @@ use Rattle.rb_model.specs.Calls as machine
 use Rattle.rb_model.specs.Calls.{Answer, Refused, Reply, early_tests, none_applies, next_row}
 use Rattle.rb_model.specs.NextState.{cursors_of, with_cursors, with_taken}
 use Rattle.rb_model.specs.State as state
-use Rattle.rb_model.specs.declared.refusal.Refusal.TheVariants.{NoCursor, TooOld}
+use Rattle.rb_model.specs.declared.refusal.Refusal.TheVariants.{NoCursor, NoSession, Stopped, TooOld}
+use Rattle.rb_model.specs.declared.refusal.Refusal.{Refusal}
 use Rattle.rb_model.specs.declared.row.Fetched.{Fetched}
 use Rattle.rb_model.specs.declared.row.Fetched.TheVariants as fetched
 use Rattle.rb_sessions.specs.Kept.{KeptSession, kept_at, named, with_kept, with_last}
@@ -115,14 +117,14 @@ module _ (h : State) (xids : List Xid) (blocks : List (List ℕ)) (m : Cursor) (
     found_next row (Err fault) given none = tt
 
 -- why a home couldn't be read
-behind_by : (h : State) (blocks : List (List ℕ)) (m : Cursor) (why : ℕ → Type 0) (fault : CrFault) → Because (env_of h.shape blocks) m.scn why fault → IsBehind h blocks m fault
-behind_by h blocks m why faults.Failed because = tt
-behind_by h blocks m why (faults.TooOld scn lost) because = (because.0, omega (arith, because.0, because.1), (because.2.0, because.2.1))
-
-pub is_behind : (h : State) (blocks : List (List ℕ)) (m : Cursor) (shape : Shape) → shape ≡ h.shape → (why : ℕ → Type 0) (result : Result Bool CrFault) → IfErr result (Because (env_of shape blocks) m.scn why) → IfErr result (IsBehind h blocks m)
-is_behind h blocks m shape same why result because =
-    IfErr-weaker result (Because (env_of shape blocks) m.scn why) (IsBehind h blocks m)
-    (λ fault is. behind_by h blocks m why fault (subst (λ (k : Shape). Because (env_of k blocks) m.scn why fault) same is)) because
+pub is_behind : (h : State) (xids : List Xid) (blocks : List (List ℕ)) (m : Cursor) (g : ℕ) (shape : Shape) → shape ≡ h.shape → (block : ℕ) → block ≡ home_in h.shape m.table g → HasKey h.shape.blocks m.lo m.hi g → (result : Result Bool CrFault)
+    → IfErr result (IsHomeOld shape blocks block (history h xids blocks (home_in h.shape m.table g) m.own) (record { scn = m.scn; own = m.own; upto = m.upto }))
+    → IfErr result (λ fault. HasKey h.shape.blocks m.lo m.hi g × IsBehind h xids blocks m g fault)
+is_behind h xids blocks m g shape same block at key result because =
+    let hist = history h xids blocks (home_in h.shape m.table g) m.own in
+    let snap : Snapshot = record { scn = m.scn; own = m.own; upto = m.upto } in
+    IfErr-weaker result (IsHomeOld shape blocks block hist snap) (λ fault. HasKey h.shape.blocks m.lo m.hi g × IsBehind h xids blocks m g fault)
+    (λ fault is. (key, subst (λ (k : Shape). IsHomeOld k blocks (home_in h.shape m.table g) hist snap fault) same (subst (λ (n : ℕ). IsHomeOld shape blocks n hist snap fault) at is))) because
 
 -- Loads leave the blocks, so a reader stays one.
 module _ {S : Type 0} (s : Ghosts S) (old new : S) (logs : Logs s old new [] true) (told : s.tells) where
@@ -165,6 +167,10 @@ module _ {S : Type 0} (s : Ghosts S) (laws : Laws s) (h : State) (old : EngineVi
   answers : (logged room : ℕ) (r : Answer) → next_row h (Some one.0) ≡ r → Reply h logged room (machine.Fetch who name) r
   answers logged room r is = Reply.later (machine.cursor_tests h (machine.Fetch who name)) early refl (answer_by h who name (Some one.0) r one.1 (sym is))
 
+  -- what the search couldn't read
+  pub needs_lost : (fault : CrFault) (scn lost : ℕ) → fault ≡ faults.TooOld scn lost → ((xids : List Xid) → IsReader h xids blocks m → CannotRead h xids blocks m fault) → NeedsLost s h old who name scn lost
+  needs_lost fault scn lost is found = (goes.xids, m, is_named, subst (CannotRead h goes.xids blocks m) is (found goes.xids reader))
+
   -- what the search found, and what that makes of the call
   module _ (new : EngineView S) (same : SameStore s old.store new.store) (logs : Logs s old.store new.store [] true) (row : Row) (result : Result Fetched CrFault)
       (found : (xids : List Xid) → IsReader h xids blocks m → Finds h xids blocks m result row) where
@@ -194,10 +200,11 @@ module _ {S : Type 0} (s : Ghosts S) (laws : Laws s) (h : State) (old : EngineVi
     pub does_old : (scn lost : ℕ) → result ≡ Err (faults.TooOld scn lost) → new.memory ≡ old.memory → Does s h (machine.Fetch who name) (Refused (TooOld scn lost)) old new
     does_old scn lost is memory =
         let behind = finds goes.xids reader (Err (faults.TooOld scn lost)) is in
-        let seg = behind.2.0 in
+        let why = behind.4 in
+        let seg = why.2.0 in
         let number : m.scn ≡ one.0.number = one.2.number in
-        let book = lost_is h goes.xids blocks seg scn goes.holds.blocks (let a = behind.1 in let b = behind.2.1 in omega (arith, a, b)) in
-        let given_up : (book_at h.books seg).lost ≡ lost = book.1 ∙ sym behind.2.1 in
+        let book = lost_is h goes.xids blocks seg scn goes.holds.blocks (let a = why.0 in let b = why.1 in let d = why.2.1 in omega (arith, a, b, d)) in
+        let given_up : (book_at h.books seg).lost ≡ lost = book.1 ∙ sym why.2.1 in
         does_loaded s st.told laws h (machine.Fetch who name) (Refused (TooOld scn lost)) old new st
         (Reply.old early (record {
           session = who;
@@ -207,9 +214,22 @@ module _ {S : Type 0} (s : Ghosts S) (laws : Laws s) (h : State) (old : EngineVi
           named = one.1;
           seg = seg;
           there = book.0;
-          above = (let a = behind.0 in let b = behind.1 in omega (arith, a, b, number, given_up));
-          answer = too_old scn lost one.0.number (book_at h.books seg).lost (behind.0 ∙ number) (sym given_up);
+          above = (let a = why.0 in let b = why.1 in omega (arith, a, b, number, given_up));
+          answer = too_old scn lost one.0.number (book_at h.books seg).lost (why.0 ∙ number) (sym given_up);
         })) refl refl (λ s t k a is done. cc) memory (λ _. logs) same
       where
         too_old : (a b x y : ℕ) → a ≡ x → b ≡ y → Refused (TooOld a b) ≡ Refused (TooOld x y)
         too_old a b x y e f = rw (e, f) refl
+
+-- no early test answers that it is too old
+pub not_old : (h : State) (who : ℕ) (why : Refusal) (scn lost : ℕ) → Refuses (session_tests h who) why → why ≡ TooOld scn lost → ⊥
+not_old h who why scn lost refuses is = first h.stopped (not (is_session h who)) (ap (λ (w : Refusal). Refused w) (sym is) ∙ refuses.1)
+  where
+    first : (a b : Bool) → Refused (TooOld scn lost) ≡ machine.first_of ((a, Refused Stopped) ∷ (b, Refused NoSession) ∷ []) machine.Done → ⊥
+    first true b e = cc
+    first false true e = cc
+    first false false e = cc
+
+-- it tells these two numbers
+pub same_old : (a b x y : ℕ) → (let r : Result Fetched Refusal = Err (TooOld a b) in r) ≡ Err (TooOld x y) → (a ≡ x) × (b ≡ y)
+same_old a b x y e = ((let one : a ≡ x = cc in one), (let two : b ≡ y = cc in two))

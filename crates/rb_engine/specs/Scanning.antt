@@ -2,7 +2,10 @@
 use Rattle.std.specs.Prelude.{◌≡◌, ◌≢◌, ◌<◌, ◌≤◌, ◌%◌, ℕ, List}
 use Rattle.std.specs.Prelude.{Option, None, Some, Result, Ok, Err}
 use Rattle.rb_base.specs.declared.ids.Xid.{Xid}
+use Rattle.rb_base.specs.declared.store.Store.{Ghosts}
+use Rattle.rb_cr.specs.Faults.{Because}
 use Rattle.rb_cr.specs.declared.faults.CrFault.{CrFault}
+use Rattle.rb_engine.specs.Does.{EngineView}
 use Rattle.rb_cr.specs.declared.faults.CrFault.TheVariants as faults
 use Rattle.rb_model.specs.State as machine
 use Rattle.rb_model.specs.State.{State}
@@ -11,12 +14,14 @@ use Rattle.rb_model.specs.declared.row.Fetched.{Fetched}
 use Rattle.rb_model.specs.declared.row.Fetched.TheVariants as fetched
 use Rattle.rb_model.specs.declared.row.Row.{Row}
 use Rattle.rb_sessions.specs.declared.cursor.Cursor.{Cursor}
-use Rattle.rb_standing.specs.Standing.{env_of}
+use Rattle.rb_rebuild.specs.Reading.{Worn}
+use Rattle.rb_sessions.specs.Kept.{kept_at, named}
+use Rattle.rb_standing.specs.Standing.{env_of, homes_of}
 use Rattle.rb_standing.specs.States.{BlocksStand}
 use Rattle.rb_undoengine.specs.Steps.{NotOthers}
 use Rattle.rb_views.specs.Laws.{rows_seen}
 use Rattle.rb_views.specs.Scan.{IsNextIn, NoneIn}
-use Rattle.rb_views.specs.Views.{IsCursor}
+use Rattle.rb_views.specs.Views.{IsCursor, history, home_in}
 
 -- Blocks stand for a state of which this is a cursor.
 pub record IsReader (h : State) (xids : List Xid) (blocks : List (List ℕ)) (m : Cursor) : Type 0 where
@@ -41,20 +46,38 @@ abbrev pub HasNext : State → List Xid → List (List ℕ) → Cursor → ℕ �
 HasNext h xids blocks m g row =
     IsNextIn h.shape.blocks m.lo m.hi m.last (rows_seen h xids blocks m g) g row.key row.value.items
 
--- the cursor's snapshot, and what a segment lost above it
-abbrev pub IsBehind : State → List (List ℕ) → Cursor → CrFault → Type 0
-IsBehind h blocks m faults.Failed = Unit {0}
-IsBehind h blocks m (faults.TooOld scn lost) = (scn ≡ m.scn) × (scn < lost)
-    × ((seg : ℕ) × (lost ≡ (env_of h.shape blocks).lost seg))
+-- some key of the range is of home g
+abbrev pub HasKey : (blocks lo hi g : ℕ) → Type 0
+HasKey blocks lo hi g = (k : ℕ) × (k % blocks ≡ g) × (lo ≤ k) × (k ≤ hi)
+
+-- home g can't be read at the cursor's snapshot, for what a segment lost above it
+abbrev pub IsBehind : State → List Xid → List (List ℕ) → Cursor → ℕ → CrFault → Type 0
+IsBehind h xids blocks m g = Because (env_of h.shape blocks) m.scn (Worn (env_of h.shape blocks)
+    (history h xids blocks (home_in h.shape m.table g) m.own) m.scn
+    (homes_of h.shape blocks (home_in h.shape m.table g)))
+
+-- the first home that may have the next row, as those before it have none, can't be read
+abbrev pub CannotRead : State → List Xid → List (List ℕ) → Cursor → CrFault → Type 0
+CannotRead h xids blocks m fault = (g : ℕ) × (g < h.shape.blocks)
+    × ((f : ℕ) → f < g → HasNone h xids blocks m f) × HasKey h.shape.blocks m.lo m.hi g
+    × IsBehind h xids blocks m g fault
 
 -- the first row of the homes in order, or that there is none, or that a home can't be read
 abbrev pub Finds : State → List Xid → List (List ℕ) → Cursor → Result Fetched CrFault → Row → Type 0
 Finds h xids blocks m (Ok fetched.Row) row = (g : ℕ) × (g < h.shape.blocks)
     × ((f : ℕ) → f < g → HasNone h xids blocks m f) × HasNext h xids blocks m g row
 Finds h xids blocks m (Ok fetched.End) row = (g : ℕ) → g < h.shape.blocks → HasNone h xids blocks m g
-Finds h xids blocks m (Err fault) row = IsBehind h blocks m fault
+Finds h xids blocks m (Err fault) row = CannotRead h xids blocks m fault
 
 -- another session that holds the key, or that none does
 abbrev pub OtherHolds : State → ℕ → ℕ → ℕ → Option ℕ → Type 0
 OtherHolds h s table key None = NotOthers h s table key
 OtherHolds h s table key (Some u) = (holder h table key ≡ Some u) × (u ≢ s)
+
+-- A fetch of a session is too old: its cursor of that name, by the table of an engine that stands for h, has a next row
+-- that can't be read, for what a segment lost above the snapshot.
+abbrev pub NeedsLost : {S : Type 0} → Ghosts S → State → EngineView S → ℕ → List ℕ → ℕ → ℕ
+    → Type 0
+NeedsLost s h e who name scn lost = (xids : List Xid) × (m : Cursor)
+    × (named name (kept_at e.memory.sessions who).cursors ≡ Some m)
+    × CannotRead h xids (s.blocks e.store) m (faults.TooOld scn lost)

@@ -1,7 +1,8 @@
 //! The calls of `Engine`, as the abstract machine sees them. The shell makes one for each command.
-ghost use Rattle.std.specs.Prelude.{◌≡◌, ◌<◌, false, Ok, [], OnOk};
+ghost use Rattle.std.specs.Prelude.{◌≡◌, ◌<◌, ℕ, false, Ok, Err, [], OnOk};
 ghost use Rattle.rb_base.specs.Counts.{IsCountedAs, err_is};
 ghost use Rattle.rb_engine.specs.Does.{Does, LeavesState, SameStore, Stands};
+ghost use Rattle.rb_engine.specs.Scanning.{NeedsLost};
 ghost use Rattle.rb_model.specs.Answers.{action_of, write_answer, plain_answer, fetch_answer, commit_answer, LeavesRow};
 ghost use Rattle.rb_model.specs.Answers.{marks_answer};
 ghost use Rattle.rb_model.specs.Calls.{is_disk_fault};
@@ -74,10 +75,14 @@ impl<T: Store> Engine<T> {
     }
 
     /// Gives the next row of a cursor into `row`, or the end. It takes no lock and waits for nobody. Where what its
-    /// snapshot needs was given up, it may be refused as `TooOld`, and may be tried again.
+    /// snapshot needs was given up, it may be refused as `TooOld`, and may be tried again: the first home that may have
+    /// the next row can't be read then.
     pub fn fetch(&mut self, s: u16, name: &Name, row: &mut Row) -> Result<Fetched, Refusal>
         ensures did { (h : State) → Stands T.Store h self.old → Does T.Store h
             (machine.Fetch s (name_text name.now)) (fetch_answer result row.new) self.old self.new }
+        ensures lost { (h : State) → Stands T.Store h self.old → (scn lost : ℕ)
+            → result ≡ Err (Refusal.TooOld scn lost)
+            → NeedsLost T.Store h self.old s (name_text name.now) scn lost }
         ensures row { LeavesRow result row.old row.new }
         ensures same { SameStore T.Store self.old.store self.new.store }
         ensures disk { IsCountedAs (T.faults self.old.store) (T.faults self.new.store)

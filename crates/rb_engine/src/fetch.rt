@@ -1,7 +1,8 @@
 //! One row of a cursor. `Engine::fetch` calls it.
-ghost use Rattle.std.specs.Prelude.{◌≡◌};
+ghost use Rattle.std.specs.Prelude.{◌≡◌, ℕ, Err};
 ghost use Rattle.rb_base.specs.Counts.{IsCountedAs, err_is};
 ghost use Rattle.rb_engine.specs.Does.{Does, IsInStep, SameStore, Stands};
+ghost use Rattle.rb_engine.specs.Scanning.{NeedsLost};
 ghost use Rattle.rb_model.specs.Answers.{fetch_answer, LeavesRow};
 ghost use Rattle.rb_model.specs.Calls.{is_disk_fault};
 ghost use Rattle.rb_model.specs.Calls as machine;
@@ -30,6 +31,9 @@ pub fn do_fetch<T: Store>(
     ensures did { (h : State) → Stands T.Store h (record { memory = memory.old; store = store.old })
         → Does T.Store h (machine.Fetch s (name_text name.now)) (fetch_answer result row.new)
         (record { memory = memory.old; store = store.old }) (record { memory = memory.new; store = store.new }) }
+    ensures lost { (h : State) → Stands T.Store h (record { memory = memory.old; store = store.old })
+        → (scn lost : ℕ) → result ≡ Err (Refusal.TooOld scn lost) → NeedsLost T.Store h
+        (record { memory = memory.old; store = store.old }) s (name_text name.now) scn lost }
     ensures row { LeavesRow result row.old row.new }
     ensures same { SameStore T.Store store.old store.new }
     ensures disk { IsCountedAs (T.faults store.old) (T.faults store.new) (err_is is_disk_fault result) }

@@ -5,7 +5,7 @@ ghost use Rattle.std.specs.Prelude.{None, Some, IfOk, IfErr, if◌then◌else◌
 ghost use Rattle.rb_base.specs.Logs.{Logs};
 ghost use Rattle.rb_base.specs.declared.ids.Xid.{Xid};
 ghost use Rattle.rb_cr.specs.Faults.{is_failed};
-ghost use Rattle.rb_engine.specs.Scanning.{Begins, Finds, HasNext, HasNone, IsBehind, IsReader};
+ghost use Rattle.rb_engine.specs.Scanning.{Begins, Finds, HasKey, HasNext, HasNone, IsBehind, IsReader};
 ghost use Rattle.rb_model.specs.Next.{is_after};
 ghost use Rattle.rb_model.specs.State.{State};
 ghost use Rattle.rb_views.specs.Scan.{IsAskedKey};
@@ -41,8 +41,9 @@ fn after_in(cursor: &Cursor, first: u32, g: u32) -> Option<u64>
 fn is_asked(cursor: &Cursor, blocks: u32, g: u32) -> bool
     requires some { 0 < blocks }
     requires there { g < blocks }
-    ensures { result ≡ false → (k : ℕ) → k % blocks ≡ g
+    ensures none { result ≡ false → (k : ℕ) → k % blocks ≡ g
         → cursor.now.lo ≤ k → k ≤ cursor.now.hi → ⊥ }
+    ensures some { result ≡ true → HasKey blocks cursor.now.lo cursor.now.hi g }
 {
     if cursor.lo > cursor.hi {
         return false;
@@ -78,7 +79,8 @@ fn next_in<S: Store>(
         × (found ≡ false → HasNone h xids (S.blocks store.old) cursor.now g)) }
     ensures old { S.tells → (h : State) (xids : List Xid) → S.shape_of store.old ≡ h.shape
         → IsReader h xids (S.blocks store.old) cursor.now
-        → IfErr result (IsBehind h (S.blocks store.old) cursor.now) }
+        → IfErr result (λ fault. HasKey h.shape.blocks cursor.now.lo cursor.now.hi g
+        × IsBehind h xids (S.blocks store.old) cursor.now g fault) }
     ensures kept { IfOk result (λ found. found ≡ false → row.new ≡ row.old) }
     ensures same { IfErr result (λ fault. row.new ≡ row.old) }
     ensures logs { Logs S.Store store.old store.new [] (not (is_failed result)) }

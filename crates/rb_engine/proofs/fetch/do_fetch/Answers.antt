@@ -4,12 +4,12 @@ use Rattle.rb_cr.specs.Faults.{is_fault}
 use Rattle.rb_cr.specs.declared.faults.CrFault.{CrFault}
 use Rattle.rb_engine.specs.Does.{EngineView, Kept}
 use Rattle.rb_engine.proofs.DoesLemmas.{does_fault, does_refused, does_refused_late, fault_survives}
-use Rattle.rb_engine.proofs.FetchLemmas.{answer_by, does_end, does_old, does_row}
+use Rattle.rb_engine.proofs.FetchLemmas.{answer_by, does_end, does_old, needs_lost, not_old, same_old, does_row}
 use Rattle.rb_engine.proofs.StepLemmas.{few_less, fit_at, fit_taken, in_step_moved, named_in}
 use Rattle.rb_model.specs.Calls as machine
 use Rattle.rb_model.specs.Calls.{Answer, Refused, Reply, early_tests, none_applies, next_row}
 use Rattle.rb_model.specs.Names.{name_text}
-use Rattle.rb_model.specs.declared.refusal.Refusal.TheVariants.{NoCursor}
+use Rattle.rb_model.specs.declared.refusal.Refusal.TheVariants.{NoCursor, TooOld}
 use Rattle.rb_model.specs.declared.row.Fetched.{Fetched}
 use Rattle.rb_sessions.specs.Kept.{KeptSession, kept_at, named, with_kept, with_last}
 use Rattle.rb_sessions.specs.Kept as table
@@ -140,3 +140,21 @@ returns-in-Err-Failed-clause-did g c = λ h st.
     does_fault s st.told (laws_of g) h (machine.Fetch c.args.s (name_text c.args.name.now)) old (record { memory = c.stop.new.self; store = c.next_row.new.store }) st going (e.granted h st.knows) c.stop.ensures
     (record { shape = logs.same_shape; slots = logs.same_slots })
     (λ keeps. fault_survives s st.told (laws_of g) h (st.goes going).xids old.store c.next_row.new.store st.shape (st.goes going).holds logs keeps)
+
+pub returns-in-Err-clause-lost : goal.returns-in-Err-clause-lost
+returns-in-Err-clause-lost g c = λ h st scn lost is. absurd (not_old h c.args.s c.in-Err.why scn lost (c.in-Err.ensures.refused h st.knows) (let same : c.in-Err.why ≡ TooOld scn lost = cc in same))
+
+pub returns-in-Err-TooOld-clause-lost : goal.returns-in-Err-TooOld-clause-lost
+returns-in-Err-TooOld-clause-lost g c = λ h st scn lost is.
+    let s = g.T.Store in
+    let kept = c.args.memory.now in
+    let name = name_text c.args.name.now in
+    let m = c.in-Some.cursor in
+    let e = c.in_default.ensures in
+    let old : EngineView _ = record { memory = kept; store = c.args.store.now } in
+    let table_is : c.memory.inside.sessions ≡ kept.sessions = ap (λ (k : Kept). k.sessions) c.memory.view_is in
+    let is_named = ap (λ (l : List KeptSession). named name (kept_at l c.args.s).cursors) (sym table_is) ∙ (sym c.cursor.ensures ∙ c.in-Some.is) in
+    let numbers = same_old c.in-Err-TooOld.scn c.in-Err-TooOld.lost scn lost is in
+    needs_lost s (laws_of g) h old st (sym st.knows.stopped ∙ e.going) c.args.s e.session name (e.granted h st.knows) m is_named c.in-Err-TooOld.field-0 scn lost
+    (c.in-Err-TooOld.field-0-is ∙ rw (numbers.0, numbers.1) refl)
+    (λ xids reader. c.in-Err-TooOld.ensures.found st.told h xids st.shape reader)

@@ -1,7 +1,7 @@
 use Rattle.std.proofs.Common.{◌≡◌, ◌<◌, ◌+◌, ◌-◌, ◌*◌, ℕ, List, ◌∙◌, ap, subst}
 use Rattle.rb_base.specs.declared.ids.Xid.{Xid}
 use Rattle.rb_base.specs.declared.shape.Shape.{Shape}
-use Rattle.rb_engine.specs.Scanning.{HasNext, HasNone, IsBehind, IsReader}
+use Rattle.rb_engine.specs.Scanning.{HasKey, HasNext, HasNone, IsBehind, IsReader}
 use Rattle.rb_model.specs.State.{State}
 use Rattle.rb_rebuild.specs.Reading.{History}
 use Rattle.rb_views.specs.Views.{history, home_in}
@@ -40,4 +40,5 @@ returns-clause-old g c = λ told h xids shape reader.
     let b = g.S.Store.blocks c.args.store.now in
     let lt = there g c h xids shape reader in
     let read = home_read h xids b m reader c.args.g lt (g.S.Store.shape_of c.args.store.now) shape _ (at g c h xids shape reader) in
-    is_behind h b m (g.S.Store.shape_of c.args.store.now) shape _ c.next_at.result (c.next_at.ensures.old told (hist g c h xids shape reader) read)
+    let key = subst (λ (k : Shape). HasKey k.blocks m.lo m.hi c.args.g) (c.shape-blocks.ensures.shape ∙ shape) (c.is_asked.ensures.some c.if-not-is_asked.false) in
+    is_behind h xids b m c.args.g (g.S.Store.shape_of c.args.store.now) shape _ (at g c h xids shape reader) key c.next_at.result (c.next_at.ensures.old told (hist g c h xids shape reader) read)

@@ -34,8 +34,13 @@ next_in-requires-clause-begins g c =
 
 pub returns-in-Err-clause-found : goal.returns-in-Err-clause-found
 returns-in-Err-clause-found g c = λ told h xids shape reader.
-    subst (λ (b : List (List ℕ)). IsBehind h b c.args.cursor.now c.in-Err.fault) (same_blocks g.S.Store c.args.store.now c.loop-g.store c.loop-g.invariant.logs told)
-    (c.in-Err.ensures.old told h xids (c.loop-g.invariant.logs.same_shape ∙ shape) (reader_on g.S.Store c.args.store.now c.loop-g.store c.loop-g.invariant.logs told h xids c.args.cursor.now reader))
+    let both = c.in-Err.ensures.old told h xids (c.loop-g.invariant.logs.same_shape ∙ shape) (reader_on g.S.Store c.args.store.now c.loop-g.store c.loop-g.invariant.logs told h xids c.args.cursor.now reader) in (
+      c.loop-g.g,
+      subst (λ (z : Shape). c.loop-g.g < z.blocks) (c.shape-blocks.ensures.shape ∙ shape) c.loop-g-test.true,
+      c.loop-g.invariant.none told h xids shape reader,
+      both.0,
+      subst (λ (b : List (List ℕ)). IsBehind h xids b c.args.cursor.now c.loop-g.g c.in-Err.fault) (same_blocks g.S.Store c.args.store.now c.loop-g.store c.loop-g.invariant.logs told) both.1,
+    )
 
 pub returns-in-Err-clause-same : goal.returns-in-Err-clause-same
 returns-in-Err-clause-same g c = c.in-Err.ensures.same ∙ c.loop-g.invariant.row

@@ -1,5 +1,6 @@
 use Rattle.std.proofs.Common.{sym, subst}
-use Rattle.rb_engine.specs.Does.{Does, Stands}
+use Rattle.rb_engine.specs.Scanning.{NeedsLost}
+use Rattle.rb_engine.specs.Does.{EngineView, Does, Stands}
 use Rattle.rb_model.specs.Answers.{fetch_answer}
 use Rattle.rb_model.specs.Calls as machine
 use Rattle.rb_model.specs.Names.{name_text}
@@ -10,3 +11,8 @@ returns-clause-did g c = λ h st.
     let s = g.T.Store in
     let call = c.do_fetch in
     subst (λ e. Does s h (machine.Fetch c.args.s (name_text c.args.name.now)) (fetch_answer call.result call.new.row) e (record { memory = call.new.memory; store = call.new.store })) c.self.view_is (call.ensures.did h (subst (Stands s h) (sym c.self.view_is) st))
+
+pub returns-clause-lost : goal.returns-clause-lost
+returns-clause-lost g c = λ h st scn lost is.
+    let s = g.T.Store in
+    subst (λ (e : EngineView _). NeedsLost s h e c.args.s (name_text c.args.name.now) scn lost) c.self.view_is (c.do_fetch.ensures.lost h (subst (Stands s h) (sym c.self.view_is) st) scn lost is)
