@@ -11,27 +11,26 @@ SLOTS, TURN_RECORDS, MOST_TURNS = 16, 40, 8
 
 ID, KEY = (r"(0|[1-9]\d*)", 2**16 - 1), (r"(0|[1-9]\d*)", 2**64 - 1)
 COUNT, NAME, VALUE = (r"([1-9]\d*)", 10**6), (r"([a-z0-9_]{1,16})", None), (r"([!-~]+)", None)
-COMMANDS = {
-    "insert": [ID, ID, KEY, VALUE], "update": [ID, ID, KEY, VALUE], "delete": [ID, ID, KEY],
-    "commit": [ID], "rollback": [ID],
-    "open": [ID, NAME, ID, KEY, KEY], "fetch": [ID, NAME, COUNT], "close": [ID, NAME],
-    "marks": [], "checkpoint": [],
-}
-FORMS = {word: re.compile(" ".join([word, *(pattern for pattern, _ in fields)]), re.ASCII)
-         for word, fields in COMMANDS.items()}
+COMMANDS = [
+    ("insert", ID, ID, KEY, VALUE), ("update", ID, ID, KEY, VALUE), ("delete", ID, ID, KEY), ("lock", ID, ID, KEY),
+    ("savepoint", ID, NAME), ("rollback", ID, NAME), ("rollback", ID), ("commit", ID),
+    ("open", ID, NAME, ID, KEY, KEY), ("fetch", ID, NAME, COUNT), ("close", ID, NAME),
+    ("marks",), ("checkpoint",),
+]
+FORMS = [(word, fields, re.compile(" ".join([word, *(pattern for pattern, _ in fields)]), re.ASCII))
+         for word, *fields in COMMANDS]
 
 
 def parsed(line):
     """The word and the parts of a command; None where the line is none."""
     text = line.decode("latin-1")
-    word = text.split(" ", 1)[0]
-    found = FORMS[word].fullmatch(text) if word in FORMS else None
-    if not found:
-        return None
-    parts = [int(part) if most else part for part, (_, most) in zip(found.groups(), COMMANDS[word])]
-    if any(most and part > most for part, (_, most) in zip(parts, COMMANDS[word])):
-        return None
-    return word, parts
+    for word, fields, form in FORMS:
+        found = form.fullmatch(text)
+        if found:
+            parts = [int(part) if most else part for part, (_, most) in zip(found.groups(), fields)]
+            in_range = all(part <= most for part, (_, most) in zip(parts, fields) if most)
+            return (word, parts) if in_range else None
+    return None
 
 
 class Refused(Exception):
@@ -130,8 +129,19 @@ class Visit:
 # ---- Sessions
 
 
+class Change:
+    """A write that was done: its key and that one's home, what it gives the key, and the number of its record."""
+
+    # What a lock gives: the row stays as it is. (None is that of a delete: no row.)
+    HELD = object()
+
+    def __init__(self, at, home, value, record):
+        self.at, self.home, self.value, self.record = at, home, value, record
+
+
 class Session:
-    """The changes of a session's transaction, where it writes its records, and its open cursors."""
+    """A session's transaction and its open cursors. The transaction has its live changes, in order, the place where it
+    writes its records, and its savepoints: of each name, in order of setting, how many changes were before it."""
 
     def __init__(self):
         self.cursors = {}
@@ -139,17 +149,32 @@ class Session:
 
     def fresh(self):
         """No transaction runs. The cursors stay."""
-        # The value of each key that was changed, and the first record for each home.
-        self.live, self.own, self.homes, self.place = 0, {}, {}, None
+        self.place, self.savepoints = None, {}
+        self.keep([])
         for cursor in self.cursors.values():
-            cursor.saw_own = False
+            cursor.seen = 0
+
+    def keep(self, changes):
+        """The live changes are these."""
+        # The keys that they hold, what each of these has by them, and the first record for each home.
+        self.changes, self.held, self.own, self.homes = [], set(), {}, {}
+        for change in changes:
+            self.add(change)
+
+    def add(self, change):
+        self.changes.append(change)
+        self.held.add(change.at)
+        if change.value is not Change.HELD:
+            self.own[change.at] = change.value
+        self.homes.setdefault(change.home, change.record)
 
 
 class Cursor:
-    """A query: its table, the number of its snapshot, the rows that it gives, and whether a rollback closes it."""
+    """A query: its table, the number of its snapshot, the rows that it gives, and how many changes of the transaction
+    that runs it has seen."""
 
-    def __init__(self, table, number, rows, saw_own):
-        self.table, self.number, self.rows, self.saw_own = table, number, rows, saw_own
+    def __init__(self, table, number, rows, seen):
+        self.table, self.number, self.rows, self.seen = table, number, rows, seen
         self.taken = 0
 
 
@@ -205,7 +230,7 @@ class Model:
 
     def owed(self):
         """How many groups put back what is under way: one for each live change, and one for each slot that is taken."""
-        return sum(session.live + (session.place is not None) for session in self.sessions.values())
+        return sum(len(session.changes) + (session.place is not None) for session in self.sessions.values())
 
     def grow(self):
         """One group more."""
@@ -253,11 +278,12 @@ class Model:
         return given
 
     def calls(self, word, session, parts):
-        if word in ("insert", "update", "delete"):
+        if word in ("insert", "update", "delete", "lock"):
             return [self.write(session, word, *parts)]
         if word == "fetch":
             return self.fetch(session, *parts)
-        calls = {"commit": self.commit, "rollback": self.rollback, "open": self.open, "close": self.close}
+        calls = {"commit": self.commit, "savepoint": self.savepoint, "rollback": self.rollback, "open": self.open,
+                 "close": self.close}
         return [calls[word](session, *parts)]
 
     # ---- Writes and their ends
@@ -267,7 +293,7 @@ class Model:
         home = key % self.blocks
         used = {k for t, k in self.rows if k % self.blocks == home and t == table}
         for session in self.sessions.values():
-            used.update(k for t, k in session.own if k % self.blocks == home and t == table)
+            used.update(k for t, k in session.held if k % self.blocks == home and t == table)
         return len(used) >= HOME_KEYS and key not in used
 
     def begins_in(self):
@@ -282,7 +308,7 @@ class Model:
         at, home = (table, key), (table, key % self.blocks)
         others = {number: other for number, other in self.sessions.items() if other is not session}
         for number, other in others.items():
-            if at in other.own:
+            if at in other.held:
                 raise Refused(f"waits {number}")
         there = (session.own[at] if at in session.own else self.rows.get(at)) is not None
         if there == (word == "insert"):
@@ -300,8 +326,7 @@ class Model:
         book = self.book(segment)
         session.place = session.place or (segment, book.begin())
         record = book.mark(session.place[1])
-        session.live, session.own[at] = session.live + 1, value
-        session.homes.setdefault(home, record)
+        session.add(Change(at, home, Change.HELD if word == "lock" else value, record))
         self.grow()
         self.note(home)
         return "ok"
@@ -314,9 +339,8 @@ class Model:
             visit.bound, visit.noted = self.bound(visit), self.logged
 
     def commit(self, session):
-        if not session.place:
-            session.fresh()
-            return "ok"
+        if not session.changes:
+            return self.end_without(session)
         segment, slot = session.place
         book = self.book(segment)
         self.rows, self.number = changed(self.rows, session.own), self.number + 1
@@ -328,17 +352,42 @@ class Model:
         self.durable = self.logged
         return f"committed {self.number}"
 
-    def rollback(self, session):
-        session.cursors = {name: cursor for name, cursor in session.cursors.items() if not cursor.saw_own}
-        while session.live:
-            session.live -= 1
-            self.grow()
+    def end_without(self, session):
+        """The end of a transaction that has no change, or none any more: its slot, if it has one, is free."""
         if session.place:
             segment, slot = session.place
             self.book(segment).owners[slot] = session.place = None
             self.grow()
         session.fresh()
         return "ok"
+
+    def savepoint(self, session, name):
+        if len(session.savepoints.keys() - {name}) == NAMES:
+            raise Refused("too many savepoints")
+        # Also where it stood before, it is the latest now.
+        session.savepoints.pop(name, None)
+        session.savepoints[name] = len(session.changes)
+        return "ok"
+
+    def rollback(self, session, name=None):
+        if name is None:
+            self.put_back(session, 0)
+            return self.end_without(session)
+        if name not in session.savepoints:
+            raise Refused("no savepoint")
+        names = list(session.savepoints)
+        for later in names[names.index(name) + 1 :]:
+            del session.savepoints[later]
+        self.put_back(session, session.savepoints[name])
+        return "ok"
+
+    def put_back(self, session, kept):
+        """Puts back the session's changes but for the first ones, the newest first."""
+        session.cursors = {name: cursor for name, cursor in session.cursors.items() if cursor.seen <= kept}
+        while len(session.changes) > kept:
+            session.changes.pop()
+            self.grow()
+        session.keep(session.changes)
 
     # ---- Cursors
 
@@ -352,7 +401,7 @@ class Model:
         seen = changed(self.rows, session.own)
         rows = [(key, value) for (t, key), value in seen.items() if t == table and lo <= key <= hi]
         rows.sort(key=lambda row: (row[0] % self.blocks, row[0]))
-        session.cursors[name] = Cursor(table, self.number, rows, bool(session.own))
+        session.cursors[name] = Cursor(table, self.number, rows, len(session.changes))
         return "ok"
 
     def cursor(self, session, name):

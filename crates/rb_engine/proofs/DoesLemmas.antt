@@ -1,5 +1,5 @@
 -- What a call does with the state that its engine stands for, from what it does with the memory and the store.
-use Rattle.std.proofs.Common.{◌≡◌, ◌≢◌, ⊎_elim, ◌<◌, ◌≤◌, ◌+◌, ℕ, Bool, true, false, not, List, [], length, is_some, Option, Some, None, Result, Ok, Err, IfErr, OnOk, refl, sym, ◌∙◌, ap, subst, arith}
+use Rattle.std.proofs.Common.{◌≡◌, ◌≢◌, ⊎_elim, ◌<◌, ◌≤◌, ◌+◌, ◌-◌, ℕ, Bool, true, false, not, List, [], length, set, is_some, Option, Some, None, Result, Ok, Err, IfErr, OnOk, refl, sym, ◌∙◌, ap, subst, arith}
 use Rattle.std.proofs.lemmas.Bool.{cases_Bool, false≢true}
 use Rattle.std.specs.Result.{is_err}
 use Rattle.rb_base.specs.Blocks.{block_of, header_block}
@@ -20,7 +20,7 @@ use Rattle.rb_model.specs.Book.{book_at}
 use Rattle.rb_model.specs.Calls.{Answer, Call, Marked, Refused, Reply, early_tests, failed_in, is_disk_fault, is_fault, none_applies}
 use Rattle.rb_model.specs.NextState.{After, Grows, with_cursors}
 use Rattle.rb_model.specs.Rows.{last_scn, rows_at}
-use Rattle.rb_model.specs.State.{Cursor, State, session_own}
+use Rattle.rb_model.specs.State.{Cursor, Session, State, session_of, session_own}
 use Rattle.rb_model.specs.declared.refusal.Refusal.{Refusal}
 use Rattle.rb_model.specs.declared.refusal.Refusal.TheVariants.{DiskFault}
 use Rattle.rb_model.proofs.Stops.{after_shape, after_stops, fine_stays, other_refusal}
@@ -57,6 +57,10 @@ knows_stop h kept now knows is = record {
   stopped = ap (λ (k : Kept). k.stopped) is;
   scn = ap (λ (k : Kept). k.scn) is ∙ knows.scn;
 }
+
+-- the state with another session of that number
+abbrev pub with_session : State → ℕ → Session → State
+with_session h who session = record h { sessions = set h.sessions (who - 1) session }
 
 module _ {S : Type 0} (s : Ghosts S) where
   -- from the state after the call, and what the store and the table have of it unless it is stopped
@@ -97,15 +101,15 @@ module _ {S : Type 0} (s : Ghosts S) where
         survives_going s laws keeps h h2 old new [] shape shapes commits grow (holds.images keeps) going logs
         (none_each s laws keeps Q (s.blocks old) (s.lsn old) (so (s.blocks old) (s.lsn old) (read_has s laws keeps P old (holds.images keeps))))
 
-    -- The store has a state that differs in the cursors of one session alone.
-    pub holds_cursors : (h : State) (who : ℕ) (xids : List Xid) (store : S) (cursors : List Cursor) → (1 ≤ who) × (who ≤ length h.sessions) → Holds s h xids store → Holds s (with_cursors h who cursors) xids store
-    holds_cursors h who xids store cursors there holds =
-        let h2 = with_cursors h who cursors in
+    -- The store has a state that differs in what one session has beside its changes.
+    pub holds_session : (h : State) (who : ℕ) (xids : List Xid) (store : S) (session : Session) → (1 ≤ who) × (who ≤ length h.sessions) → session.own ≡ session_own h who → Holds s h xids store → Holds s (with_session h who session) xids store
+    holds_session h who xids store session there own holds =
+        let h2 = with_session h who session in
         let P : List (List ℕ) → ℕ → Type 0 = HasState h h.books (last_scn h.commits) (s.slots store) in
         let Q : List (List ℕ) → ℕ → Type 0 = HasState h2 h2.books (last_scn h2.commits) (s.slots store) in
         let so : (b : List (List ℕ)) (n : ℕ) → P b n → Q b n = λ b n has. has_later h h2 h.books h2.books (last_scn h.commits) (s.slots store) b n refl refl (grow_same h.shape h.books) has in
         record {
-          blocks = cursors_free h who (record { own = session_own h who; cursors = cursors }) there refl xids (s.blocks store) holds.blocks;
+          blocks = cursors_free h who session there own xids (s.blocks store) holds.blocks;
           logged = holds.logged;
           fits = holds.fits;
           images = λ keeps. let k = holds.images keeps in record { base = k.base; first = k.first; stable = k.stable; each = λ count few. so _ _ (k.each count few) };
@@ -160,16 +164,16 @@ module _ {S : Type 0} (s : Ghosts S) where
     pub fault_survives : {fault : Option Call} → (h : State) (xids : List Xid) (old new : S) → s.shape_of old ≡ h.shape → Holds s h xids old → Logs s old new [] false → s.keeps → Survives s (s.slots old) fault h (record h { stopped = true }) old new
     fault_survives h xids old new shape holds logs keeps = survives_same h (record h { stopped = true }) xids old new false shape refl refl refl holds logs keeps
 
-    -- A call that changed the cursors of one session alone, and perhaps loaded blocks.
-    pub does_cursors : (h : State) (call : Call) (answer : Answer) (who : ℕ) (cursors : List Cursor) (old new : EngineView S) → Stands s h old → h.stopped ≡ false
-        → (1 ≤ who) × (who ≤ length h.sessions)
-        → Reply h (s.lsn old.store) (room_of (s.slots old.store) (s.lsn old.store)) call answer → After h call answer (with_cursors h who cursors) → Grows h call answer 0
-        → Retained h call answer (with_cursors h who cursors) → is_fault answer ≡ false
+    -- A call that changed what one session has beside its changes, and perhaps loaded blocks.
+    pub does_session : (h : State) (call : Call) (answer : Answer) (who : ℕ) (session : Session) (old new : EngineView S) → Stands s h old → h.stopped ≡ false
+        → (1 ≤ who) × (who ≤ length h.sessions) → session.own ≡ session_own h who
+        → Reply h (s.lsn old.store) (room_of (s.slots old.store) (s.lsn old.store)) call answer → After h call answer (with_session h who session) → Grows h call answer 0
+        → Retained h call answer (with_session h who session) → is_fault answer ≡ false
         → new.memory.stopped ≡ old.memory.stopped → new.memory.scn ≡ old.memory.scn
-        → ((xids : List Xid) → BlocksStand h xids (s.blocks old.store) → Remembers h xids (env_of h.shape (s.blocks old.store)) old.memory.sessions → Remembers (with_cursors h who cursors) xids (env_of h.shape (s.blocks old.store)) new.memory.sessions)
+        → ((xids : List Xid) → BlocksStand h xids (s.blocks old.store) → Remembers h xids (env_of h.shape (s.blocks old.store)) old.memory.sessions → Remembers (with_session h who session) xids (env_of h.shape (s.blocks old.store)) new.memory.sessions)
         → Logs s old.store new.store [] true → SameStore s old.store new.store → Does s h call answer old new
-    does_cursors h call answer who cursors old new st going there reply after grows retains fine stopped scn remembers logs same =
-        let h2 = with_cursors h who cursors in
+    does_session h call answer who session old new st going there own reply after grows retains fine stopped scn remembers logs same =
+        let h2 = with_session h who session in
         let goes = st.goes going in
         does_by h h2 call answer old new 0 st reply after (λ _. retains)
         (knows_on h h2 old.memory new.memory st.knows (after_sessions h h2 call answer after) refl refl stopped scn) same
@@ -178,11 +182,22 @@ module _ {S : Type 0} (s : Ghosts S) where
           logs.number refl,
           record {
             xids = goes.xids;
-            holds = holds_cursors h who goes.xids new.store cursors there (holds_logged h goes.xids old.store new.store goes.holds logs);
+            holds = holds_session h who goes.xids new.store session there own (holds_logged h goes.xids old.store new.store goes.holds logs);
             remembers = remembers_logged h2 goes.xids new.memory.sessions old.store new.store logs (remembers goes.xids goes.holds.blocks goes.remembers);
           },
         ))
         (λ before _ keeps. survives_same h h2 goes.xids old.store new.store true st.shape refl refl refl goes.holds logs keeps)
+
+    -- One that changed its cursors alone.
+    pub does_cursors : (h : State) (call : Call) (answer : Answer) (who : ℕ) (cursors : List Cursor) (old new : EngineView S) → Stands s h old → h.stopped ≡ false
+        → (1 ≤ who) × (who ≤ length h.sessions)
+        → Reply h (s.lsn old.store) (room_of (s.slots old.store) (s.lsn old.store)) call answer → After h call answer (with_cursors h who cursors) → Grows h call answer 0
+        → Retained h call answer (with_cursors h who cursors) → is_fault answer ≡ false
+        → new.memory.stopped ≡ old.memory.stopped → new.memory.scn ≡ old.memory.scn
+        → ((xids : List Xid) → BlocksStand h xids (s.blocks old.store) → Remembers h xids (env_of h.shape (s.blocks old.store)) old.memory.sessions → Remembers (with_cursors h who cursors) xids (env_of h.shape (s.blocks old.store)) new.memory.sessions)
+        → Logs s old.store new.store [] true → SameStore s old.store new.store → Does s h call answer old new
+    does_cursors h call answer who cursors old new st going there =
+        does_session h call answer who (record (session_of h who) { cursors = cursors }) old new st going there refl
 
 -- a result that isn't a fault of the disk
 pub no_fault : {T : Type 0} (r : Result T Refusal) → IfErr r (λ why. why ≢ DiskFault) → err_is is_disk_fault r ≡ false

@@ -8,7 +8,6 @@ use Rattle.rb_base.specs.declared.ids.Xid.{Xid}
 use Rattle.rb_base.specs.declared.shape.Shape.{Shape}
 use Rattle.rb_base.specs.declared.store.Store.{Ghosts}
 use Rattle.rb_cr.specs.Builds.{IsHomeOld, IsHomeRead}
-use Rattle.rb_cr.specs.Faults.{Because}
 use Rattle.rb_cr.specs.Rows.{IsBehind as IsBehindKey, IsNext, IsWanted}
 use Rattle.rb_cr.specs.declared.faults.CrFault.{CrFault}
 use Rattle.rb_cr.specs.declared.faults.CrFault.TheVariants as faults
@@ -136,7 +135,7 @@ module _ {S : Type 0} (s : Ghosts S) (old new : S) (logs : Logs s old new [] tru
 
 -- what a fetch answers behind its early tests, by the cursor of the name
 pub answer_by : (h : State) (who : ℕ) (name : List ℕ) (o : Option state.Cursor) (r : Answer) → cursor_of h who name ≡ o → r ≡ machine.first_of ((is_none o, Refused NoCursor) ∷ []) (next_row h o)
-    → r ≡ machine.first_of (machine.cursor_tests h (machine.Fetch who name)) (machine.granted h (machine.Fetch who name))
+    → r ≡ machine.first_of (machine.name_tests h (machine.Fetch who name)) (machine.granted h (machine.Fetch who name))
 answer_by h who name o r is answer = subst (λ (z : Option state.Cursor). r ≡ machine.first_of ((is_none z, Refused NoCursor) ∷ []) (next_row h z)) (sym is) answer
 
 -- an engine that stands for a state, and a cursor that its table has
@@ -165,7 +164,7 @@ module _ {S : Type 0} (s : Ghosts S) (laws : Laws s) (h : State) (old : EngineVi
   one = cursor_for goes.xids goes.remembers
 
   answers : (logged room : ℕ) (r : Answer) → next_row h (Some one.0) ≡ r → Reply h logged room (machine.Fetch who name) r
-  answers logged room r is = Reply.later (machine.cursor_tests h (machine.Fetch who name)) early refl (answer_by h who name (Some one.0) r one.1 (sym is))
+  answers logged room r is = Reply.later (machine.name_tests h (machine.Fetch who name)) early refl (answer_by h who name (Some one.0) r one.1 (sym is))
 
   -- what the search couldn't read
   pub needs_lost : (fault : CrFault) (scn lost : ℕ) → fault ≡ faults.TooOld scn lost → ((xids : List Xid) → IsReader h xids blocks m → CannotRead h xids blocks m fault) → NeedsLost s h old who name scn lost

@@ -1,5 +1,5 @@
 -- What a commit leaves, from the groups of its step, and what the end of a transaction without a slot does.
-use Rattle.std.proofs.Common.{◌≡◌, inl, ◌<◌, ◌≤◌, ◌+◌, ◌-◌, ◌^◌, ◌∷◌, ◌++◌, ◌&&◌, nat_le, ℕ, true, false, not, min, List, [], length, map, set, Some, None, Result, Ok, Err, OnOk, refl, sym, ◌∙◌, ap, subst, arith, append-nil, length-append}
+use Rattle.std.proofs.Common.{◌≡◌, inl, ◌<◌, ◌≤◌, ◌+◌, ◌-◌, ◌^◌, ◌∷◌, ◌++◌, ◌&&◌, nat_le, ℕ, true, false, not, min, List, [], length, map, Some, None, Result, Ok, Err, OnOk, refl, sym, ◌∙◌, ap, subst, arith, append-nil, length-append}
 use Rattle.std.proofs.lemmas.Bool.{le-leb, and_from}
 use Rattle.std.proofs.lemmas.List.{length-set}
 use Rattle.std.specs.Result.{is_err}
@@ -12,7 +12,7 @@ use Rattle.rb_base.specs.declared.ids.Xid.{Xid}
 use Rattle.rb_base.specs.declared.store.Store.{Ghosts}
 use Rattle.rb_engine.specs.Does.{Does, EngineView, Goes, Keeps, SameStore, Stands}
 use Rattle.rb_engine.specs.Finishing.{Commits, Fails}
-use Rattle.rb_engine.proofs.DoesLemmas.{does_by, does_fault, holds_cursors, knows_on, survives_same}
+use Rattle.rb_engine.proofs.DoesLemmas.{does_by, does_fault, holds_session, knows_on, survives_same}
 use Rattle.rb_image.specs.Crash.{Survives}
 use Rattle.rb_image.specs.Holds.{Holds}
 use Rattle.rb_image.specs.Made.{CommitMade, GivesOne}
@@ -20,7 +20,7 @@ use Rattle.rb_image.proofs.CommitHeld.{commit_fault, holds_committed}
 use Rattle.rb_image.proofs.Owners.{OwnedBy, none_owned, owned_by}
 use Rattle.rb_model.specs.Calls.{Call, Commit, Done, HasNoSlot, Numbered, Refused, Reply, early_tests, is_empty, none_applies}
 use Rattle.rb_model.specs.Change.{Change}
-use Rattle.rb_model.specs.NextState.{After, GrowsBy, committed, ended, not_present, with_cursors}
+use Rattle.rb_model.specs.NextState.{After, GrowsBy, committed, ended, not_present}
 use Rattle.rb_model.specs.Rows.{last_scn}
 use Rattle.rb_model.specs.State.{Cursor, State, is_session, session_own}
 use Rattle.rb_model.specs.declared.refusal.Refusal.TheVariants.{DiskFault}
@@ -152,9 +152,8 @@ does_ended s laws h call who cursors old new st going there runs retains own emp
     let none : length (session_own h who) ≡ 0 = sym session.count ∙ empty in
     let own_is : session_own h who ≡ [] = no_items (session_own h who) none in
     let bare = none_own (session_own h who) none in
-    let same : now ≡ with_cursors h who (map not_present cursors) = ap (λ (l : List Change). let n : State = record h { sessions = set h.sessions (who - 1) (record { own = l; cursors = map not_present cursors }) } in n) (sym own_is) in
     let logs = no_logs s old.store runs in
-    let kept : Holds s now goes.xids old.store = subst (λ (y : State). Holds s y goes.xids old.store) (sym same) (holds_cursors s st.told laws h who goes.xids old.store (map not_present cursors) who_in goes.holds) in
+    let kept : Holds s now goes.xids old.store = holds_session s st.told laws h who goes.xids old.store (record { own = []; savepoints = []; cursors = map not_present cursors }) who_in (sym own_is) goes.holds in
     does_by s h now call Done old new 0 st (reply free bare) (after free bare) (λ _. retains now)
     (knows_on h now old.memory new.memory st.knows (length-set h.sessions _ _) refl refl stopped scn)
     (record { shape = ap s.shape_of store; slots = ap s.slots store })

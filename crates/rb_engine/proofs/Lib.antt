@@ -5,5 +5,6 @@ pub mod FinishLemmas
 pub mod OpenLemmas
 pub mod RetainsLemmas
 pub mod RollbackLemmas
+pub mod SavepointLemmas
 pub mod StepLemmas
 pub mod WriteLemmas

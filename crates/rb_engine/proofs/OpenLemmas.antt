@@ -16,7 +16,7 @@ use Rattle.rb_base.specs.declared.faults.OpenFault.{OpenFault}
 use Rattle.rb_base.specs.declared.faults.OpenFault.TheVariants.{Failed, NoMemory, NotAStore}
 use Rattle.rb_base.specs.declared.shape.Shape.{Shape}
 use Rattle.rb_base.specs.declared.store.Store.{Ghosts}
-use Rattle.rb_engine.specs.Does.{InTables, IsInStep, Kept, changes_kept}
+use Rattle.rb_engine.specs.Does.{InTables, IsInStep, Kept, owed_kept}
 use Rattle.rb_engine.specs.Opened.{Opened, OpensTo, StaysOpen}
 use Rattle.rb_image.specs.Crash.{Restarts}
 use Rattle.rb_image.specs.Holds.{Holds}
@@ -82,9 +82,8 @@ in_step s kept old new groups logs few low is =
       own = λ u x has. let clash : None ≡ Some x = ap (λ (k : KeptSession). k.own) (sym (at u)) ∙ has in absurd cc;
       small = λ u. let none = ap (λ (k : KeptSession). k.count) (at u) in omega (arith, none);
       idle = λ u _. ap (λ (k : KeptSession). k.count) (at u);
-      busy = λ u x has. let clash : None ≡ Some x = ap (λ (k : KeptSession). k.own) (sym (at u)) ∙ has in absurd cc;
       going = λ _. logs.failed;
-      few = λ _. let number = logs.number refl in let none = ap changes_kept is in omega (arith, number, few, low, none);
+      few = λ _. let number = logs.number refl in let none = ap owed_kept is in omega (arith, number, few, low, none);
     }
 
 -- the rows of an opened state at its last commit are its base

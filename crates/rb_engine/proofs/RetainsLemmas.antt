@@ -46,7 +46,7 @@ no_less i b = ⊎_elim
 
 -- who owns a slot has it
 owned_has : (h : State) (s g i : ℕ) → Owned h s g i → has_slot h s g i ≡ true
-owned_has h s g i (o, at, is) = rw (at, is) (grind (arith, nat_tests))
+owned_has h s g i (few, o, at, is) = rw (at, is) (grind (arith, nat_tests))
 
 module _ (h : State) (xids : List Xid) (blocks : List (List ℕ)) (stand : BlocksStand h xids blocks) where
   -- the numbers of the slots of one segment differ

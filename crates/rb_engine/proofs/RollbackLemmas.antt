@@ -1,5 +1,6 @@
 -- What a rollback leaves, change by change, from the groups of its steps.
-use Rattle.std.proofs.Common.{◌≡◌, ◌<◌, ◌≤◌, ◌+◌, ◌-◌, ◌*◌, ◌^◌, ◌∷◌, ◌++◌, inl, ℕ, suc, Bool, true, false, not, List, [], length, length-append, map, set, take, Option, Some, None, Result, Ok, Err, OnOk, refl, sym, ◌∙◌, ap, subst, arith}
+use Rattle.std.proofs.Common.{◌≡◌, ◌<◌, ◌≤◌, ◌+◌, ◌-◌, ◌*◌, ◌^◌, ◌∷◌, ◌++◌, inl, inr, ⊎_elim, ℕ, suc, Bool, true, false, not, List, [], length, length-append, map, set, take, Option, Some, None, Result, Ok, Err, OnOk, refl, sym, ◌∙◌, ap, subst, arith}
+use Rattle.std.proofs.lemmas.Bool.{cases_lt}
 use Rattle.std.proofs.lemmas.List.{length-set, set-set, take_all}
 use Rattle.std.specs.Result.{is_err}
 use Rattle.rb_attempt.specs.Asks.{header_in}
@@ -12,9 +13,9 @@ use Rattle.rb_base.specs.declared.ids.Xid.{Xid}
 use Rattle.rb_base.specs.declared.shape.Shape.{Shape}
 use Rattle.rb_base.specs.declared.store.Store.{Ghosts}
 use Rattle.rb_engine.specs.Does.{Does, EngineView, Goes, SameStore, Stands}
-use Rattle.rb_engine.specs.Finishing.{Fails, PutsAllBack, SameIds}
-use Rattle.rb_engine.proofs.DoesLemmas.{does_by, knows_on, survives_same}
-use Rattle.rb_engine.proofs.FinishLemmas.{goes, no_early, own_by, own_id, runs_in}
+use Rattle.rb_engine.specs.Finishing.{Fails, PutsAllBack, PutsBack, SameIds}
+use Rattle.rb_engine.proofs.DoesLemmas.{does_by, holds_session, knows_on, survives_same, with_session}
+use Rattle.rb_engine.proofs.FinishLemmas.{goes, no_early, none_own, own_by, own_id, runs_in}
 use Rattle.rb_image.specs.Crash.{MarksGrow, Survives}
 use Rattle.rb_image.specs.Holds.{Holds}
 use Rattle.rb_image.specs.Images.{HasState}
@@ -25,16 +26,17 @@ use Rattle.rb_image.proofs.Owners.{OwnedBy, owned_by, same_owners}
 use Rattle.rb_image.proofs.Steps.{read_has, survives_going}
 use Rattle.rb_image.proofs.StepsHeld.{few_each, holds_back, holds_ended, room_less}
 use Rattle.rb_model.specs.Book.{Book}
-use Rattle.rb_model.specs.Calls.{Call, Done, Owned, Reply, Rollback}
+use Rattle.rb_model.specs.Calls.{Call, Commit, Done, Owned, Reply, Rollback, RollbackTo, is_empty, name_tests}
 use Rattle.rb_model.specs.Change.{Change}
-use Rattle.rb_model.specs.NextState.{EndsAs, cursors_of, ended, left_open, not_present, without_owner}
+use Rattle.rb_model.specs.NextState.{EndsAs, cursors_of, ended, left_open, not_present, rolled_to, up_to, without_owner}
 use Rattle.rb_model.specs.Rows.{last_scn}
-use Rattle.rb_model.specs.State.{Session, State, session_own, with_changes}
+use Rattle.rb_model.specs.State.{Savepoint, Session, State, savepoint_of, session_of, session_own, with_changes}
 use Rattle.rb_restart.proofs.Joined.{room_on}
 use Rattle.rb_restart.proofs.Slots.{owed_is, slot_for}
 use Rattle.rb_segment.specs.Calls.{Runs}
 use Rattle.rb_segment.specs.Segments.{commit_scn, owed_in}
 use Rattle.rb_sessions.specs.Kept.{kept_at, rolled_back, with_kept}
+use Rattle.rb_sessions.specs.Kept.{committed as kept_committed, rolled_to as kept_rolled_to}
 use Rattle.rb_standing.specs.NextStates.{with_own}
 use Rattle.rb_standing.specs.Standing.{env_of, homes_of, logged_of, segments_of}
 use Rattle.rb_standing.specs.States.{BlocksStand, Owns, lives_of, past_of}
@@ -45,7 +47,8 @@ use Rattle.rb_txntable.specs.declared.slots.TableSlot.{TableSlot}
 use Rattle.rb_undoengine.proofs.LeftOwn.{last_of, own_again, own_all, own_left}
 use Rattle.rb_verdict.specs.Verdict.{IsOwnId}
 use Rattle.rb_views.specs.Views.{Remembers}
-use Rattle.rb_views.proofs.Ended.{back_remembered, none_left}
+use Rattle.rb_views.proofs.Ended.{back_remembered, end_remembered}
+use Rattle.rb_views.proofs.Savepoints.{cut_remembered}
 use Rattle.rb_walk.specs.Walk as walk
 use Rattle.rb_walk.specs.Walk.{Env, own}
 
@@ -62,6 +65,13 @@ id_kept h h2 env env2 who own books ids id = record {
 
 ids_on : (h m : State) (a b c : Env) → m.books ≡ h.books → KeepsIds h a b → KeepsIds m b c → KeepsIds h a c
 ids_on h m a b c books one two u t owns = two u t (record { owner = owns.owner; at = same_owners h m t books ∙ owns.at; session = owns.session }) ∙ one u t owns
+
+-- what is left of a list behind so many items that all but `kept` go
+take_kept : (l : List Change) (kept : ℕ) → take (length l - (length l - kept)) l ≡ take kept l
+take_kept l kept = ⊎_elim
+    (λ (few : kept < length l). ap (λ (n : ℕ). take n l) (let same : length l - (length l - kept) ≡ kept = omega (arith, few) in same))
+    (λ (all : length l ≤ kept). take_all (length l - (length l - kept)) l (omega (arith, all)) ∙ sym (take_all kept l all))
+    (cases_lt kept (length l))
 
 module _ {S : Type 0} (s : Ghosts S) where
   -- The state with these changes left is what the store has, so many groups later, and of a crash no more is left.
@@ -80,14 +90,14 @@ module _ {S : Type 0} (s : Ghosts S) where
     pub high : who ≤ length h.sessions
     pub id : IsOwnId h (env_of h.shape (s.blocks old)) who (Some x)
     pub going : h.stopped ≡ false
-    pub own : length (session_own h who) ≡ count
+    pub own : count ≤ length (session_own h who)
 
   -- As many of `count` changes are put back.
   pub record PutBacks (x : Xid) (count turn : ℕ) (old now : S) : Type 0 where
     pub groups : List (List Patch)
     pub logs : Logs s old now groups true
     pub few : length groups ≤ turn
-    pub left : s.tells → (h : State) (xids : List Xid) (who : ℕ) → Starts h xids who x count old → IsLeft h xids who x (take (count - turn) (session_own h who)) turn old now
+    pub left : s.tells → (h : State) (xids : List Xid) (who : ℕ) → Starts h xids who x count old → IsLeft h xids who x (take (length (session_own h who) - turn) (session_own h who)) turn old now
 
   -- what groups are to a count of faults, and to the store's shape
   pub logs_counted : {T E : Type 0} (old new : S) (groups : List (List Patch)) (r : Result T E) → Logs s old new groups (not (is_err r)) → IsCounted (s.faults old) (s.faults new) r
@@ -153,21 +163,21 @@ module _ {S : Type 0} (s : Ghosts S) where
             }
 
       -- the end of the slot, once no change is left
-      pub ends_all : (left : IsLeft h xids who x [] count old mid) (going : Bool) → GivesOne s mid new going (λ now. EndMade (with_own h who []) xids who x (s.blocks mid) now) → PutsAllBack s h xids who x old new going
-      ends_all left true one = λ cursors.
+      pub ends_all : length (session_own h who) ≡ count → (left : IsLeft h xids who x [] count old mid) (going : Bool) → GivesOne s mid new going (λ now. EndMade (with_own h who []) xids who x (s.blocks mid) now) → PutsAllBack s h xids who x old new going
+      ends_all whole left true one = λ cursors.
           let m : State = with_own h who [] in
           let all : (before : Option Call) → Holds s (without_owner x.seg x.slot (ended m who cursors)) xids new × (s.keeps → Survives s (s.slots mid) before m (without_owner x.seg x.slot (ended m who cursors)) mid new) = λ before. holds_ended s told laws m xids who x mid new (same.shape ∙ st.shape) left.holds before cursors one in
           let made : EndMade m xids who x (s.blocks mid) (s.blocks new) = subst (λ b. EndMade m xids who x (s.blocks mid) b) (sym (one.logs.blocks told refl)) (one.made (let k = one.one refl in omega (arith, k))) in
           let again : without_owner x.seg x.slot (ended m who cursors) ≡ without_owner x.seg x.slot (ended h who cursors) =
-          ap (λ (z : List Session). without_owner x.seg x.slot (record h { sessions = z })) (set-set h.sessions (who - 1) (with_changes h who []) (record { own = []; cursors = map not_present cursors })) in (
+          ap (λ (z : List Session). without_owner x.seg x.slot (record h { sessions = z })) (set-set h.sessions (who - 1) (with_changes h who []) (record { own = []; savepoints = []; cursors = map not_present cursors })) in (
             subst (λ (z : State). Holds s z xids new) again (all None).0,
             ids_on h m (env_of h.shape (s.blocks old)) (env_of h.shape (s.blocks mid)) (env_of h.shape (s.blocks new)) refl left.ids made.ids,
-            (let n = one.logs.number refl in let k = one.one refl in omega (arith, n, k, left.lsn, st.own)),
+            (let n = one.logs.number refl in let k = one.one refl in omega (arith, n, k, left.lsn, whole)),
             λ before keeps. subst (λ (z : State). Survives s (s.slots old) before h z old new) again
                 (survives_on s (s.slots old) h m (without_owner x.seg x.slot (ended m who cursors)) old mid new st.going (left.survives before keeps)
                 (subst (λ (k : Option ℕ). Survives s k before m (without_owner x.seg x.slot (ended m who cursors)) mid new) same.slots ((all before).1 keeps))),
           )
-      ends_all left false one = λ fault.
+      ends_all whole left false one = λ fault.
           let m : State = with_own h who [] in
           let id = id_left h xids who x [] count old mid left in
           let ends : State = without_owner x.seg x.slot (ended m who []) in
@@ -181,7 +191,7 @@ module _ {S : Type 0} (s : Ghosts S) where
     logs = no_logs s old runs;
     few = omega arith;
     left = λ told h xids who st.
-        let all : h ≡ with_own h who (take (count - 0) (session_own h who)) = sym (ap (with_own h who) (take_all (count - 0) (session_own h who) (omega (arith, st.own))) ∙ own_all h who) in
+        let all : h ≡ with_own h who (take (length (session_own h who) - 0) (session_own h who)) = sym (ap (with_own h who) (take_all (length (session_own h who) - 0) (session_own h who) (omega arith)) ∙ own_all h who) in
         record {
           holds = subst (λ (z : State). Holds s z xids old) all st.holds;
           ids = λ u t owns. refl;
@@ -212,27 +222,27 @@ module _ {S : Type 0} (s : Ghosts S) where
     pub there : x.seg < (s.shape_of old).segments → x.seg < (s.shape_of mid).segments
     there is = subst (λ (z : Shape). x.seg < z.segments) (sym first.logs.same_shape) is
 
-    pub room_left : turn ≤ count → count < room_of (s.slots old) (s.lsn old) → 1 ≤ room_of (s.slots mid) (s.lsn mid)
-    room_left turns room =
+    pub room_left : (most : ℕ) → turn < most → most ≤ room_of (s.slots old) (s.lsn old) → 1 ≤ room_of (s.slots mid) (s.lsn mid)
+    room_left most turns room =
         let f = first.few in
-        let rest = room_on (s.slots old) (s.lsn old) (s.lsn mid) (count + 1) (count + 1 - length first.groups) (length first.groups) (first.logs.number refl) (omega (arith, f, turns)) (omega (arith, room)) in
+        let rest = room_on (s.slots old) (s.lsn old) (s.lsn mid) most (most - length first.groups) (length first.groups) (first.logs.number refl) (omega (arith, f, turns)) room in
         rw first.logs.same_slots (omega (arith, f, turns, rest))
 
-    pub few_left : turn ≤ count → s.lsn old + count < 2 ^ 62 - 1 → s.lsn mid < 2 ^ 62
+    pub few_left : turn ≤ count → s.lsn old + count < 2 ^ 62 → s.lsn mid < 2 ^ 62
     few_left turns is = let n = first.logs.number refl in let f = first.few in omega (arith, is, n, f, turns)
 
     module _ (laws : Laws s) (more : turn < count) where
       -- what the next call is about
       about : (told : s.tells) (h : State) (xids : List Xid) (who : ℕ) (st : Starts h xids who x count old) (new : S) (going : Bool) → BackGives mid new x going
-          → (a : List Change) × (left : IsLeft h xids who x a turn old mid) × GivesOne s mid new going (λ now. BackMade (with_own h who a) xids who (take (count - (turn + 1)) (session_own h who)) (s.blocks mid) now)
+          → (a : List Change) × (left : IsLeft h xids who x a turn old mid) × GivesOne s mid new going (λ now. BackMade (with_own h who a) xids who (take (length (session_own h who) - (turn + 1)) (session_own h who)) (s.blocks mid) now)
       about told h xids who st new going gives =
           let mine = session_own h who in
-          let m = count - (turn + 1) in
-          let a = take (count - turn) mine in
+          let m = length mine - (turn + 1) in
+          let a = take (length mine - turn) mine in
           let left = first.left told h xids who st in
           let id = id_left told laws h xids who x a turn old mid left in
           let last : (c : Change) × (take (suc m) mine ≡ take m mine ++ c ∷ []) = last_of mine m (omega (arith, st.own, more)) in
-          let count_is : count - turn ≡ suc m = omega (arith, more) in
+          let count_is : length mine - turn ≡ suc m = omega (arith, st.own, more) in
           let front : a ≡ take m mine ++ last.0 ∷ [] = ap (λ (n : ℕ). take n mine) count_is ∙ last.1 in (
             a,
             left,
@@ -241,7 +251,7 @@ module _ {S : Type 0} (s : Ghosts S) where
           )
 
       pub one_fails : (new : S) → BackGives mid new x false → s.tells → (h : State) (xids : List Xid) (who : ℕ) → Starts h xids who x count old → (fault : Option Call) → Fails s fault h old new
-      one_fails new gives told h xids who st fault = let w = about told h xids who st new false gives in back_fails told laws h xids who x count old mid new st same w.0 (take (count - (turn + 1)) (session_own h who)) turn w.1 w.2 fault
+      one_fails new gives told h xids who st fault = let w = about told h xids who st new false gives in back_fails told laws h xids who x count old mid new st same w.0 (take (length (session_own h who) - (turn + 1)) (session_own h who)) turn w.1 w.2 fault
 
       pub one_more : (new : S) → (groups : List (List Patch)) × Logs s mid new groups true × (length groups ≤ 1) → BackGives mid new x true → PutBacks x count (turn + 1) old new
       one_more new second gives =
@@ -249,17 +259,48 @@ module _ {S : Type 0} (s : Ghosts S) where
             groups = g.0;
             logs = g.1;
             few = g.2;
-            left = λ told h xids who st. let w = about told h xids who st new true gives in back_done told laws h xids who x count old mid new st same w.0 (take (count - (turn + 1)) (session_own h who)) turn w.1 w.2;
+            left = λ told h xids who st. let w = about told h xids who st new true gives in back_done told laws h xids who x count old mid new st same w.0 (take (length (session_own h who) - (turn + 1)) (session_own h who)) turn w.1 w.2;
           }
 
-    -- all are
-    pub all_back : Laws s → turn ≡ count → (new : S) (going : Bool) → EndGives mid new x going → s.tells → (h : State) (xids : List Xid) (who : ℕ) → Starts h xids who x count old → PutsAllBack s h xids who x old new going
-    all_back laws is new going gives told h xids who st =
-        let none : take (count - turn) (session_own h who) ≡ [] = ap (λ (n : ℕ). take n (session_own h who)) (let z : count - turn ≡ 0 = omega (arith, is) in z) in
+    -- As many are as were asked for.
+    pub some_back : turn ≡ count → s.tells → (h : State) (xids : List Xid) (who kept : ℕ) → count ≡ length (session_own h who) - kept → Starts h xids who x count old → PutsBack s h xids who kept old mid true
+    some_back is told h xids who kept count_is st =
+        let mine = session_own h who in
+        let l : IsLeft h xids who x (take (length mine - turn) mine) turn old mid = first.left told h xids who st in
+        let front : take (length mine - turn) mine ≡ take kept mine = ap (λ (n : ℕ). take (length mine - n) mine) (is ∙ count_is) ∙ take_kept mine kept in
+        let left : IsLeft h xids who x (take kept mine) turn old mid = subst (λ (c : List Change). IsLeft h xids who x c turn old mid) front l in
+        (left.holds, left.ids, (let n = left.lsn in omega (arith, n, is, count_is)), left.survives)
+
+    -- All are.
+    pub all_back : Laws s → turn ≡ count → (new : S) (going : Bool) → EndGives mid new x going → s.tells → (h : State) (xids : List Xid) (who : ℕ) → length (session_own h who) ≡ count → Starts h xids who x count old → PutsAllBack s h xids who x old new going
+    all_back laws is new going gives told h xids who whole st =
+        let none : take (length (session_own h who) - turn) (session_own h who) ≡ [] = ap (λ (n : ℕ). take n (session_own h who)) (let z : length (session_own h who) - turn ≡ 0 = omega (arith, is, whole) in z) in
         let left : IsLeft h xids who x [] count old mid = subst (λ (n : ℕ). IsLeft h xids who x [] n old mid) is (subst (λ (l : List Change). IsLeft h xids who x l turn old mid) none (first.left told h xids who st)) in
         let id = id_left told laws h xids who x [] count old mid left in
-        ends_all told laws h xids who x count old mid new st same left going
+        ends_all told laws h xids who x count old mid new st same whole left going
         (gives told (with_own h who []) xids who left.holds.blocks (same.shape ∙ st.shape) id.owned (runs_in (with_own h who []) (s.blocks mid) x id.runs) (own_left h who st.low st.high []) left.holds.logged)
+
+module _ {S : Type 0} (s : Ghosts S) where
+  -- What calls that put back so many changes and went well say of it, as the next step asks for it.
+  pub put_back_as : (x : Xid) (count : ℕ) (old mid : S) → (groups : List (List Patch)) × Logs s old mid groups true × (length groups ≤ count)
+      → (s.tells → (h : State) (xids : List Xid) (who kept : ℕ) → s.shape_of old ≡ h.shape → Holds s h xids old → 1 ≤ who → who ≤ length h.sessions → IsOwnId h (env_of h.shape (s.blocks old)) who (Some x) → h.stopped ≡ false → count ≡ length (session_own h who) - kept → PutsBack s h xids who kept old mid true)
+      → PutBacks s x count count old mid
+  put_back_as x count old mid all puts = record {
+    groups = all.0;
+    logs = all.1;
+    few = all.2;
+    left = λ told h xids who st.
+        let mine = session_own h who in
+        let kept = length mine - count in
+        let p = puts told h xids who kept st.shape st.holds st.low st.high st.id st.going (let own = st.own in omega (arith, own)) in
+        record {
+          holds = p.0;
+          ids = p.1;
+          id = id_kept h (with_own h who (take kept mine)) (env_of h.shape (s.blocks old)) (env_of h.shape (s.blocks mid)) who (Some x) refl p.1 st.id;
+          lsn = let n = p.2 in let own = st.own in omega (arith, n, own);
+          survives = p.3;
+        };
+  }
 
 -- The log has room for the put backs of all changes of a transaction, and for its end.
 module _ {S : Type 0} (s : Ghosts S) (told : s.tells) (laws : Laws s) (h : State) (old : EngineView S) (who : ℕ) (x : Xid) (st : Stands s h old) (going : h.stopped ≡ false)
@@ -278,7 +319,7 @@ module _ {S : Type 0} (s : Ghosts S) (told : s.tells) (laws : Laws s) (h : State
     high = let n = st.knows.sixteen in omega (arith, there, n);
     id = own_id s told laws h old who x st going there own_is;
     going = going;
-    own = refl;
+    own = omega arith;
   }
 
   pub room_back : length (session_own h who) + 1 ≤ room_of (s.slots old.store) (s.lsn old.store)
@@ -289,7 +330,7 @@ module _ {S : Type 0} (s : Ghosts S) (told : s.tells) (laws : Laws s) (h : State
       let t_in : t < 16 * h.shape.segments = omega (arith, id.there, id.few) in
       let active : (slot_of (segments_of h.shape blocks) t).state ≡ 1 = ap (λ (z : TableSlot). z.state) (slot_for h.shape blocks x id.few) ∙ (runs_in h blocks x id.runs).active in
       let less = owed_committed h.shape (commit_scn h.shape blocks) (logged_of h.shape blocks) (segments_of h.shape blocks) (homes_of h.shape blocks) (past_of h held.xids) (lives_of h env) held.holds.blocks.standing.stands t t_in active 0 in
-      let all : length (own (lives_of h env) t) ≡ length (session_own h who) + 0 = ap (λ (l : List walk.Change). length l) (lives_owned h env who t t_in (record { owner = id.owned.0; at = id.owned.1; session = id.owned.2 })) ∙ length_newest h.shape (env.xid t) 1 (session_own h who) [] in
+      let all : length (own (lives_of h env) t) ≡ length (session_own h who) + 0 = ap (λ (l : List walk.Change). length l) (lives_owned h env who t t_in (record { owner = id.owned.1; at = id.owned.2; session = id.owned.3 })) ∙ length_newest h.shape (env.xid t) 1 (session_own h who) [] in
       omega (arith, less, all, owed_is h.shape blocks, held.holds.fits)
 
   module _ (new : EngineView S) (same : SameStore s old.store new.store) where
@@ -310,7 +351,58 @@ module _ {S : Type 0} (s : Ghosts S) (told : s.tells) (laws : Laws s) (h : State
             xids = held.xids;
             holds = all.0;
             remembers = subst (Remembers now held.xids (env_of h.shape (s.blocks new.store))) (sym table_is)
-                (back_remembered h now held.xids (env_of h.shape (s.blocks old.store)) (env_of h.shape (s.blocks new.store)) old.memory.sessions who held.remembers there.0 there.1 after (none_left h held.xids (s.blocks old.store) who x cursors held.holds.blocks (own_id s told laws h old who x st going there own_is)) all.1);
+                (back_remembered h now held.xids (s.blocks old.store) (env_of h.shape (s.blocks new.store)) old.memory.sessions who held.holds.blocks held.remembers there.0 there.1 after all.1);
           },
         ))
         (λ before _ keeps. all.3 before keeps)
+
+    -- The end of a transaction of which no change is left, by a commit.
+    pub does_left : session_own h who ≡ [] → PutsAllBack s h held.xids who x old.store new.store true
+        → new.memory.sessions ≡ with_kept old.memory.sessions who (kept_committed (kept_at old.memory.sessions who)) → new.memory.scn ≡ old.memory.scn → new.memory.stopped ≡ old.memory.stopped → Does s h (Commit who) Done old new
+    does_left none done table_is scn stopped =
+        let cursors = cursors_of h who in
+        let now = without_owner x.seg x.slot (ended h who cursors) in
+        let after : EndsAs h who cursors now = inl (x.seg, x.slot, id.owned, refl) in
+        let bare : is_empty (session_own h who) ≡ true = none_own (session_own h who) (ap (λ (l : List Change). length l) none) in
+        let all = done cursors in
+        does_by s h now (Commit who) Done old new 1 st (Reply.later [] (no_early h who there st.knows.sixteen going) refl (rw bare refl)) (inr (bare, after)) (λ _ s t k a is done. cc)
+        (knows_on h now old.memory new.memory st.knows (length-set h.sessions _ _) refl refl stopped scn) same
+        (λ _. (
+          inr (bare, inl (x.seg, x.slot, id.owned, refl)),
+          (let n = all.2 in let empty = ap (λ (l : List Change). length l) none in omega (arith, n, empty)),
+          record {
+            xids = held.xids;
+            holds = all.0;
+            remembers = subst (Remembers now held.xids (env_of h.shape (s.blocks new.store))) (sym table_is)
+                (end_remembered h now held.xids (s.blocks old.store) (env_of h.shape (s.blocks new.store)) old.memory.sessions who held.holds.blocks held.remembers there.0 there.1 none after all.1);
+          },
+        ))
+        (λ before _ keeps. all.3 before keeps)
+
+    -- A rollback to a savepoint that went well.
+    pub does_cut : (name : List ℕ) (p : Savepoint) → savepoint_of h who name ≡ Some p → PutsBack s h held.xids who p.kept old.store new.store true → s.failed new.store ≡ false
+        → new.memory.sessions ≡ with_kept old.memory.sessions who (kept_rolled_to name p.kept (kept_at old.memory.sessions who)) → new.memory.scn ≡ old.memory.scn → new.memory.stopped ≡ old.memory.stopped → Does s h (RollbackTo who name) Done old new
+    does_cut name p named done runs table_is scn stopped =
+        let mine = session_own h who in
+        let m : State = with_own h who (take p.kept mine) in
+        let now = rolled_to h who name p.kept in
+        let session : Session = record { own = take p.kept mine; savepoints = up_to name (session_of h who).savepoints; cursors = left_open p.kept (cursors_of h who) } in
+        let high : who ≤ length h.sessions = let n = st.knows.sixteen in omega (arith, there, n) in
+        let in_m : (1 ≤ who) × (who ≤ length m.sessions) = (there.0, (let n = length-set h.sessions (who - 1) (with_changes h who (take p.kept mine)) in omega (arith, n, high))) in
+        let again : with_session m who session ≡ now = ap (λ (z : List Session). let n : State = record h { sessions = z } in n) (set-set h.sessions (who - 1) (with_changes h who (take p.kept mine)) session) in
+        let cut : Holds s (with_session m who session) held.xids new.store = holds_session s told laws m who held.xids new.store session in_m (sym (own_left h who there.0 high (take p.kept mine))) done.0 in
+        let shape_new : s.shape_of new.store ≡ h.shape = same.shape ∙ st.shape in
+        does_by s h now (RollbackTo who name) Done old new (length mine - p.kept) st (Reply.later (name_tests h (RollbackTo who name)) (no_early h who there st.knows.sixteen going) refl (rw named refl)) (p, named, refl) (λ _ s t k a is done. cc)
+        (knows_on h now old.memory new.memory st.knows (length-set h.sessions _ _) refl refl stopped scn) same
+        (λ _. (
+          (p, named, refl),
+          done.2,
+          record {
+            xids = held.xids;
+            holds = subst (λ (z : State). Holds s z held.xids new.store) again cut;
+            remembers = subst (Remembers now held.xids (env_of h.shape (s.blocks new.store))) (sym table_is)
+                (cut_remembered h held.xids (env_of h.shape (s.blocks old.store)) (env_of h.shape (s.blocks new.store)) who name p.kept there.0 done.1 old.memory.sessions there.1 held.remembers);
+          },
+        ))
+        (λ before _ keeps. survives_on s (s.slots old.store) h m now old.store new.store new.store going (done.3 before keeps)
+        (subst (λ (k : Option ℕ). Survives s k before m now new.store new.store) same.slots (survives_same s told laws m now held.xids new.store new.store true shape_new refl refl refl done.0 (no_logs s new.store runs) keeps)))

@@ -8,8 +8,8 @@ use Rattle.std.specs.Str.{bytes_eq}
 use Rattle.rb_base.specs.declared.ids.Xid.{Xid}
 use Rattle.rb_base.specs.declared.shape.Shape.{Shape}
 use Rattle.rb_base.specs.declared.store.Store.{Ghosts}
-use Rattle.rb_engine.specs.Does.{InTables, IsInStep, Kept, changes_kept}
-use Rattle.rb_sessions.specs.Kept.{KeptCursor, KeptSession, committed, ended, fresh, kept_at, left_open, named, passed, rolled_back, with_cursor, with_cursors, with_kept, with_last, without, wrote}
+use Rattle.rb_engine.specs.Does.{InTables, IsInStep, Kept, owed_by, owed_kept, slots_had}
+use Rattle.rb_sessions.specs.Kept.{KeptCursor, KeptSession, committed, ended, fresh, kept_at, left_open, named, passed, rolled_back, rolled_to, with_cursor, with_cursors, with_savepoint, with_kept, with_last, without, wrote}
 use Rattle.rb_sessions.specs.declared.cursor.Cursor.{Cursor}
 
 -- Cursors stay cursors of tables that there are.
@@ -43,15 +43,20 @@ named_in shape name (c ∷ l) m all is =
     cond_both (bytes_eq c.name name) (Some c.cursor) (named name l) (λ (o : Option Cursor). o ≡ Some m → (1 ≤ m.table) × (m.table ≤ shape.tables))
     (λ yes e. let same : c.cursor ≡ m = cc in subst (λ (x : Cursor). (1 ≤ x.table) × (x.table ≤ shape.tables)) same all.0) (λ no e. named_in shape name l m all.1 e) is
 
--- How many changes all sessions have.
+-- How many groups end all transactions.
 
-changes_few : (l : List KeptSession) → ((i : ℕ) → (get_or l i fresh).count < 2 ^ 32) → changes_kept l ≤ 2 ^ 32 * length l
-changes_few [] small = omega arith
-changes_few (x ∷ l) small =
+one_slot : (own : Option Xid) → slots_had own ≤ 1
+one_slot None = omega arith
+one_slot (Some x) = omega arith
+
+owed_few : (l : List KeptSession) → ((i : ℕ) → (get_or l i fresh).count < 2 ^ 32) → owed_kept l ≤ 2 ^ 32 * length l
+owed_few [] small = omega arith
+owed_few (x ∷ l) small =
     let here = small 0 in
-    let all = sum_by-cons (λ (k : KeptSession). k.count) x l in
-    let rest = changes_few l (λ i. small (suc i)) in
-    omega (arith, here, all, rest)
+    let slot = one_slot x.own in
+    let all = sum_by-cons owed_by x l in
+    let rest = owed_few l (λ i. small (suc i)) in
+    omega (arith, here, slot, all, rest)
 
 -- one session's part of what is in order
 pub record IsFit (shape : Shape) (k : KeptSession) : Type 0 where
@@ -59,10 +64,9 @@ pub record IsFit (shape : Shape) (k : KeptSession) : Type 0 where
   pub own : (x : Xid) → k.own ≡ Some x → (x.seg < shape.segments) × (x.slot < 16)
   pub small : k.count < 2 ^ 32
   pub idle : k.own ≡ None → k.count ≡ 0
-  pub busy : (x : Xid) → k.own ≡ Some x → 0 < k.count
 
 pub fit_at : {S : Type 0} (s : Ghosts S) (kept : Kept) (store : S) → IsInStep s kept store → (u : ℕ) → IsFit (s.shape_of store) (kept_at kept.sessions u)
-fit_at s kept store is u = record { tables = is.tables u; own = is.own u; small = is.small u; idle = is.idle u; busy = is.busy u }
+fit_at s kept store is u = record { tables = is.tables u; own = is.own u; small = is.small u; idle = is.idle u }
 
 pub fit_wrote : (shape : Shape) (x : Xid) (k : KeptSession) → IsFit shape k → (x.seg < shape.segments) × (x.slot < 16) → IsFit shape (wrote x k)
 fit_wrote shape x k fit here = record {
@@ -70,7 +74,6 @@ fit_wrote shape x k fit here = record {
   own = λ y is. let same : x ≡ y = cc in subst (λ (z : Xid). (z.seg < shape.segments) × (z.slot < 16)) same here;
   small = omega arith;
   idle = λ none. (let clash : Some x ≡ None = none in absurd cc);
-  busy = λ y is. omega arith;
 }
 
 fit_ended : (shape : Shape) (cursors : List KeptCursor) → AllByRecursion (IsIn shape) cursors → IsFit shape (ended cursors)
@@ -79,7 +82,6 @@ fit_ended shape cursors all = record {
   own = λ x is. (let clash : None ≡ Some x = is in absurd cc);
   small = omega arith;
   idle = λ none. refl;
-  busy = λ x is. (let clash : None ≡ Some x = is in absurd cc);
 }
 
 pub fit_committed : (shape : Shape) (k : KeptSession) → IsFit shape k → IsFit shape (committed k)
@@ -89,7 +91,18 @@ pub fit_rolled_back : (shape : Shape) (k : KeptSession) → IsFit shape k → Is
 fit_rolled_back shape k fit = fit_ended shape (left_open 0 k.cursors) (all_filter shape (λ c. not (c.cursor.present && nat_lt 0 c.cursor.upto)) k.cursors fit.tables)
 
 fit_cursors : (shape : Shape) (k : KeptSession) (cursors : List KeptCursor) → IsFit shape k → AllByRecursion (IsIn shape) cursors → IsFit shape (with_cursors k cursors)
-fit_cursors shape k cursors fit all = record { tables = all; own = fit.own; small = fit.small; idle = fit.idle; busy = fit.busy }
+fit_cursors shape k cursors fit all = record { tables = all; own = fit.own; small = fit.small; idle = fit.idle }
+
+pub fit_savepoint : (shape : Shape) (name : List ℕ) (k : KeptSession) → IsFit shape k → IsFit shape (with_savepoint name k)
+fit_savepoint shape name k fit = record { tables = fit.tables; own = fit.own; small = fit.small; idle = fit.idle }
+
+pub fit_rolled_to : (shape : Shape) (name : List ℕ) (first : ℕ) (k : KeptSession) → IsFit shape k → IsFit shape (rolled_to name first k)
+fit_rolled_to shape name first k fit = record {
+  tables = all_filter shape (λ c. not (c.cursor.present && nat_lt first c.cursor.upto)) k.cursors fit.tables;
+  own = fit.own;
+  small = let less = fit.small in omega (arith, less);
+  idle = λ none. let empty = fit.idle none in omega (arith, empty);
+}
 
 pub fit_opened : (shape : Shape) (name : List ℕ) (c : Cursor) (k : KeptSession) → IsFit shape k → (1 ≤ c.table) × (c.table ≤ shape.tables) → IsFit shape (with_cursor name c k)
 fit_opened shape name c k fit here = fit_cursors shape k (k.cursors ++ record { name = name; cursor = c } ∷ []) fit (all_append shape k.cursors (record { name = name; cursor = c }) fit.tables here)
@@ -112,12 +125,11 @@ module _ {S : Type 0} (s : Ghosts S) where
           own = λ u x mine. subst (λ (h : Shape). (x.seg < h.segments) × (x.slot < 16)) (sym shape) (is.own u x (ap (λ (k : KeptSession). k.own) (sym (at u)) ∙ mine));
           small = λ u. let same_count = ap (λ (k : KeptSession). k.count) (at u) in let less = is.small u in omega (arith, same_count, less);
           idle = λ u none. ap (λ (k : KeptSession). k.count) (at u) ∙ is.idle u (ap (λ (k : KeptSession). k.own) (sym (at u)) ∙ none);
-          busy = λ u x mine. let some = is.busy u x (ap (λ (k : KeptSession). k.own) (sym (at u)) ∙ mine) in let same_count = ap (λ (k : KeptSession). k.count) (at u) in omega (arith, same_count, some);
           going = λ going. (goes going).0;
           few = λ going.
               let w = goes going in
               let before = is.few w.2 in
-              let sum : changes_kept now.sessions ≡ changes_kept kept.sessions = ap changes_kept same in
+              let sum : owed_kept now.sessions ≡ owed_kept kept.sessions = ap owed_kept same in
               omega (arith, w.1, before, sum);
         }
 
@@ -138,28 +150,28 @@ module _ {S : Type 0} (s : Ghosts S) where
         | inr off ↦ subst (IsFit (s.shape_of old)) (sym (other r off)) (fit_at s kept old is r)
       ])
 
-      pub sum_moved : changes_kept now.sessions + (kept_at kept.sessions u).count ≡ changes_kept kept.sessions + k.count
-      sum_moved = ap (λ (l : List KeptSession). changes_kept l + (kept_at kept.sessions u).count) moved ∙ sum_by-set (λ (x : KeptSession). x.count) kept.sessions (u - 1) k fresh within
+      pub sum_moved : owed_kept now.sessions + owed_by (kept_at kept.sessions u) ≡ owed_kept kept.sessions + owed_by k
+      sum_moved = ap (λ (l : List KeptSession). owed_kept l + owed_by (kept_at kept.sessions u)) moved ∙ sum_by-set owed_by kept.sessions (u - 1) k fresh within
 
-      pub in_step_moved : (now.stopped ≡ false → (s.failed new ≡ false) × (s.lsn new + 2 * changes_kept now.sessions ≤ 2 ^ 61 + 2 ^ 60)) → IsInStep s now new
+      pub in_step_moved : (now.stopped ≡ false → (s.failed new ≡ false) × (s.lsn new + owed_kept now.sessions ≤ 2 ^ 61 + 2 ^ 60)) → IsInStep s now new
       in_step_moved goes = record {
         counted = ap (λ (l : List KeptSession). length l) moved ∙ (length-set kept.sessions (u - 1) k ∙ is.counted);
         tables = λ r. (fit_now r).tables;
         own = λ r. (fit_now r).own;
         small = λ r. (fit_now r).small;
         idle = λ r. (fit_now r).idle;
-        busy = λ r. (fit_now r).busy;
         going = λ going. (goes going).0;
         few = λ going. (goes going).1;
       }
 
       -- A change more, behind a log number that isn't worn out.
-      pub few_wrote : s.lsn new ≤ 2 ^ 60 → k.count < 2 ^ 32 → s.lsn new + 2 * changes_kept now.sessions ≤ 2 ^ 61 + 2 ^ 60
+      pub few_wrote : s.lsn new ≤ 2 ^ 60 → k.count < 2 ^ 32 → s.lsn new + owed_kept now.sessions ≤ 2 ^ 61 + 2 ^ 60
       few_wrote low small =
           let sum = sum_moved in
-          let few = changes_few kept.sessions (λ i. subst (λ (j : ℕ). (get_or kept.sessions j fresh).count < 2 ^ 32) (let e : i + 1 - 1 ≡ i = omega arith in e) (is.small (i + 1))) in
-          omega (arith, low, small, sum, few, is.counted)
+          let slot = one_slot k.own in
+          let few = owed_few kept.sessions (λ i. subst (λ (j : ℕ). (get_or kept.sessions j fresh).count < 2 ^ 32) (let e : i + 1 - 1 ≡ i = omega arith in e) (is.small (i + 1))) in
+          omega (arith, low, small, slot, sum, few, is.counted)
 
-      -- As many changes as before, or fewer by as many as twice the groups that it took.
-      pub few_less : kept.stopped ≡ false → s.lsn new + 2 * k.count ≤ s.lsn old + 2 * (kept_at kept.sessions u).count → s.lsn new + 2 * changes_kept now.sessions ≤ 2 ^ 61 + 2 ^ 60
+      -- As many groups end them all as before, or fewer by as many as were given.
+      pub few_less : kept.stopped ≡ false → s.lsn new + owed_by k ≤ s.lsn old + owed_by (kept_at kept.sessions u) → s.lsn new + owed_kept now.sessions ≤ 2 ^ 61 + 2 ^ 60
       few_less going less = let sum = sum_moved in let before = is.few going in omega (arith, less, sum, before)

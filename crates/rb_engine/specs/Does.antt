@@ -1,5 +1,5 @@
 -- For which states an engine stands, and what a call does with each of them.
-use Rattle.std.specs.Prelude.{◌≡◌, ◌<◌, ◌≤◌, ◌+◌, ◌*◌, ◌^◌, ℕ, Bool, false, List}
+use Rattle.std.specs.Prelude.{◌≡◌, ◌<◌, ◌≤◌, ◌+◌, ◌^◌, ℕ, Bool, false, List}
 use Rattle.std.specs.Prelude.{length, Option, None, Some}
 use Rattle.std.specs.List.{AllByRecursion, sum_by}
 use Rattle.rb_base.specs.Stores.{room_of}
@@ -34,13 +34,22 @@ pub record EngineView (S : Type 0) : Type 0 where
 abbrev pub InTables : Shape → KeptSession → Type 0
 InTables shape k = AllByRecursion (λ c. (1 ≤ c.cursor.table) × (c.cursor.table ≤ shape.tables)) k.cursors
 
--- how many live changes all sessions have
-abbrev pub changes_kept : List KeptSession → ℕ
-changes_kept sessions = sum_by (λ k. k.count) sessions
+-- a transaction of that id has a slot
+abbrev pub slots_had : Option Xid → ℕ
+slots_had None = 0
+slots_had (Some x) = 1
+
+-- how many groups end a session's transaction: one for each live change, and one for its slot
+abbrev pub owed_by : KeptSession → ℕ
+owed_by k = k.count + slots_had k.own
+
+-- and all of them
+abbrev pub owed_kept : List KeptSession → ℕ
+owed_kept sessions = sum_by owed_by sessions
 
 -- What keeps an engine in order, whatever its store tells: each transaction's id is of a slot that there is, and a
--- session has one exactly where it has changes. As long as the engine isn't stopped, its store goes on and has numbers
--- for each rollback: one for each change and one for the slot, at most two for each change.
+-- session without one has no changes. As long as the engine isn't stopped, its store goes on and has numbers for the
+-- end of each transaction.
 pub record IsInStep {S : Type 0} (s : Ghosts S) (kept : Kept) (store : S) : Type 0 where
   pub counted : length kept.sessions ≡ SESSIONS
   pub tables : (u : ℕ) → InTables (s.shape_of store) (kept_at kept.sessions u)
@@ -48,9 +57,8 @@ pub record IsInStep {S : Type 0} (s : Ghosts S) (kept : Kept) (store : S) : Type
       → (x.seg < (s.shape_of store).segments) × (x.slot < SLOTS)
   pub small : (u : ℕ) → (kept_at kept.sessions u).count < 2 ^ 32
   pub idle : (u : ℕ) → (kept_at kept.sessions u).own ≡ None → (kept_at kept.sessions u).count ≡ 0
-  pub busy : (u : ℕ) (x : Xid) → (kept_at kept.sessions u).own ≡ Some x → 0 < (kept_at kept.sessions u).count
   pub going : kept.stopped ≡ false → s.failed store ≡ false
-  pub few : kept.stopped ≡ false → s.lsn store + 2 * changes_kept kept.sessions ≤ 2 ^ 61 + 2 ^ 60
+  pub few : kept.stopped ≡ false → s.lsn store + owed_kept kept.sessions ≤ 2 ^ 61 + 2 ^ 60
 
 -- what memory alone says of a state
 pub record Knows (h : State) (kept : Kept) : Type 0 where

@@ -1,6 +1,6 @@
 -- What a commit and a rollback leave of a store that has a state, or of which a call failed on the way.
-use Rattle.std.specs.Prelude.{◌≡◌, ◌+◌, ◌∷◌, ◌++◌, ℕ, Bool, true, false}
-use Rattle.std.specs.Prelude.{length, [], Option, Some, List}
+use Rattle.std.specs.Prelude.{◌≡◌, ◌+◌, ◌-◌, ◌∷◌, ◌++◌, ℕ, Bool, true, false}
+use Rattle.std.specs.Prelude.{length, take, [], Option, Some, List}
 use Rattle.rb_base.specs.declared.ids.Xid.{Xid}
 use Rattle.rb_base.specs.declared.store.Store.{Ghosts}
 use Rattle.rb_image.specs.Crash.{Survives}
@@ -9,6 +9,7 @@ use Rattle.rb_image.specs.Made.{KeepsIds}
 use Rattle.rb_model.specs.Calls.{Call, Commit}
 use Rattle.rb_model.specs.NextState.{committed, ended, without_owner}
 use Rattle.rb_model.specs.State.{Cursor, State, session_own}
+use Rattle.rb_standing.specs.NextStates.{with_own}
 use Rattle.rb_standing.specs.Standing.{env_of}
 
 -- where the disk failed in a call, a crash leaves the state or what such a call may have left
@@ -26,6 +27,14 @@ Commits s h xids who x old new true = Holds s (committed h who x.seg x.slot) (xi
     × ((before : Option Call) → s.keeps
     → Survives s (s.slots old) before h (committed h who x.seg x.slot) old new)
 Commits s h xids who x old new false = Fails s (Some (Commit who)) h old new
+
+-- the put back of its changes but for so many, its first ones
+abbrev pub PutsBack : {S : Type 0} → Ghosts S → State → List Xid → ℕ → ℕ → S → S → Bool → Type 0
+PutsBack s h xids who kept old new true = Holds s (with_own h who (take kept (session_own h who))) xids new
+    × SameIds s h old new × (s.lsn new ≡ s.lsn old + (length (session_own h who) - kept))
+    × ((before : Option Call) → s.keeps
+    → Survives s (s.slots old) before h (with_own h who (take kept (session_own h who))) old new)
+PutsBack s h xids who kept old new false = (fault : Option Call) → Fails s fault h old new
 
 -- its rollback, whatever cursors it keeps
 abbrev pub PutsAllBack : {S : Type 0} → Ghosts S → State → List Xid → ℕ → Xid → S → S → Bool

@@ -15,6 +15,7 @@ use crate::engine::Engine;
 use crate::fetch::do_fetch;
 use crate::finish::{do_commit, do_rollback};
 use crate::marks::{do_checkpoint, do_marks};
+use crate::savepoints::{do_rollback_to, do_savepoint};
 use crate::write::do_write;
 use rb_base::Store;
 use rb_model::{Fetched, Marks, Name, Op, Refusal, Row, Wrote};
@@ -30,7 +31,19 @@ impl<T: Store> Engine<T> {
         ensures disk { IsCountedAs (T.faults self.old.store) (T.faults self.new.store)
             (err_is is_disk_fault result) }
     {
-        do_write(&mut self.memory, &mut self.store, s, table, key, op)
+        do_write(&mut self.memory, &mut self.store, s, table, key, Some(op))
+    }
+
+    /// Holds the row of a key as it is, for the session's transaction: a write that changes no row. It answers as
+    /// `write`.
+    pub fn lock(&mut self, s: u16, table: u16, key: u64) -> Result<Wrote, Refusal>
+        ensures did { (h : State) → Stands T.Store h self.old → Does T.Store h
+            (machine.Write s table key machine.Lock) (write_answer result) self.old self.new }
+        ensures same { SameStore T.Store self.old.store self.new.store }
+        ensures disk { IsCountedAs (T.faults self.old.store) (T.faults self.new.store)
+            (err_is is_disk_fault result) }
+    {
+        do_write(&mut self.memory, &mut self.store, s, table, key, None)
     }
 
     /// Makes the session's changes one more commit, which is in the file in every image once its number is answered.
@@ -54,6 +67,30 @@ impl<T: Store> Engine<T> {
             (err_is is_disk_fault result) }
     {
         do_rollback(&mut self.memory, &mut self.store, s)
+    }
+
+    /// Marks the present place in the session's live changes. A name that is set again moves there. (Oracle7 Server
+    /// Concepts, *Transaction Management*.)
+    pub fn savepoint(&mut self, s: u16, name: &Name) -> Result<(), Refusal>
+        ensures did { (h : State) → Stands T.Store h self.old → Does T.Store h
+            (machine.SetSavepoint s (name_text name.now)) (plain_answer result) self.old self.new }
+        ensures same { SameStore T.Store self.old.store self.new.store }
+        ensures disk { IsCountedAs (T.faults self.old.store) (T.faults self.new.store)
+            (err_is is_disk_fault result) }
+    {
+        do_savepoint(&mut self.memory, &self.store, s, name)
+    }
+
+    /// Puts back the session's changes behind a savepoint, one by one: the rows that they alone held are free at once.
+    /// It erases the later savepoints, and closes the cursors that saw one of those changes. The transaction goes on.
+    pub fn rollback_to(&mut self, s: u16, name: &Name) -> Result<(), Refusal>
+        ensures did { (h : State) → Stands T.Store h self.old → Does T.Store h
+            (machine.RollbackTo s (name_text name.now)) (plain_answer result) self.old self.new }
+        ensures same { SameStore T.Store self.old.store self.new.store }
+        ensures disk { IsCountedAs (T.faults self.old.store) (T.faults self.new.store)
+            (err_is is_disk_fault result) }
+    {
+        do_rollback_to(&mut self.memory, &mut self.store, s, name)
     }
 
     /// Opens a cursor over the rows as the session sees them now.

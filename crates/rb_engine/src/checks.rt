@@ -2,7 +2,7 @@
 ghost use Rattle.std.specs.Prelude.{◌≡◌, ◌≢◌, ℕ, ◌<◌, ◌≤◌, true, false, IfErr, OnOk};
 ghost use Rattle.rb_engine.specs.Checks.{session_tests, table_tests, Refuses};
 ghost use Rattle.rb_engine.specs.Does.{Knows};
-ghost use Rattle.rb_model.specs.Answers.{action_of};
+ghost use Rattle.rb_model.specs.Answers.{action_by};
 ghost use Rattle.rb_model.specs.Calls.{early_tests, is_too_long, none_applies};
 ghost use Rattle.rb_model.specs.Calls as machine;
 ghost use Rattle.rb_model.specs.State.{State};
@@ -13,13 +13,13 @@ use rb_model::{Op, Refusal};
 use rb_sessions::SESSIONS;
 
 /// How many bytes the value of a write has.
-fn value_length(op: Op<'_>) -> usize
-    ensures long { VALUE_BYTES < result → is_too_long (action_of op.entry) ≡ true }
-    ensures short { result ≤ VALUE_BYTES → is_too_long (action_of op.entry) ≡ false }
+fn value_length(op: Option<Op<'_>>) -> usize
+    ensures long { VALUE_BYTES < result → is_too_long (action_by op.entry) ≡ true }
+    ensures short { result ≤ VALUE_BYTES → is_too_long (action_by op.entry) ≡ false }
 {
     match op {
-        Op::Insert(value) | Op::Update(value) => value.len(),
-        Op::Delete => 0,
+        Some(Op::Insert(value) | Op::Update(value)) => value.len(),
+        Some(Op::Delete) | None => 0,
     }
 }
 
@@ -66,16 +66,16 @@ pub fn check_write(
     shape: Shape,
     s: u16,
     table: u16,
-    op: Op<'_>,
+    op: Option<Op<'_>>,
 ) -> Result<(), Refusal>
     ensures refused { IfErr result (λ why. (h : State) (key : ℕ) → Knows h memory.now → shape ≡ h.shape
-        → Refuses (early_tests h (machine.Write s table key (action_of op.entry))) why) }
+        → Refuses (early_tests h (machine.Write s table key (action_by op.entry))) why) }
     ensures granted { OnOk result ((h : State) (key : ℕ) → Knows h memory.now → shape ≡ h.shape
-        → none_applies (early_tests h (machine.Write s table key (action_of op.entry))) ≡ true) }
+        → none_applies (early_tests h (machine.Write s table key (action_by op.entry))) ≡ true) }
     ensures other { IfErr result (λ why. why ≢ Refusal.DiskFault) }
     ensures session { OnOk result ((1 ≤ s) × (s ≤ SESSIONS)) }
     ensures table { OnOk result ((1 ≤ table) × (table ≤ shape.tables)) }
-    ensures short { OnOk result (is_too_long (action_of op.entry) ≡ false) }
+    ensures short { OnOk result (is_too_long (action_by op.entry) ≡ false) }
     ensures going { OnOk result (memory.now.stopped ≡ false) }
 {
     if let Err(why) = check_table(memory, shape, s, table) {

@@ -3,9 +3,11 @@ ghost use Rattle.std.specs.Prelude.{◌≡◌, ◌≤◌, ◌<◌, ◌+◌, ◌-
 ghost use Rattle.std.specs.Prelude.{false, not, Some, OnOk};
 ghost use Rattle.std.specs.Result.{is_err};
 ghost use Rattle.rb_base.specs.Counts.{IsCounted, IsCountedAs, err_is};
+ghost use Rattle.rb_base.specs.Groups.{Patch};
+ghost use Rattle.rb_base.specs.Logs.{Logs};
 ghost use Rattle.rb_base.specs.Stores.{room_of};
 ghost use Rattle.rb_engine.specs.Does.{Does, IsInStep, SameStore, Stands};
-ghost use Rattle.rb_engine.specs.Finishing.{Commits, PutsAllBack};
+ghost use Rattle.rb_engine.specs.Finishing.{Commits, PutsAllBack, PutsBack};
 ghost use Rattle.rb_image.specs.Holds.{Holds};
 ghost use Rattle.rb_model.specs.Answers.{commit_answer, plain_answer};
 ghost use Rattle.rb_model.specs.Calls.{is_disk_fault};
@@ -45,6 +47,32 @@ fn commit_and_flush<T: Store>(store: &mut T, xid: Xid, scn: Scn) -> Result<(), F
     store.flush()
 }
 
+/// Puts back so many changes of a transaction, its newest first.
+pub fn put_back<T: Store>(store: &mut T, xid: Xid, count: u32) -> Result<(), Failed>
+    requires going { T.failed store.old ≡ false }
+    requires there { xid.seg < (T.shape_of store.old).segments }
+    requires slot { xid.slot < SLOTS }
+    requires room { count ≤ room_of (T.slots store.old) (T.lsn store.old) }
+    requires few { T.lsn store.old + count < 2 ^ 62 }
+    ensures puts_back { T.tells → (h : State) (xids : List Xid) (who kept : ℕ) → T.shape_of store.old ≡ h.shape
+        → Holds T.Store h xids store.old → 1 ≤ who → who ≤ length h.sessions
+        → IsOwnId h (env_of h.shape (T.blocks store.old)) who (Some xid) → h.stopped ≡ false
+        → count ≡ length (session_own h who) - kept
+        → PutsBack T.Store h xids who kept store.old store.new (not (is_err result)) }
+    ensures logs { (groups : List (List Patch))
+        × Logs T.Store store.old store.new groups (not (is_err result)) × (length groups ≤ count) }
+    ensures lsn { OnOk result (T.lsn store.new ≤ T.lsn store.old + count) }
+    ensures same { SameStore T.Store store.old store.new }
+    ensures failed { T.failed store.new ≡ is_err result }
+    ensures counted { IsCounted (T.faults store.old) (T.faults store.new) result }
+{
+    let mut group = Group::new();
+    for _change in 0..count {
+        back_step(store, xid, &mut group)?;
+    }
+    Ok(())
+}
+
 /// Puts back so many changes of a transaction, its newest first, and ends its table slot.
 fn put_all_back<T: Store>(store: &mut T, xid: Xid, count: u32) -> Result<(), Failed>
     requires going { T.failed store.old ≡ false }
@@ -62,10 +90,8 @@ fn put_all_back<T: Store>(store: &mut T, xid: Xid, count: u32) -> Result<(), Fai
     ensures failed { T.failed store.new ≡ is_err result }
     ensures counted { IsCounted (T.faults store.old) (T.faults store.new) result }
 {
+    put_back(store, xid, count)?;
     let mut group = Group::new();
-    for _change in 0..count {
-        back_step(store, xid, &mut group)?;
-    }
     end_step(store, xid, &mut group)
 }
 
@@ -80,6 +106,7 @@ fn commit_changes<T: Store>(
     requires going { memory.old.stopped ≡ false }
     requires session { (1 ≤ s) × (s ≤ SESSIONS) }
     requires own { (kept_at memory.old.sessions s).own ≡ Some xid }
+    requires some { 0 < (kept_at memory.old.sessions s).count }
     ensures step { IsInStep T.Store memory.new store.new }
     ensures did { (h : State) → Stands T.Store h (record { memory = memory.old; store = store.old })
         → Does T.Store h (machine.Commit s) (commit_answer result)
@@ -103,6 +130,39 @@ fn commit_changes<T: Store>(
             Err(Refusal::DiskFault)
         }
     }
+}
+
+/// Ends the transaction of a session, of which no change is left.
+fn end_without_changes<T: Store>(
+    memory: &mut Memory,
+    store: &mut T,
+    s: u16,
+    xid: Xid,
+) -> Result<Option<u64>, Refusal>
+    requires step { IsInStep T.Store memory.old store.old }
+    requires going { memory.old.stopped ≡ false }
+    requires session { (1 ≤ s) × (s ≤ SESSIONS) }
+    requires own { (kept_at memory.old.sessions s).own ≡ Some xid }
+    requires none { (kept_at memory.old.sessions s).count ≡ 0 }
+    ensures step { IsInStep T.Store memory.new store.new }
+    ensures did { (h : State) → Stands T.Store h (record { memory = memory.old; store = store.old })
+        → Does T.Store h (machine.Commit s) (commit_answer result)
+        (record { memory = memory.old; store = store.old }) (record { memory = memory.new; store = store.new }) }
+    ensures same { SameStore T.Store store.old store.new }
+    ensures disk { IsCountedAs (T.faults store.old) (T.faults store.new) (err_is is_disk_fault result) }
+{
+    if store.room() == 0 {
+        return Err(Refusal::LogFull);
+    }
+    match put_all_back(store, xid, 0) {
+        Ok(()) => {}
+        Err(_) => {
+            memory.stop();
+            return Err(Refusal::DiskFault);
+        }
+    }
+    memory.sessions.commit(s);
+    Ok(None)
 }
 
 /// Puts back the changes of a session's transaction, and ends it.
@@ -156,8 +216,11 @@ pub fn do_commit<T: Store>(
     if let Err(why) = check_session(memory, s) {
         return Err(why);
     }
-    match memory.sessions.session(s).own {
-        Some(xid) => commit_changes(memory, store, s, xid),
+    let session = memory.sessions.session(s);
+    match session.own {
+        Some(xid) if session.length > 0 => commit_changes(memory, store, s, xid),
+        // A rollback to a savepoint may have left the slot alone.
+        Some(xid) => end_without_changes(memory, store, s, xid),
         None => {
             memory.sessions.commit(s);
             Ok(None)

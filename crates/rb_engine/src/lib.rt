@@ -1,5 +1,5 @@
-//! The engine over a store of blocks: sixteen sessions that insert, update, delete, commit, roll back and read by
-//! cursors. The shell runs the lines of a script by it.
+//! The engine over a store of blocks: sixteen sessions that insert, update, delete, lock, commit, roll back, also to a
+//! savepoint, and read by cursors. The shell runs the lines of a script by it.
 #![tactic(auto)]
 
 mod calls;
@@ -11,6 +11,7 @@ mod finish;
 mod marks;
 mod memory;
 mod open;
+mod savepoints;
 mod scan;
 mod write;
 

@@ -6,7 +6,7 @@ ghost use Rattle.rb_base.specs.Logs.{Logs};
 ghost use Rattle.rb_base.specs.declared.ids.Xid.{Xid};
 ghost use Rattle.rb_engine.specs.Does.{Does, IsInStep, SameStore, Stands};
 ghost use Rattle.rb_engine.specs.Scanning.{OtherHolds};
-ghost use Rattle.rb_model.specs.Answers.{action_of, write_answer};
+ghost use Rattle.rb_model.specs.Answers.{action_by, write_answer};
 ghost use Rattle.rb_model.specs.Calls.{is_disk_fault, is_too_long};
 ghost use Rattle.rb_model.specs.Calls as machine;
 ghost use Rattle.rb_model.specs.State.{State};
@@ -83,18 +83,18 @@ fn make_write<T: Store>(
     s: u16,
     table: u16,
     key: u64,
-    op: Op<'_>,
+    op: Option<Op<'_>>,
 ) -> Result<Wrote, Refusal>
     requires step { IsInStep T.Store memory.old store.old }
     requires going { memory.old.stopped ≡ false }
     requires session { (1 ≤ s) × (s ≤ SESSIONS) }
     requires table { (1 ≤ table) × (table ≤ (T.shape_of store.old).tables) }
-    requires short { is_too_long (action_of op) ≡ false }
+    requires short { is_too_long (action_by op) ≡ false }
     ensures step { IsInStep T.Store memory.new store.new }
     ensures did { (h : State) → Stands T.Store h (record { memory = memory.old; store = store.old })
-        → machine.none_applies (machine.early_tests h (machine.Write s table key (action_of op.entry))) ≡ true
+        → machine.none_applies (machine.early_tests h (machine.Write s table key (action_by op.entry))) ≡ true
         → NotOthers h s table key
-        → Does T.Store h (machine.Write s table key (action_of op.entry)) (write_answer result)
+        → Does T.Store h (machine.Write s table key (action_by op.entry)) (write_answer result)
         (record { memory = memory.old; store = store.old }) (record { memory = memory.new; store = store.new }) }
     ensures same { SameStore T.Store store.old store.new }
     ensures disk { IsCountedAs (T.faults store.old) (T.faults store.new) (err_is is_disk_fault result) }
@@ -117,17 +117,17 @@ fn try_write<T: Store>(
     s: u16,
     table: u16,
     key: u64,
-    op: Op<'_>,
+    op: Option<Op<'_>>,
 ) -> Result<Wrote, Refusal>
     requires step { IsInStep T.Store memory.old store.old }
     requires going { memory.old.stopped ≡ false }
     requires session { (1 ≤ s) × (s ≤ SESSIONS) }
     requires table { (1 ≤ table) × (table ≤ (T.shape_of store.old).tables) }
-    requires short { is_too_long (action_of op) ≡ false }
+    requires short { is_too_long (action_by op) ≡ false }
     ensures step { IsInStep T.Store memory.new store.new }
     ensures did { (h : State) → Stands T.Store h (record { memory = memory.old; store = store.old })
-        → machine.none_applies (machine.early_tests h (machine.Write s table key (action_of op.entry))) ≡ true
-        → Does T.Store h (machine.Write s table key (action_of op.entry)) (write_answer result)
+        → machine.none_applies (machine.early_tests h (machine.Write s table key (action_by op.entry))) ≡ true
+        → Does T.Store h (machine.Write s table key (action_by op.entry)) (write_answer result)
         (record { memory = memory.old; store = store.old }) (record { memory = memory.new; store = store.new }) }
     ensures same { SameStore T.Store store.old store.new }
     ensures disk { IsCountedAs (T.faults store.old) (T.faults store.new) (err_is is_disk_fault result) }
@@ -142,19 +142,19 @@ fn try_write<T: Store>(
     }
 }
 
-/// Inserts, updates or deletes the row of a key. It may be refused, and then nothing is changed.
+/// Inserts, updates or deletes the row of a key, or holds it as it is. It may be refused, and then nothing is changed.
 pub fn do_write<T: Store>(
     memory: &mut Memory,
     store: &mut T,
     s: u16,
     table: u16,
     key: u64,
-    op: Op<'_>,
+    op: Option<Op<'_>>,
 ) -> Result<Wrote, Refusal>
     requires step { IsInStep T.Store memory.old store.old }
     ensures step { IsInStep T.Store memory.new store.new }
     ensures did { (h : State) → Stands T.Store h (record { memory = memory.old; store = store.old })
-        → Does T.Store h (machine.Write s table key (action_of op.entry)) (write_answer result)
+        → Does T.Store h (machine.Write s table key (action_by op.entry)) (write_answer result)
         (record { memory = memory.old; store = store.old }) (record { memory = memory.new; store = store.new }) }
     ensures same { SameStore T.Store store.old store.new }
     ensures disk { IsCountedAs (T.faults store.old) (T.faults store.new) (err_is is_disk_fault result) }

@@ -42,6 +42,10 @@ id_none h env s none = record {
 pub none_owned : (h : State) (env : Env) (s : ℕ) → IsOwnId h env s None → HasNoSlot h s
 none_owned h env s id t o at is = let clash : None ≡ Some (env.xid t) = id.owns t (record { owner = o; at = at; session = is }) in absurd cc
 
+-- a slot that is a session's, as the machine's calls say it, is one that it owns
+pub owns_of : (h : State) (s g i : ℕ) → Owned h s g i → Owns h s (16 * g + i)
+owns_of h s g i owned = record { owner = owned.1; at = owned.2; session = owned.3 }
+
 -- What an id says: the session owns that slot, and its transaction runs.
 pub record OwnedBy (h : State) (blocks : List (List ℕ)) (s : ℕ) (x : Xid) : Type 0 where
   pub there : x.seg < h.shape.segments
@@ -66,7 +70,7 @@ owned_by h xids blocks s x stand id = by (id.owned x refl)
         record {
           there = omega (arith, seg, g);
           few = omega (arith, slot);
-          owned = (owns.owner, ap (owner_at h) at ∙ owns.at, owns.session);
+          owned = (omega (arith, slot), owns.owner, ap (owner_at h) at ∙ owns.at, owns.session);
           runs = subst (λ (y : Xid). Runs (segments_of h.shape blocks y.seg).header y) (sym is) (record { slot = few; active = told.state; wrap = refl });
         }
 
@@ -84,11 +88,11 @@ freed h h2 xids blocks s g i b stand few there owned books gone same t o at is =
             | inl this ↦ clash (sym gone ∙ (ap (slot_owner b) (sym this) ∙ (sym read ∙ at)))
             | inr other ↦
                 let was : owner_at h t ≡ Some o = ap (λ (z : ℕ). slot_owner (book_at h.books z) (t % 16)) here ∙ (sym (same (t % 16) other) ∙ (sym read ∙ at)) in
-                other (mod_of t g i few (stand.tell.one_slot s t (16 * g + i) (record { owner = o; at = was; session = is }) (record { owner = owned.0; at = owned.1; session = owned.2 })))
+                other (mod_of t g i few (stand.tell.one_slot s t (16 * g + i) (record { owner = o; at = was; session = is }) (owns_of h s g i owned)))
           ]
       | inr apart ↦
           let was : owner_at h t ≡ Some o = ap (λ (x : Book). slot_owner x (t % 16)) (sym (get_or-set_other h.books g (t / 16) b fresh_book apart)) ∙ (sym now ∙ at) in
-          apart (div_of t g i few (stand.tell.one_slot s t (16 * g + i) (record { owner = o; at = was; session = is }) (record { owner = owned.0; at = owned.1; session = owned.2 })))
+          apart (div_of t g i few (stand.tell.one_slot s t (16 * g + i) (record { owner = o; at = was; session = is }) (owns_of h s g i owned)))
     ]
   where
     mod_of : (t g i : ℕ) → i < 16 → t ≡ 16 * g + i → t % 16 ≡ i

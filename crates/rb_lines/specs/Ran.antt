@@ -20,6 +20,7 @@ pub record SameButCursors (h other : Logged) : Type 0 where
   pub books : h.state.books ≡ other.state.books
   pub sessions : length h.state.sessions ≡ length other.state.sessions
   pub own : (s : ℕ) → (session_of h.state s).own ≡ (session_of other.state s).own
+  pub savepoints : (s : ℕ) → (session_of h.state s).savepoints ≡ (session_of other.state s).savepoints
   pub stopped : h.state.stopped ≡ other.state.stopped
   pub fault : h.fault ≡ other.fault
 

@@ -2,6 +2,7 @@ pub mod BookLemmas
 mod Worked
 mod WorkedBooks
 mod WorkedCalls
+mod WorkedQueues
 mod WorkedTests
 pub mod Given
 pub mod Order

@@ -1,9 +1,9 @@
 -- The calls of the machine, computed on worked rows.
-use Rattle.std.proofs.Common.{◌≡◌, ◌-◌, ℕ, zero, suc, false, List, [], ◌∷◌, length, get_or, None, refl}
+use Rattle.std.proofs.Common.{◌≡◌, ◌-◌, ℕ, zero, suc, false, List, [], ◌∷◌, length, get_or, None, Some, refl, arith}
 use Rattle.rb_model.specs.Book.{book_at, book_slot, fresh_book}
-use Rattle.rb_model.specs.Calls.{Action, Insert, Update, Delete, Answer, Done, Refused, first_of, needed_room, write_tests}
-use Rattle.rb_model.specs.State.{State, Cursor, no_session, session_own}
-use Rattle.rb_model.specs.NextState.{change_in, committed, ended, left_open, opened_cursor, with_cursors, without_owner, written}
+use Rattle.rb_model.specs.Calls.{Action, Insert, Update, Delete, Lock, Owned, rows_now, Answer, Done, Refused, first_of, needed_room, write_tests}
+use Rattle.rb_model.specs.State.{State, Cursor, Savepoint, no_session, savepoint_of, session_of, session_own}
+use Rattle.rb_model.specs.NextState.{change_in, committed, ended, left_open, opened_cursor, rolled_to, with_cursors, with_savepoint, with_savepoints, without_owner, written}
 use Rattle.rb_model.specs.Rows.{last_scn}
 use Rattle.rb_model.specs.declared.refusal.Refusal.TheVariants.{Duplicate, NotFound, LogFull}
 
@@ -100,3 +100,64 @@ no_change = refl
 
 counted_still : (book_at back.books 0).writes ≡ 1
 counted_still = refl
+
+-- A savepoint is set before an insert, which a lock and a second savepoint follow. Behind the rollback to the first the
+-- transaction has no change left and keeps its slot; the later savepoint and the cursor that saw the insert are gone.
+abbrev p : List ℕ
+p = 112 ∷ []
+
+abbrev q : List ℕ
+q = 113 ∷ []
+
+abbrev set_at : State → List ℕ → State
+set_at h name = with_savepoints h 1 (with_savepoint name (length (session_own h 1)) (session_of h 1).savepoints)
+
+abbrev locked : State
+locked = write (write (set_at fresh p) 1 (Insert a)) 1 Lock
+
+locks : answer one 1 1 Lock ≡ Done
+locks = refl
+
+locks_no_row : answer fresh 0 1 Lock ≡ Refused NotFound
+locks_no_row = refl
+
+held_as_it_is : rows_now locked 1 ≡ rows_now one 1
+held_as_it_is = refl
+
+abbrev with_q : State
+with_q =
+    let h = set_at locked q in
+    with_cursors h 1 (opened_cursor fresh 1 a 1 0 9 ∷ opened_cursor h 1 (98 ∷ []) 1 0 9 ∷ [])
+
+abbrev at_p : State
+at_p = rolled_to with_q 1 p 0
+
+kept_at_p : (p : Savepoint) × (savepoint_of with_q 1 (112 ∷ []) ≡ Some p) × (p.kept ≡ 0)
+kept_at_p = (record { name = 112 ∷ []; kept = 0 }, refl, refl)
+
+nothing_left : session_own at_p 1 ≡ []
+nothing_left = refl
+
+keeps_its_slot : Owned at_p 1 0 0
+keeps_its_slot = (omega arith, _, refl, refl)
+
+named_one_stays : (savepoint_of at_p 1 p ≡ Some (record { name = p; kept = 0 })) × (savepoint_of at_p 1 q ≡ None)
+named_one_stays = (refl, refl)
+
+earlier_cursor_stays : length (cursors at_p) ≡ 1
+earlier_cursor_stays = refl
+
+-- back to the second one goes nothing but a change behind it; a name that is set again moves behind that
+at_q : length (session_own (rolled_to (write with_q 1 Delete) 1 q 2) 1) ≡ 2
+at_q = refl
+
+moved : (savepoint_of (set_at with_q p) 1 p ≡ Some (record { name = p; kept = 2 }))
+    × (length (session_of (set_at with_q p) 1).savepoints ≡ 2)
+moved = (refl, refl)
+
+q_is_earlier : savepoint_of (rolled_to (set_at with_q p) 1 q 2) 1 p ≡ None
+q_is_earlier = refl
+
+-- Of slots that the second segment has, none is the first one's by another number.
+not_by_another_name : Owned one 1 0 16 → ⊥
+not_by_another_name (few, o, at, same) = absurd (omega (arith, few))

@@ -7,7 +7,7 @@ use Rattle.rb_model.specs.State.{State, Session}
 use Rattle.rb_model.specs.Tests.{full_slots, holder, live_changes, made_since, owners_counted, works_in}
 
 abbrev session : List Change → Session
-session own = record { own = own; cursors = [] }
+session own = record { own = own; savepoints = []; cursors = [] }
 
 -- a file of one table with two homes, and these sessions
 abbrev with_sessions : List Book → List Session → State

@@ -20,6 +20,11 @@ action_of (op.Insert value) = calls.Insert value.now
 action_of (op.Update value) = calls.Update value.now
 action_of op.Delete = calls.Delete
 
+-- and none holds the row as it is
+abbrev pub action_by : Option Op → Action
+action_by None = calls.Lock
+action_by (Some op) = action_of op
+
 abbrev pub wrote_answer : Wrote → Answer
 wrote_answer wrote.Done = calls.Done
 wrote_answer (wrote.Waits on) = Waits on

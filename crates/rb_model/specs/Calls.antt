@@ -3,33 +3,38 @@ use Rattle.std.specs.Prelude.{◌≡◌, ◌≢◌, ◌⊎◌, ℕ, ◌+◌, ◌
 use Rattle.std.specs.Prelude.{◌<◌, Bool, true, false, not, ◌&&◌}
 use Rattle.std.specs.Prelude.{nat_lt, nat_le, if◌then◌else◌, is_some, is_none, List, [], ◌∷◌, ◌++◌}
 use Rattle.std.specs.Prelude.{length, codes}
-use Rattle.std.specs.Prelude.{slice_get, Option, None, Some}
+use Rattle.std.specs.Prelude.{filter, slice_get, Option, None, Some}
 use Rattle.std.specs.Fmt.{decimal}
+use Rattle.std.specs.Str.{bytes_eq}
 use Rattle.rb_base.specs.declared.sizes.TheConstants.{VALUE_BYTES, WORN}
 use Rattle.rb_model.specs.Book.{Owner, IsBegun, book_at, is_full}
 use Rattle.rb_model.specs.Change.{Change}
 use Rattle.rb_model.specs.Full.{full_block}
 use Rattle.rb_model.specs.Rows.{TableRow, has_row, last_scn, over, rows_at}
-use Rattle.rb_model.specs.State.{State, Cursor, session_of, session_own, owner_at, is_session, is_table, cursor_of}
-use Rattle.rb_model.specs.State.{cursor_rows}
+use Rattle.rb_model.specs.State.{State, Cursor, Savepoint, session_of, session_own, owner_at, is_session, is_table}
+use Rattle.rb_model.specs.State.{savepoint_of, cursor_of, cursor_rows}
 use Rattle.rb_model.specs.Tests.{holder, full_slots, live_changes, made_since, owners_counted}
 use Rattle.rb_model.specs.declared.refusal.Refusal.{Refusal}
 use Rattle.rb_model.specs.declared.refusal.Refusal.TheVariants.{NoSession, NoTable, ValueTooLong, TooOld, Duplicate}
-use Rattle.rb_model.specs.declared.refusal.Refusal.TheVariants.{NotFound, BlockFull, SlotsFull, RollbackFull, NoCursor}
-use Rattle.rb_model.specs.declared.refusal.Refusal.TheVariants.{CursorThere, TooManyCursors, WornOut, DiskFault}
-use Rattle.rb_model.specs.declared.refusal.Refusal.TheVariants.{Stopped, LogFull}
+use Rattle.rb_model.specs.declared.refusal.Refusal.TheVariants.{NotFound, BlockFull, SlotsFull, RollbackFull}
+use Rattle.rb_model.specs.declared.refusal.Refusal.TheVariants.{NoSavepoint, TooManySavepoints, NoCursor, CursorThere}
+use Rattle.rb_model.specs.declared.refusal.Refusal.TheVariants.{TooManyCursors, WornOut, DiskFault, Stopped, LogFull}
 
 -- what a write does to its key
 pub data Action : Type 0 where
   Insert : (value : List ℕ) → Action
   Update : (value : List ℕ) → Action
   Delete : Action
+  -- holds the key's row as it is
+  Lock : Action
 
 -- a call of one session, or of none
 pub data Call : Type 0 where
   Write : (session table key : ℕ) (action : Action) → Call
   Commit : (session : ℕ) → Call
   Rollback : (session : ℕ) → Call
+  SetSavepoint : (session : ℕ) (name : List ℕ) → Call
+  RollbackTo : (session : ℕ) (name : List ℕ) → Call
   OpenCursor : (session : ℕ) (name : List ℕ) (table lo hi : ℕ) → Call
   Fetch : (session : ℕ) (name : List ℕ) → Call
   CloseCursor : (session : ℕ) (name : List ℕ) → Call
@@ -56,12 +61,14 @@ abbrev pub adds : Action → Bool
 adds (Insert value) = true
 adds (Update value) = false
 adds Delete = false
+adds Lock = false
 
 -- the value has more bytes than a row
 abbrev pub is_too_long : Action → Bool
 is_too_long (Insert value) = nat_lt VALUE_BYTES (length value)
 is_too_long (Update value) = nat_lt VALUE_BYTES (length value)
 is_too_long Delete = false
+is_too_long Lock = false
 
 -- the rows that a session sees now: the committed ones with its own changes over them
 abbrev pub rows_now : State → ℕ → List TableRow
@@ -82,6 +89,8 @@ refusal_words NotFound = codes "not found"
 refusal_words BlockFull = codes "block full"
 refusal_words SlotsFull = codes "slots full"
 refusal_words (RollbackFull seg since) = codes "rollback full"
+refusal_words NoSavepoint = codes "no savepoint"
+refusal_words TooManySavepoints = codes "too many savepoints"
 refusal_words NoCursor = codes "no cursor"
 refusal_words CursorThere = codes "cursor there"
 refusal_words TooManyCursors = codes "too many cursors"
@@ -118,9 +127,9 @@ is_fault _ = false
 abbrev pub failed_in : Call → Answer → Option Call → Option Call
 failed_in call answer before = if is_fault answer then Some call else before
 
--- Segment g and slot i are those of a session: it has that slot, or has none and would begin there.
+-- Segment g and slot i are those of a session: it has that slot, one of sixteen, or has none and would begin there.
 abbrev pub Owned : State → ℕ → ℕ → ℕ → Type 0
-Owned h s g i = (o : Owner) × (owner_at h (16 * g + i) ≡ Some o) × (o.session ≡ s)
+Owned h s g i = (i < 16) × (o : Owner) × (owner_at h (16 * g + i) ≡ Some o) × (o.session ≡ s)
 
 abbrev pub HasNoSlot : State → ℕ → Type 0
 HasNoSlot h s = (t : ℕ) (o : Owner) → owner_at h t ≡ Some o → o.session ≢ s
@@ -155,6 +164,10 @@ early_tests h (Commit s) =
     (h.stopped, Refused Stopped) ∷ (not (is_session h s), Refused NoSession) ∷ []
 early_tests h (Rollback s) =
     (h.stopped, Refused Stopped) ∷ (not (is_session h s), Refused NoSession) ∷ []
+early_tests h (SetSavepoint s name) =
+    (h.stopped, Refused Stopped) ∷ (not (is_session h s), Refused NoSession) ∷ []
+early_tests h (RollbackTo s name) =
+    (h.stopped, Refused Stopped) ∷ (not (is_session h s), Refused NoSession) ∷ []
 early_tests h (OpenCursor s name table lo hi) =
     (h.stopped, Refused Stopped) ∷ (not (is_session h s), Refused NoSession)
     ∷ (not (is_table h table), Refused NoTable) ∷ []
@@ -177,17 +190,25 @@ write_tests h logged room g i s table key action =
     ∷ (nat_le WORN logged, Refused WornOut)
     ∷ (nat_lt room (needed_room h s g i), Refused LogFull) ∷ []
 
-abbrev pub cursor_tests : State → Call → List (Bool × Answer)
-cursor_tests h (OpenCursor s name table lo hi) =
+-- the savepoints of other names
+abbrev pub without_savepoint : List ℕ → List Savepoint → List Savepoint
+without_savepoint name savepoints = filter (λ savepoint. not (bytes_eq savepoint.name name)) savepoints
+
+-- the tests of a call that names a savepoint or a cursor
+abbrev pub name_tests : State → Call → List (Bool × Answer)
+name_tests h (SetSavepoint s name) =
+    (nat_le 16 (length (without_savepoint name (session_of h s).savepoints)), Refused TooManySavepoints) ∷ []
+name_tests h (RollbackTo s name) = (is_none (savepoint_of h s name), Refused NoSavepoint) ∷ []
+name_tests h (OpenCursor s name table lo hi) =
     (is_some (cursor_of h s name), Refused CursorThere)
     ∷ (nat_le 16 (length (session_of h s).cursors), Refused TooManyCursors) ∷ []
-cursor_tests h (Fetch s name) = (is_none (cursor_of h s name), Refused NoCursor) ∷ []
-cursor_tests h (CloseCursor s name) = (is_none (cursor_of h s name), Refused NoCursor) ∷ []
-cursor_tests h (Write s table key action) = []
-cursor_tests h (Commit s) = []
-cursor_tests h (Rollback s) = []
-cursor_tests h (Marks seg) = []
-cursor_tests h Checkpoint = []
+name_tests h (Fetch s name) = (is_none (cursor_of h s name), Refused NoCursor) ∷ []
+name_tests h (CloseCursor s name) = (is_none (cursor_of h s name), Refused NoCursor) ∷ []
+name_tests h (Write s table key action) = []
+name_tests h (Commit s) = []
+name_tests h (Rollback s) = []
+name_tests h (Marks seg) = []
+name_tests h Checkpoint = []
 
 -- a row as the answer to a fetch, or the end
 abbrev pub given : Option TableRow → Answer
@@ -203,6 +224,8 @@ abbrev pub granted : State → Call → Answer
 granted h (Write s table key action) = Done
 granted h (Commit s) = if is_empty (session_own h s) then Done else Numbered (last_scn h.commits + 1)
 granted h (Rollback s) = Done
+granted h (SetSavepoint s name) = Done
+granted h (RollbackTo s name) = Done
 granted h (OpenCursor s name table lo hi) = Done
 granted h (Fetch s name) = next_row h (cursor_of h s name)
 granted h (CloseCursor s name) = Done
@@ -222,7 +245,7 @@ none_applies (test ∷ tests) = not test.0 && none_applies tests
 abbrev pub LaterTests : State → ℕ → ℕ → Call → List (Bool × Answer) → Type 0
 LaterTests h logged room (Write s table key action) tests =
     (g : ℕ) × (i : ℕ) × WritesIn h s g i × (tests ≡ write_tests h logged room g i s table key action)
-LaterTests h logged room call tests = tests ≡ cursor_tests h call
+LaterTests h logged room call tests = tests ≡ name_tests h call
 
 -- A fetch is refused as too old: a segment has given up a number above the cursor's snapshot, and both are told.
 pub record IsTooOld (h : State) (call : Call) (r : Answer) : Type 0 where

@@ -10,6 +10,7 @@ pub mod Names
 pub mod Next
 pub mod NextState
 pub mod Out
+pub mod Queue
 pub mod Rows
 pub mod State
 pub mod Tests

@@ -7,9 +7,10 @@ use Rattle.std.specs.List.{list_all, AllByRecursion}
 use Rattle.std.specs.Fmt.{decimal}
 use Rattle.rb_model.specs.NameTest.{is_name}
 use Rattle.rb_base.specs.declared.shape.Shape.{Shape}
-use Rattle.rb_model.specs.Calls.{Action, Insert, Update, Delete, Answer, Done, Waits, Numbered, Given, End, Marked}
-use Rattle.rb_model.specs.Calls.{Refused, number_text, refusal_text}
-use Rattle.rb_model.specs.Calls.{Call, Write, Commit, Rollback, OpenCursor, Fetch, CloseCursor, Marks, Checkpoint}
+use Rattle.rb_model.specs.Calls.{Action, Insert, Update, Delete, Lock, Answer, Done, Waits, Numbered, Given, End}
+use Rattle.rb_model.specs.Calls.{Marked, Refused, number_text, refusal_text}
+use Rattle.rb_model.specs.Calls.{Call, Write, Commit, Rollback, SetSavepoint, RollbackTo, OpenCursor, Fetch}
+use Rattle.rb_model.specs.Calls.{CloseCursor, Marks, Checkpoint}
 
 -- a byte at the front of the first line
 abbrev pub onto_first : ℕ → List (List ℕ) → List (List ℕ)
@@ -37,6 +38,8 @@ pub data Command : Type 0 where
   WriteLine : (session table key : ℕ) (action : Action) → Command
   CommitLine : (session : ℕ) → Command
   RollbackLine : (session : ℕ) → Command
+  SavepointLine : (session : ℕ) (name : List ℕ) → Command
+  RollbackToLine : (session : ℕ) (name : List ℕ) → Command
   OpenLine : (session : ℕ) (name : List ℕ) (table lo hi : ℕ) → Command
   FetchLine : (session : ℕ) (name : List ℕ) (count : ℕ) → Command
   CloseLine : (session : ℕ) (name : List ℕ) → Command
@@ -48,6 +51,8 @@ abbrev pub call_of : Command → ℕ → Call
 call_of (WriteLine s table key action) k = Write s table key action
 call_of (CommitLine s) k = Commit s
 call_of (RollbackLine s) k = Rollback s
+call_of (SavepointLine s name) k = SetSavepoint s name
+call_of (RollbackToLine s name) k = RollbackTo s name
 call_of (OpenLine s name table lo hi) k = OpenCursor s name table lo hi
 call_of (FetchLine s name count) k = Fetch s name
 call_of (CloseLine s name) k = CloseCursor s name
@@ -65,6 +70,8 @@ abbrev pub caller : Command → Option ℕ
 caller (WriteLine s table key action) = Some s
 caller (CommitLine s) = Some s
 caller (RollbackLine s) = Some s
+caller (SavepointLine s name) = Some s
+caller (RollbackToLine s name) = Some s
 caller (OpenLine s name table lo hi) = Some s
 caller (FetchLine s name count) = Some s
 caller (CloseLine s name) = Some s
@@ -76,8 +83,10 @@ pub data Word : Type 0 where
   InsertWord : Word
   UpdateWord : Word
   DeleteWord : Word
+  LockWord : Word
   CommitWord : Word
   RollbackWord : Word
+  SavepointWord : Word
   OpenWord : Word
   FetchWord : Word
   CloseWord : Word
@@ -88,8 +97,10 @@ abbrev pub word_text : Word → List ℕ
 word_text InsertWord = codes "insert"
 word_text UpdateWord = codes "update"
 word_text DeleteWord = codes "delete"
+word_text LockWord = codes "lock"
 word_text CommitWord = codes "commit"
 word_text RollbackWord = codes "rollback"
+word_text SavepointWord = codes "savepoint"
 word_text OpenWord = codes "open"
 word_text FetchWord = codes "fetch"
 word_text CloseWord = codes "close"
@@ -100,16 +111,19 @@ abbrev pub word_of : Command → Word
 word_of (WriteLine s table key (Insert value)) = InsertWord
 word_of (WriteLine s table key (Update value)) = UpdateWord
 word_of (WriteLine s table key Delete) = DeleteWord
+word_of (WriteLine s table key Lock) = LockWord
 word_of (CommitLine s) = CommitWord
 word_of (RollbackLine s) = RollbackWord
+word_of (SavepointLine s name) = SavepointWord
+word_of (RollbackToLine s name) = RollbackWord
 word_of (OpenLine s name table lo hi) = OpenWord
 word_of (FetchLine s name count) = FetchWord
 word_of (CloseLine s name) = CloseWord
 word_of MarksLine = MarksWord
 word_of CheckpointLine = CheckpointWord
 
--- A field after the word: the number of a session or a table, a key, how many rows, the name of a cursor, or the value
--- of a row.
+-- A field after the word: the number of a session or a table, a key, how many rows, the name of a savepoint or cursor,
+-- or the value of a row.
 pub data Field : Type 0 where
   Id : (n : ℕ) → Field
   Key : (n : ℕ) → Field
@@ -121,8 +135,11 @@ abbrev pub fields_of : Command → List Field
 fields_of (WriteLine s table key (Insert value)) = Id s ∷ Id table ∷ Key key ∷ Valued value ∷ []
 fields_of (WriteLine s table key (Update value)) = Id s ∷ Id table ∷ Key key ∷ Valued value ∷ []
 fields_of (WriteLine s table key Delete) = Id s ∷ Id table ∷ Key key ∷ []
+fields_of (WriteLine s table key Lock) = Id s ∷ Id table ∷ Key key ∷ []
 fields_of (CommitLine s) = Id s ∷ []
 fields_of (RollbackLine s) = Id s ∷ []
+fields_of (SavepointLine s name) = Id s ∷ Named name ∷ []
+fields_of (RollbackToLine s name) = Id s ∷ Named name ∷ []
 fields_of (OpenLine s name table lo hi) = Id s ∷ Named name ∷ Id table ∷ Key lo ∷ Key hi ∷ []
 fields_of (FetchLine s name count) = Id s ∷ Named name ∷ Count count ∷ []
 fields_of (CloseLine s name) = Id s ∷ Named name ∷ []

@@ -1,21 +1,24 @@
 -- The state of the machine after each call, and how many groups the call gives the log.
 use Rattle.std.specs.Prelude.{◌≡◌, ◌⊎◌, ℕ, suc, ◌+◌, ◌-◌, Bool, true, false, not}
 use Rattle.std.specs.Prelude.{◌&&◌, nat_lt}
-use Rattle.std.specs.Prelude.{if◌then◌else◌, cond, List, [], ◌∷◌, ◌++◌, length, set, map, filter}
+use Rattle.std.specs.Prelude.{if◌then◌else◌, cond, List, [], ◌∷◌, ◌++◌, length, set, map, filter, take}
+use Rattle.std.specs.Prelude.{Some}
 use Rattle.std.specs.Str.{bytes_eq}
 use Rattle.rb_model.specs.Book.{Book, book_at, finished, left, marked, taken}
 use Rattle.rb_model.specs.Calls.{Call, Write, Commit, Rollback, OpenCursor, Fetch, CloseCursor, Marks, Checkpoint}
 use Rattle.rb_model.specs.Calls.{Answer, Done, Waits, Numbered, Given, End, Marked, Refused, is_disk_fault}
-use Rattle.rb_model.specs.Calls.{Action, Insert, Update, Delete, is_empty}
+use Rattle.rb_model.specs.Calls.{Action, Insert, Update, Delete, Lock, SetSavepoint, RollbackTo}
+use Rattle.rb_model.specs.Calls.{is_empty, without_savepoint}
 use Rattle.rb_model.specs.Calls.{Owned, HasNoSlot, WritesIn, has_slot}
-use Rattle.rb_model.specs.Change.{Change, Kind, Put, Gone}
-use Rattle.rb_model.specs.State.{State, Cursor, session_of, session_own, with_changes}
+use Rattle.rb_model.specs.Change.{Change, Kind, Put, Gone, Held}
+use Rattle.rb_model.specs.State.{State, Cursor, Savepoint, savepoint_of, session_of, session_own, with_changes}
 use Rattle.rb_model.specs.Rows.{last_scn}
 
 abbrev pub kind_by : Action → Kind
 kind_by (Insert value) = Put value
 kind_by (Update value) = Put value
 kind_by Delete = Gone
+kind_by Lock = Held
 
 -- the change of a write of that session, which makes the next record of segment g
 abbrev pub change_in : State → ℕ → ℕ → ℕ → Action → Change
@@ -48,10 +51,10 @@ not_present c = record c { present = false }
 abbrev pub left_open : ℕ → List Cursor → List Cursor
 left_open kept cursors = filter (λ c. not (c.present && nat_lt kept (length c.own))) cursors
 
--- the session without changes, with these cursors, which are of no present transaction
+-- the session without changes and savepoints, with these cursors, which are of no present transaction
 abbrev pub ended : State → ℕ → List Cursor → State
 ended h s cursors = record h {
-  sessions = set h.sessions (s - 1) (record { own = []; cursors = map not_present cursors });
+  sessions = set h.sessions (s - 1) (record { own = []; savepoints = []; cursors = map not_present cursors });
 }
 
 -- and its slot without an owner
@@ -73,7 +76,33 @@ EndsAs h s cursors h2 =
 
 abbrev pub with_cursors : State → ℕ → List Cursor → State
 with_cursors h s cursors = record h {
-  sessions = set h.sessions (s - 1) (record { own = session_own h s; cursors = cursors });
+  sessions = set h.sessions (s - 1) (record (session_of h s) { cursors = cursors });
+}
+
+-- the session with these savepoints
+abbrev pub with_savepoints : State → ℕ → List Savepoint → State
+with_savepoints h s savepoints = record h {
+  sessions = set h.sessions (s - 1) (record (session_of h s) { savepoints = savepoints });
+}
+
+-- the savepoints with one set behind so many changes, after all others: a name that is set again moves
+abbrev pub with_savepoint : List ℕ → ℕ → List Savepoint → List Savepoint
+with_savepoint name kept savepoints = without_savepoint name savepoints ++ record { name = name; kept = kept } ∷ []
+
+-- the savepoints up to the one of that name
+abbrev pub up_to : List ℕ → List Savepoint → List Savepoint
+up_to name [] = []
+up_to name (p ∷ savepoints) = cond (bytes_eq p.name name) (p ∷ []) (p ∷ up_to name savepoints)
+
+-- The session with so many changes of its transaction: those behind them are put back, which frees what they hold, the
+-- later savepoints are erased, and the cursors that see more are closed. It keeps its slot.
+abbrev pub rolled_to : State → ℕ → List ℕ → ℕ → State
+rolled_to h s name kept = record h {
+  sessions = set h.sessions (s - 1) (record {
+    own = take kept (session_own h s);
+    savepoints = up_to name (session_of h s).savepoints;
+    cursors = left_open kept (cursors_of h s);
+  });
 }
 
 -- a cursor as it is opened
@@ -107,6 +136,10 @@ AfterGrant h (Commit s) h2 =
     ((is_empty (session_own h s) ≡ false) × ((g : ℕ) × (i : ℕ) × Owned h s g i × (h2 ≡ committed h s g i)))
     ⊎ ((is_empty (session_own h s) ≡ true) × EndsAs h s (cursors_of h s) h2)
 AfterGrant h (Rollback s) h2 = EndsAs h s (left_open 0 (cursors_of h s)) h2
+AfterGrant h (SetSavepoint s name) h2 =
+    h2 ≡ with_savepoints h s (with_savepoint name (length (session_own h s)) (session_of h s).savepoints)
+AfterGrant h (RollbackTo s name) h2 =
+    (p : Savepoint) × (savepoint_of h s name ≡ Some p) × (h2 ≡ rolled_to h s name p.kept)
 AfterGrant h (OpenCursor s name table lo hi) h2 =
     h2 ≡ with_cursors h s (cursors_of h s ++ opened_cursor h s name table lo hi ∷ [])
 AfterGrant h (Fetch s name) h2 = h2 ≡ with_cursors h s (with_taken name (cursors_of h s))
@@ -125,7 +158,8 @@ After h call (Marked seg writes lost) h2 = h2 ≡ h
 After h call (Refused why) h2 = h2 ≡ (if is_disk_fault why then record h { stopped = true } else h)
 
 -- How many groups a call with that answer gives the log: a write that is done one; a commit with changes one; the end
--- of a transaction without one, one for each change that is put back and one for its slot.
+-- of a transaction without one, one for each change that is put back and one for its slot; a rollback to a savepoint
+-- one for each change that is put back.
 abbrev pub Ends : State → ℕ → ℕ → ℕ → Type 0
 Ends h s back n =
     ((g : ℕ) × (i : ℕ) × Owned h s g i × (n ≡ back + 1)) ⊎ (HasNoSlot h s × (n ≡ 0))
@@ -135,6 +169,9 @@ GrowsBy h (Write s table key action) n = n ≡ 1
 GrowsBy h (Commit s) n = ((is_empty (session_own h s) ≡ false) × (n ≡ 1))
     ⊎ ((is_empty (session_own h s) ≡ true) × Ends h s 0 n)
 GrowsBy h (Rollback s) n = Ends h s (length (session_own h s)) n
+GrowsBy h (SetSavepoint s name) n = n ≡ 0
+GrowsBy h (RollbackTo s name) n =
+    (p : Savepoint) × (savepoint_of h s name ≡ Some p) × (n ≡ length (session_own h s) - p.kept)
 GrowsBy h (OpenCursor s name table lo hi) n = n ≡ 0
 GrowsBy h (Fetch s name) n = n ≡ 0
 GrowsBy h (CloseCursor s name) n = n ≡ 0

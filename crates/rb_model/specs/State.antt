@@ -22,9 +22,17 @@ pub record Cursor : Type 0 where
   -- whether it was opened in the present transaction
   pub present : Bool
 
+-- a position in a transaction's live changes, under a name
+pub record Savepoint : Type 0 where
+  pub name : List ℕ
+  -- how many live changes there were as it was set
+  pub kept : ℕ
+
 pub record Session : Type 0 where
   -- the live changes of its transaction, oldest first
   pub own : List Change
+  -- its transaction's savepoints, in order of setting
+  pub savepoints : List Savepoint
   -- its open cursors, in order of opening
   pub cursors : List Cursor
 
@@ -43,7 +51,7 @@ abbrev pub session_count : ℕ
 session_count = 16
 
 abbrev pub no_session : Session
-no_session = record { own = []; cursors = [] }
+no_session = record { own = []; savepoints = []; cursors = [] }
 
 -- there is a session of this number
 abbrev pub is_session : State → ℕ → Bool
@@ -71,6 +79,13 @@ is_table h table = nat_le 1 table && nat_le table h.shape.tables
 -- the session's open cursor of that name
 abbrev pub cursor_of : State → ℕ → List ℕ → Option Cursor
 cursor_of h s name = find (λ cursor. bytes_eq cursor.name name) (session_of h s).cursors
+
+-- the savepoint of that name
+abbrev pub savepoint_named : List ℕ → List Savepoint → Option Savepoint
+savepoint_named name savepoints = find (λ savepoint. bytes_eq savepoint.name name) savepoints
+
+abbrev pub savepoint_of : State → ℕ → List ℕ → Option Savepoint
+savepoint_of h s name = savepoint_named name (session_of h s).savepoints
 
 -- the rows that a cursor answers, in the order in which it gives them
 abbrev pub cursor_rows : State → Cursor → List TableRow

@@ -36,6 +36,10 @@ pub enum Refusal {
         /// How many records it has made since its oldest transaction began, 281 to 320.
         since: u64,
     },
+    /// No savepoint of the session's transaction has that name.
+    NoSavepoint,
+    /// Sixteen savepoints of other names are set.
+    TooManySavepoints,
     /// No open cursor of the session has that name.
     NoCursor,
     /// A cursor of that name is open.
@@ -68,6 +72,8 @@ impl Refusal {
             Refusal::BlockFull => b"block full",
             Refusal::SlotsFull => b"slots full",
             Refusal::RollbackFull { seg: _, since: _ } => b"rollback full",
+            Refusal::NoSavepoint => b"no savepoint",
+            Refusal::TooManySavepoints => b"too many savepoints",
             Refusal::NoCursor => b"no cursor",
             Refusal::CursorThere => b"cursor there",
             Refusal::TooManyCursors => b"too many cursors",

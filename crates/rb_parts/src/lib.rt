@@ -46,3 +46,5 @@ mod txntable;
 mod undo;
 #[cfg(test)]
 mod undoblock;
+#[cfg(test)]
+mod waits;

@@ -5,7 +5,7 @@ use rb_script::{Command, Reply, parse, print};
 
 #[test]
 fn lines_that_spell_no_command(rt: HostRuntime) {
-    let lines: [&[u8]; 50] = [
+    let lines: [&[u8]; 66] = [
         b"fetch 1 c 0",
         b"fetch 1 c 00",
         b"fetch 1 c 01",
@@ -49,9 +49,25 @@ fn lines_that_spell_no_command(rt: HostRuntime) {
         b"close 1 c ",
         b"close 65536 c",
         b"commit 65536",
+        b"lock 1 1",
+        b"lock 1 1 ",
+        b"lock 1 1 01",
+        b"lock 1 1 1 a",
+        b"locks 1 1 1",
+        b"savepoint",
+        b"savepoint 1",
+        b"savepoint 1 ",
+        b"savepoint 1 A",
+        b"savepoint 1 a ",
+        b"savepoint 1 abcdefghijklmnopq",
+        b"savepoint 65536 a",
         b"rollback",
         b"rollback 1 ",
-        b"rollback 1 a",
+        b"rollback 1 A",
+        b"rollback 1 a b",
+        b"rollback 1  a",
+        b"rollback 1 abcdefghijklmnopq",
+        b"rollback 65536 a",
         b"marks ",
         b"marks 0",
         b"checkpoint 1",
@@ -97,6 +113,16 @@ fn lines_that_spell_a_command(rt: HostRuntime) {
             })
         )
     );
+    assert!(rt;
+        matches!(
+            parse(b"lock 1 2 18446744073709551615"),
+            Some(Command::Lock {
+                s: 1,
+                t: 2,
+                k: 18446744073709551615
+            })
+        )
+    );
     assert!(rt; matches!(parse(b"commit 65535"), Some(Command::Commit { s: 65535 })));
     assert!(rt;
         matches!(
@@ -104,6 +130,10 @@ fn lines_that_spell_a_command(rt: HostRuntime) {
             Some(Command::Rollback { s: 65535 })
         )
     );
+    let set = parse(b"savepoint 65535 abcdefghijklmnop");
+    assert!(rt; matches!(&set, Some(Command::Savepoint { s: 65535, .. })));
+    let back = parse(b"rollback 0 1");
+    assert!(rt; matches!(&back, Some(Command::RollbackTo { s: 0, .. })));
     assert!(rt; matches!(parse(b"marks"), Some(Command::Marks)));
     assert!(rt; matches!(parse(b"checkpoint"), Some(Command::Checkpoint)));
     let opened = parse(b"open 1 _0 65535 9 0");
@@ -135,7 +165,7 @@ fn lines_that_spell_a_command(rt: HostRuntime) {
 #[test]
 fn texts_of_replies(rt: HostRuntime) {
     let value = [b'~'; 80];
-    let replies: [(Reply, &[u8]); 15] = [
+    let replies: [(Reply, &[u8]); 17] = [
         (Reply::Done { s: Some(1) }, b"1 ok\n"),
         (Reply::Done { s: None }, b"ok\n"),
         (
@@ -169,6 +199,20 @@ fn texts_of_replies(rt: HostRuntime) {
                 why: Refusal::TooManyCursors,
             },
             b"1 too many cursors\n",
+        ),
+        (
+            Reply::Refused {
+                s: Some(1),
+                why: Refusal::NoSavepoint,
+            },
+            b"1 no savepoint\n",
+        ),
+        (
+            Reply::Refused {
+                s: Some(65535),
+                why: Refusal::TooManySavepoints,
+            },
+            b"65535 too many savepoints\n",
         ),
         (
             Reply::Refused {

@@ -1,5 +1,5 @@
 //! The table of sessions by hand: two sessions write and open cursors, and what a rollback of the one and a commit of
-//! the other leave of them.
+//! the other leave of them; and what a rollback to a savepoint does.
 ghost use Rattle.std.specs.Prelude.{◌≤◌};
 
 use rb_base::Xid;
@@ -73,11 +73,12 @@ fn written(early: &Name, late: &Name) -> Result<Sessions, Fail> {
     Ok(table)
 }
 
-/// A session with a transaction of that id and length, and so many cursors.
+/// A session with a transaction of that id and length, without savepoints, and so many cursors.
 fn session(own: Option<Xid>, length: u32, cursors: u8) -> Session {
     Session {
         own,
         length,
+        savepoints: 0,
         cursors,
     }
 }
@@ -121,5 +122,85 @@ fn one_commits(rt: HostRuntime) -> Result<(), Fail> {
     table.close_cursor(1, &early);
     assert_eq!(rt; table.cursor(1, &early), None);
     assert_eq!(rt; table.cursor(1, &late), Some(passed(given)));
+    Ok(())
+}
+
+/// Sets a savepoint of session `s`, where there is room for one of any name.
+fn set(table: &mut Sessions, s: u16, name: &Name) -> Result<(), Fail>
+    requires { (1 ≤ s) × (s ≤ 16) }
+{
+    if table.session(s).savepoints >= 16 {
+        return Err(Fail::new("no room"));
+    }
+    table.set_savepoint(s, name);
+    Ok(())
+}
+
+// Session 1 has a savepoint before its change and one behind it, which two changes more follow. Session 16 has its own.
+#[test]
+fn one_rolls_back_to_a_savepoint(rt: HostRuntime) -> Result<(), Fail> {
+    let (early, late) = (name(b"early")?, name(b"late")?);
+    let mut table = Sessions::new();
+    set(&mut table, 1, &early)?;
+    table.wrote(1, FIRST);
+    set(&mut table, 1, &late)?;
+    open(&mut table, 1, &early, seeing(Some(FIRST), 1))?;
+    table.wrote(1, FIRST);
+    open(&mut table, 1, &late, seeing(Some(FIRST), 2))?;
+    table.wrote(1, FIRST);
+    table.wrote(16, LAST);
+    set(&mut table, 16, &late)?;
+    let marked = |length, savepoints, cursors| Session {
+        savepoints,
+        ..session(Some(FIRST), length, cursors)
+    };
+    assert_eq!(rt; table.session(1), marked(3, 2, 2));
+    assert_eq!(rt;
+        (table.savepoint(1, &early), table.savepoint(1, &late)),
+        (Some(0), Some(1))
+    );
+    table.rollback_to(1, &late);
+    assert_eq!(rt; table.session(1), marked(1, 2, 1));
+    assert_eq!(rt; table.cursor(1, &early), Some(seeing(Some(FIRST), 1)));
+    assert_eq!(rt; table.cursor(1, &late), None);
+    // Set again, the early one is the later of both.
+    table.wrote(1, FIRST);
+    set(&mut table, 1, &early)?;
+    assert_eq!(rt;
+        (table.session(1), table.savepoint(1, &early)),
+        (marked(2, 2, 1), Some(2))
+    );
+    table.rollback_to(1, &late);
+    assert_eq!(rt;
+        (table.session(1), table.savepoint(1, &early)),
+        (marked(1, 1, 1), None)
+    );
+    // A name that isn't set changes nothing.
+    table.rollback_to(1, &early);
+    assert_eq!(rt; table.session(1), marked(1, 1, 1));
+    assert_eq!(rt; table.owner(FIRST), Some(1));
+    table.commit(1);
+    assert_eq!(rt; table.session(1), session(None, 0, 1));
+    assert_eq!(rt; table.savepoint(16, &late), Some(1));
+    Ok(())
+}
+
+// Back at a savepoint before its first change, a transaction is left with its id.
+#[test]
+fn nothing_is_left_but_the_transaction(rt: HostRuntime) -> Result<(), Fail> {
+    let first = name(b"first")?;
+    let mut table = Sessions::new();
+    set(&mut table, 1, &first)?;
+    table.wrote(1, FIRST);
+    table.rollback_to(1, &first);
+    let left = Session {
+        savepoints: 1,
+        ..session(Some(FIRST), 0, 0)
+    };
+    assert_eq!(rt; table.session(1), left);
+    assert_eq!(rt; table.owner(FIRST), Some(1));
+    table.rollback(1);
+    assert_eq!(rt; table.session(1), session(None, 0, 0));
+    assert_eq!(rt; table.savepoint(1, &first), None);
     Ok(())
 }

@@ -17,6 +17,15 @@ pub fn replies_of(alloc: Global, dialogue: &[u8]) -> Result<Vec<u8>, NoMemory> {
     Ok(replies)
 }
 
+/// So many times the same piece.
+pub fn repeated(alloc: Global, piece: &[u8], count: usize) -> Result<Vec<u8>, NoMemory> {
+    let mut bytes = Vec::new(alloc);
+    for _ in 0..count {
+        bytes.extend_from_slice(piece).map_err(|_| NoMemory)?;
+    }
+    Ok(bytes)
+}
+
 /// Runs a dialogue over a file of these bytes, and checks that it is done and that the program gives just its replies.
 /// The disk is as the run leaves it.
 pub fn check(

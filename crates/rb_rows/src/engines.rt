@@ -25,8 +25,11 @@ const SLOTS: u32 = 64;
 #[derive(Clone, Copy, Debug)]
 enum Call<'a> {
     Write(u16, u16, u64, Op<'a>),
+    Lock(u16, u16, u64),
     Commit(u16),
     Rollback(u16),
+    Savepoint(u16, &'a [u8]),
+    RollbackTo(u16, &'a [u8]),
     Open(u16, &'a [u8], u16, u64, u64),
     Fetch(u16, &'a [u8]),
     Close(u16, &'a [u8]),
@@ -46,7 +49,7 @@ enum Answer<'a> {
     /// How many records were made, and the greatest commit number of which something was given up.
     Marked(u64, u64),
     Refused(Refusal),
-    /// The call has no name of a cursor.
+    /// The call has no name of a savepoint or cursor.
     Nameless,
     /// The store has no segment.
     NoSegment,
@@ -99,8 +102,17 @@ fn answer_of_marks(answer: Result<Marks, Refusal>) -> Answer<'static> {
 fn called<'a, S: Store>(engine: &mut Engine<S>, call: Call<'_>, row: &'a mut Row) -> Answer<'a> {
     match call {
         Call::Write(s, table, key, op) => answer_of_write(engine.write(s, table, key, op)),
+        Call::Lock(s, table, key) => answer_of_write(engine.lock(s, table, key)),
         Call::Commit(s) => answer_of_commit(engine.commit(s)),
         Call::Rollback(s) => answer_of_call(engine.rollback(s)),
+        Call::Savepoint(s, name) => match Name::new(name) {
+            Some(name) => answer_of_call(engine.savepoint(s, &name)),
+            None => Answer::Nameless,
+        },
+        Call::RollbackTo(s, name) => match Name::new(name) {
+            Some(name) => answer_of_call(engine.rollback_to(s, &name)),
+            None => Answer::Nameless,
+        },
         Call::Open(s, name, table, lo, hi) => match Name::new(name) {
             Some(name) => answer_of_call(engine.open_cursor(s, &name, table, lo, hi)),
             None => Answer::Nameless,
@@ -388,6 +400,72 @@ fn one_list_of_rollbacks(rt: HostRuntime) -> Result<(), Fail> {
     Ok(())
 }
 
+// A rollback to a savepoint puts back the changes behind it, locks among them, and frees their keys. Without a change
+// left a transaction ends by a commit of no number.
+#[test]
+fn one_list_of_savepoints(rt: HostRuntime) -> Result<(), Fail> {
+    let rows: [(Call<'_>, Answer<'_>); 40] = [
+        (
+            Call::Savepoint(0, b"p"),
+            Answer::Refused(Refusal::NoSession),
+        ),
+        (
+            Call::RollbackTo(17, b"p"),
+            Answer::Refused(Refusal::NoSession),
+        ),
+        (Call::Lock(17, 1, 1), Answer::Refused(Refusal::NoSession)),
+        (Call::Lock(1, 3, 1), Answer::Refused(Refusal::NoTable)),
+        (Call::Lock(1, 1, 1), Answer::Refused(Refusal::NotFound)),
+        (
+            Call::RollbackTo(1, b"p"),
+            Answer::Refused(Refusal::NoSavepoint),
+        ),
+        (Call::Write(1, 1, 1, Op::Insert(b"a")), Answer::Done),
+        (Call::Write(1, 1, 2, Op::Insert(b"b")), Answer::Done),
+        (Call::Commit(1), Answer::Numbered(1)),
+        (Call::Lock(1, 1, 1), Answer::Done),
+        (Call::Savepoint(1, b"p"), Answer::Done),
+        (Call::Write(1, 1, 1, Op::Update(b"c")), Answer::Done),
+        (Call::Lock(1, 1, 2), Answer::Done),
+        (Call::Savepoint(1, b"q"), Answer::Done),
+        (Call::Open(1, b"own", 1, 0, 9), Answer::Done),
+        (Call::Lock(2, 1, 2), Answer::Waits(1)),
+        (Call::RollbackTo(1, b"p"), Answer::Done),
+        (
+            Call::RollbackTo(1, b"q"),
+            Answer::Refused(Refusal::NoSavepoint),
+        ),
+        (Call::Fetch(1, b"own"), Answer::Refused(Refusal::NoCursor)),
+        (Call::Savepoint(2, b"p"), Answer::Done),
+        (Call::Lock(2, 1, 1), Answer::Waits(1)),
+        (Call::Lock(2, 1, 2), Answer::Done),
+        (Call::Write(2, 1, 2, Op::Delete), Answer::Done),
+        (Call::Lock(2, 1, 2), Answer::Refused(Refusal::NotFound)),
+        (Call::RollbackTo(2, b"p"), Answer::Done),
+        (Call::Marks, Answer::Marked(7, 0)),
+        (Call::Commit(2), Answer::Done),
+        (
+            Call::RollbackTo(2, b"p"),
+            Answer::Refused(Refusal::NoSavepoint),
+        ),
+        (Call::RollbackTo(1, b"p"), Answer::Done),
+        (Call::Commit(1), Answer::Numbered(2)),
+        (Call::Savepoint(1, b"p"), Answer::Done),
+        (Call::Checkpoint, Answer::Done),
+        (Call::Write(1, 1, 2, Op::Update(b"d")), Answer::Done),
+        (Call::RollbackTo(1, b"p"), Answer::Done),
+        (Call::Rollback(1), Answer::Done),
+        (Call::Open(1, b"own", 1, 0, 9), Answer::Done),
+        (Call::Fetch(1, b"own"), Answer::Given(2, b"b")),
+        (Call::Fetch(1, b"own"), Answer::Given(1, b"a")),
+        (Call::Fetch(1, b"own"), Answer::End),
+        (Call::Marks, Answer::Marked(8, 0)),
+    ];
+    let mut both = new_engines(rt.alloc())?;
+    check_all(&rt, &mut both, &rows);
+    Ok(())
+}
+
 // A home has sixteen keys, and a deleted one is in use until its commit.
 #[test]
 fn one_list_of_full_homes(rt: HostRuntime) -> Result<(), Fail> {
@@ -453,6 +531,37 @@ fn one_list_of_many_cursors(rt: HostRuntime) -> Result<(), Fail> {
     for name in b'a'..=b'p' {
         let open = Call::Open(1, &[name], 1, 0, 9);
         check(&rt, &mut both, open, Answer::Done);
+    }
+    check_all(&rt, &mut both, &rows);
+    Ok(())
+}
+
+// A savepoint of a name that stands is set again though sixteen stand. It is the latest then.
+#[test]
+fn one_list_of_many_savepoints(rt: HostRuntime) -> Result<(), Fail> {
+    let rows: [(Call<'_>, Answer<'_>); 8] = [
+        (
+            Call::Savepoint(1, b"q"),
+            Answer::Refused(Refusal::TooManySavepoints),
+        ),
+        (Call::Savepoint(1, b"c"), Answer::Done),
+        (Call::Savepoint(2, b"q"), Answer::Done),
+        (Call::RollbackTo(1, b"p"), Answer::Done),
+        (
+            Call::RollbackTo(1, b"c"),
+            Answer::Refused(Refusal::NoSavepoint),
+        ),
+        (Call::Savepoint(1, b"q"), Answer::Done),
+        (Call::RollbackTo(1, b"p"), Answer::Done),
+        (
+            Call::RollbackTo(1, b"q"),
+            Answer::Refused(Refusal::NoSavepoint),
+        ),
+    ];
+    let mut both = new_engines(rt.alloc())?;
+    for name in b'a'..=b'p' {
+        let set = Call::Savepoint(1, &[name]);
+        check(&rt, &mut both, set, Answer::Done);
     }
     check_all(&rt, &mut both, &rows);
     Ok(())

@@ -19,6 +19,8 @@ mod failures;
 #[cfg(test)]
 mod restarts;
 #[cfg(test)]
+mod savepoints;
+#[cfg(test)]
 mod stops;
 #[cfg(test)]
 mod stores;

@@ -1,11 +1,11 @@
 //! The tables of stops: a crash after any call of the disk, in a run of five commits, in one in which a transaction is
-//! under way at nearly each call, and in one of two transactions beside a cursor.
+//! under way at nearly each call, in one of two transactions beside a cursor, and in one of rollbacks to savepoints.
 use crate::commits::five_commits;
 use crate::doubles::{
     FORMAT_SMALL, FORMAT_STOPS, NONE, RUN, formatted, opened, run_over, run_stopped,
 };
 use crate::stories::{PICKS, Story, check_left};
-use crate::under_way::{four_transactions, two_sessions};
+use crate::under_way::{four_transactions, savepoints, two_sessions};
 use rb_base::NoMemory;
 use rb_memdisk::Pick;
 use rb_shell::Status;
@@ -64,6 +64,14 @@ fn stops_under_way(rt: HostRuntime) -> Result<(), Fail> {
 fn stops_of_two_sessions(rt: HostRuntime) -> Result<(), Fail> {
     let file = formatted(rt.alloc(), FORMAT_SMALL)?;
     let story = two_sessions(rt.alloc())?;
+    check_stops(&rt, rt.alloc(), &story, &file, &PICKS)?;
+    Ok(())
+}
+
+#[test]
+fn stops_of_savepoints(rt: HostRuntime) -> Result<(), Fail> {
+    let file = formatted(rt.alloc(), FORMAT_SMALL)?;
+    let story = savepoints(rt.alloc())?;
     check_stops(&rt, rt.alloc(), &story, &file, &PICKS)?;
     Ok(())
 }

@@ -1,6 +1,6 @@
 //! The worked rows: dialogues, and what a run leaves for the next one. What is expected stands in the rows, and is no
 //! output of the program.
-use crate::dialogues::{check, check_each, replies_of};
+use crate::dialogues::{check, check_each, repeated, replies_of};
 use crate::doubles::{FORMAT_LARGE, FORMAT_SMALL, Failing, NONE, RUN, formatted, run_over};
 use crate::stories::{PICKS, image};
 use rb_base::NoMemory;
@@ -290,7 +290,7 @@ fn line_bounds(rt: HostRuntime) -> Result<(), Fail> {
 // Refusals, over a fresh file each.
 #[test]
 fn refusals(rt: HostRuntime) -> Result<(), Fail> {
-    let rows: [(&str, &[u8]); 3] = [
+    let rows: [(&str, &[u8]); 2] = [
         (
             "sessions and tables",
             b"\
@@ -349,49 +349,11 @@ insert 1 1 1 b
 #> 1 duplicate
 ",
         ),
-        ("sixteen cursors", SEVENTEEN_CURSORS),
     ];
     let file = formatted(rt.alloc(), FORMAT_SMALL)?;
     check_each(&rt, rt.alloc(), &file, &rows)?;
     Ok(())
 }
-
-const SEVENTEEN_CURSORS: &[u8] = b"\
-open 1 a 1 0 9
-#> 1 ok
-open 1 b 1 0 9
-#> 1 ok
-open 1 c 1 0 9
-#> 1 ok
-open 1 d 1 0 9
-#> 1 ok
-open 1 e 1 0 9
-#> 1 ok
-open 1 f 1 0 9
-#> 1 ok
-open 1 g 1 0 9
-#> 1 ok
-open 1 h 1 0 9
-#> 1 ok
-open 1 i 1 0 9
-#> 1 ok
-open 1 j 1 0 9
-#> 1 ok
-open 1 k 1 0 9
-#> 1 ok
-open 1 l 1 0 9
-#> 1 ok
-open 1 m 1 0 9
-#> 1 ok
-open 1 n 1 0 9
-#> 1 ok
-open 1 o 1 0 9
-#> 1 ok
-open 1 p 1 0 9
-#> 1 ok
-open 1 q 1 0 9
-#> 1 too many cursors
-";
 
 // Each line is a bad one.
 const BAD_LINES: &[u8] = b"\
@@ -408,6 +370,10 @@ checkpoint 1
 rollback
 rollback 1 \x20
 rollback 01
+rollback 1 A
+rollback 1 a b
+rollback 1 abcdefghijklmnopq
+rollback 65536 a
 commit 65536
 \r\r
 \x20
@@ -423,10 +389,16 @@ fetch 1 c 1000001
 fetch 1 c 00
 open 1 c 1 0
 lock 1 1 1 a
+lock 1 1
+lock 1 1 01
+LOCK 1 1 1
 delete 1 1 1 a
 insert 1 1 1 a\0
 commit 1\0
 savepoint 1\x20
+savepoint 1
+savepoint 1 a b
+savepoint 01 a
 apply 1
 fetch 1 c 01
 update 1 1 1
@@ -448,6 +420,16 @@ open 1 _0 1 0 9
 #> 1 ok
 fetch 1 c 1000000
 #> 1 no cursor
+savepoint 1 abcdefghijklmnop
+#> 1 ok
+savepoint 1 _0
+#> 1 ok
+rollback 1 0
+#> 1 no savepoint
+rollback 1 abcdefghijklmnop
+#> 1 ok
+lock 1 1 18446744073709551615
+#> 1 not found
 ";
 
 #[test]
@@ -461,14 +443,6 @@ fn bad_lines(rt: HostRuntime) -> Result<(), Fail> {
     let _ = check(&rt, rt.alloc(), "bad lines", &file, &dialogue)?;
     let _ = check(&rt, rt.alloc(), "other lines", &file, OTHER_LINES)?;
     Ok(())
-}
-
-fn repeated(alloc: Global, piece: &[u8], count: usize) -> Result<Vec<u8>, NoMemory> {
-    let mut bytes = Vec::new(alloc);
-    for _ in 0..count {
-        bytes.extend_from_slice(piece).map_err(|_| NoMemory)?;
-    }
-    Ok(bytes)
 }
 
 // A line has at most 512 bytes, its CR among them. Here the reply stands above the line, which may have no end.

@@ -104,6 +104,63 @@ const TWO_LEFT: [(&str, u64, u64); 5] = [
 
 const BESIDE_ROWS: &str = "1 row 1 a\n1 row 2 b\n1 row 3 d\n";
 
+// A lock, and two changes behind a savepoint, are under way at a checkpoint. The changes are put back to it, and the
+// lock stays; so are all of another session, whose slot is left without a change. Both are so at a second checkpoint.
+// Then the first one changes its row and commits, the other ends without a number, and a third holds a row at the
+// end.
+const SAVEPOINTS: &str = "\
+insert 1 1 1 a
+#> 1 ok
+insert 1 1 2 b
+#> 1 ok
+commit 1
+#> 1 committed 1
+lock 1 1 1
+#> 1 ok
+savepoint 1 p
+#> 1 ok
+update 1 1 1 x
+#> 1 ok
+insert 1 1 3 c
+#> 1 ok
+checkpoint
+#> ok
+rollback 1 p
+#> 1 ok
+update 2 1 1 y
+#> 2 waits 1
+savepoint 2 q
+#> 2 ok
+delete 2 1 2
+#> 2 ok
+insert 2 1 3 y
+#> 2 ok
+rollback 2 q
+#> 2 ok
+checkpoint
+#> ok
+update 1 1 1 z
+#> 1 ok
+commit 1
+#> 1 committed 2
+commit 2
+#> 2 ok
+lock 3 1 2
+#> 3 ok
+";
+
+// The same after each flush: the commit, two checkpoints, the commit, and the end.
+const SAVEPOINTS_LEFT: [(&str, u64, u64); 6] = [
+    ("", 0, 1),
+    (FIRST_ROWS, 2, 2),
+    (FIRST_ROWS, 5, 2),
+    (FIRST_ROWS, 7, 2),
+    (CHANGED_ROWS, 8, 3),
+    (CHANGED_ROWS, 9, 3),
+];
+
+const CHANGED_ROWS: &str = "1 row 1 z\n1 row 2 b\n";
+
 // A transaction of more changes than one run of the log has, whose records lie in two extents: 40 and 1.
 const LONG: usize = 41;
 
@@ -157,6 +214,12 @@ pub fn four_transactions(alloc: Global) -> Result<Story, NoMemory> {
 pub fn two_sessions(alloc: Global) -> Result<Story, NoMemory> {
     let script = String::from_str(alloc, TWO_SESSIONS).map_err(|_| NoMemory)?;
     story_of(alloc, script, &TWO_LEFT)
+}
+
+/// Two sessions that roll back to a savepoint, behind which the one has a lock left and the other nothing.
+pub fn savepoints(alloc: Global) -> Result<Story, NoMemory> {
+    let script = String::from_str(alloc, SAVEPOINTS).map_err(|_| NoMemory)?;
+    story_of(alloc, script, &SAVEPOINTS_LEFT)
 }
 
 /// One transaction that takes two runs of the log and two extents, and is under way at the end.

@@ -1,5 +1,5 @@
 -- Fields with a space before each are one text in one way only, and what the front of such a text leaves open.
-use Rattle.std.proofs.Common.{◌≡◌, ℕ, true, not, List, [], ◌∷◌, ◌++◌, map, refl, ap, sym, subst, ◌∙◌, append-nil, drop, arith}
+use Rattle.std.proofs.Common.{◌≡◌, ℕ, suc, true, not, List, [], ◌∷◌, ◌++◌, length, map, refl, ap, sym, subst, ◌∙◌, append-nil, drop, arith}
 use Rattle.std.specs.Prelude.{◌==◌, ◌&&◌, nat_le}
 use Rattle.std.specs.List.{list_all, AllByRecursion}
 use Rattle.std.proofs.lemmas.Bool.Decides.{nat_tests}
@@ -80,6 +80,15 @@ same_field f g same p q e =
     let held = same_held (field_kind f) (number_in f) (number_in g) (bytes_in f) (bytes_in g)
     (subst IsField (sym (same_again f)) p) (subst IsField (sym again) q) (ap field_text (same_again f) ∙ (e ∙ sym (ap field_text again))) in
     sym (same_again f) ∙ (held ∙ again)
+
+-- one text has as many fields, however it is read
+pub same_count : (fields others : List Field) → AllByRecursion IsField fields → AllByRecursion IsField others → fields_text fields ≡ fields_text others → length fields ≡ length others
+same_count [] [] p q e = refl
+same_count [] (g ∷ others) p q e = absurd (cc)
+same_count (f ∷ fields) [] p q e = absurd (cc)
+same_count (f ∷ fields) (g ∷ others) p q e =
+    let k = same_front (field_text f) (field_text g) (fields_text fields) (fields_text others) (field_is_word f p.0) (field_is_word g q.0) (fields_tail fields) (fields_tail others) (ap (drop 1) e) in
+    ap suc (same_count fields others p.1 q.1 k.1)
 
 pub same_fields : (fields others : List Field) → map field_kind fields ≡ map field_kind others → AllByRecursion IsField fields → AllByRecursion IsField others
     → fields_text fields ≡ fields_text others → fields ≡ others

@@ -1,9 +1,9 @@
 -- No two commands have one spelling, and what a line lacks that spells none.
-use Rattle.std.proofs.Common.{◌≡◌, ℕ, Bool, true, false, List, [], ◌∷◌, ◌++◌, map, refl, sym, ap, ◌∙◌, arith}
-use Rattle.rb_model.specs.Lines.{Command, Word, MarksWord, CheckpointWord, word_text, word_of, fields_of, fields_text, spelling, IsCommand, SpellsNone}
+use Rattle.std.proofs.Common.{◌≡◌, ℕ, Bool, true, false, List, [], ◌∷◌, ◌++◌, length, map, refl, sym, ap, ◌∙◌, arith}
+use Rattle.rb_model.specs.Lines.{Command, Word, RollbackWord, MarksWord, CheckpointWord, word_text, word_of, fields_of, fields_text, spelling, IsCommand, SpellsNone}
 use Rattle.rb_script.specs.Words.{is_word, field_kind, NoFields}
 use Rattle.rb_script.proofs.Spaced.{is_tail, same_front}
-use Rattle.rb_script.proofs.Fields.{fields_tail, same_fields}
+use Rattle.rb_script.proofs.Fields.{fields_tail, same_count, same_fields}
 
 -- a word has no space
 word_is_word : (w : Word) → is_word (word_text w) ≡ true
@@ -12,9 +12,17 @@ word_is_word w = grind arith
 same_word : (v w : Word) → word_text v ≡ word_text w → v ≡ w
 same_word v w e = grind arith
 
--- commands of one word have fields of the same kinds
-same_kinds : (a b : Command) → word_of a ≡ word_of b → map field_kind (fields_of a) ≡ map field_kind (fields_of b)
-same_kinds a b e = grind arith
+-- commands of one word that have as many fields have fields of the same kinds
+same_kinds : (a b : Command) → word_of a ≡ word_of b → length (fields_of a) ≡ length (fields_of b) → map field_kind (fields_of a) ≡ map field_kind (fields_of b)
+same_kinds a b e count = grind arith
+
+-- all commands of the word have as many fields
+abbrev pub has_one_form : Word → Bool
+has_one_form RollbackWord = false
+has_one_form _ = true
+
+same_form : (a b : Command) → word_of a ≡ word_of b → has_one_form (word_of b) ≡ true → length (fields_of a) ≡ length (fields_of b)
+same_form a b e one = grind arith
 
 same_command : (a b : Command) → word_of a ≡ word_of b → fields_of a ≡ fields_of b → a ≡ b
 same_command a b e f = grind arith
@@ -28,13 +36,14 @@ front_and_rest w rest c tail e =
 pub spelling_injective : (a b : Command) → IsCommand a → IsCommand b → spelling a ≡ spelling b → a ≡ b
 spelling_injective a b p q e =
     let k = front_and_rest (word_of a) (fields_text (fields_of a)) b (fields_tail (fields_of a)) e in
-    same_command a b k.0 (same_fields (fields_of a) (fields_of b) (same_kinds a b k.0) p q k.1)
+    let count = same_count (fields_of a) (fields_of b) p q k.1 in
+    same_command a b k.0 (same_fields (fields_of a) (fields_of b) (same_kinds a b k.0 count) p q k.1)
 
 -- a line of this command's word without fields of such kinds
-pub no_fields : (like : Command) (rest : List ℕ) → NoFields (map field_kind (fields_of like)) (32 ∷ rest) → SpellsNone (word_text (word_of like) ++ 32 ∷ rest)
-no_fields like rest none c valid e =
+pub no_fields : (like : Command) (rest : List ℕ) → has_one_form (word_of like) ≡ true → NoFields (map field_kind (fields_of like)) (32 ∷ rest) → SpellsNone (word_text (word_of like) ++ 32 ∷ rest)
+no_fields like rest one none c valid e =
     let k = front_and_rest (word_of like) (32 ∷ rest) c refl e in
-    none (fields_of c) (sym (same_kinds like c k.0)) valid k.1
+    none (fields_of c) (same_kinds c like (sym k.0) (same_form c like (sym k.0) one)) valid k.1
 
 -- the word is a line without fields
 abbrev pub stands_alone : Word → Bool

@@ -1,11 +1,20 @@
 -- Words of a line, and the kinds of its fields.
-use Rattle.std.specs.Prelude.{◌≡◌, ◌≢◌, ℕ, Bool, not, ◌==◌, List, [], ◌∷◌, map}
+use Rattle.std.specs.Prelude.{◌≡◌, ◌≢◌, ℕ, Bool, true, false, not, ◌==◌, List, [], ◌∷◌, map}
 use Rattle.std.specs.List.{list_all, AllByRecursion}
 use Rattle.rb_model.specs.Lines.{Field, Id, Key, Count, Named, Valued, IsField, fields_text}
+use Rattle.rb_model.specs.Lines.{Word, InsertWord, UpdateWord, DeleteWord, LockWord}
 
 -- no byte is a space
 abbrev pub is_word : List ℕ → Bool
 is_word text = list_all (λ b. not (b == 32)) text
+
+-- the word is that of a command that names a key
+abbrev pub names_key : Word → Bool
+names_key InsertWord = true
+names_key UpdateWord = true
+names_key DeleteWord = true
+names_key LockWord = true
+names_key _ = false
 
 -- a field without what it holds
 pub data FieldKind : Type 0 where
@@ -34,3 +43,17 @@ row_fields s t k value = Id s ∷ Id t ∷ Key k ∷ Valued value ∷ []
 
 abbrev pub row_kinds : List FieldKind
 row_kinds = IdKind ∷ IdKind ∷ KeyKind ∷ ValueKind ∷ []
+
+-- the fields of a write that has none
+abbrev pub key_fields : ℕ → ℕ → ℕ → List Field
+key_fields s t k = Id s ∷ Id t ∷ Key k ∷ []
+
+abbrev pub key_kinds : List FieldKind
+key_kinds = IdKind ∷ IdKind ∷ KeyKind ∷ []
+
+-- the fields of a call of a session that names a savepoint or a cursor, and nothing more
+abbrev pub name_fields : ℕ → List ℕ → List Field
+name_fields s name = Id s ∷ Named name ∷ []
+
+abbrev pub name_kinds : List FieldKind
+name_kinds = IdKind ∷ NameKind ∷ []

@@ -16,6 +16,12 @@ pub enum Command<'a> {
         k: u64,
         op: Op<'a>,
     },
+    /// `lock S T K`.
+    Lock {
+        s: u16,
+        t: u16,
+        k: u64,
+    },
     /// `commit S`.
     Commit {
         s: u16,
@@ -23,6 +29,16 @@ pub enum Command<'a> {
     /// `rollback S`.
     Rollback {
         s: u16,
+    },
+    /// `savepoint S NAME`.
+    Savepoint {
+        s: u16,
+        name: Name,
+    },
+    /// `rollback S NAME`.
+    RollbackTo {
+        s: u16,
+        name: Name,
     },
     /// `open S NAME T LO HI`.
     OpenCursor {

@@ -1,9 +1,11 @@
 //! Which command a line spells. The shell calls it for each line that is neither empty nor a remark.
-ghost use Rattle.std.specs.Prelude.{◌≡◌, ◌∷◌, ◌++◌, IfSome, IfNone, IsTrue, codes};
+ghost use Rattle.std.specs.Prelude.{◌≡◌, ◌∷◌, ◌++◌, IfSome, IfNone, IsTrue, codes, false};
 ghost use Rattle.std.specs.List.{AllByRecursion};
-ghost use Rattle.rb_model.specs.Lines.{Spells, SpellsNone, IsField, fields_text};
+ghost use Rattle.rb_model.specs.Lines.{Spells, SpellsNone, IsField, Word, fields_text, word_text};
+ghost use Rattle.rb_model.specs.Names.{name_text};
 ghost use Rattle.rb_script.specs.Commands.{command_of};
-ghost use Rattle.rb_script.specs.Words.{NoFields, is_word, row_fields, row_kinds};
+ghost use Rattle.rb_script.specs.Words.{NoFields, is_word, key_fields, key_kinds, name_fields, name_kinds};
+ghost use Rattle.rb_script.specs.Words.{names_key, row_fields, row_kinds};
 
 use crate::command::Command;
 use crate::words::{count_of, id_and_rest, id_of, is_visible, key_and_rest, name_and_rest, split};
@@ -23,6 +25,29 @@ fn write_of(fields: &[u8]) -> Option<(u16, u16, u64, &[u8])>
         return None;
     }
     Some((s, t, k, value))
+}
+
+// the session, the table and the key that these fields are
+fn key_of(fields: &[u8]) -> Option<(u16, u16, u64)>
+    ensures found { IfSome result (λ p. 32 ∷ fields.now ≡ fields_text (key_fields p.0 p.1 p.2)) }
+    ensures valid { IfSome result (λ p. AllByRecursion IsField (key_fields p.0 p.1 p.2)) }
+    ensures none { IfNone result (NoFields key_kinds (32 ∷ fields.now)) }
+{
+    let (s, fields) = id_and_rest(fields)?;
+    let (t, fields) = id_and_rest(fields)?;
+    let k = parse_decimal(fields)?;
+    Some((s, t, k))
+}
+
+// the session and the name that these fields are
+fn named_of(fields: &[u8]) -> Option<(u16, Name)>
+    ensures found { IfSome result (λ p. 32 ∷ fields.now ≡ fields_text (name_fields p.0 (name_text p.1))) }
+    ensures valid { IfSome result (λ p. AllByRecursion IsField (name_fields p.0 (name_text p.1))) }
+    ensures none { IfNone result (NoFields name_kinds (32 ∷ fields.now)) }
+{
+    let (s, fields) = id_and_rest(fields)?;
+    let name = Name::new(fields)?;
+    Some((s, name))
 }
 
 // the command of the line that is `insert`, a space and these fields
@@ -50,11 +75,18 @@ fn delete_of(fields: &[u8]) -> Option<Command<'_>>
     ensures found { IfSome result (λ command. Spells (codes "delete" ++ 32 ∷ fields.now) (command_of command)) }
     ensures none { IfNone result (SpellsNone (codes "delete" ++ 32 ∷ fields.now)) }
 {
-    let (s, fields) = id_and_rest(fields)?;
-    let (t, fields) = id_and_rest(fields)?;
-    let k = parse_decimal(fields)?;
+    let (s, t, k) = key_of(fields)?;
     let op = Op::Delete;
     Some(Command::Write { s, t, k, op })
+}
+
+// the command of the line that is `lock`, a space and these fields
+fn lock_of(fields: &[u8]) -> Option<Command<'_>>
+    ensures found { IfSome result (λ command. Spells (codes "lock" ++ 32 ∷ fields.now) (command_of command)) }
+    ensures none { IfNone result (SpellsNone (codes "lock" ++ 32 ∷ fields.now)) }
+{
+    let (s, t, k) = key_of(fields)?;
+    Some(Command::Lock { s, t, k })
 }
 
 // the command of the line that is `commit`, a space and these fields
@@ -71,8 +103,20 @@ fn rollback_of(fields: &[u8]) -> Option<Command<'_>>
     ensures found { IfSome result (λ command. Spells (codes "rollback" ++ 32 ∷ fields.now) (command_of command)) }
     ensures none { IfNone result (SpellsNone (codes "rollback" ++ 32 ∷ fields.now)) }
 {
-    let s = id_of(fields)?;
-    Some(Command::Rollback { s })
+    if let Some(s) = id_of(fields) {
+        return Some(Command::Rollback { s });
+    }
+    let (s, name) = named_of(fields)?;
+    Some(Command::RollbackTo { s, name })
+}
+
+// the command of the line that is `savepoint`, a space and these fields
+fn savepoint_of(fields: &[u8]) -> Option<Command<'_>>
+    ensures found { IfSome result (λ command. Spells (codes "savepoint" ++ 32 ∷ fields.now) (command_of command)) }
+    ensures none { IfNone result (SpellsNone (codes "savepoint" ++ 32 ∷ fields.now)) }
+{
+    let (s, name) = named_of(fields)?;
+    Some(Command::Savepoint { s, name })
 }
 
 // the command of the line that is `open`, a space and these fields
@@ -104,8 +148,7 @@ fn close_of(fields: &[u8]) -> Option<Command<'_>>
     ensures found { IfSome result (λ command. Spells (codes "close" ++ 32 ∷ fields.now) (command_of command)) }
     ensures none { IfNone result (SpellsNone (codes "close" ++ 32 ∷ fields.now)) }
 {
-    let (s, fields) = id_and_rest(fields)?;
-    let name = Name::new(fields)?;
+    let (s, name) = named_of(fields)?;
     Some(Command::CloseCursor { s, name })
 }
 
@@ -120,6 +163,34 @@ fn command_alone(word: &[u8]) -> Option<Command<'_>>
     }
     if word == b"checkpoint".as_slice() {
         return Some(Command::Checkpoint);
+    }
+    None
+}
+
+// the command of the line that is this word, a space and these fields, where the word is none of a key's
+fn command_of_session<'a>(word: &[u8], fields: &'a [u8]) -> Option<Command<'a>>
+    requires word { IsTrue (is_word word.now) }
+    requires other { (w : Word) → word.now ≡ word_text w → names_key w ≡ false }
+    ensures found { IfSome result (λ command. Spells (word.now ++ 32 ∷ fields.now) (command_of command)) }
+    ensures none { IfNone result (SpellsNone (word.now ++ 32 ∷ fields.now)) }
+{
+    if word == b"commit".as_slice() {
+        return commit_of(fields);
+    }
+    if word == b"rollback".as_slice() {
+        return rollback_of(fields);
+    }
+    if word == b"savepoint".as_slice() {
+        return savepoint_of(fields);
+    }
+    if word == b"open".as_slice() {
+        return open_of(fields);
+    }
+    if word == b"fetch".as_slice() {
+        return fetch_of(fields);
+    }
+    if word == b"close".as_slice() {
+        return close_of(fields);
     }
     None
 }
@@ -141,20 +212,8 @@ pub fn parse(line: &[u8]) -> Option<Command<'_>>
     if word == b"delete".as_slice() {
         return delete_of(fields);
     }
-    if word == b"commit".as_slice() {
-        return commit_of(fields);
+    if word == b"lock".as_slice() {
+        return lock_of(fields);
     }
-    if word == b"rollback".as_slice() {
-        return rollback_of(fields);
-    }
-    if word == b"open".as_slice() {
-        return open_of(fields);
-    }
-    if word == b"fetch".as_slice() {
-        return fetch_of(fields);
-    }
-    if word == b"close".as_slice() {
-        return close_of(fields);
-    }
-    None
+    command_of_session(word, fields)
 }

@@ -1,2 +1,4 @@
 pub mod Cursors
+pub mod Places
+pub mod Savepoints
 pub mod Table

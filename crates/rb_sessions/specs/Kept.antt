@@ -3,31 +3,43 @@ use Rattle.std.specs.Prelude.{ℕ, ◌+◌, ◌-◌, ◌^◌, false, not, ◌&&�
 use Rattle.std.specs.Prelude.{List, [], ◌∷◌, ◌++◌, map, filter, get_or, set, Option, None, Some}
 use Rattle.std.specs.Str.{bytes_eq}
 use Rattle.rb_base.specs.declared.ids.Xid.{Xid}
+use Rattle.rb_model.specs.NextState as machine
+use Rattle.rb_model.specs.State.{Savepoint}
 use Rattle.rb_sessions.specs.declared.cursor.Cursor.{Cursor}
-use Rattle.rb_sessions.specs.declared.cursor.Named.{Named}
 use Rattle.rb_sessions.specs.declared.entry.Entry.{Entry}
+use Rattle.rb_sessions.specs.declared.named.Named.{Named}
+use Rattle.rb_sessions.specs.declared.savepoint.Mark.{Mark}
 
 -- a cursor under its name
 pub record KeptCursor : Type 0 where
   pub name : List ℕ
   pub cursor : Cursor
 
--- a session: the id of its transaction, where that has a table slot, how many live changes that has, and the open
--- cursors in order of opening
+-- a session: the id of its transaction, where that has a table slot, how many live changes that has, its savepoints in
+-- order of setting, and the open cursors in order of opening
 pub record KeptSession : Type 0 where
   pub own : Option Xid
   pub count : ℕ
+  pub savepoints : List Savepoint
   pub cursors : List KeptCursor
 
-abbrev pub cursor_view : Named → KeptCursor
-cursor_view n = record { name = n.name.items; cursor = n.cursor }
+abbrev pub cursor_view : Named Cursor → KeptCursor
+cursor_view n = record { name = n.name.items; cursor = n.value }
+
+abbrev pub savepoint_view : Named Mark → Savepoint
+savepoint_view n = record { name = n.name.items; kept = n.value.kept }
 
 abbrev pub session_view : Entry → KeptSession
-session_view e = record { own = e.own; count = e.count; cursors = map cursor_view e.cursors.items }
+session_view e = record {
+  own = e.own;
+  count = e.count;
+  savepoints = map savepoint_view e.savepoints.items;
+  cursors = map cursor_view e.cursors.items;
+}
 
 -- a session without a transaction and without a cursor
 abbrev pub fresh : KeptSession
-fresh = record { own = None; count = 0; cursors = [] }
+fresh = record { own = None; count = 0; savepoints = []; cursors = [] }
 
 -- the session of a number, from 1 on
 abbrev pub kept_at : List KeptSession → ℕ → KeptSession
@@ -49,15 +61,37 @@ passed c = record c { cursor = record c.cursor { present = false } }
 abbrev pub left_open : ℕ → List KeptCursor → List KeptCursor
 left_open kept cursors = filter (λ c. not (c.cursor.present && nat_lt kept c.cursor.upto)) cursors
 
--- without a transaction, with these cursors, which are of no present one
+-- without a transaction and savepoints, with these cursors, which are of no present one
 abbrev pub ended : List KeptCursor → KeptSession
-ended cursors = record { own = None; count = 0; cursors = map passed cursors }
+ended cursors = record { own = None; count = 0; savepoints = []; cursors = map passed cursors }
 
 abbrev pub committed : KeptSession → KeptSession
 committed k = ended k.cursors
 
 abbrev pub rolled_back : KeptSession → KeptSession
 rolled_back k = ended (left_open 0 k.cursors)
+
+-- a savepoint of that name set now
+abbrev pub with_savepoint : List ℕ → KeptSession → KeptSession
+with_savepoint name k = record k { savepoints = machine.with_savepoint name k.count k.savepoints }
+
+-- how many changes a savepoint keeps
+abbrev pub kept_by : Option Savepoint → Option ℕ
+kept_by None = None
+kept_by (Some p) = Some p.kept
+
+-- with the changes up to the savepoint of that name, which keeps so many
+abbrev pub rolled_to : List ℕ → ℕ → KeptSession → KeptSession
+rolled_to name kept k = record k {
+  count = min k.count kept;
+  savepoints = machine.up_to name k.savepoints;
+  cursors = left_open kept k.cursors;
+}
+
+-- back at a savepoint of that name, where there is one
+abbrev pub back_at : List ℕ → Option Savepoint → KeptSession → KeptSession
+back_at name None k = k
+back_at name (Some p) k = rolled_to name p.kept k
 
 abbrev pub with_cursors : KeptSession → List KeptCursor → KeptSession
 with_cursors k cursors = record k { cursors = cursors }

@@ -1,5 +1,4 @@
 //! A cursor as it lies in memory. The engine reads by it, and a session keeps up to sixteen, each under a name.
-use arrayvec::ArrayVec;
 use rb_base::{Scn, Xid};
 
 /// The most cursors of a session that are open.
@@ -25,11 +24,4 @@ pub struct Cursor {
     pub last: Option<u64>,
     /// Whether it was opened in the present transaction.
     pub present: bool,
-}
-
-/// A cursor under its name.
-#[derive(Debug, Default, Drop)]
-pub(crate) struct Named {
-    pub name: ArrayVec<u8, 16>,
-    pub cursor: Cursor,
 }

@@ -1,12 +1,14 @@
 //! One session in the table: what is told of it, and how each call changes it. `Sessions` keeps sixteen.
 ghost use Rattle.std.specs.Prelude.{◌≡◌, ◌<◌, length, map};
-ghost use Rattle.std.specs.List.{position};
-ghost use Rattle.std.specs.Str.{bytes_eq};
+ghost use Rattle.rb_model.specs.Calls.{without_savepoint};
 ghost use Rattle.rb_model.specs.Names.{name_text};
+ghost use Rattle.rb_model.specs.State.{savepoint_named};
 ghost use Rattle.rb_sessions.specs.Kept as kept;
-ghost use Rattle.rb_sessions.specs.Kept.{cursor_view, session_view};
+ghost use Rattle.rb_sessions.specs.Kept.{cursor_view, savepoint_view, session_view};
 
-use crate::cursor::{CURSORS, Cursor, Named};
+use crate::cursor::{CURSORS, Cursor};
+use crate::named::{Named, position_of};
+use crate::savepoint::{Mark, SAVEPOINTS};
 use arrayvec::ArrayVec;
 use rb_base::{Xid, array_of};
 use rb_model::Name;
@@ -18,6 +20,8 @@ pub struct Session {
     pub own: Option<Xid>,
     /// How many live changes its transaction has, up to 2^32 - 1.
     pub length: u32,
+    /// How many savepoints its transaction has, up to 16.
+    pub savepoints: u8,
     /// How many cursors it has open, up to 16.
     pub cursors: u8,
 }
@@ -27,41 +31,41 @@ pub struct Session {
 pub(crate) struct Entry {
     pub own: Option<Xid>,
     pub count: u32,
-    pub cursors: ArrayVec<Named, CURSORS>,
-}
-
-/// The place of the first cursor of a name.
-fn position_of(cursors: &[Named], name: &[u8]) -> Option<usize>
-    ensures { result ≡ position (λ n. bytes_eq n.name.items name.now) cursors.now }
-{
-    cursors
-        .iter()
-        .position(|named| named.name.as_slice() == name)
+    pub savepoints: ArrayVec<Named<Mark>, SAVEPOINTS>,
+    pub cursors: ArrayVec<Named<Cursor>, CURSORS>,
 }
 
 /// Notes the key of the last row that the first cursor of a name gave.
-fn mark_given(cursors: &mut [Named], name: &[u8], key: u64)
+fn mark_given(cursors: &mut [Named<Cursor>], name: &[u8], key: u64)
     ensures { map cursor_view cursors.new ≡ kept.with_last name.now key (map cursor_view cursors.old) }
 {
     if let Some(place) = position_of(cursors, name) {
-        cursors[place].cursor.last = Some(key);
+        cursors[place].value.last = Some(key);
     }
 }
 
 /// Notes that the transaction ends in which the cursors were opened.
-fn pass_all(cursors: &mut [Named])
+fn pass_all(cursors: &mut [Named<Cursor>])
     ensures { map cursor_view cursors.new ≡ map kept.passed (map cursor_view cursors.old) }
 {
     for named in cursors.iter_mut() {
-        named.cursor.present = false;
+        named.value.present = false;
     }
 }
 
 /// Closes the cursors of the present transaction that see more than its first `first` changes.
-fn close_seeing(cursors: &mut ArrayVec<Named, CURSORS>, first: u32)
+fn close_seeing(cursors: &mut ArrayVec<Named<Cursor>, CURSORS>, first: u32)
     ensures { map cursor_view cursors.new.items ≡ kept.left_open first (map cursor_view cursors.old.items) }
 {
-    cursors.retain(|named| !(named.cursor.present && first < named.cursor.upto));
+    cursors.retain(|named| !(named.value.present && first < named.value.upto));
+}
+
+/// Erases the savepoints of a name.
+fn erase(savepoints: &mut ArrayVec<Named<Mark>, SAVEPOINTS>, name: &[u8])
+    ensures { map savepoint_view savepoints.new.items
+        ≡ without_savepoint name.now (map savepoint_view savepoints.old.items) }
+{
+    savepoints.retain(|named| named.name.as_slice() != name);
 }
 
 impl Entry {
@@ -72,6 +76,7 @@ impl Entry {
         Entry {
             own: None,
             count: 0,
+            savepoints: ArrayVec::new(),
             cursors: ArrayVec::new(),
         }
     }
@@ -90,6 +95,7 @@ impl Entry {
     {
         self.own = None;
         self.count = 0;
+        self.savepoints.clear();
         pass_all(self.cursors.as_mut_slice());
     }
 
@@ -101,6 +107,45 @@ impl Entry {
         self.commit();
     }
 
+    /// Sets a savepoint behind the present changes, and erases an earlier one of that name. Fewer than sixteen of other
+    /// names stand.
+    pub fn set_savepoint(&mut self, name: &Name)
+        requires { length (without_savepoint (name_text name.now) (session_view self.old).savepoints) < SAVEPOINTS }
+        ensures { session_view self.new ≡ kept.with_savepoint (name_text name.now) (session_view self.old) }
+    {
+        erase(&mut self.savepoints, name.as_bytes());
+        self.savepoints.push(Named {
+            name: array_of(name.as_bytes()),
+            value: Mark { kept: self.count },
+        });
+    }
+
+    /// How many changes the savepoint of that name keeps, where it is set.
+    pub fn savepoint(&self, name: &Name) -> Option<u32>
+        ensures { result
+            ≡ kept.kept_by (savepoint_named (name_text name.now) (session_view self.now).savepoints) }
+    {
+        let savepoints = self.savepoints.as_slice();
+        let place = position_of(savepoints, name.as_bytes())?;
+        Some(savepoints[place].value.kept)
+    }
+
+    /// Notes that the changes behind the savepoint of that name are put back, if it is set: erases the later
+    /// savepoints, and closes the cursors that saw one of those changes.
+    pub fn rollback_to(&mut self, name: &Name)
+        ensures { session_view self.new ≡ kept.back_at (name_text name.now)
+            (savepoint_named (name_text name.now) (session_view self.old).savepoints) (session_view self.old) }
+    {
+        let savepoints = self.savepoints.as_slice();
+        let Some(place) = position_of(savepoints, name.as_bytes()) else {
+            return;
+        };
+        let kept = savepoints[place].value.kept;
+        self.savepoints.truncate(place + 1);
+        close_seeing(&mut self.cursors, kept);
+        self.count = self.count.min(kept);
+    }
+
     /// Adds a cursor under a name. Fewer than sixteen are open.
     pub fn open_cursor(&mut self, name: &Name, cursor: Cursor)
         requires { length self.old.cursors.items < CURSORS }
@@ -108,7 +153,7 @@ impl Entry {
     {
         self.cursors.push(Named {
             name: array_of(name.as_bytes()),
-            cursor,
+            value: cursor,
         });
     }
 
@@ -118,7 +163,7 @@ impl Entry {
     {
         let cursors = self.cursors.as_slice();
         let place = position_of(cursors, name.as_bytes())?;
-        Some(cursors[place].cursor)
+        Some(cursors[place].value)
     }
 
     /// Notes the key of the last row that the cursor of that name gave.

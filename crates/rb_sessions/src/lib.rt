@@ -1,11 +1,14 @@
-//! The table of sessions: what the engine keeps in memory of each one's transaction and cursors. It knows no block and
-//! no row; the engine notes here what it has done to the store.
+//! The table of sessions: what the engine keeps in memory of each one's transaction, savepoints and cursors. It knows
+//! no block and no row; the engine notes here what it has done to the store.
 #![tactic(auto)]
 
 mod cursor;
 mod entry;
+mod named;
+mod savepoint;
 mod sessions;
 
 pub use cursor::Cursor;
 pub use entry::Session;
+pub use savepoint::SAVEPOINTS;
 pub use sessions::{SESSIONS, Sessions};

@@ -1,12 +1,15 @@
 //! The table itself. The engine owns one, asks it who works in which transaction, and notes each call in it.
 ghost use Rattle.std.specs.Prelude.{◌≡◌, ◌≢◌, ◌≤◌, ◌<◌, ℕ, length, replicate};
 ghost use Rattle.std.specs.Prelude.{Some, IfSome, IfNone};
+ghost use Rattle.rb_model.specs.Calls.{without_savepoint};
 ghost use Rattle.rb_model.specs.Names.{name_text};
+ghost use Rattle.rb_model.specs.State.{savepoint_named};
 ghost use Rattle.rb_sessions.specs.Kept as kept;
 ghost use Rattle.rb_sessions.specs.Kept.{fresh, kept_at, with_kept};
 
 use crate::cursor::{CURSORS, Cursor};
 use crate::entry::{Entry, Session};
+use crate::savepoint::SAVEPOINTS;
 use rb_base::Xid;
 use rb_model::Name;
 use std::array;
@@ -45,12 +48,15 @@ impl Sessions {
         requires { (1 ≤ s) × (s ≤ SESSIONS) }
         ensures own { result.own ≡ (kept_at self.now s).own }
         ensures length { result.length ≡ (kept_at self.now s).count }
+        ensures savepoints { (result.savepoints ≡ length (kept_at self.now s).savepoints)
+            × (result.savepoints ≤ SAVEPOINTS) }
         ensures cursors { result.cursors ≡ length (kept_at self.now s).cursors }
     {
         let entry = &self.entries[s as usize - 1];
         Session {
             own: entry.own,
             length: entry.count,
+            savepoints: entry.savepoints.as_slice().len() as u8,
             cursors: entry.cursors.as_slice().len() as u8,
         }
     }
@@ -91,6 +97,34 @@ impl Sessions {
         ensures { self.new ≡ with_kept self.old s (kept.rolled_back (kept_at self.old s)) }
     {
         self.entries[s as usize - 1].rollback();
+    }
+
+    /// Sets a savepoint of session `s` behind its present changes. One of that name is moved there. Fewer than sixteen
+    /// of other names stand.
+    pub fn set_savepoint(&mut self, s: u16, name: &Name)
+        requires session { (1 ≤ s) × (s ≤ SESSIONS) }
+        requires room { length (without_savepoint (name_text name.now) (kept_at self.old s).savepoints) < SAVEPOINTS }
+        ensures { self.new ≡ with_kept self.old s (kept.with_savepoint (name_text name.now) (kept_at self.old s)) }
+    {
+        self.entries[s as usize - 1].set_savepoint(name);
+    }
+
+    /// How many changes the savepoint of that name keeps. None exactly where session `s` has no such one.
+    pub fn savepoint(&self, s: u16, name: &Name) -> Option<u32>
+        requires { (1 ≤ s) × (s ≤ SESSIONS) }
+        ensures { result ≡ kept.kept_by (savepoint_named (name_text name.now) (kept_at self.now s).savepoints) }
+    {
+        self.entries[s as usize - 1].savepoint(name)
+    }
+
+    /// Notes that the changes of session `s` behind the savepoint of that name are put back, if it is set. It erases
+    /// the later savepoints, and closes the cursors that saw one of those changes.
+    pub fn rollback_to(&mut self, s: u16, name: &Name)
+        requires { (1 ≤ s) × (s ≤ SESSIONS) }
+        ensures { self.new ≡ with_kept self.old s (kept.back_at (name_text name.now)
+            (savepoint_named (name_text name.now) (kept_at self.old s).savepoints) (kept_at self.old s)) }
+    {
+        self.entries[s as usize - 1].rollback_to(name);
     }
 
     /// Adds a cursor of session `s` under a name. Fewer than sixteen are open.

@@ -1,5 +1,5 @@
 -- What is left where a script's end makes last what waits.
-use Rattle.std.proofs.Common.{◌≡◌, ◌≢◌, ◌∙◌, ◌+◌, ℕ, Bool, true, false, List, [], Option, refl, sym, ap, subst, arith}
+use Rattle.std.proofs.Common.{◌≡◌, ◌≢◌, ◌∙◌, ℕ, false, [], Option, refl, sym, ap, subst, arith}
 use Rattle.std.proofs.lemmas.Bool.{false≢true}
 use Rattle.rb_base.specs.Logs.{Laws}
 use Rattle.rb_base.specs.declared.shape.Shape.{Shape}

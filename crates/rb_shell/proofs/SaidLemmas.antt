@@ -16,9 +16,9 @@ use Rattle.rb_model.specs.Answers.{answer_of}
 use Rattle.rb_model.specs.declared.answer.Answer as code
 use Rattle.rb_model.specs.declared.answer.Answer.TheVariants as answers
 use Rattle.rb_model.specs.declared.row.Row.{Row}
-use Rattle.rb_model.specs.Calls.{Action, Answer, Call, Write, Commit, Rollback, OpenCursor, Fetch, CloseCursor, Marks, Checkpoint, Done, Waits, Numbered, Given, End, Marked, Refused, Reply, early, later, cursor_tests, early_tests, failed_in, first_of, granted, is_fault, none_applies, waited, write_tests}
+use Rattle.rb_model.specs.Calls.{Action, Answer, Call, Write, Commit, Rollback, SetSavepoint, RollbackTo, OpenCursor, Fetch, CloseCursor, Marks, Checkpoint, Done, Waits, Numbered, Given, End, Marked, Refused, Reply, early, later, name_tests, early_tests, failed_in, first_of, granted, is_fault, none_applies, waited, write_tests}
 use Rattle.rb_model.specs.Calls as calls
-use Rattle.rb_model.specs.Lines.{Command, WriteLine, CommitLine, RollbackLine, OpenLine, FetchLine, CloseLine, MarksLine, CheckpointLine, call_of, caller, reply_text}
+use Rattle.rb_model.specs.Lines.{Command, WriteLine, CommitLine, RollbackLine, SavepointLine, RollbackToLine, OpenLine, FetchLine, CloseLine, MarksLine, CheckpointLine, call_of, caller, reply_text}
 use Rattle.rb_model.specs.NextState.{After, Grows, cursors_of, with_cursors, with_taken}
 use Rattle.rb_model.specs.Out.{Logged, room, CallOut, CallsOut, goes_on}
 use Rattle.rb_model.specs.State.{State, Session, Cursor, no_session}
@@ -30,20 +30,22 @@ use Rattle.rb_shell.specs.Steps.{Added, CalledOnce, Calls, Lost, Said, SaidAs, S
 -- a state and itself, and what differs by fetches
 
 pub itself : (m : Logged) → SameButCursors m m
-itself m = record { lsn = refl; shape = refl; commits = refl; books = refl; sessions = refl; own = λ s. refl; stopped = refl; fault = refl }
+itself m = record { lsn = refl; shape = refl; commits = refl; books = refl; sessions = refl; own = λ s. refl; savepoints = λ s. refl; stopped = refl; fault = refl }
 
 same_joined : (a b c : Logged) → SameButCursors a b → SameButCursors b c → SameButCursors a c
-same_joined a b c x y = record { lsn = x.lsn ∙ y.lsn; shape = x.shape ∙ y.shape; commits = x.commits ∙ y.commits; books = x.books ∙ y.books; sessions = x.sessions ∙ y.sessions; own = λ s. x.own s ∙ y.own s; stopped = x.stopped ∙ y.stopped; fault = x.fault ∙ y.fault }
+same_joined a b c x y = record { lsn = x.lsn ∙ y.lsn; shape = x.shape ∙ y.shape; commits = x.commits ∙ y.commits; books = x.books ∙ y.books; sessions = x.sessions ∙ y.sessions; own = λ s. x.own s ∙ y.own s; savepoints = λ s. x.savepoints s ∙ y.savepoints s; stopped = x.stopped ∙ y.stopped; fault = x.fault ∙ y.fault }
 
-own_stays : (sessions : List Session) (i j : ℕ) (d : Session) (cursors : List Cursor) → (get_or (set sessions i (record { own = (get_or sessions i d).own; cursors = cursors })) j d).own ≡ (get_or sessions j d).own
-own_stays [] i j d cursors = refl
-own_stays (x ∷ sessions) zero zero d cursors = refl
-own_stays (x ∷ sessions) zero (suc j) d cursors = refl
-own_stays (x ∷ sessions) (suc i) zero d cursors = refl
-own_stays (x ∷ sessions) (suc i) (suc j) d cursors = own_stays sessions i j d cursors
+-- what a session has beside its cursors stays as these change
+stays : {A : Type 0} (f : Session → A) (sessions : List Session) (i j : ℕ) (d : Session) (cursors : List Cursor) → ((x : Session) → f (record x { cursors = cursors }) ≡ f x)
+    → f (get_or (set sessions i (record (get_or sessions i d) { cursors = cursors })) j d) ≡ f (get_or sessions j d)
+stays f [] i j d cursors same = refl
+stays f (x ∷ sessions) zero zero d cursors same = same x
+stays f (x ∷ sessions) zero (suc j) d cursors same = refl
+stays f (x ∷ sessions) (suc i) zero d cursors same = refl
+stays f (x ∷ sessions) (suc i) (suc j) d cursors same = stays f sessions i j d cursors same
 
 taken_same : (h : State) (f : Option Call) (s : ℕ) (name : List ℕ) (n : ℕ) → SameButCursors (record { state = with_cursors h s (with_taken name (cursors_of h s)); lsn = n; fault = f }) (record { state = h; lsn = n; fault = f })
-taken_same h f s name n = record { lsn = refl; shape = refl; commits = refl; books = refl; sessions = length-set h.sessions (s - 1) _; own = λ t. own_stays h.sessions (s - 1) (t - 1) no_session (with_taken name (cursors_of h s)); stopped = refl; fault = refl }
+taken_same h f s name n = record { lsn = refl; shape = refl; commits = refl; books = refl; sessions = length-set h.sessions (s - 1) _; own = λ t. stays (λ (x : Session). x.own) h.sessions (s - 1) (t - 1) no_session (with_taken name (cursors_of h s)) (λ x. refl); savepoints = λ t. stays (λ (x : Session). x.savepoints) h.sessions (s - 1) (t - 1) no_session (with_taken name (cursors_of h s)) (λ x. refl); stopped = refl; fault = refl }
 
 -- A state after a call that reads, whatever it answered but a fault, and no group that it gave.
 abbrev AfterRead : State → ℕ → Call → Answer → Type 0
@@ -82,23 +84,23 @@ record Answered (h : State) (n more : ℕ) (c : Call) : Type 0 where
   fine : is_fault answer ≡ false
   after : AfterRead h n c answer
 
-answered_by : (h : State) (n more : ℕ) (c : Call) → ((r : Answer) → none_applies (early_tests h c) ≡ true → r ≡ first_of (cursor_tests h c) (granted h c) → Reply h n more c r)
-    → ((r : Answer) → is_fault r ≡ false → AfterRead h n c r) → is_fault (first_of (cursor_tests h c) (granted h c)) ≡ false → Answered h n more c
+answered_by : (h : State) (n more : ℕ) (c : Call) → ((r : Answer) → none_applies (early_tests h c) ≡ true → r ≡ first_of (name_tests h c) (granted h c) → Reply h n more c r)
+    → ((r : Answer) → is_fault r ≡ false → AfterRead h n c r) → is_fault (first_of (name_tests h c) (granted h c)) ≡ false → Answered h n more c
 answered_by h n more c tested leaves fine = ⊎_elim
-    (λ yes. record { answer = first_of (cursor_tests h c) (granted h c); reply = tested _ yes refl; fine = fine; after = leaves _ fine })
+    (λ yes. record { answer = first_of (name_tests h c) (granted h c); reply = tested _ yes refl; fine = fine; after = leaves _ fine })
     (λ no. record { answer = first_of (early_tests h c) Done; reply = early no refl; fine = early_no_fault h c; after = leaves _ (early_no_fault h c) })
     (cases_Bool (none_applies (early_tests h c)))
 
-late_fine : (h : State) (c : Call) → is_fault (first_of (cursor_tests h c) (granted h c)) ≡ false
-late_fine h c = not-true (is_fault (first_of (cursor_tests h c) (granted h c))) (first_keeps (λ r. not (is_fault r)) (cursor_tests h c) (granted h c) (tests_fine h c) (granted_fine h c))
+late_fine : (h : State) (c : Call) → is_fault (first_of (name_tests h c) (granted h c)) ≡ false
+late_fine h c = not-true (is_fault (first_of (name_tests h c) (granted h c))) (first_keeps (λ r. not (is_fault r)) (name_tests h c) (granted h c) (tests_fine h c) (granted_fine h c))
   where
-    tests_fine : (h : State) (c : Call) → list_all (λ test. not (is_fault test.1)) (cursor_tests h c) ≡ true
+    tests_fine : (h : State) (c : Call) → list_all (λ test. not (is_fault test.1)) (name_tests h c) ≡ true
     tests_fine h c = grind arith
 
 answered : (h : State) (n more : ℕ) (c : Command) (k : ℕ) → Reads c → Answered h n more (call_of c k)
 answered h n more c k reading = ⊎_elim
-    (λ f. subst (λ (x : Command). Answered h n more (call_of x k)) (sym f.3) (answered_by h n more (Fetch f.0 f.1) (λ r yes is. later (cursor_tests h (Fetch f.0 f.1)) yes refl is) (λ r fine. after_fetch h n f.0 f.1 r fine) (late_fine h (Fetch f.0 f.1))))
-    (λ f. subst (λ (x : Command). Answered h n more (call_of x k)) (sym f) (answered_by h n more (Marks k) (λ r yes is. later (cursor_tests h (Marks k)) yes refl is) (λ r fine. after_marks h n k r fine) (late_fine h (Marks k))))
+    (λ f. subst (λ (x : Command). Answered h n more (call_of x k)) (sym f.3) (answered_by h n more (Fetch f.0 f.1) (λ r yes is. later (name_tests h (Fetch f.0 f.1)) yes refl is) (λ r fine. after_fetch h n f.0 f.1 r fine) (late_fine h (Fetch f.0 f.1))))
+    (λ f. subst (λ (x : Command). Answered h n more (call_of x k)) (sym f) (answered_by h n more (Marks k) (λ r yes is. later (name_tests h (Marks k)) yes refl is) (λ r fine. after_marks h n k r fine) (late_fine h (Marks k))))
     reading
 
 -- after an answer of each other command it makes no call more
@@ -119,10 +121,10 @@ write_ends h n more g i s table key action = not-true (goes_on (first_of (write_
     tests_end : (o : Option ℕ) → list_all (λ test. not (goes_on test.1)) (write_tests h n more g i s table key action) ≡ true
     tests_end o = grind (arith, waited_ends)
 
-cursor_ends : (h : State) (c : Call) → not (goes_on (granted h c)) ≡ true → goes_on (first_of (cursor_tests h c) (granted h c)) ≡ false
-cursor_ends h c none = not-true (goes_on (first_of (cursor_tests h c) (granted h c))) (first_keeps (λ r. not (goes_on r)) (cursor_tests h c) (granted h c) (tests_end h c) none)
+named_ends : (h : State) (c : Call) → not (goes_on (granted h c)) ≡ true → goes_on (first_of (name_tests h c) (granted h c)) ≡ false
+named_ends h c none = not-true (goes_on (first_of (name_tests h c) (granted h c))) (first_keeps (λ r. not (goes_on r)) (name_tests h c) (granted h c) (tests_end h c) none)
   where
-    tests_end : (h : State) (c : Call) → list_all (λ test. not (goes_on test.1)) (cursor_tests h c) ≡ true
+    tests_end : (h : State) (c : Call) → list_all (λ test. not (goes_on test.1)) (name_tests h c) ≡ true
     tests_end h c = grind arith
 
 -- what answers so
@@ -139,10 +141,12 @@ reads c k h n more r (calls.old none late) gives = clash r _ late.answer refl gi
 reads (FetchLine s name count) k h n more r (later tests none which is) gives = inl (s, name, count, refl)
 reads MarksLine k h n more r (later tests none which is) gives = inr refl
 reads (WriteLine s table key action) k h n more r (later tests none (g, i, w, e) is) gives = clash r _ (is ∙ ap (λ (ts : List (Bool × Answer)). first_of ts Done) e) (write_ends h n more g i s table key action) gives
-reads (CommitLine s) k h n more r (later tests none which is) gives = clash r _ (is ∙ ap (λ (ts : List (Bool × Answer)). first_of ts (granted h (Commit s))) which) (cursor_ends h (Commit s) (commit_ends h s)) gives
+reads (CommitLine s) k h n more r (later tests none which is) gives = clash r _ (is ∙ ap (λ (ts : List (Bool × Answer)). first_of ts (granted h (Commit s))) which) (named_ends h (Commit s) (commit_ends h s)) gives
 reads (RollbackLine s) k h n more r (later tests none which is) gives = clash r _ (is ∙ ap (λ (ts : List (Bool × Answer)). first_of ts Done) which) refl gives
-reads (OpenLine s name table lo hi) k h n more r (later tests none which is) gives = clash r _ (is ∙ ap (λ (ts : List (Bool × Answer)). first_of ts Done) which) (cursor_ends h (OpenCursor s name table lo hi) refl) gives
-reads (CloseLine s name) k h n more r (later tests none which is) gives = clash r _ (is ∙ ap (λ (ts : List (Bool × Answer)). first_of ts Done) which) (cursor_ends h (CloseCursor s name) refl) gives
+reads (SavepointLine s name) k h n more r (later tests none which is) gives = clash r _ (is ∙ ap (λ (ts : List (Bool × Answer)). first_of ts Done) which) (named_ends h (SetSavepoint s name) refl) gives
+reads (RollbackToLine s name) k h n more r (later tests none which is) gives = clash r _ (is ∙ ap (λ (ts : List (Bool × Answer)). first_of ts Done) which) (named_ends h (RollbackTo s name) refl) gives
+reads (OpenLine s name table lo hi) k h n more r (later tests none which is) gives = clash r _ (is ∙ ap (λ (ts : List (Bool × Answer)). first_of ts Done) which) (named_ends h (OpenCursor s name table lo hi) refl) gives
+reads (CloseLine s name) k h n more r (later tests none which is) gives = clash r _ (is ∙ ap (λ (ts : List (Bool × Answer)). first_of ts Done) which) (named_ends h (CloseCursor s name) refl) gives
 reads CheckpointLine k h n more r (later tests none which is) gives = clash r _ (is ∙ ap (λ (ts : List (Bool × Answer)). first_of ts Done) which) refl gives
 
 -- calls one after another

@@ -5,7 +5,7 @@ use Rattle.rb_lines.specs.Ran.{CutShort}
 use Rattle.rb_lines.specs.declared.runner.StepFault.{StepFault}
 use Rattle.rb_lines.specs.declared.runner.StepFault.TheVariants.{Disk, Sink}
 use Rattle.rb_model.specs.Answers.{answer_of}
-use Rattle.rb_model.specs.Lines.{Command, reply_text}
+use Rattle.rb_model.specs.Lines.{Command, is_remark, reply_text, without_return}
 use Rattle.rb_model.specs.Out.{Logged, CallOut, CallsOut}
 use Rattle.rb_model.specs.Calls.{Answer, Call, is_disk_fault}
 use Rattle.rb_model.specs.declared.answer.Answer as code
@@ -13,6 +13,10 @@ use Rattle.rb_model.specs.declared.answer.Answer.TheVariants as answers
 use Rattle.rb_model.specs.declared.row.Row.{Row}
 use Rattle.rb_script.specs.declared.reply.Reply.{Reply}
 use Rattle.rb_script.specs.declared.reply.Reply.TheVariants as replies
+
+-- the line is skipped: it is empty or a remark
+abbrev pub IsSkipped : List ℕ → Type 0
+IsSkipped line = (length line ≤ 512) × (is_remark (without_return line) ≡ true)
 
 -- a reply tells of a fault of the disk
 abbrev pub tells_fault : Reply → Bool

@@ -1,5 +1,6 @@
 //! `step`: one line through the engine to the sink. The run of a script does each line by `do_line`.
 ghost use Rattle.std.specs.Prelude.{◌≡◌, ◌++◌, ◌<◌, ℕ, false, [], None, IfErr, OnErr, OnOk};
+ghost use Rattle.std.specs.Result.{is_err};
 ghost use Rattle.rb_base.specs.Counts.{IsCounted, IsCountedAs, err_is};
 ghost use Rattle.rb_engine.specs.Does.{Does, SameStore, Stands};
 ghost use Rattle.rb_lines.specs.Faults.{IsCountedBeside, is_disk, is_sink};
@@ -13,7 +14,7 @@ ghost use Rattle.rb_model.specs.Calls as machine;
 ghost use Rattle.rb_model.specs.State.{State};
 ghost use Rattle.rb_script.specs.Commands.{command_of};
 ghost use Rattle.rb_shell.specs.Since.{IsSince, StandsAs, slots_of};
-ghost use Rattle.rb_shell.specs.Steps.{Calls, FitsCaller, Lost, SaidAs};
+ghost use Rattle.rb_shell.specs.Steps.{Calls, FitsCaller, IsSkipped, Lost, SaidAs};
 
 use crate::replies::{
     Waiting, answer_to_call, answer_to_commit, answer_to_fetch, answer_to_marks, answer_to_write,
@@ -61,8 +62,11 @@ fn caller_of(command: &Command<'_>) -> Option<u16>
             k: _,
             op: _,
         } => Some(*s),
+        Command::Lock { s, t: _, k: _ } => Some(*s),
         Command::Commit { s } => Some(*s),
         Command::Rollback { s } => Some(*s),
+        Command::Savepoint { s, name: _ } => Some(*s),
+        Command::RollbackTo { s, name: _ } => Some(*s),
         Command::OpenCursor {
             s,
             name: _,
@@ -115,8 +119,11 @@ fn answer<T: Store>(engine: &mut Engine<T>, command: &Command<'_>, k: u32, row: 
 {
     match command {
         Command::Write { s, t, k, op } => answer_to_write(engine.write(*s, *t, *k, *op)),
+        Command::Lock { s, t, k } => answer_to_write(engine.lock(*s, *t, *k)),
         Command::Commit { s } => answer_to_commit(engine.commit(*s)),
         Command::Rollback { s } => answer_to_call(engine.rollback(*s)),
+        Command::Savepoint { s, name } => answer_to_call(engine.savepoint(*s, name)),
+        Command::RollbackTo { s, name } => answer_to_call(engine.rollback_to(*s, name)),
         Command::OpenCursor { s, name, t, lo, hi } => {
             answer_to_call(engine.open_cursor(*s, name, *t, *lo, *hi))
         }
@@ -194,6 +201,8 @@ fn say_line<T: Store, K: Sink>(
         → Did (StandsAs T.Store) (IsSince T.Store) engine.old engine.new m (λ now. SaidAs (LineOut m
         (slots_of (T.slots engine.old.store)) line.now) now K.tells (K.held sink.old)
         (K.held sink.new) waiting.new.items result) }
+    ensures skipped { IsSkipped line.now → (engine.new ≡ engine.old) × (sink.new ≡ sink.old)
+        × (waiting.new.items ≡ []) × (is_err result ≡ false) }
     ensures same { SameStore T.Store engine.old.store engine.new.store }
     ensures disk { IsCountedBeside (T.faults engine.old.store) (T.faults engine.new.store) (err_is is_disk result)
         (err_is is_sink result) }
@@ -217,6 +226,7 @@ fn send_last<K: Sink>(waiting: &mut Waiting, sink: &mut K) -> Result<(), StepFau
     ensures sent { OnOk result (K.tells → K.held sink.new ≡ K.held sink.old ++ waiting.old.items) }
     ensures lost { OnErr result (Lost K.tells (K.held sink.old) waiting.old.items (K.held sink.new)) }
     ensures by_sink { IfErr result (λ fault. fault ≡ StepFault.Sink) }
+    ensures idle { waiting.old.items ≡ [] → (sink.new ≡ sink.old) × (is_err result ≡ false) }
     ensures counted { IsCounted (K.faults sink.old) (K.faults sink.new) result }
 {
     match send(waiting, sink) {
@@ -235,6 +245,8 @@ pub fn do_line<T: Store, K: Sink>(
     ensures did { (m : Logged) → StandsAs T.Store engine.old m → m.state.stopped ≡ false
         → Did (StandsAs T.Store) (IsSince T.Store) engine.old engine.new m (λ now. LineRanAs
         (slots_of (T.slots engine.old.store)) m now line.now K.tells (K.held sink.old) (K.held sink.new) result) }
+    ensures skipped { IsSkipped line.now
+        → (engine.new ≡ engine.old) × (sink.new ≡ sink.old) × (is_err result ≡ false) }
     ensures same { SameStore T.Store engine.old.store engine.new.store }
     ensures disk { IsCountedBeside (T.faults engine.old.store) (T.faults engine.new.store) (err_is is_disk result)
         (err_is is_sink result) }
@@ -263,6 +275,9 @@ pub fn step<T: Store, K: Sink>(
     ensures did { (m : Logged) → StandsAs T.Store engine.old m → m.state.stopped ≡ false
         → Did (StandsAs T.Store) (IsSince T.Store) engine.old engine.new m (λ now. LineRanAs
         (slots_of (T.slots engine.old.store)) m now line.now K.tells (K.held sink.old) (K.held sink.new) result) }
+    // A line that is empty or a remark leaves all as it is, and the sink isn't called.
+    ensures skipped { IsSkipped line.now
+        → (engine.new ≡ engine.old) × (sink.new ≡ sink.old) × (is_err result ≡ false) }
     ensures same { SameStore T.Store engine.old.store engine.new.store }
     ensures disk { IsCountedBeside (T.faults engine.old.store) (T.faults engine.new.store) (err_is is_disk result)
         (err_is is_sink result) }

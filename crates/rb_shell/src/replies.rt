@@ -1,6 +1,7 @@
 //! The replies of a line, which wait until it is done and are put in few pieces. `line` tells them.
 ghost use Rattle.std.specs.Prelude.{◌≡◌, ◌+◌, ◌≤◌, ◌++◌, ℕ, List, length, [], OnOk, OnErr};
-ghost use Rattle.std.specs.Prelude.{IsTrue, ◌↔◌, Option, None, Some};
+ghost use Rattle.std.specs.Prelude.{IsTrue, ◌↔◌, Option, None, Some, false};
+ghost use Rattle.std.specs.Result.{is_err};
 ghost use Rattle.arrayvec.specs.ArrayVec.{array_vec_len};
 ghost use Rattle.rb_base.specs.Counts.{IsCounted, IsCountedAs, err_is};
 ghost use Rattle.rb_lines.specs.Faults.{is_sink};
@@ -128,6 +129,7 @@ fn is_disk_fault(reply: &Reply<'_>) -> bool
 pub fn send<K: Sink>(waiting: &mut Waiting, sink: &mut K) -> Result<(), Failed>
     ensures sent { K.tells → Puts (K.held sink.old) (K.held sink.new) waiting.old.items result }
     ensures none { OnOk result (waiting.new.items ≡ []) }
+    ensures idle { waiting.old.items ≡ [] → (sink.new ≡ sink.old) × (is_err result ≡ false) }
     ensures counted { IsCounted (K.faults sink.old) (K.faults sink.new) result }
 {
     if waiting.is_empty() {

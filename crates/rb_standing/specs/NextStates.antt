@@ -43,7 +43,7 @@ with_own h s front = record h { sessions = set h.sessions (s - 1) (with_changes 
 abbrev pub after_commit : State → ℕ → ℕ → ℕ → List Cursor → State
 after_commit h s t n cursors = record h {
   commits = record h.commits { list = h.commits.list ++ session_own h s ∷ [] };
-  sessions = set h.sessions (s - 1) (record { own = []; cursors = cursors });
+  sessions = set h.sessions (s - 1) (record { own = []; savepoints = []; cursors = cursors });
   books = set h.books (t / 16) (finished n (t % 16) (book_at h.books (t / 16)));
 }
 

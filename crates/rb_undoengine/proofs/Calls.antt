@@ -1,5 +1,5 @@
 -- What an attempt over a store tells of a write is the machine's answer, and its next state.
-use Rattle.std.proofs.Common.{◌≡◌, ◌<◌, ◌≤◌, ◌+◌, ◌*◌, ◌^◌, ℕ, true, false, not, List, [], ◌∷◌, length, Result, Ok, Err, IfOk, IfErr, OnOk, Some, refl, sym, ap, subst, arith}
+use Rattle.std.proofs.Common.{◌≡◌, ◌<◌, ◌≤◌, ◌+◌, ◌*◌, ◌^◌, ℕ, true, false, not, List, [], ◌∷◌, length, Result, Ok, Err, IfOk, IfErr, OnOk, refl, sym, ap, subst, arith}
 use Rattle.rb_attempt.specs.Asks.{IsWriterOf, adds_row, home_for, kind_of}
 use Rattle.rb_attempt.specs.Making.{MakesIfAny}
 use Rattle.rb_attempt.specs.Refusals.{Refuses, TakesWrite, has_failed}
@@ -17,13 +17,12 @@ use Rattle.rb_base.specs.declared.store.Store.{Ghosts}
 use Rattle.rb_image.specs.Made.{GivesOne, WriteMade}
 use Rattle.rb_model.specs.Calls.{Answer, Done, Refused, WritesIn, first_of, write_tests}
 use Rattle.rb_model.specs.State.{State}
-use Rattle.rb_model.specs.declared.op.Op.{Op}
 use Rattle.rb_segment.specs.Header.{Header}
 use Rattle.rb_standing.specs.Standing.{homes_of, logged_of, segments_of}
 use Rattle.rb_standing.specs.Writing.{IsWritten}
 use Rattle.rb_undoblock.specs.declared.record.UndoRecord.{UndoRecord}
 use Rattle.rb_undoengine.specs.StepLaws.{IsAsked}
-use Rattle.rb_model.specs.Answers.{action_of}
+use Rattle.rb_model.specs.Answers.{action_by}
 use Rattle.rb_undoengine.specs.Steps.{IsAbout, NotOthers, refusal_of, kept_room}
 use Rattle.rb_undoengine.proofs.Done.{answered, fits_is, id_is, ids_are, stands}
 use Rattle.rb_undoengine.proofs.HomeWords.{which_in}
@@ -45,7 +44,7 @@ abbrev pub IsAskRefused : Shape → List (List ℕ) → Ask → ℕ → ℕ → 
 IsAskRefused shape before ask logged room fault = (x : Xid) × (ready : Header) × IsWriterOf shape before ask.own x ready
     × Refuses fault (home_for shape before ask) (adds_row ask.op) ask.key x ready logged room (kept_room shape before ask.own)
 
-module _ {S : Type 0} (store : Ghosts S) (told : store.tells) (old new : S) (h : State) (xids : List Xid) (s : ℕ) (ask : Ask) (op : Op) (about : IsAbout h xids s ask.own (store.blocks old)) (same : store.shape_of old ≡ h.shape) (op_is : ask.op ≡ Some op) (first : 1 ≤ ask.table) (last : ask.table ≤ h.shape.tables) (mine : NotOthers h s ask.table ask.key) where
+module _ {S : Type 0} (store : Ghosts S) (told : store.tells) (old new : S) (h : State) (xids : List Xid) (s : ℕ) (ask : Ask) (about : IsAbout h xids s ask.own (store.blocks old)) (same : store.shape_of old ≡ h.shape) (first : 1 ≤ ask.table) (last : ask.table ≤ h.shape.tables) (mine : NotOthers h s ask.table ask.key) where
   abbrev Before : List (List ℕ)
   Before = store.blocks old
 
@@ -57,7 +56,7 @@ module _ {S : Type 0} (store : Ghosts S) (told : store.tells) (old new : S) (h :
 
   -- the machine's answer where the transaction writes
   abbrev pub Answered : ℕ → ℕ → ℕ → Answer
-  Answered logged g i = first_of (write_tests h logged Room g i s ask.table ask.key (action_of op)) Done
+  Answered logged g i = first_of (write_tests h logged Room g i s ask.table ask.key (action_by ask.op)) Done
 
   abbrev pub IsRefused : AttemptFault → Type 0
   IsRefused fault = (x : Xid) × WritesIn h s x.seg x.slot
@@ -82,22 +81,22 @@ module _ {S : Type 0} (store : Ghosts S) (told : store.tells) (old new : S) (h :
         omega (arith, g, i)
 
     -- the write, as it is made
-    pub write_made : WriteMade h xids s ask.table ask.key (action_of op) Room x Before now
+    pub write_made : WriteMade h xids s ask.table ask.key (action_by ask.op) Room x Before now
     write_made =
         let more = write_logged h xids Before now (16 * x.seg + x.slot) (adds_row ask.op) (kind_of ask.op) w.0 w.1 about.stand t_in home_in w.8 in
         record {
           in_slot = writers.writes_in h xids Before s ask.own about x w.2 w.3;
-          granted = answered h xids Before now s Room ask op about s_in op_is first last mine x w.2 w.3 w.0 w.1 asked takes w.8 early enough few;
-          stand = stands h xids Before now s Room ask op about s_in op_is first last mine x w.2 w.3 w.0 w.1 asked takes w.8 early enough few;
+          granted = answered h xids Before now s Room ask about s_in first last mine x w.2 w.3 w.0 w.1 asked takes w.8 early enough few;
+          stand = stands h xids Before now s Room ask about s_in first last mine x w.2 w.3 w.0 w.1 asked takes w.8 early enough few;
           last = more;
-          ids = λ r t owns. ids_are h xids Before now s Room ask op about s_in op_is first last mine x w.2 w.3 w.0 w.1 asked takes w.8 early enough few t owns.owner (owner_within h xids (segments_of h.shape Before) (homes_of h.shape Before) (stood_of h xids Before about.stand) t owns.owner owns.at) owns.at;
-          id = id_is h xids Before now s Room ask op about s_in op_is first last mine x w.2 w.3 w.0 w.1 asked takes w.8 early enough few;
-          fits = fits_is h xids Before now s Room ask op about s_in op_is first last mine x w.2 w.3 w.0 w.1 asked takes w.8 early enough few;
+          ids = λ r t owns. ids_are h xids Before now s Room ask about s_in first last mine x w.2 w.3 w.0 w.1 asked takes w.8 early enough few t owns.owner (owner_within h xids (segments_of h.shape Before) (homes_of h.shape Before) (stood_of h xids Before about.stand) t owns.owner owns.at) owns.at;
+          id = id_is h xids Before now s Room ask about s_in first last mine x w.2 w.3 w.0 w.1 asked takes w.8 early enough few;
+          fits = fits_is h xids Before now s Room ask about s_in first last mine x w.2 w.3 w.0 w.1 asked takes w.8 early enough few;
         }
 
   -- what a group makes, where one is given
   pub makes : (patches : List Patch) → s ≤ length h.sessions → store.lsn old ≡ logged_of h.shape Before → kept_room h.shape Before ask.own ≤ 2 ^ 13 → MakesIfAny (store.shape_of old) Before ask (store.lsn old) Room patches
-      → 0 < length patches → (x : Xid) × WriteMade h xids s ask.table ask.key (action_of op) Room x Before (after_group (store.lsn old + 1) patches Before)
+      → 0 < length patches → (x : Xid) × WriteMade h xids s ask.table ask.key (action_by ask.op) Room x Before (after_group (store.lsn old + 1) patches Before)
   makes patches s_in number few made some =
       let m = subst (λ (k : Shape). MakesIfAny k Before ask (store.lsn old) Room patches) same made some in
       let now = after_group (store.lsn old + 1) patches Before in
@@ -107,12 +106,12 @@ module _ {S : Type 0} (store : Ghosts S) (told : store.tells) (old new : S) (h :
   -- a write that is done
   done_one : (x : Xid) (patches : List Patch) → s ≤ length h.sessions → store.lsn old ≡ logged_of h.shape Before → kept_room h.shape Before ask.own ≤ 2 ^ 13 → Logs store old new (group_of patches) true
       → IsAskMade h.shape Before Now ask x → TakesWrite (home_for h.shape Before ask) (adds_row ask.op) ask.key → store.lsn old < WORN → 1 + kept_room h.shape Before ask.own ≤ Room
-      → GivesOne store old new true (λ now. WriteMade h xids s ask.table ask.key (action_of op) Room x Before now)
+      → GivesOne store old new true (λ now. WriteMade h xids s ask.table ask.key (action_by ask.op) Room x Before now)
   done_one x patches s_in number few logs w takes young enough =
       let made = write_made x Now s_in number few w takes young enough in
       by patches logs made
     where
-      by : (l : List Patch) → Logs store old new (group_of l) true → WriteMade h xids s ask.table ask.key (action_of op) Room x Before Now → GivesOne store old new true (λ now. WriteMade h xids s ask.table ask.key (action_of op) Room x Before now)
+      by : (l : List Patch) → Logs store old new (group_of l) true → WriteMade h xids s ask.table ask.key (action_by ask.op) Room x Before Now → GivesOne store old new true (λ now. WriteMade h xids s ask.table ask.key (action_by ask.op) Room x Before now)
       by [] logs made =
           let still : logged_of h.shape Now ≡ logged_of h.shape Before = ap (logged_of h.shape) (logs.blocks told refl) in
           absurd (let last = made.last in omega (arith, still, last))
@@ -121,12 +120,12 @@ module _ {S : Type 0} (store : Ghosts S) (told : store.tells) (old new : S) (h :
         logs = logs;
         few = omega arith;
         one = λ goes. refl;
-        made = λ some. subst (λ (b : List (List ℕ)). WriteMade h xids s ask.table ask.key (action_of op) Room x Before b) (logs.blocks told refl) made;
+        made = λ some. subst (λ (b : List (List ℕ)). WriteMade h xids s ask.table ask.key (action_by ask.op) Room x Before b) (logs.blocks told refl) made;
       }
 
   pub done : (r : Result Xid AttemptFault) (patches : List Patch) → s ≤ length h.sessions → store.lsn old ≡ logged_of h.shape Before → kept_room h.shape Before ask.own ≤ 2 ^ 13 → Logs store old new (group_of patches) (not (has_failed r))
       → IfOk r (IsAskMade (store.shape_of old) Before Now ask) → OnOk r (TakesWrite (home_for (store.shape_of old) Before ask) (adds_row ask.op) ask.key) → OnOk r (store.lsn old < WORN) → OnOk r (1 + kept_room (store.shape_of old) Before ask.own ≤ Room)
-      → IfOk r (λ x. GivesOne store old new true (λ now. WriteMade h xids s ask.table ask.key (action_of op) Room x Before now))
+      → IfOk r (λ x. GivesOne store old new true (λ now. WriteMade h xids s ask.table ask.key (action_by ask.op) Room x Before now))
   done (Ok x) patches s_in number few logs made takes young enough =
       done_one x patches s_in number few logs
       (subst (λ (k : Shape). IsAskMade k Before Now ask x) same made)
@@ -136,8 +135,8 @@ module _ {S : Type 0} (store : Ghosts S) (told : store.tells) (old new : S) (h :
   done (Err fault) patches s_in number few logs made takes young enough = tt
 
   -- a call of the store failed, with the group or before it
-  pub failed_as : (patches : List Patch) → Logs store old new (group_of patches) false → (0 < length patches → (x : Xid) × WriteMade h xids s ask.table ask.key (action_of op) Room x Before (after_group (store.lsn old + 1) patches Before))
-      → (x : Xid) × GivesOne store old new false (λ now. WriteMade h xids s ask.table ask.key (action_of op) Room x Before now)
+  pub failed_as : (patches : List Patch) → Logs store old new (group_of patches) false → (0 < length patches → (x : Xid) × WriteMade h xids s ask.table ask.key (action_by ask.op) Room x Before (after_group (store.lsn old + 1) patches Before))
+      → (x : Xid) × GivesOne store old new false (λ now. WriteMade h xids s ask.table ask.key (action_by ask.op) Room x Before now)
   failed_as [] logs made = (
     record { seg = 0; slot = 0; wrap = 0 },
     record {
@@ -166,5 +165,5 @@ module _ {S : Type 0} (store : Ghosts S) (told : store.tells) (old new : S) (h :
       let w = subst (λ (k : Shape). IsAskRefused k Before ask (store.lsn old) Room fault) same why in (
         w.0,
         writers.writes_in h xids Before s ask.own about w.0 w.1 w.2,
-        refused h xids Before s (store.lsn old) Room ask op about op_is first last mine w.0 w.1 w.2 fault w.3,
+        refused h xids Before s (store.lsn old) Room ask about first last mine w.0 w.1 w.2 fault w.3,
       )

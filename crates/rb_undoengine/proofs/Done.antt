@@ -15,7 +15,6 @@ use Rattle.rb_model.specs.Calls.{Done, first_of, has_slot, write_tests}
 use Rattle.rb_model.specs.Change.{Change, Place}
 use Rattle.rb_model.specs.State.{State, owner_at, session_own, with_changes}
 use Rattle.rb_model.specs.NextState.{change_in, written}
-use Rattle.rb_model.specs.declared.op.Op.{Op}
 use Rattle.rb_segment.specs.Header.{Header, Segment, SegmentInOrder}
 use Rattle.rb_segment.specs.Moves.{NoneMayTurn}
 use Rattle.rb_segment.specs.Segments.{commit_scn, owed_in}
@@ -35,7 +34,7 @@ use Rattle.rb_standing.proofs.WriteMachine.{id_after, ids_after, owed_after, own
 use Rattle.rb_restart.proofs.Slots.{owed_is}
 use Rattle.rb_undoblock.specs.declared.record.UndoRecord.{UndoRecord}
 use Rattle.rb_undoengine.specs.StepLaws.{IsAsked}
-use Rattle.rb_model.specs.Answers.{action_of}
+use Rattle.rb_model.specs.Answers.{action_by}
 use Rattle.rb_undoengine.specs.Steps.{IsAbout, NotOthers, kept_room}
 use Rattle.rb_undoengine.proofs.Firsts.{kind_is}
 use Rattle.rb_undoengine.proofs.HomeWords as home
@@ -58,7 +57,7 @@ has_place ready room (inr (e, may, is)) none =
     let pinned = none.pinned e (may.oldest (λ out. omega (arith, out, kept))) in
     may.free (λ out. omega (arith, out, kept)) pinned.0 pinned.1 pinned.2
 
-module _ (h : State) (xids : List Xid) (before now : List (List ℕ)) (s room : ℕ) (ask : Ask) (op : Op) (about : IsAbout h xids s ask.own before) (s_in : s ≤ length h.sessions) (op_is : ask.op ≡ Some op) (first : 1 ≤ ask.table) (last : ask.table ≤ h.shape.tables) (mine : NotOthers h s ask.table ask.key)
+module _ (h : State) (xids : List Xid) (before now : List (List ℕ)) (s room : ℕ) (ask : Ask) (about : IsAbout h xids s ask.own before) (s_in : s ≤ length h.sessions) (first : 1 ≤ ask.table) (last : ask.table ≤ h.shape.tables) (mine : NotOthers h s ask.table ask.key)
     (x : Xid) (ready : Header) (writer : IsWriterOf h.shape before ask.own x ready) (address : Uba) (u : UndoRecord) (asked : IsAsked h ask x u) (takes : TakesWrite (home_for h.shape before ask) (adds_row ask.op) ask.key)
     (is : IsWritten h.shape (16 * x.seg + x.slot) (adds_row ask.op) (kind_of ask.op) address u before now) (young : logged_of h.shape before < WORN) (enough : 1 + kept_room h.shape before ask.own ≤ room) (few : kept_room h.shape before ask.own ≤ 2 ^ 13) where
   abbrev At : ℕ
@@ -71,7 +70,7 @@ module _ (h : State) (xids : List Xid) (before now : List (List ℕ)) (s room : 
   Cleaned = home_for h.shape before ask
 
   abbrev Made : Change
-  Made = change_in h x.seg ask.table ask.key (action_of op)
+  Made = change_in h x.seg ask.table ask.key (action_by ask.op)
 
   g_in : x.seg < h.shape.segments
   g_in = writers.within h xids before s ask.own about x ready writer
@@ -109,8 +108,8 @@ module _ (h : State) (xids : List Xid) (before now : List (List ℕ)) (s room : 
           (subst (λ (i : ℕ). IsHeaderReady (Segs (At / 16)).header i is.recorded.ready) slot_is
           (subst (λ (z : Header). IsHeaderReady z (At % 16) is.recorded.ready) (sym (header_is h.shape before (At / 16))) is.recorded.is_ready))
 
-  pub answered : first_of (write_tests h (logged_of h.shape before) room x.seg x.slot s ask.table ask.key (action_of op)) Done ≡ Done
-  answered = not_refused h xids before s (logged_of h.shape before) room ask op about op_is first last mine x ready writer (record { takes = takes; entry = entry_there }) place_there young enough
+  pub answered : first_of (write_tests h (logged_of h.shape before) room x.seg x.slot s ask.table ask.key (action_by ask.op)) Done ≡ Done
+  answered = not_refused h xids before s (logged_of h.shape before) room ask about first last mine x ready writer (record { takes = takes; entry = entry_there }) place_there young enough
 
   -- the record is the next one of the segment
   place_is : Made.place ≡ place_of h.shape address
@@ -133,7 +132,7 @@ module _ (h : State) (xids : List Xid) (before now : List (List ℕ)) (s room : 
     home = asked.home;
     place = place_is;
     key = asked.key;
-    kind_is = kind_is op ∙ ap kind_of (sym op_is);
+    kind_is = kind_is ask.op;
     table = (first, last);
   }
 

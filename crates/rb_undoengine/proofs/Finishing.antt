@@ -15,6 +15,7 @@ use Rattle.rb_model.specs.State.{Cursor, Session, State, no_session, owner_at, s
 use Rattle.rb_model.specs.NextState.{committed, cursors_of, ended, not_present, without_owner}
 use Rattle.rb_model.specs.Rows.{last_scn}
 use Rattle.rb_image.specs.Made.{CommitMade, EndMade}
+use Rattle.rb_image.proofs.Owners.{owns_of}
 use Rattle.rb_restart.proofs.Slots.{owed_is, slot_for}
 use Rattle.rb_segment.proofs.HeaderAfter.{header_after}
 use Rattle.rb_segment.specs.Calls.{commit_patches, slot_patches, stamp_patch, Runs}
@@ -60,7 +61,7 @@ not_zero (suc n) is = ap not (eqb-suc-zero n)
 behind : (p : Patch) → IsPatch p → StaysBehind p
 behind p is = record { behind_head = is.behind_head; within_block = is.within_block }
 
--- Only the changes of the sessions matter, and not their cursors.
+-- Only the changes of the sessions matter, and not their savepoints and cursors.
 module _ (h : State) (s : ℕ) (session : Session) (s_in : (1 ≤ s) × (s ≤ length h.sessions)) (same : session.own ≡ session_own h s) where
   abbrev Other : State
   Other = record h { sessions = set h.sessions (s - 1) session }
@@ -125,7 +126,7 @@ module _ (h : State) (xids : List Xid) (before now : List (List ℕ)) (s : ℕ) 
   t_in = omega (arith, there, few)
 
   owns : Owns h s T
-  owns = record { owner = owned_by.0; at = owned_by.1; session = owned_by.2 }
+  owns = owns_of h s x.seg x.slot owned_by
 
   header_is : header_at h.shape before T ≡ header_of (block_of before at)
   header_is = ap (λ (g : ℕ). header_of (block_of before (header_block h.shape g))) seg_is
@@ -139,8 +140,8 @@ module _ (h : State) (xids : List Xid) (before now : List (List ℕ)) (s : ℕ) 
       let slot = slot_is_read in
       let count = ((stand.standing.stands.slots T t_in).active (ap (λ (z : TableSlot). z.state) slot ∙ runs.active)).count in
       let env = env_of h.shape before in
-      let all : length (own (lives_of h env) T) ≡ length (session_own h owned_by.0.session) + 0 = ap (λ (l : List Rattle.rb_walk.specs.Walk.Change). length l) (lives_at h env T t_in ∙ ap (owned h (env.xid T)) owned_by.1) ∙ length_newest h.shape (env.xid T) 1 (session_own h owned_by.0.session) [] in
-      let mine = ap (λ (r : ℕ). length (session_own h r)) owned_by.2 in
+      let all : length (own (lives_of h env) T) ≡ length (session_own h owns.owner.session) + 0 = ap (λ (l : List Rattle.rb_walk.specs.Walk.Change). length l) (lives_at h env T t_in ∙ ap (owned h (env.xid T)) owns.at) ∙ length_newest h.shape (env.xid T) 1 (session_own h owns.owner.session) [] in
+      let mine = ap (λ (r : ℕ). length (session_own h r)) owns.session in
       omega (arith, count, all, mine, ap (λ (z : TableSlot). z.live) slot)
     where
       slot_is_read : slot_of (segments_of h.shape before) T ≡ slot_in (header_of (block_of before at)) x.slot
@@ -212,9 +213,9 @@ module _ (h : State) (xids : List Xid) (before now : List (List ℕ)) (s : ℕ) 
         let moved_segments = ap (owed h.shape) (segments_ended h.shape T before now is) in
         let a = owed_is h.shape before in
         let b = owed_is h.shape now in
-        let free : (cursors : List Cursor) → BlocksStand (record (after_end h T) { sessions = set h.sessions (s - 1) (record { own = []; cursors = map not_present cursors }) }) xids now = λ cursors.
-        cursors_free (after_end h T) s (record { own = []; cursors = map not_present cursors }) s_in (sym empty) xids now kept in
-        let state : (cursors : List Cursor) → record (after_end h T) { sessions = set h.sessions (s - 1) (record { own = []; cursors = map not_present cursors }) } ≡ without_owner x.seg x.slot (ended h s cursors) = λ cursors. rw (seg_is, slot_is) refl in
+        let free : (cursors : List Cursor) → BlocksStand (record (after_end h T) { sessions = set h.sessions (s - 1) (record { own = []; savepoints = []; cursors = map not_present cursors }) }) xids now = λ cursors.
+        cursors_free (after_end h T) s (record { own = []; savepoints = []; cursors = map not_present cursors }) s_in (sym empty) xids now kept in
+        let state : (cursors : List Cursor) → record (after_end h T) { sessions = set h.sessions (s - 1) (record { own = []; savepoints = []; cursors = map not_present cursors }) } ≡ without_owner x.seg x.slot (ended h s cursors) = λ cursors. rw (seg_is, slot_is) refl in
         record {
           stand = λ cursors. subst (λ (z : State). BlocksStand z xids now) (state cursors) (free cursors);
           ids = λ r v mine. ids_ended h xids before now stand s T t_in owns empty is v;

@@ -15,20 +15,22 @@ use Rattle.rb_model.specs.Rows.{has_row}
 use Rattle.rb_model.specs.Tests.{full_slots, holder, made_since}
 use Rattle.rb_model.specs.declared.op.Op.{Op}
 use Rattle.rb_model.specs.declared.op.Op.TheVariants.{Insert, Update, Delete}
-use Rattle.rb_model.specs.Answers.{action_of}
+use Rattle.rb_model.specs.Answers.{action_by}
 use Rattle.rb_verdict.specs.Verdict as verdict
 use Rattle.rb_verdict.specs.Verdict.{Verdict, tested}
 
--- an operation adds a row, and is of a kind, in both words
-pub adds_is : (op : Op) → adds (action_of op) ≡ adds_row (Some op)
-adds_is (Insert value) = refl
-adds_is (Update value) = refl
-adds_is Delete = refl
+-- an operation, or the lock without one, adds a row or not, and is of a kind, in both words
+adds_is : (op : Option Op) → adds (action_by op) ≡ adds_row op
+adds_is (Some (Insert value)) = refl
+adds_is (Some (Update value)) = refl
+adds_is (Some Delete) = refl
+adds_is None = refl
 
-pub kind_is : (op : Op) → kind_by (action_of op) ≡ kind_of (Some op)
-kind_is (Insert value) = refl
-kind_is (Update value) = refl
-kind_is Delete = refl
+pub kind_is : (op : Option Op) → kind_by (action_by op) ≡ kind_of op
+kind_is (Some (Insert value)) = refl
+kind_is (Some (Update value)) = refl
+kind_is (Some Delete) = refl
+kind_is None = refl
 
 -- nobody is waited for where no other session holds the key
 nobody_waits : (s : ℕ) (o : Option ℕ) (tests : List (Bool × Answer)) → ((u : ℕ) → o ≡ Some u → u ≡ s) → first_of (waited s o ++ tests) Done ≡ first_of tests Done
@@ -65,15 +67,15 @@ first_tested false false f e r g since tests = refl
 abbrev pub log_tests : ℕ → ℕ → ℕ → List (Bool × Answer)
 log_tests logged room needed = (nat_le WORN logged, Refused refusals.WornOut) ∷ (nat_lt room needed, Refused refusals.LogFull) ∷ []
 
-module _ (h : State) (s table key g i : ℕ) (op : Op) where
+module _ (h : State) (s table key g i : ℕ) (op : Option Op) where
   -- what the tests before the log find
   abbrev pub Found : Verdict
-  Found = tested (adds_row (Some op)) (has_row table key (rows_now h s)) (full_block h table key) (full_slots h s table key) (is_full (book_at h.books g))
+  Found = tested (adds_row op) (has_row table key (rows_now h s)) (full_block h table key) (full_slots h s table key) (is_full (book_at h.books g))
 
   pub first_found : (logged room : ℕ) → ((u : ℕ) → holder h table key ≡ Some u → u ≡ s)
-      → first_of (write_tests h logged room g i s table key (action_of op)) Done
+      → first_of (write_tests h logged room g i s table key (action_by op)) Done
       ≡ answer_of Found g (made_since (book_at h.books g)) (first_of (log_tests logged room (needed_room h s g i)) Done)
   first_found logged room own =
       nobody_waits s (holder h table key) _ own
-      ∙ (first_tested (adds (action_of op)) (has_row table key (rows_now h s)) (full_block h table key) (full_slots h s table key) (is_full (book_at h.books g)) g (made_since (book_at h.books g)) (log_tests logged room (needed_room h s g i))
+      ∙ (first_tested (adds (action_by op)) (has_row table key (rows_now h s)) (full_block h table key) (full_slots h s table key) (is_full (book_at h.books g)) g (made_since (book_at h.books g)) (log_tests logged room (needed_room h s g i))
       ∙ ap (λ a. answer_of (tested a (has_row table key (rows_now h s)) (full_block h table key) (full_slots h s table key) (is_full (book_at h.books g))) g (made_since (book_at h.books g)) (first_of (log_tests logged room (needed_room h s g i)) Done)) (adds_is op))

@@ -1,5 +1,5 @@
 -- What a write's tests before those of the log find, by what the key's cleaned home and the segment's header say.
-use Rattle.std.proofs.Common.{◌≡◌, inl, inr, ◌≤◌, ℕ, Bool, true, false, if◌then◌else◌, List, Option, Some, refl, sym, ◌∙◌, ap}
+use Rattle.std.proofs.Common.{◌≡◌, inl, inr, ◌≤◌, ℕ, Bool, true, false, if◌then◌else◌, List, refl, ◌∙◌}
 use Rattle.std.proofs.lemmas.Bool.{cases_Bool}
 use Rattle.rb_attempt.specs.Asks.{IsWriterOf, adds_row, home_for}
 use Rattle.rb_attempt.specs.Refusals.{HasNoCell, HasNoRow, HasRow, TakesWrite, TakesWriter}
@@ -13,7 +13,6 @@ use Rattle.rb_model.specs.State.{State}
 use Rattle.rb_model.specs.Calls.{rows_now}
 use Rattle.rb_model.specs.Rows.{has_row}
 use Rattle.rb_model.specs.Tests.{full_slots}
-use Rattle.rb_model.specs.declared.op.Op.{Op}
 use Rattle.rb_segment.specs.Header.{Header}
 use Rattle.rb_segment.specs.Moves.{NoneMayTurn}
 use Rattle.rb_undoengine.specs.Steps.{IsAbout, NotOthers}
@@ -24,7 +23,7 @@ use Rattle.rb_undoengine.proofs.Writers as writers
 use Rattle.rb_verdict.specs.Verdict.{Verdict, Duplicate, NotFound, BlockFull, SlotsFull, RollbackFull, Fine, tested}
 use Rattle.rb_verdict.proofs.Told.{full_none, none_full}
 
-module _ (h : State) (xids : List Xid) (blocks : List (List ℕ)) (s : ℕ) (ask : Ask) (op : Op) (about : IsAbout h xids s ask.own blocks) (op_is : ask.op ≡ Some op) (first : 1 ≤ ask.table) (last : ask.table ≤ h.shape.tables) (mine : NotOthers h s ask.table ask.key)
+module _ (h : State) (xids : List Xid) (blocks : List (List ℕ)) (s : ℕ) (ask : Ask) (about : IsAbout h xids s ask.own blocks) (first : 1 ≤ ask.table) (last : ask.table ≤ h.shape.tables) (mine : NotOthers h s ask.table ask.key)
     (x : Xid) (ready : Header) (writer : IsWriterOf h.shape blocks ask.own x ready) where
   abbrev Cleaned : Home
   Cleaned = home_for h.shape blocks ask
@@ -45,10 +44,7 @@ module _ (h : State) (xids : List Xid) (blocks : List (List ℕ)) (s : ℕ) (ask
   Ring = is_full (book_at h.books x.seg)
 
   abbrev pub Found : Verdict
-  Found = firsts.Found h s ask.table ask.key x.seg x.slot op
-
-  found_is : (v : Verdict) → tested Adds Present Full Slots Ring ≡ v → Found ≡ v
-  found_is v is = ap (λ (o : Option Op). tested (adds_row o) Present Full Slots Ring) (sym op_is) ∙ is
+  Found = firsts.Found h s ask.table ask.key x.seg x.slot ask.op
 
   there : HasRow Cleaned ask.key → Present ≡ true
   there = home.row_there h xids blocks about.stand ask.table ask.key first last s about.session mine
@@ -57,13 +53,13 @@ module _ (h : State) (xids : List Xid) (blocks : List (List ℕ)) (s : ℕ) (ask
   not_there = home.no_row h xids blocks about.stand ask.table ask.key first last s about.session mine
 
   pub duplicate : Adds ≡ true → HasRow Cleaned ask.key → Found ≡ Duplicate
-  duplicate adds has = let p = there has in found_is Duplicate (rw (adds, p) refl)
+  duplicate adds has = let p = there has in rw (adds, p) refl
 
   pub not_found : Adds ≡ false → HasNoRow Cleaned ask.key → Found ≡ NotFound
-  not_found adds none = let p = not_there none in found_is NotFound (rw (adds, p) refl)
+  not_found adds none = let p = not_there none in rw (adds, p) refl
 
   pub block_full : Adds ≡ true → HasNoRow Cleaned ask.key → HasNoCell Cleaned ask.key → Found ≡ BlockFull
-  block_full adds none cell = let p = not_there none in let f = home.no_cell h xids blocks about.stand ask.table ask.key first last cell in found_is BlockFull (rw (adds, p, f) refl)
+  block_full adds none cell = let p = not_there none in let f = home.no_cell h xids blocks about.stand ask.table ask.key first last cell in rw (adds, p, f) refl
 
   -- a home that takes the write leaves the tests of its transaction
   rest : TakesWrite Cleaned Adds ask.key → tested Adds Present Full Slots Ring ≡ (if Slots then SlotsFull else if Ring then RollbackFull else Fine)
@@ -79,13 +75,13 @@ module _ (h : State) (xids : List Xid) (blocks : List (List ℕ)) (s : ℕ) (ask
   pub slots_full : TakesWrite Cleaned Adds ask.key → HasNoChoice (home_entry Cleaned) x → Found ≡ SlotsFull
   slots_full takes none =
       let e = words.slots_full h xids blocks s ask.own about x ready writer ask.table ask.key first last none in
-      found_is SlotsFull (rest takes ∙ rw e refl)
+      rest takes ∙ rw e refl
 
   pub rollback_full : TakesWriter Cleaned Adds ask.key x → NoneMayTurn ready → Found ≡ RollbackFull
   rollback_full takes none =
       let e = words.slots_free h xids blocks s ask.own about x ready writer ask.table ask.key first last takes.entry in
       let r = none_full h xids blocks about.stand x.seg (writers.within h xids blocks s ask.own about x ready writer) x.slot ready (writers.is_ready h xids blocks s ask.own about x ready writer) none in
-      found_is RollbackFull (rest takes.takes ∙ rw (e, r) refl)
+      rest takes.takes ∙ rw (e, r) refl
 
   -- none of these tests applies
   pub fine : TakesWriter Cleaned Adds ask.key x → ¬ NoneMayTurn ready → Found ≡ Fine
@@ -95,4 +91,4 @@ module _ (h : State) (xids : List Xid) (blocks : List (List ℕ)) (s : ℕ) (ask
         | inl is ↦ absurd (some (full_none h xids blocks about.stand x.seg (writers.within h xids blocks s ask.own about x ready writer) x.slot ready (writers.is_ready h xids blocks s ask.own about x ready writer) is))
         | inr not_is ↦ not_is
       ] in
-      found_is Fine (rest takes.takes ∙ rw (e, r) refl)
+      rest takes.takes ∙ rw (e, r) refl

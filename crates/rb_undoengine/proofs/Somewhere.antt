@@ -134,7 +134,7 @@ module _ (h : State) (xids : List Xid) (blocks : List (List ℕ)) (s : ℕ) (own
       by (Some x) is =
           let f : (t : ℕ) × Owns h s t × (x ≡ (env_of h.shape blocks).xid t) = about.id.owned x is in
           let at : 16 * (f.0 / 16) + f.0 % 16 ≡ f.0 = (let a = div-add-mod f.0 16 in omega (arith, a)) in
-          (f.0 / 16, f.0 % 16, inl (f.1.owner, ap (owner_at h) at ∙ f.1.at, f.1.session))
+          (f.0 / 16, f.0 % 16, inl (omega arith, f.1.owner, ap (owner_at h) at ∙ f.1.at, f.1.session))
       by None is =
           let b = begins is in
           let none : HasNoSlot h s = λ t o at same. let some = about.id.owns t (record { owner = o; at = at; session = same }) in let never : None ≡ Some ((env_of h.shape blocks).xid t) = sym is ∙ some in cc in

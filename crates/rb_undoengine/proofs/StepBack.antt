@@ -8,6 +8,7 @@ use Rattle.rb_base.specs.Groups.{IsGroup}
 use Rattle.rb_base.specs.declared.ids.Uba.{Uba}
 use Rattle.rb_base.specs.declared.ids.Xid.{Xid}
 use Rattle.rb_base.specs.declared.sizes.TheConstants.{ACTIVE}
+use Rattle.rb_image.proofs.Owners.{owns_of}
 use Rattle.rb_model.specs.Calls.{Owned}
 use Rattle.rb_model.specs.Change as model
 use Rattle.rb_model.specs.State.{State, session_own}
@@ -145,7 +146,7 @@ pub back_is : (h : State) (xids : List Xid) (before : List (List ℕ)) → Block
 back_is h xids before stand s x there few owned runs front c own_is =
     let t = 16 * x.seg + x.slot in
     let t_in : t < 16 * h.shape.segments = omega (arith, there, few) in
-    let owns : Owns h s t = record { owner = owned.0; at = owned.1; session = owned.2 } in
+    let owns : Owns h s t = owns_of h s x.seg x.slot owned in
     let running : Runs (header_in h.shape before (t / 16)) (xid_of t x.wrap) = subst (λ (z : Xid). Runs (header_in h.shape before z.seg) z) (xid_is x few) runs in
     subst (BackIs h xids before s front) (sym (xid_is x few)) (record {
       can = can_at h xids before stand s t x.wrap t_in owns front c running own_is;

@@ -149,7 +149,7 @@ module _ (h : State) (xids : List Xid) (blocks : List (List ℕ)) (s : ℕ) (own
   -- where the session writes,
   pub writes_in : WritesIn h s x.seg x.slot
   writes_in = elim way [
-    | inl has ↦ inl (has.owns.owner, has.owns.at, has.owns.session)
+    | inl has ↦ inl (has.few, has.owns.owner, has.owns.at, has.owns.session)
     | inr takes ↦ inr (
       λ t o at same. owns_none takes.own_is t (record { owner = o; at = at; session = same }),
       begins_there h xids blocks about.stand x.seg x.slot (record {

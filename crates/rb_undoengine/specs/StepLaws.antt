@@ -1,7 +1,7 @@
 -- An attempt's answer is the machine's: a refusal is the first of its tests that applies, and a write that is done is
 -- one that no test refuses, after which the blocks stand for the machine's next state. Who holds a key is who does in
 -- the machine, and a session that is about to write has a place for it.
-use Rattle.std.specs.Prelude.{◌≡◌, ◌<◌, ◌≤◌, ◌+◌, ◌*◌, ◌^◌, ℕ, List, length, Option, Some}
+use Rattle.std.specs.Prelude.{◌≡◌, ◌<◌, ◌≤◌, ◌+◌, ◌*◌, ◌^◌, ℕ, List, length, Option}
 use Rattle.rb_attempt.specs.Asks.{adds_row, home_for, kind_of, IsWriterOf}
 use Rattle.rb_attempt.specs.Holding.{holder_in}
 use Rattle.rb_attempt.specs.Refusals.{Refuses, TakesWrite}
@@ -14,13 +14,12 @@ use Rattle.rb_base.specs.declared.sizes.TheConstants.{WORN}
 use Rattle.rb_model.specs.Calls.{Refused, Done, WritesIn, first_of, write_tests}
 use Rattle.rb_model.specs.State.{State}
 use Rattle.rb_model.specs.NextState.{change_in, written}
-use Rattle.rb_model.specs.declared.op.Op.{Op}
 use Rattle.rb_segment.specs.Header.{Header}
 use Rattle.rb_standing.specs.Standing.{env_of, logged_of}
 use Rattle.rb_standing.specs.States.{BlocksStand}
 use Rattle.rb_standing.specs.Writing.{IsWritten}
 use Rattle.rb_undoblock.specs.declared.record.UndoRecord.{UndoRecord}
-use Rattle.rb_model.specs.Answers.{action_of}
+use Rattle.rb_model.specs.Answers.{action_by}
 use Rattle.rb_undoengine.specs.Steps.{refusal_of, kept_room, IsAbout, IsHolder, NotOthers}
 
 -- the record is that of the ask, by that transaction
@@ -33,30 +32,30 @@ pub record IsAsked (h : State) (ask : Ask) (x : Xid) (u : UndoRecord) : Type 0 w
 -- The session writes where the machine says, and a refusal of its write is the answer of the machine's first test that
 -- applies.
 abbrev pub RefusedAsMachine : Type 0
-RefusedAsMachine = (h : State) (xids : List Xid) (blocks : List (List ℕ)) (s logged room : ℕ) (ask : Ask) (op : Op)
-    (x : Xid) (ready : Header) (fault : AttemptFault)
-    → IsAbout h xids s ask.own blocks → ask.op ≡ Some op → 1 ≤ ask.table → ask.table ≤ h.shape.tables
+RefusedAsMachine = (h : State) (xids : List Xid) (blocks : List (List ℕ)) (s logged room : ℕ) (ask : Ask) (x : Xid)
+    (ready : Header) (fault : AttemptFault)
+    → IsAbout h xids s ask.own blocks → 1 ≤ ask.table → ask.table ≤ h.shape.tables
     → NotOthers h s ask.table ask.key → IsWriterOf h.shape blocks ask.own x ready
     → Refuses fault (home_for h.shape blocks ask) (adds_row ask.op) ask.key x ready logged room
     (kept_room h.shape blocks ask.own)
     → WritesIn h s x.seg x.slot
-    × (first_of (write_tests h logged room x.seg x.slot s ask.table ask.key (action_of op)) Done
+    × (first_of (write_tests h logged room x.seg x.slot s ask.table ask.key (action_by ask.op)) Done
     ≡ Refused (refusal_of fault))
 
 -- A write that is done is one that no test of the machine refuses, and the blocks stand for the state after it.
 abbrev pub DoneAsMachine : Type 0
-DoneAsMachine = (h : State) (xids : List Xid) (before now : List (List ℕ)) (s room : ℕ) (ask : Ask) (op : Op)
-    (x : Xid) (ready : Header) (address : Uba) (u : UndoRecord)
-    → IsAbout h xids s ask.own before → s ≤ length h.sessions → ask.op ≡ Some op → 1 ≤ ask.table
+DoneAsMachine = (h : State) (xids : List Xid) (before now : List (List ℕ)) (s room : ℕ) (ask : Ask) (x : Xid)
+    (ready : Header) (address : Uba) (u : UndoRecord)
+    → IsAbout h xids s ask.own before → s ≤ length h.sessions → 1 ≤ ask.table
     → ask.table ≤ h.shape.tables → NotOthers h s ask.table ask.key → IsWriterOf h.shape before ask.own x ready
     → IsAsked h ask x u → TakesWrite (home_for h.shape before ask) (adds_row ask.op) ask.key
     → IsWritten h.shape (16 * x.seg + x.slot) (adds_row ask.op) (kind_of ask.op) address u before now
     → logged_of h.shape before < WORN → 1 + kept_room h.shape before ask.own ≤ room
     → kept_room h.shape before ask.own ≤ 2 ^ 13
     → WritesIn h s x.seg x.slot
-    × (first_of (write_tests h (logged_of h.shape before) room x.seg x.slot s ask.table ask.key (action_of op)) Done
-    ≡ Done)
-    × BlocksStand (written h s x.seg x.slot (change_in h x.seg ask.table ask.key (action_of op))) xids now
+    × (first_of (write_tests h (logged_of h.shape before) room x.seg x.slot s ask.table ask.key (action_by ask.op))
+    Done ≡ Done)
+    × BlocksStand (written h s x.seg x.slot (change_in h x.seg ask.table ask.key (action_by ask.op))) xids now
 
 -- Who holds a key by its home, as it is, and by the headers, is who holds it in the machine.
 abbrev pub HolderIsMachines : Type 0

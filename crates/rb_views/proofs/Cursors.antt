@@ -1,11 +1,9 @@
 -- The table remembers the cursors that a session opens, closes or asks for a row; and a cursor is found in it by its name.
-use Rattle.std.proofs.Common.{◌≡◌, inl, inr, ◌<◌, ◌≤◌, ◌-◌, ◌*◌, ℕ, true, List, [], ◌∷◌, ◌++◌, length, find, take, Some, None, refl, sym, ◌∙◌, ap, subst, arith, append-nil}
+use Rattle.std.proofs.Common.{◌≡◌, inl, inr, ◌<◌, ◌≤◌, ◌*◌, ℕ, true, List, [], ◌∷◌, ◌++◌, length, find, take, Some, None, refl, sym, ◌∙◌, ap, subst, arith}
 use Rattle.std.proofs.lemmas.Bool.{and_parts, cases_Bool, cond-false, cond-true, leb-true}
-use Rattle.std.proofs.lemmas.List.{length-set}
 use Rattle.std.proofs.lemmas.Slice.Eq.{bytes_eq-Decides}
 use Rattle.std.specs.Str.{bytes_eq}
 use Rattle.rb_base.specs.declared.ids.Xid.{Xid}
-use Rattle.rb_image.proofs.Owners.{id_same}
 use Rattle.rb_model.specs.Change as model
 use Rattle.rb_model.specs.Next.{given_count}
 use Rattle.rb_model.specs.NextState.{cursors_of, opened_cursor, with_taken, without_cursor}
@@ -22,60 +20,25 @@ use Rattle.rb_standing.specs.States.{BlocksStand, Owns}
 use Rattle.rb_views.specs.Laws.{cursor_opened}
 use Rattle.rb_views.specs.Views.{AreCursors, Frozen, IsCursor, IsSession, Remembers, live, none}
 use Rattle.rb_views.proofs.Few.{session_few}
-use Rattle.rb_views.proofs.Lasting.{Keeps, cursor_stays}
-use Rattle.rb_views.proofs.Tables.{Moves, cursors_last, set_others, set_this, table_last}
+use Rattle.rb_views.proofs.Staying.{session_remembered}
+use Rattle.rb_views.proofs.Staying as staying
+use Rattle.rb_views.proofs.Tables.{cursors_last}
 use Rattle.rb_walk.specs.Walk.{Env}
 
 -- a session with these cursors and no other change
-module _ (h : State) (xids : List Xid) (env : Env) (s : ℕ) (cursors : List machine.Cursor) (low : 1 ≤ s) where
-  abbrev pub Next : State
-  Next = next.with_cursors h s cursors
+abbrev with_these : State → ℕ → List machine.Cursor → Session
+with_these h s cursors = record (session_of h s) { cursors = cursors }
 
-  keeps : Keeps h Next xids xids
-  keeps = record { shape = refl; base = refl; rows = refl; more = []; list = sym (append-nil h.commits.list); ids = λ i lt. refl }
-
-  abbrev as_now : Session
-  as_now = record { own = session_own h s; cursors = cursors }
-
-  moves : Moves h Next xids xids env env s
-  moves = record {
-    keeps = keeps;
-    counted = length-set h.sessions (s - 1) as_now;
-    others = λ u u_low ne. set_others h.sessions s u as_now low u_low ne;
-    owns = λ u t ne o. record { owner = o.owner; at = o.at; session = o.session };
-    owned = λ u t ne o. record { owner = o.owner; at = o.at; session = o.session };
-    ids = λ u t o. refl;
-  }
-
-  module _ (high : s ≤ length h.sessions) where
-    session : session_of Next s ≡ as_now
-    session = set_this h.sessions s as_now low high
-
-    own_is : session_own Next s ≡ session_own h s
-    own_is = ap (λ (z : Session). z.own) session
-
-    -- its cursors are what they were
-    pub cursor_now : (m : KeptCursor) (c : machine.Cursor) → IsCursor h xids env s m c → IsCursor Next xids env s m c
-    cursor_now m c is = cursor_stays h Next xids xids env env s keeps m c (record {
-      owns = λ t o. record { owner = o.owner; at = o.at; session = o.session };
-      xid = λ t o. refl;
-      own = λ le. ap (take m.cursor.upto) own_is;
-    }) is
-
-    -- the session with other cursors in memory, too
-    pub session_now : (k : KeptSession) (ms : List KeptCursor) → IsSession h xids env s k → AreCursors Next xids env s ms cursors → IsSession Next xids env s (kept.with_cursors k ms)
-    session_now k ms is are = record {
-      id = id_same h Next env env s k.own refl (λ u t o. refl) is.id;
-      count = is.count ∙ sym (ap (λ (l : List model.Change). length l) own_is);
-      cursors = subst (λ (z : Session). AreCursors Next xids env s ms z.cursors) (sym session) are;
-    }
+-- its cursors are what they were
+pub cursor_now : (h : State) (xids : List Xid) (env : Env) (s : ℕ) (cursors : List machine.Cursor) → 1 ≤ s → s ≤ length h.sessions → (m : KeptCursor) (c : machine.Cursor) → IsCursor h xids env s m c → IsCursor (next.with_cursors h s cursors) xids env s m c
+cursor_now h xids env s cursors low high m c is = staying.cursor_now h xids env env s (with_these h s cursors) low (λ u t o. refl) high m c (λ present. refl) is
 
 -- what the table remembers then
 pub cursors_remembered : (h : State) (xids : List Xid) (env : Env) (s : ℕ) (cursors : List machine.Cursor) (table : List KeptSession) (ms : List KeptCursor) → Remembers h xids env table → 1 ≤ s → s ≤ SESSIONS
     → AreCursors (next.with_cursors h s cursors) xids env s ms cursors → Remembers (next.with_cursors h s cursors) xids env (with_kept table s (kept.with_cursors (kept_at table s) ms))
 cursors_remembered h xids env s cursors table ms is low high are =
-    table_last h (next.with_cursors h s cursors) xids xids env env s (moves h xids env s cursors low) table (kept.with_cursors (kept_at table s) ms) low high is
-    (session_now h xids env s cursors low (let n = is.as_many in omega (arith, n, high)) (kept_at table s) ms (is.each s low high) are)
+    let of_session : IsSession h xids env s (kept_at table s) = is.each s low high in
+    session_remembered h xids env env s (with_these h s cursors) low (λ u t o. refl) table (kept.with_cursors (kept_at table s) ms) high is refl of_session.count of_session.savepoints are
 
 -- cursors one by one, of which the last is added
 are_push : (h : State) (xids : List Xid) (env : Env) (s : ℕ) (ms : List KeptCursor) (cs : List machine.Cursor) (m : KeptCursor) (c : machine.Cursor) → AreCursors h xids env s ms cs → IsCursor h xids env s m c → AreCursors h xids env s (ms ++ m ∷ []) (cs ++ c ∷ [])

@@ -1,15 +1,15 @@
 -- The table remembers the end of a transaction: a commit, a rollback, or the end of one without changes.
-use Rattle.std.proofs.Common.{◌≡◌, ◌≢◌, inl, inr, ⊎_elim, ◌≤◌, ◌+◌, ◌-◌, ℕ, zero, suc, false, List, [], ◌∷◌, ◌++◌, length, map, get_or, set, take, Option, Some, None, refl, sym, ◌∙◌, ap, subst, arith, append-nil}
+use Rattle.std.proofs.Common.{◌≡◌, ◌≢◌, inl, inr, ⊎_elim, ◌<◌, ◌≤◌, ◌+◌, ◌-◌, ◌*◌, ℕ, zero, suc, false, List, [], ◌∷◌, ◌++◌, length, map, get_or, set, take, Option, Some, None, refl, sym, ◌∙◌, ap, subst, arith, append-nil}
 use Rattle.std.proofs.Math.ListN as lists
 use Rattle.std.proofs.Math.Seq as seq
 use Rattle.std.proofs.lemmas.List.{length-set}
 use Rattle.rb_base.specs.declared.ids.Xid.{Xid}
 use Rattle.rb_image.specs.Made.{KeepsIds}
-use Rattle.rb_image.proofs.Owners.{OwnedBy, few_slots, finished_else, finished_here, freed, id_none, left_else, left_here, owned_by, same_owners}
+use Rattle.rb_image.proofs.Owners.{OwnedBy, few_slots, finished_else, finished_here, freed, id_none, left_else, left_here, owned_by, owns_of, same_owners}
 use Rattle.rb_model.specs.Book.{Book, Owner, book_at, book_slot, finished, left, slot_owner}
 use Rattle.rb_model.specs.Calls.{HasNoSlot, Owned}
 use Rattle.rb_model.specs.Change.{Change}
-use Rattle.rb_model.specs.NextState.{EndsAs, cursors_of, left_open, not_present, without_owner}
+use Rattle.rb_model.specs.NextState.{EndsAs, cursors_of, left_open, not_present, rolled_to}
 use Rattle.rb_model.specs.NextState as next
 use Rattle.rb_model.specs.Rows.{Commits, last_scn}
 use Rattle.rb_model.specs.State as machine
@@ -18,21 +18,24 @@ use Rattle.rb_model.proofs.BookLemmas.{owner_set}
 use Rattle.rb_sessions.specs.Kept as kept
 use Rattle.rb_sessions.specs.Kept.{KeptCursor, KeptSession, kept_at, passed, with_kept}
 use Rattle.rb_sessions.specs.declared.sessions.TheConstants.{SESSIONS}
-use Rattle.rb_standing.specs.Standing.{env_of}
+use Rattle.rb_standing.specs.Standing.{env_of, homes_of, segments_of}
 use Rattle.rb_standing.specs.States.{BlocksStand, Owns, no_xid}
 use Rattle.rb_verdict.specs.Verdict.{IsOwnId}
+use Rattle.rb_verdict.proofs.Presence.{owner_within}
+use Rattle.rb_verdict.proofs.StoodBlocks.{stood_of}
 use Rattle.rb_views.specs.Views.{AreCursors, IsCursor, IsSession, Remembers}
 use Rattle.rb_views.proofs.Lasting.{Keeps, cursor_told, frozen_commits}
 use Rattle.rb_views.proofs.Owning.{owner_else, owner_had, place_of}
-use Rattle.rb_views.proofs.Tables.{Moves, cursors_left, cursors_passed, one_passed, set_others, set_this, table_last}
+use Rattle.rb_views.proofs.Savepoints.{cursors_cut, session_cut}
+use Rattle.rb_views.proofs.Tables.{Moves, cursors_passed, one_passed, set_others, set_this, table_last}
 use Rattle.rb_walk.specs.Walk.{Env}
 
 -- a state in which the session has no change, and these cursors, of no present transaction
 module _ (h h2 : State) (xids xids2 : List Xid) (env env2 : Env) (s : ℕ) (cursors : List machine.Cursor) (low : 1 ≤ s) (high : s ≤ length h.sessions)
-    (sessions : h2.sessions ≡ set h.sessions (s - 1) (record { own = []; cursors = map not_present cursors })) (keeps : Keeps h h2 xids xids2) (none : HasNoSlot h2 s)
+    (sessions : h2.sessions ≡ set h.sessions (s - 1) (record { own = []; savepoints = []; cursors = map not_present cursors })) (keeps : Keeps h h2 xids xids2) (none : HasNoSlot h2 s)
     (owns : (u t : ℕ) → u ≢ s → Owns h u t → Owns h2 u t) (owned : (u t : ℕ) → u ≢ s → Owns h2 u t → Owns h u t) (ids : KeepsIds h env env2) where
   abbrev ended : Session
-  ended = record { own = []; cursors = map not_present cursors }
+  ended = record { own = []; savepoints = []; cursors = map not_present cursors }
 
   moves : Moves h h2 xids xids2 env env2 s
   moves = record {
@@ -52,6 +55,7 @@ module _ (h h2 : State) (xids xids2 : List Xid) (env env2 : Env) (s : ℕ) (curs
   ended_remembered table ms few is are = table_last h h2 xids xids2 env env2 s moves table (kept.ended ms) low few is (record {
     id = id_none h2 env2 s none;
     count = sym (ap (λ (z : Session). length z.own) session);
+    savepoints = sym (ap (λ (z : Session). z.savepoints) session);
     cursors = subst (λ (z : Session). AreCursors h2 xids2 env2 s (map passed ms) z.cursors) (sym session) are;
   })
 
@@ -68,9 +72,10 @@ module _ (h h2 : State) (s g i : ℕ) (b : Book) (books : h2.books ≡ set h.boo
   others_own u t ne o = record {
     owner = o.owner;
     at = owner_else h h2 g i b books else_same t (λ at.
-        let both : Some slot.0 ≡ Some o.owner = sym slot.1 ∙ (ap (owner_at h) (sym (place_of g i t at)) ∙ o.at) in
-        let same : slot.0 ≡ o.owner = cc in
-        ne (sym o.session ∙ (ap (λ (z : Owner). z.session) (sym same) ∙ slot.2))) ∙ o.at;
+        let mine : Owns h s (16 * g + i) = owns_of h s g i slot in
+        let both : Some mine.owner ≡ Some o.owner = sym mine.at ∙ (ap (owner_at h) (sym (place_of g i t at)) ∙ o.at) in
+        let same : mine.owner ≡ o.owner = cc in
+        ne (sym o.session ∙ (ap (λ (z : Owner). z.session) (sym same) ∙ mine.session))) ∙ o.at;
     session = o.session;
   }
 
@@ -126,8 +131,11 @@ module _ (h : State) (xids : List Xid) (blocks now : List (List ℕ)) (table : L
       table (kept_at table s).cursors high is
       (cursors_passed h h2 xids (xids ++ x ∷ []) env env2 s cursor_now (kept_at table s).cursors (cursors_of h s) of_session.cursors)
 
--- the end of a transaction without a number
-module _ (h h2 : State) (xids : List Xid) (env env2 : Env) (table : List KeptSession) (s : ℕ) (cursors : List machine.Cursor) (is : Remembers h xids env table) (low : 1 ≤ s) (high : s ≤ SESSIONS) (ids : KeepsIds h env env2) (none : HasNoSlot h2 s) where
+-- The end of a transaction without a number, which leaves the session no slot.
+module _ (h h2 : State) (xids : List Xid) (blocks : List (List ℕ)) (env2 : Env) (table : List KeptSession) (s : ℕ) (cursors : List machine.Cursor) (stand : BlocksStand h xids blocks) (is : Remembers h xids (env_of h.shape blocks) table) (low : 1 ≤ s) (high : s ≤ SESSIONS) (ids : KeepsIds h (env_of h.shape blocks) env2) where
+  abbrev before : Env
+  before = env_of h.shape blocks
+
   many : s ≤ length h.sessions
   many = let c = is.as_many in omega (arith, c, high)
 
@@ -141,39 +149,36 @@ module _ (h h2 : State) (xids : List Xid) (env env2 : Env) (table : List KeptSes
     ids = λ i lt. refl;
   }
 
-  pub ends_remembered : EndsAs h s cursors h2 → (ms : List KeptCursor) → ((keeps : Keeps h h2 xids xids) → AreCursors h2 xids env2 s (map passed ms) (map not_present cursors)) → Remembers h2 xids env2 (with_kept table s (kept.ended ms))
+  ends_remembered : EndsAs h s cursors h2 → (ms : List KeptCursor) → ((keeps : Keeps h h2 xids xids) → AreCursors h2 xids env2 s (map passed ms) (map not_present cursors)) → Remembers h2 xids env2 (with_kept table s (kept.ended ms))
   ends_remembered (inl f) ms are =
       let g : ℕ = f.0 in
       let i : ℕ = f.1 in
+      let slot : Owned h s g i = f.2 in
       let b : Book = book_at h.books g in
       let books : h2.books ≡ set h.books g (left i b) = ap (λ (z : State). z.books) f.3 in
       let keeps : Keeps h h2 xids xids = kept_by (ap (λ (z : State). z.shape) f.3) (ap (λ (z : State). z.commits) f.3) in
-      ended_remembered h h2 xids xids env env2 s cursors low many (ap (λ (z : State). z.sessions) f.3) keeps none
-      (others_own h h2 s g i (left i b) books f.2 (left_else i b) (λ j. fewer_left i j b))
-      (λ u t ne. others_owned h h2 s g i (left i b) books f.2 (left_else i b) (λ j. fewer_left i j b) u t) ids
+      let few : i < 16 = slot.0 in
+      let mine : Owns h s (16 * g + i) = owns_of h s g i slot in
+      let within : 16 * g + i < 16 * h.shape.segments = owner_within h xids (segments_of h.shape blocks) (homes_of h.shape blocks) (stood_of h xids blocks stand) (16 * g + i) mine.owner mine.at in
+      let there : g < h.shape.segments = omega (arith, within) in
+      ended_remembered h h2 xids xids before env2 s cursors low many (ap (λ (z : State). z.sessions) f.3) keeps
+      (freed h h2 xids blocks s g i (left i b) stand few there slot books (left_here i b (few_slots stand g there i few)) (left_else i b))
+      (others_own h h2 s g i (left i b) books slot (left_else i b) (λ j. fewer_left i j b))
+      (λ u t ne. others_owned h h2 s g i (left i b) books slot (left_else i b) (λ j. fewer_left i j b) u t) ids
       table ms high is (are keeps)
   ends_remembered (inr f) ms are =
       let books : h2.books ≡ h.books = ap (λ (z : State). z.books) f.1 in
       let keeps : Keeps h h2 xids xids = kept_by (ap (λ (z : State). z.shape) f.1) (ap (λ (z : State). z.commits) f.1) in
-      ended_remembered h h2 xids xids env env2 s cursors low many (ap (λ (z : State). z.sessions) f.1) keeps none
+      ended_remembered h h2 xids xids before env2 s cursors low many (ap (λ (z : State). z.sessions) f.1) keeps
+      (λ t o at. f.0 t o (sym (same_owners h h2 t books) ∙ at))
       (λ u t ne o. record { owner = o.owner; at = same_owners h h2 t books ∙ o.at; session = o.session })
       (λ u t ne o. record { owner = o.owner; at = sym (same_owners h h2 t books) ∙ o.at; session = o.session }) ids
       table ms high is (are keeps)
 
--- it leaves the session no slot, where that is the one of its id
-pub none_left : (h : State) (xids : List Xid) (blocks : List (List ℕ)) (s : ℕ) (x : Xid) (cursors : List machine.Cursor) → BlocksStand h xids blocks → IsOwnId h (env_of h.shape blocks) s (Some x) → HasNoSlot (without_owner x.seg x.slot (next.ended h s cursors)) s
-none_left h xids blocks s x cursors stand id =
-    let its : OwnedBy h blocks s x = owned_by h xids blocks s x stand id in
-    let b : Book = book_at h.books x.seg in
-    freed h (without_owner x.seg x.slot (next.ended h s cursors)) xids blocks s x.seg x.slot (left x.slot b) stand its.few its.there its.owned refl (left_here x.slot b (few_slots stand x.seg its.there x.slot its.few)) (left_else x.slot b)
-
--- of one without changes, whose cursors stay open
-pub end_remembered : (h h2 : State) (xids : List Xid) (env env2 : Env) (table : List KeptSession) (s : ℕ) → Remembers h xids env table → 1 ≤ s → s ≤ SESSIONS → session_own h s ≡ [] → EndsAs h s (cursors_of h s) h2 → HasNoSlot h2 s → KeepsIds h env env2
-    → Remembers h2 xids env2 (with_kept table s (kept.committed (kept_at table s)))
-end_remembered h h2 xids env env2 table s is low high empty ends none ids =
-    let are = (is.each s low high).cursors in
-    ends_remembered h h2 xids env env2 table s (cursors_of h s) is low high ids none ends (kept_at table s).cursors
-    (λ keeps. cursors_passed h h2 xids xids env env2 s (λ m c of. one_passed h h2 xids xids env env2 s keeps m c (λ present seen. sees_none m c seen of) of) (kept_at table s).cursors (cursors_of h s) are)
+-- the cursors of a transaction without changes, as it ends
+cursors_ended : (h h2 : State) (xids : List Xid) (env env2 : Env) (s : ℕ) → session_own h s ≡ [] → Keeps h h2 xids xids → (ms : List KeptCursor) (cs : List machine.Cursor) → AreCursors h xids env s ms cs → AreCursors h2 xids env2 s (map passed ms) (map not_present cs)
+cursors_ended h h2 xids env env2 s empty keeps ms cs are =
+    cursors_passed h h2 xids xids env env2 s (λ m c of. one_passed h h2 xids xids env env2 s keeps m c (λ present seen. sees_none m c seen of) of) ms cs are
   where
     take_nothing : (n : ℕ) → take {A = Change} n [] ≡ []
     take_nothing zero = refl
@@ -182,9 +187,23 @@ end_remembered h h2 xids env env2 table s is low high empty ends none ids =
     sees_none : (m : KeptCursor) (c : machine.Cursor) → c.own ≡ take m.cursor.upto (session_own h s) → IsCursor h xids env s m c → m.cursor.upto ≡ 0
     sees_none m c seen of = of.upto ∙ ap (λ (l : List Change). length l) (seen ∙ ap (take m.cursor.upto) empty ∙ take_nothing m.cursor.upto)
 
--- a rollback
-pub back_remembered : (h h2 : State) (xids : List Xid) (env env2 : Env) (table : List KeptSession) (s : ℕ) → Remembers h xids env table → 1 ≤ s → s ≤ SESSIONS → EndsAs h s (left_open 0 (cursors_of h s)) h2 → HasNoSlot h2 s → KeepsIds h env env2
+-- of one without changes, whose cursors stay open
+pub end_remembered : (h h2 : State) (xids : List Xid) (blocks : List (List ℕ)) (env2 : Env) (table : List KeptSession) (s : ℕ) → BlocksStand h xids blocks → Remembers h xids (env_of h.shape blocks) table → 1 ≤ s → s ≤ SESSIONS → session_own h s ≡ [] → EndsAs h s (cursors_of h s) h2 → KeepsIds h (env_of h.shape blocks) env2
+    → Remembers h2 xids env2 (with_kept table s (kept.committed (kept_at table s)))
+end_remembered h h2 xids blocks env2 table s stand is low high empty ends ids =
+    ends_remembered h h2 xids blocks env2 table s (cursors_of h s) stand is low high ids ends (kept_at table s).cursors
+    (λ keeps. cursors_ended h h2 xids (env_of h.shape blocks) env2 s empty keeps (kept_at table s).cursors (cursors_of h s) (is.each s low high).cursors)
+
+-- a rollback: no change is kept, and the transaction ends
+pub back_remembered : (h h2 : State) (xids : List Xid) (blocks : List (List ℕ)) (env2 : Env) (table : List KeptSession) (s : ℕ) → BlocksStand h xids blocks → Remembers h xids (env_of h.shape blocks) table → 1 ≤ s → s ≤ SESSIONS → EndsAs h s (left_open 0 (cursors_of h s)) h2 → KeepsIds h (env_of h.shape blocks) env2
     → Remembers h2 xids env2 (with_kept table s (kept.rolled_back (kept_at table s)))
-back_remembered h h2 xids env env2 table s is low high ends none ids =
-    ends_remembered h h2 xids env env2 table s (left_open 0 (cursors_of h s)) is low high ids none ends (kept.left_open 0 (kept_at table s).cursors)
-    (λ keeps. cursors_left h h2 xids xids env env2 s keeps (kept_at table s).cursors (cursors_of h s) (is.each s low high).cursors)
+back_remembered h h2 xids blocks env2 table s stand is low high ends ids =
+    let env : Env = env_of h.shape blocks in
+    let k : KeptSession = kept_at table s in
+    let many : s ≤ length h.sessions = let n = is.as_many in omega (arith, n, high) in
+    let cut : State = rolled_to h s [] 0 in
+    let empty : session_own cut s ≡ [] = ap (λ (z : Session). z.own) (set_this h.sessions s (session_cut h s [] 0) low many) in
+    ends_remembered h h2 xids blocks env2 table s (left_open 0 (cursors_of h s)) stand is low high ids ends (kept.left_open 0 k.cursors)
+    (λ keeps. cursors_ended cut h2 xids env env2 s empty
+    (record { shape = keeps.shape; base = keeps.base; rows = keeps.rows; more = keeps.more; list = keeps.list; ids = keeps.ids })
+    (kept.left_open 0 k.cursors) (left_open 0 (cursors_of h s)) (cursors_cut h xids env env s [] 0 low (λ u t o. refl) many k.cursors (is.each s low high).cursors))

@@ -73,11 +73,12 @@ module _ (h h2 : State) (xids xids2 : List Xid) (env env2 : Env) (s : ℕ) (keep
   done_stays p q i lt high mine is =
       done i (let l = list_length in omega (arith, l, lt)) (let b = keeps.base in omega (arith, b, high)) (mine ∙ ap (λ (x : Xid). Some x) (sym (keeps.ids i lt))) (is ∙ ap (take m.cursor.upto) (sym (same_commit i lt)))
 
-  -- over a step that keeps the slot and the first changes of the session
-  pub frozen_stays : Stays h h2 env env2 s m.cursor.upto → m.cursor.upto ≡ length c.own → Frozen h xids env s m.cursor c → Frozen h2 xids2 env2 s m.cursor c
+  -- over a step that keeps the slot and, for a cursor of the present transaction, the first changes of the session
+  pub frozen_stays : (m.cursor.present ≡ true → Stays h h2 env env2 s m.cursor.upto) → m.cursor.upto ≡ length c.own → Frozen h xids env s m.cursor c → Frozen h2 xids2 env2 s m.cursor c
   frozen_stays st upto (none z) = none z
   frozen_stays st upto (live t present owns mine is) =
-      live t present (st.owns t owns) (mine ∙ ap (λ (x : Xid). Some x) (sym (st.xid t owns))) (is ∙ sym (st.own (few_taken m.cursor.upto (session_own h s) c.own upto is)))
+      let now : Stays h h2 env env2 s m.cursor.upto = st present in
+      live t present (now.owns t owns) (mine ∙ ap (λ (x : Xid). Some x) (sym (now.xid t owns))) (is ∙ sym (now.own (few_taken m.cursor.upto (session_own h s) c.own upto is)))
   frozen_stays st upto (done i lt high mine is) = done_stays m.cursor.present c.present i lt high mine is
 
   -- over the end of the transaction, where the cursor sees none of its changes
@@ -124,5 +125,5 @@ module _ (h h2 : State) (xids xids2 : List Xid) (env env2 : Env) (s : ℕ) (keep
         ∙ ap (λ (x : List TableRow). given_count h.shape.blocks m.cursor.last (filter (is_asked c.table c.lo c.hi) (over h.shape.blocks x c.own))) then);
   }
 
-  pub cursor_stays : Stays h h2 env env2 s m.cursor.upto → IsCursor h xids env s m c → IsCursor h2 xids2 env2 s m c
+  pub cursor_stays : (m.cursor.present ≡ true → Stays h h2 env env2 s m.cursor.upto) → IsCursor h xids env s m c → IsCursor h2 xids2 env2 s m c
   cursor_stays st is = cursor_told m.cursor.present c.present is.present is (frozen_stays st is.upto is.frozen)

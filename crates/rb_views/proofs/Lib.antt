@@ -8,8 +8,10 @@ pub mod Lasting
 pub mod Lost
 pub mod Opened
 pub mod Owning
+pub mod Savepoints
 pub mod Scanning
 pub mod Seeing
+pub mod Staying
 pub mod Tables
 pub mod Taken
 pub mod Written

@@ -22,6 +22,7 @@ first_remembered shape number rows books env none = record {
       subst (λ (k : KeptSession). IsSession (opened shape number rows books) [] env s k) (sym at) (record {
         id = id_none (opened shape number rows books) env s (none s);
         count = sym (ap (λ (z : Session). length z.own) session);
+        savepoints = sym (ap (λ (z : Session). z.savepoints) session);
         cursors = subst (λ (z : Session). AreCursors (opened shape number rows books) [] env s [] z.cursors) (sym session) tt;
       });
 }

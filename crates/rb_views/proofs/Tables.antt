@@ -1,7 +1,6 @@
 -- The cursors and the sessions of a table, one by one, over a step of one session.
 use Rattle.std.proofs.Common.{◌≡◌, ◌≢◌, inl, inr, ◌≤◌, ◌-◌, ◌&&◌, nat_lt, ℕ, Bool, true, false, not, List, [], ◌∷◌, length, map, get_or, set, take, Option, Some, refl, sym, ◌∙◌, ap, subst, arith}
-use Rattle.std.proofs.lemmas.Bool.{cases_Bool, cases_eq, cond-false, cond-true, false≢true}
-use Rattle.std.proofs.lemmas.Bool.Decides.{nat_tests}
+use Rattle.std.proofs.lemmas.Bool.{cases_Bool, cases_eq, cond-false, cond-true}
 use Rattle.std.proofs.lemmas.List.{get_or-set_other, get_or-set_same, length-set}
 use Rattle.rb_base.specs.declared.ids.Xid.{Xid}
 use Rattle.rb_model.specs.NextState.{not_present}
@@ -32,33 +31,28 @@ module _ (h h2 : State) (xids xids2 : List Xid) (env env2 : Env) (s : ℕ) where
   cursors_passed one [] (c ∷ cs) are = are
   cursors_passed one (m ∷ ms) [] are = are
 
-  module _ (keeps : Keeps h h2 xids xids2) where
-    -- one that saw none of the changes
-    pub one_passed : (m : KeptCursor) (c : machine.Cursor) → (m.cursor.present ≡ true → c.own ≡ take m.cursor.upto (session_own h s) → m.cursor.upto ≡ 0) → IsCursor h xids env s m c → IsCursor h2 xids2 env2 s (passed m) (not_present c)
-    one_passed m c sees is = cursor_told h h2 xids xids2 env env2 s keeps m c false false refl is (frozen_ends h h2 xids xids2 env env2 s keeps m c sees is.frozen)
+  -- those that stay open as the changes behind the first ones go
+  pub cursors_left : (first : ℕ) → ((m : KeptCursor) (c : machine.Cursor) → not (m.cursor.present && nat_lt first m.cursor.upto) ≡ true → IsCursor h xids env s m c → IsCursor h2 xids2 env2 s m c)
+      → (ms : List KeptCursor) (cs : List machine.Cursor) → AreCursors h xids env s ms cs → AreCursors h2 xids2 env2 s (kept.left_open first ms) (next.left_open first cs)
+  cursors_left first one [] [] are = tt
+  cursors_left first one [] (c ∷ cs) are = absurd are
+  cursors_left first one (m ∷ ms) [] are = absurd are
+  cursors_left first one (m ∷ ms) (c ∷ cs) are =
+      let deep = cursors_left first one ms cs are.1 in
+      let is : IsCursor h xids env s m c = are.0 in
+      let same : not (m.cursor.present && nat_lt first m.cursor.upto) ≡ not (c.present && nat_lt first (length c.own)) = ap (λ (b : Bool). not (b && nat_lt first m.cursor.upto)) is.present ∙ ap (λ (n : ℕ). not (c.present && nat_lt first n)) is.upto in
+      elim (cases_Bool (not (m.cursor.present && nat_lt first m.cursor.upto))) [
+        | inl stays ↦
+            subst (λ (l : List KeptCursor). AreCursors h2 xids2 env2 s l (next.left_open first (c ∷ cs))) (sym (cond-true (not (m.cursor.present && nat_lt first m.cursor.upto)) (m ∷ kept.left_open first ms) (kept.left_open first ms) stays))
+            (subst (λ (l : List machine.Cursor). AreCursors h2 xids2 env2 s (m ∷ kept.left_open first ms) l) (sym (cond-true (not (c.present && nat_lt first (length c.own))) (c ∷ next.left_open first cs) (next.left_open first cs) (sym same ∙ stays))) (one m c stays is, deep))
+        | inr closes ↦
+            subst (λ (l : List KeptCursor). AreCursors h2 xids2 env2 s l (next.left_open first (c ∷ cs))) (sym (cond-false (not (m.cursor.present && nat_lt first m.cursor.upto)) (m ∷ kept.left_open first ms) (kept.left_open first ms) closes))
+            (subst (λ (l : List machine.Cursor). AreCursors h2 xids2 env2 s (kept.left_open first ms) l) (sym (cond-false (not (c.present && nat_lt first (length c.own))) (c ∷ next.left_open first cs) (next.left_open first cs) (sym same ∙ closes))) deep)
+      ]
 
-    -- those that stay open over a rollback
-    pub cursors_left : (ms : List KeptCursor) (cs : List machine.Cursor) → AreCursors h xids env s ms cs → AreCursors h2 xids2 env2 s (map passed (kept.left_open 0 ms)) (map not_present (next.left_open 0 cs))
-    cursors_left [] [] are = tt
-    cursors_left [] (c ∷ cs) are = absurd are
-    cursors_left (m ∷ ms) [] are = absurd are
-    cursors_left (m ∷ ms) (c ∷ cs) are =
-        let deep = cursors_left ms cs are.1 in
-        let is : IsCursor h xids env s m c = are.0 in
-        let same : not (m.cursor.present && nat_lt 0 m.cursor.upto) ≡ not (c.present && nat_lt 0 (length c.own)) = ap (λ (b : Bool). not (b && nat_lt 0 m.cursor.upto)) is.present ∙ ap (λ (n : ℕ). not (c.present && nat_lt 0 n)) is.upto in
-        elim (cases_Bool (not (m.cursor.present && nat_lt 0 m.cursor.upto))) [
-          | inl stays ↦
-              subst (λ (l : List KeptCursor). AreCursors h2 xids2 env2 s (map passed l) (map not_present (next.left_open 0 (c ∷ cs)))) (sym (cond-true (not (m.cursor.present && nat_lt 0 m.cursor.upto)) (m ∷ kept.left_open 0 ms) (kept.left_open 0 ms) stays))
-              (subst (λ (l : List machine.Cursor). AreCursors h2 xids2 env2 s (map passed (m ∷ kept.left_open 0 ms)) (map not_present l)) (sym (cond-true (not (c.present && nat_lt 0 (length c.own))) (c ∷ next.left_open 0 cs) (next.left_open 0 cs) (sym same ∙ stays)))
-              (one_passed m c (λ present seen. sees_none m.cursor.present m.cursor.upto stays present) is, deep))
-          | inr closes ↦
-              subst (λ (l : List KeptCursor). AreCursors h2 xids2 env2 s (map passed l) (map not_present (next.left_open 0 (c ∷ cs)))) (sym (cond-false (not (m.cursor.present && nat_lt 0 m.cursor.upto)) (m ∷ kept.left_open 0 ms) (kept.left_open 0 ms) closes))
-              (subst (λ (l : List machine.Cursor). AreCursors h2 xids2 env2 s (map passed (kept.left_open 0 ms)) (map not_present l)) (sym (cond-false (not (c.present && nat_lt 0 (length c.own))) (c ∷ next.left_open 0 cs) (next.left_open 0 cs) (sym same ∙ closes))) deep)
-        ]
-      where
-        sees_none : (present : Bool) (upto : ℕ) → not (present && nat_lt 0 upto) ≡ true → present ≡ true → upto ≡ 0
-        sees_none true upto stays is = grind (arith, nat_tests)
-        sees_none false upto stays is = absurd (false≢true is)
+  -- one that saw none of the changes of its transaction, which has ended
+  pub one_passed : Keeps h h2 xids xids2 → (m : KeptCursor) (c : machine.Cursor) → (m.cursor.present ≡ true → c.own ≡ take m.cursor.upto (session_own h s) → m.cursor.upto ≡ 0) → IsCursor h xids env s m c → IsCursor h2 xids2 env2 s (passed m) (not_present c)
+  one_passed keeps m c sees is = cursor_told h h2 xids xids2 env env2 s keeps m c false false refl is (frozen_ends h h2 xids xids2 env env2 s keeps m c sees is.frozen)
 
 -- A step of session s: the other sessions have their slots, ids, changes and cursors still.
 pub record Moves (h h2 : State) (xids xids2 : List Xid) (env env2 : Env) (s : ℕ) : Type 0 where
@@ -80,7 +74,8 @@ module _ (h h2 : State) (xids xids2 : List Xid) (env env2 : Env) (s : ℕ) (move
   session_last u low ne k is = record {
     id = id_last u ne k.own is.id;
     count = is.count ∙ ap (λ (x : Session). length x.own) (sym (moves.others u low ne));
-    cursors = subst (λ (x : Session). AreCursors h2 xids2 env2 u k.cursors x.cursors) (sym (moves.others u low ne)) (cursors_last h h2 xids xids2 env env2 u (λ m c. cursor_stays h h2 xids xids2 env env2 u moves.keeps m c stays) k.cursors (session_of h u).cursors is.cursors);
+    savepoints = is.savepoints ∙ ap (λ (x : Session). x.savepoints) (sym (moves.others u low ne));
+    cursors = subst (λ (x : Session). AreCursors h2 xids2 env2 u k.cursors x.cursors) (sym (moves.others u low ne)) (cursors_last h h2 xids xids2 env env2 u (λ m c. cursor_stays h h2 xids xids2 env env2 u moves.keeps m c (λ present. stays)) k.cursors (session_of h u).cursors is.cursors);
   }
     where
       stays : {upto : ℕ} → Stays h h2 env env2 u upto

@@ -3,6 +3,7 @@ use Rattle.std.proofs.Common.{◌≡◌, ◌≢◌, inl, inr, ◌≤◌, ◌+◌
 use Rattle.std.proofs.lemmas.List.{length-set, take-append-le}
 use Rattle.rb_base.specs.declared.ids.Xid.{Xid}
 use Rattle.rb_image.specs.Made.{KeepsIds}
+use Rattle.rb_image.proofs.Owners.{owns_of}
 use Rattle.rb_model.specs.Book.{Book, BookSlot, Owner, IsBegun, book_at, marked, slot_owner, taken}
 use Rattle.rb_model.specs.Calls.{WritesIn, has_slot}
 use Rattle.rb_model.specs.Change.{Change}
@@ -51,9 +52,10 @@ module _ (h : State) (xids : List Xid) (blocks now : List (List ℕ)) (s g i : �
     where
       by : WritesIn h s g i → o.session ≡ s
       by (inl owned) =
-          let both : Some owned.0 ≡ Some o = sym owned.1 ∙ (ap (owner_at h) (sym (place_of g i t at)) ∙ is) in
-          let same : owned.0 ≡ o = cc in
-          ap (λ (z : Owner). z.session) (sym same) ∙ owned.2
+          let mine : Owns h s (16 * g + i) = owns_of h s g i owned in
+          let both : Some mine.owner ≡ Some o = sym mine.at ∙ (ap (owner_at h) (sym (place_of g i t at)) ∙ is) in
+          let same : mine.owner ≡ o = cc in
+          ap (λ (z : Owner). z.session) (sym same) ∙ mine.session
       by (inr begins) =
           let read : owner_at h t ≡ slot_owner (book_at h.books g) i = ap (λ (z : ℕ). slot_owner (book_at h.books z) (t % 16)) at.0 ∙ ap (λ (z : ℕ). slot_owner (book_at h.books g) z) at.1 in
           let begun : IsBegun h.books g i = begins.1 in
@@ -65,7 +67,7 @@ module _ (h : State) (xids : List Xid) (blocks now : List (List ℕ)) (s g i : �
   own_there t o = by writes
     where
       by : WritesIn h s g i → t ≡ 16 * g + i
-      by (inl owned) = stand.tell.one_slot s t (16 * g + i) o (record { owner = owned.0; at = owned.1; session = owned.2 })
+      by (inl owned) = stand.tell.one_slot s t (16 * g + i) o (owns_of h s g i owned)
       by (inr begins) = absurd (begins.0 t o.owner o.at o.session)
 
   -- so is the slot that it has then
@@ -120,8 +122,9 @@ module _ (h : State) (xids : List Xid) (blocks now : List (List ℕ)) (s g i : �
         let few = session_few h2 xids now stands s low in
         let was = is.count in
         counted k.count (length (session_own h2 s)) (omega (arith, n, m, was)) few;
+    savepoints = is.savepoints ∙ ap (λ (z : Session). z.savepoints) (sym session);
     cursors = subst (λ (z : Session). AreCursors h2 xids env2 s k.cursors z.cursors) (sym session)
-        (cursors_last h h2 xids xids env env2 s (λ m cursor. cursor_stays h h2 xids xids env env2 s keeps m cursor (stays m.cursor.upto)) k.cursors (session_of h s).cursors is.cursors);
+        (cursors_last h h2 xids xids env env2 s (λ m cursor. cursor_stays h h2 xids xids env env2 s keeps m cursor (λ present. stays m.cursor.upto)) k.cursors (session_of h s).cursors is.cursors);
   }
     where
       counted : (count n : ℕ) → count + 1 ≡ n → n ≤ 320 → min (count + 1) (2 ^ 32 - 1) ≡ n

@@ -5,12 +5,12 @@ use Rattle.rb_base.specs.declared.ids.Xid.{Xid}
 use Rattle.rb_image.specs.Made.{KeepsIds}
 use Rattle.rb_model.specs.Book.{Book, book_at}
 use Rattle.rb_model.specs.Calls.{Action, End, Given, HasNoSlot, WritesIn, next_row}
-use Rattle.rb_model.specs.NextState.{EndsAs, change_in, cursors_of, ended, left_open, opened_cursor, with_cursors}
-use Rattle.rb_model.specs.NextState.{with_taken, without_cursor, without_owner, written}
+use Rattle.rb_model.specs.NextState.{EndsAs, change_in, cursors_of, left_open, opened_cursor, rolled_to, with_cursors}
+use Rattle.rb_model.specs.NextState.{with_savepoint, with_savepoints, with_taken, without_cursor, written}
 use Rattle.rb_model.specs.NextState as machine
 use Rattle.rb_model.specs.Rows.{TableRow, last_scn}
 use Rattle.rb_model.specs.State as model
-use Rattle.rb_model.specs.State.{State, cursor_of, is_table, opened, session_own}
+use Rattle.rb_model.specs.State.{State, cursor_of, is_table, opened, session_of, session_own}
 use Rattle.rb_base.specs.declared.shape.Shape.{Shape}
 use Rattle.rb_rebuild.specs.Reading.{Reading, answer}
 use Rattle.rb_sessions.specs.Kept as kept
@@ -52,28 +52,21 @@ CommittedIsRemembered = (h : State) (xids : List Xid) (blocks now : List (List �
     → Remembers (machine.committed h s x.seg x.slot) (xids ++ x ∷ []) (env_of h.shape now)
     (with_kept table_of s (kept.committed (kept_at table_of s)))
 
--- The end of a transaction of session s without changes, whose cursors stay open. The session has no slot then.
+-- The end of a transaction of session s without changes, whose cursors stay open.
 abbrev pub EndedIsRemembered : Type 0
 EndedIsRemembered = (h h2 : State) (xids : List Xid) (blocks now : List (List ℕ)) (table_of : List KeptSession)
     (s : ℕ)
     → BlocksStand h xids blocks → Remembers h xids (env_of h.shape blocks) table_of → 1 ≤ s → s ≤ SESSIONS
-    → session_own h s ≡ [] → EndsAs h s (cursors_of h s) h2 → HasNoSlot h2 s
+    → session_own h s ≡ [] → EndsAs h s (cursors_of h s) h2
     → KeepsIds h (env_of h.shape blocks) (env_of h.shape now)
     → Remembers h2 xids (env_of h.shape now) (with_kept table_of s (kept.committed (kept_at table_of s)))
 
--- That is so where the end is of the transaction of its id.
-abbrev pub EndLeavesNone : Type 0
-EndLeavesNone = (h : State) (xids : List Xid) (blocks : List (List ℕ)) (s : ℕ) (x : Xid)
-    (cursors : List model.Cursor)
-    → BlocksStand h xids blocks → IsOwnId h (env_of h.shape blocks) s (Some x)
-    → HasNoSlot (without_owner x.seg x.slot (ended h s cursors)) s
-
--- A rollback of session s, after which it has no slot.
+-- A rollback of session s.
 abbrev pub RolledBackIsRemembered : Type 0
 RolledBackIsRemembered = (h h2 : State) (xids : List Xid) (blocks now : List (List ℕ))
     (table_of : List KeptSession) (s : ℕ)
     → BlocksStand h xids blocks → Remembers h xids (env_of h.shape blocks) table_of → 1 ≤ s → s ≤ SESSIONS
-    → EndsAs h s (left_open 0 (cursors_of h s)) h2 → HasNoSlot h2 s
+    → EndsAs h s (left_open 0 (cursors_of h s)) h2
     → KeepsIds h (env_of h.shape blocks) (env_of h.shape now)
     → Remembers h2 xids (env_of h.shape now) (with_kept table_of s (kept.rolled_back (kept_at table_of s)))
 
@@ -98,6 +91,24 @@ OpenedIsRemembered = (h : State) (xids : List Xid) (blocks : List (List ℕ)) (t
     → Remembers (with_cursors h s (cursors_of h s ++ opened_cursor h s name table lo hi ∷ [])) xids
     (env_of h.shape blocks)
     (with_kept table_of s (with_cursor name (cursor_opened h (kept_at table_of s) table lo hi) (kept_at table_of s)))
+
+-- A savepoint of session s set now.
+abbrev pub SavepointIsRemembered : Type 0
+SavepointIsRemembered = (h : State) (xids : List Xid) (env : Env) (table_of : List KeptSession) (s : ℕ)
+    (name : List ℕ)
+    → Remembers h xids env table_of → 1 ≤ s → s ≤ SESSIONS
+    → Remembers
+    (with_savepoints h s (with_savepoint name (length (session_own h s)) (session_of h s).savepoints)) xids env
+    (with_kept table_of s (kept.with_savepoint name (kept_at table_of s)))
+
+-- A rollback of session s to a savepoint that keeps so many changes.
+abbrev pub CutIsRemembered : Type 0
+CutIsRemembered = (h : State) (xids : List Xid) (blocks now : List (List ℕ)) (table_of : List KeptSession) (s : ℕ)
+    (name : List ℕ) (first : ℕ)
+    → BlocksStand h xids blocks → Remembers h xids (env_of h.shape blocks) table_of → 1 ≤ s → s ≤ SESSIONS
+    → KeepsIds h (env_of h.shape blocks) (env_of h.shape now)
+    → Remembers (rolled_to h s name first) xids (env_of h.shape now)
+    (with_kept table_of s (kept.rolled_to name first (kept_at table_of s)))
 
 abbrev pub ClosedIsRemembered : Type 0
 ClosedIsRemembered = (h : State) (xids : List Xid) (env : Env) (table_of : List KeptSession) (s : ℕ)

@@ -54,10 +54,12 @@ AreCursors h xids env s (m ∷ kept) (c ∷ cursors) = IsCursor h xids env s m c
 AreCursors h xids env s [] (c ∷ cursors) = ⊥
 AreCursors h xids env s (m ∷ kept) [] = ⊥
 
--- session s: the id of its transaction is that of the table slot that it owns, and it has as many live changes
+-- session s: the id of its transaction is that of the table slot that it owns, and it has as many live changes and the
+-- same savepoints
 pub record IsSession (h : State) (xids : List Xid) (env : Env) (s : ℕ) (k : KeptSession) : Type 0 where
   pub id : IsOwnId h env s k.own
   pub count : k.count ≡ length (session_own h s)
+  pub savepoints : k.savepoints ≡ (session_of h s).savepoints
   pub cursors : AreCursors h xids env s k.cursors (session_of h s).cursors
 
 -- the table knows each session of the state, whose commits have these ids

@@ -2,7 +2,7 @@ use Rattle.std.proofs.Common.{◌≡◌, List, None, refl, sym, ◌∙◌, ap, s
 use Rattle.rb_base.specs.Logs.{Laws, no_logs}
 use Rattle.rb_engine.specs.Does.{Does, Goes, IsInStep, Kept, Stands}
 use Rattle.rb_model.specs.Calls as machine
-use Rattle.rb_model.specs.Calls.{Reply, cursor_tests, early_tests, none_applies}
+use Rattle.rb_model.specs.Calls.{Reply, name_tests, early_tests, none_applies}
 use Rattle.rb_model.specs.Names.{name_text}
 use Rattle.rb_model.specs.NextState as next
 use Rattle.rb_model.specs.NextState.{cursors_of, opened_cursor, without_cursor}
@@ -44,7 +44,7 @@ returns-then-is_none-clause-did g c = λ h st.
     let missing : named name (kept_at c.args.memory.now.sessions c.args.s).cursors ≡ None = ap (λ (l : List KeptSession). named name (kept_at l c.args.s).cursors) (sym sessions) ∙ (sym c.cursor.ensures ∙ none_of c.cursor.result c.is_none.result c.is_none.ensures c.if-is_none.true) in
     let none : cursor_of h c.args.s name ≡ None = (views.named_is h goes.xids (env_of h.shape (s.blocks c.args.store.now)) c.args.s name c.args.memory.now.sessions goes.remembers there.0 there.1).0 missing in
     does_refused_late s (laws_of g) h call NoCursor (record { memory = c.args.memory.now; store = c.args.store.now }) st c.requires.step.going
-    (Reply.later (cursor_tests h call) (no_early h c.args.s there st.knows.sixteen going) refl (rw none refl)) (λ clash. cc)
+    (Reply.later (name_tests h call) (no_early h c.args.s there st.knows.sixteen going) refl (rw none refl)) (λ clash. cc)
 
 pub returns-clause-step : goal.returns-clause-step
 returns-clause-step g c =
@@ -77,7 +77,7 @@ returns-clause-did g c = λ h st.
     subst (λ (k : Kept). Does s h call machine.Done (record { memory = k; store = store }) (record { memory = now; store = store })) c.memory.view_is
     (does_cursors s st.told (laws_of g) h call machine.Done c.args.s (without_cursor name (cursors_of h c.args.s)) (record { memory = old; store = store }) (record { memory = now; store = store }) here going
     (there.0, (let n = st.knows.sixteen in omega (arith, there, n)))
-    (Reply.later (cursor_tests h call) (no_early h c.args.s there st.knows.sixteen going) refl (rw its.1 refl)) refl refl (λ s t k a is done. cc) refl refl refl
+    (Reply.later (name_tests h call) (no_early h c.args.s there st.knows.sixteen going) refl (rw its.1 refl)) refl refl (λ s t k a is done. cc) refl refl refl
     (λ xids stand is. subst (Remembers (next.with_cursors h c.args.s (without_cursor name (cursors_of h c.args.s))) xids (env_of h.shape (s.blocks store))) (sym c.close_cursor.ensures) (views.closed h xids (env_of h.shape (s.blocks store)) old.sessions c.args.s name is there.0 there.1))
     (no_logs s store ((subst (λ (k : Kept). IsInStep s k store) (sym c.memory.view_is) c.requires.step).going (ap (λ (k : Kept). k.stopped) c.memory.view_is ∙ c.in_default.ensures.going)))
     (record { shape = refl; slots = refl }))

@@ -45,7 +45,7 @@ returns-in_default-cursor-clause-did g c = λ h st.
     ap (λ (l : List KeptSession). named name (kept_at l c.args.s).cursors) (sym table_is) ∙ (sym c.cursor.ensures ∙ c.in_default-cursor.is) in
     let none = (named_is h goes.xids _ c.args.s name kept.sessions goes.remembers e.session.0 e.session.1).0 nothing in
     does_refused_late s (laws_of g) h call NoCursor (record { memory = kept; store = c.args.store.now }) st c.requires.step.going
-    (Reply.later (machine.cursor_tests h call) (e.granted h st.knows) refl (answer_by h c.args.s name None (Refused NoCursor) none refl)) (λ clash. cc)
+    (Reply.later (machine.name_tests h call) (e.granted h st.knows) refl (answer_by h c.args.s name None (Refused NoCursor) none refl)) (λ clash. cc)
 
 pub next_row-requires-clause-table : goal.next_row-requires-clause-table
 next_row-requires-clause-table g c =

@@ -40,7 +40,7 @@ returns-in-Ok-clause-step g c =
     let k = kept_at inside.sessions c.args.s in
     let fit = fit_committed (s.shape_of store) k (fit_at s inside store is c.args.s) in
     let shape = c.commit_and_flush.ensures.same.shape in
-    let some = is.busy c.args.s c.args.xid own in
+    let some : 0 < (kept_at inside.sessions c.args.s).count = subst (λ (k : Kept). 0 < (kept_at k.sessions c.args.s).count) (sym c.memory.view_is) c.requires.some in
     let lsn = c.in-Ok.ensures.lsn in
     in_step_moved s inside now store new is shape c.args.s c.requires.session (table.committed k) fit c.commit.ensures
     (λ going. (c.in-Ok.ensures.failed, few_less s inside now store new is shape c.args.s c.requires.session (table.committed k) fit c.commit.ensures going (omega (arith, lsn, some))))
@@ -59,7 +59,8 @@ returns-in-Ok-clause-did g c = λ h st.
     let count = count_is s st.told (laws_of g) h old c.args.s c.args.xid here going there own in
     let new : EngineView _ = record { memory = record { sessions = c.commit.new.self; scn = c.saturating_add-scn.result; stopped = c.memory.inside.stopped }; store = c.commit_and_flush.new.store } in
     let held = goes s st.told (laws_of g) h old c.args.s c.args.xid here going there own in
-    let some : 0 < length (session_own h c.args.s) = let busy = low.busy c.args.s c.args.xid own in omega (arith, busy, count) in
+    let busy : 0 < (kept_at inside.sessions c.args.s).count = subst (λ (k : Kept). 0 < (kept_at k.sessions c.args.s).count) (sym c.memory.view_is) c.requires.some in
+    let some : 0 < length (session_own h c.args.s) = omega (arith, busy, count) in
     let number = next_known s st.told (laws_of g) h old c.args.s c.args.xid here going there own c.saturating_add-scn.result (let few = low.few (ap (λ (k : Kept). k.stopped) c.memory.view_is ∙ c.requires.going) in omega (arith, few)) c.saturating_add-scn.ensures in
     let who = who_in s st.told (laws_of g) h old c.args.s c.args.xid here going there own in
     subst (λ (k : Kept). Does s h (machine.Commit c.args.s) (machine.Numbered c.saturating_add-scn.result) (record { memory = k; store = store }) new) c.memory.view_is
@@ -81,7 +82,8 @@ returns-in-Err-clause-did g c = λ h st.
     let count = count_is s st.told (laws_of g) h old c.args.s c.args.xid here going there own in
     let new : EngineView _ = record { memory = c.stop.new.self; store = c.commit_and_flush.new.store } in
     let held = goes s st.told (laws_of g) h old c.args.s c.args.xid here going there own in
-    let some : 0 < length (session_own h c.args.s) = let busy = low.busy c.args.s c.args.xid own in omega (arith, busy, count) in
+    let busy : 0 < (kept_at inside.sessions c.args.s).count = subst (λ (k : Kept). 0 < (kept_at k.sessions c.args.s).count) (sym c.memory.view_is) c.requires.some in
+    let some : 0 < length (session_own h c.args.s) = omega (arith, busy, count) in
     let number = next_known s st.told (laws_of g) h old c.args.s c.args.xid here going there own c.saturating_add-scn.result (let few = low.few (ap (λ (k : Kept). k.stopped) c.memory.view_is ∙ c.requires.going) in omega (arith, few)) c.saturating_add-scn.ensures in
     let who = who_in s st.told (laws_of g) h old c.args.s c.args.xid here going there own in
     subst (λ (k : Kept). Does s h (machine.Commit c.args.s) (machine.Refused DiskFault) (record { memory = k; store = store }) new) c.memory.view_is

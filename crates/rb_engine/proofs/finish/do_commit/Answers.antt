@@ -53,10 +53,10 @@ returns-in-None-clause-did g c = λ h st.
     let here : Stands s h old = subst (λ (k : Kept). Stands s h (record { memory = k; store = store })) (sym c.memory.view_is) st in
     let going : h.stopped ≡ false = sym st.knows.stopped ∙ c.in_default.ensures.going in
     let there = c.in_default.ensures.session in
-    let own : (kept_at inside.sessions c.args.s).own ≡ None = sym c.session.ensures.own ∙ c.in-None.is in
+    let own : (kept_at inside.sessions c.args.s).own ≡ None = sym c.session-session.ensures.own ∙ c.in-None.is in
     let early = no_early h c.args.s there st.knows.sixteen going in
     subst (λ (k : Kept). Does s h (machine.Commit c.args.s) machine.Done (record { memory = k; store = store }) new) c.memory.view_is
     (does_ended s (laws_of g) h (machine.Commit c.args.s) c.args.s (cursors_of h c.args.s) old new here going there (is.going (ap (λ (k : Kept). k.stopped) c.memory.view_is ∙ c.in_default.ensures.going)) (λ now s t k a is done. cc) own (is.idle c.args.s own) early
     (λ free none. Reply.later [] early refl (rw none refl)) (λ free none. inr (none, inr (free, refl))) (λ free none. inr (none, inr (free, refl)))
-    (λ free empty xids stand knows. subst (Remembers (ended h c.args.s (cursors_of h c.args.s)) xids (env_of h.shape (s.blocks store))) (sym c.commit.ensures) (end_remembered h (ended h c.args.s (cursors_of h c.args.s)) xids (env_of h.shape (s.blocks store)) (env_of h.shape (s.blocks store)) inside.sessions c.args.s knows there.0 there.1 empty (inr (free, refl)) (λ t o at. free t o at) (λ u t owns. refl)))
+    (λ free empty xids stand knows. subst (Remembers (ended h c.args.s (cursors_of h c.args.s)) xids (env_of h.shape (s.blocks store))) (sym c.commit.ensures) (end_remembered h (ended h c.args.s (cursors_of h c.args.s)) xids (s.blocks store) (env_of h.shape (s.blocks store)) inside.sessions c.args.s stand knows there.0 there.1 empty (inr (free, refl)) (λ u t owns. refl)))
     refl refl refl)

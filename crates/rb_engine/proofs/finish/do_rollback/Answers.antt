@@ -58,5 +58,5 @@ returns-in-None-clause-did g c = λ h st.
     subst (λ (k : Kept). Does s h (machine.Rollback c.args.s) machine.Done (record { memory = k; store = store }) new) c.memory.view_is
     (does_ended s (laws_of g) h (machine.Rollback c.args.s) c.args.s (left_open 0 (cursors_of h c.args.s)) old new here going there (is.going (ap (λ (k : Kept). k.stopped) c.memory.view_is ∙ c.in_default.ensures.going)) (λ now s t k a is done. cc) own (is.idle c.args.s own) early
     (λ free none. Reply.later [] early refl refl) (λ free none. inr (free, refl)) (λ free none. inr (free, refl))
-    (λ free empty xids stand knows. subst (Remembers (ended h c.args.s (left_open 0 (cursors_of h c.args.s))) xids (env_of h.shape (s.blocks store))) (sym c.rollback.ensures) (back_remembered h (ended h c.args.s (left_open 0 (cursors_of h c.args.s))) xids (env_of h.shape (s.blocks store)) (env_of h.shape (s.blocks store)) inside.sessions c.args.s knows there.0 there.1 (inr (free, refl)) (λ t o at. free t o at) (λ u t owns. refl)))
+    (λ free empty xids stand knows. subst (Remembers (ended h c.args.s (left_open 0 (cursors_of h c.args.s))) xids (env_of h.shape (s.blocks store))) (sym c.rollback.ensures) (back_remembered h (ended h c.args.s (left_open 0 (cursors_of h c.args.s))) xids (s.blocks store) (env_of h.shape (s.blocks store)) inside.sessions c.args.s stand knows there.0 there.1 (inr (free, refl)) (λ u t owns. refl)))
     refl refl refl)

@@ -1,6 +1,6 @@
 use Rattle.std.proofs.Common.{◌≡◌, Some, false, true, refl, sym, ◌∙◌, ap, subst, arith}
 use Rattle.rb_base.specs.Logs.{Laws}
-use Rattle.rb_engine.specs.Does.{Does, EngineView, IsInStep, Kept, Stands}
+use Rattle.rb_engine.specs.Does.{Does, EngineView, IsInStep, Kept, Stands, slots_had}
 use Rattle.rb_model.specs.Calls as machine
 use Rattle.rb_model.specs.Calls.{Reply, is_empty}
 use Rattle.rb_model.specs.declared.refusal.Refusal.TheVariants.{DiskFault}
@@ -48,11 +48,11 @@ returns-in-Ok-clause-step g c =
     let k = kept_at inside.sessions c.args.s in
     let fit = fit_rolled_back (s.shape_of store) k (fit_at s inside store is c.args.s) in
     let shape = c.put_all_back.ensures.same.shape in
-    let some = is.busy c.args.s c.args.xid own in
+    let slot : slots_had k.own ≡ 1 = ap slots_had own in
     let lsn = c.in-Ok.ensures.lsn in
     let length_is = c.session-count.ensures.length in
     in_step_moved s inside now store new is shape c.args.s c.requires.session (table.rolled_back k) fit c.rollback.ensures
-    (λ going. (c.in-Ok.ensures.failed, few_less s inside now store new is shape c.args.s c.requires.session (table.rolled_back k) fit c.rollback.ensures going (omega (arith, lsn, some, length_is))))
+    (λ going. (c.in-Ok.ensures.failed, few_less s inside now store new is shape c.args.s c.requires.session (table.rolled_back k) fit c.rollback.ensures going (omega (arith, lsn, slot, length_is))))
 
 pub returns-in-Ok-clause-did : goal.returns-in-Ok-clause-did
 returns-in-Ok-clause-did g c = λ h st.

@@ -1,4 +1,4 @@
-use Rattle.std.proofs.Common.{◌≡◌, ◌⊎◌, inl, inr, ◌∙◌, refl, true, ◌<◌, ◌≤◌, ◌%◌, ◌*◌, ◌+◌, ◌-◌, ◌/◌, nat_le, ℕ, suc, ap, arith, false}
+use Rattle.std.proofs.Common.{◌≡◌, ◌⊎◌, inl, inr, ◌∙◌, true, ◌<◌, ◌≤◌, ◌%◌, ◌*◌, ◌+◌, ◌-◌, ◌/◌, nat_le, ℕ, suc, ap, arith, false}
 use Rattle.std.proofs.Math.Nat.{div-add-mod, mod-lt, mul-le-mul_left, mul-suc, mul_comm}
 use Rattle.std.proofs.lemmas.Bool.{cases_lt, cases_eq}
 use Rattle.std.proofs.lemmas.Nat.{mod-mul-add}

@@ -1,6 +1,6 @@
 use Rattle.std.proofs.Common.{◌∙◌}
 use Rattle.rb_base.specs.Logs.{Laws}
-use Rattle.rb_model.specs.Answers.{action_of}
+use Rattle.rb_model.specs.Answers.{action_by}
 use Rattle.rb_model.specs.Calls as machine
 use Rattle.rb_engine.proofs.DoesLemmas.{does_refused}
 use Rattle.rb_engine.proofs.write.do_write.Given.{Over}
@@ -17,7 +17,7 @@ laws_of g = record {
 
 pub returns-in-Err-clause-did : goal.returns-in-Err-clause-did
 returns-in-Err-clause-did g c = λ h st.
-    does_refused g.T.Store (laws_of g) h (machine.Write c.args.s c.args.table c.args.key (action_of c.args.op)) c.in-Err.why (record { memory = c.args.memory.now; store = c.args.store.now }) st c.requires.step.going
+    does_refused g.T.Store (laws_of g) h (machine.Write c.args.s c.args.table c.args.key (action_by c.args.op)) c.in-Err.why (record { memory = c.args.memory.now; store = c.args.store.now }) st c.requires.step.going
     (c.in-Err.ensures.refused h c.args.key st.knows (c.shape.ensures.shape ∙ st.shape)) c.in-Err.ensures.other
 
 pub returns-clause-did : goal.returns-clause-did

@@ -3,7 +3,7 @@ use Rattle.std.proofs.lemmas.Bool.{cases_Bool, false≢true}
 use Rattle.rb_base.specs.Logs.{Laws}
 use Rattle.rb_base.specs.declared.ids.Xid.{Xid}
 use Rattle.rb_engine.specs.Does.{Does, EngineView, Goes, Kept, SameStore}
-use Rattle.rb_model.specs.Answers.{action_of}
+use Rattle.rb_model.specs.Answers.{action_by}
 use Rattle.rb_model.specs.Calls as machine
 use Rattle.rb_model.specs.Calls.{is_disk_fault}
 use Rattle.rb_model.specs.declared.refusal.Refusal.{Refusal}
@@ -53,7 +53,7 @@ returns-in-Ok-clause-did g c = λ h st early others.
     let going : h.stopped ≡ false = sym st.knows.stopped ∙ c.requires.going in
     let logs = c.in-Ok.ensures.logs in
     let goes : Goes s h old = st.goes going in
-    let action = action_of c.args.op in
+    let action = action_by c.args.op in
     let sixteen = st.knows.sixteen in
     let table : c.memory.inside.sessions ≡ kept.sessions = ap (λ (m : Kept). m.sessions) c.memory.view_is in
     let own : c.session-own.result.own ≡ (kept_at kept.sessions u).own = c.session-own.ensures.own ∙ ap (λ (l : List KeptSession). (kept_at l u).own) table in
@@ -98,7 +98,7 @@ returns-in-Err-clause-did g c = λ h st early others.
     let logs = c.in-Err.ensures.logs in
     let same : SameStore s old.store new.store = record { shape = logs.1.same_shape; slots = logs.1.same_slots } in
     let goes : Goes s h old = st.goes going in
-    let action = action_of c.args.op in
+    let action = action_by c.args.op in
     let sixteen = st.knows.sixteen in
     let there = c.requires.session in
     let table : c.memory.inside.sessions ≡ kept.sessions = ap (λ (m : Kept). m.sessions) c.memory.view_is in

@@ -2,7 +2,7 @@ use Rattle.std.proofs.Common.{◌≡◌, ℕ, false, true, [], Option, Some, Non
 use Rattle.rb_base.specs.Logs.{Laws, Logs}
 use Rattle.rb_engine.specs.Does.{EngineView, Goes}
 use Rattle.rb_engine.specs.Scanning.{OtherHolds}
-use Rattle.rb_model.specs.Answers.{action_of, write_answer}
+use Rattle.rb_model.specs.Answers.{action_by, write_answer}
 use Rattle.rb_model.specs.Calls as machine
 use Rattle.rb_sessions.specs.Kept.{kept_at}
 use Rattle.rb_undoengine.proofs.Somewhere.{somewhere}
@@ -28,7 +28,7 @@ returns-in-Err-clause-did g c = λ h st early.
     let going : h.stopped ≡ false = sym st.knows.stopped ∙ c.requires.going in
     let logs : Logs s old.store new.store [] false = c.in-Err.ensures.logs in
     let goes : Goes s h old = st.goes going in
-    does_fault s st.told (laws_of g) h (machine.Write c.args.s c.args.table c.args.key (action_of c.args.op)) old new st going early c.stop.ensures (record { shape = logs.same_shape; slots = logs.same_slots })
+    does_fault s st.told (laws_of g) h (machine.Write c.args.s c.args.table c.args.key (action_by c.args.op)) old new st going early c.stop.ensures (record { shape = logs.same_shape; slots = logs.same_slots })
     (fault_survives s st.told (laws_of g) h goes.xids old.store new.store st.shape goes.holds logs)
 
 pub returns-in-Ok-Some-clause-did : goal.returns-in-Ok-Some-clause-did
@@ -40,7 +40,7 @@ returns-in-Ok-Some-clause-did g c = λ h st early.
     let going : h.stopped ≡ false = sym st.knows.stopped ∙ c.requires.going in
     let logs : Logs s old.store new.store [] true = c.in-Ok-Some.ensures.logs in
     let goes : Goes s h old = st.goes going in
-    let action = action_of c.args.op in
+    let action = action_by c.args.op in
     let sixteen = st.knows.sixteen in
     let there = c.requires.session in
     let held : OtherHolds h u c.args.table c.args.key (Some c.in-Ok-Some.on) = subst (λ (o : Option ℕ). OtherHolds h u c.args.table c.args.key o) c.in-Ok-Some.field-0-is
@@ -60,5 +60,5 @@ returns-in-Ok-None-clause-did g c = λ h st early.
     let goes : Goes s h old = st.goes going in
     let others : OtherHolds h u c.args.table c.args.key None = subst (λ (o : Option ℕ). OtherHolds h u c.args.table c.args.key o) c.in-Ok-None.field-0-is
     (c.in-Ok-None.ensures.other st.told h goes.xids goes.holds.blocks st.shape goes.remembers) in
-    does_after s st.told (laws_of g) h old mid st refl logs (machine.Write u c.args.table c.args.key (action_of c.args.op)) (write_answer c.make_write.result) new
+    does_after s st.told (laws_of g) h old mid st refl logs (machine.Write u c.args.table c.args.key (action_by c.args.op)) (write_answer c.make_write.result) new
     (c.make_write.ensures.did h (stands_loaded s st.told (laws_of g) h old mid st refl logs) early others)

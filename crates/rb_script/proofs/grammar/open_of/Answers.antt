@@ -1,4 +1,4 @@
-use Rattle.std.proofs.Common.{[]}
+use Rattle.std.proofs.Common.{[], refl}
 use Rattle.rb_model.specs.Lines.{OpenLine, Id, Key, Named}
 use Rattle.rb_model.specs.Names.{name_text}
 use Rattle.rb_script.proofs.Spaced.{if_none}
@@ -8,25 +8,25 @@ use Rattle.rb_script.proofs.Spellings.{no_fields}
 use Rattle.rb_script.proofs.grammar.open_of.Goals as goal
 
 pub returns-in_err-name-clause-none : goal.returns-in_err-name-clause-none
-returns-in_err-name-clause-none c = if_none c.from_residual-in_err-name.result (no_fields (OpenLine 0 [] 0 0 0) c.args.fields.now
+returns-in_err-name-clause-none c = if_none c.from_residual-in_err-name.result (no_fields (OpenLine 0 [] 0 0 0) c.args.fields.now refl
     (none_after (Id c.in_ok-s.s) c.in_ok-s.ensures.range c.in_ok-s.ensures.found
     (none_first NameKind IdKind (λ n name. c.in_err-name.ensures.none name))))
 
 pub returns-in_err-t-clause-none : goal.returns-in_err-t-clause-none
-returns-in_err-t-clause-none c = if_none c.from_residual-in_err-t.result (no_fields (OpenLine 0 [] 0 0 0) c.args.fields.now
+returns-in_err-t-clause-none c = if_none c.from_residual-in_err-t.result (no_fields (OpenLine 0 [] 0 0 0) c.args.fields.now refl
     (none_after (Id c.in_ok-s.s) c.in_ok-s.ensures.range c.in_ok-s.ensures.found
     (none_after (Named (name_text c.in_ok-name.name)) c.in_ok-name.ensures.valid c.in_ok-name.ensures.found
     (none_first IdKind KeyKind (λ n bytes. c.in_err-t.ensures.none n)))))
 
 pub returns-in_err-lo-clause-none : goal.returns-in_err-lo-clause-none
-returns-in_err-lo-clause-none c = if_none c.from_residual-in_err-lo.result (no_fields (OpenLine 0 [] 0 0 0) c.args.fields.now
+returns-in_err-lo-clause-none c = if_none c.from_residual-in_err-lo.result (no_fields (OpenLine 0 [] 0 0 0) c.args.fields.now refl
     (none_after (Id c.in_ok-s.s) c.in_ok-s.ensures.range c.in_ok-s.ensures.found
     (none_after (Named (name_text c.in_ok-name.name)) c.in_ok-name.ensures.valid c.in_ok-name.ensures.found
     (none_after (Id c.in_ok-t.t) c.in_ok-t.ensures.range c.in_ok-t.ensures.found
     (none_first KeyKind KeyKind (λ n bytes. c.in_err-lo.ensures.none n))))))
 
 pub returns-in_err-hi-clause-none : goal.returns-in_err-hi-clause-none
-returns-in_err-hi-clause-none c = if_none c.from_residual-in_err-hi.result (no_fields (OpenLine 0 [] 0 0 0) c.args.fields.now
+returns-in_err-hi-clause-none c = if_none c.from_residual-in_err-hi.result (no_fields (OpenLine 0 [] 0 0 0) c.args.fields.now refl
     (none_after (Id c.in_ok-s.s) c.in_ok-s.ensures.range c.in_ok-s.ensures.found
     (none_after (Named (name_text c.in_ok-name.name)) c.in_ok-name.ensures.valid c.in_ok-name.ensures.found
     (none_after (Id c.in_ok-t.t) c.in_ok-t.ensures.range c.in_ok-t.ensures.found

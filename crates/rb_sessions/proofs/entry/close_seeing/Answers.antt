@@ -6,5 +6,5 @@ use Rattle.rb_sessions.proofs.entry.close_seeing.Goals as goal
 
 pub returns : goal.returns
 returns c =
-    ap (map cursor_view) (filter-from_retain _ (λ n. not (n.cursor.present && nat_lt c.args.first n.cursor.upto)) _ (λ x b f' y k. (search rules, search rules, search rules)) _ _ c.retain.ensures.filtered)
+    ap (map cursor_view) (filter-from_retain _ (λ n. not (n.value.present && nat_lt c.args.first n.value.upto)) _ (λ x b f' y k. (search rules, search rules, search rules)) _ _ c.retain.ensures.filtered)
     ∙ open_left c.args.first c.args.cursors.now.items

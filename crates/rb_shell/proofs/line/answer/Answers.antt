@@ -21,6 +21,17 @@ returns-in-Write-clause-disk g c = counted_as _ _ _ _ (sym (c.answer_to_write.en
 pub returns-in-Write-clause-fits : goal.returns-in-Write-clause-fits
 returns-in-Write-clause-fits g c = subst (λ (command : Command). FitsCaller (caller (command_of command)) c.answer_to_write.result) (sym c.in-Write.is) (c.answer_to_write.ensures.fits c.in-Write.s)
 
+pub returns-in-Lock-clause-did : goal.returns-in-Lock-clause-did
+returns-in-Lock-clause-did g c = λ h st.
+    subst (λ (command : Command). Does g.T.Store h (call_of (command_of command) c.args.k) (answer_of c.answer_to_write-in-Lock.result c.args.row.now) c.args.engine.now c.lock.new.self) (sym c.in-Lock.is)
+    (subst (λ (r : Answer). Does g.T.Store h (call_of (command_of (commands.Lock c.in-Lock.s c.in-Lock.t c.in-Lock.k)) c.args.k) r c.args.engine.now c.lock.new.self) (sym (c.answer_to_write-in-Lock.ensures.answer c.args.row.now)) (c.lock.ensures.did h st))
+
+pub returns-in-Lock-clause-disk : goal.returns-in-Lock-clause-disk
+returns-in-Lock-clause-disk g c = counted_as _ _ _ _ (sym (c.answer_to_write-in-Lock.ensures.fault c.args.row.now)) c.lock.ensures.disk
+
+pub returns-in-Lock-clause-fits : goal.returns-in-Lock-clause-fits
+returns-in-Lock-clause-fits g c = subst (λ (command : Command). FitsCaller (caller (command_of command)) c.answer_to_write-in-Lock.result) (sym c.in-Lock.is) (c.answer_to_write-in-Lock.ensures.fits c.in-Lock.s)
+
 pub returns-in-Commit-clause-did : goal.returns-in-Commit-clause-did
 returns-in-Commit-clause-did g c = λ h st.
     subst (λ (command : Command). Does g.T.Store h (call_of (command_of command) c.args.k) (answer_of c.answer_to_commit.result c.args.row.now) c.args.engine.now c.commit.new.self) (sym c.in-Commit.is)
@@ -42,6 +53,28 @@ returns-in-Rollback-clause-disk g c = counted_as _ _ _ _ (sym (c.answer_to_call.
 
 pub returns-in-Rollback-clause-fits : goal.returns-in-Rollback-clause-fits
 returns-in-Rollback-clause-fits g c = subst (λ (command : Command). FitsCaller (caller (command_of command)) c.answer_to_call.result) (sym c.in-Rollback.is) (c.answer_to_call.ensures.fits (Some c.in-Rollback.s))
+
+pub returns-in-Savepoint-clause-did : goal.returns-in-Savepoint-clause-did
+returns-in-Savepoint-clause-did g c = λ h st.
+    subst (λ (command : Command). Does g.T.Store h (call_of (command_of command) c.args.k) (answer_of c.answer_to_call-in-Savepoint.result c.args.row.now) c.args.engine.now c.savepoint.new.self) (sym c.in-Savepoint.is)
+    (subst (λ (r : Answer). Does g.T.Store h (call_of (command_of (commands.Savepoint c.in-Savepoint.s c.in-Savepoint.name)) c.args.k) r c.args.engine.now c.savepoint.new.self) (sym (c.answer_to_call-in-Savepoint.ensures.answer c.args.row.now)) (c.savepoint.ensures.did h st))
+
+pub returns-in-Savepoint-clause-disk : goal.returns-in-Savepoint-clause-disk
+returns-in-Savepoint-clause-disk g c = counted_as _ _ _ _ (sym (c.answer_to_call-in-Savepoint.ensures.fault c.args.row.now)) c.savepoint.ensures.disk
+
+pub returns-in-Savepoint-clause-fits : goal.returns-in-Savepoint-clause-fits
+returns-in-Savepoint-clause-fits g c = subst (λ (command : Command). FitsCaller (caller (command_of command)) c.answer_to_call-in-Savepoint.result) (sym c.in-Savepoint.is) (c.answer_to_call-in-Savepoint.ensures.fits (Some c.in-Savepoint.s))
+
+pub returns-in-RollbackTo-clause-did : goal.returns-in-RollbackTo-clause-did
+returns-in-RollbackTo-clause-did g c = λ h st.
+    subst (λ (command : Command). Does g.T.Store h (call_of (command_of command) c.args.k) (answer_of c.answer_to_call-in-RollbackTo.result c.args.row.now) c.args.engine.now c.rollback_to.new.self) (sym c.in-RollbackTo.is)
+    (subst (λ (r : Answer). Does g.T.Store h (call_of (command_of (commands.RollbackTo c.in-RollbackTo.s c.in-RollbackTo.name)) c.args.k) r c.args.engine.now c.rollback_to.new.self) (sym (c.answer_to_call-in-RollbackTo.ensures.answer c.args.row.now)) (c.rollback_to.ensures.did h st))
+
+pub returns-in-RollbackTo-clause-disk : goal.returns-in-RollbackTo-clause-disk
+returns-in-RollbackTo-clause-disk g c = counted_as _ _ _ _ (sym (c.answer_to_call-in-RollbackTo.ensures.fault c.args.row.now)) c.rollback_to.ensures.disk
+
+pub returns-in-RollbackTo-clause-fits : goal.returns-in-RollbackTo-clause-fits
+returns-in-RollbackTo-clause-fits g c = subst (λ (command : Command). FitsCaller (caller (command_of command)) c.answer_to_call-in-RollbackTo.result) (sym c.in-RollbackTo.is) (c.answer_to_call-in-RollbackTo.ensures.fits (Some c.in-RollbackTo.s))
 
 pub returns-in-OpenCursor-clause-did : goal.returns-in-OpenCursor-clause-did
 returns-in-OpenCursor-clause-did g c = λ h st.

@@ -1,4 +1,3 @@
-use Rattle.std.proofs.Common.{false}
 use Rattle.rb_base.specs.Logs.{Laws}
 use Rattle.rb_shell.proofs.LastLemmas.{made_last, not_made}
 use Rattle.rb_shell.specs.declared.status.Status.TheVariants.{DiskFault}

@@ -1,5 +1,4 @@
-use Rattle.std.proofs.Common.{◌≡◌, ◌≢◌, ◌∙◌, ⊎_elim, ap, sym, subst, refl, ℕ, false}
-use Rattle.rb_base.specs.declared.store.Store.{Ghosts}
+use Rattle.std.proofs.Common.{◌≡◌, ◌≢◌, ◌∙◌, ⊎_elim, ap, sym, subst, ℕ}
 use Rattle.rb_lines.specs.Ends.{EndsAs}
 use Rattle.rb_lines.specs.Ends as lines
 use Rattle.rb_lines.specs.Faults.{IsCountedBeside}
@@ -7,14 +6,11 @@ use Rattle.rb_lines.specs.declared.lines.LinesEnd.{LinesEnd}
 use Rattle.rb_lines.specs.declared.lines.LinesEnd.TheVariants as ends
 use Rattle.rb_image.proofs.Crashes.{survives_on}
 use Rattle.rb_image.specs.Crash.{OpensUpTo, Survives}
-use Rattle.rb_model.specs.Out.{Logged}
-use Rattle.rb_model.specs.State.{State}
-use Rattle.rb_shell.specs.Runs.{EndsBy, MadeLast}
-use Rattle.rb_shell.specs.Since.{IsSince, StandsAs, slots_of}
+use Rattle.rb_shell.specs.Runs.{MadeLast}
+use Rattle.rb_shell.specs.Since.{slots_of}
 use Rattle.rb_shell.specs.Statuses.{by_disk, by_sink, by_source}
 use Rattle.rb_shell.specs.declared.status.Status.TheVariants as statuses
 use Rattle.rb_shell.proofs.StatusLemmas.{cases_end, counted_as, counted_beside, counted_on, disk_of, done_by, done_of, last_sink, last_source, line_ends, sink_of, source_of}
-use Rattle.rb_shell.proofs.script.run_engine.Given.{Over}
 use Rattle.rb_shell.proofs.script.run_engine.Goals as goal
 
 pub returns-clause-did : goal.returns-clause-did

@@ -1,4 +1,4 @@
-use Rattle.std.proofs.Common.{◌≤◌, Bool, not, Some, refl, sym, ◌∙◌, ap, subst}
+use Rattle.std.proofs.Common.{◌≤◌, Bool, not, sym, ◌∙◌, ap, subst}
 use Rattle.rb_attempt.specs.Asks.{AreYoung, MayWrite}
 use Rattle.rb_attempt.specs.declared.ask.Ask.{Ask}
 use Rattle.rb_base.specs.Logs.{Logs, group_of}
@@ -15,11 +15,11 @@ pub returns-clause-gives : goal.returns-clause-gives
 returns-clause-gives g c told h xids s about same s_in mine number sixteen =
     let s_of = g.S.Store in
     let old = c.args.store.now in
-    let ask : Ask = record { own = c.args.own; table = c.args.table; key = c.args.key; op = Some c.args.op } in
+    let ask : Ask = record { own = c.args.own; table = c.args.table; key = c.args.key; op = c.args.op } in
     let are_young : AreYoung (s_of.shape_of old) (s_of.blocks old) = subst (λ (k : Shape). AreYoung k (s_of.blocks old)) (sym same) (young h xids (s_of.blocks old) about.stand) in
     let last : c.args.table ≤ h.shape.tables = subst (λ (k : Shape). c.args.table ≤ k.tables) same c.requires.table.1 in
     let call = c.attempt.ensures in
-    done s_of told old c.attempt.new.store h xids s ask c.args.op about same refl c.requires.table.0 last mine c.attempt.result call.logs.0 s_in number (kept_few h xids (s_of.blocks old) c.args.own about.stand sixteen) call.logs.1
+    done s_of told old c.attempt.new.store h xids s ask about same c.requires.table.0 last mine c.attempt.result call.logs.0 s_in number (kept_few h xids (s_of.blocks old) c.args.own about.stand sixteen) call.logs.1
     (call.written told (number ∙ ap (λ (k : Shape). logged_of k (s_of.blocks old)) (sym same)) are_young)
     (call.takes told are_young) (on_ok c.attempt.result (λ room. room.0) call.room) (call.kept told)
 
@@ -27,20 +27,20 @@ pub returns-clause-refused : goal.returns-clause-refused
 returns-clause-refused g c told going h xids s about same s_in mine sixteen =
     let s_of = g.S.Store in
     let old = c.args.store.now in
-    let ask : Ask = record { own = c.args.own; table = c.args.table; key = c.args.key; op = Some c.args.op } in
+    let ask : Ask = record { own = c.args.own; table = c.args.table; key = c.args.key; op = c.args.op } in
     let are_young : AreYoung (s_of.shape_of old) (s_of.blocks old) = subst (λ (k : Shape). AreYoung k (s_of.blocks old)) (sym same) (young h xids (s_of.blocks old) about.stand) in
     let last : c.args.table ≤ h.shape.tables = subst (λ (k : Shape). c.args.table ≤ k.tables) same c.requires.table.1 in
     let may = subst (λ (k : Shape). MayWrite k (s_of.blocks old) c.args.own) (sym same) (may_write h xids (s_of.blocks old) s c.args.own about s_in sixteen) in
     let call = c.attempt.ensures in
-    refused_as s_of told old c.attempt.new.store h xids s ask c.args.op about same refl c.requires.table.0 last mine c.attempt.result (call.cause told are_young may going)
+    refused_as s_of told old c.attempt.new.store h xids s ask about same c.requires.table.0 last mine c.attempt.result (call.cause told are_young may going)
 
 pub returns-clause-failed : goal.returns-clause-failed
 returns-clause-failed g c told fails h xids s about same s_in mine number sixteen =
     let s_of = g.S.Store in
     let old = c.args.store.now in
-    let ask : Ask = record { own = c.args.own; table = c.args.table; key = c.args.key; op = Some c.args.op } in
+    let ask : Ask = record { own = c.args.own; table = c.args.table; key = c.args.key; op = c.args.op } in
     let are_young : AreYoung (s_of.shape_of old) (s_of.blocks old) = subst (λ (k : Shape). AreYoung k (s_of.blocks old)) (sym same) (young h xids (s_of.blocks old) about.stand) in
     let last : c.args.table ≤ h.shape.tables = subst (λ (k : Shape). c.args.table ≤ k.tables) same c.requires.table.1 in
     let group = c.attempt.ensures.group told (number ∙ ap (λ (k : Shape). logged_of k (s_of.blocks old)) (sym same)) are_young in
-    failed_as s_of told old c.attempt.new.store h xids s ask c.args.op about same refl c.requires.table.0 last mine group.0 (subst (λ (b : Bool). Logs s_of old c.attempt.new.store (group_of group.0) (not b)) fails group.1)
-    (makes s_of told old c.attempt.new.store h xids s ask c.args.op about same refl c.requires.table.0 last mine group.0 s_in number (kept_few h xids (s_of.blocks old) c.args.own about.stand sixteen) group.2)
+    failed_as s_of told old c.attempt.new.store h xids s ask about same c.requires.table.0 last mine group.0 (subst (λ (b : Bool). Logs s_of old c.attempt.new.store (group_of group.0) (not b)) fails group.1)
+    (makes s_of told old c.attempt.new.store h xids s ask about same c.requires.table.0 last mine group.0 s_in number (kept_few h xids (s_of.blocks old) c.args.own about.stand sixteen) group.2)

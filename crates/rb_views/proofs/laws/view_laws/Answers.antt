@@ -3,10 +3,11 @@ use Rattle.rb_model.specs.NextState.{change_in}
 use Rattle.rb_standing.specs.Standing.{env_of}
 use Rattle.rb_views.proofs.Cursors as cursors
 use Rattle.rb_views.proofs.Cursors.{named_is}
-use Rattle.rb_views.proofs.Ended.{back_remembered, committed_remembered, end_remembered, none_left}
+use Rattle.rb_views.proofs.Ended.{back_remembered, committed_remembered, end_remembered}
 use Rattle.rb_views.proofs.Fetching.{ends, gives, reads}
 use Rattle.rb_views.proofs.Lost.{lost_is}
 use Rattle.rb_views.proofs.Opened.{first_remembered}
+use Rattle.rb_views.proofs.Savepoints.{cut_remembered, savepoint_remembered}
 use Rattle.rb_views.proofs.Taken as given
 use Rattle.rb_views.proofs.Written.{written_remembered}
 use Rattle.rb_views.proofs.laws.view_laws.Goals as goal
@@ -22,13 +23,16 @@ pub returns-clause-committed : goal.returns-clause-committed
 returns-clause-committed c = λ h xids blocks now table_of s x stand is low high own ids. committed_remembered h xids blocks now table_of s x stand is low high own ids
 
 pub returns-clause-ended : goal.returns-clause-ended
-returns-clause-ended c = λ h h2 xids blocks now table_of s stand is low high empty is_end none ids. end_remembered h h2 xids (env_of h.shape blocks) (env_of h.shape now) table_of s is low high empty is_end none ids
-
-pub returns-clause-none_left : goal.returns-clause-none_left
-returns-clause-none_left c = none_left
+returns-clause-ended c = λ h h2 xids blocks now table_of s stand is low high empty is_end ids. end_remembered h h2 xids blocks (env_of h.shape now) table_of s stand is low high empty is_end ids
 
 pub returns-clause-rolled_back : goal.returns-clause-rolled_back
-returns-clause-rolled_back c = λ h h2 xids blocks now table_of s stand is low high is_end none ids. back_remembered h h2 xids (env_of h.shape blocks) (env_of h.shape now) table_of s is low high is_end none ids
+returns-clause-rolled_back c = λ h h2 xids blocks now table_of s stand is low high is_end ids. back_remembered h h2 xids blocks (env_of h.shape now) table_of s stand is low high is_end ids
+
+pub returns-clause-savepoint : goal.returns-clause-savepoint
+returns-clause-savepoint c = savepoint_remembered
+
+pub returns-clause-cut : goal.returns-clause-cut
+returns-clause-cut c = λ h xids blocks now table_of s name first stand is low high ids. cut_remembered h xids (env_of h.shape blocks) (env_of h.shape now) s name first low ids table_of high is
 
 pub returns-clause-opened : goal.returns-clause-opened
 returns-clause-opened c = λ h xids blocks table_of s name table lo hi stand is low high there. cursors.opened h xids blocks table_of s name table lo hi stand is low high there

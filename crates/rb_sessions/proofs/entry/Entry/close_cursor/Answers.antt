@@ -1,7 +1,8 @@
 use Rattle.std.proofs.Common.{◌∙◌, sym, ap, map}
 use Rattle.rb_model.specs.Names.{name_text}
 use Rattle.rb_sessions.specs.Kept.{cursor_view, session_view, with_cursors}
-use Rattle.rb_sessions.proofs.Cursors.{search_is, without_found, without_not_found}
+use Rattle.rb_sessions.proofs.Cursors.{without_found, without_not_found}
+use Rattle.rb_sessions.proofs.Places.{search_is}
 use Rattle.rb_sessions.proofs.entry.Entry.close_cursor.Goals as goal
 
 pub returns-in-Some : goal.returns-in-Some

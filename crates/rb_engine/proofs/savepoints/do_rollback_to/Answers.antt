@@ -1,0 +1,100 @@
+use Rattle.std.proofs.Common.{◌≡◌, ℕ, zero, suc, List, length, [], Some, None, Option, take, refl, sym, ◌∙◌, ap, subst, arith}
+use Rattle.rb_base.specs.Logs.{Laws, no_logs}
+use Rattle.rb_engine.specs.Does.{Does, Goes, IsInStep, Kept, Stands}
+use Rattle.rb_model.specs.Calls as machine
+use Rattle.rb_model.specs.Calls.{Reply, name_tests}
+use Rattle.rb_model.specs.Change.{Change}
+use Rattle.rb_model.specs.Names.{name_text}
+use Rattle.rb_model.specs.NextState as next
+use Rattle.rb_model.specs.State.{Savepoint, Session, savepoint_named, savepoint_of, session_of, session_own}
+use Rattle.rb_model.specs.declared.refusal.Refusal.TheVariants.{NoSavepoint}
+use Rattle.rb_sessions.specs.Kept.{back_at, kept_at, rolled_to, with_kept}
+use Rattle.rb_standing.specs.Standing.{env_of}
+use Rattle.rb_views.proofs.Savepoints.{cut_remembered}
+use Rattle.rb_views.specs.Views.{Remembers}
+use Rattle.rb_engine.proofs.DoesLemmas.{does_refused, does_refused_late, does_session}
+use Rattle.rb_engine.proofs.FinishLemmas.{no_early, no_items}
+use Rattle.rb_engine.proofs.SavepointLemmas.{kept_none, kept_some}
+use Rattle.rb_engine.proofs.StepLemmas.{few_less, fit_at, fit_rolled_to, in_step_moved}
+use Rattle.rb_engine.proofs.savepoints.do_rollback_to.Given.{Over}
+use Rattle.rb_engine.proofs.savepoints.do_rollback_to.Goals as goal
+
+laws_of : (g : Over) → Laws g.T.Store
+laws_of g = record {
+  stable_left = λ store b n i keeps stable here. g.met.T.Store.stable_left store b n i keeps stable here;
+  stable_numbered = λ store b n keeps stable. g.met.T.Store.stable_numbered store b n keeps stable;
+  stable_patched = λ store b n keeps stable. g.met.T.Store.stable_patched store b n keeps stable;
+  now_counts = λ store t i keeps le here. g.met.T.Store.now_counts store t i keeps le here;
+  only_now = λ store i keeps here. g.met.T.Store.only_now store i keeps here;
+}
+
+pub returns-in-Err-clause-did : goal.returns-in-Err-clause-did
+returns-in-Err-clause-did g c = λ h st.
+    does_refused g.T.Store (laws_of g) h (machine.RollbackTo c.args.s (name_text c.args.name.now)) c.in-Err.why (record { memory = c.args.memory.now; store = c.args.store.now }) st c.requires.step.going
+    (c.in-Err.ensures.refused h st.knows) c.in-Err.ensures.other
+
+pub returns-in_default-savepoint-clause-did : goal.returns-in_default-savepoint-clause-did
+returns-in_default-savepoint-clause-did g c = λ h st.
+    let s = g.T.Store in
+    let there = c.in_default.ensures.session in
+    let going = sym st.knows.stopped ∙ c.in_default.ensures.going in
+    let name = name_text c.args.name.now in
+    let call = machine.RollbackTo c.args.s name in
+    let goes : Goes s h (record { memory = c.args.memory.now; store = c.args.store.now }) = st.goes going in
+    let kept = (kept_at c.memory.inside.sessions c.args.s).savepoints in
+    let same : kept ≡ (session_of h c.args.s).savepoints = ap (λ (k : Kept). (kept_at k.sessions c.args.s).savepoints) c.memory.view_is ∙ (goes.remembers.each c.args.s there.0 there.1).savepoints in
+    let none : savepoint_of h c.args.s name ≡ None = ap (savepoint_named name) (sym same) ∙ kept_none (savepoint_named name kept) (sym c.savepoint.ensures ∙ c.in_default-savepoint.is) in
+    does_refused_late s (laws_of g) h call NoSavepoint (record { memory = c.args.memory.now; store = c.args.store.now }) st c.requires.step.going
+    (Reply.later (name_tests h call) (no_early h c.args.s there st.knows.sixteen going) refl (rw none refl)) (λ clash. cc)
+
+pub returns-in-None-clause-step : goal.returns-in-None-clause-step
+returns-in-None-clause-step g c =
+    let s = g.T.Store in
+    let store = c.args.store.now in
+    let inside : Kept = record { sessions = c.memory.inside.sessions; scn = c.memory.inside.scn; stopped = c.memory.inside.stopped } in
+    let now : Kept = record { sessions = c.rollback_to.new.self; scn = c.memory.inside.scn; stopped = c.memory.inside.stopped } in
+    let is : IsInStep s inside store = subst (λ (k : Kept). IsInStep s k store) (sym c.memory.view_is) c.requires.step in
+    let k = kept_at inside.sessions c.args.s in
+    let name = name_text c.args.name.now in
+    let found = kept_some (savepoint_named name k.savepoints) c.in-Some.kept (sym c.savepoint.ensures ∙ c.in-Some.is) in
+    let first = found.0.kept in
+    let fit = fit_rolled_to (s.shape_of store) name first k (fit_at s inside store is c.args.s) in
+    let moved : now.sessions ≡ with_kept inside.sessions c.args.s (rolled_to name first k) = c.rollback_to.ensures ∙ ap (λ (o : Option Savepoint). with_kept inside.sessions c.args.s (back_at name o k)) found.1 in
+    in_step_moved s inside now store store is refl c.args.s c.in_default.ensures.session (rolled_to name first k) fit moved
+    (λ going. (is.going going, few_less s inside now store store is refl c.args.s c.in_default.ensures.session (rolled_to name first k) fit moved going (omega arith)))
+
+pub returns-in-None-clause-did : goal.returns-in-None-clause-did
+returns-in-None-clause-did g c = λ h st.
+    let s = g.T.Store in
+    let store = c.args.store.now in
+    let inside : Kept = record { sessions = c.memory.inside.sessions; scn = c.memory.inside.scn; stopped = c.memory.inside.stopped } in
+    let now : Kept = record { sessions = c.rollback_to.new.self; scn = c.memory.inside.scn; stopped = c.memory.inside.stopped } in
+    let is : IsInStep s inside store = subst (λ (k : Kept). IsInStep s k store) (sym c.memory.view_is) c.requires.step in
+    let here : Stands s h (record { memory = inside; store = store }) = subst (λ (k : Kept). Stands s h (record { memory = k; store = store })) (sym c.memory.view_is) st in
+    let there = c.in_default.ensures.session in
+    let going = sym st.knows.stopped ∙ c.in_default.ensures.going in
+    let name = name_text c.args.name.now in
+    let call = machine.RollbackTo c.args.s name in
+    let goes : Goes s h (record { memory = inside; store = store }) = here.goes going in
+    let k = kept_at inside.sessions c.args.s in
+    let of_session = goes.remembers.each c.args.s there.0 there.1 in
+    let found = kept_some (savepoint_named name k.savepoints) c.in-Some.kept (sym c.savepoint.ensures ∙ c.in-Some.is) in
+    let p = found.0 in
+    let at : savepoint_of h c.args.s name ≡ Some p = ap (savepoint_named name) (sym of_session.savepoints) ∙ found.1 in
+    let idle : k.count ≡ 0 = is.idle c.args.s (sym c.session.ensures.own ∙ c.in-None.is) in
+    let empty : session_own h c.args.s ≡ [] = no_items (session_own h c.args.s) (sym of_session.count ∙ idle) in
+    let moved : now.sessions ≡ with_kept inside.sessions c.args.s (rolled_to name p.kept k) = c.rollback_to.ensures ∙ ap (λ (o : Option Savepoint). with_kept inside.sessions c.args.s (back_at name o k)) found.1 in
+    let session : Session = record { own = take p.kept (session_own h c.args.s); savepoints = next.up_to name (session_of h c.args.s).savepoints; cursors = next.left_open p.kept (next.cursors_of h c.args.s) } in
+    let own : take p.kept (session_own h c.args.s) ≡ session_own h c.args.s = ap (take p.kept) empty ∙ (nothing p.kept ∙ sym empty) in
+    subst (λ (k : Kept). Does s h call machine.Done (record { memory = k; store = store }) (record { memory = now; store = store })) c.memory.view_is
+    (does_session s st.told (laws_of g) h call machine.Done c.args.s session (record { memory = inside; store = store }) (record { memory = now; store = store }) here going
+    (there.0, (let n = st.knows.sixteen in omega (arith, there, n))) own
+    (Reply.later (name_tests h call) (no_early h c.args.s there st.knows.sixteen going) refl (rw at refl)) (p, at, refl) (p, at, (let none = ap (λ (l : List Change). length l) empty in omega (arith, none))) (λ s t k a is done. cc) refl refl refl
+    (λ xids stand knows. subst (Remembers (next.rolled_to h c.args.s name p.kept) xids (env_of h.shape (s.blocks store))) (sym moved)
+    (cut_remembered h xids (env_of h.shape (s.blocks store)) (env_of h.shape (s.blocks store)) c.args.s name p.kept there.0 (λ u t owns. refl) inside.sessions there.1 knows))
+    (no_logs s store (is.going (ap (λ (k : Kept). k.stopped) c.memory.view_is ∙ c.in_default.ensures.going)))
+    (record { shape = refl; slots = refl }))
+  where
+    nothing : (n : ℕ) → ◌≡◌ {A = List Change} (take n []) []
+    nothing zero = refl
+    nothing (suc n) = refl

@@ -1,0 +1,112 @@
+//! Savepoints: positions in a transaction's live changes. `Engine::savepoint` and `Engine::rollback_to` call it.
+ghost use Rattle.std.specs.Prelude.{◌≡◌, ◌≢◌, ◌≤◌, ℕ, false, Some, IfErr};
+ghost use Rattle.rb_base.specs.Counts.{IsCountedAs, err_is};
+ghost use Rattle.rb_engine.specs.Does.{Does, IsInStep, SameStore, Stands};
+ghost use Rattle.rb_model.specs.Answers.{plain_answer};
+ghost use Rattle.rb_model.specs.Calls.{is_disk_fault};
+ghost use Rattle.rb_model.specs.Calls as machine;
+ghost use Rattle.rb_model.specs.Names.{name_text};
+ghost use Rattle.rb_model.specs.State.{State, savepoint_named};
+ghost use Rattle.rb_sessions.specs.Kept.{kept_at, kept_by};
+
+use crate::checks::check_session;
+use crate::finish::put_back;
+use crate::memory::Memory;
+use rb_base::{Store, Xid};
+use rb_model::{Name, Refusal};
+use rb_sessions::{SAVEPOINTS, SESSIONS};
+
+/// Sets a savepoint of the session behind its present changes, or moves the one of that name there.
+pub fn do_savepoint<T: Store>(
+    memory: &mut Memory,
+    store: &T,
+    s: u16,
+    name: &Name,
+) -> Result<(), Refusal>
+    requires step { IsInStep T.Store memory.old store.now }
+    ensures step { IsInStep T.Store memory.new store.now }
+    ensures did { (h : State) → Stands T.Store h (record { memory = memory.old; store = store.now })
+        → Does T.Store h (machine.SetSavepoint s (name_text name.now)) (plain_answer result)
+        (record { memory = memory.old; store = store.now }) (record { memory = memory.new; store = store.now }) }
+    ensures other { IfErr result (λ why. why ≢ Refusal.DiskFault) }
+{
+    if let Err(why) = check_session(memory, s) {
+        return Err(why);
+    }
+    let count = memory.sessions.session(s).savepoints as usize;
+    if count >= SAVEPOINTS && memory.sessions.savepoint(s, name).is_none() {
+        return Err(Refusal::TooManySavepoints);
+    }
+    memory.sessions.set_savepoint(s, name);
+    Ok(())
+}
+
+/// Puts back the changes of a session's transaction behind the savepoint of that name, which keeps so many.
+fn roll_back_later<T: Store>(
+    memory: &mut Memory,
+    store: &mut T,
+    s: u16,
+    xid: Xid,
+    name: &Name,
+    kept: u32,
+) -> Result<(), Refusal>
+    requires step { IsInStep T.Store memory.old store.old }
+    requires going { memory.old.stopped ≡ false }
+    requires session { (1 ≤ s) × (s ≤ SESSIONS) }
+    requires own { (kept_at memory.old.sessions s).own ≡ Some xid }
+    requires named { kept_by (savepoint_named (name_text name.now) (kept_at memory.old.sessions s).savepoints)
+        ≡ Some kept }
+    ensures step { IsInStep T.Store memory.new store.new }
+    ensures did { (h : State) → Stands T.Store h (record { memory = memory.old; store = store.old })
+        → Does T.Store h (machine.RollbackTo s (name_text name.now)) (plain_answer result)
+        (record { memory = memory.old; store = store.old }) (record { memory = memory.new; store = store.new }) }
+    ensures same { SameStore T.Store store.old store.new }
+    ensures disk { IsCountedAs (T.faults store.old) (T.faults store.new) (err_is is_disk_fault result) }
+{
+    let count = memory.sessions.session(s).length.saturating_sub(kept);
+    // Room is kept for it; a damaged file alone may have none.
+    if store.room() < u64::from(count) {
+        return Err(Refusal::LogFull);
+    }
+    match put_back(store, xid, count) {
+        Ok(()) => {
+            memory.sessions.rollback_to(s, name);
+            Ok(())
+        }
+        Err(_) => {
+            memory.stop();
+            Err(Refusal::DiskFault)
+        }
+    }
+}
+
+/// Puts back the session's changes behind the savepoint of that name, erases the later savepoints, and closes the
+/// cursors that saw one of those changes. The transaction keeps its table slot, also without a change left.
+pub fn do_rollback_to<T: Store>(
+    memory: &mut Memory,
+    store: &mut T,
+    s: u16,
+    name: &Name,
+) -> Result<(), Refusal>
+    requires step { IsInStep T.Store memory.old store.old }
+    ensures step { IsInStep T.Store memory.new store.new }
+    ensures did { (h : State) → Stands T.Store h (record { memory = memory.old; store = store.old })
+        → Does T.Store h (machine.RollbackTo s (name_text name.now)) (plain_answer result)
+        (record { memory = memory.old; store = store.old }) (record { memory = memory.new; store = store.new }) }
+    ensures same { SameStore T.Store store.old store.new }
+    ensures disk { IsCountedAs (T.faults store.old) (T.faults store.new) (err_is is_disk_fault result) }
+{
+    if let Err(why) = check_session(memory, s) {
+        return Err(why);
+    }
+    let Some(kept) = memory.sessions.savepoint(s, name) else {
+        return Err(Refusal::NoSavepoint);
+    };
+    match memory.sessions.session(s).own {
+        Some(xid) => roll_back_later(memory, store, s, xid, name, kept),
+        None => {
+            memory.sessions.rollback_to(s, name);
+            Ok(())
+        }
+    }
+}

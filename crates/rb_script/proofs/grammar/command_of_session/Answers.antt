@@ -1,0 +1,10 @@
+use Rattle.std.proofs.Common.{◌≡◌, false, refl, arith}
+use Rattle.rb_script.specs.Words.{names_key}
+use Rattle.rb_script.proofs.Spellings.{no_command}
+use Rattle.rb_script.proofs.grammar.command_of_session.Goals as goal
+
+pub returns-clause-none : goal.returns-clause-none
+returns-clause-none c =
+    no_command _ c.args.word.now c.args.fields.now refl c.requires.word (λ w e.
+    let other : names_key w ≡ false = c.requires.other w e in
+    grind arith)
