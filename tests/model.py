@@ -14,7 +14,7 @@ COUNT, NAME, VALUE = (r"([1-9]\d*)", 10**6), (r"([a-z0-9_]{1,16})", None), (r"([
 COMMANDS = [
     ("insert", ID, ID, KEY, VALUE), ("update", ID, ID, KEY, VALUE), ("delete", ID, ID, KEY), ("lock", ID, ID, KEY),
     ("savepoint", ID, NAME), ("rollback", ID, NAME), ("rollback", ID), ("commit", ID),
-    ("open", ID, NAME, ID, KEY, KEY), ("fetch", ID, NAME, COUNT), ("close", ID, NAME),
+    ("open", ID, NAME, ID, KEY, KEY), ("fetch", ID, NAME, COUNT), ("close", ID, NAME), ("cancel", ID),
     ("marks",), ("checkpoint",),
 ]
 FORMS = [(word, fields, re.compile(" ".join([word, *(pattern for pattern, _ in fields)]), re.ASCII))
@@ -143,8 +143,8 @@ class Session:
     """A session's transaction and its open cursors. The transaction has its live changes, in order, the place where it
     writes its records, and its savepoints: of each name, in order of setting, how many changes were before it."""
 
-    def __init__(self):
-        self.cursors = {}
+    def __init__(self, number):
+        self.number, self.cursors = number, {}
         self.fresh()
 
     def fresh(self):
@@ -178,6 +178,14 @@ class Cursor:
         self.taken = 0
 
 
+class Waiter:
+    """A session in the queue, with the write that it has to try again, and the session for whose end it waits: None
+    where that has come, and it is ready."""
+
+    def __init__(self, session, write, on):
+        self.session, self.write, self.on = session, write, on
+
+
 class Moment:
     """What a file has after some group of its log: its rows and number, its books, and what is under way."""
 
@@ -208,7 +216,11 @@ class Model:
         del self.moments[groups + 1 :]
         left = self.moments[groups]
         self.rows, self.number, self.durable = left.rows, left.number, groups
-        self.sessions = {number: Session() for number in range(1, SESSIONS + 1)}
+        self.sessions = {number: Session(number) for number in range(1, SESSIONS + 1)}
+        # In order of arrival.
+        self.queue = []
+        # The replies to the writes that were tried again behind the last line.
+        self.resumed = []
         self.books = [book.copied() for book in left.books]
         for book in self.books:
             book.owners = [None] * SLOTS
@@ -220,8 +232,14 @@ class Model:
         for owed in range(left.owed - 1, -1, -1):
             self.moments.append(Moment(self.rows, self.number, self.books, owed))
 
+    def begun(self):
+        """A model of such a file, with the same rows and as much room in its log, with which a run begins."""
+        other = Model(self.tables, self.blocks, len(self.books), self.log - self.logged)
+        other.rows = self.rows
+        return other
+
     def end(self):
-        """The end of the script: what waits is made last, what was put back among it."""
+        """The end of the script: what isn't durable yet is made so, what was put back among it."""
         self.durable = self.logged
 
     @property
@@ -245,6 +263,12 @@ class Model:
 
     def line(self, line, said=lambda place: b""):
         """The replies to a line, to which the program's are those that `said` gives by their places."""
+        own = self.own_replies(line, said)
+        self.resumed = self.resume()
+        return own + self.resumed
+
+    def own_replies(self, line, said):
+        """The replies to a line without those to the writes that are tried again behind it."""
         if len(line) > LINE_BYTES:
             return [b"bad line"]
         line = line[:-1] if line.endswith(b"\r") else line
@@ -263,6 +287,10 @@ class Model:
         number, *parts = parts
         if word == "fetch":
             parts.append(lambda place: said(place).decode("latin-1").partition(" ")[2])
+        return self.replies(word, number, parts)
+
+    def replies(self, word, number, parts):
+        """The replies to the calls of a command."""
         return [b"%d %s" % (number, text.encode("latin-1")) for text in self.answers(word, number, parts)]
 
     def answers(self, word, number, parts):
@@ -271,6 +299,8 @@ class Model:
         try:
             if number not in self.sessions:
                 raise Refused("no session")
+            if self.is_queued(number) != (word == "cancel"):
+                raise Refused("not waiting" if word == "cancel" else "waiting")
             for text in self.calls(word, self.sessions[number], parts):
                 given.append(text)
         except Refused as why:
@@ -283,8 +313,40 @@ class Model:
         if word == "fetch":
             return self.fetch(session, *parts)
         calls = {"commit": self.commit, "savepoint": self.savepoint, "rollback": self.rollback, "open": self.open,
-                 "close": self.close}
+                 "close": self.close, "cancel": self.cancel}
         return [calls[word](session, *parts)]
+
+    # ---- The queue
+
+    def is_queued(self, number):
+        return any(waiter.session == number for waiter in self.queue)
+
+    def wait(self, session, write, on):
+        """The session waits behind all others for the end of another one, which holds the key; unless following who
+        waits for whom from there leads to the session."""
+        waits_for, at = {waiter.session: waiter.on for waiter in self.queue}, on
+        while at is not None and at != session.number:
+            at = waits_for.get(at)
+        if at is not None:
+            raise Refused(f"deadlock {on}")
+        self.queue.append(Waiter(session.number, write, on))
+        return f"waits {on}"
+
+    def cancel(self, session):
+        self.queue = [waiter for waiter in self.queue if waiter.session != session.number]
+        return "ok"
+
+    def resume(self):
+        """While one is ready, the first of the ready ones leaves the queue and tries its write again. Gives their
+        replies."""
+        replies = []
+        while True:
+            ready = next((waiter for waiter in self.queue if waiter.on is None), None)
+            if not ready:
+                return replies
+            self.queue.remove(ready)
+            word, *parts = ready.write
+            replies += self.replies(word, ready.session, parts)
 
     # ---- Writes and their ends
 
@@ -309,7 +371,7 @@ class Model:
         others = {number: other for number, other in self.sessions.items() if other is not session}
         for number, other in others.items():
             if at in other.held:
-                raise Refused(f"waits {number}")
+                return self.wait(session, (word, table, key, value), number)
         there = (session.own[at] if at in session.own else self.rows.get(at)) is not None
         if there == (word == "insert"):
             raise Refused("duplicate" if there else "not found")
@@ -347,7 +409,7 @@ class Model:
         book.finish(slot, self.number)
         for home, record in session.homes.items():
             self.visits.setdefault(home, []).append(Visit(self.number, segment, slot, book.wraps[slot], record))
-        session.fresh()
+        self.ended(session)
         self.grow()
         self.durable = self.logged
         return f"committed {self.number}"
@@ -358,8 +420,15 @@ class Model:
             segment, slot = session.place
             self.book(segment).owners[slot] = session.place = None
             self.grow()
-        session.fresh()
+        self.ended(session)
         return "ok"
+
+    def ended(self, session):
+        """The session has no transaction any more, and who waits for it is ready."""
+        session.fresh()
+        for waiter in self.queue:
+            if waiter.on == session.number:
+                waiter.on = None
 
     def savepoint(self, session, name):
         if len(session.savepoints.keys() - {name}) == NAMES:

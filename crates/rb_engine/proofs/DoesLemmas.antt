@@ -1,5 +1,5 @@
 -- What a call does with the state that its engine stands for, from what it does with the memory and the store.
-use Rattle.std.proofs.Common.{◌≡◌, ◌≢◌, ⊎_elim, ◌<◌, ◌≤◌, ◌+◌, ◌-◌, ℕ, Bool, true, false, not, List, [], length, set, is_some, Option, Some, None, Result, Ok, Err, IfErr, OnOk, refl, sym, ◌∙◌, ap, subst, arith}
+use Rattle.std.proofs.Common.{◌≡◌, ◌≢◌, ⊎_elim, ◌<◌, ◌≤◌, ◌+◌, ◌-◌, ℕ, Bool, true, false, not, List, [], length, map, set, is_some, Option, Some, None, Result, Ok, Err, IfErr, OnOk, refl, sym, ◌∙◌, ap, subst, arith}
 use Rattle.std.proofs.lemmas.Bool.{cases_Bool, false≢true}
 use Rattle.std.specs.Result.{is_err}
 use Rattle.rb_base.specs.Blocks.{block_of, header_block}
@@ -10,7 +10,8 @@ use Rattle.rb_base.specs.Stores.{room_of}
 use Rattle.rb_base.specs.declared.ids.Xid.{Xid}
 use Rattle.rb_base.specs.declared.store.Store.{Ghosts}
 use Rattle.rb_engine.specs.Checks.{Refuses}
-use Rattle.rb_engine.specs.Does.{Does, EngineView, Goes, Kept, Keeps as Retained, Knows, SameStore, Stands}
+use Rattle.rb_engine.specs.Does.{Does, EngineView, Goes, Kept, Keeps as Retained, Knows, KnowsQueue, SameStore, Stands}
+use Rattle.rb_engine.proofs.QueueLemmas.{knows_same}
 use Rattle.rb_image.specs.Crash.{MarksGrow, Survives}
 use Rattle.rb_image.specs.Holds.{Holds}
 use Rattle.rb_image.specs.Images.{HasState}
@@ -43,11 +44,12 @@ after_sessions h h2 c r after = ⊎_elim
     (cases_Bool (is_fault r))
 
 -- what memory knows of a state, it knows of each one with as many sessions, the same number and the same stop
-pub knows_on : (h h2 : State) (kept now : Kept) → Knows h kept → length h2.sessions ≡ length h.sessions → h2.stopped ≡ h.stopped → last_scn h2.commits ≡ last_scn h.commits → now.stopped ≡ kept.stopped → now.scn ≡ kept.scn → Knows h2 now
-knows_on h h2 kept now knows sessions stopped number same scn = record {
+pub knows_on : (h h2 : State) (kept now : Kept) → Knows h kept → length h2.sessions ≡ length h.sessions → h2.stopped ≡ h.stopped → last_scn h2.commits ≡ last_scn h.commits → now.stopped ≡ kept.stopped → now.scn ≡ kept.scn → (h.stopped ≡ false → KnowsQueue h2 now) → Knows h2 now
+knows_on h h2 kept now knows sessions stopped number same scn queue = record {
   sixteen = sessions ∙ knows.sixteen;
   stopped = same ∙ (knows.stopped ∙ sym stopped);
   scn = scn ∙ (knows.scn ∙ sym number);
+  queue = λ going. queue (sym stopped ∙ going);
 }
 
 -- a memory that is stopped knows the state that is
@@ -56,6 +58,7 @@ knows_stop h kept now knows is = record {
   sixteen = knows.sixteen;
   stopped = ap (λ (k : Kept). k.stopped) is;
   scn = ap (λ (k : Kept). k.scn) is ∙ knows.scn;
+  queue = λ clash. absurd (false≢true (sym clash));
 }
 
 -- the state with another session of that number
@@ -169,14 +172,14 @@ module _ {S : Type 0} (s : Ghosts S) where
         → (1 ≤ who) × (who ≤ length h.sessions) → session.own ≡ session_own h who
         → Reply h (s.lsn old.store) (room_of (s.slots old.store) (s.lsn old.store)) call answer → After h call answer (with_session h who session) → Grows h call answer 0
         → Retained h call answer (with_session h who session) → is_fault answer ≡ false
-        → new.memory.stopped ≡ old.memory.stopped → new.memory.scn ≡ old.memory.scn
+        → new.memory.stopped ≡ old.memory.stopped → new.memory.scn ≡ old.memory.scn → new.memory.waits ≡ old.memory.waits → map (λ k. k.asked) new.memory.sessions ≡ map (λ k. k.asked) old.memory.sessions
         → ((xids : List Xid) → BlocksStand h xids (s.blocks old.store) → Remembers h xids (env_of h.shape (s.blocks old.store)) old.memory.sessions → Remembers (with_session h who session) xids (env_of h.shape (s.blocks old.store)) new.memory.sessions)
         → Logs s old.store new.store [] true → SameStore s old.store new.store → Does s h call answer old new
-    does_session h call answer who session old new st going there own reply after grows retains fine stopped scn remembers logs same =
+    does_session h call answer who session old new st going there own reply after grows retains fine stopped scn waits asked remembers logs same =
         let h2 = with_session h who session in
         let goes = st.goes going in
         does_by h h2 call answer old new 0 st reply after (λ _. retains)
-        (knows_on h h2 old.memory new.memory st.knows (after_sessions h h2 call answer after) refl refl stopped scn) same
+        (knows_on h h2 old.memory new.memory st.knows (after_sessions h h2 call answer after) refl refl stopped scn (λ on. knows_same h h2 old.memory new.memory refl refl waits asked (st.knows.queue on))) same
         (λ _. (
           grows,
           logs.number refl,
@@ -193,7 +196,7 @@ module _ {S : Type 0} (s : Ghosts S) where
         → (1 ≤ who) × (who ≤ length h.sessions)
         → Reply h (s.lsn old.store) (room_of (s.slots old.store) (s.lsn old.store)) call answer → After h call answer (with_cursors h who cursors) → Grows h call answer 0
         → Retained h call answer (with_cursors h who cursors) → is_fault answer ≡ false
-        → new.memory.stopped ≡ old.memory.stopped → new.memory.scn ≡ old.memory.scn
+        → new.memory.stopped ≡ old.memory.stopped → new.memory.scn ≡ old.memory.scn → new.memory.waits ≡ old.memory.waits → map (λ k. k.asked) new.memory.sessions ≡ map (λ k. k.asked) old.memory.sessions
         → ((xids : List Xid) → BlocksStand h xids (s.blocks old.store) → Remembers h xids (env_of h.shape (s.blocks old.store)) old.memory.sessions → Remembers (with_cursors h who cursors) xids (env_of h.shape (s.blocks old.store)) new.memory.sessions)
         → Logs s old.store new.store [] true → SameStore s old.store new.store → Does s h call answer old new
     does_cursors h call answer who cursors old new st going there =

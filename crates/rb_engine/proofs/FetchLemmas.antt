@@ -1,5 +1,5 @@
 -- What a search for a cursor's next row finds, from what the rebuilds of homes show, and what a fetch makes of it.
-use Rattle.std.proofs.Common.{not, ap, ◌≡◌, inl, inr, ◌<◌, ◌≤◌, ◌%◌, ◌==◌, ◌&&◌, ◌||◌, nat_lt, if◌then◌else◌, ℕ, Bool, true, false, List, [], Option, Some, None, Result, Ok, Err, IfOk, IfErr, refl, sym, ◌∙◌, subst, arith, is_none, ◌∷◌}
+use Rattle.std.proofs.Common.{not, ap, map, ◌-◌, ◌≡◌, inl, inr, ◌<◌, ◌≤◌, ◌%◌, ◌==◌, ◌&&◌, ◌||◌, nat_lt, if◌then◌else◌, ℕ, Bool, true, false, List, [], Option, Some, None, Result, Ok, Err, IfOk, IfErr, refl, sym, ◌∙◌, subst, arith, is_none, ◌∷◌}
 use Rattle.std.proofs.lemmas.Bool.{cases_Bool, cond_both}
 use Rattle.std.proofs.lemmas.Bool.Decides.{nat_tests}
 use Rattle.std.proofs.lemmas.Result.{IfErr-weaker}
@@ -12,11 +12,12 @@ use Rattle.rb_cr.specs.Rows.{IsBehind as IsBehindKey, IsNext, IsWanted}
 use Rattle.rb_cr.specs.declared.faults.CrFault.{CrFault}
 use Rattle.rb_cr.specs.declared.faults.CrFault.TheVariants as faults
 use Rattle.rb_cr.specs.declared.scratch.Snapshot.{Snapshot}
-use Rattle.rb_engine.specs.Checks.{Refuses, session_tests}
+use Rattle.rb_engine.specs.Checks.{Refuses}
+use Rattle.rb_engine.proofs.QueueLemmas.{all_asked}
 use Rattle.rb_engine.specs.Scanning.{Begins, CannotRead, Finds, HasKey, HasNext, HasNone, IsBehind, IsReader, NeedsLost}
 use Rattle.rb_engine.proofs.SeenHomes.{seen_in_home}
 use Rattle.rb_model.specs.Next.{is_after}
-use Rattle.rb_model.specs.State.{State, cursor_of, is_session}
+use Rattle.rb_model.specs.State.{State, cursor_of, is_session, is_waiting}
 use Rattle.rb_model.specs.declared.row.Row.{Row}
 use Rattle.rb_rebuild.specs.Reading.{Reading}
 use Rattle.rb_sessions.specs.declared.cursor.Cursor.{Cursor}
@@ -29,10 +30,10 @@ use Rattle.rb_engine.specs.Does.{Does, EngineView, Goes, SameStore, Stands}
 use Rattle.rb_engine.proofs.DoesLemmas.{does_cursors, does_loaded}
 use Rattle.rb_model.specs.Book.{book_at}
 use Rattle.rb_model.specs.Calls as machine
-use Rattle.rb_model.specs.Calls.{Answer, Refused, Reply, early_tests, none_applies, next_row}
+use Rattle.rb_model.specs.Calls.{Answer, Refused, Reply, early_tests, none_applies, next_row, session_tests}
 use Rattle.rb_model.specs.NextState.{cursors_of, with_cursors, with_taken}
 use Rattle.rb_model.specs.State as state
-use Rattle.rb_model.specs.declared.refusal.Refusal.TheVariants.{NoCursor, NoSession, Stopped, TooOld}
+use Rattle.rb_model.specs.declared.refusal.Refusal.TheVariants.{NoCursor, NoSession, Stopped, TooOld, Waiting}
 use Rattle.rb_model.specs.declared.refusal.Refusal.{Refusal}
 use Rattle.rb_model.specs.declared.row.Fetched.{Fetched}
 use Rattle.rb_model.specs.declared.row.Fetched.TheVariants as fetched
@@ -176,15 +177,16 @@ module _ {S : Type 0} (s : Ghosts S) (laws : Laws s) (h : State) (old : EngineVi
     finds : (xids : List Xid) → IsReader h xids blocks m → (r : Result Fetched CrFault) → result ≡ r → Finds h xids blocks m r row
     finds xids by r is = subst (λ (x : Result Fetched CrFault). Finds h xids blocks m x row) is (found xids by)
 
-    pub does_row : result ≡ Ok fetched.Row → new.memory.stopped ≡ old.memory.stopped → new.memory.scn ≡ old.memory.scn
+    pub does_row : result ≡ Ok fetched.Row → new.memory.stopped ≡ old.memory.stopped → new.memory.scn ≡ old.memory.scn → new.memory.waits ≡ old.memory.waits
         → new.memory.sessions ≡ with_kept old.memory.sessions who (table.with_cursors (kept_at old.memory.sessions who) (with_last name row.key (kept_at old.memory.sessions who).cursors))
         → Does s h (machine.Fetch who name) (machine.Given row.key row.value.items) old new
-    does_row is stopped scn moved =
+    does_row is stopped scn waits moved =
         let here = finds goes.xids reader (Ok fetched.Row) is in
         let gives = views.gives h goes.xids blocks goes.holds.blocks who (record { name = name; cursor = m }) one.0 one.2 here.0 row.key row.value.items here.2 here.3 in
         does_cursors s st.told laws h (machine.Fetch who name) (machine.Given row.key row.value.items) who (with_taken name (cursors_of h who)) old new st going
         (there.0, (let n = st.knows.sixteen in omega (arith, n, there)))
-        (answers _ _ (machine.Given row.key row.value.items) gives) refl refl (λ s t k a is done. cc) refl stopped scn
+        (answers _ _ (machine.Given row.key row.value.items) gives) refl refl (λ s t k a is done. cc) refl stopped scn waits
+        (ap (λ (l : List KeptSession). map (λ k. k.asked) l) moved ∙ all_asked old.memory.sessions (who - 1) (table.with_cursors (kept_at old.memory.sessions who) (with_last name row.key (kept_at old.memory.sessions who).cursors)) refl)
         (λ xids stand knows.
         (let f = finds xids (reader_for xids stand knows) (Ok fetched.Row) is in
         subst (Remembers (with_cursors h who (with_taken name (cursors_of h who))) xids (env_of h.shape blocks)) (sym moved)
@@ -222,12 +224,13 @@ module _ {S : Type 0} (s : Ghosts S) (laws : Laws s) (h : State) (old : EngineVi
 
 -- no early test answers that it is too old
 pub not_old : (h : State) (who : ℕ) (why : Refusal) (scn lost : ℕ) → Refuses (session_tests h who) why → why ≡ TooOld scn lost → ⊥
-not_old h who why scn lost refuses is = first h.stopped (not (is_session h who)) (ap (λ (w : Refusal). Refused w) (sym is) ∙ refuses.1)
+not_old h who why scn lost refuses is = first h.stopped (not (is_session h who)) (is_waiting h who) (ap (λ (w : Refusal). Refused w) (sym is) ∙ refuses.1)
   where
-    first : (a b : Bool) → Refused (TooOld scn lost) ≡ machine.first_of ((a, Refused Stopped) ∷ (b, Refused NoSession) ∷ []) machine.Done → ⊥
-    first true b e = cc
-    first false true e = cc
-    first false false e = cc
+    first : (a b c : Bool) → Refused (TooOld scn lost) ≡ machine.first_of ((a, Refused Stopped) ∷ (b, Refused NoSession) ∷ (c, Refused Waiting) ∷ []) machine.Done → ⊥
+    first true b c e = cc
+    first false true c e = cc
+    first false false true e = cc
+    first false false false e = cc
 
 -- it tells these two numbers
 pub same_old : (a b x y : ℕ) → (let r : Result Fetched Refusal = Err (TooOld a b) in r) ≡ Err (TooOld x y) → (a ≡ x) × (b ≡ y)

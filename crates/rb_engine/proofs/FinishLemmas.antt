@@ -1,5 +1,5 @@
 -- What a commit leaves, from the groups of its step, and what the end of a transaction without a slot does.
-use Rattle.std.proofs.Common.{◌≡◌, inl, ◌<◌, ◌≤◌, ◌+◌, ◌-◌, ◌^◌, ◌∷◌, ◌++◌, ◌&&◌, nat_le, ℕ, true, false, not, min, List, [], length, map, Some, None, Result, Ok, Err, OnOk, refl, sym, ◌∙◌, ap, subst, arith, append-nil, length-append}
+use Rattle.std.proofs.Common.{◌≡◌, inl, ◌<◌, ◌≤◌, ◌+◌, ◌-◌, ◌^◌, ◌∷◌, ◌++◌, ◌&&◌, nat_le, ℕ, true, false, not, min, List, [], length, map, Some, None, Result, Ok, Err, OnOk, refl, sym, ◌∙◌, ap, subst, arith, append-nil, length-append, set, Option}
 use Rattle.std.proofs.lemmas.Bool.{le-leb, and_from}
 use Rattle.std.proofs.lemmas.List.{length-set}
 use Rattle.std.specs.Result.{is_err}
@@ -10,17 +10,19 @@ use Rattle.rb_base.specs.Logs.{Laws, Logs, more_logs, no_logs}
 use Rattle.rb_base.specs.Stores.{room_of}
 use Rattle.rb_base.specs.declared.ids.Xid.{Xid}
 use Rattle.rb_base.specs.declared.store.Store.{Ghosts}
-use Rattle.rb_engine.specs.Does.{Does, EngineView, Goes, Keeps, SameStore, Stands}
+use Rattle.rb_engine.specs.Does.{Does, EngineView, Goes, Keeps, Kept, Knows, SameStore, Stands}
 use Rattle.rb_engine.specs.Finishing.{Commits, Fails}
 use Rattle.rb_engine.proofs.DoesLemmas.{does_by, does_fault, holds_session, knows_on, survives_same}
+use Rattle.rb_engine.proofs.QueueLemmas.{all_asked, holds_queue, knows_freed, survives_queue}
 use Rattle.rb_image.specs.Crash.{Survives}
 use Rattle.rb_image.specs.Holds.{Holds}
 use Rattle.rb_image.specs.Made.{CommitMade, GivesOne}
 use Rattle.rb_image.proofs.CommitHeld.{commit_fault, holds_committed}
 use Rattle.rb_image.proofs.Owners.{OwnedBy, none_owned, owned_by}
-use Rattle.rb_model.specs.Calls.{Call, Commit, Done, HasNoSlot, Numbered, Refused, Reply, early_tests, is_empty, none_applies}
+use Rattle.rb_model.specs.Calls.{Call, Commit, Done, HasNoSlot, Numbered, Refused, Reply, early_tests, is_empty, none_applies, session_tests}
 use Rattle.rb_model.specs.Change.{Change}
-use Rattle.rb_model.specs.NextState.{After, GrowsBy, committed, ended, not_present}
+use Rattle.rb_model.specs.NextState.{After, GrowsBy, committed, ended, freeing, not_present}
+use Rattle.rb_model.specs.Queue.{freed_by, is_queued}
 use Rattle.rb_model.specs.Rows.{last_scn}
 use Rattle.rb_model.specs.State.{Cursor, State, is_session, session_own}
 use Rattle.rb_model.specs.declared.refusal.Refusal.TheVariants.{DiskFault}
@@ -74,9 +76,11 @@ module _ {S : Type 0} (s : Ghosts S) (told : s.tells) (laws : Laws s) (h : State
 pub is_there : (h : State) (who : ℕ) → (1 ≤ who) × (who ≤ 16) → length h.sessions ≡ 16 → is_session h who ≡ true
 is_there h who there sixteen = and_from (nat_le 1 who) (nat_le who (length h.sessions)) (le-leb 1 who there.0) (le-leb who (length h.sessions) (omega (arith, there, sixteen)))
 
--- no early test of the end of its transaction applies
-pub no_early : (h : State) (who : ℕ) → (1 ≤ who) × (who ≤ 16) → length h.sessions ≡ 16 → h.stopped ≡ false → not h.stopped && (not (not (is_session h who)) && true) ≡ true
-no_early h who there sixteen going = rw (going, is_there h who there sixteen) refl
+-- no early test of a call of it applies, where it isn't in the queue
+pub no_early : (h : State) (kept : Kept) (who : ℕ) → Knows h kept → h.stopped ≡ false → (1 ≤ who) × (who ≤ 16) → is_queued who kept.waits ≡ false → none_applies (session_tests h who) ≡ true
+no_early h kept who knows going there free =
+    let out : is_queued who h.queue ≡ false = ap (is_queued who) (sym (knows.queue going).waits) ∙ free in
+    rw (going, is_there h who there knows.sixteen, out) refl
 
 module _ {S : Type 0} (s : Ghosts S) (told : s.tells) (laws : Laws s) (h : State) (old : EngineView S) (who : ℕ) (x : Xid) (st : Stands s h old) (going : h.stopped ≡ false)
     (there : (1 ≤ who) × (who ≤ 16)) (own : (kept_at old.memory.sessions who).own ≡ Some x) where
@@ -111,27 +115,33 @@ module _ {S : Type 0} (s : Ghosts S) (told : s.tells) (laws : Laws s) (h : State
       omega (arith, few, is, same, number, logged, goes.holds.logged)
 
   module _ (some : 0 < length (session_own h who)) (new : EngineView S) (same : SameStore s old.store new.store) where
-    pub does_committed : (n : ℕ) → n ≡ last_scn h.commits + 1 → Commits s h goes.xids who x old.store new.store true
-        → new.memory.sessions ≡ with_kept old.memory.sessions who (table.committed (kept_at old.memory.sessions who)) → new.memory.scn ≡ n → new.memory.stopped ≡ old.memory.stopped → Does s h (Commit who) (Numbered n) old new
-    does_committed n next done table_is scn stopped =
-        let now : State = committed h who x.seg x.slot in
+    pub does_committed : is_queued who old.memory.waits ≡ false → (n : ℕ) → n ≡ last_scn h.commits + 1 → Commits s h goes.xids who x old.store new.store true
+        → new.memory.sessions ≡ with_kept old.memory.sessions who (table.committed (kept_at old.memory.sessions who)) → new.memory.waits ≡ freed_by who old.memory.waits → new.memory.scn ≡ n → new.memory.stopped ≡ old.memory.stopped → Does s h (Commit who) (Numbered n) old new
+    does_committed free n next done table_is waits scn stopped =
+        let bare : State = committed h who x.seg x.slot in
+        let now : State = freeing bare who in
         let full = some_own (session_own h who) some in
         let more : last_scn now.commits ≡ last_scn h.commits + 1 = let l = length-append h.commits.list (session_own h who ∷ []) in omega (arith, l) in
         does_by s h now (Commit who) (Numbered n) old new 1 st
-        (Reply.later [] (no_early h who there st.knows.sixteen going) refl (rw (full, next) refl))
+        (Reply.later [] (no_early h old.memory who st.knows going there free) refl (rw (full, next) refl))
         (inl (full, (x.seg, x.slot, own_by.owned, refl))) (λ _ s t k a is done. cc)
-        (record { sixteen = length-set h.sessions _ _ ∙ st.knows.sixteen; stopped = stopped ∙ st.knows.stopped; scn = scn ∙ (next ∙ sym more) }) same
+        (record {
+          sixteen = length-set h.sessions _ _ ∙ st.knows.sixteen;
+          stopped = stopped ∙ st.knows.stopped;
+          scn = scn ∙ (next ∙ sym more);
+          queue = λ on. knows_freed h now old.memory new.memory who refl refl waits (ap (λ (l : List KeptSession). map (λ k. k.asked) l) table_is ∙ all_asked old.memory.sessions (who - 1) (table.committed (kept_at old.memory.sessions who)) refl) (st.knows.queue on);
+        }) same
         (λ _. (
           inl (full, refl),
           done.2,
           record {
             xids = goes.xids ++ x ∷ [];
-            holds = done.0;
+            holds = holds_queue bare now.queue now.asked s (goes.xids ++ x ∷ []) new.store done.0;
             remembers = subst (Remembers now (goes.xids ++ x ∷ []) (env_of h.shape (s.blocks new.store))) (sym table_is)
                 (committed_remembered h goes.xids (s.blocks old.store) (s.blocks new.store) old.memory.sessions who x goes.holds.blocks goes.remembers there.0 there.1 own done.1);
           },
         ))
-        (λ before _ keeps. done.3 before keeps)
+        (λ before _ keeps. survives_queue bare now.queue now.asked s (s.slots old.store) before h old.store new.store (done.3 before keeps))
 
   pub does_not : (new : EngineView S) → SameStore s old.store new.store → (call : Call) → none_applies (early_tests h call) ≡ true → Fails s (Some call) h old.store new.store → new.memory ≡ record old.memory { stopped = true } → Does s h call (Refused DiskFault) old new
   does_not new same call early fails stops = does_fault s told laws h call old new st going early stops same fails
@@ -140,25 +150,27 @@ module _ {S : Type 0} (s : Ghosts S) (told : s.tells) (laws : Laws s) (h : State
 pub does_ended : {S : Type 0} (s : Ghosts S) (laws : Laws s) (h : State) (call : Call) (who : ℕ) (cursors : List Cursor) (old new : EngineView S) → (st : Stands s h old) → (going : h.stopped ≡ false)
     → (1 ≤ who) × (who ≤ 16) → (s.failed old.store ≡ false) → ((now : State) → Keeps h call Done now) → (kept_at old.memory.sessions who).own ≡ None → (kept_at old.memory.sessions who).count ≡ 0 → none_applies (early_tests h call) ≡ true
     → (HasNoSlot h who → is_empty (session_own h who) ≡ true → Reply h (s.lsn old.store) (room_of (s.slots old.store) (s.lsn old.store)) call Done)
-    → (HasNoSlot h who → is_empty (session_own h who) ≡ true → After h call Done (ended h who cursors)) → (HasNoSlot h who → is_empty (session_own h who) ≡ true → GrowsBy h call 0)
-    → (HasNoSlot h who → session_own h who ≡ [] → (xids : List Xid) → BlocksStand h xids (s.blocks old.store) → Remembers h xids (env_of h.shape (s.blocks old.store)) old.memory.sessions → Remembers (ended h who cursors) xids (env_of h.shape (s.blocks old.store)) new.memory.sessions)
+    → (HasNoSlot h who → is_empty (session_own h who) ≡ true → After h call Done (freeing (ended h who cursors) who)) → (HasNoSlot h who → is_empty (session_own h who) ≡ true → GrowsBy h call 0)
+    → (HasNoSlot h who → session_own h who ≡ [] → (xids : List Xid) → BlocksStand h xids (s.blocks old.store) → Remembers h xids (env_of h.shape (s.blocks old.store)) old.memory.sessions → Remembers (freeing (ended h who cursors) who) xids (env_of h.shape (s.blocks old.store)) new.memory.sessions)
+    → map (λ k. k.asked) new.memory.sessions ≡ map (λ k. k.asked) old.memory.sessions → new.memory.waits ≡ freed_by who old.memory.waits
     → new.memory.scn ≡ old.memory.scn → new.memory.stopped ≡ old.memory.stopped → new.store ≡ old.store → Does s h call Done old new
-does_ended s laws h call who cursors old new st going there runs retains own empty early reply after grows knows scn stopped store =
+does_ended s laws h call who cursors old new st going there runs retains own empty early reply after grows knows asked waits scn stopped store =
     let goes = st.goes going in
     let session = goes.remembers.each who there.0 there.1 in
     let who_in : (1 ≤ who) × (who ≤ length h.sessions) = let n = st.knows.sixteen in (there.0, omega (arith, there, n)) in
     let free = none_owned h (env_of h.shape (s.blocks old.store)) who (subst (IsOwnId h (env_of h.shape (s.blocks old.store)) who) own session.id) in
-    let now = ended h who cursors in
+    let bare = ended h who cursors in
+    let now = freeing bare who in
     let none : length (session_own h who) ≡ 0 = sym session.count ∙ empty in
     let own_is : session_own h who ≡ [] = no_items (session_own h who) none in
-    let bare = none_own (session_own h who) none in
+    let nothing = none_own (session_own h who) none in
     let logs = no_logs s old.store runs in
-    let kept : Holds s now goes.xids old.store = holds_session s st.told laws h who goes.xids old.store (record { own = []; savepoints = []; cursors = map not_present cursors }) who_in (sym own_is) goes.holds in
-    does_by s h now call Done old new 0 st (reply free bare) (after free bare) (λ _. retains now)
-    (knows_on h now old.memory new.memory st.knows (length-set h.sessions _ _) refl refl stopped scn)
+    let kept : Holds s now goes.xids old.store = holds_queue bare now.queue now.asked s goes.xids old.store (holds_session s st.told laws h who goes.xids old.store (record { own = []; savepoints = []; cursors = map not_present cursors }) who_in (sym own_is) goes.holds) in
+    does_by s h now call Done old new 0 st (reply free nothing) (after free nothing) (λ _. retains now)
+    (knows_on h now old.memory new.memory st.knows (length-set h.sessions _ _) refl refl stopped scn (λ on. knows_freed h now old.memory new.memory who refl refl waits asked (st.knows.queue on)))
     (record { shape = ap s.shape_of store; slots = ap s.slots store })
     (λ _. (
-      grows free bare,
+      grows free nothing,
       omega (arith, ap s.lsn store),
       record {
         xids = goes.xids;

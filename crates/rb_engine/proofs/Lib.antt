@@ -3,8 +3,10 @@ pub mod SeenHomes
 pub mod FetchLemmas
 pub mod FinishLemmas
 pub mod OpenLemmas
+pub mod QueueLemmas
 pub mod RetainsLemmas
 pub mod RollbackLemmas
 pub mod SavepointLemmas
 pub mod StepLemmas
+pub mod WaitLemmas
 pub mod WriteLemmas

@@ -1,6 +1,6 @@
 -- What an opening makes of a store whose blocks open to a state: an engine that stands for it, and images that restart
 -- in it.
-use Rattle.std.proofs.Common.{◌≡◌, ◌≢◌, ◌<◌, ◌≤◌, ◌+◌, ◌-◌, ◌^◌, ℕ, zero, suc, Bool, true, false, not, List, [], length, take, get_or, replicate, Option, Some, None, Result, Ok, Err, IfErr, IsErrOf, append-nil, refl, sym, ◌∙◌, ap, subst, arith}
+use Rattle.std.proofs.Common.{◌≡◌, ◌≢◌, ◌<◌, ◌≤◌, ◌+◌, ◌-◌, ◌^◌, ℕ, zero, suc, Bool, true, false, not, List, [], length, take, get_or, replicate, Option, Some, None, Result, Ok, Err, IfErr, IsErrOf, append-nil, refl, sym, ◌∙◌, ap, subst, arith, map}
 use Rattle.std.proofs.Math.Seq.{take-nil}
 use Rattle.std.proofs.lemmas.List.{take_all}
 use Rattle.std.proofs.lemmas.List.FromFn.{get_or-map-range_with_len}
@@ -17,6 +17,8 @@ use Rattle.rb_base.specs.declared.faults.OpenFault.TheVariants.{Failed, NoMemory
 use Rattle.rb_base.specs.declared.shape.Shape.{Shape}
 use Rattle.rb_base.specs.declared.store.Store.{Ghosts}
 use Rattle.rb_engine.specs.Does.{InTables, IsInStep, Kept, owed_kept}
+use Rattle.rb_model.specs.Queue.{is_queued}
+use Rattle.rb_waits.specs.Room.{AreQueuedOnce}
 use Rattle.rb_engine.specs.Opened.{Opened, OpensTo, StaysOpen}
 use Rattle.rb_image.specs.Crash.{Restarts}
 use Rattle.rb_image.specs.Holds.{Holds}
@@ -74,14 +76,18 @@ fresh_at u = by (u - 1) 16
 
 -- an engine that was just opened is in step
 pub in_step : {S : Type 0} (s : Ghosts S) (kept : Kept) (old new : S) (groups : List (List Patch)) → Logs s old new groups true → length groups ≤ 2 ^ 40 → s.lsn old ≤ 2 ^ 61 + 4096
-    → kept.sessions ≡ replicate SESSIONS fresh → IsInStep s kept new
-in_step s kept old new groups logs few low is =
+    → kept.sessions ≡ replicate SESSIONS fresh → kept.waits ≡ [] → IsInStep s kept new
+in_step s kept old new groups logs few low is empty =
     let at : (u : ℕ) → kept_at kept.sessions u ≡ fresh = λ u. ap (λ (l : List KeptSession). kept_at l u) is ∙ fresh_at u in record {
       counted = ap (λ (l : List KeptSession). length l) is;
       tables = λ u. subst (InTables (s.shape_of new)) (sym (at u)) tt;
       own = λ u x has. let clash : None ≡ Some x = ap (λ (k : KeptSession). k.own) (sym (at u)) ∙ has in absurd cc;
       small = λ u. let none = ap (λ (k : KeptSession). k.count) (at u) in omega (arith, none);
       idle = λ u _. ap (λ (k : KeptSession). k.count) (at u);
+      queue = record {
+        once = subst AreQueuedOnce (sym empty) tt;
+        held = λ u queued. (let clash : false ≡ true = ap (is_queued u) (sym empty) ∙ queued in absurd (cc));
+      };
       going = λ _. logs.failed;
       few = λ _. let number = logs.number refl in let none = ap owed_kept is in omega (arith, number, few, low, none);
     }
@@ -193,8 +199,8 @@ module _ {S : Type 0} (s : Ghosts S) (laws : Laws s) (told : s.tells) (h : State
         subst (λ (x : State). (s.keeps → Keeps s (HasState x x.books (last_scn x.commits) (s.slots new)) new) → Holds s x [] new) (sym opens.opening.state) holds_first images_new
 
     -- an engine with such a memory
-    pub opened_engine : (memory : Kept) → memory.sessions ≡ replicate SESSIONS fresh → memory.scn ≡ commit_scn Sh (s.blocks old) → memory.stopped ≡ false → Opened s h old (record { memory = memory; store = new })
-    opened_engine memory table_is scn going = record {
+    pub opened_engine : (memory : Kept) → memory.sessions ≡ replicate SESSIONS fresh → memory.waits ≡ [] → memory.scn ≡ commit_scn Sh (s.blocks old) → memory.stopped ≡ false → Opened s h old (record { memory = memory; store = new })
+    opened_engine memory table_is empty scn going = record {
       stands = record {
         told = told;
         shape = logs.same_shape ∙ shape_is;
@@ -202,6 +208,10 @@ module _ {S : Type 0} (s : Ghosts S) (laws : Laws s) (told : s.tells) (h : State
           sixteen = ap (λ (x : State). length x.sessions) opens.opening.state;
           stopped = going ∙ sym (ap (λ (x : State). x.stopped) opens.opening.state);
           scn = scn ∙ (opens.opening.sound.standing.stands.number ∙ (first_number ∙ sym (ap (λ (x : State). last_scn x.commits) opens.opening.state)));
+          queue = λ _. record {
+            waits = empty ∙ sym (ap (λ (x : State). x.queue) opens.opening.state);
+            asked = ap (λ (l : List KeptSession). map (λ k. k.asked) l) table_is ∙ sym (ap (λ (x : State). x.asked) opens.opening.state);
+          };
         };
         goes = λ _. record {
           xids = [];

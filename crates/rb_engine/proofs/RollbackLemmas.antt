@@ -28,14 +28,16 @@ use Rattle.rb_image.proofs.StepsHeld.{few_each, holds_back, holds_ended, room_le
 use Rattle.rb_model.specs.Book.{Book}
 use Rattle.rb_model.specs.Calls.{Call, Commit, Done, Owned, Reply, Rollback, RollbackTo, is_empty, name_tests}
 use Rattle.rb_model.specs.Change.{Change}
-use Rattle.rb_model.specs.NextState.{EndsAs, cursors_of, ended, left_open, not_present, rolled_to, up_to, without_owner}
+use Rattle.rb_engine.proofs.QueueLemmas.{all_asked, holds_queue, knows_freed, knows_same, survives_queue}
+use Rattle.rb_model.specs.Queue.{freed_by, is_queued}
+use Rattle.rb_model.specs.NextState.{EndsAs, cursors_of, ended, freeing, left_open, not_present, rolled_to, up_to, without_owner}
 use Rattle.rb_model.specs.Rows.{last_scn}
 use Rattle.rb_model.specs.State.{Savepoint, Session, State, savepoint_of, session_of, session_own, with_changes}
 use Rattle.rb_restart.proofs.Joined.{room_on}
 use Rattle.rb_restart.proofs.Slots.{owed_is, slot_for}
 use Rattle.rb_segment.specs.Calls.{Runs}
 use Rattle.rb_segment.specs.Segments.{commit_scn, owed_in}
-use Rattle.rb_sessions.specs.Kept.{kept_at, rolled_back, with_kept}
+use Rattle.rb_sessions.specs.Kept.{KeptSession, kept_at, rolled_back, with_kept}
 use Rattle.rb_sessions.specs.Kept.{committed as kept_committed, rolled_to as kept_rolled_to}
 use Rattle.rb_standing.specs.NextStates.{with_own}
 use Rattle.rb_standing.specs.Standing.{env_of, homes_of, logged_of, segments_of}
@@ -335,54 +337,56 @@ module _ {S : Type 0} (s : Ghosts S) (told : s.tells) (laws : Laws s) (h : State
 
   module _ (new : EngineView S) (same : SameStore s old.store new.store) where
     -- a rollback that went well
-    pub does_back : PutsAllBack s h held.xids who x old.store new.store true
-        → new.memory.sessions ≡ with_kept old.memory.sessions who (rolled_back (kept_at old.memory.sessions who)) → new.memory.scn ≡ old.memory.scn → new.memory.stopped ≡ old.memory.stopped → Does s h (Rollback who) Done old new
-    does_back done table_is scn stopped =
+    pub does_back : is_queued who old.memory.waits ≡ false → PutsAllBack s h held.xids who x old.store new.store true
+        → new.memory.sessions ≡ with_kept old.memory.sessions who (rolled_back (kept_at old.memory.sessions who)) → new.memory.waits ≡ freed_by who old.memory.waits → new.memory.scn ≡ old.memory.scn → new.memory.stopped ≡ old.memory.stopped → Does s h (Rollback who) Done old new
+    does_back free done table_is waits scn stopped =
         let cursors = left_open 0 (cursors_of h who) in
-        let now = without_owner x.seg x.slot (ended h who cursors) in
+        let bare = without_owner x.seg x.slot (ended h who cursors) in
+        let now = freeing bare who in
         let after : EndsAs h who cursors now = inl (x.seg, x.slot, id.owned, refl) in
         let all = done cursors in
-        does_by s h now (Rollback who) Done old new (length (session_own h who) + 1) st (Reply.later [] (no_early h who there st.knows.sixteen going) refl refl) after (λ _ s t k a is done. cc)
-        (knows_on h now old.memory new.memory st.knows (length-set h.sessions _ _) refl refl stopped scn) same
+        does_by s h now (Rollback who) Done old new (length (session_own h who) + 1) st (Reply.later [] (no_early h old.memory who st.knows going there free) refl refl) after (λ _ s t k a is done. cc)
+        (knows_on h now old.memory new.memory st.knows (length-set h.sessions _ _) refl refl stopped scn (λ on. knows_freed h now old.memory new.memory who refl refl waits (ap (λ (l : List KeptSession). map (λ k. k.asked) l) table_is ∙ all_asked old.memory.sessions (who - 1) (rolled_back (kept_at old.memory.sessions who)) refl) (st.knows.queue on))) same
         (λ _. (
           inl (x.seg, x.slot, id.owned, refl),
           all.2,
           record {
             xids = held.xids;
-            holds = all.0;
+            holds = holds_queue bare now.queue now.asked s held.xids new.store all.0;
             remembers = subst (Remembers now held.xids (env_of h.shape (s.blocks new.store))) (sym table_is)
                 (back_remembered h now held.xids (s.blocks old.store) (env_of h.shape (s.blocks new.store)) old.memory.sessions who held.holds.blocks held.remembers there.0 there.1 after all.1);
           },
         ))
-        (λ before _ keeps. all.3 before keeps)
+        (λ before _ keeps. survives_queue bare now.queue now.asked s (s.slots old.store) before h old.store new.store (all.3 before keeps))
 
     -- The end of a transaction of which no change is left, by a commit.
-    pub does_left : session_own h who ≡ [] → PutsAllBack s h held.xids who x old.store new.store true
-        → new.memory.sessions ≡ with_kept old.memory.sessions who (kept_committed (kept_at old.memory.sessions who)) → new.memory.scn ≡ old.memory.scn → new.memory.stopped ≡ old.memory.stopped → Does s h (Commit who) Done old new
-    does_left none done table_is scn stopped =
+    pub does_left : is_queued who old.memory.waits ≡ false → session_own h who ≡ [] → PutsAllBack s h held.xids who x old.store new.store true
+        → new.memory.sessions ≡ with_kept old.memory.sessions who (kept_committed (kept_at old.memory.sessions who)) → new.memory.waits ≡ freed_by who old.memory.waits → new.memory.scn ≡ old.memory.scn → new.memory.stopped ≡ old.memory.stopped → Does s h (Commit who) Done old new
+    does_left free none done table_is waits scn stopped =
         let cursors = cursors_of h who in
-        let now = without_owner x.seg x.slot (ended h who cursors) in
+        let bare = without_owner x.seg x.slot (ended h who cursors) in
+        let now = freeing bare who in
         let after : EndsAs h who cursors now = inl (x.seg, x.slot, id.owned, refl) in
-        let bare : is_empty (session_own h who) ≡ true = none_own (session_own h who) (ap (λ (l : List Change). length l) none) in
+        let nothing : is_empty (session_own h who) ≡ true = none_own (session_own h who) (ap (λ (l : List Change). length l) none) in
         let all = done cursors in
-        does_by s h now (Commit who) Done old new 1 st (Reply.later [] (no_early h who there st.knows.sixteen going) refl (rw bare refl)) (inr (bare, after)) (λ _ s t k a is done. cc)
-        (knows_on h now old.memory new.memory st.knows (length-set h.sessions _ _) refl refl stopped scn) same
+        does_by s h now (Commit who) Done old new 1 st (Reply.later [] (no_early h old.memory who st.knows going there free) refl (rw nothing refl)) (inr (nothing, after)) (λ _ s t k a is done. cc)
+        (knows_on h now old.memory new.memory st.knows (length-set h.sessions _ _) refl refl stopped scn (λ on. knows_freed h now old.memory new.memory who refl refl waits (ap (λ (l : List KeptSession). map (λ k. k.asked) l) table_is ∙ all_asked old.memory.sessions (who - 1) (kept_committed (kept_at old.memory.sessions who)) refl) (st.knows.queue on))) same
         (λ _. (
-          inr (bare, inl (x.seg, x.slot, id.owned, refl)),
+          inr (nothing, inl (x.seg, x.slot, id.owned, refl)),
           (let n = all.2 in let empty = ap (λ (l : List Change). length l) none in omega (arith, n, empty)),
           record {
             xids = held.xids;
-            holds = all.0;
+            holds = holds_queue bare now.queue now.asked s held.xids new.store all.0;
             remembers = subst (Remembers now held.xids (env_of h.shape (s.blocks new.store))) (sym table_is)
                 (end_remembered h now held.xids (s.blocks old.store) (env_of h.shape (s.blocks new.store)) old.memory.sessions who held.holds.blocks held.remembers there.0 there.1 none after all.1);
           },
         ))
-        (λ before _ keeps. all.3 before keeps)
+        (λ before _ keeps. survives_queue bare now.queue now.asked s (s.slots old.store) before h old.store new.store (all.3 before keeps))
 
     -- A rollback to a savepoint that went well.
-    pub does_cut : (name : List ℕ) (p : Savepoint) → savepoint_of h who name ≡ Some p → PutsBack s h held.xids who p.kept old.store new.store true → s.failed new.store ≡ false
-        → new.memory.sessions ≡ with_kept old.memory.sessions who (kept_rolled_to name p.kept (kept_at old.memory.sessions who)) → new.memory.scn ≡ old.memory.scn → new.memory.stopped ≡ old.memory.stopped → Does s h (RollbackTo who name) Done old new
-    does_cut name p named done runs table_is scn stopped =
+    pub does_cut : is_queued who old.memory.waits ≡ false → (name : List ℕ) (p : Savepoint) → savepoint_of h who name ≡ Some p → PutsBack s h held.xids who p.kept old.store new.store true → s.failed new.store ≡ false
+        → new.memory.sessions ≡ with_kept old.memory.sessions who (kept_rolled_to name p.kept (kept_at old.memory.sessions who)) → new.memory.waits ≡ old.memory.waits → new.memory.scn ≡ old.memory.scn → new.memory.stopped ≡ old.memory.stopped → Does s h (RollbackTo who name) Done old new
+    does_cut free name p named done runs table_is waits scn stopped =
         let mine = session_own h who in
         let m : State = with_own h who (take p.kept mine) in
         let now = rolled_to h who name p.kept in
@@ -392,8 +396,8 @@ module _ {S : Type 0} (s : Ghosts S) (told : s.tells) (laws : Laws s) (h : State
         let again : with_session m who session ≡ now = ap (λ (z : List Session). let n : State = record h { sessions = z } in n) (set-set h.sessions (who - 1) (with_changes h who (take p.kept mine)) session) in
         let cut : Holds s (with_session m who session) held.xids new.store = holds_session s told laws m who held.xids new.store session in_m (sym (own_left h who there.0 high (take p.kept mine))) done.0 in
         let shape_new : s.shape_of new.store ≡ h.shape = same.shape ∙ st.shape in
-        does_by s h now (RollbackTo who name) Done old new (length mine - p.kept) st (Reply.later (name_tests h (RollbackTo who name)) (no_early h who there st.knows.sixteen going) refl (rw named refl)) (p, named, refl) (λ _ s t k a is done. cc)
-        (knows_on h now old.memory new.memory st.knows (length-set h.sessions _ _) refl refl stopped scn) same
+        does_by s h now (RollbackTo who name) Done old new (length mine - p.kept) st (Reply.later (name_tests h (RollbackTo who name)) (no_early h old.memory who st.knows going there free) refl (rw named refl)) (p, named, refl) (λ _ s t k a is done. cc)
+        (knows_on h now old.memory new.memory st.knows (length-set h.sessions _ _) refl refl stopped scn (λ on. knows_same h now old.memory new.memory refl refl waits (ap (λ (l : List KeptSession). map (λ k. k.asked) l) table_is ∙ all_asked old.memory.sessions (who - 1) (kept_rolled_to name p.kept (kept_at old.memory.sessions who)) refl) (st.knows.queue on))) same
         (λ _. (
           (p, named, refl),
           done.2,

@@ -1,5 +1,5 @@
 -- The engine stays in order as one session of its table moves.
-use Rattle.std.proofs.Common.{◌≡◌, inl, inr, ◌<◌, ◌≤◌, ◌+◌, ◌-◌, ◌*◌, ◌^◌, ℕ, suc, Bool, false, not, ◌&&◌, nat_lt, List, [], ◌∷◌, ◌++◌, length, map, filter, set, get_or, Option, Some, None, refl, sym, ◌∙◌, ap, subst, arith}
+use Rattle.std.proofs.Common.{◌≡◌, ◌⊎◌, inl, inr, ◌<◌, ◌≤◌, ◌+◌, ◌-◌, ◌*◌, ◌^◌, ℕ, suc, Bool, false, not, ◌&&◌, nat_lt, List, [], ◌∷◌, ◌++◌, length, map, filter, set, get_or, Option, Some, None, refl, sym, ◌∙◌, ap, subst, arith}
 use Rattle.std.proofs.lemmas.Bool.{cases_eq, cond_both}
 use Rattle.std.proofs.lemmas.List.{get_or-set_same, get_or-set_other, length-set}
 use Rattle.std.proofs.lemmas.List.Sums.{sum_by-cons, sum_by-set}
@@ -8,8 +8,11 @@ use Rattle.std.specs.Str.{bytes_eq}
 use Rattle.rb_base.specs.declared.ids.Xid.{Xid}
 use Rattle.rb_base.specs.declared.shape.Shape.{Shape}
 use Rattle.rb_base.specs.declared.store.Store.{Ghosts}
-use Rattle.rb_engine.specs.Does.{InTables, IsInStep, Kept, owed_by, owed_kept, slots_had}
-use Rattle.rb_sessions.specs.Kept.{KeptCursor, KeptSession, committed, ended, fresh, kept_at, left_open, named, passed, rolled_back, rolled_to, with_cursor, with_cursors, with_savepoint, with_kept, with_last, without, wrote}
+use Rattle.rb_engine.specs.Does.{InTables, IsInStep, IsQueue, Kept, owed_by, owed_kept, slots_had}
+use Rattle.rb_engine.proofs.QueueLemmas.{asked_set, queue_freed, queue_same}
+use Rattle.rb_model.specs.Change.{Asked}
+use Rattle.rb_model.specs.Queue.{freed_by}
+use Rattle.rb_sessions.specs.Kept.{KeptCursor, KeptSession, committed, ended, fresh, holding, kept_at, left_open, named, passed, rolled_back, rolled_to, with_cursor, with_cursors, with_savepoint, with_kept, with_last, without, wrote}
 use Rattle.rb_sessions.specs.declared.cursor.Cursor.{Cursor}
 
 -- Cursors stay cursors of tables that there are.
@@ -76,8 +79,8 @@ fit_wrote shape x k fit here = record {
   idle = λ none. (let clash : Some x ≡ None = none in absurd cc);
 }
 
-fit_ended : (shape : Shape) (cursors : List KeptCursor) → AllByRecursion (IsIn shape) cursors → IsFit shape (ended cursors)
-fit_ended shape cursors all = record {
+fit_ended : (shape : Shape) (cursors : List KeptCursor) (k : KeptSession) → AllByRecursion (IsIn shape) cursors → IsFit shape (ended cursors k)
+fit_ended shape cursors k all = record {
   tables = all_passed shape cursors all;
   own = λ x is. (let clash : None ≡ Some x = is in absurd cc);
   small = omega arith;
@@ -85,13 +88,16 @@ fit_ended shape cursors all = record {
 }
 
 pub fit_committed : (shape : Shape) (k : KeptSession) → IsFit shape k → IsFit shape (committed k)
-fit_committed shape k fit = fit_ended shape k.cursors fit.tables
+fit_committed shape k fit = fit_ended shape k.cursors k fit.tables
 
 pub fit_rolled_back : (shape : Shape) (k : KeptSession) → IsFit shape k → IsFit shape (rolled_back k)
-fit_rolled_back shape k fit = fit_ended shape (left_open 0 k.cursors) (all_filter shape (λ c. not (c.cursor.present && nat_lt 0 c.cursor.upto)) k.cursors fit.tables)
+fit_rolled_back shape k fit = fit_ended shape (left_open 0 k.cursors) k (all_filter shape (λ c. not (c.cursor.present && nat_lt 0 c.cursor.upto)) k.cursors fit.tables)
 
 fit_cursors : (shape : Shape) (k : KeptSession) (cursors : List KeptCursor) → IsFit shape k → AllByRecursion (IsIn shape) cursors → IsFit shape (with_cursors k cursors)
 fit_cursors shape k cursors fit all = record { tables = all; own = fit.own; small = fit.small; idle = fit.idle }
+
+pub fit_held : (shape : Shape) (a : Asked) (k : KeptSession) → IsFit shape k → IsFit shape (holding a k)
+fit_held shape a k fit = record { tables = fit.tables; own = fit.own; small = fit.small; idle = fit.idle }
 
 pub fit_savepoint : (shape : Shape) (name : List ℕ) (k : KeptSession) → IsFit shape k → IsFit shape (with_savepoint name k)
 fit_savepoint shape name k fit = record { tables = fit.tables; own = fit.own; small = fit.small; idle = fit.idle }
@@ -115,9 +121,9 @@ fit_closed shape name k fit = fit_cursors shape k (without name k.cursors) fit (
 
 module _ {S : Type 0} (s : Ghosts S) where
   module _ (kept now : Kept) (old new : S) (is : IsInStep s kept old) (shape : s.shape_of new ≡ s.shape_of old) where
-    -- The table is as it was.
-    pub in_step_same : now.sessions ≡ kept.sessions → (now.stopped ≡ false → (s.failed new ≡ false) × (s.lsn new ≤ s.lsn old) × (kept.stopped ≡ false)) → IsInStep s now new
-    in_step_same same goes =
+    -- The table is as it was, and the queue may be another one.
+    pub in_step_queue : now.sessions ≡ kept.sessions → IsQueue now → (now.stopped ≡ false → (s.failed new ≡ false) × (s.lsn new ≤ s.lsn old) × (kept.stopped ≡ false)) → IsInStep s now new
+    in_step_queue same queue goes =
         let at : (u : ℕ) → kept_at now.sessions u ≡ kept_at kept.sessions u = λ u. ap (λ (l : List KeptSession). kept_at l u) same in
         record {
           counted = ap (λ (l : List KeptSession). length l) same ∙ is.counted;
@@ -125,6 +131,7 @@ module _ {S : Type 0} (s : Ghosts S) where
           own = λ u x mine. subst (λ (h : Shape). (x.seg < h.segments) × (x.slot < 16)) (sym shape) (is.own u x (ap (λ (k : KeptSession). k.own) (sym (at u)) ∙ mine));
           small = λ u. let same_count = ap (λ (k : KeptSession). k.count) (at u) in let less = is.small u in omega (arith, same_count, less);
           idle = λ u none. ap (λ (k : KeptSession). k.count) (at u) ∙ is.idle u (ap (λ (k : KeptSession). k.own) (sym (at u)) ∙ none);
+          queue = queue;
           going = λ going. (goes going).0;
           few = λ going.
               let w = goes going in
@@ -132,6 +139,10 @@ module _ {S : Type 0} (s : Ghosts S) where
               let sum : owed_kept now.sessions ≡ owed_kept kept.sessions = ap owed_kept same in
               omega (arith, w.1, before, sum);
         }
+
+    -- Nothing in memory is.
+    pub in_step_same : now.sessions ≡ kept.sessions → now.waits ≡ kept.waits → (now.stopped ≡ false → (s.failed new ≡ false) × (s.lsn new ≤ s.lsn old) × (kept.stopped ≡ false)) → IsInStep s now new
+    in_step_same same waits goes = in_step_queue same (queue_same kept now is.queue waits (λ u. ap (λ (l : List KeptSession). (kept_at l u).asked) same)) goes
 
     -- Session u of the table is another one.
     module _ (u : ℕ) (there : (1 ≤ u) × (u ≤ 16)) (k : KeptSession) (fit : IsFit (s.shape_of old) k) (moved : now.sessions ≡ with_kept kept.sessions u k) where
@@ -153,13 +164,23 @@ module _ {S : Type 0} (s : Ghosts S) where
       pub sum_moved : owed_kept now.sessions + owed_by (kept_at kept.sessions u) ≡ owed_kept kept.sessions + owed_by k
       sum_moved = ap (λ (l : List KeptSession). owed_kept l + owed_by (kept_at kept.sessions u)) moved ∙ sum_by-set owed_by kept.sessions (u - 1) k fresh within
 
-      pub in_step_moved : (now.stopped ≡ false → (s.failed new ≡ false) × (s.lsn new + owed_kept now.sessions ≤ 2 ^ 61 + 2 ^ 60)) → IsInStep s now new
-      in_step_moved goes = record {
+      -- the writes that sessions wait with stay
+      asked_stays : k.asked ≡ (kept_at kept.sessions u).asked → (r : ℕ) → (kept_at now.sessions r).asked ≡ (kept_at kept.sessions r).asked
+      asked_stays same r = ap (λ (l : List KeptSession). (kept_at l r).asked) moved ∙ asked_set kept.sessions (u - 1) (r - 1) k same
+
+      -- so the queue is in order, as it was, or with those ready that waited for the session
+      pub queue_moved : k.asked ≡ (kept_at kept.sessions u).asked → (now.waits ≡ kept.waits) ⊎ (now.waits ≡ freed_by u kept.waits) → IsQueue now
+      queue_moved same (inl waits) = queue_same kept now is.queue waits (asked_stays same)
+      queue_moved same (inr waits) = queue_freed kept now u is.queue waits (asked_stays same)
+
+      pub in_step_moved : IsQueue now → (now.stopped ≡ false → (s.failed new ≡ false) × (s.lsn new + owed_kept now.sessions ≤ 2 ^ 61 + 2 ^ 60)) → IsInStep s now new
+      in_step_moved queue goes = record {
         counted = ap (λ (l : List KeptSession). length l) moved ∙ (length-set kept.sessions (u - 1) k ∙ is.counted);
         tables = λ r. (fit_now r).tables;
         own = λ r. (fit_now r).own;
         small = λ r. (fit_now r).small;
         idle = λ r. (fit_now r).idle;
+        queue = queue;
         going = λ going. (goes going).0;
         few = λ going. (goes going).1;
       }

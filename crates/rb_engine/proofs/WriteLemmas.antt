@@ -1,5 +1,5 @@
 -- What a write of a session does with the state, from the group of its step.
-use Rattle.std.proofs.Common.{◌≡◌, ◌≢◌, ◌≤◌, ◌+◌, ◌&&◌, ℕ, Bool, true, false, not, nat_le, List, [], ◌∷◌, ◌++◌, length, Option, Some, None, Err, refl, sym, ◌∙◌, ap, subst, arith}
+use Rattle.std.proofs.Common.{◌≡◌, ◌≢◌, ◌≤◌, ◌+◌, ◌&&◌, ℕ, Bool, true, false, not, nat_le, List, [], ◌∷◌, ◌++◌, length, map, set, if◌then◌else◌, ◌-◌, Option, Some, None, Result, Ok, Err, IfErr, IfOk, refl, sym, ◌∙◌, ap, subst, arith}
 use Rattle.std.proofs.lemmas.List.{length-set}
 use Rattle.std.proofs.lemmas.Bool.Decides.{nat_tests}
 use Rattle.rb_attempt.specs.Refusals.{has_failed}
@@ -10,10 +10,14 @@ use Rattle.rb_base.specs.Logs.{Laws, Logs, group_of}
 use Rattle.rb_base.specs.Stores.{room_of}
 use Rattle.rb_base.specs.declared.ids.Xid.{Xid}
 use Rattle.rb_base.specs.declared.store.Store.{Ghosts}
-use Rattle.rb_engine.specs.Does.{Does, EngineView, Goes, Kept, Keeps, Knows, SameStore, Stands}
+use Rattle.rb_engine.specs.Does.{Does, EngineView, Goes, IsInStep, Kept, Keeps, Knows, SameStore, Stands}
 use Rattle.rb_engine.specs.Retains.{Retains}
 use Rattle.rb_engine.specs.Scanning.{OtherHolds}
-use Rattle.rb_engine.proofs.DoesLemmas.{does_by, does_fault, does_loaded, goes_logged, knows_on, survives_same}
+use Rattle.rb_engine.proofs.DoesLemmas.{does_by, does_fault, does_loaded, goes_logged, holds_logged, knows_on, remembers_logged, survives_same}
+use Rattle.rb_engine.proofs.QueueLemmas.{all_asked, holds_queue, knows_same, one_asked, queue_waiting, survives_queue}
+use Rattle.rb_engine.proofs.StepLemmas.{few_less, fit_at, fit_held, in_step_moved, in_step_same}
+use Rattle.rb_base.specs.Counts.{err_is}
+use Rattle.rb_waits.proofs.Turns.{wait_not_ready}
 use Rattle.rb_engine.proofs.RetainsLemmas.{retains}
 use Rattle.rb_image.proofs.Crashes.{survives_on}
 use Rattle.rb_image.proofs.Owners.{OwnedBy, owned_by}
@@ -21,18 +25,24 @@ use Rattle.rb_image.proofs.StepsHeld.{holds_written, write_fault}
 use Rattle.rb_image.specs.Crash.{Survives}
 use Rattle.rb_image.specs.Made.{GivesOne, WriteMade}
 use Rattle.rb_model.specs.Calls.{Action, Answer, Call, Done, Refused, Reply, Waits, Write, early_tests, failed_in, first_of, is_disk_fault, none_applies, waited, write_tests, WritesIn}
-use Rattle.rb_model.specs.NextState.{change_in, written}
+use Rattle.rb_model.specs.Change.{Asked}
+use Rattle.rb_model.specs.NextState.{AfterWait, change_in, queued, written}
+use Rattle.rb_model.specs.Answers.{write_answer}
+use Rattle.rb_model.specs.Queue.{Waiter, closes, is_queued, ready_count, waiting}
+use Rattle.rb_model.specs.declared.wrote.Wrote.{Wrote}
+use Rattle.rb_model.specs.declared.wrote.Wrote.TheVariants as wrote
 use Rattle.rb_model.specs.State.{State}
 use Rattle.rb_model.specs.Tests.{holder}
 use Rattle.rb_model.specs.declared.refusal.Refusal.{Refusal}
-use Rattle.rb_model.specs.declared.refusal.Refusal.TheVariants.{DiskFault}
+use Rattle.rb_model.specs.declared.refusal.Refusal.TheVariants.{Deadlock, DiskFault}
 use Rattle.rb_model.proofs.Stops.{the_fault}
-use Rattle.rb_sessions.specs.Kept.{KeptSession, kept_at, with_kept, wrote}
+use Rattle.rb_sessions.specs.Kept.{KeptSession, holding, kept_at, with_kept, wrote}
 use Rattle.rb_standing.specs.Standing.{env_of}
 use Rattle.rb_standing.specs.States.{BlocksStand}
 use Rattle.rb_undoengine.specs.Steps.{IsAbout, IsHolder, refusal_of}
 use Rattle.rb_verdict.specs.Verdict.{IsOwnId}
 use Rattle.rb_views.specs.Views.{Remembers}
+use Rattle.rb_views.proofs.Queues.{held_remembered, queue_remembered}
 use Rattle.rb_views.proofs.Written.{written_remembered}
 
 -- a fault of an attempt is one of the disk exactly where a call failed
@@ -83,8 +93,8 @@ module _ {S : Type 0} (s : Ghosts S) (told : s.tells) (laws : Laws s) (h : State
 
   module _ (new : EngineView S) (same : SameStore s old.store new.store) where
     pub step_done : (x : Xid) → GivesOne s old.store new.store true (λ now. WriteMade h goes.xids who table key action Room x (s.blocks old.store) now)
-        → new.memory.sessions ≡ with_kept old.memory.sessions who (wrote x (kept_at old.memory.sessions who)) → new.memory.scn ≡ old.memory.scn → new.memory.stopped ≡ old.memory.stopped → Does s h (Write who table key action) Done old new
-    step_done x one table_is scn stopped =
+        → new.memory.sessions ≡ with_kept old.memory.sessions who (wrote x (kept_at old.memory.sessions who)) → new.memory.waits ≡ old.memory.waits → new.memory.scn ≡ old.memory.scn → new.memory.stopped ≡ old.memory.stopped → Does s h (Write who table key action) Done old new
+    step_done x one table_is waits scn stopped =
         let after : State = written h who x.seg x.slot (change_in h x.seg table key action) in
         let high : who ≤ length h.sessions = let n = st.knows.sixteen in omega (arith, n, there.1) in
         let single = one.one refl in
@@ -95,7 +105,7 @@ module _ {S : Type 0} (s : Ghosts S) (told : s.tells) (laws : Laws s) (h : State
         let knows = written_remembered h goes.xids (s.blocks old.store) (s.blocks new.store) who x.seg x.slot (change_in h x.seg table key action) x goes.holds.blocks there.0 high made.in_slot made.stand made.id made.ids old.memory.sessions there.1 goes.remembers in
         does_by s h after (Write who table key action) Done old new 1 st
         (answered x.seg x.slot made.in_slot Done granted) (x.seg, x.slot, made.in_slot, refl) (λ _. kept_undo Room x made)
-        (knows_on h after old.memory new.memory st.knows (length-set h.sessions _ _) refl refl stopped scn) same
+        (knows_on h after old.memory new.memory st.knows (length-set h.sessions _ _) refl refl stopped scn (λ on. knows_same h after old.memory new.memory refl refl waits (ap (λ (l : List KeptSession). map (λ k. k.asked) l) table_is ∙ all_asked old.memory.sessions (who - 1) (wrote x (kept_at old.memory.sessions who)) refl) (st.knows.queue on))) same
         (λ _. (
           refl,
           (let n = one.logs.number refl in omega (arith, n, single)),
@@ -119,17 +129,96 @@ module _ {S : Type 0} (s : Ghosts S) (told : s.tells) (laws : Laws s) (h : State
     step_refused why other x within is memory logs =
         does_loaded s told laws h (Write who table key action) (Refused why) old new st (answered x.seg x.slot within (Refused why) is) (rw other refl) refl (λ s t k a is done. cc) memory (λ _. logs) same
 
-    -- or another session holds the key
-    pub step_waits : (u : ℕ) → OtherHolds h who table key (Some u) → (place : (g : ℕ) × (i : ℕ) × WritesIn h who g i) → new.memory ≡ old.memory → Logs s old.store new.store [] true → Does s h (Write who table key action) (Waits u) old new
-    step_waits u held place memory logs =
-        let tests = write_tests h (s.lsn old.store) Room place.0 place.1 who table key action in
-        does_loaded s told laws h (Write who table key action) (Waits u) old new st (answered place.0 place.1 place.2 (Waits u) (waits_first u held.1 (holder h table key) held.0 _)) refl refl (λ s t k a is done. cc) memory (λ _. logs) same
-      where
-        differ : (u : ℕ) → u ≢ who → not (nat_le u who && nat_le who u) ≡ true
-        differ u ne = grind (arith, nat_tests)
+    module _ (u : ℕ) (held : OtherHolds h who table key (Some u)) (place : (g : ℕ) × (i : ℕ) × WritesIn h who g i) (mid : Kept) (before : mid ≡ old.memory) (logs : Logs s old.store new.store [] true) where
+      queue_is : mid.waits ≡ h.queue
+      queue_is = ap (λ (k : Kept). k.waits) before ∙ (st.knows.queue going).waits
 
-        waits_first : (u : ℕ) → u ≢ who → (o : Option ℕ) → o ≡ Some u → (rest : List (Bool × Answer)) → first_of (waited who o ++ rest) Done ≡ Waits u
-        waits_first u ne o is rest = subst (λ (p : Option ℕ). first_of (waited who p ++ rest) Done ≡ Waits u) (sym is) (rw (differ u ne) refl)
+      first_waited : (b : Bool) → closes mid.waits who u ≡ b → (r : Answer) → (if b then Refused (Deadlock u) else Waits u) ≡ r → first_of (write_tests h (s.lsn old.store) Room place.0 place.1 who table key action) Done ≡ r
+      first_waited b ring r is = of_holder (holder h table key) held.0 _
+        where
+          differ : not (nat_le u who && nat_le who u) ≡ true
+          differ = let ne = held.1 in grind (arith, nat_tests)
+
+          by : (b : Bool) → closes h.queue who u ≡ b → (if b then Refused (Deadlock u) else Waits u) ≡ r → (rest : List (Bool × Answer)) → first_of (waited h.queue who (Some u) ++ rest) Done ≡ r
+          by true ring is rest = rw (differ, ring) is
+          by false ring is rest = rw (differ, ring) is
+
+          of_holder : (o : Option ℕ) → o ≡ Some u → (rest : List (Bool × Answer)) → first_of (waited h.queue who o ++ rest) Done ≡ r
+          of_holder o at rest = subst (λ (p : Option ℕ). first_of (waited h.queue who p ++ rest) Done ≡ r) (sym at) (by b (ap (λ (l : List Waiter). closes l who u) (sym queue_is) ∙ ring) is rest)
+
+      -- or another session holds the key, and is waited for
+      pub step_waits : closes mid.waits who u ≡ false → (asked : Asked) → asked ≡ record { table = table; key = key; action = action }
+          → new.memory ≡ record mid { sessions = with_kept mid.sessions who (holding asked (kept_at mid.sessions who)); waits = waiting who u mid.waits } → Does s h (Write who table key action) (Waits u) old new
+      step_waits free asked is memory =
+          let now : State = queued h who asked u in
+          let after : AfterWait h (Write who table key action) u now = ap (λ (a : Asked). queued h who a u) is in
+          let knows = st.knows.queue going in
+          let sessions : mid.sessions ≡ old.memory.sessions = ap (λ (k : Kept). k.sessions) before in
+          let table_is : new.memory.sessions ≡ with_kept old.memory.sessions who (holding asked (kept_at old.memory.sessions who)) = ap (λ (k : Kept). k.sessions) memory ∙ ap (λ (l : List KeptSession). with_kept l who (holding asked (kept_at l who))) sessions in
+          does_by s h now (Write who table key action) (Waits u) old new 0 st
+          (answered place.0 place.1 place.2 (Waits u) (first_waited false free (Waits u) refl)) after (λ _ s t k a is done. cc)
+          (knows_on h now old.memory new.memory st.knows refl refl refl (ap (λ (k : Kept). k.stopped) memory ∙ ap (λ (k : Kept). k.stopped) before) (ap (λ (k : Kept). k.scn) memory ∙ ap (λ (k : Kept). k.scn) before) (λ _. record {
+            waits = ap (λ (k : Kept). k.waits) memory ∙ ap (waiting who u) queue_is;
+            asked = ap (λ (l : List KeptSession). map (λ k. k.asked) l) table_is ∙ (one_asked old.memory.sessions (who - 1) (holding asked (kept_at old.memory.sessions who)) ∙ ap (λ (l : List (Option Asked)). set l (who - 1) (Some asked)) knows.asked);
+          })) same
+          (λ _. (
+            refl,
+            logs.number refl,
+            record {
+              xids = goes.xids;
+              holds = holds_queue h now.queue now.asked s goes.xids new.store (holds_logged s told laws h goes.xids old.store new.store goes.holds logs);
+              remembers = subst (Remembers now goes.xids (env_of h.shape (s.blocks new.store))) (sym table_is)
+                  (queue_remembered h now.queue now.asked goes.xids (env_of h.shape (s.blocks new.store)) (with_kept old.memory.sessions who (holding asked (kept_at old.memory.sessions who)))
+                  (held_remembered h goes.xids (env_of h.shape (s.blocks new.store)) old.memory.sessions who asked there.0 there.1 (remembers_logged s told laws h goes.xids old.memory.sessions old.store new.store logs goes.remembers)));
+            },
+          ))
+          (λ fault _ keeps. survives_queue h now.queue now.asked s (s.slots old.store) fault h old.store new.store (survives_same s told laws h h goes.xids old.store new.store true st.shape refl refl refl goes.holds logs keeps))
+
+      -- or is not, as they would wait in a ring
+      pub step_ring : closes mid.waits who u ≡ true → new.memory ≡ mid → Does s h (Write who table key action) (Refused (Deadlock u)) old new
+      step_ring ring memory =
+          does_loaded s told laws h (Write who table key action) (Refused (Deadlock u)) old new st
+          (answered place.0 place.1 place.2 (Refused (Deadlock u)) (first_waited true ring (Refused (Deadlock u)) refl)) refl refl (λ s t k a is done. cc) (memory ∙ before) (λ _. logs) same
+
+      pub step_waited : (r : Result Wrote Refusal) (asked : Asked) → asked ≡ record { table = table; key = key; action = action }
+          → IfErr r (λ why. (why ≡ Deadlock u) × (closes mid.waits who u ≡ true) × (new.memory ≡ mid))
+          → IfOk r (λ w. (w ≡ wrote.Waits u) × (closes mid.waits who u ≡ false) × (new.memory ≡ record mid { sessions = with_kept mid.sessions who (holding asked (kept_at mid.sessions who)); waits = waiting who u mid.waits }))
+          → Does s h (Write who table key action) (write_answer r) old new
+      step_waited (Ok w) asked is ring waits = subst (λ (x : Wrote). Does s h (Write who table key action) (write_answer (Ok x)) old new) (sym waits.0) (step_waits waits.1 asked is waits.2)
+      step_waited (Err why) asked is ring waits = subst (λ (x : Refusal). Does s h (Write who table key action) (Refused x) old new) (sym ring.0) (step_ring ring.1 ring.2)
+
+-- The engine stays in order as a session begins to wait, or is refused.
+module _ {S : Type 0} (s : Ghosts S) (kept now : Kept) (old new : S) (is : IsInStep s kept old) (going : kept.stopped ≡ false) (logs : Logs s old new [] true) (who u : ℕ) (there : (1 ≤ who) × (who ≤ 16)) (free : is_queued who kept.waits ≡ false)
+    (asked : Asked) where
+  waits_in_step : now ≡ record kept { sessions = with_kept kept.sessions who (holding asked (kept_at kept.sessions who)); waits = waiting who u kept.waits } → IsInStep s now new
+  waits_in_step memory =
+      let k = holding asked (kept_at kept.sessions who) in
+      let fit = fit_held (s.shape_of old) asked (kept_at kept.sessions who) (fit_at s kept old is who) in
+      let moved : now.sessions ≡ with_kept kept.sessions who k = ap (λ (z : Kept). z.sessions) memory in
+      in_step_moved s kept now old new is logs.same_shape who there k fit moved
+      (queue_waiting kept now who u asked is.queue there is.counted free (ap (λ (z : Kept). z.waits) memory) moved)
+      (λ _. (logs.failed, few_less s kept now old new is logs.same_shape who there k fit moved going (let n = logs.number refl in omega (arith, n))))
+
+  same_in_step : now ≡ kept → IsInStep s now new
+  same_in_step memory = in_step_same s kept now old new is logs.same_shape (ap (λ (z : Kept). z.sessions) memory) (ap (λ (z : Kept). z.waits) memory)
+      (λ _. (logs.failed, (let n = logs.number refl in omega (arith, n)), going))
+
+  pub waited_in_step : (r : Result Wrote Refusal) → IfErr r (λ why. (why ≡ Deadlock u) × (closes kept.waits who u ≡ true) × (now ≡ kept))
+      → IfOk r (λ w. (w ≡ wrote.Waits u) × (closes kept.waits who u ≡ false) × (now ≡ record kept { sessions = with_kept kept.sessions who (holding asked (kept_at kept.sessions who)); waits = waiting who u kept.waits }))
+      → IsInStep s now new
+  waited_in_step (Ok w) ring waits = waits_in_step waits.2
+  waited_in_step (Err why) ring waits = same_in_step ring.2
+
+-- as many are ready as before
+pub waited_ready : (kept now : Kept) (who u : ℕ) (sessions : List KeptSession) (r : Result Wrote Refusal) → IfErr r (λ why. (why ≡ Deadlock u) × (closes kept.waits who u ≡ true) × (now ≡ kept))
+    → IfOk r (λ w. (w ≡ wrote.Waits u) × (closes kept.waits who u ≡ false) × (now ≡ record kept { sessions = sessions; waits = waiting who u kept.waits })) → ready_count now.waits ≡ ready_count kept.waits
+waited_ready kept now who u sessions (Ok w) ring waits = ap (λ (z : Kept). ready_count z.waits) waits.2 ∙ wait_not_ready who u kept.waits
+waited_ready kept now who u sessions (Err why) ring waits = ap (λ (z : Kept). ready_count z.waits) ring.2
+
+-- and the disk has not failed
+pub waited_fault : (P : Type 0) (u : ℕ) (r : Result Wrote Refusal) → IfErr r (λ why. (why ≡ Deadlock u) × P) → err_is is_disk_fault r ≡ false
+waited_fault P u (Ok w) ring = refl
+waited_fault P u (Err why) ring = ap is_disk_fault ring.0
 
 -- Some session in the table has the id of the transaction that holds a key.
 module _ (h : State) (xids : List Xid) (blocks : List (List ℕ)) (sessions : List KeptSession) (knows : Remembers h xids (env_of h.shape blocks) sessions) (table key : ℕ) (x : Xid) (held : IsHolder h (env_of h.shape blocks) table key (Some x)) where

@@ -1,7 +1,8 @@
 -- For which states an engine stands, and what a call does with each of them.
-use Rattle.std.specs.Prelude.{◌≡◌, ◌<◌, ◌≤◌, ◌+◌, ◌^◌, ℕ, Bool, false, List}
-use Rattle.std.specs.Prelude.{length, Option, None, Some}
+use Rattle.std.specs.Prelude.{◌≡◌, ◌<◌, ◌≤◌, ◌+◌, ◌^◌, ℕ, Bool, true, false, List}
+use Rattle.std.specs.Prelude.{length, map, Option, None, Some, Result}
 use Rattle.std.specs.List.{AllByRecursion, sum_by}
+use Rattle.rb_base.specs.Counts.{err_is}
 use Rattle.rb_base.specs.Stores.{room_of}
 use Rattle.rb_base.specs.declared.ids.Xid.{Xid}
 use Rattle.rb_base.specs.declared.shape.Shape.{Shape}
@@ -10,18 +11,26 @@ use Rattle.rb_base.specs.declared.store.Store.{Ghosts}
 use Rattle.rb_engine.specs.Retains.{Retains}
 use Rattle.rb_image.specs.Crash.{Survives}
 use Rattle.rb_image.specs.Holds.{Holds}
-use Rattle.rb_model.specs.Calls.{Action, Answer, Call, Done, Reply, Write, failed_in}
-use Rattle.rb_model.specs.NextState.{After, Grows}
+use Rattle.rb_model.specs.Answers.{write_answer}
+use Rattle.rb_model.specs.Calls.{Action, Answer, Call, Done, Reply, Write, failed_in, is_disk_fault}
+use Rattle.rb_model.specs.Change.{Asked}
+use Rattle.rb_model.specs.NextState.{After, Grows, unqueued}
+use Rattle.rb_model.specs.Queue.{Waiter, first_ready, is_queued}
 use Rattle.rb_model.specs.Rows.{last_scn}
-use Rattle.rb_model.specs.State.{State}
+use Rattle.rb_model.specs.State.{State, asked_of}
+use Rattle.rb_model.specs.declared.refusal.Refusal.{Refusal}
+use Rattle.rb_model.specs.declared.wrote.Wrote.{Wrote}
 use Rattle.rb_sessions.specs.Kept.{KeptSession, kept_at}
 use Rattle.rb_sessions.specs.declared.sessions.TheConstants.{SESSIONS}
 use Rattle.rb_standing.specs.Standing.{env_of}
 use Rattle.rb_views.specs.Views.{Remembers}
+use Rattle.rb_waits.specs.Room.{AreQueuedOnce}
 
--- what the engine has in memory: the table of sessions, the last commit number, and whether the disk has failed
+-- what the engine has in memory: the table of sessions, the queue of those that wait, the last commit number, and
+-- whether the disk has failed
 pub record Kept : Type 0 where
   pub sessions : List KeptSession
+  pub waits : List Waiter
   pub scn : ℕ
   pub stopped : Bool
 
@@ -47,6 +56,12 @@ owed_by k = k.count + slots_had k.own
 abbrev pub owed_kept : List KeptSession → ℕ
 owed_kept sessions = sum_by owed_by sessions
 
+-- each session in the queue is there once, and the table has the write that it waits with
+pub record IsQueue (kept : Kept) : Type 0 where
+  pub once : AreQueuedOnce kept.waits
+  pub held : (u : ℕ) → is_queued u kept.waits ≡ true
+      → (a : Asked) × ((kept_at kept.sessions u).asked ≡ Some a)
+
 -- What keeps an engine in order, whatever its store tells: each transaction's id is of a slot that there is, and a
 -- session without one has no changes. As long as the engine isn't stopped, its store goes on and has numbers for the
 -- end of each transaction.
@@ -57,14 +72,21 @@ pub record IsInStep {S : Type 0} (s : Ghosts S) (kept : Kept) (store : S) : Type
       → (x.seg < (s.shape_of store).segments) × (x.slot < SLOTS)
   pub small : (u : ℕ) → (kept_at kept.sessions u).count < 2 ^ 32
   pub idle : (u : ℕ) → (kept_at kept.sessions u).own ≡ None → (kept_at kept.sessions u).count ≡ 0
+  pub queue : IsQueue kept
   pub going : kept.stopped ≡ false → s.failed store ≡ false
   pub few : kept.stopped ≡ false → s.lsn store + owed_kept kept.sessions ≤ 2 ^ 61 + 2 ^ 60
+
+-- the queue and the writes that sessions wait with, in memory and in a state
+pub record KnowsQueue (h : State) (kept : Kept) : Type 0 where
+  pub waits : kept.waits ≡ h.queue
+  pub asked : map (λ k. k.asked) kept.sessions ≡ h.asked
 
 -- what memory alone says of a state
 pub record Knows (h : State) (kept : Kept) : Type 0 where
   pub sixteen : length h.sessions ≡ SESSIONS
   pub stopped : kept.stopped ≡ h.stopped
   pub scn : kept.scn ≡ last_scn h.commits
+  pub queue : h.stopped ≡ false → KnowsQueue h kept
 
 -- An engine that goes on stands for a state: its store's blocks do, and the table of sessions remembers it.
 pub record Goes {S : Type 0} (s : Ghosts S) (h : State) (e : EngineView S) : Type 0 where
@@ -100,6 +122,21 @@ pub record Does {S : Type 0} (s : Ghosts S) (h : State) (call : Call) (answer : 
   pub lsn : now.stopped ≡ false → s.lsn new.store ≡ s.lsn old.store + groups
   pub survives : (before : Option Call) → h.stopped ≡ false → s.keeps
       → Survives s (s.slots old.store) (failed_in call answer before) h now old.store new.store
+
+-- A resumed write on an engine that stood for h, which goes on: none is ready, and nothing was done; or it is that of
+-- the first ready session, which does what it does as if the session had never been in the queue. A stopped engine
+-- tries none.
+abbrev pub Resumes : {S : Type 0} → Ghosts S → State → Option (ℕ × Result Wrote Refusal) → EngineView S
+    → EngineView S → Type 0
+Resumes s h None old new = (h.stopped ≡ false → first_ready h.queue ≡ None) × (new ≡ old)
+Resumes s h (Some (w, outcome)) old new = (h.stopped ≡ false) × (first_ready h.queue ≡ Some w)
+    × (a : Asked) × (asked_of h w ≡ Some a)
+    × Does s (unqueued h w) (Write w a.table a.key a.action) (write_answer outcome) old new
+
+-- whether a resumed write tells of a fault of the disk
+abbrev pub resume_fault : Option (ℕ × Result Wrote Refusal) → Bool
+resume_fault None = false
+resume_fault (Some (w, outcome)) = err_is is_disk_fault outcome
 
 -- no call changes the shape of a store, or the slots of its log
 pub record SameStore {S : Type 0} (s : Ghosts S) (old new : S) : Type 0 where

@@ -1,29 +1,34 @@
 //! The calls of `Engine`, as the abstract machine sees them. The shell makes one for each command.
-ghost use Rattle.std.specs.Prelude.{◌≡◌, ◌<◌, ℕ, false, Ok, Err, [], OnOk};
+ghost use Rattle.std.specs.Prelude.{◌≡◌, ◌<◌, ◌≤◌, ℕ, false, Ok, Err, None, [], IfSome, OnOk};
 ghost use Rattle.rb_base.specs.Counts.{IsCountedAs, err_is};
-ghost use Rattle.rb_engine.specs.Does.{Does, LeavesState, SameStore, Stands};
+ghost use Rattle.rb_engine.specs.Does.{Does, LeavesState, Resumes, SameStore, Stands, resume_fault};
 ghost use Rattle.rb_engine.specs.Scanning.{NeedsLost};
 ghost use Rattle.rb_model.specs.Answers.{action_of, write_answer, plain_answer, fetch_answer, commit_answer, LeavesRow};
 ghost use Rattle.rb_model.specs.Answers.{marks_answer};
 ghost use Rattle.rb_model.specs.Calls.{is_disk_fault};
 ghost use Rattle.rb_model.specs.Calls as machine;
 ghost use Rattle.rb_model.specs.Names.{name_text};
+ghost use Rattle.rb_model.specs.Queue.{first_ready, ready_count};
 ghost use Rattle.rb_model.specs.State.{State};
+ghost use Rattle.rb_sessions.specs.declared.sessions.TheConstants.{SESSIONS};
 
 use crate::cursors::{do_close_cursor, do_open_cursor};
 use crate::engine::Engine;
 use crate::fetch::do_fetch;
 use crate::finish::{do_commit, do_rollback};
 use crate::marks::{do_checkpoint, do_marks};
+use crate::queue::do_cancel;
+use crate::resume::do_resume;
 use crate::savepoints::{do_rollback_to, do_savepoint};
 use crate::write::do_write;
 use rb_base::Store;
 use rb_model::{Fetched, Marks, Name, Op, Refusal, Row, Wrote};
 
 impl<T: Store> Engine<T> {
-    /// Inserts, updates or deletes the row of a key. Where another session holds the key, the answer is `Waits` and
-    /// nothing is changed. It may be refused, and then nothing is changed either, unless a call of the store failed.
-    /// (Oracle7 Server Concepts, *Transaction Management*.)
+    /// Inserts, updates or deletes the row of a key. Where another session holds the key, the answer is `Waits`, and
+    /// the session waits until that one's transaction ends: then `resume` tries the write again. It may be refused, and
+    /// then nothing is changed, unless a call of the store failed; where it would wait in a ring it is refused with
+    /// `Deadlock`. (Oracle7 Server Concepts, *Transaction Management* and *Data Concurrency*.)
     pub fn write(&mut self, s: u16, table: u16, key: u64, op: Op<'_>) -> Result<Wrote, Refusal>
         ensures did { (h : State) → Stands T.Store h self.old → Does T.Store h
             (machine.Write s table key (action_of op.entry)) (write_answer result) self.old self.new }
@@ -144,6 +149,31 @@ impl<T: Store> Engine<T> {
             (err_is is_disk_fault result) }
     {
         do_close_cursor(&mut self.memory, &self.store, s, name)
+    }
+
+    /// Takes a session that waits, or is ready, out of the queue: its write is given up, and its transaction goes on.
+    pub fn cancel(&mut self, s: u16) -> Result<(), Refusal>
+        ensures did { (h : State) → Stands T.Store h self.old → Does T.Store h
+            (machine.Cancel s) (plain_answer result) self.old self.new }
+        ensures same { SameStore T.Store self.old.store self.new.store }
+        ensures disk { IsCountedAs (T.faults self.old.store) (T.faults self.new.store)
+            (err_is is_disk_fault result) }
+    {
+        do_cancel(&mut self.memory, &self.store, s)
+    }
+
+    /// Tries the write of the ready session that came first once more, and tells whose it is and what it answers. Each
+    /// session that waited for one whose transaction has ended is ready. The session leaves the queue; where it has to
+    /// wait again, it does so behind all others. None where no session is ready, and of a stopped engine.
+    pub fn resume(&mut self) -> Option<(u16, Result<Wrote, Refusal>)>
+        ensures did { (h : State) → Stands T.Store h self.old → Resumes T.Store h result self.old self.new }
+        ensures fewer { IfSome result (λ r. ready_count self.new.memory.waits < ready_count self.old.memory.waits) }
+        ensures few { ready_count self.old.memory.waits ≤ SESSIONS }
+        ensures idle { first_ready self.old.memory.waits ≡ None → (result ≡ None) × (self.new ≡ self.old) }
+        ensures same { SameStore T.Store self.old.store self.new.store }
+        ensures disk { IsCountedAs (T.faults self.old.store) (T.faults self.new.store) (resume_fault result) }
+    {
+        do_resume(&mut self.memory, &mut self.store)
     }
 
     /// What segment `seg` has made and given up.

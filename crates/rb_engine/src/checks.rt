@@ -1,10 +1,12 @@
 //! The tests of a call that need memory and the file's shape alone, in the machine's order. Each call makes them first.
 ghost use Rattle.std.specs.Prelude.{◌≡◌, ◌≢◌, ℕ, ◌<◌, ◌≤◌, true, false, IfErr, OnOk};
-ghost use Rattle.rb_engine.specs.Checks.{session_tests, table_tests, Refuses};
+ghost use Rattle.rb_engine.specs.Checks.{Refuses};
 ghost use Rattle.rb_engine.specs.Does.{Knows};
 ghost use Rattle.rb_model.specs.Answers.{action_by};
-ghost use Rattle.rb_model.specs.Calls.{early_tests, is_too_long, none_applies};
+ghost use Rattle.rb_model.specs.Calls.{early_tests, is_too_long, none_applies, number_tests, session_tests};
+ghost use Rattle.rb_model.specs.Calls.{table_tests};
 ghost use Rattle.rb_model.specs.Calls as machine;
+ghost use Rattle.rb_model.specs.Queue.{is_queued};
 ghost use Rattle.rb_model.specs.State.{State};
 
 use crate::memory::Memory;
@@ -23,10 +25,10 @@ fn value_length(op: Option<Op<'_>>) -> usize
     }
 }
 
-/// Whether a call of that session goes on, or why it is refused: Stopped or NoSession.
-pub fn check_session(memory: &Memory, s: u16) -> Result<(), Refusal>
-    ensures refused { IfErr result (λ why. (h : State) → Knows h memory.now → Refuses (session_tests h s) why) }
-    ensures granted { OnOk result ((h : State) → Knows h memory.now → none_applies (session_tests h s) ≡ true) }
+/// Whether a call that names that session goes on, or why it is refused: Stopped or NoSession.
+pub fn check_number(memory: &Memory, s: u16) -> Result<(), Refusal>
+    ensures refused { IfErr result (λ why. (h : State) → Knows h memory.now → Refuses (number_tests h s) why) }
+    ensures granted { OnOk result ((h : State) → Knows h memory.now → none_applies (number_tests h s) ≡ true) }
     ensures other { IfErr result (λ why. why ≢ Refusal.DiskFault) }
     ensures session { OnOk result ((1 ≤ s) × (s ≤ SESSIONS)) }
     ensures going { OnOk result (memory.now.stopped ≡ false) }
@@ -36,6 +38,24 @@ pub fn check_session(memory: &Memory, s: u16) -> Result<(), Refusal>
     }
     if s < 1 || s as usize > SESSIONS {
         return Err(Refusal::NoSession);
+    }
+    Ok(())
+}
+
+/// Whether a call of that session goes on, or why it is refused: as by `check_number`, or Waiting.
+pub fn check_session(memory: &Memory, s: u16) -> Result<(), Refusal>
+    ensures refused { IfErr result (λ why. (h : State) → Knows h memory.now → Refuses (session_tests h s) why) }
+    ensures granted { OnOk result ((h : State) → Knows h memory.now → none_applies (session_tests h s) ≡ true) }
+    ensures other { IfErr result (λ why. why ≢ Refusal.DiskFault) }
+    ensures session { OnOk result ((1 ≤ s) × (s ≤ SESSIONS)) }
+    ensures going { OnOk result (memory.now.stopped ≡ false) }
+    ensures free { OnOk result (is_queued s memory.now.waits ≡ false) }
+{
+    if let Err(why) = check_number(memory, s) {
+        return Err(why);
+    }
+    if memory.waits.waits(s) {
+        return Err(Refusal::Waiting);
     }
     Ok(())
 }
@@ -50,6 +70,7 @@ pub fn check_table(memory: &Memory, shape: Shape, s: u16, table: u16) -> Result<
     ensures session { OnOk result ((1 ≤ s) × (s ≤ SESSIONS)) }
     ensures table { OnOk result ((1 ≤ table) × (table ≤ shape.tables)) }
     ensures going { OnOk result (memory.now.stopped ≡ false) }
+    ensures free { OnOk result (is_queued s memory.now.waits ≡ false) }
 {
     if let Err(why) = check_session(memory, s) {
         return Err(why);
@@ -77,6 +98,7 @@ pub fn check_write(
     ensures table { OnOk result ((1 ≤ table) × (table ≤ shape.tables)) }
     ensures short { OnOk result (is_too_long (action_by op.entry) ≡ false) }
     ensures going { OnOk result (memory.now.stopped ≡ false) }
+    ensures free { OnOk result (is_queued s memory.now.waits ≡ false) }
 {
     if let Err(why) = check_table(memory, shape, s, table) {
         return Err(why);

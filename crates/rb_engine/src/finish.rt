@@ -1,4 +1,5 @@
-//! The end of a session's transaction: a commit, or a rollback. `Engine::commit` and `Engine::rollback` call it.
+//! The end of a session's transaction: a commit, or a rollback. Who waits for the session is ready then.
+//! `Engine::commit` and `Engine::rollback` call it.
 ghost use Rattle.std.specs.Prelude.{◌≡◌, ◌≤◌, ◌<◌, ◌+◌, ◌-◌, ◌^◌, ℕ, List, length};
 ghost use Rattle.std.specs.Prelude.{false, not, Some, OnOk};
 ghost use Rattle.std.specs.Result.{is_err};
@@ -12,6 +13,7 @@ ghost use Rattle.rb_image.specs.Holds.{Holds};
 ghost use Rattle.rb_model.specs.Answers.{commit_answer, plain_answer};
 ghost use Rattle.rb_model.specs.Calls.{is_disk_fault};
 ghost use Rattle.rb_model.specs.Calls as machine;
+ghost use Rattle.rb_model.specs.Queue.{is_queued};
 ghost use Rattle.rb_model.specs.Rows.{last_scn};
 ghost use Rattle.rb_model.specs.State.{State, session_own};
 ghost use Rattle.rb_sessions.specs.Kept.{kept_at};
@@ -47,8 +49,13 @@ fn commit_and_flush<T: Store>(store: &mut T, xid: Xid, scn: Scn) -> Result<(), F
     store.flush()
 }
 
-/// Puts back so many changes of a transaction, its newest first.
-pub fn put_back<T: Store>(store: &mut T, xid: Xid, count: u32) -> Result<(), Failed>
+/// Puts back so many changes of a transaction, its newest first. Each group is made in `group`.
+pub fn put_back<T: Store>(
+    store: &mut T,
+    xid: Xid,
+    count: u32,
+    group: &mut Group,
+) -> Result<(), Failed>
     requires going { T.failed store.old ≡ false }
     requires there { xid.seg < (T.shape_of store.old).segments }
     requires slot { xid.slot < SLOTS }
@@ -66,9 +73,8 @@ pub fn put_back<T: Store>(store: &mut T, xid: Xid, count: u32) -> Result<(), Fai
     ensures failed { T.failed store.new ≡ is_err result }
     ensures counted { IsCounted (T.faults store.old) (T.faults store.new) result }
 {
-    let mut group = Group::new();
     for _change in 0..count {
-        back_step(store, xid, &mut group)?;
+        back_step(store, xid, group)?;
     }
     Ok(())
 }
@@ -90,8 +96,8 @@ fn put_all_back<T: Store>(store: &mut T, xid: Xid, count: u32) -> Result<(), Fai
     ensures failed { T.failed store.new ≡ is_err result }
     ensures counted { IsCounted (T.faults store.old) (T.faults store.new) result }
 {
-    put_back(store, xid, count)?;
     let mut group = Group::new();
+    put_back(store, xid, count, &mut group)?;
     end_step(store, xid, &mut group)
 }
 
@@ -107,6 +113,7 @@ fn commit_changes<T: Store>(
     requires session { (1 ≤ s) × (s ≤ SESSIONS) }
     requires own { (kept_at memory.old.sessions s).own ≡ Some xid }
     requires some { 0 < (kept_at memory.old.sessions s).count }
+    requires free { is_queued s memory.old.waits ≡ false }
     ensures step { IsInStep T.Store memory.new store.new }
     ensures did { (h : State) → Stands T.Store h (record { memory = memory.old; store = store.old })
         → Does T.Store h (machine.Commit s) (commit_answer result)
@@ -122,6 +129,7 @@ fn commit_changes<T: Store>(
     match commit_and_flush(store, xid, scn) {
         Ok(()) => {
             memory.sessions.commit(s);
+            memory.waits.free(s);
             memory.scn = scn;
             Ok(Some(scn))
         }
@@ -144,6 +152,7 @@ fn end_without_changes<T: Store>(
     requires session { (1 ≤ s) × (s ≤ SESSIONS) }
     requires own { (kept_at memory.old.sessions s).own ≡ Some xid }
     requires none { (kept_at memory.old.sessions s).count ≡ 0 }
+    requires free { is_queued s memory.old.waits ≡ false }
     ensures step { IsInStep T.Store memory.new store.new }
     ensures did { (h : State) → Stands T.Store h (record { memory = memory.old; store = store.old })
         → Does T.Store h (machine.Commit s) (commit_answer result)
@@ -162,6 +171,7 @@ fn end_without_changes<T: Store>(
         }
     }
     memory.sessions.commit(s);
+    memory.waits.free(s);
     Ok(None)
 }
 
@@ -176,6 +186,7 @@ fn roll_back_changes<T: Store>(
     requires going { memory.old.stopped ≡ false }
     requires session { (1 ≤ s) × (s ≤ SESSIONS) }
     requires own { (kept_at memory.old.sessions s).own ≡ Some xid }
+    requires free { is_queued s memory.old.waits ≡ false }
     ensures step { IsInStep T.Store memory.new store.new }
     ensures did { (h : State) → Stands T.Store h (record { memory = memory.old; store = store.old })
         → Does T.Store h (machine.Rollback s) (plain_answer result)
@@ -190,6 +201,7 @@ fn roll_back_changes<T: Store>(
     match put_all_back(store, xid, count) {
         Ok(()) => {
             memory.sessions.rollback(s);
+            memory.waits.free(s);
             Ok(())
         }
         Err(_) => {
@@ -223,6 +235,7 @@ pub fn do_commit<T: Store>(
         Some(xid) => end_without_changes(memory, store, s, xid),
         None => {
             memory.sessions.commit(s);
+            memory.waits.free(s);
             Ok(None)
         }
     }
@@ -245,6 +258,7 @@ pub fn do_rollback<T: Store>(memory: &mut Memory, store: &mut T, s: u16) -> Resu
         Some(xid) => roll_back_changes(memory, store, s, xid),
         None => {
             memory.sessions.rollback(s);
+            memory.waits.free(s);
             Ok(())
         }
     }

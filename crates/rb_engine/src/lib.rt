@@ -1,5 +1,5 @@
-//! The engine over a store of blocks: sixteen sessions that insert, update, delete, lock, commit, roll back, also to a
-//! savepoint, and read by cursors. The shell runs the lines of a script by it.
+//! The engine over a store of blocks: sixteen sessions that insert, update, delete, lock, wait for one another, commit,
+//! roll back, also to a savepoint, and read by cursors. The shell runs the lines of a script by it.
 #![tactic(auto)]
 
 mod calls;
@@ -11,6 +11,8 @@ mod finish;
 mod marks;
 mod memory;
 mod open;
+mod queue;
+mod resume;
 mod savepoints;
 mod scan;
 mod write;

@@ -20,12 +20,14 @@ use rb_cr::Scratch;
 use rb_opening::open_blocks;
 use rb_segment::commit_scn_of;
 use rb_sessions::Sessions;
+use rb_waits::Waits;
 use std::alloc::Global;
 
 /// A memory of sessions that have done nothing yet, over the commits that the blocks have.
 fn new_memory<T: Store>(store: &mut T) -> Result<Memory, Failed>
     requires going { T.failed store.old ≡ false }
     ensures sessions { IfOk result (λ memory. memory.sessions ≡ replicate SESSIONS fresh) }
+    ensures waits { IfOk result (λ memory. memory.waits ≡ []) }
     ensures scn { T.tells → IfOk result (λ memory. memory.scn
         ≡ commit_scn (T.shape_of store.old) (T.blocks store.old)) }
     ensures going { IfOk result (λ memory. memory.stopped ≡ false) }
@@ -34,6 +36,7 @@ fn new_memory<T: Store>(store: &mut T) -> Result<Memory, Failed>
     let scn = commit_scn_of(store)?;
     Ok(Memory {
         sessions: Sessions::new(),
+        waits: Waits::new(),
         scn,
         stopped: false,
     })

@@ -6,13 +6,14 @@ ghost use Rattle.rb_model.specs.Answers.{plain_answer};
 ghost use Rattle.rb_model.specs.Calls.{is_disk_fault};
 ghost use Rattle.rb_model.specs.Calls as machine;
 ghost use Rattle.rb_model.specs.Names.{name_text};
+ghost use Rattle.rb_model.specs.Queue.{is_queued};
 ghost use Rattle.rb_model.specs.State.{State, savepoint_named};
 ghost use Rattle.rb_sessions.specs.Kept.{kept_at, kept_by};
 
 use crate::checks::check_session;
 use crate::finish::put_back;
 use crate::memory::Memory;
-use rb_base::{Store, Xid};
+use rb_base::{Group, Store, Xid};
 use rb_model::{Name, Refusal};
 use rb_sessions::{SAVEPOINTS, SESSIONS};
 
@@ -56,6 +57,7 @@ fn roll_back_later<T: Store>(
     requires own { (kept_at memory.old.sessions s).own ≡ Some xid }
     requires named { kept_by (savepoint_named (name_text name.now) (kept_at memory.old.sessions s).savepoints)
         ≡ Some kept }
+    requires free { is_queued s memory.old.waits ≡ false }
     ensures step { IsInStep T.Store memory.new store.new }
     ensures did { (h : State) → Stands T.Store h (record { memory = memory.old; store = store.old })
         → Does T.Store h (machine.RollbackTo s (name_text name.now)) (plain_answer result)
@@ -68,7 +70,7 @@ fn roll_back_later<T: Store>(
     if store.room() < u64::from(count) {
         return Err(Refusal::LogFull);
     }
-    match put_back(store, xid, count) {
+    match put_back(store, xid, count, &mut Group::new()) {
         Ok(()) => {
             memory.sessions.rollback_to(s, name);
             Ok(())

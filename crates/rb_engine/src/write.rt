@@ -1,4 +1,4 @@
-//! A write of a session. `Engine::write` calls it.
+//! A write of a session. `Engine::write`, `Engine::lock` and `resume` call it.
 ghost use Rattle.std.specs.Prelude.{◌≡◌, ◌≤◌, ◌<◌, ℕ, List, [], true, false, not, IfOk};
 ghost use Rattle.std.specs.Result.{is_err};
 ghost use Rattle.rb_base.specs.Counts.{IsCountedAs, err_is};
@@ -9,6 +9,7 @@ ghost use Rattle.rb_engine.specs.Scanning.{OtherHolds};
 ghost use Rattle.rb_model.specs.Answers.{action_by, write_answer};
 ghost use Rattle.rb_model.specs.Calls.{is_disk_fault, is_too_long};
 ghost use Rattle.rb_model.specs.Calls as machine;
+ghost use Rattle.rb_model.specs.Queue.{is_queued, ready_count};
 ghost use Rattle.rb_model.specs.State.{State};
 ghost use Rattle.rb_standing.specs.Standing.{env_of};
 ghost use Rattle.rb_standing.specs.States.{BlocksStand};
@@ -17,10 +18,11 @@ ghost use Rattle.rb_views.specs.Views.{Remembers};
 
 use crate::checks::check_write;
 use crate::memory::Memory;
+use crate::queue::wait_for;
 use rb_attempt::AttemptFault;
 use rb_base::{Failed, Group, Store};
 use rb_model::{Op, Refusal, Wrote};
-use rb_sessions::SESSIONS;
+use rb_sessions::{Pending, SESSIONS};
 use rb_undoengine::{holder_step, write_step};
 
 /// What a write that wasn't made is refused by.
@@ -96,6 +98,7 @@ fn make_write<T: Store>(
         → NotOthers h s table key
         → Does T.Store h (machine.Write s table key (action_by op.entry)) (write_answer result)
         (record { memory = memory.old; store = store.old }) (record { memory = memory.new; store = store.new }) }
+    ensures waits { memory.new.waits ≡ memory.old.waits }
     ensures same { SameStore T.Store store.old store.new }
     ensures disk { IsCountedAs (T.faults store.old) (T.faults store.new) (err_is is_disk_fault result) }
 {
@@ -110,7 +113,7 @@ fn make_write<T: Store>(
     }
 }
 
-/// Makes a write that no early test refuses, or tells which session it would wait for.
+/// Makes a write that no early test refuses, or lets the session wait for the one that holds the key.
 fn try_write<T: Store>(
     memory: &mut Memory,
     store: &mut T,
@@ -124,11 +127,13 @@ fn try_write<T: Store>(
     requires session { (1 ≤ s) × (s ≤ SESSIONS) }
     requires table { (1 ≤ table) × (table ≤ (T.shape_of store.old).tables) }
     requires short { is_too_long (action_by op) ≡ false }
+    requires free { is_queued s memory.old.waits ≡ false }
     ensures step { IsInStep T.Store memory.new store.new }
     ensures did { (h : State) → Stands T.Store h (record { memory = memory.old; store = store.old })
         → machine.none_applies (machine.early_tests h (machine.Write s table key (action_by op.entry))) ≡ true
         → Does T.Store h (machine.Write s table key (action_by op.entry)) (write_answer result)
         (record { memory = memory.old; store = store.old }) (record { memory = memory.new; store = store.new }) }
+    ensures ready { ready_count memory.new.waits ≡ ready_count memory.old.waits }
     ensures same { SameStore T.Store store.old store.new }
     ensures disk { IsCountedAs (T.faults store.old) (T.faults store.new) (err_is is_disk_fault result) }
 {
@@ -137,12 +142,13 @@ fn try_write<T: Store>(
             memory.stop();
             Err(Refusal::DiskFault)
         }
-        Ok(Some(on)) => Ok(Wrote::Waits { on }),
+        Ok(Some(on)) => wait_for(memory, s, on, Pending::new(table, key, op)),
         Ok(None) => make_write(memory, store, s, table, key, op),
     }
 }
 
-/// Inserts, updates or deletes the row of a key, or holds it as it is. It may be refused, and then nothing is changed.
+/// Inserts, updates or deletes the row of a key, or holds it as it is. Where another session holds the key, this one
+/// waits for it. It may be refused, and then nothing is changed.
 pub fn do_write<T: Store>(
     memory: &mut Memory,
     store: &mut T,
@@ -156,6 +162,7 @@ pub fn do_write<T: Store>(
     ensures did { (h : State) → Stands T.Store h (record { memory = memory.old; store = store.old })
         → Does T.Store h (machine.Write s table key (action_by op.entry)) (write_answer result)
         (record { memory = memory.old; store = store.old }) (record { memory = memory.new; store = store.new }) }
+    ensures ready { ready_count memory.new.waits ≡ ready_count memory.old.waits }
     ensures same { SameStore T.Store store.old store.new }
     ensures disk { IsCountedAs (T.faults store.old) (T.faults store.new) (err_is is_disk_fault result) }
 {

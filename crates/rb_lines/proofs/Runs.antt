@@ -6,7 +6,7 @@ use Rattle.rb_model.specs.Out.{Logged, LineOut, Out}
 use Rattle.rb_lines.specs.declared.runner.StepFault.{StepFault}
 use Rattle.rb_lines.specs.declared.runner.StepFault.TheVariants.{Disk, Sink}
 use Rattle.rb_lines.specs.Ran.{Replied, CutShort, LineRanAs, Ran, CutOff, RanAs}
-use Rattle.rb_lines.proofs.Outs.{front_out, one_out, append_out, stopped_out}
+use Rattle.rb_lines.proofs.Outs.{front_out, one_out, append_out, stopped_out, out_settles}
 
 -- no line
 pub ran_none : (slots : ℕ) (h : Logged) (tells : Type 0) (held : List ℕ) → Ran slots h h [] tells held held
@@ -78,7 +78,7 @@ pub step_as : (slots : ℕ) (h h2 : Logged) (line front : List ℕ) (tells : Typ
     → RanAs slots h h2 (line ∷ []) tells held held2 result
 step_as slots h h2 line front tells held held2 (Ok done) e ran = (ran_one slots h h2 line front tells held held2 e ran.0, ran.1)
 step_as slots h h2 line front tells held held2 (Err Disk) e ran = (ran_one slots h h2 line front tells held held2 e ran.0, ran.1)
-step_as slots h h2 line front tells held held2 (Err Sink) e cut = λ t. cut_one slots h h2 line front held held2 e (cut t)
+step_as slots h h2 line front tells held held2 (Err Sink) e cut = λ t settled. cut_one slots h h2 line front held held2 e (cut t settled)
 
 -- lines that were done, and then more of them
 pub as-append : (slots : ℕ) (h m h2 : Logged) (xs ys : List (List ℕ)) (tells : Type 0) (held held1 held2 : List ℕ) (result : Result (Unit {0}) StepFault)
@@ -89,7 +89,7 @@ as-append slots h m h2 xs ys tells held held1 held2 (Ok done) r going q =
 as-append slots h m h2 xs ys tells held held1 held2 (Err Disk) r going q =
     (ran-append slots h m h2 xs ys tells held held1 held2 r going q.0, q.1)
 as-append slots h m h2 xs ys tells held held1 held2 (Err Sink) r going q =
-    λ t. cut-append slots h m h2 xs ys tells held held1 held2 r going t (q t)
+    λ t settled. cut-append slots h m h2 xs ys tells held held1 held2 r going t (q t (out_settles slots xs h m r.out r.replies settled))
 
 -- a fault, and then lines that were not begun
 pub as_more : (slots : ℕ) (h h2 : Logged) (xs ys : List (List ℕ)) (tells : Type 0) (held held2 : List ℕ) (fault : StepFault)
@@ -98,4 +98,4 @@ as_more slots h h2 xs ys tells held held2 Disk going q =
     let more : Ran slots h h2 (xs ++ ys) tells held held2 =
     record { out = q.0.out; replies = stopped_out slots xs ys h h2 q.0.out going q.0.replies q.1; written = q.0.written } in
     (more, q.1)
-as_more slots h h2 xs ys tells held held2 Sink going q = λ t. cut_more slots h h2 xs ys held held2 (q t)
+as_more slots h h2 xs ys tells held held2 Sink going q = λ t settled. cut_more slots h h2 xs ys held held2 (q t settled)

@@ -1,7 +1,7 @@
 -- How a run of lines ends, and what it did with the bytes of its source by then.
 use Rattle.std.specs.Prelude.{◌≡◌, ℕ, ◌≤◌, Bool, true, false, List, ◌++◌, length}
 use Rattle.rb_model.specs.Lines.{lines_of}
-use Rattle.rb_model.specs.Out.{Logged}
+use Rattle.rb_model.specs.Out.{IsSettled, Logged}
 use Rattle.rb_lines.specs.Ran.{Ran, CutOff}
 use Rattle.rb_lines.specs.Whole.{whole_lines}
 use Rattle.rb_lines.specs.declared.lines.LinesEnd.{LinesEnd}
@@ -51,7 +51,8 @@ pub record Halted (slots most : ℕ) (before now : Logged) (left_before left_now
   pub fault : Ran slots middle now rest tells held held_now
   pub stopped : now.state.stopped ≡ true
 
--- What was done by the end of a run. A fault of the sink cuts the replies off.
+-- What was done by the end of a run. A fault of the sink cuts the replies off, which is told where no session was ready
+-- before.
 abbrev pub EndsAs : ℕ → ℕ → Logged → Logged → List ℕ → List ℕ → Type 0 → List ℕ → List ℕ
     → LinesEnd → Type 0
 EndsAs slots most before now left_before left_now tells held_before held_now Done =
@@ -61,7 +62,7 @@ EndsAs slots most before now left_before left_now tells held_before held_now Sou
 EndsAs slots most before now left_before left_now tells held_before held_now DiskFault =
     Halted slots most before now left_before left_now tells held_before held_now
 EndsAs slots most before now left_before left_now tells held_before held_now SinkFault =
-    tells → CutOff slots before now (lines_of left_before) held_before held_now
+    tells → IsSettled before → CutOff slots before now (lines_of left_before) held_before held_now
 EndsAs slots most before now left_before left_now tells held_before held_now TooLong =
     (taken : List ℕ) × (length taken ≡ 1000000000)
     × WholeRan slots before now taken left_before left_now tells held_before held_now

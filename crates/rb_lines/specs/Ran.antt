@@ -1,7 +1,7 @@
 -- What a line runner did with lines.
 use Rattle.std.specs.Prelude.{◌≡◌, ℕ, true, false, List, ◌++◌, length, take, Result, Ok, Err}
 use Rattle.rb_model.specs.State.{session_of}
-use Rattle.rb_model.specs.Out.{Logged, LineOut, Out}
+use Rattle.rb_model.specs.Out.{IsSettled, Logged, LineOut, Out}
 use Rattle.rb_lines.specs.declared.runner.StepFault.{StepFault}
 use Rattle.rb_lines.specs.declared.runner.StepFault.TheVariants.{Disk, Sink}
 
@@ -21,6 +21,8 @@ pub record SameButCursors (h other : Logged) : Type 0 where
   pub sessions : length h.state.sessions ≡ length other.state.sessions
   pub own : (s : ℕ) → (session_of h.state s).own ≡ (session_of other.state s).own
   pub savepoints : (s : ℕ) → (session_of h.state s).savepoints ≡ (session_of other.state s).savepoints
+  pub queue : h.state.queue ≡ other.state.queue
+  pub asked : h.state.asked ≡ other.state.asked
   pub stopped : h.state.stopped ≡ other.state.stopped
   pub fault : h.fault ≡ other.fault
 
@@ -35,21 +37,22 @@ pub record CutShort (allows : List ℕ → Logged → Type 0) (left : Logged) (h
     pub size : ℕ
     pub written : held_now ≡ held_before ++ take size out
 
--- What was replied, by the answer: after a fault of the disk the state is stopped,
--- and one of the sink cuts the replies off.
-abbrev pub RepliedAs : (List ℕ → Logged → Type 0) → Logged → Type 0 → List ℕ → List ℕ
+-- What was replied, by the answer: after a fault of the disk the state is stopped, and one of the sink cuts the replies
+-- off. That is told of a state before in which no session was ready, as every line leaves one.
+abbrev pub RepliedAs : (List ℕ → Logged → Type 0) → Logged → Logged → Type 0 → List ℕ → List ℕ
     → Result (Unit {0}) StepFault → Type 0
-RepliedAs allows now tells held_before held_now (Ok done) =
+RepliedAs allows before now tells held_before held_now (Ok done) =
     Replied allows now tells held_before held_now × (now.state.stopped ≡ false)
-RepliedAs allows now tells held_before held_now (Err Disk) =
+RepliedAs allows before now tells held_before held_now (Err Disk) =
     Replied allows now tells held_before held_now × (now.state.stopped ≡ true)
-RepliedAs allows now tells held_before held_now (Err Sink) = tells → CutShort allows now held_before held_now
+RepliedAs allows before now tells held_before held_now (Err Sink) =
+    tells → IsSettled before → CutShort allows now held_before held_now
 
 -- the same of one line
 abbrev pub LineRanAs : ℕ → Logged → Logged → List ℕ → Type 0 → List ℕ → List ℕ
     → Result (Unit {0}) StepFault → Type 0
 LineRanAs slots before now line tells held_before held_now result =
-    RepliedAs (LineOut before slots line) now tells held_before held_now result
+    RepliedAs (LineOut before slots line) before now tells held_before held_now result
 
 -- It did these lines one after another.
 pub record Ran (slots : ℕ) (before now : Logged) (lines : List (List ℕ)) (tells : Type 0)
@@ -78,7 +81,7 @@ RanAs slots before now lines tells held_before held_now (Ok done) =
 RanAs slots before now lines tells held_before held_now (Err Disk) =
     Ran slots before now lines tells held_before held_now × (now.state.stopped ≡ true)
 RanAs slots before now lines tells held_before held_now (Err Sink) =
-    tells → CutOff slots before now lines held_before held_now
+    tells → IsSettled before → CutOff slots before now lines held_before held_now
 
 -- From a state that a runner stood for it came to another, which it stands for now, and did on the way what `As` says.
 pub record Did {M : Type 0} (stands : M → Logged → Type 0) (since : M → M → Logged → Logged

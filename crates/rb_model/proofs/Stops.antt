@@ -6,8 +6,8 @@ use Rattle.std.specs.Prelude.{slice_get}
 use Rattle.std.proofs.lemmas.Bool.{cond_both, cases_Bool, false≢true, and_parts, not-true}
 use Rattle.rb_base.specs.Counts.{err_is}
 use Rattle.rb_model.specs.Answers.{commit_answer, fetch_answer, marks_answer, plain_answer, write_answer}
-use Rattle.rb_model.specs.Calls.{Call, Write, Commit, Rollback, SetSavepoint, RollbackTo, OpenCursor, Fetch, CloseCursor, Marks, Checkpoint, Answer, Done, Waits, Numbered, Given, End, Marked, Refused, early_tests, first_of, given, granted, is_disk_fault, is_fault, next_row}
-use Rattle.rb_model.specs.NextState.{After, AfterGrant, EndsAs}
+use Rattle.rb_model.specs.Calls.{Call, Write, Commit, Rollback, SetSavepoint, RollbackTo, OpenCursor, Fetch, CloseCursor, Cancel, Marks, Checkpoint, Answer, Done, Waits, Numbered, Given, End, Marked, Refused, early_tests, first_of, given, granted, is_disk_fault, is_fault, next_row}
+use Rattle.rb_model.specs.NextState.{After, AfterGrant, AfterWait, EndsAs}
 use Rattle.rb_model.specs.Rows.{TableRow}
 use Rattle.rb_model.specs.State.{State, Cursor, cursor_rows}
 use Rattle.rb_model.specs.declared.marks.Marks.{Marks as CodeMarks}
@@ -54,8 +54,22 @@ grant_stays h h2 (RollbackTo s name) (p, named, e) = as_stays h h2 _ e refl (len
 grant_stays h h2 (OpenCursor s name table lo hi) e = as_stays h h2 _ e refl (length-set h.sessions (s - 1) _) refl
 grant_stays h h2 (Fetch s name) e = as_stays h h2 _ e refl (length-set h.sessions (s - 1) _) refl
 grant_stays h h2 (CloseCursor s name) e = as_stays h h2 _ e refl (length-set h.sessions (s - 1) _) refl
+grant_stays h h2 (Cancel s) e = as_stays h h2 _ e refl refl refl
 grant_stays h h2 (Marks seg) e = same_stays h h2 e
 grant_stays h h2 Checkpoint e = same_stays h h2 e
+
+wait_stays : (h h2 : State) (c : Call) (on : ℕ) → AfterWait h c on h2 → Stays h h2
+wait_stays h h2 (Write s table key action) on e = as_stays h h2 _ e refl refl refl
+wait_stays h h2 (Commit s) on e = same_stays h h2 e
+wait_stays h h2 (Rollback s) on e = same_stays h h2 e
+wait_stays h h2 (SetSavepoint s name) on e = same_stays h h2 e
+wait_stays h h2 (RollbackTo s name) on e = same_stays h h2 e
+wait_stays h h2 (OpenCursor s name table lo hi) on e = same_stays h h2 e
+wait_stays h h2 (Fetch s name) on e = same_stays h h2 e
+wait_stays h h2 (CloseCursor s name) on e = same_stays h h2 e
+wait_stays h h2 (Cancel s) on e = same_stays h h2 e
+wait_stays h h2 (Marks seg) on e = same_stays h h2 e
+wait_stays h h2 Checkpoint on e = same_stays h h2 e
 
 -- any other refusal leaves the state
 pub refused_same : (h h2 : State) (c : Call) (why : Refusal) → is_disk_fault why ≡ false → After h c (Refused why) h2 → h2 ≡ h
@@ -67,7 +81,7 @@ refused_stops h h2 c why is after = after ∙ cond_both (is_disk_fault why) (rec
 -- an answer that tells of no fault of the disk leaves the state going
 pub fine_stays : (h h2 : State) (c : Call) (r : Answer) → is_fault r ≡ false → After h c r h2 → Stays h h2
 fine_stays h h2 c Done is after = grant_stays h h2 c after
-fine_stays h h2 c (Waits on) is after = same_stays h h2 after
+fine_stays h h2 c (Waits on) is after = wait_stays h h2 c on after
 fine_stays h h2 c (Numbered n) is after = grant_stays h h2 c after
 fine_stays h h2 c (Given key value) is after = grant_stays h h2 c after
 fine_stays h h2 c End is after = same_stays h h2 after

@@ -14,6 +14,8 @@ fresh = record {
   commits = record { base = 0; rows = []; list = [] };
   sessions = no_session ∷ [];
   books = fresh_book ∷ [];
+  queue = [];
+  asked = None ∷ [];
   stopped = false;
 }
 

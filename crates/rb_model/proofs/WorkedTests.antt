@@ -16,6 +16,8 @@ with_sessions books sessions = record {
   commits = record { base = 0; rows = []; list = [] };
   sessions = sessions;
   books = books;
+  queue = [];
+  asked = map (λ s. None) sessions;
   stopped = false;
 }
 

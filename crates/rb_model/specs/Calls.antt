@@ -9,24 +9,19 @@ use Rattle.std.specs.Str.{bytes_eq}
 use Rattle.rb_base.specs.declared.sizes.TheConstants.{VALUE_BYTES, WORN}
 use Rattle.rb_model.specs.Book.{Owner, IsBegun, book_at, is_full}
 use Rattle.rb_model.specs.Change.{Change}
+pub use Rattle.rb_model.specs.Change.{Action, Insert, Update, Delete, Lock}
 use Rattle.rb_model.specs.Full.{full_block}
+use Rattle.rb_model.specs.Queue.{Waiter, closes}
 use Rattle.rb_model.specs.Rows.{TableRow, has_row, last_scn, over, rows_at}
 use Rattle.rb_model.specs.State.{State, Cursor, Savepoint, session_of, session_own, owner_at, is_session, is_table}
-use Rattle.rb_model.specs.State.{savepoint_of, cursor_of, cursor_rows}
+use Rattle.rb_model.specs.State.{is_waiting, savepoint_of, cursor_of, cursor_rows}
 use Rattle.rb_model.specs.Tests.{holder, full_slots, live_changes, made_since, owners_counted}
 use Rattle.rb_model.specs.declared.refusal.Refusal.{Refusal}
-use Rattle.rb_model.specs.declared.refusal.Refusal.TheVariants.{NoSession, NoTable, ValueTooLong, TooOld, Duplicate}
-use Rattle.rb_model.specs.declared.refusal.Refusal.TheVariants.{NotFound, BlockFull, SlotsFull, RollbackFull}
+use Rattle.rb_model.specs.declared.refusal.Refusal.TheVariants.{NoSession, Waiting, NoTable, ValueTooLong, Deadlock}
+use Rattle.rb_model.specs.declared.refusal.Refusal.TheVariants.{TooOld, Duplicate, NotFound, BlockFull, SlotsFull}
+use Rattle.rb_model.specs.declared.refusal.Refusal.TheVariants.{RollbackFull, NotWaiting}
 use Rattle.rb_model.specs.declared.refusal.Refusal.TheVariants.{NoSavepoint, TooManySavepoints, NoCursor, CursorThere}
 use Rattle.rb_model.specs.declared.refusal.Refusal.TheVariants.{TooManyCursors, WornOut, DiskFault, Stopped, LogFull}
-
--- what a write does to its key
-pub data Action : Type 0 where
-  Insert : (value : List ℕ) → Action
-  Update : (value : List ℕ) → Action
-  Delete : Action
-  -- holds the key's row as it is
-  Lock : Action
 
 -- a call of one session, or of none
 pub data Call : Type 0 where
@@ -38,6 +33,8 @@ pub data Call : Type 0 where
   OpenCursor : (session : ℕ) (name : List ℕ) (table lo hi : ℕ) → Call
   Fetch : (session : ℕ) (name : List ℕ) → Call
   CloseCursor : (session : ℕ) (name : List ℕ) → Call
+  -- the session's write is given up
+  Cancel : (session : ℕ) → Call
   Marks : (seg : ℕ) → Call
   Checkpoint : Call
 
@@ -81,8 +78,10 @@ is_empty (c ∷ changes) = false
 -- the words of a refusal
 abbrev pub refusal_words : Refusal → List ℕ
 refusal_words NoSession = codes "no session"
+refusal_words Waiting = codes "waiting"
 refusal_words NoTable = codes "no table"
 refusal_words ValueTooLong = codes "value too long"
+refusal_words (Deadlock on) = codes "deadlock"
 refusal_words (TooOld scn lost) = codes "too old"
 refusal_words Duplicate = codes "duplicate"
 refusal_words NotFound = codes "not found"
@@ -95,6 +94,7 @@ refusal_words NoCursor = codes "no cursor"
 refusal_words CursorThere = codes "cursor there"
 refusal_words TooManyCursors = codes "too many cursors"
 refusal_words WornOut = codes "worn out"
+refusal_words NotWaiting = codes "not waiting"
 refusal_words DiskFault = codes "disk fault"
 refusal_words Stopped = codes "stopped"
 refusal_words LogFull = codes "log full"
@@ -105,6 +105,7 @@ number_text n = 32 ∷ decimal n
 
 -- the numbers that a refusal tells
 abbrev pub refusal_numbers : Refusal → List ℕ
+refusal_numbers (Deadlock on) = number_text on
 refusal_numbers (TooOld scn lost) = number_text scn ++ number_text lost
 refusal_numbers (RollbackFull seg since) = number_text seg ++ number_text since
 refusal_numbers _ = []
@@ -149,39 +150,45 @@ has_slot h s g i = is_owner s (owner_at h (16 * g + i))
 abbrev pub needed_room : State → ℕ → ℕ → ℕ → ℕ
 needed_room h s g i = 1 + (live_changes h + 1) + (owners_counted h + (if has_slot h s g i then 0 else 1))
 
--- the session that is to be waited for, where it is another
-abbrev pub waited : ℕ → Option ℕ → List (Bool × Answer)
-waited s None = []
-waited s (Some u) = (not (nat_le u s && nat_le s u), Waits u) ∷ []
+-- The session that is to be waited for, where it is another. Where they would wait in a ring, the write is refused.
+abbrev pub waited : List Waiter → ℕ → Option ℕ → List (Bool × Answer)
+waited queue s None = []
+waited queue s (Some u) =
+    (not (nat_le u s && nat_le s u) && closes queue s u, Refused (Deadlock u))
+    ∷ (not (nat_le u s && nat_le s u), Waits u) ∷ []
+
+-- the tests of a call that names a session
+abbrev pub number_tests : State → ℕ → List (Bool × Answer)
+number_tests h s = (h.stopped, Refused Stopped) ∷ (not (is_session h s), Refused NoSession) ∷ []
+
+-- and of each one that a session that waits can't make
+abbrev pub session_tests : State → ℕ → List (Bool × Answer)
+session_tests h s = number_tests h s ++ (is_waiting h s, Refused Waiting) ∷ []
+
+-- and of one that names a table
+abbrev pub table_tests : State → ℕ → ℕ → List (Bool × Answer)
+table_tests h s table = session_tests h s ++ (not (is_table h table), Refused NoTable) ∷ []
 
 -- The tests of a call in their order, each with the answer that it gives.
 -- After the early ones the disk may have failed.
 abbrev pub early_tests : State → Call → List (Bool × Answer)
 early_tests h (Write s table key action) =
-    (h.stopped, Refused Stopped) ∷ (not (is_session h s), Refused NoSession)
-    ∷ (not (is_table h table), Refused NoTable) ∷ (is_too_long action, Refused ValueTooLong) ∷ []
-early_tests h (Commit s) =
-    (h.stopped, Refused Stopped) ∷ (not (is_session h s), Refused NoSession) ∷ []
-early_tests h (Rollback s) =
-    (h.stopped, Refused Stopped) ∷ (not (is_session h s), Refused NoSession) ∷ []
-early_tests h (SetSavepoint s name) =
-    (h.stopped, Refused Stopped) ∷ (not (is_session h s), Refused NoSession) ∷ []
-early_tests h (RollbackTo s name) =
-    (h.stopped, Refused Stopped) ∷ (not (is_session h s), Refused NoSession) ∷ []
-early_tests h (OpenCursor s name table lo hi) =
-    (h.stopped, Refused Stopped) ∷ (not (is_session h s), Refused NoSession)
-    ∷ (not (is_table h table), Refused NoTable) ∷ []
-early_tests h (Fetch s name) =
-    (h.stopped, Refused Stopped) ∷ (not (is_session h s), Refused NoSession) ∷ []
-early_tests h (CloseCursor s name) =
-    (h.stopped, Refused Stopped) ∷ (not (is_session h s), Refused NoSession) ∷ []
+    table_tests h s table ++ (is_too_long action, Refused ValueTooLong) ∷ []
+early_tests h (Commit s) = session_tests h s
+early_tests h (Rollback s) = session_tests h s
+early_tests h (SetSavepoint s name) = session_tests h s
+early_tests h (RollbackTo s name) = session_tests h s
+early_tests h (OpenCursor s name table lo hi) = table_tests h s table
+early_tests h (Fetch s name) = session_tests h s
+early_tests h (CloseCursor s name) = session_tests h s
+early_tests h (Cancel s) = number_tests h s
 early_tests h (Marks seg) = (h.stopped, Refused Stopped) ∷ []
 early_tests h Checkpoint = (h.stopped, Refused Stopped) ∷ []
 
 -- the tests of a write of a session that writes in slot i of segment g, behind that log number and with so much room
 abbrev pub write_tests : State → (logged room g i s table key : ℕ) → Action → List (Bool × Answer)
 write_tests h logged room g i s table key action =
-    waited s (holder h table key)
+    waited h.queue s (holder h table key)
     ++ (adds action && has_row table key (rows_now h s), Refused Duplicate)
     ∷ (not (adds action) && not (has_row table key (rows_now h s)), Refused NotFound)
     ∷ (adds action && full_block h table key, Refused BlockFull)
@@ -194,7 +201,7 @@ write_tests h logged room g i s table key action =
 abbrev pub without_savepoint : List ℕ → List Savepoint → List Savepoint
 without_savepoint name savepoints = filter (λ savepoint. not (bytes_eq savepoint.name name)) savepoints
 
--- the tests of a call that names a savepoint or a cursor
+-- the later tests of a call that is no write
 abbrev pub name_tests : State → Call → List (Bool × Answer)
 name_tests h (SetSavepoint s name) =
     (nat_le 16 (length (without_savepoint name (session_of h s).savepoints)), Refused TooManySavepoints) ∷ []
@@ -204,6 +211,7 @@ name_tests h (OpenCursor s name table lo hi) =
     ∷ (nat_le 16 (length (session_of h s).cursors), Refused TooManyCursors) ∷ []
 name_tests h (Fetch s name) = (is_none (cursor_of h s name), Refused NoCursor) ∷ []
 name_tests h (CloseCursor s name) = (is_none (cursor_of h s name), Refused NoCursor) ∷ []
+name_tests h (Cancel s) = (not (is_waiting h s), Refused NotWaiting) ∷ []
 name_tests h (Write s table key action) = []
 name_tests h (Commit s) = []
 name_tests h (Rollback s) = []
@@ -229,6 +237,7 @@ granted h (RollbackTo s name) = Done
 granted h (OpenCursor s name table lo hi) = Done
 granted h (Fetch s name) = next_row h (cursor_of h s name)
 granted h (CloseCursor s name) = Done
+granted h (Cancel s) = Done
 granted h (Marks seg) = Marked seg (book_at h.books seg).writes (book_at h.books seg).lost
 granted h Checkpoint = Done
 

@@ -1,4 +1,4 @@
--- What a commit is made of.
+-- What a commit is made of, and what is asked for it.
 use Rattle.std.specs.Prelude.{ℕ, List}
 
 pub data Kind : Type 0 where
@@ -32,3 +32,17 @@ put table key value = record { table = table; key = key; kind = Put value; place
 -- the change that takes a key's row away
 abbrev pub gone : ℕ → ℕ → Change
 gone table key = record { table = table; key = key; kind = Gone; place = no_place }
+
+-- what a write does to its key
+pub data Action : Type 0 where
+  Insert : (value : List ℕ) → Action
+  Update : (value : List ℕ) → Action
+  Delete : Action
+  -- holds the key's row as it is
+  Lock : Action
+
+-- a write as a session asks for it
+pub record Asked : Type 0 where
+  pub table : ℕ
+  pub key : ℕ
+  pub action : Action

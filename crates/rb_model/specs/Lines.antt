@@ -10,7 +10,7 @@ use Rattle.rb_base.specs.declared.shape.Shape.{Shape}
 use Rattle.rb_model.specs.Calls.{Action, Insert, Update, Delete, Lock, Answer, Done, Waits, Numbered, Given, End}
 use Rattle.rb_model.specs.Calls.{Marked, Refused, number_text, refusal_text}
 use Rattle.rb_model.specs.Calls.{Call, Write, Commit, Rollback, SetSavepoint, RollbackTo, OpenCursor, Fetch}
-use Rattle.rb_model.specs.Calls.{CloseCursor, Marks, Checkpoint}
+use Rattle.rb_model.specs.Calls.{CloseCursor, Cancel, Marks, Checkpoint}
 
 -- a byte at the front of the first line
 abbrev pub onto_first : ℕ → List (List ℕ) → List (List ℕ)
@@ -43,6 +43,7 @@ pub data Command : Type 0 where
   OpenLine : (session : ℕ) (name : List ℕ) (table lo hi : ℕ) → Command
   FetchLine : (session : ℕ) (name : List ℕ) (count : ℕ) → Command
   CloseLine : (session : ℕ) (name : List ℕ) → Command
+  CancelLine : (session : ℕ) → Command
   MarksLine : Command
   CheckpointLine : Command
 
@@ -56,6 +57,7 @@ call_of (RollbackToLine s name) k = RollbackTo s name
 call_of (OpenLine s name table lo hi) k = OpenCursor s name table lo hi
 call_of (FetchLine s name count) k = Fetch s name
 call_of (CloseLine s name) k = CloseCursor s name
+call_of (CancelLine s) k = Cancel s
 call_of MarksLine k = Marks k
 call_of CheckpointLine k = Checkpoint
 
@@ -75,6 +77,7 @@ caller (RollbackToLine s name) = Some s
 caller (OpenLine s name table lo hi) = Some s
 caller (FetchLine s name count) = Some s
 caller (CloseLine s name) = Some s
+caller (CancelLine s) = Some s
 caller MarksLine = None
 caller CheckpointLine = None
 
@@ -90,6 +93,7 @@ pub data Word : Type 0 where
   OpenWord : Word
   FetchWord : Word
   CloseWord : Word
+  CancelWord : Word
   MarksWord : Word
   CheckpointWord : Word
 
@@ -104,6 +108,7 @@ word_text SavepointWord = codes "savepoint"
 word_text OpenWord = codes "open"
 word_text FetchWord = codes "fetch"
 word_text CloseWord = codes "close"
+word_text CancelWord = codes "cancel"
 word_text MarksWord = codes "marks"
 word_text CheckpointWord = codes "checkpoint"
 
@@ -119,6 +124,7 @@ word_of (RollbackToLine s name) = RollbackWord
 word_of (OpenLine s name table lo hi) = OpenWord
 word_of (FetchLine s name count) = FetchWord
 word_of (CloseLine s name) = CloseWord
+word_of (CancelLine s) = CancelWord
 word_of MarksLine = MarksWord
 word_of CheckpointLine = CheckpointWord
 
@@ -143,6 +149,7 @@ fields_of (RollbackToLine s name) = Id s ∷ Named name ∷ []
 fields_of (OpenLine s name table lo hi) = Id s ∷ Named name ∷ Id table ∷ Key lo ∷ Key hi ∷ []
 fields_of (FetchLine s name count) = Id s ∷ Named name ∷ Count count ∷ []
 fields_of (CloseLine s name) = Id s ∷ Named name ∷ []
+fields_of (CancelLine s) = Id s ∷ []
 fields_of MarksLine = []
 fields_of CheckpointLine = []
 

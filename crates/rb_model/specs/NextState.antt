@@ -7,10 +7,11 @@ use Rattle.std.specs.Str.{bytes_eq}
 use Rattle.rb_model.specs.Book.{Book, book_at, finished, left, marked, taken}
 use Rattle.rb_model.specs.Calls.{Call, Write, Commit, Rollback, OpenCursor, Fetch, CloseCursor, Marks, Checkpoint}
 use Rattle.rb_model.specs.Calls.{Answer, Done, Waits, Numbered, Given, End, Marked, Refused, is_disk_fault}
-use Rattle.rb_model.specs.Calls.{Action, Insert, Update, Delete, Lock, SetSavepoint, RollbackTo}
+use Rattle.rb_model.specs.Calls.{Action, Insert, Update, Delete, Lock, SetSavepoint, RollbackTo, Cancel}
 use Rattle.rb_model.specs.Calls.{is_empty, without_savepoint}
 use Rattle.rb_model.specs.Calls.{Owned, HasNoSlot, WritesIn, has_slot}
-use Rattle.rb_model.specs.Change.{Change, Kind, Put, Gone, Held}
+use Rattle.rb_model.specs.Change.{Asked, Change, Kind, Put, Gone, Held}
+use Rattle.rb_model.specs.Queue.{freed_by, left_by, waiting}
 use Rattle.rb_model.specs.State.{State, Cursor, Savepoint, savepoint_of, session_of, session_own, with_changes}
 use Rattle.rb_model.specs.Rows.{last_scn}
 
@@ -68,11 +69,24 @@ committed h s g i = record (ended h s (cursors_of h s)) {
   books = set h.books g (finished (last_scn h.commits + 1) i (book_at h.books g));
 }
 
--- After the end of a session's transaction without a number, with these cursors: its slot, if it has one, has no owner.
+-- who waited for the session is ready
+abbrev pub freeing : State → ℕ → State
+freeing h s = record h { queue = freed_by s h.queue }
+
+-- the session waits for u, behind all others, to make that write
+abbrev pub queued : State → ℕ → Asked → ℕ → State
+queued h s asked u = record h { queue = waiting s u h.queue; asked = set h.asked (s - 1) (Some asked) }
+
+-- it has left the queue
+abbrev pub unqueued : State → ℕ → State
+unqueued h s = record h { queue = left_by s h.queue }
+
+-- After the end of a session's transaction without a number, with these cursors: its slot, if it has one, has no owner,
+-- and who waited for it is ready.
 abbrev pub EndsAs : State → ℕ → List Cursor → State → Type 0
 EndsAs h s cursors h2 =
-    ((g : ℕ) × (i : ℕ) × Owned h s g i × (h2 ≡ without_owner g i (ended h s cursors)))
-    ⊎ (HasNoSlot h s × (h2 ≡ ended h s cursors))
+    ((g : ℕ) × (i : ℕ) × Owned h s g i × (h2 ≡ freeing (without_owner g i (ended h s cursors)) s))
+    ⊎ (HasNoSlot h s × (h2 ≡ freeing (ended h s cursors) s))
 
 abbrev pub with_cursors : State → ℕ → List Cursor → State
 with_cursors h s cursors = record h {
@@ -133,7 +147,8 @@ abbrev pub AfterGrant : State → Call → State → Type 0
 AfterGrant h (Write s table key action) h2 =
     (g : ℕ) × (i : ℕ) × WritesIn h s g i × (h2 ≡ written h s g i (change_in h g table key action))
 AfterGrant h (Commit s) h2 =
-    ((is_empty (session_own h s) ≡ false) × ((g : ℕ) × (i : ℕ) × Owned h s g i × (h2 ≡ committed h s g i)))
+    ((is_empty (session_own h s) ≡ false)
+    × ((g : ℕ) × (i : ℕ) × Owned h s g i × (h2 ≡ freeing (committed h s g i) s)))
     ⊎ ((is_empty (session_own h s) ≡ true) × EndsAs h s (cursors_of h s) h2)
 AfterGrant h (Rollback s) h2 = EndsAs h s (left_open 0 (cursors_of h s)) h2
 AfterGrant h (SetSavepoint s name) h2 =
@@ -144,13 +159,20 @@ AfterGrant h (OpenCursor s name table lo hi) h2 =
     h2 ≡ with_cursors h s (cursors_of h s ++ opened_cursor h s name table lo hi ∷ [])
 AfterGrant h (Fetch s name) h2 = h2 ≡ with_cursors h s (with_taken name (cursors_of h s))
 AfterGrant h (CloseCursor s name) h2 = h2 ≡ with_cursors h s (without_cursor name (cursors_of h s))
+AfterGrant h (Cancel s) h2 = h2 ≡ unqueued h s
 AfterGrant h (Marks seg) h2 = h2 ≡ h
 AfterGrant h Checkpoint h2 = h2 ≡ h
+
+-- after a call that has to wait for that session: a write
+abbrev pub AfterWait : State → Call → ℕ → State → Type 0
+AfterWait h (Write s table key action) on h2 =
+    h2 ≡ queued h s (record { table = table; key = key; action = action }) on
+AfterWait h call on h2 = h2 ≡ h
 
 -- After a call with that answer. A refusal changes nothing, but a fault of the disk stops.
 abbrev pub After : State → Call → Answer → State → Type 0
 After h call Done h2 = AfterGrant h call h2
-After h call (Waits on) h2 = h2 ≡ h
+After h call (Waits on) h2 = AfterWait h call on h2
 After h call (Numbered n) h2 = AfterGrant h call h2
 After h call (Given key value) h2 = AfterGrant h call h2
 After h call End h2 = h2 ≡ h
@@ -175,6 +197,7 @@ GrowsBy h (RollbackTo s name) n =
 GrowsBy h (OpenCursor s name table lo hi) n = n ≡ 0
 GrowsBy h (Fetch s name) n = n ≡ 0
 GrowsBy h (CloseCursor s name) n = n ≡ 0
+GrowsBy h (Cancel s) n = n ≡ 0
 GrowsBy h (Marks seg) n = n ≡ 0
 GrowsBy h Checkpoint n = n ≡ 0
 

@@ -1,9 +1,12 @@
 -- What is written for a script, line by line.
-use Rattle.std.specs.Prelude.{◌≡◌, ℕ, zero, suc, ◌+◌, ◌-◌, ◌<◌, ◌≤◌, Bool, true, false}
-use Rattle.std.specs.Prelude.{MatchBool, List, [], ◌∷◌, ◌++◌, length, Option}
-use Rattle.rb_model.specs.State.{State}
-use Rattle.rb_model.specs.Calls.{Call, Answer, Given, Marked, Reply, failed_in}
-use Rattle.rb_model.specs.NextState.{After, Grows}
+use Rattle.std.specs.Prelude.{◌≡◌, ◌⊎◌, ℕ, zero, suc, ◌+◌, ◌-◌, ◌<◌, ◌≤◌}
+use Rattle.std.specs.Prelude.{Bool, true, false}
+use Rattle.std.specs.Prelude.{MatchBool, List, [], ◌∷◌, ◌++◌, length, Option, None, Some}
+use Rattle.rb_model.specs.Change.{Asked}
+use Rattle.rb_model.specs.State.{State, asked_of}
+use Rattle.rb_model.specs.Calls.{Call, Write, Answer, Given, Marked, Reply, failed_in, is_fault}
+use Rattle.rb_model.specs.NextState.{After, Grows, unqueued}
+use Rattle.rb_model.specs.Queue.{first_ready}
 use Rattle.rb_model.specs.Lines.{Command, Spells, SpellsNone, call_of, most_calls, caller}
 use Rattle.rb_model.specs.Lines.{without_return, is_remark, reply_text, bad_line_text}
 
@@ -44,15 +47,45 @@ CallsOut m slots c k (suc count) out m2 =
 abbrev pub CommandOut : Logged → ℕ → Command → List ℕ → Logged → Type 0
 CommandOut m slots c out m2 = CallsOut m slots c 0 (most_calls m.state.shape c) out m2
 
--- What one line does. A line of more than 512 bytes is bad whatever it has; one CR at its end doesn't count.
-pub data LineOut (m : Logged) (slots : ℕ) (line out : List ℕ) (m2 : Logged) : Type 0 where
-  too_long : 512 < length line → out ≡ bad_line_text → m2 ≡ m → LineOut m slots line out m2
+-- The write of session s is tried once more, as that of one that has never waited. At a fault of the disk the session
+-- keeps its place in the queue.
+pub record Resumed (m : Logged) (slots s : ℕ) (asked : Asked) (answer : Answer) (m2 : Logged) : Type 0 where
+  pub reply : Reply (unqueued m.state s) m.lsn (room slots m.lsn) (Write s asked.table asked.key asked.action) answer
+  pub state : MatchBool (is_fault answer) (m2.state ≡ record m.state { stopped = true })
+      (After (unqueued m.state s) (Write s asked.table asked.key asked.action) answer m2.state)
+  pub fault : m2.fault ≡ failed_in (Write s asked.table asked.key asked.action) answer m.fault
+  pub groups : ℕ
+  pub grows : m2.state.stopped ≡ false
+      → Grows (unqueued m.state s) (Write s asked.table asked.key asked.action) answer groups
+  pub lsn : m2.state.stopped ≡ false → m2.lsn ≡ m.lsn + groups
+
+-- the disk has failed, or no session is ready
+abbrev pub IsSettled : Logged → Type 0
+IsSettled m = (m.state.stopped ≡ true) ⊎ (first_ready m.state.queue ≡ None)
+
+-- So many writes of ready sessions, one after another, that of the first ready one each time, and then nothing is left
+-- to try. Each reply is to its session.
+abbrev pub ResumesOut : Logged → ℕ → ℕ → List ℕ → Logged → Type 0
+ResumesOut m slots zero out m2 = IsSettled m × (out ≡ []) × (m2 ≡ m)
+ResumesOut m slots (suc count) out m2 = (s : ℕ) × (asked : Asked) × (r : Answer) × (rest : List ℕ)
+    × (middle : Logged) × (m.state.stopped ≡ false) × (first_ready m.state.queue ≡ Some s)
+    × (asked_of m.state s ≡ Some asked) × Resumed m slots s asked r middle
+    × (out ≡ reply_text (Some s) r ++ rest) × ResumesOut middle slots count rest m2
+
+-- What one line does itself. A line of more than 512 bytes is bad whatever it has; one CR at its end doesn't count.
+pub data LineSaid (m : Logged) (slots : ℕ) (line out : List ℕ) (m2 : Logged) : Type 0 where
+  too_long : 512 < length line → out ≡ bad_line_text → m2 ≡ m → LineSaid m slots line out m2
   skipped : length line ≤ 512 → is_remark (without_return line) ≡ true → out ≡ [] → m2 ≡ m
-      → LineOut m slots line out m2
+      → LineSaid m slots line out m2
   bad : length line ≤ 512 → is_remark (without_return line) ≡ false → SpellsNone (without_return line)
-      → out ≡ bad_line_text → m2 ≡ m → LineOut m slots line out m2
+      → out ≡ bad_line_text → m2 ≡ m → LineSaid m slots line out m2
   command : length line ≤ 512 → (c : Command) → Spells (without_return line) c → CommandOut m slots c out m2
-      → LineOut m slots line out m2
+      → LineSaid m slots line out m2
+
+-- What one line does, and what the writes do that it has made ready.
+abbrev pub LineOut : Logged → ℕ → List ℕ → List ℕ → Logged → Type 0
+LineOut m slots line out m2 = (first : List ℕ) × (rest : List ℕ) × (middle : Logged) × (count : ℕ)
+    × LineSaid m slots line first middle × (out ≡ first ++ rest) × ResumesOut middle slots count rest m2
 
 -- The replies to the lines, one line after another. Nothing follows once the disk has failed.
 abbrev pub Out : Logged → ℕ → List (List ℕ) → List ℕ → Logged → Type 0

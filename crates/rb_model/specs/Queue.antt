@@ -3,7 +3,7 @@
 use Rattle.std.specs.Prelude.{◌≡◌, ℕ, zero, suc, ◌==◌, Bool, false, not, ◌||◌}
 use Rattle.std.specs.Prelude.{if◌then◌else◌, is_none, List, [], ◌∷◌, ◌++◌, length, map, filter}
 use Rattle.std.specs.Prelude.{Option, None, Some}
-use Rattle.std.specs.List.{list_any}
+use Rattle.std.specs.List.{count_by, list_any}
 
 pub record Waiter : Type 0 where
   pub session : ℕ
@@ -41,6 +41,10 @@ closes queue s u = leads (length queue) queue s u
 abbrev pub first_ready : List Waiter → Option ℕ
 first_ready [] = None
 first_ready (w ∷ queue) = if is_none w.on then Some w.session else first_ready queue
+
+-- how many are ready
+abbrev pub ready_count : List Waiter → ℕ
+ready_count queue = count_by (λ w. is_none w.on) queue
 
 -- with a session that begins to wait for u, behind all others
 abbrev pub waiting : ℕ → ℕ → List Waiter → List Waiter

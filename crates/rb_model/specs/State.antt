@@ -1,11 +1,12 @@
--- The state that the sessions share, as the abstract machine sees it: commits, sessions, and the books of the segments
--- that keep what was before their changes.
+-- The state that the sessions share, as the abstract machine sees it: commits, sessions, the books of the segments that
+-- keep what was before their changes, and the queue of those that wait for one another.
 use Rattle.std.specs.Prelude.{ℕ, ◌-◌, ◌/◌, ◌%◌, Bool, false, ◌&&◌, nat_le, List, [], length}
-use Rattle.std.specs.Prelude.{replicate, get_or, find, Option}
+use Rattle.std.specs.Prelude.{replicate, get_or, find, Option, None}
 use Rattle.std.specs.Str.{bytes_eq}
 use Rattle.rb_base.specs.declared.shape.Shape.{Shape}
 use Rattle.rb_model.specs.Book.{Owner, Book, book_at, slot_owner}
-use Rattle.rb_model.specs.Change.{Change}
+use Rattle.rb_model.specs.Change.{Asked, Change}
+use Rattle.rb_model.specs.Queue.{Waiter, is_queued}
 use Rattle.rb_model.specs.Rows.{Commits, TableRow, answer}
 
 pub record Cursor : Type 0 where
@@ -43,6 +44,10 @@ pub record State : Type 0 where
   pub sessions : List Session
   -- one for each segment, numbered from 0
   pub books : List Book
+  -- who waits or is ready, in order of arrival
+  pub queue : List Waiter
+  -- the write with which each session waits, or has waited last
+  pub asked : List (Option Asked)
   -- a call has answered that the disk failed
   pub stopped : Bool
 
@@ -67,6 +72,14 @@ session_own h s = (session_of h s).own
 -- the session with these changes in the place of its own
 abbrev pub with_changes : State → ℕ → List Change → Session
 with_changes h s own = record (session_of h s) { own = own }
+
+-- the session waits, or is ready
+abbrev pub is_waiting : State → ℕ → Bool
+is_waiting h s = is_queued s h.queue
+
+-- the write with which it does
+abbrev pub asked_of : State → ℕ → Option Asked
+asked_of h s = get_or h.asked (s - 1) None
 
 -- who has table slot t, the slots of all segments counted in order
 abbrev pub owner_at : State → ℕ → Option Owner
@@ -100,5 +113,7 @@ opened shape number rows books = record {
   commits = record { base = number; rows = rows; list = [] };
   sessions = replicate session_count no_session;
   books = books;
+  queue = [];
+  asked = replicate session_count None;
   stopped = false;
 }

@@ -1,4 +1,4 @@
-//! Names of cursors, tested once. Lines are parsed to them, and sessions keep them.
+//! Names of savepoints and cursors, tested once. Lines are parsed to them, and sessions keep them.
 ghost use Rattle.std.specs.Prelude.{◌≡◌, false, IsTrue, IfSome, IfNone};
 ghost use Rattle.std.specs.List.{list_all};
 ghost use Rattle.rb_model.specs.NameTest as spec;

@@ -10,10 +10,17 @@ use thiserror::Error;
 pub enum Refusal {
     /// The number isn't that of a session.
     NoSession,
+    /// The session waits for another one, or is ready to try its write again.
+    Waiting,
     /// The number isn't that of a table of the file.
     NoTable,
     /// The value has more than 80 bytes.
     ValueTooLong,
+    /// The key's holder waits, perhaps through others, for this session: they would wait in a ring.
+    Deadlock {
+        /// The session that holds the key.
+        on: u16,
+    },
     /// What the snapshot needs was given up (Oracle7's "snapshot too old").
     TooOld {
         /// The snapshot.
@@ -48,6 +55,8 @@ pub enum Refusal {
     TooManyCursors,
     /// 2^60 groups or more are logged.
     WornOut,
+    /// The session neither waits nor is ready.
+    NotWaiting,
     /// A call of the disk failed. The engine is stopped.
     DiskFault,
     /// An earlier call answered `DiskFault`.
@@ -64,8 +73,10 @@ impl Refusal {
     {
         match self {
             Refusal::NoSession => b"no session",
+            Refusal::Waiting => b"waiting",
             Refusal::NoTable => b"no table",
             Refusal::ValueTooLong => b"value too long",
+            Refusal::Deadlock { on: _ } => b"deadlock",
             Refusal::TooOld { scn: _, lost: _ } => b"too old",
             Refusal::Duplicate => b"duplicate",
             Refusal::NotFound => b"not found",
@@ -78,6 +89,7 @@ impl Refusal {
             Refusal::CursorThere => b"cursor there",
             Refusal::TooManyCursors => b"too many cursors",
             Refusal::WornOut => b"worn out",
+            Refusal::NotWaiting => b"not waiting",
             Refusal::DiskFault => b"disk fault",
             Refusal::Stopped => b"stopped",
             Refusal::LogFull => b"log full",

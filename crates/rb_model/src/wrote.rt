@@ -5,6 +5,6 @@
 pub enum Wrote {
     /// It was made.
     Done,
-    /// Another session holds the key, and this one waits for it.
+    /// Another session holds the key, and this one waits until that one's transaction ends.
     Waits { on: u16 },
 }

@@ -5,7 +5,7 @@ use rb_script::{Command, Reply, parse, print};
 
 #[test]
 fn lines_that_spell_no_command(rt: HostRuntime) {
-    let lines: [&[u8]; 66] = [
+    let lines: [&[u8]; 73] = [
         b"fetch 1 c 0",
         b"fetch 1 c 00",
         b"fetch 1 c 01",
@@ -68,6 +68,13 @@ fn lines_that_spell_no_command(rt: HostRuntime) {
         b"rollback 1  a",
         b"rollback 1 abcdefghijklmnopq",
         b"rollback 65536 a",
+        b"cancel",
+        b"cancel ",
+        b"cancel 01",
+        b"cancel 1 ",
+        b"cancel 1 1",
+        b"cancel 65536",
+        b"cancels 1",
         b"marks ",
         b"marks 0",
         b"checkpoint 1",
@@ -134,6 +141,7 @@ fn lines_that_spell_a_command(rt: HostRuntime) {
     assert!(rt; matches!(&set, Some(Command::Savepoint { s: 65535, .. })));
     let back = parse(b"rollback 0 1");
     assert!(rt; matches!(&back, Some(Command::RollbackTo { s: 0, .. })));
+    assert!(rt; matches!(parse(b"cancel 65535"), Some(Command::Cancel { s: 65535 })));
     assert!(rt; matches!(parse(b"marks"), Some(Command::Marks)));
     assert!(rt; matches!(parse(b"checkpoint"), Some(Command::Checkpoint)));
     let opened = parse(b"open 1 _0 65535 9 0");
@@ -165,7 +173,7 @@ fn lines_that_spell_a_command(rt: HostRuntime) {
 #[test]
 fn texts_of_replies(rt: HostRuntime) {
     let value = [b'~'; 80];
-    let replies: [(Reply, &[u8]); 17] = [
+    let replies: [(Reply, &[u8]); 20] = [
         (Reply::Done { s: Some(1) }, b"1 ok\n"),
         (Reply::Done { s: None }, b"ok\n"),
         (
@@ -193,6 +201,27 @@ fn texts_of_replies(rt: HostRuntime) {
         ),
         (Reply::End { s: 0 }, b"0 end\n"),
         (Reply::Waits { s: 2, on: 10 }, b"2 waits 10\n"),
+        (
+            Reply::Refused {
+                s: Some(2),
+                why: Refusal::Deadlock { on: 10 },
+            },
+            b"2 deadlock 10\n",
+        ),
+        (
+            Reply::Refused {
+                s: Some(1),
+                why: Refusal::Waiting,
+            },
+            b"1 waiting\n",
+        ),
+        (
+            Reply::Refused {
+                s: Some(65535),
+                why: Refusal::NotWaiting,
+            },
+            b"65535 not waiting\n",
+        ),
         (
             Reply::Refused {
                 s: Some(1),

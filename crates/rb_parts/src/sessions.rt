@@ -1,10 +1,10 @@
 //! The table of sessions by hand: two sessions write and open cursors, and what a rollback of the one and a commit of
-//! the other leave of them; and what a rollback to a savepoint does.
+//! the other leave of them; what a rollback to a savepoint does; and the writes with which sessions wait.
 ghost use Rattle.std.specs.Prelude.{◌≤◌};
 
 use rb_base::Xid;
-use rb_model::Name;
-use rb_sessions::{Cursor, Session, Sessions};
+use rb_model::{Name, Op};
+use rb_sessions::{Cursor, Pending, Session, Sessions};
 use std::test::Fail;
 
 /// The transaction of session 1.
@@ -202,5 +202,31 @@ fn nothing_is_left_but_the_transaction(rt: HostRuntime) -> Result<(), Fail> {
     table.rollback(1);
     assert_eq!(rt; table.session(1), session(None, 0, 0));
     assert_eq!(rt; table.savepoint(1, &first), None);
+    Ok(())
+}
+
+// A session that has never waited keeps no write; each other one its own, until it waits with another. The end of a
+// transaction leaves it.
+#[test]
+fn writes_are_kept(rt: HostRuntime) -> Result<(), Fail> {
+    let mut table = Sessions::new();
+    table.hold(1, Pending::new(2, 7, Some(Op::Insert(b"ab"))));
+    table.hold(16, Pending::new(1, 9, Some(Op::Update(b""))));
+    table.hold(15, Pending::new(1, 8, Some(Op::Delete)));
+    table.commit(16);
+    let (Some(first), Some(last)) = (table.held(1), table.held(16)) else {
+        return Err(Fail::new("no write"));
+    };
+    assert_eq!(rt; (first.table, first.key), (2, 7));
+    assert!(rt; matches!(first.op(), Some(Op::Insert(b"ab"))));
+    assert_eq!(rt; (last.table, last.key), (1, 9));
+    assert!(rt; matches!(last.op(), Some(Op::Update(b""))));
+    table.hold(16, Pending::new(2, 18446744073709551615, None));
+    let (Some(next), Some(last)) = (table.held(15), table.held(16)) else {
+        return Err(Fail::new("no write"));
+    };
+    assert!(rt; matches!(next.op(), Some(Op::Delete)));
+    assert_eq!(rt; (last.table, last.key), (2, 18446744073709551615));
+    assert!(rt; last.op().is_none() && table.held(2).is_none());
     Ok(())
 }

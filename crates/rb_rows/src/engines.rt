@@ -33,6 +33,9 @@ enum Call<'a> {
     Open(u16, &'a [u8], u16, u64, u64),
     Fetch(u16, &'a [u8]),
     Close(u16, &'a [u8]),
+    Cancel(u16),
+    /// No session's: the first one that is ready tries its write again.
+    Resume,
     /// The marks of the only segment.
     Marks,
     Checkpoint,
@@ -49,6 +52,12 @@ enum Answer<'a> {
     /// How many records were made, and the greatest commit number of which something was given up.
     Marked(u64, u64),
     Refused(Refusal),
+    /// A session's write was tried again, and done, or it waits for another one again, or is refused.
+    DoneAgain(u16),
+    WaitsAgain(u16, u16),
+    RefusedAgain(u16, Refusal),
+    /// No session is ready.
+    NoneReady,
     /// The call has no name of a savepoint or cursor.
     Nameless,
     /// The store has no segment.
@@ -61,6 +70,16 @@ fn answer_of_write(answer: Result<Wrote, Refusal>) -> Answer<'static> {
         Ok(Wrote::Done) => Answer::Done,
         Ok(Wrote::Waits { on }) => Answer::Waits(on),
         Err(why) => Answer::Refused(why),
+    }
+}
+
+// The answer of a write that is tried again.
+fn answer_of_resume(answer: Option<(u16, Result<Wrote, Refusal>)>) -> Answer<'static> {
+    match answer {
+        Some((s, Ok(Wrote::Done))) => Answer::DoneAgain(s),
+        Some((s, Ok(Wrote::Waits { on }))) => Answer::WaitsAgain(s, on),
+        Some((s, Err(why))) => Answer::RefusedAgain(s, why),
+        None => Answer::NoneReady,
     }
 }
 
@@ -128,6 +147,8 @@ fn called<'a, S: Store>(engine: &mut Engine<S>, call: Call<'_>, row: &'a mut Row
             Some(name) => answer_of_call(engine.close_cursor(s, &name)),
             None => Answer::Nameless,
         },
+        Call::Cancel(s) => answer_of_call(engine.cancel(s)),
+        Call::Resume => answer_of_resume(engine.resume()),
         Call::Marks => {
             if engine.shape().segments == 0 {
                 return Answer::NoSegment;
@@ -404,7 +425,7 @@ fn one_list_of_rollbacks(rt: HostRuntime) -> Result<(), Fail> {
 // left a transaction ends by a commit of no number.
 #[test]
 fn one_list_of_savepoints(rt: HostRuntime) -> Result<(), Fail> {
-    let rows: [(Call<'_>, Answer<'_>); 40] = [
+    let rows: [(Call<'_>, Answer<'_>); 42] = [
         (
             Call::Savepoint(0, b"p"),
             Answer::Refused(Refusal::NoSession),
@@ -431,6 +452,7 @@ fn one_list_of_savepoints(rt: HostRuntime) -> Result<(), Fail> {
         (Call::Open(1, b"own", 1, 0, 9), Answer::Done),
         (Call::Lock(2, 1, 2), Answer::Waits(1)),
         (Call::RollbackTo(1, b"p"), Answer::Done),
+        (Call::Cancel(2), Answer::Done),
         (
             Call::RollbackTo(1, b"q"),
             Answer::Refused(Refusal::NoSavepoint),
@@ -438,6 +460,7 @@ fn one_list_of_savepoints(rt: HostRuntime) -> Result<(), Fail> {
         (Call::Fetch(1, b"own"), Answer::Refused(Refusal::NoCursor)),
         (Call::Savepoint(2, b"p"), Answer::Done),
         (Call::Lock(2, 1, 1), Answer::Waits(1)),
+        (Call::Cancel(2), Answer::Done),
         (Call::Lock(2, 1, 2), Answer::Done),
         (Call::Write(2, 1, 2, Op::Delete), Answer::Done),
         (Call::Lock(2, 1, 2), Answer::Refused(Refusal::NotFound)),
@@ -460,6 +483,82 @@ fn one_list_of_savepoints(rt: HostRuntime) -> Result<(), Fail> {
         (Call::Fetch(1, b"own"), Answer::Given(1, b"a")),
         (Call::Fetch(1, b"own"), Answer::End),
         (Call::Marks, Answer::Marked(8, 0)),
+    ];
+    let mut both = new_engines(rt.alloc())?;
+    check_all(&rt, &mut both, &rows);
+    Ok(())
+}
+
+// The calls of a session that waits or is ready are refused, but for its cancel. No session is resumed before it is
+// ready, and each only when that is called for: so another one may take its key before. One that is ready waits for
+// nobody, so it may be waited for by the one that it has waited for.
+#[test]
+fn one_list_of_waits(rt: HostRuntime) -> Result<(), Fail> {
+    let rows: [(Call<'_>, Answer<'_>); 52] = [
+        (Call::Resume, Answer::NoneReady),
+        (Call::Cancel(0), Answer::Refused(Refusal::NoSession)),
+        (Call::Cancel(17), Answer::Refused(Refusal::NoSession)),
+        (Call::Cancel(1), Answer::Refused(Refusal::NotWaiting)),
+        (Call::Write(1, 1, 1, Op::Insert(b"a")), Answer::Done),
+        (Call::Write(2, 1, 2, Op::Insert(b"b")), Answer::Done),
+        (Call::Write(2, 1, 1, Op::Update(b"c")), Answer::Waits(1)),
+        (Call::Lock(3, 1, 1), Answer::Waits(1)),
+        (Call::Write(4, 1, 2, Op::Delete), Answer::Waits(2)),
+        (
+            Call::Write(2, 9, 1, Op::Insert(LONGER)),
+            Answer::Refused(Refusal::Waiting),
+        ),
+        (Call::Lock(2, 1, 2), Answer::Refused(Refusal::Waiting)),
+        (Call::Commit(2), Answer::Refused(Refusal::Waiting)),
+        (Call::Rollback(2), Answer::Refused(Refusal::Waiting)),
+        (Call::Savepoint(2, b"p"), Answer::Refused(Refusal::Waiting)),
+        (Call::RollbackTo(2, b"p"), Answer::Refused(Refusal::Waiting)),
+        (
+            Call::Open(2, b"c", 9, 0, 9),
+            Answer::Refused(Refusal::Waiting),
+        ),
+        (Call::Fetch(2, b"c"), Answer::Refused(Refusal::Waiting)),
+        (Call::Close(2, b"c"), Answer::Refused(Refusal::Waiting)),
+        (Call::Resume, Answer::NoneReady),
+        (
+            Call::Lock(1, 1, 2),
+            Answer::Refused(Refusal::Deadlock { on: 2 }),
+        ),
+        (Call::Marks, Answer::Marked(2, 0)),
+        (Call::Commit(1), Answer::Numbered(1)),
+        (Call::Commit(2), Answer::Refused(Refusal::Waiting)),
+        (Call::Lock(1, 1, 2), Answer::Waits(2)),
+        (Call::Resume, Answer::DoneAgain(2)),
+        (Call::Commit(3), Answer::Refused(Refusal::Waiting)),
+        (Call::Resume, Answer::WaitsAgain(3, 2)),
+        (Call::Resume, Answer::NoneReady),
+        (Call::Rollback(2), Answer::Done),
+        (Call::Cancel(4), Answer::Done),
+        (Call::Write(4, 1, 1, Op::Delete), Answer::Done),
+        (Call::Resume, Answer::RefusedAgain(1, Refusal::NotFound)),
+        (Call::Resume, Answer::WaitsAgain(3, 4)),
+        (Call::Resume, Answer::NoneReady),
+        (Call::Cancel(1), Answer::Refused(Refusal::NotWaiting)),
+        (Call::Savepoint(5, b"p"), Answer::Done),
+        (Call::Write(5, 1, 5, Op::Insert(b"d")), Answer::Done),
+        (Call::Write(4, 1, 5, Op::Insert(b"e")), Answer::Waits(5)),
+        (Call::RollbackTo(5, b"p"), Answer::Done),
+        (Call::Resume, Answer::NoneReady),
+        (Call::Write(6, 1, 5, Op::Insert(b"f")), Answer::Done),
+        (Call::Lock(6, 1, 1), Answer::Waits(4)),
+        (Call::Commit(5), Answer::Done),
+        (
+            Call::Resume,
+            Answer::RefusedAgain(4, Refusal::Deadlock { on: 6 }),
+        ),
+        (Call::Commit(4), Answer::Numbered(2)),
+        (Call::Resume, Answer::RefusedAgain(3, Refusal::NotFound)),
+        (Call::Resume, Answer::RefusedAgain(6, Refusal::NotFound)),
+        (Call::Resume, Answer::NoneReady),
+        (Call::Commit(6), Answer::Numbered(3)),
+        (Call::Cancel(6), Answer::Refused(Refusal::NotWaiting)),
+        (Call::Checkpoint, Answer::Done),
+        (Call::Resume, Answer::NoneReady),
     ];
     let mut both = new_engines(rt.alloc())?;
     check_all(&rt, &mut both, &rows);

@@ -1,12 +1,12 @@
 //! The tables of failures: each call of the disk, the source and the sink fails alone, in a run of five commits, and
 //! each call of the disk in a run in which a transaction is under way at nearly each, in one of two transactions
-//! beside a cursor, and in one of rollbacks to savepoints.
+//! beside a cursor, in one of rollbacks to savepoints, and in one of sessions that wait in a queue.
 use crate::commits::five_commits;
 use crate::doubles::{
     Ended, FORMAT_SMALL, FORMAT_STOPS, Failing, NONE, RUN, formatted, opened, run_over,
 };
 use crate::stories::{Story, answered, check_left};
-use crate::under_way::{four_transactions, savepoints, two_sessions};
+use crate::under_way::{four_transactions, queues, savepoints, two_sessions};
 use rb_base::NoMemory;
 use rb_memdisk::Pick;
 use rb_shell::Status;
@@ -131,6 +131,15 @@ fn each_disk_call_fails_in_two_sessions(rt: HostRuntime) -> Result<(), Fail> {
 fn each_disk_call_fails_with_savepoints(rt: HostRuntime) -> Result<(), Fail> {
     let file = formatted(rt.alloc(), FORMAT_SMALL)?;
     let story = savepoints(rt.alloc())?;
+    check_disk_calls(&rt, rt.alloc(), &story, &file)?;
+    Ok(())
+}
+
+// Behind a fault no session is resumed: none of those that wait for the transaction whose commit failed.
+#[test]
+fn each_disk_call_fails_with_a_queue(rt: HostRuntime) -> Result<(), Fail> {
+    let file = formatted(rt.alloc(), FORMAT_SMALL)?;
+    let story = queues(rt.alloc())?;
     check_disk_calls(&rt, rt.alloc(), &story, &file)?;
     Ok(())
 }

@@ -110,7 +110,8 @@ rollback 1 q
 #> 1 ok
 ";
 
-// What is put back to a savepoint holds its row no longer, and the transaction goes on.
+// What is put back to a savepoint holds its row no longer, and the transaction goes on. So who waits for it waits on,
+// and another session may take the row before.
 const FREED_ROW: &[u8] = b"\
 insert 1 1 1 a
 #> 1 ok
@@ -124,22 +125,16 @@ update 2 1 1 c
 #> 2 waits 1
 rollback 1 p
 #> 1 ok
-update 2 1 1 c
-#> 2 ok
-update 1 1 1 d
-#> 1 waits 2
-insert 1 1 2 e
-#> 1 ok
-commit 2
-#> 2 committed 2
-commit 1
-#> 1 committed 3
-open 3 c 1 0 9
+update 3 1 1 d
 #> 3 ok
-fetch 3 c 9
-#> 3 row 1 c
-#> 3 row 2 e
-#> 3 end
+commit 1
+#> 1 ok
+#> 2 waits 3
+commit 3
+#> 3 committed 2
+#> 2 ok
+commit 2
+#> 2 committed 3
 ";
 
 // A name that is set again moves, and is later than all others then.
@@ -394,12 +389,12 @@ delete 1 1 1
 #> 1 ok
 lock 1 1 1
 #> 1 not found
-lock 2 1 1
-#> 2 waits 1
+lock 3 1 1
+#> 3 waits 1
 rollback 1
 #> 1 ok
-lock 2 1 1
 #> 2 not found
+#> 3 not found
 marks
 #> segment 0 writes 3 lost 0
 ";
@@ -421,12 +416,12 @@ insert 1 1 1 b
 #> 1 duplicate
 update 2 1 1 b
 #> 2 waits 1
-delete 2 1 1
-#> 2 waits 1
-insert 2 1 1 b
-#> 2 waits 1
-lock 2 1 1
-#> 2 waits 1
+delete 3 1 1
+#> 3 waits 1
+insert 4 1 1 b
+#> 4 waits 1
+lock 5 1 1
+#> 5 waits 1
 open 1 own 1 0 9
 #> 1 ok
 fetch 1 own 9
@@ -436,14 +431,20 @@ lock 1 1 1
 #> 1 ok
 commit 1
 #> 1 committed 2
+#> 2 ok
+#> 3 waits 2
+#> 4 waits 2
+#> 5 waits 2
 commit 1
 #> 1 ok
-update 2 1 1 b
-#> 2 ok
+cancel 3
+#> 3 ok
 lock 2 1 1
 #> 2 ok
 commit 2
 #> 2 committed 3
+#> 4 duplicate
+#> 5 ok
 fetch 2 early 9
 #> 2 row 1 a
 #> 2 end
@@ -453,7 +454,7 @@ fetch 1 late 9
 #> 1 row 1 b
 #> 1 end
 marks
-#> segment 0 writes 5 lost 0
+#> segment 0 writes 6 lost 0
 ";
 
 // A cursor sees the row of its opening, whether its transaction had locked it as it was, or changed and then locked it,
@@ -508,7 +509,6 @@ update 2 1 1 b
 #> 2 waits 1
 rollback 1
 #> 1 ok
-update 2 1 1 b
 #> 2 ok
 rollback 2
 #> 2 ok
@@ -530,7 +530,6 @@ update 2 1 1 b
 #> 2 waits 1
 commit 1
 #> 1 committed 2
-update 2 1 1 b
 #> 2 ok
 commit 2
 #> 2 committed 3
@@ -563,8 +562,8 @@ rollback 1 p
 #> 1 ok
 update 2 1 1 x
 #> 2 waits 1
-update 2 1 2 x
-#> 2 waits 1
+update 3 1 2 x
+#> 3 waits 1
 open 1 c 1 0 9
 #> 1 ok
 fetch 1 c 9
@@ -573,10 +572,8 @@ fetch 1 c 9
 #> 1 end
 commit 1
 #> 1 committed 2
-update 2 1 1 x
 #> 2 ok
-update 2 1 2 x
-#> 2 ok
+#> 3 ok
 commit 2
 #> 2 committed 3
 ";
@@ -628,6 +625,8 @@ update 9 1 9 b
 #> 9 slots full
 lock 9 1 8
 #> 9 waits 8
+cancel 9
+#> 9 ok
 rollback 1 p
 #> 1 ok
 lock 9 1 9

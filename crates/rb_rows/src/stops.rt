@@ -1,11 +1,12 @@
 //! The tables of stops: a crash after any call of the disk, in a run of five commits, in one in which a transaction is
-//! under way at nearly each call, in one of two transactions beside a cursor, and in one of rollbacks to savepoints.
+//! under way at nearly each call, in one of two transactions beside a cursor, in one of rollbacks to savepoints, and in
+//! one of sessions that wait in a queue.
 use crate::commits::five_commits;
 use crate::doubles::{
     FORMAT_SMALL, FORMAT_STOPS, NONE, RUN, formatted, opened, run_over, run_stopped,
 };
 use crate::stories::{PICKS, Story, check_left};
-use crate::under_way::{four_transactions, savepoints, two_sessions};
+use crate::under_way::{four_transactions, queues, savepoints, two_sessions};
 use rb_base::NoMemory;
 use rb_memdisk::Pick;
 use rb_shell::Status;
@@ -72,6 +73,15 @@ fn stops_of_two_sessions(rt: HostRuntime) -> Result<(), Fail> {
 fn stops_of_savepoints(rt: HostRuntime) -> Result<(), Fail> {
     let file = formatted(rt.alloc(), FORMAT_SMALL)?;
     let story = savepoints(rt.alloc())?;
+    check_stops(&rt, rt.alloc(), &story, &file, &PICKS)?;
+    Ok(())
+}
+
+// A restart has no waiting sessions, and the rows of the commits.
+#[test]
+fn stops_with_a_queue(rt: HostRuntime) -> Result<(), Fail> {
+    let file = formatted(rt.alloc(), FORMAT_SMALL)?;
+    let story = queues(rt.alloc())?;
     check_stops(&rt, rt.alloc(), &story, &file, &PICKS)?;
     Ok(())
 }

@@ -210,12 +210,15 @@ commit 1
 #> 1 committed 1
 insert 9 1 9 a
 #> 9 waits 8
+cancel 9
+#> 9 ok
 insert 9 1 10 a
 #> 9 ok
 ";
 
 // A key belongs to the session that changed it until its transaction ends: also one that it deleted, or inserted and
-// deleted. That it waits is told after a value too long, and before whether there is a row. Nothing is changed by it.
+// deleted. That another one waits is told after a value too long, and before whether there is a row. No row is changed
+// by it, and nothing is left of a wait that is cancelled.
 const TWO_SESSIONS: &[u8] = b"\
 insert 1 1 1 a
 #> 1 ok
@@ -225,10 +228,16 @@ delete 1 1 2
 #> 1 ok
 insert 2 1 1 b
 #> 2 waits 1
+cancel 2
+#> 2 ok
 update 2 1 2 b
 #> 2 waits 1
+cancel 2
+#> 2 ok
 delete 16 1 1
 #> 16 waits 1
+cancel 16
+#> 16 ok
 insert 2 2 1 b
 #> 2 no table
 commit 2
@@ -249,7 +258,6 @@ open 2 d 1 0 9
 #> 2 ok
 commit 2
 #> 2 committed 1
-insert 1 1 1 a
 #> 1 duplicate
 rollback 2
 #> 2 ok
@@ -290,7 +298,7 @@ fn line_bounds(rt: HostRuntime) -> Result<(), Fail> {
 // Refusals, over a fresh file each.
 #[test]
 fn refusals(rt: HostRuntime) -> Result<(), Fail> {
-    let rows: [(&str, &[u8]); 2] = [
+    let rows: [(&str, &[u8]); 3] = [
         (
             "sessions and tables",
             b"\
@@ -315,6 +323,10 @@ update 17 1 1 a
 delete 17 1 1
 #> 17 no session
 close 17 c
+#> 17 no session
+cancel 0
+#> 0 no session
+cancel 17
 #> 17 no session
 insert 1 2 1 a
 #> 1 no table
@@ -347,6 +359,38 @@ commit 1
 #> 1 committed 1
 insert 1 1 1 b
 #> 1 duplicate
+",
+        ),
+        (
+            "one session and one that waits",
+            b"\
+insert 1 2 1 a
+#> 1 no table
+update 1 1 1 a
+#> 1 not found
+insert 1 1 1 a
+#> 1 ok
+insert 1 1 1 b
+#> 1 duplicate
+fetch 1 c 1
+#> 1 no cursor
+open 1 c 1 0 9
+#> 1 ok
+open 1 c 1 0 9
+#> 1 cursor there
+rollback 1 p
+#> 1 no savepoint
+cancel 1
+#> 1 not waiting
+lock 3 1 1
+#> 3 waits 1
+commit 3
+#> 3 waiting
+rollback 1
+#> 1 ok
+#> 3 not found
+fetch 1 c 1
+#> 1 no cursor
 ",
         ),
     ];
@@ -399,6 +443,11 @@ savepoint 1\x20
 savepoint 1
 savepoint 1 a b
 savepoint 01 a
+cancel
+cancel 1 1
+cancel 01
+cancel 65536
+CANCEL 1
 apply 1
 fetch 1 c 01
 update 1 1 1

@@ -72,6 +72,8 @@ insert 1 1 3 c
 #> 1 ok
 delete 1 1 1
 #> 1 waits 2
+cancel 1
+#> 1 ok
 fetch 3 all 1
 #> 3 row 1 a
 checkpoint
@@ -129,6 +131,8 @@ rollback 1 p
 #> 1 ok
 update 2 1 1 y
 #> 2 waits 1
+cancel 2
+#> 2 ok
 savepoint 2 q
 #> 2 ok
 delete 2 1 2
@@ -161,17 +165,74 @@ const SAVEPOINTS_LEFT: [(&str, u64, u64); 6] = [
 
 const CHANGED_ROWS: &str = "1 row 1 z\n1 row 2 b\n";
 
+// Three sessions wait at the first checkpoint, two of them for the first one and one for the second. By the commit of
+// the first one the second has what it waited for, as a change behind that commit, and the third waits for it in its
+// turn. Again three wait at the second checkpoint. Then the second puts all back, and the two that waited for it have
+// their changes, the one that came before the other first. The last one has its lock behind the last commit.
+const QUEUE: &str = "\
+insert 1 1 1 a
+#> 1 ok
+insert 1 1 2 b
+#> 1 ok
+commit 1
+#> 1 committed 1
+lock 1 1 1
+#> 1 ok
+update 2 1 2 x
+#> 2 ok
+update 2 1 1 y
+#> 2 waits 1
+delete 3 1 1
+#> 3 waits 1
+update 4 1 2 z
+#> 4 waits 2
+checkpoint
+#> ok
+commit 1
+#> 1 committed 2
+#> 2 ok
+#> 3 waits 2
+insert 1 1 3 c
+#> 1 ok
+lock 5 1 3
+#> 5 waits 1
+checkpoint
+#> ok
+rollback 2
+#> 2 ok
+#> 4 ok
+#> 3 ok
+commit 1
+#> 1 committed 3
+#> 5 ok
+";
+
+// The same after each flush: the commit, the checkpoint, the commit, the checkpoint, the commit, and the end.
+const QUEUE_LEFT: [(&str, u64, u64); 7] = [
+    ("", 0, 1),
+    (FIRST_ROWS, 2, 2),
+    (FIRST_ROWS, 4, 2),
+    (FIRST_ROWS, 4, 3),
+    (FIRST_ROWS, 6, 3),
+    (QUEUE_ROWS, 8, 4),
+    (QUEUE_ROWS, 9, 4),
+];
+
+const QUEUE_ROWS: &str = "1 row 1 a\n1 row 2 b\n1 row 3 c\n";
+
 // A transaction of more changes than one run of the log has, whose records lie in two extents: 40 and 1.
 const LONG: usize = 41;
 
 // The same after nothing, after the first run of the log, of 32 groups, and after the second.
 const LONG_LEFT: [(&str, u64, u64); 3] = [("", 0, 1), ("", 32, 1), ("", 41, 1)];
 
-// Shows the rows and the marks, and goes on with one more commit, which has the next number.
+// Shows the rows, the marks and that a session doesn't wait which may have done so, and goes on with one more commit,
+// which has the next number.
 const SECOND: &[u8] = b"\
 open 1 c 1 0 99
 fetch 1 c 99
 marks
+cancel 3
 insert 1 1 99 z
 commit 1
 ";
@@ -182,7 +243,7 @@ fn second_replies(alloc: Global, rows: &str, writes: u64, next: u64) -> Result<S
     replies.push_str(rows).map_err(|_| NoMemory)?;
     write!(
         replies,
-        "1 end\nsegment 0 writes {writes} lost 0\n1 ok\n1 committed {next}\n"
+        "1 end\nsegment 0 writes {writes} lost 0\n3 not waiting\n1 ok\n1 committed {next}\n"
     )
     .map_err(|_| NoMemory)?;
     Ok(replies)
@@ -220,6 +281,12 @@ pub fn two_sessions(alloc: Global) -> Result<Story, NoMemory> {
 pub fn savepoints(alloc: Global) -> Result<Story, NoMemory> {
     let script = String::from_str(alloc, SAVEPOINTS).map_err(|_| NoMemory)?;
     story_of(alloc, script, &SAVEPOINTS_LEFT)
+}
+
+/// Sessions that wait for others, three of them at a time, and have what they waited for behind the ends of these.
+pub fn queues(alloc: Global) -> Result<Story, NoMemory> {
+    let script = String::from_str(alloc, QUEUE).map_err(|_| NoMemory)?;
+    story_of(alloc, script, &QUEUE_LEFT)
 }
 
 /// One transaction that takes two runs of the log and two extents, and is under way at the end.

@@ -6,7 +6,7 @@ use Rattle.rb_model.specs.Answers.{action_of}
 use Rattle.rb_script.specs.declared.command.Command.{Command}
 use Rattle.rb_script.specs.declared.command.Command.TheVariants.{Write, Lock, Commit, Rollback, Savepoint}
 use Rattle.rb_script.specs.declared.command.Command.TheVariants.{RollbackTo, OpenCursor, Fetch, CloseCursor}
-use Rattle.rb_script.specs.declared.command.Command.TheVariants.{Marks, Checkpoint}
+use Rattle.rb_script.specs.declared.command.Command.TheVariants.{Cancel, Marks, Checkpoint}
 
 -- the command that a value of the code stands for
 abbrev pub command_of : Command → lines.Command
@@ -19,5 +19,6 @@ command_of (RollbackTo s name) = lines.RollbackToLine s (name_text name)
 command_of (OpenCursor s name t lo hi) = lines.OpenLine s (name_text name) t lo hi
 command_of (Fetch s name n) = lines.FetchLine s (name_text name) n
 command_of (CloseCursor s name) = lines.CloseLine s (name_text name)
+command_of (Cancel s) = lines.CancelLine s
 command_of Marks = lines.MarksLine
 command_of Checkpoint = lines.CheckpointLine

@@ -59,6 +59,10 @@ pub enum Command<'a> {
         s: u16,
         name: Name,
     },
+    /// `cancel S`: the write with which the session waits is given up.
+    Cancel {
+        s: u16,
+    },
     /// `marks`: what each rollback segment has made and given up.
     Marks,
     /// `checkpoint`.

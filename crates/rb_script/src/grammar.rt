@@ -152,6 +152,15 @@ fn close_of(fields: &[u8]) -> Option<Command<'_>>
     Some(Command::CloseCursor { s, name })
 }
 
+// the command of the line that is `cancel`, a space and these fields
+fn cancel_of(fields: &[u8]) -> Option<Command<'_>>
+    ensures found { IfSome result (λ command. Spells (codes "cancel" ++ 32 ∷ fields.now) (command_of command)) }
+    ensures none { IfNone result (SpellsNone (codes "cancel" ++ 32 ∷ fields.now)) }
+{
+    let s = id_of(fields)?;
+    Some(Command::Cancel { s })
+}
+
 // the command of a line that is one word
 fn command_alone(word: &[u8]) -> Option<Command<'_>>
     requires { IsTrue (is_word word.now) }
@@ -191,6 +200,9 @@ fn command_of_session<'a>(word: &[u8], fields: &'a [u8]) -> Option<Command<'a>>
     }
     if word == b"close".as_slice() {
         return close_of(fields);
+    }
+    if word == b"cancel".as_slice() {
+        return cancel_of(fields);
     }
     None
 }

@@ -81,6 +81,7 @@ fn put_refusal(why: Refusal, into: &mut Line)
 {
     put(why.words(), into);
     match why {
+        Refusal::Deadlock { on } => put_part(u64::from(on), into),
         Refusal::TooOld { scn, lost } => {
             put_part(scn, into);
             put_part(lost, into);

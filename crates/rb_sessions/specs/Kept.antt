@@ -1,13 +1,19 @@
 -- What a contract sees of the table of sessions, and how its calls change it.
 use Rattle.std.specs.Prelude.{ℕ, ◌+◌, ◌-◌, ◌^◌, false, not, ◌&&◌, nat_lt, min, cond}
 use Rattle.std.specs.Prelude.{List, [], ◌∷◌, ◌++◌, map, filter, get_or, set, Option, None, Some}
+use Rattle.std.specs.Option.{option_map}
 use Rattle.std.specs.Str.{bytes_eq}
 use Rattle.rb_base.specs.declared.ids.Xid.{Xid}
+use Rattle.rb_model.specs.Change.{Action, Asked}
+use Rattle.rb_model.specs.Change as change
 use Rattle.rb_model.specs.NextState as machine
 use Rattle.rb_model.specs.State.{Savepoint}
 use Rattle.rb_sessions.specs.declared.cursor.Cursor.{Cursor}
 use Rattle.rb_sessions.specs.declared.entry.Entry.{Entry}
 use Rattle.rb_sessions.specs.declared.named.Named.{Named}
+use Rattle.rb_sessions.specs.declared.pending.Pending.{Pending}
+use Rattle.rb_sessions.specs.declared.pending.PendingOp.{PendingOp}
+use Rattle.rb_sessions.specs.declared.pending.PendingOp.TheVariants.{Insert, Update, Delete, Lock}
 use Rattle.rb_sessions.specs.declared.savepoint.Mark.{Mark}
 
 -- a cursor under its name
@@ -16,12 +22,13 @@ pub record KeptCursor : Type 0 where
   pub cursor : Cursor
 
 -- a session: the id of its transaction, where that has a table slot, how many live changes that has, its savepoints in
--- order of setting, and the open cursors in order of opening
+-- order of setting, the open cursors in order of opening, and the write with which it waits, or has waited last
 pub record KeptSession : Type 0 where
   pub own : Option Xid
   pub count : ℕ
   pub savepoints : List Savepoint
   pub cursors : List KeptCursor
+  pub asked : Option Asked
 
 abbrev pub cursor_view : Named Cursor → KeptCursor
 cursor_view n = record { name = n.name.items; cursor = n.value }
@@ -29,17 +36,29 @@ cursor_view n = record { name = n.name.items; cursor = n.value }
 abbrev pub savepoint_view : Named Mark → Savepoint
 savepoint_view n = record { name = n.name.items; kept = n.value.kept }
 
+-- what a write that waits does, as the machine's action
+abbrev pub pending_action : PendingOp → Action
+pending_action (Insert value) = change.Insert value.items
+pending_action (Update value) = change.Update value.items
+pending_action Delete = change.Delete
+pending_action Lock = change.Lock
+
+-- the write as a session asks the machine for it
+abbrev pub asked_of_pending : Pending → Asked
+asked_of_pending p = record { table = p.table; key = p.key; action = pending_action p.op }
+
 abbrev pub session_view : Entry → KeptSession
 session_view e = record {
   own = e.own;
   count = e.count;
   savepoints = map savepoint_view e.savepoints.items;
   cursors = map cursor_view e.cursors.items;
+  asked = option_map asked_of_pending e.asked;
 }
 
--- a session without a transaction and without a cursor
+-- a session without a transaction and without a cursor, which has never waited
 abbrev pub fresh : KeptSession
-fresh = record { own = None; count = 0; savepoints = []; cursors = [] }
+fresh = record { own = None; count = 0; savepoints = []; cursors = []; asked = None }
 
 -- the session of a number, from 1 on
 abbrev pub kept_at : List KeptSession → ℕ → KeptSession
@@ -62,14 +81,18 @@ abbrev pub left_open : ℕ → List KeptCursor → List KeptCursor
 left_open kept cursors = filter (λ c. not (c.cursor.present && nat_lt kept c.cursor.upto)) cursors
 
 -- without a transaction and savepoints, with these cursors, which are of no present one
-abbrev pub ended : List KeptCursor → KeptSession
-ended cursors = record { own = None; count = 0; savepoints = []; cursors = map passed cursors }
+abbrev pub ended : List KeptCursor → KeptSession → KeptSession
+ended cursors k = record k { own = None; count = 0; savepoints = []; cursors = map passed cursors }
 
 abbrev pub committed : KeptSession → KeptSession
-committed k = ended k.cursors
+committed k = ended k.cursors k
 
 abbrev pub rolled_back : KeptSession → KeptSession
-rolled_back k = ended (left_open 0 k.cursors)
+rolled_back k = ended (left_open 0 k.cursors) k
+
+-- waiting with that write
+abbrev pub holding : Asked → KeptSession → KeptSession
+holding asked k = record k { asked = Some asked }
 
 -- a savepoint of that name set now
 abbrev pub with_savepoint : List ℕ → KeptSession → KeptSession

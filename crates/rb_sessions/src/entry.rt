@@ -1,13 +1,15 @@
 //! One session in the table: what is told of it, and how each call changes it. `Sessions` keeps sixteen.
+ghost use Rattle.std.specs.Option.{option_map};
 ghost use Rattle.std.specs.Prelude.{◌≡◌, ◌<◌, length, map};
 ghost use Rattle.rb_model.specs.Calls.{without_savepoint};
 ghost use Rattle.rb_model.specs.Names.{name_text};
 ghost use Rattle.rb_model.specs.State.{savepoint_named};
 ghost use Rattle.rb_sessions.specs.Kept as kept;
-ghost use Rattle.rb_sessions.specs.Kept.{cursor_view, savepoint_view, session_view};
+ghost use Rattle.rb_sessions.specs.Kept.{asked_of_pending, cursor_view, savepoint_view, session_view};
 
 use crate::cursor::{CURSORS, Cursor};
 use crate::named::{Named, position_of};
+use crate::pending::Pending;
 use crate::savepoint::{Mark, SAVEPOINTS};
 use arrayvec::ArrayVec;
 use rb_base::{Xid, array_of};
@@ -33,6 +35,8 @@ pub(crate) struct Entry {
     pub count: u32,
     pub savepoints: ArrayVec<Named<Mark>, SAVEPOINTS>,
     pub cursors: ArrayVec<Named<Cursor>, CURSORS>,
+    /// The write with which it waits, or has waited last.
+    pub asked: Option<Pending>,
 }
 
 /// Notes the key of the last row that the first cursor of a name gave.
@@ -69,7 +73,7 @@ fn erase(savepoints: &mut ArrayVec<Named<Mark>, SAVEPOINTS>, name: &[u8])
 }
 
 impl Entry {
-    /// One without a transaction and without a cursor.
+    /// One without a transaction and without a cursor, which has never waited.
     pub fn new() -> Entry
         ensures { session_view result ≡ kept.fresh }
     {
@@ -78,6 +82,7 @@ impl Entry {
             count: 0,
             savepoints: ArrayVec::new(),
             cursors: ArrayVec::new(),
+            asked: None,
         }
     }
 
@@ -182,5 +187,20 @@ impl Entry {
         if let Some(place) = position_of(self.cursors.as_slice(), name.as_bytes()) {
             self.cursors.remove(place);
         }
+    }
+
+    /// Keeps the write with which the session waits, in place of an earlier one.
+    pub fn hold(&mut self, pending: Pending)
+        ensures { session_view self.new ≡ kept.holding (asked_of_pending pending) (session_view self.old) }
+    {
+        self.asked = Some(pending);
+    }
+
+    /// A copy of the write that is kept, if one is.
+    pub fn held(&self) -> Option<Pending>
+        ensures { option_map asked_of_pending result ≡ (session_view self.now).asked }
+    {
+        let pending = self.asked.as_ref()?;
+        Some(Pending::new(pending.table, pending.key, pending.op()))
     }
 }

@@ -1,14 +1,16 @@
-//! The table of sessions: what the engine keeps in memory of each one's transaction, savepoints and cursors. It knows
-//! no block and no row; the engine notes here what it has done to the store.
+//! The table of sessions: what the engine keeps in memory of each one's transaction, savepoints and cursors, and the
+//! write with which it waits. It knows no block and no row; the engine notes here what it has done to the store.
 #![tactic(auto)]
 
 mod cursor;
 mod entry;
 mod named;
+mod pending;
 mod savepoint;
 mod sessions;
 
 pub use cursor::Cursor;
 pub use entry::Session;
+pub use pending::{Pending, PendingOp};
 pub use savepoint::SAVEPOINTS;
 pub use sessions::{SESSIONS, Sessions};

@@ -1,14 +1,16 @@
 //! The table itself. The engine owns one, asks it who works in which transaction, and notes each call in it.
+ghost use Rattle.std.specs.Option.{option_map};
 ghost use Rattle.std.specs.Prelude.{◌≡◌, ◌≢◌, ◌≤◌, ◌<◌, ℕ, length, replicate};
 ghost use Rattle.std.specs.Prelude.{Some, IfSome, IfNone};
 ghost use Rattle.rb_model.specs.Calls.{without_savepoint};
 ghost use Rattle.rb_model.specs.Names.{name_text};
 ghost use Rattle.rb_model.specs.State.{savepoint_named};
 ghost use Rattle.rb_sessions.specs.Kept as kept;
-ghost use Rattle.rb_sessions.specs.Kept.{fresh, kept_at, with_kept};
+ghost use Rattle.rb_sessions.specs.Kept.{asked_of_pending, fresh, kept_at, with_kept};
 
 use crate::cursor::{CURSORS, Cursor};
 use crate::entry::{Entry, Session};
+use crate::pending::Pending;
 use crate::savepoint::SAVEPOINTS;
 use rb_base::Xid;
 use rb_model::Name;
@@ -34,7 +36,7 @@ impl Model for Sessions {
 }
 
 impl Sessions {
-    /// All sessions without a transaction and without a cursor.
+    /// All sessions without a transaction and without a cursor. None has ever waited.
     pub fn new() -> Sessions
         ensures { result ≡ replicate SESSIONS fresh }
     {
@@ -161,5 +163,21 @@ impl Sessions {
             (kept.without (name_text name.now) (kept_at self.old s).cursors)) }
     {
         self.entries[s as usize - 1].close_cursor(name);
+    }
+
+    /// Keeps the write with which session `s` waits, in place of an earlier one.
+    pub fn hold(&mut self, s: u16, pending: Pending)
+        requires { (1 ≤ s) × (s ≤ SESSIONS) }
+        ensures { self.new ≡ with_kept self.old s (kept.holding (asked_of_pending pending) (kept_at self.old s)) }
+    {
+        self.entries[s as usize - 1].hold(pending);
+    }
+
+    /// The write with which session `s` waits, or has waited last. None exactly where it has never waited.
+    pub fn held(&self, s: u16) -> Option<Pending>
+        requires { (1 ≤ s) × (s ≤ SESSIONS) }
+        ensures { option_map asked_of_pending result ≡ (kept_at self.now s).asked }
+    {
+        self.entries[s as usize - 1].held()
     }
 }

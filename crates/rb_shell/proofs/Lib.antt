@@ -1,4 +1,5 @@
 pub mod NewFile
+pub mod ResumeLemmas
 pub mod Returns
 pub mod RunLemmas
 pub mod SaidLemmas

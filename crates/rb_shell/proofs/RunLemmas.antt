@@ -18,7 +18,8 @@ use Rattle.rb_lines.specs.Ran.{Ran, CutOff}
 use Rattle.rb_lines.proofs.Runs.{ran-append}
 use Rattle.rb_model.specs.Calls.{Call}
 use Rattle.rb_model.specs.Lines.{lines_of}
-use Rattle.rb_model.specs.Out.{Logged}
+use Rattle.rb_model.specs.Out.{IsSettled, Logged}
+use Rattle.rb_model.specs.Queue.{first_ready}
 use Rattle.rb_model.specs.Rows.{last_scn}
 use Rattle.rb_model.specs.State.{State}
 use Rattle.rb_opening.specs.Opens.{CanOpen, OpensAs}
@@ -39,6 +40,10 @@ all_ran : (slots most : ℕ) (m now : Logged) (left left2 : List ℕ) (tells : T
 all_ran slots most m now left left2 tells before held halted =
     subst (λ (ls : List (List ℕ)). Ran slots m now ls tells before held) (sym halted.lines)
     (ran-append slots m halted.middle now _ _ tells before halted.held held halted.done halted.going halted.fault)
+
+-- no session is ready in the state that a file opens to
+pub first_settled : {file : List ℕ} (sound : IsSound file) → IsSettled (first_of sound)
+first_settled sound = inr (ap (λ (h : State). first_ready h.queue) sound.opening.state)
 
 -- an image that has a state is on the way to a later one
 restarts_on_the_way : (slots : Option ℕ) (fault : Option Call) (h h2 : State) (c : List ℕ) → Extends h h2 → Restarts Opens slots h c → OnTheWay Opens slots fault h h2 c

@@ -2,13 +2,16 @@
 use Rattle.std.proofs.Common.{append_assoc, ◌≡◌, ◌∙◌, ◌⊎◌, inl, inr, ⊎_elim, refl, sym, ap, subst, arith, ℕ, zero, suc, ◌+◌, ◌-◌, ◌<◌, ◌≤◌, Bool, true, false, List, [], ◌++◌, length, take, drop, Result, Ok, Err, get_or, set, min, ◌∷◌}
 use Rattle.std.proofs.lemmas.Bool.{cases_Bool, false≢true, not-true}
 use Rattle.std.proofs.lemmas.List.{append-nil, length-append, length-set, drop-append-le, take-append-drop, take-append-le, take_all, take_min}
-use Rattle.std.proofs.Math.Seq.{drop-append_seam, take-add, take-nil}
+use Rattle.std.proofs.Math.Seq.{drop-append_seam, take-add}
 use Rattle.std.specs.Bool.{MatchBool}
 use Rattle.std.specs.List.{list_all}
 use Rattle.std.specs.Prelude.{not, if◌then◌else◌, IfErr, OnErr, OnOk, Option, None, Some}
+use Rattle.rb_base.specs.Counts.{err_is}
+use Rattle.rb_base.specs.declared.shape.Shape.{Shape}
 use Rattle.rb_base.specs.declared.store.Store.{Ghosts}
 use Rattle.rb_base.specs.Stores.{room_of}
 use Rattle.rb_engine.specs.Does.{Does, EngineView, SameStore}
+use Rattle.rb_lines.specs.Faults.{is_sink}
 use Rattle.rb_lines.specs.Ran.{CutShort, Did, Replied, RepliedAs, SameButCursors}
 use Rattle.rb_lines.specs.declared.runner.StepFault.{StepFault}
 use Rattle.rb_lines.specs.declared.runner.StepFault.TheVariants.{Disk, Sink}
@@ -16,24 +19,25 @@ use Rattle.rb_model.specs.Answers.{answer_of}
 use Rattle.rb_model.specs.declared.answer.Answer as code
 use Rattle.rb_model.specs.declared.answer.Answer.TheVariants as answers
 use Rattle.rb_model.specs.declared.row.Row.{Row}
-use Rattle.rb_model.specs.Calls.{Action, Answer, Call, Write, Commit, Rollback, SetSavepoint, RollbackTo, OpenCursor, Fetch, CloseCursor, Marks, Checkpoint, Done, Waits, Numbered, Given, End, Marked, Refused, Reply, early, later, name_tests, early_tests, failed_in, first_of, granted, is_fault, none_applies, waited, write_tests}
+use Rattle.rb_model.specs.Calls.{Action, Answer, Call, Write, Commit, Rollback, SetSavepoint, RollbackTo, OpenCursor, Fetch, CloseCursor, Cancel, Marks, Checkpoint, Done, Waits, Numbered, Given, End, Marked, Refused, Reply, early, later, name_tests, early_tests, failed_in, first_of, granted, is_fault, none_applies, waited, write_tests}
 use Rattle.rb_model.specs.Calls as calls
-use Rattle.rb_model.specs.Lines.{Command, WriteLine, CommitLine, RollbackLine, SavepointLine, RollbackToLine, OpenLine, FetchLine, CloseLine, MarksLine, CheckpointLine, call_of, caller, reply_text}
+use Rattle.rb_model.specs.Lines.{Command, WriteLine, CommitLine, RollbackLine, SavepointLine, RollbackToLine, OpenLine, FetchLine, CloseLine, CancelLine, MarksLine, CheckpointLine, Spells, call_of, caller, most_calls, reply_text, without_return}
 use Rattle.rb_model.specs.NextState.{After, Grows, cursors_of, with_cursors, with_taken}
-use Rattle.rb_model.specs.Out.{Logged, room, CallOut, CallsOut, goes_on}
+use Rattle.rb_model.specs.Out.{IsSettled, Logged, room, CallOut, CallsOut, CommandOut, LineSaid, command, goes_on}
+use Rattle.rb_model.specs.Queue.{Waiter, first_ready}
 use Rattle.rb_model.specs.State.{State, Session, Cursor, no_session}
-use Rattle.rb_model.proofs.Stops.{after_stops, early_no_fault, fine_stays, first_keeps, granted_fine}
+use Rattle.rb_model.proofs.Stops.{after_stops, early_no_fault, fine_stays, first_keeps, granted_fine, refused_same}
 use Rattle.rb_model.specs.Tests.{holder}
 use Rattle.rb_shell.specs.Since.{IsSince, StandsAs, slots_of}
-use Rattle.rb_shell.specs.Steps.{Added, CalledOnce, Calls, Lost, Said, SaidAs, SaidSoFar, Told}
+use Rattle.rb_shell.specs.Steps.{Added, CalledOnce, Calls, Lost, Said, SaidAs, SaidItself, SaidSoFar, Told}
 
 -- a state and itself, and what differs by fetches
 
 pub itself : (m : Logged) → SameButCursors m m
-itself m = record { lsn = refl; shape = refl; commits = refl; books = refl; sessions = refl; own = λ s. refl; savepoints = λ s. refl; stopped = refl; fault = refl }
+itself m = record { lsn = refl; shape = refl; commits = refl; books = refl; sessions = refl; own = λ s. refl; savepoints = λ s. refl; queue = refl; asked = refl; stopped = refl; fault = refl }
 
 same_joined : (a b c : Logged) → SameButCursors a b → SameButCursors b c → SameButCursors a c
-same_joined a b c x y = record { lsn = x.lsn ∙ y.lsn; shape = x.shape ∙ y.shape; commits = x.commits ∙ y.commits; books = x.books ∙ y.books; sessions = x.sessions ∙ y.sessions; own = λ s. x.own s ∙ y.own s; savepoints = λ s. x.savepoints s ∙ y.savepoints s; stopped = x.stopped ∙ y.stopped; fault = x.fault ∙ y.fault }
+same_joined a b c x y = record { lsn = x.lsn ∙ y.lsn; shape = x.shape ∙ y.shape; commits = x.commits ∙ y.commits; books = x.books ∙ y.books; sessions = x.sessions ∙ y.sessions; own = λ s. x.own s ∙ y.own s; savepoints = λ s. x.savepoints s ∙ y.savepoints s; queue = x.queue ∙ y.queue; asked = x.asked ∙ y.asked; stopped = x.stopped ∙ y.stopped; fault = x.fault ∙ y.fault }
 
 -- what a session has beside its cursors stays as these change
 stays : {A : Type 0} (f : Session → A) (sessions : List Session) (i j : ℕ) (d : Session) (cursors : List Cursor) → ((x : Session) → f (record x { cursors = cursors }) ≡ f x)
@@ -45,7 +49,7 @@ stays f (x ∷ sessions) (suc i) zero d cursors same = refl
 stays f (x ∷ sessions) (suc i) (suc j) d cursors same = stays f sessions i j d cursors same
 
 taken_same : (h : State) (f : Option Call) (s : ℕ) (name : List ℕ) (n : ℕ) → SameButCursors (record { state = with_cursors h s (with_taken name (cursors_of h s)); lsn = n; fault = f }) (record { state = h; lsn = n; fault = f })
-taken_same h f s name n = record { lsn = refl; shape = refl; commits = refl; books = refl; sessions = length-set h.sessions (s - 1) _; own = λ t. stays (λ (x : Session). x.own) h.sessions (s - 1) (t - 1) no_session (with_taken name (cursors_of h s)) (λ x. refl); savepoints = λ t. stays (λ (x : Session). x.savepoints) h.sessions (s - 1) (t - 1) no_session (with_taken name (cursors_of h s)) (λ x. refl); stopped = refl; fault = refl }
+taken_same h f s name n = record { lsn = refl; shape = refl; commits = refl; books = refl; sessions = length-set h.sessions (s - 1) _; own = λ t. stays (λ (x : Session). x.own) h.sessions (s - 1) (t - 1) no_session (with_taken name (cursors_of h s)) (λ x. refl); savepoints = λ t. stays (λ (x : Session). x.savepoints) h.sessions (s - 1) (t - 1) no_session (with_taken name (cursors_of h s)) (λ x. refl); queue = refl; asked = refl; stopped = refl; fault = refl }
 
 -- A state after a call that reads, whatever it answered but a fault, and no group that it gave.
 abbrev AfterRead : State → ℕ → Call → Answer → Type 0
@@ -105,9 +109,9 @@ answered h n more c k reading = ⊎_elim
 
 -- after an answer of each other command it makes no call more
 
-waited_ends : (s : ℕ) (o : Option ℕ) → list_all (λ test. not (goes_on test.1)) (waited s o) ≡ true
-waited_ends s None = refl
-waited_ends s (Some u) = refl
+waited_ends : (queue : List Waiter) (s : ℕ) (o : Option ℕ) → list_all (λ test. not (goes_on test.1)) (waited queue s o) ≡ true
+waited_ends queue s None = refl
+waited_ends queue s (Some u) = refl
 
 early_ends : (h : State) (c : Call) → goes_on (first_of (early_tests h c) Done) ≡ false
 early_ends h c = not-true (goes_on (first_of (early_tests h c) Done)) (first_keeps (λ r. not (goes_on r)) (early_tests h c) Done (tests_end h c) refl)
@@ -147,6 +151,7 @@ reads (SavepointLine s name) k h n more r (later tests none which is) gives = cl
 reads (RollbackToLine s name) k h n more r (later tests none which is) gives = clash r _ (is ∙ ap (λ (ts : List (Bool × Answer)). first_of ts Done) which) (named_ends h (RollbackTo s name) refl) gives
 reads (OpenLine s name table lo hi) k h n more r (later tests none which is) gives = clash r _ (is ∙ ap (λ (ts : List (Bool × Answer)). first_of ts Done) which) (named_ends h (OpenCursor s name table lo hi) refl) gives
 reads (CloseLine s name) k h n more r (later tests none which is) gives = clash r _ (is ∙ ap (λ (ts : List (Bool × Answer)). first_of ts Done) which) (named_ends h (CloseCursor s name) refl) gives
+reads (CancelLine s) k h n more r (later tests none which is) gives = clash r _ (is ∙ ap (λ (ts : List (Bool × Answer)). first_of ts Done) which) (named_ends h (Cancel s) refl) gives
 reads CheckpointLine k h n more r (later tests none which is) gives = clash r _ (is ∙ ap (λ (ts : List (Bool × Answer)). first_of ts Done) which) refl gives
 
 -- calls one after another
@@ -172,6 +177,67 @@ some_calls (suc more) m slots c k reading =
     (λ g. (reply_text (caller c) a.answer ++ rest.0, rest.1, same_joined rest.1 mid m rest.2 (a.after.3 m.fault), once_more m mid rest.1 slots c k more a.answer rest.0 once g rest.3))
     (λ g. (reply_text (caller c) a.answer, mid, a.after.3 m.fault, once_last m mid slots c k more a.answer once g))
     (cases_Bool (goes_on a.answer))
+
+-- calls that read leave the queue, and so no session ready that wasn't
+
+fetch_leaves : (h h2 : State) (s : ℕ) (name : List ℕ) (r : Answer) → is_fault r ≡ false → After h (Fetch s name) r h2 → h2.queue ≡ h.queue
+fetch_leaves h h2 s name Done e after = ap (λ (x : State). x.queue) after
+fetch_leaves h h2 s name (Waits on) e after = ap (λ (x : State). x.queue) after
+fetch_leaves h h2 s name (Numbered k) e after = ap (λ (x : State). x.queue) after
+fetch_leaves h h2 s name (Given key value) e after = ap (λ (x : State). x.queue) after
+fetch_leaves h h2 s name End e after = ap (λ (x : State). x.queue) after
+fetch_leaves h h2 s name (Marked seg writes lost) e after = ap (λ (x : State). x.queue) after
+fetch_leaves h h2 s name (Refused why) e after = ap (λ (x : State). x.queue) (refused_same h h2 (Fetch s name) why e after)
+
+marks_leave : (h h2 : State) (seg : ℕ) (r : Answer) → is_fault r ≡ false → After h (Marks seg) r h2 → h2.queue ≡ h.queue
+marks_leave h h2 seg Done e after = ap (λ (x : State). x.queue) after
+marks_leave h h2 seg (Waits on) e after = ap (λ (x : State). x.queue) after
+marks_leave h h2 seg (Numbered k) e after = ap (λ (x : State). x.queue) after
+marks_leave h h2 seg (Given key value) e after = ap (λ (x : State). x.queue) after
+marks_leave h h2 seg End e after = ap (λ (x : State). x.queue) after
+marks_leave h h2 seg (Marked g writes lost) e after = ap (λ (x : State). x.queue) after
+marks_leave h h2 seg (Refused why) e after = ap (λ (x : State). x.queue) (refused_same h h2 (Marks seg) why e after)
+
+reads_leave : (h h2 : State) (c : Command) (k : ℕ) (r : Answer) → Reads c → is_fault r ≡ false → After h (call_of c k) r h2 → h2.queue ≡ h.queue
+reads_leave h h2 c k r reading e = ⊎_elim
+    (λ f. subst (λ (x : Command). After h (call_of x k) r h2 → h2.queue ≡ h.queue) (sym f.3) (fetch_leaves h h2 f.0 f.1 r e))
+    (λ f. subst (λ (x : Command). After h (call_of x k) r h2 → h2.queue ≡ h.queue) (sym f) (marks_leave h h2 k r e))
+    reading
+
+read_settles : (m mid : Logged) (slots : ℕ) (c : Command) (k : ℕ) (r : Answer) → Reads c → CallOut m slots (call_of c k) r mid → IsSettled m → IsSettled mid
+read_settles m mid slots c k r reading once settled = ⊎_elim
+    (λ (e : is_fault r ≡ true). inl (ap (λ (x : State). x.stopped) (after_stops m.state mid.state (call_of c k) r e once.state)))
+    (λ (e : is_fault r ≡ false). ⊎_elim
+    (λ stopped. inl ((fine_stays m.state mid.state (call_of c k) r e once.state).stopped ∙ stopped))
+    (λ none. inr (ap first_ready (reads_leave m.state mid.state c k r reading e once.state) ∙ none))
+    settled)
+    (cases_Bool (is_fault r))
+
+by_going : (v : Bool) (P Q R : Type 0) → (P → R) → (Q → R) → MatchBool v P Q → R
+by_going true P Q R f g p = f p
+by_going false P Q R f g q = g q
+
+calls_settle : (count : ℕ) (m m2 : Logged) (slots : ℕ) (c : Command) (k : ℕ) (out : List ℕ) → Reads c → CallsOut m slots c k count out m2 → IsSettled m → IsSettled m2
+calls_settle zero m m2 slots c k out reading (none, is) settled = subst IsSettled (sym is) settled
+calls_settle (suc count) m m2 slots c k out reading (r, rest, middle, once, is, next) settled =
+    let here : IsSettled middle = read_settles m middle slots c k r reading once settled in
+    by_going (goes_on r) _ _ _
+    (λ more. calls_settle count middle m2 slots c (suc k) rest reading more here)
+    (λ last. subst IsSettled (sym last.1) here) next
+
+-- what makes more calls than one reads
+many_read : (shape : Shape) (c : Command) → (most_calls shape c ≤ 1 → ⊥) → Reads c
+many_read shape (FetchLine s name count) many = inl (s, name, count, refl)
+many_read shape MarksLine many = inr refl
+many_read shape (WriteLine s table key action) many = absurd (many (omega arith))
+many_read shape (CommitLine s) many = absurd (many (omega arith))
+many_read shape (RollbackLine s) many = absurd (many (omega arith))
+many_read shape (SavepointLine s name) many = absurd (many (omega arith))
+many_read shape (RollbackToLine s name) many = absurd (many (omega arith))
+many_read shape (OpenLine s name table lo hi) many = absurd (many (omega arith))
+many_read shape (CloseLine s name) many = absurd (many (omega arith))
+many_read shape (CancelLine s) many = absurd (many (omega arith))
+many_read shape CheckpointLine many = absurd (many (omega arith))
 
 -- texts that were added, of which some were sent
 
@@ -308,22 +374,37 @@ so_far_cut start m mid slots c count all r tells before held waiting held2 so lt
 pub said_nothing : (R : List ℕ → Logged → Type 0) (m : Logged) (tells : Type 0) (held waiting : List ℕ) → R [] m → waiting ≡ [] → Said R m tells held held waiting
 said_nothing R m tells held waiting r none = record { out = []; reply = r; sent = 0; few = omega arith; holds = λ t. sym (append-nil held); waits = none }
 
-pub bad_said : (R : List ℕ → Logged → Type 0) (m : Logged) (text : List ℕ) (tells : Type 0) (held waiting held2 waiting2 : List ℕ) (result : Result (Unit {0}) StepFault) → R text m → m.state.stopped ≡ false → waiting ≡ []
-    → Told text false tells held waiting held2 waiting2 result → SaidAs R m tells held held2 waiting2 result
-bad_said R m text tells held waiting held2 waiting2 (Ok done) r going none told =
+-- a line that is no command, whose reply is the first one
+pub bad_said : (m : Logged) (slots : ℕ) (line text : List ℕ) (tells : Type 0) (held waiting held2 waiting2 : List ℕ) (result : Result (Unit {0}) StepFault) → LineSaid m slots line text m → m.state.stopped ≡ false → waiting ≡ []
+    → Told text false tells held waiting held2 waiting2 result → err_is is_sink result ≡ false → SaidItself m slots line m tells held held2 waiting2 result
+bad_said m slots line text tells held waiting held2 waiting2 (Ok done) r going none told first =
     let a = added_holds tells held held waiting held2 waiting2 [] text 0 (omega arith) (λ t. sym (append-nil held)) none told.1 in
     (record { out = text; reply = r; sent = a.0; few = a.1.0; holds = a.1.1; waits = a.1.2 }, going)
-bad_said R m text tells held waiting held2 waiting2 (Err Disk) r going none told = absurd (false≢true told.0)
-bad_said R m text tells held waiting held2 waiting2 (Err Sink) r going none told = λ t.
-    let l = lost_holds tells held held waiting held2 [] 0 (λ t. sym (append-nil held)) none told t in
-    record { out = text; state = m; reply = r; same = itself m; size = 0; written = l.1 ∙ ap (λ (xs : List ℕ). held ++ xs) (take-nil l.0) }
+bad_said m slots line text tells held waiting held2 waiting2 (Err Disk) r going none told first = absurd (false≢true told.0)
+bad_said m slots line text tells held waiting held2 waiting2 (Err Sink) r going none told first = absurd (false≢true (sym first))
 
--- what is said under one relation is said under a weaker one
-pub said_weaker : (R Q : List ℕ → Logged → Type 0) (now : Logged) (tells : Type 0) (before held waiting : List ℕ) (result : Result (Unit {0}) StepFault) → ((out : List ℕ) (h : Logged) → R out h → Q out h)
-    → SaidAs R now tells before held waiting result → SaidAs Q now tells before held waiting result
-said_weaker R Q now tells before held waiting (Ok done) so (said, going) = (record { out = said.out; reply = so said.out now said.reply; sent = said.sent; few = said.few; holds = said.holds; waits = said.waits }, going)
-said_weaker R Q now tells before held waiting (Err Disk) so (said, stopped) = (record { out = said.out; reply = so said.out now said.reply; sent = said.sent; few = said.few; holds = said.holds; waits = said.waits }, stopped)
-said_weaker R Q now tells before held waiting (Err Sink) so cut = λ t. let w = cut t in record { out = w.out; state = w.state; reply = so w.out w.state w.reply; same = w.same; size = w.size; written = w.written }
+-- A command is what its line does itself. Where it was cut off it reads, and none is ready behind it: all that the
+-- line does.
+pub command_said : (m now : Logged) (slots : ℕ) (line : List ℕ) (c : Command) (tells : Type 0) (before held waiting : List ℕ) (result : Result (Unit {0}) StepFault)
+    → length line ≤ 512 → Spells (without_return line) c → (most_calls m.state.shape c ≤ 1 → err_is is_sink result ≡ false)
+    → SaidAs (CommandOut m slots c) m now tells before held waiting result → SaidItself m slots line now tells before held waiting result
+command_said m now slots line c tells before held waiting (Ok done) short spells one (said, going) =
+    (record { out = said.out; reply = command short c spells said.reply; sent = said.sent; few = said.few; holds = said.holds; waits = said.waits }, going)
+command_said m now slots line c tells before held waiting (Err Disk) short spells one (said, stopped) =
+    (record { out = said.out; reply = command short c spells said.reply; sent = said.sent; few = said.few; holds = said.holds; waits = said.waits }, stopped)
+command_said m now slots line c tells before held waiting (Err Sink) short spells one cut = λ t settled.
+    let w = cut t settled in
+    let reading : Reads c = many_read m.state.shape c (λ few. false≢true (sym (one few))) in
+    let none : ◌≡◌ {A = List ℕ} [] [] = refl in
+    let here : IsSettled w.state = calls_settle (most_calls m.state.shape c) m w.state slots c 0 w.out reading w.reply settled in
+    record {
+      out = w.out;
+      state = w.state;
+      reply = (w.out, [], w.state, 0, command short c spells w.reply, sym (append-nil w.out), (here, none, refl));
+      same = w.same;
+      size = w.size;
+      written = w.written;
+    }
 
 -- what waited is sent
 
@@ -343,17 +424,17 @@ some_sent R now tells before held waiting held2 said lost t =
 
 -- by the end of the line
 
-pub ok_sent : (R : List ℕ → Logged → Type 0) (now : Logged) (tells : Type 0) (before held waiting held2 : List ℕ) (result : Result (Unit {0}) StepFault) → SaidAs R now tells before held waiting (Ok tt)
-    → OnOk result (tells → held2 ≡ held ++ waiting) → OnErr result (Lost tells held waiting held2) → IfErr result (λ fault. fault ≡ Sink) → RepliedAs R now tells before held2 result
-ok_sent R now tells before held waiting held2 (Ok done) (said, going) sent lost by = (all_sent R now tells before held waiting held2 said sent, going)
-ok_sent R now tells before held waiting held2 (Err Disk) (said, going) sent lost by = cc
-ok_sent R now tells before held waiting held2 (Err Sink) (said, going) sent lost by = some_sent R now tells before held waiting held2 said lost
+pub ok_sent : (R : List ℕ → Logged → Type 0) (start now : Logged) (tells : Type 0) (before held waiting held2 : List ℕ) (result : Result (Unit {0}) StepFault) → SaidAs R start now tells before held waiting (Ok tt)
+    → OnOk result (tells → held2 ≡ held ++ waiting) → OnErr result (Lost tells held waiting held2) → IfErr result (λ fault. fault ≡ Sink) → RepliedAs R start now tells before held2 result
+ok_sent R start now tells before held waiting held2 (Ok done) (said, going) sent lost by = (all_sent R now tells before held waiting held2 said sent, going)
+ok_sent R start now tells before held waiting held2 (Err Disk) (said, going) sent lost by = cc
+ok_sent R start now tells before held waiting held2 (Err Sink) (said, going) sent lost by = λ t settled. some_sent R now tells before held waiting held2 said lost t
 
-pub disk_sent : (R : List ℕ → Logged → Type 0) (now : Logged) (tells : Type 0) (before held waiting held2 : List ℕ) → SaidAs R now tells before held waiting (Err Disk) → (tells → held2 ≡ held ++ waiting) → RepliedAs R now tells before held2 (Err Disk)
-disk_sent R now tells before held waiting held2 (said, stopped) sent = (all_sent R now tells before held waiting held2 said sent, stopped)
+pub disk_sent : (R : List ℕ → Logged → Type 0) (start now : Logged) (tells : Type 0) (before held waiting held2 : List ℕ) → SaidAs R start now tells before held waiting (Err Disk) → (tells → held2 ≡ held ++ waiting) → RepliedAs R start now tells before held2 (Err Disk)
+disk_sent R start now tells before held waiting held2 (said, stopped) sent = (all_sent R now tells before held waiting held2 said sent, stopped)
 
-pub disk_lost : (R : List ℕ → Logged → Type 0) (now : Logged) (tells : Type 0) (before held waiting held2 : List ℕ) → SaidAs R now tells before held waiting (Err Disk) → Lost tells held waiting held2 → RepliedAs R now tells before held2 (Err Sink)
-disk_lost R now tells before held waiting held2 (said, stopped) lost = some_sent R now tells before held waiting held2 said lost
+pub disk_lost : (R : List ℕ → Logged → Type 0) (start now : Logged) (tells : Type 0) (before held waiting held2 : List ℕ) → SaidAs R start now tells before held waiting (Err Disk) → Lost tells held waiting held2 → RepliedAs R start now tells before held2 (Err Sink)
+disk_lost R start now tells before held waiting held2 (said, stopped) lost = λ t settled. some_sent R now tells before held waiting held2 said lost t
 
 -- one call, as the engine tells it
 
@@ -439,12 +520,12 @@ module _ (start m now : Logged) (slots slots1 : ℕ) (c : Command) (count : ℕ)
       so_far_more start m now slots c count (answer_of answer row) tells before held waiting held2 waiting2 so here.0 gives here.1
 
   pub calls_stop : (all : ℕ) (answer : code.Answer) → count < all → goes_on (answer_of answer row) ≡ false → Here (Ok answer) slots1
-      → SaidAs (CallsOut start slots c 0 all) now tells before held2 waiting2 (Ok tt)
+      → SaidAs (CallsOut start slots c 0 all) start now tells before held2 waiting2 (Ok tt)
   calls_stop all answer lt other calls =
       let here = subst (Here (Ok answer)) same calls in
       (so_far_stop start m now slots c count all (answer_of answer row) tells before held waiting held2 waiting2 so lt here.0 other, here.1)
 
-  pub calls_fault : (all : ℕ) (fault : StepFault) → count < all → Here (Err fault) slots1 → SaidAs (CallsOut start slots c 0 all) now tells before held2 waiting2 (Err fault)
+  pub calls_fault : (all : ℕ) (fault : StepFault) → count < all → Here (Err fault) slots1 → SaidAs (CallsOut start slots c 0 all) start now tells before held2 waiting2 (Err fault)
   calls_fault all Disk lt calls =
       let here = subst (Here (Err Disk)) same calls in
       let r = here.0 in
@@ -452,10 +533,10 @@ module _ (start m now : Logged) (slots slots1 : ℕ) (c : Command) (count : ℕ)
       (λ (gives : goes_on r ≡ true). absurd (false≢true (sym ((fine_stays m.state now.state (call_of c count) r (on_no_fault r gives) here.1.made.state).stopped ∙ so.going) ∙ here.2)))
       (λ (gives : goes_on r ≡ false). (so_far_stop start m now slots c count all r tells before held waiting held2 waiting2 so lt here.1 gives, here.2))
       (cases_Bool (goes_on r))
-  calls_fault all Sink lt calls = λ t.
+  calls_fault all Sink lt calls = λ t settled.
       let here = subst (Here (Err Sink)) same calls in
       so_far_cut start m now slots c count all here.0 tells before held waiting held2 so lt here.1 here.2 t
 
-pub calls_end : (start m : Logged) (slots : ℕ) (c : Command) (count all : ℕ) (tells : Type 0) (before held waiting : List ℕ) → count ≡ all → SaidSoFar start slots c count m tells before held waiting → SaidAs (CallsOut start slots c 0 all) m tells before held waiting (Ok tt)
+pub calls_end : (start m : Logged) (slots : ℕ) (c : Command) (count all : ℕ) (tells : Type 0) (before held waiting : List ℕ) → count ≡ all → SaidSoFar start slots c count m tells before held waiting → SaidAs (CallsOut start slots c 0 all) start m tells before held waiting (Ok tt)
 calls_end start m slots c count all tells before held waiting is so =
     (subst (λ (n : ℕ). Said (CallsOut start slots c 0 n) m tells before held waiting) is (so_far_all start m slots c count tells before held waiting so), so.going)

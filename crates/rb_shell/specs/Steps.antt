@@ -6,7 +6,7 @@ use Rattle.rb_lines.specs.declared.runner.StepFault.{StepFault}
 use Rattle.rb_lines.specs.declared.runner.StepFault.TheVariants.{Disk, Sink}
 use Rattle.rb_model.specs.Answers.{answer_of}
 use Rattle.rb_model.specs.Lines.{Command, is_remark, reply_text, without_return}
-use Rattle.rb_model.specs.Out.{Logged, CallOut, CallsOut}
+use Rattle.rb_model.specs.Out.{IsSettled, Logged, CallOut, CallsOut, LineOut, LineSaid, ResumesOut}
 use Rattle.rb_model.specs.Calls.{Answer, Call, is_disk_fault}
 use Rattle.rb_model.specs.declared.answer.Answer as code
 use Rattle.rb_model.specs.declared.answer.Answer.TheVariants as answers
@@ -96,13 +96,45 @@ pub record Said (allows : List ℕ → Logged → Type 0) (now : Logged) (tells 
   pub waits : waiting ≡ drop sent out
 
 -- the same by the end of a step, as `RepliedAs` says it of what was sent
-abbrev pub SaidAs : (List ℕ → Logged → Type 0) → Logged → Type 0 → (before held waiting : List ℕ)
+abbrev pub SaidAs : (List ℕ → Logged → Type 0) → Logged → Logged → Type 0
+    → (before held waiting : List ℕ)
     → Result (Unit {0}) StepFault → Type 0
-SaidAs allows now tells before held waiting (Ok done) = Said allows now tells before held waiting
+SaidAs allows start now tells before held waiting (Ok done) = Said allows now tells before held waiting
     × (now.state.stopped ≡ false)
-SaidAs allows now tells before held waiting (Err Disk) = Said allows now tells before held waiting
+SaidAs allows start now tells before held waiting (Err Disk) = Said allows now tells before held waiting
     × (now.state.stopped ≡ true)
-SaidAs allows now tells before held waiting (Err Sink) = tells → CutShort allows now before held
+SaidAs allows start now tells before held waiting (Err Sink) = tells → IsSettled start
+    → CutShort allows now before held
+
+-- The same of what a line does itself. One that was cut off makes more calls than one, and so it only reads: no session
+-- is ready behind it that wasn't before.
+abbrev pub SaidItself : (start : Logged) (slots : ℕ) (line : List ℕ) (now : Logged) → Type 0
+    → (before held waiting : List ℕ) → Result (Unit {0}) StepFault → Type 0
+SaidItself start slots line now tells before held waiting (Ok done) =
+    Said (LineSaid start slots line) now tells before held waiting × (now.state.stopped ≡ false)
+SaidItself start slots line now tells before held waiting (Err Disk) =
+    Said (LineSaid start slots line) now tells before held waiting × (now.state.stopped ≡ true)
+SaidItself start slots line now tells before held waiting (Err Sink) = tells → IsSettled start
+    → CutShort (LineOut start slots line) now before held
+
+-- Writes of ready sessions were tried again until none was ready, or one of them failed. Their replies wait.
+pub record HasResumed (start : Logged) (slots : ℕ) (now : Logged) (waiting_before waiting_now : List ℕ)
+    (failed : Bool) : Type 0 where
+  pub count : ℕ
+  pub rest : List ℕ
+  pub resumed : ResumesOut start slots count rest now
+  pub waits : waiting_now ≡ waiting_before ++ rest
+  pub stopped : now.state.stopped ≡ failed
+
+-- So many of them were, and none failed: what is tried from here on goes on from the start.
+pub record ResumedSoFar (start : Logged) (slots : ℕ) (now : Logged) (waiting_before waiting_now : List ℕ) : Type 0
+  where
+    pub count : ℕ
+    pub rest : List ℕ
+    pub goes_on : (more : ℕ) (out : List ℕ) (end : Logged) → ResumesOut now slots more out end
+        → ResumesOut start slots (count + more) (rest ++ out) end
+    pub waits : waiting_now ≡ waiting_before ++ rest
+    pub going : now.state.stopped ≡ false
 
 -- So many calls of a command were made, each of which goes on: what goes on from here goes on from the start.
 pub record SaidSoFar (start : Logged) (slots : ℕ) (c : Command) (count : ℕ) (now : Logged) (tells : Type 0)

@@ -1,6 +1,8 @@
-//! `step`: one line through the engine to the sink. The run of a script does each line by `do_line`.
-ghost use Rattle.std.specs.Prelude.{◌≡◌, ◌++◌, ◌<◌, ℕ, false, [], None, IfErr, OnErr, OnOk};
+//! `step`: one line through the engine to the sink, and the writes that it has made ready. The run of a script does
+//! each line by `do_line`.
+ghost use Rattle.std.specs.Prelude.{◌≡◌, ◌++◌, ◌<◌, ◌≤◌, ℕ, false, [], None, IfErr, OnErr, OnOk};
 ghost use Rattle.std.specs.Result.{is_err};
+ghost use Rattle.arrayvec.specs.ArrayVec.{array_vec_len};
 ghost use Rattle.rb_base.specs.Counts.{IsCounted, IsCountedAs, err_is};
 ghost use Rattle.rb_engine.specs.Does.{Does, SameStore, Stands};
 ghost use Rattle.rb_lines.specs.Faults.{IsCountedBeside, is_disk, is_sink};
@@ -11,14 +13,15 @@ ghost use Rattle.rb_model.specs.Lines.{call_of, caller, most_calls};
 ghost use Rattle.rb_model.specs.Out.{Logged, CommandOut, LineOut};
 ghost use Rattle.rb_model.specs.Calls.{is_fault};
 ghost use Rattle.rb_model.specs.Calls as machine;
+ghost use Rattle.rb_model.specs.Queue.{first_ready};
 ghost use Rattle.rb_model.specs.State.{State};
 ghost use Rattle.rb_script.specs.Commands.{command_of};
 ghost use Rattle.rb_shell.specs.Since.{IsSince, StandsAs, slots_of};
-ghost use Rattle.rb_shell.specs.Steps.{Calls, FitsCaller, IsSkipped, Lost, SaidAs};
+ghost use Rattle.rb_shell.specs.Steps.{Calls, FitsCaller, HasResumed, IsSkipped, Lost, SaidAs, SaidItself};
 
 use crate::replies::{
-    Waiting, answer_to_call, answer_to_commit, answer_to_fetch, answer_to_marks, answer_to_write,
-    reply_of, send, tell,
+    MOST_READY, OWN_BYTES, Waiting, answer_to_call, answer_to_commit, answer_to_fetch,
+    answer_to_marks, answer_to_write, reply_of, send, tell, tell_resumed,
 };
 use arrayvec::ArrayVec;
 use rb_base::{Shape, Store};
@@ -76,6 +79,7 @@ fn caller_of(command: &Command<'_>) -> Option<u16>
         } => Some(*s),
         Command::Fetch { s, name: _, n: _ } => Some(*s),
         Command::CloseCursor { s, name: _ } => Some(*s),
+        Command::Cancel { s } => Some(*s),
         Command::Marks => None,
         Command::Checkpoint => None,
     }
@@ -129,6 +133,7 @@ fn answer<T: Store>(engine: &mut Engine<T>, command: &Command<'_>, k: u32, row: 
         }
         Command::Fetch { s, name, n: _ } => answer_to_fetch(engine.fetch(*s, name, row)),
         Command::CloseCursor { s, name } => answer_to_call(engine.close_cursor(*s, name)),
+        Command::Cancel { s } => answer_to_call(engine.cancel(*s)),
         Command::Marks => answer_of_segment(engine, k),
         Command::Checkpoint => answer_to_call(engine.checkpoint()),
     }
@@ -148,6 +153,8 @@ fn call_once<T: Store, K: Sink>(
         → Did (StandsAs T.Store) (IsSince T.Store) engine.old engine.new m (λ now. Calls m
         (slots_of (T.slots engine.old.store)) (caller (command_of command.now)) (call_of (command_of command.now) k)
         row.new now K.tells (K.held sink.old) waiting.old.items (K.held sink.new) waiting.new.items result) }
+    ensures room { OnOk result (array_vec_len waiting.new ≤ OWN_BYTES) }
+    ensures first { waiting.old.items ≡ [] → err_is is_sink result ≡ false }
     ensures same { SameStore T.Store engine.old.store engine.new.store }
     ensures disk { IsCountedBeside (T.faults engine.old.store) (T.faults engine.new.store) (err_is is_disk result)
         (err_is is_sink result) }
@@ -169,8 +176,12 @@ fn run_command<T: Store, K: Sink>(
     requires { waiting.old.items ≡ [] }
     ensures did { (m : Logged) → StandsAs T.Store engine.old m → m.state.stopped ≡ false
         → Did (StandsAs T.Store) (IsSince T.Store) engine.old engine.new m (λ now. SaidAs (CommandOut m
-        (slots_of (T.slots engine.old.store)) (command_of command.now)) now K.tells (K.held sink.old)
+        (slots_of (T.slots engine.old.store)) (command_of command.now)) m now K.tells (K.held sink.old)
         (K.held sink.new) waiting.new.items result) }
+    ensures room { OnOk result (array_vec_len waiting.new ≤ OWN_BYTES) }
+    // The only reply of a command that makes one call isn't sent yet.
+    ensures one_call { most_calls (T.shape_of engine.old.store) (command_of command.now) ≤ 1
+        → err_is is_sink result ≡ false }
     ensures same { SameStore T.Store engine.old.store engine.new.store }
     ensures disk { IsCountedBeside (T.faults engine.old.store) (T.faults engine.new.store) (err_is is_disk result)
         (err_is is_sink result) }
@@ -189,8 +200,8 @@ fn run_command<T: Store, K: Sink>(
     Ok(())
 }
 
-/// Does one line, and leaves the last of its replies waiting.
-fn say_line<T: Store, K: Sink>(
+/// Does what one line does itself, and leaves the last of its replies waiting.
+fn say_itself<T: Store, K: Sink>(
     engine: &mut Engine<T>,
     line: &[u8],
     waiting: &mut Waiting,
@@ -198,9 +209,10 @@ fn say_line<T: Store, K: Sink>(
 ) -> Result<(), StepFault>
     requires { waiting.old.items ≡ [] }
     ensures did { (m : Logged) → StandsAs T.Store engine.old m → m.state.stopped ≡ false
-        → Did (StandsAs T.Store) (IsSince T.Store) engine.old engine.new m (λ now. SaidAs (LineOut m
-        (slots_of (T.slots engine.old.store)) line.now) now K.tells (K.held sink.old)
+        → Did (StandsAs T.Store) (IsSince T.Store) engine.old engine.new m (λ now. SaidItself m
+        (slots_of (T.slots engine.old.store)) line.now now K.tells (K.held sink.old)
         (K.held sink.new) waiting.new.items result) }
+    ensures room { OnOk result (array_vec_len waiting.new ≤ OWN_BYTES) }
     ensures skipped { IsSkipped line.now → (engine.new ≡ engine.old) × (sink.new ≡ sink.old)
         × (waiting.new.items ≡ []) × (is_err result ≡ false) }
     ensures same { SameStore T.Store engine.old.store engine.new.store }
@@ -221,6 +233,53 @@ fn say_line<T: Store, K: Sink>(
     }
 }
 
+/// Tries the writes of ready sessions again, that of the session that came first each time, until none is ready or the
+/// disk failed. The replies to them have room, and none is sent yet.
+fn resume_ready<T: Store>(engine: &mut Engine<T>, waiting: &mut Waiting) -> Result<(), StepFault>
+    requires { array_vec_len waiting.old ≤ OWN_BYTES }
+    ensures did { (m : Logged) → StandsAs T.Store engine.old m → m.state.stopped ≡ false
+        → Did (StandsAs T.Store) (IsSince T.Store) engine.old engine.new m (λ now. HasResumed m
+        (slots_of (T.slots engine.old.store)) now waiting.old.items waiting.new.items (is_err result)) }
+    ensures idle { first_ready engine.old.memory.waits ≡ None
+        → (engine.new ≡ engine.old) × (waiting.new ≡ waiting.old) × (is_err result ≡ false) }
+    ensures same { SameStore T.Store engine.old.store engine.new.store }
+    ensures disk { IsCountedAs (T.faults engine.old.store) (T.faults engine.new.store) (is_err result) }
+    ensures by_disk { IfErr result (λ fault. fault ≡ StepFault.Disk) }
+{
+    // A write that was tried again leaves fewer sessions ready.
+    for _turn in 0..MOST_READY {
+        let Some((s, outcome)) = engine.resume() else {
+            return Ok(());
+        };
+        tell_resumed(s, outcome, waiting)?;
+    }
+    Ok(())
+}
+
+/// Does one line and the writes that it has made ready, and leaves the last of the replies waiting.
+fn say_line<T: Store, K: Sink>(
+    engine: &mut Engine<T>,
+    line: &[u8],
+    waiting: &mut Waiting,
+    sink: &mut K,
+) -> Result<(), StepFault>
+    requires { waiting.old.items ≡ [] }
+    ensures did { (m : Logged) → StandsAs T.Store engine.old m → m.state.stopped ≡ false
+        → Did (StandsAs T.Store) (IsSince T.Store) engine.old engine.new m (λ now. SaidAs (LineOut m
+        (slots_of (T.slots engine.old.store)) line.now) m now K.tells (K.held sink.old)
+        (K.held sink.new) waiting.new.items result) }
+    ensures skipped { IsSkipped line.now → first_ready engine.old.memory.waits ≡ None
+        → (engine.new ≡ engine.old) × (sink.new ≡ sink.old)
+        × (waiting.new.items ≡ []) × (is_err result ≡ false) }
+    ensures same { SameStore T.Store engine.old.store engine.new.store }
+    ensures disk { IsCountedBeside (T.faults engine.old.store) (T.faults engine.new.store) (err_is is_disk result)
+        (err_is is_sink result) }
+    ensures sink { IsCountedAs (K.faults sink.old) (K.faults sink.new) (err_is is_sink result) }
+{
+    say_itself(engine, line, waiting, sink)?;
+    resume_ready(engine, waiting)
+}
+
 /// Puts the replies that wait at the end of a line.
 fn send_last<K: Sink>(waiting: &mut Waiting, sink: &mut K) -> Result<(), StepFault>
     ensures sent { OnOk result (K.tells → K.held sink.new ≡ K.held sink.old ++ waiting.old.items) }
@@ -235,7 +294,8 @@ fn send_last<K: Sink>(waiting: &mut Waiting, sink: &mut K) -> Result<(), StepFau
     }
 }
 
-/// Does one line of a script, and puts its replies. What an earlier line that failed left waiting is dropped.
+/// Does one line of a script, and puts its replies and those to the writes that it has made ready. What an earlier
+/// line that failed left waiting is dropped.
 pub fn do_line<T: Store, K: Sink>(
     engine: &mut Engine<T>,
     line: &[u8],
@@ -245,7 +305,7 @@ pub fn do_line<T: Store, K: Sink>(
     ensures did { (m : Logged) → StandsAs T.Store engine.old m → m.state.stopped ≡ false
         → Did (StandsAs T.Store) (IsSince T.Store) engine.old engine.new m (λ now. LineRanAs
         (slots_of (T.slots engine.old.store)) m now line.now K.tells (K.held sink.old) (K.held sink.new) result) }
-    ensures skipped { IsSkipped line.now
+    ensures skipped { IsSkipped line.now → first_ready engine.old.memory.waits ≡ None
         → (engine.new ≡ engine.old) × (sink.new ≡ sink.old) × (is_err result ≡ false) }
     ensures same { SameStore T.Store engine.old.store engine.new.store }
     ensures disk { IsCountedBeside (T.faults engine.old.store) (T.faults engine.new.store) (err_is is_disk result)
@@ -263,20 +323,20 @@ pub fn do_line<T: Store, K: Sink>(
     }
 }
 
-/// Does one line of a script, which comes without its LF, and puts its replies when it is done. Of a line of more than
-/// 512 bytes any 513 or more of its first bytes serve.
+/// Does one line of a script, which comes without its LF, and the writes that it has made ready, and puts the replies
+/// when all is done. Of a line of more than 512 bytes any 513 or more of its first bytes serve.
 pub fn step<T: Store, K: Sink>(
     engine: &mut Engine<T>,
     line: &[u8],
     sink: &mut K,
 ) -> Result<(), StepFault>
-    // For every state that the engine stands for: the replies to the line, and the state after them. At a fault of the
-    // disk they end with it. A crash may leave no more than these states.
+    // For every state that the engine stands for: the replies to the line and to the writes that were tried again, and
+    // the state after them. At a fault of the disk they end with it. A crash may leave no more than these states.
     ensures did { (m : Logged) → StandsAs T.Store engine.old m → m.state.stopped ≡ false
         → Did (StandsAs T.Store) (IsSince T.Store) engine.old engine.new m (λ now. LineRanAs
         (slots_of (T.slots engine.old.store)) m now line.now K.tells (K.held sink.old) (K.held sink.new) result) }
-    // A line that is empty or a remark leaves all as it is, and the sink isn't called.
-    ensures skipped { IsSkipped line.now
+    // A line that is empty or a remark leaves all as it is where no session is ready, and the sink isn't called.
+    ensures skipped { IsSkipped line.now → first_ready engine.old.memory.waits ≡ None
         → (engine.new ≡ engine.old) × (sink.new ≡ sink.old) × (is_err result ≡ false) }
     ensures same { SameStore T.Store engine.old.store engine.new.store }
     ensures disk { IsCountedBeside (T.faults engine.old.store) (T.faults engine.new.store) (err_is is_disk result)

@@ -1,6 +1,6 @@
 //! The replies of a line, which wait until it is done and are put in few pieces. `line` tells them.
 ghost use Rattle.std.specs.Prelude.{◌≡◌, ◌+◌, ◌≤◌, ◌++◌, ℕ, List, length, [], OnOk, OnErr};
-ghost use Rattle.std.specs.Prelude.{IsTrue, ◌↔◌, Option, None, Some, false};
+ghost use Rattle.std.specs.Prelude.{IsTrue, ◌↔◌, Option, None, Some, false, IfErr};
 ghost use Rattle.std.specs.Result.{is_err};
 ghost use Rattle.arrayvec.specs.ArrayVec.{array_vec_len};
 ghost use Rattle.rb_base.specs.Counts.{IsCounted, IsCountedAs, err_is};
@@ -23,10 +23,19 @@ use rb_stream::Sink;
 /// The most bytes of one reply.
 const REPLY_BYTES: usize = 512;
 
-/// The most bytes of replies that wait.
-const WAITING_BYTES: usize = 65_536;
+/// The most bytes of a line's own replies that wait.
+pub const OWN_BYTES: usize = 65_536;
 
-/// What waits to be put: at most 64 KiB.
+/// How many writes are ready at most: one of each session.
+pub const MOST_READY: usize = 16;
+
+/// The most bytes of replies that wait. Behind the line's own those to the writes that it has made ready have room, so
+/// none of them is sent while they are tried again.
+const WAITING_BYTES: usize = 73_728;
+
+const _: () = prove!(OWN_BYTES + MOST_READY * REPLY_BYTES == WAITING_BYTES);
+
+/// What waits to be put: 64 KiB, and sixteen replies.
 pub type Waiting = ArrayVec<u8, WAITING_BYTES>;
 
 /// The answer of a write.
@@ -115,6 +124,19 @@ pub fn reply_of(s: Option<u16>, answer: Answer, row: &Row) -> Reply<'_>
     }
 }
 
+/// The reply to session `s` of a write that was tried again.
+fn reply_to_write(s: u16, outcome: Result<Wrote, Refusal>) -> Reply<'static>
+    ensures text { text_of_reply result ≡ reply_text (Some s) (write_answer outcome) }
+    ensures fault { tells_fault result ≡ is_fault (write_answer outcome) }
+    ensures fits { FitsALine result }
+{
+    match outcome {
+        Ok(Wrote::Done) => Reply::Done { s: Some(s) },
+        Ok(Wrote::Waits { on }) => Reply::Waits { s, on },
+        Err(why) => Reply::Refused { s: Some(s), why },
+    }
+}
+
 /// Whether a reply tells of a fault of the disk.
 fn is_disk_fault(reply: &Reply<'_>) -> bool
     ensures { result ≡ tells_fault reply.now }
@@ -140,11 +162,24 @@ pub fn send<K: Sink>(waiting: &mut Waiting, sink: &mut K) -> Result<(), Failed>
     Ok(())
 }
 
-/// Whether one more reply has room.
+/// Whether one more reply of the line itself has room.
 fn has_room(waiting: &Waiting) -> bool
-    ensures { IsTrue result ↔ (array_vec_len waiting.now + REPLY_BYTES ≤ WAITING_BYTES) }
+    ensures { IsTrue result ↔ (array_vec_len waiting.now + REPLY_BYTES ≤ OWN_BYTES) }
 {
-    waiting.len() + REPLY_BYTES <= waiting.capacity()
+    waiting.len() + REPLY_BYTES <= OWN_BYTES
+}
+
+/// Adds the text of a reply to what waits.
+fn keep(reply: &Reply<'_>, waiting: &mut Waiting)
+    requires fits { FitsALine reply.now }
+    requires room { array_vec_len waiting.old + REPLY_BYTES ≤ WAITING_BYTES }
+    ensures items { waiting.new.items ≡ waiting.old.items ++ text_of_reply reply.now }
+    ensures len { array_vec_len waiting.new ≤ array_vec_len waiting.old + REPLY_BYTES }
+{
+    let mut text = ArrayVec::new();
+    print(reply, &mut text);
+    let fits = waiting.try_extend_from_slice(text.as_slice()).is_ok();
+    prove!(fits);
 }
 
 /// Adds the text of a reply to what waits, which is sent first where it leaves no room.
@@ -153,19 +188,19 @@ fn add<K: Sink>(reply: &Reply<'_>, waiting: &mut Waiting, sink: &mut K) -> Resul
     ensures added { OnOk result (Added (text_of_reply reply.now) K.tells (K.held sink.old) waiting.old.items
         (K.held sink.new) waiting.new.items) }
     ensures lost { OnErr result (Lost K.tells (K.held sink.old) waiting.old.items (K.held sink.new)) }
+    ensures room { OnOk result (array_vec_len waiting.new ≤ OWN_BYTES) }
+    ensures first { waiting.old.items ≡ [] → is_err result ≡ false }
     ensures counted { IsCounted (K.faults sink.old) (K.faults sink.new) result }
 {
-    let mut text = ArrayVec::new();
-    print(reply, &mut text);
     if !has_room(waiting) {
         send(waiting, sink)?;
     }
-    let fits = waiting.try_extend_from_slice(text.as_slice()).is_ok();
-    prove!(fits);
+    keep(reply, waiting);
     Ok(())
 }
 
-/// Tells a reply, and ends the step where it is one of a fault of the disk.
+/// Tells a reply of the line itself, and ends the step where it is one of a fault of the disk. The first one of a line
+/// has room.
 pub fn tell<K: Sink>(
     reply: &Reply<'_>,
     waiting: &mut Waiting,
@@ -174,12 +209,35 @@ pub fn tell<K: Sink>(
     requires { FitsALine reply.now }
     ensures told { Told (text_of_reply reply.now) (tells_fault reply.now) K.tells (K.held sink.old) waiting.old.items
         (K.held sink.new) waiting.new.items result }
+    ensures room { OnOk result (array_vec_len waiting.new ≤ OWN_BYTES) }
+    ensures first { waiting.old.items ≡ [] → err_is is_sink result ≡ false }
     ensures sink { IsCountedAs (K.faults sink.old) (K.faults sink.new) (err_is is_sink result) }
 {
     if add(reply, waiting, sink).is_err() {
         return Err(StepFault::Sink);
     }
     if is_disk_fault(reply) {
+        return Err(StepFault::Disk);
+    }
+    Ok(())
+}
+
+/// Tells session `s` how the write came out that was tried again, and ends the step where the disk failed. The reply
+/// has room.
+pub fn tell_resumed(
+    s: u16,
+    outcome: Result<Wrote, Refusal>,
+    waiting: &mut Waiting,
+) -> Result<(), StepFault>
+    requires { array_vec_len waiting.old + REPLY_BYTES ≤ WAITING_BYTES }
+    ensures told { waiting.new.items ≡ waiting.old.items ++ reply_text (Some s) (write_answer outcome) }
+    ensures len { array_vec_len waiting.new ≤ array_vec_len waiting.old + REPLY_BYTES }
+    ensures fault { is_err result ≡ is_fault (write_answer outcome) }
+    ensures by_disk { IfErr result (λ fault. fault ≡ StepFault.Disk) }
+{
+    let reply = reply_to_write(s, outcome);
+    keep(&reply, waiting);
+    if is_disk_fault(&reply) {
         return Err(StepFault::Disk);
     }
     Ok(())

@@ -1,5 +1,5 @@
 -- The segments and homes of a new file, its past, and the machine's first state.
-use Rattle.std.specs.Prelude.{◌≡◌, ◌<◌, ℕ, false, List, [], length, replicate}
+use Rattle.std.specs.Prelude.{◌≡◌, ◌<◌, ℕ, false, List, [], length, replicate, None}
 use Rattle.rb_base.specs.Blocks.{table_blocks}
 use Rattle.rb_base.specs.declared.shape.Shape.{Shape}
 use Rattle.rb_itl.specs.declared.slots.TheConstants.{ENTRIES}
@@ -33,5 +33,7 @@ fresh_state shape sessions = record {
   commits = record { base = 0; rows = []; list = [] };
   sessions = sessions;
   books = replicate shape.segments fresh_book;
+  queue = [];
+  asked = replicate (length sessions) None;
   stopped = false;
 }

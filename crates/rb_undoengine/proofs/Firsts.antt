@@ -8,6 +8,7 @@ use Rattle.rb_model.specs.Calls as calls
 use Rattle.rb_model.specs.declared.refusal.Refusal.TheVariants as refusals
 use Rattle.rb_model.specs.Calls.{Answer, Done, Refused, first_of, needed_room, waited, write_tests}
 use Rattle.rb_model.specs.Full.{full_block}
+use Rattle.rb_model.specs.Queue.{Waiter}
 use Rattle.rb_model.specs.State.{State}
 use Rattle.rb_model.specs.NextState.{kind_by}
 use Rattle.rb_model.specs.Calls.{adds, rows_now}
@@ -33,9 +34,9 @@ kind_is (Some Delete) = refl
 kind_is None = refl
 
 -- nobody is waited for where no other session holds the key
-nobody_waits : (s : ℕ) (o : Option ℕ) (tests : List (Bool × Answer)) → ((u : ℕ) → o ≡ Some u → u ≡ s) → first_of (waited s o ++ tests) Done ≡ first_of tests Done
-nobody_waits s None tests own = refl
-nobody_waits s (Some u) tests own =
+nobody_waits : (queue : List Waiter) (s : ℕ) (o : Option ℕ) (tests : List (Bool × Answer)) → ((u : ℕ) → o ≡ Some u → u ≡ s) → first_of (waited queue s o ++ tests) Done ≡ first_of tests Done
+nobody_waits queue s None tests own = refl
+nobody_waits queue s (Some u) tests own =
     let same : u ≡ s = own u refl in
     let test : (nat_le u s && nat_le s u) ≡ true = and_from (nat_le u s) (nat_le s u) (le-leb u s (omega (arith, same))) (le-leb s u (omega (arith, same))) in
     rw test refl
@@ -76,6 +77,6 @@ module _ (h : State) (s table key g i : ℕ) (op : Option Op) where
       → first_of (write_tests h logged room g i s table key (action_by op)) Done
       ≡ answer_of Found g (made_since (book_at h.books g)) (first_of (log_tests logged room (needed_room h s g i)) Done)
   first_found logged room own =
-      nobody_waits s (holder h table key) _ own
+      nobody_waits h.queue s (holder h table key) _ own
       ∙ (first_tested (adds (action_by op)) (has_row table key (rows_now h s)) (full_block h table key) (full_slots h s table key) (is_full (book_at h.books g)) g (made_since (book_at h.books g)) (log_tests logged room (needed_room h s g i))
       ∙ ap (λ a. answer_of (tested a (has_row table key (rows_now h s)) (full_block h table key) (full_slots h s table key) (is_full (book_at h.books g))) g (made_since (book_at h.books g)) (first_of (log_tests logged room (needed_room h s g i)) Done)) (adds_is op))

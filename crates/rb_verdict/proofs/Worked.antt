@@ -18,6 +18,8 @@ two = record {
   commits = record { base = 0; rows = []; list = [] };
   sessions = no_session ∷ no_session ∷ no_session ∷ [];
   books = taken 2 1 (taken 1 0 fresh_book) ∷ [];
+  queue = [];
+  asked = None ∷ None ∷ None ∷ [];
   stopped = false;
 }
 

@@ -51,8 +51,8 @@ module _ (h h2 : State) (xids xids2 : List Xid) (env env2 : Env) (s : ℕ) (curs
   session = ap (λ (l : List Session). get_or l (s - 1) machine.no_session) sessions ∙ set_this h.sessions s ended low high
 
   -- the table with the session's cursors in memory passed, too
-  pub ended_remembered : (table : List KeptSession) (ms : List KeptCursor) → s ≤ SESSIONS → Remembers h xids env table → AreCursors h2 xids2 env2 s (map passed ms) (map not_present cursors) → Remembers h2 xids2 env2 (with_kept table s (kept.ended ms))
-  ended_remembered table ms few is are = table_last h h2 xids xids2 env env2 s moves table (kept.ended ms) low few is (record {
+  pub ended_remembered : (table : List KeptSession) (ms : List KeptCursor) (k : KeptSession) → s ≤ SESSIONS → Remembers h xids env table → AreCursors h2 xids2 env2 s (map passed ms) (map not_present cursors) → Remembers h2 xids2 env2 (with_kept table s (kept.ended ms k))
+  ended_remembered table ms k few is are = table_last h h2 xids xids2 env env2 s moves table (kept.ended ms k) low few is (record {
     id = id_none h2 env2 s none;
     count = sym (ap (λ (z : Session). length z.own) session);
     savepoints = sym (ap (λ (z : Session). z.savepoints) session);
@@ -85,7 +85,7 @@ module _ (h h2 : State) (s g i : ℕ) (b : Book) (books : h2.books ≡ set h.boo
 -- a commit
 module _ (h : State) (xids : List Xid) (blocks now : List (List ℕ)) (table : List KeptSession) (s : ℕ) (x : Xid) (stand : BlocksStand h xids blocks) (is : Remembers h xids (env_of h.shape blocks) table) (low : 1 ≤ s) (high : s ≤ SESSIONS) (own : (kept_at table s).own ≡ Some x) (ids : KeepsIds h (env_of h.shape blocks) (env_of h.shape now)) where
   abbrev h2 : State
-  h2 = next.committed h s x.seg x.slot
+  h2 = next.freeing (next.committed h s x.seg x.slot) s
 
   abbrev env : Env
   env = env_of h.shape blocks
@@ -128,7 +128,7 @@ module _ (h : State) (xids : List Xid) (blocks now : List (List ℕ)) (table : L
       (freed h h2 xids blocks s x.seg x.slot (finished n x.slot b) stand its.few its.there its.owned refl (finished_here n x.slot b (few_slots stand x.seg its.there x.slot its.few)) (finished_else n x.slot b))
       (others_own h h2 s x.seg x.slot (finished n x.slot b) refl its.owned (finished_else n x.slot b) (λ j. fewer_finished n x.slot j b))
       (λ u t ne. others_owned h h2 s x.seg x.slot (finished n x.slot b) refl its.owned (finished_else n x.slot b) (λ j. fewer_finished n x.slot j b) u t) ids
-      table (kept_at table s).cursors high is
+      table (kept_at table s).cursors (kept_at table s) high is
       (cursors_passed h h2 xids (xids ++ x ∷ []) env env2 s cursor_now (kept_at table s).cursors (cursors_of h s) of_session.cursors)
 
 -- The end of a transaction without a number, which leaves the session no slot.
@@ -149,7 +149,7 @@ module _ (h h2 : State) (xids : List Xid) (blocks : List (List ℕ)) (env2 : Env
     ids = λ i lt. refl;
   }
 
-  ends_remembered : EndsAs h s cursors h2 → (ms : List KeptCursor) → ((keeps : Keeps h h2 xids xids) → AreCursors h2 xids env2 s (map passed ms) (map not_present cursors)) → Remembers h2 xids env2 (with_kept table s (kept.ended ms))
+  ends_remembered : EndsAs h s cursors h2 → (ms : List KeptCursor) → ((keeps : Keeps h h2 xids xids) → AreCursors h2 xids env2 s (map passed ms) (map not_present cursors)) → Remembers h2 xids env2 (with_kept table s (kept.ended ms (kept_at table s)))
   ends_remembered (inl f) ms are =
       let g : ℕ = f.0 in
       let i : ℕ = f.1 in
@@ -165,7 +165,7 @@ module _ (h h2 : State) (xids : List Xid) (blocks : List (List ℕ)) (env2 : Env
       (freed h h2 xids blocks s g i (left i b) stand few there slot books (left_here i b (few_slots stand g there i few)) (left_else i b))
       (others_own h h2 s g i (left i b) books slot (left_else i b) (λ j. fewer_left i j b))
       (λ u t ne. others_owned h h2 s g i (left i b) books slot (left_else i b) (λ j. fewer_left i j b) u t) ids
-      table ms high is (are keeps)
+      table ms (kept_at table s) high is (are keeps)
   ends_remembered (inr f) ms are =
       let books : h2.books ≡ h.books = ap (λ (z : State). z.books) f.1 in
       let keeps : Keeps h h2 xids xids = kept_by (ap (λ (z : State). z.shape) f.1) (ap (λ (z : State). z.commits) f.1) in
@@ -173,7 +173,7 @@ module _ (h h2 : State) (xids : List Xid) (blocks : List (List ℕ)) (env2 : Env
       (λ t o at. f.0 t o (sym (same_owners h h2 t books) ∙ at))
       (λ u t ne o. record { owner = o.owner; at = same_owners h h2 t books ∙ o.at; session = o.session })
       (λ u t ne o. record { owner = o.owner; at = sym (same_owners h h2 t books) ∙ o.at; session = o.session }) ids
-      table ms high is (are keeps)
+      table ms (kept_at table s) high is (are keeps)
 
 -- the cursors of a transaction without changes, as it ends
 cursors_ended : (h h2 : State) (xids : List Xid) (env env2 : Env) (s : ℕ) → session_own h s ≡ [] → Keeps h h2 xids xids → (ms : List KeptCursor) (cs : List machine.Cursor) → AreCursors h xids env s ms cs → AreCursors h2 xids env2 s (map passed ms) (map not_present cs)

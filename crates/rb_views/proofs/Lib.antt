@@ -8,6 +8,7 @@ pub mod Lasting
 pub mod Lost
 pub mod Opened
 pub mod Owning
+pub mod Queues
 pub mod Savepoints
 pub mod Scanning
 pub mod Seeing

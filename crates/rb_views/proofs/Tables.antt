@@ -70,7 +70,7 @@ module _ (h h2 : State) (xids xids2 : List Xid) (env env2 : Env) (s : ℕ) (move
     owned = λ x is. let f : (t : ℕ) × Owns h u t × (x ≡ env.xid t) = id.owned x is in (f.0, moves.owns u f.0 ne f.1, f.2 ∙ sym (moves.ids u f.0 f.1));
   }
 
-  session_last : (u : ℕ) → 1 ≤ u → u ≢ s → (k : KeptSession) → IsSession h xids env u k → IsSession h2 xids2 env2 u k
+  pub session_last : (u : ℕ) → 1 ≤ u → u ≢ s → (k : KeptSession) → IsSession h xids env u k → IsSession h2 xids2 env2 u k
   session_last u low ne k is = record {
     id = id_last u ne k.own is.id;
     count = is.count ∙ ap (λ (x : Session). length x.own) (sym (moves.others u low ne));

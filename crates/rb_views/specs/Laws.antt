@@ -1,9 +1,11 @@
 -- What holds of a table of sessions that remembers a state for which blocks stand.
 use Rattle.std.specs.Prelude.{◌≡◌, ◌<◌, ◌≤◌, ℕ, true, List, [], ◌∷◌, ◌++◌}
-use Rattle.std.specs.Prelude.{length, replicate, Some, None}
+use Rattle.std.specs.Prelude.{length, replicate, Option, Some, None}
 use Rattle.rb_base.specs.declared.ids.Xid.{Xid}
 use Rattle.rb_image.specs.Made.{KeepsIds}
 use Rattle.rb_model.specs.Book.{Book, book_at}
+use Rattle.rb_model.specs.Change.{Asked}
+use Rattle.rb_model.specs.Queue.{Waiter}
 use Rattle.rb_model.specs.Calls.{Action, End, Given, HasNoSlot, WritesIn, next_row}
 use Rattle.rb_model.specs.NextState.{EndsAs, change_in, cursors_of, left_open, opened_cursor, rolled_to, with_cursors}
 use Rattle.rb_model.specs.NextState.{with_savepoint, with_savepoints, with_taken, without_cursor, written}
@@ -49,7 +51,7 @@ CommittedIsRemembered = (h : State) (xids : List Xid) (blocks now : List (List �
     → BlocksStand h xids blocks → Remembers h xids (env_of h.shape blocks) table_of → 1 ≤ s → s ≤ SESSIONS
     → (kept_at table_of s).own ≡ Some x
     → KeepsIds h (env_of h.shape blocks) (env_of h.shape now)
-    → Remembers (machine.committed h s x.seg x.slot) (xids ++ x ∷ []) (env_of h.shape now)
+    → Remembers (machine.freeing (machine.committed h s x.seg x.slot) s) (xids ++ x ∷ []) (env_of h.shape now)
     (with_kept table_of s (kept.committed (kept_at table_of s)))
 
 -- The end of a transaction of session s without changes, whose cursors stay open.
@@ -69,6 +71,18 @@ RolledBackIsRemembered = (h h2 : State) (xids : List Xid) (blocks now : List (Li
     → EndsAs h s (left_open 0 (cursors_of h s)) h2
     → KeepsIds h (env_of h.shape blocks) (env_of h.shape now)
     → Remembers h2 xids (env_of h.shape now) (with_kept table_of s (kept.rolled_back (kept_at table_of s)))
+
+-- Another queue, and other writes that sessions wait with.
+abbrev pub QueueIsRemembered : Type 0
+QueueIsRemembered = (h : State) (queue : List Waiter) (asked : List (Option Asked)) (xids : List Xid) (env : Env)
+    (table_of : List KeptSession) → Remembers h xids env table_of
+    → Remembers (record h { queue = queue; asked = asked }) xids env table_of
+
+-- A write that session s waits with.
+abbrev pub HeldIsRemembered : Type 0
+HeldIsRemembered = (h : State) (xids : List Xid) (env : Env) (table_of : List KeptSession) (s : ℕ) (asked : Asked)
+    → 1 ≤ s → s ≤ SESSIONS → Remembers h xids env table_of
+    → Remembers h xids env (with_kept table_of s (kept.holding asked (kept_at table_of s)))
 
 -- the cursor in memory that session s opens now
 abbrev pub cursor_opened : State → KeptSession → ℕ → ℕ → ℕ → Cursor

@@ -1,3 +1,4 @@
 pub mod Counts
 pub mod Rings
+pub mod Turns
 pub mod Waiting

@@ -1,5 +1,5 @@
 //! Who waits for whom: the queue of sessions whose write found its key held by another one. It knows no row and no
-//! transaction. It is for the engine, in which no session waits yet.
+//! transaction. It is for the engine.
 #![tactic(auto)]
 
 mod laws;

@@ -1,11 +1,11 @@
-use Rattle.std.proofs.Common.{◌≡◌, true, false, not, List, [], None, Result, Ok, Err, refl, sym, ◌∙◌, ap, subst, arith}
+use Rattle.std.proofs.Common.{inl, ◌≡◌, true, false, not, List, [], None, Result, Ok, Err, refl, sym, ◌∙◌, ap, subst, arith}
 use Rattle.rb_base.specs.Logs.{Laws, Logs}
 use Rattle.rb_cr.specs.Faults.{is_fault}
 use Rattle.rb_cr.specs.declared.faults.CrFault.{CrFault}
 use Rattle.rb_engine.specs.Does.{EngineView, Kept}
 use Rattle.rb_engine.proofs.DoesLemmas.{does_fault, does_refused, does_refused_late, fault_survives}
 use Rattle.rb_engine.proofs.FetchLemmas.{answer_by, does_end, does_old, needs_lost, not_old, same_old, does_row}
-use Rattle.rb_engine.proofs.StepLemmas.{few_less, fit_at, fit_taken, in_step_moved, named_in}
+use Rattle.rb_engine.proofs.StepLemmas.{few_less, fit_at, fit_taken, in_step_moved, queue_moved, named_in}
 use Rattle.rb_model.specs.Calls as machine
 use Rattle.rb_model.specs.Calls.{Answer, Refused, Reply, early_tests, none_applies, next_row}
 use Rattle.rb_model.specs.Names.{name_text}
@@ -69,7 +69,7 @@ returns-in-Ok-Row-clause-step g c =
     let kept = c.args.memory.now in
     let old = c.args.store.now in
     let new = c.next_row.new.store in
-    let now : Kept = record { sessions = c.took.new.self; scn = c.memory.inside.scn; stopped = c.memory.inside.stopped } in
+    let now : Kept = record { sessions = c.took.new.self; waits = c.memory.inside.waits; scn = c.memory.inside.scn; stopped = c.memory.inside.stopped } in
     let logs = c.in-Ok-Row.ensures.logs in
     let step = c.requires.step in
     let at = kept_at kept.sessions c.args.s in
@@ -80,6 +80,7 @@ returns-in-Ok-Row-clause-step g c =
     let there = c.in_default.ensures.session in
     let moved = moved_by g c in
     in_step_moved s kept now old new step logs.same_shape c.args.s there k fit moved
+    (queue_moved s kept now old new step logs.same_shape c.args.s there k fit moved refl (inl (ap (λ (k : Kept). k.waits) c.memory.view_is)))
     (λ _. (logs.failed, few_less s kept now old new step logs.same_shape c.args.s there k fit moved c.in_default.ensures.going (let n = logs.number refl in omega (arith, n))))
 
 pub returns-in-Ok-Row-clause-did : goal.returns-in-Ok-Row-clause-did
@@ -92,10 +93,10 @@ returns-in-Ok-Row-clause-did g c = λ h st.
     let table_is : c.memory.inside.sessions ≡ kept.sessions = ap (λ (k : Kept). k.sessions) c.memory.view_is in
     let is_named = ap (λ (l : List KeptSession). named name (kept_at l c.args.s).cursors) (sym table_is) ∙ (sym c.cursor.ensures ∙ c.in-Some.is) in
     does_row s (laws_of g) h (record { memory = kept; store = c.args.store.now }) st (sym st.knows.stopped ∙ e.going) c.args.s e.session name (e.granted h st.knows) c.in-Some.cursor is_named
-    (record { memory = record { sessions = c.took.new.self; scn = c.memory.inside.scn; stopped = c.memory.inside.stopped }; store = c.next_row.new.store })
+    (record { memory = record { sessions = c.took.new.self; waits = c.memory.inside.waits; scn = c.memory.inside.scn; stopped = c.memory.inside.stopped }; store = c.next_row.new.store })
     (record { shape = logs.same_shape; slots = logs.same_slots }) logs c.next_row.new.row (Ok c.in-Ok-Row.field-0)
     (λ xids reader. c.in-Ok-Row.ensures.found st.told h xids st.shape reader) (ap (λ (f : Fetched). let r : Result Fetched CrFault = Ok f in r) c.in-Ok-Row.field-0-is)
-    (ap (λ (k : Kept). k.stopped) c.memory.view_is) (ap (λ (k : Kept). k.scn) c.memory.view_is) (moved_by g c)
+    (ap (λ (k : Kept). k.stopped) c.memory.view_is) (ap (λ (k : Kept). k.scn) c.memory.view_is) (ap (λ (k : Kept). k.waits) c.memory.view_is) (moved_by g c)
 
 pub returns-in-Ok-End-clause-did : goal.returns-in-Ok-End-clause-did
 returns-in-Ok-End-clause-did g c = λ h st.

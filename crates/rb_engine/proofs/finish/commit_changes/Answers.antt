@@ -1,14 +1,15 @@
-use Rattle.std.proofs.Common.{◌≡◌, ◌<◌, length, Some, false, true, refl, sym, ◌∙◌, ap, subst, arith}
+use Rattle.std.proofs.Common.{inr, ◌≡◌, ◌<◌, length, Some, false, true, refl, sym, ◌∙◌, ap, subst, arith}
 use Rattle.rb_base.specs.Logs.{Laws}
 use Rattle.rb_engine.specs.Does.{Does, EngineView, IsInStep, Kept, Stands}
 use Rattle.rb_model.specs.Calls as machine
 use Rattle.rb_model.specs.Calls.{Reply, is_empty}
+use Rattle.rb_model.specs.Queue.{is_queued}
 use Rattle.rb_model.specs.State.{session_own}
 use Rattle.rb_model.specs.declared.refusal.Refusal.TheVariants.{DiskFault}
 use Rattle.rb_sessions.specs.Kept.{KeptSession, kept_at}
 use Rattle.rb_sessions.specs.Kept as table
 use Rattle.rb_engine.proofs.FinishLemmas.{count_is, does_committed, does_not, goes, next_known, no_early, own_id, room_one, who_in}
-use Rattle.rb_engine.proofs.StepLemmas.{few_less, fit_at, fit_committed, in_step_moved}
+use Rattle.rb_engine.proofs.StepLemmas.{few_less, fit_at, fit_committed, in_step_moved, queue_moved}
 use Rattle.rb_engine.proofs.finish.commit_changes.Given.{Over}
 use Rattle.rb_engine.proofs.finish.commit_changes.Goals as goal
 
@@ -33,8 +34,8 @@ returns-in-Ok-clause-step g c =
     let s = g.T.Store in
     let store = c.args.store.now in
     let new = c.commit_and_flush.new.store in
-    let inside : Kept = record { sessions = c.memory.inside.sessions; scn = c.memory.inside.scn; stopped = c.memory.inside.stopped } in
-    let now : Kept = record { sessions = c.commit.new.self; scn = c.saturating_add-scn.result; stopped = c.memory.inside.stopped } in
+    let inside : Kept = record { sessions = c.memory.inside.sessions; waits = c.memory.inside.waits; scn = c.memory.inside.scn; stopped = c.memory.inside.stopped } in
+    let now : Kept = record { sessions = c.commit.new.self; waits = c.free.new.self; scn = c.saturating_add-scn.result; stopped = c.memory.inside.stopped } in
     let is : IsInStep s inside store = subst (λ (k : Kept). IsInStep s k store) (sym c.memory.view_is) c.requires.step in
     let own : (kept_at inside.sessions c.args.s).own ≡ Some c.args.xid = ap (λ (k : Kept). (kept_at k.sessions c.args.s).own) c.memory.view_is ∙ c.requires.own in
     let k = kept_at inside.sessions c.args.s in
@@ -43,41 +44,44 @@ returns-in-Ok-clause-step g c =
     let some : 0 < (kept_at inside.sessions c.args.s).count = subst (λ (k : Kept). 0 < (kept_at k.sessions c.args.s).count) (sym c.memory.view_is) c.requires.some in
     let lsn = c.in-Ok.ensures.lsn in
     in_step_moved s inside now store new is shape c.args.s c.requires.session (table.committed k) fit c.commit.ensures
+    (queue_moved s inside now store new is shape c.args.s c.requires.session (table.committed k) fit c.commit.ensures refl (inr c.free.ensures))
     (λ going. (c.in-Ok.ensures.failed, few_less s inside now store new is shape c.args.s c.requires.session (table.committed k) fit c.commit.ensures going (omega (arith, lsn, some))))
 
 pub returns-in-Ok-clause-did : goal.returns-in-Ok-clause-did
 returns-in-Ok-clause-did g c = λ h st.
     let s = g.T.Store in
     let store = c.args.store.now in
-    let inside : Kept = record { sessions = c.memory.inside.sessions; scn = c.memory.inside.scn; stopped = c.memory.inside.stopped } in
+    let inside : Kept = record { sessions = c.memory.inside.sessions; waits = c.memory.inside.waits; scn = c.memory.inside.scn; stopped = c.memory.inside.stopped } in
     let old : EngineView _ = record { memory = inside; store = store } in
     let here : Stands s h old = subst (λ (k : Kept). Stands s h (record { memory = k; store = store })) (sym c.memory.view_is) st in
     let own : (kept_at inside.sessions c.args.s).own ≡ Some c.args.xid = ap (λ (k : Kept). (kept_at k.sessions c.args.s).own) c.memory.view_is ∙ c.requires.own in
     let going : h.stopped ≡ false = sym st.knows.stopped ∙ c.requires.going in
     let there = c.requires.session in
+    let out : is_queued c.args.s inside.waits ≡ false = ap (λ (k : Kept). is_queued c.args.s k.waits) c.memory.view_is ∙ c.requires.free in
     let low = (subst (λ (k : Kept). IsInStep s k store) (sym c.memory.view_is) c.requires.step) in
     let count = count_is s st.told (laws_of g) h old c.args.s c.args.xid here going there own in
-    let new : EngineView _ = record { memory = record { sessions = c.commit.new.self; scn = c.saturating_add-scn.result; stopped = c.memory.inside.stopped }; store = c.commit_and_flush.new.store } in
+    let new : EngineView _ = record { memory = record { sessions = c.commit.new.self; waits = c.free.new.self; scn = c.saturating_add-scn.result; stopped = c.memory.inside.stopped }; store = c.commit_and_flush.new.store } in
     let held = goes s st.told (laws_of g) h old c.args.s c.args.xid here going there own in
     let busy : 0 < (kept_at inside.sessions c.args.s).count = subst (λ (k : Kept). 0 < (kept_at k.sessions c.args.s).count) (sym c.memory.view_is) c.requires.some in
     let some : 0 < length (session_own h c.args.s) = omega (arith, busy, count) in
     let number = next_known s st.told (laws_of g) h old c.args.s c.args.xid here going there own c.saturating_add-scn.result (let few = low.few (ap (λ (k : Kept). k.stopped) c.memory.view_is ∙ c.requires.going) in omega (arith, few)) c.saturating_add-scn.ensures in
     let who = who_in s st.told (laws_of g) h old c.args.s c.args.xid here going there own in
     subst (λ (k : Kept). Does s h (machine.Commit c.args.s) (machine.Numbered c.saturating_add-scn.result) (record { memory = k; store = store }) new) c.memory.view_is
-    (does_committed s st.told (laws_of g) h old c.args.s c.args.xid here going there own some new c.commit_and_flush.ensures.same c.saturating_add-scn.result number
+    (does_committed s st.told (laws_of g) h old c.args.s c.args.xid here going there own some new c.commit_and_flush.ensures.same out c.saturating_add-scn.result number
     (c.in-Ok.ensures.commits st.told h held.xids c.args.s st.shape held.holds who.0 who.1 (own_id s st.told (laws_of g) h old c.args.s c.args.xid here going there own) some number)
-    c.commit.ensures refl refl)
+    c.commit.ensures c.free.ensures refl refl)
 
 pub returns-in-Err-clause-did : goal.returns-in-Err-clause-did
 returns-in-Err-clause-did g c = λ h st.
     let s = g.T.Store in
     let store = c.args.store.now in
-    let inside : Kept = record { sessions = c.memory.inside.sessions; scn = c.memory.inside.scn; stopped = c.memory.inside.stopped } in
+    let inside : Kept = record { sessions = c.memory.inside.sessions; waits = c.memory.inside.waits; scn = c.memory.inside.scn; stopped = c.memory.inside.stopped } in
     let old : EngineView _ = record { memory = inside; store = store } in
     let here : Stands s h old = subst (λ (k : Kept). Stands s h (record { memory = k; store = store })) (sym c.memory.view_is) st in
     let own : (kept_at inside.sessions c.args.s).own ≡ Some c.args.xid = ap (λ (k : Kept). (kept_at k.sessions c.args.s).own) c.memory.view_is ∙ c.requires.own in
     let going : h.stopped ≡ false = sym st.knows.stopped ∙ c.requires.going in
     let there = c.requires.session in
+    let out : is_queued c.args.s inside.waits ≡ false = ap (λ (k : Kept). is_queued c.args.s k.waits) c.memory.view_is ∙ c.requires.free in
     let low = (subst (λ (k : Kept). IsInStep s k store) (sym c.memory.view_is) c.requires.step) in
     let count = count_is s st.told (laws_of g) h old c.args.s c.args.xid here going there own in
     let new : EngineView _ = record { memory = c.stop.new.self; store = c.commit_and_flush.new.store } in
@@ -87,6 +91,6 @@ returns-in-Err-clause-did g c = λ h st.
     let number = next_known s st.told (laws_of g) h old c.args.s c.args.xid here going there own c.saturating_add-scn.result (let few = low.few (ap (λ (k : Kept). k.stopped) c.memory.view_is ∙ c.requires.going) in omega (arith, few)) c.saturating_add-scn.ensures in
     let who = who_in s st.told (laws_of g) h old c.args.s c.args.xid here going there own in
     subst (λ (k : Kept). Does s h (machine.Commit c.args.s) (machine.Refused DiskFault) (record { memory = k; store = store }) new) c.memory.view_is
-    (does_not s st.told (laws_of g) h old c.args.s c.args.xid here going there own new c.commit_and_flush.ensures.same (machine.Commit c.args.s) (no_early h c.args.s there st.knows.sixteen going)
+    (does_not s st.told (laws_of g) h old c.args.s c.args.xid here going there own new c.commit_and_flush.ensures.same (machine.Commit c.args.s) (no_early h inside c.args.s here.knows going there out)
     (c.in-Err.ensures.commits st.told h held.xids c.args.s st.shape held.holds who.0 who.1 (own_id s st.told (laws_of g) h old c.args.s c.args.xid here going there own) some number)
     (c.stop.ensures ∙ ap (λ (k : Kept). let n : Kept = record k { stopped = true } in n) (sym c.memory.view_is)))

@@ -1,16 +1,17 @@
-use Rattle.std.proofs.Common.{◌≡◌, inr, [], None, false, refl, sym, ◌∙◌, ap, subst, arith}
+use Rattle.std.proofs.Common.{◌≡◌, inr, [], None, false, refl, sym, ◌∙◌, ap, subst, arith, List, map, ◌-◌}
 use Rattle.rb_base.specs.Logs.{Laws}
 use Rattle.rb_engine.specs.Does.{Does, EngineView, IsInStep, Kept, Stands}
 use Rattle.rb_model.specs.Calls as machine
 use Rattle.rb_model.specs.Calls.{Reply, is_empty}
-use Rattle.rb_model.specs.NextState.{cursors_of, ended}
+use Rattle.rb_model.specs.NextState.{cursors_of, ended, freeing}
 use Rattle.rb_sessions.specs.Kept.{KeptSession, kept_at}
 use Rattle.rb_sessions.specs.Kept as table
 use Rattle.rb_standing.specs.Standing.{env_of}
 use Rattle.rb_views.proofs.Ended.{end_remembered}
+use Rattle.rb_engine.proofs.QueueLemmas.{all_asked}
 use Rattle.rb_engine.proofs.DoesLemmas.{does_refused}
-use Rattle.rb_engine.proofs.FinishLemmas.{does_ended, no_early}
-use Rattle.rb_engine.proofs.StepLemmas.{few_less, fit_at, fit_committed, in_step_moved}
+use Rattle.rb_engine.proofs.FinishLemmas.{does_ended}
+use Rattle.rb_engine.proofs.StepLemmas.{few_less, fit_at, fit_committed, in_step_moved, queue_moved}
 use Rattle.rb_views.specs.Views.{Remembers}
 use Rattle.rb_engine.proofs.finish.do_commit.Given.{Over}
 use Rattle.rb_engine.proofs.finish.do_commit.Goals as goal
@@ -33,30 +34,32 @@ pub returns-in-None-clause-step : goal.returns-in-None-clause-step
 returns-in-None-clause-step g c =
     let s = g.T.Store in
     let store = c.args.store.now in
-    let inside : Kept = record { sessions = c.memory.inside.sessions; scn = c.memory.inside.scn; stopped = c.memory.inside.stopped } in
+    let inside : Kept = record { sessions = c.memory.inside.sessions; waits = c.memory.inside.waits; scn = c.memory.inside.scn; stopped = c.memory.inside.stopped } in
     let is : IsInStep s inside store = subst (λ (k : Kept). IsInStep s k store) (sym c.memory.view_is) c.requires.step in
-    let now : Kept = record { sessions = c.commit.new.self; scn = c.memory.inside.scn; stopped = c.memory.inside.stopped } in
+    let now : Kept = record { sessions = c.commit.new.self; waits = c.free.new.self; scn = c.memory.inside.scn; stopped = c.memory.inside.stopped } in
     let k = kept_at inside.sessions c.args.s in
     let fit = fit_committed (s.shape_of store) k (fit_at s inside store is c.args.s) in
     in_step_moved s inside now store store is refl c.args.s c.in_default.ensures.session (table.committed k) fit c.commit.ensures
+    (queue_moved s inside now store store is refl c.args.s c.in_default.ensures.session (table.committed k) fit c.commit.ensures refl (inr c.free.ensures))
     (λ going. (is.going going, few_less s inside now store store is refl c.args.s c.in_default.ensures.session (table.committed k) fit c.commit.ensures going (omega arith)))
 
 pub returns-in-None-clause-did : goal.returns-in-None-clause-did
 returns-in-None-clause-did g c = λ h st.
     let s = g.T.Store in
     let store = c.args.store.now in
-    let inside : Kept = record { sessions = c.memory.inside.sessions; scn = c.memory.inside.scn; stopped = c.memory.inside.stopped } in
+    let inside : Kept = record { sessions = c.memory.inside.sessions; waits = c.memory.inside.waits; scn = c.memory.inside.scn; stopped = c.memory.inside.stopped } in
     let is : IsInStep s inside store = subst (λ (k : Kept). IsInStep s k store) (sym c.memory.view_is) c.requires.step in
-    let now : Kept = record { sessions = c.commit.new.self; scn = c.memory.inside.scn; stopped = c.memory.inside.stopped } in
+    let now : Kept = record { sessions = c.commit.new.self; waits = c.free.new.self; scn = c.memory.inside.scn; stopped = c.memory.inside.stopped } in
     let old : EngineView _ = record { memory = inside; store = store } in
     let new : EngineView _ = record { memory = now; store = store } in
     let here : Stands s h old = subst (λ (k : Kept). Stands s h (record { memory = k; store = store })) (sym c.memory.view_is) st in
     let going : h.stopped ≡ false = sym st.knows.stopped ∙ c.in_default.ensures.going in
     let there = c.in_default.ensures.session in
     let own : (kept_at inside.sessions c.args.s).own ≡ None = sym c.session-session.ensures.own ∙ c.in-None.is in
-    let early = no_early h c.args.s there st.knows.sixteen going in
+    let early = c.in_default.ensures.granted h st.knows in
     subst (λ (k : Kept). Does s h (machine.Commit c.args.s) machine.Done (record { memory = k; store = store }) new) c.memory.view_is
     (does_ended s (laws_of g) h (machine.Commit c.args.s) c.args.s (cursors_of h c.args.s) old new here going there (is.going (ap (λ (k : Kept). k.stopped) c.memory.view_is ∙ c.in_default.ensures.going)) (λ now s t k a is done. cc) own (is.idle c.args.s own) early
     (λ free none. Reply.later [] early refl (rw none refl)) (λ free none. inr (none, inr (free, refl))) (λ free none. inr (none, inr (free, refl)))
-    (λ free empty xids stand knows. subst (Remembers (ended h c.args.s (cursors_of h c.args.s)) xids (env_of h.shape (s.blocks store))) (sym c.commit.ensures) (end_remembered h (ended h c.args.s (cursors_of h c.args.s)) xids (s.blocks store) (env_of h.shape (s.blocks store)) inside.sessions c.args.s stand knows there.0 there.1 empty (inr (free, refl)) (λ u t owns. refl)))
+    (λ free empty xids stand knows. subst (Remembers (freeing (ended h c.args.s (cursors_of h c.args.s)) c.args.s) xids (env_of h.shape (s.blocks store))) (sym c.commit.ensures) (end_remembered h (freeing (ended h c.args.s (cursors_of h c.args.s)) c.args.s) xids (s.blocks store) (env_of h.shape (s.blocks store)) inside.sessions c.args.s stand knows there.0 there.1 empty (inr (free, refl)) (λ u t owns. refl)))
+    (ap (λ (l : List KeptSession). map (λ k. k.asked) l) c.commit.ensures ∙ all_asked inside.sessions (c.args.s - 1) (table.committed (kept_at inside.sessions c.args.s)) refl) c.free.ensures
     refl refl refl)

@@ -1,14 +1,15 @@
-use Rattle.std.proofs.Common.{◌≡◌, Some, length, false, refl, sym, ◌∙◌, ap, subst, arith}
+use Rattle.std.proofs.Common.{inr, ◌≡◌, Some, length, false, refl, sym, ◌∙◌, ap, subst, arith}
 use Rattle.rb_base.specs.Logs.{Laws}
 use Rattle.rb_engine.specs.Does.{Does, EngineView, IsInStep, Kept, Stands, slots_had}
 use Rattle.rb_model.specs.Calls as machine
 use Rattle.rb_model.specs.Calls.{Reply, is_empty}
+use Rattle.rb_model.specs.Queue.{is_queued}
 use Rattle.rb_model.specs.State.{session_own}
 use Rattle.rb_sessions.specs.Kept.{KeptSession, kept_at}
 use Rattle.rb_sessions.specs.Kept as table
 use Rattle.rb_engine.proofs.FinishLemmas.{count_is, does_not, goes, no_early, no_items, own_id, room_one, who_in}
 use Rattle.rb_engine.proofs.RollbackLemmas.{does_left}
-use Rattle.rb_engine.proofs.StepLemmas.{few_less, fit_at, fit_committed, in_step_moved}
+use Rattle.rb_engine.proofs.StepLemmas.{few_less, fit_at, fit_committed, in_step_moved, queue_moved}
 use Rattle.rb_engine.proofs.finish.end_without_changes.Given.{Over}
 use Rattle.rb_engine.proofs.finish.end_without_changes.Goals as goal
 
@@ -33,8 +34,8 @@ returns-clause-step g c =
     let s = g.T.Store in
     let store = c.args.store.now in
     let new = c.put_all_back.new.store in
-    let inside : Kept = record { sessions = c.memory.inside.sessions; scn = c.memory.inside.scn; stopped = c.memory.inside.stopped } in
-    let now : Kept = record { sessions = c.commit.new.self; scn = c.memory.inside.scn; stopped = c.memory.inside.stopped } in
+    let inside : Kept = record { sessions = c.memory.inside.sessions; waits = c.memory.inside.waits; scn = c.memory.inside.scn; stopped = c.memory.inside.stopped } in
+    let now : Kept = record { sessions = c.commit.new.self; waits = c.free.new.self; scn = c.memory.inside.scn; stopped = c.memory.inside.stopped } in
     let is : IsInStep s inside store = subst (λ (k : Kept). IsInStep s k store) (sym c.memory.view_is) c.requires.step in
     let own : (kept_at inside.sessions c.args.s).own ≡ Some c.args.xid = ap (λ (k : Kept). (kept_at k.sessions c.args.s).own) c.memory.view_is ∙ c.requires.own in
     let k = kept_at inside.sessions c.args.s in
@@ -43,28 +44,30 @@ returns-clause-step g c =
     let slot : slots_had k.own ≡ 1 = ap slots_had own in
     let lsn = c.in-Ok.ensures.lsn in
     in_step_moved s inside now store new is shape c.args.s c.requires.session (table.committed k) fit c.commit.ensures
+    (queue_moved s inside now store new is shape c.args.s c.requires.session (table.committed k) fit c.commit.ensures refl (inr c.free.ensures))
     (λ going. (c.in-Ok.ensures.failed, few_less s inside now store new is shape c.args.s c.requires.session (table.committed k) fit c.commit.ensures going (omega (arith, lsn, slot))))
 
 pub returns-clause-did : goal.returns-clause-did
 returns-clause-did g c = λ h st.
     let s = g.T.Store in
     let store = c.args.store.now in
-    let inside : Kept = record { sessions = c.memory.inside.sessions; scn = c.memory.inside.scn; stopped = c.memory.inside.stopped } in
+    let inside : Kept = record { sessions = c.memory.inside.sessions; waits = c.memory.inside.waits; scn = c.memory.inside.scn; stopped = c.memory.inside.stopped } in
     let old : EngineView _ = record { memory = inside; store = store } in
     let here : Stands s h old = subst (λ (k : Kept). Stands s h (record { memory = k; store = store })) (sym c.memory.view_is) st in
     let own : (kept_at inside.sessions c.args.s).own ≡ Some c.args.xid = ap (λ (k : Kept). (kept_at k.sessions c.args.s).own) c.memory.view_is ∙ c.requires.own in
     let going : h.stopped ≡ false = sym st.knows.stopped ∙ c.requires.going in
     let there = c.requires.session in
+    let out : is_queued c.args.s inside.waits ≡ false = ap (λ (k : Kept). is_queued c.args.s k.waits) c.memory.view_is ∙ c.requires.free in
     let low = (subst (λ (k : Kept). IsInStep s k store) (sym c.memory.view_is) c.requires.step) in
     let count = count_is s st.told (laws_of g) h old c.args.s c.args.xid here going there own in
     let none : length (session_own h c.args.s) ≡ 0 = sym count ∙ (ap (λ (k : Kept). (kept_at k.sessions c.args.s).count) c.memory.view_is ∙ c.requires.none) in
-    let new : EngineView _ = record { memory = record { sessions = c.commit.new.self; scn = c.memory.inside.scn; stopped = c.memory.inside.stopped }; store = c.put_all_back.new.store } in
+    let new : EngineView _ = record { memory = record { sessions = c.commit.new.self; waits = c.free.new.self; scn = c.memory.inside.scn; stopped = c.memory.inside.stopped }; store = c.put_all_back.new.store } in
     let held = goes s st.told (laws_of g) h old c.args.s c.args.xid here going there own in
     let who = who_in s st.told (laws_of g) h old c.args.s c.args.xid here going there own in
     subst (λ (k : Kept). Does s h (machine.Commit c.args.s) machine.Done (record { memory = k; store = store }) new) c.memory.view_is
-    (does_left s st.told (laws_of g) h old c.args.s c.args.xid here going there own new c.put_all_back.ensures.same (no_items (session_own h c.args.s) none)
+    (does_left s st.told (laws_of g) h old c.args.s c.args.xid here going there own new c.put_all_back.ensures.same out (no_items (session_own h c.args.s) none)
     (c.in-Ok.ensures.puts_back st.told h held.xids c.args.s st.shape held.holds who.0 who.1 (own_id s st.told (laws_of g) h old c.args.s c.args.xid here going there own) going none)
-    c.commit.ensures refl refl)
+    c.commit.ensures c.free.ensures refl refl)
 
 pub returns-in-Err-clause-did : goal.returns-in-Err-clause-did
 returns-in-Err-clause-did g c = λ h st.
@@ -78,6 +81,6 @@ returns-in-Err-clause-did g c = λ h st.
     let new : EngineView _ = record { memory = c.stop.new.self; store = c.put_all_back.new.store } in
     let held = goes s st.told (laws_of g) h old c.args.s c.args.xid st going there own in
     let who = who_in s st.told (laws_of g) h old c.args.s c.args.xid st going there own in
-    does_not s st.told (laws_of g) h old c.args.s c.args.xid st going there own new c.put_all_back.ensures.same (machine.Commit c.args.s) (no_early h c.args.s there st.knows.sixteen going)
+    does_not s st.told (laws_of g) h old c.args.s c.args.xid st going there own new c.put_all_back.ensures.same (machine.Commit c.args.s) (no_early h c.args.memory.now c.args.s st.knows going there c.requires.free)
     (c.in-Err.ensures.puts_back st.told h held.xids c.args.s st.shape held.holds who.0 who.1 (own_id s st.told (laws_of g) h old c.args.s c.args.xid st going there own) going none (Some (machine.Commit c.args.s)))
     c.stop.ensures

@@ -1,4 +1,4 @@
-use Rattle.std.proofs.Common.{◌≡◌, Some, false, true, refl, sym, ◌∙◌, ap, subst, arith}
+use Rattle.std.proofs.Common.{inr, ◌≡◌, Some, false, true, refl, sym, ◌∙◌, ap, subst, arith}
 use Rattle.rb_base.specs.Logs.{Laws}
 use Rattle.rb_engine.specs.Does.{Does, EngineView, IsInStep, Kept, Stands, slots_had}
 use Rattle.rb_model.specs.Calls as machine
@@ -6,9 +6,10 @@ use Rattle.rb_model.specs.Calls.{Reply, is_empty}
 use Rattle.rb_model.specs.declared.refusal.Refusal.TheVariants.{DiskFault}
 use Rattle.rb_sessions.specs.Kept.{KeptSession, kept_at}
 use Rattle.rb_sessions.specs.Kept as table
+use Rattle.rb_model.specs.Queue.{is_queued}
 use Rattle.rb_engine.proofs.FinishLemmas.{count_is, does_not, goes, no_early, own_id, who_in}
 use Rattle.rb_engine.proofs.RollbackLemmas.{does_back, room_back}
-use Rattle.rb_engine.proofs.StepLemmas.{few_less, fit_at, fit_rolled_back, in_step_moved}
+use Rattle.rb_engine.proofs.StepLemmas.{few_less, fit_at, fit_rolled_back, in_step_moved, queue_moved}
 use Rattle.rb_engine.proofs.finish.roll_back_changes.Given.{Over}
 use Rattle.rb_engine.proofs.finish.roll_back_changes.Goals as goal
 
@@ -25,7 +26,7 @@ pub returns-then-room-from-clause-did : goal.returns-then-room-from-clause-did
 returns-then-room-from-clause-did g c = λ h st.
     let s = g.T.Store in
     let store = c.args.store.now in
-    let inside : Kept = record { sessions = c.memory.inside.sessions; scn = c.memory.inside.scn; stopped = c.memory.inside.stopped } in
+    let inside : Kept = record { sessions = c.memory.inside.sessions; waits = c.memory.inside.waits; scn = c.memory.inside.scn; stopped = c.memory.inside.stopped } in
     let old : EngineView _ = record { memory = inside; store = store } in
     let here : Stands s h old = subst (λ (k : Kept). Stands s h (record { memory = k; store = store })) (sym c.memory.view_is) st in
     let own : (kept_at inside.sessions c.args.s).own ≡ Some c.args.xid = ap (λ (k : Kept). (kept_at k.sessions c.args.s).own) c.memory.view_is ∙ c.requires.own in
@@ -41,8 +42,8 @@ returns-in-Ok-clause-step g c =
     let s = g.T.Store in
     let store = c.args.store.now in
     let new = c.put_all_back.new.store in
-    let inside : Kept = record { sessions = c.memory.inside.sessions; scn = c.memory.inside.scn; stopped = c.memory.inside.stopped } in
-    let now : Kept = record { sessions = c.rollback.new.self; scn = c.memory.inside.scn; stopped = c.memory.inside.stopped } in
+    let inside : Kept = record { sessions = c.memory.inside.sessions; waits = c.memory.inside.waits; scn = c.memory.inside.scn; stopped = c.memory.inside.stopped } in
+    let now : Kept = record { sessions = c.rollback.new.self; waits = c.free.new.self; scn = c.memory.inside.scn; stopped = c.memory.inside.stopped } in
     let is : IsInStep s inside store = subst (λ (k : Kept). IsInStep s k store) (sym c.memory.view_is) c.requires.step in
     let own : (kept_at inside.sessions c.args.s).own ≡ Some c.args.xid = ap (λ (k : Kept). (kept_at k.sessions c.args.s).own) c.memory.view_is ∙ c.requires.own in
     let k = kept_at inside.sessions c.args.s in
@@ -52,44 +53,47 @@ returns-in-Ok-clause-step g c =
     let lsn = c.in-Ok.ensures.lsn in
     let length_is = c.session-count.ensures.length in
     in_step_moved s inside now store new is shape c.args.s c.requires.session (table.rolled_back k) fit c.rollback.ensures
+    (queue_moved s inside now store new is shape c.args.s c.requires.session (table.rolled_back k) fit c.rollback.ensures refl (inr c.free.ensures))
     (λ going. (c.in-Ok.ensures.failed, few_less s inside now store new is shape c.args.s c.requires.session (table.rolled_back k) fit c.rollback.ensures going (omega (arith, lsn, slot, length_is))))
 
 pub returns-in-Ok-clause-did : goal.returns-in-Ok-clause-did
 returns-in-Ok-clause-did g c = λ h st.
     let s = g.T.Store in
     let store = c.args.store.now in
-    let inside : Kept = record { sessions = c.memory.inside.sessions; scn = c.memory.inside.scn; stopped = c.memory.inside.stopped } in
+    let inside : Kept = record { sessions = c.memory.inside.sessions; waits = c.memory.inside.waits; scn = c.memory.inside.scn; stopped = c.memory.inside.stopped } in
     let old : EngineView _ = record { memory = inside; store = store } in
     let here : Stands s h old = subst (λ (k : Kept). Stands s h (record { memory = k; store = store })) (sym c.memory.view_is) st in
     let own : (kept_at inside.sessions c.args.s).own ≡ Some c.args.xid = ap (λ (k : Kept). (kept_at k.sessions c.args.s).own) c.memory.view_is ∙ c.requires.own in
     let going : h.stopped ≡ false = sym st.knows.stopped ∙ c.requires.going in
     let there = c.requires.session in
+    let out : is_queued c.args.s inside.waits ≡ false = ap (λ (k : Kept). is_queued c.args.s k.waits) c.memory.view_is ∙ c.requires.free in
     let low = (subst (λ (k : Kept). IsInStep s k store) (sym c.memory.view_is) c.requires.step) in
     let count = count_is s st.told (laws_of g) h old c.args.s c.args.xid here going there own in
-    let new : EngineView _ = record { memory = record { sessions = c.rollback.new.self; scn = c.memory.inside.scn; stopped = c.memory.inside.stopped }; store = c.put_all_back.new.store } in
+    let new : EngineView _ = record { memory = record { sessions = c.rollback.new.self; waits = c.free.new.self; scn = c.memory.inside.scn; stopped = c.memory.inside.stopped }; store = c.put_all_back.new.store } in
     let held = goes s st.told (laws_of g) h old c.args.s c.args.xid here going there own in
     let who = who_in s st.told (laws_of g) h old c.args.s c.args.xid here going there own in
     subst (λ (k : Kept). Does s h (machine.Rollback c.args.s) machine.Done (record { memory = k; store = store }) new) c.memory.view_is
-    (does_back s st.told (laws_of g) h old c.args.s c.args.xid here going there own new c.put_all_back.ensures.same
+    (does_back s st.told (laws_of g) h old c.args.s c.args.xid here going there own new c.put_all_back.ensures.same out
     (c.in-Ok.ensures.puts_back st.told h held.xids c.args.s st.shape held.holds who.0 who.1 (own_id s st.told (laws_of g) h old c.args.s c.args.xid here going there own) going (sym count ∙ sym c.session-count.ensures.length))
-    c.rollback.ensures refl refl)
+    c.rollback.ensures c.free.ensures refl refl)
 
 pub returns-in-Err-clause-did : goal.returns-in-Err-clause-did
 returns-in-Err-clause-did g c = λ h st.
     let s = g.T.Store in
     let store = c.args.store.now in
-    let inside : Kept = record { sessions = c.memory.inside.sessions; scn = c.memory.inside.scn; stopped = c.memory.inside.stopped } in
+    let inside : Kept = record { sessions = c.memory.inside.sessions; waits = c.memory.inside.waits; scn = c.memory.inside.scn; stopped = c.memory.inside.stopped } in
     let old : EngineView _ = record { memory = inside; store = store } in
     let here : Stands s h old = subst (λ (k : Kept). Stands s h (record { memory = k; store = store })) (sym c.memory.view_is) st in
     let own : (kept_at inside.sessions c.args.s).own ≡ Some c.args.xid = ap (λ (k : Kept). (kept_at k.sessions c.args.s).own) c.memory.view_is ∙ c.requires.own in
     let going : h.stopped ≡ false = sym st.knows.stopped ∙ c.requires.going in
     let there = c.requires.session in
+    let out : is_queued c.args.s inside.waits ≡ false = ap (λ (k : Kept). is_queued c.args.s k.waits) c.memory.view_is ∙ c.requires.free in
     let low = (subst (λ (k : Kept). IsInStep s k store) (sym c.memory.view_is) c.requires.step) in
     let count = count_is s st.told (laws_of g) h old c.args.s c.args.xid here going there own in
     let new : EngineView _ = record { memory = c.stop.new.self; store = c.put_all_back.new.store } in
     let held = goes s st.told (laws_of g) h old c.args.s c.args.xid here going there own in
     let who = who_in s st.told (laws_of g) h old c.args.s c.args.xid here going there own in
     subst (λ (k : Kept). Does s h (machine.Rollback c.args.s) (machine.Refused DiskFault) (record { memory = k; store = store }) new) c.memory.view_is
-    (does_not s st.told (laws_of g) h old c.args.s c.args.xid here going there own new c.put_all_back.ensures.same (machine.Rollback c.args.s) (no_early h c.args.s there st.knows.sixteen going)
+    (does_not s st.told (laws_of g) h old c.args.s c.args.xid here going there own new c.put_all_back.ensures.same (machine.Rollback c.args.s) (no_early h inside c.args.s here.knows going there out)
     (c.in-Err.ensures.puts_back st.told h held.xids c.args.s st.shape held.holds who.0 who.1 (own_id s st.told (laws_of g) h old c.args.s c.args.xid here going there own) going (sym count ∙ sym c.session-count.ensures.length) (Some (machine.Rollback c.args.s)))
     (c.stop.ensures ∙ ap (λ (k : Kept). let n : Kept = record k { stopped = true } in n) (sym c.memory.view_is)))

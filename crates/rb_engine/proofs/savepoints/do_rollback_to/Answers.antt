@@ -1,4 +1,4 @@
-use Rattle.std.proofs.Common.{◌≡◌, ℕ, zero, suc, List, length, [], Some, None, Option, take, refl, sym, ◌∙◌, ap, subst, arith}
+use Rattle.std.proofs.Common.{inl, ◌≡◌, ℕ, zero, suc, List, length, [], Some, None, Option, take, refl, sym, ◌∙◌, ap, subst, arith, map, ◌-◌}
 use Rattle.rb_base.specs.Logs.{Laws, no_logs}
 use Rattle.rb_engine.specs.Does.{Does, Goes, IsInStep, Kept, Stands}
 use Rattle.rb_model.specs.Calls as machine
@@ -8,14 +8,15 @@ use Rattle.rb_model.specs.Names.{name_text}
 use Rattle.rb_model.specs.NextState as next
 use Rattle.rb_model.specs.State.{Savepoint, Session, savepoint_named, savepoint_of, session_of, session_own}
 use Rattle.rb_model.specs.declared.refusal.Refusal.TheVariants.{NoSavepoint}
-use Rattle.rb_sessions.specs.Kept.{back_at, kept_at, rolled_to, with_kept}
+use Rattle.rb_sessions.specs.Kept.{KeptSession, back_at, kept_at, rolled_to, with_kept}
 use Rattle.rb_standing.specs.Standing.{env_of}
 use Rattle.rb_views.proofs.Savepoints.{cut_remembered}
 use Rattle.rb_views.specs.Views.{Remembers}
+use Rattle.rb_engine.proofs.QueueLemmas.{all_asked}
 use Rattle.rb_engine.proofs.DoesLemmas.{does_refused, does_refused_late, does_session}
-use Rattle.rb_engine.proofs.FinishLemmas.{no_early, no_items}
+use Rattle.rb_engine.proofs.FinishLemmas.{no_items}
 use Rattle.rb_engine.proofs.SavepointLemmas.{kept_none, kept_some}
-use Rattle.rb_engine.proofs.StepLemmas.{few_less, fit_at, fit_rolled_to, in_step_moved}
+use Rattle.rb_engine.proofs.StepLemmas.{few_less, fit_at, fit_rolled_to, in_step_moved, queue_moved}
 use Rattle.rb_engine.proofs.savepoints.do_rollback_to.Given.{Over}
 use Rattle.rb_engine.proofs.savepoints.do_rollback_to.Goals as goal
 
@@ -45,14 +46,14 @@ returns-in_default-savepoint-clause-did g c = λ h st.
     let same : kept ≡ (session_of h c.args.s).savepoints = ap (λ (k : Kept). (kept_at k.sessions c.args.s).savepoints) c.memory.view_is ∙ (goes.remembers.each c.args.s there.0 there.1).savepoints in
     let none : savepoint_of h c.args.s name ≡ None = ap (savepoint_named name) (sym same) ∙ kept_none (savepoint_named name kept) (sym c.savepoint.ensures ∙ c.in_default-savepoint.is) in
     does_refused_late s (laws_of g) h call NoSavepoint (record { memory = c.args.memory.now; store = c.args.store.now }) st c.requires.step.going
-    (Reply.later (name_tests h call) (no_early h c.args.s there st.knows.sixteen going) refl (rw none refl)) (λ clash. cc)
+    (Reply.later (name_tests h call) (c.in_default.ensures.granted h st.knows) refl (rw none refl)) (λ clash. cc)
 
 pub returns-in-None-clause-step : goal.returns-in-None-clause-step
 returns-in-None-clause-step g c =
     let s = g.T.Store in
     let store = c.args.store.now in
-    let inside : Kept = record { sessions = c.memory.inside.sessions; scn = c.memory.inside.scn; stopped = c.memory.inside.stopped } in
-    let now : Kept = record { sessions = c.rollback_to.new.self; scn = c.memory.inside.scn; stopped = c.memory.inside.stopped } in
+    let inside : Kept = record { sessions = c.memory.inside.sessions; waits = c.memory.inside.waits; scn = c.memory.inside.scn; stopped = c.memory.inside.stopped } in
+    let now : Kept = record { sessions = c.rollback_to.new.self; waits = c.memory.inside.waits; scn = c.memory.inside.scn; stopped = c.memory.inside.stopped } in
     let is : IsInStep s inside store = subst (λ (k : Kept). IsInStep s k store) (sym c.memory.view_is) c.requires.step in
     let k = kept_at inside.sessions c.args.s in
     let name = name_text c.args.name.now in
@@ -61,14 +62,15 @@ returns-in-None-clause-step g c =
     let fit = fit_rolled_to (s.shape_of store) name first k (fit_at s inside store is c.args.s) in
     let moved : now.sessions ≡ with_kept inside.sessions c.args.s (rolled_to name first k) = c.rollback_to.ensures ∙ ap (λ (o : Option Savepoint). with_kept inside.sessions c.args.s (back_at name o k)) found.1 in
     in_step_moved s inside now store store is refl c.args.s c.in_default.ensures.session (rolled_to name first k) fit moved
+    (queue_moved s inside now store store is refl c.args.s c.in_default.ensures.session (rolled_to name first k) fit moved refl (inl refl))
     (λ going. (is.going going, few_less s inside now store store is refl c.args.s c.in_default.ensures.session (rolled_to name first k) fit moved going (omega arith)))
 
 pub returns-in-None-clause-did : goal.returns-in-None-clause-did
 returns-in-None-clause-did g c = λ h st.
     let s = g.T.Store in
     let store = c.args.store.now in
-    let inside : Kept = record { sessions = c.memory.inside.sessions; scn = c.memory.inside.scn; stopped = c.memory.inside.stopped } in
-    let now : Kept = record { sessions = c.rollback_to.new.self; scn = c.memory.inside.scn; stopped = c.memory.inside.stopped } in
+    let inside : Kept = record { sessions = c.memory.inside.sessions; waits = c.memory.inside.waits; scn = c.memory.inside.scn; stopped = c.memory.inside.stopped } in
+    let now : Kept = record { sessions = c.rollback_to.new.self; waits = c.memory.inside.waits; scn = c.memory.inside.scn; stopped = c.memory.inside.stopped } in
     let is : IsInStep s inside store = subst (λ (k : Kept). IsInStep s k store) (sym c.memory.view_is) c.requires.step in
     let here : Stands s h (record { memory = inside; store = store }) = subst (λ (k : Kept). Stands s h (record { memory = k; store = store })) (sym c.memory.view_is) st in
     let there = c.in_default.ensures.session in
@@ -89,7 +91,8 @@ returns-in-None-clause-did g c = λ h st.
     subst (λ (k : Kept). Does s h call machine.Done (record { memory = k; store = store }) (record { memory = now; store = store })) c.memory.view_is
     (does_session s st.told (laws_of g) h call machine.Done c.args.s session (record { memory = inside; store = store }) (record { memory = now; store = store }) here going
     (there.0, (let n = st.knows.sixteen in omega (arith, there, n))) own
-    (Reply.later (name_tests h call) (no_early h c.args.s there st.knows.sixteen going) refl (rw at refl)) (p, at, refl) (p, at, (let none = ap (λ (l : List Change). length l) empty in omega (arith, none))) (λ s t k a is done. cc) refl refl refl
+    (Reply.later (name_tests h call) (c.in_default.ensures.granted h st.knows) refl (rw at refl)) (p, at, refl) (p, at, (let none = ap (λ (l : List Change). length l) empty in omega (arith, none))) (λ s t k a is done. cc) refl refl refl refl
+    (ap (λ (l : List KeptSession). map (λ k. k.asked) l) moved ∙ all_asked inside.sessions (c.args.s - 1) (rolled_to name p.kept k) refl)
     (λ xids stand knows. subst (Remembers (next.rolled_to h c.args.s name p.kept) xids (env_of h.shape (s.blocks store))) (sym moved)
     (cut_remembered h xids (env_of h.shape (s.blocks store)) (env_of h.shape (s.blocks store)) c.args.s name p.kept there.0 (λ u t owns. refl) inside.sessions there.1 knows))
     (no_logs s store (is.going (ap (λ (k : Kept). k.stopped) c.memory.view_is ∙ c.in_default.ensures.going)))

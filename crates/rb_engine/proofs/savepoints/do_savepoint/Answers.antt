@@ -1,4 +1,4 @@
-use Rattle.std.proofs.Common.{◌≡◌, ◌<◌, List, length, None, refl, sym, ◌∙◌, ap, subst, arith}
+use Rattle.std.proofs.Common.{inl, ◌≡◌, ◌<◌, List, length, None, refl, sym, ◌∙◌, ap, subst, arith, map, ◌-◌}
 use Rattle.std.proofs.lemmas.Bool.{le-leb, lt-leb}
 use Rattle.rb_base.specs.Logs.{Laws, no_logs}
 use Rattle.rb_engine.specs.Does.{Does, Goes, IsInStep, Kept, Stands}
@@ -12,10 +12,10 @@ use Rattle.rb_sessions.specs.Kept.{KeptSession, kept_at, with_savepoint}
 use Rattle.rb_standing.specs.Standing.{env_of}
 use Rattle.rb_views.proofs.Savepoints.{savepoint_remembered}
 use Rattle.rb_views.specs.Views.{Remembers}
+use Rattle.rb_engine.proofs.QueueLemmas.{all_asked}
 use Rattle.rb_engine.proofs.DoesLemmas.{does_refused, does_refused_late, does_session, none_of, some_of}
-use Rattle.rb_engine.proofs.FinishLemmas.{no_early}
 use Rattle.rb_engine.proofs.SavepointLemmas.{kept_none, kept_some, others_all, others_few, others_fewer}
-use Rattle.rb_engine.proofs.StepLemmas.{few_less, fit_at, fit_savepoint, in_step_moved}
+use Rattle.rb_engine.proofs.StepLemmas.{few_less, fit_at, fit_savepoint, in_step_moved, queue_moved}
 use Rattle.rb_engine.proofs.savepoints.do_savepoint.Given.{Over}
 use Rattle.rb_engine.proofs.savepoints.do_savepoint.Goals as goal
 use Rattle.rb_engine.proofs.savepoints.do_savepoint.Goals.{else-count-ge-SAVEPOINTS-via-then-count-ge-SAVEPOINTS+else-is_none, else-count-ge-SAVEPOINTS-via-else-count-ge-SAVEPOINTS}
@@ -50,7 +50,7 @@ returns-then-is_none-clause-did g c = λ h st.
     let count = ap (λ (l : List Savepoint). length l) others in
     let told = c.session-count.ensures.savepoints.0 in
     does_refused_late s (laws_of g) h call TooManySavepoints (record { memory = c.args.memory.now; store = c.args.store.now }) st c.requires.step.going
-    (Reply.later (name_tests h call) (no_early h c.args.s there st.knows.sixteen going) refl (rw (le-leb 16 (length (without_savepoint name (session_of h c.args.s).savepoints)) (omega (arith, count, told, c.if-count-ge-SAVEPOINTS.true))) refl)) (λ clash. cc)
+    (Reply.later (name_tests h call) (c.in_default.ensures.granted h st.knows) refl (rw (le-leb 16 (length (without_savepoint name (session_of h c.args.s).savepoints)) (omega (arith, count, told, c.if-count-ge-SAVEPOINTS.true))) refl)) (λ clash. cc)
 
 pub set_savepoint-requires-clause-room : goal.set_savepoint-requires-clause-room
 set_savepoint-requires-clause-room g c =
@@ -70,21 +70,22 @@ pub returns-clause-step : goal.returns-clause-step
 returns-clause-step g c =
     let s = g.T.Store in
     let store = c.args.store.now in
-    let old : Kept = record { sessions = c.memory.inside.sessions; scn = c.memory.inside.scn; stopped = c.memory.inside.stopped } in
-    let now : Kept = record { sessions = c.set_savepoint.new.self; scn = c.memory.inside.scn; stopped = c.memory.inside.stopped } in
+    let old : Kept = record { sessions = c.memory.inside.sessions; waits = c.memory.inside.waits; scn = c.memory.inside.scn; stopped = c.memory.inside.stopped } in
+    let now : Kept = record { sessions = c.set_savepoint.new.self; waits = c.memory.inside.waits; scn = c.memory.inside.scn; stopped = c.memory.inside.stopped } in
     let is : IsInStep s old store = subst (λ (k : Kept). IsInStep s k store) (sym c.memory.view_is) c.requires.step in
     let k = kept_at c.memory.inside.sessions c.args.s in
     let name = name_text c.args.name.now in
     let fit = fit_savepoint (s.shape_of store) name k (fit_at s old store is c.args.s) in
     in_step_moved s old now store store is refl c.args.s c.in_default.ensures.session (with_savepoint name k) fit c.set_savepoint.ensures
+    (queue_moved s old now store store is refl c.args.s c.in_default.ensures.session (with_savepoint name k) fit c.set_savepoint.ensures refl (inl refl))
     (λ going. (is.going going, few_less s old now store store is refl c.args.s c.in_default.ensures.session (with_savepoint name k) fit c.set_savepoint.ensures going (omega arith)))
 
 pub returns-clause-did : goal.returns-clause-did
 returns-clause-did g c = λ h st.
     let s = g.T.Store in
     let store = c.args.store.now in
-    let old : Kept = record { sessions = c.memory.inside.sessions; scn = c.memory.inside.scn; stopped = c.memory.inside.stopped } in
-    let now : Kept = record { sessions = c.set_savepoint.new.self; scn = c.memory.inside.scn; stopped = c.memory.inside.stopped } in
+    let old : Kept = record { sessions = c.memory.inside.sessions; waits = c.memory.inside.waits; scn = c.memory.inside.scn; stopped = c.memory.inside.stopped } in
+    let now : Kept = record { sessions = c.set_savepoint.new.self; waits = c.memory.inside.waits; scn = c.memory.inside.scn; stopped = c.memory.inside.stopped } in
     let here : Stands s h (record { memory = old; store = store }) = subst (λ (k : Kept). Stands s h (record { memory = k; store = store })) (sym c.memory.view_is) st in
     let there = c.in_default.ensures.session in
     let going = sym st.knows.stopped ∙ c.in_default.ensures.going in
@@ -98,7 +99,8 @@ returns-clause-did g c = λ h st.
     subst (λ (k : Kept). Does s h call machine.Done (record { memory = k; store = store }) (record { memory = now; store = store })) c.memory.view_is
     (does_session s st.told (laws_of g) h call machine.Done c.args.s (record (session_of h c.args.s) { savepoints = savepoints }) (record { memory = old; store = store }) (record { memory = now; store = store }) here going
     (there.0, (let n = st.knows.sixteen in omega (arith, there, n))) refl
-    (Reply.later (name_tests h call) (no_early h c.args.s there st.knows.sixteen going) refl (rw (lt-leb 16 (length (without_savepoint name (session_of h c.args.s).savepoints)) few) refl)) refl refl (λ s t k a is done. cc) refl refl refl
+    (Reply.later (name_tests h call) (c.in_default.ensures.granted h st.knows) refl (rw (lt-leb 16 (length (without_savepoint name (session_of h c.args.s).savepoints)) few) refl)) refl refl (λ s t k a is done. cc) refl refl refl refl
+    (ap (λ (l : List KeptSession). map (λ k. k.asked) l) c.set_savepoint.ensures ∙ all_asked old.sessions (c.args.s - 1) (with_savepoint name (kept_at old.sessions c.args.s)) refl)
     (λ xids stand is. subst (Remembers (next.with_savepoints h c.args.s savepoints) xids (env_of h.shape (s.blocks store))) (sym c.set_savepoint.ensures) (savepoint_remembered h xids (env_of h.shape (s.blocks store)) old.sessions c.args.s name is there.0 there.1))
     (no_logs s store ((subst (λ (k : Kept). IsInStep s k store) (sym c.memory.view_is) c.requires.step).going (ap (λ (k : Kept). k.stopped) c.memory.view_is ∙ c.in_default.ensures.going)))
     (record { shape = refl; slots = refl }))

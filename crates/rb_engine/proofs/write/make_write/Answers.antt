@@ -1,4 +1,4 @@
-use Rattle.std.proofs.Common.{◌≡◌, ⊎_elim, true, false, List, Option, refl, sym, ◌∙◌, ap, subst, arith}
+use Rattle.std.proofs.Common.{inl, ◌≡◌, ⊎_elim, true, false, List, Option, refl, sym, ◌∙◌, ap, subst, arith}
 use Rattle.std.proofs.lemmas.Bool.{cases_Bool, false≢true}
 use Rattle.rb_base.specs.Logs.{Laws}
 use Rattle.rb_base.specs.declared.ids.Xid.{Xid}
@@ -9,7 +9,7 @@ use Rattle.rb_model.specs.Calls.{is_disk_fault}
 use Rattle.rb_model.specs.declared.refusal.Refusal.{Refusal}
 use Rattle.rb_sessions.specs.Kept.{KeptSession, kept_at, with_kept, wrote}
 use Rattle.rb_undoengine.specs.Steps.{IsAbout, refusal_of}
-use Rattle.rb_engine.proofs.StepLemmas.{few_wrote, fit_at, fit_wrote, in_step_moved, in_step_same}
+use Rattle.rb_engine.proofs.StepLemmas.{few_wrote, fit_at, fit_wrote, in_step_moved, queue_moved, in_step_same}
 use Rattle.rb_engine.proofs.WriteLemmas.{about, failed_is, few_group, step_done, step_failed, step_refused, the_failure}
 use Rattle.rb_engine.proofs.write.make_write.Given.{Over}
 use Rattle.rb_engine.proofs.write.make_write.Goals as goal
@@ -27,7 +27,7 @@ pub returns-in-Ok-clause-step : goal.returns-in-Ok-clause-step
 returns-in-Ok-clause-step g c =
     let s = g.T.Store in
     let kept = c.args.memory.now in
-    let now : Kept = record { sessions = c.wrote.new.self; scn = c.memory.inside.scn; stopped = c.memory.inside.stopped } in
+    let now : Kept = record { sessions = c.wrote.new.self; waits = c.memory.inside.waits; scn = c.memory.inside.scn; stopped = c.memory.inside.stopped } in
     let old = c.args.store.now in
     let new = c.write_step.new.store in
     let u = c.args.s in
@@ -41,6 +41,7 @@ returns-in-Ok-clause-step g c =
     let number = logs.1.number refl in
     let one = few_group logs.0 in
     in_step_moved s kept now old new step logs.1.same_shape u c.requires.session k fit moved
+    (queue_moved s kept now old new step logs.1.same_shape u c.requires.session k fit moved refl (inl (ap (λ (m : Kept). m.waits) c.memory.view_is)))
     (λ _. (logs.1.failed, few_wrote s kept now old new step logs.1.same_shape u c.requires.session k fit moved (omega (arith, number, one, room.0)) fit.small))
 
 pub returns-in-Ok-clause-did : goal.returns-in-Ok-clause-did
@@ -49,7 +50,7 @@ returns-in-Ok-clause-did g c = λ h st early others.
     let kept = c.args.memory.now in
     let u = c.args.s in
     let old : EngineView _ = record { memory = kept; store = c.args.store.now } in
-    let new : EngineView _ = record { memory = record { sessions = c.wrote.new.self; scn = c.memory.inside.scn; stopped = c.memory.inside.stopped }; store = c.write_step.new.store } in
+    let new : EngineView _ = record { memory = record { sessions = c.wrote.new.self; waits = c.memory.inside.waits; scn = c.memory.inside.scn; stopped = c.memory.inside.stopped }; store = c.write_step.new.store } in
     let going : h.stopped ≡ false = sym st.knows.stopped ∙ c.requires.going in
     let logs = c.in-Ok.ensures.logs in
     let goes : Goes s h old = st.goes going in
@@ -61,7 +62,7 @@ returns-in-Ok-clause-did g c = λ h st early others.
     step_done s st.told (laws_of g) h old st going u c.args.table c.args.key action c.requires.session early new (record { shape = logs.1.same_shape; slots = logs.1.same_slots }) c.in-Ok.xid
     (c.in-Ok.ensures.gives st.told h goes.xids u is st.shape (omega (arith, sixteen, c.requires.session.1)) others goes.holds.logged (omega (arith, sixteen)))
     (c.wrote.ensures ∙ ap (λ (l : List KeptSession). with_kept l u (wrote c.in-Ok.xid (kept_at l u))) table)
-    (ap (λ (m : Kept). m.scn) c.memory.view_is) (ap (λ (m : Kept). m.stopped) c.memory.view_is)
+    (ap (λ (m : Kept). m.waits) c.memory.view_is) (ap (λ (m : Kept). m.scn) c.memory.view_is) (ap (λ (m : Kept). m.stopped) c.memory.view_is)
 
 pub returns-in-Err-clause-step : goal.returns-in-Err-clause-step
 returns-in-Err-clause-step g c =
@@ -77,13 +78,13 @@ returns-in-Err-clause-step g c =
     ⊎_elim
     (λ (is : is_disk_fault c.refuse.result ≡ true).
     let stops = c.refuse.ensures.stopped is in
-    in_step_same s kept now old new step logs.1.same_shape (ap (λ (m : Kept). m.sessions) stops)
+    in_step_same s kept now old new step logs.1.same_shape (ap (λ (m : Kept). m.sessions) stops) (ap (λ (m : Kept). m.waits) stops)
     (λ goes. absurd (false≢true (sym goes ∙ ap (λ (m : Kept). m.stopped) stops))))
     (λ (is : is_disk_fault c.refuse.result ≡ false).
     let same = c.refuse.ensures.same is in
     let loaded = c.in-Err.ensures.unchanged (sym (failed_is fault) ∙ (ap is_disk_fault (sym why) ∙ is)) in
     let number = loaded.number refl in
-    in_step_same s kept now old new step logs.1.same_shape (ap (λ (m : Kept). m.sessions) same)
+    in_step_same s kept now old new step logs.1.same_shape (ap (λ (m : Kept). m.sessions) same) (ap (λ (m : Kept). m.waits) same)
     (λ goes. (loaded.failed, omega (arith, number), c.requires.going)))
     (cases_Bool (is_disk_fault c.refuse.result))
 

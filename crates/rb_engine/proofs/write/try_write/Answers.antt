@@ -4,10 +4,10 @@ use Rattle.rb_engine.specs.Does.{EngineView, Goes}
 use Rattle.rb_engine.specs.Scanning.{OtherHolds}
 use Rattle.rb_model.specs.Answers.{action_by, write_answer}
 use Rattle.rb_model.specs.Calls as machine
-use Rattle.rb_sessions.specs.Kept.{kept_at}
+use Rattle.rb_sessions.specs.Kept.{asked_of_pending, kept_at}
 use Rattle.rb_undoengine.proofs.Somewhere.{somewhere}
 use Rattle.rb_engine.proofs.DoesLemmas.{does_fault, fault_survives}
-use Rattle.rb_engine.proofs.WriteLemmas.{about, does_after, stands_loaded, step_waits}
+use Rattle.rb_engine.proofs.WriteLemmas.{about, does_after, stands_loaded, step_waited, waited_in_step}
 use Rattle.rb_engine.proofs.write.try_write.Given.{Over}
 use Rattle.rb_engine.proofs.write.try_write.Goals as goal
 
@@ -36,7 +36,7 @@ returns-in-Ok-Some-clause-did g c = λ h st early.
     let s = g.T.Store in
     let u = c.args.s in
     let old : EngineView _ = record { memory = c.args.memory.now; store = c.args.store.now } in
-    let new : EngineView _ = record { memory = c.args.memory.now; store = c.other_holder.new.store } in
+    let new : EngineView _ = record { memory = c.wait_for.new.memory; store = c.other_holder.new.store } in
     let going : h.stopped ≡ false = sym st.knows.stopped ∙ c.requires.going in
     let logs : Logs s old.store new.store [] true = c.in-Ok-Some.ensures.logs in
     let goes : Goes s h old = st.goes going in
@@ -46,7 +46,13 @@ returns-in-Ok-Some-clause-did g c = λ h st early.
     let held : OtherHolds h u c.args.table c.args.key (Some c.in-Ok-Some.on) = subst (λ (o : Option ℕ). OtherHolds h u c.args.table c.args.key o) c.in-Ok-Some.field-0-is
     (c.in-Ok-Some.ensures.other st.told h goes.xids goes.holds.blocks st.shape goes.remembers) in
     let place = somewhere h goes.xids (s.blocks old.store) u (kept_at old.memory.sessions u).own (about s st.told (laws_of g) h old st going u c.args.table c.args.key action there early) (omega (arith, sixteen, there.1)) (omega (arith, sixteen)) in
-    step_waits s st.told (laws_of g) h old st going u c.args.table c.args.key action there early new (record { shape = logs.same_shape; slots = logs.same_slots }) c.in-Ok-Some.on held place refl logs
+    step_waited s st.told (laws_of g) h old st going u c.args.table c.args.key action there early new (record { shape = logs.same_shape; slots = logs.same_slots }) c.in-Ok-Some.on held place c.args.memory.now refl logs
+    c.wait_for.result (asked_of_pending c.new.result) c.new.ensures c.wait_for.ensures.ring c.wait_for.ensures.waits
+
+pub returns-in-Ok-Some-clause-step : goal.returns-in-Ok-Some-clause-step
+returns-in-Ok-Some-clause-step g c =
+    waited_in_step g.T.Store c.args.memory.now c.wait_for.new.memory c.args.store.now c.other_holder.new.store c.requires.step c.requires.going c.in-Ok-Some.ensures.logs c.args.s c.in-Ok-Some.on c.requires.session c.requires.free
+    (asked_of_pending c.new.result) c.wait_for.result c.wait_for.ensures.ring c.wait_for.ensures.waits
 
 pub returns-in-Ok-None-clause-did : goal.returns-in-Ok-None-clause-did
 returns-in-Ok-None-clause-did g c = λ h st early.

@@ -109,6 +109,17 @@ returns-in-CloseCursor-clause-disk g c = counted_as _ _ _ _ (sym (c.answer_to_ca
 pub returns-in-CloseCursor-clause-fits : goal.returns-in-CloseCursor-clause-fits
 returns-in-CloseCursor-clause-fits g c = subst (λ (command : Command). FitsCaller (caller (command_of command)) c.answer_to_call-in-CloseCursor.result) (sym c.in-CloseCursor.is) (c.answer_to_call-in-CloseCursor.ensures.fits (Some c.in-CloseCursor.s))
 
+pub returns-in-Cancel-clause-did : goal.returns-in-Cancel-clause-did
+returns-in-Cancel-clause-did g c = λ h st.
+    subst (λ (command : Command). Does g.T.Store h (call_of (command_of command) c.args.k) (answer_of c.answer_to_call-in-Cancel.result c.args.row.now) c.args.engine.now c.cancel.new.self) (sym c.in-Cancel.is)
+    (subst (λ (r : Answer). Does g.T.Store h (call_of (command_of (commands.Cancel c.in-Cancel.s)) c.args.k) r c.args.engine.now c.cancel.new.self) (sym (c.answer_to_call-in-Cancel.ensures.answer c.args.row.now)) (c.cancel.ensures.did h st))
+
+pub returns-in-Cancel-clause-disk : goal.returns-in-Cancel-clause-disk
+returns-in-Cancel-clause-disk g c = counted_as _ _ _ _ (sym (c.answer_to_call-in-Cancel.ensures.fault c.args.row.now)) c.cancel.ensures.disk
+
+pub returns-in-Cancel-clause-fits : goal.returns-in-Cancel-clause-fits
+returns-in-Cancel-clause-fits g c = subst (λ (command : Command). FitsCaller (caller (command_of command)) c.answer_to_call-in-Cancel.result) (sym c.in-Cancel.is) (c.answer_to_call-in-Cancel.ensures.fits (Some c.in-Cancel.s))
+
 pub returns-in-Checkpoint-clause-did : goal.returns-in-Checkpoint-clause-did
 returns-in-Checkpoint-clause-did g c = λ h st.
     subst (λ (command : Command). Does g.T.Store h (call_of (command_of command) c.args.k) (answer_of c.answer_to_call-in-Checkpoint.result c.args.row.now) c.args.engine.now c.checkpoint.new.self) (sym c.in-Checkpoint.is)

@@ -1,11 +1,13 @@
-use Rattle.std.proofs.Common.{◌≡◌, ◌<◌, ℕ, false, Result, Err, refl, sym, ◌∙◌, ap, subst, arith}
+use Rattle.std.proofs.Common.{◌≡◌, ◌<◌, ◌≤◌, ◌+◌, ℕ, false, List, [], length, Result, Err, refl, sym, ◌∙◌, ap, subst, arith}
 use Rattle.std.proofs.lemmas.Result.{err_from_is_err_and}
+use Rattle.rb_base.specs.Counts.{err_is}
+use Rattle.rb_base.specs.declared.shape.Shape.{Shape}
 use Rattle.rb_lines.proofs.Dids.{did_as, did_on}
+use Rattle.rb_lines.specs.Faults.{is_sink}
 use Rattle.rb_lines.specs.declared.runner.StepFault.{StepFault}
 use Rattle.rb_model.specs.Lines.{call_of, caller, most_calls}
 use Rattle.rb_model.specs.Out.{CommandOut, Logged}
 use Rattle.rb_model.specs.declared.answer.Answer as code
-use Rattle.rb_base.specs.declared.shape.Shape.{Shape}
 use Rattle.rb_script.specs.Commands.{command_of}
 use Rattle.rb_engine.specs.Does.{EngineView}
 use Rattle.rb_shell.specs.Since.{IsSince, StandsAs, since_same, since_joined, slots_of}
@@ -24,6 +26,10 @@ still g e m is going = since_same e m (λ kept. record {
   only_now = g.met.T.Store.only_now;
 }) is going
 
+-- nothing that waits has room
+few_wait : {waiting : List ℕ} → waiting ≡ [] → length waiting ≤ 65536
+few_wait {waiting} none = let e = ap length none in omega (arith, e)
+
 pub loop-k-init : goal.loop-k-init
 loop-k-init g c = record {
   so_far = λ m is going. record {
@@ -32,6 +38,8 @@ loop-k-init g c = record {
     passed = still g c.args.engine.now m is going;
     ran = so_far_none m _ _ g.K.Sink.tells _ _ c.requires going;
   };
+  room = few_wait c.requires;
+  first = λ zero. c.requires;
   same = record { shape = refl; slots = refl };
   disk = refl;
   sink = refl;
@@ -46,6 +54,8 @@ loop-k-preserved g c =
           (λ n reached on. o.did n reached on)
           (λ n k so calls. calls_more m n k _ _ _ c.loop-k.k c.call_once.new.row g.K.Sink.tells _ _ _ _ _ so (ap slots_of i.same.slots) c.in_ok-call_once.field-0 (on_calls c.in_ok-call_once.field-0 c.call_once.new.row c.in-Row.is)
           calls);
+      room = o.room;
+      first = λ zero. absurd (let more : ◌≡◌ {A = ℕ} (c.loop-k.k + 1) 0 = zero in omega (arith, more));
       same = record { shape = o.same.shape ∙ i.same.shape; slots = o.same.slots ∙ i.same.slots };
       disk = o.disk.still refl refl ∙ i.disk;
       sink = o.sink.still refl ∙ i.sink;
@@ -59,6 +69,8 @@ returns-in_default g c =
       did = λ m is going. did_on c.args.engine.now c.loop-k.engine c.call_once.new.engine m _ _ _ (λ a b d h n k. since_joined a b d h n k) (i.so_far m is going) (λ n so. so.going)
           (λ n reached on. o.did n reached on)
           (λ n k so calls. calls_stop m n k _ _ _ c.loop-k.k c.call_once.new.row g.K.Sink.tells _ _ _ _ _ so (ap slots_of i.same.slots) _ _ (subst (λ (end : ℕ). c.loop-k.k < end) (c.calls_of-k-end.ensures ∙ ap (λ (x : Shape). most_calls x (command_of c.args.command.now)) (c.shape.ensures ∙ is.engine.shape)) c.loop-k-test.true) (ends_calls _ _ c.in_default.not-Row c.in_default.not-Marked) calls);
+      room = o.room;
+      one_call = λ few. refl;
       same = record { shape = o.same.shape ∙ i.same.shape; slots = o.same.slots ∙ i.same.slots };
       disk = record { no_less = omega (arith, o.disk.still refl refl, i.disk); cause = λ fault. cc; still = λ a b. o.disk.still refl refl ∙ i.disk };
       sink = record { no_less = omega (arith, o.sink.still refl, i.sink); cause = λ fault. cc; still = λ a. o.sink.still refl ∙ i.sink };
@@ -73,8 +85,17 @@ returns-in_err-call_once-clause-did g c = λ m is going.
     (λ n k so calls.
     let fault : c.call_once.result ≡ Err p.0 = c.in_err-call_once.was ∙ sym (ap (λ (x : StepFault). Err x) p.2) in
     let here = subst (λ (r : Result code.Answer StepFault). Calls n (slots_of (g.T.Store.slots c.loop-k.engine.store)) (caller (command_of c.args.command.now)) (call_of (command_of c.args.command.now) c.loop-k.k) c.call_once.new.row k g.K.Sink.tells (g.K.Sink.held c.loop-k.sink) c.loop-k.waiting.items (g.K.Sink.held c.call_once.new.sink) c.call_once.new.waiting.items r) fault calls in
-    subst (λ (r : Result (Unit {0}) StepFault). SaidAs (CommandOut m (slots_of (g.T.Store.slots c.args.engine.now.store)) (command_of c.args.command.now)) k g.K.Sink.tells (g.K.Sink.held c.args.sink.now) (g.K.Sink.held c.call_once.new.sink) c.call_once.new.waiting.items r) (sym p.1)
+    subst (λ (r : Result (Unit {0}) StepFault). SaidAs (CommandOut m (slots_of (g.T.Store.slots c.args.engine.now.store)) (command_of c.args.command.now)) m k g.K.Sink.tells (g.K.Sink.held c.args.sink.now) (g.K.Sink.held c.call_once.new.sink) c.call_once.new.waiting.items r) (sym p.1)
     (calls_fault m n k _ _ _ c.loop-k.k c.call_once.new.row g.K.Sink.tells _ _ _ _ _ so (ap slots_of i.same.slots) _ p.0 (subst (λ (end : ℕ). c.loop-k.k < end) (c.calls_of-k-end.ensures ∙ ap (λ (x : Shape). most_calls x (command_of c.args.command.now)) (c.shape.ensures ∙ is.engine.shape)) c.loop-k-test.true) here))
+
+pub returns-in_err-call_once-clause-one_call : goal.returns-in_err-call_once-clause-one_call
+returns-in_err-call_once-clause-one_call g c = λ few.
+    let i = c.loop-k.invariant in
+    let p = err_from_is_err_and c.from_residual.result c.from_residual.ensures.1 in
+    let fault : c.call_once.result ≡ Err p.0 = c.in_err-call_once.was ∙ sym (ap (λ (x : StepFault). Err x) p.2) in
+    let here : c.loop-k.k < most_calls (g.T.Store.shape_of c.args.engine.now.store) (command_of c.args.command.now) = subst (λ (end : ℕ). c.loop-k.k < end) (c.calls_of-k-end.ensures ∙ ap (λ (x : Shape). most_calls x (command_of c.args.command.now)) c.shape.ensures) c.loop-k-test.true in
+    let none = c.call_once.ensures.first (i.first (omega (arith, here, few))) in
+    ap (λ (r : Result (Unit {0}) StepFault). err_is is_sink r) p.1 ∙ sym (ap (λ (r : Result code.Answer StepFault). err_is is_sink r) fault) ∙ none
 
 pub returns-clause-did : goal.returns-clause-did
 returns-clause-did g c = λ m is going.

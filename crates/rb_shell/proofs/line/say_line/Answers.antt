@@ -1,59 +1,28 @@
-use Rattle.std.proofs.Common.{◌≡◌, false, ℕ, List, refl, ap, sym, ◌∙◌, subst}
-use Rattle.rb_model.specs.Lines.{bad_line_text, Spells, SpellsNone, is_remark}
-use Rattle.rb_model.specs.Out.{LineOut, CommandOut, Logged, too_long, skipped, bad, command}
-use Rattle.rb_lines.proofs.Dids.{did_as}
-use Rattle.rb_script.specs.Commands.{command_of}
-use Rattle.rb_engine.specs.Does.{EngineView}
-use Rattle.rb_shell.specs.Since.{IsSince, StandsAs, slots_of, since_same}
-use Rattle.rb_shell.proofs.SaidLemmas.{bad_said, said_nothing, said_weaker}
-use Rattle.rb_shell.proofs.line.say_line.Given.{Over}
+use Rattle.std.proofs.Common.{◌≡◌, Result, Err, sym, ◌∙◌, ap, subst}
+use Rattle.std.proofs.lemmas.Result.{err_from_is_err_and}
+use Rattle.rb_lines.proofs.Dids.{did_as, did_on}
+use Rattle.rb_lines.specs.declared.runner.StepFault.{StepFault}
+use Rattle.rb_model.specs.Out.{LineOut}
+use Rattle.rb_shell.specs.Since.{since_joined, slots_of}
+use Rattle.rb_shell.specs.Steps.{SaidAs, SaidItself}
+use Rattle.rb_shell.proofs.ResumeLemmas.{line_ends, line_fails}
 use Rattle.rb_shell.proofs.line.say_line.Goals as goal
 
--- where no call is made, the store stays
-still : (g : Over) (e : EngineView g.row.T.Denot) (m : Logged) → StandsAs g.T.Store e m → m.state.stopped ≡ false → IsSince g.T.Store e e m m
-still g e m is going = since_same e m (λ kept. record {
-  stable_left = g.met.T.Store.stable_left;
-  stable_numbered = g.met.T.Store.stable_numbered;
-  stable_patched = g.met.T.Store.stable_patched;
-  now_counts = g.met.T.Store.now_counts;
-  only_now = g.met.T.Store.only_now;
-}) is going
-
-pub returns-then-line-gt-LINE_BYTES-clause-did : goal.returns-then-line-gt-LINE_BYTES-clause-did
-returns-then-line-gt-LINE_BYTES-clause-did g c = λ m is going. record {
-  now = m;
-  reached = is;
-  passed = still g c.args.engine.now m is going;
-  ran = bad_said (LineOut m (slots_of (g.T.Store.slots c.args.engine.now.store)) c.args.line.now) m bad_line_text g.K.Sink.tells _ _ _ _ c.tell.result
-      (too_long c.if-line-gt-LINE_BYTES.true refl refl) going c.requires c.tell.ensures.told;
-}
-
-pub returns-then-is_remark-clause-did : goal.returns-then-is_remark-clause-did
-returns-then-is_remark-clause-did g c = λ m is going. record {
-  now = m;
-  reached = is;
-  passed = still g c.args.engine.now m is going;
-  ran = (
-    said_nothing (LineOut m (slots_of (g.T.Store.slots c.args.engine.now.store)) c.args.line.now) m g.K.Sink.tells _ _
-        (skipped c.if-line-gt-LINE_BYTES.false (ap is_remark (sym c.without_return-text.ensures) ∙ sym c.is_remark.ensures ∙ c.if-is_remark.true) refl refl) c.requires,
-    going,
-  );
-}
-
-pub returns-in-None-clause-did : goal.returns-in-None-clause-did
-returns-in-None-clause-did g c = λ m is going. record {
-  now = m;
-  reached = is;
-  passed = still g c.args.engine.now m is going;
-  ran = bad_said (LineOut m (slots_of (g.T.Store.slots c.args.engine.now.store)) c.args.line.now) m bad_line_text g.K.Sink.tells _ _ _ _ c.tell-in-None.result
-      (bad c.if-line-gt-LINE_BYTES.false (ap is_remark (sym c.without_return-text.ensures) ∙ sym c.is_remark.ensures ∙ c.if-is_remark.false)
-      (subst SpellsNone c.without_return-text.ensures c.in-None.ensures.none) refl refl) going c.requires c.tell-in-None.ensures.told;
-}
-
-pub returns-in-Some-clause-did : goal.returns-in-Some-clause-did
-returns-in-Some-clause-did g c = λ m is going.
+pub returns-in_err-say_itself-clause-did : goal.returns-in_err-say_itself-clause-did
+returns-in_err-say_itself-clause-did g c = λ m is going.
     let slots = slots_of (g.T.Store.slots c.args.engine.now.store) in
+    let before = g.K.Sink.held c.args.sink.now in
+    let held = g.K.Sink.held c.say_itself.new.sink in
+    let p = err_from_is_err_and c.from_residual.result c.from_residual.ensures.1 in
+    let fault : c.say_itself.result ≡ Err p.0 = c.in_err-say_itself.was ∙ sym (ap (λ (x : StepFault). Err x) p.2) in
     did_as _ _ m _ _
-    (λ n said. said_weaker (CommandOut m slots (command_of c.in-Some.command)) (LineOut m slots c.args.line.now) n g.K.Sink.tells _ _ _ c.run_command.result
-    (λ out h did. command c.if-line-gt-LINE_BYTES.false (command_of c.in-Some.command) (subst (λ (text : List ℕ). Spells text (command_of c.in-Some.command)) c.without_return-text.ensures c.in-Some.ensures.found) did) said)
-    (c.run_command.ensures.did m is going)
+    (λ n said. subst (λ (r : Result (Unit {0}) StepFault). SaidAs (LineOut m slots c.args.line.now) m n g.K.Sink.tells before held c.say_itself.new.waiting.items r) (sym p.1)
+    (line_fails m n slots c.args.line.now g.K.Sink.tells before held c.say_itself.new.waiting.items p.0
+    (subst (λ (r : Result (Unit {0}) StepFault). SaidItself m slots c.args.line.now n g.K.Sink.tells before held c.say_itself.new.waiting.items r) fault said)))
+    (c.say_itself.ensures.did m is going)
+
+pub returns-clause-did : goal.returns-clause-did
+returns-clause-did g c = λ m is going.
+    did_on c.args.engine.now c.say_itself.new.engine c.resume_ready.new.engine m _ _ _ (λ a b d h n k. since_joined a b d h n k) (c.in_ok-say_itself.ensures.did m is going) (λ n said. said.1)
+    (λ n reached on. c.resume_ready.ensures.did n reached on)
+    (λ n k said has. line_ends m n k (slots_of (g.T.Store.slots c.args.engine.now.store)) _ c.args.line.now g.K.Sink.tells _ _ _ _ c.resume_ready.result said (ap slots_of c.in_ok-say_itself.ensures.same.slots) has c.resume_ready.ensures.by_disk)

@@ -7,6 +7,7 @@ use Rattle.rb_views.proofs.Ended.{back_remembered, committed_remembered, end_rem
 use Rattle.rb_views.proofs.Fetching.{ends, gives, reads}
 use Rattle.rb_views.proofs.Lost.{lost_is}
 use Rattle.rb_views.proofs.Opened.{first_remembered}
+use Rattle.rb_views.proofs.Queues.{held_remembered, queue_remembered}
 use Rattle.rb_views.proofs.Savepoints.{cut_remembered, savepoint_remembered}
 use Rattle.rb_views.proofs.Taken as given
 use Rattle.rb_views.proofs.Written.{written_remembered}
@@ -33,6 +34,12 @@ returns-clause-savepoint c = savepoint_remembered
 
 pub returns-clause-cut : goal.returns-clause-cut
 returns-clause-cut c = λ h xids blocks now table_of s name first stand is low high ids. cut_remembered h xids (env_of h.shape blocks) (env_of h.shape now) s name first low ids table_of high is
+
+pub returns-clause-queue : goal.returns-clause-queue
+returns-clause-queue c = queue_remembered
+
+pub returns-clause-held : goal.returns-clause-held
+returns-clause-held c = held_remembered
 
 pub returns-clause-opened : goal.returns-clause-opened
 returns-clause-opened c = λ h xids blocks table_of s name table lo hi stand is low high there. cursors.opened h xids blocks table_of s name table lo hi stand is low high there

@@ -1,0 +1,39 @@
+//! A write of a session that had to wait, tried again. `Engine::resume` calls it.
+ghost use Rattle.std.specs.Prelude.{◌≡◌, ◌<◌, None, IfSome};
+ghost use Rattle.rb_base.specs.Counts.{IsCountedAs};
+ghost use Rattle.rb_engine.specs.Does.{IsInStep, Resumes, SameStore, Stands, resume_fault};
+ghost use Rattle.rb_model.specs.Queue.{first_ready, ready_count};
+ghost use Rattle.rb_model.specs.State.{State};
+
+use crate::memory::Memory;
+use crate::write::do_write;
+use rb_base::Store;
+use rb_model::{Refusal, Wrote};
+
+/// Tries the write of the ready session that came first once more, and tells whose it is and what it answers: the
+/// session leaves the queue, and where it has to wait again, it does so behind all others. None where no session is
+/// ready. A stopped engine tries none.
+pub fn do_resume<T: Store>(
+    memory: &mut Memory,
+    store: &mut T,
+) -> Option<(u16, Result<Wrote, Refusal>)>
+    requires step { IsInStep T.Store memory.old store.old }
+    ensures step { IsInStep T.Store memory.new store.new }
+    ensures did { (h : State) → Stands T.Store h (record { memory = memory.old; store = store.old })
+        → Resumes T.Store h result (record { memory = memory.old; store = store.old })
+        (record { memory = memory.new; store = store.new }) }
+    ensures fewer { IfSome result (λ r. ready_count memory.new.waits < ready_count memory.old.waits) }
+    ensures idle { first_ready memory.old.waits ≡ None
+        → (result ≡ None) × (memory.new ≡ memory.old) × (store.new ≡ store.old) }
+    ensures same { SameStore T.Store store.old store.new }
+    ensures disk { IsCountedAs (T.faults store.old) (T.faults store.new) (resume_fault result) }
+{
+    if memory.stopped {
+        return None;
+    }
+    let s = memory.waits.ready()?;
+    let pending = memory.sessions.held(s)?;
+    memory.waits.leave(s);
+    let outcome = do_write(memory, store, s, pending.table, pending.key, pending.op());
+    Some((s, outcome))
+}

@@ -1,0 +1,80 @@
+use Rattle.std.proofs.Common.{◌≡◌, ◌∙◌, Bool, false, None, refl, sym, ap, subst, arith}
+use Rattle.std.proofs.lemmas.Result.{err_from_is_err_and}
+use Rattle.std.specs.Result.{is_err}
+use Rattle.rb_engine.specs.Does.{EngineView}
+use Rattle.rb_lines.proofs.Dids.{did_on}
+use Rattle.rb_model.proofs.Stops.{fault_of_write}
+use Rattle.rb_model.specs.Out.{Logged}
+use Rattle.rb_model.specs.Queue.{first_ready}
+use Rattle.rb_shell.specs.Since.{IsSince, StandsAs, since_same, since_joined, slots_of}
+use Rattle.rb_shell.specs.Steps.{HasResumed}
+use Rattle.rb_shell.proofs.ResumeLemmas.{did_resume, did_still, fewer_on, none_some, resumed_all, resumed_fails, resumed_more, resumed_none}
+use Rattle.rb_waits.proofs.Turns.{none_ready}
+use Rattle.rb_shell.proofs.line.resume_ready.Given.{Over}
+use Rattle.rb_shell.proofs.line.resume_ready.Goals as goal
+
+-- where no call is made yet, the store stays
+still : (g : Over) (e : EngineView g.row.T.Denot) (m : Logged) → StandsAs g.T.Store e m → m.state.stopped ≡ false → IsSince g.T.Store e e m m
+still g e m is going = since_same e m (λ kept. record {
+  stable_left = g.met.T.Store.stable_left;
+  stable_numbered = g.met.T.Store.stable_numbered;
+  stable_patched = g.met.T.Store.stable_patched;
+  now_counts = g.met.T.Store.now_counts;
+  only_now = g.met.T.Store.only_now;
+}) is going
+
+pub loop-turn-init : goal.loop-turn-init
+loop-turn-init g c = record {
+  so_far = λ m is going. record { now = m; reached = is; passed = still g c.args.engine.now m is going; ran = resumed_none m _ _ going };
+  fewer = λ one. absurd (omega (arith, one));
+  room = c.requires;
+  idle = λ none. (refl, refl);
+  same = record { shape = refl; slots = refl };
+  disk = refl;
+}
+
+pub returns-in_default-clause-did : goal.returns-in_default-clause-did
+returns-in_default-clause-did g c = λ m is going.
+    let d = c.loop-turn.invariant.so_far m is going in
+    let e = c.in_default.ensures.did d.now.state d.reached.engine in
+    did_still c.args.engine.now c.loop-turn.engine c.resume.new.self m _ e.1
+    (record { now = d.now; reached = d.reached; passed = d.passed; ran = resumed_all m d.now _ _ _ d.ran (e.0 d.ran.going) })
+
+pub returns-in_err-tell_resumed-clause-did : goal.returns-in_err-tell_resumed-clause-did
+returns-in_err-tell_resumed-clause-did g c = λ m is going.
+    let i = c.loop-turn.invariant in
+    let t = c.tell_resumed.ensures in
+    let p = err_from_is_err_and c.from_residual.result c.from_residual.ensures.1 in
+    did_on c.args.engine.now c.loop-turn.engine c.resume.new.self m _ _ _ (λ a b d h n k. since_joined a b d h n k) (i.so_far m is going) (λ n so. so.going)
+    (λ n reached on. did_resume g.T.Store n c.in-Some.s c.in-Some.outcome c.loop-turn.engine c.resume.new.self reached on c.resume.ensures.same _ (c.in-Some.ensures.did n.state reached.engine) (λ now again. again))
+    (λ n k so again. subst (λ (failed : Bool). HasResumed m (slots_of (g.T.Store.slots c.args.engine.now.store)) k c.args.waiting.now.items c.tell_resumed.new.waiting.items failed) (sym (ap is_err p.1))
+    (resumed_fails m n k _ _ c.in-Some.s _ _ _ _ so (ap slots_of i.same.slots) t.told again (sym t.fault ∙ ap is_err c.in_err-tell_resumed.was)))
+
+pub loop-turn-preserved : goal.loop-turn-preserved
+loop-turn-preserved g c =
+    let i = c.loop-turn.invariant in
+    let t = c.tell_resumed.ensures in
+    let fine = sym t.fault ∙ ap is_err c.in_ok-tell_resumed.was in
+    record {
+      so_far = λ m is going. did_on c.args.engine.now c.loop-turn.engine c.resume.new.self m _ _ _ (λ a b d h n k. since_joined a b d h n k) (i.so_far m is going) (λ n so. so.going)
+          (λ n reached on. did_resume g.T.Store n c.in-Some.s c.in-Some.outcome c.loop-turn.engine c.resume.new.self reached on c.resume.ensures.same _ (c.in-Some.ensures.did n.state reached.engine) (λ now again. again))
+          (λ n k so again. resumed_more m n k _ _ c.in-Some.s _ _ _ _ so (ap slots_of i.same.slots) t.told again fine);
+      fewer = λ one. fewer_on _ _ c.loop-turn._turn c.in-Some.ensures.fewer c.resume.ensures.few i.fewer;
+      room = omega (arith, i.room, t.len);
+      idle = λ none. absurd (none_some (c.resume.ensures.idle (ap (λ (x : EngineView g.row.T.Denot). first_ready x.memory.waits) (i.idle none).0 ∙ none)).0 c.in-Some.is);
+      same = record { shape = c.resume.ensures.same.shape ∙ i.same.shape; slots = c.resume.ensures.same.slots ∙ i.same.slots };
+      disk = c.in-Some.ensures.disk.still (fault_of_write c.in-Some.outcome ∙ fine) ∙ i.disk;
+    }
+
+pub returns-clause-did : goal.returns-clause-did
+returns-clause-did g c = λ m is going.
+    let i = c.loop-turn.invariant in
+    let d = i.so_far m is going in
+    let few = i.fewer (omega arith) in
+    let none : first_ready c.loop-turn.engine.memory.waits ≡ None = none_ready c.loop-turn.engine.memory.waits (omega (arith, few)) in
+    record {
+      now = d.now;
+      reached = d.reached;
+      passed = d.passed;
+      ran = resumed_all m d.now _ _ _ d.ran (sym (ap first_ready (d.reached.engine.knows.queue d.ran.going).waits) ∙ none);
+    }
