@@ -2,6 +2,7 @@ pub mod BookLemmas
 mod Worked
 mod WorkedBooks
 mod WorkedCalls
+mod WorkedModes
 mod WorkedQueues
 mod WorkedTests
 pub mod Given

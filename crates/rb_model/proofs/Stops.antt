@@ -6,7 +6,7 @@ use Rattle.std.specs.Prelude.{slice_get}
 use Rattle.std.proofs.lemmas.Bool.{cond_both, cases_Bool, false≢true, and_parts, not-true}
 use Rattle.rb_base.specs.Counts.{err_is}
 use Rattle.rb_model.specs.Answers.{commit_answer, fetch_answer, marks_answer, plain_answer, write_answer}
-use Rattle.rb_model.specs.Calls.{Call, Write, Commit, Rollback, SetSavepoint, RollbackTo, OpenCursor, Fetch, CloseCursor, Cancel, Marks, Checkpoint, Answer, Done, Waits, Numbered, Given, End, Marked, Refused, early_tests, first_of, given, granted, is_disk_fault, is_fault, next_row}
+use Rattle.rb_model.specs.Calls.{Call, Write, Commit, Rollback, SetMode, SetSavepoint, RollbackTo, OpenCursor, Fetch, CloseCursor, Cancel, Marks, Checkpoint, Answer, Done, Waits, Numbered, Given, End, Marked, Refused, early_tests, first_of, given, granted, is_disk_fault, is_fault, next_row}
 use Rattle.rb_model.specs.NextState.{After, AfterGrant, AfterWait, EndsAs}
 use Rattle.rb_model.specs.Rows.{TableRow}
 use Rattle.rb_model.specs.State.{State, Cursor, cursor_rows}
@@ -49,6 +49,7 @@ grant_stays h h2 (Write s table key action) (g, i, w, e) = as_stays h h2 _ e ref
 grant_stays h h2 (Commit s) (inl (some, (g, i, owned, e))) = as_stays h h2 _ e refl (length-set h.sessions (s - 1) _) refl
 grant_stays h h2 (Commit s) (inr (none, ends)) = ends_stays h h2 s _ ends
 grant_stays h h2 (Rollback s) ends = ends_stays h h2 s _ ends
+grant_stays h h2 (SetMode s mode) e = as_stays h h2 _ e refl (length-set h.sessions (s - 1) _) refl
 grant_stays h h2 (SetSavepoint s name) e = as_stays h h2 _ e refl (length-set h.sessions (s - 1) _) refl
 grant_stays h h2 (RollbackTo s name) (p, named, e) = as_stays h h2 _ e refl (length-set h.sessions (s - 1) _) refl
 grant_stays h h2 (OpenCursor s name table lo hi) e = as_stays h h2 _ e refl (length-set h.sessions (s - 1) _) refl
@@ -62,6 +63,7 @@ wait_stays : (h h2 : State) (c : Call) (on : ℕ) → AfterWait h c on h2 → St
 wait_stays h h2 (Write s table key action) on e = as_stays h h2 _ e refl refl refl
 wait_stays h h2 (Commit s) on e = same_stays h h2 e
 wait_stays h h2 (Rollback s) on e = same_stays h h2 e
+wait_stays h h2 (SetMode s mode) on e = same_stays h h2 e
 wait_stays h h2 (SetSavepoint s name) on e = same_stays h h2 e
 wait_stays h h2 (RollbackTo s name) on e = same_stays h h2 e
 wait_stays h h2 (OpenCursor s name table lo hi) on e = same_stays h h2 e

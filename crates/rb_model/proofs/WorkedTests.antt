@@ -3,11 +3,11 @@ use Rattle.std.proofs.Common.{◌≡◌, ◌+◌, true, false, List, [], ◌∷�
 use Rattle.std.specs.List.{range_with_len}
 use Rattle.rb_model.specs.Book.{Book, fresh_book, left, marked, taken}
 use Rattle.rb_model.specs.Change.{Change, put, gone}
-use Rattle.rb_model.specs.State.{State, Session}
+use Rattle.rb_model.specs.State.{State, Session, no_session}
 use Rattle.rb_model.specs.Tests.{full_slots, holder, live_changes, made_since, owners_counted, works_in}
 
 abbrev session : List Change → Session
-session own = record { own = own; savepoints = []; cursors = [] }
+session own = record no_session { own = own }
 
 -- a file of one table with two homes, and these sessions
 abbrev with_sessions : List Book → List Session → State

@@ -11,14 +11,21 @@ use Rattle.rb_model.specs.Book.{Owner, IsBegun, book_at, is_full}
 use Rattle.rb_model.specs.Change.{Change}
 pub use Rattle.rb_model.specs.Change.{Action, Insert, Update, Delete, Lock}
 use Rattle.rb_model.specs.Full.{full_block}
+use Rattle.rb_model.specs.Isolation.{is_read_committed, is_read_only}
+use Rattle.rb_model.specs.Late.{late}
 use Rattle.rb_model.specs.Queue.{Waiter, closes}
-use Rattle.rb_model.specs.Rows.{TableRow, has_row, last_scn, over, rows_at}
-use Rattle.rb_model.specs.State.{State, Cursor, Savepoint, session_of, session_own, owner_at, is_session, is_table}
+use Rattle.rb_model.specs.Rows.{Commits, TableRow, has_row, last_scn, over, rows_at}
+use Rattle.rb_model.specs.State.{State, Session, Cursor, Savepoint, session_of, session_own, isolation_of, owner_at}
+use Rattle.rb_model.specs.State.{is_session, is_table}
 use Rattle.rb_model.specs.State.{is_waiting, savepoint_of, cursor_of, cursor_rows}
 use Rattle.rb_model.specs.Tests.{holder, full_slots, live_changes, made_since, owners_counted}
+use Rattle.rb_model.specs.declared.mode.Isolation.{Isolation}
+use Rattle.rb_model.specs.declared.mode.Isolation.TheVariants as isolation
+use Rattle.rb_model.specs.declared.mode.Mode.{Mode}
 use Rattle.rb_model.specs.declared.refusal.Refusal.{Refusal}
-use Rattle.rb_model.specs.declared.refusal.Refusal.TheVariants.{NoSession, Waiting, NoTable, ValueTooLong, Deadlock}
-use Rattle.rb_model.specs.declared.refusal.Refusal.TheVariants.{TooOld, Duplicate, NotFound, BlockFull, SlotsFull}
+use Rattle.rb_model.specs.declared.refusal.Refusal.TheVariants.{NoSession, Waiting, NotFirst, ReadOnly, NoTable}
+use Rattle.rb_model.specs.declared.refusal.Refusal.TheVariants.{ValueTooLong, Deadlock, TooOld, CantSerialize}
+use Rattle.rb_model.specs.declared.refusal.Refusal.TheVariants.{Duplicate, NotFound, BlockFull, SlotsFull}
 use Rattle.rb_model.specs.declared.refusal.Refusal.TheVariants.{RollbackFull, NotWaiting}
 use Rattle.rb_model.specs.declared.refusal.Refusal.TheVariants.{NoSavepoint, TooManySavepoints, NoCursor, CursorThere}
 use Rattle.rb_model.specs.declared.refusal.Refusal.TheVariants.{TooManyCursors, WornOut, DiskFault, Stopped, LogFull}
@@ -28,6 +35,7 @@ pub data Call : Type 0 where
   Write : (session table key : ℕ) (action : Action) → Call
   Commit : (session : ℕ) → Call
   Rollback : (session : ℕ) → Call
+  SetMode : (session : ℕ) (mode : Mode) → Call
   SetSavepoint : (session : ℕ) (name : List ℕ) → Call
   RollbackTo : (session : ℕ) (name : List ℕ) → Call
   OpenCursor : (session : ℕ) (name : List ℕ) (table lo hi : ℕ) → Call
@@ -75,14 +83,21 @@ abbrev pub is_empty : List Change → Bool
 is_empty [] = true
 is_empty (c ∷ changes) = false
 
+abbrev pub is_none_set : List Savepoint → Bool
+is_none_set [] = true
+is_none_set (p ∷ savepoints) = false
+
 -- the words of a refusal
 abbrev pub refusal_words : Refusal → List ℕ
 refusal_words NoSession = codes "no session"
 refusal_words Waiting = codes "waiting"
+refusal_words NotFirst = codes "not first"
+refusal_words ReadOnly = codes "read only"
 refusal_words NoTable = codes "no table"
 refusal_words ValueTooLong = codes "value too long"
 refusal_words (Deadlock on) = codes "deadlock"
 refusal_words (TooOld scn lost) = codes "too old"
+refusal_words (CantSerialize scn by) = codes "cannot serialize"
 refusal_words Duplicate = codes "duplicate"
 refusal_words NotFound = codes "not found"
 refusal_words BlockFull = codes "block full"
@@ -107,6 +122,7 @@ number_text n = 32 ∷ decimal n
 abbrev pub refusal_numbers : Refusal → List ℕ
 refusal_numbers (Deadlock on) = number_text on
 refusal_numbers (TooOld scn lost) = number_text scn ++ number_text lost
+refusal_numbers (CantSerialize scn by) = number_text scn ++ number_text by
 refusal_numbers (RollbackFull seg since) = number_text seg ++ number_text since
 refusal_numbers _ = []
 
@@ -157,6 +173,20 @@ waited queue s (Some u) =
     (not (nat_le u s && nat_le s u) && closes queue s u, Refused (Deadlock u))
     ∷ (not (nat_le u s && nat_le s u), Waits u) ∷ []
 
+-- a serializable transaction can't write a row that a commit above its snapshot has changed
+abbrev pub refused_by : ℕ → Option ℕ → List (Bool × Answer)
+refused_by snapshot None = []
+refused_by snapshot (Some by) = (true, Refused (CantSerialize snapshot by)) ∷ []
+
+abbrev pub serial_tests : Commits → Isolation → ℕ → ℕ → List (Bool × Answer)
+serial_tests commits isolation.ReadCommitted table key = []
+serial_tests commits (isolation.ReadOnly snapshot) table key = []
+serial_tests commits (isolation.Serializable snapshot) table key = refused_by snapshot (late commits snapshot table key)
+
+-- the transaction has neither a mode of its own nor changes nor savepoints
+abbrev pub is_unbegun : Session → Bool
+is_unbegun session = is_read_committed session.isolation && (is_empty session.own && is_none_set session.savepoints)
+
 -- the tests of a call that names a session
 abbrev pub number_tests : State → ℕ → List (Bool × Answer)
 number_tests h s = (h.stopped, Refused Stopped) ∷ (not (is_session h s), Refused NoSession) ∷ []
@@ -165,20 +195,19 @@ number_tests h s = (h.stopped, Refused Stopped) ∷ (not (is_session h s), Refus
 abbrev pub session_tests : State → ℕ → List (Bool × Answer)
 session_tests h s = number_tests h s ++ (is_waiting h s, Refused Waiting) ∷ []
 
--- and of one that names a table
-abbrev pub table_tests : State → ℕ → ℕ → List (Bool × Answer)
-table_tests h s table = session_tests h s ++ (not (is_table h table), Refused NoTable) ∷ []
-
 -- The tests of a call in their order, each with the answer that it gives.
 -- After the early ones the disk may have failed.
 abbrev pub early_tests : State → Call → List (Bool × Answer)
 early_tests h (Write s table key action) =
-    table_tests h s table ++ (is_too_long action, Refused ValueTooLong) ∷ []
+    session_tests h s ++ (is_read_only (isolation_of h s), Refused ReadOnly)
+    ∷ (not (is_table h table), Refused NoTable) ∷ (is_too_long action, Refused ValueTooLong) ∷ []
 early_tests h (Commit s) = session_tests h s
 early_tests h (Rollback s) = session_tests h s
+early_tests h (SetMode s mode) = session_tests h s
 early_tests h (SetSavepoint s name) = session_tests h s
 early_tests h (RollbackTo s name) = session_tests h s
-early_tests h (OpenCursor s name table lo hi) = table_tests h s table
+early_tests h (OpenCursor s name table lo hi) =
+    session_tests h s ++ (not (is_table h table), Refused NoTable) ∷ []
 early_tests h (Fetch s name) = session_tests h s
 early_tests h (CloseCursor s name) = session_tests h s
 early_tests h (Cancel s) = number_tests h s
@@ -189,6 +218,7 @@ early_tests h Checkpoint = (h.stopped, Refused Stopped) ∷ []
 abbrev pub write_tests : State → (logged room g i s table key : ℕ) → Action → List (Bool × Answer)
 write_tests h logged room g i s table key action =
     waited h.queue s (holder h table key)
+    ++ serial_tests h.commits (isolation_of h s) table key
     ++ (adds action && has_row table key (rows_now h s), Refused Duplicate)
     ∷ (not (adds action) && not (has_row table key (rows_now h s)), Refused NotFound)
     ∷ (adds action && full_block h table key, Refused BlockFull)
@@ -203,6 +233,7 @@ without_savepoint name savepoints = filter (λ savepoint. not (bytes_eq savepoin
 
 -- the later tests of a call that is no write
 abbrev pub name_tests : State → Call → List (Bool × Answer)
+name_tests h (SetMode s mode) = (not (is_unbegun (session_of h s)), Refused NotFirst) ∷ []
 name_tests h (SetSavepoint s name) =
     (nat_le 16 (length (without_savepoint name (session_of h s).savepoints)), Refused TooManySavepoints) ∷ []
 name_tests h (RollbackTo s name) = (is_none (savepoint_of h s name), Refused NoSavepoint) ∷ []
@@ -232,6 +263,7 @@ abbrev pub granted : State → Call → Answer
 granted h (Write s table key action) = Done
 granted h (Commit s) = if is_empty (session_own h s) then Done else Numbered (last_scn h.commits + 1)
 granted h (Rollback s) = Done
+granted h (SetMode s mode) = Done
 granted h (SetSavepoint s name) = Done
 granted h (RollbackTo s name) = Done
 granted h (OpenCursor s name table lo hi) = Done
@@ -256,20 +288,26 @@ LaterTests h logged room (Write s table key action) tests =
     (g : ℕ) × (i : ℕ) × WritesIn h s g i × (tests ≡ write_tests h logged room g i s table key action)
 LaterTests h logged room call tests = tests ≡ name_tests h call
 
--- A fetch is refused as too old: a segment has given up a number above the cursor's snapshot, and both are told.
+-- The call reads at that snapshot: a fetch at its cursor's, and a write of a serializable transaction, where no other
+-- session is waited for, at the transaction's.
+abbrev pub ReadsAt : State → Call → ℕ → Type 0
+ReadsAt h (Fetch s name) snapshot =
+    (cursor : Cursor) × (cursor_of h s name ≡ Some cursor) × (cursor.number ≡ snapshot)
+ReadsAt h (Write s table key action) snapshot = (isolation_of h s ≡ isolation.Serializable snapshot)
+    × (none_applies (waited h.queue s (holder h table key)) ≡ true)
+ReadsAt h call snapshot = ⊥
+
+-- It is refused as too old: a segment has given up a number above the snapshot, and both are told.
 pub record IsTooOld (h : State) (call : Call) (r : Answer) : Type 0 where
-  pub session : ℕ
-  pub name : List ℕ
-  pub fetches : call ≡ Fetch session name
-  pub cursor : Cursor
-  pub named : cursor_of h session name ≡ Some cursor
+  pub snapshot : ℕ
+  pub reads : ReadsAt h call snapshot
   pub seg : ℕ
   pub there : seg < length h.books
-  pub above : cursor.number < (book_at h.books seg).lost
-  pub answer : r ≡ Refused (TooOld cursor.number (book_at h.books seg).lost)
+  pub above : snapshot < (book_at h.books seg).lost
+  pub answer : r ≡ Refused (TooOld snapshot (book_at h.books seg).lost)
 
 -- The call may have this answer: that of the first test that applies, or else the good one; a fault of the disk in the
--- place of any answer that comes after the early tests; or, in the place of a row or the end, that it is too old.
+-- place of any answer that comes after the early tests; or, where it reads at a snapshot, that this is too old.
 pub data Reply (h : State) (logged room : ℕ) (call : Call) (r : Answer) : Type 0 where
   early : none_applies (early_tests h call) ≡ false → r ≡ first_of (early_tests h call) Done
       → Reply h logged room call r

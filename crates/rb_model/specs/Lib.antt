@@ -4,6 +4,8 @@ pub mod BookLaws
 pub mod Calls
 pub mod Change
 pub mod Full
+pub mod Isolation
+pub mod Late
 pub mod Lines
 pub mod NameTest
 pub mod Names

@@ -9,8 +9,10 @@ use Rattle.rb_model.specs.NameTest.{is_name}
 use Rattle.rb_base.specs.declared.shape.Shape.{Shape}
 use Rattle.rb_model.specs.Calls.{Action, Insert, Update, Delete, Lock, Answer, Done, Waits, Numbered, Given, End}
 use Rattle.rb_model.specs.Calls.{Marked, Refused, number_text, refusal_text}
-use Rattle.rb_model.specs.Calls.{Call, Write, Commit, Rollback, SetSavepoint, RollbackTo, OpenCursor, Fetch}
+use Rattle.rb_model.specs.Calls.{Call, Write, Commit, Rollback, SetMode, SetSavepoint, RollbackTo, OpenCursor, Fetch}
 use Rattle.rb_model.specs.Calls.{CloseCursor, Cancel, Marks, Checkpoint}
+use Rattle.rb_model.specs.declared.mode.Mode.{Mode}
+use Rattle.rb_model.specs.declared.mode.Mode.TheVariants as mode
 
 -- a byte at the front of the first line
 abbrev pub onto_first : ℕ → List (List ℕ) → List (List ℕ)
@@ -38,6 +40,7 @@ pub data Command : Type 0 where
   WriteLine : (session table key : ℕ) (action : Action) → Command
   CommitLine : (session : ℕ) → Command
   RollbackLine : (session : ℕ) → Command
+  SetLine : (session : ℕ) (mode : Mode) → Command
   SavepointLine : (session : ℕ) (name : List ℕ) → Command
   RollbackToLine : (session : ℕ) (name : List ℕ) → Command
   OpenLine : (session : ℕ) (name : List ℕ) (table lo hi : ℕ) → Command
@@ -52,6 +55,7 @@ abbrev pub call_of : Command → ℕ → Call
 call_of (WriteLine s table key action) k = Write s table key action
 call_of (CommitLine s) k = Commit s
 call_of (RollbackLine s) k = Rollback s
+call_of (SetLine s mode) k = SetMode s mode
 call_of (SavepointLine s name) k = SetSavepoint s name
 call_of (RollbackToLine s name) k = RollbackTo s name
 call_of (OpenLine s name table lo hi) k = OpenCursor s name table lo hi
@@ -72,6 +76,7 @@ abbrev pub caller : Command → Option ℕ
 caller (WriteLine s table key action) = Some s
 caller (CommitLine s) = Some s
 caller (RollbackLine s) = Some s
+caller (SetLine s mode) = Some s
 caller (SavepointLine s name) = Some s
 caller (RollbackToLine s name) = Some s
 caller (OpenLine s name table lo hi) = Some s
@@ -89,6 +94,7 @@ pub data Word : Type 0 where
   LockWord : Word
   CommitWord : Word
   RollbackWord : Word
+  SetWord : Word
   SavepointWord : Word
   OpenWord : Word
   FetchWord : Word
@@ -104,6 +110,7 @@ word_text DeleteWord = codes "delete"
 word_text LockWord = codes "lock"
 word_text CommitWord = codes "commit"
 word_text RollbackWord = codes "rollback"
+word_text SetWord = codes "set"
 word_text SavepointWord = codes "savepoint"
 word_text OpenWord = codes "open"
 word_text FetchWord = codes "fetch"
@@ -119,6 +126,7 @@ word_of (WriteLine s table key Delete) = DeleteWord
 word_of (WriteLine s table key Lock) = LockWord
 word_of (CommitLine s) = CommitWord
 word_of (RollbackLine s) = RollbackWord
+word_of (SetLine s mode) = SetWord
 word_of (SavepointLine s name) = SavepointWord
 word_of (RollbackToLine s name) = RollbackWord
 word_of (OpenLine s name table lo hi) = OpenWord
@@ -129,13 +137,14 @@ word_of MarksLine = MarksWord
 word_of CheckpointLine = CheckpointWord
 
 -- A field after the word: the number of a session or a table, a key, how many rows, the name of a savepoint or cursor,
--- or the value of a row.
+-- the value of a row, or a mode.
 pub data Field : Type 0 where
   Id : (n : ℕ) → Field
   Key : (n : ℕ) → Field
   Count : (n : ℕ) → Field
   Named : (name : List ℕ) → Field
   Valued : (value : List ℕ) → Field
+  Moded : (mode : Mode) → Field
 
 abbrev pub fields_of : Command → List Field
 fields_of (WriteLine s table key (Insert value)) = Id s ∷ Id table ∷ Key key ∷ Valued value ∷ []
@@ -144,6 +153,7 @@ fields_of (WriteLine s table key Delete) = Id s ∷ Id table ∷ Key key ∷ []
 fields_of (WriteLine s table key Lock) = Id s ∷ Id table ∷ Key key ∷ []
 fields_of (CommitLine s) = Id s ∷ []
 fields_of (RollbackLine s) = Id s ∷ []
+fields_of (SetLine s mode) = Id s ∷ Moded mode ∷ []
 fields_of (SavepointLine s name) = Id s ∷ Named name ∷ []
 fields_of (RollbackToLine s name) = Id s ∷ Named name ∷ []
 fields_of (OpenLine s name table lo hi) = Id s ∷ Named name ∷ Id table ∷ Key lo ∷ Key hi ∷ []
@@ -153,12 +163,18 @@ fields_of (CancelLine s) = Id s ∷ []
 fields_of MarksLine = []
 fields_of CheckpointLine = []
 
+abbrev pub mode_text : Mode → List ℕ
+mode_text mode.ReadCommitted = codes "read-committed"
+mode_text mode.ReadOnly = codes "read-only"
+mode_text mode.Serializable = codes "serializable"
+
 abbrev pub field_text : Field → List ℕ
 field_text (Id n) = decimal n
 field_text (Key n) = decimal n
 field_text (Count n) = decimal n
 field_text (Named name) = name
 field_text (Valued value) = value
+field_text (Moded mode) = mode_text mode
 
 -- a space before each field
 abbrev pub fields_text : List Field → List ℕ
@@ -180,6 +196,7 @@ IsField (Key n) = n < 2 ^ 64
 IsField (Count n) = (1 ≤ n) × (n ≤ 1000000)
 IsField (Named name) = IsTrue (is_name name)
 IsField (Valued value) = IsTrue (is_value value)
+IsField (Moded mode) = Unit {0}
 
 -- the parts of a command are in range
 abbrev pub IsCommand : Command → Type 0

@@ -7,13 +7,17 @@ use Rattle.std.specs.Str.{bytes_eq}
 use Rattle.rb_model.specs.Book.{Book, book_at, finished, left, marked, taken}
 use Rattle.rb_model.specs.Calls.{Call, Write, Commit, Rollback, OpenCursor, Fetch, CloseCursor, Marks, Checkpoint}
 use Rattle.rb_model.specs.Calls.{Answer, Done, Waits, Numbered, Given, End, Marked, Refused, is_disk_fault}
-use Rattle.rb_model.specs.Calls.{Action, Insert, Update, Delete, Lock, SetSavepoint, RollbackTo, Cancel}
+use Rattle.rb_model.specs.Calls.{Action, Insert, Update, Delete, Lock, SetMode, SetSavepoint, RollbackTo, Cancel}
 use Rattle.rb_model.specs.Calls.{is_empty, without_savepoint}
 use Rattle.rb_model.specs.Calls.{Owned, HasNoSlot, WritesIn, has_slot}
 use Rattle.rb_model.specs.Change.{Asked, Change, Kind, Put, Gone, Held}
+use Rattle.rb_model.specs.Isolation.{isolation_at, snapshot_at}
 use Rattle.rb_model.specs.Queue.{freed_by, left_by, waiting}
-use Rattle.rb_model.specs.State.{State, Cursor, Savepoint, savepoint_of, session_of, session_own, with_changes}
+use Rattle.rb_model.specs.State.{State, Cursor, Savepoint, isolation_of, savepoint_of, session_of, session_own}
+use Rattle.rb_model.specs.State.{with_changes}
 use Rattle.rb_model.specs.Rows.{last_scn}
+use Rattle.rb_model.specs.declared.mode.Isolation.{Isolation}
+use Rattle.rb_model.specs.declared.mode.Isolation.TheVariants.{ReadCommitted}
 
 abbrev pub kind_by : Action → Kind
 kind_by (Insert value) = Put value
@@ -52,10 +56,15 @@ not_present c = record c { present = false }
 abbrev pub left_open : ℕ → List Cursor → List Cursor
 left_open kept cursors = filter (λ c. not (c.present && nat_lt kept (length c.own))) cursors
 
--- the session without changes and savepoints, with these cursors, which are of no present transaction
+-- the session without a mode, changes and savepoints, with these cursors, which are of no present transaction
 abbrev pub ended : State → ℕ → List Cursor → State
 ended h s cursors = record h {
-  sessions = set h.sessions (s - 1) (record { own = []; savepoints = []; cursors = map not_present cursors });
+  sessions = set h.sessions (s - 1) (record {
+    isolation = ReadCommitted;
+    own = [];
+    savepoints = [];
+    cursors = map not_present cursors;
+  });
 }
 
 -- and its slot without an owner
@@ -93,6 +102,12 @@ with_cursors h s cursors = record h {
   sessions = set h.sessions (s - 1) (record (session_of h s) { cursors = cursors });
 }
 
+-- the session with a transaction that reads so
+abbrev pub with_isolation : State → ℕ → Isolation → State
+with_isolation h s isolation = record h {
+  sessions = set h.sessions (s - 1) (record (session_of h s) { isolation = isolation });
+}
+
 -- the session with these savepoints
 abbrev pub with_savepoints : State → ℕ → List Savepoint → State
 with_savepoints h s savepoints = record h {
@@ -112,7 +127,7 @@ up_to name (p ∷ savepoints) = cond (bytes_eq p.name name) (p ∷ []) (p ∷ up
 -- later savepoints are erased, and the cursors that see more are closed. It keeps its slot.
 abbrev pub rolled_to : State → ℕ → List ℕ → ℕ → State
 rolled_to h s name kept = record h {
-  sessions = set h.sessions (s - 1) (record {
+  sessions = set h.sessions (s - 1) (record (session_of h s) {
     own = take kept (session_own h s);
     savepoints = up_to name (session_of h s).savepoints;
     cursors = left_open kept (cursors_of h s);
@@ -126,7 +141,7 @@ opened_cursor h s name table lo hi = record {
   table = table;
   lo = lo;
   hi = hi;
-  number = last_scn h.commits;
+  number = snapshot_at (last_scn h.commits) (isolation_of h s);
   own = session_own h s;
   taken = 0;
   present = true;
@@ -151,6 +166,7 @@ AfterGrant h (Commit s) h2 =
     × ((g : ℕ) × (i : ℕ) × Owned h s g i × (h2 ≡ freeing (committed h s g i) s)))
     ⊎ ((is_empty (session_own h s) ≡ true) × EndsAs h s (cursors_of h s) h2)
 AfterGrant h (Rollback s) h2 = EndsAs h s (left_open 0 (cursors_of h s)) h2
+AfterGrant h (SetMode s mode) h2 = h2 ≡ with_isolation h s (isolation_at (last_scn h.commits) mode)
 AfterGrant h (SetSavepoint s name) h2 =
     h2 ≡ with_savepoints h s (with_savepoint name (length (session_own h s)) (session_of h s).savepoints)
 AfterGrant h (RollbackTo s name) h2 =
@@ -191,6 +207,7 @@ GrowsBy h (Write s table key action) n = n ≡ 1
 GrowsBy h (Commit s) n = ((is_empty (session_own h s) ≡ false) × (n ≡ 1))
     ⊎ ((is_empty (session_own h s) ≡ true) × Ends h s 0 n)
 GrowsBy h (Rollback s) n = Ends h s (length (session_own h s)) n
+GrowsBy h (SetMode s mode) n = n ≡ 0
 GrowsBy h (SetSavepoint s name) n = n ≡ 0
 GrowsBy h (RollbackTo s name) n =
     (p : Savepoint) × (savepoint_of h s name ≡ Some p) × (n ≡ length (session_own h s) - p.kept)

@@ -8,6 +8,8 @@ use Rattle.rb_model.specs.Book.{Owner, Book, book_at, slot_owner}
 use Rattle.rb_model.specs.Change.{Asked, Change}
 use Rattle.rb_model.specs.Queue.{Waiter, is_queued}
 use Rattle.rb_model.specs.Rows.{Commits, TableRow, answer}
+use Rattle.rb_model.specs.declared.mode.Isolation.{Isolation}
+use Rattle.rb_model.specs.declared.mode.Isolation.TheVariants.{ReadCommitted}
 
 pub record Cursor : Type 0 where
   pub name : List ℕ
@@ -30,6 +32,8 @@ pub record Savepoint : Type 0 where
   pub kept : ℕ
 
 pub record Session : Type 0 where
+  -- how its transaction reads
+  pub isolation : Isolation
   -- the live changes of its transaction, oldest first
   pub own : List Change
   -- its transaction's savepoints, in order of setting
@@ -56,7 +60,7 @@ abbrev pub session_count : ℕ
 session_count = 16
 
 abbrev pub no_session : Session
-no_session = record { own = []; savepoints = []; cursors = [] }
+no_session = record { isolation = ReadCommitted; own = []; savepoints = []; cursors = [] }
 
 -- there is a session of this number
 abbrev pub is_session : State → ℕ → Bool
@@ -72,6 +76,10 @@ session_own h s = (session_of h s).own
 -- the session with these changes in the place of its own
 abbrev pub with_changes : State → ℕ → List Change → Session
 with_changes h s own = record (session_of h s) { own = own }
+
+-- how its transaction reads
+abbrev pub isolation_of : State → ℕ → Isolation
+isolation_of h s = (session_of h s).isolation
 
 -- the session waits, or is ready
 abbrev pub is_waiting : State → ℕ → Bool

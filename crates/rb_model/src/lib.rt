@@ -4,6 +4,7 @@
 mod answer;
 mod laws;
 mod marks;
+mod mode;
 mod name;
 mod op;
 mod refusal;
@@ -13,6 +14,7 @@ mod wrote;
 pub use answer::Answer;
 pub use laws::book_laws;
 pub use marks::Marks;
+pub use mode::{Isolation, Mode};
 pub use name::Name;
 pub use op::Op;
 pub use refusal::Refusal;

@@ -12,6 +12,10 @@ pub enum Refusal {
     NoSession,
     /// The session waits for another one, or is ready to try its write again.
     Waiting,
+    /// The transaction has a mode already, or has changes or savepoints.
+    NotFirst,
+    /// The transaction is read only.
+    ReadOnly,
     /// The number isn't that of a table of the file.
     NoTable,
     /// The value has more than 80 bytes.
@@ -27,6 +31,13 @@ pub enum Refusal {
         scn: u64,
         /// The greatest commit number of which the segment concerned has given something up, above the snapshot.
         lost: u64,
+    },
+    /// A serializable transaction can't write the row: a commit above its snapshot has changed it.
+    CantSerialize {
+        /// The snapshot.
+        scn: u64,
+        /// The least number above it whose commit has changed the row, also where the row was changed back.
+        by: u64,
     },
     /// The key is there already.
     Duplicate,
@@ -74,10 +85,13 @@ impl Refusal {
         match self {
             Refusal::NoSession => b"no session",
             Refusal::Waiting => b"waiting",
+            Refusal::NotFirst => b"not first",
+            Refusal::ReadOnly => b"read only",
             Refusal::NoTable => b"no table",
             Refusal::ValueTooLong => b"value too long",
             Refusal::Deadlock { on: _ } => b"deadlock",
             Refusal::TooOld { scn: _, lost: _ } => b"too old",
+            Refusal::CantSerialize { scn: _, by: _ } => b"cannot serialize",
             Refusal::Duplicate => b"duplicate",
             Refusal::NotFound => b"not found",
             Refusal::BlockFull => b"block full",
