@@ -165,7 +165,7 @@ does_ended s laws h call who cursors old new st going there runs retains own emp
     let own_is : session_own h who ≡ [] = no_items (session_own h who) none in
     let nothing = none_own (session_own h who) none in
     let logs = no_logs s old.store runs in
-    let kept : Holds s now goes.xids old.store = holds_queue bare now.queue now.asked s goes.xids old.store (holds_session s st.told laws h who goes.xids old.store (record { own = []; savepoints = []; cursors = map not_present cursors }) who_in (sym own_is) goes.holds) in
+    let kept : Holds s now goes.xids old.store = holds_queue bare now.queue now.asked s goes.xids old.store (holds_session s st.told laws h who goes.xids old.store (record no_session { cursors = map not_present cursors }) who_in (sym own_is) goes.holds) in
     does_by s h now call Done old new 0 st (reply free nothing) (after free nothing) (λ _. retains now)
     (knows_on h now old.memory new.memory st.knows (length-set h.sessions _ _) refl refl stopped scn (λ on. knows_freed h now old.memory new.memory who refl refl waits asked (st.knows.queue on)))
     (record { shape = ap s.shape_of store; slots = ap s.slots store })

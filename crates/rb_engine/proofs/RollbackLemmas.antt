@@ -171,7 +171,7 @@ module _ {S : Type 0} (s : Ghosts S) where
           let all : (before : Option Call) → Holds s (without_owner x.seg x.slot (ended m who cursors)) xids new × (s.keeps → Survives s (s.slots mid) before m (without_owner x.seg x.slot (ended m who cursors)) mid new) = λ before. holds_ended s told laws m xids who x mid new (same.shape ∙ st.shape) left.holds before cursors one in
           let made : EndMade m xids who x (s.blocks mid) (s.blocks new) = subst (λ b. EndMade m xids who x (s.blocks mid) b) (sym (one.logs.blocks told refl)) (one.made (let k = one.one refl in omega (arith, k))) in
           let again : without_owner x.seg x.slot (ended m who cursors) ≡ without_owner x.seg x.slot (ended h who cursors) =
-          ap (λ (z : List Session). without_owner x.seg x.slot (record h { sessions = z })) (set-set h.sessions (who - 1) (with_changes h who []) (record { own = []; savepoints = []; cursors = map not_present cursors })) in (
+          ap (λ (z : List Session). without_owner x.seg x.slot (record h { sessions = z })) (set-set h.sessions (who - 1) (with_changes h who []) (record no_session { cursors = map not_present cursors })) in (
             subst (λ (z : State). Holds s z xids new) again (all None).0,
             ids_on h m (env_of h.shape (s.blocks old)) (env_of h.shape (s.blocks mid)) (env_of h.shape (s.blocks new)) refl left.ids made.ids,
             (let n = one.logs.number refl in let k = one.one refl in omega (arith, n, k, left.lsn, whole)),

@@ -13,11 +13,10 @@ use Rattle.rb_model.specs.Calls.{Owned, HasNoSlot, WritesIn, has_slot}
 use Rattle.rb_model.specs.Change.{Asked, Change, Kind, Put, Gone, Held}
 use Rattle.rb_model.specs.Isolation.{isolation_at, snapshot_at}
 use Rattle.rb_model.specs.Queue.{freed_by, left_by, waiting}
-use Rattle.rb_model.specs.State.{State, Cursor, Savepoint, isolation_of, savepoint_of, session_of, session_own}
-use Rattle.rb_model.specs.State.{with_changes}
+use Rattle.rb_model.specs.State.{State, Cursor, Savepoint, no_session, isolation_of, savepoint_of, session_of}
+use Rattle.rb_model.specs.State.{session_own, with_changes}
 use Rattle.rb_model.specs.Rows.{last_scn}
 use Rattle.rb_model.specs.declared.mode.Isolation.{Isolation}
-use Rattle.rb_model.specs.declared.mode.Isolation.TheVariants.{ReadCommitted}
 
 abbrev pub kind_by : Action → Kind
 kind_by (Insert value) = Put value
@@ -56,15 +55,10 @@ not_present c = record c { present = false }
 abbrev pub left_open : ℕ → List Cursor → List Cursor
 left_open kept cursors = filter (λ c. not (c.present && nat_lt kept (length c.own))) cursors
 
--- the session without a mode, changes and savepoints, with these cursors, which are of no present transaction
+-- the session as a new one but for these cursors, which are of no present transaction
 abbrev pub ended : State → ℕ → List Cursor → State
 ended h s cursors = record h {
-  sessions = set h.sessions (s - 1) (record {
-    isolation = ReadCommitted;
-    own = [];
-    savepoints = [];
-    cursors = map not_present cursors;
-  });
+  sessions = set h.sessions (s - 1) (record no_session { cursors = map not_present cursors });
 }
 
 -- and its slot without an owner

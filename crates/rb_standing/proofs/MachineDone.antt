@@ -97,10 +97,10 @@ module _ (h : State) (xids : List Xid) (commit logged : ℕ) (segments : ℕ →
   ]
 
   own_other : (r : ℕ) → r - 1 ≢ s - 1 → session_own Next r ≡ session_own h r
-  own_other r ne = ap (λ (z : Session). z.own) (get_or-set_other h.sessions (s - 1) (r - 1) (record { own = []; savepoints = []; cursors = cursors }) no_session ne)
+  own_other r ne = ap (λ (z : Session). z.own) (get_or-set_other h.sessions (s - 1) (r - 1) (record no_session { cursors = cursors }) no_session ne)
 
   own_none : session_own Next s ≡ []
-  own_none = ap (λ (z : Session). z.own) (get_or-set_same h.sessions (s - 1) (record { own = []; savepoints = []; cursors = cursors }) no_session (omega (arith, s_in)))
+  own_none = ap (λ (z : Session). z.own) (get_or-set_same h.sessions (s - 1) (record no_session { cursors = cursors }) no_session (omega (arith, s_in)))
 
   not_mine : (v : ℕ) (o : Owner) → v ≢ t → owner_at h v ≡ Some o → o.session ≢ s
   not_mine v o ne at is = ne (stand.tell.one_slot s v t (record { owner = o; at = at; session = is }) owns)
@@ -180,7 +180,7 @@ module _ (h : State) (xids : List Xid) (commit logged : ℕ) (segments : ℕ →
       counted = let a = length-append xids (Old.xid t ∷ []) in let b = length-append h.commits.list (session_own h s ∷ []) in omega (arith, a, b, stand.tell.counted);
       books_counted = simp length-set stand.tell.books_counted;
       books = books_next;
-      owner_there = λ r v now. let a = stand.tell.owner_there r v (was r v now) in let l = length-set h.sessions (s - 1) (let z : Session = record { own = []; savepoints = []; cursors = cursors } in z) in (a.0, omega (arith, a.1, l));
+      owner_there = λ r v now. let a = stand.tell.owner_there r v (was r v now) in let l = length-set h.sessions (s - 1) (let z : Session = record no_session { cursors = cursors } in z) in (a.0, omega (arith, a.1, l));
       one_slot = λ r v x one two. stand.tell.one_slot r v x (was r v one) (was r x two);
       has_slot = λ r d more r_in is.
           let ne : r - 1 ≢ s - 1 = λ at. let rs : r ≡ s = omega (arith, at, r_in, s_in) in let none : session_own Next r ≡ [] = ap (session_own Next) rs ∙ own_none in let some : session_own Next r ≡ d ∷ more = is in cc in

@@ -7,7 +7,7 @@ use Rattle.rb_base.specs.declared.shape.Shape.{Shape}
 use Rattle.rb_base.specs.declared.sizes.TheConstants.{ACTIVE}
 use Rattle.rb_model.specs.Book.{marked, finished, left, book_at}
 use Rattle.rb_model.specs.Change.{Change, Kind}
-use Rattle.rb_model.specs.State.{State, Cursor, session_own, with_changes}
+use Rattle.rb_model.specs.State.{State, Cursor, no_session, session_own, with_changes}
 use Rattle.rb_segment.specs.Header.{Segment}
 use Rattle.rb_segment.specs.MoveLaws.{book_ready}
 use Rattle.rb_standing.specs.Says.{place_of}
@@ -43,7 +43,7 @@ with_own h s front = record h { sessions = set h.sessions (s - 1) (with_changes 
 abbrev pub after_commit : State → ℕ → ℕ → ℕ → List Cursor → State
 after_commit h s t n cursors = record h {
   commits = record h.commits { list = h.commits.list ++ session_own h s ∷ [] };
-  sessions = set h.sessions (s - 1) (record { own = []; savepoints = []; cursors = cursors });
+  sessions = set h.sessions (s - 1) (record no_session { cursors = cursors });
   books = set h.books (t / 16) (finished n (t % 16) (book_at h.books (t / 16)));
 }
 

@@ -213,9 +213,9 @@ module _ (h : State) (xids : List Xid) (before now : List (List ℕ)) (s : ℕ) 
         let moved_segments = ap (owed h.shape) (segments_ended h.shape T before now is) in
         let a = owed_is h.shape before in
         let b = owed_is h.shape now in
-        let free : (cursors : List Cursor) → BlocksStand (record (after_end h T) { sessions = set h.sessions (s - 1) (record { own = []; savepoints = []; cursors = map not_present cursors }) }) xids now = λ cursors.
-        cursors_free (after_end h T) s (record { own = []; savepoints = []; cursors = map not_present cursors }) s_in (sym empty) xids now kept in
-        let state : (cursors : List Cursor) → record (after_end h T) { sessions = set h.sessions (s - 1) (record { own = []; savepoints = []; cursors = map not_present cursors }) } ≡ without_owner x.seg x.slot (ended h s cursors) = λ cursors. rw (seg_is, slot_is) refl in
+        let free : (cursors : List Cursor) → BlocksStand (record (after_end h T) { sessions = set h.sessions (s - 1) (record no_session { cursors = map not_present cursors }) }) xids now = λ cursors.
+        cursors_free (after_end h T) s (record no_session { cursors = map not_present cursors }) s_in (sym empty) xids now kept in
+        let state : (cursors : List Cursor) → record (after_end h T) { sessions = set h.sessions (s - 1) (record no_session { cursors = map not_present cursors }) } ≡ without_owner x.seg x.slot (ended h s cursors) = λ cursors. rw (seg_is, slot_is) refl in
         record {
           stand = λ cursors. subst (λ (z : State). BlocksStand z xids now) (state cursors) (free cursors);
           ids = λ r v mine. ids_ended h xids before now stand s T t_in owns empty is v;

@@ -32,10 +32,10 @@ use Rattle.rb_walk.specs.Walk.{Env}
 
 -- a state in which the session has no change, and these cursors, of no present transaction
 module _ (h h2 : State) (xids xids2 : List Xid) (env env2 : Env) (s : ℕ) (cursors : List machine.Cursor) (low : 1 ≤ s) (high : s ≤ length h.sessions)
-    (sessions : h2.sessions ≡ set h.sessions (s - 1) (record { own = []; savepoints = []; cursors = map not_present cursors })) (keeps : Keeps h h2 xids xids2) (none : HasNoSlot h2 s)
+    (sessions : h2.sessions ≡ set h.sessions (s - 1) (record no_session { cursors = map not_present cursors })) (keeps : Keeps h h2 xids xids2) (none : HasNoSlot h2 s)
     (owns : (u t : ℕ) → u ≢ s → Owns h u t → Owns h2 u t) (owned : (u t : ℕ) → u ≢ s → Owns h2 u t → Owns h u t) (ids : KeepsIds h env env2) where
   abbrev ended : Session
-  ended = record { own = []; savepoints = []; cursors = map not_present cursors }
+  ended = record no_session { cursors = map not_present cursors }
 
   moves : Moves h h2 xids xids2 env env2 s
   moves = record {
