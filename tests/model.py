@@ -1,8 +1,9 @@
 """What right replies are: a second machine of lines, replies, rows and books, by docs/MODEL.md alone. It knows no block
 and no file, and shares nothing with the program or with tools/. tests/model_check compares it with the program.
 
-All replies but one follow from the lines. Where what a `fetch` needs was given up it may be answered `too old`, and may
-go on all the same. So the machine is told what the program said, and takes a `too old` over where one may come."""
+All replies but one follow from the lines. Where what a `fetch` or a serializable transaction's write needs was given up
+it may be answered `too old`, and may go on all the same. So the machine is told what the program said, and takes a `too
+old` over where one may come."""
 import re
 
 SESSIONS, HOME_KEYS, HOME_SESSIONS = 16, 16, 8
@@ -11,12 +12,15 @@ SLOTS, TURN_RECORDS, MOST_TURNS = 16, 40, 8
 
 ID, KEY = (r"(0|[1-9]\d*)", 2**16 - 1), (r"(0|[1-9]\d*)", 2**64 - 1)
 COUNT, NAME, VALUE = (r"([1-9]\d*)", 10**6), (r"([a-z0-9_]{1,16})", None), (r"([!-~]+)", None)
+READ_COMMITTED, READ_ONLY, SERIALIZABLE = MODES = ["read-committed", "read-only", "serializable"]
+MODE = (f"({'|'.join(MODES)})", None)
 COMMANDS = [
     ("insert", ID, ID, KEY, VALUE), ("update", ID, ID, KEY, VALUE), ("delete", ID, ID, KEY), ("lock", ID, ID, KEY),
-    ("savepoint", ID, NAME), ("rollback", ID, NAME), ("rollback", ID), ("commit", ID),
+    ("set", ID, MODE), ("savepoint", ID, NAME), ("rollback", ID, NAME), ("rollback", ID), ("commit", ID),
     ("open", ID, NAME, ID, KEY, KEY), ("fetch", ID, NAME, COUNT), ("close", ID, NAME), ("cancel", ID),
     ("marks",), ("checkpoint",),
 ]
+WRITES = ["insert", "update", "delete", "lock"]
 FORMS = [(word, fields, re.compile(" ".join([word, *(pattern for pattern, _ in fields)]), re.ASCII))
          for word, *fields in COMMANDS]
 
@@ -140,8 +144,9 @@ class Change:
 
 
 class Session:
-    """A session's transaction and its open cursors. The transaction has its live changes, in order, the place where it
-    writes its records, and its savepoints: of each name, in order of setting, how many changes were before it."""
+    """A session's transaction and its open cursors. The transaction has its mode, with the number and rows of its
+    snapshot where it has one of its own, its live changes, in order, the place where it writes its records, and its
+    savepoints: of each name, in order of setting, how many changes were before it."""
 
     def __init__(self, number):
         self.number, self.cursors = number, {}
@@ -150,6 +155,7 @@ class Session:
     def fresh(self):
         """No transaction runs. The cursors stay."""
         self.place, self.savepoints = None, {}
+        self.mode, self.snapshot = READ_COMMITTED, None
         self.keep([])
         for cursor in self.cursors.values():
             cursor.seen = 0
@@ -209,6 +215,8 @@ class Model:
         self.moments = [Moment({}, 0, [Book() for _ in range(segments)], 0)]
         # Of each home, by its table and number, the commits with changes there, in order.
         self.visits = {}
+        # Of each row, the numbers of this run's commits that changed it, in order. (A lock changes nothing.)
+        self.changers = {}
         self.restart(0)
 
     def restart(self, groups):
@@ -221,6 +229,7 @@ class Model:
         self.queue = []
         # The replies to the writes that were tried again behind the last line.
         self.resumed = []
+        self.changers.clear()
         self.books = [book.copied() for book in left.books]
         for book in self.books:
             book.owners = [None] * SLOTS
@@ -264,7 +273,7 @@ class Model:
     def line(self, line, said=lambda place: b""):
         """The replies to a line, to which the program's are those that `said` gives by their places."""
         own = self.own_replies(line, said)
-        self.resumed = self.resume()
+        self.resumed = self.resume(lambda place: said(len(own) + place))
         return own + self.resumed
 
     def own_replies(self, line, said):
@@ -285,35 +294,34 @@ class Model:
             self.durable = self.logged
             return [b"ok"]
         number, *parts = parts
-        if word == "fetch":
-            parts.append(lambda place: said(place).decode("latin-1").partition(" ")[2])
-        return self.replies(word, number, parts)
+        return self.replies(word, number, parts, said)
 
-    def replies(self, word, number, parts):
+    def replies(self, word, number, parts, said):
         """The replies to the calls of a command."""
-        return [b"%d %s" % (number, text.encode("latin-1")) for text in self.answers(word, number, parts)]
+        answers = self.answers(word, number, parts, lambda place: said(place).decode("latin-1").partition(" ")[2])
+        return [b"%d %s" % (number, text.encode("latin-1")) for text in answers]
 
-    def answers(self, word, number, parts):
-        """The replies without the session's number."""
+    def answers(self, word, number, parts, said):
+        """The replies without the session's number, also those that `said` gives."""
         given = []
         try:
             if number not in self.sessions:
                 raise Refused("no session")
             if self.is_queued(number) != (word == "cancel"):
                 raise Refused("not waiting" if word == "cancel" else "waiting")
-            for text in self.calls(word, self.sessions[number], parts):
+            for text in self.calls(word, self.sessions[number], parts, said):
                 given.append(text)
         except Refused as why:
             given.append(str(why))
         return given
 
-    def calls(self, word, session, parts):
-        if word in ("insert", "update", "delete", "lock"):
-            return [self.write(session, word, *parts)]
+    def calls(self, word, session, parts, said):
+        if word in WRITES:
+            return [self.write(session, said, word, *parts)]
         if word == "fetch":
-            return self.fetch(session, *parts)
-        calls = {"commit": self.commit, "savepoint": self.savepoint, "rollback": self.rollback, "open": self.open,
-                 "close": self.close, "cancel": self.cancel}
+            return self.fetch(session, said, *parts)
+        calls = {"commit": self.commit, "set": self.set_mode, "savepoint": self.savepoint, "rollback": self.rollback,
+                 "open": self.open, "close": self.close, "cancel": self.cancel}
         return [calls[word](session, *parts)]
 
     # ---- The queue
@@ -336,9 +344,9 @@ class Model:
         self.queue = [waiter for waiter in self.queue if waiter.session != session.number]
         return "ok"
 
-    def resume(self):
+    def resume(self, said):
         """While one is ready, the first of the ready ones leaves the queue and tries its write again. Gives their
-        replies."""
+        replies, to which the program's are those that `said` gives."""
         replies = []
         while True:
             ready = next((waiter for waiter in self.queue if waiter.on is None), None)
@@ -346,7 +354,8 @@ class Model:
                 return replies
             self.queue.remove(ready)
             word, *parts = ready.write
-            replies += self.replies(word, ready.session, parts)
+            first = len(replies)
+            replies += self.replies(word, ready.session, parts, lambda place: said(first + place))
 
     # ---- Writes and their ends
 
@@ -362,7 +371,9 @@ class Model:
         """The segment with the fewest owners, the lowest of these."""
         return min(range(len(self.books)), key=lambda at: (len(self.books[at].running()), at))
 
-    def write(self, session, word, table, key, value=None):
+    def write(self, session, said, word, table, key, value=None):
+        if session.mode == READ_ONLY:
+            raise Refused("read only")
         if not 1 <= table <= self.tables:
             raise Refused("no table")
         if value is not None and len(value) > VALUE_BYTES:
@@ -372,6 +383,8 @@ class Model:
         for number, other in others.items():
             if at in other.held:
                 return self.wait(session, (word, table, key, value), number)
+        if session.mode == SERIALIZABLE:
+            self.serialize(session.snapshot[0], at, home, said(0))
         there = (session.own[at] if at in session.own else self.rows.get(at)) is not None
         if there == (word == "insert"):
             raise Refused("duplicate" if there else "not found")
@@ -393,6 +406,15 @@ class Model:
         self.note(home)
         return "ok"
 
+    def serialize(self, number, at, home, reply):
+        """A row that a commit above the number has changed can't be written, and where the home can't be read at the
+        number, that may be the reply in its place."""
+        if self.tells_lost(number, reply) and self.is_worn(home, number):
+            raise Refused(reply)
+        for by in self.changers.get(at, []):
+            if by > number:
+                raise Refused(f"cannot serialize {number} {by}")
+
     def note(self, home):
         """A write in the home notes there at which numbers the others have ended."""
         for visit in reversed(self.visits.get(home, [])):
@@ -407,6 +429,8 @@ class Model:
         book = self.book(segment)
         self.rows, self.number = changed(self.rows, session.own), self.number + 1
         book.finish(slot, self.number)
+        for at in session.own:
+            self.changers.setdefault(at, []).append(self.number)
         for home, record in session.homes.items():
             self.visits.setdefault(home, []).append(Visit(self.number, segment, slot, book.wraps[slot], record))
         self.ended(session)
@@ -429,6 +453,13 @@ class Model:
         for waiter in self.queue:
             if waiter.on == session.number:
                 waiter.on = None
+
+    def set_mode(self, session, mode):
+        if session.mode != READ_COMMITTED or session.changes or session.savepoints:
+            raise Refused("not first")
+        session.mode = mode
+        session.snapshot = None if mode == READ_COMMITTED else (self.number, self.rows)
+        return "ok"
 
     def savepoint(self, session, name):
         if len(session.savepoints.keys() - {name}) == NAMES:
@@ -467,10 +498,11 @@ class Model:
             raise Refused("cursor there")
         if len(session.cursors) == NAMES:
             raise Refused("too many cursors")
-        seen = changed(self.rows, session.own)
+        number, seen = session.snapshot or (self.number, self.rows)
+        seen = changed(seen, session.own)
         rows = [(key, value) for (t, key), value in seen.items() if t == table and lo <= key <= hi]
         rows.sort(key=lambda row: (row[0] % self.blocks, row[0]))
-        session.cursors[name] = Cursor(table, self.number, rows, len(session.changes))
+        session.cursors[name] = Cursor(table, number, rows, len(session.changes))
         return "ok"
 
     def cursor(self, session, name):
@@ -478,7 +510,7 @@ class Model:
             raise Refused("no cursor")
         return session.cursors[name]
 
-    def fetch(self, session, name, count, said):
+    def fetch(self, session, said, name, count):
         cursor = self.cursor(session, name)
         for place in range(count):
             reply = said(place)
@@ -497,10 +529,14 @@ class Model:
 
     # ---- What is too old
 
+    def tells_lost(self, number, reply):
+        """Whether the reply is a `too old` of that snapshot, with what some segment lost above it."""
+        return reply in {f"too old {number} {book.lost}" for book in self.books if book.lost > number}
+
     def may_be_old(self, cursor, reply):
         """Whether this is a `too old` that the next fetch of the cursor may have: it tells the snapshot, and what some
         segment lost above it; and a home needs what was given up, from that of the last row to that of the next one."""
-        if reply not in {f"too old {cursor.number} {book.lost}" for book in self.books if book.lost > cursor.number}:
+        if not self.tells_lost(cursor.number, reply):
             return False
         homes = [key % self.blocks for key, _ in cursor.rows]
         first = homes[cursor.taken - 1] if cursor.taken > 0 else 0

@@ -19,6 +19,7 @@ pub record SameButCursors (h other : Logged) : Type 0 where
   pub commits : h.state.commits ≡ other.state.commits
   pub books : h.state.books ≡ other.state.books
   pub sessions : length h.state.sessions ≡ length other.state.sessions
+  pub isolation : (s : ℕ) → (session_of h.state s).isolation ≡ (session_of other.state s).isolation
   pub own : (s : ℕ) → (session_of h.state s).own ≡ (session_of other.state s).own
   pub savepoints : (s : ℕ) → (session_of h.state s).savepoints ≡ (session_of other.state s).savepoints
   pub queue : h.state.queue ≡ other.state.queue

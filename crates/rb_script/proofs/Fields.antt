@@ -1,12 +1,38 @@
 -- Fields with a space before each are one text in one way only, and what the front of such a text leaves open.
-use Rattle.std.proofs.Common.{◌≡◌, ℕ, suc, true, not, List, [], ◌∷◌, ◌++◌, length, map, refl, ap, sym, subst, ◌∙◌, append-nil, drop, arith}
+use Rattle.std.proofs.Common.{◌≡◌, ℕ, zero, suc, true, not, List, [], ◌∷◌, ◌++◌, length, map, refl, ap, sym, subst, ◌∙◌, append-nil, drop, arith}
 use Rattle.std.specs.Prelude.{◌==◌, ◌&&◌, nat_le}
 use Rattle.std.specs.List.{list_all, AllByRecursion}
 use Rattle.std.proofs.lemmas.Bool.Decides.{nat_tests}
 use Rattle.std.proofs.lemmas.Fmt.{decimal_injective}
-use Rattle.rb_model.specs.Lines.{Field, Id, Key, Count, Named, Valued, IsField, field_text, fields_text, is_value}
-use Rattle.rb_script.specs.Words.{is_word, FieldKind, IdKind, KeyKind, CountKind, NameKind, ValueKind, field_kind, NoFields}
+use Rattle.rb_model.specs.Lines.{Field, Id, Key, Count, Named, Valued, Moded, IsField, field_text, fields_text, is_value, mode_text}
+use Rattle.rb_model.specs.declared.mode.Mode.{Mode}
+use Rattle.rb_model.specs.declared.mode.Mode.TheVariants as mode
+use Rattle.rb_script.specs.Words.{is_word, FieldKind, IdKind, KeyKind, CountKind, NameKind, ValueKind, ModeKind, field_kind, NoFields}
 use Rattle.rb_script.proofs.Spaced.{decimal_is_word, name_is_word, same_front, is_tail}
+
+-- the modes, numbered
+abbrev pub mode_numbered : ℕ → Mode
+mode_numbered zero = mode.ReadCommitted
+mode_numbered (suc zero) = mode.ReadOnly
+mode_numbered (suc (suc n)) = mode.Serializable
+
+abbrev number_of : Mode → ℕ
+number_of mode.ReadCommitted = 0
+number_of mode.ReadOnly = 1
+number_of mode.Serializable = 2
+
+same_numbered : (m : Mode) → mode_numbered (number_of m) ≡ m
+same_numbered mode.ReadCommitted = refl
+same_numbered mode.ReadOnly = refl
+same_numbered mode.Serializable = refl
+
+same_mode : (m n : Mode) → mode_text m ≡ mode_text n → m ≡ n
+same_mode m n e = grind arith
+
+mode_is_word : (m : Mode) → is_word (mode_text m) ≡ true
+mode_is_word mode.ReadCommitted = refl
+mode_is_word mode.ReadOnly = refl
+mode_is_word mode.Serializable = refl
 
 -- the number or the bytes that a field holds, and else nothing
 abbrev pub number_in : Field → ℕ
@@ -15,6 +41,7 @@ number_in (Key n) = n
 number_in (Count n) = n
 number_in (Named name) = 0
 number_in (Valued value) = 0
+number_in (Moded mode) = number_of mode
 
 abbrev pub bytes_in : Field → List ℕ
 bytes_in (Id n) = []
@@ -22,6 +49,7 @@ bytes_in (Key n) = []
 bytes_in (Count n) = []
 bytes_in (Named name) = name
 bytes_in (Valued value) = value
+bytes_in (Moded mode) = []
 
 -- the field of that kind that holds them
 abbrev pub field : FieldKind → ℕ → List ℕ → Field
@@ -30,6 +58,7 @@ field KeyKind n bytes = Key n
 field CountKind n bytes = Count n
 field NameKind n bytes = Named bytes
 field ValueKind n bytes = Valued bytes
+field ModeKind n bytes = Moded (mode_numbered n)
 
 same_again : (f : Field) → field (field_kind f) (number_in f) (bytes_in f) ≡ f
 same_again (Id n) = refl
@@ -37,6 +66,7 @@ same_again (Key n) = refl
 same_again (Count n) = refl
 same_again (Named name) = refl
 same_again (Valued value) = refl
+same_again (Moded mode) = ap Moded (same_numbered mode)
 
 value_byte_is_no_space : (b : ℕ) → (nat_le 33 b && nat_le b 126) ≡ true → not (b == 32) ≡ true
 value_byte_is_no_space b p = grind (arith, nat_tests)
@@ -61,6 +91,7 @@ field_is_word (Key n) valid = decimal_is_word n valid
 field_is_word (Count n) valid = decimal_is_word n (omega arith)
 field_is_word (Named name) valid = name_is_word name valid
 field_is_word (Valued value) valid = value_is_word value valid
+field_is_word (Moded mode) valid = mode_is_word mode
 
 same_held : (k : FieldKind) (m n : ℕ) (a b : List ℕ) → IsField (field k m a) → IsField (field k n b)
     → field_text (field k m a) ≡ field_text (field k n b) → field k m a ≡ field k n b
@@ -69,6 +100,7 @@ same_held KeyKind m n a b p q e = ap Key (decimal_injective m n p q e)
 same_held CountKind m n a b p q e = ap Count (decimal_injective m n (omega arith) (omega arith) e)
 same_held NameKind m n a b p q e = ap Named e
 same_held ValueKind m n a b p q e = ap Valued e
+same_held ModeKind m n a b p q e = ap Moded (same_mode (mode_numbered m) (mode_numbered n) e)
 
 pub fields_tail : (fields : List Field) → is_tail (fields_text fields) ≡ true
 fields_tail [] = refl

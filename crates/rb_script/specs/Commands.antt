@@ -4,7 +4,7 @@ use Rattle.rb_model.specs.Lines as lines
 use Rattle.rb_model.specs.Names.{name_text}
 use Rattle.rb_model.specs.Answers.{action_of}
 use Rattle.rb_script.specs.declared.command.Command.{Command}
-use Rattle.rb_script.specs.declared.command.Command.TheVariants.{Write, Lock, Commit, Rollback, Savepoint}
+use Rattle.rb_script.specs.declared.command.Command.TheVariants.{Write, Lock, Commit, Rollback, Set, Savepoint}
 use Rattle.rb_script.specs.declared.command.Command.TheVariants.{RollbackTo, OpenCursor, Fetch, CloseCursor}
 use Rattle.rb_script.specs.declared.command.Command.TheVariants.{Cancel, Marks, Checkpoint}
 
@@ -14,6 +14,7 @@ command_of (Write s t k op) = lines.WriteLine s t k (action_of op)
 command_of (Lock s t k) = lines.WriteLine s t k calls.Lock
 command_of (Commit s) = lines.CommitLine s
 command_of (Rollback s) = lines.RollbackLine s
+command_of (Set s mode) = lines.SetLine s mode
 command_of (Savepoint s name) = lines.SavepointLine s (name_text name)
 command_of (RollbackTo s name) = lines.RollbackToLine s (name_text name)
 command_of (OpenCursor s name t lo hi) = lines.OpenLine s (name_text name) t lo hi

@@ -1,7 +1,7 @@
 -- Words of a line, and the kinds of its fields.
 use Rattle.std.specs.Prelude.{◌≡◌, ◌≢◌, ℕ, Bool, true, false, not, ◌==◌, List, [], ◌∷◌, map}
 use Rattle.std.specs.List.{list_all, AllByRecursion}
-use Rattle.rb_model.specs.Lines.{Field, Id, Key, Count, Named, Valued, IsField, fields_text}
+use Rattle.rb_model.specs.Lines.{Field, Id, Key, Count, Named, Valued, Moded, IsField, fields_text}
 use Rattle.rb_model.specs.Lines.{Word, InsertWord, UpdateWord, DeleteWord, LockWord}
 
 -- no byte is a space
@@ -23,6 +23,7 @@ pub data FieldKind : Type 0 where
   CountKind : FieldKind
   NameKind : FieldKind
   ValueKind : FieldKind
+  ModeKind : FieldKind
 
 abbrev pub field_kind : Field → FieldKind
 field_kind (Id n) = IdKind
@@ -30,6 +31,7 @@ field_kind (Key n) = KeyKind
 field_kind (Count n) = CountKind
 field_kind (Named name) = NameKind
 field_kind (Valued value) = ValueKind
+field_kind (Moded mode) = ModeKind
 
 -- the text is no fields of these kinds
 abbrev pub NoFields : List FieldKind → List ℕ → Type 0

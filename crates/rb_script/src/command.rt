@@ -3,7 +3,7 @@ ghost use Rattle.std.specs.Prelude.{◌≡◌};
 ghost use Rattle.rb_model.specs.Lines as lines;
 ghost use Rattle.rb_model.specs.Lines.{IsCommand, spelling};
 
-use rb_model::{Name, Op};
+use rb_model::{Mode, Name, Op};
 
 /// A command, with its parts in range.
 /// `s` is the number of a session, `t` that of a table; `k`, `lo` and `hi` are keys.
@@ -29,6 +29,11 @@ pub enum Command<'a> {
     /// `rollback S`.
     Rollback {
         s: u16,
+    },
+    /// `set S MODE`, of `read-committed`, `read-only` and `serializable`.
+    Set {
+        s: u16,
+        mode: Mode,
     },
     /// `savepoint S NAME`.
     Savepoint {

@@ -8,7 +8,9 @@ ghost use Rattle.rb_script.specs.Words.{NoFields, is_word, key_fields, key_kinds
 ghost use Rattle.rb_script.specs.Words.{names_key, row_fields, row_kinds};
 
 use crate::command::Command;
-use crate::words::{count_of, id_and_rest, id_of, is_visible, key_and_rest, name_and_rest, split};
+use crate::words::{
+    count_of, id_and_rest, id_of, is_visible, key_and_rest, mode_of, name_and_rest, split,
+};
 use rb_base::parse_decimal;
 use rb_model::{Name, Op};
 
@@ -110,6 +112,16 @@ fn rollback_of(fields: &[u8]) -> Option<Command<'_>>
     Some(Command::RollbackTo { s, name })
 }
 
+// the command of the line that is `set`, a space and these fields
+fn set_of(fields: &[u8]) -> Option<Command<'_>>
+    ensures found { IfSome result (λ command. Spells (codes "set" ++ 32 ∷ fields.now) (command_of command)) }
+    ensures none { IfNone result (SpellsNone (codes "set" ++ 32 ∷ fields.now)) }
+{
+    let (s, word) = id_and_rest(fields)?;
+    let mode = mode_of(word)?;
+    Some(Command::Set { s, mode })
+}
+
 // the command of the line that is `savepoint`, a space and these fields
 fn savepoint_of(fields: &[u8]) -> Option<Command<'_>>
     ensures found { IfSome result (λ command. Spells (codes "savepoint" ++ 32 ∷ fields.now) (command_of command)) }
@@ -188,6 +200,9 @@ fn command_of_session<'a>(word: &[u8], fields: &'a [u8]) -> Option<Command<'a>>
     }
     if word == b"rollback".as_slice() {
         return rollback_of(fields);
+    }
+    if word == b"set".as_slice() {
+        return set_of(fields);
     }
     if word == b"savepoint".as_slice() {
         return savepoint_of(fields);

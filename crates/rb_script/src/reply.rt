@@ -86,6 +86,10 @@ fn put_refusal(why: Refusal, into: &mut Line)
             put_part(scn, into);
             put_part(lost, into);
         }
+        Refusal::CantSerialize { scn, by } => {
+            put_part(scn, into);
+            put_part(by, into);
+        }
         Refusal::RollbackFull { seg, since } => {
             put_part(u64::from(seg), into);
             put_part(since, into);

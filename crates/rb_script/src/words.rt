@@ -5,11 +5,12 @@ ghost use Rattle.std.specs.List.{list_all};
 ghost use Rattle.std.specs.Fmt.{decimal};
 ghost use Rattle.rb_model.specs.NameTest.{is_name};
 ghost use Rattle.rb_model.specs.Names.{name_text};
-ghost use Rattle.rb_model.specs.Lines.{is_value};
+ghost use Rattle.rb_model.specs.Lines.{is_value, mode_text};
+ghost use Rattle.rb_model.specs.declared.mode.Mode as modes;
 ghost use Rattle.rb_script.specs.Words.{is_word};
 
 use rb_base::parse_decimal;
-use rb_model::Name;
+use rb_model::{Mode, Name};
 
 /// What stands before and after the first space.
 pub fn split(text: &[u8]) -> Option<(&[u8], &[u8])>
@@ -85,6 +86,23 @@ pub fn name_and_rest(text: &[u8]) -> Option<(Name, &[u8])>
     let (front, rest) = split(text)?;
     let name = Name::new(front)?;
     Some((name, rest))
+}
+
+/// The mode that the word names.
+pub fn mode_of(word: &[u8]) -> Option<Mode>
+    ensures found { IfSome result (λ mode. word.now ≡ mode_text mode) }
+    ensures none { IfNone result ((mode : modes.Mode) → word.now ≢ mode_text mode) }
+{
+    if word == b"read-committed".as_slice() {
+        return Some(Mode::ReadCommitted);
+    }
+    if word == b"read-only".as_slice() {
+        return Some(Mode::ReadOnly);
+    }
+    if word == b"serializable".as_slice() {
+        return Some(Mode::Serializable);
+    }
+    None
 }
 
 fn is_visible_byte(byte: u8) -> bool

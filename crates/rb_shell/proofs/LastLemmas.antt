@@ -25,7 +25,7 @@ pub only_fault : (h : State) (n more : ℕ) (why : Refusal) → h.stopped ≡ fa
 only_fault h n more why going (early some is) = absurd (false≢true (sym some ∙ rw going refl))
 only_fault h n more why going (later tests none which is) = let clash : Refused why ≡ Done = is ∙ ap (λ ts. first_of ts Done) which in absurd cc
 only_fault h n more why going (calls.fault none is) = cc
-only_fault h n more why going (calls.old none late) = let clash : Checkpoint ≡ Fetch late.session late.name = late.fetches in absurd cc
+only_fault h n more why going (calls.old none late) = absurd late.reads
 
 module _ {S : Type 0} (s : Ghosts S) (laws : Laws s) (m : Logged) (old new : EngineView S) (is : StandsAs s old m) (going : m.state.stopped ≡ false) where
   -- an image has all to the last group

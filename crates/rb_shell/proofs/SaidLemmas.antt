@@ -19,13 +19,17 @@ use Rattle.rb_model.specs.Answers.{answer_of}
 use Rattle.rb_model.specs.declared.answer.Answer as code
 use Rattle.rb_model.specs.declared.answer.Answer.TheVariants as answers
 use Rattle.rb_model.specs.declared.row.Row.{Row}
-use Rattle.rb_model.specs.Calls.{Action, Answer, Call, Write, Commit, Rollback, SetSavepoint, RollbackTo, OpenCursor, Fetch, CloseCursor, Cancel, Marks, Checkpoint, Done, Waits, Numbered, Given, End, Marked, Refused, Reply, early, later, name_tests, early_tests, failed_in, first_of, granted, is_fault, none_applies, waited, write_tests}
+use Rattle.rb_model.specs.Calls.{Action, Answer, Call, Write, Commit, Rollback, SetMode, SetSavepoint, RollbackTo, OpenCursor, Fetch, CloseCursor, Cancel, Marks, Checkpoint, Done, Waits, Numbered, Given, End, Marked, Refused, Reply, early, later, name_tests, early_tests, failed_in, first_of, granted, is_fault, none_applies, refused_by, serial_tests, waited, write_tests}
 use Rattle.rb_model.specs.Calls as calls
-use Rattle.rb_model.specs.Lines.{Command, WriteLine, CommitLine, RollbackLine, SavepointLine, RollbackToLine, OpenLine, FetchLine, CloseLine, CancelLine, MarksLine, CheckpointLine, Spells, call_of, caller, most_calls, reply_text, without_return}
+use Rattle.rb_model.specs.Late.{late}
+use Rattle.rb_model.specs.Lines.{Command, WriteLine, CommitLine, RollbackLine, SetLine, SavepointLine, RollbackToLine, OpenLine, FetchLine, CloseLine, CancelLine, MarksLine, CheckpointLine, Spells, call_of, caller, most_calls, reply_text, without_return}
 use Rattle.rb_model.specs.NextState.{After, Grows, cursors_of, with_cursors, with_taken}
 use Rattle.rb_model.specs.Out.{IsSettled, Logged, room, CallOut, CallsOut, CommandOut, LineSaid, command, goes_on}
 use Rattle.rb_model.specs.Queue.{Waiter, first_ready}
 use Rattle.rb_model.specs.State.{State, Session, Cursor, no_session}
+use Rattle.rb_model.specs.Rows.{Commits}
+use Rattle.rb_model.specs.declared.mode.Isolation.{Isolation}
+use Rattle.rb_model.specs.declared.mode.Isolation.TheVariants as isolation
 use Rattle.rb_model.proofs.Stops.{after_stops, early_no_fault, fine_stays, first_keeps, granted_fine, refused_same}
 use Rattle.rb_model.specs.Tests.{holder}
 use Rattle.rb_shell.specs.Since.{IsSince, StandsAs, slots_of}
@@ -34,10 +38,10 @@ use Rattle.rb_shell.specs.Steps.{Added, CalledOnce, Calls, Lost, Said, SaidAs, S
 -- a state and itself, and what differs by fetches
 
 pub itself : (m : Logged) → SameButCursors m m
-itself m = record { lsn = refl; shape = refl; commits = refl; books = refl; sessions = refl; own = λ s. refl; savepoints = λ s. refl; queue = refl; asked = refl; stopped = refl; fault = refl }
+itself m = record { lsn = refl; shape = refl; commits = refl; books = refl; sessions = refl; isolation = λ s. refl; own = λ s. refl; savepoints = λ s. refl; queue = refl; asked = refl; stopped = refl; fault = refl }
 
 same_joined : (a b c : Logged) → SameButCursors a b → SameButCursors b c → SameButCursors a c
-same_joined a b c x y = record { lsn = x.lsn ∙ y.lsn; shape = x.shape ∙ y.shape; commits = x.commits ∙ y.commits; books = x.books ∙ y.books; sessions = x.sessions ∙ y.sessions; own = λ s. x.own s ∙ y.own s; savepoints = λ s. x.savepoints s ∙ y.savepoints s; queue = x.queue ∙ y.queue; asked = x.asked ∙ y.asked; stopped = x.stopped ∙ y.stopped; fault = x.fault ∙ y.fault }
+same_joined a b c x y = record { lsn = x.lsn ∙ y.lsn; shape = x.shape ∙ y.shape; commits = x.commits ∙ y.commits; books = x.books ∙ y.books; sessions = x.sessions ∙ y.sessions; isolation = λ s. x.isolation s ∙ y.isolation s; own = λ s. x.own s ∙ y.own s; savepoints = λ s. x.savepoints s ∙ y.savepoints s; queue = x.queue ∙ y.queue; asked = x.asked ∙ y.asked; stopped = x.stopped ∙ y.stopped; fault = x.fault ∙ y.fault }
 
 -- what a session has beside its cursors stays as these change
 stays : {A : Type 0} (f : Session → A) (sessions : List Session) (i j : ℕ) (d : Session) (cursors : List Cursor) → ((x : Session) → f (record x { cursors = cursors }) ≡ f x)
@@ -49,7 +53,7 @@ stays f (x ∷ sessions) (suc i) zero d cursors same = refl
 stays f (x ∷ sessions) (suc i) (suc j) d cursors same = stays f sessions i j d cursors same
 
 taken_same : (h : State) (f : Option Call) (s : ℕ) (name : List ℕ) (n : ℕ) → SameButCursors (record { state = with_cursors h s (with_taken name (cursors_of h s)); lsn = n; fault = f }) (record { state = h; lsn = n; fault = f })
-taken_same h f s name n = record { lsn = refl; shape = refl; commits = refl; books = refl; sessions = length-set h.sessions (s - 1) _; own = λ t. stays (λ (x : Session). x.own) h.sessions (s - 1) (t - 1) no_session (with_taken name (cursors_of h s)) (λ x. refl); savepoints = λ t. stays (λ (x : Session). x.savepoints) h.sessions (s - 1) (t - 1) no_session (with_taken name (cursors_of h s)) (λ x. refl); queue = refl; asked = refl; stopped = refl; fault = refl }
+taken_same h f s name n = record { lsn = refl; shape = refl; commits = refl; books = refl; sessions = length-set h.sessions (s - 1) _; isolation = λ t. stays (λ (x : Session). x.isolation) h.sessions (s - 1) (t - 1) no_session (with_taken name (cursors_of h s)) (λ x. refl); own = λ t. stays (λ (x : Session). x.own) h.sessions (s - 1) (t - 1) no_session (with_taken name (cursors_of h s)) (λ x. refl); savepoints = λ t. stays (λ (x : Session). x.savepoints) h.sessions (s - 1) (t - 1) no_session (with_taken name (cursors_of h s)) (λ x. refl); queue = refl; asked = refl; stopped = refl; fault = refl }
 
 -- A state after a call that reads, whatever it answered but a fault, and no group that it gave.
 abbrev AfterRead : State → ℕ → Call → Answer → Type 0
@@ -113,6 +117,15 @@ waited_ends : (queue : List Waiter) (s : ℕ) (o : Option ℕ) → list_all (λ 
 waited_ends queue s None = refl
 waited_ends queue s (Some u) = refl
 
+refused_ends : (snapshot : ℕ) (late : Option ℕ) → list_all (λ test. not (goes_on test.1)) (refused_by snapshot late) ≡ true
+refused_ends snapshot None = refl
+refused_ends snapshot (Some by) = refl
+
+serial_ends : (commits : Commits) (i : Isolation) (table key : ℕ) → list_all (λ test. not (goes_on test.1)) (serial_tests commits i table key) ≡ true
+serial_ends commits isolation.ReadCommitted table key = refl
+serial_ends commits (isolation.ReadOnly snapshot) table key = refl
+serial_ends commits (isolation.Serializable snapshot) table key = refused_ends snapshot (late commits snapshot table key)
+
 early_ends : (h : State) (c : Call) → goes_on (first_of (early_tests h c) Done) ≡ false
 early_ends h c = not-true (goes_on (first_of (early_tests h c) Done)) (first_keeps (λ r. not (goes_on r)) (early_tests h c) Done (tests_end h c) refl)
   where
@@ -123,7 +136,7 @@ write_ends : (h : State) (n more g i s table key : ℕ) (action : Action) → go
 write_ends h n more g i s table key action = not-true (goes_on (first_of (write_tests h n more g i s table key action) Done)) (first_keeps (λ r. not (goes_on r)) (write_tests h n more g i s table key action) Done (tests_end (holder h table key)) refl)
   where
     tests_end : (o : Option ℕ) → list_all (λ test. not (goes_on test.1)) (write_tests h n more g i s table key action) ≡ true
-    tests_end o = grind (arith, waited_ends)
+    tests_end o = grind (arith, waited_ends, serial_ends)
 
 named_ends : (h : State) (c : Call) → not (goes_on (granted h c)) ≡ true → goes_on (first_of (name_tests h c) (granted h c)) ≡ false
 named_ends h c none = not-true (goes_on (first_of (name_tests h c) (granted h c))) (first_keeps (λ r. not (goes_on r)) (name_tests h c) (granted h c) (tests_end h c) none)
@@ -147,6 +160,7 @@ reads MarksLine k h n more r (later tests none which is) gives = inr refl
 reads (WriteLine s table key action) k h n more r (later tests none (g, i, w, e) is) gives = clash r _ (is ∙ ap (λ (ts : List (Bool × Answer)). first_of ts Done) e) (write_ends h n more g i s table key action) gives
 reads (CommitLine s) k h n more r (later tests none which is) gives = clash r _ (is ∙ ap (λ (ts : List (Bool × Answer)). first_of ts (granted h (Commit s))) which) (named_ends h (Commit s) (commit_ends h s)) gives
 reads (RollbackLine s) k h n more r (later tests none which is) gives = clash r _ (is ∙ ap (λ (ts : List (Bool × Answer)). first_of ts Done) which) refl gives
+reads (SetLine s mode) k h n more r (later tests none which is) gives = clash r _ (is ∙ ap (λ (ts : List (Bool × Answer)). first_of ts Done) which) (named_ends h (SetMode s mode) refl) gives
 reads (SavepointLine s name) k h n more r (later tests none which is) gives = clash r _ (is ∙ ap (λ (ts : List (Bool × Answer)). first_of ts Done) which) (named_ends h (SetSavepoint s name) refl) gives
 reads (RollbackToLine s name) k h n more r (later tests none which is) gives = clash r _ (is ∙ ap (λ (ts : List (Bool × Answer)). first_of ts Done) which) (named_ends h (RollbackTo s name) refl) gives
 reads (OpenLine s name table lo hi) k h n more r (later tests none which is) gives = clash r _ (is ∙ ap (λ (ts : List (Bool × Answer)). first_of ts Done) which) (named_ends h (OpenCursor s name table lo hi) refl) gives
@@ -232,6 +246,7 @@ many_read shape MarksLine many = inr refl
 many_read shape (WriteLine s table key action) many = absurd (many (omega arith))
 many_read shape (CommitLine s) many = absurd (many (omega arith))
 many_read shape (RollbackLine s) many = absurd (many (omega arith))
+many_read shape (SetLine s mode) many = absurd (many (omega arith))
 many_read shape (SavepointLine s name) many = absurd (many (omega arith))
 many_read shape (RollbackToLine s name) many = absurd (many (omega arith))
 many_read shape (OpenLine s name table lo hi) many = absurd (many (omega arith))

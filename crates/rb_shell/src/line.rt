@@ -68,6 +68,7 @@ fn caller_of(command: &Command<'_>) -> Option<u16>
         Command::Lock { s, t: _, k: _ } => Some(*s),
         Command::Commit { s } => Some(*s),
         Command::Rollback { s } => Some(*s),
+        Command::Set { s, mode: _ } => Some(*s),
         Command::Savepoint { s, name: _ } => Some(*s),
         Command::RollbackTo { s, name: _ } => Some(*s),
         Command::OpenCursor {
@@ -126,6 +127,7 @@ fn answer<T: Store>(engine: &mut Engine<T>, command: &Command<'_>, k: u32, row: 
         Command::Lock { s, t, k } => answer_to_write(engine.lock(*s, *t, *k)),
         Command::Commit { s } => answer_to_commit(engine.commit(*s)),
         Command::Rollback { s } => answer_to_call(engine.rollback(*s)),
+        Command::Set { s, mode } => answer_to_call(engine.set(*s, *mode)),
         Command::Savepoint { s, name } => answer_to_call(engine.savepoint(*s, name)),
         Command::RollbackTo { s, name } => answer_to_call(engine.rollback_to(*s, name)),
         Command::OpenCursor { s, name, t, lo, hi } => {

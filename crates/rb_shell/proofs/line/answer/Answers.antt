@@ -54,6 +54,17 @@ returns-in-Rollback-clause-disk g c = counted_as _ _ _ _ (sym (c.answer_to_call.
 pub returns-in-Rollback-clause-fits : goal.returns-in-Rollback-clause-fits
 returns-in-Rollback-clause-fits g c = subst (λ (command : Command). FitsCaller (caller (command_of command)) c.answer_to_call.result) (sym c.in-Rollback.is) (c.answer_to_call.ensures.fits (Some c.in-Rollback.s))
 
+pub returns-in-Set-clause-did : goal.returns-in-Set-clause-did
+returns-in-Set-clause-did g c = λ h st.
+    subst (λ (command : Command). Does g.T.Store h (call_of (command_of command) c.args.k) (answer_of c.answer_to_call-in-Set.result c.args.row.now) c.args.engine.now c.set.new.self) (sym c.in-Set.is)
+    (subst (λ (r : Answer). Does g.T.Store h (call_of (command_of (commands.Set c.in-Set.s c.in-Set.mode)) c.args.k) r c.args.engine.now c.set.new.self) (sym (c.answer_to_call-in-Set.ensures.answer c.args.row.now)) (c.set.ensures.did h st))
+
+pub returns-in-Set-clause-disk : goal.returns-in-Set-clause-disk
+returns-in-Set-clause-disk g c = counted_as _ _ _ _ (sym (c.answer_to_call-in-Set.ensures.fault c.args.row.now)) c.set.ensures.disk
+
+pub returns-in-Set-clause-fits : goal.returns-in-Set-clause-fits
+returns-in-Set-clause-fits g c = subst (λ (command : Command). FitsCaller (caller (command_of command)) c.answer_to_call-in-Set.result) (sym c.in-Set.is) (c.answer_to_call-in-Set.ensures.fits (Some c.in-Set.s))
+
 pub returns-in-Savepoint-clause-did : goal.returns-in-Savepoint-clause-did
 returns-in-Savepoint-clause-did g c = λ h st.
     subst (λ (command : Command). Does g.T.Store h (call_of (command_of command) c.args.k) (answer_of c.answer_to_call-in-Savepoint.result c.args.row.now) c.args.engine.now c.savepoint.new.self) (sym c.in-Savepoint.is)
