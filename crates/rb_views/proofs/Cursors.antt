@@ -5,12 +5,13 @@ use Rattle.std.proofs.lemmas.Slice.Eq.{bytes_eq-Decides}
 use Rattle.std.specs.Str.{bytes_eq}
 use Rattle.rb_base.specs.declared.ids.Xid.{Xid}
 use Rattle.rb_model.specs.Change as model
+use Rattle.rb_model.specs.Isolation.{snapshot_at}
 use Rattle.rb_model.specs.Next.{given_count}
 use Rattle.rb_model.specs.NextState.{cursors_of, opened_cursor, with_taken, without_cursor}
 use Rattle.rb_model.specs.NextState as next
-use Rattle.rb_model.specs.Rows.{TableRow}
+use Rattle.rb_model.specs.Rows.{TableRow, last_scn}
 use Rattle.rb_model.specs.State as machine
-use Rattle.rb_model.specs.State.{Session, State, cursor_of, cursor_rows, is_table, session_of, session_own}
+use Rattle.rb_model.specs.State.{Session, State, cursor_of, cursor_rows, is_table, isolation_of, session_of, session_own}
 use Rattle.rb_sessions.specs.Kept.{KeptCursor, KeptSession, kept_at, named, with_cursor, with_kept, with_last, without}
 use Rattle.rb_sessions.specs.Kept as kept
 use Rattle.rb_sessions.specs.declared.cursor.Cursor.{Cursor}
@@ -18,7 +19,7 @@ use Rattle.rb_sessions.specs.declared.sessions.TheConstants.{SESSIONS}
 use Rattle.rb_standing.specs.Standing.{env_of}
 use Rattle.rb_standing.specs.States.{BlocksStand, Owns}
 use Rattle.rb_views.specs.Laws.{cursor_opened}
-use Rattle.rb_views.specs.Views.{AreCursors, Frozen, IsCursor, IsSession, Remembers, live, none}
+use Rattle.rb_views.specs.Views.{AreCursors, Frozen, IsCursor, IsSession, IsSnapshot, Remembers, live, none}
 use Rattle.rb_views.proofs.Few.{session_few}
 use Rattle.rb_views.proofs.Staying.{session_remembered}
 use Rattle.rb_views.proofs.Staying as staying
@@ -38,7 +39,7 @@ pub cursors_remembered : (h : State) (xids : List Xid) (env : Env) (s : ℕ) (cu
     → AreCursors (next.with_cursors h s cursors) xids env s ms cursors → Remembers (next.with_cursors h s cursors) xids env (with_kept table s (kept.with_cursors (kept_at table s) ms))
 cursors_remembered h xids env s cursors table ms is low high are =
     let of_session : IsSession h xids env s (kept_at table s) = is.each s low high in
-    session_remembered h xids env env s (with_these h s cursors) low (λ u t o. refl) table (kept.with_cursors (kept_at table s) ms) high is refl of_session.count of_session.savepoints are
+    session_remembered h xids env env s (with_these h s cursors) low (λ u t o. refl) table (kept.with_cursors (kept_at table s) ms) high is of_session.isolation of_session.snapshot refl of_session.count of_session.savepoints are
 
 -- cursors one by one, of which the last is added
 are_push : (h : State) (xids : List Xid) (env : Env) (s : ℕ) (ms : List KeptCursor) (cs : List machine.Cursor) (m : KeptCursor) (c : machine.Cursor) → AreCursors h xids env s ms cs → IsCursor h xids env s m c → AreCursors h xids env s (ms ++ m ∷ []) (cs ++ c ∷ [])
@@ -166,16 +167,18 @@ module _ (h : State) (xids : List Xid) (blocks : List (List ℕ)) (table_of : Li
   opened_is : IsCursor h xids env s in_memory new
   opened_is =
       let parts = and_parts _ _ there in
+      let snapshot : snapshot_at (last_scn h.commits) k.isolation ≡ snapshot_at (last_scn h.commits) (isolation_of h s) = ap (snapshot_at (last_scn h.commits)) of_session.isolation in
+      let since : IsSnapshot h.commits k.isolation = of_session.snapshot in
       record {
         name = refl;
         table = refl;
         lo = refl;
         hi = refl;
-        number = refl;
+        number = snapshot;
         present = refl;
         in_tables = (leb-true 1 table parts.0, leb-true table h.shape.tables parts.1);
-        above = omega arith;
-        below = omega arith;
+        above = subst (λ (n : ℕ). h.commits.base ≤ n) snapshot since.0;
+        below = subst (λ (n : ℕ). n ≤ last_scn h.commits) snapshot since.1;
         upto = of_session.count;
         few = let n = of_session.count in let f = session_few h xids blocks stand s low in omega (arith, n, f);
         frozen = frozen;

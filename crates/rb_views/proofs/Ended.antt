@@ -13,7 +13,7 @@ use Rattle.rb_model.specs.NextState.{EndsAs, cursors_of, left_open, not_present,
 use Rattle.rb_model.specs.NextState as next
 use Rattle.rb_model.specs.Rows.{Commits, last_scn}
 use Rattle.rb_model.specs.State as machine
-use Rattle.rb_model.specs.State.{Session, State, owner_at, session_of, session_own}
+use Rattle.rb_model.specs.State.{Session, State, no_session, owner_at, session_of, session_own}
 use Rattle.rb_model.proofs.BookLemmas.{owner_set}
 use Rattle.rb_sessions.specs.Kept as kept
 use Rattle.rb_sessions.specs.Kept.{KeptCursor, KeptSession, kept_at, passed, with_kept}
@@ -41,18 +41,20 @@ module _ (h h2 : State) (xids xids2 : List Xid) (env env2 : Env) (s : ℕ) (curs
   moves = record {
     keeps = keeps;
     counted = ap (λ (l : List Session). length l) sessions ∙ length-set h.sessions (s - 1) ended;
-    others = λ u u_low ne. ap (λ (l : List Session). get_or l (u - 1) machine.no_session) sessions ∙ set_others h.sessions s u ended low u_low ne;
+    others = λ u u_low ne. ap (λ (l : List Session). get_or l (u - 1) no_session) sessions ∙ set_others h.sessions s u ended low u_low ne;
     owns = owns;
     owned = owned;
     ids = ids;
   }
 
   session : session_of h2 s ≡ ended
-  session = ap (λ (l : List Session). get_or l (s - 1) machine.no_session) sessions ∙ set_this h.sessions s ended low high
+  session = ap (λ (l : List Session). get_or l (s - 1) no_session) sessions ∙ set_this h.sessions s ended low high
 
   -- the table with the session's cursors in memory passed, too
   pub ended_remembered : (table : List KeptSession) (ms : List KeptCursor) (k : KeptSession) → s ≤ SESSIONS → Remembers h xids env table → AreCursors h2 xids2 env2 s (map passed ms) (map not_present cursors) → Remembers h2 xids2 env2 (with_kept table s (kept.ended ms k))
   ended_remembered table ms k few is are = table_last h h2 xids xids2 env env2 s moves table (kept.ended ms k) low few is (record {
+    isolation = sym (ap (λ (z : Session). z.isolation) session);
+    snapshot = (omega arith, omega arith);
     id = id_none h2 env2 s none;
     count = sym (ap (λ (z : Session). length z.own) session);
     savepoints = sym (ap (λ (z : Session). z.savepoints) session);

@@ -1,5 +1,5 @@
 -- The homes of a cursor's table say the cursor's rows: each can be read, and the next row is the first one that is asked for.
-use Rattle.std.proofs.Common.{◌≡◌, ◌<◌, ◌≤◌, ◌+◌, ◌-◌, ◌*◌, ◌%◌, ◌^◌, ℕ, suc, List, Some, sym, ◌∙◌, ap, subst, arith, map, take}
+use Rattle.std.proofs.Common.{◌≡◌, ◌<◌, ◌≤◌, ◌+◌, ◌-◌, ◌*◌, ◌%◌, ℕ, suc, List, Some, sym, ◌∙◌, ap, subst, arith, map, take}
 use Rattle.std.specs.Prelude.{slice_get}
 use Rattle.std.specs.List.{flat_map}
 use Rattle.std.proofs.Math.Nat.{mod-eq_of_lt}
@@ -18,20 +18,18 @@ use Rattle.rb_sessions.specs.Kept.{KeptCursor}
 use Rattle.rb_sessions.specs.declared.cursor.Cursor.{Cursor}
 use Rattle.rb_standing.specs.Standing.{env_of, homes_of, segments_of}
 use Rattle.rb_standing.specs.States.{BlocksStand, lives_of, past_of}
-use Rattle.rb_standing.proofs.BlocksAs.{commit_logged}
-use Rattle.rb_standing.proofs.Seen.{distinct}
 use Rattle.rb_verdict.proofs.Presence.{some_blocks}
 use Rattle.rb_verdict.proofs.Sites.{row_block}
 use Rattle.rb_verdict.proofs.StoodBlocks.{stood_of}
 use Rattle.rb_views.specs.Laws.{rows_seen}
 use Rattle.rb_views.specs.Scan.{IsNextIn, NoneIn}
 use Rattle.rb_views.specs.Views.{IsCursor, history, home_in, reader_slot}
-use Rattle.rb_views.proofs.Honest.{honest_says, reader_is}
+use Rattle.rb_views.proofs.Honest.{reader_is}
+use Rattle.rb_views.proofs.Readable.{home_read}
 use Rattle.rb_views.proofs.Scanning.{given_next, next_found, next_none}
 use Rattle.rb_views.proofs.Seeing.{first_few, frozen_rows}
 use Rattle.rb_walk.specs.Homes.{here, narrow}
-use Rattle.rb_walk.specs.Walk.{Env, last, own}
-use Rattle.rb_walk.proofs.Homes.{last_here}
+use Rattle.rb_walk.specs.Walk.{Env, own}
 
 module _ (h : State) (xids : List Xid) (blocks : List (List ℕ)) (stand : BlocksStand h xids blocks) (s : ℕ) (kept : KeptCursor) (c : machine.Cursor) (is : IsCursor h xids (env_of h.shape blocks) s kept c) where
   abbrev m : Cursor
@@ -50,30 +48,12 @@ module _ (h : State) (xids : List Xid) (blocks : List (List ℕ)) (stand : Block
       let at : home_in h.shape m.table g ≡ home_block h.shape c.table g = home_is g g (mod-eq_of_lt lt) in
       let some : 1 ≤ h.shape.blocks = some_blocks h xids (segments_of h.shape blocks) (homes_of h.shape blocks) (stood_of h xids blocks stand) in
       let b_in : home_in h.shape m.table g < table_blocks h.shape = let r = row_block h.shape c.table g some is.in_tables.0 is.in_tables.1 in omega (arith, r, at) in
-      let stands = stand.standing.stands.homes_stand (home_in h.shape m.table g) b_in in
       let first : first_count m.own m.upto (own (map (here (home_block h.shape c.table g)) (lives_of h env)) (reader_slot m.own)) + first_count m.own m.upto (flat c.number (map (narrow (home_block h.shape c.table g)) (past_of h xids).list)) ≤ m.upto =
       first_few h xids blocks stand s kept c is (reader_slot m.own) (reader_is h.shape (segments_of h.shape blocks) m.own) g in
       let here_first : first_count m.own m.upto (own (map (here (home_in h.shape m.table g)) (lives_of h env)) (reader_slot m.own)) + first_count m.own m.upto (flat m.scn (map (narrow (home_in h.shape m.table g)) (past_of h xids).list)) ≤ m.upto =
       subst (λ (b : ℕ). first_count m.own m.upto (own (map (here b) (lives_of h env)) (reader_slot m.own)) + first_count m.own m.upto (flat m.scn (map (narrow b) (past_of h xids).list)) ≤ m.upto) (sym at)
       (subst (λ (n : ℕ). first_count m.own m.upto (own (map (here (home_block h.shape c.table g)) (lives_of h env)) (reader_slot m.own)) + first_count m.own m.upto (flat n (map (narrow (home_block h.shape c.table g)) (past_of h xids).list)) ≤ m.upto) (sym is.number) first) in
-      record {
-        m = stands.m;
-        runs = record { distinct = distinct h.shape (segments_of h.shape blocks); tree = stands.tree };
-        honest = honest_says h.shape (segments_of h.shape blocks);
-        low = let a = is.above in let n = is.number in omega (arith, a, n);
-        lower = last_low (home_in h.shape m.table g);
-        alone = reader_is h.shape (segments_of h.shape blocks) m.own;
-        few = let f = is.few in omega (arith, here_first, f);
-      }
-    where
-      -- a commit number is at most the log's
-      last_low : (b : ℕ) → last h.commits.base (map (narrow b) (past_of h xids).list) < 2 ^ 64 - 1
-      last_low b =
-          let a = last_here b h.commits.base (past_of h xids).list in
-          let n = stand.standing.stands.number in
-          let l = commit_logged h.shape blocks (past_of h xids) (lives_of h env) stand.standing in
-          let f = stand.standing.ahead in
-          omega (arith, a, n, l, f)
+      home_read h xids blocks stand (home_in h.shape m.table g) m.own m.upto m.scn b_in (let a = is.above in let n = is.number in omega (arith, a, n)) (let f = is.few in omega (arith, here_first, f))
 
   -- what the cursor sees
   abbrev seen : List TableRow

@@ -60,9 +60,12 @@ rows_before h h2 n more shape base all list low =
     let same : take (n - h.commits.base) (h.commits.list ++ more) ≡ take (n - h.commits.base) h.commits.list = take-append-le (n - h.commits.base) h.commits.list more (omega (arith, low)) in
     rw (shape, base, all, list) (ap (λ l. over h.shape.blocks h.commits.rows (flat_map (λ changes. changes) l)) same)
 
+pub more_commits : (h h2 : State) (xids xids2 : List Xid) (keeps : Keeps h h2 xids xids2) → length h2.commits.list ≡ length h.commits.list + length keeps.more
+more_commits h h2 xids xids2 keeps = ap (λ (x : List (List model.Change)). length x) keeps.list ∙ length-append h.commits.list keeps.more
+
 module _ (h h2 : State) (xids xids2 : List Xid) (env env2 : Env) (s : ℕ) (keeps : Keeps h h2 xids xids2) (m : KeptCursor) (c : machine.Cursor) where
-  list_length : length h2.commits.list ≡ length h.commits.list + length keeps.more
-  list_length = ap (λ (x : List (List model.Change)). length x) keeps.list ∙ length-append h.commits.list keeps.more
+  abbrev list_length : length h2.commits.list ≡ length h.commits.list + length keeps.more
+  list_length = more_commits h h2 xids xids2 keeps
 
   same_commit : (i : ℕ) → i < length h.commits.list → get_or h2.commits.list i [] ≡ get_or h.commits.list i []
   same_commit i lt = ap (λ (x : List (List model.Change)). get_or x i []) keeps.list ∙ lists.get_or-append h.commits.list keeps.more [] i lt

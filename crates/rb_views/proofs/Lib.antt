@@ -5,13 +5,17 @@ pub mod Few
 pub mod Freezing
 pub mod Honest
 pub mod Lasting
+pub mod Late
 pub mod Lost
+pub mod Modes
 pub mod Opened
 pub mod Owning
 pub mod Queues
+pub mod Readable
 pub mod Savepoints
 pub mod Scanning
 pub mod Seeing
+pub mod Snapshots
 pub mod Staying
 pub mod Tables
 pub mod Taken

@@ -20,6 +20,8 @@ first_remembered shape number rows books env none = record {
       let at : kept_at (replicate SESSIONS fresh) s ≡ fresh = get_or-replicate SESSIONS (s - 1) fresh fresh (omega (arith, low, high)) in
       let session : session_of (opened shape number rows books) s ≡ no_session = get_or-replicate session_count (s - 1) no_session no_session (omega (arith, low, high)) in
       subst (λ (k : KeptSession). IsSession (opened shape number rows books) [] env s k) (sym at) (record {
+        isolation = sym (ap (λ (z : Session). z.isolation) session);
+        snapshot = (omega arith, omega arith);
         id = id_none (opened shape number rows books) env s (none s);
         count = sym (ap (λ (z : Session). length z.own) session);
         savepoints = sym (ap (λ (z : Session). z.savepoints) session);

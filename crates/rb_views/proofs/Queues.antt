@@ -1,5 +1,5 @@
 -- The table remembers a state with another queue, and a write that a session waits with: sessions have neither.
-use Rattle.std.proofs.Common.{◌≡◌, inl, inr, ◌≤◌, ◌-◌, ◌∙◌, ℕ, List, [], length, Option, refl, sym, subst, arith, append-nil}
+use Rattle.std.proofs.Common.{◌≡◌, inl, inr, ◌≤◌, ◌-◌, ◌∙◌, ℕ, List, [], Option, refl, sym, subst, arith, append-nil}
 use Rattle.std.proofs.lemmas.Bool.{cases_eq}
 use Rattle.std.proofs.lemmas.List.{get_or-set_other, get_or-set_same, length-set}
 use Rattle.rb_base.specs.declared.ids.Xid.{Xid}
@@ -44,7 +44,7 @@ pub held_remembered : (h : State) (xids : List Xid) (env : Env) (table : List Ke
 held_remembered h xids env table s a low high is =
     let k : KeptSession = holding a (kept_at table s) in
     let before : IsSession h xids env s (kept_at table s) = is.each s low high in
-    let now : IsSession h xids env s k = record { id = record { owns = before.id.owns; owned = before.id.owned }; count = before.count; savepoints = before.savepoints; cursors = before.cursors } in record {
+    let now : IsSession h xids env s k = record { isolation = before.isolation; snapshot = before.snapshot; id = record { owns = before.id.owns; owned = before.id.owned }; count = before.count; savepoints = before.savepoints; cursors = before.cursors } in record {
       counted = length-set table (s - 1) k ∙ is.counted;
       as_many = is.as_many;
       each = λ u u_low u_high. elim (cases_eq u s) [

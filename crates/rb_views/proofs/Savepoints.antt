@@ -25,14 +25,14 @@ savepoint_remembered h xids env table s name is low high =
     let of_session : IsSession h xids env s k = is.each s low high in
     let savepoints : List Savepoint = with_savepoint name (length (session_own h s)) (session_of h s).savepoints in
     let session : Session = record (session_of h s) { savepoints = savepoints } in
-    session_remembered h xids env env s session low (λ u t o. refl) table (kept.with_savepoint name k) high is refl of_session.count
+    session_remembered h xids env env s session low (λ u t o. refl) table (kept.with_savepoint name k) high is of_session.isolation of_session.snapshot refl of_session.count
     (ap (λ n. with_savepoint name n k.savepoints) of_session.count ∙ ap (with_savepoint name (length (session_own h s))) of_session.savepoints)
     (cursors_last h (with_savepoints h s savepoints) xids xids env env s
     (λ m c. cursor_now h xids env env s session low (λ u t o. refl) (let n = is.as_many in omega (arith, n, high)) m c (λ present. refl)) k.cursors (cursors_of h s) of_session.cursors)
 
 -- the session after a rollback to one, which keeps the first changes
 abbrev pub session_cut : State → ℕ → List ℕ → ℕ → Session
-session_cut h s name first = record {
+session_cut h s name first = record (session_of h s) {
   own = take first (session_own h s);
   savepoints = up_to name (session_of h s).savepoints;
   cursors = next.left_open first (cursors_of h s);
@@ -53,7 +53,7 @@ module _ (h : State) (xids : List Xid) (env env2 : Env) (s : ℕ) (name : List �
   cut_remembered table high is =
       let k : KeptSession = kept_at table s in
       let of_session : IsSession h xids env s k = is.each s low high in
-      session_remembered h xids env env2 s (session_cut h s name first) low ids table (kept.rolled_to name first k) high is refl
+      session_remembered h xids env env2 s (session_cut h s name first) low ids table (kept.rolled_to name first k) high is of_session.isolation of_session.snapshot refl
       (counted k.count (session_own h s) of_session.count) (ap (up_to name) of_session.savepoints)
       (cursors_cut (let n = is.as_many in omega (arith, n, high)) k.cursors of_session.cursors)
     where

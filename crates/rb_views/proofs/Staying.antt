@@ -9,7 +9,7 @@ use Rattle.rb_model.specs.State.{Session, State, session_of, session_own}
 use Rattle.rb_sessions.specs.Kept.{KeptCursor, KeptSession, kept_at, with_kept}
 use Rattle.rb_sessions.specs.declared.sessions.TheConstants.{SESSIONS}
 use Rattle.rb_verdict.specs.Verdict.{IsOwnId}
-use Rattle.rb_views.specs.Views.{AreCursors, IsCursor, Remembers}
+use Rattle.rb_views.specs.Views.{AreCursors, IsCursor, IsSnapshot, Remembers}
 use Rattle.rb_views.proofs.Lasting.{Keeps, cursor_stays}
 use Rattle.rb_views.proofs.Tables.{Moves, set_others, set_this, table_last}
 use Rattle.rb_walk.specs.Walk.{Env}
@@ -45,11 +45,13 @@ module _ (h : State) (xids : List Xid) (env env2 : Env) (s : ℕ) (session : Ses
 
   -- The table with the session as it is then.
   pub session_remembered : (table : List KeptSession) (k : KeptSession) → s ≤ SESSIONS → Remembers h xids env table
-      → k.own ≡ (kept_at table s).own → k.count ≡ length session.own → k.savepoints ≡ session.savepoints → AreCursors Next xids env2 s k.cursors session.cursors
+      → k.isolation ≡ session.isolation → IsSnapshot h.commits k.isolation → k.own ≡ (kept_at table s).own → k.count ≡ length session.own → k.savepoints ≡ session.savepoints → AreCursors Next xids env2 s k.cursors session.cursors
       → Remembers Next xids env2 (with_kept table s k)
-  session_remembered table k high is own count savepoints are =
+  session_remembered table k high is isolation snapshot own count savepoints are =
       let now : session_of Next s ≡ session = session_is (let n = is.as_many in omega (arith, n, high)) in
       table_last h Next xids xids env env2 s moves table k low high is (record {
+        isolation = isolation ∙ ap (λ (z : Session). z.isolation) (sym now);
+        snapshot = snapshot;
         id = id_same h Next env env2 s k.own refl ids (subst (λ (o : Option Xid). IsOwnId h env s o) (sym own) (is.each s low high).id);
         count = count ∙ ap (λ (z : Session). length z.own) (sym now);
         savepoints = savepoints ∙ ap (λ (z : Session). z.savepoints) (sym now);

@@ -14,6 +14,7 @@ use Rattle.rb_standing.specs.States.{Owns}
 use Rattle.rb_verdict.specs.Verdict.{IsOwnId}
 use Rattle.rb_views.specs.Views.{AreCursors, IsCursor, IsSession, Remembers}
 use Rattle.rb_views.proofs.Lasting.{Keeps, Stays, cursor_stays, cursor_told, frozen_ends}
+use Rattle.rb_views.proofs.Snapshots.{snapshot_lasts}
 use Rattle.rb_walk.specs.Walk.{Env}
 
 module _ (h h2 : State) (xids xids2 : List Xid) (env env2 : Env) (s : ℕ) where
@@ -72,6 +73,8 @@ module _ (h h2 : State) (xids xids2 : List Xid) (env env2 : Env) (s : ℕ) (move
 
   pub session_last : (u : ℕ) → 1 ≤ u → u ≢ s → (k : KeptSession) → IsSession h xids env u k → IsSession h2 xids2 env2 u k
   session_last u low ne k is = record {
+    isolation = is.isolation ∙ ap (λ (x : Session). x.isolation) (sym (moves.others u low ne));
+    snapshot = snapshot_lasts h h2 xids xids2 moves.keeps k.isolation is.snapshot;
     id = id_last u ne k.own is.id;
     count = is.count ∙ ap (λ (x : Session). length x.own) (sym (moves.others u low ne));
     savepoints = is.savepoints ∙ ap (λ (x : Session). x.savepoints) (sym (moves.others u low ne));

@@ -115,6 +115,8 @@ module _ (h : State) (xids : List Xid) (blocks now : List (List ℕ)) (s g i : �
 
   own_session : (k : KeptSession) → IsSession h xids env s k → IsSession h2 xids env2 s (wrote x k)
   own_session k is = record {
+    isolation = is.isolation ∙ ap (λ (z : Session). z.isolation) (sym session);
+    snapshot = is.snapshot;
     id = id;
     count =
         let n = ap (λ (l : List Change). length l) own_is in

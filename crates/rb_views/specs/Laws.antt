@@ -1,19 +1,25 @@
 -- What holds of a table of sessions that remembers a state for which blocks stand.
 use Rattle.std.specs.Prelude.{◌≡◌, ◌<◌, ◌≤◌, ℕ, true, List, [], ◌∷◌, ◌++◌}
 use Rattle.std.specs.Prelude.{length, replicate, Option, Some, None}
+use Rattle.rb_base.specs.Blocks.{home_block}
 use Rattle.rb_base.specs.declared.ids.Xid.{Xid}
 use Rattle.rb_image.specs.Made.{KeepsIds}
 use Rattle.rb_model.specs.Book.{Book, book_at}
 use Rattle.rb_model.specs.Change.{Asked}
+use Rattle.rb_model.specs.Isolation.{isolation_at, snapshot_at}
+use Rattle.rb_model.specs.Late.{late}
 use Rattle.rb_model.specs.Queue.{Waiter}
 use Rattle.rb_model.specs.Calls.{Action, End, Given, HasNoSlot, WritesIn, next_row}
 use Rattle.rb_model.specs.NextState.{EndsAs, change_in, cursors_of, left_open, opened_cursor, rolled_to, with_cursors}
-use Rattle.rb_model.specs.NextState.{with_savepoint, with_savepoints, with_taken, without_cursor, written}
+use Rattle.rb_model.specs.NextState.{with_isolation, with_savepoint, with_savepoints, with_taken, without_cursor}
+use Rattle.rb_model.specs.NextState.{written}
 use Rattle.rb_model.specs.NextState as machine
 use Rattle.rb_model.specs.Rows.{TableRow, last_scn}
 use Rattle.rb_model.specs.State as model
 use Rattle.rb_model.specs.State.{State, cursor_of, is_table, opened, session_of, session_own}
+use Rattle.rb_model.specs.declared.mode.Mode.{Mode}
 use Rattle.rb_base.specs.declared.shape.Shape.{Shape}
+use Rattle.rb_rebuild.specs.Late.{late_above}
 use Rattle.rb_rebuild.specs.Reading.{Reading, answer}
 use Rattle.rb_sessions.specs.Kept as kept
 use Rattle.rb_sessions.specs.Kept.{KeptSession, fresh, kept_at, named, with_cursor, with_kept, with_last, without}
@@ -84,13 +90,20 @@ HeldIsRemembered = (h : State) (xids : List Xid) (env : Env) (table_of : List Ke
     → 1 ≤ s → s ≤ SESSIONS → Remembers h xids env table_of
     → Remembers h xids env (with_kept table_of s (kept.holding asked (kept_at table_of s)))
 
+-- A mode that session s sets, by what it means now.
+abbrev pub IsolatedIsRemembered : Type 0
+IsolatedIsRemembered = (h : State) (xids : List Xid) (env : Env) (table_of : List KeptSession) (s : ℕ) (mode : Mode)
+    → Remembers h xids env table_of → 1 ≤ s → s ≤ SESSIONS
+    → Remembers (with_isolation h s (isolation_at (last_scn h.commits) mode)) xids env
+    (with_kept table_of s (kept.isolated (isolation_at (last_scn h.commits) mode) (kept_at table_of s)))
+
 -- the cursor in memory that session s opens now
 abbrev pub cursor_opened : State → KeptSession → ℕ → ℕ → ℕ → Cursor
 cursor_opened h k table lo hi = record {
   table = table;
   lo = lo;
   hi = hi;
-  scn = last_scn h.commits;
+  scn = snapshot_at (last_scn h.commits) k.isolation;
   own = k.own;
   upto = k.count;
   last = None;
@@ -183,6 +196,22 @@ FetchEnds = (h : State) (xids : List Xid) (blocks : List (List ℕ)) (s : ℕ) (
     → 1 ≤ s
     → ((g : ℕ) → g < h.shape.blocks → NoneIn h.shape.blocks m.lo m.hi m.last (rows_seen h xids blocks m g) g)
     → next_row h (Some c) ≡ End
+
+-- The home of a key may be read at each number since the file was opened, without changes of the reader's own: so a
+-- write reads it at its transaction's snapshot.
+abbrev pub WriteReads : Type 0
+WriteReads = (h : State) (xids : List Xid) (blocks : List (List ℕ)) (table key n : ℕ)
+    → BlocksStand h xids blocks → 1 ≤ table → table ≤ h.shape.tables
+    → h.commits.base ≤ n → n ≤ last_scn h.commits
+    → Reading (env_of h.shape blocks) (history h xids blocks (home_block h.shape table key) None) None 0 n
+    (homes_of h.shape blocks (home_block h.shape table key))
+
+-- The first commit above such a number that changed the key there is the first one that changed the key of that table.
+abbrev pub LateIsMachines : Type 0
+LateIsMachines = (h : State) (xids : List Xid) (blocks : List (List ℕ)) (table key n : ℕ)
+    → BlocksStand h xids blocks → 1 ≤ table → table ≤ h.shape.tables
+    → h.commits.base ≤ n → n ≤ last_scn h.commits
+    → late_above n key (history h xids blocks (home_block h.shape table key) None).list ≡ late h.commits n table key
 
 -- What a segment lost is what its book says; one that there isn't lost nothing.
 abbrev pub LostIsBooks : Type 0

@@ -3,9 +3,12 @@ use Rattle.std.specs.Prelude.{◌≡◌, ◌<◌, ◌≤◌, ◌+◌, ◌*◌, �
 use Rattle.std.specs.Prelude.{List, [], ◌∷◌, length, map, take, get_or, Option, Some, None}
 use Rattle.rb_base.specs.declared.ids.Xid.{Xid}
 use Rattle.rb_base.specs.declared.shape.Shape.{Shape}
+use Rattle.rb_model.specs.Isolation.{snapshot_at}
 use Rattle.rb_model.specs.Next.{given_count}
+use Rattle.rb_model.specs.Rows.{Commits, last_scn}
 use Rattle.rb_model.specs.State as machine
-use Rattle.rb_model.specs.State.{State, cursor_rows, session_of, session_own}
+use Rattle.rb_model.specs.State.{State, cursor_rows, isolation_of, session_of, session_own}
+use Rattle.rb_model.specs.declared.mode.Isolation.{Isolation}
 use Rattle.rb_rebuild.specs.Keeping.{kept_room}
 use Rattle.rb_rebuild.specs.Reading.{History}
 use Rattle.rb_sessions.specs.Kept.{KeptCursor, KeptSession, kept_at}
@@ -54,9 +57,16 @@ AreCursors h xids env s (m ∷ kept) (c ∷ cursors) = IsCursor h xids env s m c
 AreCursors h xids env s [] (c ∷ cursors) = ⊥
 AreCursors h xids env s (m ∷ kept) [] = ⊥
 
--- session s: the id of its transaction is that of the table slot that it owns, and it has as many live changes and the
--- same savepoints
+-- the snapshot of a query that is opened now is of the commits since the file was opened
+abbrev pub IsSnapshot : Commits → Isolation → Type 0
+IsSnapshot commits isolation = (commits.base ≤ snapshot_at (last_scn commits) isolation)
+    × (snapshot_at (last_scn commits) isolation ≤ last_scn commits)
+
+-- session s: its transaction reads in the same way, its id is that of the table slot that the session owns, and it has
+-- as many live changes and the same savepoints
 pub record IsSession (h : State) (xids : List Xid) (env : Env) (s : ℕ) (k : KeptSession) : Type 0 where
+  pub isolation : k.isolation ≡ isolation_of h s
+  pub snapshot : IsSnapshot h.commits k.isolation
   pub id : IsOwnId h env s k.own
   pub count : k.count ≡ length (session_own h s)
   pub savepoints : k.savepoints ≡ (session_of h s).savepoints

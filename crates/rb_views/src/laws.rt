@@ -1,21 +1,24 @@
 //! What holds of a table of sessions that remembers a state, as clauses for proofs to cite. Nothing calls it.
 ghost use Rattle.rb_views.specs.Laws.{ClosedIsRemembered, CommittedIsRemembered, CursorIsNamed, CursorReads};
 ghost use Rattle.rb_views.specs.Laws.{CutIsRemembered, EndedIsRemembered, FetchEnds, FetchGives, FirstIsRemembered};
-ghost use Rattle.rb_views.specs.Laws.{HeldIsRemembered, LostIsBooks, OpenedIsRemembered, QueueIsRemembered};
-ghost use Rattle.rb_views.specs.Laws.{RolledBackIsRemembered};
-ghost use Rattle.rb_views.specs.Laws.{SavepointIsRemembered, TakenIsRemembered, WrittenIsRemembered};
+ghost use Rattle.rb_views.specs.Laws.{HeldIsRemembered, IsolatedIsRemembered, LateIsMachines, LostIsBooks};
+ghost use Rattle.rb_views.specs.Laws.{OpenedIsRemembered, QueueIsRemembered, RolledBackIsRemembered};
+ghost use Rattle.rb_views.specs.Laws.{SavepointIsRemembered, TakenIsRemembered, WriteReads, WrittenIsRemembered};
 
 /// A table of sessions remembers each next state: after a write, a commit, the end of a transaction and a rollback,
-/// after a savepoint is set and after a rollback to one, as a session waits or leaves the queue, and after a cursor is
-/// opened, gives a row or is closed; a new one remembers the state that a file opens to. What a cursor is asked for is
-/// the machine's: each home may be read for it, the least row behind the last one in the first home that has one is the
-/// machine's next row, and where none has one it is the end. What a segment lost is what its book says.
+/// after a mode or a savepoint is set and after a rollback to one, as a session waits or leaves the queue, and after a
+/// cursor is opened, gives a row or is closed; a new one remembers the state that a file opens to. What a cursor is
+/// asked for is the machine's: each home may be read for it, the least row behind the last one in the first home that
+/// has one is the machine's next row, and where none has one it is the end. The home of a key may be read for a write,
+/// and the first commit above a snapshot that changed the key there is the machine's. What a segment lost is what its
+/// book says.
 pub fn view_laws()
     ensures first { FirstIsRemembered }
     ensures written { WrittenIsRemembered }
     ensures committed { CommittedIsRemembered }
     ensures ended { EndedIsRemembered }
     ensures rolled_back { RolledBackIsRemembered }
+    ensures isolated { IsolatedIsRemembered }
     ensures savepoint { SavepointIsRemembered }
     ensures cut { CutIsRemembered }
     ensures queue { QueueIsRemembered }
@@ -27,5 +30,7 @@ pub fn view_laws()
     ensures reads { CursorReads }
     ensures gives { FetchGives }
     ensures ends { FetchEnds }
+    ensures write { WriteReads }
+    ensures late { LateIsMachines }
     ensures lost { LostIsBooks }
 {}

@@ -5,9 +5,12 @@ use Rattle.rb_views.proofs.Cursors as cursors
 use Rattle.rb_views.proofs.Cursors.{named_is}
 use Rattle.rb_views.proofs.Ended.{back_remembered, committed_remembered, end_remembered}
 use Rattle.rb_views.proofs.Fetching.{ends, gives, reads}
+use Rattle.rb_views.proofs.Late.{late_is}
 use Rattle.rb_views.proofs.Lost.{lost_is}
+use Rattle.rb_views.proofs.Modes.{isolated_remembered}
 use Rattle.rb_views.proofs.Opened.{first_remembered}
 use Rattle.rb_views.proofs.Queues.{held_remembered, queue_remembered}
+use Rattle.rb_views.proofs.Readable.{write_read}
 use Rattle.rb_views.proofs.Savepoints.{cut_remembered, savepoint_remembered}
 use Rattle.rb_views.proofs.Taken as given
 use Rattle.rb_views.proofs.Written.{written_remembered}
@@ -28,6 +31,9 @@ returns-clause-ended c = λ h h2 xids blocks now table_of s stand is low high em
 
 pub returns-clause-rolled_back : goal.returns-clause-rolled_back
 returns-clause-rolled_back c = λ h h2 xids blocks now table_of s stand is low high is_end ids. back_remembered h h2 xids blocks (env_of h.shape now) table_of s stand is low high is_end ids
+
+pub returns-clause-isolated : goal.returns-clause-isolated
+returns-clause-isolated c = isolated_remembered
 
 pub returns-clause-savepoint : goal.returns-clause-savepoint
 returns-clause-savepoint c = savepoint_remembered
@@ -61,6 +67,12 @@ returns-clause-gives c = λ h xids blocks s name m cursor g key value stand is l
 
 pub returns-clause-ends : goal.returns-clause-ends
 returns-clause-ends c = λ h xids blocks s name m cursor stand is low nowhere. ends h xids blocks stand s (record { name = name; cursor = m }) cursor is nowhere
+
+pub returns-clause-write : goal.returns-clause-write
+returns-clause-write c = λ h xids blocks table key n stand first within low high. write_read h xids blocks stand table key n first within low
+
+pub returns-clause-late : goal.returns-clause-late
+returns-clause-late c = λ h xids blocks table key n stand first within low high. late_is h xids blocks table key n stand first low
 
 pub returns-clause-lost : goal.returns-clause-lost
 returns-clause-lost c = lost_is
