@@ -1,6 +1,8 @@
 -- Why a call is too old, what the test of a serializable write finds, and what the write does then.
 use Rattle.std.proofs.Common.{◌≡◌, ◌≢◌, ◌≤◌, ◌<◌, ◌++◌, ◌∷◌, ◌&&◌, ℕ, Bool, true, false, not, nat_le, List, [], Option, Some, None, Result, Ok, Err, IfErr, IfOk, OnOk, refl, sym, ◌∙◌, ap, subst, arith}
 use Rattle.std.proofs.lemmas.Bool.{and_from, le-leb}
+use Rattle.rb_attempt.specs.declared.ask.AttemptFault.{AttemptFault}
+use Rattle.rb_attempt.specs.declared.ask.AttemptFault.TheVariants as attempts
 use Rattle.rb_base.specs.Blocks.{home_block}
 use Rattle.rb_base.specs.Logs.{Laws, Logs}
 use Rattle.rb_base.specs.Stores.{room_of}
@@ -11,8 +13,9 @@ use Rattle.rb_cr.specs.Faults.{Because}
 use Rattle.rb_cr.specs.declared.faults.CrFault.{CrFault}
 use Rattle.rb_cr.specs.declared.faults.CrFault.TheVariants as faults
 use Rattle.rb_cr.specs.declared.scratch.Snapshot.{Snapshot}
-use Rattle.rb_engine.specs.Does.{Does, EngineView, Goes, SameStore, Stands}
-use Rattle.rb_engine.specs.Lateness.{IsRefusedLate, IsTimely, IsWriteOld, LateAs}
+use Rattle.rb_engine.specs.Checks.{NotOld}
+use Rattle.rb_engine.specs.Does.{Does, EngineView, Goes, Kept, SameStore, Stands}
+use Rattle.rb_engine.specs.Lateness.{IsRefusedLate, IsTimely, IsWriteOld, LateAs, WriteNeedsLost}
 use Rattle.rb_engine.proofs.DoesLemmas.{does_fault, does_loaded, fault_survives}
 use Rattle.rb_engine.proofs.WriteLemmas.{answered}
 use Rattle.rb_model.specs.Book.{book_at}
@@ -26,15 +29,17 @@ use Rattle.rb_model.specs.declared.mode.Isolation.{Isolation}
 use Rattle.rb_model.specs.declared.mode.Isolation.TheVariants as isolation
 use Rattle.rb_model.specs.declared.refusal.Refusal.{Refusal}
 use Rattle.rb_model.specs.declared.refusal.Refusal.TheVariants as refusals
+use Rattle.rb_model.specs.declared.wrote.Wrote.{Wrote}
 use Rattle.rb_rebuild.specs.Late.{late_above}
 use Rattle.rb_rebuild.specs.Reading.{History}
 use Rattle.rb_sessions.specs.Kept.{KeptSession, kept_at}
 use Rattle.rb_standing.specs.Standing.{env_of}
 use Rattle.rb_standing.specs.States.{BlocksStand}
 use Rattle.rb_undoengine.proofs.Firsts.{nobody_waits}
-use Rattle.rb_undoengine.specs.Steps.{NotLate, NotOthers}
+use Rattle.rb_undoengine.specs.Steps.{NotLate, NotOthers, refusal_of}
 use Rattle.rb_views.specs.Views.{Remembers, history}
 use Rattle.rb_views.proofs.Late as views
+use Rattle.rb_views.proofs.Readable.{write_read}
 use Rattle.rb_views.proofs.Lost.{lost_is}
 
 -- A call that reads at a snapshot may be too old where a segment lost something above it.
@@ -55,10 +60,6 @@ old_reply h xids blocks stand logged room call why n scn lost early reads becaus
   where
     too_old : (a b x y : ℕ) → a ≡ x → b ≡ y → Refused (refusals.TooOld a b) ≡ Refused (refusals.TooOld x y)
     too_old a b x y e f = rw (e, f) refl
-
--- a refusal that isn't too old
-pub not_too_old : (why : Refusal) (scn lost : ℕ) → ((n l : ℕ) → why ≢ refusals.TooOld n l) → why ≡ refusals.TooOld scn lost → ⊥
-not_too_old why scn lost other is = other scn lost is
 
 -- What the walk back over the key's home finds is what the machine says of the row.
 module _ (h : State) (xids : List Xid) (blocks : List (List ℕ)) (sessions : List KeptSession) (stand : BlocksStand h xids blocks) (knows : Remembers h xids (env_of h.shape blocks) sessions) (s table key : ℕ) (there : (1 ≤ s) × (s ≤ 16)) (in_tables : (1 ≤ table) × (table ≤ h.shape.tables)) where
@@ -91,10 +92,10 @@ module _ (h : State) (xids : List Xid) (blocks : List (List ℕ)) (sessions : Li
     within = let snapshot = (knows.each s there.0 there.1).snapshot in subst (λ (i : Isolation). (h.commits.base ≤ Rattle.rb_model.specs.Isolation.snapshot_at (last_scn h.commits) i) × (Rattle.rb_model.specs.Isolation.snapshot_at (last_scn h.commits) i ≤ last_scn h.commits)) serial snapshot
 
     pub reads : IsHomeRead h.shape blocks Home Past Snap
-    reads = views.write_reads h xids blocks table key n stand in_tables.0 in_tables.1 within.0 within.1
+    reads = write_read h xids blocks stand table key n in_tables.0 in_tables.1 within.0
 
     late_is : late_above n key Past.list ≡ late h.commits n table key
-    late_is = views.late_is h xids blocks table key n stand in_tables.0 in_tables.1 within.0 within.1
+    late_is = views.late_is h xids blocks table key n stand in_tables.0 within.0
 
     pub timely : (found : Result (Option ℕ) CrFault) → IfOk found (λ by. by ≡ late_above n key Past.list) → IfErr found (IsHomeOld h.shape blocks Home Past Snap)
         → (result : Result (Unit {0}) Refusal) → OnOk result (found ≡ Ok None) → IfErr result (LateAs n found) → IsTimely h xids blocks s table key result
@@ -155,3 +156,28 @@ module _ {S : Type 0} (s : Ghosts S) (told : s.tells) (laws : Laws s) (h : State
   step_late (refusals.TooOld n lost) late stops stays logs = step_serial (refusals.TooOld n lost) refl late (stays refl) logs
   step_late refusals.DiskFault late stops stays logs = step_unread (stops refl) logs
   step_late _ late stops stays logs = absurd late
+
+-- the store's blocks are those from before it was loaded from
+pub needs_lost_before : {S : Type 0} (s : Ghosts S) (told : s.tells) (h : State) (old mid : S) (memory : Kept) (who table key scn lost : ℕ) → Logs s old mid [] true
+    → WriteNeedsLost s h (record { memory = memory; store = mid }) who table key scn lost → WriteNeedsLost s h (record { memory = memory; store = old }) who table key scn lost
+needs_lost_before s told h old mid memory who table key scn lost logs needs = (needs.0, subst (λ b. IsWriteOld h needs.0 b who table key scn lost) (logs.blocks told refl) needs.1)
+
+-- who waits, or would close a ring, isn't refused as too old
+pub waited_not_old : {P : Type 0} (u : ℕ) (r : Result Wrote Refusal) → IfErr r (λ why. (why ≡ refusals.Deadlock u) × P) → (scn lost : ℕ) → r ≡ Err (refusals.TooOld scn lost) → ⊥
+waited_not_old u (Ok w) ring scn lost is = (let clash : Ok w ≡ Err (refusals.TooOld scn lost) = is in cc)
+waited_not_old u (Err why) ring scn lost is = (let same : why ≡ refusals.TooOld scn lost = cc in let other : why ≡ refusals.Deadlock u = ring.0 in cc)
+
+-- and what the home, the segment or the log refuses isn't either
+pub attempt_not_old : (fault : AttemptFault) (scn lost : ℕ) → refusal_of fault ≡ refusals.TooOld scn lost → ⊥
+attempt_not_old attempts.Failed scn lost is = cc
+attempt_not_old attempts.Duplicate scn lost is = cc
+attempt_not_old attempts.NotFound scn lost is = cc
+attempt_not_old attempts.BlockFull scn lost is = cc
+attempt_not_old attempts.SlotsFull scn lost is = cc
+attempt_not_old (attempts.RollbackFull seg since) scn lost is = cc
+attempt_not_old attempts.WornOut scn lost is = cc
+attempt_not_old attempts.LogFull scn lost is = cc
+
+pub young_not_old : (r : Result Wrote Refusal) → IfErr r NotOld → (scn lost : ℕ) → r ≡ Err (refusals.TooOld scn lost) → ⊥
+young_not_old (Ok w) young scn lost is = (let clash : Ok w ≡ Err (refusals.TooOld scn lost) = is in cc)
+young_not_old (Err why) young scn lost is = young scn lost (let same : why ≡ refusals.TooOld scn lost = cc in same)

@@ -3,6 +3,7 @@ pub mod SeenHomes
 pub mod FetchLemmas
 pub mod FinishLemmas
 pub mod LateLemmas
+pub mod ModeLemmas
 pub mod OpenLemmas
 pub mod QueueLemmas
 pub mod RetainsLemmas

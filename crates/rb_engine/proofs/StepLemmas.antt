@@ -12,7 +12,8 @@ use Rattle.rb_engine.specs.Does.{InTables, IsInStep, IsQueue, Kept, owed_by, owe
 use Rattle.rb_engine.proofs.QueueLemmas.{asked_set, queue_freed, queue_same}
 use Rattle.rb_model.specs.Change.{Asked}
 use Rattle.rb_model.specs.Queue.{freed_by}
-use Rattle.rb_sessions.specs.Kept.{KeptCursor, KeptSession, committed, ended, fresh, holding, kept_at, left_open, named, passed, rolled_back, rolled_to, with_cursor, with_cursors, with_savepoint, with_kept, with_last, without, wrote}
+use Rattle.rb_model.specs.declared.mode.Isolation.{Isolation}
+use Rattle.rb_sessions.specs.Kept.{KeptCursor, KeptSession, committed, ended, fresh, holding, isolated, kept_at, left_open, named, passed, rolled_back, rolled_to, with_cursor, with_cursors, with_savepoint, with_kept, with_last, without, wrote}
 use Rattle.rb_sessions.specs.declared.cursor.Cursor.{Cursor}
 
 -- Cursors stay cursors of tables that there are.
@@ -98,6 +99,9 @@ fit_cursors shape k cursors fit all = record { tables = all; own = fit.own; smal
 
 pub fit_held : (shape : Shape) (a : Asked) (k : KeptSession) → IsFit shape k → IsFit shape (holding a k)
 fit_held shape a k fit = record { tables = fit.tables; own = fit.own; small = fit.small; idle = fit.idle }
+
+pub fit_isolated : (shape : Shape) (i : Isolation) (k : KeptSession) → IsFit shape k → IsFit shape (isolated i k)
+fit_isolated shape i k fit = record { tables = fit.tables; own = fit.own; small = fit.small; idle = fit.idle }
 
 pub fit_savepoint : (shape : Shape) (name : List ℕ) (k : KeptSession) → IsFit shape k → IsFit shape (with_savepoint name k)
 fit_savepoint shape name k fit = record { tables = fit.tables; own = fit.own; small = fit.small; idle = fit.idle }

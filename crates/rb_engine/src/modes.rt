@@ -16,7 +16,9 @@ use rb_sessions::{Session, isolation_at};
 fn is_unbegun(session: Session) -> bool
     ensures { result ≡ is_idle session }
 {
-    session.isolation == Isolation::ReadCommitted && session.length == 0 && session.savepoints == 0
+    matches!(session.isolation, Isolation::ReadCommitted)
+        && session.length == 0
+        && session.savepoints == 0
 }
 
 /// Sets how the session's next transaction reads. Read only and serializable take the last commit number for all its

@@ -46,15 +46,15 @@ fn refusal(fault: AttemptFault) -> Refusal
 }
 
 /// Notes that a write wasn't made: where a call of the store failed, the engine is stopped.
-fn refuse(memory: &mut Memory, fault: AttemptFault) -> Refusal
-    ensures why { result ≡ refusal_of fault }
+fn refuse(memory: &mut Memory, why: Refusal) -> Refusal
+    ensures why { result ≡ why }
     ensures stopped { is_disk_fault result ≡ true → memory.new ≡ record memory.old { stopped = true } }
     ensures same { is_disk_fault result ≡ false → memory.new ≡ memory.old }
 {
-    if matches!(fault, AttemptFault::Failed) {
+    if matches!(why, Refusal::DiskFault) {
         memory.stop();
     }
-    refusal(fault)
+    why
 }
 
 /// Another session that holds the key.
@@ -115,7 +115,7 @@ fn make_write<T: Store>(
             memory.sessions.wrote(s, xid);
             Ok(Wrote::Done)
         }
-        Err(fault) => Err(refuse(memory, fault)),
+        Err(fault) => Err(refuse(memory, refusal(fault))),
     }
 }
 
@@ -148,13 +148,10 @@ fn write_free<T: Store>(
     ensures same { SameStore T.Store store.old store.new }
     ensures disk { IsCountedAs (T.faults store.old) (T.faults store.new) (err_is is_disk_fault result) }
 {
-    if let Err(why) = check_late(memory, scratch, store, s, table, key) {
-        if matches!(why, Refusal::DiskFault) {
-            memory.stop();
-        }
-        return Err(why);
+    match check_late(memory, scratch, store, s, table, key) {
+        Ok(()) => make_write(memory, store, s, table, key, op),
+        Err(why) => Err(refuse(memory, why)),
     }
-    make_write(memory, store, s, table, key, op)
 }
 
 /// Makes a write that no early test refuses, or lets the session wait for the one that holds the key.

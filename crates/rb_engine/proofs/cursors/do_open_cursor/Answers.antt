@@ -9,6 +9,7 @@ use Rattle.rb_model.specs.Calls.{Reply, name_tests, early_tests, none_applies}
 use Rattle.rb_model.specs.Names.{name_text}
 use Rattle.rb_model.specs.NextState as next
 use Rattle.rb_model.specs.NextState.{cursors_of, opened_cursor, without_cursor}
+use Rattle.rb_model.specs.Isolation.{snapshot_at}
 use Rattle.rb_model.specs.Rows.{last_scn}
 use Rattle.rb_model.specs.State.{cursor_of, is_table}
 use Rattle.rb_model.specs.declared.refusal.Refusal.TheVariants.{CursorThere, TooManyCursors}
@@ -41,7 +42,7 @@ same_cursor table lo hi scn scn2 upto upto2 own own2 a b c = rw (a, b, c) refl
 pub returns-in-Err-clause-did : goal.returns-in-Err-clause-did
 returns-in-Err-clause-did g c = λ h st.
     does_refused g.T.Store (laws_of g) h (machine.OpenCursor c.args.s (name_text c.args.name.now) c.args.table c.args.lo c.args.hi) c.in-Err.why (record { memory = c.args.memory.now; store = c.args.store.now }) st c.requires.step.going
-    (c.in-Err.ensures.refused h st.knows (c.shape.ensures.shape ∙ st.shape)) c.in-Err.ensures.other
+    (c.in-Err.ensures.refused h (name_text c.args.name.now) c.args.lo c.args.hi st.knows (c.shape.ensures.shape ∙ st.shape)) c.in-Err.ensures.other
 
 pub returns-then-is_some-clause-did : goal.returns-then-is_some-clause-did
 returns-then-is_some-clause-did g c = λ h st.
@@ -56,7 +57,7 @@ returns-then-is_some-clause-did g c = λ h st.
     let here : named name (kept_at c.args.memory.now.sessions c.args.s).cursors ≡ Some found.0 = ap (λ (l : List KeptSession). named name (kept_at l c.args.s).cursors) (sym sessions) ∙ (sym c.cursor.ensures ∙ found.1) in
     let its = (views.named_is h goes.xids (env_of h.shape (s.blocks c.args.store.now)) c.args.s name c.args.memory.now.sessions goes.remembers there.0 there.1).1 found.0 here in
     does_refused_late s (laws_of g) h call CursorThere (record { memory = c.args.memory.now; store = c.args.store.now }) st c.requires.step.going
-    (Reply.later (name_tests h call) (c.in_default.ensures.granted h st.knows (c.shape.ensures.shape ∙ st.shape)) refl (rw its.1 refl)) (λ clash. cc)
+    (Reply.later (name_tests h call) (c.in_default.ensures.granted h (name_text c.args.name.now) c.args.lo c.args.hi st.knows (c.shape.ensures.shape ∙ st.shape)) refl (rw its.1 refl)) (λ clash. cc)
 
 pub returns-then-session-ge-CURSORS-clause-did : goal.returns-then-session-ge-CURSORS-clause-did
 returns-then-session-ge-CURSORS-clause-did g c = λ h st.
@@ -72,7 +73,7 @@ returns-then-session-ge-CURSORS-clause-did g c = λ h st.
     let many : 16 ≤ length (cursors_of h c.args.s) = let full = c.if-session-ge-CURSORS.true in let same = its.2 in omega (arith, full, count, same) in
     let none : cursor_of h c.args.s name ≡ None = its.0 (ap (λ (l : List KeptSession). named name (kept_at l c.args.s).cursors) (sym sessions) ∙ (sym c.cursor.ensures ∙ not_some c.cursor.result (sym c.is_some.ensures ∙ c.if-is_some.false))) in
     does_refused_late s (laws_of g) h call TooManyCursors (record { memory = c.args.memory.now; store = c.args.store.now }) st c.requires.step.going
-    (Reply.later (name_tests h call) (c.in_default.ensures.granted h st.knows (c.shape.ensures.shape ∙ st.shape)) refl (rw (none, le-leb 16 (length (cursors_of h c.args.s)) many) refl)) (λ clash. cc)
+    (Reply.later (name_tests h call) (c.in_default.ensures.granted h (name_text c.args.name.now) c.args.lo c.args.hi st.knows (c.shape.ensures.shape ∙ st.shape)) refl (rw (none, le-leb 16 (length (cursors_of h c.args.s)) many) refl)) (λ clash. cc)
 
 pub returns-clause-step : goal.returns-clause-step
 returns-clause-step g c =
@@ -83,7 +84,7 @@ returns-clause-step g c =
     let is : IsInStep s old store = subst (λ (k : Kept). IsInStep s k store) (sym c.memory.view_is) c.requires.step in
     let k = kept_at c.memory.inside.sessions c.args.s in
     let name = name_text c.args.name.now in
-    let opened : Cursor = record { table = c.args.table; lo = c.args.lo; hi = c.args.hi; scn = c.memory.inside.scn; own = c.session-session.result.own; upto = c.session-session.result.length; last = None; present = true } in
+    let opened : Cursor = record { table = c.args.table; lo = c.args.lo; hi = c.args.hi; scn = c.snapshot_at.result; own = c.session-session.result.own; upto = c.session-session.result.length; last = None; present = true } in
     let here : (1 ≤ c.args.table) × (c.args.table ≤ (s.shape_of store).tables) = subst (λ (z : Shape). (1 ≤ c.args.table) × (c.args.table ≤ z.tables)) c.shape.ensures.shape c.in_default.ensures.table in
     let fit = fit_opened (s.shape_of store) name opened k (fit_at s old store is c.args.s) here in
     let moved = with_cursor name opened k in
@@ -110,12 +111,12 @@ returns-clause-did g c = λ h st.
     let in_tables : is_table h c.args.table ≡ true =
     subst (λ (z : Shape). nat_le 1 c.args.table && nat_le c.args.table z.tables ≡ true) (c.shape.ensures.shape ∙ st.shape)
     (and_from (nat_le 1 c.args.table) (nat_le c.args.table c.shape.result.tables) (le-leb 1 c.args.table c.in_default.ensures.table.0) (le-leb c.args.table c.shape.result.tables c.in_default.ensures.table.1)) in
-    let opened : Cursor = record { table = c.args.table; lo = c.args.lo; hi = c.args.hi; scn = c.memory.inside.scn; own = c.session-session.result.own; upto = c.session-session.result.length; last = None; present = true } in
-    let same : opened ≡ cursor_opened h k c.args.table c.args.lo c.args.hi = same_cursor c.args.table c.args.lo c.args.hi c.memory.inside.scn (last_scn h.commits) c.session-session.result.length k.count c.session-session.result.own k.own here.knows.scn c.session-session.ensures.own c.session-session.ensures.length in
+    let opened : Cursor = record { table = c.args.table; lo = c.args.lo; hi = c.args.hi; scn = c.snapshot_at.result; own = c.session-session.result.own; upto = c.session-session.result.length; last = None; present = true } in
+    let same : opened ≡ cursor_opened h k c.args.table c.args.lo c.args.hi = same_cursor c.args.table c.args.lo c.args.hi c.snapshot_at.result (snapshot_at (last_scn h.commits) k.isolation) c.session-session.result.length k.count c.session-session.result.own k.own (c.snapshot_at.ensures ∙ (ap (λ (n : ℕ). snapshot_at n c.session-session.result.isolation) here.knows.scn ∙ ap (snapshot_at (last_scn h.commits)) c.session-session.ensures.isolation)) c.session-session.ensures.own c.session-session.ensures.length in
     subst (λ (m : Kept). Does s h call machine.Done (record { memory = m; store = store }) (record { memory = now; store = store })) c.memory.view_is
     (does_cursors s st.told (laws_of g) h call machine.Done c.args.s (cursors_of h c.args.s ++ opened_cursor h c.args.s name c.args.table c.args.lo c.args.hi ∷ []) (record { memory = old; store = store }) (record { memory = now; store = store }) here going
     (there.0, (let n = st.knows.sixteen in omega (arith, there, n)))
-    (Reply.later (name_tests h call) (c.in_default.ensures.granted h st.knows (c.shape.ensures.shape ∙ st.shape)) refl (rw (none, lt-leb 16 (length (cursors_of h c.args.s)) few) refl)) refl refl (λ s t k a is done. cc) refl refl refl refl
+    (Reply.later (name_tests h call) (c.in_default.ensures.granted h (name_text c.args.name.now) c.args.lo c.args.hi st.knows (c.shape.ensures.shape ∙ st.shape)) refl (rw (none, lt-leb 16 (length (cursors_of h c.args.s)) few) refl)) refl refl (λ s t k a is done. cc) refl refl refl refl
     (ap (λ (l : List KeptSession). map (λ k. k.asked) l) c.open_cursor.ensures ∙ all_asked old.sessions (c.args.s - 1) (with_cursor name opened k) refl)
     (λ xids stand is. subst (Remembers (next.with_cursors h c.args.s (cursors_of h c.args.s ++ opened_cursor h c.args.s name c.args.table c.args.lo c.args.hi ∷ [])) xids (env_of h.shape (s.blocks store)))
     (ap (λ (m : Cursor). with_kept old.sessions c.args.s (with_cursor name m k)) (sym same) ∙ sym c.open_cursor.ensures) (views.opened h xids (s.blocks store) old.sessions c.args.s name c.args.table c.args.lo c.args.hi stand is there.0 there.1 in_tables))

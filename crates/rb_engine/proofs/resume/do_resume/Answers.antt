@@ -1,10 +1,12 @@
-use Rattle.std.proofs.Common.{◌≡◌, ◌<◌, ◌≤◌, List, false, true, Some, refl, sym, ◌∙◌, ap, subst, arith}
+use Rattle.std.proofs.Common.{◌≡◌, ◌<◌, ◌≤◌, ℕ, List, false, true, Some, Err, refl, sym, ◌∙◌, ap, subst, arith}
 use Rattle.rb_engine.specs.Does.{Does, EngineView, IsInStep, Kept, KnowsQueue, Stands}
+use Rattle.rb_engine.specs.Lateness.{ResumeNeedsLost}
 use Rattle.rb_model.specs.Answers.{write_answer}
 use Rattle.rb_model.specs.Calls as machine
 use Rattle.rb_model.specs.Change.{Action}
 use Rattle.rb_model.specs.NextState.{unqueued}
 use Rattle.rb_model.specs.Queue.{Waiter, first_ready, left_by, ready_count}
+use Rattle.rb_model.specs.declared.refusal.Refusal.TheVariants.{TooOld}
 use Rattle.rb_sessions.specs.Kept.{asked_of_pending}
 use Rattle.rb_waits.specs.Room.{AreQueuedOnce}
 use Rattle.rb_waits.proofs.Turns.{ready_is_there, ready_leaves}
@@ -71,3 +73,21 @@ returns-clause-fewer g c =
     let left = ap ready_count c.leave.ensures in
     let same = ap (λ (k : Kept). ready_count k.waits) c.memory.view_is in
     omega (arith, c.do_write-outcome.ensures.ready, less, left, same)
+
+pub returns-clause-lost : goal.returns-clause-lost
+returns-clause-lost g c = λ h st who scn lost is.
+    let s = g.T.Store in
+    let store = c.args.store.now in
+    let w = c.in_ok-s.s in
+    let p = c.in_ok-pending.pending in
+    let inside : Kept = record { sessions = c.memory.inside.sessions; waits = c.memory.inside.waits; scn = c.memory.inside.scn; stopped = c.memory.inside.stopped } in
+    let now : Kept = record { sessions = c.memory.inside.sessions; waits = c.leave.new.self; scn = c.memory.inside.scn; stopped = c.memory.inside.stopped } in
+    let here : Stands s h (record { memory = inside; store = store }) = subst (λ (k : Kept). Stands s h (record { memory = k; store = store })) (sym c.memory.view_is) st in
+    let left : now ≡ record inside { waits = left_by w inside.waits } = ap (λ (l : List Waiter). let k : Kept = record { sessions = c.memory.inside.sessions; waits = l; scn = c.memory.inside.scn; stopped = c.memory.inside.stopped } in k) c.leave.ensures in
+    let going : h.stopped ≡ false = sym here.knows.stopped ∙ c.if-memory.false in
+    let knows : KnowsQueue h inside = here.knows.queue going in
+    let same : w ≡ who = cc in
+    let old : c.do_write-outcome.result ≡ Err (TooOld scn lost) = cc in
+    let needs = c.do_write-outcome.ensures.lost (unqueued h w) (stands_left s h w inside now store here left) scn lost old in
+    subst (λ (u : ℕ). ResumeNeedsLost s h (record { memory = c.args.memory.now; store = store }) u scn lost) same
+    (asked_of_pending p, asked_held h inside knows w c.held.result p c.held.ensures c.in_ok-pending.was, (needs.0, needs.1))

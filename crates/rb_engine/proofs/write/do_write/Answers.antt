@@ -1,8 +1,10 @@
-use Rattle.std.proofs.Common.{◌∙◌}
+use Rattle.std.proofs.Common.{◌≡◌, ◌∙◌}
 use Rattle.rb_base.specs.Logs.{Laws}
 use Rattle.rb_model.specs.Answers.{action_by}
 use Rattle.rb_model.specs.Calls as machine
+use Rattle.rb_model.specs.declared.refusal.Refusal.TheVariants.{TooOld}
 use Rattle.rb_engine.proofs.DoesLemmas.{does_refused}
+use Rattle.rb_engine.proofs.ModeLemmas.{knows_modes}
 use Rattle.rb_engine.proofs.write.do_write.Given.{Over}
 use Rattle.rb_engine.proofs.write.do_write.Goals as goal
 
@@ -18,7 +20,10 @@ laws_of g = record {
 pub returns-in-Err-clause-did : goal.returns-in-Err-clause-did
 returns-in-Err-clause-did g c = λ h st.
     does_refused g.T.Store (laws_of g) h (machine.Write c.args.s c.args.table c.args.key (action_by c.args.op)) c.in-Err.why (record { memory = c.args.memory.now; store = c.args.store.now }) st c.requires.step.going
-    (c.in-Err.ensures.refused h c.args.key st.knows (c.shape.ensures.shape ∙ st.shape)) c.in-Err.ensures.other
+    (c.in-Err.ensures.refused h c.args.key st.knows (knows_modes g.T.Store h _ st) (c.shape.ensures.shape ∙ st.shape)) c.in-Err.ensures.other
 
 pub returns-clause-did : goal.returns-clause-did
-returns-clause-did g c = λ h st. c.try_write.ensures.did h st (c.in_default.ensures.granted h c.args.key st.knows (c.shape.ensures.shape ∙ st.shape))
+returns-clause-did g c = λ h st. c.try_write.ensures.did h st (c.in_default.ensures.granted h c.args.key st.knows (knows_modes g.T.Store h _ st) (c.shape.ensures.shape ∙ st.shape))
+
+pub returns-in-Err-clause-lost : goal.returns-in-Err-clause-lost
+returns-in-Err-clause-lost g c = λ h st scn lost is. absurd (c.in-Err.ensures.young scn lost (let same : c.in-Err.why ≡ TooOld scn lost = cc in same))

@@ -9,6 +9,7 @@ use Rattle.rb_model.specs.Calls.{is_disk_fault}
 use Rattle.rb_model.specs.declared.refusal.Refusal.{Refusal}
 use Rattle.rb_sessions.specs.Kept.{KeptSession, kept_at, with_kept, wrote}
 use Rattle.rb_undoengine.specs.Steps.{IsAbout, refusal_of}
+use Rattle.rb_engine.proofs.LateLemmas.{attempt_not_old}
 use Rattle.rb_engine.proofs.StepLemmas.{few_wrote, fit_at, fit_wrote, in_step_moved, queue_moved, in_step_same}
 use Rattle.rb_engine.proofs.WriteLemmas.{about, failed_is, few_group, step_done, step_failed, step_refused, the_failure}
 use Rattle.rb_engine.proofs.write.make_write.Given.{Over}
@@ -74,7 +75,7 @@ returns-in-Err-clause-step g c =
     let step = c.requires.step in
     let logs = c.in-Err.ensures.logs in
     let fault = c.in-Err.fault in
-    let why : c.refuse.result ≡ refusal_of fault = c.refuse.ensures.why in
+    let why : c.refuse.result ≡ refusal_of fault = c.refuse.ensures.why ∙ c.refusal.ensures in
     ⊎_elim
     (λ (is : is_disk_fault c.refuse.result ≡ true).
     let stops = c.refuse.ensures.stopped is in
@@ -106,7 +107,7 @@ returns-in-Err-clause-did g c = λ h st early others.
     let own : c.session-own.result.own ≡ (kept_at kept.sessions u).own = c.session-own.ensures.own ∙ ap (λ (l : List KeptSession). (kept_at l u).own) table in
     let ready : IsAbout h goes.xids u c.session-own.result.own (s.blocks c.args.store.now) = subst (λ (o : Option Xid). IsAbout h goes.xids u o (s.blocks c.args.store.now)) (sym own) (about s st.told (laws_of g) h old st going u c.args.table c.args.key action there early) in
     let fault = c.in-Err.fault in
-    let why : c.refuse.result ≡ refusal_of fault = c.refuse.ensures.why in
+    let why : c.refuse.result ≡ refusal_of fault = c.refuse.ensures.why ∙ c.refusal.ensures in
     let call = machine.Write u c.args.table c.args.key action in
     let kind = failed_is fault in
     ⊎_elim
@@ -120,3 +121,6 @@ returns-in-Err-clause-did g c = λ h st early others.
     (step_refused s st.told (laws_of g) h old st going u c.args.table c.args.key action there early new same (refusal_of fault) other refused.0 refused.1 refused.2
     (c.refuse.ensures.same (ap is_disk_fault why ∙ other)) (c.in-Err.ensures.unchanged (sym kind ∙ other))))
     (cases_Bool (is_disk_fault (refusal_of fault)))
+
+pub returns-in-Err-clause-young : goal.returns-in-Err-clause-young
+returns-in-Err-clause-young g c = λ scn lost is. attempt_not_old c.in-Err.fault scn lost (sym (c.refuse.ensures.why ∙ c.refusal.ensures) ∙ is)

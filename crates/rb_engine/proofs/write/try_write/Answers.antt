@@ -7,6 +7,7 @@ use Rattle.rb_model.specs.Calls as machine
 use Rattle.rb_sessions.specs.Kept.{asked_of_pending, kept_at}
 use Rattle.rb_undoengine.proofs.Somewhere.{somewhere}
 use Rattle.rb_engine.proofs.DoesLemmas.{does_fault, fault_survives}
+use Rattle.rb_engine.proofs.LateLemmas.{needs_lost_before, waited_not_old}
 use Rattle.rb_engine.proofs.WriteLemmas.{about, does_after, stands_loaded, step_waited, waited_in_step}
 use Rattle.rb_engine.proofs.write.try_write.Given.{Over}
 use Rattle.rb_engine.proofs.write.try_write.Goals as goal
@@ -54,17 +55,28 @@ returns-in-Ok-Some-clause-step g c =
     waited_in_step g.T.Store c.args.memory.now c.wait_for.new.memory c.args.store.now c.other_holder.new.store c.requires.step c.requires.going c.in-Ok-Some.ensures.logs c.args.s c.in-Ok-Some.on c.requires.session c.requires.free
     (asked_of_pending c.new.result) c.wait_for.result c.wait_for.ensures.ring c.wait_for.ensures.waits
 
+pub returns-in-Ok-Some-clause-lost : goal.returns-in-Ok-Some-clause-lost
+returns-in-Ok-Some-clause-lost g c = λ h st scn lost is. absurd (waited_not_old c.in-Ok-Some.on c.wait_for.result c.wait_for.ensures.ring scn lost is)
+
+pub returns-in-Ok-None-clause-lost : goal.returns-in-Ok-None-clause-lost
+returns-in-Ok-None-clause-lost g c = λ h st scn lost is.
+    let s = g.T.Store in
+    let old : EngineView _ = record { memory = c.args.memory.now; store = c.args.store.now } in
+    let mid : EngineView _ = record { memory = c.args.memory.now; store = c.other_holder.new.store } in
+    let logs : Logs s old.store mid.store [] true = c.in-Ok-None.ensures.logs in
+    needs_lost_before s st.told h old.store mid.store c.args.memory.now c.args.s c.args.table c.args.key scn lost logs (c.write_free.ensures.lost h (stands_loaded s st.told (laws_of g) h old mid st refl logs) scn lost is)
+
 pub returns-in-Ok-None-clause-did : goal.returns-in-Ok-None-clause-did
 returns-in-Ok-None-clause-did g c = λ h st early.
     let s = g.T.Store in
     let u = c.args.s in
     let old : EngineView _ = record { memory = c.args.memory.now; store = c.args.store.now } in
     let mid : EngineView _ = record { memory = c.args.memory.now; store = c.other_holder.new.store } in
-    let new : EngineView _ = record { memory = c.make_write.new.memory; store = c.make_write.new.store } in
+    let new : EngineView _ = record { memory = c.write_free.new.memory; store = c.write_free.new.store } in
     let going : h.stopped ≡ false = sym st.knows.stopped ∙ c.requires.going in
     let logs : Logs s old.store mid.store [] true = c.in-Ok-None.ensures.logs in
     let goes : Goes s h old = st.goes going in
     let others : OtherHolds h u c.args.table c.args.key None = subst (λ (o : Option ℕ). OtherHolds h u c.args.table c.args.key o) c.in-Ok-None.field-0-is
     (c.in-Ok-None.ensures.other st.told h goes.xids goes.holds.blocks st.shape goes.remembers) in
-    does_after s st.told (laws_of g) h old mid st refl logs (machine.Write u c.args.table c.args.key (action_by c.args.op)) (write_answer c.make_write.result) new
-    (c.make_write.ensures.did h (stands_loaded s st.told (laws_of g) h old mid st refl logs) early others)
+    does_after s st.told (laws_of g) h old mid st refl logs (machine.Write u c.args.table c.args.key (action_by c.args.op)) (write_answer c.write_free.result) new
+    (c.write_free.ensures.did h (stands_loaded s st.told (laws_of g) h old mid st refl logs) early others)
