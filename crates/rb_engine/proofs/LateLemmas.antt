@@ -35,7 +35,7 @@ use Rattle.rb_rebuild.specs.Reading.{History}
 use Rattle.rb_sessions.specs.Kept.{KeptSession, kept_at}
 use Rattle.rb_standing.specs.Standing.{env_of}
 use Rattle.rb_standing.specs.States.{BlocksStand}
-use Rattle.rb_undoengine.proofs.Firsts.{nobody_waits}
+use Rattle.rb_undoengine.proofs.Firsts.{first_serial, row_tests}
 use Rattle.rb_undoengine.specs.Steps.{NotLate, NotOthers, refusal_of}
 use Rattle.rb_views.specs.Views.{Remembers, history}
 use Rattle.rb_views.proofs.Late as views
@@ -133,8 +133,8 @@ module _ {S : Type 0} (s : Ghosts S) (told : s.tells) (laws : Laws s) (h : State
   first_late : (n by : ℕ) → isolation_of h who ≡ isolation.Serializable n → late h.commits n table key ≡ Some by
       → first_of (write_tests h (s.lsn old.store) (room_of (s.slots old.store) (s.lsn old.store)) place.0 place.1 who table key action) Done ≡ Refused (refusals.CantSerialize n by)
   first_late n by serial is =
-      nobody_waits h.queue who (holder h table key) _ others
-      ∙ ap (λ (l : List (Bool × Answer)). first_of (l ++ _) Done) (ap (λ (i : Isolation). serial_tests h.commits i table key) serial ∙ ap (refused_by n) is)
+      first_serial h (s.lsn old.store) (room_of (s.slots old.store) (s.lsn old.store)) place.0 place.1 who table key action others
+      ∙ ap (λ (l : List (Bool × Answer)). first_of (l ++ row_tests h (s.lsn old.store) (room_of (s.slots old.store) (s.lsn old.store)) place.0 place.1 who table key action) Done) (ap (λ (i : Isolation). serial_tests h.commits i table key) serial ∙ ap (refused_by n) is)
 
   step_serial : (why : Refusal) → is_disk_fault why ≡ false → IsRefusedLate h goes.xids (s.blocks old.store) who table key why → new.memory ≡ old.memory → Logs s old.store new.store [] true → Does s h (Write who table key action) (Refused why) old new
   step_serial (refusals.CantSerialize n by) other late memory logs =

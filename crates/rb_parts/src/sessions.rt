@@ -3,7 +3,7 @@
 ghost use Rattle.std.specs.Prelude.{◌≤◌};
 
 use rb_base::Xid;
-use rb_model::{Name, Op};
+use rb_model::{Isolation, Name, Op};
 use rb_sessions::{Cursor, Pending, Session, Sessions};
 use std::test::Fail;
 
@@ -76,6 +76,7 @@ fn written(early: &Name, late: &Name) -> Result<Sessions, Fail> {
 /// A session with a transaction of that id and length, without savepoints, and so many cursors.
 fn session(own: Option<Xid>, length: u32, cursors: u8) -> Session {
     Session {
+        isolation: Isolation::ReadCommitted,
         own,
         length,
         savepoints: 0,

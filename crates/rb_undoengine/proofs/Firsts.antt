@@ -1,12 +1,13 @@
 -- The first of a write's tests that applies, by what the tests before the room are.
 use Rattle.std.proofs.Common.{◌≡◌, ◌++◌, ◌&&◌, ℕ, Bool, true, false, not, List, [], ◌∷◌, Option, Some, None, nat_le, nat_lt, refl, ◌∙◌, ap, arith}
 use Rattle.std.proofs.lemmas.Bool.{and_from, le-leb}
+use Rattle.std.proofs.lemmas.List.{append_assoc}
 use Rattle.rb_attempt.specs.Asks.{adds_row, kind_of}
 use Rattle.rb_base.specs.declared.sizes.TheConstants.{WORN}
 use Rattle.rb_model.specs.Book.{book_at, is_full}
 use Rattle.rb_model.specs.Calls as calls
 use Rattle.rb_model.specs.declared.refusal.Refusal.TheVariants as refusals
-use Rattle.rb_model.specs.Calls.{Answer, Done, Refused, first_of, needed_room, serial_tests, waited, write_tests}
+use Rattle.rb_model.specs.Calls.{Action, Answer, Done, Refused, first_of, needed_room, serial_tests, waited, write_tests}
 use Rattle.rb_model.specs.Full.{full_block}
 use Rattle.rb_model.specs.Queue.{Waiter}
 use Rattle.rb_model.specs.State.{State, isolation_of}
@@ -34,7 +35,7 @@ kind_is (Some Delete) = refl
 kind_is None = refl
 
 -- nobody is waited for where no other session holds the key
-pub nobody_waits : (queue : List Waiter) (s : ℕ) (o : Option ℕ) (tests : List (Bool × Answer)) → ((u : ℕ) → o ≡ Some u → u ≡ s) → first_of (waited queue s o ++ tests) Done ≡ first_of tests Done
+nobody_waits : (queue : List Waiter) (s : ℕ) (o : Option ℕ) (tests : List (Bool × Answer)) → ((u : ℕ) → o ≡ Some u → u ≡ s) → first_of (waited queue s o ++ tests) Done ≡ first_of tests Done
 nobody_waits queue s None tests own = refl
 nobody_waits queue s (Some u) tests own =
     let same : u ≡ s = own u refl in
@@ -68,6 +69,23 @@ first_tested false false f e r g since tests = refl
 abbrev pub log_tests : ℕ → ℕ → ℕ → List (Bool × Answer)
 log_tests logged room needed = (nat_le WORN logged, Refused refusals.WornOut) ∷ (nat_lt room needed, Refused refusals.LogFull) ∷ []
 
+-- the tests of a write that waits for nobody and doesn't come too late
+abbrev pub row_tests : State → (logged room g i s table key : ℕ) → Action → List (Bool × Answer)
+row_tests h logged room g i s table key action =
+    (adds action && has_row table key (rows_now h s), Refused refusals.Duplicate)
+    ∷ (not (adds action) && not (has_row table key (rows_now h s)), Refused refusals.NotFound)
+    ∷ (adds action && full_block h table key, Refused refusals.BlockFull)
+    ∷ (full_slots h s table key, Refused refusals.SlotsFull)
+    ∷ (is_full (book_at h.books g), Refused (refusals.RollbackFull g (made_since (book_at h.books g))))
+    ∷ log_tests logged room (needed_room h s g i)
+
+-- where no other session holds the key, only a late commit comes before those
+pub first_serial : (h : State) (logged room g i s table key : ℕ) (action : Action) → ((u : ℕ) → holder h table key ≡ Some u → u ≡ s)
+    → first_of (write_tests h logged room g i s table key action) Done ≡ first_of (serial_tests h.commits (isolation_of h s) table key ++ row_tests h logged room g i s table key action) Done
+first_serial h logged room g i s table key action own =
+    ap (λ (l : List (Bool × Answer)). first_of l Done) (append_assoc (waited h.queue s (holder h table key)) (serial_tests h.commits (isolation_of h s) table key) (row_tests h logged room g i s table key action))
+    ∙ nobody_waits h.queue s (holder h table key) (serial_tests h.commits (isolation_of h s) table key ++ row_tests h logged room g i s table key action) own
+
 module _ (h : State) (s table key g i : ℕ) (op : Option Op) where
   -- what the tests before the log find
   abbrev pub Found : Verdict
@@ -77,7 +95,7 @@ module _ (h : State) (s table key g i : ℕ) (op : Option Op) where
       → first_of (write_tests h logged room g i s table key (action_by op)) Done
       ≡ answer_of Found g (made_since (book_at h.books g)) (first_of (log_tests logged room (needed_room h s g i)) Done)
   first_found logged room own timely =
-      nobody_waits h.queue s (holder h table key) _ own
-      ∙ (ap (λ (l : List (Bool × Answer)). first_of (l ++ _) Done) timely
+      first_serial h logged room g i s table key (action_by op) own
+      ∙ (ap (λ (l : List (Bool × Answer)). first_of (l ++ row_tests h logged room g i s table key (action_by op)) Done) timely
       ∙ (first_tested (adds (action_by op)) (has_row table key (rows_now h s)) (full_block h table key) (full_slots h s table key) (is_full (book_at h.books g)) g (made_since (book_at h.books g)) (log_tests logged room (needed_room h s g i))
       ∙ ap (λ a. answer_of (tested a (has_row table key (rows_now h s)) (full_block h table key) (full_slots h s table key) (is_full (book_at h.books g))) g (made_since (book_at h.books g)) (first_of (log_tests logged room (needed_room h s g i)) Done)) (adds_is op)))
