@@ -24,7 +24,7 @@ use Rattle.rb_model.specs.Change.{Change}
 use Rattle.rb_model.specs.NextState.{After, GrowsBy, committed, ended, freeing, not_present}
 use Rattle.rb_model.specs.Queue.{freed_by, is_queued}
 use Rattle.rb_model.specs.Rows.{last_scn}
-use Rattle.rb_model.specs.State.{Cursor, State, is_session, session_own}
+use Rattle.rb_model.specs.State.{Cursor, State, is_session, no_session, session_own}
 use Rattle.rb_model.specs.declared.refusal.Refusal.TheVariants.{DiskFault}
 use Rattle.rb_restart.proofs.Slots.{owed_for}
 use Rattle.rb_segment.specs.Calls.{Runs}

@@ -1,5 +1,6 @@
 -- What the table of sessions says of the mode of a transaction, as the machine sees it.
-use Rattle.std.proofs.Common.{◌≡◌, ◌==◌, ◌&&◌, ℕ, Bool, true, false, List, [], ◌∷◌, length, refl}
+use Rattle.std.proofs.Common.{◌≡◌, ◌==◌, ◌&&◌, ℕ, Bool, true, false, List, [], ◌∷◌, length, refl, arith}
+use Rattle.std.proofs.lemmas.Bool.Decides.{nat_tests}
 use Rattle.rb_engine.specs.Checks.{is_idle}
 use Rattle.rb_engine.specs.Does.{EngineView, KnowsModes, Stands}
 use Rattle.rb_base.specs.declared.store.Store.{Ghosts}
@@ -12,11 +13,11 @@ use Rattle.rb_sessions.specs.declared.entry.Session.{Session}
 
 no_change : (own : List Change) → (length own == 0) ≡ is_empty own
 no_change [] = refl
-no_change (c ∷ own) = refl
+no_change (c ∷ own) = let test : (length (c ∷ own) == 0) ≡ false = grind (arith, nat_tests) in test
 
 no_savepoint : (savepoints : List Savepoint) → (length savepoints == 0) ≡ is_none_set savepoints
 no_savepoint [] = refl
-no_savepoint (p ∷ savepoints) = refl
+no_savepoint (p ∷ savepoints) = let test : (length (p ∷ savepoints) == 0) ≡ false = grind (arith, nat_tests) in test
 
 -- A session in the table is idle where its transaction hasn't begun.
 pub idle_is : (session : Session) (x : machine.Session) → session.isolation ≡ x.isolation → session.length ≡ length x.own → session.savepoints ≡ length x.savepoints → is_idle session ≡ is_unbegun x

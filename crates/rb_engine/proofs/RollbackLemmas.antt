@@ -32,7 +32,7 @@ use Rattle.rb_engine.proofs.QueueLemmas.{all_asked, holds_queue, knows_freed, kn
 use Rattle.rb_model.specs.Queue.{freed_by, is_queued}
 use Rattle.rb_model.specs.NextState.{EndsAs, cursors_of, ended, freeing, left_open, not_present, rolled_to, up_to, without_owner}
 use Rattle.rb_model.specs.Rows.{last_scn}
-use Rattle.rb_model.specs.State.{Savepoint, Session, State, savepoint_of, session_of, session_own, with_changes}
+use Rattle.rb_model.specs.State.{Savepoint, Session, State, no_session, savepoint_of, session_of, session_own, with_changes}
 use Rattle.rb_restart.proofs.Joined.{room_on}
 use Rattle.rb_restart.proofs.Slots.{owed_is, slot_for}
 use Rattle.rb_segment.specs.Calls.{Runs}
@@ -390,7 +390,7 @@ module _ {S : Type 0} (s : Ghosts S) (told : s.tells) (laws : Laws s) (h : State
         let mine = session_own h who in
         let m : State = with_own h who (take p.kept mine) in
         let now = rolled_to h who name p.kept in
-        let session : Session = record { own = take p.kept mine; savepoints = up_to name (session_of h who).savepoints; cursors = left_open p.kept (cursors_of h who) } in
+        let session : Session = record (session_of h who) { own = take p.kept mine; savepoints = up_to name (session_of h who).savepoints; cursors = left_open p.kept (cursors_of h who) } in
         let high : who ≤ length h.sessions = let n = st.knows.sixteen in omega (arith, there, n) in
         let in_m : (1 ≤ who) × (who ≤ length m.sessions) = (there.0, (let n = length-set h.sessions (who - 1) (with_changes h who (take p.kept mine)) in omega (arith, n, high))) in
         let again : with_session m who session ≡ now = ap (λ (z : List Session). let n : State = record h { sessions = z } in n) (set-set h.sessions (who - 1) (with_changes h who (take p.kept mine)) session) in

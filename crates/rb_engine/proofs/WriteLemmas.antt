@@ -24,14 +24,14 @@ use Rattle.rb_image.proofs.Owners.{OwnedBy, owned_by}
 use Rattle.rb_image.proofs.StepsHeld.{holds_written, write_fault}
 use Rattle.rb_image.specs.Crash.{Survives}
 use Rattle.rb_image.specs.Made.{GivesOne, WriteMade}
-use Rattle.rb_model.specs.Calls.{Action, Answer, Call, Done, Refused, Reply, Waits, Write, early_tests, failed_in, first_of, is_disk_fault, none_applies, waited, write_tests, WritesIn}
+use Rattle.rb_model.specs.Calls.{Action, Answer, Call, Done, Refused, Reply, Waits, Write, early_tests, failed_in, first_of, is_disk_fault, none_applies, serial_tests, waited, write_tests, WritesIn}
 use Rattle.rb_model.specs.Change.{Asked}
 use Rattle.rb_model.specs.NextState.{AfterWait, change_in, queued, written}
 use Rattle.rb_model.specs.Answers.{write_answer}
 use Rattle.rb_model.specs.Queue.{Waiter, closes, is_queued, ready_count, waiting}
 use Rattle.rb_model.specs.declared.wrote.Wrote.{Wrote}
 use Rattle.rb_model.specs.declared.wrote.Wrote.TheVariants as wrote
-use Rattle.rb_model.specs.State.{State}
+use Rattle.rb_model.specs.State.{State, isolation_of}
 use Rattle.rb_model.specs.Tests.{holder}
 use Rattle.rb_model.specs.declared.refusal.Refusal.{Refusal}
 use Rattle.rb_model.specs.declared.refusal.Refusal.TheVariants.{Deadlock, DiskFault}
@@ -39,6 +39,7 @@ use Rattle.rb_model.proofs.Stops.{the_fault}
 use Rattle.rb_sessions.specs.Kept.{KeptSession, holding, kept_at, with_kept, wrote}
 use Rattle.rb_standing.specs.Standing.{env_of}
 use Rattle.rb_standing.specs.States.{BlocksStand}
+use Rattle.rb_undoengine.proofs.Firsts.{row_tests, split_tests}
 use Rattle.rb_undoengine.specs.Steps.{IsAbout, IsHolder, refusal_of}
 use Rattle.rb_verdict.specs.Verdict.{IsOwnId}
 use Rattle.rb_views.specs.Views.{Remembers}
@@ -87,7 +88,7 @@ module _ {S : Type 0} (s : Ghosts S) (told : s.tells) (laws : Laws s) (h : State
       subst (λ (n : ℕ). Retains h n after) one (retains h goes.xids (s.blocks old.store) goes.holds.blocks who x.seg x.slot made.in_slot id.there id.few after (change_in h x.seg table key action) refl)
 
   -- by that log number
-  answered : (g i : ℕ) → (a : WritesIn h who g i) → (r : Answer) → first_of (write_tests h (s.lsn old.store) Room g i who table key action) Done ≡ r
+  pub answered : (g i : ℕ) → (a : WritesIn h who g i) → (r : Answer) → first_of (write_tests h (s.lsn old.store) Room g i who table key action) Done ≡ r
       → Reply h (s.lsn old.store) Room (Write who table key action) r
   answered g i within r is = Reply.later (write_tests h (s.lsn old.store) Room g i who table key action) early (g, i, within, refl) (sym is)
 
@@ -134,7 +135,9 @@ module _ {S : Type 0} (s : Ghosts S) (told : s.tells) (laws : Laws s) (h : State
       queue_is = ap (λ (k : Kept). k.waits) before ∙ (st.knows.queue going).waits
 
       first_waited : (b : Bool) → closes mid.waits who u ≡ b → (r : Answer) → (if b then Refused (Deadlock u) else Waits u) ≡ r → first_of (write_tests h (s.lsn old.store) Room place.0 place.1 who table key action) Done ≡ r
-      first_waited b ring r is = of_holder (holder h table key) held.0 _
+      first_waited b ring r is =
+          ap (λ (l : List (Bool × Answer)). first_of l Done) (split_tests h (s.lsn old.store) Room place.0 place.1 who table key action)
+          ∙ of_holder (holder h table key) held.0 (serial_tests h.commits (isolation_of h who) table key ++ row_tests h (s.lsn old.store) Room place.0 place.1 who table key action)
         where
           differ : not (nat_le u who && nat_le who u) ≡ true
           differ = let ne = held.1 in grind (arith, nat_tests)

@@ -31,6 +31,7 @@ pub fn check_number(memory: &Memory, s: u16) -> Result<(), Refusal>
     ensures refused { IfErr result (λ why. (h : State) → Knows h memory.now → Refuses (number_tests h s) why) }
     ensures granted { OnOk result ((h : State) → Knows h memory.now → none_applies (number_tests h s) ≡ true) }
     ensures other { IfErr result (λ why. why ≢ Refusal.DiskFault) }
+    ensures young { IfErr result NotOld }
     ensures session { OnOk result ((1 ≤ s) × (s ≤ SESSIONS)) }
     ensures going { OnOk result (memory.now.stopped ≡ false) }
 {
@@ -48,6 +49,7 @@ pub fn check_session(memory: &Memory, s: u16) -> Result<(), Refusal>
     ensures refused { IfErr result (λ why. (h : State) → Knows h memory.now → Refuses (session_tests h s) why) }
     ensures granted { OnOk result ((h : State) → Knows h memory.now → none_applies (session_tests h s) ≡ true) }
     ensures other { IfErr result (λ why. why ≢ Refusal.DiskFault) }
+    ensures young { IfErr result NotOld }
     ensures session { OnOk result ((1 ≤ s) × (s ≤ SESSIONS)) }
     ensures going { OnOk result (memory.now.stopped ≡ false) }
     ensures free { OnOk result (is_queued s memory.now.waits ≡ false) }

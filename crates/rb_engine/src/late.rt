@@ -1,5 +1,5 @@
 //! Whether a serializable transaction may write a row. A write of a session asks it, also one that is tried again.
-ghost use Rattle.std.specs.Prelude.{◌≡◌, ◌≤◌, ℕ, List, [], not, None, Ok, IfErr, OnOk};
+ghost use Rattle.std.specs.Prelude.{◌≡◌, ◌≤◌, ℕ, List, [], false, not, None, Ok, IfErr, OnOk};
 ghost use Rattle.rb_base.specs.Logs.{Logs};
 ghost use Rattle.rb_base.specs.declared.ids.Xid.{Xid};
 ghost use Rattle.rb_engine.specs.Checks.{err_faults};

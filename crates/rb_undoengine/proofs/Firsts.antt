@@ -79,11 +79,15 @@ row_tests h logged room g i s table key action =
     ∷ (is_full (book_at h.books g), Refused (refusals.RollbackFull g (made_since (book_at h.books g))))
     ∷ log_tests logged room (needed_room h s g i)
 
+pub split_tests : (h : State) (logged room g i s table key : ℕ) (action : Action)
+    → write_tests h logged room g i s table key action ≡ waited h.queue s (holder h table key) ++ (serial_tests h.commits (isolation_of h s) table key ++ row_tests h logged room g i s table key action)
+split_tests h logged room g i s table key action = append_assoc (waited h.queue s (holder h table key)) (serial_tests h.commits (isolation_of h s) table key) (row_tests h logged room g i s table key action)
+
 -- where no other session holds the key, only a late commit comes before those
 pub first_serial : (h : State) (logged room g i s table key : ℕ) (action : Action) → ((u : ℕ) → holder h table key ≡ Some u → u ≡ s)
     → first_of (write_tests h logged room g i s table key action) Done ≡ first_of (serial_tests h.commits (isolation_of h s) table key ++ row_tests h logged room g i s table key action) Done
 first_serial h logged room g i s table key action own =
-    ap (λ (l : List (Bool × Answer)). first_of l Done) (append_assoc (waited h.queue s (holder h table key)) (serial_tests h.commits (isolation_of h s) table key) (row_tests h logged room g i s table key action))
+    ap (λ (l : List (Bool × Answer)). first_of l Done) (split_tests h logged room g i s table key action)
     ∙ nobody_waits h.queue s (holder h table key) (serial_tests h.commits (isolation_of h s) table key ++ row_tests h logged room g i s table key action) own
 
 module _ (h : State) (s table key g i : ℕ) (op : Option Op) where

@@ -1,7 +1,7 @@
 mod Calls
 mod Done
 pub mod Finishing
-mod Firsts
+pub mod Firsts
 mod Found
 mod HolderWords
 mod HomeWords

@@ -86,7 +86,7 @@ returns-in-None-clause-did g c = λ h st.
     let idle : k.count ≡ 0 = is.idle c.args.s (sym c.session.ensures.own ∙ c.in-None.is) in
     let empty : session_own h c.args.s ≡ [] = no_items (session_own h c.args.s) (sym of_session.count ∙ idle) in
     let moved : now.sessions ≡ with_kept inside.sessions c.args.s (rolled_to name p.kept k) = c.rollback_to.ensures ∙ ap (λ (o : Option Savepoint). with_kept inside.sessions c.args.s (back_at name o k)) found.1 in
-    let session : Session = record { own = take p.kept (session_own h c.args.s); savepoints = next.up_to name (session_of h c.args.s).savepoints; cursors = next.left_open p.kept (next.cursors_of h c.args.s) } in
+    let session : Session = record (session_of h c.args.s) { own = take p.kept (session_own h c.args.s); savepoints = next.up_to name (session_of h c.args.s).savepoints; cursors = next.left_open p.kept (next.cursors_of h c.args.s) } in
     let own : take p.kept (session_own h c.args.s) ≡ session_own h c.args.s = ap (take p.kept) empty ∙ (nothing p.kept ∙ sym empty) in
     subst (λ (k : Kept). Does s h call machine.Done (record { memory = k; store = store }) (record { memory = now; store = store })) c.memory.view_is
     (does_session s st.told (laws_of g) h call machine.Done c.args.s session (record { memory = inside; store = store }) (record { memory = now; store = store }) here going
