@@ -1,4 +1,5 @@
 pub mod Beyond
+pub mod Blaming
 pub mod Decoded
 pub mod Extents
 pub mod Found
@@ -7,6 +8,7 @@ pub mod Loaded
 pub mod Overlays
 pub mod Rebuilding
 pub mod Rooms
+pub mod Seeing
 pub mod Shown
 pub mod Stepping
 pub mod Tops

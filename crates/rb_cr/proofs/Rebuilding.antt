@@ -3,11 +3,11 @@ use Rattle.std.proofs.Common.{◌≡◌, ◌⊎◌, ⊎_elim, inl, inr, ◌<◌,
 use Rattle.std.proofs.Common.{List, [], length, Option, None, Result, Ok, Err, OnOk, refl, sym, ◌∙◌}
 use Rattle.std.proofs.Common.{ap, subst, arith}
 use Rattle.rb_base.specs.declared.ids.Xid.{Xid}
-use Rattle.rb_cr.specs.Faults.{Because, Blames, is_fault}
+use Rattle.rb_cr.specs.Faults.{Because, is_fault}
 use Rattle.rb_cr.specs.Parts.{Built, Highest, Passed, Rewound, Spent, Undone}
 use Rattle.rb_cr.specs.declared.faults.CrFault.{CrFault}
 use Rattle.rb_rebuild.specs.Chains.{unwound}
-use Rattle.rb_rebuild.specs.Heights.{AtMost, Over}
+use Rattle.rb_rebuild.specs.Heights.{AtMost}
 use Rattle.rb_rebuild.specs.Keeping.{kept_room, Kept, behind_mine, first_count, kept_after, overlay}
 use Rattle.rb_rebuild.specs.Reading.{total, rows_at, count_above, Reader, flat, History, Reading, Worn}
 use Rattle.rb_rebuild.specs.Reading.{rows_in}
@@ -18,6 +18,7 @@ use Rattle.rb_rebuild.proofs.Keeping.{overlay_same}
 use Rattle.rb_rebuild.proofs.Peeling.{begins, fails, finishes, turns}
 use Rattle.rb_rebuild.proofs.Showing.{match_rows}
 use Rattle.rb_rebuild.proofs.Undoing.{Turned, allows, passes_by, taken_back, takes_back}
+use Rattle.rb_cr.proofs.Blaming.{because_lost, because_map, because_over}
 use Rattle.rb_cr.specs.declared.faults.CrFault.TheVariants as faults
 
 module _ (env : Env) (base : ℕ) (rows : Rows) (list : List Commit) (mine : Option Xid) (upto n : ℕ) (start : Home) (kept0 : Kept) (count0 : ℕ) (st : Starts env base rows n (2 ^ 64 - 1) list start) (few : length kept0 + first_count mine upto (flat n list) ≤ kept_room) where
@@ -43,14 +44,11 @@ module _ (env : Env) (base : ℕ) (rows : Rows) (list : List Commit) (mine : Opt
         }
 
     pub rewound_over : (e : CrFault) → Highest env n b (Err e) → Rewound env rows list mine upto n start kept0 count0 (Err e) b kept count
-    rewound_over e top = record { most = omega (arith, so.2, few_left); ok = tt; err = because e top.err }
-      where
-        because : (e : CrFault) → (is_fault e ≡ false → (j : ℕ) × Over env n (entry_at b j) × Blames n (env.lost (entry_at b j).xid.seg) e) → Because env n (λ seg. WornIn env n seg (flat n list) start) e
-        because faults.Failed over = tt
-        because (faults.TooOld scn lost) over =
-            let o : (j : ℕ) × Over env n (entry_at b j) × Blames n (env.lost (entry_at b j).xid.seg) (faults.TooOld scn lost) = over refl in
-            let why : (n < env.lost (entry_at b o.0).xid.seg) × WornIn env n (entry_at b o.0).xid.seg (flat n list) start = fails env base rows mine upto n (2 ^ 64 - 1) list st.honest st.low limit so.0 so.1 start b so.4 o.0 o.1 in
-            (o.2.0, omega (arith, why.0, o.2.1), ((entry_at b o.0).xid.seg, o.2.1, why.1))
+    rewound_over e top = record {
+      most = omega (arith, so.2, few_left);
+      ok = tt;
+      err = because_over env n (λ seg. WornIn env n seg (flat n list) start) b e (fails env base rows mine upto n (2 ^ 64 - 1) list st.honest st.low limit so.0 so.1 start b so.4) top.err;
+    }
 
     module _ (i c : ℕ) (above : n < c) (top : Highest env n b (Ok (i, c))) where
       abbrev chain : ℕ
@@ -70,20 +68,19 @@ module _ (env : Env) (base : ℕ) (rows : Rows) (list : List Commit) (mine : Opt
       falls = turn.0
 
       pub rewound_worn : (e : CrFault) (b2 : Home) (kept2 : Kept) (count2 : ℕ) → Spent env mine upto n i b kept (Err e) b2 kept2 → count2 ≤ count + (entry_at b i).chain → Rewound env rows list mine upto n start kept0 count0 (Err e) b2 kept2 count2
-      rewound_worn e b2 kept2 count2 spent most = record { most = omega (arith, most, so.2, turn.1.0); ok = tt; err = because e spent.err.0 spent.err.1 }
+      rewound_worn e b2 kept2 count2 spent most = record { most = omega (arith, most, so.2, turn.1.0); ok = tt; err = because_lost env n (λ seg. WornIn env n seg (flat n list) start) (entry_at b i).xid.seg e (λ old. gone (spent.err.0 old)) spent.err.1 }
         where
           too_few : kept_room < length (kept_after env mine upto (entry_at b i).chain i (entry_at b i).xid b kept) → ⊥
           too_few full =
               let over : kept_room < length (saved kept0) = subst (λ (z : Kept). kept_room < length (kept_after env mine upto (entry_at b i).chain i (entry_at b i).xid b z)) so.3 full in
               omega (arith, over, turn.1.1 kept0, few)
 
-          because : (e : CrFault) → (is_fault e ≡ false → (unwound env (entry_at b i).chain i (entry_at b i).xid b ≡ None) ⊎ (kept_room < length (kept_after env mine upto (entry_at b i).chain i (entry_at b i).xid b kept))) → Blames n (env.lost (entry_at b i).xid.seg) e → Because env n (λ seg. WornIn env n seg (flat n list) start) e
-          because faults.Failed gone blames = tt
-          because (faults.TooOld scn lost) gone blames = ⊎_elim
+          gone : (unwound env (entry_at b i).chain i (entry_at b i).xid b ≡ None) ⊎ (kept_room < length (kept_after env mine upto (entry_at b i).chain i (entry_at b i).xid b kept)) → (n < env.lost (entry_at b i).xid.seg) × WornIn env n (entry_at b i).xid.seg (flat n list) start
+          gone why = ⊎_elim
               (λ none.
               let ends : (c ≤ env.lost (entry_at b i).xid.seg) × WornIn env n (entry_at b i).xid.seg (flat n list) start = subst (λ (z : Option Home). Ends env (entry_at b i).xid.seg c (WornIn env n (entry_at b i).xid.seg (flat n list) start) (Peeled env base rows mine upto n c (so.0 + chain) saved list start) z) none turn.2 in
-              (blames.0, omega (arith, ends.0, above, blames.1), ((entry_at b i).xid.seg, blames.1, ends.1)))
-              (λ full. absurd (too_few full)) (gone refl)
+              (omega (arith, ends.0, above), ends.1))
+              (λ full. absurd (too_few full)) why
 
       pub goes_on : (b2 : Home) (kept2 : Kept) (count2 : ℕ) → Spent env mine upto n i b kept (Ok (tt {0})) b2 kept2 → count2 ≡ count + (entry_at b i).chain → SoFar c b2 kept2 count2
       goes_on b2 kept2 count2 spent is =
@@ -157,6 +154,14 @@ module _ (env : Env) (base : ℕ) (rows : Rows) (list : List Commit) (lives : Li
           err = tt;
         }
 
+-- what the first half promises, with nothing kept at its start
+pub undone : (env : Env) (h : History) (mine : Option Xid) (upto n : ℕ) (start : Home) (kept : Kept) (count : ℕ) (result : Result (Unit {0}) CrFault) (b2 : Home) (kept2 : Kept) (count2 : ℕ) → kept ≡ [] → Reading env h mine upto n start
+    → (length kept + first_count mine upto (own h.lives h.reader) ≤ kept_room → Undone env h.base h.rows h.list h.lives h.reader mine upto n start kept count result b2 kept2 count2)
+    → Undone env h.base h.rows h.list h.lives h.reader mine upto n start [] count result b2 kept2 count2
+undone env h mine upto n start kept count result b2 kept2 count2 none reading says =
+    let zero_kept : length kept ≡ 0 = ap length none in
+    subst (λ (z : Kept). Undone env h.base h.rows h.list h.lives h.reader mine upto n start z count result b2 kept2 count2) none (says (omega (arith, zero_kept, reading.few)))
+
 -- the whole rebuild
 module _ (env : Env) (h : History) (mine : Option Xid) (upto n : ℕ) (start : Home) (count0 : ℕ) (reading : Reading env h mine upto n start) where
   pub built_failed : (e : CrFault) (b : Home) (kept : Kept) (count : ℕ) → Undone env h.base h.rows h.list h.lives h.reader mine upto n start [] count0 (Err e) b kept count → Built env h mine upto n start count0 (Err e) b kept count
@@ -173,7 +178,7 @@ module _ (env : Env) (h : History) (mine : Option Xid) (upto n : ℕ) (start : H
     pub few_more : length kept + first_count mine upto (flat n h.list) ≤ kept_room
     few_more = let room : length kept ≤ 0 + first_count mine upto (own h.lives h.reader) = undone.room in omega (arith, room, reading.few)
 
-    worn : (seg : ℕ) → WornIn env n seg (flat n h.list) b → Worn env h n start seg
+    pub worn : (seg : ℕ) → WornIn env n seg (flat n h.list) b → Worn env h n start seg
     worn seg why = ⊎_elim
         (λ at. ⊎_elim (λ entry. inl entry) (λ cause. inr (cause.1, inl (cause.0, cause.2), cause.3)) (undone.source at.0 seg at.1))
         (λ cause. inr (cause.0, inr cause.1, cause.2)) why
@@ -186,8 +191,4 @@ module _ (env : Env) (h : History) (mine : Option Xid) (upto n : ℕ) (start : H
       most = omega (arith, rewound.most, undone.counted);
       old = tt;
     }
-    built (Err e) b2 kept2 count2 rewound = record { rows = tt; counted = tt; most = omega (arith, rewound.most, undone.counted); old = because e rewound.err }
-      where
-        because : (e : CrFault) → Because env n (λ seg. WornIn env n seg (flat n h.list) b) e → Because env n (Worn env h n start) e
-        because faults.Failed why = tt
-        because (faults.TooOld scn lost) why = (why.0, why.1, (why.2.0, why.2.1, worn why.2.0 why.2.2))
+    built (Err e) b2 kept2 count2 rewound = record { rows = tt; counted = tt; most = omega (arith, rewound.most, undone.counted); old = because_map env n (λ seg. WornIn env n seg (flat n h.list) b) (Worn env h n start) e worn rewound.err }

@@ -4,6 +4,7 @@ use Rattle.std.proofs.Common.{Option, Some, None, refl, sym, ◌∙◌, ap, subs
 use Rattle.std.proofs.lemmas.List.{length-map}
 use Rattle.rb_base.specs.declared.ids.Xid.{Xid}
 use Rattle.rb_base.specs.declared.shape.Shape.{Shape}
+use Rattle.rb_cr.specs.Late.{Saw}
 use Rattle.rb_cr.specs.Parts.{Took}
 use Rattle.rb_cr.specs.Records.{fits_at, maker_of, record_of, walk_found}
 use Rattle.rb_cr.specs.Scratches.{kept_with, scratch_home}
@@ -13,12 +14,13 @@ use Rattle.rb_cr.specs.declared.scratch.Snapshot.{Snapshot}
 use Rattle.rb_itl.specs.Entries.{free_entry as zero_entry}
 use Rattle.rb_rebuild.specs.Chains.{same_xid, fits, applied, stepped}
 use Rattle.rb_rebuild.specs.Keeping.{Kept, keep, kept_one, kept_room}
+use Rattle.rb_rebuild.specs.Late.{touches}
 use Rattle.rb_standing.specs.Says.{place_of, walk_cell}
 use Rattle.rb_walk.specs.Kinds.{Entry, Undo}
 use Rattle.rb_walk.specs.Walk.{Env, Home, entry_at, back}
 use Rattle.rb_cr.proofs.Tops.{entry_is}
 
-module _ (shape : Shape) (env : Env) (snap : Snapshot) (s : Scratch) (i : ℕ) (xid : Xid) (eight : length s.entries ≡ 8) (sixteen : length s.cells ≡ 16) (there : i < 8) (found : SegmentRecord)
+module _ (shape : Shape) (env : Env) (s : Scratch) (i : ℕ) (xid : Xid) (eight : length s.entries ≡ 8) (sixteen : length s.cells ≡ 16) (there : i < 8) (found : SegmentRecord)
     (told : walk_found shape (Some found) ≡ env.store (place_of shape (get_or s.entries i zero_entry).newest)) where
   abbrev b : Home
   b = scratch_home shape s
@@ -36,10 +38,16 @@ module _ (shape : Shape) (env : Env) (snap : Snapshot) (s : Scratch) (i : ℕ) (
   unfit not = ap (applied i xid b) stored ∙ ap (λ (t : Bool). if t then Some (back r b) else None) (fits_is ∙ not)
 
   module _ (yes_fits : fits_at i xid found ≡ true) where
-    kept_is : kept_one snap.own snap.upto i xid b (env.store (entry_at b i).newest) s.kept ≡ kept_with snap found s
-    kept_is = ap (λ (o : Option Undo). kept_one snap.own snap.upto i xid b o s.kept) stored ∙ ap (λ (t : Bool). if t then keep snap.own snap.upto r b s.kept else s.kept) (fits_is ∙ yes_fits)
+    stepped_is : stepped env i xid b ≡ Some (back r b)
+    stepped_is = ap (applied i xid b) stored ∙ ap (λ (t : Bool). if t then Some (back r b) else None) (fits_is ∙ yes_fits)
 
-    pub took : (t : Bool) (s2 : Scratch) → scratch_home shape s2 ≡ back r b → (t ≡ true → s2.kept ≡ kept_with snap found s) → (t ≡ false → kept_room < length (kept_with snap found s))
+    pub saw : (key : ℕ) (t : Bool) (s2 : Scratch) → scratch_home shape s2 ≡ back r b → t ≡ touches key (Some r) → Saw env key i xid b (scratch_home shape s2) (Some t)
+    saw key t s2 home is = (stepped_is ∙ ap Some (sym home), is ∙ ap (touches key) (sym stored))
+
+    kept_is : (snap : Snapshot) → kept_one snap.own snap.upto i xid b (env.store (entry_at b i).newest) s.kept ≡ kept_with snap found s
+    kept_is snap = ap (λ (o : Option Undo). kept_one snap.own snap.upto i xid b o s.kept) stored ∙ ap (λ (t : Bool). if t then keep snap.own snap.upto r b s.kept else s.kept) (fits_is ∙ yes_fits)
+
+    pub took : (snap : Snapshot) (t : Bool) (s2 : Scratch) → scratch_home shape s2 ≡ back r b → (t ≡ true → s2.kept ≡ kept_with snap found s) → (t ≡ false → kept_room < length (kept_with snap found s))
         → Took env snap.own snap.upto i xid b s.kept (scratch_home shape s2) s2.kept t
-    took true s2 home kept full = (ap (applied i xid b) stored ∙ (ap (λ (t : Bool). if t then Some (back r b) else None) (fits_is ∙ yes_fits) ∙ ap Some (sym home)), kept refl ∙ sym kept_is)
-    took false s2 home kept full = inr (subst (λ (z : Kept). kept_room < length z) (sym kept_is) (full refl))
+    took snap true s2 home kept full = (stepped_is ∙ ap Some (sym home), kept refl ∙ sym (kept_is snap))
+    took snap false s2 home kept full = inr (subst (λ (z : Kept). kept_room < length z) (sym (kept_is snap)) (full refl))

@@ -4,6 +4,7 @@ pub mod Clauses
 pub mod Faults
 pub mod Heights
 pub mod KeptRows
+pub mod Late
 pub mod Parts
 pub mod Reads
 pub mod Records

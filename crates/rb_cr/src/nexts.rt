@@ -42,7 +42,7 @@ fn is_quiet<S: Segments>(segments: &mut S, scratch: &Scratch, scn: Scn) -> Resul
 }
 
 /// Whether no entry of a block's home is above a snapshot. Its entries alone are read for that.
-fn is_plain<S: Store>(
+pub(crate) fn is_plain<S: Store>(
     store: &mut S,
     block: BlockNo,
     scn: Scn,

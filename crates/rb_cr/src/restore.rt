@@ -23,7 +23,7 @@ use rb_txntable::Look;
 use std::sync::ledger::Ledger;
 
 /// The entry with the greatest number above a snapshot, and that number: the snapshot's where none is above it.
-fn highest<S: Segments>(
+pub(crate) fn highest<S: Segments>(
     segments: &mut S,
     scratch: &Scratch,
     scn: Scn,
@@ -115,7 +115,7 @@ fn undo_entry<S: Segments, L: Ledger>(
 }
 
 /// All live changes taken back, one entry after another.
-fn undo_active<S: Segments, L: Ledger>(
+pub(crate) fn undo_active<S: Segments, L: Ledger>(
     segments: &mut S,
     scratch: &mut Scratch,
     snapshot: &Snapshot,

@@ -121,7 +121,7 @@ fn is_first_of(snapshot: &Snapshot, found: &SegmentRecord) -> bool
 }
 
 /// Whether a change of this kind held its row as it was.
-fn holds(kind: u8) -> bool
+pub(crate) fn holds(kind: u8) -> bool
     ensures { result ≡ is_held (sort_by kind) }
 {
     kind != PUT && kind != GONE
@@ -145,7 +145,7 @@ pub(crate) fn fits(found: &SegmentRecord, i: usize, xid: Xid) -> bool
 }
 
 /// Puts back the entry and the cell that a record kept, and answers the cell as it was before.
-fn back(scratch: &mut Scratch, undo: &UndoRecord) -> Cell
+pub(crate) fn back(scratch: &mut Scratch, undo: &UndoRecord) -> Cell
     requires entry { undo.now.entry < ENTRIES }
     requires cell { undo.now.cell < CELLS }
     ensures home { (shape : Shape) (seg : ℕ) → scratch_home shape scratch.new

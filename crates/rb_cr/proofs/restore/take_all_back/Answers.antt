@@ -1,23 +1,10 @@
-use Rattle.std.proofs.Common.{◌≡◌, ◌≤◌, ◌+◌, ℕ, [], length, Option, Ok, Err, Result, refl, ap, subst, arith}
-use Rattle.rb_base.specs.declared.ids.Xid.{Xid}
+use Rattle.std.proofs.Common.{[], Ok, Err, refl, subst}
 use Rattle.rb_cr.specs.Calls.{Said}
 use Rattle.rb_cr.specs.Clauses.{Rewinds}
 use Rattle.rb_cr.specs.Parts.{Undone}
 use Rattle.rb_cr.specs.Scratches.{scratch_home}
-use Rattle.rb_cr.specs.declared.faults.CrFault.{CrFault}
-use Rattle.rb_rebuild.specs.Keeping.{Kept, first_count, kept_room}
-use Rattle.rb_rebuild.specs.Reading.{History, Reading}
-use Rattle.rb_walk.specs.Walk.{Env, Home, own}
-use Rattle.rb_cr.proofs.Rebuilding.{built_failed, starts, few_more, built}
+use Rattle.rb_cr.proofs.Rebuilding.{built_failed, starts, few_more, built, undone}
 use Rattle.rb_cr.proofs.restore.take_all_back.Goals as goal
-
--- what the first half promises, with nothing kept at its start
-undone : (env : Env) (h : History) (mine : Option Xid) (upto n : ℕ) (start : Home) (kept : Kept) (count : ℕ) (result : Result (Unit {0}) CrFault) (b2 : Home) (kept2 : Kept) (count2 : ℕ) → kept ≡ [] → Reading env h mine upto n start
-    → (length kept + first_count mine upto (own h.lives h.reader) ≤ kept_room → Undone env h.base h.rows h.list h.lives h.reader mine upto n start kept count result b2 kept2 count2)
-    → Undone env h.base h.rows h.list h.lives h.reader mine upto n start [] count result b2 kept2 count2
-undone env h mine upto n start kept count result b2 kept2 count2 none reading says =
-    let zero_kept : length kept ≡ 0 = ap length none in
-    subst (λ (z : Kept). Undone env h.base h.rows h.list h.lives h.reader mine upto n start z count result b2 kept2 count2) none (says (omega (arith, zero_kept, reading.few)))
 
 pub returns-in-Err-clause-told : goal.returns-in-Err-clause-told
 returns-in-Err-clause-told g c = λ told h reading.
