@@ -4,6 +4,7 @@ use Rattle.std.proofs.lemmas.Bool.{cases_Bool, cond_both}
 use Rattle.std.proofs.lemmas.Bool.Decides.{nat_tests}
 use Rattle.std.proofs.lemmas.Result.{IfErr-weaker}
 use Rattle.rb_base.specs.Logs.{Logs, Laws}
+use Rattle.rb_base.specs.Stores.{room_of}
 use Rattle.rb_base.specs.declared.ids.Xid.{Xid}
 use Rattle.rb_base.specs.declared.shape.Shape.{Shape}
 use Rattle.rb_base.specs.declared.store.Store.{Ghosts}
@@ -28,6 +29,7 @@ use Rattle.rb_views.specs.Views.{history, home_in, IsCursor, Remembers}
 use Rattle.rb_views.proofs.Fetching as views
 use Rattle.rb_engine.specs.Does.{Does, EngineView, Goes, SameStore, Stands}
 use Rattle.rb_engine.proofs.DoesLemmas.{does_cursors, does_loaded}
+use Rattle.rb_engine.proofs.LateLemmas.{old_reply}
 use Rattle.rb_model.specs.Book.{book_at}
 use Rattle.rb_model.specs.Calls as machine
 use Rattle.rb_model.specs.Calls.{Answer, Refused, Reply, early_tests, none_applies, next_row, session_tests}
@@ -201,26 +203,9 @@ module _ {S : Type 0} (s : Ghosts S) (laws : Laws s) (h : State) (old : EngineVi
     pub does_old : (scn lost : ℕ) → result ≡ Err (faults.TooOld scn lost) → new.memory ≡ old.memory → Does s h (machine.Fetch who name) (Refused (TooOld scn lost)) old new
     does_old scn lost is memory =
         let behind = finds goes.xids reader (Err (faults.TooOld scn lost)) is in
-        let why = behind.4 in
-        let seg = why.2.0 in
-        let number : m.scn ≡ one.0.number = one.2.number in
-        let book = lost_is h goes.xids blocks seg scn goes.holds.blocks (let a = why.0 in let b = why.1 in let d = why.2.1 in omega (arith, a, b, d)) in
-        let given_up : (book_at h.books seg).lost ≡ lost = book.1 ∙ sym why.2.1 in
-        does_loaded s st.told laws h (machine.Fetch who name) (Refused (TooOld scn lost)) old new st
-        (Reply.old early (record {
-          session = who;
-          name = name;
-          fetches = refl;
-          cursor = one.0;
-          named = one.1;
-          seg = seg;
-          there = book.0;
-          above = (let a = why.0 in let b = why.1 in omega (arith, a, b, number, given_up));
-          answer = too_old scn lost one.0.number (book_at h.books seg).lost (why.0 ∙ number) (sym given_up);
-        })) refl refl (λ s t k a is done. cc) memory (λ _. logs) same
-      where
-        too_old : (a b x y : ℕ) → a ≡ x → b ≡ y → Refused (TooOld a b) ≡ Refused (TooOld x y)
-        too_old a b x y e f = rw (e, f) refl
+        does_loaded s told laws h (machine.Fetch who name) (Refused (TooOld scn lost)) old new st
+        (old_reply h goes.xids blocks goes.holds.blocks (s.lsn old.store) (room_of (s.slots old.store) (s.lsn old.store)) (machine.Fetch who name) _ m.scn scn lost early (one.0, one.1, sym one.2.number) behind.4)
+        refl refl (λ s t k a is done. cc) memory (λ _. logs) same
 
 -- no early test answers that it is too old
 pub not_old : (h : State) (who : ℕ) (why : Refusal) (scn lost : ℕ) → Refuses (session_tests h who) why → why ≡ TooOld scn lost → ⊥

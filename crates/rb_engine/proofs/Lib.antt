@@ -2,6 +2,7 @@ pub mod DoesLemmas
 pub mod SeenHomes
 pub mod FetchLemmas
 pub mod FinishLemmas
+pub mod LateLemmas
 pub mod OpenLemmas
 pub mod QueueLemmas
 pub mod RetainsLemmas

@@ -17,7 +17,7 @@ use Rattle.rb_model.specs.Change.{Asked}
 use Rattle.rb_model.specs.NextState.{After, Grows, unqueued}
 use Rattle.rb_model.specs.Queue.{Waiter, first_ready, is_queued}
 use Rattle.rb_model.specs.Rows.{last_scn}
-use Rattle.rb_model.specs.State.{State, asked_of}
+use Rattle.rb_model.specs.State.{State, asked_of, isolation_of}
 use Rattle.rb_model.specs.declared.refusal.Refusal.{Refusal}
 use Rattle.rb_model.specs.declared.wrote.Wrote.{Wrote}
 use Rattle.rb_sessions.specs.Kept.{KeptSession, kept_at}
@@ -87,6 +87,11 @@ pub record Knows (h : State) (kept : Kept) : Type 0 where
   pub stopped : kept.stopped ≡ h.stopped
   pub scn : kept.scn ≡ last_scn h.commits
   pub queue : h.stopped ≡ false → KnowsQueue h kept
+
+-- each session's transaction reads in memory as in a state
+abbrev pub KnowsModes : State → Kept → Type 0
+KnowsModes h kept = h.stopped ≡ false → (u : ℕ) → 1 ≤ u → u ≤ SESSIONS
+    → (kept_at kept.sessions u).isolation ≡ isolation_of h u
 
 -- An engine that goes on stands for a state: its store's blocks do, and the table of sessions remembers it.
 pub record Goes {S : Type 0} (s : Ghosts S) (h : State) (e : EngineView S) : Type 0 where

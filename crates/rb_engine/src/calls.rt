@@ -1,7 +1,8 @@
 //! The calls of `Engine`, as the abstract machine sees them. The shell makes one for each command.
-ghost use Rattle.std.specs.Prelude.{◌≡◌, ◌<◌, ◌≤◌, ℕ, false, Ok, Err, None, [], IfSome, OnOk};
+ghost use Rattle.std.specs.Prelude.{◌≡◌, ◌<◌, ◌≤◌, ℕ, false, Ok, Err, None, Some, [], IfSome, OnOk};
 ghost use Rattle.rb_base.specs.Counts.{IsCountedAs, err_is};
 ghost use Rattle.rb_engine.specs.Does.{Does, LeavesState, Resumes, SameStore, Stands, resume_fault};
+ghost use Rattle.rb_engine.specs.Lateness.{ResumeNeedsLost, WriteNeedsLost};
 ghost use Rattle.rb_engine.specs.Scanning.{NeedsLost};
 ghost use Rattle.rb_model.specs.Answers.{action_of, write_answer, plain_answer, fetch_answer, commit_answer, LeavesRow};
 ghost use Rattle.rb_model.specs.Answers.{marks_answer};
@@ -17,26 +18,39 @@ use crate::engine::Engine;
 use crate::fetch::do_fetch;
 use crate::finish::{do_commit, do_rollback};
 use crate::marks::{do_checkpoint, do_marks};
+use crate::modes::do_set;
 use crate::queue::do_cancel;
 use crate::resume::do_resume;
 use crate::savepoints::{do_rollback_to, do_savepoint};
 use crate::write::do_write;
 use rb_base::Store;
-use rb_model::{Fetched, Marks, Name, Op, Refusal, Row, Wrote};
+use rb_model::{Fetched, Marks, Mode, Name, Op, Refusal, Row, Wrote};
 
 impl<T: Store> Engine<T> {
     /// Inserts, updates or deletes the row of a key. Where another session holds the key, the answer is `Waits`, and
     /// the session waits until that one's transaction ends: then `resume` tries the write again. It may be refused, and
     /// then nothing is changed, unless a call of the store failed; where it would wait in a ring it is refused with
-    /// `Deadlock`. (Oracle7 Server Concepts, *Transaction Management* and *Data Concurrency*.)
+    /// `Deadlock`. A serializable transaction is refused with `CantSerialize` where a commit above its snapshot has
+    /// changed the row, and may be with `TooOld` where that can't be told any more. (Oracle7 Server Concepts,
+    /// *Transaction Management* and *Data Concurrency*.)
     pub fn write(&mut self, s: u16, table: u16, key: u64, op: Op<'_>) -> Result<Wrote, Refusal>
         ensures did { (h : State) → Stands T.Store h self.old → Does T.Store h
             (machine.Write s table key (action_of op.entry)) (write_answer result) self.old self.new }
+        ensures lost { (h : State) → Stands T.Store h self.old → (scn lost : ℕ)
+            → result ≡ Err (Refusal.TooOld scn lost) → WriteNeedsLost T.Store h self.old s table key scn lost }
         ensures same { SameStore T.Store self.old.store self.new.store }
         ensures disk { IsCountedAs (T.faults self.old.store) (T.faults self.new.store)
             (err_is is_disk_fault result) }
     {
-        do_write(&mut self.memory, &mut self.store, s, table, key, Some(op))
+        do_write(
+            &mut self.memory,
+            &mut self.scratch,
+            &mut self.store,
+            s,
+            table,
+            key,
+            Some(op),
+        )
     }
 
     /// Holds the row of a key as it is, for the session's transaction: a write that changes no row. It answers as
@@ -44,11 +58,35 @@ impl<T: Store> Engine<T> {
     pub fn lock(&mut self, s: u16, table: u16, key: u64) -> Result<Wrote, Refusal>
         ensures did { (h : State) → Stands T.Store h self.old → Does T.Store h
             (machine.Write s table key machine.Lock) (write_answer result) self.old self.new }
+        ensures lost { (h : State) → Stands T.Store h self.old → (scn lost : ℕ)
+            → result ≡ Err (Refusal.TooOld scn lost) → WriteNeedsLost T.Store h self.old s table key scn lost }
         ensures same { SameStore T.Store self.old.store self.new.store }
         ensures disk { IsCountedAs (T.faults self.old.store) (T.faults self.new.store)
             (err_is is_disk_fault result) }
     {
-        do_write(&mut self.memory, &mut self.store, s, table, key, None)
+        do_write(
+            &mut self.memory,
+            &mut self.scratch,
+            &mut self.store,
+            s,
+            table,
+            key,
+            None,
+        )
+    }
+
+    /// Sets how the session's next transaction reads, until it ends. In read committed each cursor has its own snapshot.
+    /// A read-only or serializable one has the last commit number for all its cursors, and the first makes no writes.
+    /// `NotFirst` where the transaction has a mode of its own already, or changes, or savepoints; a query before it
+    /// doesn't matter. (Oracle7 Server Concepts, *Data Concurrency*.)
+    pub fn set(&mut self, s: u16, mode: Mode) -> Result<(), Refusal>
+        ensures did { (h : State) → Stands T.Store h self.old → Does T.Store h
+            (machine.SetMode s mode) (plain_answer result) self.old self.new }
+        ensures same { SameStore T.Store self.old.store self.new.store }
+        ensures disk { IsCountedAs (T.faults self.old.store) (T.faults self.new.store)
+            (err_is is_disk_fault result) }
+    {
+        do_set(&mut self.memory, &self.store, s, mode)
     }
 
     /// Makes the session's changes one more commit, which is in the file in every image once its number is answered.
@@ -98,7 +136,7 @@ impl<T: Store> Engine<T> {
         do_rollback_to(&mut self.memory, &mut self.store, s, name)
     }
 
-    /// Opens a cursor over the rows as the session sees them now.
+    /// Opens a cursor over the rows as the session sees them now, or as its transaction does whose mode has a snapshot.
     pub fn open_cursor(
         &mut self,
         s: u16,
@@ -167,13 +205,15 @@ impl<T: Store> Engine<T> {
     /// wait again, it does so behind all others. None where no session is ready, and of a stopped engine.
     pub fn resume(&mut self) -> Option<(u16, Result<Wrote, Refusal>)>
         ensures did { (h : State) → Stands T.Store h self.old → Resumes T.Store h result self.old self.new }
+        ensures lost { (h : State) → Stands T.Store h self.old → (s : ℕ) (scn lost : ℕ)
+            → result ≡ Some (s, Err (Refusal.TooOld scn lost)) → ResumeNeedsLost T.Store h self.old s scn lost }
         ensures fewer { IfSome result (λ r. ready_count self.new.memory.waits < ready_count self.old.memory.waits) }
         ensures few { ready_count self.old.memory.waits ≤ SESSIONS }
         ensures idle { first_ready self.old.memory.waits ≡ None → (result ≡ None) × (self.new ≡ self.old) }
         ensures same { SameStore T.Store self.old.store self.new.store }
         ensures disk { IsCountedAs (T.faults self.old.store) (T.faults self.new.store) (resume_fault result) }
     {
-        do_resume(&mut self.memory, &mut self.store)
+        do_resume(&mut self.memory, &mut self.scratch, &mut self.store)
     }
 
     /// What segment `seg` has made and given up.

@@ -10,13 +10,13 @@ use crate::checks::{check_session, check_table};
 use crate::memory::Memory;
 use rb_base::Store;
 use rb_model::{Name, Refusal};
-use rb_sessions::Cursor;
+use rb_sessions::{Cursor, snapshot_at};
 
 /// The most cursors of a session that are open.
 const CURSORS: u8 = 16;
 
-/// Opens a cursor over the rows as the session sees them now: it notes the last commit number, and how many changes the
-/// session's transaction has.
+/// Opens a cursor over the rows as the session sees them now: it notes the last commit number, or that which the
+/// session's transaction has for all its queries, and how many changes this has.
 pub fn do_open_cursor<T: Store>(
     memory: &mut Memory,
     store: &T,
@@ -47,7 +47,7 @@ pub fn do_open_cursor<T: Store>(
         table,
         lo,
         hi,
-        scn: memory.scn,
+        scn: snapshot_at(session.isolation, memory.scn),
         own: session.own,
         upto: session.length,
         last: None,

@@ -1,5 +1,5 @@
 //! The engine over a store of blocks: sixteen sessions that insert, update, delete, lock, wait for one another, commit,
-//! roll back, also to a savepoint, and read by cursors. The shell runs the lines of a script by it.
+//! roll back, also to a savepoint, and read by cursors, each in its mode. The shell runs the lines of a script by it.
 #![tactic(auto)]
 
 mod calls;
@@ -8,8 +8,10 @@ mod cursors;
 mod engine;
 mod fetch;
 mod finish;
+mod late;
 mod marks;
 mod memory;
+mod modes;
 mod open;
 mod queue;
 mod resume;

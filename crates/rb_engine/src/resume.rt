@@ -1,13 +1,15 @@
 //! A write of a session that had to wait, tried again. `Engine::resume` calls it.
-ghost use Rattle.std.specs.Prelude.{◌≡◌, ◌<◌, None, IfSome};
+ghost use Rattle.std.specs.Prelude.{◌≡◌, ◌<◌, ℕ, None, Some, Err, IfSome};
 ghost use Rattle.rb_base.specs.Counts.{IsCountedAs};
 ghost use Rattle.rb_engine.specs.Does.{IsInStep, Resumes, SameStore, Stands, resume_fault};
+ghost use Rattle.rb_engine.specs.Lateness.{ResumeNeedsLost};
 ghost use Rattle.rb_model.specs.Queue.{first_ready, ready_count};
 ghost use Rattle.rb_model.specs.State.{State};
 
 use crate::memory::Memory;
 use crate::write::do_write;
 use rb_base::Store;
+use rb_cr::Scratch;
 use rb_model::{Refusal, Wrote};
 
 /// Tries the write of the ready session that came first once more, and tells whose it is and what it answers: the
@@ -15,6 +17,7 @@ use rb_model::{Refusal, Wrote};
 /// ready. A stopped engine tries none.
 pub fn do_resume<T: Store>(
     memory: &mut Memory,
+    scratch: &mut Scratch,
     store: &mut T,
 ) -> Option<(u16, Result<Wrote, Refusal>)>
     requires step { IsInStep T.Store memory.old store.old }
@@ -22,6 +25,9 @@ pub fn do_resume<T: Store>(
     ensures did { (h : State) → Stands T.Store h (record { memory = memory.old; store = store.old })
         → Resumes T.Store h result (record { memory = memory.old; store = store.old })
         (record { memory = memory.new; store = store.new }) }
+    ensures lost { (h : State) → Stands T.Store h (record { memory = memory.old; store = store.old })
+        → (s : ℕ) (scn lost : ℕ) → result ≡ Some (s, Err (Refusal.TooOld scn lost)) → ResumeNeedsLost T.Store h
+        (record { memory = memory.old; store = store.old }) s scn lost }
     ensures fewer { IfSome result (λ r. ready_count memory.new.waits < ready_count memory.old.waits) }
     ensures idle { first_ready memory.old.waits ≡ None
         → (result ≡ None) × (memory.new ≡ memory.old) × (store.new ≡ store.old) }
@@ -34,6 +40,14 @@ pub fn do_resume<T: Store>(
     let s = memory.waits.ready()?;
     let pending = memory.sessions.held(s)?;
     memory.waits.leave(s);
-    let outcome = do_write(memory, store, s, pending.table, pending.key, pending.op());
+    let outcome = do_write(
+        memory,
+        scratch,
+        store,
+        s,
+        pending.table,
+        pending.key,
+        pending.op(),
+    );
     Some((s, outcome))
 }

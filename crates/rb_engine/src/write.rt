@@ -1,10 +1,12 @@
 //! A write of a session. `Engine::write`, `Engine::lock` and `resume` call it.
-ghost use Rattle.std.specs.Prelude.{◌≡◌, ◌≤◌, ◌<◌, ℕ, List, [], true, false, not, IfOk};
+ghost use Rattle.std.specs.Prelude.{◌≡◌, ◌≤◌, ◌<◌, ℕ, List, [], true, false, not, Err, IfErr, IfOk};
 ghost use Rattle.std.specs.Result.{is_err};
 ghost use Rattle.rb_base.specs.Counts.{IsCountedAs, err_is};
 ghost use Rattle.rb_base.specs.Logs.{Logs};
 ghost use Rattle.rb_base.specs.declared.ids.Xid.{Xid};
+ghost use Rattle.rb_engine.specs.Checks.{NotOld};
 ghost use Rattle.rb_engine.specs.Does.{Does, IsInStep, SameStore, Stands};
+ghost use Rattle.rb_engine.specs.Lateness.{WriteNeedsLost};
 ghost use Rattle.rb_engine.specs.Scanning.{OtherHolds};
 ghost use Rattle.rb_model.specs.Answers.{action_by, write_answer};
 ghost use Rattle.rb_model.specs.Calls.{is_disk_fault, is_too_long};
@@ -13,14 +15,16 @@ ghost use Rattle.rb_model.specs.Queue.{is_queued, ready_count};
 ghost use Rattle.rb_model.specs.State.{State};
 ghost use Rattle.rb_standing.specs.Standing.{env_of};
 ghost use Rattle.rb_standing.specs.States.{BlocksStand};
-ghost use Rattle.rb_undoengine.specs.Steps.{NotOthers, refusal_of};
+ghost use Rattle.rb_undoengine.specs.Steps.{MayWrite, NotOthers, refusal_of};
 ghost use Rattle.rb_views.specs.Views.{Remembers};
 
 use crate::checks::check_write;
+use crate::late::check_late;
 use crate::memory::Memory;
 use crate::queue::wait_for;
 use rb_attempt::AttemptFault;
 use rb_base::{Failed, Group, Store};
+use rb_cr::Scratch;
 use rb_model::{Op, Refusal, Wrote};
 use rb_sessions::{Pending, SESSIONS};
 use rb_undoengine::{holder_step, write_step};
@@ -78,9 +82,48 @@ fn other_holder<T: Store>(
     }
 }
 
-/// Makes a write that no early test refuses, of a key that no other session holds.
+/// Makes a write that no early test refuses, of a key that no other session holds and, where the transaction is
+/// serializable, no commit above its snapshot has changed.
 fn make_write<T: Store>(
     memory: &mut Memory,
+    store: &mut T,
+    s: u16,
+    table: u16,
+    key: u64,
+    op: Option<Op<'_>>,
+) -> Result<Wrote, Refusal>
+    requires step { IsInStep T.Store memory.old store.old }
+    requires going { memory.old.stopped ≡ false }
+    requires session { (1 ≤ s) × (s ≤ SESSIONS) }
+    requires table { (1 ≤ table) × (table ≤ (T.shape_of store.old).tables) }
+    requires short { is_too_long (action_by op) ≡ false }
+    ensures step { IsInStep T.Store memory.new store.new }
+    ensures did { (h : State) → Stands T.Store h (record { memory = memory.old; store = store.old })
+        → machine.none_applies (machine.early_tests h (machine.Write s table key (action_by op.entry))) ≡ true
+        → MayWrite h s table key
+        → Does T.Store h (machine.Write s table key (action_by op.entry)) (write_answer result)
+        (record { memory = memory.old; store = store.old }) (record { memory = memory.new; store = store.new }) }
+    ensures young { IfErr result NotOld }
+    ensures waits { memory.new.waits ≡ memory.old.waits }
+    ensures same { SameStore T.Store store.old store.new }
+    ensures disk { IsCountedAs (T.faults store.old) (T.faults store.new) (err_is is_disk_fault result) }
+{
+    let mut group = Group::new();
+    let own = memory.sessions.session(s).own;
+    match write_step(store, own, table, key, op, &mut group) {
+        Ok(xid) => {
+            memory.sessions.wrote(s, xid);
+            Ok(Wrote::Done)
+        }
+        Err(fault) => Err(refuse(memory, fault)),
+    }
+}
+
+/// Makes a write that no early test refuses, of a key that no other session holds, unless the session's transaction is
+/// serializable and the row was changed too late for it.
+fn write_free<T: Store>(
+    memory: &mut Memory,
+    scratch: &mut Scratch,
     store: &mut T,
     s: u16,
     table: u16,
@@ -98,24 +141,26 @@ fn make_write<T: Store>(
         → NotOthers h s table key
         → Does T.Store h (machine.Write s table key (action_by op.entry)) (write_answer result)
         (record { memory = memory.old; store = store.old }) (record { memory = memory.new; store = store.new }) }
+    ensures lost { (h : State) → Stands T.Store h (record { memory = memory.old; store = store.old })
+        → (scn lost : ℕ) → result ≡ Err (Refusal.TooOld scn lost) → WriteNeedsLost T.Store h
+        (record { memory = memory.old; store = store.old }) s table key scn lost }
     ensures waits { memory.new.waits ≡ memory.old.waits }
     ensures same { SameStore T.Store store.old store.new }
     ensures disk { IsCountedAs (T.faults store.old) (T.faults store.new) (err_is is_disk_fault result) }
 {
-    let mut group = Group::new();
-    let own = memory.sessions.session(s).own;
-    match write_step(store, own, table, key, op, &mut group) {
-        Ok(xid) => {
-            memory.sessions.wrote(s, xid);
-            Ok(Wrote::Done)
+    if let Err(why) = check_late(memory, scratch, store, s, table, key) {
+        if matches!(why, Refusal::DiskFault) {
+            memory.stop();
         }
-        Err(fault) => Err(refuse(memory, fault)),
+        return Err(why);
     }
+    make_write(memory, store, s, table, key, op)
 }
 
 /// Makes a write that no early test refuses, or lets the session wait for the one that holds the key.
 fn try_write<T: Store>(
     memory: &mut Memory,
+    scratch: &mut Scratch,
     store: &mut T,
     s: u16,
     table: u16,
@@ -133,6 +178,9 @@ fn try_write<T: Store>(
         → machine.none_applies (machine.early_tests h (machine.Write s table key (action_by op.entry))) ≡ true
         → Does T.Store h (machine.Write s table key (action_by op.entry)) (write_answer result)
         (record { memory = memory.old; store = store.old }) (record { memory = memory.new; store = store.new }) }
+    ensures lost { (h : State) → Stands T.Store h (record { memory = memory.old; store = store.old })
+        → (scn lost : ℕ) → result ≡ Err (Refusal.TooOld scn lost) → WriteNeedsLost T.Store h
+        (record { memory = memory.old; store = store.old }) s table key scn lost }
     ensures ready { ready_count memory.new.waits ≡ ready_count memory.old.waits }
     ensures same { SameStore T.Store store.old store.new }
     ensures disk { IsCountedAs (T.faults store.old) (T.faults store.new) (err_is is_disk_fault result) }
@@ -143,14 +191,15 @@ fn try_write<T: Store>(
             Err(Refusal::DiskFault)
         }
         Ok(Some(on)) => wait_for(memory, s, on, Pending::new(table, key, op)),
-        Ok(None) => make_write(memory, store, s, table, key, op),
+        Ok(None) => write_free(memory, scratch, store, s, table, key, op),
     }
 }
 
 /// Inserts, updates or deletes the row of a key, or holds it as it is. Where another session holds the key, this one
-/// waits for it. It may be refused, and then nothing is changed.
+/// waits for it. It may be refused, and then nothing is changed. What `scratch` holds afterwards is open.
 pub fn do_write<T: Store>(
     memory: &mut Memory,
+    scratch: &mut Scratch,
     store: &mut T,
     s: u16,
     table: u16,
@@ -162,6 +211,9 @@ pub fn do_write<T: Store>(
     ensures did { (h : State) → Stands T.Store h (record { memory = memory.old; store = store.old })
         → Does T.Store h (machine.Write s table key (action_by op.entry)) (write_answer result)
         (record { memory = memory.old; store = store.old }) (record { memory = memory.new; store = store.new }) }
+    ensures lost { (h : State) → Stands T.Store h (record { memory = memory.old; store = store.old })
+        → (scn lost : ℕ) → result ≡ Err (Refusal.TooOld scn lost) → WriteNeedsLost T.Store h
+        (record { memory = memory.old; store = store.old }) s table key scn lost }
     ensures ready { ready_count memory.new.waits ≡ ready_count memory.old.waits }
     ensures same { SameStore T.Store store.old store.new }
     ensures disk { IsCountedAs (T.faults store.old) (T.faults store.new) (err_is is_disk_fault result) }
@@ -169,5 +221,5 @@ pub fn do_write<T: Store>(
     if let Err(why) = check_write(memory, store.shape(), s, table, op) {
         return Err(why);
     }
-    try_write(memory, store, s, table, key, op)
+    try_write(memory, scratch, store, s, table, key, op)
 }

@@ -1,8 +1,10 @@
 pub mod Keeping
+pub mod Newest
 pub mod Numbering
 pub mod Peeling
 pub mod Quiet
 pub mod Showing
 pub mod Undoing
 pub mod Unwinding
+pub mod Watching
 pub mod Wearing

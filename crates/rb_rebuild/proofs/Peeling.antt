@@ -4,22 +4,23 @@ use Rattle.std.proofs.Common.{true, false, List, [], ◌∷◌, length, Option, 
 use Rattle.std.proofs.lemmas.Bool.{cases_eq, cases_lt}
 use Rattle.std.proofs.lemmas.Bool.Decides.{nat_tests}
 use Rattle.rb_base.specs.declared.ids.Xid.{Xid}
-use Rattle.rb_rebuild.specs.Chains.{unwound, applied, and_then}
+use Rattle.rb_rebuild.specs.Chains.{unwound, applied, and_then, spent}
 use Rattle.rb_rebuild.specs.Heights.{Beyond, LookBeyond, StatusBeyond, Over, LookOver, StatusOver, Numbered}
-use Rattle.rb_rebuild.specs.Heights.{LookNumbered, StatusNumbered, AtMost, LookAtMost, StatusAtMost, Late, LateIn}
+use Rattle.rb_rebuild.specs.Heights.{AtMost, Late, LateIn}
 use Rattle.rb_rebuild.specs.Heights.{BeyondIn}
-use Rattle.rb_rebuild.specs.Keeping.{first_count, is_first, Kept, overlay, behind_mine, kept_after}
+use Rattle.rb_rebuild.specs.Keeping.{first_count, is_first, Kept, overlay, behind_mine, kept_after, kept_whole}
 use Rattle.rb_rebuild.specs.Reading.{Honest, rows_at, count_above, flat}
 use Rattle.rb_rebuild.specs.Turns.{Starts, Ends, WornIn, Peeled}
 use Rattle.rb_txntable.specs.declared.looks.Look.{Look}
 use Rattle.rb_txntable.specs.declared.looks.Look.TheVariants.{Active, At, Before}
 use Rattle.rb_walk.specs.Kinds.{Status, Free, Open, Exact, Bound, Entry, Undo}
 use Rattle.rb_walk.specs.Walk.{In, Change, Commit, Home, Env, Rows, Match, Walk, Chain, Below, LookBelow, StatusBelow}
-use Rattle.rb_walk.specs.Walk.{LookSays, StatusSays, Says, Told, Names, Leads, back, entry_at, last}
+use Rattle.rb_walk.specs.Walk.{Told, Names, Leads, back, entry_at, last}
 use Rattle.rb_rebuild.proofs.Keeping.{chain_keeps, chain_fits}
 use Rattle.rb_rebuild.proofs.Unwinding.{passes}
 use Rattle.rb_rebuild.proofs.Wearing.{Worn, From, chain_wears}
 use Rattle.rb_walk.proofs.Committing.{top}
+use Rattle.rb_rebuild.proofs.Newest.{Newest, newest, says_most, cut, cut_count, cut_flat}
 
 pub ends_map : (env : Env) (seg c : ℕ) (why why2 : Type 0) (P Q : Home → Type 0) (o : Option Home) → (why → why2) → ((b : Home) → o ≡ Some b → P b → Q b) → Ends env seg c why P o → Ends env seg c why2 Q o
 ends_map env seg c why why2 P Q None w f ends = (ends.0, w ends.1)
@@ -39,43 +40,6 @@ in_append x [] more (inr named) = named
 in_append x (ch ∷ chs) more (inl (inl first)) = inl first
 in_append x (ch ∷ chs) more (inl (inr later)) = inr (in_append x chs more (inl later))
 in_append x (ch ∷ chs) more (inr named) = inr (in_append x chs more (inr named))
-
-look_falls : (lost : ℕ) (look : Look) (c m : ℕ) → LookNumbered look c → LookBelow lost look m → c ≤ m
-look_falls lost Active c m is below = absurd is
-look_falls lost (At k) c m is below = omega arith
-look_falls lost (Before b) c m is below = absurd is
-
-status_falls : (env : Env) (xid : Xid) (status : Status) (c m : ℕ) → StatusNumbered env xid status c → StatusBelow env xid status m → c ≤ m
-status_falls env xid Free c m is below = absurd is
-status_falls env xid Open c m is below = look_falls (env.lost xid.seg) (env.look xid) c m is below
-status_falls env xid (Exact k) c m is below = omega arith
-status_falls env xid (Bound b) c m is below = absurd is
-
-numbered_below : (env : Env) (e : Entry) (c m : ℕ) → Numbered env e c → Below env e m → c ≤ m
-numbered_below env e c m is below = status_falls env e.xid e.status c m is below
-
-look_most : (lost : ℕ) (look : Look) (k n c : ℕ) → LookSays lost look k → LookAtMost n c look → (k ≤ c) ⊎ (k ≤ n)
-look_most lost Active k n c says most = absurd says
-look_most lost (At j) k n c says most = inl (omega arith)
-look_most lost (Before b) k n c says most = inr (omega (arith, says.0))
-
-status_most : (env : Env) (xid : Xid) (status : Status) (k n c : ℕ) → StatusSays env xid status k → StatusAtMost env n c xid status → (k ≤ c) ⊎ (k ≤ n)
-status_most env xid Free k n c says most = absurd says
-status_most env xid Open k n c says most = look_most (env.lost xid.seg) (env.look xid) k n c says most
-status_most env xid (Exact j) k n c says most = inl (omega arith)
-status_most env xid (Bound b) k n c says most = inr (omega (arith, says.0))
-
-says_most : (env : Env) (e : Entry) (k n c : ℕ) → n ≤ c → Says env e k → AtMost env n c e → k ≤ c
-says_most env e k n c le says most = ⊎_elim (λ a. a) (λ a. omega arith) (status_most env e.xid e.status k n c says most)
-
-cut : (n : ℕ) (rows : Rows) (t : Commit) (older : List Commit) → n < t.number → rows_at n rows (t ∷ older) ≡ rows_at n rows older
-cut n rows t older lt = let test : nat_lt n t.number ≡ true = grind (arith, nat_tests) in rw test refl
-
-cut_count : (n : ℕ) (t : Commit) (older : List Commit) → n < t.number → count_above n (t ∷ older) ≡ length t.changes + count_above n older
-cut_count n t older lt = let test : nat_lt n t.number ≡ true = grind (arith, nat_tests) in rw test refl
-
-cut_flat : (n : ℕ) (t : Commit) (older : List Commit) → n < t.number → flat n (t ∷ older) ≡ t.changes ++ flat n older
-cut_flat n t older lt = let test : nat_lt n t.number ≡ true = grind (arith, nat_tests) in rw test refl
 
 pub behind_append : (mine : Option Xid) (upto : ℕ) (chs more : List Change) (over : Rows) → behind_mine mine upto (chs ++ more) over ≡ behind_mine mine upto chs (behind_mine mine upto more over)
 behind_append mine upto [] more over = refl
@@ -101,7 +65,7 @@ beyond_late env n e not over = late_status env n e.xid e.status not over
 pub late_in : (env : Env) (n seg : ℕ) (e : Entry) → e.status ≢ Open → BeyondIn env n seg e → LateIn n seg e
 late_in env n seg e not over = (beyond_late env n e not over.0, over.1)
 
-module _ (env : Env) (base : ℕ) (rows : Rows) (honest : Honest env) (mine : Option Xid) (upto n : ℕ) where
+module _ (env : Env) (base : ℕ) (rows : Rows) (n : ℕ) where
   pub settled : (list : List Commit) (b : Home) → Walk env base rows list b → ((j : ℕ) → AtMost env n n (entry_at b j)) → Match b (rows_at n rows list) × (count_above n list ≡ 0) × (flat n list ≡ [])
   settled [] b walk most = (walk.is, refl, refl)
   settled (t ∷ older) b walk most = elim (cases_lt n t.number) [
@@ -120,26 +84,7 @@ module _ (env : Env) (base : ℕ) (rows : Rows) (honest : Honest env) (mine : Op
           let low : t.number ≤ n = says_most env (entry_at b walk.2.0) t.number n n (omega arith) told.0 (most walk.2.0) in
           absurd (omega arith)
 
-  abbrev pub seg_at : Home → ℕ → ℕ
-  seg_at b i = (entry_at b i).xid.seg
-
-  -- an entry's whole chain taken back
-  abbrev pub whole : Home → ℕ → Option Home
-  whole b i = unwound env (entry_at b i).chain i (entry_at b i).xid b
-
-  abbrev pub saves : Home → ℕ → Kept → Kept
-  saves b i kept = kept_after env mine upto (entry_at b i).chain i (entry_at b i).xid b kept
-
-  abbrev pub Left : Home → ℕ → ℕ → List Commit → Home → Type 0
-  Left b i c list b2 = Peeled env base rows mine upto n c (entry_at b i).chain (saves b i) list b b2
-
-  -- an entry's chain has no more records than stand above n, and keeps no more rows than they have first changes
-  abbrev pub Allows : Home → ℕ → List Commit → Type 0
-  Allows b i list = ((entry_at b i).chain ≤ count_above n list) × ((kept : Kept) → length (saves b i kept) ≤ length kept + first_count mine upto (flat n list))
-
-  abbrev pub Why : ℕ → Home → List Commit → Type 0
-  Why seg b list = WornIn env n seg (flat n list) b
-
+module _ (env : Env) (base : ℕ) (rows : Rows) (honest : Honest env) (n : ℕ) where
   came : (i : ℕ) (chs all : List Change) (b b2 : Home) → ((x : Change) → In x chs → In x all) → From env i chs b b2 → (j seg : ℕ) → BeyondIn env n seg (entry_at b2 j) → WornIn env n seg all b
   came i chs all b b2 inside from j seg over = elim (cases_eq j i) [
     | inl is ↦
@@ -148,71 +93,67 @@ module _ (env : Env) (base : ℕ) (rows : Rows) (honest : Honest env) (mine : Op
     | inr ne ↦ inl (j, subst (λ (z : Entry). BeyondIn env n seg z) (from.others j ne) over)
   ]
 
-  pub peeled : (list : List Commit) (b : Home) (i c : ℕ) → base ≤ n → Walk env base rows list b → n < c → ((j : ℕ) → AtMost env n c (entry_at b j)) → Numbered env (entry_at b i) c → (c ≤ last base list) × Allows b i list × Ends env (seg_at b i) c (Why (seg_at b i) b list) (Left b i c list) (whole b i)
-  peeled [] b i c low walk lt most is = let le : c ≤ base = numbered_below env (entry_at b i) c base is (walk.below i) in absurd (omega arith)
-  peeled (t ∷ older) b i c low walk lt most is = let a : Allows b i (t ∷ older) × Ends env (seg_at b i) c (Why (seg_at b i) b (t ∷ older)) (Left b i c (t ∷ older)) (whole b i) = above t.changes refl (peeled older b i c low) in (at_most_t, a.0, a.1)
-    where
-      at_most_t : c ≤ t.number
-      at_most_t = numbered_below env (entry_at b i) c t.number is (walk.0.below i)
+  module _ (list : List Commit) (b : Home) (i c : ℕ) (high : Newest env base rows n i c b list) where
+    abbrev chs : List Change
+    chs = high.ch ∷ high.more
 
-      above : (chs : List Change) → t.changes ≡ chs → (Walk env base rows older b → n < c → ((j : ℕ) → AtMost env n c (entry_at b j)) → Numbered env (entry_at b i) c → (c ≤ last base older) × Allows b i older × Ends env (seg_at b i) c (Why (seg_at b i) b older) (Left b i c older) (whole b i)) → Allows b i (t ∷ older) × Ends env (seg_at b i) c (Why (seg_at b i) b (t ∷ older)) (Left b i c (t ∷ older)) (whole b i)
-      above [] nothing deeper =
-          let chain : Chain env t.xid t.number walk.2.0 [] b (Walk env base rows older) = subst (λ (z : List Change). Chain env t.xid t.number walk.2.0 z b (Walk env base rows older)) nothing walk.2.2 in
-          let d : (c ≤ last base older) × Allows b i older × Ends env (seg_at b i) c (Why (seg_at b i) b older) (Left b i c older) (whole b i) = deeper chain lt most is in
-          let n_t : n < t.number = omega arith in
-          let z : length t.changes ≡ 0 = ap length nothing in
-          let flat_is : flat n (t ∷ older) ≡ flat n older = cut_flat n t older n_t ∙ ap (λ (z : List Change). z ++ flat n older) nothing in
-          let first_is : first_count mine upto (flat n (t ∷ older)) ≡ first_count mine upto (flat n older) = ap (first_count mine upto) flat_is in (
-            (omega (arith, d.1.0, cut_count n t older n_t), λ kept. omega (arith, d.1.1 kept, first_is)),
-            ends_map env (seg_at b i) c (Why (seg_at b i) b older) (Why (seg_at b i) b (t ∷ older)) (Left b i c older) (Left b i c (t ∷ older)) (whole b i) (subst (λ (z : List Change). WornIn env n (seg_at b i) z b) (sym flat_is))
-                (λ b2 whole_is p. record { left = p.left; inside = λ x named. subst (λ (z : List Change). In x z) (sym flat_is) (p.inside x named); source = λ j seg over. subst (λ (z : List Change). WornIn env n seg z b) (sym flat_is) (p.source j seg over); walk = p.walk; same = p.same ∙ sym (cut n rows t older n_t); lower = p.lower; count = omega (arith, p.count, cut_count n t older n_t, z); keeps = λ kept over k. p.keeps kept over k ∙ ap (λ (z : List Change). overlay kept (behind_mine mine upto z over) k) (sym flat_is); room = λ kept. omega (arith, p.room kept, first_is) }) d.2,
-          )
-      above (ch ∷ more) some deeper = elim (cases_eq i walk.2.0) [
-        | inl same ↦
-            let leads : Leads (entry_at b walk.2.0) t.xid ch.place (suc (length more)) = chain.0 in
-            let eq : whole b i ≡ unwound env (suc (length more)) walk.2.0 t.xid b = rw (same, leads.chain, leads.xid) refl in
-            let saves_is : (kept : Kept) → saves b i kept ≡ kept_after env mine upto (suc (length more)) walk.2.0 t.xid b kept = λ kept. rw (same, leads.chain, leads.xid) refl in
-            let number : t.number ≡ c = omega (arith, at_most_t, t_most) in
-            let n_t : n < t.number = omega arith in
-            let long : length t.changes ≡ suc (length more) = ap length some in
-            let chain_is : (entry_at b i).chain ≡ suc (length more) = ap (λ (z : ℕ). (entry_at b z).chain) same ∙ leads.chain in
-            let flat_is : flat n (t ∷ older) ≡ (ch ∷ more) ++ flat n older = cut_flat n t older n_t ∙ ap (λ (z : List Change). z ++ flat n older) some in
-            let inside : (x : Change) → In x (ch ∷ more) → In x (flat n (t ∷ older)) = λ x named. subst (λ (z : List Change). In x z) (sym flat_is) (in_append x (ch ∷ more) (flat n older) (inl named)) in
-            let seg_is : t.xid.seg ≡ seg_at b i = sym (ap (λ (z : ℕ). seg_at b z) same ∙ ap (λ (z : Xid). z.seg) leads.xid) in
-            let ends : Ends env t.xid.seg t.number (Why (seg_at b i) b (t ∷ older)) (Walk env base rows older) (unwound env (suc (length more)) walk.2.0 t.xid b) = chain_ends env t.xid t.number walk.2.0 (Why (seg_at b i) b (t ∷ older)) (Walk env base rows older) honest (ch ∷ more) b (λ x named none at. inr (x, inside x named, inl (none, at ∙ seg_is))) chain in
-            let ends1 : Ends env (seg_at b i) t.number (Why (seg_at b i) b (t ∷ older)) (Walk env base rows older) (unwound env (suc (length more)) walk.2.0 t.xid b) = subst (λ (z : ℕ). Ends env z t.number (Why (seg_at b i) b (t ∷ older)) (Walk env base rows older) (unwound env (suc (length more)) walk.2.0 t.xid b)) seg_is ends in
-            let ends2 : Ends env (seg_at b i) c (Why (seg_at b i) b (t ∷ older)) (Walk env base rows older) (whole b i) = subst (λ (z : ℕ). Ends env (seg_at b i) z (Why (seg_at b i) b (t ∷ older)) (Walk env base rows older) (whole b i)) number (subst (λ (z : Option Home). Ends env (seg_at b i) t.number (Why (seg_at b i) b (t ∷ older)) (Walk env base rows older) z) (sym eq) ends1) in
-            let firsts : first_count mine upto (flat n (t ∷ older)) ≡ first_count mine upto (ch ∷ more) + first_count mine upto (flat n older) = ap (first_count mine upto) flat_is ∙ first_append mine upto (ch ∷ more) (flat n older) in
-            let fits : (kept : Kept) → length (saves b i kept) ≤ length kept + first_count mine upto (ch ∷ more) = λ kept. subst (λ (z : Kept). length z ≤ length kept + first_count mine upto (ch ∷ more)) (sym (saves_is kept)) (chain_fits env mine upto t.xid t.number walk.2.0 (Walk env base rows older) (ch ∷ more) b kept chain) in (
-              (omega (arith, cut_count n t older n_t, long, chain_is), λ kept. omega (arith, fits kept, firsts)),
-              ends_map env (seg_at b i) c (Why (seg_at b i) b (t ∷ older)) (Why (seg_at b i) b (t ∷ older)) (Walk env base rows older) (Left b i c (t ∷ older)) (whole b i) (λ w. w)
-                  (λ b2 whole_is w. record {
-                    left = older;
-                    inside = λ x named. subst (λ (z : List Change). In x z) (sym flat_is) (in_append x (ch ∷ more) (flat n older) (inr named));
-                    source = λ j seg over. came walk.2.0 (ch ∷ more) (flat n (t ∷ older)) b b2 inside (subst (λ (z : Option Home). Worn env walk.2.0 (ch ∷ more) b z) (sym eq ∙ whole_is) (chain_wears env t.xid t.number walk.2.0 (Walk env base rows older) (ch ∷ more) b chain)) j seg over;
-                    walk = w;
-                    same = sym (cut n rows t older n_t);
-                    lower = omega (arith, walk.1, number);
-                    count = omega (arith, cut_count n t older n_t, long, chain_is);
-                    room = λ kept. omega (arith, fits kept, firsts);
-                    keeps = λ kept over k. ap (λ (z : Kept). overlay z (behind_mine mine upto (flat n older) over) k) (saves_is kept)
-                        ∙ (chain_keeps env mine upto t.xid t.number walk.2.0 (Walk env base rows older) (ch ∷ more) b b2 kept chain (sym eq ∙ whole_is) (behind_mine mine upto (flat n older) over) k
-                        ∙ ap (λ (z : Rows). overlay kept z k) (sym (behind_append mine upto (ch ∷ more) (flat n older) over) ∙ ap (λ (z : List Change). behind_mine mine upto z over) (sym flat_is)));
-                  }) ends2,
-            )
-        | inr ne ↦
-            let low2 : c ≤ last base older = numbered_below env (entry_at b i) c (last base older) is (told.1 i ne) in
-            absurd (omega (arith, walk.1, t_most))
-      ]
-        where
-          told : Told env b walk.2.0 t.number (last base older) (ch ∷ more)
-          told = subst (λ (z : List Change). Told env b walk.2.0 t.number (last base older) z) some walk.2.1
+    abbrev pub Why : Type 0
+    Why = WornIn env n (entry_at b i).xid.seg (flat n list) b
 
-          chain : Chain env t.xid t.number walk.2.0 (ch ∷ more) b (Walk env base rows older)
-          chain = subst (λ (z : List Change). Chain env t.xid t.number walk.2.0 z b (Walk env base rows older)) some walk.2.2
+    leads : Leads (entry_at b i) high.xid high.ch.place (length chs)
+    leads = high.chain.0
 
-          t_most : t.number ≤ c
-          t_most = says_most env (entry_at b walk.2.0) t.number n c (omega arith) told.0 (most walk.2.0)
+    pub spent_is : spent env b i ≡ unwound env (length chs) i high.xid b
+    spent_is = rw (leads.chain, leads.xid) refl
+
+    pub named_in : (x : Change) → In x chs ⊎ In x (flat n high.older) → In x (flat n list)
+    named_in x named = subst (λ (z : List Change). In x z) (sym high.changes) (in_append x chs (flat n high.older) named)
+
+    -- the chain taken back leaves the commits below, or a record of it is gone
+    pub left_ends : Ends env (entry_at b i).xid.seg c Why (Walk env base rows high.older) (spent env b i)
+    left_ends =
+        let seg_is : high.xid.seg ≡ (entry_at b i).xid.seg = sym (ap (λ (z : Xid). z.seg) leads.xid) in
+        let ends : Ends env high.xid.seg c Why (Walk env base rows high.older) (unwound env (length chs) i high.xid b) = chain_ends env high.xid c i Why (Walk env base rows high.older) honest chs b (λ x named none at. inr (x, named_in x (inl named), inl (none, at ∙ seg_is))) high.chain in
+        subst (λ (z : ℕ). Ends env z c Why (Walk env base rows high.older) (spent env b i)) seg_is (subst (λ (z : Option Home). Ends env high.xid.seg c Why (Walk env base rows high.older) z) (sym spent_is) ends)
+
+    pub left_source : (b2 : Home) → spent env b i ≡ Some b2 → (j seg : ℕ) → BeyondIn env n seg (entry_at b2 j) → WornIn env n seg (flat n list) b
+    left_source b2 is j seg over = came i chs (flat n list) b b2 (λ x named. named_in x (inl named)) (subst (λ (z : Option Home). Worn env i chs b z) (sym spent_is ∙ is) (chain_wears env high.xid c i (Walk env base rows high.older) chs b high.chain)) j seg over
+
+module _ (env : Env) (base : ℕ) (rows : Rows) (honest : Honest env) (mine : Option Xid) (upto n : ℕ) where
+  abbrev pub Left : Home → ℕ → ℕ → List Commit → Home → Type 0
+  Left b i c list b2 = Peeled env base rows mine upto n c (entry_at b i).chain (kept_whole env mine upto b i) list b b2
+
+  -- an entry's chain has no more records than stand above n, and keeps no more rows than they have first changes
+  abbrev pub Allows : Home → ℕ → List Commit → Type 0
+  Allows b i list = ((entry_at b i).chain ≤ count_above n list) × ((kept : Kept) → length (kept_whole env mine upto b i kept) ≤ length kept + first_count mine upto (flat n list))
+
+  pub peeled : (list : List Commit) (b : Home) (i c : ℕ) → base ≤ n → Walk env base rows list b → n < c → ((j : ℕ) → AtMost env n c (entry_at b j)) → Numbered env (entry_at b i) c
+      → (c ≤ last base list) × Allows b i list × Ends env (entry_at b i).xid.seg c (WornIn env n (entry_at b i).xid.seg (flat n list) b) (Left b i c list) (spent env b i)
+  peeled list b i c low walk lt most is =
+      let high : Newest env base rows n i c b list = newest env base rows n i c b list low walk lt most is in
+      let chs : List Change = high.ch ∷ high.more in
+      let leads : Leads (entry_at b i) high.xid high.ch.place (length chs) = high.chain.0 in
+      let why : Type 0 = WornIn env n (entry_at b i).xid.seg (flat n list) b in
+      let saves_is : (kept : Kept) → kept_whole env mine upto b i kept ≡ kept_after env mine upto (length chs) i high.xid b kept = λ kept. rw (leads.chain, leads.xid) refl in
+      let firsts : first_count mine upto (flat n list) ≡ first_count mine upto chs + first_count mine upto (flat n high.older) = ap (first_count mine upto) high.changes ∙ first_append mine upto chs (flat n high.older) in
+      let fits : (kept : Kept) → length (kept_whole env mine upto b i kept) ≤ length kept + first_count mine upto chs = λ kept. subst (λ (z : Kept). length z ≤ length kept + first_count mine upto chs) (sym (saves_is kept)) (chain_fits env mine upto high.xid c i (Walk env base rows high.older) chs b kept high.chain) in (
+        high.most,
+        (omega (arith, high.count, leads.chain), λ kept. omega (arith, fits kept, firsts)),
+        ends_map env (entry_at b i).xid.seg c why why (Walk env base rows high.older) (Left b i c list) (spent env b i) (λ w. w)
+            (λ b2 is w. record {
+              left = high.older;
+              inside = λ x named. named_in env base rows honest n list b i c high x (inr named);
+              source = left_source env base rows honest n list b i c high b2 is;
+              walk = w;
+              same = sym high.same;
+              lower = high.lower;
+              count = omega (arith, high.count, leads.chain);
+              room = λ kept. omega (arith, fits kept, firsts);
+              keeps = λ kept over k. ap (λ (z : Kept). overlay z (behind_mine mine upto (flat n high.older) over) k) (saves_is kept)
+                  ∙ (chain_keeps env mine upto high.xid c i (Walk env base rows high.older) chs b b2 kept high.chain (sym (spent_is env base rows honest n list b i c high) ∙ is) (behind_mine mine upto (flat n high.older) over) k
+                  ∙ ap (λ (z : Rows). overlay kept z k) (sym (behind_append mine upto chs (flat n high.older) over) ∙ ap (λ (z : List Change). behind_mine mine upto z over) (sym high.changes)));
+            }) (left_ends env base rows honest n list b i c high),
+      )
 
 look_over : (lost : ℕ) (look : Look) (n m : ℕ) → LookOver n look → LookBelow lost look m → n < lost
 look_over lost Active n m over below = absurd below
@@ -236,6 +177,16 @@ status_beyond env xid Open n m over below = look_beyond (env.lost xid.seg) (env.
 status_beyond env xid (Exact k) n m over below = over
 status_beyond env xid (Bound b) n m over below = over
 
+-- where the entries of a home that is left come from: those of the one before, or its changes
+module _ (env : Env) (base : ℕ) (rows : Rows) (n : ℕ) (left list : List Commit) (start b : Home) (source : (j seg : ℕ) → BeyondIn env n seg (entry_at b j) → WornIn env n seg (flat n list) start) where
+  pub over_worn : Walk env base rows left b → (i : ℕ) → Over env n (entry_at b i) → (n < env.lost (entry_at b i).xid.seg) × WornIn env n (entry_at b i).xid.seg (flat n list) start
+  over_worn walk i over =
+      let below : Below env (entry_at b i) (last base left) = (top env base rows left b walk).below i in
+      (status_over env (entry_at b i).xid (entry_at b i).status n (last base left) over below, source i (entry_at b i).xid.seg (status_beyond env (entry_at b i).xid (entry_at b i).status n (last base left) over below, refl))
+
+  pub wider : ((ch : Change) → In ch (flat n left) → In ch (flat n list)) → (seg : ℕ) → WornIn env n seg (flat n left) b → WornIn env n seg (flat n list) start
+  wider inside seg why = ⊎_elim (λ at. source at.0 seg at.1) (λ cause. inr (cause.0, inside cause.0 cause.1, cause.2)) why
+
 module _ (env : Env) (base : ℕ) (rows : Rows) (mine : Option Xid) (upto n limit : ℕ) (list : List Commit) where
   pub begins : (b : Home) → Starts env base rows n limit list b → Peeled env base rows mine upto n limit 0 (λ kept. kept) list b b
   begins b starts = record { left = list; inside = λ x named. named; source = λ j seg over. inl (j, over); walk = starts.walk; same = refl; lower = starts.lower; count = omega arith; keeps = λ kept over k. refl; room = λ kept. omega arith }
@@ -245,19 +196,19 @@ module _ (env : Env) (base : ℕ) (rows : Rows) (mine : Option Xid) (upto n limi
     Reason seg = WornIn env n seg (flat n list) start
 
     pub fails : (i : ℕ) → Over env n (entry_at b i) → (n < env.lost (entry_at b i).xid.seg) × Reason (entry_at b i).xid.seg
-    fails i over = (status_over env (entry_at b i).xid (entry_at b i).status n (last base p.left) over ((top env base rows p.left b p.walk).below i), p.source i (entry_at b i).xid.seg (status_beyond env (entry_at b i).xid (entry_at b i).status n (last base p.left) over ((top env base rows p.left b p.walk).below i), refl))
+    fails i over = over_worn env base rows n p.left list start b p.source p.walk i over
 
     pub finishes : ((j : ℕ) → AtMost env n n (entry_at b j)) → Match b (rows_at n rows list) × (d ≡ count_above n list) × ((kept : Kept) (over : Rows) (k : ℕ) → overlay (f kept) over k ≡ overlay kept (behind_mine mine upto (flat n list) over) k)
-    finishes most = let s : Match b (rows_at n rows p.left) × (count_above n p.left ≡ 0) × (flat n p.left ≡ []) = settled env base rows honest mine upto n p.left b p.walk most in
+    finishes most = let s : Match b (rows_at n rows p.left) × (count_above n p.left ≡ 0) × (flat n p.left ≡ []) = settled env base rows n p.left b p.walk most in
         (subst (λ (z : Rows). Match b z) p.same s.0, omega (arith, s.1, p.count), λ kept over k. ap (λ (z : List Change). overlay (f kept) (behind_mine mine upto z over) k) (sym s.2) ∙ p.keeps kept over k)
 
-    wider : (seg : ℕ) → WornIn env n seg (flat n p.left) b → Reason seg
-    wider seg why = ⊎_elim (λ at. p.source at.0 seg at.1) (λ cause. inr (cause.0, p.inside cause.0 cause.1, cause.2)) why
+    wide : (seg : ℕ) → WornIn env n seg (flat n p.left) b → Reason seg
+    wide seg why = wider env base rows n p.left list start b p.source p.inside seg why
 
-    pub turns : (i c : ℕ) → n < c → ((j : ℕ) → AtMost env n c (entry_at b j)) → Numbered env (entry_at b i) c → (c < limit2) × ((d + (entry_at b i).chain ≤ count_above n list) × ((kept : Kept) → length (saves env base rows honest mine upto n b i (f kept)) ≤ length kept + first_count mine upto (flat n list))) × Ends env (entry_at b i).xid.seg c (Reason (entry_at b i).xid.seg) (Peeled env base rows mine upto n c (d + (entry_at b i).chain) (λ kept. saves env base rows honest mine upto n b i (f kept)) list start) (whole env base rows honest mine upto n b i)
-    turns i c lt most is = let t : (c ≤ last base p.left) × Allows env base rows honest mine upto n b i p.left × Ends env (entry_at b i).xid.seg c (WornIn env n (entry_at b i).xid.seg (flat n p.left) b) (Left env base rows honest mine upto n b i c p.left) (whole env base rows honest mine upto n b i) = peeled env base rows honest mine upto n p.left b i c low p.walk lt most is in (
+    pub turns : (i c : ℕ) → n < c → ((j : ℕ) → AtMost env n c (entry_at b j)) → Numbered env (entry_at b i) c → (c < limit2) × ((d + (entry_at b i).chain ≤ count_above n list) × ((kept : Kept) → length (kept_whole env mine upto b i (f kept)) ≤ length kept + first_count mine upto (flat n list))) × Ends env (entry_at b i).xid.seg c (Reason (entry_at b i).xid.seg) (Peeled env base rows mine upto n c (d + (entry_at b i).chain) (λ kept. kept_whole env mine upto b i (f kept)) list start) (spent env b i)
+    turns i c lt most is = let t : (c ≤ last base p.left) × Allows env base rows honest mine upto n b i p.left × Ends env (entry_at b i).xid.seg c (WornIn env n (entry_at b i).xid.seg (flat n p.left) b) (Left env base rows honest mine upto n b i c p.left) (spent env b i) = peeled env base rows honest mine upto n p.left b i c low p.walk lt most is in (
       omega (arith, t.0, p.lower),
       (omega (arith, t.1.0, p.count), λ kept. omega (arith, t.1.1 (f kept), p.room kept)),
-      ends_map env (entry_at b i).xid.seg c (WornIn env n (entry_at b i).xid.seg (flat n p.left) b) (Reason (entry_at b i).xid.seg) (Left env base rows honest mine upto n b i c p.left) (Peeled env base rows mine upto n c (d + (entry_at b i).chain) (λ kept. saves env base rows honest mine upto n b i (f kept)) list start) (whole env base rows honest mine upto n b i) (wider (entry_at b i).xid.seg)
-          (λ b2 is q. record { left = q.left; inside = λ x named. p.inside x (q.inside x named); source = λ j seg over. wider seg (q.source j seg over); walk = q.walk; same = q.same ∙ p.same; lower = q.lower; count = omega (arith, q.count, p.count); keeps = λ kept over k. q.keeps (f kept) over k ∙ p.keeps kept over k; room = λ kept. omega (arith, q.room (f kept), p.room kept) }) t.2,
+      ends_map env (entry_at b i).xid.seg c (WornIn env n (entry_at b i).xid.seg (flat n p.left) b) (Reason (entry_at b i).xid.seg) (Left env base rows honest mine upto n b i c p.left) (Peeled env base rows mine upto n c (d + (entry_at b i).chain) (λ kept. kept_whole env mine upto b i (f kept)) list start) (spent env b i) (wide (entry_at b i).xid.seg)
+          (λ b2 is q. record { left = q.left; inside = λ x named. p.inside x (q.inside x named); source = λ j seg over. wide seg (q.source j seg over); walk = q.walk; same = q.same ∙ p.same; lower = q.lower; count = omega (arith, q.count, p.count); keeps = λ kept over k. q.keeps (f kept) over k ∙ p.keeps kept over k; room = λ kept. omega (arith, q.room (f kept), p.room kept) }) t.2,
     )

@@ -1,12 +1,14 @@
 -- What holds of a home that is read at a snapshot: turn by turn, as chains are taken back, and in the end.
-use Rattle.std.specs.Prelude.{◌≡◌, ◌<◌, ◌≤◌, ◌+◌, ◌-◌, ◌^◌, ℕ, List, length, Option, Some}
+use Rattle.std.specs.Prelude.{◌≡◌, ◌<◌, ◌≤◌, ◌+◌, ◌-◌, ◌^◌, ℕ, List, length}
+use Rattle.std.specs.Prelude.{Option, Some, None}
 use Rattle.rb_base.specs.declared.ids.Xid.{Xid}
 use Rattle.rb_rebuild.specs.Chains.{spent}
 use Rattle.rb_rebuild.specs.Heights.{AtMost, Numbered, Over}
 use Rattle.rb_rebuild.specs.Keeping.{Kept, behind_mine, first_count, kept_room, kept_whole, overlay}
+use Rattle.rb_rebuild.specs.Late.{late_above, seen_at, touched}
 use Rattle.rb_rebuild.specs.Reading.{History, Honest, Reader, Reading, Runs, Down, count_above, flat, rows_at}
 use Rattle.rb_rebuild.specs.Reading.{answer, needed, rows_in, total}
-use Rattle.rb_rebuild.specs.Turns.{Ends, Peeled, Running, Starts, WornIn, WornLive}
+use Rattle.rb_rebuild.specs.Turns.{Ends, Peeled, Running, Starts, Watched, WornIn, WornLive}
 use Rattle.rb_rebuild.specs.Heights.{BeyondIn}
 use Rattle.rb_walk.specs.Steps.{Stands}
 use Rattle.rb_walk.specs.Walk.{Change, Commit, Distinct, Home, Env, Rows, Walk, Match, IsActive, entry_at, last, own}
@@ -109,3 +111,37 @@ abbrev pub QuietIsRead : Type 0
 QuietIsRead = (env : Env) (h : History) (mine : Option Xid) (upto n : ℕ) (b : Home) → Reading env h mine upto n b
     → ((j : ℕ) → AtMost env n n (entry_at b j))
     → ((k : ℕ) → rows_in b.cells k ≡ answer h mine upto n k) × (needed h n ≡ 0)
+
+-- Of a key: no commit was seen to change it at first.
+abbrev pub WatchBegins : Type 0
+WatchBegins = (env : Env) (base : ℕ) (rows : Rows) (n key limit : ℕ) (list : List Commit) (b : Home)
+    → Starts env base rows n limit list b → Watched env base rows n key limit None list b b
+
+-- The chain of the entry with the greatest number above n is taken back as above. Its records tell whether the commit
+-- changes the key. Those that are newer have no changes here.
+abbrev pub CommitIsWatched : Type 0
+CommitIsWatched = (env : Env) (base : ℕ) (rows : Rows) (n key below : ℕ) (least : Option ℕ) (list : List Commit)
+    (start b : Home) → Honest env → base ≤ n → Watched env base rows n key below least list start b
+    → (i c : ℕ) → n < c → ((j : ℕ) → AtMost env n c (entry_at b j)) → Numbered env (entry_at b i) c
+    → (c < below)
+    × Ends env (entry_at b i).xid.seg c (WornIn env n (entry_at b i).xid.seg (flat n list) start)
+    (Watched env base rows n key c (seen_at c (touched env key b i) least) list start) (spent env b i)
+
+-- Where no entry is above n, the last one seen is the first commit above n that changes the key.
+abbrev pub NoneAboveIsLate : Type 0
+NoneAboveIsLate = (env : Env) (base : ℕ) (rows : Rows) (n key below : ℕ) (least : Option ℕ) (list : List Commit)
+    (start b : Home) → Watched env base rows n key below least list start b
+    → ((j : ℕ) → AtMost env n n (entry_at b j)) → late_above n key list ≡ least
+
+-- An entry that is above n by a bound is so here too for what its segment lost.
+abbrev pub WatchedBoundIsWorn : Type 0
+WatchedBoundIsWorn = (env : Env) (base : ℕ) (rows : Rows) (n key below : ℕ) (least : Option ℕ)
+    (list : List Commit) (start b : Home) → Watched env base rows n key below least list start b → (i : ℕ)
+    → Over env n (entry_at b i)
+    → (n < env.lost (entry_at b i).xid.seg) × WornIn env n (entry_at b i).xid.seg (flat n list) start
+
+-- Where no entry of a home is active or above n, no commit above n changes a key of it.
+abbrev pub QuietIsOld : Type 0
+QuietIsOld = (env : Env) (h : History) (mine : Option Xid) (upto n key : ℕ) (b : Home)
+    → Reading env h mine upto n b → ((j : ℕ) → AtMost env n n (entry_at b j))
+    → late_above n key h.list ≡ None

@@ -4,6 +4,7 @@ use Rattle.std.specs.Prelude.{◌≡◌, ◌⊎◌, ◌<◌, ◌≤◌, ◌+◌,
 use Rattle.rb_base.specs.declared.ids.Xid.{Xid}
 use Rattle.rb_rebuild.specs.Heights.{BeyondIn}
 use Rattle.rb_rebuild.specs.Keeping.{Kept, behind_mine, first_count, overlay}
+use Rattle.rb_rebuild.specs.Late.{earlier, late_above}
 use Rattle.rb_rebuild.specs.Reading.{Cause, Honest, count_above, flat, rows_at, total}
 use Rattle.rb_walk.specs.Walk.{In, Change, Commit, Home, Env, Rows, Walk, Tree, IsActive, entry_at, last, own}
 
@@ -44,6 +45,16 @@ pub record Peeled (env : Env) (base : ℕ) (rows : Rows) (mine : Option Xid) (up
       ≡ overlay kept (behind_mine mine upto (flat n list) over) k
   pub room : (kept : Kept) → length (f kept) + first_count mine upto (flat n left)
       ≤ length kept + first_count mine upto (flat n list)
+
+-- The same, with the least number that a chain which changes the key had so far.
+pub record Watched (env : Env) (base : ℕ) (rows : Rows) (n key c : ℕ) (least : Option ℕ) (list : List Commit)
+    (start b : Home) : Type 0 where
+  pub left : List Commit
+  pub inside : (ch : Change) → In ch (flat n left) → In ch (flat n list)
+  pub source : (j seg : ℕ) → BeyondIn env n seg (entry_at b j) → WornIn env n seg (flat n list) start
+  pub walk : Walk env base rows left b
+  pub lower : last base left < c
+  pub late : late_above n key list ≡ earlier (late_above n key left) least
 
 -- The live changes of the active ones among the entries before k were taken back, with so many records; the reader's
 -- slot is r.

@@ -8,6 +8,8 @@ use Rattle.rb_model.specs.Change.{Action, Asked}
 use Rattle.rb_model.specs.Change as change
 use Rattle.rb_model.specs.NextState as machine
 use Rattle.rb_model.specs.State.{Savepoint}
+use Rattle.rb_model.specs.declared.mode.Isolation.{Isolation}
+use Rattle.rb_model.specs.declared.mode.Isolation.TheVariants.{ReadCommitted}
 use Rattle.rb_sessions.specs.declared.cursor.Cursor.{Cursor}
 use Rattle.rb_sessions.specs.declared.entry.Entry.{Entry}
 use Rattle.rb_sessions.specs.declared.named.Named.{Named}
@@ -21,9 +23,11 @@ pub record KeptCursor : Type 0 where
   pub name : List ℕ
   pub cursor : Cursor
 
--- a session: the id of its transaction, where that has a table slot, how many live changes that has, its savepoints in
--- order of setting, the open cursors in order of opening, and the write with which it waits, or has waited last
+-- a session: how its transaction reads, the id of that, where it has a table slot, how many live changes it has, its
+-- savepoints in order of setting, the open cursors in order of opening, and the write with which the session waits, or
+-- has waited last
 pub record KeptSession : Type 0 where
+  pub isolation : Isolation
   pub own : Option Xid
   pub count : ℕ
   pub savepoints : List Savepoint
@@ -49,6 +53,7 @@ asked_of_pending p = record { table = p.table; key = p.key; action = pending_act
 
 abbrev pub session_view : Entry → KeptSession
 session_view e = record {
+  isolation = e.isolation;
   own = e.own;
   count = e.count;
   savepoints = map savepoint_view e.savepoints.items;
@@ -58,7 +63,14 @@ session_view e = record {
 
 -- a session without a transaction and without a cursor, which has never waited
 abbrev pub fresh : KeptSession
-fresh = record { own = None; count = 0; savepoints = []; cursors = []; asked = None }
+fresh = record {
+  isolation = ReadCommitted;
+  own = None;
+  count = 0;
+  savepoints = [];
+  cursors = [];
+  asked = None;
+}
 
 -- the session of a number, from 1 on
 abbrev pub kept_at : List KeptSession → ℕ → KeptSession
@@ -67,6 +79,10 @@ kept_at sessions s = get_or sessions (s - 1) fresh
 -- the table with another one in its place
 abbrev pub with_kept : List KeptSession → ℕ → KeptSession → List KeptSession
 with_kept sessions s k = set sessions (s - 1) k
+
+-- reading so
+abbrev pub isolated : Isolation → KeptSession → KeptSession
+isolated isolation k = record k { isolation = isolation }
 
 -- one change more, of the transaction of that id
 abbrev pub wrote : Xid → KeptSession → KeptSession
@@ -80,9 +96,15 @@ passed c = record c { cursor = record c.cursor { present = false } }
 abbrev pub left_open : ℕ → List KeptCursor → List KeptCursor
 left_open kept cursors = filter (λ c. not (c.cursor.present && nat_lt kept c.cursor.upto)) cursors
 
--- without a transaction and savepoints, with these cursors, which are of no present one
+-- without a transaction, its mode and savepoints, with these cursors, which are of no present one
 abbrev pub ended : List KeptCursor → KeptSession → KeptSession
-ended cursors k = record k { own = None; count = 0; savepoints = []; cursors = map passed cursors }
+ended cursors k = record k {
+  isolation = ReadCommitted;
+  own = None;
+  count = 0;
+  savepoints = [];
+  cursors = map passed cursors;
+}
 
 abbrev pub committed : KeptSession → KeptSession
 committed k = ended k.cursors k

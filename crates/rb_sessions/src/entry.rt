@@ -13,11 +13,13 @@ use crate::pending::Pending;
 use crate::savepoint::{Mark, SAVEPOINTS};
 use arrayvec::ArrayVec;
 use rb_base::{Xid, array_of};
-use rb_model::Name;
+use rb_model::{Isolation, Name};
 
 /// What the table tells of a session.
 #[derive(Clone, Copy, Debug, PartialEq, Eq)]
 pub struct Session {
+    /// How its transaction reads.
+    pub isolation: Isolation,
     /// The id of its transaction, where that has a table slot.
     pub own: Option<Xid>,
     /// How many live changes its transaction has, up to 2^32 - 1.
@@ -31,6 +33,7 @@ pub struct Session {
 /// A session in the table.
 #[derive(Debug, Drop)]
 pub(crate) struct Entry {
+    pub isolation: Isolation,
     pub own: Option<Xid>,
     pub count: u32,
     pub savepoints: ArrayVec<Named<Mark>, SAVEPOINTS>,
@@ -78,12 +81,20 @@ impl Entry {
         ensures { session_view result ≡ kept.fresh }
     {
         Entry {
+            isolation: Isolation::ReadCommitted,
             own: None,
             count: 0,
             savepoints: ArrayVec::new(),
             cursors: ArrayVec::new(),
             asked: None,
         }
+    }
+
+    /// Notes how the transaction reads from now on.
+    pub fn isolate(&mut self, isolation: Isolation)
+        ensures { session_view self.new ≡ kept.isolated isolation (session_view self.old) }
+    {
+        self.isolation = isolation;
     }
 
     /// Notes one change more, of the transaction of that id.
@@ -94,10 +105,12 @@ impl Entry {
         self.count = self.count.saturating_add(1);
     }
 
-    /// Notes that the transaction has committed, or ended without changes. The cursors stay open.
+    /// Notes that the transaction has committed, or ended without changes. The cursors stay open, and the next one
+    /// is read committed.
     pub fn commit(&mut self)
         ensures { session_view self.new ≡ kept.committed (session_view self.old) }
     {
+        self.isolation = Isolation::ReadCommitted;
         self.own = None;
         self.count = 0;
         self.savepoints.clear();

@@ -4,6 +4,7 @@
 
 mod cursor;
 mod entry;
+mod isolation;
 mod named;
 mod pending;
 mod savepoint;
@@ -11,6 +12,7 @@ mod sessions;
 
 pub use cursor::Cursor;
 pub use entry::Session;
+pub use isolation::{isolation_at, snapshot_at};
 pub use pending::{Pending, PendingOp};
 pub use savepoint::SAVEPOINTS;
 pub use sessions::{SESSIONS, Sessions};

@@ -13,7 +13,7 @@ use crate::entry::{Entry, Session};
 use crate::pending::Pending;
 use crate::savepoint::SAVEPOINTS;
 use rb_base::Xid;
-use rb_model::Name;
+use rb_model::{Isolation, Name};
 use std::array;
 use std::marker::Model;
 
@@ -48,6 +48,7 @@ impl Sessions {
     /// What the table has of session `s`.
     pub fn session(&self, s: u16) -> Session
         requires { (1 ≤ s) × (s ≤ SESSIONS) }
+        ensures isolation { result.isolation ≡ (kept_at self.now s).isolation }
         ensures own { result.own ≡ (kept_at self.now s).own }
         ensures length { result.length ≡ (kept_at self.now s).count }
         ensures savepoints { (result.savepoints ≡ length (kept_at self.now s).savepoints)
@@ -56,6 +57,7 @@ impl Sessions {
     {
         let entry = &self.entries[s as usize - 1];
         Session {
+            isolation: entry.isolation,
             own: entry.own,
             length: entry.count,
             savepoints: entry.savepoints.as_slice().len() as u8,
@@ -75,6 +77,14 @@ impl Sessions {
             }
         }
         None
+    }
+
+    /// Notes how the transaction of session `s` reads from now on.
+    pub fn set_isolation(&mut self, s: u16, isolation: Isolation)
+        requires { (1 ≤ s) × (s ≤ SESSIONS) }
+        ensures { self.new ≡ with_kept self.old s (kept.isolated isolation (kept_at self.old s)) }
+    {
+        self.entries[s as usize - 1].isolate(isolation);
     }
 
     /// Notes one change more of session `s`, whose transaction has that id.

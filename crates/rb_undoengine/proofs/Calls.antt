@@ -23,7 +23,7 @@ use Rattle.rb_standing.specs.Writing.{IsWritten}
 use Rattle.rb_undoblock.specs.declared.record.UndoRecord.{UndoRecord}
 use Rattle.rb_undoengine.specs.StepLaws.{IsAsked}
 use Rattle.rb_model.specs.Answers.{action_by}
-use Rattle.rb_undoengine.specs.Steps.{IsAbout, NotOthers, refusal_of, kept_room}
+use Rattle.rb_undoengine.specs.Steps.{IsAbout, MayWrite, refusal_of, kept_room}
 use Rattle.rb_undoengine.proofs.Done.{answered, fits_is, id_is, ids_are, stands}
 use Rattle.rb_undoengine.proofs.HomeWords.{which_in}
 use Rattle.rb_undoengine.proofs.Logged.{write_logged}
@@ -44,7 +44,7 @@ abbrev pub IsAskRefused : Shape → List (List ℕ) → Ask → ℕ → ℕ → 
 IsAskRefused shape before ask logged room fault = (x : Xid) × (ready : Header) × IsWriterOf shape before ask.own x ready
     × Refuses fault (home_for shape before ask) (adds_row ask.op) ask.key x ready logged room (kept_room shape before ask.own)
 
-module _ {S : Type 0} (store : Ghosts S) (told : store.tells) (old new : S) (h : State) (xids : List Xid) (s : ℕ) (ask : Ask) (about : IsAbout h xids s ask.own (store.blocks old)) (same : store.shape_of old ≡ h.shape) (first : 1 ≤ ask.table) (last : ask.table ≤ h.shape.tables) (mine : NotOthers h s ask.table ask.key) where
+module _ {S : Type 0} (store : Ghosts S) (told : store.tells) (old new : S) (h : State) (xids : List Xid) (s : ℕ) (ask : Ask) (about : IsAbout h xids s ask.own (store.blocks old)) (same : store.shape_of old ≡ h.shape) (first : 1 ≤ ask.table) (last : ask.table ≤ h.shape.tables) (mine : MayWrite h s ask.table ask.key) where
   abbrev Before : List (List ℕ)
   Before = store.blocks old
 

@@ -35,7 +35,7 @@ use Rattle.rb_restart.proofs.Slots.{owed_is}
 use Rattle.rb_undoblock.specs.declared.record.UndoRecord.{UndoRecord}
 use Rattle.rb_undoengine.specs.StepLaws.{IsAsked}
 use Rattle.rb_model.specs.Answers.{action_by}
-use Rattle.rb_undoengine.specs.Steps.{IsAbout, NotOthers, kept_room}
+use Rattle.rb_undoengine.specs.Steps.{IsAbout, MayWrite, kept_room}
 use Rattle.rb_undoengine.proofs.Firsts.{kind_is}
 use Rattle.rb_undoengine.proofs.HomeWords as home
 use Rattle.rb_undoengine.proofs.Refused.{not_refused}
@@ -57,7 +57,7 @@ has_place ready room (inr (e, may, is)) none =
     let pinned = none.pinned e (may.oldest (λ out. omega (arith, out, kept))) in
     may.free (λ out. omega (arith, out, kept)) pinned.0 pinned.1 pinned.2
 
-module _ (h : State) (xids : List Xid) (before now : List (List ℕ)) (s room : ℕ) (ask : Ask) (about : IsAbout h xids s ask.own before) (s_in : s ≤ length h.sessions) (first : 1 ≤ ask.table) (last : ask.table ≤ h.shape.tables) (mine : NotOthers h s ask.table ask.key)
+module _ (h : State) (xids : List Xid) (before now : List (List ℕ)) (s room : ℕ) (ask : Ask) (about : IsAbout h xids s ask.own before) (s_in : s ≤ length h.sessions) (first : 1 ≤ ask.table) (last : ask.table ≤ h.shape.tables) (mine : MayWrite h s ask.table ask.key)
     (x : Xid) (ready : Header) (writer : IsWriterOf h.shape before ask.own x ready) (address : Uba) (u : UndoRecord) (asked : IsAsked h ask x u) (takes : TakesWrite (home_for h.shape before ask) (adds_row ask.op) ask.key)
     (is : IsWritten h.shape (16 * x.seg + x.slot) (adds_row ask.op) (kind_of ask.op) address u before now) (young : logged_of h.shape before < WORN) (enough : 1 + kept_room h.shape before ask.own ≤ room) (few : kept_room h.shape before ask.own ≤ 2 ^ 13) where
   abbrev At : ℕ
@@ -140,7 +140,7 @@ module _ (h : State) (xids : List Xid) (before now : List (List ℕ)) (s room : 
   not_held =
       subst (λ (z : Home). IsNotHeld z (record { seg = At / 16; slot = At % 16; wrap = u.wrap }) u.key) (sym home_is)
       (subst (λ (k : ℕ). IsNotHeld Cleaned (record { seg = At / 16; slot = At % 16; wrap = u.wrap }) k) (sym asked.key)
-      (subst (λ (z : Xid). IsNotHeld Cleaned z ask.key) xid_is (words.not_held h xids before s ask.own about x ready writer ask.table ask.key first last mine)))
+      (subst (λ (z : Xid). IsNotHeld Cleaned z ask.key) xid_is (words.not_held h xids before s ask.own about x ready writer ask.table ask.key first last mine.0)))
 
   -- what is owed leaves room for the record, and for its slot
   has_room : HasRoomFor h.shape before At

@@ -6,10 +6,10 @@ use Rattle.rb_base.specs.declared.sizes.TheConstants.{WORN}
 use Rattle.rb_model.specs.Book.{book_at, is_full}
 use Rattle.rb_model.specs.Calls as calls
 use Rattle.rb_model.specs.declared.refusal.Refusal.TheVariants as refusals
-use Rattle.rb_model.specs.Calls.{Answer, Done, Refused, first_of, needed_room, waited, write_tests}
+use Rattle.rb_model.specs.Calls.{Answer, Done, Refused, first_of, needed_room, serial_tests, waited, write_tests}
 use Rattle.rb_model.specs.Full.{full_block}
 use Rattle.rb_model.specs.Queue.{Waiter}
-use Rattle.rb_model.specs.State.{State}
+use Rattle.rb_model.specs.State.{State, isolation_of}
 use Rattle.rb_model.specs.NextState.{kind_by}
 use Rattle.rb_model.specs.Calls.{adds, rows_now}
 use Rattle.rb_model.specs.Rows.{has_row}
@@ -34,7 +34,7 @@ kind_is (Some Delete) = refl
 kind_is None = refl
 
 -- nobody is waited for where no other session holds the key
-nobody_waits : (queue : List Waiter) (s : ℕ) (o : Option ℕ) (tests : List (Bool × Answer)) → ((u : ℕ) → o ≡ Some u → u ≡ s) → first_of (waited queue s o ++ tests) Done ≡ first_of tests Done
+pub nobody_waits : (queue : List Waiter) (s : ℕ) (o : Option ℕ) (tests : List (Bool × Answer)) → ((u : ℕ) → o ≡ Some u → u ≡ s) → first_of (waited queue s o ++ tests) Done ≡ first_of tests Done
 nobody_waits queue s None tests own = refl
 nobody_waits queue s (Some u) tests own =
     let same : u ≡ s = own u refl in
@@ -73,10 +73,11 @@ module _ (h : State) (s table key g i : ℕ) (op : Option Op) where
   abbrev pub Found : Verdict
   Found = tested (adds_row op) (has_row table key (rows_now h s)) (full_block h table key) (full_slots h s table key) (is_full (book_at h.books g))
 
-  pub first_found : (logged room : ℕ) → ((u : ℕ) → holder h table key ≡ Some u → u ≡ s)
+  pub first_found : (logged room : ℕ) → ((u : ℕ) → holder h table key ≡ Some u → u ≡ s) → serial_tests h.commits (isolation_of h s) table key ≡ []
       → first_of (write_tests h logged room g i s table key (action_by op)) Done
       ≡ answer_of Found g (made_since (book_at h.books g)) (first_of (log_tests logged room (needed_room h s g i)) Done)
-  first_found logged room own =
+  first_found logged room own timely =
       nobody_waits h.queue s (holder h table key) _ own
+      ∙ (ap (λ (l : List (Bool × Answer)). first_of (l ++ _) Done) timely
       ∙ (first_tested (adds (action_by op)) (has_row table key (rows_now h s)) (full_block h table key) (full_slots h s table key) (is_full (book_at h.books g)) g (made_since (book_at h.books g)) (log_tests logged room (needed_room h s g i))
-      ∙ ap (λ a. answer_of (tested a (has_row table key (rows_now h s)) (full_block h table key) (full_slots h s table key) (is_full (book_at h.books g))) g (made_since (book_at h.books g)) (first_of (log_tests logged room (needed_room h s g i)) Done)) (adds_is op))
+      ∙ ap (λ a. answer_of (tested a (has_row table key (rows_now h s)) (full_block h table key) (full_slots h s table key) (is_full (book_at h.books g))) g (made_since (book_at h.books g)) (first_of (log_tests logged room (needed_room h s g i)) Done)) (adds_is op)))

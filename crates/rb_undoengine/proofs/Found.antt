@@ -15,7 +15,7 @@ use Rattle.rb_model.specs.Rows.{has_row}
 use Rattle.rb_model.specs.Tests.{full_slots}
 use Rattle.rb_segment.specs.Header.{Header}
 use Rattle.rb_segment.specs.Moves.{NoneMayTurn}
-use Rattle.rb_undoengine.specs.Steps.{IsAbout, NotOthers}
+use Rattle.rb_undoengine.specs.Steps.{IsAbout, MayWrite}
 use Rattle.rb_undoengine.proofs.Firsts as firsts
 use Rattle.rb_undoengine.proofs.HomeWords as home
 use Rattle.rb_undoengine.proofs.WriterWords as words
@@ -23,7 +23,7 @@ use Rattle.rb_undoengine.proofs.Writers as writers
 use Rattle.rb_verdict.specs.Verdict.{Verdict, Duplicate, NotFound, BlockFull, SlotsFull, RollbackFull, Fine, tested}
 use Rattle.rb_verdict.proofs.Told.{full_none, none_full}
 
-module _ (h : State) (xids : List Xid) (blocks : List (List ℕ)) (s : ℕ) (ask : Ask) (about : IsAbout h xids s ask.own blocks) (first : 1 ≤ ask.table) (last : ask.table ≤ h.shape.tables) (mine : NotOthers h s ask.table ask.key)
+module _ (h : State) (xids : List Xid) (blocks : List (List ℕ)) (s : ℕ) (ask : Ask) (about : IsAbout h xids s ask.own blocks) (first : 1 ≤ ask.table) (last : ask.table ≤ h.shape.tables) (mine : MayWrite h s ask.table ask.key)
     (x : Xid) (ready : Header) (writer : IsWriterOf h.shape blocks ask.own x ready) where
   abbrev Cleaned : Home
   Cleaned = home_for h.shape blocks ask
@@ -47,10 +47,10 @@ module _ (h : State) (xids : List Xid) (blocks : List (List ℕ)) (s : ℕ) (ask
   Found = firsts.Found h s ask.table ask.key x.seg x.slot ask.op
 
   there : HasRow Cleaned ask.key → Present ≡ true
-  there = home.row_there h xids blocks about.stand ask.table ask.key first last s about.session mine
+  there = home.row_there h xids blocks about.stand ask.table ask.key first last s about.session mine.0
 
   not_there : HasNoRow Cleaned ask.key → Present ≡ false
-  not_there = home.no_row h xids blocks about.stand ask.table ask.key first last s about.session mine
+  not_there = home.no_row h xids blocks about.stand ask.table ask.key first last s about.session mine.0
 
   pub duplicate : Adds ≡ true → HasRow Cleaned ask.key → Found ≡ Duplicate
   duplicate adds has = let p = there has in rw (adds, p) refl

@@ -16,7 +16,7 @@ use Rattle.rb_model.specs.Tests.{made_since}
 use Rattle.rb_segment.specs.Header.{Header}
 use Rattle.rb_segment.specs.Moves.{NoneMayTurn}
 use Rattle.rb_model.specs.Answers.{action_by}
-use Rattle.rb_undoengine.specs.Steps.{IsAbout, NotOthers, refusal_of, kept_room}
+use Rattle.rb_undoengine.specs.Steps.{IsAbout, MayWrite, refusal_of, kept_room}
 use Rattle.rb_undoengine.proofs.Firsts.{answer_of, first_found, log_tests}
 use Rattle.rb_undoengine.proofs.Found as found
 use Rattle.rb_undoengine.proofs.Writers as writers
@@ -40,7 +40,7 @@ log_fine logged room needed young enough =
     let room_test : nat_lt room needed ≡ false = grind (arith, nat_tests) in
     rw (test, room_test) refl
 
-module _ (h : State) (xids : List Xid) (blocks : List (List ℕ)) (s logged room : ℕ) (ask : Ask) (about : IsAbout h xids s ask.own blocks) (first : 1 ≤ ask.table) (last : ask.table ≤ h.shape.tables) (mine : NotOthers h s ask.table ask.key)
+module _ (h : State) (xids : List Xid) (blocks : List (List ℕ)) (s logged room : ℕ) (ask : Ask) (about : IsAbout h xids s ask.own blocks) (first : 1 ≤ ask.table) (last : ask.table ≤ h.shape.tables) (mine : MayWrite h s ask.table ask.key)
     (x : Xid) (ready : Header) (writer : IsWriterOf h.shape blocks ask.own x ready) where
   abbrev Found : Verdict
   Found = found.Found h xids blocks s ask about first last mine x ready writer
@@ -55,7 +55,7 @@ module _ (h : State) (xids : List Xid) (blocks : List (List ℕ)) (s logged room
   Since = made_since (book_at h.books x.seg)
 
   answered : (v : Verdict) → Found ≡ v → First ≡ answer_of v x.seg Since Log
-  answered v is = first_found h s ask.table ask.key x.seg x.slot ask.op logged room mine ∙ ap (λ (z : Verdict). answer_of z x.seg Since Log) is
+  answered v is = first_found h s ask.table ask.key x.seg x.slot ask.op logged room mine.0 mine.1 ∙ ap (λ (z : Verdict). answer_of z x.seg Since Log) is
 
   pub refused : (fault : AttemptFault) → Refuses fault (home_for h.shape blocks ask) (found.Adds h xids blocks s ask about first last mine x ready writer) ask.key x ready logged room (kept_room h.shape blocks ask.own)
       → First ≡ Refused (refusal_of fault)

@@ -20,7 +20,7 @@ use Rattle.rb_standing.specs.States.{BlocksStand}
 use Rattle.rb_standing.specs.Writing.{IsWritten}
 use Rattle.rb_undoblock.specs.declared.record.UndoRecord.{UndoRecord}
 use Rattle.rb_model.specs.Answers.{action_by}
-use Rattle.rb_undoengine.specs.Steps.{refusal_of, kept_room, IsAbout, IsHolder, NotOthers}
+use Rattle.rb_undoengine.specs.Steps.{refusal_of, kept_room, IsAbout, IsHolder, MayWrite}
 
 -- the record is that of the ask, by that transaction
 pub record IsAsked (h : State) (ask : Ask) (x : Xid) (u : UndoRecord) : Type 0 where
@@ -35,7 +35,7 @@ abbrev pub RefusedAsMachine : Type 0
 RefusedAsMachine = (h : State) (xids : List Xid) (blocks : List (List ℕ)) (s logged room : ℕ) (ask : Ask) (x : Xid)
     (ready : Header) (fault : AttemptFault)
     → IsAbout h xids s ask.own blocks → 1 ≤ ask.table → ask.table ≤ h.shape.tables
-    → NotOthers h s ask.table ask.key → IsWriterOf h.shape blocks ask.own x ready
+    → MayWrite h s ask.table ask.key → IsWriterOf h.shape blocks ask.own x ready
     → Refuses fault (home_for h.shape blocks ask) (adds_row ask.op) ask.key x ready logged room
     (kept_room h.shape blocks ask.own)
     → WritesIn h s x.seg x.slot
@@ -47,7 +47,7 @@ abbrev pub DoneAsMachine : Type 0
 DoneAsMachine = (h : State) (xids : List Xid) (before now : List (List ℕ)) (s room : ℕ) (ask : Ask) (x : Xid)
     (ready : Header) (address : Uba) (u : UndoRecord)
     → IsAbout h xids s ask.own before → s ≤ length h.sessions → 1 ≤ ask.table
-    → ask.table ≤ h.shape.tables → NotOthers h s ask.table ask.key → IsWriterOf h.shape before ask.own x ready
+    → ask.table ≤ h.shape.tables → MayWrite h s ask.table ask.key → IsWriterOf h.shape before ask.own x ready
     → IsAsked h ask x u → TakesWrite (home_for h.shape before ask) (adds_row ask.op) ask.key
     → IsWritten h.shape (16 * x.seg + x.slot) (adds_row ask.op) (kind_of ask.op) address u before now
     → logged_of h.shape before < WORN → 1 + kept_room h.shape before ask.own ≤ room

@@ -1,12 +1,13 @@
 -- What the engine's calls of the store are to the machine.
-use Rattle.std.specs.Prelude.{◌≡◌, ◌≤◌, ◌+◌, ℕ, if◌then◌else◌, is_some, List, Option}
+use Rattle.std.specs.Prelude.{◌≡◌, ◌≤◌, ◌+◌, ℕ, if◌then◌else◌, is_some, List, [], Option}
 use Rattle.std.specs.Prelude.{None, Some}
 use Rattle.rb_attempt.specs.declared.ask.AttemptFault.{AttemptFault}
 use Rattle.rb_attempt.specs.declared.ask.AttemptFault.TheVariants as faults
 use Rattle.rb_base.specs.declared.shape.Shape.{Shape}
 use Rattle.rb_model.specs.declared.refusal.Refusal.{Refusal}
 use Rattle.rb_model.specs.declared.refusal.Refusal.TheVariants as refusals
-use Rattle.rb_model.specs.State.{State}
+use Rattle.rb_model.specs.Calls.{serial_tests}
+use Rattle.rb_model.specs.State.{State, isolation_of}
 use Rattle.rb_model.specs.Tests.{holder}
 use Rattle.rb_segment.specs.Segments.{owed_in}
 use Rattle.rb_standing.specs.Standing.{env_of}
@@ -29,6 +30,14 @@ refusal_of faults.LogFull = refusals.LogFull
 -- another session than s doesn't hold the key
 abbrev pub NotOthers : State → ℕ → ℕ → ℕ → Type 0
 NotOthers h s table key = (u : ℕ) → holder h table key ≡ Some u → u ≡ s
+
+-- no commit above the snapshot of the session's transaction, where that is serializable, has changed the row
+abbrev pub NotLate : State → ℕ → ℕ → ℕ → Type 0
+NotLate h s table key = serial_tests h.commits (isolation_of h s) table key ≡ []
+
+-- neither stands in the way of a write
+abbrev pub MayWrite : State → ℕ → ℕ → ℕ → Type 0
+MayWrite h s table key = NotOthers h s table key × NotLate h s table key
 
 -- The transaction that holds the key is that of the session which does in the machine; none is, where none does.
 abbrev pub IsHolder : State → Env → ℕ → ℕ → Option Xid → Type 0

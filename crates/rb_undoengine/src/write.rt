@@ -12,7 +12,7 @@ ghost use Rattle.rb_model.specs.Calls.{Done, Refused, first_of, write_tests, Wri
 ghost use Rattle.rb_model.specs.State.{State};
 ghost use Rattle.rb_standing.specs.Standing.{logged_of};
 ghost use Rattle.rb_model.specs.Answers.{action_by};
-ghost use Rattle.rb_undoengine.specs.Steps.{refusal_of, IsAbout, NotOthers};
+ghost use Rattle.rb_undoengine.specs.Steps.{refusal_of, IsAbout, MayWrite};
 
 use rb_attempt::{Ask, AttemptFault, attempt};
 use rb_base::{Group, SLOTS, Store, WORN, Xid};
@@ -20,7 +20,8 @@ use rb_model::Op;
 
 /// Writes a key of a table for a session, whose transaction has the id `own`, if it has a table slot. Without an
 /// operation it holds the key's row as it is. The answer is the transaction's id, or why nothing is written. `Failed`
-/// only where a call of the store failed. What `group` holds afterwards is open. No other session holds the key.
+/// only where a call of the store failed. What `group` holds afterwards is open. No other session holds the key, and no
+/// commit above the snapshot of a serializable transaction has changed the row.
 pub fn write_step<S: Store>(
     store: &mut S,
     own: Option<Xid>,
@@ -37,19 +38,19 @@ pub fn write_step<S: Store>(
         × Logs S.Store store.old store.new (group_of patches) (not (has_failed result)) }
     ensures there { IfOk result (λ x. (x.seg < (S.shape_of store.old).segments) × (x.slot < SLOTS)) }
     ensures gives { S.tells → (h : State) (xids : List Xid) (s : ℕ) → IsAbout h xids s own (S.blocks store.old)
-        → S.shape_of store.old ≡ h.shape → s ≤ length h.sessions → NotOthers h s table key
+        → S.shape_of store.old ≡ h.shape → s ≤ length h.sessions → MayWrite h s table key
         → S.lsn store.old ≡ logged_of h.shape (S.blocks store.old) → length h.sessions ≤ 16
         → IfOk result (λ x. GivesOne S.Store store.old store.new true (WriteMade h xids s table key
         (action_by op.entry) (room_of (S.slots store.old) (S.lsn store.old)) x (S.blocks store.old))) }
     ensures failed { S.tells → has_failed result ≡ true → (h : State) (xids : List Xid) (s : ℕ)
         → IsAbout h xids s own (S.blocks store.old) → S.shape_of store.old ≡ h.shape → s ≤ length h.sessions
-        → NotOthers h s table key → S.lsn store.old ≡ logged_of h.shape (S.blocks store.old)
+        → MayWrite h s table key → S.lsn store.old ≡ logged_of h.shape (S.blocks store.old)
         → length h.sessions ≤ 16
         → (x : Xid) × GivesOne S.Store store.old store.new false (WriteMade h xids s table key
         (action_by op.entry) (room_of (S.slots store.old) (S.lsn store.old)) x (S.blocks store.old)) }
     ensures refused { S.tells → has_failed result ≡ false → (h : State) (xids : List Xid) (s : ℕ)
         → IsAbout h xids s own (S.blocks store.old) → S.shape_of store.old ≡ h.shape → s ≤ length h.sessions
-        → NotOthers h s table key → length h.sessions ≤ 16
+        → MayWrite h s table key → length h.sessions ≤ 16
         → IfErr result (λ fault. (x : Xid) × WritesIn h s x.seg x.slot
         × (first_of (write_tests h (S.lsn store.old) (room_of (S.slots store.old) (S.lsn store.old))
         x.seg x.slot s table key (action_by op.entry)) Done ≡ Refused (refusal_of fault))) }

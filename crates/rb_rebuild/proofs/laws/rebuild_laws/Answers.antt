@@ -3,6 +3,7 @@ use Rattle.rb_rebuild.proofs.Peeling.{begins, fails, finishes, turns}
 use Rattle.rb_rebuild.proofs.Quiet.{quiet_reads}
 use Rattle.rb_rebuild.proofs.Showing.{match_rows, reading_of}
 use Rattle.rb_rebuild.proofs.Undoing.{allows, passes_by, starts_running, taken_back, taken_whole}
+use Rattle.rb_rebuild.proofs.Watching.{quiet_late, watch_begins, watch_ends, watched_over, watches}
 use Rattle.rb_rebuild.proofs.laws.rebuild_laws.Goals as goal
 
 pub returns-clause-read : goal.returns-clause-read
@@ -43,3 +44,18 @@ returns-clause-shown c = match_rows
 
 pub returns-clause-quiet : goal.returns-clause-quiet
 returns-clause-quiet c = quiet_reads
+
+pub returns-clause-watch : goal.returns-clause-watch
+returns-clause-watch c = (
+  λ env base rows n key limit list b starts. watch_begins env base rows n key list limit b starts,
+  λ env base rows n key below least list start b p i over. watched_over env base rows n key list below least start b p i over,
+)
+
+pub returns-clause-watched : goal.returns-clause-watched
+returns-clause-watched c env base rows n key below least list start b honest low p i number lt most is = watches env base rows n key list below least start b p honest low i number lt most is
+
+pub returns-clause-late : goal.returns-clause-late
+returns-clause-late c = (
+  λ env base rows n key below least list start b p most. watch_ends env base rows n key list below least start b p most,
+  quiet_late,
+)
