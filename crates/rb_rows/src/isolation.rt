@@ -32,7 +32,10 @@ fn read_committed(rt: HostRuntime) -> Result<(), Fail> {
         ("write skew", WRITE_SKEW),
         ("write skew, with locks", WRITE_SKEW_LOCKED),
         ("write skew of a range", RANGE_SKEW),
-        ("write skew of a range, by a row that stands for it", RANGE_ROW),
+        (
+            "write skew of a range, by a row that stands for it",
+            RANGE_ROW,
+        ),
         ("a lock is no change", RANGE_LOCK),
         ("the read-only anomaly", ANOMALY),
         ("the read-only anomaly, with a lock", ANOMALY_LOCKED),
@@ -55,16 +58,25 @@ fn serializable(rt: HostRuntime) -> Result<(), Fail> {
         ("lost update", LOST_UPDATE_SERIALIZABLE),
         ("lost update behind a commit", LATE_UPDATE_SERIALIZABLE),
         ("predicate-many-preceders", MANY_PRECEDERS_SERIALIZABLE),
-        ("predicate-many-preceders, for a write", DELETE_BY_QUERY_SERIALIZABLE),
+        (
+            "predicate-many-preceders, for a write",
+            DELETE_BY_QUERY_SERIALIZABLE,
+        ),
         ("read skew", READ_SKEW_SERIALIZABLE),
         ("read skew within a cursor", ONE_CURSOR_SERIALIZABLE),
         ("write skew", WRITE_SKEW_SERIALIZABLE),
         ("write skew, with locks", WRITE_SKEW_LOCKED_SERIALIZABLE),
         ("write skew of a range", RANGE_SKEW_SERIALIZABLE),
-        ("write skew of a range, by a row that stands for it", RANGE_ROW_SERIALIZABLE),
+        (
+            "write skew of a range, by a row that stands for it",
+            RANGE_ROW_SERIALIZABLE,
+        ),
         ("a lock is no change", RANGE_LOCK_SERIALIZABLE),
         ("the read-only anomaly", ANOMALY_SERIALIZABLE),
-        ("the read-only anomaly, with a lock", ANOMALY_LOCKED_SERIALIZABLE),
+        (
+            "the read-only anomaly, with a lock",
+            ANOMALY_LOCKED_SERIALIZABLE,
+        ),
     ];
     let file = formatted(rt.alloc(), FORMAT_LARGE)?;
     let start = check(&rt, rt.alloc(), "rows", &file, ROWS)?;
