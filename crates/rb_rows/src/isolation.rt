@@ -99,8 +99,8 @@ fn read_only(rt: HostRuntime) -> Result<(), Fail> {
     Ok(())
 }
 
-// Worked rows of the modes, over a fresh file each. Each commit above the snapshot has changed the row of the write that is
-// too old, and what tells of the first ones was given up.
+// Worked rows of the modes, over a fresh file each. Each commit above the snapshot has changed the row of the write that
+// is too old, and what tells of the first ones was given up.
 #[test]
 fn modes(rt: HostRuntime) -> Result<(), Fail> {
     let rows: [(&str, &[u8]); 4] = [
@@ -126,7 +126,7 @@ fn modes(rt: HostRuntime) -> Result<(), Fail> {
     Ok(())
 }
 
-// The session's own change is the newest of the block, and those of the other row below it lead to the snapshot.
+// Eight commits above the snapshot changed the other row of the block, and the session's own change stands over them.
 const OWN_ENTRY: &[u8] = b"\
 insert 1 1 1 a
 #> 1 ok
