@@ -99,8 +99,8 @@ fn read_only(rt: HostRuntime) -> Result<(), Fail> {
     Ok(())
 }
 
-// Worked rows of the modes, over a fresh file each. Each commit above the snapshot has changed the row of the write that
-// is too old, and what tells of the first ones was given up.
+// Worked rows of the modes, over a fresh file each. Each commit above the snapshot has changed the row of the write
+// that is too old, and what tells of the first ones was given up.
 #[test]
 fn modes(rt: HostRuntime) -> Result<(), Fail> {
     let rows: [(&str, &[u8]); 4] = [
