@@ -17,6 +17,23 @@ pub fn replies_of(alloc: Global, dialogue: &[u8]) -> Result<Vec<u8>, NoMemory> {
     Ok(replies)
 }
 
+/// Appends the commits of these numbers, each of that write of session 1.
+pub fn add_commits_of(
+    dialogue: &mut String,
+    line: &str,
+    first: u64,
+    last: u64,
+) -> Result<(), NoMemory> {
+    for number in first..=last {
+        write!(
+            dialogue,
+            "{line}\n#> 1 ok\ncommit 1\n#> 1 committed {number}\n"
+        )
+        .map_err(|_| NoMemory)?;
+    }
+    Ok(())
+}
+
 /// So many times the same piece.
 pub fn repeated(alloc: Global, piece: &[u8], count: usize) -> Result<Vec<u8>, NoMemory> {
     let mut bytes = Vec::new(alloc);

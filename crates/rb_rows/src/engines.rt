@@ -5,7 +5,7 @@ use rb_base::{Shape, Store};
 use rb_engine::Engine;
 use rb_layout::Layout;
 use rb_memdisk::MemDisk;
-use rb_model::{Fetched, Marks, Name, Op, Refusal, Row, Wrote};
+use rb_model::{Fetched, Marks, Mode, Name, Op, Refusal, Row, Wrote};
 use rb_plainstore::PlainStore;
 use rb_store::{LapStore, format};
 use std::alloc::Global;
@@ -28,6 +28,7 @@ enum Call<'a> {
     Lock(u16, u16, u64),
     Commit(u16),
     Rollback(u16),
+    Set(u16, Mode),
     Savepoint(u16, &'a [u8]),
     RollbackTo(u16, &'a [u8]),
     Open(u16, &'a [u8], u16, u64, u64),
@@ -124,6 +125,7 @@ fn called<'a, S: Store>(engine: &mut Engine<S>, call: Call<'_>, row: &'a mut Row
         Call::Lock(s, table, key) => answer_of_write(engine.lock(s, table, key)),
         Call::Commit(s) => answer_of_commit(engine.commit(s)),
         Call::Rollback(s) => answer_of_call(engine.rollback(s)),
+        Call::Set(s, mode) => answer_of_call(engine.set(s, mode)),
         Call::Savepoint(s, name) => match Name::new(name) {
             Some(name) => answer_of_call(engine.savepoint(s, &name)),
             None => Answer::Nameless,
@@ -559,6 +561,72 @@ fn one_list_of_waits(rt: HostRuntime) -> Result<(), Fail> {
         (Call::Cancel(6), Answer::Refused(Refusal::NotWaiting)),
         (Call::Checkpoint, Answer::Done),
         (Call::Resume, Answer::NoneReady),
+    ];
+    let mut both = new_engines(rt.alloc())?;
+    check_all(&rt, &mut both, &rows);
+    Ok(())
+}
+
+// A mode is set first of all, and ends with the transaction. The one that waits is refused for what it waited for.
+#[test]
+fn one_list_of_modes(rt: HostRuntime) -> Result<(), Fail> {
+    let rows: [(Call<'_>, Answer<'_>); 32] = [
+        (
+            Call::Set(0, Mode::ReadOnly),
+            Answer::Refused(Refusal::NoSession),
+        ),
+        (
+            Call::Set(17, Mode::Serializable),
+            Answer::Refused(Refusal::NoSession),
+        ),
+        (Call::Write(1, 1, 1, Op::Insert(b"a")), Answer::Done),
+        (
+            Call::Set(1, Mode::ReadOnly),
+            Answer::Refused(Refusal::NotFirst),
+        ),
+        (Call::Commit(1), Answer::Numbered(1)),
+        (Call::Set(2, Mode::ReadCommitted), Answer::Done),
+        (Call::Set(2, Mode::Serializable), Answer::Done),
+        (
+            Call::Set(2, Mode::ReadCommitted),
+            Answer::Refused(Refusal::NotFirst),
+        ),
+        (Call::Set(3, Mode::ReadOnly), Answer::Done),
+        (Call::Write(1, 1, 1, Op::Update(b"b")), Answer::Done),
+        (Call::Write(2, 1, 1, Op::Update(b"c")), Answer::Waits(1)),
+        (
+            Call::Set(2, Mode::ReadOnly),
+            Answer::Refused(Refusal::Waiting),
+        ),
+        (
+            Call::Write(3, 9, 1, Op::Delete),
+            Answer::Refused(Refusal::ReadOnly),
+        ),
+        (Call::Commit(1), Answer::Numbered(2)),
+        (
+            Call::Resume,
+            Answer::RefusedAgain(2, Refusal::CantSerialize { scn: 1, by: 2 }),
+        ),
+        (
+            Call::Lock(2, 1, 1),
+            Answer::Refused(Refusal::CantSerialize { scn: 1, by: 2 }),
+        ),
+        (Call::Write(2, 1, 2, Op::Insert(b"d")), Answer::Done),
+        (Call::Open(2, b"c", 1, 0, 9), Answer::Done),
+        (Call::Fetch(2, b"c"), Answer::Given(2, b"d")),
+        (Call::Fetch(2, b"c"), Answer::Given(1, b"a")),
+        (Call::Fetch(2, b"c"), Answer::End),
+        (Call::Open(3, b"c", 1, 0, 9), Answer::Done),
+        (Call::Fetch(3, b"c"), Answer::Given(1, b"a")),
+        (Call::Fetch(3, b"c"), Answer::End),
+        (Call::Commit(2), Answer::Numbered(3)),
+        (Call::Set(2, Mode::ReadOnly), Answer::Done),
+        (Call::Commit(3), Answer::Done),
+        (Call::Open(3, b"d", 1, 0, 9), Answer::Done),
+        (Call::Fetch(3, b"d"), Answer::Given(2, b"d")),
+        (Call::Fetch(3, b"d"), Answer::Given(1, b"b")),
+        (Call::Fetch(3, b"d"), Answer::End),
+        (Call::Marks, Answer::Marked(3, 0)),
     ];
     let mut both = new_engines(rt.alloc())?;
     check_all(&rt, &mut both, &rows);

@@ -1,6 +1,6 @@
 //! The worked rows: dialogues, and what a run leaves for the next one. What is expected stands in the rows, and is no
 //! output of the program.
-use crate::dialogues::{check, check_each, repeated, replies_of};
+use crate::dialogues::{add_commits_of, check, check_each, repeated, replies_of};
 use crate::doubles::{FORMAT_LARGE, FORMAT_SMALL, Failing, NONE, RUN, formatted, run_over};
 use crate::stories::{PICKS, image};
 use rb_base::NoMemory;
@@ -362,8 +362,10 @@ insert 1 1 1 b
 ",
         ),
         (
-            "one session and one that waits",
+            "one session, one that reads and one that waits",
             b"\
+set 17 serializable
+#> 17 no session
 insert 1 2 1 a
 #> 1 no table
 update 1 1 1 a
@@ -372,6 +374,8 @@ insert 1 1 1 a
 #> 1 ok
 insert 1 1 1 b
 #> 1 duplicate
+set 1 read-only
+#> 1 not first
 fetch 1 c 1
 #> 1 no cursor
 open 1 c 1 0 9
@@ -382,6 +386,10 @@ rollback 1 p
 #> 1 no savepoint
 cancel 1
 #> 1 not waiting
+set 2 read-only
+#> 2 ok
+delete 2 1 1
+#> 2 read only
 lock 3 1 1
 #> 3 waits 1
 commit 3
@@ -429,6 +437,10 @@ commit -1
 commit 1\r\r
 set 1 READ-ONLY
 set 1
+set 1 read_only
+set 1 read-only\x20
+set 1 serializable 2
+set 65536 read-committed
 fetch 1 c 1000001
 fetch 1 c 00
 open 1 c 1 0
@@ -875,23 +887,6 @@ commit 1
     for (name, first, second) in rows {
         let left = check(&rt, rt.alloc(), name, &file, first)?;
         let _ = check(&rt, rt.alloc(), name, left.bytes(), second)?;
-    }
-    Ok(())
-}
-
-// The commits of these numbers, each of that write.
-fn add_commits_of(
-    dialogue: &mut String,
-    line: &str,
-    first: u64,
-    last: u64,
-) -> Result<(), NoMemory> {
-    for number in first..=last {
-        write!(
-            dialogue,
-            "{line}\n#> 1 ok\ncommit 1\n#> 1 committed {number}\n"
-        )
-        .map_err(|_| NoMemory)?;
     }
     Ok(())
 }
