@@ -30,7 +30,6 @@ use Rattle.rb_views.proofs.Fetching as views
 use Rattle.rb_engine.specs.Does.{Does, EngineView, Goes, SameStore, Stands}
 use Rattle.rb_engine.proofs.DoesLemmas.{does_cursors, does_loaded}
 use Rattle.rb_engine.proofs.LateLemmas.{old_reply}
-use Rattle.rb_model.specs.Book.{book_at}
 use Rattle.rb_model.specs.Calls as machine
 use Rattle.rb_model.specs.Calls.{Answer, Refused, Reply, early_tests, none_applies, next_row, session_tests}
 use Rattle.rb_model.specs.NextState.{cursors_of, with_cursors, with_taken}
@@ -43,7 +42,6 @@ use Rattle.rb_sessions.specs.Kept.{KeptSession, kept_at, named, with_kept, with_
 use Rattle.rb_sessions.specs.Kept as table
 use Rattle.rb_standing.specs.States.{BlocksStand}
 use Rattle.rb_views.proofs.Cursors.{named_is}
-use Rattle.rb_views.proofs.Lost.{lost_is}
 use Rattle.rb_views.proofs.Taken.{taken}
 
 behind_of : (blocks first g : ℕ) (last : Option ℕ) → Begins blocks first g last → (k : ℕ) → k % blocks ≡ g → is_after blocks last k ≡ true → IsBehindKey (if g == first then last else None) k
@@ -203,7 +201,7 @@ module _ {S : Type 0} (s : Ghosts S) (laws : Laws s) (h : State) (old : EngineVi
     pub does_old : (scn lost : ℕ) → result ≡ Err (faults.TooOld scn lost) → new.memory ≡ old.memory → Does s h (machine.Fetch who name) (Refused (TooOld scn lost)) old new
     does_old scn lost is memory =
         let behind = finds goes.xids reader (Err (faults.TooOld scn lost)) is in
-        does_loaded s told laws h (machine.Fetch who name) (Refused (TooOld scn lost)) old new st
+        does_loaded s st.told laws h (machine.Fetch who name) (Refused (TooOld scn lost)) old new st
         (old_reply h goes.xids blocks goes.holds.blocks (s.lsn old.store) (room_of (s.slots old.store) (s.lsn old.store)) (machine.Fetch who name) _ m.scn scn lost early (one.0, one.1, sym one.2.number) behind.4)
         refl refl (λ s t k a is done. cc) memory (λ _. logs) same
 

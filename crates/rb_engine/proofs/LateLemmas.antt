@@ -1,5 +1,5 @@
 -- Why a call is too old, what the test of a serializable write finds, and what the write does then.
-use Rattle.std.proofs.Common.{◌≡◌, ◌≢◌, ◌≤◌, ◌<◌, ◌++◌, ◌∷◌, ◌&&◌, ℕ, Bool, true, false, not, nat_le, List, [], Option, Some, None, Result, Ok, Err, IfErr, IfOk, OnOk, refl, sym, ◌∙◌, ap, subst, arith}
+use Rattle.std.proofs.Common.{◌≡◌, ◌≢◌, ◌≤◌, ◌++◌, ◌&&◌, ℕ, Bool, true, false, not, nat_le, List, [], Option, Some, None, Result, Ok, Err, IfErr, IfOk, OnOk, refl, sym, ◌∙◌, ap, subst, arith}
 use Rattle.std.proofs.lemmas.Bool.{and_from, le-leb}
 use Rattle.rb_attempt.specs.declared.ask.AttemptFault.{AttemptFault}
 use Rattle.rb_attempt.specs.declared.ask.AttemptFault.TheVariants as attempts
@@ -15,14 +15,14 @@ use Rattle.rb_cr.specs.declared.faults.CrFault.TheVariants as faults
 use Rattle.rb_cr.specs.declared.scratch.Snapshot.{Snapshot}
 use Rattle.rb_engine.specs.Checks.{NotOld}
 use Rattle.rb_engine.specs.Does.{Does, EngineView, Goes, Kept, SameStore, Stands}
-use Rattle.rb_engine.specs.Lateness.{IsRefusedLate, IsTimely, IsWriteOld, LateAs, WriteNeedsLost}
+use Rattle.rb_engine.specs.Lateness.{IsKeyWorn, IsRefusedLate, IsTimely, IsWriteOld, LateAs, WriteNeedsLost}
 use Rattle.rb_engine.proofs.DoesLemmas.{does_fault, does_loaded, fault_survives}
 use Rattle.rb_engine.proofs.WriteLemmas.{answered}
 use Rattle.rb_model.specs.Book.{book_at}
 use Rattle.rb_model.specs.Calls.{Action, Answer, Call, Done, ReadsAt, Refused, Reply, Write, WritesIn, early_tests, first_of, is_disk_fault, none_applies, refused_by, serial_tests, waited, write_tests}
 use Rattle.rb_model.specs.Late.{late}
 use Rattle.rb_model.specs.Queue.{Waiter}
-use Rattle.rb_model.specs.Rows.{Commits, last_scn}
+use Rattle.rb_model.specs.Rows.{last_scn}
 use Rattle.rb_model.specs.State.{State, isolation_of}
 use Rattle.rb_model.specs.Tests.{holder}
 use Rattle.rb_model.specs.declared.mode.Isolation.{Isolation}
@@ -109,11 +109,11 @@ module _ (h : State) (xids : List Xid) (blocks : List (List ℕ)) (sessions : Li
     timely (Ok None) is old (Err why) none late = absurd late
     timely (Ok (Some by)) is old (Err why) none late = subst (IsRefusedLate h xids blocks s table key) (sym late) (is_serial, sym late_is ∙ sym is)
     timely (Err (faults.TooOld scn lost)) is old (Err why) none late =
-        subst (IsRefusedLate h xids blocks s table key) (sym late) (is_at scn (old.0), subst (λ (m : ℕ). Because (env_of h.shape blocks) m _ (faults.TooOld scn lost)) (sym old.0) old)
+        subst (IsRefusedLate h xids blocks s table key) (sym late) (is_at scn old.0, subst (λ (m : ℕ). IsKeyWorn h xids blocks table key m (faults.TooOld scn lost)) (sym old.0) old)
       where
         is_at : (scn : ℕ) → scn ≡ n → isolation_of h s ≡ isolation.Serializable scn
         is_at scn e = is_serial ∙ ap (λ (m : ℕ). isolation.Serializable m) (sym e)
-    timely (Err faults.Failed) is old (Err why) none late = subst (IsRefusedLate h xids blocks s table key) (sym late) unit
+    timely (Err faults.Failed) is old (Err why) none late = subst (IsRefusedLate h xids blocks s table key) (sym late) cc
 
 -- nobody is waited for where no other session holds the key
 none_waited : (queue : List Waiter) (s : ℕ) (o : Option ℕ) → ((u : ℕ) → o ≡ Some u → u ≡ s) → none_applies (waited queue s o) ≡ true
@@ -127,7 +127,7 @@ none_waited queue s (Some u) own =
 module _ {S : Type 0} (s : Ghosts S) (told : s.tells) (laws : Laws s) (h : State) (old : EngineView S) (st : Stands s h old) (going : h.stopped ≡ false) (who table key : ℕ) (action : Action)
     (there : (1 ≤ who) × (who ≤ 16)) (early : none_applies (early_tests h (Write who table key action)) ≡ true) (others : NotOthers h who table key) (place : (g : ℕ) × (i : ℕ) × WritesIn h who g i)
     (new : EngineView S) (same : SameStore s old.store new.store) where
-  goes : Goes s h old
+  abbrev pub goes : Goes s h old
   goes = st.goes going
 
   first_late : (n by : ℕ) → isolation_of h who ≡ isolation.Serializable n → late h.commits n table key ≡ Some by
@@ -162,12 +162,7 @@ pub needs_lost_before : {S : Type 0} (s : Ghosts S) (told : s.tells) (h : State)
     → WriteNeedsLost s h (record { memory = memory; store = mid }) who table key scn lost → WriteNeedsLost s h (record { memory = memory; store = old }) who table key scn lost
 needs_lost_before s told h old mid memory who table key scn lost logs needs = (needs.0, subst (λ b. IsWriteOld h needs.0 b who table key scn lost) (logs.blocks told refl) needs.1)
 
--- who waits, or would close a ring, isn't refused as too old
-pub waited_not_old : {P : Type 0} (u : ℕ) (r : Result Wrote Refusal) → IfErr r (λ why. (why ≡ refusals.Deadlock u) × P) → (scn lost : ℕ) → r ≡ Err (refusals.TooOld scn lost) → ⊥
-waited_not_old u (Ok w) ring scn lost is = (let clash : Ok w ≡ Err (refusals.TooOld scn lost) = is in cc)
-waited_not_old u (Err why) ring scn lost is = (let same : why ≡ refusals.TooOld scn lost = cc in let other : why ≡ refusals.Deadlock u = ring.0 in cc)
-
--- and what the home, the segment or the log refuses isn't either
+-- what the home, the segment or the log refuses isn't too old
 pub attempt_not_old : (fault : AttemptFault) (scn lost : ℕ) → refusal_of fault ≡ refusals.TooOld scn lost → ⊥
 attempt_not_old attempts.Failed scn lost is = cc
 attempt_not_old attempts.Duplicate scn lost is = cc
@@ -181,3 +176,6 @@ attempt_not_old attempts.LogFull scn lost is = cc
 pub young_not_old : (r : Result Wrote Refusal) → IfErr r NotOld → (scn lost : ℕ) → r ≡ Err (refusals.TooOld scn lost) → ⊥
 young_not_old (Ok w) young scn lost is = (let clash : Ok w ≡ Err (refusals.TooOld scn lost) = is in cc)
 young_not_old (Err why) young scn lost is = young scn lost (let same : why ≡ refusals.TooOld scn lost = cc in same)
+
+pub same_resumed : (w u : ℕ) (a b : Result Wrote Refusal) → ◌≡◌ {A = Option (ℕ × Result Wrote Refusal)} (Some (w, a)) (Some (u, b)) → (w ≡ u) × (a ≡ b)
+same_resumed w u a b is = let same : ◌≡◌ {A = ℕ × Result Wrote Refusal} (w, a) (u, b) = cc in (ap (λ (p : ℕ × Result Wrote Refusal). p.0) same, ap (λ (p : ℕ × Result Wrote Refusal). p.1) same)

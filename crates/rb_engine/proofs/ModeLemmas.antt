@@ -1,12 +1,11 @@
 -- What the table of sessions says of the mode of a transaction, as the machine sees it.
-use Rattle.std.proofs.Common.{◌≡◌, ◌==◌, ◌&&◌, ℕ, Bool, true, false, List, [], ◌∷◌, length, refl, arith}
+use Rattle.std.proofs.Common.{◌≡◌, ◌==◌, false, List, [], ◌∷◌, length, refl, arith}
 use Rattle.std.proofs.lemmas.Bool.Decides.{nat_tests}
 use Rattle.rb_engine.specs.Checks.{is_idle}
 use Rattle.rb_engine.specs.Does.{EngineView, KnowsModes, Stands}
 use Rattle.rb_base.specs.declared.store.Store.{Ghosts}
 use Rattle.rb_model.specs.Calls.{is_empty, is_none_set, is_unbegun}
 use Rattle.rb_model.specs.Change.{Change}
-use Rattle.rb_model.specs.Isolation.{is_read_committed}
 use Rattle.rb_model.specs.State as machine
 use Rattle.rb_model.specs.State.{Savepoint, State}
 use Rattle.rb_sessions.specs.declared.entry.Session.{Session}

@@ -3,13 +3,11 @@ use Rattle.std.proofs.Common.{◌≡◌, ◌≢◌, inl, inr, ◌≤◌, ◌-◌
 use Rattle.std.proofs.lemmas.Bool.{cases_eq, ne_eqb}
 use Rattle.std.proofs.lemmas.List.{get_or-set_other, get_or-set_same}
 use Rattle.std.specs.List.{range_with_len}
-use Rattle.rb_base.specs.Keeps.{Keeps}
 use Rattle.rb_base.specs.Moments.{weaker}
 use Rattle.rb_base.specs.declared.ids.Xid.{Xid}
-use Rattle.rb_base.specs.declared.shape.Shape.{Shape}
 use Rattle.rb_base.specs.declared.store.Store.{Ghosts}
 use Rattle.rb_engine.specs.Does.{EngineView, Goes, IsQueue, Kept, KnowsQueue}
-use Rattle.rb_image.specs.Crash.{AtEnd, OnTheWay, Restarts, RestartsAt, Survives, at_end, one_commit, one_write, reached, whole}
+use Rattle.rb_image.specs.Crash.{AtEnd, OnTheWay, RestartsAt, Survives, at_end, one_commit, one_write, reached, whole}
 use Rattle.rb_image.specs.Holds.{Holds}
 use Rattle.rb_image.specs.Images.{HasState}
 use Rattle.rb_model.specs.Book.{Book, Owner}
@@ -20,7 +18,7 @@ use Rattle.rb_model.specs.Rows.{last_scn}
 use Rattle.rb_model.specs.State.{State, asked_of, owner_at}
 use Rattle.rb_sessions.specs.Kept.{KeptSession, fresh, holding, kept_at, with_kept}
 use Rattle.rb_standing.specs.Standing.{Standing, env_of}
-use Rattle.rb_standing.specs.States.{BlocksStand, lives_of, newest_first, owned, past_of}
+use Rattle.rb_standing.specs.States.{BlocksStand, lives_of, owned, past_of}
 use Rattle.rb_views.proofs.Queues.{queue_remembered}
 use Rattle.rb_waits.proofs.Turns.{free_keeps, freed_stay, leave_keeps, left_is_out, others_stay, wait_adds, wait_keeps}
 use Rattle.rb_waits.specs.Room.{AreQueuedOnce}

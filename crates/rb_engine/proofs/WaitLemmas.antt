@@ -1,21 +1,15 @@
 -- What a session does that leaves the queue: it gives its write up, or tries it once more.
-use Rattle.std.proofs.Common.{◌≡◌, ◌≤◌, ◌-◌, ℕ, Bool, true, false, not, List, [], map, Option, Some, None, refl, sym, ◌∙◌, ap, subst, arith}
-use Rattle.std.proofs.lemmas.Bool.{false≢true}
+use Rattle.std.proofs.Common.{◌≡◌, ℕ, true, false, List, map, Option, Some, None, refl, sym, ◌∙◌, ap, arith}
 use Rattle.std.specs.Option.{option_map}
 use Rattle.rb_base.specs.Logs.{Laws, no_logs}
-use Rattle.rb_base.specs.Stores.{room_of}
 use Rattle.rb_base.specs.declared.store.Store.{Ghosts}
-use Rattle.rb_engine.specs.Checks.{Refuses}
-use Rattle.rb_engine.specs.Does.{Does, EngineView, Goes, IsInStep, IsQueue, Kept, KnowsQueue, SameStore, Stands}
-use Rattle.rb_engine.proofs.DoesLemmas.{does_by, does_refused_late, knows_on, survives_same}
-use Rattle.rb_engine.proofs.QueueLemmas.{asked_is, goes_queue, queue_left, survives_queue}
-use Rattle.rb_engine.proofs.StepLemmas.{in_step_queue}
-use Rattle.rb_model.specs.Answers.{write_answer}
+use Rattle.rb_engine.specs.Does.{Does, EngineView, IsQueue, Kept, KnowsQueue, Stands}
+use Rattle.rb_engine.proofs.DoesLemmas.{does_by, does_refused_late, survives_same}
+use Rattle.rb_engine.proofs.QueueLemmas.{asked_is, goes_queue, survives_queue}
 use Rattle.rb_model.specs.Calls as machine
 use Rattle.rb_model.specs.Calls.{Answer, Call, Reply, early_tests, name_tests, none_applies, number_tests}
-use Rattle.rb_model.specs.Change.{Asked}
 use Rattle.rb_model.specs.NextState.{unqueued}
-use Rattle.rb_model.specs.Queue.{Waiter, first_ready, is_queued, left_by}
+use Rattle.rb_model.specs.Queue.{is_queued, left_by}
 use Rattle.rb_model.specs.State.{State, asked_of}
 use Rattle.rb_model.specs.declared.refusal.Refusal.TheVariants.{NotWaiting}
 use Rattle.rb_sessions.specs.Kept.{KeptSession, asked_of_pending, kept_at}

@@ -96,7 +96,10 @@ fn is_reader(memory: &Memory, s: u16) -> bool
     requires { (1 ≤ s) × (s ≤ SESSIONS) }
     ensures { result ≡ is_read_only (kept_at memory.now.sessions s).isolation }
 {
-    matches!(memory.sessions.session(s).isolation, Isolation::ReadOnly { .. })
+    matches!(
+        memory.sessions.session(s).isolation,
+        Isolation::ReadOnly { .. }
+    )
 }
 
 /// Whether a write goes on, or why it is refused: as by `check_session`, or ReadOnly, NoTable or ValueTooLong.

@@ -23,12 +23,7 @@ fn is_unbegun(session: Session) -> bool
 
 /// Sets how the session's next transaction reads. Read only and serializable take the last commit number for all its
 /// queries. (Oracle7 Server Concepts, *Data Concurrency*.)
-pub fn do_set<T: Store>(
-    memory: &mut Memory,
-    store: &T,
-    s: u16,
-    mode: Mode,
-) -> Result<(), Refusal>
+pub fn do_set<T: Store>(memory: &mut Memory, store: &T, s: u16, mode: Mode) -> Result<(), Refusal>
     requires step { IsInStep T.Store memory.old store.now }
     ensures step { IsInStep T.Store memory.new store.now }
     ensures did { (h : State) → Stands T.Store h (record { memory = memory.old; store = store.now })

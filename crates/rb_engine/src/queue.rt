@@ -1,5 +1,6 @@
 //! Sessions that wait: how one begins to, and how one gives up. A write calls the first, `Engine::cancel` the second.
 ghost use Rattle.std.specs.Prelude.{◌≡◌, ◌≢◌, ◌≤◌, true, false, IfErr, IfOk};
+ghost use Rattle.rb_engine.specs.Checks.{NotOld};
 ghost use Rattle.rb_engine.specs.Does.{Does, IsInStep, IsQueue, Stands};
 ghost use Rattle.rb_model.specs.Answers.{plain_answer};
 ghost use Rattle.rb_model.specs.Calls as machine;
@@ -21,6 +22,7 @@ pub fn wait_for(memory: &mut Memory, s: u16, on: u16, pending: Pending) -> Resul
     requires free { is_queued s memory.old.waits ≡ false }
     ensures ring { IfErr result (λ why. (why ≡ Refusal.Deadlock on) × (closes memory.old.waits s on ≡ true)
         × (memory.new ≡ memory.old)) }
+    ensures young { IfErr result NotOld }
     ensures waits { IfOk result (λ wrote. (wrote ≡ Wrote.Waits on) × (closes memory.old.waits s on ≡ false)
         × (memory.new ≡ record memory.old {
           sessions = with_kept memory.old.sessions s

@@ -1,8 +1,33 @@
-use Rattle.std.proofs.Common.{◌≡◌, ◌≢◌, ℕ, List, ap, sym, refl, ◌∙◌, subst}
+use Rattle.std.proofs.Common.{◌≡◌, ◌≤◌, List, None, IfErr, IfOk, sym, ◌∙◌, ap, subst}
+use Rattle.rb_base.specs.Blocks.{home_block}
 use Rattle.rb_base.specs.declared.shape.Shape.{Shape}
+use Rattle.rb_cr.specs.Builds.{IsHomeOld, IsHomeRead}
+use Rattle.rb_cr.specs.declared.scratch.Snapshot.{Snapshot}
 use Rattle.rb_engine.specs.Does.{Kept}
-use Rattle.rb_model.specs.declared.mode.Isolation.{Isolation}
+use Rattle.rb_engine.proofs.LateLemmas.{reads, timely}
 use Rattle.rb_model.specs.declared.mode.Isolation.TheVariants as isolation
+use Rattle.rb_rebuild.specs.Late.{late_above}
+use Rattle.rb_rebuild.specs.Reading.{History}
 use Rattle.rb_sessions.specs.Kept.{KeptSession, kept_at}
-use Rattle.rb_engine.proofs.LateLemmas.{reads, timely, timely_else}
+use Rattle.rb_views.specs.Views.{history}
 use Rattle.rb_engine.proofs.late.check_late.Goals as goal
+
+pub returns-clause-timely : goal.returns-clause-timely
+returns-clause-timely g c = λ tells h xids stand shape knows.
+    let s = g.T.Store in
+    let blocks = s.blocks c.args.store.now in
+    let sessions = c.args.memory.now.sessions in
+    let table = c.args.table in
+    let key = c.args.key in
+    let n = c.in-Serializable.snapshot in
+    let inside = ap (λ (k : Kept). k.sessions) c.memory.view_is in
+    let serial : (kept_at sessions c.args.s).isolation ≡ isolation.Serializable n = ap (λ (l : List KeptSession). (kept_at l c.args.s).isolation) (sym inside) ∙ (sym c.session.ensures.isolation ∙ c.in-Serializable.is) in
+    let tables : (1 ≤ table) × (table ≤ h.shape.tables) = subst (λ (z : Shape). (1 ≤ table) × (table ≤ z.tables)) shape c.requires.table in
+    let past : History = history h xids blocks (home_block h.shape table key) None in
+    let snap : Snapshot = record { scn = n; own = None; upto = 0 } in
+    let read = reads h xids blocks sessions stand knows c.args.s table key c.requires.session tables n serial in
+    let late : IsHomeRead h.shape blocks (home_block h.shape table key) past snap → IfOk c.changed_after.result (λ by. by ≡ late_above n key past.list) =
+    subst (λ (z : Shape). IsHomeRead z blocks (home_block z table key) past snap → IfOk c.changed_after.result (λ by. by ≡ late_above n key past.list)) shape (c.changed_after.ensures.late tells past) in
+    let old : IsHomeRead h.shape blocks (home_block h.shape table key) past snap → IfErr c.changed_after.result (IsHomeOld h.shape blocks (home_block h.shape table key) past snap) =
+    subst (λ (z : Shape). IsHomeRead z blocks (home_block z table key) past snap → IfErr c.changed_after.result (IsHomeOld z blocks (home_block z table key) past snap)) shape (c.changed_after.ensures.old tells past) in
+    timely h xids blocks sessions stand knows c.args.s table key c.requires.session tables n serial c.changed_after.result (late read) (old read) c.refusal.result c.refusal.ensures.none c.refusal.ensures.why

@@ -1,13 +1,12 @@
-use Rattle.std.proofs.Common.{inl, ◌≡◌, ◌-◌, ℕ, List, length, map, not, true, false, refl, sym, ◌∙◌, ap, subst, arith}
+use Rattle.std.proofs.Common.{inl, ◌≡◌, ◌-◌, ℕ, List, length, map, true, false, refl, sym, ◌∙◌, ap, subst, arith}
 use Rattle.rb_base.specs.Logs.{Laws, no_logs}
-use Rattle.rb_engine.specs.Checks.{is_idle}
 use Rattle.rb_engine.specs.Does.{Does, Goes, IsInStep, Kept, Stands}
 use Rattle.rb_model.specs.Calls as machine
 use Rattle.rb_model.specs.Calls.{Reply, is_unbegun, name_tests}
 use Rattle.rb_model.specs.Isolation.{isolation_at}
 use Rattle.rb_model.specs.NextState as next
 use Rattle.rb_model.specs.Rows.{last_scn}
-use Rattle.rb_model.specs.State.{Savepoint, session_of, session_own}
+use Rattle.rb_model.specs.State.{Savepoint, session_of}
 use Rattle.rb_model.specs.declared.mode.Isolation.{Isolation}
 use Rattle.rb_model.specs.declared.refusal.Refusal.TheVariants.{NotFirst}
 use Rattle.rb_sessions.specs.Kept.{KeptSession, isolated, kept_at, with_kept}

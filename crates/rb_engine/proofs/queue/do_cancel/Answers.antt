@@ -1,4 +1,4 @@
-use Rattle.std.proofs.Common.{◌≡◌, List, true, false, not, refl, sym, ◌∙◌, ap, subst, arith}
+use Rattle.std.proofs.Common.{◌≡◌, List, false, refl, sym, ◌∙◌, ap, subst, arith}
 use Rattle.rb_base.specs.Logs.{Laws}
 use Rattle.rb_engine.specs.Does.{Does, IsInStep, Kept, Stands}
 use Rattle.rb_model.specs.Calls as machine

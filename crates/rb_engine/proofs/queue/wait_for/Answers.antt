@@ -1,6 +1,6 @@
-use Rattle.std.proofs.Common.{◌≡◌, ◌<◌, List, length, false, sym, ◌∙◌, ap, subst, arith}
-use Rattle.rb_engine.specs.Does.{IsQueue, Kept}
-use Rattle.rb_model.specs.Queue.{Waiter, is_queued}
+use Rattle.std.proofs.Common.{◌≡◌, ◌<◌, List, length, sym, ap, subst}
+use Rattle.rb_engine.specs.Does.{Kept}
+use Rattle.rb_model.specs.Queue.{Waiter}
 use Rattle.rb_waits.proofs.Counts.{room}
 use Rattle.rb_engine.proofs.queue.wait_for.Goals as goal
 

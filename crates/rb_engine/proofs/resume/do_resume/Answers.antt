@@ -1,4 +1,4 @@
-use Rattle.std.proofs.Common.{◌≡◌, ◌<◌, ◌≤◌, ℕ, List, false, true, Some, Err, refl, sym, ◌∙◌, ap, subst, arith}
+use Rattle.std.proofs.Common.{◌≡◌, ℕ, List, false, Some, Err, refl, sym, ◌∙◌, ap, subst, arith}
 use Rattle.rb_engine.specs.Does.{Does, EngineView, IsInStep, Kept, KnowsQueue, Stands}
 use Rattle.rb_engine.specs.Lateness.{ResumeNeedsLost}
 use Rattle.rb_model.specs.Answers.{write_answer}
@@ -11,6 +11,7 @@ use Rattle.rb_sessions.specs.Kept.{asked_of_pending}
 use Rattle.rb_waits.specs.Room.{AreQueuedOnce}
 use Rattle.rb_waits.proofs.Turns.{ready_is_there, ready_leaves}
 use Rattle.rb_engine.proofs.QueueLemmas.{queue_left}
+use Rattle.rb_engine.proofs.LateLemmas.{same_resumed}
 use Rattle.rb_engine.proofs.StepLemmas.{in_step_queue}
 use Rattle.rb_engine.proofs.WaitLemmas.{asked_held, does_from, held_some, stands_left}
 use Rattle.rb_engine.proofs.resume.do_resume.Goals as goal
@@ -86,8 +87,7 @@ returns-clause-lost g c = λ h st who scn lost is.
     let left : now ≡ record inside { waits = left_by w inside.waits } = ap (λ (l : List Waiter). let k : Kept = record { sessions = c.memory.inside.sessions; waits = l; scn = c.memory.inside.scn; stopped = c.memory.inside.stopped } in k) c.leave.ensures in
     let going : h.stopped ≡ false = sym here.knows.stopped ∙ c.if-memory.false in
     let knows : KnowsQueue h inside = here.knows.queue going in
-    let same : w ≡ who = cc in
-    let old : c.do_write-outcome.result ≡ Err (TooOld scn lost) = cc in
-    let needs = c.do_write-outcome.ensures.lost (unqueued h w) (stands_left s h w inside now store here left) scn lost old in
-    subst (λ (u : ℕ). ResumeNeedsLost s h (record { memory = c.args.memory.now; store = store }) u scn lost) same
+    let both = same_resumed w who c.do_write-outcome.result (Err (TooOld scn lost)) is in
+    let needs = c.do_write-outcome.ensures.lost (unqueued h w) (stands_left s h w inside now store here left) scn lost both.1 in
+    subst (λ (u : ℕ). ResumeNeedsLost s h (record { memory = c.args.memory.now; store = store }) u scn lost) both.0
     (asked_of_pending p, asked_held h inside knows w c.held.result p c.held.ensures c.in_ok-pending.was, (needs.0, needs.1))

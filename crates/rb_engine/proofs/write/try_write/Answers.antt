@@ -7,7 +7,7 @@ use Rattle.rb_model.specs.Calls as machine
 use Rattle.rb_sessions.specs.Kept.{asked_of_pending, kept_at}
 use Rattle.rb_undoengine.proofs.Somewhere.{somewhere}
 use Rattle.rb_engine.proofs.DoesLemmas.{does_fault, fault_survives}
-use Rattle.rb_engine.proofs.LateLemmas.{needs_lost_before, waited_not_old}
+use Rattle.rb_engine.proofs.LateLemmas.{needs_lost_before, young_not_old}
 use Rattle.rb_engine.proofs.WriteLemmas.{about, does_after, stands_loaded, step_waited, waited_in_step}
 use Rattle.rb_engine.proofs.write.try_write.Given.{Over}
 use Rattle.rb_engine.proofs.write.try_write.Goals as goal
@@ -56,7 +56,7 @@ returns-in-Ok-Some-clause-step g c =
     (asked_of_pending c.new.result) c.wait_for.result c.wait_for.ensures.ring c.wait_for.ensures.waits
 
 pub returns-in-Ok-Some-clause-lost : goal.returns-in-Ok-Some-clause-lost
-returns-in-Ok-Some-clause-lost g c = λ h st scn lost is. absurd (waited_not_old c.in-Ok-Some.on c.wait_for.result c.wait_for.ensures.ring scn lost is)
+returns-in-Ok-Some-clause-lost g c = λ h st scn lost is. absurd (young_not_old c.wait_for.result c.wait_for.ensures.young scn lost is)
 
 pub returns-in-Ok-None-clause-lost : goal.returns-in-Ok-None-clause-lost
 returns-in-Ok-None-clause-lost g c = λ h st scn lost is.

@@ -1,5 +1,6 @@
 use Rattle.std.proofs.Common.{sym, subst}
-use Rattle.rb_engine.specs.Does.{Does, Stands}
+use Rattle.rb_engine.specs.Does.{Does, EngineView, Stands}
+use Rattle.rb_engine.specs.Lateness.{WriteNeedsLost}
 use Rattle.rb_model.specs.Answers.{write_answer}
 use Rattle.rb_model.specs.Calls as machine
 use Rattle.rb_engine.proofs.engine.Engine.lock.Goals as goal
@@ -9,3 +10,8 @@ returns-clause-did g c = λ h st.
     let s = g.T.Store in
     let call = c.do_write in
     subst (λ e. Does s h (machine.Write c.args.s c.args.table c.args.key machine.Lock) (write_answer call.result) e (record { memory = call.new.memory; store = call.new.store })) c.self.view_is (call.ensures.did h (subst (Stands s h) (sym c.self.view_is) st))
+
+pub returns-clause-lost : goal.returns-clause-lost
+returns-clause-lost g c = λ h st scn lost is.
+    let s = g.T.Store in
+    subst (λ (e : EngineView _). WriteNeedsLost s h e c.args.s c.args.table c.args.key scn lost) c.self.view_is (c.do_write.ensures.lost h (subst (Stands s h) (sym c.self.view_is) st) scn lost is)

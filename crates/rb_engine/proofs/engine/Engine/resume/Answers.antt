@@ -1,5 +1,6 @@
-use Rattle.std.proofs.Common.{◌≤◌, ap, sym, subst, arith}
+use Rattle.std.proofs.Common.{ap, sym, subst, arith}
 use Rattle.rb_engine.specs.Does.{EngineView, Resumes, Stands}
+use Rattle.rb_engine.specs.Lateness.{ResumeNeedsLost}
 use Rattle.rb_model.specs.Queue.{ready_count}
 use Rattle.rb_waits.proofs.Counts.{few}
 use Rattle.rb_waits.proofs.Turns.{few_ready}
@@ -16,3 +17,8 @@ returns-clause-few g c =
     let waits = c.self.inside.memory.waits in
     let same = ap (λ (e : EngineView _). ready_count e.memory.waits) c.self.view_is in
     omega (arith, same, few_ready waits, few waits c.self.invariant.queue.once)
+
+pub returns-clause-lost : goal.returns-clause-lost
+returns-clause-lost g c = λ h st who scn lost is.
+    let s = g.T.Store in
+    subst (λ (e : EngineView _). ResumeNeedsLost s h e who scn lost) c.self.view_is (c.do_resume.ensures.lost h (subst (Stands s h) (sym c.self.view_is) st) who scn lost is)
