@@ -44,13 +44,15 @@ LateAs scn (Err (faults.TooOld n lost)) why = why ≡ refusals.TooOld n lost
 LateAs scn (Err faults.Failed) why = why ≡ refusals.DiskFault
 
 -- No commit above the snapshot has changed the row, or there is no such snapshot; else why it can't be written.
-abbrev pub IsTimely : State → List Xid → List (List ℕ) → (s table key : ℕ) → Result (Unit {0}) Refusal → Type 0
+abbrev pub IsTimely : State → List Xid → List (List ℕ) → (s table key : ℕ) → Result (Unit {0}) Refusal
+    → Type 0
 IsTimely h xids blocks s table key (Ok done) = NotLate h s table key
 IsTimely h xids blocks s table key (Err why) = IsRefusedLate h xids blocks s table key why
 
 -- A write of a session is too old: its transaction is serializable, and the key's home can't be read at the snapshot,
 -- for what a segment lost above it.
-abbrev pub WriteNeedsLost : {S : Type 0} → Ghosts S → State → EngineView S → (s table key scn lost : ℕ) → Type 0
+abbrev pub WriteNeedsLost : {S : Type 0} → Ghosts S → State → EngineView S → (s table key scn lost : ℕ)
+    → Type 0
 WriteNeedsLost store h e s table key scn lost =
     (xids : List Xid) × IsWriteOld h xids (store.blocks e.store) s table key scn lost
 

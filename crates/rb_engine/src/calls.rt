@@ -75,8 +75,9 @@ impl<T: Store> Engine<T> {
         )
     }
 
-    /// Sets how the session's next transaction reads, until it ends. In read committed each cursor has its own snapshot.
-    /// A read-only or serializable one has the last commit number for all its cursors, and the first makes no writes.
+    /// Sets how the session's next transaction reads, until it ends. In read committed each cursor has its own
+    /// snapshot. A read-only or serializable one has the last commit number for all its cursors, and the first makes no
+    /// writes.
     /// `NotFirst` where the transaction has a mode of its own already, or changes, or savepoints; a query before it
     /// doesn't matter. (Oracle7 Server Concepts, *Data Concurrency*.)
     pub fn set(&mut self, s: u16, mode: Mode) -> Result<(), Refusal>
@@ -205,7 +206,7 @@ impl<T: Store> Engine<T> {
     /// wait again, it does so behind all others. None where no session is ready, and of a stopped engine.
     pub fn resume(&mut self) -> Option<(u16, Result<Wrote, Refusal>)>
         ensures did { (h : State) → Stands T.Store h self.old → Resumes T.Store h result self.old self.new }
-        ensures lost { (h : State) → Stands T.Store h self.old → (s : ℕ) (scn lost : ℕ)
+        ensures lost { (h : State) → Stands T.Store h self.old → (s scn lost : ℕ)
             → result ≡ Some (s, Err (Refusal.TooOld scn lost)) → ResumeNeedsLost T.Store h self.old s scn lost }
         ensures fewer { IfSome result (λ r. ready_count self.new.memory.waits < ready_count self.old.memory.waits) }
         ensures few { ready_count self.old.memory.waits ≤ SESSIONS }

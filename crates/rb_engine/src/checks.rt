@@ -1,5 +1,6 @@
 //! The tests of a call that need memory and the file's shape alone, in the machine's order. Each call makes them first.
-ghost use Rattle.std.specs.Prelude.{◌≡◌, ◌≢◌, ◌&&◌, nat_le, ℕ, List, ◌<◌, ◌≤◌, true, false, IfErr, OnOk};
+ghost use Rattle.std.specs.Prelude.{◌≡◌, ◌≢◌, ◌<◌, ◌≤◌, ◌&&◌, nat_le, ℕ, List, true, false};
+ghost use Rattle.std.specs.Prelude.{IfErr, OnOk};
 ghost use Rattle.rb_engine.specs.Checks.{NotOld, Refuses};
 ghost use Rattle.rb_engine.specs.Does.{Knows, KnowsModes};
 ghost use Rattle.rb_model.specs.Answers.{action_by};
@@ -113,7 +114,8 @@ pub fn check_write(
     ensures refused { IfErr result (λ why. (h : State) (key : ℕ) → Knows h memory.now → KnowsModes h memory.now
         → shape ≡ h.shape → Refuses (early_tests h (machine.Write s table key (action_by op.entry))) why) }
     ensures granted { OnOk result ((h : State) (key : ℕ) → Knows h memory.now → KnowsModes h memory.now
-        → shape ≡ h.shape → none_applies (early_tests h (machine.Write s table key (action_by op.entry))) ≡ true) }
+        → shape ≡ h.shape
+        → none_applies (early_tests h (machine.Write s table key (action_by op.entry))) ≡ true) }
     ensures young { IfErr result NotOld }
     ensures other { IfErr result (λ why. why ≢ Refusal.DiskFault) }
     ensures session { OnOk result ((1 ≤ s) × (s ≤ SESSIONS)) }

@@ -26,7 +26,7 @@ pub fn do_resume<T: Store>(
         → Resumes T.Store h result (record { memory = memory.old; store = store.old })
         (record { memory = memory.new; store = store.new }) }
     ensures lost { (h : State) → Stands T.Store h (record { memory = memory.old; store = store.old })
-        → (s : ℕ) (scn lost : ℕ) → result ≡ Some (s, Err (Refusal.TooOld scn lost)) → ResumeNeedsLost T.Store h
+        → (s scn lost : ℕ) → result ≡ Some (s, Err (Refusal.TooOld scn lost)) → ResumeNeedsLost T.Store h
         (record { memory = memory.old; store = store.old }) s scn lost }
     ensures fewer { IfSome result (λ r. ready_count memory.new.waits < ready_count memory.old.waits) }
     ensures idle { first_ready memory.old.waits ≡ None
