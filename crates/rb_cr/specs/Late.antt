@@ -1,5 +1,6 @@
 -- What each part promises of the first commit above a snapshot that changed a key.
-use Rattle.std.specs.Prelude.{◌≡◌, ◌-◌, ◌^◌, ℕ, Bool, false, List, Option, Some, None, Result, IfOk, IfErr}
+use Rattle.std.specs.Prelude.{◌≡◌, ◌-◌, ◌^◌, ℕ, Bool, false, List}
+use Rattle.std.specs.Prelude.{Option, Some, None, Result, IfOk, IfErr}
 use Rattle.rb_base.specs.declared.ids.Xid.{Xid}
 use Rattle.rb_cr.specs.Calls.{Said}
 use Rattle.rb_cr.specs.Faults.{is_fault, Because, Blames}
