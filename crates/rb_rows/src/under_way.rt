@@ -55,8 +55,9 @@ const FIRST_ROWS: &str = "1 row 1 a\n1 row 2 b\n";
 
 const SECOND_ROWS: &str = "1 row 2 e\n1 row 4 f\n";
 
-// Two transactions are under way beside a cursor that was opened before both. One commits, and the cursor doesn't see
-// it; the other is put back. Then both sessions have one under way again, at the end.
+// Two transactions are under way, one of them serializable, beside a cursor of a read-only one that was opened before
+// both. One commits, which the cursor doesn't see and the other may not write over; this one is put back. Then both
+// sessions have one under way again, of the same modes, at the end.
 const TWO_SESSIONS: &str = "\
 insert 1 1 1 a
 #> 1 ok
@@ -64,6 +65,10 @@ insert 1 1 2 b
 #> 1 ok
 commit 1
 #> 1 committed 1
+set 2 serializable
+#> 2 ok
+set 3 read-only
+#> 3 ok
 open 3 all 1 0 99
 #> 3 ok
 update 2 1 1 x
@@ -84,6 +89,8 @@ update 1 1 3 d
 #> 1 ok
 commit 1
 #> 1 committed 2
+update 2 1 3 y
+#> 2 cannot serialize 1 2
 fetch 3 all 9
 #> 3 row 2 b
 #> 3 end
@@ -91,6 +98,8 @@ rollback 2
 #> 2 ok
 update 1 1 2 z
 #> 1 ok
+set 2 serializable
+#> 2 ok
 insert 2 1 4 w
 #> 2 ok
 ";
