@@ -1,5 +1,6 @@
 -- Which commit was the first to change a row after a snapshot.
-use Rattle.std.specs.Prelude.{ℕ, suc, ◌-◌, ◌==◌, Bool, true, false, not, ◌&&◌, if◌then◌else◌, List, [], ◌∷◌}
+use Rattle.std.specs.Prelude.{ℕ, suc, ◌-◌, ◌==◌, Bool, true, false, not, ◌&&◌}
+use Rattle.std.specs.Prelude.{if◌then◌else◌, List, [], ◌∷◌}
 use Rattle.std.specs.Prelude.{drop, Option, None, Some}
 use Rattle.std.specs.List.{list_any}
 use Rattle.rb_model.specs.Change.{Change, Kind, Put, Gone, Held}
