@@ -1,13 +1,11 @@
 //! Writes with undo over a small file in memory: which slot, entry and cell they take, what refuses them, and who holds
 //! a key then.
-ghost use Rattle.std.specs.Prelude.{◌≡◌, false};
-ghost use Rattle.rb_attempt.specs.Asks.{IsShort};
-
-use rb_attempt::{Ask, AttemptFault, Found, attempt, find};
-use rb_base::{BlockNo, Failed, Group, SLOTS, Shape, Store, Xid};
-use rb_cell::{Cell, ROW, STUB, cells};
+use crate::cell::reads;
+use crate::writers::{Writers, copy_of};
+use rb_attempt::{AttemptFault, Found, find};
+use rb_base::{Shape, Store, Xid};
+use rb_cell::{ROW, STUB};
 use rb_model::Op;
-use rb_plainstore::PlainStore;
 use std::test::Fail;
 
 /// Two tables of one block each, 0 and 1, and two segments.
@@ -17,143 +15,101 @@ const SHAPE: Shape = Shape {
     segments: 2,
 };
 
-/// Asks for a write of a key by a transaction, or by one that begins.
-pub(crate) fn asked<S: Store>(
-    store: &mut S,
-    own: Option<Xid>,
-    key: u64,
-    op: Option<Op<'_>>,
-) -> Result<Xid, AttemptFault>
-    requires going { S.failed store.old ≡ false }
-    requires short { IsShort op }
-{
-    let shape = store.shape();
-    let mut ask = Ask {
-        own: None,
-        table: 1,
-        key,
-        op,
-    };
-    if let Some(xid) = own {
-        if xid.seg >= shape.segments || xid.slot as usize >= SLOTS {
-            return Err(AttemptFault::Failed);
-        }
-        ask.own = Some(xid);
+/// The first transaction of a segment.
+fn first_of(seg: u16) -> Xid {
+    Xid {
+        seg,
+        slot: 0,
+        wrap: 1,
     }
-    let mut group = Group::new();
-    if shape.tables == 0 {
-        return Err(AttemptFault::Failed);
-    }
-    attempt(store, &ask, &mut group)
 }
 
-/// A cell of the first table's block.
-fn cell_of<S: Store>(store: &mut S, c: u8) -> Result<Cell, Failed>
-    requires { S.failed store.old ≡ false }
-{
-    let home: BlockNo = 0;
-    if c >= 16 || home >= store.shape().block_count() {
-        return Err(Failed);
+/// Whether a cell of the first table's block reads so.
+fn has_cell(writers: &mut Writers, c: u8, state: u8, lock: u8, key: u64, value: &[u8]) -> bool {
+    match copy_of(&mut writers.store, 0) {
+        Ok(block) => reads(&block, c, state, lock, key, value),
+        Err(_) => false,
     }
-    store.load(home)?;
-    Ok(cells(store.block(), c))
 }
 
 #[test]
 fn one_transaction(rt: HostRuntime) -> Result<(), Fail> {
-    let mut store = PlainStore::new(rt.alloc(), SHAPE)?;
-    let first = asked(&mut store, None, 7, Some(Op::Insert(b"ab")))?;
-    assert_eq!(rt; (first.seg, first.slot, first.wrap), (0, 0, 1));
-    let own = Some(first);
-    let cell = cell_of(&mut store, 0)?;
-    assert_eq!(rt; (cell.state, cell.lock, cell.key), (ROW, 1, 7));
-    assert_eq!(rt; cell.value.as_slice(), b"ab".as_slice());
-    assert_eq!(rt;
-        asked(&mut store, own, 7, Some(Op::Update(b"c"))),
-        Ok(first)
-    );
-    assert_eq!(rt; asked(&mut store, own, 7, None), Ok(first));
-    assert_eq!(rt; cell_of(&mut store, 0)?.value.as_slice(), b"c".as_slice());
-    assert_eq!(rt; asked(&mut store, own, 7, Some(Op::Delete)), Ok(first));
-    let cell = cell_of(&mut store, 0)?;
-    assert_eq!(rt; (cell.state, cell.lock, cell.key), (STUB, 1, 7));
-    // The stub keeps its cell for its key while the transaction runs.
-    assert_eq!(rt;
-        asked(&mut store, own, 9, Some(Op::Insert(b"d"))),
-        Ok(first)
-    );
-    assert_eq!(rt; cell_of(&mut store, 1)?.key, 9);
-    // Another one takes a slot of the other segment, and the next slot entry.
-    let second = asked(&mut store, None, 11, Some(Op::Insert(b"e")))?;
-    assert_eq!(rt; (second.seg, second.slot, second.wrap), (1, 0, 1));
-    assert_eq!(rt; cell_of(&mut store, 2)?.lock, 2);
-    assert_eq!(rt; store.logged(), 6);
+    let rows: [(&[u8], u16, u8, u8, u8, u64, &[u8]); 6] = [
+        (b"insert 1 1 7 ab", 0, 0, ROW, 1, 7, b"ab"),
+        (b"update 1 1 7 c", 0, 0, ROW, 1, 7, b"c"),
+        (b"lock 1 1 7", 0, 0, ROW, 1, 7, b"c"),
+        (b"delete 1 1 7", 0, 0, STUB, 1, 7, b""),
+        // The stub keeps its cell for its key while the transaction runs.
+        (b"insert 1 1 9 d", 0, 1, ROW, 1, 9, b"d"),
+        // Another one takes a slot of the other segment, and the next slot entry.
+        (b"insert 2 1 11 e", 1, 2, ROW, 2, 11, b"e"),
+    ];
+    let mut writers = Writers::new(rt.alloc(), SHAPE)?;
+    for (line, seg, c, state, lock, key, value) in rows {
+        assert!(rt; writers.line(line) == Ok(first_of(seg)));
+        assert!(rt; has_cell(&mut writers, c, state, lock, key, value));
+    }
+    assert!(rt; writers.store.logged() == 6);
     Ok(())
 }
 
 #[test]
 fn refusals(rt: HostRuntime) -> Result<(), Fail> {
-    let mut store = PlainStore::new(rt.alloc(), SHAPE)?;
-    let own = Some(asked(&mut store, None, 0, Some(Op::Insert(b"a")))?);
-    for key in 1..16 {
-        assert_eq!(rt;
-            asked(&mut store, own, key, Some(Op::Insert(b"a"))),
-            Ok(Xid {
-                seg: 0,
-                slot: 0,
-                wrap: 1
-            })
-        );
+    let mut writers = Writers::new(rt.alloc(), SHAPE)?;
+    for key in 0..16 {
+        let inserted = writers.write(1, 1, key, Some(Op::Insert(b"a")));
+        assert!(rt; inserted == Ok(first_of(0)));
     }
-    let rows = [
-        (15, Some(Op::Insert(b"b")), AttemptFault::Duplicate),
-        (16, Some(Op::Insert(b"b")), AttemptFault::BlockFull),
-        (16, Some(Op::Update(b"b")), AttemptFault::NotFound),
-        (16, None, AttemptFault::NotFound),
+    let rows: [(&[u8], AttemptFault); 4] = [
+        (b"insert 1 1 15 b", AttemptFault::Duplicate),
+        (b"insert 1 1 16 b", AttemptFault::BlockFull),
+        (b"update 1 1 16 b", AttemptFault::NotFound),
+        (b"lock 1 1 16", AttemptFault::NotFound),
     ];
-    for (key, op, fault) in rows {
-        assert_eq!(rt; asked(&mut store, own, key, op), Err(fault));
+    for (line, fault) in rows {
+        assert!(rt; writers.line(line) == Err(fault));
     }
-    assert_eq!(rt; store.logged(), 16);
-    assert!(rt; asked(&mut store, own, 15, Some(Op::Delete)).is_ok());
-    for _ in 17..320 {
-        assert!(rt; asked(&mut store, own, 0, None).is_ok());
-    }
-    let full = AttemptFault::RollbackFull { seg: 0, since: 320 };
-    assert_eq!(rt; asked(&mut store, own, 0, None), Err(full));
+    assert!(rt; writers.store.logged() == 16);
     Ok(())
 }
 
-/// Who holds a key of the first table, and whether it has a row.
-fn found<S: Store>(store: &mut S, key: u64) -> Result<Found, Failed>
-    requires { S.failed store.old ≡ false }
-{
-    if store.shape().tables == 0 {
-        return Err(Failed);
+// So many records are in the eight extents of a segment.
+#[test]
+fn rollback_full(rt: HostRuntime) -> Result<(), Fail> {
+    let mut writers = Writers::new(rt.alloc(), SHAPE)?;
+    assert!(rt; writers.line(b"insert 1 1 0 a").is_ok());
+    for _ in 1..320 {
+        assert!(rt; writers.write(1, 1, 0, None).is_ok());
     }
-    find(store, 1, key)
+    let full = AttemptFault::RollbackFull { seg: 0, since: 320 };
+    assert!(rt; writers.line(b"lock 1 1 0") == Err(full));
+    Ok(())
 }
 
+/// Whether a key of the first table is held by the session's transaction, and has a row or not. Session 0 is none.
+fn is_held(writers: &mut Writers, key: u64, s: u16, present: bool) -> bool {
+    let holder = writers.id(s);
+    if writers.store.shape().tables == 0 {
+        return false;
+    }
+    find(&mut writers.store, 1, key) == Ok(Found { holder, present })
+}
+
+// Who holds keys 7 and 9 of one block, and whether they have a row. A row that is deleted is held until the
+// transaction ends.
 #[test]
 fn holders(rt: HostRuntime) -> Result<(), Fail> {
-    let mut store = PlainStore::new(rt.alloc(), SHAPE)?;
-    let nothing = Found {
-        holder: None,
-        present: false,
-    };
-    assert_eq!(rt; found(&mut store, 7), Ok(nothing));
-    let first = asked(&mut store, None, 7, Some(Op::Insert(b"a")))?;
-    let held = |xid, present| Found {
-        holder: Some(xid),
-        present,
-    };
-    assert_eq!(rt; found(&mut store, 7), Ok(held(first, true)));
-    // Another key of the block, and another transaction's.
-    assert_eq!(rt; found(&mut store, 9), Ok(nothing));
-    let second = asked(&mut store, None, 9, Some(Op::Insert(b"b")))?;
-    assert_eq!(rt; found(&mut store, 9), Ok(held(second, true)));
-    // A row that is deleted is held until the transaction ends.
-    asked(&mut store, Some(first), 7, Some(Op::Delete))?;
-    assert_eq!(rt; found(&mut store, 7), Ok(held(first, false)));
+    let rows: [(&[u8], u16, bool, u16, bool); 3] = [
+        (b"insert 1 1 7 a", 1, true, 0, false),
+        (b"insert 2 1 9 b", 1, true, 2, true),
+        (b"delete 1 1 7", 1, false, 2, true),
+    ];
+    let mut writers = Writers::new(rt.alloc(), SHAPE)?;
+    assert!(rt; is_held(&mut writers, 7, 0, false));
+    for (line, seven, has_seven, nine, has_nine) in rows {
+        assert!(rt; writers.line(line).is_ok());
+        assert!(rt; is_held(&mut writers, 7, seven, has_seven));
+        assert!(rt; is_held(&mut writers, 9, nine, has_nine));
+    }
     Ok(())
 }

@@ -1,22 +1,26 @@
 //! Texts that are numbers and texts that are none, and each field written and read again.
+use crate::patches::are_patches;
 use rb_base::{Group, Shape, parse_decimal, put_u16, put_u32, put_u64, u16_at, u32_at, u64_at};
 
 #[test]
 fn decimals(rt: HostRuntime) {
-    let numbers = [
-        ("0", 0),
-        ("9", 9),
-        ("10", 10),
-        ("18446744073709551615", u64::MAX),
+    let rows: [(&[u8], Option<u64>); 12] = [
+        (b"0", Some(0)),
+        (b"9", Some(9)),
+        (b"10", Some(10)),
+        (b"18446744073709551615", Some(u64::MAX)),
+        (b"", None),
+        (b"00", None),
+        (b"01", None),
+        (b"+1", None),
+        (b"-1", None),
+        (b"1 ", None),
+        (b"18446744073709551616", None),
+        (b"\xff", None),
     ];
-    for (text, number) in numbers {
-        assert_eq!(rt; parse_decimal(text.as_bytes()), Some(number));
+    for (text, number) in rows {
+        assert!(rt; parse_decimal(text) == number, "{text:?}");
     }
-    let others = ["", "00", "01", "+1", "-1", "1 ", "18446744073709551616"];
-    for text in others {
-        assert_eq!(rt; parse_decimal(text.as_bytes()), None);
-    }
-    assert_eq!(rt; parse_decimal(b"\xff"), None);
 }
 
 #[test]
@@ -25,31 +29,21 @@ fn fields(rt: HostRuntime) {
     put_u16(&mut bytes, 1, 0x0102);
     put_u32(&mut bytes, 3, 0x0304_0506);
     put_u64(&mut bytes, 7, 0x0708_090a_0b0c_0d0e);
-    assert_eq!(rt;
-        bytes,
-        [9, 1, 2, 3, 4, 5, 6, 7, 8, 9, 10, 11, 12, 13, 14, 9]
-    );
-    assert_eq!(rt; u16_at(&bytes, 1), 0x0102);
-    assert_eq!(rt; u32_at(&bytes, 3), 0x0304_0506);
-    assert_eq!(rt; u64_at(&bytes, 7), 0x0708_090a_0b0c_0d0e);
+    assert!(rt; bytes == *b"\x09\x01\x02\x03\x04\x05\x06\x07\x08\x09\x0a\x0b\x0c\x0d\x0e\x09");
+    assert!(rt; u16_at(&bytes, 1) == 0x0102);
+    assert!(rt; u32_at(&bytes, 3) == 0x0304_0506);
+    assert!(rt; u64_at(&bytes, 7) == 0x0708_090a_0b0c_0d0e);
 }
 
 #[test]
 fn one_group(rt: HostRuntime) {
     let mut group = Group::new();
-    assert_eq!(rt; group.patches(), 0);
+    assert!(rt; are_patches(&group, &[]));
     group.push(7, 32, b"ab");
     group.push(u32::MAX, 2047, b"c");
-    assert_eq!(rt; group.patches(), 2);
-    assert_eq!(rt; group.patch_block(0), 7);
-    assert_eq!(rt; group.patch_at(0), 32);
-    assert_eq!(rt; group.patch_bytes(0), b"ab".as_slice());
-    assert_eq!(rt; group.patch_block(1), u32::MAX);
-    assert_eq!(rt; group.patch_at(1), 2047);
-    assert_eq!(rt; group.patch_bytes(1), b"c".as_slice());
-    let copy = group.copied();
-    assert_eq!(rt; copy.patches(), 2);
-    assert_eq!(rt; copy.patch_bytes(1), b"c".as_slice());
+    let patches: [(u32, usize, &[u8]); 2] = [(7, 32, b"ab"), (u32::MAX, 2047, b"c")];
+    assert!(rt; are_patches(&group, &patches));
+    assert!(rt; are_patches(&group.copied(), &patches));
 }
 
 #[test]
@@ -78,8 +72,7 @@ fn homes(rt: HostRuntime) {
         blocks: 2,
         segments: 1,
     };
-    let rows = [(1, 0, 0), (1, 1, 1), (2, 0, 2), (2, u64::MAX, 3)];
-    for (table, key, block) in rows {
-        assert_eq!(rt; shape.home_block(table, key), block);
+    for (table, key, block) in [(1, 0, 0), (1, 1, 1), (2, 0, 2), (2, u64::MAX, 3)] {
+        assert!(rt; shape.home_block(table, key) == block);
     }
 }

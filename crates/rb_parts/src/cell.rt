@@ -1,7 +1,8 @@
 //! Cells by their bytes, written out by hand.
+use crate::patches::are_patches;
 use arrayvec::ArrayVec;
-use rb_base::Group;
-use rb_cell::{Cell, EMPTY, ROW, STUB, cells, put_cell, put_lock};
+use rb_base::{BlockNo, Group};
+use rb_cell::{CELLS, Cell, EMPTY, ROW, STUB, cells, put_cell, put_lock};
 
 /// The bytes in front of the zeros of an unlocked row: its key in 8 bytes after the length 3.
 const ROW_BYTES: &[u8; 15] = b"\x01\0\0\x03\x01\x02\x03\x04\x05\x06\x07\x08abc";
@@ -13,15 +14,20 @@ const ROW_KEY: u64 = 0x0102030405060708;
 
 const STUB_KEY: u64 = u64::MAX - 1;
 
-fn cell_with(state: u8, lock: u8, key: u64, bytes: &[u8]) -> Cell {
-    let mut value = ArrayVec::new();
-    let _ = value.try_extend_from_slice(bytes);
-    Cell {
-        state,
-        lock,
-        key,
-        value,
+/// Whether a cell of a block reads so.
+pub(crate) fn reads(
+    block: &[u8; 2048],
+    c: u8,
+    state: u8,
+    lock: u8,
+    key: u64,
+    value: &[u8],
+) -> bool {
+    if c >= CELLS {
+        return false;
     }
+    let cell = cells(block, c);
+    cell.state == state && cell.lock == lock && cell.key == key && cell.value.as_slice() == value
 }
 
 #[test]
@@ -29,21 +35,14 @@ fn three_states_read(rt: HostRuntime) {
     let mut block = [0; 2048];
     block[508..523].copy_from_slice(ROW_BYTES);
     block[1796..1808].copy_from_slice(STUB_BYTES);
-    let row = cells(&block, 1);
-    assert_eq!(rt; row.state, ROW);
-    assert_eq!(rt; row.lock, 0);
-    assert_eq!(rt; row.key, ROW_KEY);
-    assert_eq!(rt; row.value.as_slice(), b"abc".as_slice());
-    let stub = cells(&block, 15);
-    assert_eq!(rt; stub.state, STUB);
-    assert_eq!(rt; stub.lock, 8);
-    assert_eq!(rt; stub.key, STUB_KEY);
-    assert_eq!(rt; stub.value.as_slice(), b"".as_slice());
-    let empty = cells(&block, 0);
-    assert_eq!(rt; empty.state, EMPTY);
-    assert_eq!(rt; empty.lock, 0);
-    assert_eq!(rt; empty.key, 0);
-    assert_eq!(rt; empty.value.as_slice(), b"".as_slice());
+    let rows: [(u8, u8, u8, u64, &[u8]); 3] = [
+        (1, ROW, 0, ROW_KEY, b"abc"),
+        (15, STUB, 8, STUB_KEY, b""),
+        (0, EMPTY, 0, 0, b""),
+    ];
+    for (c, state, lock, key, value) in rows {
+        assert!(rt; reads(&block, c, state, lock, key, value), "cell {c}");
+    }
 }
 
 #[test]
@@ -65,48 +64,51 @@ fn lengths_read(rt: HostRuntime) {
         block[418] = high;
         block[419] = low;
         let cell = cells(&block, 0);
-        assert_eq!(rt; cell.value.as_slice(), &block[428..428 + expected]);
+        assert!(rt; cell.value.as_slice() == &block[428..428 + expected]);
     }
 }
 
-#[test]
-fn three_states_written(rt: HostRuntime) {
+/// Whether a cell of this state, lock, key and value is written as one patch from a byte on: these bytes, and zeros or
+/// what else fills the 92 of it.
+fn is_written(block: BlockNo, c: u8, cell: &Cell, at: usize, front: &[u8], fill: u8) -> bool {
+    let mut bytes = [fill; 92];
+    if c >= CELLS || front.len() > 92 {
+        return false;
+    }
+    bytes[..front.len()].copy_from_slice(front);
     let mut group = Group::new();
-    put_cell(&mut group, 7, 1, &cell_with(ROW, 0, ROW_KEY, b"abc"));
-    put_cell(&mut group, 0, 15, &cell_with(STUB, 8, STUB_KEY, b""));
-    put_cell(&mut group, u32::MAX, 0, &cell_with(EMPTY, 0, 0, b""));
-    let mut row = [0; 92];
-    row[..15].copy_from_slice(ROW_BYTES);
-    let mut stub = [0; 92];
-    stub[..12].copy_from_slice(STUB_BYTES);
-    assert_eq!(rt; group.patches(), 3);
-    assert_eq!(rt; group.patch_block(0), 7);
-    assert_eq!(rt; group.patch_at(0), 508);
-    assert_eq!(rt; group.patch_bytes(0), row.as_slice());
-    assert_eq!(rt; group.patch_block(1), 0);
-    assert_eq!(rt; group.patch_at(1), 1796);
-    assert_eq!(rt; group.patch_bytes(1), stub.as_slice());
-    assert_eq!(rt; group.patch_block(2), u32::MAX);
-    assert_eq!(rt; group.patch_at(2), 416);
-    assert_eq!(rt; group.patch_bytes(2), [0; 92].as_slice());
+    put_cell(&mut group, block, c, cell);
+    are_patches(&group, &[(block, at, &bytes)])
 }
 
+fn cell_with(state: u8, lock: u8, key: u64, bytes: &[u8]) -> Cell {
+    let mut value = ArrayVec::new();
+    let _ = value.try_extend_from_slice(bytes);
+    Cell {
+        state,
+        lock,
+        key,
+        value,
+    }
+}
+
+// The last one has the longest value.
 #[test]
-fn longest_value_written(rt: HostRuntime) {
-    let mut group = Group::new();
-    put_cell(&mut group, 1, 2, &cell_with(ROW, 1, 3, &[b'v'; 80]));
-    let mut bytes = [b'v'; 92];
-    bytes[..12].copy_from_slice(b"\x01\x01\0\x50\0\0\0\0\0\0\0\x03");
-    assert_eq!(rt; group.patch_at(0), 600);
-    assert_eq!(rt; group.patch_bytes(0), bytes.as_slice());
+fn states_written(rt: HostRuntime) {
+    let row = cell_with(ROW, 0, ROW_KEY, b"abc");
+    assert!(rt; is_written(7, 1, &row, 508, ROW_BYTES, 0));
+    let stub = cell_with(STUB, 8, STUB_KEY, b"");
+    assert!(rt; is_written(0, 15, &stub, 1796, STUB_BYTES, 0));
+    let empty = cell_with(EMPTY, 0, 0, b"");
+    assert!(rt; is_written(u32::MAX, 0, &empty, 416, b"", 0));
+    let long = cell_with(ROW, 1, 3, &[b'v'; 80]);
+    let front = b"\x01\x01\0\x50\0\0\0\0\0\0\0\x03";
+    assert!(rt; is_written(1, 2, &long, 600, front, b'v'));
 }
 
 #[test]
 fn lock_written(rt: HostRuntime) {
     let mut group = Group::new();
     put_lock(&mut group, 9, 15, 8);
-    assert_eq!(rt; group.patches(), 1);
-    assert_eq!(rt; group.patch_block(0), 9);
-    assert_eq!(rt; group.patch_at(0), 1797);
-    assert_eq!(rt; group.patch_bytes(0), [8].as_slice());
+    assert!(rt; are_patches(&group, &[(9, 1797, &[8])]));
 }

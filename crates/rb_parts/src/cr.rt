@@ -1,71 +1,17 @@
 //! Homes of a small file as they were at snapshots: rows that records of undo bring back, the reader's own changes over
 //! them, and snapshots that are too old.
-ghost use Rattle.std.specs.Prelude.{◌≡◌, ◌<◌, false, Some};
-ghost use Rattle.rb_attempt.specs.Asks.{IsShort};
+ghost use Rattle.std.specs.Prelude.{◌≡◌, ◌<◌, false};
 
-use crate::attempt::asked;
-use crate::segment::live_of;
-use crate::undo::{apply, copy_of};
+use crate::writers::{SHAPE, Writers, copy_of};
 use arrayvec::ArrayVec;
-use rb_base::{BlockNo, Failed, Group, Scn, Shape, Store, Xid};
-use rb_cell::{EMPTY, ROW, STUB, cells};
+use rb_base::{BlockNo, Scn, Store};
+use rb_cell::{CELLS, EMPTY, ROW, STUB, cells};
 use rb_cr::{CrFault, Scratch, Snapshot, Steps, build};
-use rb_itl::{EXACT, OPEN, entry};
+use rb_itl::{ENTRIES, EXACT, OPEN, entry};
 use rb_model::{Op, Row};
-use rb_plainstore::PlainStore;
-use rb_segment::commit;
 use std::marker::Brand;
 use std::sync::ledger::{Blank, Ledger};
 use std::test::Fail;
-
-/// A table of two blocks, 0 of the even keys and 1 of the odd ones, and a segment.
-const SHAPE: Shape = Shape {
-    tables: 1,
-    blocks: 2,
-    segments: 1,
-};
-
-/// Commits a transaction at a number, by one group.
-fn commit_at<S: Store>(store: &mut S, xid: Xid, scn: Scn) -> Result<(), Failed>
-    requires { S.failed store.old ≡ false }
-{
-    let shape = store.shape();
-    let mut header = copy_of(store, shape.header_block(0))?;
-    let mut group = Group::new();
-    match live_of(&header, xid) {
-        Some(live) if live > 0 => commit(&mut header, &shape, xid, scn, &mut group),
-        _ => return Err(Failed),
-    }
-    apply(store, &group)
-}
-
-/// A transaction writes a key and commits at a number.
-fn commit_one(store: &mut PlainStore, key: u64, op: Op<'_>, scn: Scn) -> Result<(), Failed>
-    requires { IsShort (Some op) }
-{
-    match asked(store, None, key, Some(op)) {
-        Ok(xid) => commit_at(store, xid, scn),
-        Err(_) => Err(Failed),
-    }
-}
-
-/// What a reader without changes sees at a number.
-fn at(scn: Scn) -> Snapshot {
-    Snapshot {
-        scn,
-        own: None,
-        upto: 0,
-    }
-}
-
-/// What the reader of these changes sees at a number.
-fn with_own(scn: Scn, own: Xid, upto: u32) -> Snapshot {
-    Snapshot {
-        scn,
-        own: Some(own),
-        upto,
-    }
-}
 
 /// Rebuilds a home, and counts the records in a ledger.
 fn counted<S: Store, L: Ledger>(
@@ -87,16 +33,22 @@ fn counted<S: Store, L: Ledger>(
     build(store, home, &snapshot, scratch, &mut steps)
 }
 
-/// Rebuilds a home.
-fn built<S: Store>(
-    store: &mut S,
+/// Rebuilds a home as a session sees it at a number with the first changes of its latest transaction, which may have
+/// committed since. Session 0 has none.
+fn built(
+    writers: &mut Writers,
     home: BlockNo,
-    snapshot: Snapshot,
+    scn: Scn,
+    s: u16,
+    upto: u32,
     scratch: &mut Scratch,
-) -> Result<(), CrFault>
-    requires { S.failed store.old ≡ false }
-{
-    counted::<S, Brand>(store, home, snapshot, scratch, Blank::new(1))
+) -> Result<(), CrFault> {
+    let snapshot = Snapshot {
+        scn,
+        own: writers.id(s),
+        upto,
+    };
+    counted::<_, Brand>(&mut writers.store, home, snapshot, scratch, Blank::new(1))
 }
 
 /// Whether the rows of a home that was rebuilt are exactly these, in this order.
@@ -116,87 +68,120 @@ fn shows(scratch: &Scratch, rows: &[(u64, &[u8])]) -> bool {
     !scratch.next(after, 0, u64::MAX, &mut row)
 }
 
+/// What a reader of home 0 sees: its number, its session with how many of its changes, and the rows.
+type Sight = (Scn, u16, u32, &'static [(u64, &'static [u8])]);
+
+/// Whether each reader of home 0 sees those rows.
+fn see(writers: &mut Writers, scratch: &mut Scratch, sights: &[Sight]) -> bool {
+    for (scn, s, upto, rows) in sights {
+        let is_built = built(writers, 0, *scn, *s, *upto, scratch).is_ok();
+        if !is_built || !shows(scratch, rows) {
+            return false;
+        }
+    }
+    true
+}
+
+/// Whether the lines are done over a new file, and each reader sees its rows then.
+fn tells(rt: &HostRuntime, lines: &[u8], sights: &[Sight]) -> Result<bool, Fail> {
+    let mut writers = Writers::new(rt.alloc(), SHAPE)?;
+    let mut scratch = Scratch::new(rt.alloc())?;
+    Ok(writers.lines(lines) && see(&mut writers, &mut scratch, sights))
+}
+
 #[test]
 fn snapshot_before_an_update(rt: HostRuntime) -> Result<(), Fail> {
-    let mut store = PlainStore::new(rt.alloc(), SHAPE)?;
-    let mut scratch = Scratch::new(rt.alloc())?;
+    let scratch = Scratch::new(rt.alloc())?;
     assert!(rt; shows(&scratch, &[]));
-    commit_one(&mut store, 0, Op::Insert(b"a"), 1)?;
-    commit_one(&mut store, 0, Op::Update(b"b"), 2)?;
-    built(&mut store, 0, at(1), &mut scratch)?;
-    assert!(rt; shows(&scratch, &[(0, b"a")]));
-    built(&mut store, 0, at(2), &mut scratch)?;
-    assert!(rt; shows(&scratch, &[(0, b"b")]));
-    built(&mut store, 0, at(0), &mut scratch)?;
-    assert!(rt; shows(&scratch, &[]));
+    let lines = b"insert 1 1 0 a\ncommit 1\nupdate 1 1 0 b\ncommit 1\n";
+    let sights: [Sight; 3] = [
+        (1, 0, 0, &[(0, b"a")]),
+        (2, 0, 0, &[(0, b"b")]),
+        (0, 0, 0, &[]),
+    ];
+    assert!(rt; tells(&rt, lines, &sights)?);
     Ok(())
 }
 
 // The eight entries tell of commits 9 and 2 to 8. The reader's own change takes the entry of commit 2, so its record
 // has what that entry was, and the way back to commit 1 leads through it.
+const EIGHT_ENTRIES: &[u8] = b"\
+insert 1 1 2 a
+insert 1 1 4 b
+commit 1
+update 1 1 4 z
+commit 1
+update 1 1 4 z
+commit 1
+update 1 1 4 z
+commit 1
+update 1 1 4 z
+commit 1
+update 1 1 4 z
+commit 1
+update 1 1 4 z
+commit 1
+update 1 1 4 z
+commit 1
+update 1 1 4 z
+commit 1
+update 2 1 2 x
+";
+
 #[test]
 fn own_entry_is_not_the_end(rt: HostRuntime) -> Result<(), Fail> {
-    let mut store = PlainStore::new(rt.alloc(), SHAPE)?;
-    let mut scratch = Scratch::new(rt.alloc())?;
-    let first = asked(&mut store, None, 2, Some(Op::Insert(b"a")))?;
-    asked(&mut store, Some(first), 4, Some(Op::Insert(b"b")))?;
-    commit_at(&mut store, first, 1)?;
-    for scn in 2..10 {
-        commit_one(&mut store, 4, Op::Update(b"z"), scn)?;
-    }
-    let own = asked(&mut store, None, 2, Some(Op::Update(b"x")))?;
-    built(&mut store, 0, with_own(1, own, 1), &mut scratch)?;
-    assert!(rt; shows(&scratch, &[(2, b"x"), (4, b"b")]));
-    built(&mut store, 0, with_own(1, own, 0), &mut scratch)?;
-    assert!(rt; shows(&scratch, &[(2, b"a"), (4, b"b")]));
-    built(&mut store, 0, at(9), &mut scratch)?;
-    assert!(rt; shows(&scratch, &[(2, b"a"), (4, b"z")]));
+    let sights: [Sight; 3] = [
+        (1, 2, 1, &[(2, b"x"), (4, b"b")]),
+        (1, 2, 0, &[(2, b"a"), (4, b"b")]),
+        (9, 0, 0, &[(2, b"a"), (4, b"z")]),
+    ];
+    assert!(rt; tells(&rt, EIGHT_ENTRIES, &sights)?);
     Ok(())
+}
+
+/// So many commits of a session, each with an update of one key. Answers whether all were made.
+fn commit_updates(writers: &mut Writers, key: u64, count: u32) -> bool {
+    for _ in 0..count {
+        let is_done = writers.write(1, 1, key, Some(Op::Update(b"u"))).is_ok();
+        if !is_done || writers.commit(1).is_err() {
+            return false;
+        }
+    }
+    true
 }
 
 // Sixteen transactions later the slot of commit 1 is taken again: all that is known is that it committed by 1.
 #[test]
 fn bound_above_the_snapshot(rt: HostRuntime) -> Result<(), Fail> {
-    let mut store = PlainStore::new(rt.alloc(), SHAPE)?;
+    let mut writers = Writers::new(rt.alloc(), SHAPE)?;
     let mut scratch = Scratch::new(rt.alloc())?;
-    commit_one(&mut store, 0, Op::Insert(b"a"), 1)?;
-    commit_one(&mut store, 1, Op::Insert(b"b"), 2)?;
-    for scn in 3..18 {
-        commit_one(&mut store, 1, Op::Update(b"b"), scn)?;
-    }
+    assert!(rt; writers.lines(b"insert 1 1 0 a\ncommit 1\ninsert 1 1 1 b\ncommit 1\n"));
+    assert!(rt; commit_updates(&mut writers, 1, 15));
     let old = CrFault::TooOld { scn: 0, lost: 1 };
-    assert_eq!(rt; built(&mut store, 0, at(0), &mut scratch), Err(old));
-    for scn in [1, 17] {
-        built(&mut store, 0, at(scn), &mut scratch)?;
-        assert!(rt; shows(&scratch, &[(0, b"a")]));
-    }
-    built(&mut store, 1, at(17), &mut scratch)?;
-    assert!(rt; shows(&scratch, &[(1, b"b")]));
+    assert!(rt; built(&mut writers, 0, 0, 0, 0, &mut scratch) == Err(old));
+    let sights: [Sight; 2] = [(1, 0, 0, &[(0, b"a")]), (17, 0, 0, &[(0, b"a")])];
+    assert!(rt; see(&mut writers, &mut scratch, &sights));
+    assert!(rt; built(&mut writers, 1, 17, 0, 0, &mut scratch).is_ok());
+    assert!(rt; shows(&scratch, &[(1, b"u")]));
     Ok(())
 }
 
 // Seventy-nine records lead back to commit 1. The next one takes the place of the first, and its transaction takes the
-// slot of commit 65: so much is lost.
+// slot of commit 65: so much is lost. Records 41 to 81 are there still, and a reader at 40 needs no other.
 #[test]
 fn extent_taken_again(rt: HostRuntime) -> Result<(), Fail> {
-    let mut store = PlainStore::new(rt.alloc(), SHAPE)?;
+    let mut writers = Writers::new(rt.alloc(), SHAPE)?;
     let mut scratch = Scratch::new(rt.alloc())?;
-    commit_one(&mut store, 0, Op::Insert(b"a"), 1)?;
-    for scn in 2..81 {
-        commit_one(&mut store, 0, Op::Update(b"u"), scn)?;
-    }
-    built(&mut store, 0, at(1), &mut scratch)?;
-    assert!(rt; shows(&scratch, &[(0, b"a")]));
-    asked(&mut store, None, 0, Some(Op::Update(b"v")))?;
+    assert!(rt; writers.lines(b"insert 1 1 0 a\ncommit 1\n"));
+    assert!(rt; commit_updates(&mut writers, 0, 79));
+    assert!(rt; see(&mut writers, &mut scratch, &[(1, 0, 0, &[(0, b"a")])]));
+    assert!(rt; writers.line(b"update 1 1 0 v").is_ok());
     for scn in [1, 39] {
         let old = CrFault::TooOld { scn, lost: 65 };
-        assert_eq!(rt; built(&mut store, 0, at(scn), &mut scratch), Err(old));
+        assert!(rt; built(&mut writers, 0, scn, 0, 0, &mut scratch) == Err(old));
     }
-    // Records 41 to 81 are there still, and a reader at 40 needs no other.
-    for scn in [40, 80] {
-        built(&mut store, 0, at(scn), &mut scratch)?;
-        assert!(rt; shows(&scratch, &[(0, b"u")]));
-    }
+    let sights: [Sight; 2] = [(40, 0, 0, &[(0, b"u")]), (80, 0, 0, &[(0, b"u")])];
+    assert!(rt; see(&mut writers, &mut scratch, &sights));
     Ok(())
 }
 
@@ -204,86 +189,113 @@ fn extent_taken_again(rt: HostRuntime) -> Result<(), Fail> {
 fn texts_of_faults(rt: HostRuntime) -> Result<(), Fail> {
     let old = CrFault::TooOld { scn: 1, lost: 65 };
     let text = format!(in rt.alloc(); "{old}; {}", CrFault::Failed)?;
-    assert_eq!(rt;
-        text.as_str(),
-        "snapshot 1 is older than what is kept, from 65 on; a call of the outside failed"
-    );
+    let expected =
+        "snapshot 1 is older than what is kept, from 65 on; a call of the outside failed";
+    assert!(rt; text.as_str() == expected);
     Ok(())
 }
 
-// The home of docs/READING.md: two commits and two transactions that run.
+/// Whether an entry and a cell of a home are so.
+fn stands(
+    home: &[u8; 2048],
+    i: u8,
+    kind: u8,
+    number: Scn,
+    length: u32,
+    state: u8,
+    lock: u8,
+) -> bool {
+    if i >= ENTRIES || i >= CELLS {
+        return false;
+    }
+    let (entry, cell) = (entry(home, i), cells(home, i));
+    entry.kind == kind
+        && entry.number == number
+        && entry.length == length
+        && cell.state == state
+        && cell.lock == lock
+}
+
+// The home of docs/UNDO.md: two commits and two transactions that run.
+const WORKED_HOME: &[u8] = b"\
+insert 1 1 2 a
+insert 1 1 4 b
+commit 1
+update 1 1 4 z
+commit 1
+update 1 1 2 x
+delete 1 1 4
+insert 2 1 6 c
+";
+
 #[test]
 fn worked_home(rt: HostRuntime) -> Result<(), Fail> {
-    let mut store = PlainStore::new(rt.alloc(), SHAPE)?;
+    let mut writers = Writers::new(rt.alloc(), SHAPE)?;
     let mut scratch = Scratch::new(rt.alloc())?;
-    let first = asked(&mut store, None, 2, Some(Op::Insert(b"a")))?;
-    asked(&mut store, Some(first), 4, Some(Op::Insert(b"b")))?;
-    commit_at(&mut store, first, 1)?;
-    commit_one(&mut store, 4, Op::Update(b"z"), 2)?;
-    let own = asked(&mut store, None, 2, Some(Op::Update(b"x")))?;
-    asked(&mut store, Some(own), 4, Some(Op::Delete))?;
-    asked(&mut store, None, 6, Some(Op::Insert(b"c")))?;
-    let home = copy_of(&mut store, 0)?;
-    let entries = [(EXACT, 1, 2), (EXACT, 2, 1), (OPEN, 0, 2), (OPEN, 0, 1)];
-    let states = [(ROW, 3), (STUB, 3), (ROW, 4), (EMPTY, 0)];
-    for i in 0..4 {
-        let entry = entry(&home, i);
-        let cell = cells(&home, i);
-        assert_eq!(rt;
-            (entry.kind, entry.number, entry.length),
-            entries[i as usize]
-        );
-        assert_eq!(rt; (cell.state, cell.lock), states[i as usize]);
+    assert!(rt; writers.lines(WORKED_HOME));
+    let home = copy_of(&mut writers.store, 0)?;
+    let rows = [
+        (0, EXACT, 1, 2, ROW, 3),
+        (1, EXACT, 2, 1, STUB, 3),
+        (2, OPEN, 0, 2, ROW, 4),
+        (3, OPEN, 0, 1, EMPTY, 0),
+    ];
+    for (i, kind, number, length, state, lock) in rows {
+        assert!(rt; stands(&home, i, kind, number, length, state, lock), "{i}");
     }
-    built(&mut store, 0, with_own(1, own, 1), &mut scratch)?;
-    assert!(rt; shows(&scratch, &[(2, b"x"), (4, b"b")]));
-    built(&mut store, 0, with_own(2, own, 2), &mut scratch)?;
-    assert!(rt; shows(&scratch, &[(2, b"x")]));
-    built(&mut store, 0, at(2), &mut scratch)?;
-    assert!(rt; shows(&scratch, &[(2, b"a"), (4, b"z")]));
+    let sights: [Sight; 3] = [
+        (1, 1, 1, &[(2, b"x"), (4, b"b")]),
+        (2, 1, 2, &[(2, b"x")]),
+        (2, 0, 0, &[(2, b"a"), (4, b"z")]),
+    ];
+    assert!(rt; see(&mut writers, &mut scratch, &sights));
     Ok(())
 }
 
+const OWN_CHANGES: &[u8] = b"\
+insert 1 1 2 a
+commit 1
+insert 2 1 4 b
+delete 2 1 2
+update 2 1 4 c
+insert 2 1 2 d
+";
+
+// It may have committed since.
 #[test]
 fn own_changes_up_to_one(rt: HostRuntime) -> Result<(), Fail> {
-    let mut store = PlainStore::new(rt.alloc(), SHAPE)?;
-    let mut scratch = Scratch::new(rt.alloc())?;
-    commit_one(&mut store, 2, Op::Insert(b"a"), 1)?;
-    let own = asked(&mut store, None, 4, Some(Op::Insert(b"b")))?;
-    asked(&mut store, Some(own), 2, Some(Op::Delete))?;
-    asked(&mut store, Some(own), 4, Some(Op::Update(b"c")))?;
-    asked(&mut store, Some(own), 2, Some(Op::Insert(b"d")))?;
-    let rows: [&[(u64, &[u8])]; 5] = [
-        &[(2, b"a")],
-        &[(2, b"a"), (4, b"b")],
-        &[(4, b"b")],
-        &[(4, b"c")],
-        &[(2, b"d"), (4, b"c")],
+    let sights: [Sight; 5] = [
+        (1, 2, 0, &[(2, b"a")]),
+        (1, 2, 1, &[(2, b"a"), (4, b"b")]),
+        (1, 2, 2, &[(4, b"b")]),
+        (1, 2, 3, &[(4, b"c")]),
+        (1, 2, 4, &[(2, b"d"), (4, b"c")]),
     ];
-    for upto in 0..5 {
-        built(&mut store, 0, with_own(1, own, upto), &mut scratch)?;
-        assert!(rt; shows(&scratch, rows[upto as usize]));
-    }
-    // It may have committed since.
-    commit_at(&mut store, own, 2)?;
-    for upto in 0..5 {
-        built(&mut store, 0, with_own(1, own, upto), &mut scratch)?;
-        assert!(rt; shows(&scratch, rows[upto as usize]));
-    }
+    let mut writers = Writers::new(rt.alloc(), SHAPE)?;
+    let mut scratch = Scratch::new(rt.alloc())?;
+    assert!(rt; writers.lines(OWN_CHANGES) && see(&mut writers, &mut scratch, &sights));
+    assert!(rt; writers.commit(2).is_ok() && see(&mut writers, &mut scratch, &sights));
     Ok(())
 }
 
+/// Whether the next row of a home that was rebuilt has this key, or there is none and the row is left as it was.
+fn goes_on(scratch: &Scratch, after: Option<u64>, lo: u64, hi: u64, key: Option<u64>) -> bool {
+    let mut row = Row {
+        key: 77,
+        value: ArrayVec::new(),
+    };
+    scratch.next(after, lo, hi, &mut row) == key.is_some() && row.key == key.unwrap_or(77)
+}
+
+// A row that is kept stands among those of the cells.
 #[test]
 fn next_in_order_and_bounds(rt: HostRuntime) -> Result<(), Fail> {
-    let mut store = PlainStore::new(rt.alloc(), SHAPE)?;
+    let lines =
+        b"insert 1 1 8 a\ncommit 1\ninsert 1 1 2 a\ncommit 1\ninsert 1 1 14 a\ncommit 1\ninsert 2 1 6 b\n";
+    let mut writers = Writers::new(rt.alloc(), SHAPE)?;
     let mut scratch = Scratch::new(rt.alloc())?;
-    for (key, scn) in [(8, 1), (2, 2), (14, 3)] {
-        commit_one(&mut store, key, Op::Insert(b"a"), scn)?;
-    }
-    // A row that is kept stands among those of the cells.
-    let own = asked(&mut store, None, 6, Some(Op::Insert(b"b")))?;
-    built(&mut store, 0, with_own(3, own, 1), &mut scratch)?;
-    assert!(rt; shows(&scratch, &[(2, b"a"), (6, b"b"), (8, b"a"), (14, b"a")]));
+    let sights: [Sight; 1] = [(3, 2, 1, &[(2, b"a"), (6, b"b"), (8, b"a"), (14, b"a")])];
+    assert!(rt; writers.lines(lines) && see(&mut writers, &mut scratch, &sights));
     let rows = [
         (None, 0, 99, Some(2)),
         (None, 2, 2, Some(2)),
@@ -295,12 +307,7 @@ fn next_in_order_and_bounds(rt: HostRuntime) -> Result<(), Fail> {
         (None, 9, 8, None),
     ];
     for (after, lo, hi, key) in rows {
-        let mut row = Row {
-            key: 77,
-            value: ArrayVec::new(),
-        };
-        assert_eq!(rt; scratch.next(after, lo, hi, &mut row), key.is_some());
-        assert_eq!(rt; row.key, key.unwrap_or(77));
+        assert!(rt; goes_on(&scratch, after, lo, hi, key));
     }
     Ok(())
 }

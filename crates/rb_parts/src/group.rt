@@ -1,43 +1,32 @@
 //! Groups by their bytes, and bytes that are those of no group.
-use rb_base::Group;
+use crate::patches::are_patches;
+use rb_base::BlockNo;
 use rb_group::{decode, encode};
 
 /// One patch of block 0: the byte 1 at 416.
 const ONE: &[u8; 11] = b"\0\x01\0\0\0\0\x01\xa0\0\x01\x01";
 
-#[test]
-fn one_patch(rt: HostRuntime) {
-    let mut group = Group::new();
-    group.push(0, 416, &[1]);
-    let mut bytes = [9; 2000];
-    assert_eq!(rt; encode(&group, &mut bytes), 11);
-    assert_eq!(rt; &bytes[..11], ONE.as_slice());
-    assert_eq!(rt; bytes[11], 9);
-    let Some(found) = decode(ONE) else {
-        panic!(rt; "one patch is a group");
+/// Whether these bytes are those of a group of these patches, and are written of it again, and nothing behind them.
+fn spells(bytes: &[u8], patches: &[(BlockNo, usize, &[u8])]) -> bool {
+    let Some(group) = decode(bytes) else {
+        return false;
     };
-    assert_eq!(rt; found.patches(), 1);
-    assert_eq!(rt; found.patch_block(0), 0);
-    assert_eq!(rt; found.patch_at(0), 416);
-    assert_eq!(rt; found.patch_bytes(0), [1].as_slice());
+    if group.patches() == 0 {
+        return false;
+    }
+    let mut again = [9; 2000];
+    let length = encode(&group, &mut again);
+    are_patches(&group, patches)
+        && length == bytes.len()
+        && again.starts_with(bytes)
+        && again.get(length).copied() == Some(9)
 }
 
 #[test]
-fn patches_in_order(rt: HostRuntime) {
-    let bytes = b"\0\x02\xff\xff\xff\xff\x07\xff\0\x01a\0\0\0\x02\0\x20\0\x03bcd";
-    let Some(group) = decode(bytes) else {
-        panic!(rt; "two patches are a group");
-    };
-    assert_eq!(rt; group.patches(), 2);
-    assert_eq!(rt; group.patch_block(0), u32::MAX);
-    assert_eq!(rt; group.patch_at(0), 2047);
-    assert_eq!(rt; group.patch_bytes(0), b"a".as_slice());
-    assert_eq!(rt; group.patch_block(1), 2);
-    assert_eq!(rt; group.patch_at(1), 32);
-    assert_eq!(rt; group.patch_bytes(1), b"bcd".as_slice());
-    let mut again = [0; 2000];
-    assert_eq!(rt; encode(&group, &mut again), 22);
-    assert_eq!(rt; &again[..22], bytes.as_slice());
+fn spelled_groups(rt: HostRuntime) {
+    assert!(rt; spells(ONE, &[(0, 416, &[1])]));
+    let two = b"\0\x02\xff\xff\xff\xff\x07\xff\0\x01a\0\0\0\x02\0\x20\0\x03bcd";
+    assert!(rt; spells(two, &[(u32::MAX, 2047, b"a"), (2, 32, b"bcd")]));
 }
 
 #[test]
@@ -60,7 +49,7 @@ fn groups_and_others(rt: HostRuntime) {
         (b"\0\x01\0\0\0\0\x01\xa0\0\x01", false),
     ];
     for (bytes, expected) in rows {
-        assert_eq!(rt; decode(bytes).is_some(), expected);
+        assert!(rt; decode(bytes).is_some() == expected, "{bytes:?}");
     }
 }
 

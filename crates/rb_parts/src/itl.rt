@@ -1,6 +1,7 @@
 //! Entries by their bytes, worked by hand.
+use crate::patches::are_patches;
 use rb_base::{Group, Uba, Xid};
-use rb_itl::{BOUND, EXACT, Entry, FREE, OPEN, entry, put_entry};
+use rb_itl::{BOUND, ENTRIES, EXACT, Entry, FREE, OPEN, entry, put_entry};
 
 /// Segment 2, slot 15, the 7th transaction there: open, with 3 records, the newest in block 0x01020304 at place 9.
 const OPEN_ENTRY: Entry = Entry {
@@ -106,28 +107,27 @@ const GREATEST_BYTES: [u8; 48] = [
     255, 255, 255, 255, 0, 0, 0, 0, //
 ];
 
+/// Whether an entry is written as these bytes, one patch at its place, and read of them.
+fn is_spelled(i: u8, value: &Entry, bytes: &[u8; 48]) -> bool {
+    if i >= ENTRIES {
+        return false;
+    }
+    let place = 32 + 48 * i as usize;
+    let mut group = Group::new();
+    put_entry(&mut group, 5, i, value);
+    let mut block = [9; 2048];
+    block[place..place + 48].copy_from_slice(bytes);
+    are_patches(&group, &[(5, place, bytes)]) && entry(&block, i) == *value
+}
+
 #[test]
 fn worked_entries(rt: HostRuntime) {
-    let rows = [
-        (0, Entry::default(), [0; 48]),
-        (1, OPEN_ENTRY, OPEN_BYTES),
-        (4, EXACT_ENTRY, EXACT_BYTES),
-        (6, BOUND_ENTRY, BOUND_BYTES),
-        (7, GREATEST_ENTRY, GREATEST_BYTES),
-    ];
-    for (i, value, bytes) in rows {
-        let place = 32 + 48 * i as usize;
-        let mut group = Group::new();
-        put_entry(&mut group, 5, i, &value);
-        assert_eq!(rt; group.patches(), 1);
-        assert_eq!(rt; group.patch_block(0), 5);
-        assert_eq!(rt; group.patch_at(0) as usize, place);
-        assert_eq!(rt; group.patch_bytes(0), bytes.as_slice());
-        let mut block = [9; 2048];
-        block[place..place + 48].copy_from_slice(&bytes);
-        assert_eq!(rt; entry(&block, i), value);
-    }
-    assert_eq!(rt; Entry::default().kind, FREE);
+    assert!(rt; is_spelled(0, &Entry::default(), &[0; 48]));
+    assert!(rt; is_spelled(1, &OPEN_ENTRY, &OPEN_BYTES));
+    assert!(rt; is_spelled(4, &EXACT_ENTRY, &EXACT_BYTES));
+    assert!(rt; is_spelled(6, &BOUND_ENTRY, &BOUND_BYTES));
+    assert!(rt; is_spelled(7, &GREATEST_ENTRY, &GREATEST_BYTES));
+    assert!(rt; Entry::default().kind == FREE);
 }
 
 #[test]
@@ -137,8 +137,8 @@ fn meaningless_bytes(rt: HostRuntime) {
     for at in [369, 370, 371, 398, 399, 412, 413, 414, 415] {
         block[at] = 1;
     }
-    assert_eq!(rt; entry(&block, 7), OPEN_ENTRY);
-    assert_eq!(rt; entry(&block, 6).number, 0x0909_0909_0909_0909);
+    assert!(rt; entry(&block, 7) == OPEN_ENTRY);
+    assert!(rt; entry(&block, 6).number == 0x0909_0909_0909_0909);
 }
 
 #[test]
@@ -147,12 +147,10 @@ fn entries_behind_others(rt: HostRuntime) {
     group.push(1, 416, &[1]);
     put_entry(&mut group, u32::MAX, 0, &OPEN_ENTRY);
     put_entry(&mut group, 0, 7, &EXACT_ENTRY);
-    assert_eq!(rt; group.patches(), 3);
-    assert_eq!(rt; group.patch_bytes(0), [1].as_slice());
-    assert_eq!(rt; group.patch_block(1), u32::MAX);
-    assert_eq!(rt; group.patch_at(1), 32);
-    assert_eq!(rt; group.patch_bytes(1), OPEN_BYTES.as_slice());
-    assert_eq!(rt; group.patch_block(2), 0);
-    assert_eq!(rt; group.patch_at(2), 368);
-    assert_eq!(rt; group.patch_bytes(2), EXACT_BYTES.as_slice());
+    let patches: [(u32, usize, &[u8]); 3] = [
+        (1, 416, &[1]),
+        (u32::MAX, 32, &OPEN_BYTES),
+        (0, 368, &EXACT_BYTES),
+    ];
+    assert!(rt; are_patches(&group, &patches));
 }

@@ -27,6 +27,8 @@ mod memdisk;
 #[cfg(test)]
 mod opening;
 #[cfg(test)]
+mod patches;
+#[cfg(test)]
 mod plainstore;
 #[cfg(test)]
 mod ring;
@@ -48,3 +50,5 @@ mod undo;
 mod undoblock;
 #[cfg(test)]
 mod waits;
+#[cfg(test)]
+mod writers;

@@ -169,8 +169,8 @@ fn unit_of_one_patch(rt: HostRuntime) -> Result<(), Fail> {
     let (disk, is_ok) = flush_of(&rt, 6, 1, 10)?;
     assert!(rt; is_ok);
     // Slot 6, which is the unit of number 7.
-    assert_eq!(rt; &disk.slots[12288..12315], UNIT_BYTES.as_slice());
-    assert_eq!(rt; &disk.slots[12315..14336], [0; 2021].as_slice());
+    assert!(rt; &disk.slots[12288..12315] == UNIT_BYTES.as_slice());
+    assert!(rt; &disk.slots[12315..14336] == [0; 2021].as_slice());
     Ok(())
 }
 
@@ -186,7 +186,7 @@ fn gates_of_a_run(rt: HostRuntime) -> Result<(), Fail> {
     let after = [(14336, 0), (14337, 9), (16382, 9), (16383, 9)];
     for row in [first, second, third, after] {
         for (place, expected) in row {
-            assert_eq!(rt; disk.slots.get(place).copied(), Some(expected));
+            assert!(rt; disk.slots.get(place).copied() == Some(expected));
         }
     }
     Ok(())
@@ -206,10 +206,10 @@ const TWO_RUNS: [Call; 6] = [
 fn two_runs_in_order(rt: HostRuntime) -> Result<(), Fail> {
     for fails_at in 0..7 {
         let (disk, is_ok) = flush_of(&rt, 3, 34, fails_at)?;
-        assert_eq!(rt; is_ok, fails_at == 6);
+        assert!(rt; is_ok == (fails_at == 6));
         let made = 6.min(fails_at + 1);
-        assert_eq!(rt; disk.count, made);
-        assert_eq!(rt; &disk.made[..made], &TWO_RUNS[..made]);
+        assert!(rt; disk.count == made);
+        assert!(rt; &disk.made[..made] == &TWO_RUNS[..made]);
     }
     Ok(())
 }
@@ -219,7 +219,7 @@ fn whole_runs_and_none(rt: HostRuntime) -> Result<(), Fail> {
     for (count, calls) in [(0, 0), (1, 4), (32, 4), (33, 6), (60, 6)] {
         let (disk, is_ok) = flush_of(&rt, 3, count, 10)?;
         assert!(rt; is_ok);
-        assert_eq!(rt; disk.count, calls);
+        assert!(rt; disk.count == calls);
     }
     Ok(())
 }

@@ -1,29 +1,38 @@
 //! Extents and the numbers of a ring by their bytes, and where the next record of a segment goes.
+use crate::patches::are_patches;
 use rb_base::Group;
 use rb_ring::{
-    Extent, Turn, extent_at, head_extent, head_records, lost, next, put_extent, put_head, put_lost,
-    put_writes, write_extent, write_head, write_lost, write_writes, writes,
+    EXTENTS, Extent, Turn, extent_at, head_extent, head_records, lost, next, put_extent, put_head,
+    put_lost, put_writes, write_extent, write_head, write_lost, write_writes, writes,
 };
+
+const EXTENT: Extent = Extent {
+    ord: 0x0102_0304_0506_0708,
+    newest: 0x090a_0b0c_0d0e_0f10,
+};
+
+const EXTENT_BYTES: &[u8; 16] = b"\x01\x02\x03\x04\x05\x06\x07\x08\x09\x0a\x0b\x0c\x0d\x0e\x0f\x10";
+
+/// Whether an extent is written as its bytes at a place, into a header and as one patch, and read of them.
+fn is_spelled(e: u8, place: usize) -> bool {
+    if e as usize >= EXTENTS || place > 2032 {
+        return false;
+    }
+    let mut expected = [9; 2048];
+    expected[place..place + 16].copy_from_slice(EXTENT_BYTES);
+    let mut header = [9; 2048];
+    write_extent(&mut header, e, &EXTENT);
+    let mut group = Group::new();
+    put_extent(&mut group, 10, e, &EXTENT);
+    header == expected
+        && extent_at(&header, e) == EXTENT
+        && are_patches(&group, &[(10, place, EXTENT_BYTES)])
+}
 
 #[test]
 fn worked_extents(rt: HostRuntime) {
-    let bytes = [1, 2, 3, 4, 5, 6, 7, 8, 9, 10, 11, 12, 13, 14, 15, 16];
-    let extent = Extent {
-        ord: 0x0102_0304_0506_0708,
-        newest: 0x090a_0b0c_0d0e_0f10,
-    };
     for (e, place) in [(0, 1056), (1, 1088), (6, 1248), (7, 1280)] {
-        let mut expected = [9; 2048];
-        expected[place..place + 16].copy_from_slice(&bytes);
-        let mut header = [9; 2048];
-        write_extent(&mut header, e, &extent);
-        assert!(rt; header == expected);
-        assert_eq!(rt; extent_at(&header, e), extent);
-        let mut group = Group::new();
-        put_extent(&mut group, 10, e, &extent);
-        assert_eq!(rt; group.patch_block(0), 10);
-        assert_eq!(rt; group.patch_at(0) as usize, place);
-        assert_eq!(rt; group.patch_bytes(0), bytes.as_slice());
+        assert!(rt; is_spelled(e, place), "extent {e}");
     }
 }
 
@@ -41,10 +50,9 @@ fn worked_numbers(rt: HostRuntime) {
     write_writes(&mut header, 0x0506_0708_090a_0b0c);
     write_lost(&mut header, 0x0d0e_0f10_1112_1314);
     assert!(rt; header == expected);
-    assert_eq!(rt; head_extent(&header), 0x0102);
-    assert_eq!(rt; head_records(&header), 0x0304);
-    assert_eq!(rt; writes(&header), 0x0506_0708_090a_0b0c);
-    assert_eq!(rt; lost(&header), 0x0d0e_0f10_1112_1314);
+    assert!(rt; head_extent(&header) == 0x0102 && head_records(&header) == 0x0304);
+    assert!(rt; writes(&header) == 0x0506_0708_090a_0b0c);
+    assert!(rt; lost(&header) == 0x0d0e_0f10_1112_1314);
 }
 
 #[test]
@@ -53,16 +61,12 @@ fn patches_of_numbers(rt: HostRuntime) {
     put_head(&mut group, 10, 0x0102, 0x0304);
     put_writes(&mut group, 11, 5);
     put_lost(&mut group, 12, 6);
-    let rows: [(u32, u32, u16, &[u8]); 3] = [
-        (0, 10, 1312, &[1, 2, 3, 4]),
-        (1, 11, 1320, &[0, 0, 0, 0, 0, 0, 0, 5]),
-        (2, 12, 1328, &[0, 0, 0, 0, 0, 0, 0, 6]),
+    let patches: [(u32, usize, &[u8]); 3] = [
+        (10, 1312, &[1, 2, 3, 4]),
+        (11, 1320, &[0, 0, 0, 0, 0, 0, 0, 5]),
+        (12, 1328, &[0, 0, 0, 0, 0, 0, 0, 6]),
     ];
-    for (p, block, at, bytes) in rows {
-        assert_eq!(rt; group.patch_block(p), block);
-        assert_eq!(rt; group.patch_at(p), at);
-        assert_eq!(rt; group.patch_bytes(p), bytes);
-    }
+    assert!(rt; are_patches(&group, &patches));
 }
 
 // A transaction of table slot 0 began in turn 1, that of extent 1, and runs or not, by its state.
@@ -87,6 +91,6 @@ fn turns(rt: HostRuntime) {
             header[byte] = more;
         }
         write_head(&mut header, 0, records);
-        assert_eq!(rt; next(&header), expected);
+        assert!(rt; next(&header) == expected, "{records} records");
     }
 }

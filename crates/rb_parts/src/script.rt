@@ -3,183 +3,214 @@ use arrayvec::ArrayVec;
 use rb_model::{Op, Refusal};
 use rb_script::{Command, Reply, parse, print};
 
+// Each line is a bad one.
+const BAD_LINES: &[u8] = b"\
+fetch 1 c 0
+fetch 1 c 00
+fetch 1 c 01
+fetch 1 c 1000001
+open 1 C 1 0 9
+open 1 c 1 0
+open 1 c 1 0\x20
+open 1 abcdefghijklmnopq 1 0 9
+open 1  1 0 9
+insert 1 1 1\x20
+insert 1 1 1
+insert 1 1 1 a\x20
+insert 1 1 1 a b
+insert 1  1 1 a
+insert 1\t1 1 a
+insert 1 1 1 a\x80
+insert 1 1 18446744073709551616 a
+insert 01 1 1 a
+INSERT 1 1 1 a
+insert
+inserts 1 1 1 a
+update 1 1 1
+update 1 1 1\x20
+update 1  1 1 a
+update 1 1 1  a
+delete 1 1
+delete 1 1\x20
+delete 1 1  1
+delete 1 1 1 x
+delete 1 1 1\x20
+\x20commit 1
+commit
+commit\x20
+commit 1\x20
+commit 1 1
+commit +1
+commit -1
+close 1
+close 1\x20
+close 1 C
+close 1 c\x20
+close 65536 c
+commit 65536
+lock 1 1
+lock 1 1\x20
+lock 1 1 01
+lock 1 1 1 a
+locks 1 1 1
+savepoint
+savepoint 1
+savepoint 1\x20
+savepoint 1 A
+savepoint 1 a\x20
+savepoint 1 abcdefghijklmnopq
+savepoint 65536 a
+rollback
+rollback 1\x20
+rollback 1 A
+rollback 1 a b
+rollback 1  a
+rollback 1 abcdefghijklmnopq
+rollback 65536 a
+cancel
+cancel\x20
+cancel 01
+cancel 1\x20
+cancel 1 1
+cancel 65536
+cancels 1
+marks\x20
+marks 0
+checkpoint 1
+\x20
+";
+
 #[test]
 fn lines_that_spell_no_command(rt: HostRuntime) {
-    let lines: [&[u8]; 73] = [
-        b"fetch 1 c 0",
-        b"fetch 1 c 00",
-        b"fetch 1 c 01",
-        b"fetch 1 c 1000001",
-        b"open 1 C 1 0 9",
-        b"open 1 c 1 0",
-        b"open 1 c 1 0 ",
-        b"open 1 abcdefghijklmnopq 1 0 9",
-        b"open 1  1 0 9",
-        b"insert 1 1 1 ",
-        b"insert 1 1 1",
-        b"insert 1 1 1 a ",
-        b"insert 1 1 1 a b",
-        b"insert 1  1 1 a",
-        b"insert 1\t1 1 a",
-        b"insert 1 1 1 a\x80",
-        b"insert 1 1 18446744073709551616 a",
-        b"insert 01 1 1 a",
-        b"INSERT 1 1 1 a",
-        b"insert",
-        b"inserts 1 1 1 a",
-        b"update 1 1 1",
-        b"update 1 1 1 ",
-        b"update 1  1 1 a",
-        b"update 1 1 1  a",
-        b"delete 1 1",
-        b"delete 1 1 ",
-        b"delete 1 1  1",
-        b"delete 1 1 1 x",
-        b"delete 1 1 1 ",
-        b" commit 1",
-        b"commit",
-        b"commit ",
-        b"commit 1 ",
-        b"commit 1 1",
-        b"commit +1",
-        b"commit -1",
-        b"close 1",
-        b"close 1 ",
-        b"close 1 C",
-        b"close 1 c ",
-        b"close 65536 c",
-        b"commit 65536",
-        b"lock 1 1",
-        b"lock 1 1 ",
-        b"lock 1 1 01",
-        b"lock 1 1 1 a",
-        b"locks 1 1 1",
-        b"savepoint",
-        b"savepoint 1",
-        b"savepoint 1 ",
-        b"savepoint 1 A",
-        b"savepoint 1 a ",
-        b"savepoint 1 abcdefghijklmnopq",
-        b"savepoint 65536 a",
-        b"rollback",
-        b"rollback 1 ",
-        b"rollback 1 A",
-        b"rollback 1 a b",
-        b"rollback 1  a",
-        b"rollback 1 abcdefghijklmnopq",
-        b"rollback 65536 a",
-        b"cancel",
-        b"cancel ",
-        b"cancel 01",
-        b"cancel 1 ",
-        b"cancel 1 1",
-        b"cancel 65536",
-        b"cancels 1",
-        b"marks ",
-        b"marks 0",
-        b"checkpoint 1",
-        b" ",
-    ];
-    for line in lines {
-        assert!(rt; parse(line).is_none());
+    for line in BAD_LINES.split_inclusive(|byte| *byte == b'\n') {
+        let line = line.strip_suffix(b"\n").unwrap_or(line);
+        assert!(rt; parse(line).is_none(), "{line:?}");
+    }
+}
+
+/// A letter for a command, and its numbers in the order of the line.
+fn numbers_of(command: &Command<'_>) -> (u8, [u64; 4]) {
+    match command {
+        Command::Write { s, t, k, op } => {
+            let letter = match op {
+                Op::Insert(_) => b'i',
+                Op::Update(_) => b'u',
+                Op::Delete => b'd',
+            };
+            (letter, [u64::from(*s), u64::from(*t), *k, 0])
+        }
+        Command::Lock { s, t, k } => (b'l', [u64::from(*s), u64::from(*t), *k, 0]),
+        Command::Commit { s } => (b'c', [u64::from(*s), 0, 0, 0]),
+        Command::Rollback { s } => (b'r', [u64::from(*s), 0, 0, 0]),
+        Command::Savepoint { s, .. } => (b's', [u64::from(*s), 0, 0, 0]),
+        Command::RollbackTo { s, .. } => (b't', [u64::from(*s), 0, 0, 0]),
+        Command::OpenCursor { s, t, lo, hi, .. } => {
+            (b'o', [u64::from(*s), u64::from(*t), *lo, *hi])
+        }
+        Command::Fetch { s, n, .. } => (b'f', [u64::from(*s), u64::from(*n), 0, 0]),
+        Command::CloseCursor { s, .. } => (b'x', [u64::from(*s), 0, 0, 0]),
+        Command::Cancel { s } => (b'n', [u64::from(*s), 0, 0, 0]),
+        Command::Marks => (b'm', [0; 4]),
+        Command::Checkpoint => (b'p', [0; 4]),
+    }
+}
+
+/// Whether a command has this value or name, or none where that is empty.
+fn has_text(command: &Command<'_>, text: &[u8]) -> bool {
+    match command {
+        Command::Write { op, .. } => match op {
+            Op::Insert(value) | Op::Update(value) => *value == text,
+            Op::Delete => text.is_empty(),
+        },
+        Command::Savepoint { name, .. }
+        | Command::RollbackTo { name, .. }
+        | Command::OpenCursor { name, .. }
+        | Command::Fetch { name, .. }
+        | Command::CloseCursor { name, .. } => name.as_bytes() == text,
+        _ => text.is_empty(),
+    }
+}
+
+/// Whether a line spells the command of this letter, with these numbers and this value or name.
+fn spells(line: &[u8], letter: u8, numbers: [u64; 4], text: &[u8]) -> bool {
+    match parse(line) {
+        Some(command) => numbers_of(&command) == (letter, numbers) && has_text(&command, text),
+        None => false,
     }
 }
 
 #[test]
 fn lines_that_spell_a_command(rt: HostRuntime) {
-    assert!(rt;
-        matches!(
-            parse(b"insert 1 2 18446744073709551615 #!"),
-            Some(Command::Write {
-                s: 1,
-                t: 2,
-                k: 18446744073709551615,
-                op: Op::Insert(b"#!")
-            })
-        )
-    );
-    assert!(rt;
-        matches!(
-            parse(b"update 65535 2 0 ~"),
-            Some(Command::Write {
-                s: 65535,
-                t: 2,
-                k: 0,
-                op: Op::Update(b"~")
-            })
-        )
-    );
-    assert!(rt;
-        matches!(
-            parse(b"delete 1 2 18446744073709551615"),
-            Some(Command::Write {
-                s: 1,
-                t: 2,
-                k: 18446744073709551615,
-                op: Op::Delete
-            })
-        )
-    );
-    assert!(rt;
-        matches!(
-            parse(b"lock 1 2 18446744073709551615"),
-            Some(Command::Lock {
-                s: 1,
-                t: 2,
-                k: 18446744073709551615
-            })
-        )
-    );
-    assert!(rt; matches!(parse(b"commit 65535"), Some(Command::Commit { s: 65535 })));
-    assert!(rt;
-        matches!(
-            parse(b"rollback 65535"),
-            Some(Command::Rollback { s: 65535 })
-        )
-    );
-    let set = parse(b"savepoint 65535 abcdefghijklmnop");
-    assert!(rt; matches!(&set, Some(Command::Savepoint { s: 65535, .. })));
-    let back = parse(b"rollback 0 1");
-    assert!(rt; matches!(&back, Some(Command::RollbackTo { s: 0, .. })));
-    assert!(rt; matches!(parse(b"cancel 65535"), Some(Command::Cancel { s: 65535 })));
-    assert!(rt; matches!(parse(b"marks"), Some(Command::Marks)));
-    assert!(rt; matches!(parse(b"checkpoint"), Some(Command::Checkpoint)));
-    let opened = parse(b"open 1 _0 65535 9 0");
-    assert!(rt;
-        matches!(
-            &opened,
-            Some(Command::OpenCursor {
-                s: 1,
-                t: 65535,
-                lo: 9,
-                hi: 0,
-                ..
-            })
-        )
-    );
-    let fetched = parse(b"fetch 0 abcdefghijklmnop 1000000");
-    assert!(rt;
-        matches!(
-            &fetched,
-            Some(Command::Fetch {
-                s: 0,
-                n: 1_000_000,
-                ..
-            })
-        )
-    );
+    let rows: [(&[u8], u8, [u64; 4], &[u8]); 14] = [
+        (
+            b"insert 1 2 18446744073709551615 #!",
+            b'i',
+            [1, 2, u64::MAX, 0],
+            b"#!",
+        ),
+        (b"update 65535 2 0 ~", b'u', [65535, 2, 0, 0], b"~"),
+        (
+            b"delete 1 2 18446744073709551615",
+            b'd',
+            [1, 2, u64::MAX, 0],
+            b"",
+        ),
+        (
+            b"lock 1 2 18446744073709551615",
+            b'l',
+            [1, 2, u64::MAX, 0],
+            b"",
+        ),
+        (b"commit 65535", b'c', [65535, 0, 0, 0], b""),
+        (b"rollback 65535", b'r', [65535, 0, 0, 0], b""),
+        (
+            b"savepoint 65535 abcdefghijklmnop",
+            b's',
+            [65535, 0, 0, 0],
+            b"abcdefghijklmnop",
+        ),
+        (b"rollback 0 1", b't', [0, 0, 0, 0], b"1"),
+        (b"cancel 65535", b'n', [65535, 0, 0, 0], b""),
+        (b"marks", b'm', [0, 0, 0, 0], b""),
+        (b"checkpoint", b'p', [0, 0, 0, 0], b""),
+        (b"open 1 _0 65535 9 0", b'o', [1, 65535, 9, 0], b"_0"),
+        (
+            b"fetch 0 abcdefghijklmnop 1000000",
+            b'f',
+            [0, 1_000_000, 0, 0],
+            b"abcdefghijklmnop",
+        ),
+        (b"close 1 c", b'x', [1, 0, 0, 0], b"c"),
+    ];
+    for (line, letter, numbers, text) in rows {
+        assert!(rt; spells(line, letter, numbers, text), "{line:?}");
+    }
+}
+
+/// Whether a reply is written so.
+fn prints(reply: &Reply<'_>, text: &[u8]) -> bool {
+    if let Reply::Row { value, .. } = reply {
+        if value.len() > 80 {
+            return false;
+        }
+    }
+    let mut line = ArrayVec::new();
+    print(reply, &mut line);
+    line.as_slice() == text
 }
 
 #[test]
 fn texts_of_replies(rt: HostRuntime) {
     let value = [b'~'; 80];
-    let replies: [(Reply, &[u8]); 20] = [
+    let longest =
+        b"1 row 1 ~~~~~~~~~~~~~~~~~~~~~~~~~~~~~~~~~~~~~~~~~~~~~~~~~~~~~~~~~~~~~~~~~~~~~~~~~~~~~~~~\n";
+    let rows: [(Reply<'_>, &[u8]); 9] = [
         (Reply::Done { s: Some(1) }, b"1 ok\n"),
         (Reply::Done { s: None }, b"ok\n"),
         (
             Reply::Committed {
                 s: 65535,
-                number: 18446744073709551615,
+                number: u64::MAX,
             },
             b"65535 committed 18446744073709551615\n",
         ),
@@ -197,103 +228,52 @@ fn texts_of_replies(rt: HostRuntime) {
                 key: 1,
                 value: value.as_slice(),
             },
-            b"1 row 1 ~~~~~~~~~~~~~~~~~~~~~~~~~~~~~~~~~~~~~~~~~~~~~~~~~~~~~~~~~~~~~~~~~~~~~~~~~~~~~~~~\n",
+            longest,
         ),
         (Reply::End { s: 0 }, b"0 end\n"),
         (Reply::Waits { s: 2, on: 10 }, b"2 waits 10\n"),
         (
-            Reply::Refused {
-                s: Some(2),
-                why: Refusal::Deadlock { on: 10 },
-            },
-            b"2 deadlock 10\n",
-        ),
-        (
-            Reply::Refused {
-                s: Some(1),
-                why: Refusal::Waiting,
-            },
-            b"1 waiting\n",
-        ),
-        (
-            Reply::Refused {
-                s: Some(65535),
-                why: Refusal::NotWaiting,
-            },
-            b"65535 not waiting\n",
-        ),
-        (
-            Reply::Refused {
-                s: Some(1),
-                why: Refusal::TooManyCursors,
-            },
-            b"1 too many cursors\n",
-        ),
-        (
-            Reply::Refused {
-                s: Some(1),
-                why: Refusal::NoSavepoint,
-            },
-            b"1 no savepoint\n",
-        ),
-        (
-            Reply::Refused {
-                s: Some(65535),
-                why: Refusal::TooManySavepoints,
-            },
-            b"65535 too many savepoints\n",
-        ),
-        (
-            Reply::Refused {
-                s: Some(1),
-                why: Refusal::NotFound,
-            },
-            b"1 not found\n",
-        ),
-        (
-            Reply::Refused {
-                s: Some(1),
-                why: Refusal::BlockFull,
-            },
-            b"1 block full\n",
-        ),
-        (
-            Reply::Refused {
-                s: Some(1),
-                why: Refusal::WornOut,
-            },
-            b"1 worn out\n",
-        ),
-        (
-            Reply::Refused {
-                s: Some(65535),
-                why: Refusal::RollbackFull {
-                    seg: 15,
-                    since: 320,
-                },
-            },
-            b"65535 rollback full 15 320\n",
-        ),
-        (
-            Reply::Refused {
-                s: None,
-                why: Refusal::DiskFault,
-            },
-            b"disk fault\n",
-        ),
-        (
             Reply::Marks {
                 seg: 15,
-                writes: 18446744073709551615,
+                writes: u64::MAX,
                 lost: 0,
             },
             b"segment 15 writes 18446744073709551615 lost 0\n",
         ),
         (Reply::BadLine, b"bad line\n"),
     ];
-    for (reply, text) in replies {
-        let mut line = ArrayVec::new();
-        print(&reply, &mut line);
-        assert_eq!(rt; line.as_slice(), text);
+    for (reply, text) in &rows {
+        assert!(rt; prints(reply, text), "{reply:?}");
+    }
+}
+
+#[test]
+fn texts_of_refusals(rt: HostRuntime) {
+    let rows: [(Option<u16>, Refusal, &[u8]); 11] = [
+        (Some(2), Refusal::Deadlock { on: 10 }, b"2 deadlock 10\n"),
+        (Some(1), Refusal::Waiting, b"1 waiting\n"),
+        (Some(65535), Refusal::NotWaiting, b"65535 not waiting\n"),
+        (Some(1), Refusal::TooManyCursors, b"1 too many cursors\n"),
+        (Some(1), Refusal::NoSavepoint, b"1 no savepoint\n"),
+        (
+            Some(65535),
+            Refusal::TooManySavepoints,
+            b"65535 too many savepoints\n",
+        ),
+        (Some(1), Refusal::NotFound, b"1 not found\n"),
+        (Some(1), Refusal::BlockFull, b"1 block full\n"),
+        (Some(1), Refusal::WornOut, b"1 worn out\n"),
+        (
+            Some(65535),
+            Refusal::RollbackFull {
+                seg: 15,
+                since: 320,
+            },
+            b"65535 rollback full 15 320\n",
+        ),
+        (None, Refusal::DiskFault, b"disk fault\n"),
+    ];
+    for (s, why, text) in rows {
+        assert!(rt; prints(&Reply::Refused { s, why }, text), "{why:?}");
     }
 }

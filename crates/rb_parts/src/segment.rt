@@ -172,7 +172,7 @@ fn undo_ring_reuse(rt: HostRuntime) {
     ];
     let mut header = fresh();
     for (first, behind, told) in rows {
-        assert_eq!(rt; one_each(&rt, &mut header, first, behind), told);
+        assert!(rt; one_each(&rt, &mut header, first, behind) == told);
     }
 }
 
@@ -188,9 +188,9 @@ fn turns_of_extents(rt: HostRuntime) {
     ];
     let mut header = fresh();
     for (records, scn, told, head, in_head) in rows {
-        assert_eq!(rt; transaction(&rt, &mut header, records, scn), told);
-        assert_eq!(rt; head_extent(&header), head);
-        assert_eq!(rt; head_records(&header), in_head);
+        assert!(rt; transaction(&rt, &mut header, records, scn) == told);
+        assert!(rt; head_extent(&header) == head);
+        assert!(rt; head_records(&header) == in_head);
     }
 }
 
@@ -209,14 +209,14 @@ fn grown_to_eight(rt: HostRuntime) {
     let xid = begin(&rt, &mut header);
     assert!(rt; add(&rt, &mut header, xid).is_ok());
     for (first, behind, told, head, in_head) in rows {
-        assert_eq!(rt; one_each(&rt, &mut header, first, behind), told);
-        assert_eq!(rt; head_extent(&header), head);
-        assert_eq!(rt; head_records(&header), in_head);
+        assert!(rt; one_each(&rt, &mut header, first, behind) == told);
+        assert!(rt; head_extent(&header) == head);
+        assert!(rt; head_records(&header) == in_head);
     }
     // It commits at last, and extent 0 gives up that number.
     finish(&rt, &mut header, xid, 320);
-    assert_eq!(rt; transaction(&rt, &mut header, 1, 321), (321, 320));
-    assert_eq!(rt; head_extent(&header), 0);
+    assert!(rt; transaction(&rt, &mut header, 1, 321) == (321, 320));
+    assert!(rt; head_extent(&header) == 0);
 }
 
 // A transaction begins at number `next` and makes one record; others follow until `made` records were made.
@@ -228,11 +228,11 @@ fn rollback_full(rt: HostRuntime) {
         one_each(&rt, &mut header, 1, next);
         let xid = begin(&rt, &mut header);
         assert!(rt; add(&rt, &mut header, xid).is_ok());
-        assert_eq!(rt; one_each(&rt, &mut header, next, made).0, made);
-        assert_eq!(rt; add(&rt, &mut header, xid), Err(full));
+        assert!(rt; one_each(&rt, &mut header, next, made).0 == made);
+        assert!(rt; add(&rt, &mut header, xid) == Err(full));
         // So it is for each transaction.
         let other = begin(&rt, &mut header);
-        assert_eq!(rt; add(&rt, &mut header, other), Err(full));
+        assert!(rt; add(&rt, &mut header, other) == Err(full));
     }
 }
 
@@ -253,17 +253,17 @@ fn record_put_back(rt: HostRuntime) {
     let mut header = fresh();
     one_each(&rt, &mut header, 1, 40);
     let xid = begin(&rt, &mut header);
-    assert_eq!(rt; add(&rt, &mut header, xid), Ok(LAST_OF_HEAD));
-    assert_eq!(rt; add(&rt, &mut header, xid), Ok(FIRST_OF_NEXT));
+    assert!(rt; add(&rt, &mut header, xid) == Ok(LAST_OF_HEAD));
+    assert!(rt; add(&rt, &mut header, xid) == Ok(FIRST_OF_NEXT));
     put_back(&rt, &mut header, xid, LAST_OF_HEAD);
-    assert_eq!(rt; writes(&header), 41);
-    assert_eq!(rt; head_records(&header), 1);
-    assert_eq!(rt; live_of(&header, xid), Some(1));
+    assert!(rt; writes(&header) == 41);
+    assert!(rt; head_records(&header) == 1);
+    assert!(rt; live_of(&header, xid) == Some(1));
     // Both extents have its number, also the one of the record that was put back.
     finish(&rt, &mut header, xid, 100);
     let extents = [(0, 2, 100), (1, 3, 100), (2, 0, 0)];
     for (e, ord, newest) in extents {
-        assert_eq!(rt; extent_at(&header, e), Extent { ord, newest });
+        assert!(rt; extent_at(&header, e) == Extent { ord, newest });
     }
 }
 
@@ -272,9 +272,9 @@ fn record_put_back(rt: HostRuntime) {
 fn ended_slot(rt: HostRuntime) {
     let mut header = fresh();
     one_each(&rt, &mut header, 1, 17);
-    assert_eq!(rt; lost(&header), 0);
+    assert!(rt; lost(&header) == 0);
     let xid = begin(&rt, &mut header);
-    assert_eq!(rt; lost(&header), 1);
+    assert!(rt; lost(&header) == 1);
     leave(&rt, &mut header, xid);
     let ended = TableSlot {
         state: ENDED,
@@ -285,8 +285,8 @@ fn ended_slot(rt: HostRuntime) {
         start: 16,
         ..TableSlot::default()
     };
-    assert_eq!(rt; slot_at(&header, 0), ended);
+    assert!(rt; slot_at(&header, 0) == ended);
     let again = begin(&rt, &mut header);
-    assert_eq!(rt; (again.slot, again.wrap), (0, 3));
-    assert_eq!(rt; lost(&header), 1);
+    assert!(rt; (again.slot, again.wrap) == (0, 3));
+    assert!(rt; lost(&header) == 1);
 }

@@ -88,18 +88,15 @@ fn session(own: Option<Xid>, length: u32, cursors: u8) -> Session {
 fn one_rolls_back(rt: HostRuntime) -> Result<(), Fail> {
     let (early, late) = (name(b"early")?, name(b"late")?);
     let mut table = written(&early, &late)?;
-    assert_eq!(rt; table.session(1), session(Some(FIRST), 1, 2));
-    assert_eq!(rt;
-        (table.owner(FIRST), table.owner(LAST)),
-        (Some(1), Some(16))
-    );
+    assert!(rt; table.session(1) == session(Some(FIRST), 1, 2));
+    assert!(rt; (table.owner(FIRST), table.owner(LAST)) == (Some(1), Some(16)));
     table.rollback(1);
-    assert_eq!(rt; table.session(1), session(None, 0, 1));
-    assert_eq!(rt; table.cursor(1, &early), Some(passed(seeing(None, 0))));
-    assert_eq!(rt; table.cursor(1, &late), None);
-    assert_eq!(rt; table.session(16), session(Some(LAST), 2, 1));
-    assert_eq!(rt; table.cursor(16, &late), Some(seeing(Some(LAST), 2)));
-    assert_eq!(rt; (table.owner(FIRST), table.owner(LAST)), (None, Some(16)));
+    assert!(rt; table.session(1) == session(None, 0, 1));
+    assert!(rt; table.cursor(1, &early) == Some(passed(seeing(None, 0))));
+    assert!(rt; table.cursor(1, &late) == None);
+    assert!(rt; table.session(16) == session(Some(LAST), 2, 1));
+    assert!(rt; table.cursor(16, &late) == Some(seeing(Some(LAST), 2)));
+    assert!(rt; (table.owner(FIRST), table.owner(LAST)) == (None, Some(16)));
     Ok(())
 }
 
@@ -113,16 +110,16 @@ fn one_commits(rt: HostRuntime) -> Result<(), Fail> {
         last: Some(7),
         ..seeing(Some(FIRST), 1)
     };
-    assert_eq!(rt; table.session(1), session(None, 0, 2));
-    assert_eq!(rt; table.cursor(1, &late), Some(passed(given)));
-    assert_eq!(rt; table.cursor(1, &early), Some(passed(seeing(None, 0))));
-    assert_eq!(rt; table.cursor(16, &late), Some(seeing(Some(LAST), 2)));
+    assert!(rt; table.session(1) == session(None, 0, 2));
+    assert!(rt; table.cursor(1, &late) == Some(passed(given)));
+    assert!(rt; table.cursor(1, &early) == Some(passed(seeing(None, 0))));
+    assert!(rt; table.cursor(16, &late) == Some(seeing(Some(LAST), 2)));
     table.wrote(1, LAST);
     table.rollback(1);
-    assert_eq!(rt; table.session(1), session(None, 0, 2));
+    assert!(rt; table.session(1) == session(None, 0, 2));
     table.close_cursor(1, &early);
-    assert_eq!(rt; table.cursor(1, &early), None);
-    assert_eq!(rt; table.cursor(1, &late), Some(passed(given)));
+    assert!(rt; table.cursor(1, &early) == None);
+    assert!(rt; table.cursor(1, &late) == Some(passed(given)));
     Ok(())
 }
 
@@ -155,34 +152,25 @@ fn one_rolls_back_to_a_savepoint(rt: HostRuntime) -> Result<(), Fail> {
         savepoints,
         ..session(Some(FIRST), length, cursors)
     };
-    assert_eq!(rt; table.session(1), marked(3, 2, 2));
-    assert_eq!(rt;
-        (table.savepoint(1, &early), table.savepoint(1, &late)),
-        (Some(0), Some(1))
-    );
+    assert!(rt; table.session(1) == marked(3, 2, 2));
+    assert!(rt; (table.savepoint(1, &early), table.savepoint(1, &late)) == (Some(0), Some(1)));
     table.rollback_to(1, &late);
-    assert_eq!(rt; table.session(1), marked(1, 2, 1));
-    assert_eq!(rt; table.cursor(1, &early), Some(seeing(Some(FIRST), 1)));
-    assert_eq!(rt; table.cursor(1, &late), None);
+    assert!(rt; table.session(1) == marked(1, 2, 1));
+    assert!(rt; table.cursor(1, &early) == Some(seeing(Some(FIRST), 1)));
+    assert!(rt; table.cursor(1, &late) == None);
     // Set again, the early one is the later of both.
     table.wrote(1, FIRST);
     set(&mut table, 1, &early)?;
-    assert_eq!(rt;
-        (table.session(1), table.savepoint(1, &early)),
-        (marked(2, 2, 1), Some(2))
-    );
+    assert!(rt; (table.session(1), table.savepoint(1, &early)) == (marked(2, 2, 1), Some(2)));
     table.rollback_to(1, &late);
-    assert_eq!(rt;
-        (table.session(1), table.savepoint(1, &early)),
-        (marked(1, 1, 1), None)
-    );
+    assert!(rt; (table.session(1), table.savepoint(1, &early)) == (marked(1, 1, 1), None));
     // A name that isn't set changes nothing.
     table.rollback_to(1, &early);
-    assert_eq!(rt; table.session(1), marked(1, 1, 1));
-    assert_eq!(rt; table.owner(FIRST), Some(1));
+    assert!(rt; table.session(1) == marked(1, 1, 1));
+    assert!(rt; table.owner(FIRST) == Some(1));
     table.commit(1);
-    assert_eq!(rt; table.session(1), session(None, 0, 1));
-    assert_eq!(rt; table.savepoint(16, &late), Some(1));
+    assert!(rt; table.session(1) == session(None, 0, 1));
+    assert!(rt; table.savepoint(16, &late) == Some(1));
     Ok(())
 }
 
@@ -198,11 +186,11 @@ fn nothing_is_left_but_the_transaction(rt: HostRuntime) -> Result<(), Fail> {
         savepoints: 1,
         ..session(Some(FIRST), 0, 0)
     };
-    assert_eq!(rt; table.session(1), left);
-    assert_eq!(rt; table.owner(FIRST), Some(1));
+    assert!(rt; table.session(1) == left);
+    assert!(rt; table.owner(FIRST) == Some(1));
     table.rollback(1);
-    assert_eq!(rt; table.session(1), session(None, 0, 0));
-    assert_eq!(rt; table.savepoint(1, &first), None);
+    assert!(rt; table.session(1) == session(None, 0, 0));
+    assert!(rt; table.savepoint(1, &first) == None);
     Ok(())
 }
 
@@ -218,16 +206,16 @@ fn writes_are_kept(rt: HostRuntime) -> Result<(), Fail> {
     let (Some(first), Some(last)) = (table.held(1), table.held(16)) else {
         return Err(Fail::new("no write"));
     };
-    assert_eq!(rt; (first.table, first.key), (2, 7));
+    assert!(rt; (first.table, first.key) == (2, 7));
     assert!(rt; matches!(first.op(), Some(Op::Insert(b"ab"))));
-    assert_eq!(rt; (last.table, last.key), (1, 9));
+    assert!(rt; (last.table, last.key) == (1, 9));
     assert!(rt; matches!(last.op(), Some(Op::Update(b""))));
     table.hold(16, Pending::new(2, 18446744073709551615, None));
     let (Some(next), Some(last)) = (table.held(15), table.held(16)) else {
         return Err(Fail::new("no write"));
     };
     assert!(rt; matches!(next.op(), Some(Op::Delete)));
-    assert_eq!(rt; (last.table, last.key), (2, 18446744073709551615));
+    assert!(rt; (last.table, last.key) == (2, 18446744073709551615));
     assert!(rt; last.op().is_none() && table.held(2).is_none());
     Ok(())
 }

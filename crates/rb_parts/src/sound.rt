@@ -1,10 +1,9 @@
 //! Headers and blocks of rows by their bytes, written by hand, each with one byte changed; and the blocks of a store.
-ghost use Rattle.std.specs.Prelude.{◌≡◌, ◌≤◌, ◌<◌, false, OnOk};
-
 use rb_base::{BlockNo, Failed, Group, Shape, Store};
 use rb_plainstore::PlainStore;
 use rb_segment::commit_scn_of;
 use rb_sound::{Limits, blocks_sound, home_sound, segment_sound};
+use std::alloc::Global;
 use std::test::Fail;
 
 pub(crate) const SHAPE: Shape = Shape {
@@ -90,7 +89,7 @@ fn changed_headers(rt: HostRuntime) {
         let mut changed = header();
         assert!(rt; at < 2048);
         changed[at] = byte;
-        assert_eq!(rt; segment_sound(&changed, 7), sound, "at {at}");
+        assert!(rt; segment_sound(&changed, 7) == sound, "at {at}");
     }
 }
 
@@ -131,29 +130,23 @@ fn changed_rows(rt: HostRuntime) {
         let mut changed = rows();
         assert!(rt; at < 2048);
         changed[at] = byte;
-        assert_eq!(rt; home_sound(&changed, 3, &limits), sound, "at {at}");
+        assert!(rt; home_sound(&changed, 3, &limits) == sound, "at {at}");
     }
     assert!(rt; !home_sound(&rows(), 4, &limits));
     assert!(rt; home_sound(&[0; 2048], 4, &limits));
 }
 
 /// Whether the blocks of a store are in order, and their commit number.
-fn state_of<S: Store>(store: &mut S) -> Result<(bool, u64), Failed>
-    requires { S.failed store.old ≡ false }
-{
+fn state_of(store: &mut PlainStore) -> Result<(bool, u64), Failed> {
     let sound = blocks_sound(store)?;
     Ok((sound, commit_scn_of(store)?))
 }
 
 /// Patches one byte of a block. It answers Failed where the store can't take that.
-pub(crate) fn patch<S: Store>(store: &mut S, no: BlockNo, at: u16, byte: u8) -> Result<(), Failed>
-    requires going { S.failed store.old ≡ false }
-    requires within { (32 ≤ at) × (at < 2048) }
-    ensures going { OnOk result (S.failed store.new ≡ false) }
-{
-    let shape = store.shape();
-    let count = u32::from(shape.tables) * shape.blocks + 33 * u32::from(shape.segments);
-    if no >= count || store.room() < 1 || store.logged() > 1_000_000 {
+pub(crate) fn patch(store: &mut PlainStore, no: BlockNo, at: u16, byte: u8) -> Result<(), Failed> {
+    let count = store.shape().block_count();
+    let within = no < count && at >= 32 && at < 2048;
+    if !within || store.room() < 1 || store.logged() > 1_000_000 {
         return Err(Failed);
     }
     let mut group = Group::new();
@@ -166,20 +159,17 @@ pub(crate) fn patch<S: Store>(store: &mut S, no: BlockNo, at: u16, byte: u8) -> 
 #[test]
 fn blocks_of_a_store(rt: HostRuntime) -> Result<(), Fail> {
     let mut store = PlainStore::new(rt.alloc(), SHAPE)?;
-    assert_eq!(rt; state_of(&mut store)?, (true, 0));
+    assert!(rt; state_of(&mut store) == Ok((true, 0)));
     patch(&mut store, 43, 55, 9)?;
-    assert_eq!(rt; state_of(&mut store)?, (true, 9));
+    assert!(rt; state_of(&mut store) == Ok((true, 9)));
     patch(&mut store, 9, 416, 3)?;
-    assert_eq!(rt; state_of(&mut store)?, (false, 9));
+    assert!(rt; state_of(&mut store) == Ok((false, 9)));
     Ok(())
 }
 
 /// A new file in which slot 15 of segment 1 runs, with two live records in the head: block 44 has them, block 43 is the
 /// header.
-pub(crate) fn running<S: Store>(store: &mut S) -> Result<(), Failed>
-    requires { S.failed store.old ≡ false }
-    ensures { OnOk result (S.failed store.new ≡ false) }
-{
+pub(crate) fn running(store: &mut PlainStore) -> Result<(), Failed> {
     let bytes: [(BlockNo, u16, u8); 17] = [
         (43, 992, 1), // the slot: it is Active,
         (43, 999, 2), // has two live records,
@@ -200,12 +190,20 @@ pub(crate) fn running<S: Store>(store: &mut S) -> Result<(), Failed>
         (44, 271, 2), // in turn 2
     ];
     for (no, at, byte) in bytes {
-        if at < 32 || at >= 2048 {
-            return Err(Failed);
-        }
         patch(store, no, at, byte)?;
     }
     Ok(())
+}
+
+/// Whether such a file is in order with a byte changed, where it is in order before.
+fn is_sound_with(alloc: Global, no: BlockNo, at: u16, byte: u8) -> Result<bool, Fail> {
+    let mut store = PlainStore::new(alloc, SHAPE)?;
+    running(&mut store)?;
+    if !blocks_sound(&mut store)? {
+        return Err(Fail::new("not in order"));
+    }
+    patch(&mut store, no, at, byte)?;
+    Ok(blocks_sound(&mut store)?)
 }
 
 #[test]
@@ -233,12 +231,8 @@ fn changed_live_records(rt: HostRuntime) -> Result<(), Fail> {
         (43, 992, 2, true), // of a slot that isn't Active nothing of it is looked at
     ];
     for (no, at, byte, sound) in cases {
-        let mut store = PlainStore::new(rt.alloc(), SHAPE)?;
-        running(&mut store)?;
-        assert!(rt; blocks_sound(&mut store)?);
-        assert!(rt; at >= 32 && at < 2048);
-        patch(&mut store, no, at, byte)?;
-        assert_eq!(rt; blocks_sound(&mut store)?, sound, "at {at} of block {no}");
+        let found = is_sound_with(rt.alloc(), no, at, byte)?;
+        assert!(rt; found == sound, "at {at} of block {no}");
     }
     Ok(())
 }

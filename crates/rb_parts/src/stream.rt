@@ -7,13 +7,13 @@ use std::io::{self, ErrorKind, Read, Write};
 fn source_in_memory(rt: HostRuntime) -> Result<(), NoMemory> {
     let mut source = MemSource::new(rt.alloc(), b"abcdef", &[2])?;
     let mut into = [0; 4];
-    assert_eq!(rt; source.take(&mut into), Ok(4));
-    assert_eq!(rt; into, *b"abcd");
+    assert!(rt; source.take(&mut into) == Ok(4));
+    assert!(rt; into == *b"abcd");
     let calls = [Err(Failed), Ok(2), Ok(0)];
     for answer in calls {
-        assert_eq!(rt; source.take(&mut into), answer);
+        assert!(rt; source.take(&mut into) == answer);
     }
-    assert_eq!(rt; into, *b"efcd");
+    assert!(rt; into == *b"efcd");
     Ok(())
 }
 
@@ -27,9 +27,9 @@ fn sink_in_memory(rt: HostRuntime) -> Result<(), NoMemory> {
         ("cde", Ok(())),
     ];
     for (piece, answer) in calls {
-        assert_eq!(rt; sink.put(piece.as_bytes()), answer);
+        assert!(rt; sink.put(piece.as_bytes()) == answer);
     }
-    assert_eq!(rt; sink.bytes(), b"abcde".as_slice());
+    assert!(rt; sink.bytes() == b"abcde".as_slice());
     Ok(())
 }
 
@@ -38,18 +38,18 @@ fn source_of_std(rt: HostRuntime) {
     let mut source = StdSource::new(b"abc".as_slice());
     let mut into = [0; 2];
     for answer in [Ok(2), Ok(1), Ok(0)] {
-        assert_eq!(rt; source.take(&mut into), answer);
+        assert!(rt; source.take(&mut into) == answer);
     }
-    assert_eq!(rt; into, *b"cb");
+    assert!(rt; into == *b"cb");
 }
 
 #[test]
 fn sink_of_std(rt: HostRuntime) {
     let mut held = Vec::new(rt.alloc());
     let mut sink = StdSink::new(&mut held);
-    assert_eq!(rt; sink.put(b"ab"), Ok(()));
-    assert_eq!(rt; sink.put(b"c"), Ok(()));
-    assert_eq!(rt; held.as_slice(), b"abc".as_slice());
+    assert!(rt; sink.put(b"ab") == Ok(()));
+    assert!(rt; sink.put(b"c") == Ok(()));
+    assert!(rt; held.as_slice() == b"abc".as_slice());
 }
 
 // A reader that is interrupted at its first call, fails at the third, and gives a byte at each other.
@@ -76,11 +76,11 @@ impl Read for Shaky {
 fn interrupted_source_of_std(rt: HostRuntime) {
     let mut source = StdSource::new(Shaky { reads: 0 });
     let mut into = [0; 2];
-    assert_eq!(rt; source.take(&mut into), Ok(1));
-    assert_eq!(rt; into, *b"a\0");
+    assert!(rt; source.take(&mut into) == Ok(1));
+    assert!(rt; into == *b"a\0");
     // A call that failed is answered as one, and isn't made again.
-    assert_eq!(rt; source.take(&mut into), Err(Failed));
-    assert_eq!(rt; source.take(&mut into), Ok(1));
+    assert!(rt; source.take(&mut into) == Err(Failed));
+    assert!(rt; source.take(&mut into) == Ok(1));
 }
 
 // A writer whose flush is interrupted at its first call, fails at the third, and succeeds at each other.
@@ -108,7 +108,7 @@ impl Write for Held {
 fn each_put_of_std_is_flushed(rt: HostRuntime) {
     let mut writer = Held { flushes: 0 };
     let mut sink = StdSink::new(&mut writer);
-    assert_eq!(rt; sink.put(b"a"), Ok(()));
-    assert_eq!(rt; sink.put(b"b"), Err(Failed));
-    assert_eq!(rt; writer.flushes, 3);
+    assert!(rt; sink.put(b"a") == Ok(()));
+    assert!(rt; sink.put(b"b") == Err(Failed));
+    assert!(rt; writer.flushes == 3);
 }

@@ -1,5 +1,6 @@
 //! Table slots by their bytes, how a transaction stands by its slot, and which slot the next one takes.
-use rb_base::{ACTIVE, Group, Uba, Xid};
+use crate::patches::are_patches;
+use rb_base::{ACTIVE, Group, SLOTS, Uba, Xid};
 use rb_txntable::{
     COMMITTED, ENDED, Look, TableSlot, active, choose, look, put_slot, slot_at, write_slot,
 };
@@ -32,26 +33,25 @@ const SLOT_BYTES: [u8; 64] = [
     0, 0, 0, 0, 0, 0, 0, 41, // records before it
 ];
 
+/// Whether a slot is written as these bytes at a place, into a header and as one patch, and read of them.
+fn is_spelled(i: u8, place: usize, slot: &TableSlot, bytes: &[u8; 64]) -> bool {
+    if i as usize >= SLOTS || place > 1984 {
+        return false;
+    }
+    let mut expected = [0; 2048];
+    expected[place..place + 64].copy_from_slice(bytes);
+    let mut header = [0; 2048];
+    write_slot(&mut header, i, slot);
+    let mut group = Group::new();
+    put_slot(&mut group, 10, i, slot);
+    header == expected && slot_at(&header, i) == *slot && are_patches(&group, &[(10, place, bytes)])
+}
+
 #[test]
 fn worked_slots(rt: HostRuntime) {
-    let rows = [
-        (0, 32, TableSlot::default(), [0; 64]),
-        (1, 96, SLOT, SLOT_BYTES),
-        (15, 992, SLOT, SLOT_BYTES),
-    ];
-    for (i, place, slot, bytes) in rows {
-        let mut expected = [0; 2048];
-        expected[place..place + 64].copy_from_slice(&bytes);
-        let mut header = [0; 2048];
-        write_slot(&mut header, i, &slot);
-        assert!(rt; header == expected);
-        assert_eq!(rt; slot_at(&header, i), slot);
-        let mut group = Group::new();
-        put_slot(&mut group, 10, i, &slot);
-        assert_eq!(rt; group.patch_block(0), 10);
-        assert_eq!(rt; group.patch_at(0) as usize, place);
-        assert_eq!(rt; group.patch_bytes(0), bytes.as_slice());
-    }
+    assert!(rt; is_spelled(0, 32, &TableSlot::default(), &[0; 64]));
+    assert!(rt; is_spelled(1, 96, &SLOT, &SLOT_BYTES));
+    assert!(rt; is_spelled(15, 992, &SLOT, &SLOT_BYTES));
 }
 
 // By the slot's state and the wrap that is asked for, where the slot's own is 7.
@@ -78,7 +78,7 @@ fn looks(rt: HostRuntime) {
         };
         let mut header = [0; 2048];
         write_slot(&mut header, 1, &TableSlot { state, ..SLOT });
-        assert_eq!(rt; look(&header, xid), expected);
+        assert!(rt; look(&header, xid) == expected, "{state}, {wrap}");
     }
 }
 
@@ -113,14 +113,15 @@ fn chosen_slots(rt: HostRuntime) {
             ..SLOT
         };
         write_slot(&mut header, i, &slot);
-        assert_eq!(rt; active(&header), running);
-        assert_eq!(rt; choose(&header), Some(chosen));
+        assert!(rt;
+            active(&header) == running && choose(&header) == Some(chosen),
+            "slot {i}"
+        );
     }
     let full = header_of_slots(&TableSlot {
         state: ACTIVE,
         ..SLOT
     });
-    assert_eq!(rt; active(&full), 16);
-    assert_eq!(rt; choose(&full), None);
-    assert_eq!(rt; choose(&[0; 2048]), Some(0));
+    assert!(rt; active(&full) == 16 && choose(&full) == None);
+    assert!(rt; choose(&[0; 2048]) == Some(0));
 }

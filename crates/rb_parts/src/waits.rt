@@ -12,10 +12,10 @@ fn rings_are_found(rt: HostRuntime) -> Result<(), Fail> {
     // Who is to wait for whom, and whether that closes a ring: of two, of three, and none.
     let rows = [(3, 2, true), (3, 1, true), (4, 1, false), (4, 3, false)];
     for (s, u, closes) in rows {
-        assert_eq!(rt; (s, u, queue.would_close(s, u)), (s, u, closes));
+        assert!(rt; (s, u, queue.would_close(s, u)) == (s, u, closes));
     }
     queue.free(3);
-    assert_eq!(rt; (queue.ready(), queue.would_close(3, 2)), (Some(2), false));
+    assert!(rt; (queue.ready(), queue.would_close(3, 2)) == (Some(2), false));
     Ok(())
 }
 
@@ -27,17 +27,14 @@ fn first_come_first_ready(rt: HostRuntime) -> Result<(), Fail> {
     queue.wait(3, 1);
     queue.wait(4, 1);
     queue.leave(2);
-    assert_eq!(rt;
-        (queue.waits(2), queue.waits(3), queue.ready()),
-        (false, true, None)
-    );
+    assert!(rt; (queue.waits(2), queue.waits(3), queue.ready()) == (false, true, None));
     queue.free(1);
-    assert_eq!(rt; queue.ready(), Some(3));
+    assert!(rt; queue.ready() == Some(3));
     queue.leave(3);
-    assert_eq!(rt; queue.ready(), Some(4));
+    assert!(rt; queue.ready() == Some(4));
     // Session 3 holds the row now, for which 4 waits behind all.
     queue.leave(4);
     queue.wait(4, 3);
-    assert_eq!(rt; (queue.waits(4), queue.ready()), (true, None));
+    assert!(rt; (queue.waits(4), queue.ready()) == (true, None));
     Ok(())
 }

@@ -1,4 +1,4 @@
 use Rattle.rb_parts.proofs.cr.built.Given as goal
 
 abbrev pub ghosts-counted : goal.ghosts-counted
-ghosts-counted g a = record { name = a.blank.name; parts = a.blank.parts }
+ghosts-counted a = record { name = a.blank.name; parts = a.blank.parts }

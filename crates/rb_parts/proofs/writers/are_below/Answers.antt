@@ -1,7 +1,7 @@
 use Rattle.std.proofs.Common.{◌<◌, [], arith}
 use Rattle.rb_base.specs.Groups.{Patch, patch}
 use Rattle.rb_base.proofs.Each.{all_take_more}
-use Rattle.rb_parts.proofs.undo.are_below.Goals as goal
+use Rattle.rb_parts.proofs.writers.are_below.Goals as goal
 
 pub loop-i-preserved : goal.loop-i-preserved
 loop-i-preserved c =
