@@ -1,6 +1,6 @@
 //! Lines and replies, worked by hand.
 use arrayvec::ArrayVec;
-use rb_model::{Op, Refusal};
+use rb_model::{Mode, Op, Refusal};
 use rb_script::{Command, Reply, parse, print};
 
 // Each line is a bad one.
@@ -74,6 +74,19 @@ cancel 1\x20
 cancel 1 1
 cancel 65536
 cancels 1
+set
+set 1
+set 1\x20
+set 1 read
+set 1 read only
+set 1 READ-ONLY
+set 1 read-only\x20
+set 1 read-onlys
+set 1 serializable 1
+set 1  serializable
+set 01 serializable
+set 65536 read-committed
+sets 1 read-only
 marks\x20
 marks 0
 checkpoint 1
@@ -102,6 +115,7 @@ fn numbers_of(command: &Command<'_>) -> (u8, [u64; 4]) {
         Command::Lock { s, t, k } => (b'l', [u64::from(*s), u64::from(*t), *k, 0]),
         Command::Commit { s } => (b'c', [u64::from(*s), 0, 0, 0]),
         Command::Rollback { s } => (b'r', [u64::from(*s), 0, 0, 0]),
+        Command::Set { s, .. } => (b'e', [u64::from(*s), 0, 0, 0]),
         Command::Savepoint { s, .. } => (b's', [u64::from(*s), 0, 0, 0]),
         Command::RollbackTo { s, .. } => (b't', [u64::from(*s), 0, 0, 0]),
         Command::OpenCursor { s, t, lo, hi, .. } => {
@@ -115,13 +129,24 @@ fn numbers_of(command: &Command<'_>) -> (u8, [u64; 4]) {
     }
 }
 
-/// Whether a command has this value or name, or none where that is empty.
+/// The mode of that word.
+fn mode_of(text: &[u8]) -> Option<Mode> {
+    match text {
+        b"read-committed" => Some(Mode::ReadCommitted),
+        b"read-only" => Some(Mode::ReadOnly),
+        b"serializable" => Some(Mode::Serializable),
+        _ => None,
+    }
+}
+
+/// Whether a command has this value, name or mode, or none where that is empty.
 fn has_text(command: &Command<'_>, text: &[u8]) -> bool {
     match command {
         Command::Write { op, .. } => match op {
             Op::Insert(value) | Op::Update(value) => *value == text,
             Op::Delete => text.is_empty(),
         },
+        Command::Set { mode, .. } => mode_of(text) == Some(*mode),
         Command::Savepoint { name, .. }
         | Command::RollbackTo { name, .. }
         | Command::OpenCursor { name, .. }
@@ -141,7 +166,7 @@ fn spells(line: &[u8], letter: u8, numbers: [u64; 4], text: &[u8]) -> bool {
 
 #[test]
 fn lines_that_spell_a_command(rt: HostRuntime) {
-    let rows: [(&[u8], u8, [u64; 4], &[u8]); 14] = [
+    let rows: [(&[u8], u8, [u64; 4], &[u8]); 17] = [
         (
             b"insert 1 2 18446744073709551615 #!",
             b'i',
@@ -163,6 +188,19 @@ fn lines_that_spell_a_command(rt: HostRuntime) {
         ),
         (b"commit 65535", b'c', [65535, 0, 0, 0], b""),
         (b"rollback 65535", b'r', [65535, 0, 0, 0], b""),
+        (
+            b"set 1 read-committed",
+            b'e',
+            [1, 0, 0, 0],
+            b"read-committed",
+        ),
+        (b"set 0 read-only", b'e', [0, 0, 0, 0], b"read-only"),
+        (
+            b"set 65535 serializable",
+            b'e',
+            [65535, 0, 0, 0],
+            b"serializable",
+        ),
         (
             b"savepoint 65535 abcdefghijklmnop",
             b's',
@@ -249,9 +287,19 @@ fn texts_of_replies(rt: HostRuntime) {
 
 #[test]
 fn texts_of_refusals(rt: HostRuntime) {
-    let rows: [(Option<u16>, Refusal, &[u8]); 11] = [
+    let rows: [(Option<u16>, Refusal, &[u8]); 14] = [
         (Some(2), Refusal::Deadlock { on: 10 }, b"2 deadlock 10\n"),
         (Some(1), Refusal::Waiting, b"1 waiting\n"),
+        (Some(1), Refusal::NotFirst, b"1 not first\n"),
+        (Some(1), Refusal::ReadOnly, b"1 read only\n"),
+        (
+            Some(2),
+            Refusal::CantSerialize {
+                scn: 0,
+                by: u64::MAX,
+            },
+            b"2 cannot serialize 0 18446744073709551615\n",
+        ),
         (Some(65535), Refusal::NotWaiting, b"65535 not waiting\n"),
         (Some(1), Refusal::TooManyCursors, b"1 too many cursors\n"),
         (Some(1), Refusal::NoSavepoint, b"1 no savepoint\n"),
