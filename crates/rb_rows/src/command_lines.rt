@@ -9,12 +9,12 @@ fn makes_a_file(rt: HostRuntime) -> Result<(), Fail> {
     let line = "store.rb format tables=1 blocks=1 segments=1 log=64";
     let end = run_on(rt.alloc(), line, b"", NONE, disk)?;
     let made = end.disk;
-    assert_eq!(rt; end.status.code(), 0);
-    assert_eq!(rt; made.bytes().len(), 227_328);
+    assert!(rt; end.status.code() == 0);
+    assert!(rt; made.bytes().len() == 227_328);
     let front = b"RBS7FILE\0\0\0\x67\0\x01\0\x01\0\0\0\x01\0\0\0\x40\0";
     assert!(rt; made.bytes().starts_with(front));
-    assert_eq!(rt; made.syncs(), 1);
-    assert_eq!(rt; end.sink.bytes(), b"".as_slice());
+    assert!(rt; made.syncs() == 1);
+    assert!(rt; end.sink.bytes() == b"".as_slice());
     Ok(())
 }
 
@@ -30,13 +30,13 @@ fn ends_otherwise(rt: HostRuntime) -> Result<(), Fail> {
     for (line, code) in cases {
         let disk = MemDisk::new(rt.alloc(), b"x", 1, 1, &[])?;
         let end = run_on(rt.alloc(), line, b"", NONE, disk)?;
-        assert_eq!(rt; end.status.code(), code);
-        assert_eq!(rt; end.disk.bytes(), b"x".as_slice());
-        assert_eq!(rt; end.sink.bytes(), b"".as_slice());
+        assert!(rt; end.status.code() == code);
+        assert!(rt; end.disk.bytes() == b"x".as_slice());
+        assert!(rt; end.sink.bytes() == b"".as_slice());
     }
     let disk = MemDisk::new(rt.alloc(), b"", 227_328, 113, &[7])?;
     let end = run_on(rt.alloc(), format, b"", NONE, disk)?;
-    assert_eq!(rt; end.status.name(), "DiskFault");
-    assert_eq!(rt; end.sink.bytes(), b"".as_slice());
+    assert!(rt; end.status.name() == "DiskFault");
+    assert!(rt; end.sink.bytes() == b"".as_slice());
     Ok(())
 }

@@ -10,6 +10,7 @@ use rb_model::{Op, Wrote};
 use rb_plainstore::PlainStore;
 use rb_store::LapStore;
 use rb_stream::{MemSink, MemSource, Sink, Source};
+use std::alloc::Global;
 use std::test::Fail;
 
 const SHAPE: Shape = Shape {
@@ -22,25 +23,40 @@ const SHAPE: Shape = Shape {
 fn streams_are_made(rt: HostRuntime) -> Result<(), Fail> {
     let mut source = MemSource::new(rt.alloc(), b"commit 1\n", &[])?;
     let mut buffer = [0; 16];
-    assert_eq!(rt; source.take(&mut buffer), Ok(9));
-    assert_eq!(rt; &buffer[..9], b"commit 1\n".as_slice());
+    assert!(rt; source.take(&mut buffer) == Ok(9));
+    assert!(rt; &buffer[..9] == b"commit 1\n".as_slice());
     let mut sink = MemSink::new(rt.alloc(), 100, &[])?;
-    assert_eq!(rt; sink.put(b"1 ok\n"), Ok(()));
-    assert_eq!(rt; sink.bytes(), b"1 ok\n".as_slice());
+    assert!(rt; sink.put(b"1 ok\n") == Ok(()));
+    assert!(rt; sink.bytes() == b"1 ok\n".as_slice());
     Ok(())
+}
+
+/// Whether an engine over a new store makes a row, and commits it as the first one.
+fn commits_a_row<S: Store>(engine: &mut Engine<S>) -> bool {
+    engine.write(1, 1, 1, Op::Insert(b"a")) == Ok(Wrote::Done) && engine.commit(1) == Ok(Some(1))
 }
 
 #[test]
 fn stores_and_engines_are_made(rt: HostRuntime) -> Result<(), Fail> {
-    let insert = Op::Insert(b"a");
     let plain = PlainStore::new(rt.alloc(), SHAPE)?;
-    assert_eq!(rt; plain.logged(), 0);
+    assert!(rt; plain.logged() == 0);
     let Ok(mut engine) = Engine::open(rt.alloc(), plain) else {
         return Err(Fail::new("no engine"));
     };
-    assert_eq!(rt; engine.write(1, 1, 1, insert), Ok(Wrote::Done));
-    assert_eq!(rt; engine.commit(1), Ok(Some(1)));
+    assert!(rt; commits_a_row(&mut engine));
     Ok(())
+}
+
+/// Whether an empty log is opened over the disk of a new file of 64 slots.
+fn opens_a_log(alloc: Global, disk: &mut MemDisk) -> bool {
+    let Some(layout) = Layout::new(1, 1, 1, 64) else {
+        return false;
+    };
+    let head = Head { slot: 0, number: 1 };
+    match Log::open(alloc, disk, &layout, head) {
+        Ok(log) => log.used() == 0 && log.pending() == 0 && log.room(),
+        Err(_) => false,
+    }
 }
 
 #[test]
@@ -48,26 +64,17 @@ fn files_are_made(rt: HostRuntime) -> Result<(), Fail> {
     let file = formatted(rt.alloc(), FORMAT_SMALL)?;
     let room = file.len() as u64 + 10_000;
     let mut disk = MemDisk::new(rt.alloc(), &file, room, 100, &[])?;
-    assert_eq!(rt; disk.bytes(), file.as_slice());
+    assert!(rt; disk.bytes() == file.as_slice());
     let same = image(rt.alloc(), &disk, 0, Pick::New)?;
-    assert_eq!(rt; same.as_slice(), file.as_slice());
-    let Some(layout) = Layout::new(1, 1, 1, 64) else {
-        return Err(Fail::new("no layout"));
-    };
-    let head = Head { slot: 0, number: 1 };
-    let Ok(log) = Log::open(rt.alloc(), &mut disk, &layout, head) else {
-        return Err(Fail::new("no log"));
-    };
-    assert_eq!(rt; (log.used(), log.pending(), log.room()), (0, 0, true));
+    assert!(rt; same.as_slice() == file.as_slice());
+    assert!(rt; opens_a_log(rt.alloc(), &mut disk));
     let Ok(store) = LapStore::open(rt.alloc(), disk) else {
         return Err(Fail::new("no store"));
     };
-    assert_eq!(rt; store.room(), 63);
+    assert!(rt; store.room() == 63);
     let Ok(mut engine) = Engine::open(rt.alloc(), store) else {
         return Err(Fail::new("no engine"));
     };
-    let insert = Op::Insert(b"a");
-    assert_eq!(rt; engine.write(1, 1, 1, insert), Ok(Wrote::Done));
-    assert_eq!(rt; engine.commit(1), Ok(Some(1)));
+    assert!(rt; commits_a_row(&mut engine));
     Ok(())
 }

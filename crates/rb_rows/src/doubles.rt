@@ -12,6 +12,9 @@ pub const FORMAT_LARGE: &str = "f format tables=1 blocks=1 segments=1 log=1024";
 /// Makes a file of 227,328 bytes.
 pub const FORMAT_SMALL: &str = "f format tables=1 blocks=1 segments=1 log=64";
 
+/// Makes a file of a table of two blocks, one of the even keys and one of the odd ones.
+pub const FORMAT_TWO_BLOCKS: &str = "f format tables=1 blocks=2 segments=1 log=64";
+
 /// Makes a file of 292,864 bytes, whose log has room for a transaction of more groups than one run.
 pub const FORMAT_STOPS: &str = "f format tables=1 blocks=1 segments=1 log=96";
 

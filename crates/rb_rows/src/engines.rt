@@ -1,15 +1,18 @@
-//! Engines over both stores under one list of calls: they answer alike, and as the list says.
+//! Engines over both stores under one list of calls: they answer alike, and as the list says. A list is a dialogue, as
+//! a script is. A line is one call, so that `fetch` gives one row; `resume` has the first session that is ready try its
+//! write again, and is answered `0 end` where none is; the value `-` has no bytes.
+use crate::dialogues::replies_of;
 use crate::doubles::{CALLS, SCRIPT_ROOM};
 use arrayvec::ArrayVec;
-use rb_base::{Shape, Store};
+use rb_base::{NoMemory, Shape, Store};
 use rb_engine::Engine;
 use rb_layout::Layout;
 use rb_memdisk::MemDisk;
-use rb_model::{Fetched, Marks, Mode, Name, Op, Refusal, Row, Wrote};
+use rb_model::{Fetched, Marks, Op, Refusal, Row, Wrote};
 use rb_plainstore::PlainStore;
+use rb_script::{Command, Reply, parse, print};
 use rb_store::{LapStore, format};
 use std::alloc::Global;
-use std::process::Abort;
 use std::test::Fail;
 
 // Two tables of two blocks, one segment and 64 log slots.
@@ -21,159 +24,149 @@ const SHAPE: Shape = Shape {
 
 const SLOTS: u32 = 64;
 
-/// A call of an engine: session, then what it is for.
-#[derive(Clone, Copy, Debug)]
-enum Call<'a> {
-    Write(u16, u16, u64, Op<'a>),
-    Lock(u16, u16, u64),
-    Commit(u16),
-    Rollback(u16),
-    Set(u16, Mode),
-    Savepoint(u16, &'a [u8]),
-    RollbackTo(u16, &'a [u8]),
-    Open(u16, &'a [u8], u16, u64, u64),
-    Fetch(u16, &'a [u8]),
-    Close(u16, &'a [u8]),
-    Cancel(u16),
-    /// No session's: the first one that is ready tries its write again.
-    Resume,
-    /// The marks of the only segment.
-    Marks,
-    Checkpoint,
-}
-
-/// What a call answers.
-#[derive(Clone, Copy, Debug, PartialEq, Eq)]
-enum Answer<'a> {
-    Done,
-    Waits(u16),
-    Numbered(u64),
-    Given(u64, &'a [u8]),
-    End,
-    /// How many records were made, and the greatest commit number of which something was given up.
-    Marked(u64, u64),
-    Refused(Refusal),
-    /// A session's write was tried again, and done, or it waits for another one again, or is refused.
-    DoneAgain(u16),
-    WaitsAgain(u16, u16),
-    RefusedAgain(u16, Refusal),
-    /// No session is ready.
-    NoneReady,
-    /// The call has no name of a savepoint or cursor.
-    Nameless,
-    /// The store has no segment.
-    NoSegment,
-}
-
-// The answer of a write.
-fn answer_of_write(answer: Result<Wrote, Refusal>) -> Answer<'static> {
+// The reply to a call of a session that tells nothing but that it was done.
+fn done(s: u16, answer: Result<(), Refusal>) -> Reply<'static> {
     match answer {
-        Ok(Wrote::Done) => Answer::Done,
-        Ok(Wrote::Waits { on }) => Answer::Waits(on),
-        Err(why) => Answer::Refused(why),
+        Ok(()) => Reply::Done { s: Some(s) },
+        Err(why) => Reply::Refused { s: Some(s), why },
     }
 }
 
-// The answer of a write that is tried again.
-fn answer_of_resume(answer: Option<(u16, Result<Wrote, Refusal>)>) -> Answer<'static> {
+// The reply to a write, also to one that is tried again.
+fn wrote(s: u16, answer: Result<Wrote, Refusal>) -> Reply<'static> {
     match answer {
-        Some((s, Ok(Wrote::Done))) => Answer::DoneAgain(s),
-        Some((s, Ok(Wrote::Waits { on }))) => Answer::WaitsAgain(s, on),
-        Some((s, Err(why))) => Answer::RefusedAgain(s, why),
-        None => Answer::NoneReady,
+        Ok(Wrote::Done) => Reply::Done { s: Some(s) },
+        Ok(Wrote::Waits { on }) => Reply::Waits { s, on },
+        Err(why) => Reply::Refused { s: Some(s), why },
     }
 }
 
-// The answer of a commit.
-fn answer_of_commit(answer: Result<Option<u64>, Refusal>) -> Answer<'static> {
+// The reply to a commit.
+fn committed(s: u16, answer: Result<Option<u64>, Refusal>) -> Reply<'static> {
     match answer {
-        Ok(Some(number)) => Answer::Numbered(number),
-        Ok(None) => Answer::Done,
-        Err(why) => Answer::Refused(why),
+        Ok(Some(number)) => Reply::Committed { s, number },
+        Ok(None) => Reply::Done { s: Some(s) },
+        Err(why) => Reply::Refused { s: Some(s), why },
     }
 }
 
-// The answer of a call that tells nothing but that it was done.
-fn answer_of_call(answer: Result<(), Refusal>) -> Answer<'static> {
+// The reply to a fetch, with the row that it filled.
+fn fetched(s: u16, answer: Result<Fetched, Refusal>, row: &Row) -> Reply<'_> {
     match answer {
-        Ok(()) => Answer::Done,
-        Err(why) => Answer::Refused(why),
-    }
-}
-
-// The answer of a fetch, with the row that it filled.
-fn answer_of_fetch(answer: Result<Fetched, Refusal>, row: &Row) -> Answer<'_> {
-    match answer {
-        Ok(Fetched::Row) => Answer::Given(row.key, row.value.as_slice()),
-        Ok(Fetched::End) => Answer::End,
-        Err(why) => Answer::Refused(why),
-    }
-}
-
-// The answer of the marks.
-fn answer_of_marks(answer: Result<Marks, Refusal>) -> Answer<'static> {
-    match answer {
-        Ok(Marks { writes, lost }) => Answer::Marked(writes, lost),
-        Err(why) => Answer::Refused(why),
-    }
-}
-
-// Calls an engine. A row is given into `row`.
-fn called<'a, S: Store>(engine: &mut Engine<S>, call: Call<'_>, row: &'a mut Row) -> Answer<'a> {
-    match call {
-        Call::Write(s, table, key, op) => answer_of_write(engine.write(s, table, key, op)),
-        Call::Lock(s, table, key) => answer_of_write(engine.lock(s, table, key)),
-        Call::Commit(s) => answer_of_commit(engine.commit(s)),
-        Call::Rollback(s) => answer_of_call(engine.rollback(s)),
-        Call::Set(s, mode) => answer_of_call(engine.set(s, mode)),
-        Call::Savepoint(s, name) => match Name::new(name) {
-            Some(name) => answer_of_call(engine.savepoint(s, &name)),
-            None => Answer::Nameless,
+        Ok(Fetched::Row) => Reply::Row {
+            s,
+            key: row.key,
+            value: row.value.as_slice(),
         },
-        Call::RollbackTo(s, name) => match Name::new(name) {
-            Some(name) => answer_of_call(engine.rollback_to(s, &name)),
-            None => Answer::Nameless,
+        Ok(Fetched::End) => Reply::End { s },
+        Err(why) => Reply::Refused { s: Some(s), why },
+    }
+}
+
+// The reply to a line of no session: `marks` of the only segment, or `checkpoint`.
+fn of_nobody<S: Store>(engine: &mut Engine<S>, is_marks: bool) -> Reply<'static> {
+    if !is_marks {
+        return match engine.checkpoint() {
+            Ok(()) => Reply::Done { s: None },
+            Err(why) => Reply::Refused { s: None, why },
+        };
+    }
+    if engine.shape().segments == 0 {
+        return Reply::BadLine;
+    }
+    match engine.marks(0) {
+        Ok(Marks { writes, lost }) => Reply::Marks {
+            seg: 0,
+            writes,
+            lost,
         },
-        Call::Open(s, name, table, lo, hi) => match Name::new(name) {
-            Some(name) => answer_of_call(engine.open_cursor(s, &name, table, lo, hi)),
-            None => Answer::Nameless,
-        },
-        Call::Fetch(s, name) => match Name::new(name) {
-            Some(name) => {
-                let answer = engine.fetch(s, &name, row);
-                answer_of_fetch(answer, row)
-            }
-            None => Answer::Nameless,
-        },
-        Call::Close(s, name) => match Name::new(name) {
-            Some(name) => answer_of_call(engine.close_cursor(s, &name)),
-            None => Answer::Nameless,
-        },
-        Call::Cancel(s) => answer_of_call(engine.cancel(s)),
-        Call::Resume => answer_of_resume(engine.resume()),
-        Call::Marks => {
-            if engine.shape().segments == 0 {
-                return Answer::NoSegment;
-            }
-            answer_of_marks(engine.marks(0))
+        Err(why) => Reply::Refused { s: None, why },
+    }
+}
+
+// A write, whose value `-` has no bytes.
+fn op_of(op: Op<'_>) -> Op<'_> {
+    match op {
+        Op::Update(b"-") => Op::Update(b""),
+        op => op,
+    }
+}
+
+// Calls an engine as a line says. A row is given into `row`.
+fn called<'a, S: Store>(engine: &mut Engine<S>, line: &[u8], row: &'a mut Row) -> Reply<'a> {
+    if line == b"resume".as_slice() {
+        return match engine.resume() {
+            Some((s, answer)) => wrote(s, answer),
+            None => Reply::End { s: 0 },
+        };
+    }
+    match parse(line) {
+        Some(Command::Write { s, t, k, op }) => wrote(s, engine.write(s, t, k, op_of(op))),
+        Some(Command::Lock { s, t, k }) => wrote(s, engine.lock(s, t, k)),
+        Some(Command::Commit { s }) => committed(s, engine.commit(s)),
+        Some(Command::Rollback { s }) => done(s, engine.rollback(s)),
+        Some(Command::Set { s, mode }) => done(s, engine.set(s, mode)),
+        Some(Command::Savepoint { s, name }) => done(s, engine.savepoint(s, &name)),
+        Some(Command::RollbackTo { s, name }) => done(s, engine.rollback_to(s, &name)),
+        Some(Command::OpenCursor { s, name, t, lo, hi }) => {
+            done(s, engine.open_cursor(s, &name, t, lo, hi))
         }
-        Call::Checkpoint => answer_of_call(engine.checkpoint()),
+        Some(Command::Fetch { s, name, .. }) => {
+            let answer = engine.fetch(s, &name, row);
+            fetched(s, answer, row)
+        }
+        Some(Command::CloseCursor { s, name }) => done(s, engine.close_cursor(s, &name)),
+        Some(Command::Cancel { s }) => done(s, engine.cancel(s)),
+        Some(Command::Marks) => of_nobody(engine, true),
+        Some(Command::Checkpoint) => of_nobody(engine, false),
+        None => Reply::BadLine,
     }
 }
 
-/// An engine over each store, with the rows that they fill.
-#[derive(Drop)]
-struct Both {
-    plain: Engine<PlainStore>,
-    plain_row: Row,
-    lap: Engine<LapStore<MemDisk>>,
-    lap_row: Row,
-}
-
-fn no_row() -> Row {
-    Row {
+// Adds the text of what a line is answered.
+fn add_reply<S: Store>(
+    engine: &mut Engine<S>,
+    line: &[u8],
+    replies: &mut Vec<u8>,
+) -> Result<(), NoMemory> {
+    let mut row = Row {
         key: 0,
         value: ArrayVec::new(),
+    };
+    let mut text = ArrayVec::new();
+    let reply = called(engine, line, &mut row);
+    if let Reply::Row { value, .. } = &reply {
+        if value.len() > 80 {
+            return Err(NoMemory);
+        }
+    }
+    print(&reply, &mut text);
+    replies
+        .extend_from_slice(text.as_slice())
+        .map_err(|_| NoMemory)
+}
+
+// What an engine answers the lines of a dialogue.
+fn answered<S: Store>(
+    alloc: Global,
+    engine: &mut Engine<S>,
+    dialogue: &[u8],
+) -> Result<Vec<u8>, NoMemory> {
+    let mut replies = Vec::new(alloc);
+    for line in dialogue.split(|byte| *byte == b'\n') {
+        if !line.is_empty() && !line.starts_with(b"#") {
+            add_reply(engine, line, &mut replies)?;
+        }
+    }
+    Ok(replies)
+}
+
+// The engine over a new store that keeps its blocks alone.
+fn plain_engine(alloc: Global) -> Result<Engine<PlainStore>, Fail> {
+    let store = PlainStore::new(alloc, SHAPE)?;
+    match Engine::open(alloc, store) {
+        Ok(engine) => Ok(engine),
+        Err(_) => Err(Fail::new("no engine")),
     }
 }
 
@@ -189,547 +182,681 @@ fn lap_engine(alloc: Global) -> Result<Engine<LapStore<MemDisk>>, Fail> {
     let Ok(store) = LapStore::open(alloc, disk) else {
         return Err(Fail::new("no store"));
     };
-    let Ok(engine) = Engine::open(alloc, store) else {
-        return Err(Fail::new("no engine"));
-    };
-    Ok(engine)
-}
-
-// New engines.
-fn new_engines(alloc: Global) -> Result<Both, Fail> {
-    let Ok(plain) = Engine::open(alloc, PlainStore::new(alloc, SHAPE)?) else {
-        return Err(Fail::new("no engine"));
-    };
-    Ok(Both {
-        plain,
-        plain_row: no_row(),
-        lap: lap_engine(alloc)?,
-        lap_row: no_row(),
-    })
-}
-
-// Both engines answer a call so.
-fn check(rt: &impl Abort, both: &mut Both, call: Call<'_>, expected: Answer<'_>) {
-    let plain = called(&mut both.plain, call, &mut both.plain_row);
-    let lap = called(&mut both.lap, call, &mut both.lap_row);
-    assert_eq!(rt; plain, lap, "{call:?}");
-    assert_eq!(rt; plain, expected, "{call:?}");
-}
-
-fn check_all(rt: &impl Abort, both: &mut Both, rows: &[(Call<'_>, Answer<'_>)]) {
-    for (call, expected) in rows {
-        check(rt, both, *call, *expected);
+    match Engine::open(alloc, store) {
+        Ok(engine) => Ok(engine),
+        Err(_) => Err(Fail::new("no engine")),
     }
 }
 
-// As long as a value may be, and a byte more.
-const LONGER: &[u8] =
-    b"vvvvvvvvvvvvvvvvvvvvvvvvvvvvvvvvvvvvvvvvvvvvvvvvvvvvvvvvvvvvvvvvvvvvvvvvvvvvvvvvv";
-
 #[test]
-fn one_list_of_writes(rt: HostRuntime) -> Result<(), Fail> {
-    let rows: [(Call<'_>, Answer<'_>); 26] = [
-        (Call::Commit(1), Answer::Done),
-        (Call::Commit(17), Answer::Refused(Refusal::NoSession)),
-        (
-            Call::Write(0, 1, 1, Op::Insert(b"a")),
-            Answer::Refused(Refusal::NoSession),
-        ),
-        (
-            Call::Write(17, 3, 1, Op::Delete),
-            Answer::Refused(Refusal::NoSession),
-        ),
-        (
-            Call::Write(1, 0, 1, Op::Insert(LONGER)),
-            Answer::Refused(Refusal::NoTable),
-        ),
-        (
-            Call::Write(1, 3, 1, Op::Delete),
-            Answer::Refused(Refusal::NoTable),
-        ),
-        (
-            Call::Write(1, 1, 1, Op::Insert(LONGER)),
-            Answer::Refused(Refusal::ValueTooLong),
-        ),
-        (
-            Call::Write(1, 1, 1, Op::Update(LONGER)),
-            Answer::Refused(Refusal::ValueTooLong),
-        ),
-        (
-            Call::Write(1, 1, 1, Op::Update(b"a")),
-            Answer::Refused(Refusal::NotFound),
-        ),
-        (
-            Call::Write(1, 1, 1, Op::Delete),
-            Answer::Refused(Refusal::NotFound),
-        ),
-        (Call::Write(1, 1, 1, Op::Insert(&LONGER[1..])), Answer::Done),
-        (
-            Call::Write(1, 1, 1, Op::Insert(b"b")),
-            Answer::Refused(Refusal::Duplicate),
-        ),
-        (
-            Call::Write(1, 2, 1, Op::Update(b"b")),
-            Answer::Refused(Refusal::NotFound),
-        ),
-        (
-            Call::Write(1, 1, 3, Op::Update(b"b")),
-            Answer::Refused(Refusal::NotFound),
-        ),
-        (Call::Commit(1), Answer::Numbered(1)),
-        (Call::Commit(1), Answer::Done),
-        (
-            Call::Write(1, 1, 1, Op::Insert(b"b")),
-            Answer::Refused(Refusal::Duplicate),
-        ),
-        (Call::Write(1, 1, 1, Op::Update(b"")), Answer::Done),
-        (Call::Write(1, 1, 1, Op::Update(b"c")), Answer::Done),
-        (Call::Write(1, 1, 1, Op::Delete), Answer::Done),
-        (
-            Call::Write(1, 1, 1, Op::Delete),
-            Answer::Refused(Refusal::NotFound),
-        ),
-        (Call::Write(1, 1, 1, Op::Insert(b"d")), Answer::Done),
-        (Call::Write(1, 2, 1, Op::Insert(b"e")), Answer::Done),
-        (Call::Commit(1), Answer::Numbered(2)),
-        (Call::Write(1, 2, 1, Op::Delete), Answer::Done),
-        (Call::Commit(1), Answer::Numbered(3)),
+fn one_list_of_calls(rt: HostRuntime) -> Result<(), Fail> {
+    let rows: [(&str, &[u8]); 9] = [
+        ("writes", WRITES),
+        ("cursors", CURSORS),
+        ("rollbacks", ROLLBACKS),
+        ("savepoints", SAVEPOINTS),
+        ("waits", WAITS),
+        ("modes", MODES),
+        ("full homes", FULL_HOMES),
+        ("many cursors", MANY_CURSORS),
+        ("many savepoints", MANY_SAVEPOINTS),
     ];
-    let mut both = new_engines(rt.alloc())?;
-    check_all(&rt, &mut both, &rows);
+    for (name, dialogue) in rows {
+        let expected = replies_of(rt.alloc(), dialogue)?;
+        let plain = answered(rt.alloc(), &mut plain_engine(rt.alloc())?, dialogue)?;
+        assert!(rt; plain.as_slice() == expected.as_slice(), "{name}");
+        let lap = answered(rt.alloc(), &mut lap_engine(rt.alloc())?, dialogue)?;
+        assert!(rt; lap.as_slice() == expected.as_slice(), "{name}");
+    }
     Ok(())
 }
+
+// Values of 80 and 81 bytes, and of none.
+const WRITES: &[u8] = b"\
+commit 1
+#> 1 ok
+commit 17
+#> 17 no session
+insert 0 1 1 a
+#> 0 no session
+delete 17 3 1
+#> 17 no session
+insert 1 0 1 vvvvvvvvvvvvvvvvvvvvvvvvvvvvvvvvvvvvvvvvvvvvvvvvvvvvvvvvvvvvvvvvvvvvvvvvvvvvvvvvv
+#> 1 no table
+delete 1 3 1
+#> 1 no table
+insert 1 1 1 vvvvvvvvvvvvvvvvvvvvvvvvvvvvvvvvvvvvvvvvvvvvvvvvvvvvvvvvvvvvvvvvvvvvvvvvvvvvvvvvv
+#> 1 value too long
+update 1 1 1 vvvvvvvvvvvvvvvvvvvvvvvvvvvvvvvvvvvvvvvvvvvvvvvvvvvvvvvvvvvvvvvvvvvvvvvvvvvvvvvvv
+#> 1 value too long
+update 1 1 1 a
+#> 1 not found
+delete 1 1 1
+#> 1 not found
+insert 1 1 1 vvvvvvvvvvvvvvvvvvvvvvvvvvvvvvvvvvvvvvvvvvvvvvvvvvvvvvvvvvvvvvvvvvvvvvvvvvvvvvvv
+#> 1 ok
+insert 1 1 1 b
+#> 1 duplicate
+update 1 2 1 b
+#> 1 not found
+update 1 1 3 b
+#> 1 not found
+commit 1
+#> 1 committed 1
+commit 1
+#> 1 ok
+insert 1 1 1 b
+#> 1 duplicate
+update 1 1 1 -
+#> 1 ok
+update 1 1 1 c
+#> 1 ok
+delete 1 1 1
+#> 1 ok
+delete 1 1 1
+#> 1 not found
+insert 1 1 1 d
+#> 1 ok
+insert 1 2 1 e
+#> 1 ok
+commit 1
+#> 1 committed 2
+delete 1 2 1
+#> 1 ok
+commit 1
+#> 1 committed 3
+";
 
 // A cursor gives the rows of its opening: the even keys' home first, and then the odd ones'.
-#[test]
-fn one_list_of_cursors(rt: HostRuntime) -> Result<(), Fail> {
-    let rows: [(Call<'_>, Answer<'_>); 42] = [
-        (Call::Write(1, 1, 1, Op::Insert(b"a")), Answer::Done),
-        (Call::Write(1, 1, 2, Op::Insert(b"b")), Answer::Done),
-        (Call::Write(1, 2, 2, Op::Insert(b"c")), Answer::Done),
-        (Call::Commit(1), Answer::Numbered(1)),
-        (
-            Call::Open(17, b"early", 1, 0, 9),
-            Answer::Refused(Refusal::NoSession),
-        ),
-        (
-            Call::Open(1, b"early", 3, 0, 9),
-            Answer::Refused(Refusal::NoTable),
-        ),
-        (
-            Call::Open(1, b"early", 0, 0, 9),
-            Answer::Refused(Refusal::NoTable),
-        ),
-        (Call::Fetch(1, b"early"), Answer::Refused(Refusal::NoCursor)),
-        (Call::Close(1, b"early"), Answer::Refused(Refusal::NoCursor)),
-        (Call::Open(1, b"early", 1, 0, 9), Answer::Done),
-        (
-            Call::Open(1, b"early", 2, 0, 9),
-            Answer::Refused(Refusal::CursorThere),
-        ),
-        (
-            Call::Fetch(17, b"early"),
-            Answer::Refused(Refusal::NoSession),
-        ),
-        (
-            Call::Close(17, b"early"),
-            Answer::Refused(Refusal::NoSession),
-        ),
-        (Call::Fetch(1, b"early"), Answer::Given(2, b"b")),
-        (Call::Write(1, 1, 1, Op::Update(b"d")), Answer::Done),
-        (Call::Write(1, 1, 2, Op::Delete), Answer::Done),
-        (Call::Write(1, 1, 4, Op::Insert(b"e")), Answer::Done),
-        (Call::Open(1, b"own", 1, 0, 9), Answer::Done),
-        (Call::Write(1, 1, 4, Op::Delete), Answer::Done),
-        (Call::Write(1, 1, 2, Op::Insert(b"f")), Answer::Done),
-        (Call::Commit(1), Answer::Numbered(2)),
-        (Call::Fetch(1, b"early"), Answer::Given(1, b"a")),
-        (Call::Fetch(1, b"early"), Answer::End),
-        (Call::Fetch(1, b"early"), Answer::End),
-        (Call::Fetch(1, b"own"), Answer::Given(4, b"e")),
-        (Call::Fetch(1, b"own"), Answer::Given(1, b"d")),
-        (Call::Fetch(1, b"own"), Answer::End),
-        (Call::Open(1, b"late", 1, 0, 9), Answer::Done),
-        (Call::Fetch(1, b"late"), Answer::Given(2, b"f")),
-        (Call::Fetch(1, b"late"), Answer::Given(1, b"d")),
-        (Call::Fetch(1, b"late"), Answer::End),
-        (Call::Open(1, b"other", 2, 0, 9), Answer::Done),
-        (Call::Fetch(1, b"other"), Answer::Given(2, b"c")),
-        (Call::Fetch(1, b"other"), Answer::End),
-        (Call::Open(1, b"none", 1, 3, 2), Answer::Done),
-        (Call::Fetch(1, b"none"), Answer::End),
-        (Call::Close(1, b"early"), Answer::Done),
-        (Call::Fetch(1, b"early"), Answer::Refused(Refusal::NoCursor)),
-        (Call::Close(1, b"early"), Answer::Refused(Refusal::NoCursor)),
-        (Call::Open(1, b"early", 1, 1, 1), Answer::Done),
-        (Call::Fetch(1, b"early"), Answer::Given(1, b"d")),
-        (Call::Fetch(1, b"early"), Answer::End),
-    ];
-    let mut both = new_engines(rt.alloc())?;
-    check_all(&rt, &mut both, &rows);
-    Ok(())
-}
+const CURSORS: &[u8] = b"\
+insert 1 1 1 a
+#> 1 ok
+insert 1 1 2 b
+#> 1 ok
+insert 1 2 2 c
+#> 1 ok
+commit 1
+#> 1 committed 1
+open 17 early 1 0 9
+#> 17 no session
+open 1 early 3 0 9
+#> 1 no table
+open 1 early 0 0 9
+#> 1 no table
+fetch 1 early 1
+#> 1 no cursor
+close 1 early
+#> 1 no cursor
+open 1 early 1 0 9
+#> 1 ok
+open 1 early 2 0 9
+#> 1 cursor there
+fetch 17 early 1
+#> 17 no session
+close 17 early
+#> 17 no session
+fetch 1 early 1
+#> 1 row 2 b
+update 1 1 1 d
+#> 1 ok
+delete 1 1 2
+#> 1 ok
+insert 1 1 4 e
+#> 1 ok
+open 1 own 1 0 9
+#> 1 ok
+delete 1 1 4
+#> 1 ok
+insert 1 1 2 f
+#> 1 ok
+commit 1
+#> 1 committed 2
+fetch 1 early 1
+#> 1 row 1 a
+fetch 1 early 1
+#> 1 end
+fetch 1 early 1
+#> 1 end
+fetch 1 own 1
+#> 1 row 4 e
+fetch 1 own 1
+#> 1 row 1 d
+fetch 1 own 1
+#> 1 end
+open 1 late 1 0 9
+#> 1 ok
+fetch 1 late 1
+#> 1 row 2 f
+fetch 1 late 1
+#> 1 row 1 d
+fetch 1 late 1
+#> 1 end
+open 1 other 2 0 9
+#> 1 ok
+fetch 1 other 1
+#> 1 row 2 c
+fetch 1 other 1
+#> 1 end
+open 1 none 1 3 2
+#> 1 ok
+fetch 1 none 1
+#> 1 end
+close 1 early
+#> 1 ok
+fetch 1 early 1
+#> 1 no cursor
+close 1 early
+#> 1 no cursor
+open 1 early 1 1 1
+#> 1 ok
+fetch 1 early 1
+#> 1 row 1 d
+fetch 1 early 1
+#> 1 end
+";
 
 // A rollback puts every change back and closes the cursors that have some of them. The records stay counted.
-#[test]
-fn one_list_of_rollbacks(rt: HostRuntime) -> Result<(), Fail> {
-    let rows: [(Call<'_>, Answer<'_>); 37] = [
-        (Call::Marks, Answer::Marked(0, 0)),
-        (Call::Rollback(1), Answer::Done),
-        (Call::Rollback(0), Answer::Refused(Refusal::NoSession)),
-        (Call::Rollback(17), Answer::Refused(Refusal::NoSession)),
-        (Call::Checkpoint, Answer::Done),
-        (Call::Write(1, 1, 1, Op::Insert(b"a")), Answer::Done),
-        (Call::Write(1, 1, 2, Op::Insert(b"b")), Answer::Done),
-        (Call::Commit(1), Answer::Numbered(1)),
-        (Call::Marks, Answer::Marked(2, 0)),
-        (Call::Open(1, b"early", 1, 0, 9), Answer::Done),
-        (Call::Write(1, 1, 1, Op::Update(b"c")), Answer::Done),
-        (Call::Write(1, 1, 2, Op::Delete), Answer::Done),
-        (Call::Write(1, 1, 2, Op::Insert(b"d")), Answer::Done),
-        (Call::Write(1, 2, 5, Op::Insert(b"e")), Answer::Done),
-        (Call::Checkpoint, Answer::Done),
-        (Call::Open(1, b"own", 1, 0, 9), Answer::Done),
-        (Call::Fetch(1, b"own"), Answer::Given(2, b"d")),
-        (Call::Marks, Answer::Marked(6, 0)),
-        (Call::Rollback(1), Answer::Done),
-        (Call::Rollback(1), Answer::Done),
-        (Call::Marks, Answer::Marked(6, 0)),
-        (Call::Fetch(1, b"own"), Answer::Refused(Refusal::NoCursor)),
-        (Call::Fetch(1, b"early"), Answer::Given(2, b"b")),
-        (Call::Fetch(1, b"early"), Answer::Given(1, b"a")),
-        (Call::Fetch(1, b"early"), Answer::End),
-        (Call::Commit(1), Answer::Done),
-        (Call::Open(1, b"own", 1, 0, 9), Answer::Done),
-        (Call::Fetch(1, b"own"), Answer::Given(2, b"b")),
-        (Call::Open(1, b"other", 2, 0, 9), Answer::Done),
-        (Call::Fetch(1, b"other"), Answer::End),
-        (
-            Call::Write(1, 1, 2, Op::Insert(b"f")),
-            Answer::Refused(Refusal::Duplicate),
-        ),
-        (
-            Call::Write(1, 2, 5, Op::Update(b"f")),
-            Answer::Refused(Refusal::NotFound),
-        ),
-        (Call::Write(1, 2, 5, Op::Insert(b"g")), Answer::Done),
-        (Call::Commit(1), Answer::Numbered(2)),
-        (Call::Rollback(1), Answer::Done),
-        (Call::Fetch(1, b"own"), Answer::Given(1, b"a")),
-        (Call::Marks, Answer::Marked(7, 0)),
-    ];
-    let mut both = new_engines(rt.alloc())?;
-    check_all(&rt, &mut both, &rows);
-    Ok(())
-}
+const ROLLBACKS: &[u8] = b"\
+marks
+#> segment 0 writes 0 lost 0
+rollback 1
+#> 1 ok
+rollback 0
+#> 0 no session
+rollback 17
+#> 17 no session
+checkpoint
+#> ok
+insert 1 1 1 a
+#> 1 ok
+insert 1 1 2 b
+#> 1 ok
+commit 1
+#> 1 committed 1
+marks
+#> segment 0 writes 2 lost 0
+open 1 early 1 0 9
+#> 1 ok
+update 1 1 1 c
+#> 1 ok
+delete 1 1 2
+#> 1 ok
+insert 1 1 2 d
+#> 1 ok
+insert 1 2 5 e
+#> 1 ok
+checkpoint
+#> ok
+open 1 own 1 0 9
+#> 1 ok
+fetch 1 own 1
+#> 1 row 2 d
+marks
+#> segment 0 writes 6 lost 0
+rollback 1
+#> 1 ok
+rollback 1
+#> 1 ok
+marks
+#> segment 0 writes 6 lost 0
+fetch 1 own 1
+#> 1 no cursor
+fetch 1 early 1
+#> 1 row 2 b
+fetch 1 early 1
+#> 1 row 1 a
+fetch 1 early 1
+#> 1 end
+commit 1
+#> 1 ok
+open 1 own 1 0 9
+#> 1 ok
+fetch 1 own 1
+#> 1 row 2 b
+open 1 other 2 0 9
+#> 1 ok
+fetch 1 other 1
+#> 1 end
+insert 1 1 2 f
+#> 1 duplicate
+update 1 2 5 f
+#> 1 not found
+insert 1 2 5 g
+#> 1 ok
+commit 1
+#> 1 committed 2
+rollback 1
+#> 1 ok
+fetch 1 own 1
+#> 1 row 1 a
+marks
+#> segment 0 writes 7 lost 0
+";
 
 // A rollback to a savepoint puts back the changes behind it, locks among them, and frees their keys. Without a change
 // left a transaction ends by a commit of no number.
-#[test]
-fn one_list_of_savepoints(rt: HostRuntime) -> Result<(), Fail> {
-    let rows: [(Call<'_>, Answer<'_>); 42] = [
-        (
-            Call::Savepoint(0, b"p"),
-            Answer::Refused(Refusal::NoSession),
-        ),
-        (
-            Call::RollbackTo(17, b"p"),
-            Answer::Refused(Refusal::NoSession),
-        ),
-        (Call::Lock(17, 1, 1), Answer::Refused(Refusal::NoSession)),
-        (Call::Lock(1, 3, 1), Answer::Refused(Refusal::NoTable)),
-        (Call::Lock(1, 1, 1), Answer::Refused(Refusal::NotFound)),
-        (
-            Call::RollbackTo(1, b"p"),
-            Answer::Refused(Refusal::NoSavepoint),
-        ),
-        (Call::Write(1, 1, 1, Op::Insert(b"a")), Answer::Done),
-        (Call::Write(1, 1, 2, Op::Insert(b"b")), Answer::Done),
-        (Call::Commit(1), Answer::Numbered(1)),
-        (Call::Lock(1, 1, 1), Answer::Done),
-        (Call::Savepoint(1, b"p"), Answer::Done),
-        (Call::Write(1, 1, 1, Op::Update(b"c")), Answer::Done),
-        (Call::Lock(1, 1, 2), Answer::Done),
-        (Call::Savepoint(1, b"q"), Answer::Done),
-        (Call::Open(1, b"own", 1, 0, 9), Answer::Done),
-        (Call::Lock(2, 1, 2), Answer::Waits(1)),
-        (Call::RollbackTo(1, b"p"), Answer::Done),
-        (Call::Cancel(2), Answer::Done),
-        (
-            Call::RollbackTo(1, b"q"),
-            Answer::Refused(Refusal::NoSavepoint),
-        ),
-        (Call::Fetch(1, b"own"), Answer::Refused(Refusal::NoCursor)),
-        (Call::Savepoint(2, b"p"), Answer::Done),
-        (Call::Lock(2, 1, 1), Answer::Waits(1)),
-        (Call::Cancel(2), Answer::Done),
-        (Call::Lock(2, 1, 2), Answer::Done),
-        (Call::Write(2, 1, 2, Op::Delete), Answer::Done),
-        (Call::Lock(2, 1, 2), Answer::Refused(Refusal::NotFound)),
-        (Call::RollbackTo(2, b"p"), Answer::Done),
-        (Call::Marks, Answer::Marked(7, 0)),
-        (Call::Commit(2), Answer::Done),
-        (
-            Call::RollbackTo(2, b"p"),
-            Answer::Refused(Refusal::NoSavepoint),
-        ),
-        (Call::RollbackTo(1, b"p"), Answer::Done),
-        (Call::Commit(1), Answer::Numbered(2)),
-        (Call::Savepoint(1, b"p"), Answer::Done),
-        (Call::Checkpoint, Answer::Done),
-        (Call::Write(1, 1, 2, Op::Update(b"d")), Answer::Done),
-        (Call::RollbackTo(1, b"p"), Answer::Done),
-        (Call::Rollback(1), Answer::Done),
-        (Call::Open(1, b"own", 1, 0, 9), Answer::Done),
-        (Call::Fetch(1, b"own"), Answer::Given(2, b"b")),
-        (Call::Fetch(1, b"own"), Answer::Given(1, b"a")),
-        (Call::Fetch(1, b"own"), Answer::End),
-        (Call::Marks, Answer::Marked(8, 0)),
-    ];
-    let mut both = new_engines(rt.alloc())?;
-    check_all(&rt, &mut both, &rows);
-    Ok(())
-}
+const SAVEPOINTS: &[u8] = b"\
+savepoint 0 p
+#> 0 no session
+rollback 17 p
+#> 17 no session
+lock 17 1 1
+#> 17 no session
+lock 1 3 1
+#> 1 no table
+lock 1 1 1
+#> 1 not found
+rollback 1 p
+#> 1 no savepoint
+insert 1 1 1 a
+#> 1 ok
+insert 1 1 2 b
+#> 1 ok
+commit 1
+#> 1 committed 1
+lock 1 1 1
+#> 1 ok
+savepoint 1 p
+#> 1 ok
+update 1 1 1 c
+#> 1 ok
+lock 1 1 2
+#> 1 ok
+savepoint 1 q
+#> 1 ok
+open 1 own 1 0 9
+#> 1 ok
+lock 2 1 2
+#> 2 waits 1
+rollback 1 p
+#> 1 ok
+cancel 2
+#> 2 ok
+rollback 1 q
+#> 1 no savepoint
+fetch 1 own 1
+#> 1 no cursor
+savepoint 2 p
+#> 2 ok
+lock 2 1 1
+#> 2 waits 1
+cancel 2
+#> 2 ok
+lock 2 1 2
+#> 2 ok
+delete 2 1 2
+#> 2 ok
+lock 2 1 2
+#> 2 not found
+rollback 2 p
+#> 2 ok
+marks
+#> segment 0 writes 7 lost 0
+commit 2
+#> 2 ok
+rollback 2 p
+#> 2 no savepoint
+rollback 1 p
+#> 1 ok
+commit 1
+#> 1 committed 2
+savepoint 1 p
+#> 1 ok
+checkpoint
+#> ok
+update 1 1 2 d
+#> 1 ok
+rollback 1 p
+#> 1 ok
+rollback 1
+#> 1 ok
+open 1 own 1 0 9
+#> 1 ok
+fetch 1 own 1
+#> 1 row 2 b
+fetch 1 own 1
+#> 1 row 1 a
+fetch 1 own 1
+#> 1 end
+marks
+#> segment 0 writes 8 lost 0
+";
 
 // The calls of a session that waits or is ready are refused, but for its cancel. No session is resumed before it is
 // ready, and each only when that is called for: so another one may take its key before. One that is ready waits for
 // nobody, so it may be waited for by the one that it has waited for.
-#[test]
-fn one_list_of_waits(rt: HostRuntime) -> Result<(), Fail> {
-    let rows: [(Call<'_>, Answer<'_>); 52] = [
-        (Call::Resume, Answer::NoneReady),
-        (Call::Cancel(0), Answer::Refused(Refusal::NoSession)),
-        (Call::Cancel(17), Answer::Refused(Refusal::NoSession)),
-        (Call::Cancel(1), Answer::Refused(Refusal::NotWaiting)),
-        (Call::Write(1, 1, 1, Op::Insert(b"a")), Answer::Done),
-        (Call::Write(2, 1, 2, Op::Insert(b"b")), Answer::Done),
-        (Call::Write(2, 1, 1, Op::Update(b"c")), Answer::Waits(1)),
-        (Call::Lock(3, 1, 1), Answer::Waits(1)),
-        (Call::Write(4, 1, 2, Op::Delete), Answer::Waits(2)),
-        (
-            Call::Write(2, 9, 1, Op::Insert(LONGER)),
-            Answer::Refused(Refusal::Waiting),
-        ),
-        (Call::Lock(2, 1, 2), Answer::Refused(Refusal::Waiting)),
-        (Call::Commit(2), Answer::Refused(Refusal::Waiting)),
-        (Call::Rollback(2), Answer::Refused(Refusal::Waiting)),
-        (Call::Savepoint(2, b"p"), Answer::Refused(Refusal::Waiting)),
-        (Call::RollbackTo(2, b"p"), Answer::Refused(Refusal::Waiting)),
-        (
-            Call::Open(2, b"c", 9, 0, 9),
-            Answer::Refused(Refusal::Waiting),
-        ),
-        (Call::Fetch(2, b"c"), Answer::Refused(Refusal::Waiting)),
-        (Call::Close(2, b"c"), Answer::Refused(Refusal::Waiting)),
-        (Call::Resume, Answer::NoneReady),
-        (
-            Call::Lock(1, 1, 2),
-            Answer::Refused(Refusal::Deadlock { on: 2 }),
-        ),
-        (Call::Marks, Answer::Marked(2, 0)),
-        (Call::Commit(1), Answer::Numbered(1)),
-        (Call::Commit(2), Answer::Refused(Refusal::Waiting)),
-        (Call::Lock(1, 1, 2), Answer::Waits(2)),
-        (Call::Resume, Answer::DoneAgain(2)),
-        (Call::Commit(3), Answer::Refused(Refusal::Waiting)),
-        (Call::Resume, Answer::WaitsAgain(3, 2)),
-        (Call::Resume, Answer::NoneReady),
-        (Call::Rollback(2), Answer::Done),
-        (Call::Cancel(4), Answer::Done),
-        (Call::Write(4, 1, 1, Op::Delete), Answer::Done),
-        (Call::Resume, Answer::RefusedAgain(1, Refusal::NotFound)),
-        (Call::Resume, Answer::WaitsAgain(3, 4)),
-        (Call::Resume, Answer::NoneReady),
-        (Call::Cancel(1), Answer::Refused(Refusal::NotWaiting)),
-        (Call::Savepoint(5, b"p"), Answer::Done),
-        (Call::Write(5, 1, 5, Op::Insert(b"d")), Answer::Done),
-        (Call::Write(4, 1, 5, Op::Insert(b"e")), Answer::Waits(5)),
-        (Call::RollbackTo(5, b"p"), Answer::Done),
-        (Call::Resume, Answer::NoneReady),
-        (Call::Write(6, 1, 5, Op::Insert(b"f")), Answer::Done),
-        (Call::Lock(6, 1, 1), Answer::Waits(4)),
-        (Call::Commit(5), Answer::Done),
-        (
-            Call::Resume,
-            Answer::RefusedAgain(4, Refusal::Deadlock { on: 6 }),
-        ),
-        (Call::Commit(4), Answer::Numbered(2)),
-        (Call::Resume, Answer::RefusedAgain(3, Refusal::NotFound)),
-        (Call::Resume, Answer::RefusedAgain(6, Refusal::NotFound)),
-        (Call::Resume, Answer::NoneReady),
-        (Call::Commit(6), Answer::Numbered(3)),
-        (Call::Cancel(6), Answer::Refused(Refusal::NotWaiting)),
-        (Call::Checkpoint, Answer::Done),
-        (Call::Resume, Answer::NoneReady),
-    ];
-    let mut both = new_engines(rt.alloc())?;
-    check_all(&rt, &mut both, &rows);
-    Ok(())
-}
+const WAITS: &[u8] = b"\
+resume
+#> 0 end
+cancel 0
+#> 0 no session
+cancel 17
+#> 17 no session
+cancel 1
+#> 1 not waiting
+insert 1 1 1 a
+#> 1 ok
+insert 2 1 2 b
+#> 2 ok
+update 2 1 1 c
+#> 2 waits 1
+lock 3 1 1
+#> 3 waits 1
+delete 4 1 2
+#> 4 waits 2
+insert 2 9 1 vvvvvvvvvvvvvvvvvvvvvvvvvvvvvvvvvvvvvvvvvvvvvvvvvvvvvvvvvvvvvvvvvvvvvvvvvvvvvvvvv
+#> 2 waiting
+lock 2 1 2
+#> 2 waiting
+commit 2
+#> 2 waiting
+rollback 2
+#> 2 waiting
+savepoint 2 p
+#> 2 waiting
+rollback 2 p
+#> 2 waiting
+open 2 c 9 0 9
+#> 2 waiting
+fetch 2 c 1
+#> 2 waiting
+close 2 c
+#> 2 waiting
+resume
+#> 0 end
+lock 1 1 2
+#> 1 deadlock 2
+marks
+#> segment 0 writes 2 lost 0
+commit 1
+#> 1 committed 1
+commit 2
+#> 2 waiting
+lock 1 1 2
+#> 1 waits 2
+resume
+#> 2 ok
+commit 3
+#> 3 waiting
+resume
+#> 3 waits 2
+resume
+#> 0 end
+rollback 2
+#> 2 ok
+cancel 4
+#> 4 ok
+delete 4 1 1
+#> 4 ok
+resume
+#> 1 not found
+resume
+#> 3 waits 4
+resume
+#> 0 end
+cancel 1
+#> 1 not waiting
+savepoint 5 p
+#> 5 ok
+insert 5 1 5 d
+#> 5 ok
+insert 4 1 5 e
+#> 4 waits 5
+rollback 5 p
+#> 5 ok
+resume
+#> 0 end
+insert 6 1 5 f
+#> 6 ok
+lock 6 1 1
+#> 6 waits 4
+commit 5
+#> 5 ok
+resume
+#> 4 deadlock 6
+commit 4
+#> 4 committed 2
+resume
+#> 3 not found
+resume
+#> 6 not found
+resume
+#> 0 end
+commit 6
+#> 6 committed 3
+cancel 6
+#> 6 not waiting
+checkpoint
+#> ok
+resume
+#> 0 end
+";
 
-// A mode is set first of all, and ends with the transaction. The one that waits is refused for what it waited for.
-#[test]
-fn one_list_of_modes(rt: HostRuntime) -> Result<(), Fail> {
-    let rows: [(Call<'_>, Answer<'_>); 32] = [
-        (
-            Call::Set(0, Mode::ReadOnly),
-            Answer::Refused(Refusal::NoSession),
-        ),
-        (
-            Call::Set(17, Mode::Serializable),
-            Answer::Refused(Refusal::NoSession),
-        ),
-        (Call::Write(1, 1, 1, Op::Insert(b"a")), Answer::Done),
-        (
-            Call::Set(1, Mode::ReadOnly),
-            Answer::Refused(Refusal::NotFirst),
-        ),
-        (Call::Commit(1), Answer::Numbered(1)),
-        (Call::Set(2, Mode::ReadCommitted), Answer::Done),
-        (Call::Set(2, Mode::Serializable), Answer::Done),
-        (
-            Call::Set(2, Mode::ReadCommitted),
-            Answer::Refused(Refusal::NotFirst),
-        ),
-        (Call::Set(3, Mode::ReadOnly), Answer::Done),
-        (Call::Write(1, 1, 1, Op::Update(b"b")), Answer::Done),
-        (Call::Write(2, 1, 1, Op::Update(b"c")), Answer::Waits(1)),
-        (
-            Call::Set(2, Mode::ReadOnly),
-            Answer::Refused(Refusal::Waiting),
-        ),
-        (
-            Call::Write(3, 9, 1, Op::Delete),
-            Answer::Refused(Refusal::ReadOnly),
-        ),
-        (Call::Commit(1), Answer::Numbered(2)),
-        (
-            Call::Resume,
-            Answer::RefusedAgain(2, Refusal::CantSerialize { scn: 1, by: 2 }),
-        ),
-        (
-            Call::Lock(2, 1, 1),
-            Answer::Refused(Refusal::CantSerialize { scn: 1, by: 2 }),
-        ),
-        (Call::Write(2, 1, 2, Op::Insert(b"d")), Answer::Done),
-        (Call::Open(2, b"c", 1, 0, 9), Answer::Done),
-        (Call::Fetch(2, b"c"), Answer::Given(2, b"d")),
-        (Call::Fetch(2, b"c"), Answer::Given(1, b"a")),
-        (Call::Fetch(2, b"c"), Answer::End),
-        (Call::Open(3, b"c", 1, 0, 9), Answer::Done),
-        (Call::Fetch(3, b"c"), Answer::Given(1, b"a")),
-        (Call::Fetch(3, b"c"), Answer::End),
-        (Call::Commit(2), Answer::Numbered(3)),
-        (Call::Set(2, Mode::ReadOnly), Answer::Done),
-        (Call::Commit(3), Answer::Done),
-        (Call::Open(3, b"d", 1, 0, 9), Answer::Done),
-        (Call::Fetch(3, b"d"), Answer::Given(2, b"d")),
-        (Call::Fetch(3, b"d"), Answer::Given(1, b"b")),
-        (Call::Fetch(3, b"d"), Answer::End),
-        (Call::Marks, Answer::Marked(3, 0)),
-    ];
-    let mut both = new_engines(rt.alloc())?;
-    check_all(&rt, &mut both, &rows);
-    Ok(())
-}
+// A mode is set first of all, and ends with the transaction. The session that waits is refused for what it waited for.
+const MODES: &[u8] = b"\
+set 0 read-only
+#> 0 no session
+set 17 serializable
+#> 17 no session
+insert 1 1 1 a
+#> 1 ok
+set 1 read-only
+#> 1 not first
+commit 1
+#> 1 committed 1
+set 2 read-committed
+#> 2 ok
+set 2 serializable
+#> 2 ok
+set 2 read-committed
+#> 2 not first
+set 3 read-only
+#> 3 ok
+update 1 1 1 b
+#> 1 ok
+update 2 1 1 c
+#> 2 waits 1
+set 2 read-only
+#> 2 waiting
+delete 3 9 1
+#> 3 read only
+commit 1
+#> 1 committed 2
+resume
+#> 2 cannot serialize 1 2
+lock 2 1 1
+#> 2 cannot serialize 1 2
+insert 2 1 2 d
+#> 2 ok
+open 2 c 1 0 9
+#> 2 ok
+fetch 2 c 1
+#> 2 row 2 d
+fetch 2 c 1
+#> 2 row 1 a
+fetch 2 c 1
+#> 2 end
+open 3 c 1 0 9
+#> 3 ok
+fetch 3 c 1
+#> 3 row 1 a
+fetch 3 c 1
+#> 3 end
+commit 2
+#> 2 committed 3
+set 2 read-only
+#> 2 ok
+commit 3
+#> 3 ok
+open 3 d 1 0 9
+#> 3 ok
+fetch 3 d 1
+#> 3 row 2 d
+fetch 3 d 1
+#> 3 row 1 b
+fetch 3 d 1
+#> 3 end
+marks
+#> segment 0 writes 3 lost 0
+";
 
 // A home has sixteen keys, and a deleted one is in use until its commit.
-#[test]
-fn one_list_of_full_homes(rt: HostRuntime) -> Result<(), Fail> {
-    let rows: [(Call<'_>, Answer<'_>); 13] = [
-        (
-            Call::Write(1, 1, 32, Op::Insert(b"a")),
-            Answer::Refused(Refusal::BlockFull),
-        ),
-        (
-            Call::Write(1, 1, 30, Op::Insert(b"a")),
-            Answer::Refused(Refusal::Duplicate),
-        ),
-        (Call::Write(1, 1, 1, Op::Insert(b"a")), Answer::Done),
-        (Call::Write(1, 2, 32, Op::Insert(b"a")), Answer::Done),
-        (Call::Commit(1), Answer::Numbered(1)),
-        (
-            Call::Write(1, 1, 32, Op::Insert(b"a")),
-            Answer::Refused(Refusal::BlockFull),
-        ),
-        (Call::Write(1, 1, 0, Op::Delete), Answer::Done),
-        (
-            Call::Write(1, 1, 32, Op::Insert(b"a")),
-            Answer::Refused(Refusal::BlockFull),
-        ),
-        (Call::Write(1, 1, 0, Op::Insert(b"b")), Answer::Done),
-        (Call::Write(1, 1, 0, Op::Delete), Answer::Done),
-        (Call::Commit(1), Answer::Numbered(2)),
-        (Call::Write(1, 1, 32, Op::Insert(b"c")), Answer::Done),
-        (
-            Call::Write(1, 1, 0, Op::Insert(b"c")),
-            Answer::Refused(Refusal::BlockFull),
-        ),
-    ];
-    let mut both = new_engines(rt.alloc())?;
-    for key in 0..16 {
-        let insert = Call::Write(1, 1, 2 * key, Op::Insert(b"a"));
-        check(&rt, &mut both, insert, Answer::Done);
-    }
-    check_all(&rt, &mut both, &rows);
-    Ok(())
-}
+const FULL_HOMES: &[u8] = b"\
+insert 1 1 0 a
+#> 1 ok
+insert 1 1 2 a
+#> 1 ok
+insert 1 1 4 a
+#> 1 ok
+insert 1 1 6 a
+#> 1 ok
+insert 1 1 8 a
+#> 1 ok
+insert 1 1 10 a
+#> 1 ok
+insert 1 1 12 a
+#> 1 ok
+insert 1 1 14 a
+#> 1 ok
+insert 1 1 16 a
+#> 1 ok
+insert 1 1 18 a
+#> 1 ok
+insert 1 1 20 a
+#> 1 ok
+insert 1 1 22 a
+#> 1 ok
+insert 1 1 24 a
+#> 1 ok
+insert 1 1 26 a
+#> 1 ok
+insert 1 1 28 a
+#> 1 ok
+insert 1 1 30 a
+#> 1 ok
+insert 1 1 32 a
+#> 1 block full
+insert 1 1 30 a
+#> 1 duplicate
+insert 1 1 1 a
+#> 1 ok
+insert 1 2 32 a
+#> 1 ok
+commit 1
+#> 1 committed 1
+insert 1 1 32 a
+#> 1 block full
+delete 1 1 0
+#> 1 ok
+insert 1 1 32 a
+#> 1 block full
+insert 1 1 0 b
+#> 1 ok
+delete 1 1 0
+#> 1 ok
+commit 1
+#> 1 committed 2
+insert 1 1 32 c
+#> 1 ok
+insert 1 1 0 c
+#> 1 block full
+";
 
-#[test]
-fn one_list_of_many_cursors(rt: HostRuntime) -> Result<(), Fail> {
-    let rows: [(Call<'_>, Answer<'_>); 6] = [
-        (
-            Call::Open(1, b"q", 1, 0, 9),
-            Answer::Refused(Refusal::TooManyCursors),
-        ),
-        (
-            Call::Open(1, b"p", 1, 0, 9),
-            Answer::Refused(Refusal::CursorThere),
-        ),
-        (Call::Close(1, b"c"), Answer::Done),
-        (Call::Open(1, b"q", 1, 0, 9), Answer::Done),
-        (
-            Call::Open(1, b"c", 1, 0, 9),
-            Answer::Refused(Refusal::TooManyCursors),
-        ),
-        (Call::Fetch(1, b"q"), Answer::End),
-    ];
-    let mut both = new_engines(rt.alloc())?;
-    for name in b'a'..=b'p' {
-        let open = Call::Open(1, &[name], 1, 0, 9);
-        check(&rt, &mut both, open, Answer::Done);
-    }
-    check_all(&rt, &mut both, &rows);
-    Ok(())
-}
+const MANY_CURSORS: &[u8] = b"\
+open 1 a 1 0 9
+#> 1 ok
+open 1 b 1 0 9
+#> 1 ok
+open 1 c 1 0 9
+#> 1 ok
+open 1 d 1 0 9
+#> 1 ok
+open 1 e 1 0 9
+#> 1 ok
+open 1 f 1 0 9
+#> 1 ok
+open 1 g 1 0 9
+#> 1 ok
+open 1 h 1 0 9
+#> 1 ok
+open 1 i 1 0 9
+#> 1 ok
+open 1 j 1 0 9
+#> 1 ok
+open 1 k 1 0 9
+#> 1 ok
+open 1 l 1 0 9
+#> 1 ok
+open 1 m 1 0 9
+#> 1 ok
+open 1 n 1 0 9
+#> 1 ok
+open 1 o 1 0 9
+#> 1 ok
+open 1 p 1 0 9
+#> 1 ok
+open 1 q 1 0 9
+#> 1 too many cursors
+open 1 p 1 0 9
+#> 1 cursor there
+close 1 c
+#> 1 ok
+open 1 q 1 0 9
+#> 1 ok
+open 1 c 1 0 9
+#> 1 too many cursors
+fetch 1 q 1
+#> 1 end
+";
 
 // A savepoint of a name that stands is set again though sixteen stand. It is the latest then.
-#[test]
-fn one_list_of_many_savepoints(rt: HostRuntime) -> Result<(), Fail> {
-    let rows: [(Call<'_>, Answer<'_>); 8] = [
-        (
-            Call::Savepoint(1, b"q"),
-            Answer::Refused(Refusal::TooManySavepoints),
-        ),
-        (Call::Savepoint(1, b"c"), Answer::Done),
-        (Call::Savepoint(2, b"q"), Answer::Done),
-        (Call::RollbackTo(1, b"p"), Answer::Done),
-        (
-            Call::RollbackTo(1, b"c"),
-            Answer::Refused(Refusal::NoSavepoint),
-        ),
-        (Call::Savepoint(1, b"q"), Answer::Done),
-        (Call::RollbackTo(1, b"p"), Answer::Done),
-        (
-            Call::RollbackTo(1, b"q"),
-            Answer::Refused(Refusal::NoSavepoint),
-        ),
-    ];
-    let mut both = new_engines(rt.alloc())?;
-    for name in b'a'..=b'p' {
-        let set = Call::Savepoint(1, &[name]);
-        check(&rt, &mut both, set, Answer::Done);
-    }
-    check_all(&rt, &mut both, &rows);
-    Ok(())
-}
+const MANY_SAVEPOINTS: &[u8] = b"\
+savepoint 1 a
+#> 1 ok
+savepoint 1 b
+#> 1 ok
+savepoint 1 c
+#> 1 ok
+savepoint 1 d
+#> 1 ok
+savepoint 1 e
+#> 1 ok
+savepoint 1 f
+#> 1 ok
+savepoint 1 g
+#> 1 ok
+savepoint 1 h
+#> 1 ok
+savepoint 1 i
+#> 1 ok
+savepoint 1 j
+#> 1 ok
+savepoint 1 k
+#> 1 ok
+savepoint 1 l
+#> 1 ok
+savepoint 1 m
+#> 1 ok
+savepoint 1 n
+#> 1 ok
+savepoint 1 o
+#> 1 ok
+savepoint 1 p
+#> 1 ok
+savepoint 1 q
+#> 1 too many savepoints
+savepoint 1 c
+#> 1 ok
+savepoint 2 q
+#> 2 ok
+rollback 1 p
+#> 1 ok
+rollback 1 c
+#> 1 no savepoint
+savepoint 1 q
+#> 1 ok
+rollback 1 p
+#> 1 ok
+rollback 1 q
+#> 1 no savepoint
+";

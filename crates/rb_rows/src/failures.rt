@@ -67,16 +67,17 @@ fn check_fault(rt: &impl Abort, story: &Story, end: &Ended, call: u64, is_openin
     };
     assert!(rt; end.status == Status::DiskFault, "call {call}");
     assert!(rt; right, "call {call}");
-    assert_eq!(rt; end.disk.calls(), call);
+    assert!(rt; end.disk.calls() == call);
 }
 
-// Each call of the disk fails in a run over a file.
+// Each call of the disk fails in a run over a new file.
 fn check_disk_calls(
     rt: &impl Abort,
     alloc: Global,
     story: &Story,
-    file: &[u8],
+    format: &str,
 ) -> Result<(), NoMemory> {
+    let file = &formatted(alloc, format)?;
     let script = story.script.as_bytes();
     let calls = run_over(alloc, RUN, file, script, NONE)?.disk.calls();
     let opened = opened(alloc, file)?;
@@ -104,44 +105,34 @@ fn check_disk_calls(
 }
 
 #[test]
-fn each_disk_call_fails(rt: HostRuntime) -> Result<(), Fail> {
-    let file = formatted(rt.alloc(), FORMAT_STOPS)?;
+fn each_disk_call_fails(rt: HostRuntime) -> Result<(), NoMemory> {
     let story = five_commits(rt.alloc())?;
-    check_disk_calls(&rt, rt.alloc(), &story, &file)?;
-    Ok(())
+    check_disk_calls(&rt, rt.alloc(), &story, FORMAT_STOPS)
 }
 
 #[test]
-fn each_disk_call_fails_under_way(rt: HostRuntime) -> Result<(), Fail> {
-    let file = formatted(rt.alloc(), FORMAT_SMALL)?;
+fn each_disk_call_fails_under_way(rt: HostRuntime) -> Result<(), NoMemory> {
     let story = four_transactions(rt.alloc())?;
-    check_disk_calls(&rt, rt.alloc(), &story, &file)?;
-    Ok(())
+    check_disk_calls(&rt, rt.alloc(), &story, FORMAT_SMALL)
 }
 
 #[test]
-fn each_disk_call_fails_in_two_sessions(rt: HostRuntime) -> Result<(), Fail> {
-    let file = formatted(rt.alloc(), FORMAT_SMALL)?;
+fn each_disk_call_fails_in_two_sessions(rt: HostRuntime) -> Result<(), NoMemory> {
     let story = two_sessions(rt.alloc())?;
-    check_disk_calls(&rt, rt.alloc(), &story, &file)?;
-    Ok(())
+    check_disk_calls(&rt, rt.alloc(), &story, FORMAT_SMALL)
 }
 
 #[test]
-fn each_disk_call_fails_with_savepoints(rt: HostRuntime) -> Result<(), Fail> {
-    let file = formatted(rt.alloc(), FORMAT_SMALL)?;
+fn each_disk_call_fails_with_savepoints(rt: HostRuntime) -> Result<(), NoMemory> {
     let story = savepoints(rt.alloc())?;
-    check_disk_calls(&rt, rt.alloc(), &story, &file)?;
-    Ok(())
+    check_disk_calls(&rt, rt.alloc(), &story, FORMAT_SMALL)
 }
 
 // Behind a fault no session is resumed: none of those that wait for the transaction whose commit failed.
 #[test]
-fn each_disk_call_fails_with_a_queue(rt: HostRuntime) -> Result<(), Fail> {
-    let file = formatted(rt.alloc(), FORMAT_SMALL)?;
+fn each_disk_call_fails_with_a_queue(rt: HostRuntime) -> Result<(), NoMemory> {
     let story = queues(rt.alloc())?;
-    check_disk_calls(&rt, rt.alloc(), &story, &file)?;
-    Ok(())
+    check_disk_calls(&rt, rt.alloc(), &story, FORMAT_SMALL)
 }
 
 // Lines that are skipped, so that the first take ends with a front of the script, and then the script.
@@ -188,7 +179,7 @@ fn each_take_fails(rt: HostRuntime) -> Result<(), Fail> {
             end.status == Status::SourceFault,
             "take {take}, byte {front}"
         );
-        assert_eq!(rt; end.sink.bytes(), held, "take {take}, byte {front}");
+        assert!(rt; end.sink.bytes() == held, "take {take}, byte {front}");
         check_left(&rt, rt.alloc(), &story, &end, &[Pick::New])?;
     }
     Ok(())
@@ -209,7 +200,7 @@ fn each_put_fails(rt: HostRuntime) -> Result<(), Fail> {
         let end = run_over(rt.alloc(), RUN, &file, story.script.as_bytes(), failing)?;
         let held = first_lines(&story.replies, before);
         assert!(rt; end.status == Status::SinkFault, "put behind {before}");
-        assert_eq!(rt; end.sink.bytes(), held, "put behind {before}");
+        assert!(rt; end.sink.bytes() == held, "put behind {before}");
         let left = (end.disk.calls(), answered(held));
         if left != checked {
             check_left(&rt, rt.alloc(), &story, &end, &[Pick::New])?;

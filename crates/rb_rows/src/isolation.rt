@@ -1,6 +1,6 @@
 //! What transactions see of each other: a dialogue for each case of docs/ISOLATION.md in each of its modes, over a file
 //! with two rows; and what a mode refuses.
-use crate::dialogues::{add_commits_of, check, check_each};
+use crate::dialogues::{check, check_each};
 use crate::doubles::{FORMAT_LARGE, formatted};
 use std::test::Fail;
 
@@ -99,11 +99,11 @@ fn read_only(rt: HostRuntime) -> Result<(), Fail> {
     Ok(())
 }
 
-// Worked rows of the modes, over a fresh file each. Each commit above the snapshot has changed the row of the write
-// that is too old, and what tells of the first ones was given up.
+// Worked rows of the modes, over a fresh file each.
 #[test]
 fn modes(rt: HostRuntime) -> Result<(), Fail> {
-    let rows: [(&str, &[u8]); 4] = [
+    let rows: [(&str, &[u8]); 5] = [
+        ("serializable and too old", TOO_OLD),
         ("own entry is not the end", OWN_ENTRY),
         ("changed back", CHANGED_BACK),
         ("read-only snapshot", READ_ONLY_SNAPSHOT),
@@ -111,20 +111,26 @@ fn modes(rt: HostRuntime) -> Result<(), Fail> {
     ];
     let file = formatted(rt.alloc(), FORMAT_LARGE)?;
     check_each(&rt, rt.alloc(), &file, &rows)?;
-    let mut old = String::new(rt.alloc());
-    add_commits_of(&mut old, "insert 1 1 1 a", 1, 1)?;
-    old.push_str("set 2 serializable\n#> 2 ok\n")?;
-    add_commits_of(&mut old, "update 1 1 1 b", 2, 81)?;
-    old.push_str("update 2 1 1 x\n#> 2 too old 1 65\n")?;
-    let _ = check(
-        &rt,
-        rt.alloc(),
-        "serializable and too old",
-        &file,
-        old.as_bytes(),
-    )?;
     Ok(())
 }
+
+// The commits above the snapshot have changed the row, and what tells of the first of them was given up.
+const TOO_OLD: &[u8] = b"\
+insert 1 1 1 a
+#> 1 ok
+commit 1
+#> 1 committed 1
+set 2 serializable
+#> 2 ok
+#* 2 81
+update 1 1 1 b
+#> 1 ok
+commit 1
+#> 1 committed @
+#.
+update 2 1 1 x
+#> 2 too old 1 65
+";
 
 // Eight commits above the snapshot changed the other row of the block, and the session's own change stands over them.
 const OWN_ENTRY: &[u8] = b"\

@@ -65,7 +65,7 @@ fn check_stops(
 ) -> Result<Vec<Vec<u8>>, NoMemory> {
     let images = left_by(alloc, file, b"", &PICKS)?;
     for image in &images {
-        assert_eq!(rt; shown(alloc, story, image)?, flushes);
+        assert!(rt; shown(alloc, story, image)? == flushes);
     }
     Ok(images)
 }
@@ -86,9 +86,9 @@ fn check_failure(
     let end = run_over(alloc, RUN, file, b"", failing)?;
     assert!(rt; end.status == Status::DiskFault, "call {call}");
     assert!(rt; end.sink.bytes().is_empty(), "call {call}");
-    assert_eq!(rt; end.disk.calls(), call);
+    assert!(rt; end.disk.calls() == call);
     let found = shown(alloc, story, end.disk.bytes())?;
-    assert_eq!(rt; found, flushes, "call {call}");
+    assert!(rt; found == flushes, "call {call}");
     Ok(())
 }
 
@@ -175,15 +175,13 @@ fn check_all_stops(rt: &impl Abort, alloc: Global, pick: Pick) -> Result<(), NoM
 }
 
 #[test]
-fn stops(rt: HostRuntime) -> Result<(), Fail> {
-    check_all_stops(&rt, rt.alloc(), Pick::New)?;
-    Ok(())
+fn stops(rt: HostRuntime) -> Result<(), NoMemory> {
+    check_all_stops(&rt, rt.alloc(), Pick::New)
 }
 
 #[test]
-fn stops_behind_torn_writes(rt: HostRuntime) -> Result<(), Fail> {
-    check_all_stops(&rt, rt.alloc(), Pick::Fill(1))?;
-    Ok(())
+fn stops_behind_torn_writes(rt: HostRuntime) -> Result<(), NoMemory> {
+    check_all_stops(&rt, rt.alloc(), Pick::Fill(1))
 }
 
 #[test]
@@ -207,15 +205,13 @@ fn check_later_failures(rt: &impl Abort, alloc: Global, pick: Pick) -> Result<()
 }
 
 #[test]
-fn later_failures(rt: HostRuntime) -> Result<(), Fail> {
-    check_later_failures(&rt, rt.alloc(), Pick::New)?;
-    Ok(())
+fn later_failures(rt: HostRuntime) -> Result<(), NoMemory> {
+    check_later_failures(&rt, rt.alloc(), Pick::New)
 }
 
 #[test]
-fn later_failures_behind_torn_writes(rt: HostRuntime) -> Result<(), Fail> {
-    check_later_failures(&rt, rt.alloc(), Pick::Fill(1))?;
-    Ok(())
+fn later_failures_behind_torn_writes(rt: HostRuntime) -> Result<(), NoMemory> {
+    check_later_failures(&rt, rt.alloc(), Pick::Fill(1))
 }
 
 // The stops of openings behind those stops of the long transaction that left so many runs of the log.
@@ -233,14 +229,12 @@ fn check_long(rt: &impl Abort, alloc: Global, runs: usize) -> Result<(), NoMemor
 
 // What puts back 32 changes takes two runs of the log, of which the first may be there alone.
 #[test]
-fn stops_behind_first_run(rt: HostRuntime) -> Result<(), Fail> {
-    check_long(&rt, rt.alloc(), 1)?;
-    Ok(())
+fn stops_behind_first_run(rt: HostRuntime) -> Result<(), NoMemory> {
+    check_long(&rt, rt.alloc(), 1)
 }
 
 // The records of 41 changes lie in two extents.
 #[test]
-fn stops_behind_both_runs(rt: HostRuntime) -> Result<(), Fail> {
-    check_long(&rt, rt.alloc(), 2)?;
-    Ok(())
+fn stops_behind_both_runs(rt: HostRuntime) -> Result<(), NoMemory> {
+    check_long(&rt, rt.alloc(), 2)
 }

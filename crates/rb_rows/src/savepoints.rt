@@ -1,18 +1,20 @@
 //! Savepoints and locks: dialogues over a fresh file each, what a rollback to a savepoint leaves of cursors, rows and
 //! the room of a segment, and what a lock holds.
-use crate::dialogues::{check, check_each, repeated};
+use crate::dialogues::check_each;
 use crate::doubles::{FORMAT_LARGE, FORMAT_SMALL, formatted};
 use std::test::Fail;
 
 #[test]
 fn savepoints(rt: HostRuntime) -> Result<(), Fail> {
-    let rows: [(&str, &[u8]); 6] = [
+    let rows: [(&str, &[u8]); 8] = [
         ("sixteen names", SIXTEEN_NAMES),
         ("a savepoint frees a row", FREED_ROW),
         ("moved names", MOVED_NAMES),
         ("the ends of a transaction", ENDS),
         ("cursors", CURSORS),
         ("again and again", AGAIN),
+        ("a slot without changes", SLOT_WITHOUT_CHANGES),
+        ("the turn of records put back", TURN_OF_RECORDS_PUT_BACK),
     ];
     let file = formatted(rt.alloc(), FORMAT_LARGE)?;
     check_each(&rt, rt.alloc(), &file, &rows)?;
@@ -641,17 +643,23 @@ lock 1 1 1
 
 // Forty records fill the first turn of a segment, and are put back to a savepoint. Their transaction keeps that turn,
 // as it keeps its slot: so another one finds the ring full. Its end takes no number, and the turn is given up.
-#[test]
-fn slot_without_changes(rt: HostRuntime) -> Result<(), Fail> {
-    let file = formatted(rt.alloc(), FORMAT_LARGE)?;
-    let mut dialogue = b"savepoint 1 p\n#> 1 ok\ninsert 1 1 1 a\n#> 1 ok\n".to_vec(rt.alloc())?;
-    let updates = repeated(rt.alloc(), b"update 1 1 1 a\n#> 1 ok\n", 39)?;
-    dialogue.extend_from_slice(&updates)?;
-    dialogue.extend_from_slice(b"rollback 1 p\n#> 1 ok\ninsert 2 1 1 b\n#> 2 ok\n")?;
-    let others = repeated(rt.alloc(), b"update 2 1 1 b\n#> 2 ok\n", 279)?;
-    dialogue.extend_from_slice(&others)?;
-    dialogue.extend_from_slice(
-        b"\
+const SLOT_WITHOUT_CHANGES: &[u8] = b"\
+savepoint 1 p
+#> 1 ok
+insert 1 1 1 a
+#> 1 ok
+#* 1 39
+update 1 1 1 a
+#> 1 ok
+#.
+rollback 1 p
+#> 1 ok
+insert 2 1 1 b
+#> 2 ok
+#* 1 279
+update 2 1 1 b
+#> 2 ok
+#.
 update 2 1 1 c
 #> 2 rollback full 0 320
 insert 1 1 2 c
@@ -668,23 +676,23 @@ commit 2
 #> 2 committed 1
 commit 1
 #> 1 ok
-",
-    )?;
-    let left = check(&rt, rt.alloc(), "pinned", &file, &dialogue)?;
-    let second = b"open 1 c 1 0 9\n#> 1 ok\nfetch 1 c 9\n#> 1 row 1 c\n#> 1 end\n";
-    let _ = check(&rt, rt.alloc(), "second run", left.bytes(), second)?;
-    Ok(())
-}
+#--
+open 1 c 1 0 9
+#> 1 ok
+fetch 1 c 9
+#> 1 row 1 c
+#> 1 end
+";
 
 // A record that is put back to a savepoint is one of its transaction all the same: its turn has the number of the
 // commit. Record 40 is of commit 2 and the last of the first turn, and record 81 gives that turn up.
-#[test]
-fn turn_of_records_put_back(rt: HostRuntime) -> Result<(), Fail> {
-    let file = formatted(rt.alloc(), FORMAT_LARGE)?;
-    let mut dialogue = b"insert 1 1 1 a\n#> 1 ok\n".to_vec(rt.alloc())?;
-    dialogue.extend_from_slice(&repeated(rt.alloc(), b"update 1 1 1 a\n#> 1 ok\n", 38)?)?;
-    dialogue.extend_from_slice(
-        b"\
+const TURN_OF_RECORDS_PUT_BACK: &[u8] = b"\
+insert 1 1 1 a
+#> 1 ok
+#* 1 38
+update 1 1 1 a
+#> 1 ok
+#.
 commit 1
 #> 1 committed 1
 savepoint 1 p
@@ -697,11 +705,10 @@ lock 1 1 1
 #> 1 ok
 commit 1
 #> 1 committed 2
-",
-    )?;
-    dialogue.extend_from_slice(&repeated(rt.alloc(), b"lock 1 1 1\n#> 1 ok\n", 39)?)?;
-    dialogue.extend_from_slice(
-        b"\
+#* 1 39
+lock 1 1 1
+#> 1 ok
+#.
 commit 1
 #> 1 committed 3
 marks
@@ -710,11 +717,7 @@ lock 1 1 1
 #> 1 ok
 marks
 #> segment 0 writes 81 lost 2
-",
-    )?;
-    let _ = check(&rt, rt.alloc(), "turns", &file, &dialogue)?;
-    Ok(())
-}
+";
 
 // A rollback to a savepoint takes a slot of the log for each change that it puts back, and there is room for it: of
 // 63 slots 31 have changes, and 32 are kept for the put backs and the end. Behind it two are kept, for one change and
@@ -722,10 +725,20 @@ marks
 #[test]
 fn log_full_keeps_savepoint_room(rt: HostRuntime) -> Result<(), Fail> {
     let file = formatted(rt.alloc(), FORMAT_SMALL)?;
-    let mut dialogue = b"insert 1 1 1 a\n#> 1 ok\nsavepoint 1 p\n#> 1 ok\n".to_vec(rt.alloc())?;
-    dialogue.extend_from_slice(&repeated(rt.alloc(), b"update 1 1 1 b\n#> 1 ok\n", 30)?)?;
-    dialogue.extend_from_slice(
-        b"\
+    let rows: [(&str, &[u8]); 1] = [("log full keeps savepoint room", SAVEPOINT_ROOM)];
+    check_each(&rt, rt.alloc(), &file, &rows)?;
+    Ok(())
+}
+
+const SAVEPOINT_ROOM: &[u8] = b"\
+insert 1 1 1 a
+#> 1 ok
+savepoint 1 p
+#> 1 ok
+#* 1 30
+update 1 1 1 b
+#> 1 ok
+#.
 lock 1 1 1
 #> 1 log full
 savepoint 1 q
@@ -736,10 +749,10 @@ lock 1 1 1
 #> 1 log full
 commit 1
 #> 1 committed 1
-",
-    )?;
-    let left = check(&rt, rt.alloc(), "commit", &file, &dialogue)?;
-    let second = b"open 1 c 1 0 9\n#> 1 ok\nfetch 1 c 9\n#> 1 row 1 a\n#> 1 end\n";
-    let _ = check(&rt, rt.alloc(), "rows", left.bytes(), second)?;
-    Ok(())
-}
+#--
+open 1 c 1 0 9
+#> 1 ok
+fetch 1 c 9
+#> 1 row 1 a
+#> 1 end
+";

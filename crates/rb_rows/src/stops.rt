@@ -25,12 +25,12 @@ fn check_stops(
     let script = story.script.as_bytes();
     let good = run_over(alloc, RUN, file, script, NONE)?;
     assert!(rt; good.status == Status::Done);
-    assert_eq!(rt; good.sink.bytes(), story.replies.as_slice());
+    assert!(rt; good.sink.bytes() == story.replies.as_slice());
     let opened = opened(alloc, file)?;
     let mut syncs = 0;
     for call in 1..=good.disk.calls() {
         let stopped = run_stopped(alloc, file, script, call)?;
-        assert_eq!(rt; stopped.disk.calls(), call);
+        assert!(rt; stopped.disk.calls() == call);
         // Before a write, and after a sync, each pick leaves what the disk reads as.
         let writes = call > opened.calls() && stopped.disk.syncs() == syncs;
         check_left(
@@ -45,45 +45,40 @@ fn check_stops(
     Ok(())
 }
 
+// All stops of a script over a new file.
+fn check_new(rt: &impl Abort, alloc: Global, story: &Story, format: &str) -> Result<(), NoMemory> {
+    check_stops(rt, alloc, story, &formatted(alloc, format)?, &PICKS)
+}
+
 #[test]
-fn stops(rt: HostRuntime) -> Result<(), Fail> {
-    let file = formatted(rt.alloc(), FORMAT_STOPS)?;
+fn stops(rt: HostRuntime) -> Result<(), NoMemory> {
     let story = five_commits(rt.alloc())?;
-    check_stops(&rt, rt.alloc(), &story, &file, &PICKS)?;
-    Ok(())
+    check_new(&rt, rt.alloc(), &story, FORMAT_STOPS)
 }
 
 #[test]
-fn stops_under_way(rt: HostRuntime) -> Result<(), Fail> {
-    let file = formatted(rt.alloc(), FORMAT_SMALL)?;
+fn stops_under_way(rt: HostRuntime) -> Result<(), NoMemory> {
     let story = four_transactions(rt.alloc())?;
-    check_stops(&rt, rt.alloc(), &story, &file, &PICKS)?;
-    Ok(())
+    check_new(&rt, rt.alloc(), &story, FORMAT_SMALL)
 }
 
 #[test]
-fn stops_of_two_sessions(rt: HostRuntime) -> Result<(), Fail> {
-    let file = formatted(rt.alloc(), FORMAT_SMALL)?;
+fn stops_of_two_sessions(rt: HostRuntime) -> Result<(), NoMemory> {
     let story = two_sessions(rt.alloc())?;
-    check_stops(&rt, rt.alloc(), &story, &file, &PICKS)?;
-    Ok(())
+    check_new(&rt, rt.alloc(), &story, FORMAT_SMALL)
 }
 
 #[test]
-fn stops_of_savepoints(rt: HostRuntime) -> Result<(), Fail> {
-    let file = formatted(rt.alloc(), FORMAT_SMALL)?;
+fn stops_of_savepoints(rt: HostRuntime) -> Result<(), NoMemory> {
     let story = savepoints(rt.alloc())?;
-    check_stops(&rt, rt.alloc(), &story, &file, &PICKS)?;
-    Ok(())
+    check_new(&rt, rt.alloc(), &story, FORMAT_SMALL)
 }
 
 // A restart has no waiting sessions, and the rows of the commits.
 #[test]
-fn stops_with_a_queue(rt: HostRuntime) -> Result<(), Fail> {
-    let file = formatted(rt.alloc(), FORMAT_SMALL)?;
+fn stops_with_a_queue(rt: HostRuntime) -> Result<(), NoMemory> {
     let story = queues(rt.alloc())?;
-    check_stops(&rt, rt.alloc(), &story, &file, &PICKS)?;
-    Ok(())
+    check_new(&rt, rt.alloc(), &story, FORMAT_SMALL)
 }
 
 // The log slots of the file: 96 of 2,048 bytes.

@@ -1,7 +1,9 @@
 //! The worked rows: dialogues, and what a run leaves for the next one. What is expected stands in the rows, and is no
 //! output of the program.
-use crate::dialogues::{add_commits_of, check, check_each, repeated, replies_of};
-use crate::doubles::{FORMAT_LARGE, FORMAT_SMALL, Failing, NONE, RUN, formatted, run_over};
+use crate::dialogues::{check, check_each, repeated, replies_of};
+use crate::doubles::{
+    FORMAT_LARGE, FORMAT_SMALL, FORMAT_TWO_BLOCKS, Failing, NONE, RUN, formatted, run_over,
+};
 use crate::stories::{PICKS, image};
 use rb_base::NoMemory;
 use rb_engine::Engine;
@@ -526,41 +528,6 @@ fn long_lines(rt: HostRuntime) -> Result<(), Fail> {
     Ok(())
 }
 
-// Rows come by the remainder of their keys.
-#[test]
-fn two_blocks(rt: HostRuntime) -> Result<(), Fail> {
-    let dialogue = b"\
-insert 1 1 3 c
-#> 1 ok
-insert 1 1 0 a
-#> 1 ok
-commit 1
-#> 1 committed 1
-insert 1 1 2 d
-#> 1 ok
-insert 1 1 1 b
-#> 1 ok
-open 1 c 1 0 9
-#> 1 ok
-fetch 1 c 9
-#> 1 row 0 a
-#> 1 row 2 d
-#> 1 row 1 b
-#> 1 row 3 c
-#> 1 end
-open 1 d 1 1 2
-#> 1 ok
-fetch 1 d 9
-#> 1 row 2 d
-#> 1 row 1 b
-#> 1 end
-";
-    let format = "f format tables=1 blocks=2 segments=1 log=64";
-    let file = formatted(rt.alloc(), format)?;
-    let _ = check(&rt, rt.alloc(), "two blocks", &file, dialogue)?;
-    Ok(())
-}
-
 // Updates and deletes, over a fresh file each.
 #[test]
 fn updates_and_deletes(rt: HostRuntime) -> Result<(), Fail> {
@@ -755,11 +722,11 @@ fetch 1 short 5
 // What a first run leaves for a second one.
 #[test]
 fn second_runs(rt: HostRuntime) -> Result<(), Fail> {
-    let rows: [(&str, &[u8], &[u8]); 7] = [
+    let rows: [(&str, &[u8]); 7] = [
         (
             "nothing",
-            b"",
             b"\
+#--
 open 1 c 1 0 9
 #> 1 ok
 fetch 1 c 5
@@ -771,8 +738,7 @@ fetch 1 c 5
             b"\
 insert 1 1 1 a
 #> 1 ok
-",
-            b"\
+#--
 open 1 c 1 0 9
 #> 1 ok
 fetch 1 c 5
@@ -788,8 +754,7 @@ commit 1
 #> 1 committed 1
 insert 1 1 2 b
 #> 1 ok
-",
-            b"\
+#--
 open 1 c 1 0 9
 #> 1 ok
 fetch 1 c 5
@@ -804,8 +769,7 @@ insert 1 1 1 a
 #> 1 ok
 commit 1
 #> 1 committed 1
-",
-            b"\
+#--
 insert 1 1 1 b
 #> 1 duplicate
 insert 1 1 2 b
@@ -829,8 +793,7 @@ delete 1 1 2
 #> 1 ok
 commit 1
 #> 1 committed 2
-",
-            b"\
+#--
 open 1 c 1 0 9
 #> 1 ok
 fetch 1 c 5
@@ -851,8 +814,7 @@ update 1 1 1 c
 #> 1 ok
 delete 1 1 2
 #> 1 ok
-",
-            b"\
+#--
 open 1 c 1 0 9
 #> 1 ok
 fetch 1 c 5
@@ -872,8 +834,7 @@ delete 1 1 1
 #> 1 ok
 commit 1
 #> 1 committed 2
-",
-            b"\
+#--
 update 1 1 1 b
 #> 1 not found
 insert 1 1 1 b
@@ -884,41 +845,41 @@ commit 1
         ),
     ];
     let file = formatted(rt.alloc(), FORMAT_SMALL)?;
-    for (name, first, second) in rows {
-        let left = check(&rt, rt.alloc(), name, &file, first)?;
-        let _ = check(&rt, rt.alloc(), name, left.bytes(), second)?;
-    }
+    check_each(&rt, rt.alloc(), &file, &rows)?;
     Ok(())
 }
 
-// The commits of these numbers, of one write each.
-fn add_commits(dialogue: &mut String, first: u64, last: u64) -> Result<(), NoMemory> {
-    for number in first..=last {
-        let word = if number == 1 { "insert" } else { "update" };
-        write!(
-            dialogue,
-            "{word} 1 1 1 a\n#> 1 ok\ncommit 1\n#> 1 committed {number}\n"
-        )
-        .map_err(|_| NoMemory)?;
-    }
-    Ok(())
-}
-
-// Commits of two groups each. With 31 of them 62 slots of a small file are used.
-fn one_row_commits(alloc: Global) -> Result<String, NoMemory> {
-    let mut dialogue = String::new(alloc);
-    add_commits(&mut dialogue, 1, 31)?;
-    Ok(dialogue)
-}
-
-// One slot has room still, and a write asks for three: its own, its put back and the end of its transaction. What asks
-// for none goes on.
+// A log that is full.
 #[test]
-fn log_full_by_room(rt: HostRuntime) -> Result<(), Fail> {
+fn full_logs(rt: HostRuntime) -> Result<(), Fail> {
+    let rows: [(&str, &[u8]); 4] = [
+        ("log full by room", LOG_FULL),
+        ("log full keeps rollback room", ROLLBACK_ROOM),
+        (
+            "log full keeps rollback room, second run",
+            ROLLBACK_ROOM_LATER,
+        ),
+        ("log full keeps commit room", COMMIT_ROOM),
+    ];
     let file = formatted(rt.alloc(), FORMAT_SMALL)?;
-    let mut dialogue = one_row_commits(rt.alloc())?;
-    dialogue.push_str(
-        "\
+    check_each(&rt, rt.alloc(), &file, &rows)?;
+    Ok(())
+}
+
+// Commits of two groups each: with 31 of them 62 slots of a small file are used. One slot has room still, and a write
+// asks for three: its own, its put back and the end of its transaction. What asks for none goes on. The file is
+// readable still.
+const LOG_FULL: &[u8] = b"\
+insert 1 1 1 a
+#> 1 ok
+commit 1
+#> 1 committed 1
+#* 2 31
+update 1 1 1 a
+#> 1 ok
+commit 1
+#> 1 committed @
+#.
 update 1 1 1 a
 #> 1 log full
 delete 1 1 1
@@ -929,93 +890,104 @@ update 1 1 2 a
 #> 1 not found
 commit 1
 #> 1 ok
-",
-    )?;
-    let _ = check(&rt, rt.alloc(), "log full", &file, dialogue.as_bytes())?;
-    Ok(())
-}
+#--
+update 1 1 1 a
+#> 1 log full
+#--
+open 1 c 1 0 9
+#> 1 ok
+fetch 1 c 5
+#> 1 row 1 a
+#> 1 end
+";
 
-// The file is readable still.
-#[test]
-fn log_full_by_room_second_run(rt: HostRuntime) -> Result<(), Fail> {
-    let file = formatted(rt.alloc(), FORMAT_SMALL)?;
-    let commits = one_row_commits(rt.alloc())?;
-    let again = b"update 1 1 1 a\n#> 1 log full\n";
-    let first = check(&rt, rt.alloc(), "commits", &file, commits.as_bytes())?;
-    let second = check(&rt, rt.alloc(), "again", first.bytes(), again)?;
-    let _ = check(&rt, rt.alloc(), "rows", second.bytes(), ONE_ROW)?;
-    Ok(())
-}
-
-// Each change keeps room for its own put back, and the transaction for its end: 31 changes with both fill 63 slots.
-fn full_transaction(alloc: Global) -> Result<Vec<u8>, NoMemory> {
-    let mut dialogue = INSERT_ONE.to_vec(alloc).map_err(|_| NoMemory)?;
-    let updates = repeated(alloc, b"update 1 1 1 a\n#> 1 ok\n", 30)?;
-    dialogue.extend_from_slice(&updates).map_err(|_| NoMemory)?;
-    Ok(dialogue)
-}
-
-const INSERT_ONE: &[u8] = b"insert 1 1 1 a\n#> 1 ok\n";
-
-// A transaction is put back in a log that is full for it. It leaves no room for another write.
-#[test]
-fn log_full_keeps_rollback_room(rt: HostRuntime) -> Result<(), Fail> {
-    let file = formatted(rt.alloc(), FORMAT_SMALL)?;
-    let mut dialogue = full_transaction(rt.alloc())?;
-    dialogue.extend_from_slice(
-        b"\
+// Each change keeps room for its own put back, and the transaction for its end: 31 changes with both fill 63 slots. A
+// transaction is put back in a log that is full for it. It leaves no room for another write.
+const ROLLBACK_ROOM: &[u8] = b"\
+insert 1 1 1 a
+#> 1 ok
+#* 1 30
+update 1 1 1 a
+#> 1 ok
+#.
 update 1 1 1 a
 #> 1 log full
 rollback 1
 #> 1 ok
 insert 1 1 1 a
 #> 1 log full
-",
-    )?;
-    let left = check(&rt, rt.alloc(), "rollback", &file, &dialogue)?;
-    let _ = check(&rt, rt.alloc(), "rows", left.bytes(), NO_ROW)?;
-    Ok(())
-}
+#--
+open 1 c 1 0 9
+#> 1 ok
+fetch 1 c 5
+#> 1 end
+";
 
 // All of it is made last at the end of the script. So the next opening puts it back, and there is no room.
-#[test]
-fn log_full_keeps_rollback_room_second_run(rt: HostRuntime) -> Result<(), Fail> {
-    let file = formatted(rt.alloc(), FORMAT_SMALL)?;
-    let dialogue = full_transaction(rt.alloc())?;
-    let first = check(&rt, rt.alloc(), "full", &file, &dialogue)?;
-    let full = b"insert 1 1 1 a\n#> 1 log full\n";
-    let second = check(&rt, rt.alloc(), "no room", first.bytes(), full)?;
-    let _ = check(&rt, rt.alloc(), "rows", second.bytes(), NO_ROW)?;
-    Ok(())
-}
+const ROLLBACK_ROOM_LATER: &[u8] = b"\
+insert 1 1 1 a
+#> 1 ok
+#* 1 30
+update 1 1 1 a
+#> 1 ok
+#.
+#--
+insert 1 1 1 a
+#> 1 log full
+#--
+open 1 c 1 0 9
+#> 1 ok
+fetch 1 c 5
+#> 1 end
+";
 
 // A full transaction is committed too.
-#[test]
-fn log_full_keeps_commit_room(rt: HostRuntime) -> Result<(), Fail> {
-    let file = formatted(rt.alloc(), FORMAT_SMALL)?;
-    let mut dialogue = full_transaction(rt.alloc())?;
-    dialogue.extend_from_slice(
-        b"\
+const COMMIT_ROOM: &[u8] = b"\
+insert 1 1 1 a
+#> 1 ok
+#* 1 30
+update 1 1 1 a
+#> 1 ok
+#.
 update 1 1 1 c
 #> 1 log full
 commit 1
 #> 1 committed 1
-",
-    )?;
-    let left = check(&rt, rt.alloc(), "commit", &file, &dialogue)?;
-    let _ = check(&rt, rt.alloc(), "rows", left.bytes(), ONE_ROW)?;
+#--
+open 1 c 1 0 9
+#> 1 ok
+fetch 1 c 5
+#> 1 row 1 a
+#> 1 end
+";
+
+// What the undo keeps and gives up, and full blocks.
+#[test]
+fn undo_and_restarts(rt: HostRuntime) -> Result<(), Fail> {
+    let rows: [(&str, &[u8]); 9] = [
+        ("rollback full", ROLLBACK_FULL),
+        ("restart", RESTART),
+        ("restart marks", RESTART_MARKS),
+        ("undo turns", UNDO_TURNS),
+        ("undo extents", UNDO_EXTENTS),
+        ("undo slots", UNDO_SLOTS),
+        ("undo ring reuse", UNDO_RING_REUSE),
+        ("block full until commit", BLOCK_FULL_UNTIL_COMMIT),
+        ("block full", BLOCK_FULL),
+    ];
+    let file = formatted(rt.alloc(), FORMAT_LARGE)?;
+    check_each(&rt, rt.alloc(), &file, &rows)?;
     Ok(())
 }
 
 // One transaction fills the eight extents of its segment, is refused one record more, and is put back.
-#[test]
-fn rollback_full(rt: HostRuntime) -> Result<(), Fail> {
-    let file = formatted(rt.alloc(), FORMAT_LARGE)?;
-    let mut dialogue = INSERT_ONE.to_vec(rt.alloc())?;
-    let updates = repeated(rt.alloc(), b"update 1 1 1 u\n#> 1 ok\n", 319)?;
-    dialogue.extend_from_slice(&updates)?;
-    dialogue.extend_from_slice(
-        b"\
+const ROLLBACK_FULL: &[u8] = b"\
+insert 1 1 1 a
+#> 1 ok
+#* 1 319
+update 1 1 1 u
+#> 1 ok
+#.
 update 1 1 1 u
 #> 1 rollback full 0 320
 rollback 1
@@ -1024,14 +996,10 @@ open 1 c 1 0 9
 #> 1 ok
 fetch 1 c 1
 #> 1 end
-",
-    )?;
-    let _ = check(&rt, rt.alloc(), "rollback full", &file, &dialogue)?;
-    Ok(())
-}
+";
 
-// A commit, and an update without one that a checkpoint writes.
-const COMMIT_AND_CHECKPOINT: &[u8] = b"\
+// A commit, and an update without one that a checkpoint writes. A second run puts that back; its record stays counted.
+const RESTART: &[u8] = b"\
 insert 1 1 1 a
 #> 1 ok
 commit 1
@@ -1040,109 +1008,212 @@ update 1 1 1 x
 #> 1 ok
 checkpoint
 #> ok
+#--
+open 1 c 1 0 9
+#> 1 ok
+fetch 1 c 5
+#> 1 row 1 a
+#> 1 end
+#--
+marks
+#> segment 0 writes 2 lost 0
 ";
 
-#[test]
-fn restart_rolls_back(rt: HostRuntime) -> Result<(), Fail> {
-    let file = formatted(rt.alloc(), FORMAT_LARGE)?;
-    let left = check(&rt, rt.alloc(), "first", &file, COMMIT_AND_CHECKPOINT)?;
-    let _ = check(&rt, rt.alloc(), "second", left.bytes(), ONE_ROW)?;
-    Ok(())
-}
+// The same where the second run shows the marks.
+const RESTART_MARKS: &[u8] = b"\
+insert 1 1 1 a
+#> 1 ok
+commit 1
+#> 1 committed 1
+update 1 1 1 x
+#> 1 ok
+checkpoint
+#> ok
+#--
+marks
+#> segment 0 writes 2 lost 0
+";
 
-// The same rows where an earlier second run was stopped after any of its calls, by each pick.
-#[test]
-fn restart_rolls_back_behind_stops(rt: HostRuntime) -> Result<(), Fail> {
-    let file = formatted(rt.alloc(), FORMAT_SMALL)?;
-    let left = check(&rt, rt.alloc(), "first", &file, COMMIT_AND_CHECKPOINT)?;
-    let second = check(&rt, rt.alloc(), "second", left.bytes(), ONE_ROW)?;
-    for call in 1..=second.calls() {
-        for pick in PICKS {
-            let stopped = image(rt.alloc(), &second, call, pick)?;
-            let _ = check(&rt, rt.alloc(), "behind a stop", &stopped, ONE_ROW)?;
-        }
-    }
-    Ok(())
-}
-
-// The record of what was put back stays counted.
-#[test]
-fn restart_rolls_back_marks(rt: HostRuntime) -> Result<(), Fail> {
-    let file = formatted(rt.alloc(), FORMAT_LARGE)?;
-    let left = check(&rt, rt.alloc(), "first", &file, COMMIT_AND_CHECKPOINT)?;
-    let marks = b"marks\n#> segment 0 writes 2 lost 0\n";
-    let _ = check(&rt, rt.alloc(), "second", left.bytes(), marks)?;
-    Ok(())
-}
-
-// Transactions of one row, each so many updates and what follows them. Two extents have 40 records each.
-const TURNS: [(usize, &[u8]); 11] = [
-    (
-        39,
-        b"marks\n#> segment 0 writes 40 lost 0\ncommit 1\n#> 1 committed 1\n",
-    ),
-    (
-        1,
-        b"marks\n#> segment 0 writes 41 lost 0\ncommit 1\n#> 1 committed 2\n",
-    ),
-    (
-        39,
-        b"marks\n#> segment 0 writes 80 lost 0\ncommit 1\n#> 1 committed 3\n",
-    ),
-    // The first extent takes a new turn: the records of commit 1 are given up.
-    (
-        1,
-        b"marks\n#> segment 0 writes 81 lost 1\ncommit 1\n#> 1 committed 4\n",
-    ),
-    (
-        39,
-        b"marks\n#> segment 0 writes 120 lost 1\ncommit 1\n#> 1 committed 5\n",
-    ),
-    // One transaction takes both, those of the commits 2 and 3 and then those of 4 and 5.
-    (40, b"marks\n#> segment 0 writes 160 lost 3\n"),
-    (40, b"marks\n#> segment 0 writes 200 lost 5\n"),
-    // Its own first records are the oldest now, so an extent joins, and nothing is given up.
-    (
-        1,
-        b"marks\n#> segment 0 writes 201 lost 5\ncommit 1\n#> 1 committed 6\n",
-    ),
-    (
-        39,
-        b"marks\n#> segment 0 writes 240 lost 5\ncommit 1\n#> 1 committed 7\n",
-    ),
-    (
-        1,
-        b"marks\n#> segment 0 writes 241 lost 6\ncommit 1\n#> 1 committed 8\n",
-    ),
-    // What is put back stays counted.
-    (
-        2,
-        b"rollback 1\n#> 1 ok\nmarks\n#> segment 0 writes 243 lost 6\n",
-    ),
-];
+// Transactions of one row, each so many updates and what follows them. Two extents have 40 records each: they are
+// filled, take new turns, and a third one joins. A second run finds the same marks.
+const UNDO_TURNS: &[u8] = b"\
+marks
+#> segment 0 writes 0 lost 0
+insert 1 1 1 a
+#> 1 ok
+#* 1 39
+update 1 1 1 a
+#> 1 ok
+#.
+marks
+#> segment 0 writes 40 lost 0
+commit 1
+#> 1 committed 1
+update 1 1 1 a
+#> 1 ok
+marks
+#> segment 0 writes 41 lost 0
+commit 1
+#> 1 committed 2
+#* 1 39
+update 1 1 1 a
+#> 1 ok
+#.
+marks
+#> segment 0 writes 80 lost 0
+commit 1
+#> 1 committed 3
+# The first extent takes a new turn: the records of commit 1 are given up.
+update 1 1 1 a
+#> 1 ok
+marks
+#> segment 0 writes 81 lost 1
+commit 1
+#> 1 committed 4
+#* 1 39
+update 1 1 1 a
+#> 1 ok
+#.
+marks
+#> segment 0 writes 120 lost 1
+commit 1
+#> 1 committed 5
+# One transaction takes both, those of the commits 2 and 3 and then those of 4 and 5.
+#* 1 40
+update 1 1 1 a
+#> 1 ok
+#.
+marks
+#> segment 0 writes 160 lost 3
+#* 1 40
+update 1 1 1 a
+#> 1 ok
+#.
+marks
+#> segment 0 writes 200 lost 5
+# Its own first records are the oldest now, so an extent joins, and nothing is given up.
+update 1 1 1 a
+#> 1 ok
+marks
+#> segment 0 writes 201 lost 5
+commit 1
+#> 1 committed 6
+#* 1 39
+update 1 1 1 a
+#> 1 ok
+#.
+marks
+#> segment 0 writes 240 lost 5
+commit 1
+#> 1 committed 7
+update 1 1 1 a
+#> 1 ok
+marks
+#> segment 0 writes 241 lost 6
+commit 1
+#> 1 committed 8
+# What is put back stays counted.
+#* 1 2
+update 1 1 1 a
+#> 1 ok
+#.
+rollback 1
+#> 1 ok
+marks
+#> segment 0 writes 243 lost 6
+#--
+open 1 c 1 0 9
+#> 1 ok
+fetch 1 c 5
+#> 1 row 1 a
+#> 1 end
+marks
+#> segment 0 writes 243 lost 6
+";
 
 // The same of one transaction that began in the oldest turn: an extent joins for each 40 records, up to eight. Once it
 // is committed, others of 40 records take the next turns.
-const EXTENTS: [(usize, &[u8]); 27] = [
-    (39, b"marks\n#> segment 0 writes 40 lost 0\n"),
-    (1, b"marks\n#> segment 0 writes 41 lost 0\n"),
-    (39, b"marks\n#> segment 0 writes 80 lost 0\n"),
-    // The third extent.
-    (1, b"marks\n#> segment 0 writes 81 lost 0\n"),
-    (39, b"marks\n#> segment 0 writes 120 lost 0\n"),
-    (1, b"marks\n#> segment 0 writes 121 lost 0\n"),
-    (39, b"marks\n#> segment 0 writes 160 lost 0\n"),
-    (1, b"marks\n#> segment 0 writes 161 lost 0\n"),
-    (39, b"marks\n#> segment 0 writes 200 lost 0\n"),
-    (1, b"marks\n#> segment 0 writes 201 lost 0\n"),
-    (39, b"marks\n#> segment 0 writes 240 lost 0\n"),
-    (1, b"marks\n#> segment 0 writes 241 lost 0\n"),
-    (39, b"marks\n#> segment 0 writes 280 lost 0\n"),
-    // The eighth.
-    (1, b"marks\n#> segment 0 writes 281 lost 0\n"),
-    (
-        39,
-        b"\
+const UNDO_EXTENTS: &[u8] = b"\
+marks
+#> segment 0 writes 0 lost 0
+insert 1 1 1 a
+#> 1 ok
+#* 1 39
+update 1 1 1 a
+#> 1 ok
+#.
+marks
+#> segment 0 writes 40 lost 0
+update 1 1 1 a
+#> 1 ok
+marks
+#> segment 0 writes 41 lost 0
+#* 1 39
+update 1 1 1 a
+#> 1 ok
+#.
+marks
+#> segment 0 writes 80 lost 0
+# The third extent.
+update 1 1 1 a
+#> 1 ok
+marks
+#> segment 0 writes 81 lost 0
+#* 1 39
+update 1 1 1 a
+#> 1 ok
+#.
+marks
+#> segment 0 writes 120 lost 0
+update 1 1 1 a
+#> 1 ok
+marks
+#> segment 0 writes 121 lost 0
+#* 1 39
+update 1 1 1 a
+#> 1 ok
+#.
+marks
+#> segment 0 writes 160 lost 0
+update 1 1 1 a
+#> 1 ok
+marks
+#> segment 0 writes 161 lost 0
+#* 1 39
+update 1 1 1 a
+#> 1 ok
+#.
+marks
+#> segment 0 writes 200 lost 0
+update 1 1 1 a
+#> 1 ok
+marks
+#> segment 0 writes 201 lost 0
+#* 1 39
+update 1 1 1 a
+#> 1 ok
+#.
+marks
+#> segment 0 writes 240 lost 0
+update 1 1 1 a
+#> 1 ok
+marks
+#> segment 0 writes 241 lost 0
+#* 1 39
+update 1 1 1 a
+#> 1 ok
+#.
+marks
+#> segment 0 writes 280 lost 0
+# The eighth.
+update 1 1 1 a
+#> 1 ok
+marks
+#> segment 0 writes 281 lost 0
+#* 1 39
+update 1 1 1 a
+#> 1 ok
+#.
 marks
 #> segment 0 writes 320 lost 0
 update 1 1 1 a
@@ -1151,134 +1222,174 @@ commit 1
 #> 1 committed 1
 marks
 #> segment 0 writes 320 lost 0
-",
-    ),
-    // The first turn of commit 1 is given up, and then the others.
-    (1, b"marks\n#> segment 0 writes 321 lost 1\n"),
-    (
-        39,
-        b"marks\n#> segment 0 writes 360 lost 1\ncommit 1\n#> 1 committed 2\n",
-    ),
-    (
-        40,
-        b"marks\n#> segment 0 writes 400 lost 1\ncommit 1\n#> 1 committed 3\n",
-    ),
-    (
-        40,
-        b"marks\n#> segment 0 writes 440 lost 1\ncommit 1\n#> 1 committed 4\n",
-    ),
-    (
-        40,
-        b"marks\n#> segment 0 writes 480 lost 1\ncommit 1\n#> 1 committed 5\n",
-    ),
-    (
-        40,
-        b"marks\n#> segment 0 writes 520 lost 1\ncommit 1\n#> 1 committed 6\n",
-    ),
-    (
-        40,
-        b"marks\n#> segment 0 writes 560 lost 1\ncommit 1\n#> 1 committed 7\n",
-    ),
-    (
-        40,
-        b"marks\n#> segment 0 writes 600 lost 1\ncommit 1\n#> 1 committed 8\n",
-    ),
-    (
-        40,
-        b"marks\n#> segment 0 writes 640 lost 1\ncommit 1\n#> 1 committed 9\n",
-    ),
-    // Each of the eight extents has a later turn now: that of commit 2 is given up, and then that of commit 3.
-    (1, b"marks\n#> segment 0 writes 641 lost 2\n"),
-    (
-        39,
-        b"marks\n#> segment 0 writes 680 lost 2\ncommit 1\n#> 1 committed 10\n",
-    ),
-    (
-        1,
-        b"marks\n#> segment 0 writes 681 lost 3\ncommit 1\n#> 1 committed 11\n",
-    ),
-];
+# The first turn of commit 1 is given up, and then the others.
+update 1 1 1 a
+#> 1 ok
+marks
+#> segment 0 writes 321 lost 1
+#* 1 39
+update 1 1 1 a
+#> 1 ok
+#.
+marks
+#> segment 0 writes 360 lost 1
+commit 1
+#> 1 committed 2
+#* 1 40
+update 1 1 1 a
+#> 1 ok
+#.
+marks
+#> segment 0 writes 400 lost 1
+commit 1
+#> 1 committed 3
+#* 1 40
+update 1 1 1 a
+#> 1 ok
+#.
+marks
+#> segment 0 writes 440 lost 1
+commit 1
+#> 1 committed 4
+#* 1 40
+update 1 1 1 a
+#> 1 ok
+#.
+marks
+#> segment 0 writes 480 lost 1
+commit 1
+#> 1 committed 5
+#* 1 40
+update 1 1 1 a
+#> 1 ok
+#.
+marks
+#> segment 0 writes 520 lost 1
+commit 1
+#> 1 committed 6
+#* 1 40
+update 1 1 1 a
+#> 1 ok
+#.
+marks
+#> segment 0 writes 560 lost 1
+commit 1
+#> 1 committed 7
+#* 1 40
+update 1 1 1 a
+#> 1 ok
+#.
+marks
+#> segment 0 writes 600 lost 1
+commit 1
+#> 1 committed 8
+#* 1 40
+update 1 1 1 a
+#> 1 ok
+#.
+marks
+#> segment 0 writes 640 lost 1
+commit 1
+#> 1 committed 9
+# Each of the eight extents has a later turn now: that of commit 2 is given up, and then that of commit 3.
+update 1 1 1 a
+#> 1 ok
+marks
+#> segment 0 writes 641 lost 2
+#* 1 39
+update 1 1 1 a
+#> 1 ok
+#.
+marks
+#> segment 0 writes 680 lost 2
+commit 1
+#> 1 committed 10
+update 1 1 1 a
+#> 1 ok
+marks
+#> segment 0 writes 681 lost 3
+commit 1
+#> 1 committed 11
+#--
+open 1 c 1 0 9
+#> 1 ok
+fetch 1 c 5
+#> 1 row 1 a
+#> 1 end
+marks
+#> segment 0 writes 681 lost 3
+";
 
-// A dialogue that makes a row, and then so many updates of it with what follows them.
-fn turns(alloc: Global, rows: &[(usize, &[u8])]) -> Result<Vec<u8>, NoMemory> {
-    let mut dialogue = b"marks\n#> segment 0 writes 0 lost 0\n"
-        .to_vec(alloc)
-        .map_err(|_| NoMemory)?;
-    dialogue
-        .extend_from_slice(INSERT_ONE)
-        .map_err(|_| NoMemory)?;
-    for (count, rest) in rows {
-        let updates = repeated(alloc, b"update 1 1 1 a\n#> 1 ok\n", *count)?;
-        dialogue.extend_from_slice(&updates).map_err(|_| NoMemory)?;
-        dialogue.extend_from_slice(rest).map_err(|_| NoMemory)?;
-    }
-    Ok(dialogue)
-}
-
-// The row, and these marks.
-fn row_and_marks(alloc: Global, marks: &[u8]) -> Result<Vec<u8>, NoMemory> {
-    let mut dialogue = ONE_ROW.to_vec(alloc).map_err(|_| NoMemory)?;
-    dialogue.extend_from_slice(marks).map_err(|_| NoMemory)?;
-    Ok(dialogue)
-}
-
-// The extents of a segment are filled, take new turns, and a third one joins. A second run finds the same marks.
-#[test]
-fn undo_turns(rt: HostRuntime) -> Result<(), Fail> {
-    let file = formatted(rt.alloc(), FORMAT_LARGE)?;
-    let first = turns(rt.alloc(), &TURNS)?;
-    let left = check(&rt, rt.alloc(), "turns", &file, &first)?;
-    let second = row_and_marks(rt.alloc(), b"marks\n#> segment 0 writes 243 lost 6\n")?;
-    let _ = check(&rt, rt.alloc(), "second run", left.bytes(), &second)?;
-    Ok(())
-}
-
-// All eight extents join, are full, and take new turns.
-#[test]
-fn undo_extents(rt: HostRuntime) -> Result<(), Fail> {
-    let file = formatted(rt.alloc(), FORMAT_LARGE)?;
-    let first = turns(rt.alloc(), &EXTENTS)?;
-    let left = check(&rt, rt.alloc(), "extents", &file, &first)?;
-    let second = row_and_marks(rt.alloc(), b"marks\n#> segment 0 writes 681 lost 3\n")?;
-    let _ = check(&rt, rt.alloc(), "second run", left.bytes(), &second)?;
-    Ok(())
-}
-
-// The first and the last of some commits of one record each, and what is lost after them: the sixteen table slots are
-// taken again before an extent takes a new turn.
-const SLOTS_TAKEN: [(u64, u64, u64); 7] = [
-    (1, 1, 0),
-    (2, 16, 0),
-    (17, 17, 1),
-    (18, 40, 24),
-    (41, 41, 25),
-    (42, 80, 64),
-    (81, 81, 65),
-];
-
-#[test]
-fn undo_slots(rt: HostRuntime) -> Result<(), Fail> {
-    let file = formatted(rt.alloc(), FORMAT_LARGE)?;
-    let mut dialogue = String::new(rt.alloc());
-    for (first, last, lost) in SLOTS_TAKEN {
-        add_commits(&mut dialogue, first, last)?;
-        write!(dialogue, "marks\n#> segment 0 writes {last} lost {lost}\n")?;
-    }
-    let _ = check(&rt, rt.alloc(), "slots", &file, dialogue.as_bytes())?;
-    Ok(())
-}
+// Some commits of one record each, and what is lost after them: the sixteen table slots are taken again before an
+// extent takes a new turn.
+const UNDO_SLOTS: &[u8] = b"\
+insert 1 1 1 a
+#> 1 ok
+commit 1
+#> 1 committed 1
+marks
+#> segment 0 writes 1 lost 0
+#* 2 16
+update 1 1 1 a
+#> 1 ok
+commit 1
+#> 1 committed @
+#.
+marks
+#> segment 0 writes 16 lost 0
+update 1 1 1 a
+#> 1 ok
+commit 1
+#> 1 committed 17
+marks
+#> segment 0 writes 17 lost 1
+#* 18 40
+update 1 1 1 a
+#> 1 ok
+commit 1
+#> 1 committed @
+#.
+marks
+#> segment 0 writes 40 lost 24
+update 1 1 1 a
+#> 1 ok
+commit 1
+#> 1 committed 41
+marks
+#> segment 0 writes 41 lost 25
+#* 42 80
+update 1 1 1 a
+#> 1 ok
+commit 1
+#> 1 committed @
+#.
+marks
+#> segment 0 writes 80 lost 64
+update 1 1 1 a
+#> 1 ok
+commit 1
+#> 1 committed 81
+marks
+#> segment 0 writes 81 lost 65
+";
 
 // 79 records lead back to the snapshot. Record 81 takes the place of the first one, and its transaction the table slot
 // of commit 65: so the other cursor, at the same snapshot, is too old.
-#[test]
-fn undo_ring_reuse(rt: HostRuntime) -> Result<(), Fail> {
-    let file = formatted(rt.alloc(), FORMAT_LARGE)?;
-    let mut dialogue = String::new(rt.alloc());
-    add_commits(&mut dialogue, 1, 1)?;
-    dialogue.push_str("open 2 c 1 0 9\n#> 2 ok\nopen 2 d 1 0 9\n#> 2 ok\n")?;
-    add_commits_of(&mut dialogue, "update 1 1 1 u", 2, 80)?;
-    dialogue.push_str(
-        "\
+const UNDO_RING_REUSE: &[u8] = b"\
+insert 1 1 1 a
+#> 1 ok
+commit 1
+#> 1 committed 1
+open 2 c 1 0 9
+#> 2 ok
+open 2 d 1 0 9
+#> 2 ok
+#* 2 80
+update 1 1 1 u
+#> 1 ok
+commit 1
+#> 1 committed @
+#.
 fetch 2 c 1
 #> 2 row 1 a
 update 1 1 1 u
@@ -1296,30 +1407,105 @@ open 2 d 1 0 9
 fetch 2 d 9
 #> 2 row 1 u
 #> 2 end
-",
-    )?;
-    let _ = check(
-        &rt,
-        rt.alloc(),
-        "undo ring reuse",
-        &file,
-        dialogue.as_bytes(),
-    )?;
+";
+
+// Sixteen keys of one home. The cell of a deleted row is free once its delete is committed.
+const BLOCK_FULL_UNTIL_COMMIT: &[u8] = b"\
+#* 0 15
+insert 1 1 @ a
+#> 1 ok
+#.
+commit 1
+#> 1 committed 1
+delete 1 1 0
+#> 1 ok
+insert 1 1 16 a
+#> 1 block full
+commit 1
+#> 1 committed 2
+insert 1 1 16 a
+#> 1 ok
+";
+
+// The same for another session: keys that one has changed are in use for all.
+const BLOCK_FULL: &[u8] = b"\
+#* 0 15
+insert 1 1 @ a
+#> 1 ok
+#.
+insert 1 1 16 a
+#> 1 block full
+insert 2 1 16 a
+#> 2 block full
+commit 1
+#> 1 committed 1
+delete 1 1 0
+#> 1 ok
+insert 2 1 16 a
+#> 2 block full
+commit 1
+#> 1 committed 2
+insert 2 1 16 a
+#> 2 ok
+";
+
+#[test]
+fn two_blocks(rt: HostRuntime) -> Result<(), Fail> {
+    let rows: [(&str, &[u8]); 2] = [
+        ("two blocks", TWO_BLOCKS),
+        ("bound above snapshot", BOUND_ABOVE_SNAPSHOT),
+    ];
+    let file = formatted(rt.alloc(), FORMAT_TWO_BLOCKS)?;
+    check_each(&rt, rt.alloc(), &file, &rows)?;
     Ok(())
 }
 
+// Rows come by the remainder of their keys.
+const TWO_BLOCKS: &[u8] = b"\
+insert 1 1 3 c
+#> 1 ok
+insert 1 1 0 a
+#> 1 ok
+commit 1
+#> 1 committed 1
+insert 1 1 2 d
+#> 1 ok
+insert 1 1 1 b
+#> 1 ok
+open 1 c 1 0 9
+#> 1 ok
+fetch 1 c 9
+#> 1 row 0 a
+#> 1 row 2 d
+#> 1 row 1 b
+#> 1 row 3 c
+#> 1 end
+open 1 d 1 1 2
+#> 1 ok
+fetch 1 d 9
+#> 1 row 2 d
+#> 1 row 1 b
+#> 1 end
+";
+
 // Commit 17 takes the table slot of commit 1, whose home nobody wrote since: only a bound is known of its number.
-#[test]
-fn bound_above_snapshot(rt: HostRuntime) -> Result<(), Fail> {
-    let format = "f format tables=1 blocks=2 segments=1 log=64";
-    let file = formatted(rt.alloc(), format)?;
-    let mut dialogue = String::new(rt.alloc());
-    dialogue.push_str("open 2 c 1 0 9\n#> 2 ok\n")?;
-    add_commits_of(&mut dialogue, "insert 1 1 0 a", 1, 1)?;
-    add_commits_of(&mut dialogue, "insert 1 1 1 b", 2, 2)?;
-    add_commits_of(&mut dialogue, "update 1 1 1 b", 3, 17)?;
-    dialogue.push_str(
-        "\
+const BOUND_ABOVE_SNAPSHOT: &[u8] = b"\
+open 2 c 1 0 9
+#> 2 ok
+insert 1 1 0 a
+#> 1 ok
+commit 1
+#> 1 committed 1
+insert 1 1 1 b
+#> 1 ok
+commit 1
+#> 1 committed 2
+#* 3 17
+update 1 1 1 b
+#> 1 ok
+commit 1
+#> 1 committed @
+#.
 fetch 2 c 1
 #> 2 too old 0 1
 open 2 d 1 0 9
@@ -1330,70 +1516,36 @@ fetch 2 d 5
 #> 2 end
 marks
 #> segment 0 writes 17 lost 1
-",
-    )?;
-    let _ = check(&rt, rt.alloc(), "bound", &file, dialogue.as_bytes())?;
-    Ok(())
-}
+";
 
-// Sixteen keys of one home.
-fn sixteen_inserts(alloc: Global) -> Result<String, NoMemory> {
-    let mut dialogue = String::new(alloc);
-    for key in 0..16 {
-        write!(dialogue, "insert 1 1 {key} a\n#> 1 ok\n").map_err(|_| NoMemory)?;
+// A commit, and an update without one that a checkpoint writes.
+const COMMIT_AND_CHECKPOINT: &[u8] = b"\
+insert 1 1 1 a
+#> 1 ok
+commit 1
+#> 1 committed 1
+update 1 1 1 x
+#> 1 ok
+checkpoint
+#> ok
+";
+
+// The same rows where an earlier second run was stopped after any of its calls, by each pick.
+#[test]
+fn restart_rolls_back_behind_stops(rt: HostRuntime) -> Result<(), Fail> {
+    let file = formatted(rt.alloc(), FORMAT_SMALL)?;
+    let left = check(&rt, rt.alloc(), "first", &file, COMMIT_AND_CHECKPOINT)?;
+    let second = check(&rt, rt.alloc(), "second", left.bytes(), ONE_ROW)?;
+    for call in 1..=second.calls() {
+        for pick in PICKS {
+            let stopped = image(rt.alloc(), &second, call, pick)?;
+            let _ = check(&rt, rt.alloc(), "behind a stop", &stopped, ONE_ROW)?;
+        }
     }
-    Ok(dialogue)
-}
-
-// The cell of a deleted row is free once its delete is committed.
-#[test]
-fn block_full_until_commit(rt: HostRuntime) -> Result<(), Fail> {
-    let file = formatted(rt.alloc(), FORMAT_LARGE)?;
-    let mut dialogue = sixteen_inserts(rt.alloc())?;
-    dialogue.push_str(
-        "\
-commit 1
-#> 1 committed 1
-delete 1 1 0
-#> 1 ok
-insert 1 1 16 a
-#> 1 block full
-commit 1
-#> 1 committed 2
-insert 1 1 16 a
-#> 1 ok
-",
-    )?;
-    let _ = check(&rt, rt.alloc(), "block full", &file, dialogue.as_bytes())?;
     Ok(())
 }
 
-// The same for another session: keys that one has changed are in use for all.
-#[test]
-fn block_full(rt: HostRuntime) -> Result<(), Fail> {
-    let file = formatted(rt.alloc(), FORMAT_LARGE)?;
-    let mut dialogue = sixteen_inserts(rt.alloc())?;
-    dialogue.push_str(
-        "\
-insert 1 1 16 a
-#> 1 block full
-insert 2 1 16 a
-#> 2 block full
-commit 1
-#> 1 committed 1
-delete 1 1 0
-#> 1 ok
-insert 2 1 16 a
-#> 2 block full
-commit 1
-#> 1 committed 2
-insert 2 1 16 a
-#> 2 ok
-",
-    )?;
-    let _ = check(&rt, rt.alloc(), "block full", &file, dialogue.as_bytes())?;
-    Ok(())
-}
+const INSERT_ONE: &[u8] = b"insert 1 1 1 a\n#> 1 ok\n";
 
 // A file of that version.
 fn of_version(alloc: Global, file: &[u8], version: u8) -> Result<Vec<u8>, NoMemory> {
@@ -1434,8 +1586,8 @@ fn bad_files_and_words(rt: HostRuntime) -> Result<(), Fail> {
     ];
     for (line, bytes, code) in rows {
         let end = run_over(rt.alloc(), line, bytes, b"commit 1\n", NONE)?;
-        assert_eq!(rt; end.status.code(), code, "{line}");
-        assert_eq!(rt; end.sink.bytes(), b"".as_slice(), "{line}");
+        assert!(rt; end.status.code() == code, "{line}");
+        assert!(rt; end.sink.bytes() == b"".as_slice(), "{line}");
         assert!(rt; end.disk.bytes() == bytes, "{line}");
     }
     Ok(())
@@ -1489,6 +1641,17 @@ fn opened(alloc: Global, disk: MemDisk) -> Result<Engine<LapStore<MemDisk>>, Fai
     Ok(engine)
 }
 
+// What an engine over the store of a disk answers a write, its commit, and two calls behind a failed one.
+fn answers_behind_a_fault(alloc: Global, disk: MemDisk) -> Result<bool, Fail> {
+    let mut engine = opened(alloc, disk)?;
+    Ok(
+        engine.write(1, 1, 1, Op::Insert(b"a")) == Ok(Wrote::Done)
+            && engine.commit(1) == Err(Refusal::DiskFault)
+            && engine.commit(1) == Err(Refusal::Stopped)
+            && engine.write(1, 1, 1, Op::Delete) == Err(Refusal::Stopped),
+    )
+}
+
 // The first sync of the commit fails, and no row is found. The engine does nothing more.
 #[test]
 fn failed_sync(rt: HostRuntime) -> Result<(), Fail> {
@@ -1501,17 +1664,12 @@ fn failed_sync(rt: HostRuntime) -> Result<(), Fail> {
     };
     let end = run_over(rt.alloc(), RUN, &file, FAULTY_COMMIT, failing)?;
     let replies = replies_of(rt.alloc(), FAULTY_COMMIT)?;
-    assert_eq!(rt; end.status.code(), 3);
-    assert_eq!(rt; end.sink.bytes(), replies.as_slice());
+    assert!(rt; end.status.code() == 3);
+    assert!(rt; end.sink.bytes() == replies.as_slice());
     let _ = check(&rt, rt.alloc(), "rows", end.disk.bytes(), NO_ROW)?;
     let room = file.len() as u64 + 10_000;
     let disk = MemDisk::new(rt.alloc(), &file, room, 1_000, &sync)?;
-    let mut engine = opened(rt.alloc(), disk)?;
-    let insert = Op::Insert(b"a");
-    assert_eq!(rt; engine.write(1, 1, 1, insert), Ok(Wrote::Done));
-    assert_eq!(rt; engine.commit(1), Err(Refusal::DiskFault));
-    assert_eq!(rt; engine.commit(1), Err(Refusal::Stopped));
-    assert_eq!(rt; engine.write(1, 1, 1, Op::Delete), Err(Refusal::Stopped));
+    assert!(rt; answers_behind_a_fault(rt.alloc(), disk)?);
     Ok(())
 }
 
@@ -1530,8 +1688,8 @@ fn failed_end(rt: HostRuntime) -> Result<(), Fail> {
             ..NONE
         };
         let end = run_over(rt.alloc(), RUN, &file, INSERT_ONE, failing)?;
-        assert_eq!(rt; end.status.code(), 3);
-        assert_eq!(rt; end.sink.bytes(), replies.as_slice());
+        assert!(rt; end.status.code() == 3);
+        assert!(rt; end.sink.bytes() == replies.as_slice());
         let _ = check(&rt, rt.alloc(), "rows", end.disk.bytes(), NO_ROW)?;
     }
     Ok(())
