@@ -8,7 +8,7 @@ use Rattle.rb_engine.specs.Does.{Does, EngineView, LeavesState, SameStore}
 use Rattle.rb_image.proofs.Steps.{opens_last}
 use Rattle.rb_image.specs.Crash.{OpensUpTo}
 use Rattle.rb_image.specs.Images.{HasState}
-use Rattle.rb_model.specs.Calls.{Answer, Checkpoint, Done, Fetch, Refused, Reply, early, later, first_of}
+use Rattle.rb_model.specs.Calls.{Answer, Checkpoint, Done, Refused, Reply, early, later, first_of}
 use Rattle.rb_model.specs.Calls as calls
 use Rattle.rb_model.specs.Out.{Logged}
 use Rattle.rb_model.specs.Rows.{last_scn}
