@@ -966,8 +966,8 @@ fetch 1 c 5
 fn undo_and_restarts(rt: HostRuntime) -> Result<(), Fail> {
     let rows: [(&str, &[u8]); 9] = [
         ("rollback full", ROLLBACK_FULL),
-        ("restart", RESTART),
-        ("restart marks", RESTART_MARKS),
+        ("restart rolls back", RESTART),
+        ("restart rolls back, marks", RESTART_MARKS),
         ("undo turns", UNDO_TURNS),
         ("undo extents", UNDO_EXTENTS),
         ("undo slots", UNDO_SLOTS),
