@@ -2,15 +2,15 @@
 use Rattle.std.specs.Prelude.{◌≡◌, ℕ, zero, suc, ◌+◌, ◌<◌, ◌≤◌, nat_lt, Bool, false, ◌&&◌}
 use Rattle.std.specs.Prelude.{if◌then◌else◌, List, length, slice_index_or}
 use Rattle.std.specs.List.{AllByRecursion}
-use Rattle.rb_base.specs.Blocks.{block_of, header_block}
+use Rattle.rb_base.specs.Blocks.{block_of, header_block, written_to}
 use Rattle.rb_base.specs.Copies.{SamePatches}
 use Rattle.rb_base.specs.Groups.{Patch, group_length}
 use Rattle.rb_base.specs.declared.ids.Xid.{Xid}
 use Rattle.rb_base.specs.declared.shape.Shape.{Shape}
 use Rattle.rb_base.specs.declared.sizes.TheConstants.{SLOTS}
 use Rattle.rb_cell.specs.Cells.{locked_by}
-use Rattle.rb_heap.specs.Cleaning.{cleaned_entry, to_clean, IsCleanPatch}
-use Rattle.rb_heap.specs.Homes.{Home, home_cell, home_entry}
+use Rattle.rb_heap.specs.Cleaning.{cleaned_entry, cleaned_home, to_clean, IsCleanPatch}
+use Rattle.rb_heap.specs.Homes.{Home, home_cell, home_entry, home_of}
 use Rattle.rb_txntable.specs.Looks.{slot_look}
 use Rattle.rb_txntable.specs.Slots.{slot_at}
 use Rattle.rb_txntable.specs.declared.looks.Look.{Look}
@@ -51,3 +51,7 @@ pub record LocksCleared (flags : List Bool) (count : ℕ) (old now : Home) : Typ
       ≡ (if is_named flags (home_cell old c).lock then locked_by (home_cell old c) 0 else home_cell old c)
   pub behind : (c : ℕ) → count ≤ c → home_cell now c ≡ home_cell old c
   pub entries : now.entries ≡ old.entries
+
+-- Patches that clean a block: of the block so patched the home is the cleaned one.
+abbrev pub PlansClean : (Xid → Look) → ℕ → List Patch → List ℕ → Type 0
+PlansClean look b patches block = home_of (written_to b patches block) ≡ cleaned_home look (home_of block)

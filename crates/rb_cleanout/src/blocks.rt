@@ -1,21 +1,24 @@
 //! Cleans a copy of a block, or a block of a store. Writes of rows and later readers call it.
 ghost use Rattle.std.specs.Prelude.{◌≡◌, ◌≢◌, ◌+◌, ◌*◌, ◌^◌, ◌<◌, ◌≤◌};
-ghost use Rattle.std.specs.Prelude.{ℕ, false, not, List, [], length, OnOk};
+ghost use Rattle.std.specs.Prelude.{ℕ, false, not, List, [], length, IfOk, IsTrue, OnOk, ◌↔◌};
 ghost use Rattle.std.specs.List.{AllByRecursion};
 ghost use Rattle.std.specs.Result.{is_err};
-ghost use Rattle.rb_base.specs.Blocks.{block_of, table_blocks};
+ghost use Rattle.rb_base.specs.Blocks.{block_of, table_blocks, AreBlocks};
 ghost use Rattle.rb_base.specs.Copies.{SamePatches};
 ghost use Rattle.rb_base.specs.Groups.{Patch, group_length};
 ghost use Rattle.rb_base.specs.Logs.{Logs, group_of};
 ghost use Rattle.rb_base.specs.Stores.{room_of};
-ghost use Rattle.rb_cleanout.specs.Cleaned.{look_of};
+ghost use Rattle.rb_base.specs.declared.ids.Xid.{Xid};
+ghost use Rattle.rb_cleanout.specs.Cleaned.{PlansClean, look_of};
 ghost use Rattle.rb_heap.specs.Cleaning.{cleaned_home, IsCleanPatch};
 ghost use Rattle.rb_heap.specs.Homes.{home_of};
 ghost use Rattle.rb_heap.specs.Soundness.{StaysShort};
+ghost use Rattle.rb_txntable.specs.declared.looks.Look.{Look};
 
 use crate::entries::clean_entries;
 use crate::locks::clear_locks;
 use rb_base::{BlockNo, Failed, GROUP_BYTES, GROUP_PATCHES, Group, Store, UNIT};
+use rb_itl::{ENTRIES, OPEN, entry};
 
 /// The most patches that a cleaning adds to a group: one for each entry and one for each lock.
 pub const CLEAN_PATCHES: usize = 8 + 16;
@@ -51,6 +54,43 @@ pub fn clean_copy<S: Store>(
     Ok(())
 }
 
+/// Whether some entry of a block of rows is Open: its transaction runs, or no visitor has cleaned the block since it
+/// ended.
+fn has_open(block: &[u8]) -> bool
+    requires { length block.now ≡ UNIT }
+    ensures none { result ≡ false → (look : Xid → Look) → cleaned_home look (home_of block.now) ≡ home_of block.now }
+{
+    for i in 0..ENTRIES {
+        if entry(block, i).kind == OPEN {
+            return true;
+        }
+    }
+    false
+}
+
+/// Puts the patches that clean block `no` of the store, which is one of rows, into `group`, and tells whether there are
+/// any. What `group` held is dropped. The store is only loaded from. `Failed` only where a call of the store failed.
+pub fn plan_clean<S: Store>(store: &mut S, no: BlockNo, group: &mut Group) -> Result<bool, Failed>
+    requires going { S.failed store.old ≡ false }
+    requires there { no < table_blocks (S.shape_of store.old) }
+    ensures logs { Logs S.Store store.old store.new [] (not (is_err result)) }
+    ensures patches { OnOk result (AllByRecursion (IsCleanPatch no) group.new) }
+    ensures some { IfOk result (λ some. IsTrue some ↔ (0 < length group.new)) }
+    ensures plans { S.tells → OnOk result (PlansClean (look_of (S.shape_of store.old) (S.blocks store.old)) no group.new
+        (block_of (S.blocks store.old) no)) }
+    ensures whole { S.tells → OnOk result (AreBlocks (S.shape_of store.old) (S.blocks store.old)) }
+{
+    store.load(no)?;
+    *group = Group::new();
+    if !has_open(store.block()) {
+        return Ok(false);
+    }
+    let mut copy = [0; UNIT];
+    copy.copy_from_slice(store.block());
+    clean_copy(store, no, &mut copy, group)?;
+    Ok(group.patches() > 0)
+}
+
 /// Cleans block `no` of the store, which is one of rows, by one group of patches, or by none where there is nothing to
 /// clean. What `group` held is dropped. `Failed` only where a call of the store failed. (That a block is cleaned by a
 /// later visitor and not by the commit is the delayed cleanout of Oracle7.)
@@ -69,12 +109,7 @@ pub fn clean<S: Store>(store: &mut S, no: BlockNo, group: &mut Group) -> Result<
     ensures others { S.tells → OnOk result ((b : ℕ) → b ≢ no
         → block_of (S.blocks store.new) b ≡ block_of (S.blocks store.old) b) }
 {
-    store.load(no)?;
-    let mut copy = [0; UNIT];
-    copy.copy_from_slice(store.block());
-    *group = Group::new();
-    clean_copy(store, no, &mut copy, group)?;
-    if group.patches() > 0 {
+    if plan_clean(store, no, group)? {
         store.apply(group)?;
     }
     Ok(())
