@@ -10,7 +10,7 @@ use Rattle.rb_base.specs.declared.store.Store.{Ghosts}
 use Rattle.rb_image.specs.Crash.{MarksGrow, Survives}
 use Rattle.rb_image.specs.Holds.{Holds}
 use Rattle.rb_image.specs.Images.{HasState}
-use Rattle.rb_image.specs.Made.{BackMade, EndMade, GivesOne, WriteMade}
+use Rattle.rb_image.specs.Made.{BackMade, CleanMade, EndMade, GivesOne, WriteMade}
 use Rattle.rb_image.proofs.Crashes.{grow_same, has_later, has_state}
 use Rattle.rb_image.proofs.Marks.{grows_left, grows_written}
 use Rattle.rb_image.proofs.Steps.{keeps_on, none_each, one_each, read_has, survives_going, survives_write}
@@ -135,3 +135,20 @@ module _ {S : Type 0} (s : Ghosts S) (told : s.tells) (laws : Laws s) where
         let h2 : State = without_owner x.seg x.slot (ended h who cursors) in
         step_holds h h2 xids old new shape refl refl (grows_left h.shape h.books x.seg x.slot holds.blocks.tell.books_counted) holds fault
         (record { groups = one.groups; logs = one.logs; few = one.few; one = one.one; made = λ some. let m = one.made some in (m.stand cursors, m.last, omega (arith, m.owed, holds.fits)) })
+
+  -- The cleaning of a block that is read.
+  module _ (h : State) (xids : List Xid) (old new : S) (b : ℕ) (shape : s.shape_of old ≡ h.shape) (holds : Holds s h xids old) where
+    abbrev Room : ℕ
+    Room = room_of (s.slots old) (s.lsn old)
+
+    pub holds_cleaned : (fault : Option Call) → GivesOne s old new true (λ now. CleanMade h xids b Room (s.blocks old) now) → Holds s h xids new × (s.keeps → Survives s (s.slots old) fault h h old new)
+    holds_cleaned fault one =
+        step_holds h h xids old new shape refl refl (grow_same h.shape h.books) holds fault
+        (record { groups = one.groups; logs = one.logs; few = one.few; one = one.one; made = λ some. let m = one.made some in (m.stand, m.last, m.fits) })
+
+    pub clean_fault : {fault : Option Call} → GivesOne s old new false (λ now. CleanMade h xids b Room (s.blocks old) now) → s.keeps → Survives s (s.slots old) fault h (record h { stopped = true }) old new
+    clean_fault one keeps =
+        step_fault h xids old new shape holds (record { groups = one.groups; logs = one.logs; few = one.few; one = one.one; made = λ some.
+            let m = one.made some in
+            let now = after_groups (s.lsn old + 1) one.groups (s.blocks old) in
+            has_state h xids now (s.slots old) (s.lsn old + 1) m.stand (ap (λ (n : ℕ). n + 1) holds.logged ∙ sym m.last) (room_less (s.slots old) (s.lsn old) (owed_in h.shape now) m.fits) }) keeps

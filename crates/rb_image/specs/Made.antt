@@ -1,19 +1,21 @@
 -- What one group makes of blocks that stand for a state, by each step of a session: a write, the put back of a change,
--- a commit, the end of a transaction without one.
-use Rattle.std.specs.Prelude.{◌≡◌, ◌≤◌, ◌+◌, ◌∷◌, ◌++◌, ℕ, Bool, true, List, []}
+-- a commit, the end of a transaction without one, the cleaning of a block that is read.
+use Rattle.std.specs.Prelude.{◌≡◌, ◌≢◌, ◌⊎◌, ◌≤◌, ◌+◌, ◌∷◌, ◌++◌, ℕ, Bool, true, List, []}
 use Rattle.std.specs.Prelude.{length, Some}
-use Rattle.rb_base.specs.Blocks.{after_groups}
+use Rattle.rb_base.specs.Blocks.{after_groups, block_of}
 use Rattle.rb_base.specs.Groups.{Patch}
 use Rattle.rb_base.specs.Logs.{Logs}
 use Rattle.rb_base.specs.declared.ids.Xid.{Xid}
 use Rattle.rb_base.specs.declared.store.Store.{Ghosts}
+use Rattle.rb_heap.specs.Cleaning.{cleaned_home}
+use Rattle.rb_heap.specs.Homes.{home_of}
 use Rattle.rb_model.specs.Calls.{Action, Done, WritesIn, first_of, write_tests}
 use Rattle.rb_model.specs.Change.{Change}
 use Rattle.rb_model.specs.NextState.{change_in, committed, ended, without_owner, written}
 use Rattle.rb_model.specs.State.{Cursor, State}
 use Rattle.rb_segment.specs.Segments.{owed_in}
 use Rattle.rb_standing.specs.NextStates.{with_own}
-use Rattle.rb_standing.specs.Standing.{env_of, logged_of}
+use Rattle.rb_standing.specs.Standing.{env_of, logged_of, segments_of}
 use Rattle.rb_standing.specs.States.{BlocksStand, Owns}
 use Rattle.rb_verdict.specs.Verdict.{IsOwnId}
 use Rattle.rb_walk.specs.Walk.{Env}
@@ -31,6 +33,10 @@ pub record GivesOne {S : Type 0} (s : Ghosts S) (old new : S) (going : Bool) (Is
     pub few : length groups ≤ 1
     pub one : going ≡ true → length groups ≡ 1
     pub made : 1 ≤ length groups → Is (after_groups (s.lsn old + 1) groups (s.blocks old))
+
+-- They gave it one group, of which that holds, or none.
+abbrev pub GivesAny : {S : Type 0} → Ghosts S → S → S → Bool → (List (List ℕ) → Type 0) → Type 0
+GivesAny s old new going Is = GivesOne s old new going Is ⊎ Logs s old new [] going
 
 -- A write of session s, in a log with so much room: its transaction has that id then, no test of the machine refuses
 -- it, and there is room for what puts all live changes back.
@@ -65,3 +71,14 @@ pub record EndMade (h : State) (xids : List Xid) (s : ℕ) (x : Xid) (before now
   pub ids : KeepsIds h (env_of h.shape before) (env_of h.shape now)
   pub last : logged_of h.shape now ≡ logged_of h.shape before + 1
   pub owed : owed_in h.shape now + 1 ≤ owed_in h.shape before
+
+-- Block b of rows is cleaned of the transactions that have ended, in a log with so much room; no other block changes.
+-- There is room for what puts all live changes back.
+pub record CleanMade (h : State) (xids : List Xid) (b room : ℕ) (before now : List (List ℕ)) : Type 0 where
+  pub stand : BlocksStand h xids now
+  pub segments : segments_of h.shape now ≡ segments_of h.shape before
+  pub home : home_of (block_of now b) ≡ cleaned_home (env_of h.shape before).look (home_of (block_of before b))
+  pub others : (k : ℕ) → k ≢ b → block_of now k ≡ block_of before k
+  pub last : logged_of h.shape now ≡ logged_of h.shape before + 1
+  pub owed : owed_in h.shape now ≡ owed_in h.shape before
+  pub fits : owed_in h.shape now + 1 ≤ room

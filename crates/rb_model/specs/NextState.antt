@@ -1,5 +1,5 @@
 -- The state of the machine after each call, and how many groups the call gives the log.
-use Rattle.std.specs.Prelude.{◌≡◌, ◌⊎◌, ℕ, suc, ◌+◌, ◌-◌, Bool, true, false, not}
+use Rattle.std.specs.Prelude.{◌≡◌, ◌⊎◌, ◌≤◌, ℕ, suc, ◌+◌, ◌-◌, Bool, true, false, not}
 use Rattle.std.specs.Prelude.{◌&&◌, nat_lt}
 use Rattle.std.specs.Prelude.{if◌then◌else◌, cond, List, [], ◌∷◌, ◌++◌, length, set, map, filter, take}
 use Rattle.std.specs.Prelude.{Some}
@@ -17,6 +17,8 @@ use Rattle.rb_model.specs.State.{State, Cursor, Savepoint, no_session, isolation
 use Rattle.rb_model.specs.State.{session_own, with_changes}
 use Rattle.rb_model.specs.Rows.{last_scn}
 use Rattle.rb_model.specs.declared.mode.Isolation.{Isolation}
+use Rattle.rb_model.specs.declared.refusal.Refusal.{Refusal}
+use Rattle.rb_model.specs.declared.refusal.Refusal.TheVariants.{TooOld}
 
 abbrev pub kind_by : Action → Kind
 kind_by (Insert value) = Put value
@@ -212,11 +214,22 @@ GrowsBy h (Cancel s) n = n ≡ 0
 GrowsBy h (Marks seg) n = n ≡ 0
 GrowsBy h Checkpoint n = n ≡ 0
 
+-- A fetch may clean the blocks that it reads, by one group each: so it gives the log any number of groups up to the
+-- blocks of a table. No other call that only reads gives it one.
+abbrev pub ReadsBy : State → Call → ℕ → Type 0
+ReadsBy h (Fetch s name) n = n ≤ h.shape.blocks
+ReadsBy h call n = n ≡ 0
+
+-- One that is refused has read only where it is too old.
+abbrev pub RefusedBy : State → Call → Refusal → ℕ → Type 0
+RefusedBy h call (TooOld scn lost) n = ReadsBy h call n
+RefusedBy h call why n = n ≡ 0
+
 abbrev pub Grows : State → Call → Answer → ℕ → Type 0
 Grows h call Done n = GrowsBy h call n
 Grows h call (Numbered m) n = GrowsBy h call n
 Grows h call (Waits on) n = n ≡ 0
-Grows h call (Given key value) n = n ≡ 0
-Grows h call End n = n ≡ 0
+Grows h call (Given key value) n = ReadsBy h call n
+Grows h call End n = ReadsBy h call n
 Grows h call (Marked seg writes lost) n = n ≡ 0
-Grows h call (Refused why) n = n ≡ 0
+Grows h call (Refused why) n = RefusedBy h call why n

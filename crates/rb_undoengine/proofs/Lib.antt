@@ -1,4 +1,5 @@
 mod Calls
+pub mod Cleaned
 mod Done
 pub mod Finishing
 pub mod Firsts

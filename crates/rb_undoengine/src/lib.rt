@@ -2,12 +2,14 @@
 //! memory of a session; rb_engine has that, and calls it.
 #![tactic(auto)]
 
+mod clean;
 mod finish;
 mod holder;
 mod laws;
 mod rollback;
 mod write;
 
+pub use clean::clean_step;
 pub use finish::{commit_step, end_step};
 pub use holder::holder_step;
 pub use laws::step_laws;
