@@ -76,10 +76,7 @@ module _ (h : State) (xids : List Xid) (before : List (List ℕ)) (stand : Block
   pub home_after : (number : ℕ) → home_of (block_of (after_group number patches before) b) ≡ cleaned_home (env_of h.shape before).look (home_of (block_of before b))
   home_after number = copy_home number b patches clean h.shape before (written_to b patches (block_of before b)) stand.standing.whole (omega (arith, there)) refl ∙ plans ∙ looks_same
 
-  -- Where there is no patch it was clean.
-  pub home_is_clean : length patches ≡ 0 → home_of (block_of before b) ≡ cleaned_home (env_of h.shape before).look (home_of (block_of before b))
-  home_is_clean none = ap (λ (l : List Patch). home_of (written_to b l (block_of before b))) (sym (empty patches none)) ∙ (plans ∙ looks_same)
-    where
-      empty : (l : List Patch) → length l ≡ 0 → l ≡ []
-      empty [] is = refl
-      empty (p ∷ l) is = absurd (omega (arith, is))
+-- Where there is nothing to clean it is clean.
+pub home_is_clean : (h : State) (xids : List Xid) (before : List (List ℕ)) → BlocksStand h xids before → (b : ℕ) → b < table_blocks h.shape → cleaned_home (look_of h.shape before) (home_of (block_of before b)) ≡ home_of (block_of before b)
+    → home_of (block_of before b) ≡ cleaned_home (env_of h.shape before).look (home_of (block_of before b))
+home_is_clean h xids before stand b there is = sym is ∙ block_same h.shape before b there (young h xids before stand)

@@ -14,14 +14,14 @@ ghost use Rattle.rb_model.specs.State.{State};
 ghost use Rattle.rb_segment.specs.Segments.{owed_in};
 ghost use Rattle.rb_standing.specs.Standing.{env_of};
 
-use rb_base::{BlockNo, Failed, Group, Store, WORN};
+use rb_base::{BlockNo, Failed, Store, WORN};
 use rb_cleanout::plan_clean;
 use rb_segment::owed;
 
 /// Cleans block `no`, which is one of rows, of the transactions that have ended: by one group, which isn't flushed, or
 /// by none where there is nothing to clean, where the log is worn out, or where it has no more room than what puts back
-/// all that is under way. What `group` held is dropped. `Failed` only where a call of the store failed.
-pub fn clean_step<S: Store>(store: &mut S, no: BlockNo, group: &mut Group) -> Result<(), Failed>
+/// all that is under way. `Failed` only where a call of the store failed.
+pub fn clean_step<S: Store>(store: &mut S, no: BlockNo) -> Result<(), Failed>
     requires going { S.failed store.old ≡ false }
     requires there { no < table_blocks (S.shape_of store.old) }
     ensures logs { (groups : List (List Patch))
@@ -40,15 +40,12 @@ pub fn clean_step<S: Store>(store: &mut S, no: BlockNo, group: &mut Group) -> Re
     if store.logged() >= WORN {
         return Ok(());
     }
-    let some = plan_clean(store, no, group)?;
-    if !some {
+    let Some(plan) = plan_clean(store, no)? else {
         return Ok(());
-    }
+    };
     let needed = owed(store)?;
     if store.room() <= needed {
         return Ok(());
     }
-    // For the proof: what a group holds is a group of patches.
-    let _count = group.patches();
-    store.apply(group)
+    store.apply(&plan)
 }

@@ -9,7 +9,8 @@ use Rattle.rb_base.specs.Stores.{room_of}
 use Rattle.rb_base.specs.declared.shape.Shape.{Shape}
 use Rattle.rb_base.specs.declared.store.Store.{Ghosts}
 use Rattle.rb_cleanout.proofs.Grouped.{of_block}
-use Rattle.rb_cleanout.specs.Cleaned.{PlansClean, look_of}
+use Rattle.rb_cleanout.proofs.Plans.{on_ok, planned, unplanned}
+use Rattle.rb_cleanout.specs.Cleaned.{IsPlan, PlansClean, look_of}
 use Rattle.rb_heap.specs.Cleaning.{IsCleanPatch, cleaned_home}
 use Rattle.rb_heap.specs.Homes.{home_of}
 use Rattle.rb_image.specs.Holds.{Holds}
@@ -21,57 +22,50 @@ use Rattle.rb_undoengine.proofs.Cleaned.{clean_made, home_after, home_is_clean}
 use Rattle.rb_undoengine.proofs.clean.clean_step.Goals as goal
 
 -- what was planned over a store's shape, over that of the state
-planned : (shape : Shape) (h : State) (blocks : List (List ℕ)) (b : ℕ) (patches : List Patch) → shape ≡ h.shape → PlansClean (look_of shape blocks) b patches (block_of blocks b) → PlansClean (look_of h.shape blocks) b patches (block_of blocks b)
-planned shape h blocks b patches same plans = subst (λ (k : Shape). PlansClean (look_of k blocks) b patches (block_of blocks b)) same plans
-
-on_ok : {T E : Type 0} {P Q : Type 0} (r : Result T E) → (P → Q) → OnOk r P → OnOk r Q
-on_ok (Ok value) so is = so is
-on_ok (Err fault) so is = tt
-
-none_of : (some : Bool) (n : ℕ) → IsTrue some ↔ (0 < n) → some ≡ false → n ≡ 0
-none_of some n is no_one = elim (Rattle.std.proofs.lemmas.Bool.cases_lt 0 n) [
-  | inl lt ↦ let clash : false ≡ true = sym no_one ∙ is.1 lt in absurd cc
-  | inr le ↦ omega (arith, le)
-]
+of_shape : (shape : Shape) (h : State) (blocks : List (List ℕ)) (b : ℕ) (patches : List Patch) → shape ≡ h.shape → PlansClean (look_of shape blocks) b patches (block_of blocks b) → PlansClean (look_of h.shape blocks) b patches (block_of blocks b)
+of_shape shape h blocks b patches same plans = subst (λ (k : Shape). PlansClean (look_of k blocks) b patches (block_of blocks b)) same plans
 
 pub returns-then-logged-ge-WORN-clause-logs : goal.returns-then-logged-ge-WORN-clause-logs
 returns-then-logged-ge-WORN-clause-logs g c = ([], no_logs g.S.Store c.args.store.now c.requires.going, omega arith)
 
 -- there was nothing to clean
-pub returns-then-not-some-clause-cleaned : goal.returns-then-not-some-clause-cleaned
-returns-then-not-some-clause-cleaned g c = λ told h xids shape holds young room.
+pub returns-in_default-clause-cleaned : goal.returns-in_default-clause-cleaned
+returns-in_default-clause-cleaned g c = λ told h xids shape holds young room.
     let s = g.S.Store in
-    let old = c.args.store.now in
-    let plan = c.in_ok-some.ensures in
-    let patches = c.plan_clean.new.group in
+    let blocks = s.blocks c.args.store.now in
+    let plan = c.in_ok-plan.ensures in
     let there : c.args.no < table_blocks h.shape = omega (arith, c.requires.there, ap table_blocks shape) in
+    let clean : cleaned_home (look_of (s.shape_of c.args.store.now) blocks) (home_of (block_of blocks c.args.no)) ≡ home_of (block_of blocks c.args.no) = unplanned _ c.in_ok-plan.field-0 c.in_default.is (plan.none told) in
     ap (λ (l : List (List ℕ)). home_of (block_of l c.args.no)) (plan.logs.blocks told refl)
-    ∙ home_is_clean h xids (s.blocks old) holds.blocks c.args.no there patches plan.patches (planned (s.shape_of old) h (s.blocks old) c.args.no patches shape (plan.plans told)) (none_of c.in_ok-some.some (length patches) plan.some c.if-not-some.true)
+    ∙ home_is_clean h xids blocks holds.blocks c.args.no there (subst (λ (k : Shape). cleaned_home (look_of k blocks) (home_of (block_of blocks c.args.no)) ≡ home_of (block_of blocks c.args.no)) shape clean)
 
 -- the headers couldn't be read
 pub returns-in_err-needed-clause-logs : goal.returns-in_err-needed-clause-logs
 returns-in_err-needed-clause-logs g c =
-    ([], rw c.from_residual-in_err-needed.ensures.0 (more_logs g.S.Store c.args.store.now c.plan_clean.new.store c.owed.new.store [] [] false c.in_ok-some.ensures.logs c.in_err-needed.ensures.logs), omega arith)
+    ([], rw c.from_residual-in_err-needed.ensures.0 (more_logs g.S.Store c.args.store.now c.plan_clean.new.store c.owed.new.store [] [] false c.in_ok-plan.ensures.logs c.in_err-needed.ensures.logs), omega arith)
 
 pub returns-in_err-needed-clause-gives : goal.returns-in_err-needed-clause-gives
 returns-in_err-needed-clause-gives g c = λ told h xids shape holds sixteen.
-    inr (rw c.from_residual-in_err-needed.ensures.0 (more_logs g.S.Store c.args.store.now c.plan_clean.new.store c.owed.new.store [] [] false c.in_ok-some.ensures.logs c.in_err-needed.ensures.logs))
+    inr (rw c.from_residual-in_err-needed.ensures.0 (more_logs g.S.Store c.args.store.now c.plan_clean.new.store c.owed.new.store [] [] false c.in_ok-plan.ensures.logs c.in_err-needed.ensures.logs))
 
 -- there was no room
 pub returns-then-room-needed-clause-logs : goal.returns-then-room-needed-clause-logs
-returns-then-room-needed-clause-logs g c = ([], more_logs g.S.Store c.args.store.now c.plan_clean.new.store c.owed.new.store [] [] true c.in_ok-some.ensures.logs c.in_ok-needed.ensures.logs, omega arith)
+returns-then-room-needed-clause-logs g c = ([], more_logs g.S.Store c.args.store.now c.plan_clean.new.store c.owed.new.store [] [] true c.in_ok-plan.ensures.logs c.in_ok-needed.ensures.logs, omega arith)
 
 pub returns-then-room-needed-clause-gives : goal.returns-then-room-needed-clause-gives
 returns-then-room-needed-clause-gives g c = λ told h xids shape holds sixteen.
-    inr (more_logs g.S.Store c.args.store.now c.plan_clean.new.store c.owed.new.store [] [] true c.in_ok-some.ensures.logs c.in_ok-needed.ensures.logs)
+    inr (more_logs g.S.Store c.args.store.now c.plan_clean.new.store c.owed.new.store [] [] true c.in_ok-plan.ensures.logs c.in_ok-needed.ensures.logs)
 
 -- the group is given
 pub apply-requires-clause-within : goal.apply-requires-clause-within
 apply-requires-clause-within g c =
     let s = g.S.Store in
-    let looked = more_logs s c.args.store.now c.plan_clean.new.store c.owed.new.store [] [] true c.in_ok-some.ensures.logs c.in_ok-needed.ensures.logs in
-    all_so (IsCleanPatch c.args.no) (λ (p : Patch). p.block < shape_blocks (s.shape_of c.owed.new.store)) c.plan_clean.new.group
-    (λ p is. omega (arith, of_block c.args.no p is, c.requires.there, ap shape_blocks looked.same_shape)) c.in_ok-some.ensures.patches
+    let looked = more_logs s c.args.store.now c.plan_clean.new.store c.owed.new.store [] [] true c.in_ok-plan.ensures.logs c.in_ok-needed.ensures.logs in
+    all_so (IsCleanPatch c.args.no) (λ (p : Patch). p.block < shape_blocks (s.shape_of c.owed.new.store)) c.in-Some.plan
+    (λ p is. omega (arith, of_block c.args.no p is, c.requires.there, ap shape_blocks looked.same_shape)) (planned (IsPlan c.args.no) c.in_ok-plan.field-0 c.in-Some.plan c.in-Some.is c.in_ok-plan.ensures.some).2
+
+pub apply-requires-clause-some : goal.apply-requires-clause-some
+apply-requires-clause-some g c = (planned (IsPlan c.args.no) c.in_ok-plan.field-0 c.in-Some.plan c.in-Some.is c.in_ok-plan.ensures.some).0
 
 module _ {S : Type 0} (s : Ghosts S) where
   -- a group behind two calls that gave none
@@ -81,10 +75,10 @@ module _ {S : Type 0} (s : Ghosts S) where
 pub returns-clause-logs : goal.returns-clause-logs
 returns-clause-logs g c =
     let s = g.S.Store in
-    let group = c.plan_clean.new.group in
+    let group = c.in-Some.plan in
     let call = c.apply.ensures in (
       group ∷ [],
-      given s c.args.store.now c.plan_clean.new.store c.owed.new.store c.apply.new.self group c.apply.result c.in_ok-some.ensures.logs c.in_ok-needed.ensures.logs
+      given s c.args.store.now c.plan_clean.new.store c.owed.new.store c.apply.new.self group c.apply.result c.in_ok-plan.ensures.logs c.in_ok-needed.ensures.logs
           (apply_logs s c.owed.new.store c.apply.new.self group c.apply.result call.shape call.slots call.failed call.counted call.lsn call.blocks call.settles call.any_moment),
       omega arith,
     )
@@ -93,11 +87,12 @@ pub returns-clause-gives : goal.returns-clause-gives
 returns-clause-gives g c = λ told h xids shape holds sixteen.
     let s = g.S.Store in
     let old = c.args.store.now in
-    let group = c.plan_clean.new.group in
+    let group = c.in-Some.plan in
     let call = c.apply.ensures in
-    let plan = c.in_ok-some.ensures in
+    let plan = c.in_ok-plan.ensures in
     let there : c.args.no < table_blocks h.shape = omega (arith, c.requires.there, ap table_blocks shape) in
-    let some : 0 < length group = plan.some.0 c.if-not-some.false in
+    let is = planned (IsPlan c.args.no) c.in_ok-plan.field-0 group c.in-Some.is plan.some in
+    let plans = planned (λ (l : List Patch). PlansClean (look_of (s.shape_of old) (s.blocks old)) c.args.no l (block_of (s.blocks old) c.args.no)) c.in_ok-plan.field-0 group c.in-Some.is (plan.plans told) in
     let looked = more_logs s old c.plan_clean.new.store c.owed.new.store [] [] true plan.logs c.in_ok-needed.ensures.logs in
     let young : logged_of h.shape (s.blocks old) < 2 ^ 60 = omega (arith, holds.logged, c.logged.ensures, c.if-logged-ge-WORN.false) in
     let sum : c.in_ok-needed.needed ≡ owed_in h.shape (s.blocks old) =
@@ -112,7 +107,7 @@ returns-clause-gives g c = λ told h xids shape holds sixteen.
       few = omega arith;
       one = λ goes. refl;
       made = λ any. subst (λ (n : ℕ). CleanMade h xids c.args.no (room_of (s.slots old) (s.lsn old)) (s.blocks old) (after_group (n + 1) group (s.blocks old))) (sym holds.logged)
-          (clean_made h xids (s.blocks old) holds.blocks c.args.no there group plan.patches (planned (s.shape_of old) h (s.blocks old) c.args.no group shape (plan.plans told)) sixteen c.patches-count.ensures.valid some young (room_of (s.slots old) (s.lsn old)) has_room);
+          (clean_made h xids (s.blocks old) holds.blocks c.args.no there group is.2 (of_shape (s.shape_of old) h (s.blocks old) c.args.no group shape plans) sixteen is.1 is.0 young (room_of (s.slots old) (s.lsn old)) has_room);
     })
 
 pub returns-clause-cleaned : goal.returns-clause-cleaned
@@ -120,11 +115,13 @@ returns-clause-cleaned g c = λ told h xids shape holds young room.
     let s = g.S.Store in
     let old = c.args.store.now in
     let mid = c.owed.new.store in
-    let group = c.plan_clean.new.group in
-    let plan = c.in_ok-some.ensures in
+    let group = c.in-Some.plan in
+    let plan = c.in_ok-plan.ensures in
     let there : c.args.no < table_blocks h.shape = omega (arith, c.requires.there, ap table_blocks shape) in
     let looked = more_logs s old c.plan_clean.new.store mid [] [] true plan.logs c.in_ok-needed.ensures.logs in
-    on_ok c.apply.result
-    (λ is. ap (λ (l : List (List ℕ)). home_of (block_of l c.args.no)) (is ∙ ap (after_group (s.lsn mid + 1) group) (looked.blocks told refl))
-    ∙ home_after h xids (s.blocks old) holds.blocks c.args.no there group plan.patches (planned (s.shape_of old) h (s.blocks old) c.args.no group shape (plan.plans told)) (s.lsn mid + 1))
+    let is = planned (IsPlan c.args.no) c.in_ok-plan.field-0 group c.in-Some.is plan.some in
+    let plans = planned (λ (l : List Patch). PlansClean (look_of (s.shape_of old) (s.blocks old)) c.args.no l (block_of (s.blocks old) c.args.no)) c.in_ok-plan.field-0 group c.in-Some.is (plan.plans told) in
+    on_ok _ _ c.apply.result
+    (λ now. ap (λ (l : List (List ℕ)). home_of (block_of l c.args.no)) (now ∙ ap (after_group (s.lsn mid + 1) group) (looked.blocks told refl))
+    ∙ home_after h xids (s.blocks old) holds.blocks c.args.no there group is.2 (of_shape (s.shape_of old) h (s.blocks old) c.args.no group shape plans) (s.lsn mid + 1))
     (c.apply.ensures.blocks told)
