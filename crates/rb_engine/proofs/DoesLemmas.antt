@@ -18,12 +18,12 @@ use Rattle.rb_image.specs.Images.{HasState}
 use Rattle.rb_image.proofs.Crashes.{grow_same, has_later}
 use Rattle.rb_image.proofs.Steps.{keeps_on, none_each, read_has, survives_going}
 use Rattle.rb_model.specs.Book.{book_at}
-use Rattle.rb_model.specs.Calls.{Answer, Call, Marked, Refused, Reply, early_tests, failed_in, is_disk_fault, is_fault, none_applies}
+use Rattle.rb_model.specs.Calls.{Answer, Call, Fetch, Marked, Refused, Reply, early_tests, failed_in, is_disk_fault, is_fault, none_applies}
 use Rattle.rb_model.specs.NextState.{After, Grows, with_cursors}
 use Rattle.rb_model.specs.Rows.{last_scn, rows_at}
 use Rattle.rb_model.specs.State.{Cursor, Session, State, session_of, session_own}
 use Rattle.rb_model.specs.declared.refusal.Refusal.{Refusal}
-use Rattle.rb_model.specs.declared.refusal.Refusal.TheVariants.{DiskFault}
+use Rattle.rb_model.specs.declared.refusal.Refusal.TheVariants.{DiskFault, TooOld}
 use Rattle.rb_model.proofs.Stops.{after_shape, after_stops, fine_stays, other_refusal}
 use Rattle.rb_ring.specs.Ring.{lost_number, record_count}
 use Rattle.rb_segment.specs.Header.{Header, header_of}
@@ -223,18 +223,24 @@ pub ok_of : {T E : Type 0} {P : Type 0} (r : Result T E) → is_err r ≡ false 
 ok_of (Ok value) fine so = so
 ok_of (Err fault) fine so = (let clash : true ≡ false = fine in absurd cc)
 
+-- A refusal that gave no group gave the log as many as one may.
+pub refused_none : (h : State) (call : Call) (why : Refusal) → Grows h call (Refused why) 0
+refused_none h (Fetch s name) (TooOld scn lost) = omega arith
+refused_none h _ (TooOld scn lost) = refl
+refused_none h call _ = refl
+
 -- An early test refuses the call, and nothing is done.
 pub does_refused : {S : Type 0} (s : Ghosts S) (laws : Laws s) (h : State) (call : Call) (why : Refusal) (old : EngineView S) → Stands s h old
     → (old.memory.stopped ≡ false → s.failed old.store ≡ false) → Refuses (early_tests h call) why → why ≢ DiskFault → Does s h call (Refused why) old old
 does_refused s laws h call why old st runs refuses other =
-    does_loaded s st.told laws h call (Refused why) old old st (Reply.early refuses.0 refuses.1) (rw (other_refusal why other) refl) refl (λ s t k a is done. cc) refl
+    does_loaded s st.told laws h call (Refused why) old old st (Reply.early refuses.0 refuses.1) (rw (other_refusal why other) refl) (refused_none h call why) (λ s t k a is done. cc) refl
     (λ going. no_logs s old.store (runs (st.knows.stopped ∙ going))) (record { shape = refl; slots = refl })
 
 -- A later test refuses it.
 pub does_refused_late : {S : Type 0} (s : Ghosts S) (laws : Laws s) (h : State) (call : Call) (why : Refusal) (old : EngineView S) → Stands s h old
     → (old.memory.stopped ≡ false → s.failed old.store ≡ false) → Reply h (s.lsn old.store) (room_of (s.slots old.store) (s.lsn old.store)) call (Refused why) → why ≢ DiskFault → Does s h call (Refused why) old old
 does_refused_late s laws h call why old st runs reply other =
-    does_loaded s st.told laws h call (Refused why) old old st reply (rw (other_refusal why other) refl) refl (λ s t k a is done. cc) refl
+    does_loaded s st.told laws h call (Refused why) old old st reply (rw (other_refusal why other) refl) (refused_none h call why) (λ s t k a is done. cc) refl
     (λ going. no_logs s old.store (runs (st.knows.stopped ∙ going))) (record { shape = refl; slots = refl })
 
 -- an option by what its test answered

@@ -1,9 +1,9 @@
 -- What a search for a cursor's next row finds, from what the rebuilds of homes show, and what a fetch makes of it.
-use Rattle.std.proofs.Common.{not, ap, map, ◌-◌, ◌≡◌, inl, inr, ◌<◌, ◌≤◌, ◌%◌, ◌==◌, ◌&&◌, ◌||◌, nat_lt, if◌then◌else◌, ℕ, Bool, true, false, List, [], Option, Some, None, Result, Ok, Err, IfOk, IfErr, refl, sym, ◌∙◌, subst, arith, is_none, ◌∷◌}
+use Rattle.std.proofs.Common.{not, ap, map, ◌-◌, ◌≡◌, inl, inr, ◌<◌, ◌≤◌, ◌%◌, ◌==◌, ◌&&◌, ◌||◌, nat_lt, if◌then◌else◌, ℕ, Bool, true, false, List, [], length, Option, Some, None, Result, Ok, Err, IfOk, IfErr, refl, sym, ◌∙◌, subst, arith, is_none, ◌∷◌}
 use Rattle.std.proofs.lemmas.Bool.{cases_Bool, cond_both}
 use Rattle.std.proofs.lemmas.Bool.Decides.{nat_tests}
 use Rattle.std.proofs.lemmas.Result.{IfErr-weaker}
-use Rattle.rb_base.specs.Logs.{Logs, Laws}
+use Rattle.rb_base.specs.Logs.{Laws, no_logs}
 use Rattle.rb_base.specs.Stores.{room_of}
 use Rattle.rb_base.specs.declared.ids.Xid.{Xid}
 use Rattle.rb_base.specs.declared.shape.Shape.{Shape}
@@ -14,11 +14,11 @@ use Rattle.rb_cr.specs.declared.faults.CrFault.{CrFault}
 use Rattle.rb_cr.specs.declared.faults.CrFault.TheVariants as faults
 use Rattle.rb_cr.specs.declared.scratch.Snapshot.{Snapshot}
 use Rattle.rb_engine.specs.Checks.{Refuses}
-use Rattle.rb_engine.proofs.QueueLemmas.{all_asked}
+use Rattle.rb_engine.proofs.QueueLemmas.{all_asked, knows_same}
 use Rattle.rb_engine.specs.Scanning.{Begins, CannotRead, Finds, HasKey, HasNext, HasNone, IsBehind, IsReader, NeedsLost}
 use Rattle.rb_engine.proofs.SeenHomes.{seen_in_home}
 use Rattle.rb_model.specs.Next.{is_after}
-use Rattle.rb_model.specs.State.{State, cursor_of, is_session, is_waiting}
+use Rattle.rb_model.specs.State.{Session, State, cursor_of, is_session, is_waiting, session_of}
 use Rattle.rb_model.specs.declared.row.Row.{Row}
 use Rattle.rb_rebuild.specs.Reading.{Reading}
 use Rattle.rb_sessions.specs.declared.cursor.Cursor.{Cursor}
@@ -27,12 +27,17 @@ use Rattle.rb_views.specs.Laws.{rows_seen}
 use Rattle.rb_views.specs.Scan.{IsAskedKey}
 use Rattle.rb_views.specs.Views.{history, home_in, IsCursor, Remembers}
 use Rattle.rb_views.proofs.Fetching as views
-use Rattle.rb_engine.specs.Does.{Does, EngineView, Goes, SameStore, Stands}
-use Rattle.rb_engine.proofs.DoesLemmas.{does_cursors, does_loaded}
+use Rattle.rb_engine.specs.Does.{Does, EngineView, Goes, Kept, Knows, SameStore, Stands}
+use Rattle.rb_engine.proofs.CleanLemmas.{env_same}
+use Rattle.rb_engine.proofs.DoesLemmas.{after_sessions, does_by, holds_session, knows_on, survives_same}
+use Rattle.rb_engine.specs.Cleaning.{CleansRead, HasCleaned, MustIn, ReadIn, Serves}
+use Rattle.rb_image.proofs.Crashes.{survives_on}
+use Rattle.rb_image.specs.Crash.{Survives}
+use Rattle.rb_walk.specs.Walk.{Env}
 use Rattle.rb_engine.proofs.LateLemmas.{old_reply}
 use Rattle.rb_model.specs.Calls as machine
-use Rattle.rb_model.specs.Calls.{Answer, Refused, Reply, early_tests, none_applies, next_row, session_tests}
-use Rattle.rb_model.specs.NextState.{cursors_of, with_cursors, with_taken}
+use Rattle.rb_model.specs.Calls.{Answer, Refused, Reply, early_tests, is_fault, none_applies, next_row, session_tests}
+use Rattle.rb_model.specs.NextState.{After, Grows, cursors_of, with_cursors, with_taken}
 use Rattle.rb_model.specs.State as state
 use Rattle.rb_model.specs.declared.refusal.Refusal.TheVariants.{NoCursor, NoSession, Stopped, TooOld, Waiting}
 use Rattle.rb_model.specs.declared.refusal.Refusal.{Refusal}
@@ -126,14 +131,6 @@ is_behind h xids blocks m g shape same block at key result because =
     IfErr-weaker result (IsHomeOld shape blocks block hist snap) (λ fault. HasKey h.shape.blocks m.lo m.hi g × IsBehind h xids blocks m g fault)
     (λ fault is. (key, subst (λ (k : Shape). IsHomeOld k blocks (home_in h.shape m.table g) hist snap fault) same (subst (λ (n : ℕ). IsHomeOld shape blocks n hist snap fault) at is))) because
 
--- Loads leave the blocks, so a reader stays one.
-module _ {S : Type 0} (s : Ghosts S) (old new : S) (logs : Logs s old new [] true) (told : s.tells) where
-  pub same_blocks : s.blocks new ≡ s.blocks old
-  same_blocks = logs.blocks told refl
-
-  pub reader_on : (h : State) (xids : List Xid) (m : Cursor) → IsReader h xids (s.blocks old) m → IsReader h xids (s.blocks new) m
-  reader_on h xids m reader = subst (λ (b : List (List ℕ)). IsReader h xids b m) (sym same_blocks) reader
-
 -- what a fetch answers behind its early tests, by the cursor of the name
 pub answer_by : (h : State) (who : ℕ) (name : List ℕ) (o : Option state.Cursor) (r : Answer) → cursor_of h who name ≡ o → r ≡ machine.first_of ((is_none o, Refused NoCursor) ∷ []) (next_row h o)
     → r ≡ machine.first_of (machine.name_tests h (machine.Fetch who name)) (machine.granted h (machine.Fetch who name))
@@ -153,13 +150,12 @@ module _ {S : Type 0} (s : Ghosts S) (laws : Laws s) (h : State) (old : EngineVi
       → (c : state.Cursor) × (cursor_of h who name ≡ Some c) × IsCursor h xids (env_of h.shape blocks) who (record { name = name; cursor = m }) c
   cursor_for xids knows = (named_is h xids (env_of h.shape blocks) who name old.memory.sessions knows there.0 there.1).1 m is_named
 
-  reader_for : (xids : List Xid) → BlocksStand h xids blocks → Remembers h xids (env_of h.shape blocks) old.memory.sessions → IsReader h xids blocks m
-  reader_for xids stand knows =
-      let one = cursor_for xids knows in
-      record { stand = stand; session = who; low = there.0; name = name; cursor = one.0; is = one.2 }
-
   reader : IsReader h goes.xids blocks m
-  reader = reader_for goes.xids goes.holds.blocks goes.remembers
+  reader = let one = cursor_for goes.xids goes.remembers in record { stand = goes.holds.blocks; session = who; low = there.0; name = name; cursor = one.0; is = one.2 }
+
+  -- of which the store stands for the state
+  pub serves : Serves s h goes.xids m old.store
+  serves = record { shape = st.shape; holds = goes.holds; reader = reader; few = let n = st.knows.sixteen in omega (arith, n); going = going }
 
   one : (c : state.Cursor) × (cursor_of h who name ≡ Some c) × IsCursor h goes.xids (env_of h.shape blocks) who (record { name = name; cursor = m }) c
   one = cursor_for goes.xids goes.remembers
@@ -168,42 +164,87 @@ module _ {S : Type 0} (s : Ghosts S) (laws : Laws s) (h : State) (old : EngineVi
   answers logged room r is = Reply.later (machine.name_tests h (machine.Fetch who name)) early refl (answer_by h who name (Some one.0) r one.1 (sym is))
 
   -- what the search couldn't read
-  pub needs_lost : (fault : CrFault) (scn lost : ℕ) → fault ≡ faults.TooOld scn lost → ((xids : List Xid) → IsReader h xids blocks m → CannotRead h xids blocks m fault) → NeedsLost s h old who name scn lost
-  needs_lost fault scn lost is found = (goes.xids, m, is_named, subst (CannotRead h goes.xids blocks m) is (found goes.xids reader))
+  pub needs_lost : (fault : CrFault) (scn lost : ℕ) → fault ≡ faults.TooOld scn lost → ((xids : List Xid) → Serves s h xids m old.store → CannotRead h xids blocks m fault) → NeedsLost s h old who name scn lost
+  needs_lost fault scn lost is found = (goes.xids, m, is_named, subst (CannotRead h goes.xids blocks m) is (found goes.xids serves))
+
+  -- what it cleaned
+  pub cleans_read : (well : Type 0) (new : S) (result : Result Fetched CrFault) → (well → (f : Fetched) × (result ≡ Ok f))
+      → ((xids : List Xid) → Serves s h xids m old.store → HasCleaned s h xids (ReadIn h xids blocks m) (MustIn h xids blocks m result) h.shape.blocks old.store new) → CleansRead s h old who name well new
+  cleans_read well new result fine cleaned =
+      let clean = cleaned goes.xids serves in record {
+        xids = goes.xids;
+        cursor = m;
+        is = is_named;
+        only = clean.only;
+        all = λ yes b read spare. clean.all b (subst (λ (r : Result Fetched CrFault). MustIn h goes.xids blocks m r b) (sym (fine yes).1) read) spare;
+      }
 
   -- what the search found, and what that makes of the call
-  module _ (new : EngineView S) (same : SameStore s old.store new.store) (logs : Logs s old.store new.store [] true) (row : Row) (result : Result Fetched CrFault)
-      (found : (xids : List Xid) → IsReader h xids blocks m → Finds h xids blocks m result row) where
-    finds : (xids : List Xid) → IsReader h xids blocks m → (r : Result Fetched CrFault) → result ≡ r → Finds h xids blocks m r row
-    finds xids by r is = subst (λ (x : Result Fetched CrFault). Finds h xids blocks m x row) is (found xids by)
+  module _ (new : EngineView S) (same : SameStore s old.store new.store) (runs : s.failed new.store ≡ false) (row : Row) (result : Result Fetched CrFault)
+      (found : (xids : List Xid) → Serves s h xids m old.store → Finds h xids blocks m result row)
+      (cleaned : (xids : List Xid) → Serves s h xids m old.store → HasCleaned s h xids (ReadIn h xids blocks m) (MustIn h xids blocks m result) h.shape.blocks old.store new.store) where
+    abbrev clean : HasCleaned s h goes.xids (ReadIn h goes.xids blocks m) (MustIn h goes.xids blocks m result) h.shape.blocks old.store new.store
+    clean = cleaned goes.xids serves
+
+    finds : (r : Result Fetched CrFault) → result ≡ r → Finds h goes.xids blocks m r row
+    finds r is = subst (λ (x : Result Fetched CrFault). Finds h goes.xids blocks m x row) is (found goes.xids serves)
+
+    env : env_of h.shape (s.blocks new.store) ≡ env_of h.shape blocks
+    env = env_same h.shape blocks (s.blocks new.store) clean.only.segments
+
+    -- an answer that leaves the state
+    stays : (answer : Answer) → is_fault answer ≡ false → Reply h (s.lsn old.store) (room_of (s.slots old.store) (s.lsn old.store)) (machine.Fetch who name) answer → After h (machine.Fetch who name) answer h
+        → Grows h (machine.Fetch who name) answer clean.count → new.memory ≡ old.memory → Does s h (machine.Fetch who name) answer old new
+    stays answer fine reply after grows memory =
+        does_by s h h (machine.Fetch who name) answer old new clean.count st reply after (λ _ s t k a is done. cc) (subst (Knows h) (sym memory) st.knows) same
+        (λ on. (
+          grows,
+          clean.lsn,
+          record {
+            xids = goes.xids;
+            holds = clean.holds;
+            remembers = subst (λ (e : Env). Remembers h goes.xids e new.memory.sessions) (sym env) (subst (λ (k : Kept). Remembers h goes.xids (env_of h.shape blocks) k.sessions) (sym memory) goes.remembers);
+          },
+        ))
+        (λ before on keeps. clean.survives (machine.failed_in (machine.Fetch who name) answer before) keeps)
 
     pub does_row : result ≡ Ok fetched.Row → new.memory.stopped ≡ old.memory.stopped → new.memory.scn ≡ old.memory.scn → new.memory.waits ≡ old.memory.waits
         → new.memory.sessions ≡ with_kept old.memory.sessions who (table.with_cursors (kept_at old.memory.sessions who) (with_last name row.key (kept_at old.memory.sessions who).cursors))
         → Does s h (machine.Fetch who name) (machine.Given row.key row.value.items) old new
     does_row is stopped scn waits moved =
-        let here = finds goes.xids reader (Ok fetched.Row) is in
-        let gives = views.gives h goes.xids blocks goes.holds.blocks who (record { name = name; cursor = m }) one.0 one.2 here.0 row.key row.value.items here.2 here.3 in
-        does_cursors s st.told laws h (machine.Fetch who name) (machine.Given row.key row.value.items) who (with_taken name (cursors_of h who)) old new st going
-        (there.0, (let n = st.knows.sixteen in omega (arith, n, there)))
-        (answers _ _ (machine.Given row.key row.value.items) gives) refl refl (λ s t k a is done. cc) refl stopped scn waits
-        (ap (λ (l : List KeptSession). map (λ k. k.asked) l) moved ∙ all_asked old.memory.sessions (who - 1) (table.with_cursors (kept_at old.memory.sessions who) (with_last name row.key (kept_at old.memory.sessions who).cursors)) refl)
-        (λ xids stand knows.
-        (let f = finds xids (reader_for xids stand knows) (Ok fetched.Row) is in
-        subst (Remembers (with_cursors h who (with_taken name (cursors_of h who))) xids (env_of h.shape blocks)) (sym moved)
-        (taken h xids blocks stand who name m f.0 row.key row.value.items f.2 f.3 old.memory.sessions knows there.0 there.1 is_named)))
-        logs same
+        let f = finds (Ok fetched.Row) is in
+        let gives = views.gives h goes.xids blocks goes.holds.blocks who (record { name = name; cursor = m }) one.0 one.2 f.0 row.key row.value.items f.2 f.3 in
+        let session : Session = record (session_of h who) { cursors = with_taken name (cursors_of h who) } in
+        let h2 : State = with_cursors h who (with_taken name (cursors_of h who)) in
+        let in_table : (1 ≤ who) × (who ≤ length h.sessions) = (there.0, (let n = st.knows.sixteen in omega (arith, n, there))) in
+        let asked = ap (λ (l : List KeptSession). map (λ k. k.asked) l) moved ∙ all_asked old.memory.sessions (who - 1) (table.with_cursors (kept_at old.memory.sessions who) (with_last name row.key (kept_at old.memory.sessions who).cursors)) refl in
+        let remembers : Remembers h2 goes.xids (env_of h.shape blocks) new.memory.sessions =
+        subst (Remembers h2 goes.xids (env_of h.shape blocks)) (sym moved) (taken h goes.xids blocks goes.holds.blocks who name m f.0 row.key row.value.items f.2 f.3 old.memory.sessions goes.remembers there.0 there.1 is_named) in
+        does_by s h h2 (machine.Fetch who name) (machine.Given row.key row.value.items) old new clean.count st
+        (answers _ _ (machine.Given row.key row.value.items) gives) refl (λ _ s t k a is done. cc)
+        (knows_on h h2 old.memory new.memory st.knows (after_sessions h h2 (machine.Fetch who name) (machine.Given row.key row.value.items) refl) refl refl stopped scn (λ on. knows_same h h2 old.memory new.memory refl refl waits asked (st.knows.queue on))) same
+        (λ _. (
+          clean.few,
+          clean.lsn,
+          record {
+            xids = goes.xids;
+            holds = holds_session s st.told laws h who goes.xids new.store session in_table refl clean.holds;
+            remembers = subst (λ (e : Env). Remembers h2 goes.xids e new.memory.sessions) (sym env) remembers;
+          },
+        ))
+        (λ before _ keeps. survives_on s (s.slots old.store) h h h2 old.store new.store new.store going (clean.survives before keeps)
+        (subst (λ (k : Option ℕ). Survives s k before h h2 new.store new.store) same.slots (survives_same s st.told laws h h2 goes.xids new.store new.store true (same.shape ∙ st.shape) refl refl refl clean.holds (no_logs s new.store runs) keeps)))
 
     pub does_end : result ≡ Ok fetched.End → new.memory ≡ old.memory → Does s h (machine.Fetch who name) machine.End old new
     does_end is memory =
-        does_loaded s st.told laws h (machine.Fetch who name) machine.End old new st
-        (answers _ _ machine.End (views.ends h goes.xids blocks goes.holds.blocks who (record { name = name; cursor = m }) one.0 one.2 (finds goes.xids reader (Ok fetched.End) is))) refl refl (λ s t k a is done. cc) memory (λ _. logs) same
+        stays machine.End refl (answers _ _ machine.End (views.ends h goes.xids blocks goes.holds.blocks who (record { name = name; cursor = m }) one.0 one.2 (finds (Ok fetched.End) is))) refl clean.few memory
 
     pub does_old : (scn lost : ℕ) → result ≡ Err (faults.TooOld scn lost) → new.memory ≡ old.memory → Does s h (machine.Fetch who name) (Refused (TooOld scn lost)) old new
     does_old scn lost is memory =
-        let behind = finds goes.xids reader (Err (faults.TooOld scn lost)) is in
-        does_loaded s st.told laws h (machine.Fetch who name) (Refused (TooOld scn lost)) old new st
+        let behind = finds (Err (faults.TooOld scn lost)) is in
+        stays (Refused (TooOld scn lost)) refl
         (old_reply h goes.xids blocks goes.holds.blocks (s.lsn old.store) (room_of (s.slots old.store) (s.lsn old.store)) (machine.Fetch who name) _ m.scn scn lost early (one.0, one.1, sym one.2.number) behind.4)
-        refl refl (λ s t k a is done. cc) memory (λ _. logs) same
+        refl clean.few memory
 
 -- no early test answers that it is too old
 pub not_old : (h : State) (who : ℕ) (why : Refusal) (scn lost : ℕ) → Refuses (session_tests h who) why → why ≡ TooOld scn lost → ⊥

@@ -1,3 +1,4 @@
+pub mod CleanLemmas
 pub mod DoesLemmas
 pub mod SeenHomes
 pub mod FetchLemmas

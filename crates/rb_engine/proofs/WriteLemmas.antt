@@ -13,7 +13,7 @@ use Rattle.rb_base.specs.declared.store.Store.{Ghosts}
 use Rattle.rb_engine.specs.Does.{Does, EngineView, Goes, IsInStep, Kept, Keeps, Knows, SameStore, Stands}
 use Rattle.rb_engine.specs.Retains.{Retains}
 use Rattle.rb_engine.specs.Scanning.{OtherHolds}
-use Rattle.rb_engine.proofs.DoesLemmas.{does_by, does_fault, does_loaded, goes_logged, holds_logged, knows_on, remembers_logged, survives_same}
+use Rattle.rb_engine.proofs.DoesLemmas.{does_by, does_fault, does_loaded, goes_logged, holds_logged, knows_on, remembers_logged, survives_same, refused_none}
 use Rattle.rb_engine.proofs.QueueLemmas.{all_asked, holds_queue, knows_same, one_asked, queue_waiting, survives_queue}
 use Rattle.rb_engine.proofs.StepLemmas.{few_less, fit_at, fit_held, in_step_moved, in_step_same}
 use Rattle.rb_base.specs.Counts.{err_is}
@@ -128,7 +128,7 @@ module _ {S : Type 0} (s : Ghosts S) (told : s.tells) (laws : Laws s) (h : State
     pub step_refused : (why : Refusal) → is_disk_fault why ≡ false → (x : Xid) → WritesIn h who x.seg x.slot → first_of (write_tests h (s.lsn old.store) Room x.seg x.slot who table key action) Done ≡ Refused why
         → new.memory ≡ old.memory → Logs s old.store new.store [] true → Does s h (Write who table key action) (Refused why) old new
     step_refused why other x within is memory logs =
-        does_loaded s told laws h (Write who table key action) (Refused why) old new st (answered x.seg x.slot within (Refused why) is) (rw other refl) refl (λ s t k a is done. cc) memory (λ _. logs) same
+        does_loaded s told laws h (Write who table key action) (Refused why) old new st (answered x.seg x.slot within (Refused why) is) (rw other refl) (refused_none h (Write who table key action) why) (λ s t k a is done. cc) memory (λ _. logs) same
 
     module _ (u : ℕ) (held : OtherHolds h who table key (Some u)) (place : (g : ℕ) × (i : ℕ) × WritesIn h who g i) (mid : Kept) (before : mid ≡ old.memory) (logs : Logs s old.store new.store [] true) where
       queue_is : mid.waits ≡ h.queue

@@ -34,6 +34,9 @@ pub fn do_fetch<T: Store>(
     ensures lost { (h : State) → Stands T.Store h (record { memory = memory.old; store = store.old })
         → (scn lost : ℕ) → result ≡ Err (Refusal.TooOld scn lost) → NeedsLost T.Store h
         (record { memory = memory.old; store = store.old }) s (name_text name.now) scn lost }
+    ensures cleans { (h : State) → Stands T.Store h (record { memory = memory.old; store = store.old })
+        → DoesRead result → CleansRead T.Store h (record { memory = memory.old; store = store.old }) s
+        (name_text name.now) (OnOk result (Unit {0})) store.new }
     ensures row { LeavesRow result row.old row.new }
     ensures same { SameStore T.Store store.old store.new }
     ensures disk { IsCountedAs (T.faults store.old) (T.faults store.new) (err_is is_disk_fault result) }

@@ -1,11 +1,14 @@
-//! A cursor's next row, by the homes of its table in scan order, each rebuilt as it was at the cursor's snapshot.
+//! A cursor's next row, by the homes of its table in scan order, each cleaned and rebuilt as it was at the cursor's snapshot.
 //! `fetch` calls it.
-ghost use Rattle.std.specs.Prelude.{◌≡◌, ◌<◌, ◌≤◌, ◌%◌, ◌*◌, ℕ, List, [], true, false, not};
+ghost use Rattle.std.specs.Prelude.{◌≡◌, ◌⊎◌, ◌<◌, ◌≤◌, ◌%◌, ◌*◌, ℕ, List, length, true, false, not};
 ghost use Rattle.std.specs.Prelude.{None, Some, IfOk, IfErr, if◌then◌else◌, ◌==◌};
+ghost use Rattle.rb_base.specs.Groups.{Patch};
 ghost use Rattle.rb_base.specs.Logs.{Logs};
 ghost use Rattle.rb_base.specs.declared.ids.Xid.{Xid};
+ghost use Rattle.rb_base.specs.declared.sizes.TheConstants.{WORN};
 ghost use Rattle.rb_cr.specs.Faults.{is_failed};
-ghost use Rattle.rb_engine.specs.Scanning.{Begins, Finds, HasKey, HasNext, HasNone, IsBehind, IsReader};
+ghost use Rattle.rb_engine.specs.Cleaning.{Cleans, IsHere, MustIn, ReadIn, Serves};
+ghost use Rattle.rb_engine.specs.Scanning.{Begins, Finds, HasKey, HasNext, HasNone, IsBehind};
 ghost use Rattle.rb_model.specs.Next.{is_after};
 ghost use Rattle.rb_model.specs.State.{State};
 ghost use Rattle.rb_views.specs.Scan.{IsAskedKey};
@@ -14,6 +17,7 @@ use rb_base::Store;
 use rb_cr::{CrFault, Scratch, Snapshot, Wanted, next_at};
 use rb_model::{Fetched, Row};
 use rb_sessions::Cursor;
+use rb_undoengine::clean_step;
 
 /// The first home that may have a row behind the last one: that of its key.
 fn first_home(cursor: &Cursor, blocks: u32) -> u32
@@ -60,7 +64,8 @@ fn is_asked(cursor: &Cursor, blocks: u32, g: u32) -> bool
     ahead <= cursor.hi - cursor.lo
 }
 
-/// Puts the next row of home `g` into `row`, where it has one.
+/// Puts the next row of home `g` into `row`, where it has one. The home is cleaned first, where the log has room for it,
+/// so that what is known of its transactions now is still known when their undo is gone.
 fn next_in<S: Store>(
     store: &mut S,
     scratch: &mut Scratch,
@@ -73,21 +78,29 @@ fn next_in<S: Store>(
     requires table { (1 ≤ cursor.now.table) × (cursor.now.table ≤ (S.shape_of store.old).tables) }
     requires there { g < (S.shape_of store.old).blocks }
     requires begins { Begins (S.shape_of store.old).blocks first g cursor.now.last }
-    ensures told { S.tells → (h : State) (xids : List Xid) → S.shape_of store.old ≡ h.shape
-        → IsReader h xids (S.blocks store.old) cursor.now → IfOk result (λ found.
+    ensures told { S.tells → (h : State) (xids : List Xid) → Serves S.Store h xids cursor.now store.old
+        → IfOk result (λ found.
         (found ≡ true → HasNext h xids (S.blocks store.old) cursor.now g row.new)
         × (found ≡ false → HasNone h xids (S.blocks store.old) cursor.now g)) }
-    ensures old { S.tells → (h : State) (xids : List Xid) → S.shape_of store.old ≡ h.shape
-        → IsReader h xids (S.blocks store.old) cursor.now
+    ensures old { S.tells → (h : State) (xids : List Xid) → Serves S.Store h xids cursor.now store.old
         → IfErr result (λ fault. HasKey h.shape.blocks cursor.now.lo cursor.now.hi g
         × IsBehind h xids (S.blocks store.old) cursor.now g fault) }
+    ensures cleans { S.tells → (h : State) (xids : List Xid) → Serves S.Store h xids cursor.now store.old
+        → Cleans S.Store h xids (IsHere h.shape cursor.now g) (IsHere h.shape cursor.now g) 1 store.old store.new
+        (not (is_failed result)) }
     ensures kept { IfOk result (λ found. found ≡ false → row.new ≡ row.old) }
     ensures same { IfErr result (λ fault. row.new ≡ row.old) }
-    ensures logs { Logs S.Store store.old store.new [] (not (is_failed result)) }
+    ensures logs { (groups : List (List Patch))
+        × Logs S.Store store.old store.new groups (not (is_failed result)) × (length groups ≤ 1) }
+    ensures young { is_failed result ≡ false → (S.lsn store.new ≤ WORN) ⊎ (S.lsn store.new ≡ S.lsn store.old) }
 {
     let blocks = store.shape().blocks;
     if !is_asked(cursor, blocks, g) {
         return Ok(false);
+    }
+    let block = (u32::from(cursor.table) - 1) * blocks + g;
+    if clean_step(store, block).is_err() {
+        return Err(CrFault::Failed);
     }
     let snapshot = Snapshot {
         scn: cursor.scn,
@@ -99,12 +112,12 @@ fn next_in<S: Store>(
         lo: cursor.lo,
         hi: cursor.hi,
     };
-    let block = (u32::from(cursor.table) - 1) * blocks + g;
     next_at(store, block, &snapshot, wanted, scratch, row)
 }
 
 /// Puts the cursor's next row into `row`, where there is one. The homes are read from that of the last row on, up to
-/// the one that has the next row, and no other.
+/// the one that has the next row, and no other. Each that is read is cleaned, by a group that isn't flushed, as long as
+/// the log isn't worn out and has more room than what puts back all that is under way.
 pub fn next_row<S: Store>(
     store: &mut S,
     scratch: &mut Scratch,
@@ -113,12 +126,16 @@ pub fn next_row<S: Store>(
 ) -> Result<Fetched, CrFault>
     requires going { S.failed store.old ≡ false }
     requires table { (1 ≤ cursor.now.table) × (cursor.now.table ≤ (S.shape_of store.old).tables) }
-    ensures found { S.tells → (h : State) (xids : List Xid) → S.shape_of store.old ≡ h.shape
-        → IsReader h xids (S.blocks store.old) cursor.now
+    ensures found { S.tells → (h : State) (xids : List Xid) → Serves S.Store h xids cursor.now store.old
         → Finds h xids (S.blocks store.old) cursor.now result row.new }
+    ensures cleans { S.tells → (h : State) (xids : List Xid) → Serves S.Store h xids cursor.now store.old
+        → Cleans S.Store h xids (ReadIn h xids (S.blocks store.old) cursor.now)
+        (MustIn h xids (S.blocks store.old) cursor.now result) h.shape.blocks store.old store.new
+        (not (is_failed result)) }
     ensures kept { IfOk result (λ f. f ≡ Fetched.End → row.new ≡ row.old) }
     ensures same { IfErr result (λ fault. row.new ≡ row.old) }
-    ensures logs { Logs S.Store store.old store.new [] (not (is_failed result)) }
+    ensures logs { (groups : List (List Patch)) × Logs S.Store store.old store.new groups (not (is_failed result)) }
+    ensures young { is_failed result ≡ false → (S.lsn store.new ≤ WORN) ⊎ (S.lsn store.new ≡ S.lsn store.old) }
 {
     let blocks = store.shape().blocks;
     let first = first_home(cursor, blocks);

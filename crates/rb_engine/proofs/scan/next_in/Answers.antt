@@ -1,44 +1,139 @@
-use Rattle.std.proofs.Common.{◌≡◌, ◌<◌, ◌+◌, ◌-◌, ◌*◌, ℕ, List, ◌∙◌, ap, subst}
+use Rattle.std.proofs.Common.{◌≡◌, ◌<◌, ◌≤◌, ◌+◌, ◌-◌, ◌*◌, ◌%◌, ◌++◌, ℕ, List, [], length, true, false, not, Some, IfOk, Result, Ok, Err, ◌∙◌, refl, sym, ap, subst, arith, length-append}
+use Rattle.std.specs.Result.{is_err}
+use Rattle.rb_base.specs.Blocks.{table_blocks}
+use Rattle.rb_base.specs.Logs.{Laws, Logs, more_logs, no_logs}
 use Rattle.rb_base.specs.declared.ids.Xid.{Xid}
 use Rattle.rb_base.specs.declared.shape.Shape.{Shape}
-use Rattle.rb_engine.specs.Scanning.{HasKey, HasNext, HasNone, IsBehind, IsReader}
+use Rattle.rb_cr.specs.Faults.{is_failed}
+use Rattle.rb_cr.specs.declared.faults.CrFault.{CrFault}
+use Rattle.rb_engine.specs.Cleaning.{HasCleaned, HasSpare, IsHere, IsOnTheWay, Serves}
+use Rattle.rb_engine.specs.Scanning.{Begins, HasKey, HasNext, HasNone, IsBehind}
+use Rattle.rb_engine.proofs.CleanLemmas.{behind_same, cleans_loaded, env_same, in_table, next_same, none_cleaned, none_same, same_or_clean, serves_on, step_cleaned, step_fails}
+use Rattle.rb_engine.proofs.FetchLemmas.{found_next, home_read, is_behind}
 use Rattle.rb_model.specs.State.{State}
 use Rattle.rb_rebuild.specs.Reading.{History}
 use Rattle.rb_views.specs.Views.{history, home_in}
-use Rattle.rb_engine.proofs.FetchLemmas.{found_next, home_read, is_behind}
 use Rattle.rb_engine.proofs.scan.next_in.Given.{Over}
 use Rattle.rb_engine.proofs.scan.next_in.Goals as goal
 
-module _ (g : Over) (c : goal.After-next_at g) (h : State) (xids : List Xid) (shape : g.S.Store.shape_of c.args.store.now ≡ h.shape) (reader : IsReader h xids (g.S.Store.blocks c.args.store.now) c.args.cursor.now) where
+laws_of : (g : Over) → Laws g.S.Store
+laws_of g = record {
+  stable_left = λ store b n i keeps stable here. g.met.S.Store.stable_left store b n i keeps stable here;
+  stable_numbered = λ store b n keeps stable. g.met.S.Store.stable_numbered store b n keeps stable;
+  stable_patched = λ store b n keeps stable. g.met.S.Store.stable_patched store b n keeps stable;
+  now_counts = λ store t i keeps le here. g.met.S.Store.now_counts store t i keeps le here;
+  only_now = λ store i keeps here. g.met.S.Store.only_now store i keeps here;
+}
+
+-- a block of the cursor's table, by the code's numbers
+block_at : (table from blocks g : ℕ) (shape : Shape) → from ≡ table → blocks ≡ shape.blocks → (from - 1) * blocks + g ≡ home_in shape table g
+block_at table from blocks g shape e f = rw (e, f) refl
+
+-- the key of the range, and the place of the home, as the state's shape has them
+on_way : (shape state : Shape) (m : Rattle.rb_sessions.specs.declared.cursor.Cursor.Cursor) (blocks first g : ℕ) → shape ≡ state → blocks ≡ shape.blocks → g < shape.blocks → HasKey blocks m.lo m.hi g → Begins shape.blocks first g m.last → IsOnTheWay state m g
+on_way shape state m blocks first g same is there key begins = record {
+  there = subst (λ (k : Shape). g < k.blocks) same there;
+  key = subst (λ (n : ℕ). HasKey n m.lo m.hi g) (is ∙ ap (λ (k : Shape). k.blocks) same) key;
+  behind = λ last at. let first_is = begins.2 last at in let le = begins.0 in let bs = ap (λ (n : ℕ). last % n) (ap (λ (k : Shape). k.blocks) same) in omega (arith, first_is, le, bs);
+}
+
+pub returns-then-not-is_asked-clause-cleans : goal.returns-then-not-is_asked-clause-cleans
+returns-then-not-is_asked-clause-cleans g c = λ told h xids serves.
+    let s = g.S.Store in
+    let old = c.args.store.now in
+    let m = c.args.cursor.now in
+    let blocks : c.shape-blocks.result.blocks ≡ h.shape.blocks = ap (λ (k : Shape). k.blocks) (c.shape-blocks.ensures.shape ∙ serves.shape) in
+    none_cleaned s told (laws_of g) h xids m (IsHere h.shape m c.args.g) (IsHere h.shape m c.args.g) 1 old old serves (no_logs s old c.requires.going)
+    (λ b is spare.
+    let key : HasKey c.shape-blocks.result.blocks m.lo m.hi c.args.g = subst (λ (n : ℕ). HasKey n m.lo m.hi c.args.g) (sym blocks) is.0.key in
+    absurd (c.is_asked.ensures.none c.if-not-is_asked.true key.0 key.1 key.2 key.3))
+
+pub returns-then-not-is_asked-clause-logs : goal.returns-then-not-is_asked-clause-logs
+returns-then-not-is_asked-clause-logs g c = ([], no_logs g.S.Store c.args.store.now c.requires.going, omega arith)
+
+pub returns-then-is_err-clause-cleans : goal.returns-then-is_err-clause-cleans
+returns-then-is_err-clause-cleans g c = λ told h xids serves.
+    let s = g.S.Store in
+    let m = c.args.cursor.now in
+    let shape = c.shape-blocks.ensures.shape in
+    let bs : c.shape-blocks.result.blocks ≡ (s.shape_of c.args.store.now).blocks = ap (λ (k : Shape). k.blocks) shape in
+    let on = on_way (s.shape_of c.args.store.now) h.shape m c.shape-blocks.result.blocks c.args.first c.args.g serves.shape bs c.requires.there (c.is_asked.ensures.some c.if-not-is_asked.false) c.requires.begins in
+    let at = block_at m.table c.from.result c.shape-blocks.result.blocks c.args.g h.shape c.from.ensures (bs ∙ ap (λ (k : Shape). k.blocks) serves.shape) in
+    step_fails s told (laws_of g) h xids m c.args.g on c.args.store.now c.clean_step.new.store ((c.from.result - 1) * c.shape-blocks.result.blocks + c.args.g) c.clean_step.result at (sym c.is_err.ensures.value ∙ c.if-is_err.true) serves
+    (c.clean_step.ensures.gives told h xids serves.shape serves.holds serves.few)
+
+-- the home is cleaned, where it is to be
+module _ (g : Over) (c : goal.After-next_at g) (told : g.S.Store.tells) (h : State) (xids : List Xid) (serves : Serves g.S.Store h xids c.args.cursor.now c.args.store.now) where
+  bs : c.shape-blocks.result.blocks ≡ h.shape.blocks
+  bs = ap (λ (k : Shape). k.blocks) (c.shape-blocks.ensures.shape ∙ serves.shape)
+
+  at : (c.from.result - 1) * c.shape-blocks.result.blocks + c.args.g ≡ home_in h.shape c.args.cursor.now.table c.args.g
+  at = block_at c.args.cursor.now.table c.from.result c.shape-blocks.result.blocks c.args.g h.shape c.from.ensures bs
+
+  on : IsOnTheWay h.shape c.args.cursor.now c.args.g
+  on = on_way (g.S.Store.shape_of c.args.store.now) h.shape c.args.cursor.now c.shape-blocks.result.blocks c.args.first c.args.g serves.shape (ap (λ (k : Shape). k.blocks) c.shape-blocks.ensures.shape) c.requires.there (c.is_asked.ensures.some c.if-not-is_asked.false) c.requires.begins
+
+  fine : is_err c.clean_step.result ≡ false
+  fine = sym c.is_err.ensures.value ∙ c.if-is_err.false
+
+  clean : HasCleaned g.S.Store h xids (IsHere h.shape c.args.cursor.now c.args.g) (IsHere h.shape c.args.cursor.now c.args.g) 1 c.args.store.now c.clean_step.new.store
+  clean =
+      step_cleaned g.S.Store told (laws_of g) h xids c.args.cursor.now c.args.g on c.args.store.now c.clean_step.new.store ((c.from.result - 1) * c.shape-blocks.result.blocks + c.args.g) c.clean_step.result at fine serves
+      (c.clean_step.ensures.gives told h xids serves.shape serves.holds serves.few) (λ spare. c.clean_step.ensures.cleaned told h xids serves.shape serves.holds spare.young spare.room)
+
+  same_shape : g.S.Store.shape_of c.clean_step.new.store ≡ g.S.Store.shape_of c.args.store.now
+  same_shape = c.clean_step.ensures.logs.1.same_shape
+
+  mid : Serves g.S.Store h xids c.args.cursor.now c.clean_step.new.store
+  mid = serves_on g.S.Store told (laws_of g) h xids c.args.cursor.now c.args.store.now c.clean_step.new.store same_shape serves clean
+
   abbrev blocks : List (List ℕ)
-  blocks = g.S.Store.blocks c.args.store.now
+  blocks = g.S.Store.blocks c.clean_step.new.store
 
   abbrev hist : History
   hist = history h xids blocks (home_in h.shape c.args.cursor.now.table c.args.g) c.args.cursor.now.own
 
-  at : (c.from.result - 1) * c.shape-blocks.result.blocks + c.args.g ≡ home_in h.shape c.args.cursor.now.table c.args.g
-  at =
-      ap (λ (n : ℕ). (n - 1) * c.shape-blocks.result.blocks + c.args.g) c.from.ensures
-      ∙ ap (λ (k : Shape). (c.args.cursor.now.table - 1) * k.blocks + c.args.g) (c.shape-blocks.ensures.shape ∙ shape)
-
-  there : c.args.g < h.shape.blocks
-  there = subst (λ (k : Shape). c.args.g < k.blocks) shape c.requires.there
+  abbrev env : Rattle.rb_standing.specs.Standing.env_of h.shape blocks ≡ Rattle.rb_standing.specs.Standing.env_of h.shape (g.S.Store.blocks c.args.store.now)
+  env = env_same h.shape (g.S.Store.blocks c.args.store.now) blocks clean.only.segments
 
 pub returns-clause-told : goal.returns-clause-told
-returns-clause-told g c = λ told h xids shape reader.
+returns-clause-told g c = λ told h xids serves.
     let m = c.args.cursor.now in
-    let b = g.S.Store.blocks c.args.store.now in
-    let lt = there g c h xids shape reader in
-    let read = home_read h xids b m reader c.args.g lt (g.S.Store.shape_of c.args.store.now) shape _ (at g c h xids shape reader) in
-    let begins = subst (λ (k : Shape). Rattle.rb_engine.specs.Scanning.Begins k.blocks c.args.first c.args.g m.last) shape c.requires.begins in
-    found_next h xids b m reader c.args.g lt c.args.first begins c.after_in.result c.after_in.ensures c.next_at.new.row c.next_at.result
-    (c.next_at.ensures.given told (hist g c h xids shape reader) read) (c.next_at.ensures.none told (hist g c h xids shape reader) read)
+    let old = g.S.Store.blocks c.args.store.now in
+    let b = g.S.Store.blocks c.clean_step.new.store in
+    let served = mid g c told h xids serves in
+    let way = on g c told h xids serves in
+    let read = home_read h xids b m served.reader c.args.g way.there (g.S.Store.shape_of c.clean_step.new.store) served.shape _ (at g c told h xids serves) in
+    let begins = subst (λ (k : Shape). Begins k.blocks c.args.first c.args.g m.last) serves.shape c.requires.begins in
+    let found = found_next h xids b m served.reader c.args.g way.there c.args.first begins c.after_in.result c.after_in.ensures c.next_at.new.row c.next_at.result
+    (c.next_at.ensures.given told (hist g c told h xids serves) read) (c.next_at.ensures.none told (hist g c told h xids serves) read) in
+    before (HasNext h xids b m c.args.g c.next_at.new.row) (HasNext h xids old m c.args.g c.next_at.new.row) (HasNone h xids b m c.args.g) (HasNone h xids old m c.args.g)
+    (next_same h xids old b m (env g c told h xids serves) c.args.g c.next_at.new.row) (none_same h xids old b m (env g c told h xids serves) c.args.g) c.next_at.result found
+  where
+    before : (N N2 E E2 : Type 0) → (N → N2) → (E → E2) → (r : Result Rattle.std.proofs.Common.Bool CrFault) → IfOk r (λ found. (found ≡ true → N) × (found ≡ false → E)) → IfOk r (λ found. (found ≡ true → N2) × (found ≡ false → E2))
+    before N N2 E E2 one two (Ok found) is = (λ yes. one (is.0 yes), λ no. two (is.1 no))
+    before N N2 E E2 one two (Err fault) is = tt
 
 pub returns-clause-old : goal.returns-clause-old
-returns-clause-old g c = λ told h xids shape reader.
+returns-clause-old g c = λ told h xids serves.
     let m = c.args.cursor.now in
-    let b = g.S.Store.blocks c.args.store.now in
-    let lt = there g c h xids shape reader in
-    let read = home_read h xids b m reader c.args.g lt (g.S.Store.shape_of c.args.store.now) shape _ (at g c h xids shape reader) in
-    let key = subst (λ (k : Shape). HasKey k.blocks m.lo m.hi c.args.g) (c.shape-blocks.ensures.shape ∙ shape) (c.is_asked.ensures.some c.if-not-is_asked.false) in
-    is_behind h xids b m c.args.g (g.S.Store.shape_of c.args.store.now) shape _ (at g c h xids shape reader) key c.next_at.result (c.next_at.ensures.old told (hist g c h xids shape reader) read)
+    let old = g.S.Store.blocks c.args.store.now in
+    let b = g.S.Store.blocks c.clean_step.new.store in
+    let served = mid g c told h xids serves in
+    let way = on g c told h xids serves in
+    let read = home_read h xids b m served.reader c.args.g way.there (g.S.Store.shape_of c.clean_step.new.store) served.shape _ (at g c told h xids serves) in
+    let behind = is_behind h xids b m c.args.g (g.S.Store.shape_of c.clean_step.new.store) served.shape _ (at g c told h xids serves) way.key c.next_at.result (c.next_at.ensures.old told (hist g c told h xids serves) read) in
+    let there : home_in h.shape m.table c.args.g < table_blocks h.shape = in_table m.table c.args.g h.shape way.there (subst (λ (k : Shape). (1 ≤ m.table) × (m.table ≤ k.tables)) serves.shape c.requires.table) in
+    Rattle.std.proofs.lemmas.Result.IfErr-weaker c.next_at.result (λ fault. HasKey h.shape.blocks m.lo m.hi c.args.g × IsBehind h xids b m c.args.g fault) (λ fault. HasKey h.shape.blocks m.lo m.hi c.args.g × IsBehind h xids old m c.args.g fault)
+    (λ fault is. (is.0, behind_same h xids old b serves.holds.blocks m c.args.g there (env g c told h xids serves) (same_or_clean ((clean g c told h xids serves).only.each (home_in h.shape m.table c.args.g))) fault is.1)) behind
+
+pub returns-clause-cleans : goal.returns-clause-cleans
+returns-clause-cleans g c = λ told h xids serves.
+    cleans_loaded g.S.Store told (laws_of g) h xids c.args.cursor.now c.args.store.now c.clean_step.new.store c.next_at.new.store (not (is_failed c.next_at.result)) serves (same_shape g c told h xids serves) c.clean_step.ensures.logs.1.same_slots (clean g c told h xids serves) c.next_at.ensures.logs
+
+pub returns-clause-logs : goal.returns-clause-logs
+returns-clause-logs g c =
+    let s = g.S.Store in
+    let step = c.clean_step.ensures.logs in
+    let well : Logs s c.args.store.now c.clean_step.new.store step.0 true = subst (λ going. Logs s c.args.store.now c.clean_step.new.store step.0 (not going)) (sym c.is_err.ensures.value ∙ c.if-is_err.false) step.1 in
+    (step.0 ++ [], more_logs s c.args.store.now c.clean_step.new.store c.next_at.new.store step.0 [] (not (is_failed c.next_at.result)) well c.next_at.ensures.logs, (let n = length-append step.0 [] in let few = step.2 in omega (arith, n, few)))

@@ -1,21 +1,50 @@
-use Rattle.std.proofs.Common.{◌<◌, ◌≤◌, inl, inr, ℕ, List, [], true, not, sym, refl, ◌∙◌, subst, arith}
+use Rattle.std.proofs.Common.{◌≡◌, ◌<◌, ◌≤◌, ◌+◌, ◌++◌, inl, inr, ℕ, List, [], true, false, not, Bool, Ok, Err, Result, sym, refl, ap, ◌∙◌, subst, arith}
 use Rattle.std.proofs.lemmas.Bool.{cases_eq}
-use Rattle.rb_base.specs.Logs.{more_logs, no_logs}
+use Rattle.rb_base.specs.Logs.{Laws, Logs, more_logs, no_logs}
+use Rattle.rb_base.specs.declared.ids.Xid.{Xid}
 use Rattle.rb_base.specs.declared.shape.Shape.{Shape}
 use Rattle.rb_cr.specs.Faults.{is_fault}
+use Rattle.rb_cr.specs.declared.faults.CrFault.{CrFault}
+use Rattle.rb_engine.specs.Cleaning.{Cleans, IsBefore, IsHere, MustIn, ReadIn, Serves}
 use Rattle.rb_engine.specs.Scanning.{Begins, HasNext, HasNone, IsBehind}
-use Rattle.rb_engine.proofs.FetchLemmas.{reader_on, same_blocks}
+use Rattle.rb_engine.proofs.CleanLemmas.{behind_same, cleaned_as, env_mid, in_table, next_same, none_cleaned, none_same, read_by_end, read_in_table, read_no_more, read_up_to, same_or_clean, serves_mid, turn_fails, turned, young_on}
+use Rattle.rb_model.specs.State.{State}
+use Rattle.rb_engine.proofs.scan.next_row.Given.{Over}
 use Rattle.rb_engine.proofs.scan.next_row.Goals as goal
+
+laws_of : (g : Over) → Laws g.S.Store
+laws_of g = record {
+  stable_left = λ store b n i keeps stable here. g.met.S.Store.stable_left store b n i keeps stable here;
+  stable_numbered = λ store b n keeps stable. g.met.S.Store.stable_numbered store b n keeps stable;
+  stable_patched = λ store b n keeps stable. g.met.S.Store.stable_patched store b n keeps stable;
+  now_counts = λ store t i keeps le here. g.met.S.Store.now_counts store t i keeps le here;
+  only_now = λ store i keeps here. g.met.S.Store.only_now store i keeps here;
+}
 
 pub loop-g-init : goal.loop-g-init
 loop-g-init g c =
     let m = c.args.cursor.now in
+    let s = g.S.Store in
+    let old = c.args.store.now in
     record {
-      logs = no_logs g.S.Store c.args.store.now c.requires.going;
+      groups = [];
+      logs = no_logs s old c.requires.going;
+      young = inr refl;
       row = refl;
-      none = λ told h xids shape reader f before k asked.
-          absurd (c.first_home-first.ensures.skips f k before (subst (λ (z : Shape). Rattle.rb_views.specs.Scan.IsAskedKey z.blocks m.lo m.hi m.last f k) (sym (c.shape-blocks.ensures.shape ∙ shape)) asked));
+      none = λ told h xids serves f before k asked.
+          absurd (c.first_home-first.ensures.skips f k before (subst (λ (z : Shape). Rattle.rb_views.specs.Scan.IsAskedKey z.blocks m.lo m.hi m.last f k) (sym (c.shape-blocks.ensures.shape ∙ serves.shape)) asked));
+      cleaned = λ told h xids serves.
+          let bs : c.shape-blocks.result.blocks ≡ h.shape.blocks = ap (λ (z : Shape). z.blocks) (c.shape-blocks.ensures.shape ∙ serves.shape) in
+          none_cleaned s told (laws_of g) h xids m (IsBefore h.shape m c.first_home-first.result) (IsBefore h.shape m c.first_home-first.result) c.first_home-first.result old old serves (no_logs s old c.requires.going)
+          (λ b is spare. absurd (not_before m.last c.first_home-first.result h.shape.blocks c.shape-blocks.result.blocks is.0 bs is.1 is.2.0.behind c.first_home-first.ensures.first c.first_home-first.ensures.last));
     }
+  where
+    -- no home on the way comes before the first
+    not_before : (last : Rattle.std.proofs.Common.Option ℕ) (first blocks code f : ℕ) → code ≡ blocks → f < first → ((l : ℕ) → last ≡ Rattle.std.proofs.Common.Some l → Rattle.std.proofs.Common.◌%◌ l blocks ≤ f)
+        → (last ≡ Rattle.std.proofs.Common.None → first ≡ 0) → ((l : ℕ) → last ≡ Rattle.std.proofs.Common.Some l → first ≡ Rattle.std.proofs.Common.◌%◌ l code) → ⊥
+    not_before Rattle.std.proofs.Common.None first blocks code f same less behind one other = let zero = one refl in omega (arith, zero, less)
+    not_before (Rattle.std.proofs.Common.Some l) first blocks code f same less behind one other =
+        let at = other l refl in let le = behind l refl in let bs = ap (λ (n : ℕ). Rattle.std.proofs.Common.◌%◌ l n) same in omega (arith, at, le, bs, less)
 
 pub next_in-requires-clause-going : goal.next_in-requires-clause-going
 next_in-requires-clause-going g c = c.loop-g.invariant.logs.failed
@@ -32,57 +61,155 @@ next_in-requires-clause-begins g c =
     subst (λ (z : Shape). Begins z.blocks c.first_home-first.result c.loop-g.g c.args.cursor.now.last) (c.shape-blocks.ensures.shape ∙ sym c.loop-g.invariant.logs.same_shape)
     (c.loop-g.auto.g, e.first, e.last)
 
+-- the same fault behind the homes that were cleaned
 pub returns-in-Err-clause-found : goal.returns-in-Err-clause-found
-returns-in-Err-clause-found g c = λ told h xids shape reader.
-    let both = c.in-Err.ensures.old told h xids (c.loop-g.invariant.logs.same_shape ∙ shape) (reader_on g.S.Store c.args.store.now c.loop-g.store c.loop-g.invariant.logs told h xids c.args.cursor.now reader) in (
-      c.loop-g.g,
-      subst (λ (z : Shape). c.loop-g.g < z.blocks) (c.shape-blocks.ensures.shape ∙ shape) c.loop-g-test.true,
-      c.loop-g.invariant.none told h xids shape reader,
-      both.0,
-      subst (λ (b : List (List ℕ)). IsBehind h xids b c.args.cursor.now c.loop-g.g c.in-Err.fault) (same_blocks g.S.Store c.args.store.now c.loop-g.store c.loop-g.invariant.logs told) both.1,
-    )
+returns-in-Err-clause-found g c = λ told h xids serves.
+    let s = g.S.Store in
+    let m = c.args.cursor.now in
+    let old = c.args.store.now in
+    let mid = c.loop-g.store in
+    let inv = c.loop-g.invariant in
+    let before = inv.cleaned told h xids serves in
+    let served = serves_mid s told (laws_of g) h xids m c.loop-g.g old mid mid inv.logs.same_shape inv.logs.same_slots refl serves before in
+    let both = c.in-Err.ensures.old told h xids served in
+    let there : c.loop-g.g < h.shape.blocks = subst (λ (z : Shape). c.loop-g.g < z.blocks) (c.shape-blocks.ensures.shape ∙ serves.shape) c.loop-g-test.true in
+    (c.loop-g.g, there, inv.none told h xids serves, both.0,
+      behind_same h xids (s.blocks old) (s.blocks mid) serves.holds.blocks m c.loop-g.g (in_table m.table c.loop-g.g h.shape there (subst (λ (k : Shape). (1 ≤ m.table) × (m.table ≤ k.tables)) serves.shape c.requires.table))
+      (env_mid s told (laws_of g) h xids m c.loop-g.g old mid mid inv.logs.same_shape inv.logs.same_slots refl serves before) (same_or_clean (before.only.each (Rattle.rb_views.specs.Views.home_in h.shape m.table c.loop-g.g))) c.in-Err.fault both.1)
+
+pub returns-in-Err-clause-cleans : goal.returns-in-Err-clause-cleans
+returns-in-Err-clause-cleans g c = λ told h xids serves.
+    let s = g.S.Store in
+    let m = c.args.cursor.now in
+    let old = c.args.store.now in
+    let mid = c.loop-g.store in
+    let new = c.next_in.new.store in
+    let inv = c.loop-g.invariant in
+    let here = c.in-Err.ensures.cleans told h xids in
+    let there : c.loop-g.g < h.shape.blocks = subst (λ (z : Shape). c.loop-g.g < z.blocks) (c.shape-blocks.ensures.shape ∙ serves.shape) c.loop-g-test.true in
+    by (not (is_fault c.in-Err.fault)) c.loop-g.g told h xids serves inv.logs.same_shape inv.logs.same_slots c.in-Err.ensures.logs.1.same_slots (inv.cleaned told h xids serves) (inv.none told h xids serves) there here
+  where
+    by : (going : Bool) (n : ℕ) (told : g.S.Store.tells) (h : State) (xids : List Xid) → (serves : Serves g.S.Store h xids c.args.cursor.now c.args.store.now)
+        → g.S.Store.shape_of c.loop-g.store ≡ g.S.Store.shape_of c.args.store.now → g.S.Store.slots c.loop-g.store ≡ g.S.Store.slots c.args.store.now → g.S.Store.slots c.next_in.new.store ≡ g.S.Store.slots c.loop-g.store
+        → Rattle.rb_engine.specs.Cleaning.HasCleaned g.S.Store h xids (IsBefore h.shape c.args.cursor.now n) (IsBefore h.shape c.args.cursor.now n) n c.args.store.now c.loop-g.store
+        → ((f : ℕ) → f < n → HasNone h xids (g.S.Store.blocks c.args.store.now) c.args.cursor.now f) → n < h.shape.blocks
+        → (Serves g.S.Store h xids c.args.cursor.now c.loop-g.store → Cleans g.S.Store h xids (IsHere h.shape c.args.cursor.now n) (IsHere h.shape c.args.cursor.now n) 1 c.loop-g.store c.next_in.new.store going)
+        → Cleans g.S.Store h xids (ReadIn h xids (g.S.Store.blocks c.args.store.now) c.args.cursor.now) (λ b. ⊥) h.shape.blocks c.args.store.now c.next_in.new.store going
+    by true n told h xids serves shape slots slots_new before none there here =
+        cleaned_as g.S.Store told (laws_of g) h xids c.args.cursor.now (IsBefore h.shape c.args.cursor.now (n + 1)) (ReadIn h xids (g.S.Store.blocks c.args.store.now) c.args.cursor.now) (IsBefore h.shape c.args.cursor.now (n + 1)) (λ b. ⊥) (n + 1) h.shape.blocks c.args.store.now c.next_in.new.store
+        (read_up_to g.S.Store told (laws_of g) h xids c.args.cursor.now n c.args.store.now none) (λ b no. absurd no) (omega (arith, there))
+        (turned g.S.Store told (laws_of g) h xids c.args.cursor.now n c.args.store.now c.loop-g.store c.next_in.new.store shape slots slots_new serves before here)
+    by false n told h xids serves shape slots slots_new before none there here =
+        turn_fails g.S.Store told (laws_of g) h xids c.args.cursor.now n c.args.store.now c.loop-g.store c.next_in.new.store shape slots slots_new serves before here
 
 pub returns-in-Err-clause-same : goal.returns-in-Err-clause-same
 returns-in-Err-clause-same g c = c.in-Err.ensures.same ∙ c.loop-g.invariant.row
 
 pub returns-in-Err-clause-logs : goal.returns-in-Err-clause-logs
-returns-in-Err-clause-logs g c = more_logs g.S.Store c.args.store.now c.loop-g.store c.next_in.new.store [] [] (not (is_fault c.in-Err.fault)) c.loop-g.invariant.logs c.in-Err.ensures.logs
+returns-in-Err-clause-logs g c =
+    let inv = c.loop-g.invariant in
+    let step = c.in-Err.ensures.logs in
+    (inv.groups ++ step.0, more_logs g.S.Store c.args.store.now c.loop-g.store c.next_in.new.store inv.groups step.0 (not (is_fault c.in-Err.fault)) inv.logs step.1)
 
+pub returns-in-Err-clause-young : goal.returns-in-Err-clause-young
+returns-in-Err-clause-young g c = λ fine. young_on _ (g.S.Store.lsn c.args.store.now) (g.S.Store.lsn c.loop-g.store) (g.S.Store.lsn c.next_in.new.store) c.loop-g.invariant.young (c.in-Err.ensures.young fine)
+
+-- a row of this home
 pub returns-in-Ok-true-clause-found : goal.returns-in-Ok-true-clause-found
-returns-in-Ok-true-clause-found g c = λ told h xids shape reader.
-    let next = (c.in-Ok-true.ensures.told told h xids (c.loop-g.invariant.logs.same_shape ∙ shape) (reader_on g.S.Store c.args.store.now c.loop-g.store c.loop-g.invariant.logs told h xids c.args.cursor.now reader)).0 c.in-Ok-true.field-0-test in (
+returns-in-Ok-true-clause-found g c = λ told h xids serves.
+    let s = g.S.Store in
+    let m = c.args.cursor.now in
+    let old = c.args.store.now in
+    let mid = c.loop-g.store in
+    let inv = c.loop-g.invariant in
+    let before = inv.cleaned told h xids serves in
+    let served = serves_mid s told (laws_of g) h xids m c.loop-g.g old mid mid inv.logs.same_shape inv.logs.same_slots refl serves before in
+    let env = env_mid s told (laws_of g) h xids m c.loop-g.g old mid mid inv.logs.same_shape inv.logs.same_slots refl serves before in
+    let next = (c.in-Ok-true.ensures.told told h xids served).0 c.in-Ok-true.field-0-test in (
       c.loop-g.g,
-      subst (λ (z : Shape). c.loop-g.g < z.blocks) (c.shape-blocks.ensures.shape ∙ shape) c.loop-g-test.true,
-      c.loop-g.invariant.none told h xids shape reader,
-      subst (λ (b : List (List ℕ)). HasNext h xids b c.args.cursor.now c.loop-g.g c.next_in.new.row) (same_blocks g.S.Store c.args.store.now c.loop-g.store c.loop-g.invariant.logs told) next,
+      subst (λ (z : Shape). c.loop-g.g < z.blocks) (c.shape-blocks.ensures.shape ∙ serves.shape) c.loop-g-test.true,
+      inv.none told h xids serves,
+      next_same h xids (s.blocks old) (s.blocks mid) m env c.loop-g.g c.next_in.new.row next,
     )
 
+pub returns-in-Ok-true-clause-cleans : goal.returns-in-Ok-true-clause-cleans
+returns-in-Ok-true-clause-cleans g c = λ told h xids serves.
+    let s = g.S.Store in
+    let m = c.args.cursor.now in
+    let old = c.args.store.now in
+    let mid = c.loop-g.store in
+    let new = c.next_in.new.store in
+    let n = c.loop-g.g in
+    let inv = c.loop-g.invariant in
+    let before = inv.cleaned told h xids serves in
+    let served = serves_mid s told (laws_of g) h xids m n old mid mid inv.logs.same_shape inv.logs.same_slots refl serves before in
+    let env = env_mid s told (laws_of g) h xids m n old mid mid inv.logs.same_shape inv.logs.same_slots refl serves before in
+    let next : HasNext h xids (s.blocks old) m n c.next_in.new.row = next_same h xids (s.blocks old) (s.blocks mid) m env n c.next_in.new.row ((c.in-Ok-true.ensures.told told h xids served).0 c.in-Ok-true.field-0-test) in
+    let there : n < h.shape.blocks = subst (λ (z : Shape). n < z.blocks) (c.shape-blocks.ensures.shape ∙ serves.shape) c.loop-g-test.true in
+    cleaned_as s told (laws_of g) h xids m (IsBefore h.shape m (n + 1)) (ReadIn h xids (s.blocks old) m) (IsBefore h.shape m (n + 1)) (ReadIn h xids (s.blocks old) m) (n + 1) h.shape.blocks old new
+    (read_up_to s told (laws_of g) h xids m n old (inv.none told h xids serves)) (read_no_more s told (laws_of g) h xids m n old c.next_in.new.row next) (omega (arith, there))
+    (turned s told (laws_of g) h xids m n old mid new inv.logs.same_shape inv.logs.same_slots c.in-Ok-true.ensures.logs.1.same_slots serves before (c.in-Ok-true.ensures.cleans told h xids))
+
 pub returns-in-Ok-true-clause-logs : goal.returns-in-Ok-true-clause-logs
-returns-in-Ok-true-clause-logs g c = more_logs g.S.Store c.args.store.now c.loop-g.store c.next_in.new.store [] [] true c.loop-g.invariant.logs c.in-Ok-true.ensures.logs
+returns-in-Ok-true-clause-logs g c =
+    let inv = c.loop-g.invariant in
+    let step = c.in-Ok-true.ensures.logs in
+    (inv.groups ++ step.0, more_logs g.S.Store c.args.store.now c.loop-g.store c.next_in.new.store inv.groups step.0 true inv.logs step.1)
+
+pub returns-in-Ok-true-clause-young : goal.returns-in-Ok-true-clause-young
+returns-in-Ok-true-clause-young g c = λ fine. young_on _ (g.S.Store.lsn c.args.store.now) (g.S.Store.lsn c.loop-g.store) (g.S.Store.lsn c.next_in.new.store) c.loop-g.invariant.young (c.in-Ok-true.ensures.young refl)
 
 pub loop-g-preserved : goal.loop-g-preserved
 loop-g-preserved g c =
     let m = c.args.cursor.now in
     let s = g.S.Store in
+    let old = c.args.store.now in
+    let mid = c.loop-g.store in
+    let new = c.next_in.new.store in
+    let inv = c.loop-g.invariant in
+    let step = c.in-Ok-false.ensures.logs in
     record {
-      logs = more_logs s c.args.store.now c.loop-g.store c.next_in.new.store [] [] true c.loop-g.invariant.logs c.in-Ok-false.ensures.logs;
-      row = c.in-Ok-false.ensures.kept c.in-Ok-false.field-0-test ∙ c.loop-g.invariant.row;
-      none = λ told h xids shape reader f up. elim (cases_eq f c.loop-g.g) [
+      groups = inv.groups ++ step.0;
+      logs = more_logs s old mid new inv.groups step.0 true inv.logs step.1;
+      young = young_on _ (s.lsn old) (s.lsn mid) (s.lsn new) inv.young (c.in-Ok-false.ensures.young refl);
+      row = c.in-Ok-false.ensures.kept c.in-Ok-false.field-0-test ∙ inv.row;
+      none = λ told h xids serves f up. elim (cases_eq f c.loop-g.g) [
         | inl this ↦
-            let nothing = (c.in-Ok-false.ensures.told told h xids (c.loop-g.invariant.logs.same_shape ∙ shape) (reader_on g.S.Store c.args.store.now c.loop-g.store c.loop-g.invariant.logs told h xids c.args.cursor.now reader)).1 c.in-Ok-false.field-0-test in
-            subst (λ (n : ℕ). HasNone h xids (s.blocks c.args.store.now) m n) (sym this)
-            (subst (λ (b : List (List ℕ)). HasNone h xids b m c.loop-g.g) (same_blocks g.S.Store c.args.store.now c.loop-g.store c.loop-g.invariant.logs told) nothing)
-        | inr other ↦ c.loop-g.invariant.none told h xids shape reader f (omega (arith, up, other))
+            let before = inv.cleaned told h xids serves in
+            let served = serves_mid s told (laws_of g) h xids m c.loop-g.g old mid mid inv.logs.same_shape inv.logs.same_slots refl serves before in
+            let env = env_mid s told (laws_of g) h xids m c.loop-g.g old mid mid inv.logs.same_shape inv.logs.same_slots refl serves before in
+            let nothing = (c.in-Ok-false.ensures.told told h xids served).1 c.in-Ok-false.field-0-test in
+            subst (λ (n : ℕ). HasNone h xids (s.blocks old) m n) (sym this) (none_same h xids (s.blocks old) (s.blocks mid) m env c.loop-g.g nothing)
+        | inr other ↦ inv.none told h xids serves f (omega (arith, up, other))
       ];
+      cleaned = λ told h xids serves. turned s told (laws_of g) h xids m c.loop-g.g old mid new inv.logs.same_shape inv.logs.same_slots step.1.same_slots serves (inv.cleaned told h xids serves) (c.in-Ok-false.ensures.cleans told h xids);
     }
 
 pub returns-clause-found : goal.returns-clause-found
-returns-clause-found g c = λ told h xids shape reader f there.
-    let lt : f < c.shape-blocks.result.blocks = subst (λ (z : Shape). f < z.blocks) (sym (c.shape-blocks.ensures.shape ∙ shape)) there in
-    c.loop-g.invariant.none told h xids shape reader f (omega (arith, lt, c.loop-g-test.false))
+returns-clause-found g c = λ told h xids serves f there.
+    let lt : f < c.shape-blocks.result.blocks = subst (λ (z : Shape). f < z.blocks) (sym (c.shape-blocks.ensures.shape ∙ serves.shape)) there in
+    c.loop-g.invariant.none told h xids serves f (omega (arith, lt, c.loop-g-test.false))
+
+pub returns-clause-cleans : goal.returns-clause-cleans
+returns-clause-cleans g c = λ told h xids serves.
+    let s = g.S.Store in
+    let m = c.args.cursor.now in
+    let old = c.args.store.now in
+    let new = c.loop-g.store in
+    let n = c.loop-g.g in
+    let inv = c.loop-g.invariant in
+    let bs : c.shape-blocks.result.blocks ≡ h.shape.blocks = ap (λ (z : Shape). z.blocks) (c.shape-blocks.ensures.shape ∙ serves.shape) in
+    let some = c.first_home-first.ensures.within in
+    let at_end = c.loop-g.auto.g-end in
+    cleaned_as s told (laws_of g) h xids m (IsBefore h.shape m n) (ReadIn h xids (s.blocks old) m) (IsBefore h.shape m n) (ReadIn h xids (s.blocks old) m) n h.shape.blocks old new
+    (read_by_end s told (laws_of g) h xids m n old (inv.none told h xids serves)) (read_in_table s told (laws_of g) h xids m n old (let past = c.loop-g-test.false in omega (arith, bs, past))) (omega (arith, bs, some, at_end))
+    (inv.cleaned told h xids serves)
 
 pub returns-clause-kept : goal.returns-clause-kept
 returns-clause-kept g c = λ ended. c.loop-g.invariant.row
 
 pub returns-clause-logs : goal.returns-clause-logs
-returns-clause-logs g c = c.loop-g.invariant.logs
+returns-clause-logs g c = (c.loop-g.invariant.groups, c.loop-g.invariant.logs)
+
+pub returns-clause-young : goal.returns-clause-young
+returns-clause-young g c = λ fine. c.loop-g.invariant.young
