@@ -125,9 +125,13 @@ fit_closed shape name k fit = fit_cursors shape k (without name k.cursors) fit (
 
 module _ {S : Type 0} (s : Ghosts S) where
   module _ (kept now : Kept) (old new : S) (is : IsInStep s kept old) (shape : s.shape_of new ≡ s.shape_of old) where
-    -- The table is as it was, and the queue may be another one.
-    pub in_step_queue : now.sessions ≡ kept.sessions → IsQueue now → (now.stopped ≡ false → (s.failed new ≡ false) × (s.lsn new ≤ s.lsn old) × (kept.stopped ≡ false)) → IsInStep s now new
-    in_step_queue same queue goes =
+    -- how many groups end all transactions
+    owed_all : owed_kept kept.sessions ≤ 2 ^ 32 * length kept.sessions
+    owed_all = owed_few kept.sessions (λ i. subst (λ (j : ℕ). (get_or kept.sessions j fresh).count < 2 ^ 32) (let e : i + 1 - 1 ≡ i = omega arith in e) (is.small (i + 1)))
+
+    -- The table is as it was.
+    in_step_of : now.sessions ≡ kept.sessions → IsQueue now → (now.stopped ≡ false → (s.failed new ≡ false) × (s.lsn new + owed_kept now.sessions ≤ 2 ^ 61 + 2 ^ 60)) → IsInStep s now new
+    in_step_of same queue goes =
         let at : (u : ℕ) → kept_at now.sessions u ≡ kept_at kept.sessions u = λ u. ap (λ (l : List KeptSession). kept_at l u) same in
         record {
           counted = ap (λ (l : List KeptSession). length l) same ∙ is.counted;
@@ -137,16 +141,28 @@ module _ {S : Type 0} (s : Ghosts S) where
           idle = λ u none. ap (λ (k : KeptSession). k.count) (at u) ∙ is.idle u (ap (λ (k : KeptSession). k.own) (sym (at u)) ∙ none);
           queue = queue;
           going = λ going. (goes going).0;
-          few = λ going.
-              let w = goes going in
-              let before = is.few w.2 in
-              let sum : owed_kept now.sessions ≡ owed_kept kept.sessions = ap owed_kept same in
-              omega (arith, w.1, before, sum);
+          few = λ going. (goes going).1;
         }
+
+    -- and the queue may be another one
+    pub in_step_queue : now.sessions ≡ kept.sessions → IsQueue now → (now.stopped ≡ false → (s.failed new ≡ false) × (s.lsn new ≤ s.lsn old) × (kept.stopped ≡ false)) → IsInStep s now new
+    in_step_queue same queue goes = in_step_of same queue (λ going.
+        let w = goes going in
+        let before = is.few w.2 in
+        let sum : owed_kept now.sessions ≡ owed_kept kept.sessions = ap owed_kept same in
+        (w.0, omega (arith, w.1, before, sum)))
 
     -- Nothing in memory is.
     pub in_step_same : now.sessions ≡ kept.sessions → now.waits ≡ kept.waits → (now.stopped ≡ false → (s.failed new ≡ false) × (s.lsn new ≤ s.lsn old) × (kept.stopped ≡ false)) → IsInStep s now new
     in_step_same same waits goes = in_step_queue same (queue_same kept now is.queue waits (λ u. ap (λ (l : List KeptSession). (kept_at l u).asked) same)) goes
+
+    -- The log may have grown, but not to its end.
+    pub in_step_young : now.sessions ≡ kept.sessions → now.waits ≡ kept.waits → (now.stopped ≡ false → (s.failed new ≡ false) × ((s.lsn new ≤ 2 ^ 60) ⊎ (s.lsn new ≡ s.lsn old)) × (kept.stopped ≡ false)) → IsInStep s now new
+    in_step_young same waits goes = in_step_of same (queue_same kept now is.queue waits (λ u. ap (λ (l : List KeptSession). (kept_at l u).asked) same)) (λ going. let w = goes going in (w.0, by w.1 w.2))
+      where
+        by : (s.lsn new ≤ 2 ^ 60) ⊎ (s.lsn new ≡ s.lsn old) → kept.stopped ≡ false → s.lsn new + owed_kept now.sessions ≤ 2 ^ 61 + 2 ^ 60
+        by (inl low) on = let sum = ap owed_kept same in let few = owed_all in omega (arith, low, sum, few, is.counted)
+        by (inr as_before) on = let sum = ap owed_kept same in let before = is.few on in omega (arith, as_before, sum, before)
 
     -- Session u of the table is another one.
     module _ (u : ℕ) (there : (1 ≤ u) × (u ≤ 16)) (k : KeptSession) (fit : IsFit (s.shape_of old) k) (moved : now.sessions ≡ with_kept kept.sessions u k) where
@@ -194,9 +210,14 @@ module _ {S : Type 0} (s : Ghosts S) where
       few_wrote low small =
           let sum = sum_moved in
           let slot = one_slot k.own in
-          let few = owed_few kept.sessions (λ i. subst (λ (j : ℕ). (get_or kept.sessions j fresh).count < 2 ^ 32) (let e : i + 1 - 1 ≡ i = omega arith in e) (is.small (i + 1))) in
+          let few = owed_all in
           omega (arith, low, small, slot, sum, few, is.counted)
 
       -- As many groups end them all as before, or fewer by as many as were given.
       pub few_less : kept.stopped ≡ false → s.lsn new + owed_by k ≤ s.lsn old + owed_by (kept_at kept.sessions u) → s.lsn new + owed_kept now.sessions ≤ 2 ^ 61 + 2 ^ 60
       few_less going less = let sum = sum_moved in let before = is.few going in omega (arith, less, sum, before)
+
+      -- The log may have grown, but not to its end.
+      pub few_young : kept.stopped ≡ false → k.count < 2 ^ 32 → owed_by k ≡ owed_by (kept_at kept.sessions u) → (s.lsn new ≤ 2 ^ 60) ⊎ (s.lsn new ≡ s.lsn old) → s.lsn new + owed_kept now.sessions ≤ 2 ^ 61 + 2 ^ 60
+      few_young going small owed (inl low) = few_wrote low small
+      few_young going small owed (inr same) = few_less going (omega (arith, same, owed))

@@ -17,6 +17,8 @@ use Rattle.rb_image.specs.Crash.{Survives}
 use Rattle.rb_image.specs.Holds.{Holds}
 use Rattle.rb_model.specs.Calls.{Call}
 use Rattle.rb_model.specs.State.{State}
+use Rattle.rb_model.specs.declared.refusal.Refusal.{Refusal}
+use Rattle.rb_model.specs.declared.refusal.Refusal.TheVariants.{TooOld}
 use Rattle.rb_model.specs.declared.row.Fetched.{Fetched}
 use Rattle.rb_segment.specs.Segments.{owed_in}
 use Rattle.rb_sessions.specs.Kept.{kept_at, named}
@@ -93,6 +95,12 @@ ReadIn h xids blocks m b = (g : ℕ) × IsRead h xids blocks m g b
 abbrev pub MustIn : State → List Xid → List (List ℕ) → Cursor → Result Fetched CrFault → ℕ → Type 0
 MustIn h xids blocks m (Ok found) b = ReadIn h xids blocks m b
 MustIn h xids blocks m (Err fault) b = ⊥
+
+-- A fetch looked for its row: it gave it, or the end, or was too old.
+abbrev pub HasLooked : Result Fetched Refusal → Type 0
+HasLooked (Ok found) = Unit {0}
+HasLooked (Err (TooOld scn lost)) = Unit {0}
+HasLooked (Err _) = ⊥
 
 -- A fetch of a session cleans no block but those that it reads for its cursor of that name. Where it answers a row, or
 -- the end, each of these is clean, unless the log is worn out then or has no more room than rollbacks need.

@@ -1,6 +1,8 @@
 //! One row of a cursor. `Engine::fetch` calls it.
-ghost use Rattle.std.specs.Prelude.{◌≡◌, ℕ, Err};
+ghost use Rattle.std.specs.Prelude.{◌≡◌, ℕ, Err, false};
+ghost use Rattle.std.specs.Result.{is_err};
 ghost use Rattle.rb_base.specs.Counts.{IsCountedAs, err_is};
+ghost use Rattle.rb_engine.specs.Cleaning.{CleansRead, HasLooked};
 ghost use Rattle.rb_engine.specs.Does.{Does, IsInStep, SameStore, Stands};
 ghost use Rattle.rb_engine.specs.Scanning.{NeedsLost};
 ghost use Rattle.rb_model.specs.Answers.{fetch_answer, LeavesRow};
@@ -17,7 +19,8 @@ use rb_cr::{CrFault, Scratch};
 use rb_model::{Fetched, Name, Refusal, Row};
 
 /// Gives the next row of a cursor into `row`, or the end: as the rows were at its opening, rebuilt from undo. It may be
-/// refused as too old, and then nothing is changed. (Oracle7 Server Concepts, *Multiversion Consistency Model*.)
+/// refused as too old, and then no row is changed. The blocks that it reads are cleaned on the way. (Oracle7 Server
+/// Concepts, *Multiversion Consistency Model*.)
 pub fn do_fetch<T: Store>(
     memory: &mut Memory,
     scratch: &mut Scratch,
@@ -35,8 +38,9 @@ pub fn do_fetch<T: Store>(
         → (scn lost : ℕ) → result ≡ Err (Refusal.TooOld scn lost) → NeedsLost T.Store h
         (record { memory = memory.old; store = store.old }) s (name_text name.now) scn lost }
     ensures cleans { (h : State) → Stands T.Store h (record { memory = memory.old; store = store.old })
-        → DoesRead result → CleansRead T.Store h (record { memory = memory.old; store = store.old }) s
-        (name_text name.now) (OnOk result (Unit {0})) store.new }
+        → HasLooked result → CleansRead T.Store h (record { memory = memory.old; store = store.old }) s
+        (name_text name.now) (is_err result ≡ false) store.new }
+    ensures idle { (HasLooked result → ⊥) → err_is is_disk_fault result ≡ false → store.new ≡ store.old }
     ensures row { LeavesRow result row.old row.new }
     ensures same { SameStore T.Store store.old store.new }
     ensures disk { IsCountedAs (T.faults store.old) (T.faults store.new) (err_is is_disk_fault result) }

@@ -1,11 +1,16 @@
-use Rattle.std.proofs.Common.{inl, ◌≡◌, true, false, not, List, [], None, Result, Ok, Err, refl, sym, ◌∙◌, ap, subst, arith}
+use Rattle.std.proofs.Common.{inl, inr, ◌≡◌, ℕ, Bool, true, false, not, List, None, Some, Result, Ok, Err, refl, sym, ◌∙◌, ap, subst, arith}
 use Rattle.rb_base.specs.Logs.{Laws, Logs}
 use Rattle.rb_cr.specs.Faults.{is_fault}
+use Rattle.rb_base.specs.declared.ids.Xid.{Xid}
+use Rattle.rb_base.specs.declared.store.Store.{Ghosts}
 use Rattle.rb_cr.specs.declared.faults.CrFault.{CrFault}
+use Rattle.rb_cr.specs.declared.faults.CrFault.TheVariants as faults
+use Rattle.rb_engine.specs.Cleaning.{Cleans, ReadIn}
+use Rattle.rb_model.specs.State.{State}
 use Rattle.rb_engine.specs.Does.{EngineView, Kept}
 use Rattle.rb_engine.proofs.DoesLemmas.{does_fault, does_refused, does_refused_late, fault_survives}
-use Rattle.rb_engine.proofs.FetchLemmas.{answer_by, does_end, does_old, needs_lost, not_old, same_old, does_row}
-use Rattle.rb_engine.proofs.StepLemmas.{few_less, fit_at, fit_taken, in_step_moved, queue_moved, named_in}
+use Rattle.rb_engine.proofs.FetchLemmas.{answer_by, cleans_read, does_end, does_old, does_row, needs_lost, not_old, same_old, serves}
+use Rattle.rb_engine.proofs.StepLemmas.{few_young, fit_at, fit_taken, in_step_moved, in_step_young, named_in, queue_moved}
 use Rattle.rb_model.specs.Calls as machine
 use Rattle.rb_model.specs.Calls.{Answer, Refused, Reply, early_tests, none_applies, next_row}
 use Rattle.rb_model.specs.Names.{name_text}
@@ -25,6 +30,11 @@ laws_of g = record {
   now_counts = λ store t i keeps le here. g.met.T.Store.now_counts store t i keeps le here;
   only_now = λ store i keeps here. g.met.T.Store.only_now store i keeps here;
 }
+
+-- what is left where a search was refused
+by_fault : {S : Type 0} (s : Ghosts S) (h : State) (xids : List Xid) (May : ℕ → Type 0) (most : ℕ) (old new : S) (going : Bool) (fault other : CrFault) → fault ≡ other → not (is_fault other) ≡ going
+    → Cleans s h xids May (λ b. ⊥) most old new (not (is_fault fault)) → Cleans s h xids May (λ b. ⊥) most old new going
+by_fault s h xids May most old new going fault other is goes clean = subst (λ (b : Bool). Cleans s h xids May (λ b. ⊥) most old new b) (ap (λ (f : CrFault). not (is_fault f)) is ∙ goes) clean
 
 pub returns-in-Err-clause-did : goal.returns-in-Err-clause-did
 returns-in-Err-clause-did g c = λ h st.
@@ -70,7 +80,7 @@ returns-in-Ok-Row-clause-step g c =
     let old = c.args.store.now in
     let new = c.next_row.new.store in
     let now : Kept = record { sessions = c.took.new.self; waits = c.memory.inside.waits; scn = c.memory.inside.scn; stopped = c.memory.inside.stopped } in
-    let logs = c.in-Ok-Row.ensures.logs in
+    let logs = c.in-Ok-Row.ensures.logs.1 in
     let step = c.requires.step in
     let at = kept_at kept.sessions c.args.s in
     let name = name_text c.args.name.now in
@@ -81,7 +91,7 @@ returns-in-Ok-Row-clause-step g c =
     let moved = moved_by g c in
     in_step_moved s kept now old new step logs.same_shape c.args.s there k fit moved
     (queue_moved s kept now old new step logs.same_shape c.args.s there k fit moved refl (inl (ap (λ (k : Kept). k.waits) c.memory.view_is)))
-    (λ _. (logs.failed, few_less s kept now old new step logs.same_shape c.args.s there k fit moved c.in_default.ensures.going (let n = logs.number refl in omega (arith, n))))
+    (λ _. (logs.failed, few_young s kept now old new step logs.same_shape c.args.s there k fit moved c.in_default.ensures.going (fit.small) refl (c.in-Ok-Row.ensures.young refl)))
 
 pub returns-in-Ok-Row-clause-did : goal.returns-in-Ok-Row-clause-did
 returns-in-Ok-Row-clause-did g c = λ h st.
@@ -89,13 +99,13 @@ returns-in-Ok-Row-clause-did g c = λ h st.
     let kept = c.args.memory.now in
     let name = name_text c.args.name.now in
     let e = c.in_default.ensures in
-    let logs = c.in-Ok-Row.ensures.logs in
+    let logs = c.in-Ok-Row.ensures.logs.1 in
     let table_is : c.memory.inside.sessions ≡ kept.sessions = ap (λ (k : Kept). k.sessions) c.memory.view_is in
     let is_named = ap (λ (l : List KeptSession). named name (kept_at l c.args.s).cursors) (sym table_is) ∙ (sym c.cursor.ensures ∙ c.in-Some.is) in
     does_row s (laws_of g) h (record { memory = kept; store = c.args.store.now }) st (sym st.knows.stopped ∙ e.going) c.args.s e.session name (e.granted h st.knows) c.in-Some.cursor is_named
     (record { memory = record { sessions = c.took.new.self; waits = c.memory.inside.waits; scn = c.memory.inside.scn; stopped = c.memory.inside.stopped }; store = c.next_row.new.store })
-    (record { shape = logs.same_shape; slots = logs.same_slots }) logs c.next_row.new.row (Ok c.in-Ok-Row.field-0)
-    (λ xids reader. c.in-Ok-Row.ensures.found st.told h xids st.shape reader) (ap (λ (f : Fetched). let r : Result Fetched CrFault = Ok f in r) c.in-Ok-Row.field-0-is)
+    (record { shape = logs.same_shape; slots = logs.same_slots }) logs.failed c.next_row.new.row (Ok c.in-Ok-Row.field-0)
+    (λ xids serves. c.in-Ok-Row.ensures.found st.told h xids serves) (λ xids serves. c.in-Ok-Row.ensures.cleans st.told h xids serves) (ap (λ (f : Fetched). let r : Result Fetched CrFault = Ok f in r) c.in-Ok-Row.field-0-is)
     (ap (λ (k : Kept). k.stopped) c.memory.view_is) (ap (λ (k : Kept). k.scn) c.memory.view_is) (ap (λ (k : Kept). k.waits) c.memory.view_is) (moved_by g c)
 
 pub returns-in-Ok-End-clause-did : goal.returns-in-Ok-End-clause-did
@@ -104,15 +114,15 @@ returns-in-Ok-End-clause-did g c = λ h st.
     let kept = c.args.memory.now in
     let name = name_text c.args.name.now in
     let e = c.in_default.ensures in
-    let logs = c.in-Ok-End.ensures.logs in
+    let logs = c.in-Ok-End.ensures.logs.1 in
     let old : EngineView _ = record { memory = kept; store = c.args.store.now } in
     let table_is : c.memory.inside.sessions ≡ kept.sessions = ap (λ (k : Kept). k.sessions) c.memory.view_is in
     let is_named = ap (λ (l : List KeptSession). named name (kept_at l c.args.s).cursors) (sym table_is) ∙ (sym c.cursor.ensures ∙ c.in-Some.is) in
     let going : h.stopped ≡ false = sym st.knows.stopped ∙ e.going in
     let early = e.granted h st.knows in
     does_end s (laws_of g) h old st going c.args.s e.session name early c.in-Some.cursor is_named (record { memory = kept; store = c.next_row.new.store })
-    (record { shape = logs.same_shape; slots = logs.same_slots }) logs c.next_row.new.row (Ok c.in-Ok-End.field-0)
-    (λ xids reader. c.in-Ok-End.ensures.found st.told h xids st.shape reader) (ap (λ (f : Fetched). let r : Result Fetched CrFault = Ok f in r) c.in-Ok-End.field-0-is) refl
+    (record { shape = logs.same_shape; slots = logs.same_slots }) logs.failed c.next_row.new.row (Ok c.in-Ok-End.field-0)
+    (λ xids serves. c.in-Ok-End.ensures.found st.told h xids serves) (λ xids serves. c.in-Ok-End.ensures.cleans st.told h xids serves) (ap (λ (f : Fetched). let r : Result Fetched CrFault = Ok f in r) c.in-Ok-End.field-0-is) refl
 
 pub returns-in-Err-TooOld-clause-did : goal.returns-in-Err-TooOld-clause-did
 returns-in-Err-TooOld-clause-did g c = λ h st.
@@ -120,27 +130,32 @@ returns-in-Err-TooOld-clause-did g c = λ h st.
     let kept = c.args.memory.now in
     let name = name_text c.args.name.now in
     let e = c.in_default.ensures in
-    let logs : Logs s c.args.store.now c.next_row.new.store [] true = subst (λ (f : CrFault). Logs s c.args.store.now c.next_row.new.store [] (not (is_fault f))) c.in-Err-TooOld.field-0-is c.in-Err-TooOld.ensures.logs in
+    let logs = subst (λ (f : CrFault). Logs s c.args.store.now c.next_row.new.store c.in-Err-TooOld.ensures.logs.0 (not (is_fault f))) c.in-Err-TooOld.field-0-is c.in-Err-TooOld.ensures.logs.1 in
     let old : EngineView _ = record { memory = kept; store = c.args.store.now } in
     let table_is : c.memory.inside.sessions ≡ kept.sessions = ap (λ (k : Kept). k.sessions) c.memory.view_is in
     let is_named = ap (λ (l : List KeptSession). named name (kept_at l c.args.s).cursors) (sym table_is) ∙ (sym c.cursor.ensures ∙ c.in-Some.is) in
     let going : h.stopped ≡ false = sym st.knows.stopped ∙ e.going in
     let early = e.granted h st.knows in
     does_old s (laws_of g) h old st going c.args.s e.session name early c.in-Some.cursor is_named (record { memory = kept; store = c.next_row.new.store })
-    (record { shape = logs.same_shape; slots = logs.same_slots }) logs c.next_row.new.row (Err c.in-Err-TooOld.field-0)
-    (λ xids reader. c.in-Err-TooOld.ensures.found st.told h xids st.shape reader) c.in-Err-TooOld.scn c.in-Err-TooOld.lost (ap (λ (f : CrFault). let r : Result Fetched CrFault = Err f in r) c.in-Err-TooOld.field-0-is) refl
+    (record { shape = logs.same_shape; slots = logs.same_slots }) logs.failed c.next_row.new.row (Err c.in-Err-TooOld.field-0)
+    (λ xids serves. c.in-Err-TooOld.ensures.found st.told h xids serves) (λ xids serves. by_fault s h xids (ReadIn h xids (s.blocks c.args.store.now) c.in-Some.cursor) h.shape.blocks c.args.store.now c.next_row.new.store true c.in-Err-TooOld.field-0 (faults.TooOld c.in-Err-TooOld.scn c.in-Err-TooOld.lost) c.in-Err-TooOld.field-0-is refl (c.in-Err-TooOld.ensures.cleans st.told h xids serves)) c.in-Err-TooOld.scn c.in-Err-TooOld.lost (ap (λ (f : CrFault). let r : Result Fetched CrFault = Err f in r) c.in-Err-TooOld.field-0-is) refl
 
 pub returns-in-Err-Failed-clause-did : goal.returns-in-Err-Failed-clause-did
 returns-in-Err-Failed-clause-did g c = λ h st.
     let s = g.T.Store in
     let kept = c.args.memory.now in
     let e = c.in_default.ensures in
-    let logs : Logs s c.args.store.now c.next_row.new.store [] false = subst (λ (f : CrFault). Logs s c.args.store.now c.next_row.new.store [] (not (is_fault f))) c.in-Err-Failed.field-0-is c.in-Err-Failed.ensures.logs in
+    let logs = subst (λ (f : CrFault). Logs s c.args.store.now c.next_row.new.store c.in-Err-Failed.ensures.logs.0 (not (is_fault f))) c.in-Err-Failed.field-0-is c.in-Err-Failed.ensures.logs.1 in
     let old : EngineView _ = record { memory = kept; store = c.args.store.now } in
     let going : h.stopped ≡ false = sym st.knows.stopped ∙ e.going in
+    let name = name_text c.args.name.now in
+    let m = c.in-Some.cursor in
+    let table_is : c.memory.inside.sessions ≡ kept.sessions = ap (λ (k : Kept). k.sessions) c.memory.view_is in
+    let is_named = ap (λ (l : List KeptSession). named name (kept_at l c.args.s).cursors) (sym table_is) ∙ (sym c.cursor.ensures ∙ c.in-Some.is) in
     does_fault s st.told (laws_of g) h (machine.Fetch c.args.s (name_text c.args.name.now)) old (record { memory = c.stop.new.self; store = c.next_row.new.store }) st going (e.granted h st.knows) c.stop.ensures
     (record { shape = logs.same_shape; slots = logs.same_slots })
-    (λ keeps. fault_survives s st.told (laws_of g) h (st.goes going).xids old.store c.next_row.new.store st.shape (st.goes going).holds logs keeps)
+    (λ keeps. by_fault s h (st.goes going).xids (ReadIn h (st.goes going).xids (s.blocks old.store) m) h.shape.blocks old.store c.next_row.new.store false c.in-Err-Failed.field-0 faults.Failed c.in-Err-Failed.field-0-is refl
+    (c.in-Err-Failed.ensures.cleans st.told h (st.goes going).xids (serves s (laws_of g) h old st going c.args.s e.session name (e.granted h st.knows) m is_named)) (Some (machine.Fetch c.args.s name)) keeps)
 
 pub returns-in-Err-clause-lost : goal.returns-in-Err-clause-lost
 returns-in-Err-clause-lost g c = λ h st scn lost is. absurd (not_old h c.args.s c.in-Err.why scn lost (c.in-Err.ensures.refused h st.knows) (let same : c.in-Err.why ≡ TooOld scn lost = cc in same))
@@ -158,4 +173,52 @@ returns-in-Err-TooOld-clause-lost g c = λ h st scn lost is.
     let numbers = same_old c.in-Err-TooOld.scn c.in-Err-TooOld.lost scn lost is in
     needs_lost s (laws_of g) h old st (sym st.knows.stopped ∙ e.going) c.args.s e.session name (e.granted h st.knows) m is_named c.in-Err-TooOld.field-0 scn lost
     (c.in-Err-TooOld.field-0-is ∙ rw (numbers.0, numbers.1) refl)
-    (λ xids reader. c.in-Err-TooOld.ensures.found st.told h xids st.shape reader)
+    (λ xids serves. c.in-Err-TooOld.ensures.found st.told h xids serves)
+
+-- the search may have given the log groups
+pub returns-in-Ok-End-clause-step : goal.returns-in-Ok-End-clause-step
+returns-in-Ok-End-clause-step g c =
+    let e = c.in-Ok-End.ensures in
+    in_step_young g.T.Store c.args.memory.now c.args.memory.now c.args.store.now c.next_row.new.store c.requires.step e.logs.1.same_shape refl refl (λ going. (e.logs.1.failed, e.young refl, going))
+
+pub returns-in-Err-TooOld-clause-step : goal.returns-in-Err-TooOld-clause-step
+returns-in-Err-TooOld-clause-step g c =
+    let e = c.in-Err-TooOld.ensures in
+    let s = g.T.Store in
+    let old_one : is_fault c.in-Err-TooOld.field-0 ≡ false = ap is_fault c.in-Err-TooOld.field-0-is in
+    let logs = subst (λ (f : CrFault). Logs s c.args.store.now c.next_row.new.store e.logs.0 (not (is_fault f))) c.in-Err-TooOld.field-0-is e.logs.1 in
+    in_step_young s c.args.memory.now c.args.memory.now c.args.store.now c.next_row.new.store c.requires.step logs.same_shape refl refl (λ going. (logs.failed, e.young old_one, going))
+
+-- What it cleaned.
+pub returns-in-Ok-Row-clause-cleans : goal.returns-in-Ok-Row-clause-cleans
+returns-in-Ok-Row-clause-cleans g c = λ h st looked.
+    let kept = c.args.memory.now in
+    let name = name_text c.args.name.now in
+    let e = c.in_default.ensures in
+    let table_is : c.memory.inside.sessions ≡ kept.sessions = ap (λ (k : Kept). k.sessions) c.memory.view_is in
+    let is_named = ap (λ (l : List KeptSession). named name (kept_at l c.args.s).cursors) (sym table_is) ∙ (sym c.cursor.ensures ∙ c.in-Some.is) in
+    cleans_read g.T.Store (laws_of g) h (record { memory = kept; store = c.args.store.now }) st (sym st.knows.stopped ∙ e.going) c.args.s e.session name (e.granted h st.knows) c.in-Some.cursor is_named
+    (false ≡ false) c.next_row.new.store (Ok c.in-Ok-Row.field-0) (λ fine. (c.in-Ok-Row.field-0, refl)) (λ xids serves. c.in-Ok-Row.ensures.cleans st.told h xids serves)
+
+pub returns-in-Ok-End-clause-cleans : goal.returns-in-Ok-End-clause-cleans
+returns-in-Ok-End-clause-cleans g c = λ h st looked.
+    let kept = c.args.memory.now in
+    let name = name_text c.args.name.now in
+    let e = c.in_default.ensures in
+    let table_is : c.memory.inside.sessions ≡ kept.sessions = ap (λ (k : Kept). k.sessions) c.memory.view_is in
+    let is_named = ap (λ (l : List KeptSession). named name (kept_at l c.args.s).cursors) (sym table_is) ∙ (sym c.cursor.ensures ∙ c.in-Some.is) in
+    cleans_read g.T.Store (laws_of g) h (record { memory = kept; store = c.args.store.now }) st (sym st.knows.stopped ∙ e.going) c.args.s e.session name (e.granted h st.knows) c.in-Some.cursor is_named
+    (false ≡ false) c.next_row.new.store (Ok c.in-Ok-End.field-0) (λ fine. (c.in-Ok-End.field-0, refl)) (λ xids serves. c.in-Ok-End.ensures.cleans st.told h xids serves)
+
+pub returns-in-Err-TooOld-clause-cleans : goal.returns-in-Err-TooOld-clause-cleans
+returns-in-Err-TooOld-clause-cleans g c = λ h st looked.
+    let s = g.T.Store in
+    let kept = c.args.memory.now in
+    let name = name_text c.args.name.now in
+    let m = c.in-Some.cursor in
+    let e = c.in_default.ensures in
+    let table_is : c.memory.inside.sessions ≡ kept.sessions = ap (λ (k : Kept). k.sessions) c.memory.view_is in
+    let is_named = ap (λ (l : List KeptSession). named name (kept_at l c.args.s).cursors) (sym table_is) ∙ (sym c.cursor.ensures ∙ c.in-Some.is) in
+    cleans_read s (laws_of g) h (record { memory = kept; store = c.args.store.now }) st (sym st.knows.stopped ∙ e.going) c.args.s e.session name (e.granted h st.knows) m is_named
+    (true ≡ false) c.next_row.new.store (Err c.in-Err-TooOld.field-0) (λ clash. (let clash2 : true ≡ false = clash in absurd cc))
+    (λ xids serves. by_fault s h xids (ReadIn h xids (s.blocks c.args.store.now) m) h.shape.blocks c.args.store.now c.next_row.new.store true c.in-Err-TooOld.field-0 (faults.TooOld c.in-Err-TooOld.scn c.in-Err-TooOld.lost) c.in-Err-TooOld.field-0-is refl (c.in-Err-TooOld.ensures.cleans st.told h xids serves))

@@ -72,10 +72,14 @@ returns-in-Err-clause-found g c = λ told h xids serves.
     let before = inv.cleaned told h xids serves in
     let served = serves_mid s told (laws_of g) h xids m c.loop-g.g old mid mid inv.logs.same_shape inv.logs.same_slots refl serves before in
     let both = c.in-Err.ensures.old told h xids served in
-    let there : c.loop-g.g < h.shape.blocks = subst (λ (z : Shape). c.loop-g.g < z.blocks) (c.shape-blocks.ensures.shape ∙ serves.shape) c.loop-g-test.true in
-    (c.loop-g.g, there, inv.none told h xids serves, both.0,
+    let there : c.loop-g.g < h.shape.blocks = subst (λ (z : Shape). c.loop-g.g < z.blocks) (c.shape-blocks.ensures.shape ∙ serves.shape) c.loop-g-test.true in (
+      c.loop-g.g,
+      there,
+      inv.none told h xids serves,
+      both.0,
       behind_same h xids (s.blocks old) (s.blocks mid) serves.holds.blocks m c.loop-g.g (in_table m.table c.loop-g.g h.shape there (subst (λ (k : Shape). (1 ≤ m.table) × (m.table ≤ k.tables)) serves.shape c.requires.table))
-      (env_mid s told (laws_of g) h xids m c.loop-g.g old mid mid inv.logs.same_shape inv.logs.same_slots refl serves before) (same_or_clean (before.only.each (Rattle.rb_views.specs.Views.home_in h.shape m.table c.loop-g.g))) c.in-Err.fault both.1)
+          (env_mid s told (laws_of g) h xids m c.loop-g.g old mid mid inv.logs.same_shape inv.logs.same_slots refl serves before) (same_or_clean (before.only.each (Rattle.rb_views.specs.Views.home_in h.shape m.table c.loop-g.g))) c.in-Err.fault both.1,
+    )
 
 pub returns-in-Err-clause-cleans : goal.returns-in-Err-clause-cleans
 returns-in-Err-clause-cleans g c = λ told h xids serves.
