@@ -49,7 +49,12 @@ fn answer_of_segment<T: Store>(engine: &mut Engine<T>, k: u32) -> Answer
 }
 
 /// Makes the k-th call of a command, from 0 on. A row that it gives is in `row` then.
-pub fn answer<T: Store>(engine: &mut Engine<T>, command: &Command<'_>, k: u32, row: &mut Row) -> Answer
+pub fn answer<T: Store>(
+    engine: &mut Engine<T>,
+    command: &Command<'_>,
+    k: u32,
+    row: &mut Row,
+) -> Answer
     requires { k < most_calls (T.shape_of engine.old.store) (command_of command.now) }
     ensures did { (h : State) → Stands T.Store h engine.old → Does T.Store h
         (call_of (command_of command.now) k) (answer_of result row.new) engine.old engine.new }

@@ -1,5 +1,5 @@
 -- Answers one after another: those of a command's calls, of writes that are tried again, and of commands.
-use Rattle.std.proofs.Common.{append_assoc, ◌≡◌, ◌∙◌, inl, inr, ⊎_elim, refl, sym, ap, subst, arith, ℕ, suc, ◌+◌, ◌-◌, ◌*◌, ◌<◌, Bool, true, false, List, [], ◌∷◌, ◌++◌, map, Err, Ok, None, Some}
+use Rattle.std.proofs.Common.{append_assoc, ◌≡◌, ◌∙◌, inl, inr, ⊎_elim, refl, sym, ap, subst, arith, ℕ, suc, ◌+◌, ◌-◌, ◌*◌, ◌<◌, Bool, true, false, List, [], ◌∷◌, ◌++◌, map, Err, Ok, None}
 use Rattle.std.proofs.lemmas.Bool.{cases_Bool, false≢true}
 use Rattle.std.proofs.lemmas.List.{append-nil}
 use Rattle.std.specs.Bool.{MatchBool}

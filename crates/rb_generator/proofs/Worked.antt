@@ -1,13 +1,13 @@
 -- The numbers that are drawn, and the commands of them, on worked rows.
-use Rattle.std.proofs.Common.{◌≡◌, ◌+◌, ◌%◌, ◌/◌, ◌*◌, ◌^◌, List, [], ◌∷◌, map, refl, arith}
+use Rattle.std.proofs.Common.{◌≡◌, [], ◌∷◌, refl, arith}
 use Rattle.std.proofs.lemmas.Fmt.{decimal_digit}
 use Rattle.std.specs.Prelude.{codes}
 use Rattle.rb_base.specs.declared.shape.Shape.{Shape}
 use Rattle.rb_generator.specs.Counted.{counts_of}
-use Rattle.rb_generator.specs.Draws.{chosen, commands_of, cursor_name, drawn, next, number_of, state_after}
+use Rattle.rb_generator.specs.Draws.{commands_of, next, number_of, state_after}
 use Rattle.rb_generator.specs.Summary.{summary_text}
-use Rattle.rb_model.specs.Calls.{Answer, Done, Waits, Numbered, Given, End, Refused, Insert, Update, Delete, Lock}
-use Rattle.rb_model.specs.Lines.{Command, WriteLine, CommitLine, OpenLine, FetchLine}
+use Rattle.rb_model.specs.Calls.{Done, Waits, Numbered, Given, End, Refused, Insert, Update, Delete, Lock}
+use Rattle.rb_model.specs.Lines.{WriteLine, CommitLine, OpenLine, FetchLine}
 use Rattle.rb_model.specs.declared.refusal.Refusal.TheVariants.{Duplicate, LogFull}
 
 -- The first draw of a run of one.

@@ -1,5 +1,5 @@
 -- What commands may be answered, one after another: as the lines of a script, by lists of answers in place of texts.
-use Rattle.std.specs.Prelude.{◌≡◌, ℕ, ◌+◌, ◌<◌, true, false, MatchBool, List, [], ◌∷◌, ◌++◌, Some}
+use Rattle.std.specs.Prelude.{◌≡◌, ℕ, ◌+◌, ◌<◌, false, MatchBool, List, [], ◌∷◌, ◌++◌, Some}
 use Rattle.rb_model.specs.Calls.{Answer}
 use Rattle.rb_model.specs.Change.{Asked}
 use Rattle.rb_model.specs.Lines.{Command, call_of, most_calls}

@@ -1,5 +1,5 @@
 -- What calls, commands and a whole run of the generator came to.
-use Rattle.std.specs.Prelude.{◌≡◌, ℕ, Bool, true, false, MatchBool, List, [], ◌∷◌, ◌++◌, Result, Ok, Err}
+use Rattle.std.specs.Prelude.{◌≡◌, ℕ, Bool, true, false, List, [], ◌∷◌, ◌++◌, Result, Ok, Err}
 use Rattle.rb_base.specs.declared.faults.Failed.{Failed}
 use Rattle.rb_generator.specs.Answered.{CommandsAnswered}
 use Rattle.rb_generator.specs.Counted.{counts_of, plus}

@@ -37,10 +37,7 @@ impl Draws {
         ensures number { result ≡ number_of self.new.state % bound }
         ensures below { result < bound }
     {
-        self.state = self
-            .state
-            .wrapping_mul(MULTIPLIER)
-            .wrapping_add(INCREMENT);
+        self.state = self.state.wrapping_mul(MULTIPLIER).wrapping_add(INCREMENT);
         (self.state >> 33) % bound
     }
 

@@ -1,4 +1,4 @@
-use Rattle.std.proofs.Common.{◌≡◌, ◌<◌, ℕ, Bool, true, false, Result, refl, sym, ◌∙◌, ap, subst, arith}
+use Rattle.std.proofs.Common.{◌≡◌, ◌<◌, ℕ, Bool, false, refl, sym, ◌∙◌, ap, subst, arith}
 use Rattle.std.proofs.lemmas.Result.{err_from_is_err_and}
 use Rattle.std.specs.Result.{is_err}
 use Rattle.rb_base.specs.declared.shape.Shape.{Shape}
@@ -9,11 +9,9 @@ use Rattle.rb_generator.specs.Answered.{CallsAnswered}
 use Rattle.rb_generator.specs.Ends.{HasCounted}
 use Rattle.rb_generator.proofs.AnsweredLemmas.{calls_all, calls_fault, calls_last, calls_more, calls_none}
 use Rattle.rb_lines.proofs.Dids.{did_as, did_on}
-use Rattle.rb_lines.specs.Ran.{Did}
 use Rattle.rb_model.specs.Answers.{answer_of}
-use Rattle.rb_model.specs.Calls.{is_fault}
-use Rattle.rb_model.specs.Lines.{call_of, most_calls}
-use Rattle.rb_model.specs.Out.{Logged, CallOut}
+use Rattle.rb_model.specs.Lines.{most_calls}
+use Rattle.rb_model.specs.Out.{Logged}
 use Rattle.rb_script.specs.Commands.{command_of}
 use Rattle.rb_generator.proofs.commands.make_calls.Given.{Over}
 use Rattle.rb_generator.proofs.commands.make_calls.Goals as goal

@@ -1,4 +1,4 @@
-use Rattle.std.proofs.Common.{◌≡◌, ◌∙◌, Bool, true, false, sym, ap, subst}
+use Rattle.std.proofs.Common.{Bool, false, sym, ap, subst}
 use Rattle.std.proofs.lemmas.Result.{err_from_is_err_and}
 use Rattle.std.specs.Result.{is_err}
 use Rattle.rb_calls.specs.Since.{since_joined, slots_of}
@@ -27,7 +27,7 @@ returns-clause-did g c = λ m is going.
     let command = command_of c.args.command.now in
     let e = c.make_calls.ensures in
     let own = did_as c.args.engine.now c.make_calls.new.engine m _ (λ n. HasCounted (CallsAnswered m slots command (most_calls m.state.shape command) 0) n c.args.counts.now c.make_calls.new.counts false)
-        (λ n has. subst (λ (failed : Bool). HasCounted (CallsAnswered m slots command (most_calls m.state.shape command) 0) n c.args.counts.now c.make_calls.new.counts failed) (ap is_err c.in_ok-make_calls.was) has) (e.did m is going) in
+    (λ n has. subst (λ (failed : Bool). HasCounted (CallsAnswered m slots command (most_calls m.state.shape command) 0) n c.args.counts.now c.make_calls.new.counts failed) (ap is_err c.in_ok-make_calls.was) has) (e.did m is going) in
     did_on c.args.engine.now c.make_calls.new.engine c.resume_ready.new.engine m _ _ _ (λ a b d h n k. since_joined a b d h n k) own (λ n has. has.stops)
     (λ n reached on. c.resume_ready.ensures.did n reached on)
     (λ n k has more. command_ends m n k slots (slots_of (g.T.Store.slots c.make_calls.new.engine.store)) command c.args.counts.now c.make_calls.new.counts c.resume_ready.new.counts (is_err c.resume_ready.result) has (ap slots_of e.same.slots) more)

@@ -1,4 +1,4 @@
-use Rattle.std.proofs.Common.{◌≡◌, ◌≤◌, ◌+◌, ◌*◌, false}
+use Rattle.std.proofs.Common.{◌≡◌, ◌≤◌, ◌*◌, false}
 use Rattle.rb_calls.specs.Since.{IsSince, StandsAs, slots_of}
 use Rattle.rb_engine.specs.Does.{SameStore}
 use Rattle.rb_generator.specs.Counted.{told}
