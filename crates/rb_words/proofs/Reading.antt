@@ -1,5 +1,5 @@
 -- What `clap` makes of plain words: the first is the file, the second the command, and the others are parameters.
-use Rattle.std.proofs.Common.{◌≡◌, ◌≢◌, ℕ, zero, suc, ◌<◌, ◌≤◌, ◌==◌, List, [], ◌∷◌, ◌++◌, length, slice_index, codes, Option, Some, None, Bool, true, false, refl, sym, ap, ap₂, ◌∙◌, subst, append-nil, append_assoc, arith, inl, inr}
+use Rattle.std.proofs.Common.{◌≡◌, ◌≢◌, ℕ, ◌<◌, ◌≤◌, ◌==◌, List, [], ◌∷◌, ◌++◌, length, codes, Option, Some, None, Result, Ok, Err, IfOk, IsErrAnd, IfSome, IfNone, true, false, refl, sym, ap, ap₂, ◌∙◌, subst, append-nil, append_assoc, arith, inl, inr}
 use Rattle.std.specs.Prelude.{option_map, unwrap_or}
 use Rattle.std.specs.Borrow.{Bor}
 use Rattle.std.specs.List.{All, fold}
@@ -8,9 +8,9 @@ use Rattle.std.proofs.lemmas.Bool.{cases_lt, ne_eqb, le-ltb}
 use Rattle.std.proofs.lemmas.List.Elements.{All-head, All-tail}
 use Rattle.clap.specs.Lexer.{long_of, short_of, usize_max}
 use Rattle.clap.specs.Values.{kind_of, reading_of}
-use Rattle.clap.specs.Walk.{Held, Row, Rule, Text, Walk, all_of, first_of, idle, nothing_held, positional, rows_of, settled, walk, walk_from, walked, finished, with_default}
+use Rattle.clap.specs.Walk.{Row, Rule, Text, Walk, all_of, first_of, nothing_held, positional, rows_of, settled, walk, walk_from, walked, finished}
 use Rattle.clap.specs.Simple.{App, HasMatchesOf, Shape, built, is_simple, matches_of}
-use Rattle.clap.specs.Kinds.{HasKind, Kinds, or_else, range_kinds, values_kinds}
+use Rattle.clap.specs.Kinds.{FailsBy, HasKind, Kinds, or_else, range_kinds, values_kinds}
 use Rattle.clap.specs.Faults.{check_fault, fault_of, is_simple_and_free, settle_fault, walk_fault, defaults_fault}
 use Rattle.clap.specs.declared.parser.matches.ValueSource.TheVariants.{CommandLine}
 use Rattle.clap.specs.declared.builder.value_parser.ValueParser.TheVariants as parser
@@ -255,23 +255,42 @@ parts_of m (file ∷ command ∷ word ∷ rest) plain matched passed =
     (All-tail IsPlain command (word ∷ rest) behind) in
     rows_have m (file ∷ command ∷ word ∷ rest) file command (word ∷ rest) (three_rows file command (word ∷ rest)) refl rows_are refl refl refl
 
--- a parse of the form that succeeds
-pub read_well : (m : ArgMatches) (app : App) (words : List Text) → app ≡ form → All IsPlain words → HasMatchesOf app words m
+-- ---- a parse of the form
+
+parsed_well : (m : ArgMatches) (app : App) (words : List Text) → app ≡ form → All IsPlain words → HasMatchesOf app words m
     → (is_simple_and_free app ≡ true → fault_of app words ≡ []) → HasParts m words
-read_well m app words is plain matched passed =
+parsed_well m app words is plain matched passed =
     parts_of m words plain (subst (λ (a : App). HasMatchesOf a words m) is matched)
     (subst (λ (a : App). is_simple_and_free a ≡ true → fault_of a words ≡ []) is passed form_is_free)
 
--- and one that fails
-pub read_badly : (e : Error) (app : App) (words : List Text) → app ≡ form → All IsPlain words → length words ≤ usize_max
-    → (is_simple_and_free app ≡ true → HasKind (fault_of app words) e) → (kind_of e ≡ kind.OutOfMemory → ⊥) → length words < 2
-read_badly e app words is plain few failed other = elim (cases_lt (length words) 2) [
+-- what is taken from one that succeeds
+pub taken_well : {F : Type 0} (taken : Result (Option ArgMatches) F) (parse : Result ArgMatches Error) (app : App) (words : List Text) → app ≡ form → All IsPlain words
+    → IfOk parse (HasMatchesOf app words) → (is_simple_and_free app ≡ true → FailsBy (fault_of app words) parse) → IfOk taken (λ o. IfSome o (λ m. parse ≡ Ok m))
+    → IfOk taken (λ o. IfSome o (λ m. HasParts m words))
+taken_well (Err f) parse app words is plain matched fails same = tt
+taken_well (Ok None) parse app words is plain matched fails same = tt
+taken_well (Ok (Some m)) parse app words is plain matched fails same =
+    parsed_well m app words is plain (subst (λ (r : Result ArgMatches Error). IfOk r (HasMatchesOf app words)) same matched)
+    (subst (λ (r : Result ArgMatches Error). is_simple_and_free app ≡ true → FailsBy (fault_of app words) r) same fails)
+
+parsed_badly : (parse : Result ArgMatches Error) (app : App) (words : List Text) → app ≡ form → All IsPlain words → length words ≤ usize_max
+    → (is_simple_and_free app ≡ true → FailsBy (fault_of app words) parse) → IsErrAnd parse (λ e. kind_of e ≢ kind.OutOfMemory) → length words < 2
+parsed_badly (Ok m) app words is plain few fails other = absurd other
+parsed_badly (Err e) app words is plain few fails other = elim (cases_lt (length words) 2) [
   | inl below ↦ below
   | inr above ↦
-      let kinds = subst (λ (a : App). is_simple_and_free a ≡ true → HasKind (fault_of a words) e) is failed form_is_free in
+      let kinds = subst (λ (a : App). is_simple_and_free a ≡ true → HasKind (fault_of a words) e) is fails form_is_free in
       let none : HasKind [] e = subst (λ (k : Kinds). HasKind k e) (two_pass words plain few above) kinds in
       elim none [ inl memory ↦ absurd (other memory) | inr among ↦ absurd among ]
 ]
+
+-- and nothing is taken but from fewer than two words
+pub taken_badly : {F : Type 0} (taken : Result (Option ArgMatches) F) (parse : Result ArgMatches Error) (app : App) (words : List Text) → app ≡ form → All IsPlain words
+    → length words ≤ usize_max → (is_simple_and_free app ≡ true → FailsBy (fault_of app words) parse)
+    → IfOk taken (λ o. IfNone o (IsErrAnd parse (λ e. kind_of e ≢ kind.OutOfMemory))) → IfOk taken (λ o. IfNone o (length words < 2))
+taken_badly (Err f) parse app words is plain few fails refused = tt
+taken_badly (Ok None) parse app words is plain few fails refused = parsed_badly parse app words is plain few fails refused
+taken_badly (Ok (Some m)) parse app words is plain few fails refused = tt
 
 -- ---- what the getters of the matches gave
 

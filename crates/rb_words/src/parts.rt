@@ -1,12 +1,12 @@
 //! The words as one file, one command and a list of parameters, read by `clap`. `parse_words` calls it.
-ghost use Rattle.std.specs.Prelude.{◌≡◌, ◌<◌, length};
-ghost use Rattle.std.specs.Prelude.{IfOk, IfSome, IfNone};
-ghost use Rattle.clap.specs.Words.{app_of};
+ghost use Rattle.std.specs.Prelude.{◌≡◌, ◌≢◌, ◌<◌, length};
+ghost use Rattle.std.specs.Prelude.{IfOk, IfErr, IsErrAnd, IfSome, IfNone};
+ghost use Rattle.clap.specs.Words.{app_of, kind_of};
 ghost use Rattle.rb_words.specs.Words.{texts, ArePlain};
 ghost use Rattle.rb_words.specs.Parts.{form, HasParts};
 
 use clap::error::ErrorKind;
-use clap::{Arg, ArgMatches, Command};
+use clap::{Arg, ArgMatches, Command, Error};
 use rb_base::NoMemory;
 use std::alloc::{AllocError, Global};
 
@@ -29,7 +29,16 @@ pub(crate) fn read_parts<'a>(
     let Ok(form) = form_of_words(alloc) else {
         return Err(NoMemory);
     };
-    match form.try_get_matches_from(words) {
+    parts_of(form.try_get_matches_from(words))
+}
+
+// What a parse comes to: Err is for want of memory, and any other error says that the words are no such parts.
+fn parts_of(parse: Result<ArgMatches<'_>, Error>) -> Result<Option<ArgMatches<'_>>, NoMemory>
+    ensures parts { IfOk result (λ o. IfSome o (λ m. parse.entry ≡ Ok m)) }
+    ensures refused { IfOk result (λ o. IfNone o (IsErrAnd parse.entry (λ e. kind_of e ≢ ErrorKind.OutOfMemory))) }
+    ensures memory { IfErr result (λ _. IsErrAnd parse.entry (λ e. kind_of e ≡ ErrorKind.OutOfMemory)) }
+{
+    match parse {
         Ok(matches) => Ok(Some(matches)),
         Err(error) => match error.kind() {
             ErrorKind::OutOfMemory => Err(NoMemory),

@@ -35,7 +35,7 @@ pub fn parse_words(alloc: Global, words: &[String]) -> Result<Option<Request>, N
     ensures found { IfOk result (λ o. IfSome o (λ request. AskFor words.now request)) }
     ensures none { IfOk result (λ o. IfNone o ((request : Request) → ¬ AskFor words.now request)) }
 {
-    // No form has a word that is empty or begins with a minus, and what `clap` makes of such a word isn't asked.
+    // No request has a word that is empty or begins with a minus, and what `clap` makes of such a word isn't asked.
     if !are_plain(words) {
         return Ok(None);
     }
@@ -49,6 +49,7 @@ pub fn parse_words(alloc: Global, words: &[String]) -> Result<Option<Request>, N
     Ok(request_of(command, parameters))
 }
 
+// Whether none of the words is empty or begins with a minus.
 fn are_plain(words: &[String]) -> bool
     ensures { IsTrue result ↔ ArePlain words.now }
 {
@@ -68,7 +69,8 @@ fn is_plain(word: &str) -> bool
 // What a command and its parameters ask for.
 fn request_of(command: &str, parameters: &[&str]) -> Option<Request>
     ensures found { IfSome result (λ request. SpellRequest (command.now ∷ referred parameters.now) request) }
-    ensures none { IfNone result ((request : Request) → ¬ SpellRequest (command.now ∷ referred parameters.now) request) }
+    ensures none { IfNone result ((request : Request)
+        → ¬ SpellRequest (command.now ∷ referred parameters.now) request) }
 {
     if command == "format" {
         let layout = parse_layout(parameters)?;

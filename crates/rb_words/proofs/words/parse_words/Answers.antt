@@ -1,9 +1,8 @@
-use Rattle.std.proofs.Common.{◌≡◌, ◌∷◌, List, ℕ, Some, Option, IsTrue, ap₂, ◌∙◌, refl, arith, subst, sym}
-use Rattle.std.specs.Option.{IfSome}
+use Rattle.std.proofs.Common.{◌≡◌, ◌∷◌, List, ℕ, IsTrue, ap₂, ◌∙◌, refl, sym}
 use Rattle.rb_words.specs.Words.{texts}
 use Rattle.rb_words.specs.Parts.{HasParts, referred}
 use Rattle.rb_words.proofs.Reading.{command_given, parameters_given}
-use Rattle.rb_words.proofs.Spelling.{each_plain, asked_if_found, none_asked, plain_of, two_of}
+use Rattle.rb_words.proofs.Spelling.{each_plain, asked_if_found, none_asked, plain_of}
 use Rattle.rb_words.proofs.words.parse_words.Goals as goal
 
 pub returns-then-not-are_plain-clause-none : goal.returns-then-not-are_plain-clause-none
