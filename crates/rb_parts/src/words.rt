@@ -86,15 +86,15 @@ fn lines_that_ask_for_a_run(rt: HostRuntime) {
 }
 
 #[test]
-fn lines_that_ask_for_a_script(rt: HostRuntime) {
+fn lines_that_ask_for_drawn_commands(rt: HostRuntime) {
     let rows: [(&str, u32); 3] = [
         ("f gen 0", 0),
         ("gen gen 9", 9),
         ("f gen 1000000", 1_000_000),
     ];
     for (line, commands) in rows {
-        let script = Some(Request::Gen { commands });
-        assert!(rt; asks(rt.alloc(), line, script), "{line:?}");
+        let drawn = Some(Request::Gen { commands });
+        assert!(rt; asks(rt.alloc(), line, drawn), "{line:?}");
     }
 }
 

@@ -21,9 +21,9 @@ pub enum Request {
         /// Frames of the cache, 16 to 4,096.
         frames: u32,
     },
-    /// To write a script of this many commands into it.
+    /// To do commands over it that are drawn at random, the same ones each time.
     Gen {
-        /// Commands of the script, at most 1,000,000.
+        /// How many commands, at most 1,000,000.
         commands: u32,
     },
 }
