@@ -57,7 +57,7 @@ pub record AsksRun (words : List (String Global)) (frames : ℕ) : Type 0 where
   pub few : (16 ≤ frames) × (frames ≤ 4096)
   pub spelled : texts words ≡ run_words file frames
 
--- the words ask for this many commands that are drawn at random
+-- the words ask for this many commands of the generator
 pub record AsksGen (words : List (String Global)) (commands : ℕ) : Type 0 where
   pub file : List ℕ
   pub named : IsFileWord file

@@ -21,7 +21,7 @@ pub enum Request {
         /// Frames of the cache, 16 to 4,096.
         frames: u32,
     },
-    /// To do commands over it that are drawn at random, the same ones each time.
+    /// To do commands over it that a generator draws, the same ones each time.
     Gen {
         /// How many commands, at most 1,000,000.
         commands: u32,
