@@ -1,5 +1,6 @@
 //! `Engine`: the memory of its sessions with the store that keeps their changes. The shell runs lines through it.
 ghost use Rattle.std.specs.Prelude.{◌≡◌};
+ghost use Rattle.rb_base.specs.Blocks.{IsShape};
 ghost use Rattle.rb_engine.specs.Does.{Stands};
 ghost use Rattle.rb_model.specs.Rows.{last_scn};
 ghost use Rattle.rb_model.specs.State.{State};
@@ -38,7 +39,8 @@ impl<T: Store> Engine<T> {
 
     /// The store's shape.
     pub fn shape(&self) -> Shape
-        ensures { result ≡ T.shape_of self.now.store }
+        ensures shape { result ≡ T.shape_of self.now.store }
+        ensures in_range { IsShape result }
     {
         self.store.shape()
     }

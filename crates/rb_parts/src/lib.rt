@@ -51,4 +51,6 @@ mod undoblock;
 #[cfg(test)]
 mod waits;
 #[cfg(test)]
+mod words;
+#[cfg(test)]
 mod writers;

@@ -4,8 +4,10 @@
 mod command;
 mod grammar;
 mod reply;
+mod text;
 mod words;
 
 pub use command::{Command, one_spelling};
 pub use grammar::parse;
 pub use reply::{Reply, print};
+pub use text::{put, put_part};

@@ -1,13 +1,12 @@
 //! The replies to the lines of a script. The shell makes one for each command, and writes its text.
-ghost use Rattle.std.specs.Prelude.{◌≡◌, [], ◌∷◌, ◌++◌, ◌+◌, ◌≤◌, length};
-ghost use Rattle.rb_model.specs.Calls.{number_text, refusal_text};
+ghost use Rattle.std.specs.Prelude.{◌≡◌, [], ◌∷◌, ◌++◌, ◌+◌, ◌≤◌};
+ghost use Rattle.rb_model.specs.Calls.{refusal_text};
 ghost use Rattle.rb_model.specs.Lines.{caller_text};
-ghost use Rattle.std.specs.Fmt.{decimal};
 ghost use Rattle.arrayvec.specs.ArrayVec.{array_vec_len};
 ghost use Rattle.rb_script.specs.Replies.{text_of_reply, FitsALine};
 
+use crate::text::{Line, put, put_number, put_part};
 use arrayvec::ArrayVec;
-use itoa::Buffer;
 use rb_model::Refusal;
 
 /// What a line is answered by.
@@ -29,36 +28,6 @@ pub enum Reply<'a> {
     Marks { seg: u16, writes: u64, lost: u64 },
     /// `bad line`.
     BadLine,
-}
-
-type Line = ArrayVec<u8, 512>;
-
-// appends a text that has room
-fn put(text: &[u8], into: &mut Line)
-    requires { array_vec_len into.old + length text.now ≤ 512 }
-    ensures { into.new.items ≡ into.old.items ++ text.now }
-{
-    let fits = into.try_extend_from_slice(text).is_ok();
-    prove!(fits);
-}
-
-// appends the decimal digits of a number
-fn put_number(number: u64, into: &mut Line)
-    requires { array_vec_len into.old + 20 ≤ 512 }
-    ensures items { into.new.items ≡ into.old.items ++ decimal number }
-    ensures len { array_vec_len into.new ≤ array_vec_len into.old + 20 }
-{
-    put(Buffer::new().format(number).as_bytes(), into);
-}
-
-// appends a space and a number
-fn put_part(number: u64, into: &mut Line)
-    requires { array_vec_len into.old + 21 ≤ 512 }
-    ensures items { into.new.items ≡ into.old.items ++ number_text number }
-    ensures len { array_vec_len into.new ≤ array_vec_len into.old + 21 }
-{
-    put(b" ", into);
-    put_number(number, into);
 }
 
 // puts the session that a reply is to, if there is one, and a space

@@ -16,7 +16,7 @@ use Rattle.rb_model.specs.State.{State}
 use Rattle.rb_model.specs.declared.refusal.Refusal.{Refusal}
 use Rattle.rb_model.specs.declared.refusal.Refusal.TheVariants.{DiskFault}
 use Rattle.rb_shell.specs.Runs.{MadeLast}
-use Rattle.rb_shell.specs.Since.{StandsAs}
+use Rattle.rb_calls.specs.Since.{StandsAs}
 use Rattle.rb_shell.specs.declared.status.Status.{Status}
 use Rattle.rb_shell.specs.declared.status.Status.TheVariants as ends
 

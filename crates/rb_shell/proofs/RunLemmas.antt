@@ -26,7 +26,7 @@ use Rattle.rb_opening.specs.Opens.{CanOpen, OpensAs}
 use Rattle.rb_segment.specs.Segments.{owed_in}
 use Rattle.rb_shell.specs.Runs.{IsSound, IsStore, HasHalted, HasOpened, HasRun, WasCutOff, Endures, LeftAlone, OpensSame, OpensToNone, EndsRun, IsDoneOrNoMemory, first_of}
 use Rattle.rb_shell.specs.declared.script.TheConstants.{SCRIPT_BYTES}
-use Rattle.rb_shell.specs.Since.{slots_of}
+use Rattle.rb_calls.specs.Since.{slots_of}
 use Rattle.rb_shell.specs.Statuses.{EndsFormat}
 use Rattle.rb_shell.specs.declared.status.Status.{Status}
 use Rattle.rb_shell.specs.declared.status.Status.TheVariants.{Done, Usage, SourceFault, DiskFault, SinkFault, NotAStore, NoMemory, NotEmpty, TooLong}

@@ -7,12 +7,10 @@ use Rattle.std.specs.Bool.{MatchBool}
 use Rattle.std.specs.List.{list_all}
 use Rattle.std.specs.Prelude.{not, if◌then◌else◌, IfErr, OnErr, OnOk, Option, None, Some}
 use Rattle.rb_base.specs.Counts.{err_is}
+use Rattle.rb_calls.proofs.CallLemmas.{on_no_fault}
 use Rattle.rb_base.specs.declared.shape.Shape.{Shape}
-use Rattle.rb_base.specs.declared.store.Store.{Ghosts}
-use Rattle.rb_base.specs.Stores.{room_of}
-use Rattle.rb_engine.specs.Does.{Does, EngineView, SameStore}
 use Rattle.rb_lines.specs.Faults.{is_sink}
-use Rattle.rb_lines.specs.Ran.{CutShort, Did, Replied, RepliedAs, SameButCursors}
+use Rattle.rb_lines.specs.Ran.{CutShort, Replied, RepliedAs, SameButCursors}
 use Rattle.rb_lines.specs.declared.runner.StepFault.{StepFault}
 use Rattle.rb_lines.specs.declared.runner.StepFault.TheVariants.{Disk, Sink}
 use Rattle.rb_model.specs.Answers.{answer_of}
@@ -32,7 +30,6 @@ use Rattle.rb_model.specs.declared.mode.Isolation.{Isolation}
 use Rattle.rb_model.specs.declared.mode.Isolation.TheVariants as isolation
 use Rattle.rb_model.proofs.Stops.{after_stops, early_no_fault, fine_stays, first_keeps, granted_fine, refused_same}
 use Rattle.rb_model.specs.Tests.{holder}
-use Rattle.rb_shell.specs.Since.{IsSince, StandsAs, slots_of}
 use Rattle.rb_shell.specs.Steps.{Added, CalledOnce, Calls, Lost, Said, SaidAs, SaidItself, SaidSoFar, Told}
 
 -- a state and itself, and what differs by fetches
@@ -451,34 +448,6 @@ disk_sent R start now tells before held waiting held2 (said, stopped) sent = (al
 pub disk_lost : (R : List ℕ → Logged → Type 0) (start now : Logged) (tells : Type 0) (before held waiting held2 : List ℕ) → SaidAs R start now tells before held waiting (Err Disk) → Lost tells held waiting held2 → RepliedAs R start now tells before held2 (Err Sink)
 disk_lost R start now tells before held waiting held2 (said, stopped) lost = λ t settled. some_sent R now tells before held waiting held2 said lost t
 
--- one call, as the engine tells it
-
-module _ {S : Type 0} (s : Ghosts S) where
-  -- the room that the engine tells is that of its log
-  all_room : (e : EngineView S) (m : Logged) → StandsAs s e m → room_of (s.slots e.store) (s.lsn e.store) ≡ room (slots_of (s.slots e.store)) (s.lsn e.store)
-  all_room e m is = ap (λ (slots : Option ℕ). room_of slots (s.lsn e.store)) is.ended
-
-  -- from a state that the engine stood for, to the one that it stands for after the call
-  pub did_call : (m : Logged) (c : Call) (r : Answer) (old new : EngineView S) (P : Logged → Type 0) → StandsAs s old m → m.state.stopped ≡ false → Does s m.state c r old new → SameStore s old.store new.store
-      → ((now : Logged) → CallOut m (slots_of (s.slots old.store)) c r now → P now) → Did (StandsAs s) (IsSince s) old new m P
-  did_call m c r old new P is going does same so =
-      let slots = slots_of (s.slots old.store) in
-      let now : Logged = record { state = does.now; lsn = s.lsn new.store; fault = failed_in c r m.fault } in
-      record {
-        now = now;
-        reached = record { engine = does.stands; lsn = refl; ended = subst (λ (slots : Option ℕ). slots ≡ Some (slots_of slots)) (sym same.slots) is.ended };
-        passed = record { same = same; crash = λ kept. does.survives m.fault going kept };
-        ran = so now (record {
-          reply = subst (λ (n : ℕ). Reply m.state n (room slots n) c r) (sym is.lsn)
-              (subst (λ (more : ℕ). Reply m.state (s.lsn old.store) more c r) (all_room old m is) does.reply);
-          state = does.after;
-          fault = refl;
-          groups = does.groups;
-          grows = does.grows;
-          lsn = λ on. does.lsn on ∙ ap (λ (n : ℕ). n + does.groups) (sym is.lsn);
-        });
-      }
-
 -- what a call ends with, by what became of its reply
 abbrev pub MatchTold : Result (Unit {0}) StepFault → code.Answer → Result code.Answer StepFault → Type 0
 MatchTold (Ok done) answer result = result ≡ Ok answer
@@ -498,31 +467,6 @@ calls_as m now slots t c answer row text fault tells held waiting held2 waiting2
     subst (λ (x : Result code.Answer StepFault). Calls m slots t c row now tells held waiting held2 waiting2 x) (sym e) (answer_of answer row, once, lost)
 
 -- calls as they end
-
--- the code's answers after which a command goes on, whatever the row
-pub on_calls : (answer : code.Answer) (row : Row) → (answer ≡ answers.Row) ⊎ ((seg : ℕ) × (writes : ℕ) × (lost : ℕ) × (answer ≡ answers.Marked seg writes lost)) → goes_on (answer_of answer row) ≡ true
-on_calls answer row is = ⊎_elim
-    (λ e. ap (λ (a : code.Answer). goes_on (answer_of a row)) e)
-    (λ m. ap (λ (a : code.Answer). goes_on (answer_of a row)) m.3)
-    is
-
-pub ends_calls : (answer : code.Answer) (row : Row) → (answer ≡ answers.Row → ⊥) → ((seg writes lost : ℕ) → answer ≡ answers.Marked seg writes lost → ⊥) → goes_on (answer_of answer row) ≡ false
-ends_calls answers.Done row other marks = refl
-ends_calls (answers.Waits on) row other marks = refl
-ends_calls (answers.Committed number) row other marks = refl
-ends_calls answers.Row row other marks = absurd (other refl)
-ends_calls answers.End row other marks = refl
-ends_calls (answers.Marked seg writes lost) row other marks = absurd (marks seg writes lost refl)
-ends_calls (answers.Refused why) row other marks = refl
-
-on_no_fault : (r : Answer) → goes_on r ≡ true → is_fault r ≡ false
-on_no_fault Done e = refl
-on_no_fault (Waits on) e = refl
-on_no_fault (Numbered n) e = refl
-on_no_fault (Given key value) e = refl
-on_no_fault End e = refl
-on_no_fault (Marked seg writes lost) e = refl
-on_no_fault (Refused why) e = absurd (false≢true e)
 
 module _ (start m now : Logged) (slots slots1 : ℕ) (c : Command) (count : ℕ) (row : Row) (tells : Type 0) (before held waiting held2 waiting2 : List ℕ)
     (so : SaidSoFar start slots c count m tells before held waiting) (same : slots1 ≡ slots) where

@@ -149,9 +149,6 @@ format_sink TooLong ends = absurd ends
 
 -- the same count by the same tests
 
-pub counted_as : (before now : ℕ) (a b : Bool) → a ≡ b → IsCountedAs before now a → IsCountedAs before now b
-counted_as before now a b same counted = subst (λ (x : Bool). IsCountedAs before now x) same counted
-
 pub counted_beside : (before now : ℕ) (a b hidden hidden2 : Bool) → a ≡ b → hidden ≡ hidden2 → IsCountedBeside before now a hidden → IsCountedBeside before now b hidden2
 counted_beside before now a b hidden hidden2 same same2 counted =
     subst (λ (x : Bool). IsCountedBeside before now b x) same2 (subst (λ (x : Bool). IsCountedBeside before now x hidden) same counted)

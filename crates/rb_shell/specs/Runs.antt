@@ -18,7 +18,7 @@ use Rattle.rb_model.specs.Out.{Logged}
 use Rattle.rb_model.specs.State.{State}
 use Rattle.rb_opening.specs.Opens.{CanOpen, OpensAs}
 use Rattle.rb_segment.specs.Segments.{owed_in}
-use Rattle.rb_shell.specs.Since.{StandsAs}
+use Rattle.rb_calls.specs.Since.{StandsAs}
 use Rattle.rb_shell.specs.Statuses.{status_of}
 use Rattle.rb_shell.specs.declared.script.TheConstants.{SCRIPT_BYTES}
 use Rattle.rb_shell.specs.declared.status.Status.{Status}

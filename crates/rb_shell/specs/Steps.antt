@@ -29,22 +29,6 @@ tells_fault (replies.Refused s why) = is_disk_fault why
 tells_fault (replies.Marks seg writes lost) = false
 tells_fault replies.BadLine = false
 
--- An answer that a call of that session has, or one of none: the marks of a segment are told to none, and what only a
--- session's call answers to a session.
-abbrev pub FitsCaller : Option ℕ → code.Answer → Type 0
-FitsCaller to answers.Done = Unit {0}
-FitsCaller to (answers.Refused why) = Unit {0}
-FitsCaller None (answers.Marked seg writes lost) = Unit {0}
-FitsCaller (Some s) (answers.Marked seg writes lost) = ⊥
-FitsCaller None (answers.Waits on) = ⊥
-FitsCaller (Some s) (answers.Waits on) = Unit {0}
-FitsCaller None (answers.Committed number) = ⊥
-FitsCaller (Some s) (answers.Committed number) = Unit {0}
-FitsCaller None answers.Row = ⊥
-FitsCaller (Some s) answers.Row = Unit {0}
-FitsCaller None answers.End = ⊥
-FitsCaller (Some s) answers.End = Unit {0}
-
 -- A text was added to what waits. It waits with it, or all that waited before was sent.
 abbrev pub Added : List ℕ → Type 0 → (held_before waiting_before held_now waiting_now : List ℕ) → Type 0
 Added text tells held_before waiting_before held_now waiting_now =

@@ -5,18 +5,19 @@ ghost use Rattle.std.specs.Result.{is_err};
 ghost use Rattle.arrayvec.specs.ArrayVec.{array_vec_len};
 ghost use Rattle.rb_base.specs.Counts.{IsCounted, IsCountedAs, err_is};
 ghost use Rattle.rb_lines.specs.Faults.{is_sink};
-ghost use Rattle.rb_model.specs.Answers.{answer_of, write_answer, plain_answer, commit_answer, fetch_answer};
-ghost use Rattle.rb_model.specs.Answers.{marks_answer};
+ghost use Rattle.rb_calls.specs.Fits.{FitsCaller};
+ghost use Rattle.rb_model.specs.Answers.{answer_of, write_answer};
 ghost use Rattle.rb_model.specs.Lines.{reply_text};
-ghost use Rattle.rb_model.specs.Calls.{is_disk_fault as is_fault_of_disk, is_fault};
+ghost use Rattle.rb_model.specs.Calls.{is_fault};
 ghost use Rattle.rb_script.specs.Replies.{text_of_reply, FitsALine};
-ghost use Rattle.rb_shell.specs.Steps.{Added, FitsCaller, Lost, Told, tells_fault};
+ghost use Rattle.rb_shell.specs.Steps.{Added, Lost, Told, tells_fault};
 ghost use Rattle.rb_stream.specs.StreamModel.{Puts};
 
 use arrayvec::ArrayVec;
 use rb_base::Failed;
+use rb_calls::MOST_READY;
 use rb_lines::StepFault;
-use rb_model::{Answer, Fetched, Marks, Refusal, Row, Wrote};
+use rb_model::{Answer, Refusal, Row, Wrote};
 use rb_script::{Reply, print};
 use rb_stream::Sink;
 
@@ -26,9 +27,6 @@ const REPLY_BYTES: usize = 512;
 /// The most bytes of a line's own replies that wait.
 pub const OWN_BYTES: usize = 65_536;
 
-/// How many writes are ready at most: one of each session.
-pub const MOST_READY: usize = 16;
-
 /// The most bytes of replies that wait. Behind the line's own those to the writes that it has made ready have room, so
 /// none of them is sent while they are tried again.
 const WAITING_BYTES: usize = 73_728;
@@ -37,69 +35,6 @@ const _: () = prove!(OWN_BYTES + MOST_READY * REPLY_BYTES == WAITING_BYTES);
 
 /// What waits to be put: 64 KiB, and sixteen replies.
 pub type Waiting = ArrayVec<u8, WAITING_BYTES>;
-
-/// The answer of a write.
-pub fn answer_to_write(outcome: Result<Wrote, Refusal>) -> Answer
-    ensures answer { (row : Row) → answer_of result row ≡ write_answer outcome }
-    ensures fault { (row : Row) → is_fault (answer_of result row) ≡ err_is is_fault_of_disk outcome }
-    ensures fits { (s : ℕ) → FitsCaller (Some s) result }
-{
-    match outcome {
-        Ok(Wrote::Done) => Answer::Done,
-        Ok(Wrote::Waits { on }) => Answer::Waits { on },
-        Err(why) => Answer::Refused { why },
-    }
-}
-
-/// The answer of a commit.
-pub fn answer_to_commit(outcome: Result<Option<u64>, Refusal>) -> Answer
-    ensures answer { (row : Row) → answer_of result row ≡ commit_answer outcome }
-    ensures fault { (row : Row) → is_fault (answer_of result row) ≡ err_is is_fault_of_disk outcome }
-    ensures fits { (s : ℕ) → FitsCaller (Some s) result }
-{
-    match outcome {
-        Ok(None) => Answer::Done,
-        Ok(Some(number)) => Answer::Committed { number },
-        Err(why) => Answer::Refused { why },
-    }
-}
-
-/// The answer of a call that gives nothing but that it was done.
-pub fn answer_to_call(outcome: Result<(), Refusal>) -> Answer
-    ensures answer { (row : Row) → answer_of result row ≡ plain_answer outcome }
-    ensures fault { (row : Row) → is_fault (answer_of result row) ≡ err_is is_fault_of_disk outcome }
-    ensures fits { (s : Option ℕ) → FitsCaller s result }
-{
-    match outcome {
-        Ok(()) => Answer::Done,
-        Err(why) => Answer::Refused { why },
-    }
-}
-
-/// The answer of a fetch, beside its row.
-pub fn answer_to_fetch(outcome: Result<Fetched, Refusal>) -> Answer
-    ensures answer { (row : Row) → answer_of result row ≡ fetch_answer outcome row }
-    ensures fault { (row : Row) → is_fault (answer_of result row) ≡ err_is is_fault_of_disk outcome }
-    ensures fits { (s : ℕ) → FitsCaller (Some s) result }
-{
-    match outcome {
-        Ok(Fetched::Row) => Answer::Row,
-        Ok(Fetched::End) => Answer::End,
-        Err(why) => Answer::Refused { why },
-    }
-}
-
-/// The answer of what a segment tells of itself.
-pub fn answer_to_marks(seg: u16, outcome: Result<Marks, Refusal>) -> Answer
-    ensures answer { (row : Row) → answer_of result row ≡ marks_answer seg outcome }
-    ensures fault { (row : Row) → is_fault (answer_of result row) ≡ err_is is_fault_of_disk outcome }
-    ensures fits { FitsCaller None result }
-{
-    match outcome {
-        Ok(Marks { writes, lost }) => Answer::Marked { seg, writes, lost },
-        Err(why) => Answer::Refused { why },
-    }
-}
 
 /// The reply to session `s`, or to none, where that answer has one.
 pub fn reply_of(s: Option<u16>, answer: Answer, row: &Row) -> Reply<'_>

@@ -2,6 +2,7 @@
 ghost use Rattle.std.specs.Prelude.{◌≡◌, ◌≢◌, ◌⊎◌, ℕ, ◌<◌, ◌≤◌, List, [], ◌++◌};
 ghost use Rattle.std.specs.Prelude.{length, false, true, IfErr, IfOk, OnOk};
 ghost use Rattle.rb_base.specs.Counts.{IsCountedAs, is_failed};
+ghost use Rattle.rb_calls.specs.Since.{IsSince, StandsAs, slots_of};
 ghost use Rattle.rb_lines.specs.Faults.{IsCountedBeside};
 ghost use Rattle.rb_lines.specs.Whole.{whole_lines};
 ghost use Rattle.rb_model.specs.Lines.{lines_of};
@@ -9,7 +10,6 @@ ghost use Rattle.rb_model.specs.Out.{Logged};
 ghost use Rattle.rb_shell.specs.Runs.{IsSound, IsStore, HasHalted, HasOpened, HasRun, HasRunOut, RanOn, WasCutOff};
 ghost use Rattle.rb_shell.specs.Runs.{LeftAlone, WasStopped, WasTaken, EndsRun, AsksScript, AsksNothing};
 ghost use Rattle.rb_shell.specs.Runs.{Endures, EndsBy, Lasts, MadeLast};
-ghost use Rattle.rb_shell.specs.Since.{IsSince, StandsAs, slots_of};
 ghost use Rattle.rb_shell.specs.Statuses.{by_disk, by_sink, by_source, status_of, status_of_opening};
 
 use crate::line::do_line;
@@ -36,7 +36,7 @@ struct Interpreter<T: Store> {
 }
 
 impl<T: Store> LineRunner for Interpreter<T> {
-    ghost use Rattle.rb_shell.specs.Since.{since_same, since_joined};
+    ghost use Rattle.rb_calls.specs.Since.{since_same, since_joined};
 
     ghost stands = { λ r m. StandsAs T.Store r.engine m };
 

@@ -3,7 +3,8 @@ use Rattle.std.proofs.lemmas.Result.{err_from_is_err_and}
 use Rattle.rb_lines.specs.declared.runner.StepFault.{StepFault}
 use Rattle.rb_model.specs.Answers.{answer_of}
 use Rattle.rb_model.specs.Lines.{reply_text}
-use Rattle.rb_shell.proofs.SaidLemmas.{calls_as, did_call, MatchTold}
+use Rattle.rb_calls.proofs.CallLemmas.{did_call}
+use Rattle.rb_shell.proofs.SaidLemmas.{calls_as, MatchTold}
 use Rattle.rb_shell.proofs.line.call_once.Goals as goal
 
 pub returns-in_err-tell-clause-did : goal.returns-in_err-tell-clause-did

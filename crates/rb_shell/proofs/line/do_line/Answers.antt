@@ -5,7 +5,7 @@ use Rattle.rb_lines.specs.Ran.{RepliedAs}
 use Rattle.rb_lines.specs.declared.runner.StepFault.{StepFault}
 use Rattle.rb_lines.specs.declared.runner.StepFault.TheVariants.{Sink}
 use Rattle.rb_model.specs.Out.{LineOut}
-use Rattle.rb_shell.specs.Since.{slots_of}
+use Rattle.rb_calls.specs.Since.{slots_of}
 use Rattle.rb_shell.specs.Steps.{SaidAs}
 use Rattle.rb_shell.proofs.SaidLemmas.{ok_sent, disk_sent, disk_lost}
 use Rattle.rb_shell.proofs.line.do_line.Goals as goal

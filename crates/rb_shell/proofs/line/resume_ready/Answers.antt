@@ -6,9 +6,10 @@ use Rattle.rb_lines.proofs.Dids.{did_on}
 use Rattle.rb_model.proofs.Stops.{fault_of_write}
 use Rattle.rb_model.specs.Out.{Logged}
 use Rattle.rb_model.specs.Queue.{first_ready}
-use Rattle.rb_shell.specs.Since.{IsSince, StandsAs, since_same, since_joined, slots_of}
+use Rattle.rb_calls.specs.Since.{IsSince, StandsAs, since_same, since_joined, slots_of}
 use Rattle.rb_shell.specs.Steps.{HasResumed}
-use Rattle.rb_shell.proofs.ResumeLemmas.{did_resume, did_still, fewer_on, none_some, resumed_all, resumed_fails, resumed_more, resumed_none}
+use Rattle.rb_calls.proofs.CallLemmas.{did_resume, did_still, fewer_on, none_some}
+use Rattle.rb_shell.proofs.ResumeLemmas.{resumed_all, resumed_fails, resumed_more, resumed_none}
 use Rattle.rb_waits.proofs.Turns.{none_ready}
 use Rattle.rb_shell.proofs.line.resume_ready.Given.{Over}
 use Rattle.rb_shell.proofs.line.resume_ready.Goals as goal

@@ -3,7 +3,7 @@ use Rattle.rb_engine.specs.Does.{SameStore}
 use Rattle.rb_lines.specs.Ran.{Did}
 use Rattle.rb_model.specs.Out.{Logged}
 use Rattle.rb_model.specs.Queue.{first_ready, ready_count}
-use Rattle.rb_shell.specs.Since.{IsSince, StandsAs, slots_of}
+use Rattle.rb_calls.specs.Since.{IsSince, StandsAs, slots_of}
 use Rattle.rb_shell.specs.Steps.{ResumedSoFar}
 use Rattle.rb_shell.specs.declared.replies.TheConstants.{OWN_BYTES}
 use Rattle.rb_shell.proofs.line.resume_ready.Given as goal

@@ -7,7 +7,7 @@ use Rattle.rb_model.specs.Out.{LineSaid, Logged, too_long, skipped, bad}
 use Rattle.rb_lines.proofs.Dids.{did_as}
 use Rattle.rb_script.specs.Commands.{command_of}
 use Rattle.rb_engine.specs.Does.{EngineView}
-use Rattle.rb_shell.specs.Since.{IsSince, StandsAs, slots_of, since_same}
+use Rattle.rb_calls.specs.Since.{IsSince, StandsAs, slots_of, since_same}
 use Rattle.rb_shell.proofs.SaidLemmas.{bad_said, command_said, said_nothing}
 use Rattle.rb_shell.proofs.line.say_itself.Given.{Over}
 use Rattle.rb_shell.proofs.line.say_itself.Goals as goal

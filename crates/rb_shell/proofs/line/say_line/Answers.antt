@@ -3,7 +3,7 @@ use Rattle.std.proofs.lemmas.Result.{err_from_is_err_and}
 use Rattle.rb_lines.proofs.Dids.{did_as, did_on}
 use Rattle.rb_lines.specs.declared.runner.StepFault.{StepFault}
 use Rattle.rb_model.specs.Out.{LineOut}
-use Rattle.rb_shell.specs.Since.{since_joined, slots_of}
+use Rattle.rb_calls.specs.Since.{since_joined, slots_of}
 use Rattle.rb_shell.specs.Steps.{SaidAs, SaidItself}
 use Rattle.rb_shell.proofs.ResumeLemmas.{line_ends, line_fails}
 use Rattle.rb_shell.proofs.line.say_line.Goals as goal

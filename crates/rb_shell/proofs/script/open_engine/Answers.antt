@@ -15,7 +15,7 @@ use Rattle.rb_store.specs.Laps.{IsStable, Opens, OpensAt}
 use Rattle.rb_store.specs.OneOpening.{opens_moves}
 use Rattle.rb_store.specs.contracts.lap.LapStoreStore.TheImpl.{ghosts}
 use Rattle.rb_shell.specs.Runs.{IsSound, LeftAlone, WasStopped}
-use Rattle.rb_shell.specs.Since.{slots_of}
+use Rattle.rb_calls.specs.Since.{slots_of}
 use Rattle.rb_shell.proofs.RunLemmas.{Found, disk_leaves, has_opened, in_range, is_store, no_opening, not_store, opens_same, rests_alone, rests_same, same_of, stays_alone}
 use Rattle.rb_shell.proofs.script.open_engine.Given.{Over}
 use Rattle.rb_shell.proofs.script.open_engine.Goals.{After-close, After-from_residual, In_ok-store}

@@ -15,7 +15,8 @@ use Rattle.rb_shell.specs.Runs.{Endures, HasOpened, HasRun, Lasts, RanOn}
 use Rattle.rb_shell.specs.Statuses.{by_disk, by_sink}
 use Rattle.rb_shell.specs.declared.status.Status.TheVariants.{Done}
 use Rattle.rb_shell.proofs.RunLemmas.{endures, first_settled, has_halted, has_run, was_cut_off}
-use Rattle.rb_shell.proofs.StatusLemmas.{beside, counted_as, disk_by, done_by, long_by, sink_by, source_by, uncounted}
+use Rattle.rb_calls.proofs.CallLemmas.{counted_as}
+use Rattle.rb_shell.proofs.StatusLemmas.{beside, disk_by, done_by, long_by, sink_by, source_by, uncounted}
 use Rattle.rb_shell.proofs.script.run_script.Given.{Over}
 use Rattle.rb_shell.proofs.script.run_script.Goals.{After-close}
 use Rattle.rb_shell.proofs.script.run_script.Goals as goal

@@ -1,5 +1,5 @@
 use Rattle.std.proofs.Common.{ap}
-use Rattle.rb_shell.specs.Since.{slots_of}
+use Rattle.rb_calls.specs.Since.{slots_of}
 use Rattle.rb_shell.proofs.script.InterpreterLineRunner.step.Goals as goal
 
 pub returns-clause-did : goal.returns-clause-did

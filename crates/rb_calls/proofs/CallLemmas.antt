@@ -1,0 +1,201 @@
+-- What one call and one write that is tried again do over an engine, as the engine tells it.
+use Rattle.std.proofs.Common.{◌≡◌, ◌∙◌, ◌⊎◌, ⊎_elim, refl, sym, ap, subst, arith, ℕ, zero, suc, ◌+◌, ◌<◌, ◌≤◌, Bool, true, false, Result, Option, None, Some}
+use Rattle.std.proofs.lemmas.Bool.{cases_Bool, false≢true}
+use Rattle.std.specs.Bool.{MatchBool}
+use Rattle.rb_base.specs.Counts.{IsCountedAs}
+use Rattle.rb_base.specs.Stores.{room_of}
+use Rattle.rb_base.specs.declared.store.Store.{Ghosts}
+use Rattle.rb_calls.specs.Since.{IsSince, StandsAs, slots_of}
+use Rattle.rb_engine.proofs.QueueLemmas.{survives_from, survives_queue}
+use Rattle.rb_engine.specs.Does.{Does, EngineView, Resumes, SameStore, Stands}
+use Rattle.rb_image.specs.Crash.{Survives}
+use Rattle.rb_lines.specs.Ran.{Did}
+use Rattle.rb_model.specs.Answers.{answer_of, write_answer}
+use Rattle.rb_model.specs.Calls.{Answer, Call, Done, End, Given, Marked, Numbered, Refused, Reply, Waits, Write, failed_in, is_fault}
+use Rattle.rb_model.specs.Change.{Asked}
+use Rattle.rb_model.specs.NextState.{After, unqueued}
+use Rattle.rb_model.specs.Out.{Logged, CallOut, Resumed, goes_on, room}
+use Rattle.rb_model.specs.Queue.{first_ready, left_by}
+use Rattle.rb_model.specs.State.{State, asked_of}
+use Rattle.rb_model.specs.declared.answer.Answer as code
+use Rattle.rb_model.specs.declared.answer.Answer.TheVariants as answers
+use Rattle.rb_model.specs.declared.refusal.Refusal.{Refusal}
+use Rattle.rb_model.specs.declared.row.Row.{Row}
+use Rattle.rb_model.specs.declared.wrote.Wrote.{Wrote}
+use Rattle.rb_model.proofs.Stops.{after_stops, fine_stays}
+
+-- a count by another test that comes to the same
+pub counted_as : (before now : ℕ) (a b : Bool) → a ≡ b → IsCountedAs before now a → IsCountedAs before now b
+counted_as before now a b same counted = subst (λ (x : Bool). IsCountedAs before now x) same counted
+
+-- the code's answers after which a command goes on, whatever the row
+pub on_calls : (answer : code.Answer) (row : Row) → (answer ≡ answers.Row) ⊎ ((seg : ℕ) × (writes : ℕ) × (lost : ℕ) × (answer ≡ answers.Marked seg writes lost)) → goes_on (answer_of answer row) ≡ true
+on_calls answer row is = ⊎_elim
+    (λ e. ap (λ (a : code.Answer). goes_on (answer_of a row)) e)
+    (λ m. ap (λ (a : code.Answer). goes_on (answer_of a row)) m.3)
+    is
+
+pub ends_calls : (answer : code.Answer) (row : Row) → (answer ≡ answers.Row → ⊥) → ((seg writes lost : ℕ) → answer ≡ answers.Marked seg writes lost → ⊥) → goes_on (answer_of answer row) ≡ false
+ends_calls answers.Done row other marks = refl
+ends_calls (answers.Waits on) row other marks = refl
+ends_calls (answers.Committed number) row other marks = refl
+ends_calls answers.Row row other marks = absurd (other refl)
+ends_calls answers.End row other marks = refl
+ends_calls (answers.Marked seg writes lost) row other marks = absurd (marks seg writes lost refl)
+ends_calls (answers.Refused why) row other marks = refl
+
+pub on_no_fault : (r : Answer) → goes_on r ≡ true → is_fault r ≡ false
+on_no_fault Done e = refl
+on_no_fault (Waits on) e = refl
+on_no_fault (Numbered n) e = refl
+on_no_fault (Given key value) e = refl
+on_no_fault End e = refl
+on_no_fault (Marked seg writes lost) e = refl
+on_no_fault (Refused why) e = absurd (false≢true e)
+
+-- one call, as the engine tells it
+
+module _ {S : Type 0} (s : Ghosts S) where
+  -- the room that the engine tells is that of its log
+  all_room : (e : EngineView S) (m : Logged) → StandsAs s e m → room_of (s.slots e.store) (s.lsn e.store) ≡ room (slots_of (s.slots e.store)) (s.lsn e.store)
+  all_room e m is = ap (λ (slots : Option ℕ). room_of slots (s.lsn e.store)) is.ended
+
+  -- from a state that the engine stood for, to the one that it stands for after the call
+  pub did_call : (m : Logged) (c : Call) (r : Answer) (old new : EngineView S) (P : Logged → Type 0) → StandsAs s old m → m.state.stopped ≡ false → Does s m.state c r old new → SameStore s old.store new.store
+      → ((now : Logged) → CallOut m (slots_of (s.slots old.store)) c r now → P now) → Did (StandsAs s) (IsSince s) old new m P
+  did_call m c r old new P is going does same so =
+      let slots = slots_of (s.slots old.store) in
+      let now : Logged = record { state = does.now; lsn = s.lsn new.store; fault = failed_in c r m.fault } in
+      record {
+        now = now;
+        reached = record { engine = does.stands; lsn = refl; ended = subst (λ (slots : Option ℕ). slots ≡ Some (slots_of slots)) (sym same.slots) is.ended };
+        passed = record { same = same; crash = λ kept. does.survives m.fault going kept };
+        ran = so now (record {
+          reply = subst (λ (n : ℕ). Reply m.state n (room slots n) c r) (sym is.lsn)
+              (subst (λ (more : ℕ). Reply m.state (s.lsn old.store) more c r) (all_room old m is) does.reply);
+          state = does.after;
+          fault = refl;
+          groups = does.groups;
+          grows = does.grows;
+          lsn = λ on. does.lsn on ∙ ap (λ (n : ℕ). n + does.groups) (sym is.lsn);
+        });
+      }
+
+-- one write that is tried again
+
+-- each turn leaves fewer ready
+pub fewer_on : (old new turn : ℕ) → new < old → old ≤ 16 → (1 ≤ turn → old + turn ≤ 16) → new + (turn + 1) ≤ 16
+fewer_on old new zero less few so = omega (arith, less, few)
+fewer_on old new (suc turn) less few so = let so_far = so (omega arith) in omega (arith, less, so_far)
+
+pub none_some : {A : Type 0} {r : Option A} {x : A} → r ≡ None → r ≡ Some x → ⊥
+none_some {A} {r} {x} none some = let clash : ◌≡◌ {A = Option A} None (Some x) = sym none ∙ some in cc
+
+-- what was done up to a call that did nothing
+pub did_still : {M : Type 0} {stands : M → Logged → Type 0} {since : M → M → Logged → Logged → Type 0} (old mid new : M) (m : Logged) (P : Logged → Type 0) → new ≡ mid → Did stands since old mid m P → Did stands since old new m P
+did_still {M} {stands} {since} old mid new m P still did = subst (λ (x : M). Did stands since old x m P) (sym still) did
+
+-- The write of the first ready session was tried once more.
+pub record TriedAgain (m : Logged) (slots w : ℕ) (r : Answer) (now : Logged) : Type 0 where
+  pub asked : Asked
+  pub known : asked_of m.state w ≡ Some asked
+  pub ready : first_ready m.state.queue ≡ Some w
+  pub resumed : Resumed m slots w asked r now
+  pub stopped : now.state.stopped ≡ is_fault r
+
+module _ {S : Type 0} (s : Ghosts S) (m : Logged) (w : ℕ) (outcome : Result Wrote Refusal) (old new : EngineView S) (is : StandsAs s old m) (going : m.state.stopped ≡ false) (same : SameStore s old.store new.store) where
+  abbrev r : Answer
+  r = write_answer outcome
+
+  abbrev call : Asked → Call
+  call a = Write w a.table a.key a.action
+
+  abbrev Made : Asked → Type 0
+  Made a = Does s (unqueued m.state w) (call a) r old new
+
+  -- the room that the engine tells is that of its log
+  told_reply : (a : Asked) → Made a → Reply (unqueued m.state w) m.lsn (room (slots_of (s.slots old.store)) m.lsn) (call a) r
+  told_reply a does =
+      subst (λ (n : ℕ). Reply (unqueued m.state w) n (room (slots_of (s.slots old.store)) n) (call a) r) (sym is.lsn)
+      (subst (λ (slots : Option ℕ). Reply (unqueued m.state w) (s.lsn old.store) (room_of slots (s.lsn old.store)) (call a) r) is.ended does.reply)
+
+  ends_as : s.slots new.store ≡ Some (slots_of (s.slots new.store))
+  ends_as = subst (λ (slots : Option ℕ). slots ≡ Some (slots_of slots)) (sym same.slots) is.ended
+
+  -- no fault: the state after the write
+  fine : (P : Logged → Type 0) (a : Asked) → asked_of m.state w ≡ Some a → first_ready m.state.queue ≡ Some w → Made a → is_fault r ≡ false
+      → ((now : Logged) → TriedAgain m (slots_of (s.slots old.store)) w r now → P now) → Did (StandsAs s) (IsSince s) old new m P
+  fine P a known ready does e so =
+      let now : Logged = record { state = does.now; lsn = s.lsn new.store; fault = failed_in (call a) r m.fault } in
+      record {
+        now = now;
+        reached = record { engine = does.stands; lsn = refl; ended = ends_as };
+        passed = record {
+          same = same;
+          crash = λ kept. survives_from m.state (left_by w m.state.queue) m.state.asked s (s.slots old.store) now.fault does.now old.store new.store (does.survives m.fault going kept);
+        };
+        ran = so now (record {
+          asked = a;
+          known = known;
+          ready = ready;
+          resumed = record {
+            reply = told_reply a does;
+            state = subst (λ (v : Bool). MatchBool v (does.now ≡ record m.state { stopped = true }) (After (unqueued m.state w) (call a) r does.now)) (sym e) does.after;
+            fault = refl;
+            groups = does.groups;
+            grows = does.grows;
+            lsn = λ on. does.lsn on ∙ ap (λ (n : ℕ). n + does.groups) (sym is.lsn);
+          };
+          stopped = (fine_stays (unqueued m.state w) does.now (call a) r e does.after).stopped ∙ going ∙ sym e;
+        });
+      }
+
+  -- a fault: the session keeps its place
+  failed : (P : Logged → Type 0) (a : Asked) → asked_of m.state w ≡ Some a → first_ready m.state.queue ≡ Some w → Made a → is_fault r ≡ true
+      → ((now : Logged) → TriedAgain m (slots_of (s.slots old.store)) w r now → P now) → Did (StandsAs s) (IsSince s) old new m P
+  failed P a known ready does e so =
+      let left : State = record (unqueued m.state w) { stopped = true } in
+      let halted : State = record m.state { stopped = true } in
+      let now : Logged = record { state = halted; lsn = s.lsn new.store; fault = failed_in (call a) r m.fault } in
+      let after : does.now ≡ left = after_stops (unqueued m.state w) does.now (call a) r e does.after in
+      let stands : Stands s left new = subst (λ (h : State). Stands s h new) after does.stands in
+      record {
+        now = now;
+        reached = record {
+          engine = record {
+            told = stands.told;
+            shape = stands.shape;
+            knows = record { sixteen = stands.knows.sixteen; stopped = stands.knows.stopped; scn = stands.knows.scn; queue = λ on. absurd (false≢true (sym on)) };
+            goes = λ on. absurd (false≢true (sym on));
+          };
+          lsn = refl;
+          ended = ends_as;
+        };
+        passed = record {
+          same = same;
+          crash = λ kept. survives_queue left m.state.queue m.state.asked s (s.slots old.store) now.fault m.state old.store new.store
+              (survives_from m.state (left_by w m.state.queue) m.state.asked s (s.slots old.store) now.fault left old.store new.store
+              (subst (λ (h : State). Survives s (s.slots old.store) now.fault (unqueued m.state w) h old.store new.store) after (does.survives m.fault going kept)));
+        };
+        ran = so now (record {
+          asked = a;
+          known = known;
+          ready = ready;
+          resumed = record {
+            reply = told_reply a does;
+            state = subst (λ (v : Bool). MatchBool v (halted ≡ halted) (After (unqueued m.state w) (call a) r halted)) (sym e) refl;
+            fault = refl;
+            groups = 0;
+            grows = λ on. absurd (false≢true (sym on));
+            lsn = λ on. absurd (false≢true (sym on));
+          };
+          stopped = sym e;
+        });
+      }
+
+  pub did_resume : (P : Logged → Type 0) → Resumes s m.state (Some (w, outcome)) old new
+      → ((now : Logged) → TriedAgain m (slots_of (s.slots old.store)) w r now → P now) → Did (StandsAs s) (IsSince s) old new m P
+  did_resume P (on, ready, a, known, does) so = ⊎_elim
+      (λ (e : is_fault r ≡ true). failed P a known ready does e so)
+      (λ (e : is_fault r ≡ false). fine P a known ready does e so)
+      (cases_Bool (is_fault r))

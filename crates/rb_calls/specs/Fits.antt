@@ -1,0 +1,20 @@
+-- Which answers the calls of a session have.
+use Rattle.std.specs.Prelude.{ℕ, Option, None, Some}
+use Rattle.rb_model.specs.declared.answer.Answer as code
+use Rattle.rb_model.specs.declared.answer.Answer.TheVariants as answers
+
+-- An answer that a call of that session has, or one of none: the marks of a segment are told to none, and what only a
+-- session's call answers to a session.
+abbrev pub FitsCaller : Option ℕ → code.Answer → Type 0
+FitsCaller to answers.Done = Unit {0}
+FitsCaller to (answers.Refused why) = Unit {0}
+FitsCaller None (answers.Marked seg writes lost) = Unit {0}
+FitsCaller (Some s) (answers.Marked seg writes lost) = ⊥
+FitsCaller None (answers.Waits on) = ⊥
+FitsCaller (Some s) (answers.Waits on) = Unit {0}
+FitsCaller None (answers.Committed number) = ⊥
+FitsCaller (Some s) (answers.Committed number) = Unit {0}
+FitsCaller None answers.Row = ⊥
+FitsCaller (Some s) answers.Row = Unit {0}
+FitsCaller None answers.End = ⊥
+FitsCaller (Some s) answers.End = Unit {0}

@@ -1,0 +1,72 @@
+//! What the results of the engine's calls are as answers. `answer` makes each of its calls' results one.
+ghost use Rattle.std.specs.Prelude.{◌≡◌, ℕ, Option, None, Some};
+ghost use Rattle.rb_base.specs.Counts.{err_is};
+ghost use Rattle.rb_calls.specs.Fits.{FitsCaller};
+ghost use Rattle.rb_model.specs.Answers.{answer_of, write_answer, plain_answer, commit_answer, fetch_answer};
+ghost use Rattle.rb_model.specs.Answers.{marks_answer};
+ghost use Rattle.rb_model.specs.Calls.{is_disk_fault as is_fault_of_disk, is_fault};
+
+use rb_model::{Answer, Fetched, Marks, Refusal, Row, Wrote};
+
+/// The answer of a write.
+pub fn answer_to_write(outcome: Result<Wrote, Refusal>) -> Answer
+    ensures answer { (row : Row) → answer_of result row ≡ write_answer outcome }
+    ensures fault { (row : Row) → is_fault (answer_of result row) ≡ err_is is_fault_of_disk outcome }
+    ensures fits { (s : ℕ) → FitsCaller (Some s) result }
+{
+    match outcome {
+        Ok(Wrote::Done) => Answer::Done,
+        Ok(Wrote::Waits { on }) => Answer::Waits { on },
+        Err(why) => Answer::Refused { why },
+    }
+}
+
+/// The answer of a commit.
+pub fn answer_to_commit(outcome: Result<Option<u64>, Refusal>) -> Answer
+    ensures answer { (row : Row) → answer_of result row ≡ commit_answer outcome }
+    ensures fault { (row : Row) → is_fault (answer_of result row) ≡ err_is is_fault_of_disk outcome }
+    ensures fits { (s : ℕ) → FitsCaller (Some s) result }
+{
+    match outcome {
+        Ok(None) => Answer::Done,
+        Ok(Some(number)) => Answer::Committed { number },
+        Err(why) => Answer::Refused { why },
+    }
+}
+
+/// The answer of a call that gives nothing but that it was done.
+pub fn answer_to_call(outcome: Result<(), Refusal>) -> Answer
+    ensures answer { (row : Row) → answer_of result row ≡ plain_answer outcome }
+    ensures fault { (row : Row) → is_fault (answer_of result row) ≡ err_is is_fault_of_disk outcome }
+    ensures fits { (s : Option ℕ) → FitsCaller s result }
+{
+    match outcome {
+        Ok(()) => Answer::Done,
+        Err(why) => Answer::Refused { why },
+    }
+}
+
+/// The answer of a fetch, beside its row.
+pub fn answer_to_fetch(outcome: Result<Fetched, Refusal>) -> Answer
+    ensures answer { (row : Row) → answer_of result row ≡ fetch_answer outcome row }
+    ensures fault { (row : Row) → is_fault (answer_of result row) ≡ err_is is_fault_of_disk outcome }
+    ensures fits { (s : ℕ) → FitsCaller (Some s) result }
+{
+    match outcome {
+        Ok(Fetched::Row) => Answer::Row,
+        Ok(Fetched::End) => Answer::End,
+        Err(why) => Answer::Refused { why },
+    }
+}
+
+/// The answer of what a segment tells of itself.
+pub fn answer_to_marks(seg: u16, outcome: Result<Marks, Refusal>) -> Answer
+    ensures answer { (row : Row) → answer_of result row ≡ marks_answer seg outcome }
+    ensures fault { (row : Row) → is_fault (answer_of result row) ≡ err_is is_fault_of_disk outcome }
+    ensures fits { FitsCaller None result }
+{
+    match outcome {
+        Ok(Marks { writes, lost }) => Answer::Marked { seg, writes, lost },
+        Err(why) => Answer::Refused { why },
+    }
+}

@@ -1,0 +1,4 @@
+pub mod AnsweredLemmas
+pub mod CountLemmas
+pub mod DrawLemmas
+mod Worked
