@@ -1,6 +1,6 @@
 -- What one group makes of blocks that stand for a state, by each step of a session: a write, the put back of a change,
 -- a commit, the end of a transaction without one, the cleaning of a block that is read.
-use Rattle.std.specs.Prelude.{◌≡◌, ◌≢◌, ◌⊎◌, ◌≤◌, ◌+◌, ◌∷◌, ◌++◌, ℕ, Bool, true, List, []}
+use Rattle.std.specs.Prelude.{◌≡◌, ◌≢◌, ◌⊎◌, ◌<◌, ◌≤◌, ◌+◌, ◌∷◌, ◌++◌, ℕ, Bool, true, List, []}
 use Rattle.std.specs.Prelude.{length, Some}
 use Rattle.rb_base.specs.Blocks.{after_groups, block_of}
 use Rattle.rb_base.specs.Groups.{Patch}
@@ -81,4 +81,4 @@ pub record CleanMade (h : State) (xids : List Xid) (b room : ℕ) (before now : 
   pub others : (k : ℕ) → k ≢ b → block_of now k ≡ block_of before k
   pub last : logged_of h.shape now ≡ logged_of h.shape before + 1
   pub owed : owed_in h.shape now ≡ owed_in h.shape before
-  pub fits : owed_in h.shape now + 1 ≤ room
+  pub fits : owed_in h.shape now < room
