@@ -325,13 +325,13 @@ class Model:
         return book
 
     def generate(self, count):
-        """What `gen` writes: it makes its commands one after another as a run does their lines, and counts what they and
-        the writes that were tried again are answered."""
+        """What `gen` writes: it makes its commands one after another as a run does their lines, and counts what they
+        and the writes that were tried again are answered."""
         counts = collections.Counter()
         for line in generated(count, self.tables, self.blocks):
             replies = [re.sub(rb"^\d+ ", b"", reply) for reply in self.line(line)]
             counts.update(reply.split(b" ")[0] for reply in replies)
-        others = sum(count for word, count in counts.items() if word not in (b"ok", b"committed", b"row", b"end", b"waits"))
+        others = sum(counts.values()) - sum(counts[word] for word in [b"ok", b"committed", b"row", b"end", b"waits"])
         told = count, counts[b"committed"], counts[b"row"], counts[b"waits"], others, self.number
         return b"commands %d committed %d rows %d waits %d refused %d now %d\n" % told
 
@@ -478,8 +478,8 @@ class Model:
         return "ok"
 
     def serialize(self, number, at, home, reply):
-        """A row that a commit above the number has changed can't be written, nor one of a home that can't be read at the
-        number."""
+        """A row that a commit above the number has changed can't be written, nor one of a home that can't be read at
+        the number."""
         self.read(home, number, reply)
         for by in self.changers.get(at, []):
             if by > number:
@@ -653,9 +653,9 @@ class Model:
             raise Refused(reply if reply in concerned else concerned[0])
 
     def missing(self, home, number):
-        """The segments that have given up what it takes to read the home at a number. What runs and what committed above
-        it is taken back, entry by entry down to one that committed at it or before; where that is in doubt, or a record
-        is gone, there is no way on."""
+        """The segments that have given up what it takes to read the home at a number. What runs and what committed
+        above it is taken back, entry by entry down to one that committed at it or before; where that is in doubt, or a
+        record is gone, there is no way on."""
         for entry in self.entries(home):
             while entry and (self.runs(entry) or self.told(entry).number > number):
                 if not self.runs(entry) and (self.told(entry).kind == BOUND or self.is_gone(entry)):
