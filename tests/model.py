@@ -1,14 +1,17 @@
-"""What right replies are: a second machine of lines, replies, rows and books, by docs/MODEL.md alone. It knows no block
-and no file, and shares nothing with the program or with tools/. tests/model_check compares it with the program.
+"""What right replies are: a second machine of lines, replies, rows, books and slot entries, by docs/MODEL.md and
+docs/UNDO.md alone. It knows no bytes of a block and no file, and shares nothing with the program or with tools/.
+tests/model_check compares it with the program.
 
-All replies but one follow from the lines. Where what a `fetch` or a serializable transaction's write needs was given up
-it may be answered `too old`, and may go on all the same. So the machine is told what the program said, and takes a `too
-old` over where one may come."""
+All replies follow from the lines, but for one number: a `too old` tells what the segment concerned has lost, and where
+several are concerned in a home any of them may be told. So the machine is told what the program said, and takes that
+number over."""
+import collections
 import re
 
 SESSIONS, HOME_KEYS, HOME_SESSIONS = 16, 16, 8
 VALUE_BYTES, LINE_BYTES, NAMES = 80, 512, 16
 SLOTS, TURN_RECORDS, MOST_TURNS = 16, 40, 8
+ENTRIES = 8
 
 ID, KEY = (r"(0|[1-9]\d*)", 2**16 - 1), (r"(0|[1-9]\d*)", 2**64 - 1)
 COUNT, NAME, VALUE = (r"([1-9]\d*)", 10**6), (r"([a-z0-9_]{1,16})", None), (r"([!-~]+)", None)
@@ -35,6 +38,24 @@ def parsed(line):
             in_range = all(part <= most for part, (_, most) in zip(parts, fields) if most)
             return (word, parts) if in_range else None
     return None
+
+
+def generated(count, tables, blocks):
+    """The lines of the commands that `gen` makes: each of four draws of one sequence, which begins with their count."""
+    x = count
+
+    def draw():
+        nonlocal x
+        x = (x * 6364136223846793005 + 1442695040888963407) % 2**64
+        return x // 2**33
+
+    for value in range(1, count + 1):
+        # Of a hundred the last that makes a command, and what it is.
+        a, s, k, t = draw() % 100, 1 + draw() % 8, draw() % (8 * blocks), 1 + draw() % tables
+        lines = {24: f"insert {s} {t} {k} {value}", 54: f"update {s} {t} {k} {value}", 64: f"delete {s} {t} {k}",
+                 69: f"lock {s} {t} {k}", 79: f"commit {s}", 84: f"rollback {s}",
+                 92: f"open {s} c {t} 0 {2**64 - 1}", 97: f"fetch {s} c 4", 98: f"close {s} c", 99: f"cancel {s}"}
+        yield next(line for last, line in lines.items() if a <= last).encode()
 
 
 class Refused(Exception):
@@ -120,32 +141,43 @@ class Book:
         self.owners[slot] = None
 
 
-class Visit:
-    """A commit's part in a home: its number, where its transaction had its slot, and its first record for the home."""
+# ---- Slot entries
 
-    def __init__(self, number, segment, slot, wrap, record):
-        self.number, self.segment, self.slot, self.wrap, self.record = number, segment, slot, wrap, record
-        # The next write in the home notes the number there, or what bounds it where the slot was taken again by then (0
-        # is no bound). Also: behind how many groups of the log that was.
-        self.bound = self.noted = None
+
+EXACT, BOUND = "exactly", "at most"
+
+# How a commit is known: its number, or one at or before which it was.
+Told = collections.namedtuple("Told", ["kind", "number"])
+
+
+class Entry(collections.namedtuple("Entry", ["transaction", "record", "told", "below"])):
+    """A slot entry of a home that isn't free: its transaction (a segment, a slot there and its wrap), the first record
+    of that for the home, how its commit is known there (None as long as the entry is open), and what the entry was
+    before that record (None where it was free)."""
+
+    __slots__ = ()
+
+    def __deepcopy__(self, _):
+        return self
 
 
 # ---- Sessions
 
 
 class Change:
-    """A write that was done: its key and that one's home, what it gives the key, and the number of its record."""
+    """A write that was done: its key and that one's home, what it gives the key, and which entry of the home it took,
+    with what that was before."""
 
     # What a lock gives: the row stays as it is. (None is that of a delete: no row.)
     HELD = object()
 
-    def __init__(self, at, home, value, record):
-        self.at, self.home, self.value, self.record = at, home, value, record
+    def __init__(self, at, home, value, place, before):
+        self.at, self.home, self.value, self.place, self.before = at, home, value, place, before
 
 
 class Session:
     """A session's transaction and its open cursors. The transaction has its mode, with the number and rows of its
-    snapshot where it has one of its own, its live changes, in order, the place where it writes its records, and its
+    snapshot where it has one of its own, its live changes, in order, its segment, slot and wrap there, and its
     savepoints: of each name, in order of setting, how many changes were before it."""
 
     def __init__(self, number):
@@ -162,8 +194,8 @@ class Session:
 
     def keep(self, changes):
         """The live changes are these."""
-        # The keys that they hold, what each of these has by them, and the first record for each home.
-        self.changes, self.held, self.own, self.homes = [], set(), {}, {}
+        # The keys that they hold, what each of these has by them, and their homes.
+        self.changes, self.held, self.own, self.homes = [], set(), {}, set()
         for change in changes:
             self.add(change)
 
@@ -172,16 +204,24 @@ class Session:
         self.held.add(change.at)
         if change.value is not Change.HELD:
             self.own[change.at] = change.value
-        self.homes.setdefault(change.home, change.record)
+        self.homes.add(change.home)
 
 
 class Cursor:
-    """A query: its table, the number of its snapshot, the rows that it gives, and how many changes of the transaction
-    that runs it has seen."""
+    """A query: its table and range of keys, the number of its snapshot, the rows that it gives, and how many changes of
+    the transaction that runs it has seen."""
 
-    def __init__(self, table, number, rows, seen):
-        self.table, self.number, self.rows, self.seen = table, number, rows, seen
+    def __init__(self, table, keys, number, rows, seen):
+        self.table, self.keys, self.number, self.rows, self.seen = table, keys, number, rows, seen
         self.taken = 0
+
+    def homes(self, blocks):
+        """The homes that its next fetch reads, as far as that comes: from that of the last row on to that of the next
+        one, or to the last of the table, those that a key of the range may have."""
+        (lo, hi), ways = self.keys, [key % blocks for key, _ in self.rows]
+        first = ways[self.taken - 1] if self.taken > 0 else 0
+        last = ways[self.taken] if self.taken < len(ways) else blocks - 1
+        return ((self.table, home) for home in range(first, last + 1) if (home - lo) % blocks <= hi - lo)
 
 
 class Waiter:
@@ -193,10 +233,11 @@ class Waiter:
 
 
 class Moment:
-    """What a file has after some group of its log: its rows and number, its books, and what is under way."""
+    """What a file has after some group of its log: its rows and number, its books, and what is under way. Also the
+    entries that the homes had before that group which it changed."""
 
-    def __init__(self, rows, number, books, owed):
-        self.rows, self.number, self.books, self.owed = rows, number, tuple(books), owed
+    def __init__(self, rows, number, books, owed, before):
+        self.rows, self.number, self.books, self.owed, self.before = rows, number, tuple(books), owed, before
 
     def marks(self):
         return [(book.writes, book.lost) for book in self.books]
@@ -212,15 +253,23 @@ class Model:
 
     def __init__(self, tables, blocks, segments, log):
         self.tables, self.blocks, self.log = tables, blocks, log
-        self.moments = [Moment({}, 0, [Book() for _ in range(segments)], 0)]
-        # Of each home, by its table and number, the commits with changes there, in order.
-        self.visits = {}
+        self.moments = [Moment({}, 0, [Book() for _ in range(segments)], 0, {})]
+        # Of each home that was written, by its table and number, its entries; and of those that changed since the last
+        # group what they were then.
+        self.homes, self.before = {}, {}
+        # The numbers of the transactions that committed.
+        self.numbers = {}
         # Of each row, the numbers of this run's commits that changed it, in order. (A lock changes nothing.)
         self.changers = {}
+        # The groups by which readers have cleaned a home, and how often one found a home unclean and the log without
+        # the room.
+        self.cleanings, self.held_back = set(), 0
         self.restart(0)
 
     def restart(self, groups):
         """Opens the file as it is after so many groups: what was under way then is put back."""
+        for moment in reversed(self.moments[groups + 1 :]):
+            self.homes.update(moment.before)
         del self.moments[groups + 1 :]
         left = self.moments[groups]
         self.rows, self.number, self.durable = left.rows, left.number, groups
@@ -233,13 +282,15 @@ class Model:
         self.books = [book.copied() for book in left.books]
         for book in self.books:
             book.owners = [None] * SLOTS
-        for home, visits in self.visits.items():
-            self.visits[home] = [visit for visit in visits if visit.number <= self.number]
-            for visit in self.visits[home]:
-                if visit.noted is not None and visit.noted > groups:
-                    visit.bound = visit.noted = None
+        self.numbers = {transaction: n for transaction, n in self.numbers.items() if n <= self.number}
+        self.cleanings = {group for group in self.cleanings if group <= groups}
+        # In which order changes are put back is left open. The first such group stands for all of them.
+        self.before = {home: entries for home, entries in self.homes.items() if any(map(self.runs, entries))}
+        for home, entries in self.before.items():
+            self.homes[home] = tuple(entry.below if self.runs(entry) else entry for entry in entries)
         for owed in range(left.owed - 1, -1, -1):
-            self.moments.append(Moment(self.rows, self.number, self.books, owed))
+            self.moments.append(Moment(self.rows, self.number, self.books, owed, self.before))
+            self.before = {}
 
     def begun(self):
         """A model of such a file, with the same rows and as much room in its log, with which a run begins."""
@@ -259,14 +310,30 @@ class Model:
         """How many groups put back what is under way: one for each live change, and one for each slot that is taken."""
         return sum(len(session.changes) + (session.place is not None) for session in self.sessions.values())
 
+    def room(self):
+        """For how many groups more the log has room. One slot stays free."""
+        return self.log - 1 - self.logged
+
     def grow(self):
         """One group more."""
-        self.moments.append(Moment(self.rows, self.number, self.books, self.owed()))
+        self.moments.append(Moment(self.rows, self.number, self.books, self.owed(), self.before))
+        self.before = {}
 
     def book(self, segment):
         """A book to change. The moments keep those of before."""
         book = self.books[segment] = self.books[segment].copied()
         return book
+
+    def generate(self, count):
+        """What `gen` writes: it makes its commands one after another as a run does their lines, and counts what they
+        and the writes that were tried again are answered."""
+        counts = collections.Counter()
+        for line in generated(count, self.tables, self.blocks):
+            replies = [re.sub(rb"^\d+ ", b"", reply) for reply in self.line(line)]
+            counts.update(reply.split(b" ")[0] for reply in replies)
+        others = sum(counts.values()) - sum(counts[word] for word in [b"ok", b"committed", b"row", b"end", b"waits"])
+        told = count, counts[b"committed"], counts[b"row"], counts[b"waits"], others, self.number
+        return b"commands %d committed %d rows %d waits %d refused %d now %d\n" % told
 
     # ---- Lines
 
@@ -396,43 +463,37 @@ class Model:
         book = self.books[segment]
         if book.is_full():
             raise Refused(f"rollback full {segment} {book.writes - min(owner.start for owner in book.running())}")
-        if self.log - 1 - self.logged < 1 + self.owed() + (1 if session.place else 2):
+        if self.room() < 1 + self.owed() + (1 if session.place else 2):
             raise Refused("log full")
+        # How transactions stand as the call begins decides, so that comes before a slot is taken.
+        self.clean(home)
         book = self.book(segment)
-        session.place = session.place or (segment, book.begin())
+        if not session.place:
+            slot = book.begin()
+            session.place = segment, slot, book.wraps[slot]
         record = book.mark(session.place[1])
-        session.add(Change(at, home, Change.HELD if word == "lock" else value, record))
+        place, before = self.take_entry(home, session.place, record)
+        session.add(Change(at, home, Change.HELD if word == "lock" else value, place, before))
         self.grow()
-        self.note(home)
         return "ok"
 
     def serialize(self, number, at, home, reply):
-        """A row that a commit above the number has changed can't be written, and where the home can't be read at the
-        number, that may be the reply in its place."""
-        if self.tells_lost(number, reply) and self.is_worn(home, number):
-            raise Refused(reply)
+        """A row that a commit above the number has changed can't be written, nor one of a home that can't be read at
+        the number."""
+        self.read(home, number, reply)
         for by in self.changers.get(at, []):
             if by > number:
                 raise Refused(f"cannot serialize {number} {by}")
 
-    def note(self, home):
-        """A write in the home notes there at which numbers the others have ended."""
-        for visit in reversed(self.visits.get(home, [])):
-            if visit.bound is not None:
-                break
-            visit.bound, visit.noted = self.bound(visit), self.logged
-
     def commit(self, session):
         if not session.changes:
             return self.end_without(session)
-        segment, slot = session.place
-        book = self.book(segment)
+        segment, slot, _ = session.place
         self.rows, self.number = changed(self.rows, session.own), self.number + 1
-        book.finish(slot, self.number)
+        self.book(segment).finish(slot, self.number)
+        self.numbers[session.place] = self.number
         for at in session.own:
             self.changers.setdefault(at, []).append(self.number)
-        for home, record in session.homes.items():
-            self.visits.setdefault(home, []).append(Visit(self.number, segment, slot, book.wraps[slot], record))
         self.ended(session)
         self.grow()
         self.durable = self.logged
@@ -441,7 +502,7 @@ class Model:
     def end_without(self, session):
         """The end of a transaction that has no change, or none any more: its slot, if it has one, is free."""
         if session.place:
-            segment, slot = session.place
+            segment, slot, _ = session.place
             self.book(segment).owners[slot] = session.place = None
             self.grow()
         self.ended(session)
@@ -485,7 +546,8 @@ class Model:
         """Puts back the session's changes but for the first ones, the newest first."""
         session.cursors = {name: cursor for name, cursor in session.cursors.items() if cursor.seen <= kept}
         while len(session.changes) > kept:
-            session.changes.pop()
+            change = session.changes.pop()
+            self.set_entry(change.home, change.place, change.before)
             self.grow()
         session.keep(session.changes)
 
@@ -502,7 +564,7 @@ class Model:
         seen = changed(seen, session.own)
         rows = [(key, value) for (t, key), value in seen.items() if t == table and lo <= key <= hi]
         rows.sort(key=lambda row: (row[0] % self.blocks, row[0]))
-        session.cursors[name] = Cursor(table, number, rows, len(session.changes))
+        session.cursors[name] = Cursor(table, (lo, hi), number, rows, len(session.changes))
         return "ok"
 
     def cursor(self, session, name):
@@ -513,9 +575,9 @@ class Model:
     def fetch(self, session, said, name, count):
         cursor = self.cursor(session, name)
         for place in range(count):
-            reply = said(place)
-            if reply.startswith("too old") and self.may_be_old(cursor, reply):
-                raise Refused(reply)
+            for home in cursor.homes(self.blocks):
+                self.clean_for_reader(home)
+                self.read(home, cursor.number, said(place))
             if cursor.taken == len(cursor.rows):
                 yield "end"
                 return
@@ -527,35 +589,83 @@ class Model:
         del session.cursors[name]
         return "ok"
 
-    # ---- What is too old
+    # ---- Homes
 
-    def tells_lost(self, number, reply):
-        """Whether the reply is a `too old` of that snapshot, with what some segment lost above it."""
-        return reply in {f"too old {number} {book.lost}" for book in self.books if book.lost > number}
+    def entries(self, home):
+        return self.homes.get(home, (None,) * ENTRIES)
 
-    def may_be_old(self, cursor, reply):
-        """Whether this is a `too old` that the next fetch of the cursor may have: it tells the snapshot, and what some
-        segment lost above it; and a home needs what was given up, from that of the last row to that of the next one."""
-        if not self.tells_lost(cursor.number, reply):
-            return False
-        homes = [key % self.blocks for key, _ in cursor.rows]
-        first = homes[cursor.taken - 1] if cursor.taken > 0 else 0
-        last = homes[cursor.taken] if cursor.taken < len(homes) else self.blocks - 1
-        return any(self.is_worn((cursor.table, home), cursor.number) for home in range(first, last + 1))
+    def set_entry(self, home, place, entry):
+        entries = self.entries(home)
+        self.before.setdefault(home, entries)
+        self.homes[home] = entries[:place] + (entry,) + entries[place + 1 :]
 
-    def is_worn(self, home, number):
-        """Whether a record of a commit above the number isn't kept, or a commit is only known to be at or before some
-        number above it. (What isn't committed keeps its records.)"""
-        return any(visit.number > number and self.is_gone(visit) or self.bound(visit) > number
-                   for visit in self.visits.get(home, []))
+    def runs(self, entry):
+        """Whether the transaction of an entry runs."""
+        return entry is not None and entry.transaction not in self.numbers
 
-    def is_gone(self, visit):
-        book = self.books[visit.segment]
-        return book.turn_of(visit.record) < book.oldest_turn
+    def look(self, transaction):
+        """How the commit of a transaction is known by its slot."""
+        segment, slot, wrap = transaction
+        book = self.books[segment]
+        if book.wraps[slot] == wrap:
+            return Told(EXACT, self.numbers[transaction])
+        return Told(BOUND, book.before[slot])
 
-    def bound(self, visit):
-        """The number at or before which the commit is only known to be; 0 where its own number is known."""
-        if visit.bound is not None:
-            return visit.bound
-        book = self.books[visit.segment]
-        return 0 if book.wraps[visit.slot] == visit.wrap else book.before[visit.slot]
+    def unclean(self, home):
+        """The open entries of the home whose transactions have committed, by their places."""
+        return [(place, entry) for place, entry in enumerate(self.entries(home))
+                if entry and not entry.told and not self.runs(entry)]
+
+    def clean(self, home):
+        """Each of these tells how its commit is known."""
+        for place, entry in self.unclean(home):
+            self.set_entry(home, place, entry._replace(told=self.look(entry.transaction)))
+
+    def clean_for_reader(self, home):
+        """A fetch reads the home. It cleans it by one group, where the log has room for that and for what puts back all
+        that is under way."""
+        if not self.unclean(home):
+            return
+        if self.room() < 1 + self.owed():
+            self.held_back += 1
+            return
+        self.clean(home)
+        self.grow()
+        self.cleanings.add(self.logged)
+
+    def take_entry(self, home, transaction, record):
+        """The transaction takes an entry for a change: its own open one, else the first that is free, else the first of
+        those with the least number. Gives its place, and what it was."""
+        entries = self.entries(home)
+        own = [place for place, entry in enumerate(entries) if entry and entry.transaction == transaction]
+        free = [place for place, entry in enumerate(entries) if not entry]
+        told = [place for place, entry in enumerate(entries) if entry and entry.told]
+        place = own[0] if own else free[0] if free else min(told, key=lambda at: (entries[at].told.number, at))
+        if not own:
+            self.set_entry(home, place, Entry(transaction, record, None, entries[place]))
+        return place, entries[place]
+
+    def read(self, home, number, reply):
+        """Reads the home as it was at a number. Where that needs what was given up it is too old, and that reply is the
+        program's, where it tells what a segment has lost that is concerned."""
+        concerned = [f"too old {number} {self.books[segment].lost}" for segment in self.missing(home, number)]
+        if concerned:
+            raise Refused(reply if reply in concerned else concerned[0])
+
+    def missing(self, home, number):
+        """The segments that have given up what it takes to read the home at a number. What runs and what committed
+        above it is taken back, entry by entry down to one that committed at it or before; where that is in doubt, or a
+        record is gone, there is no way on."""
+        for entry in self.entries(home):
+            while entry and (self.runs(entry) or self.told(entry).number > number):
+                if not self.runs(entry) and (self.told(entry).kind == BOUND or self.is_gone(entry)):
+                    yield entry.transaction[0]
+                    break
+                entry = entry.below
+
+    def told(self, entry):
+        return entry.told or self.look(entry.transaction)
+
+    def is_gone(self, entry):
+        book = self.books[entry.transaction[0]]
+        return book.turn_of(entry.record) < book.oldest_turn

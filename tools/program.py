@@ -64,6 +64,10 @@ def run_words(file):
     return [str(file), "run", "frames=16"]
 
 
+def gen_words(file, count):
+    return [str(file), "gen", str(count)]
+
+
 class Ended:
     """How a run ended, and what it wrote."""
 

@@ -360,6 +360,14 @@ class Store:
     def is_commit(self, patches):
         return any(slot[1].state == COMMITTED for slot in (patch.slot(self.identity) for patch in patches) if slot)
 
+    def is_cleaning(self, patches):
+        """Whether a group is one by which a reader cleaned a block: it alone changes nothing of a segment."""
+        return all(self.identity.kind(patch.block) == 1 for patch in patches)
+
+    @property
+    def cleanings(self):
+        return sum(map(self.is_cleaning, self.groups))
+
     @property
     def room(self):
         """For how many more groups the log has room."""

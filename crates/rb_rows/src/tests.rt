@@ -1451,9 +1451,10 @@ insert 2 1 16 a
 
 #[test]
 fn two_blocks(rt: HostRuntime) -> Result<(), Fail> {
-    let rows: [(&str, &[u8]); 2] = [
+    let rows: [(&str, &[u8]); 3] = [
         ("two blocks", TWO_BLOCKS),
         ("bound above snapshot", BOUND_ABOVE_SNAPSHOT),
+        ("reader cleans", READER_CLEANS),
     ];
     let file = formatted(rt.alloc(), FORMAT_TWO_BLOCKS)?;
     check_each(&rt, rt.alloc(), &file, &rows)?;
@@ -1488,7 +1489,8 @@ fetch 1 d 9
 #> 1 end
 ";
 
-// Commit 17 takes the table slot of commit 1, whose home nobody wrote since: only a bound is known of its number.
+// Commit 17 takes the table slot of commit 1, whose home nobody wrote or read since: only a bound is known of its
+// number.
 const BOUND_ABOVE_SNAPSHOT: &[u8] = b"\
 open 2 c 1 0 9
 #> 2 ok
@@ -1516,6 +1518,87 @@ fetch 2 d 5
 #> 2 end
 marks
 #> segment 0 writes 17 lost 1
+";
+
+// The same, where a reader came to that home in between: it has left the number there.
+const READER_CLEANS: &[u8] = b"\
+open 2 c 1 0 9
+#> 2 ok
+insert 1 1 0 a
+#> 1 ok
+commit 1
+#> 1 committed 1
+open 3 e 1 0 0
+#> 3 ok
+fetch 3 e 1
+#> 3 row 0 a
+insert 1 1 1 b
+#> 1 ok
+commit 1
+#> 1 committed 2
+#* 3 17
+update 1 1 1 b
+#> 1 ok
+commit 1
+#> 1 committed @
+#.
+fetch 2 c 1
+#> 2 end
+marks
+#> segment 0 writes 17 lost 1
+";
+
+// A reader comes while 46 changes of a transaction that runs want 47 groups to be put back, behind 48 groups of the log.
+// In a log of 97 slots that and its own group have just room; in one of 96 it leaves the home as it is.
+#[test]
+fn reader_has_room(rt: HostRuntime) -> Result<(), Fail> {
+    let rows: [(&str, &str, &[u8]); 2] = [
+        (
+            "reader has room",
+            "f format tables=1 blocks=2 segments=1 log=97",
+            b"#> 2 end\n",
+        ),
+        (
+            "reader is held back",
+            "f format tables=1 blocks=2 segments=1 log=96",
+            b"#> 2 too old 0 1\n",
+        ),
+    ];
+    for (name, format, told) in rows {
+        let file = formatted(rt.alloc(), format)?;
+        let mut dialogue = READER_BESIDE_CHANGES.to_vec(rt.alloc())?;
+        dialogue.extend_from_slice(told)?;
+        check_each(&rt, rt.alloc(), &file, &[(name, dialogue.as_slice())])?;
+    }
+    Ok(())
+}
+
+const READER_BESIDE_CHANGES: &[u8] = b"\
+open 2 c 1 0 9
+#> 2 ok
+insert 1 1 0 a
+#> 1 ok
+commit 1
+#> 1 committed 1
+insert 4 1 1 b
+#> 4 ok
+#* 1 45
+update 4 1 1 b
+#> 4 ok
+#.
+open 3 e 1 0 0
+#> 3 ok
+fetch 3 e 1
+#> 3 row 0 a
+commit 4
+#> 4 committed 2
+#* 3 17
+update 1 1 1 c
+#> 1 ok
+commit 1
+#> 1 committed @
+#.
+fetch 2 c 1
 ";
 
 // A commit, and an update without one that a checkpoint writes.
@@ -1571,7 +1654,7 @@ fn bad_files_and_words(rt: HostRuntime) -> Result<(), Fail> {
     let records = of_version(rt.alloc(), &file, 101)?;
     let open_gate = with_byte(rt.alloc(), &file, 8_192, 1)?;
     let format_none = "f format tables=0 blocks=1 segments=1 log=64";
-    let rows: [(&str, &[u8], u8); 11] = [
+    let rows: [(&str, &[u8], u8); 17] = [
         (RUN, b"", 5),
         (RUN, b"x", 5),
         (RUN, cut, 5),
@@ -1583,6 +1666,12 @@ fn bad_files_and_words(rt: HostRuntime) -> Result<(), Fail> {
         ("f run frames=4097", &file, 1),
         (format_none, &file, 1),
         (format_none, b"", 1),
+        ("f gen 5", b"", 5),
+        ("f gen 5", cut, 5),
+        ("f gen", &file, 1),
+        ("f gen 05", &file, 1),
+        ("f gen 1000001", &file, 1),
+        ("f gen 5 more", &file, 1),
     ];
     for (line, bytes, code) in rows {
         let end = run_over(rt.alloc(), line, bytes, b"commit 1\n", NONE)?;
