@@ -31,6 +31,10 @@ use Rattle.rb_segment.specs.Moves.{taken_back}
 use Rattle.rb_undo.specs.Backs.{back_patches, header_for, TakesBack}
 use Rattle.rb_undoblock.specs.declared.record.UndoRecord.{UndoRecord}
 
+-- no group more
+pub plus_none : (a b : ℕ) → a ≡ b + 0 → a ≡ b
+plus_none a b is = omega (arith, is)
+
 -- the patches of a home leave room for that of a table slot
 pub home_short : (block c i : ℕ) (cell : Cell) (entry : Entry) (none home : List Patch) → none ≡ [] → home ≡ none ++ home_patches block c cell i entry → IsCell cell → group_length home + 72 ≤ 2000
 home_short block c i cell entry none home begun changed sound = rw (changed, begun) (omega (arith, length-cell cell sound))

@@ -1,7 +1,7 @@
 use Rattle.std.proofs.Common.{◌≡◌, ◌+◌, ◌<◌, ◌≤◌, ◌^◌, ℕ, Bool, List, [], ◌++◌, true, not, if◌then◌else◌, Option, Result, Err, IfErr, refl, ap, sym, subst, ◌∙◌, arith}
 use Rattle.std.specs.Prelude.{is_some}
 use Rattle.std.specs.List.{AllByRecursion}
-use Rattle.std.proofs.lemmas.Result.{err_from_is_err_and}
+use Rattle.std.proofs.lemmas.Result.{err_from_is_err_and, IfOk-from_err}
 use Rattle.rb_attempt.proofs.Causes.{both_ways, fails_same, log_refuses, logs_on, takes_writer}
 use Rattle.rb_attempt.proofs.Choices.{chain_short, choice_agrees, none_agrees}
 use Rattle.rb_attempt.proofs.Headers.{ready_is, turned_may, young_at}
@@ -16,7 +16,7 @@ use Rattle.rb_attempt.specs.declared.home.Place.{Place}
 use Rattle.rb_base.proofs.Each.{all_so}
 use Rattle.rb_base.specs.Blocks.{block_of, header_block, home_block, shape_blocks, table_blocks, written_to, AreWithin}
 use Rattle.rb_base.specs.Groups.{Patch}
-use Rattle.rb_base.specs.Logs.{more_logs}
+use Rattle.rb_base.specs.Logs.{Logs, more_logs}
 use Rattle.rb_base.specs.Stores.{room_of}
 use Rattle.rb_base.specs.declared.ids.Xid.{Xid}
 use Rattle.rb_base.specs.declared.shape.Shape.{Shape}
@@ -31,6 +31,9 @@ use Rattle.rb_segment.specs.Header.{header_of}
 use Rattle.rb_segment.specs.Segments.{owed_in}
 use Rattle.rb_standing.specs.Standing.{env_of}
 use Rattle.rb_attempt.proofs.change.prepare.Goals as goal
+
+plus_none : (a b : ℕ) → a ≡ b + 0 → a ≡ b
+plus_none a b is = omega (arith, is)
 
 pub returns-in_err-cell-clause-cause : goal.returns-in_err-cell-clause-cause
 returns-in_err-cell-clause-cause g c told young may going =
@@ -303,3 +306,61 @@ returns-clause-logs g c =
     more_logs s old c.writer.new.store c.check_room.new.store [] [] true
     (more_logs s old c.clean_home.new.store c.writer.new.store [] [] true c.in_ok-clean_home.ensures.logs c.in_ok-xid.ensures.logs)
     c.in_ok-check_room.ensures.logs
+
+pub returns-in_err-cell-clause-logs : goal.returns-in_err-cell-clause-logs
+returns-in_err-cell-clause-logs g c =
+    let s = g.S.Store in
+    let fault = c.in_err-cell.field-0.0 in
+    let p = err_from_is_err_and c.from_residual-in_err-cell.result c.from_residual-in_err-cell.ensures.1 in
+    logs_on s c.args.store.now c.clean_home.new.store Xid ℕ c.from_residual-in_err-cell.result fault (p.1 ∙ ap (λ (f : AttemptFault). Err f) p.2)
+    (subst (λ (b : Bool). Logs s c.args.store.now c.clean_home.new.store [] (not b)) (sym c.in_err-cell.ensures.going) c.in_ok-clean_home.ensures.logs)
+
+pub returns-in_err-cell-clause-made : goal.returns-in_err-cell-clause-made
+returns-in_err-cell-clause-made g c told young = IfOk-from_err c.from_residual-in_err-cell.result _ c.from_residual-in_err-cell.ensures.0
+
+pub returns-in_err-cell-clause-takes : goal.returns-in_err-cell-clause-takes
+returns-in_err-cell-clause-takes g c told young = IfOk-from_err c.from_residual-in_err-cell.result _ c.from_residual-in_err-cell.ensures.0
+
+pub returns-in_err-cell-clause-kept : goal.returns-in_err-cell-clause-kept
+returns-in_err-cell-clause-kept g c told = IfOk-from_err c.from_residual-in_err-cell.result _ c.from_residual-in_err-cell.ensures.0
+
+pub returns-in_err-xid-clause-made : goal.returns-in_err-xid-clause-made
+returns-in_err-xid-clause-made g c told young = IfOk-from_err c.from_residual-in_err-xid.result _ c.from_residual-in_err-xid.ensures.0
+
+pub returns-in_err-xid-clause-takes : goal.returns-in_err-xid-clause-takes
+returns-in_err-xid-clause-takes g c told young = IfOk-from_err c.from_residual-in_err-xid.result _ c.from_residual-in_err-xid.ensures.0
+
+pub returns-in_err-xid-clause-kept : goal.returns-in_err-xid-clause-kept
+returns-in_err-xid-clause-kept g c told = IfOk-from_err c.from_residual-in_err-xid.result _ c.from_residual-in_err-xid.ensures.0
+
+pub returns-in_err-put_change-clause-made : goal.returns-in_err-put_change-clause-made
+returns-in_err-put_change-clause-made g c told young = IfOk-from_err c.from_residual-in_err-put_change.result _ c.from_residual-in_err-put_change.ensures.0
+
+pub returns-in_err-put_change-clause-takes : goal.returns-in_err-put_change-clause-takes
+returns-in_err-put_change-clause-takes g c told young = IfOk-from_err c.from_residual-in_err-put_change.result _ c.from_residual-in_err-put_change.ensures.0
+
+pub returns-in_err-put_change-clause-kept : goal.returns-in_err-put_change-clause-kept
+returns-in_err-put_change-clause-kept g c told = IfOk-from_err c.from_residual-in_err-put_change.result _ c.from_residual-in_err-put_change.ensures.0
+
+pub returns-in_err-check_room-clause-made : goal.returns-in_err-check_room-clause-made
+returns-in_err-check_room-clause-made g c told young = IfOk-from_err c.from_residual-in_err-check_room.result _ c.from_residual-in_err-check_room.ensures.0
+
+pub returns-in_err-check_room-clause-takes : goal.returns-in_err-check_room-clause-takes
+returns-in_err-check_room-clause-takes g c told young = IfOk-from_err c.from_residual-in_err-check_room.result _ c.from_residual-in_err-check_room.ensures.0
+
+pub returns-in_err-check_room-clause-kept : goal.returns-in_err-check_room-clause-kept
+returns-in_err-check_room-clause-kept g c told = IfOk-from_err c.from_residual-in_err-check_room.result _ c.from_residual-in_err-check_room.ensures.0
+
+pub returns-clause-kept : goal.returns-clause-kept
+returns-clause-kept g c told =
+    let s = g.S.Store in
+    let old = c.args.store.now in
+    let late = c.writer.new.store in
+    let shape = s.shape_of old in
+    let logs = more_logs s old c.clean_home.new.store late [] [] true c.in_ok-clean_home.ensures.logs c.in_ok-xid.ensures.logs in
+    let number : s.lsn late ≡ s.lsn old = plus_none (s.lsn late) (s.lsn old) (logs.number refl) in
+    let room = ap (λ (o : Option ℕ). room_of o (s.lsn late)) logs.same_slots ∙ ap (room_of (s.slots old)) number in
+    let owed = ap (λ (k : Shape). owed_in k (s.blocks late)) logs.same_shape ∙ ap (owed_in shape) (logs.blocks told refl) in
+    subst (λ (n : ℕ). 1 + (owed_in shape (s.blocks old) + (if is_some c.args.ask.now.own then 1 else 2)) ≤ n) room
+    (subst (λ (n : ℕ). 1 + (n + (if is_some c.args.ask.now.own then 1 else 2)) ≤ room_of (s.slots late) (s.lsn late)) owed
+    (subst (λ (b : Bool). 1 + (owed_in (s.shape_of late) (s.blocks late) + (if b then 1 else 2)) ≤ room_of (s.slots late) (s.lsn late)) c.is_some.ensures (c.in_ok-check_room.ensures.kept told)))

@@ -1,10 +1,21 @@
-use Rattle.std.proofs.Common.{ℕ, List, [], true, false, Ok, sym, ◌∙◌, ap}
+use Rattle.std.proofs.Common.{ℕ, List, [], true, false, Ok, Err, sym, ◌∙◌, ap}
 use Rattle.rb_base.specs.Blocks.{block_of}
 use Rattle.rb_base.specs.Logs.{load_logs, more_logs}
 use Rattle.rb_heap.specs.Homes.{home_of}
 use Rattle.rb_attempt.specs.Holding.{cell_of_key, is_row}
 use Rattle.rb_attempt.proofs.Held.{holder_ended, holder_runs, home_at}
 use Rattle.rb_attempt.proofs.holder.find.Goals as goal
+
+pub returns-in_err-load-clause-logs : goal.returns-in_err-load-clause-logs
+returns-in_err-load-clause-logs g c =
+    let load = c.in_err-load.ensures in
+    rw c.from_residual.ensures.0
+    (load_logs g.S.Store c.args.store.now c.load.new.self (Err c.in_err-load.field-0.0) load.shape load.slots load.failed load.counted load.lsn load.blocks load.settles load.any_moment)
+
+pub returns-in_default-clause-logs : goal.returns-in_default-clause-logs
+returns-in_default-clause-logs g c =
+    let load = c.in_ok-load.ensures in
+    load_logs g.S.Store c.args.store.now c.load.new.self (Ok c.in_ok-load.field-0) load.shape load.slots load.failed load.counted load.lsn load.blocks load.settles load.any_moment
 
 pub returns-in_err-look_up-clause-logs : goal.returns-in_err-look_up-clause-logs
 returns-in_err-look_up-clause-logs g c =

@@ -1,12 +1,34 @@
-use Rattle.std.proofs.Common.{◌≡◌, ◌<◌, ◌^◌, ◌++◌, List, ap, sym, subst, ◌∙◌}
+use Rattle.std.proofs.Common.{◌≡◌, ◌<◌, ◌^◌, ◌++◌, ℕ, List, length, length-append, ap, sym, subst, ◌∙◌, arith}
 use Rattle.rb_attempt.specs.Asks.{kind_of}
+use Rattle.rb_base.specs.Blocks.{shape_blocks, table_blocks, AreWithin}
 use Rattle.rb_base.specs.Groups.{Patch}
+use Rattle.rb_base.specs.declared.shape.Shape.{Shape}
+use Rattle.rb_cleanout.proofs.Copies.{all_joined}
 use Rattle.rb_heap.proofs.Reading.{cell_read, entry_read}
 use Rattle.rb_heap.specs.Homes.{empty_cell, home_patches}
 use Rattle.rb_itl.specs.Entries.{free_entry}
 use Rattle.rb_itl.specs.declared.slots.Entry.{Entry}
 use Rattle.rb_standing.specs.Writing.{cell_after, entry_after}
 use Rattle.rb_attempt.proofs.undo.put_change.Goals as goal
+
+home_within : (shape : Shape) (block : ℕ) → block < table_blocks shape → block < shape_blocks shape
+home_within shape block there = omega (arith, there)
+
+some_joined : (front back all : List Patch) → all ≡ front ++ back → 0 < length back → 0 < length all
+some_joined front back all joined some = omega (arith, ap length joined, length-append front back, some)
+
+pub returns-clause-some : goal.returns-clause-some
+returns-clause-some c =
+    let place = c.args.place in
+    some_joined c.add_record.new.group (home_patches place.block place.cell c.new_cell-cell.result place.entry c.new_entry-entry.result) c.change.new.group c.change.ensures.patches (omega arith)
+
+pub returns-clause-within : goal.returns-clause-within
+returns-clause-within c within =
+    let shape = c.args.shape.now in
+    let place = c.args.place in
+    let here = home_within shape place.block c.requires.block in
+    subst (AreWithin shape) (sym c.change.ensures.patches)
+    (all_joined (λ (p : Patch). p.block < shape_blocks shape) c.add_record.new.group (home_patches place.block place.cell c.new_cell-cell.result place.entry c.new_entry-entry.result) (c.in-Ok.ensures.within within) (here, (here, tt)))
 
 pub returns-clause-made : goal.returns-clause-made
 returns-clause-made c young chain =

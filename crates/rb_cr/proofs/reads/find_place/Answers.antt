@@ -1,5 +1,6 @@
-use Rattle.std.proofs.Common.{◌≡◌, ◌<◌, ℕ, List, Option, Some, None, IfSome, IfNone, get_or, sym, ◌∙◌, ap, arith}
+use Rattle.std.proofs.Common.{◌≡◌, ◌<◌, ℕ, List, Option, Some, None, IfSome, IfNone, get_or, sym, ◌∙◌, ap, arith, Ok, Err}
 use Rattle.rb_base.specs.Blocks.{block_of, header_block}
+use Rattle.rb_base.specs.Logs.{load_logs}
 use Rattle.rb_segment.specs.Header.{Segment, header_of, record_in}
 use Rattle.rb_standing.specs.Says.{place_of}
 use Rattle.rb_standing.specs.Standing.{segments_of}
@@ -48,3 +49,19 @@ returns-in-None-clause-none g c = λ told.
     let blocks = s.blocks c.args.store.now in
     let block : c.block-header.result.now ≡ block_of blocks (header_block shape seg) = loaded_is c.block-header.result.now blocks (s.blocks c.load.new.self) c.header_block.result (header_block shape seg) (c.block-header.ensures.block told c.header_block.result c.in_ok-load.ensures.loaded) (c.in_ok-load.ensures.blocks told) c.header_block.ensures.number in
     none_behind c.block-header.result.now (place_of shape c.args.address).index (segments_of shape blocks seg) (header_read shape blocks seg c.block-header.result.now block) (omega (arith, c.writes.ensures, c.in-None.ensures.none))
+
+pub returns-in_err-load-clause-logs : goal.returns-in_err-load-clause-logs
+returns-in_err-load-clause-logs g c =
+    let load = c.in_err-load.ensures in
+    rw c.from_residual.ensures.0
+    (load_logs g.S.Store c.args.store.now c.load.new.self (Err c.in_err-load.field-0.0) load.shape load.slots load.failed load.counted load.lsn load.blocks load.settles load.any_moment)
+
+pub returns-in-Some-clause-logs : goal.returns-in-Some-clause-logs
+returns-in-Some-clause-logs g c =
+    let load = c.in_ok-load.ensures in
+    load_logs g.S.Store c.args.store.now c.load.new.self (Ok c.in_ok-load.field-0) load.shape load.slots load.failed load.counted load.lsn load.blocks load.settles load.any_moment
+
+pub returns-in-None-clause-logs : goal.returns-in-None-clause-logs
+returns-in-None-clause-logs g c =
+    let load = c.in_ok-load.ensures in
+    load_logs g.S.Store c.args.store.now c.load.new.self (Ok c.in_ok-load.field-0) load.shape load.slots load.failed load.counted load.lsn load.blocks load.settles load.any_moment

@@ -1,5 +1,6 @@
-use Rattle.std.proofs.Common.{◌≡◌, ◌∙◌, sym, ap}
+use Rattle.std.proofs.Common.{◌≡◌, ◌∙◌, sym, ap, Ok, Err}
 use Rattle.rb_base.specs.Blocks.{block_of, header_block}
+use Rattle.rb_base.specs.Logs.{load_logs, no_logs}
 use Rattle.rb_base.specs.declared.shape.Shape.{Shape}
 use Rattle.rb_ring.specs.Ring.{lost_number}
 use Rattle.rb_cr.proofs.Beyond.{lost_none, lost_there}
@@ -21,3 +22,17 @@ returns-clause-told g c = λ told.
     let at : one ≡ which = c.header_block.ensures.number ∙ ap (λ (z : Shape). header_block z c.args.seg) c.shape-shape.ensures.shape in
     let block : c.block.result.now ≡ block_of (s.blocks old) which = loaded_is c.block.result.now (s.blocks old) (s.blocks c.load.new.self) one which (c.block.ensures.block told one c.in_ok-load.ensures.loaded) (c.in_ok-load.ensures.blocks told) at in
     c.lost.ensures ∙ (ap lost_number block ∙ sym (lost_there (s.shape_of old) (s.blocks old) c.args.seg))
+
+pub returns-then-seg-shape-clause-logs : goal.returns-then-seg-shape-clause-logs
+returns-then-seg-shape-clause-logs g c = no_logs g.S.Store c.args.store.now c.requires.going
+
+pub returns-in_err-load-clause-logs : goal.returns-in_err-load-clause-logs
+returns-in_err-load-clause-logs g c =
+    let load = c.in_err-load.ensures in
+    rw c.from_residual.ensures.0
+    (load_logs g.S.Store c.args.store.now c.load.new.self (Err c.in_err-load.field-0.0) load.shape load.slots load.failed load.counted load.lsn load.blocks load.settles load.any_moment)
+
+pub returns-clause-logs : goal.returns-clause-logs
+returns-clause-logs g c =
+    let load = c.in_ok-load.ensures in
+    load_logs g.S.Store c.args.store.now c.load.new.self (Ok c.in_ok-load.field-0) load.shape load.slots load.failed load.counted load.lsn load.blocks load.settles load.any_moment

@@ -1,9 +1,20 @@
 use Rattle.std.proofs.Common.{◌≡◌, ◌↔◌, ◌+◌, ◌-◌, ℕ, List, [], true, false, Option, IfSome, refl, subst, arith}
-use Rattle.rb_base.specs.Logs.{more_logs}
+use Rattle.rb_base.specs.Logs.{more_logs, no_logs}
 use Rattle.rb_base.specs.declared.ids.Uba.{Uba}
 use Rattle.rb_segment.specs.Header.{segment_of}
 use Rattle.rb_sound.specs.Active.{Chain}
 use Rattle.rb_sound.proofs.active.chain_sound.Goals as goal
+
+less_none : (n : ℕ) → n ≡ n - 0
+less_none n = omega arith
+
+pub loop-done-init : goal.loop-done-init
+loop-done-init g c = record {
+  logs = no_logs g.S.Store c.args.store.now c.requires.going;
+  so_far = λ told.
+      let all = Chain c.args.shape (segment_of c.args.shape (g.S.Store.blocks c.args.store.now) c.args.xid.seg) c.args.xid in
+      subst (λ (n : ℕ). all c.args.live c.args.newest ↔ all n c.args.newest) (less_none c.args.live) ((λ chain. chain), λ chain. chain);
+}
 
 pub returns-in_err-before-clause-logs : goal.returns-in_err-before-clause-logs
 returns-in_err-before-clause-logs g c =
@@ -29,3 +40,6 @@ loop-done-preserved g c =
           let so_far = inv.so_far told in
           (λ chain. step.0 (so_far.0 chain), λ chain. so_far.1 (step.1 chain));
     }
+
+pub returns-clause-logs : goal.returns-clause-logs
+returns-clause-logs g c = c.loop-done.invariant.logs

@@ -1,10 +1,34 @@
-use Rattle.std.proofs.Common.{ℕ, List, sym, ◌∙◌, ap, subst}
+use Rattle.std.proofs.Common.{ℕ, List, [], true, Ok, Err, sym, ◌∙◌, ap, subst}
 use Rattle.std.proofs.lemmas.Bool.{iff_false}
 use Rattle.rb_base.specs.Blocks.{block_of}
+use Rattle.rb_base.specs.Logs.{Logs, load_logs, no_logs}
 use Rattle.rb_segment.specs.Header.{Header, segment_of}
 use Rattle.rb_sound.specs.Active.{IsLive, IsValid}
 use Rattle.rb_sound.proofs.Chains.{chain_has, chain_next, header_is, named_at}
+use Rattle.rb_sound.proofs.active.previous.Given.{Over}
+use Rattle.rb_sound.proofs.active.previous.Goals.{After-is_live}
 use Rattle.rb_sound.proofs.active.previous.Goals as goal
+
+pub returns-then-not-is_valid-clause-logs : goal.returns-then-not-is_valid-clause-logs
+returns-then-not-is_valid-clause-logs g c = no_logs g.S.Store c.args.store.now c.requires.going
+
+pub returns-in_err-load-clause-logs : goal.returns-in_err-load-clause-logs
+returns-in_err-load-clause-logs g c =
+    let load = c.in_err-load.ensures in
+    rw c.from_residual.ensures.0
+    (load_logs g.S.Store c.args.store.now c.load.new.self (Err c.in_err-load.field-0.0) load.shape load.slots load.failed load.counted load.lsn load.blocks load.settles load.any_moment)
+
+-- the load that went well
+loaded : (g : Over) (c : After-is_live g) → Logs g.S.Store c.args.store.now c.load.new.self [] true
+loaded g c =
+    let load = c.in_ok-load.ensures in
+    load_logs g.S.Store c.args.store.now c.load.new.self (Ok c.in_ok-load.field-0) load.shape load.slots load.failed load.counted load.lsn load.blocks load.settles load.any_moment
+
+pub returns-then-is_live-clause-logs : goal.returns-then-is_live-clause-logs
+returns-then-is_live-clause-logs g c = loaded g (goal.at.returns-then-is_live-clause-logs g c).After-is_live
+
+pub returns-else-is_live-clause-logs : goal.returns-else-is_live-clause-logs
+returns-else-is_live-clause-logs g c = loaded g (goal.at.returns-else-is_live-clause-logs g c).After-is_live
 
 pub returns-then-not-is_valid-clause-none : goal.returns-then-not-is_valid-clause-none
 returns-then-not-is_valid-clause-none g c told chain =

@@ -1,12 +1,19 @@
 use Rattle.std.proofs.Common.{◌≡◌, ◌↔◌, Bool, true, false, refl, sym, ◌∙◌, ap, subst}
 use Rattle.std.proofs.lemmas.Bool.{iff_false, false≢true}
 use Rattle.std.proofs.lemmas.Result.{IfOk-weaker}
+use Rattle.rb_base.specs.Logs.{no_logs}
 use Rattle.rb_base.specs.declared.sizes.TheConstants.{ACTIVE}
 use Rattle.rb_segment.specs.Header.{Header, segment_of, slot_in}
 use Rattle.rb_sound.specs.Active.{Chain, HasBegun, IsActive}
 use Rattle.rb_txntable.specs.declared.slots.TableSlot.{TableSlot}
 use Rattle.rb_sound.proofs.Chains.{active_is, header_is, slot_is}
 use Rattle.rb_sound.proofs.active.slot_sound.Goals as goal
+
+pub returns-then-slot-ne-ACTIVE-clause-logs : goal.returns-then-slot-ne-ACTIVE-clause-logs
+returns-then-slot-ne-ACTIVE-clause-logs g c = no_logs g.S.Store c.args.store.now c.requires.going
+
+pub returns-then-not-has_begun-clause-logs : goal.returns-then-not-has_begun-clause-logs
+returns-then-not-has_begun-clause-logs g c = no_logs g.S.Store c.args.store.now c.requires.going
 
 pub returns-then-slot-ne-ACTIVE-clause-told : goal.returns-then-slot-ne-ACTIVE-clause-told
 returns-then-slot-ne-ACTIVE-clause-told g c told =

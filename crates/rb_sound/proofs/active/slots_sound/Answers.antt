@@ -1,10 +1,24 @@
-use Rattle.std.proofs.Common.{◌≡◌, ℕ, List, [], true, false, refl, subst}
-use borrow.Author.Count.{below_more}
-use Rattle.rb_base.specs.Logs.{more_logs}
+use Rattle.std.proofs.Common.{◌≡◌, ℕ, List, [], true, false, Ok, Err, refl, subst}
+use borrow.Author.Count.{below_more, below_none}
+use Rattle.rb_base.specs.Logs.{load_logs, more_logs}
 use Rattle.rb_base.specs.declared.sizes.TheConstants.{ACTIVE}
 use Rattle.rb_segment.specs.Header.{segment_of, slot_in}
 use Rattle.rb_sound.specs.Active.{IsActive}
 use Rattle.rb_sound.proofs.active.slots_sound.Goals as goal
+
+pub returns-in_err-load-clause-logs : goal.returns-in_err-load-clause-logs
+returns-in_err-load-clause-logs g c =
+    let load = c.in_err-load.ensures in
+    rw c.from_residual.ensures.0
+    (load_logs g.S.Store c.args.store.now c.load.new.self (Err c.in_err-load.field-0.0) load.shape load.slots load.failed load.counted load.lsn load.blocks load.settles load.any_moment)
+
+pub loop-i-init : goal.loop-i-init
+loop-i-init g c =
+    let load = c.in_ok-load.ensures in
+    record {
+      logs = load_logs g.S.Store c.args.store.now c.load.new.self (Ok c.in_ok-load.field-0) load.shape load.slots load.failed load.counted load.lsn load.blocks load.settles load.any_moment;
+      so_far = λ told. below_none (λ (k : ℕ). (slot_in (segment_of c.args.shape (g.S.Store.blocks c.args.store.now) c.args.g).header k).state ≡ ACTIVE → IsActive c.args.shape c.args.g (segment_of c.args.shape (g.S.Store.blocks c.args.store.now) c.args.g) k);
+    }
 
 pub returns-in_err-slot_sound-clause-logs : goal.returns-in_err-slot_sound-clause-logs
 returns-in_err-slot_sound-clause-logs g c =
@@ -26,3 +40,6 @@ loop-i-preserved g c =
           below_more (λ (k : ℕ). (slot_in (segment_of shape (s.blocks old) c.args.g).header k).state ≡ ACTIVE → IsActive shape c.args.g (segment_of shape (s.blocks old) c.args.g) k) c.loop-i.i (inv.so_far told)
           (subst (λ (b : List (List ℕ)). (slot_in (segment_of shape b c.args.g).header c.loop-i.i).state ≡ ACTIVE → IsActive shape c.args.g (segment_of shape b c.args.g) c.loop-i.i) (inv.logs.blocks told refl) here);
     }
+
+pub returns-clause-logs : goal.returns-clause-logs
+returns-clause-logs g c = c.loop-i.invariant.logs

@@ -1,8 +1,14 @@
 use Rattle.rb_layout.specs.Regions.{file_version}
-use Rattle.std.proofs.Common.{◌+◌, ◌-◌, ◌∙◌, take, replicate, arith}
+use Rattle.std.proofs.Common.{◌≡◌, ◌≤◌, ◌+◌, ◌-◌, ◌∙◌, ℕ, min, take, replicate, arith}
 use Rattle.std.proofs.lemmas.List.{take-replicate}
-use Rattle.rb_store.proofs.Units.{first_written, zeros_written}
+use Rattle.rb_store.proofs.Units.{first_written, length_so_far, zeros_written}
 use Rattle.rb_store.proofs.new_file.write_units.Goals as goal
+
+few_taken : (left most count : ℕ) → count ≡ min left most → count ≤ most
+few_taken left most count is = omega (arith, is)
+
+at_end : (at long : ℕ) → 2048 ≤ at → long ≡ 24 + (at - 24) → at ≤ long
+at_end at long begun is = omega (arith, begun, is)
 
 pub loop-at-init : goal.loop-at-init
 loop-at-init g c = record {
@@ -23,3 +29,11 @@ loop-at-preserved g c =
           (inv.written told) (omega (arith, inv.begun)) (take-replicate count 65536 0 (omega (arith, c.min-count.ensures))) (c.in_ok-write_at-2.ensures.written told) (omega (arith, inv.begun));
       still = c.in_ok-write_at-2.ensures.counted.still ∙ inv.still;
     }
+
+pub slice_bounds-empty-end : goal.slice_bounds-empty-end
+slice_bounds-empty-end g c = few_taken (c.length-end.result - c.loop-at.at) 65536 c.min-count.result c.min-count.ensures
+
+pub write_at-requires-in-loop-at : goal.write_at-requires-in-loop-at
+write_at-requires-in-loop-at g c told =
+    let inv = c.loop-at.invariant in
+    at_end c.loop-at.at _ inv.begun (length_so_far file_version (g.D.Disk.content c.loop-at.disk) c.args.layout.now (c.loop-at.at - 24) (inv.written told))

@@ -1,4 +1,5 @@
 use Rattle.std.proofs.Common.{◌≡◌, ◌+◌, ◌∷◌, [], ℕ, List, false, true, not, Ok, Err, inl, inr, refl, ap, sym, subst, ◌∙◌, arith}
+use Rattle.std.proofs.lemmas.Result.{IfOk-from_err}
 use Rattle.std.specs.Result.{is_err}
 use Rattle.rb_base.specs.Blocks.{after_group, block_of, header_block, written_to, AreBlocks, IsShape}
 use Rattle.rb_base.specs.Groups.{Patch}
@@ -9,7 +10,7 @@ use Rattle.rb_itl.specs.Entries.{entry_of, IsEntry}
 use Rattle.rb_segment.specs.Calls.{slot_patches}
 use Rattle.rb_segment.specs.Header.{header_of}
 use Rattle.rb_segment.specs.Moves.{taken_back}
-use Rattle.rb_undo.proofs.TakenBack.{home_short, group_made, is_group, takes_back, on_ok, logs_ok}
+use Rattle.rb_undo.proofs.TakenBack.{home_short, group_made, is_group, takes_back, on_ok, logs_ok, plus_none}
 use Rattle.rb_undo.proofs.put_back.back.Given.{Over}
 use Rattle.rb_undo.specs.Backs.{back_patches, header_for, newest_record, ArePutBack, CanBack, TakesBack}
 use Rattle.rb_undoblock.specs.declared.record.UndoRecord.{UndoRecord}
@@ -60,6 +61,22 @@ returns-in_default-clause-nothing g c told not =
 
 pub take_back-requires-clause-room : goal.take_back-requires-clause-room
 take_back-requires-clause-room g c = home_short _ _ _ _ _ _ _ c.new.ensures c.change.ensures.patches c.change.ensures.cell_sound
+
+-- the loads change neither the number of the last group nor the room
+slots_kept : (g : Over) (c : goal.After-apply-arg-1 g) → g.S.Store.slots c.newest.new.store ≡ g.S.Store.slots c.args.store.now
+slots_kept g c = c.in_ok-undo.ensures.logs.same_slots ∙ c.in_ok-load.ensures.slots
+
+number_kept : (g : Over) (c : goal.After-apply-arg-1 g) → g.S.Store.lsn c.newest.new.store ≡ g.S.Store.lsn c.args.store.now
+number_kept g c = plus_none (g.S.Store.lsn c.newest.new.store) (g.S.Store.lsn c.load.new.self) (c.in_ok-undo.ensures.logs.number refl) ∙ c.in_ok-load.ensures.lsn
+
+pub apply-requires-clause-going : goal.apply-requires-clause-going
+apply-requires-clause-going g c = c.in_ok-undo.ensures.logs.failed
+
+pub apply-requires-clause-room : goal.apply-requires-clause-room
+apply-requires-clause-room g c = rw (slots_kept g c, number_kept g c) c.requires.room
+
+pub apply-requires-clause-few : goal.apply-requires-clause-few
+apply-requires-clause-few g c = rw (number_kept g c) c.requires.few
 
 -- the copy is of the header's block
 copied : (g : Over) (c : goal.After-apply g) → g.S.Store.tells → c.copy_from_slice.new.self ≡ block_of (g.S.Store.blocks c.args.store.now) (header_block (g.S.Store.shape_of c.args.store.now) c.args.xid.seg)
@@ -155,3 +172,24 @@ returns-clause-means g c told can =
     on_ok c.apply.result
     (λ (logs : Logs s old new (c.take_back.new.group ∷ []) true). subst (TakesBack shape c.args.xid u (s.blocks old)) (sym (logs.blocks told refl)) (makes g c told).takes)
     (logs_ok s old new (c.take_back.new.group ∷ []) c.apply.result (applied g c))
+
+pub returns-clause-nothing : goal.returns-clause-nothing
+returns-clause-nothing g c told none = absurd (none (can g c told))
+
+pub returns-in_err-load-clause-put_back : goal.returns-in_err-load-clause-put_back
+returns-in_err-load-clause-put_back g c told may = IfOk-from_err c.from_residual.result _ c.from_residual.ensures.0
+
+pub returns-in_err-load-clause-means : goal.returns-in_err-load-clause-means
+returns-in_err-load-clause-means g c told may = IfOk-from_err c.from_residual.result _ c.from_residual.ensures.0
+
+pub returns-in_err-load-clause-nothing : goal.returns-in_err-load-clause-nothing
+returns-in_err-load-clause-nothing g c told none = IfOk-from_err c.from_residual.result _ c.from_residual.ensures.0
+
+pub returns-in_err-undo-clause-put_back : goal.returns-in_err-undo-clause-put_back
+returns-in_err-undo-clause-put_back g c told may = IfOk-from_err c.from_residual-in_err-undo.result _ c.from_residual-in_err-undo.ensures.0
+
+pub returns-in_err-undo-clause-means : goal.returns-in_err-undo-clause-means
+returns-in_err-undo-clause-means g c told may = IfOk-from_err c.from_residual-in_err-undo.result _ c.from_residual-in_err-undo.ensures.0
+
+pub returns-in_err-undo-clause-nothing : goal.returns-in_err-undo-clause-nothing
+returns-in_err-undo-clause-nothing g c told none = IfOk-from_err c.from_residual-in_err-undo.result _ c.from_residual-in_err-undo.ensures.0

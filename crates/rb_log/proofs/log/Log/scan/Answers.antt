@@ -1,8 +1,9 @@
-use Rattle.std.proofs.Common.{◌≡◌, ◌≢◌, ◌+◌, ◌-◌, ◌*◌, ◌++◌, true, [], List, ℕ, length, take, drop, slice_index, refl, subst, sym, ◌∙◌, ap, arith, inr}
+use Rattle.std.proofs.Common.{◌≡◌, ◌≢◌, ◌<◌, Result, Ok, Err, OnErr, ◌+◌, ◌-◌, ◌*◌, ◌++◌, true, [], List, ℕ, length, take, drop, slice_index, refl, subst, sym, ◌∙◌, ap, arith, inr}
+use Rattle.std.specs.Vec.{vec_capacity}
 use Rattle.rb_layout.specs.declared.layout.Layout.{Layout}
-use Rattle.rb_log.specs.GroupSlots.{AreFrom, HasGroup, HoldsGroup, LogState}
+use Rattle.rb_log.specs.GroupSlots.{AreFrom, HasGroup, HoldsGroup, IsLogMemory, LogState}
 use Rattle.rb_log.specs.Slots.{slot_at}
-use Rattle.rb_log.proofs.ReadAhead.{filled_whole, none_ahead, unit_ahead, rest_ahead, are_from}
+use Rattle.rb_log.proofs.ReadAhead.{filled_whole, none_ahead, unit_ahead, rest_ahead, are_from, are_read, kept_ahead}
 use Rattle.rb_log.proofs.log.Log.scan.Given.{Over}
 use Rattle.rb_log.proofs.log.Log.scan.Goals.{After-read_ahead, After-group_of}
 use Rattle.rb_log.proofs.log.Log.scan.Goals as goal
@@ -21,6 +22,56 @@ returns-then-self-clause-ahead g c told =
 -- the buffer is as it was filled
 whole : (g : Over) (c : After-read_ahead g) → take c.self.inside.buffer.len (c.read_ahead.new.buffer ++ drop (length c.read_ahead.new.buffer) c.self.inside.buffer.items) ≡ c.read_ahead.new.buffer
 whole g c = filled_whole c.read_ahead.new.buffer c.self.inside.buffer.items c.self.inside.buffer.len (omega (arith, c.read_ahead.auto.buffer, c.deref_mut.ensures.len))
+
+-- what was read ahead before the call
+pub read_ahead-requires-clause-ahead : goal.read_ahead-requires-clause-ahead
+read_ahead-requires-clause-ahead g c told =
+    let a = c.self.inside in
+    ap (drop (65536 - 2048 * a.ahead)) c.deref_mut.ensures.value ∙ are_read (g.D.Disk.content c.args.disk.now) a.buffer.items a.used a.ahead c.self.invariant.few c.self.invariant.units (subst (λ (s : LogState). AreFrom (g.D.Disk.content c.args.disk.now) s.used s.ahead) (sym c.self.view_is) (c.requires.ahead told))
+
+-- an error leaves it
+kept : (g : Over) (c : After-read_ahead g) → let a = c.self.inside in drop (65536 - 2048 * a.ahead) (take a.buffer.len (c.read_ahead.new.buffer ++ drop (length c.read_ahead.new.buffer) a.buffer.items)) ≡ drop (65536 - 2048 * a.ahead) a.buffer.items
+kept g c =
+    let a = c.self.inside in
+    ap (drop (65536 - 2048 * a.ahead)) (whole g c)
+    ∙ kept_ahead c.read_ahead.new.buffer a.buffer.items a.ahead c.read_ahead.ensures.buffer c.self.invariant.units (λ (some : 0 < a.ahead). c.read_ahead.ensures.kept some ∙ c.deref_mut.ensures.value)
+
+kept_ahead_from : (g : Over) (c : After-read_ahead g) → g.D.Disk.tells → let a = c.self.inside in AreFrom (g.D.Disk.content c.args.disk.now) a.used (drop (65536 - 2048 * a.ahead) (take a.buffer.len (c.read_ahead.new.buffer ++ drop (length c.read_ahead.new.buffer) a.buffer.items)))
+kept_ahead_from g c told = subst (AreFrom (g.D.Disk.content c.args.disk.now) c.self.inside.used) (sym (kept g c)) (subst (λ (s : LogState). AreFrom (g.D.Disk.content c.args.disk.now) s.used s.ahead) (sym c.self.view_is) (c.requires.ahead told))
+
+kept_view : (g : Over) (c : After-read_ahead g) → let a = c.self.inside in
+    let now : LogState = record { layout = a.layout; used = a.used; pending = a.pending.items; scanned = a.scanned; ahead = drop (65536 - 2048 * a.ahead) (take a.buffer.len (c.read_ahead.new.buffer ++ drop (length c.read_ahead.new.buffer) a.buffer.items)) } in now ≡ c.args.self.now
+kept_view g c =
+    let a = c.self.inside in
+    ap (λ (bytes : List ℕ). record { layout = a.layout; used = a.used; pending = a.pending.items; scanned = a.scanned; ahead = bytes }) (kept g c) ∙ c.self.view_is
+
+kept_memory : (g : Over) (c : After-read_ahead g) → let a = c.self.inside in IsLogMemory a.layout a.used a.pending.items a.scanned (take a.buffer.len (c.read_ahead.new.buffer ++ drop (length c.read_ahead.new.buffer) a.buffer.items)) a.ahead (vec_capacity a.pending)
+kept_memory g c =
+    let a = c.self.inside in
+    let i = c.self.invariant in
+    subst (λ (bytes : List ℕ). IsLogMemory a.layout a.used a.pending.items a.scanned bytes a.ahead (vec_capacity a.pending)) (sym (whole g c)) (record { below = i.below; enough = i.enough; each = i.each; none = i.none; units = c.read_ahead.ensures.buffer; few = i.few; within = i.within; ended = i.ended })
+
+on_err : {T E : Type 0} (r : Result T E) (P : Type 0) → P → OnErr r P
+on_err (Ok x) P holds = tt
+on_err (Err e) P holds = holds
+
+pub invariant_of-self-in_err-ahead : goal.invariant_of-self-in_err-ahead
+invariant_of-self-in_err-ahead g c = kept_memory g (goal.at.invariant_of-self-in_err-ahead g c).After-read_ahead
+
+pub returns-in_err-ahead-clause-ahead : goal.returns-in_err-ahead-clause-ahead
+returns-in_err-ahead-clause-ahead g c told = kept_ahead_from g (goal.at.returns-in_err-ahead-clause-ahead g c).After-read_ahead told
+
+pub returns-in_err-ahead-clause-stays : goal.returns-in_err-ahead-clause-stays
+returns-in_err-ahead-clause-stays g c = on_err c.from_residual.result _ (kept_view g (goal.at.returns-in_err-ahead-clause-stays g c).After-read_ahead)
+
+pub invariant_of-self-in_err-group : goal.invariant_of-self-in_err-group
+invariant_of-self-in_err-group g c = kept_memory g (goal.at.invariant_of-self-in_err-group g c).After-read_ahead
+
+pub returns-in_err-group-clause-ahead : goal.returns-in_err-group-clause-ahead
+returns-in_err-group-clause-ahead g c told = kept_ahead_from g (goal.at.returns-in_err-group-clause-ahead g c).After-read_ahead told
+
+pub returns-in_err-group-clause-stays : goal.returns-in_err-group-clause-stays
+returns-in_err-group-clause-stays g c = on_err c.from_residual-in_err-group.result _ (kept_view g (goal.at.returns-in_err-group-clause-stays g c).After-read_ahead)
 
 -- the unit that is looked at
 unit : (g : Over) (c : After-group_of g) → g.D.Disk.tells → take (2048 * (32 - c.in_ok-ahead.ahead) + 2048 - 2048 * (32 - c.in_ok-ahead.ahead)) (drop (2048 * (32 - c.in_ok-ahead.ahead)) c.deref.result.now) ≡ slot_at (g.D.Disk.content c.args.disk.now) c.args.self.now.used

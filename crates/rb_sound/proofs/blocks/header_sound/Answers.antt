@@ -1,0 +1,14 @@
+use Rattle.std.proofs.Common.{Ok, Err}
+use Rattle.rb_base.specs.Logs.{load_logs}
+use Rattle.rb_sound.proofs.blocks.header_sound.Goals as goal
+
+pub returns-in_err-load-clause-logs : goal.returns-in_err-load-clause-logs
+returns-in_err-load-clause-logs g c =
+    let load = c.in_err-load.ensures in
+    rw c.from_residual.ensures.0
+    (load_logs g.S.Store c.args.store.now c.load.new.self (Err c.in_err-load.field-0.0) load.shape load.slots load.failed load.counted load.lsn load.blocks load.settles load.any_moment)
+
+pub returns-clause-logs : goal.returns-clause-logs
+returns-clause-logs g c =
+    let load = c.in_ok-load.ensures in
+    load_logs g.S.Store c.args.store.now c.load.new.self (Ok c.in_ok-load.field-0) load.shape load.slots load.failed load.counted load.lsn load.blocks load.settles load.any_moment

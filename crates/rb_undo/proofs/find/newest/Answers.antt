@@ -1,0 +1,25 @@
+use Rattle.std.proofs.Common.{Ok, Err}
+use Rattle.rb_base.specs.Logs.{load_logs, no_logs}
+use Rattle.rb_undo.proofs.find.newest.Goals as goal
+
+pub returns-in_default-clause-logs : goal.returns-in_default-clause-logs
+returns-in_default-clause-logs g c = no_logs g.S.Store c.args.store.now c.requires.going
+
+pub returns-then-not-is_place-clause-logs : goal.returns-then-not-is_place-clause-logs
+returns-then-not-is_place-clause-logs g c = no_logs g.S.Store c.args.store.now c.requires.going
+
+pub returns-in_err-load-clause-logs : goal.returns-in_err-load-clause-logs
+returns-in_err-load-clause-logs g c =
+    let load = c.in_err-load.ensures in
+    rw c.from_residual.ensures.0
+    (load_logs g.S.Store c.args.store.now c.load.new.self (Err c.in_err-load.field-0.0) load.shape load.slots load.failed load.counted load.lsn load.blocks load.settles load.any_moment)
+
+pub returns-then-not-has_home-clause-logs : goal.returns-then-not-has_home-clause-logs
+returns-then-not-has_home-clause-logs g c =
+    let load = c.in_ok-load.ensures in
+    load_logs g.S.Store c.args.store.now c.load.new.self (Ok c.in_ok-load.field-0) load.shape load.slots load.failed load.counted load.lsn load.blocks load.settles load.any_moment
+
+pub returns-clause-logs : goal.returns-clause-logs
+returns-clause-logs g c =
+    let load = c.in_ok-load.ensures in
+    load_logs g.S.Store c.args.store.now c.load.new.self (Ok c.in_ok-load.field-0) load.shape load.slots load.failed load.counted load.lsn load.blocks load.settles load.any_moment
