@@ -1,5 +1,5 @@
-//! Command lines over a disk in memory, without a script: one that makes a file, some that make commands, and those that
-//! end otherwise.
+//! Command lines over a disk in memory, without a script: one that makes a file, some that make commands, and those
+//! that end otherwise.
 use crate::doubles::{FORMAT_LARGE, Failing, NONE, formatted, run_on, run_over};
 use rb_memdisk::MemDisk;
 use std::test::Fail;

@@ -1548,8 +1548,8 @@ marks
 #> segment 0 writes 17 lost 1
 ";
 
-// A reader comes while 46 changes of a transaction that runs want 47 groups to be put back, behind 48 groups of the log.
-// In a log of 97 slots that and its own group have just room; in one of 96 it leaves the home as it is.
+// A reader comes while 46 changes of a transaction that runs want 47 groups to be put back, behind 48 groups of the
+// log. In a log of 97 slots that and its own group have just room; in one of 96 it leaves the home as it is.
 #[test]
 fn reader_has_room(rt: HostRuntime) -> Result<(), Fail> {
     let rows: [(&str, &str, &[u8]); 2] = [
