@@ -133,7 +133,7 @@ format_source Usage ends = absurd ends
 format_source SourceFault ends = absurd ends
 format_source SinkFault ends = absurd ends
 format_source NotAStore ends = absurd ends
-format_source NoMemory ends = absurd ends
+format_source NoMemory ends = refl
 format_source TooLong ends = absurd ends
 
 pub format_sink : (s : Status) → EndsFormat s → by_sink s ≡ false
@@ -144,7 +144,7 @@ format_sink Usage ends = absurd ends
 format_sink SourceFault ends = absurd ends
 format_sink SinkFault ends = absurd ends
 format_sink NotAStore ends = absurd ends
-format_sink NoMemory ends = absurd ends
+format_sink NoMemory ends = refl
 format_sink TooLong ends = absurd ends
 
 -- the same count by the same tests
