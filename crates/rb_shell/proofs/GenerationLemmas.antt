@@ -42,6 +42,10 @@ module _ {S : Type 0} (s : Ghosts S) (m : Logged) (n : ℕ) (old mid : EngineVie
     cut = λ is. cc;
   }
 
+  pub made_failed : (r : Result Counts Failed) → ((counts : Counts) → r ≡ Ok counts → ⊥) → Made r → MadeOn s old.store mid.store (slots_of (s.slots old.store)) n m tells before held DiskFault
+  made_failed (Ok counts) none d = absurd (none counts refl)
+  made_failed (Err failed) none d = made_not failed d
+
   -- the line of the counts that were given
   pub line_as : (counts : Counts) (now : ℕ) (d : Made (Ok counts)) → now ≡ last_scn d.now.state.commits → summary_text n counts now ≡ line_of n d.ran.answers d.now
   line_as counts now d is = ap (λ (c : Counts). summary_text n c now) d.ran.ends.0 ∙ ap (summary_text n (counts_of d.ran.answers)) is

@@ -101,6 +101,11 @@ cases_end ends.DiskFault = inr (λ is. cc)
 cases_end ends.SinkFault = inr (λ is. cc)
 cases_end ends.TooLong = inr (λ is. cc)
 
+-- where they came to their own end, only the disk may fail behind it
+pub fault_behind : (s : Status) → EndsBy ends.Done s → s ≢ Done → s ≡ DiskFault
+fault_behind s (as_lines is) other = absurd (other is)
+fault_behind s (last_fault end is) other = is
+
 -- the statuses of lines that came to their own end
 
 pub last_source : (e : LinesEnd) (s : Status) → e ≡ ends.Done → EndsBy e s → by_source s ≡ false

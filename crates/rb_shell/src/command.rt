@@ -1,6 +1,6 @@
 //! `run`: the program over a source, a sink and a disk. `main` calls it.
-ghost use Rattle.std.specs.Prelude.{◌≡◌, ◌≢◌, ◌⊎◌, ℕ, ◌<◌, ◌≤◌, Bool, true, false, List, []};
-ghost use Rattle.std.specs.Prelude.{length};
+ghost use Rattle.std.specs.Prelude.{◌≡◌, ◌≢◌, ◌⊎◌, ℕ, ◌<◌, ◌≤◌, Bool, true, false};
+ghost use Rattle.std.specs.Prelude.{List, [], length};
 ghost use Rattle.rb_base.specs.Counts.{IsCountedAs, Rose};
 ghost use Rattle.rb_disk.specs.DiskModel.{Only};
 ghost use Rattle.rb_disk.specs.Moments.{Rests};
@@ -43,7 +43,8 @@ pub fn run<S: Source, K: Sink, D: Disk>(
     ensures other_words { IsUsage words.now → (result.0 ≡ Status.Usage) ⊎ (result.0 ≡ Status.NoMemory) }
     ensures usage_disk { IsUsage words.now → result.1 ≡ disk }
     ensures format_ends { (l : Layout) → AsksFormat words.now l → EndsFormat result.0 }
-    ensures format_memory { (l : Layout) → AsksFormat words.now l → result.0 ≡ Status.NoMemory → result.1 ≡ disk }
+    ensures format_memory { (l : Layout) → AsksFormat words.now l → result.0 ≡ Status.NoMemory
+        → result.1 ≡ disk }
     ensures run_ends { (n : ℕ) → AsksRun words.now n → EndsRun result.0 }
     ensures gen_ends { (n : ℕ) → AsksGen words.now n → EndsGenerator result.0 }
 
@@ -94,13 +95,14 @@ pub fn run<S: Source, K: Sink, D: Disk>(
         (K.held sink.old) (K.held sink.new) (Endures D.Disk disk result.1)
         ⊎ HasRunOut sound (S.left source.old) (S.left source.new) K.tells (K.held sink.old) (K.held sink.new)
         (Endures D.Disk disk result.1)) }
-    ensures cut_off { D.tells → S.tells → K.tells → (n : ℕ) → AsksRun words.now n → result.0 ≡ Status.SinkFault →
-        (sound : IsSound (D.content disk)) → WasCutOff sound (lines_of (S.left source.old)) (K.held sink.old)
-        (K.held sink.new) (Endures D.Disk disk result.1) }
+    ensures cut_off { D.tells → S.tells → K.tells → (n : ℕ) → AsksRun words.now n
+        → result.0 ≡ Status.SinkFault → (sound : IsSound (D.content disk))
+        → WasCutOff sound (lines_of (S.left source.old)) (K.held sink.old) (K.held sink.new)
+        (Endures D.Disk disk result.1) }
 
-    // A run of the generator: all commands were made, those that the machine opened with the file's rows allows, and
-    // what wasn't committed was made last too before the line was put. A fault of the sink leaves a front of it, and one
-    // of the disk, in the opening, in a command or behind them all, nothing of it.
+    // A run of the generator: all commands were made, with answers that the machine opened with the file's rows allows,
+    // and what wasn't committed was made last too before the line was put. A fault of the sink leaves a front of it,
+    // and one of the disk, in the opening, in a command or behind them all, nothing of it.
     ensures generated { D.tells → (n : ℕ) → AsksGen words.now n → result.0 ≡ Status.Done
         → (sound : IsSound (D.content disk)) → HasTold sound n K.tells (K.held sink.old) (K.held sink.new)
         (Lasts D.Disk disk result.1) }
@@ -113,7 +115,8 @@ pub fn run<S: Source, K: Sink, D: Disk>(
     ensures no_line { (n : ℕ) → AsksGen words.now n → result.0 ≡ Status.DiskFault → sink.new ≡ sink.old }
     ensures gen_untouched { D.tells → (n : ℕ) → AsksGen words.now n → AsksNothing result.0
         → LeftAlone D.Disk disk result.1 }
-    ensures gen_store { D.tells → (n : ℕ) → AsksGen words.now n → TellsCounts result.0 → IsStore (D.content disk) }
+    ensures gen_store { D.tells → (n : ℕ) → AsksGen words.now n → TellsCounts result.0
+        → IsStore (D.content disk) }
 
     // Where the script isn't asked for, the file opens as before. It is asked for just where the file is a store.
     ensures source_same { AsksNothing result.0 → source.new ≡ source.old }

@@ -37,7 +37,8 @@ fn put_summary<K: Sink>(
     sink.put(line.as_slice())
 }
 
-/// Makes the commands over an engine, makes last what waits, puts the line that tells of them, and gives the store back.
+/// Makes the commands over an engine, makes last what waits, puts the line that tells of them, and gives the store
+/// back.
 fn make_commands<K: Sink, T: Store>(
     mut engine: Engine<T>,
     commands: u32,
@@ -56,8 +57,9 @@ fn make_commands<K: Sink, T: Store>(
         return (Status::DiskFault, engine.close());
     };
     let now = engine.now();
-    if make_last(&mut engine) == Status::DiskFault {
-        return (Status::DiskFault, engine.close());
+    match make_last(&mut engine) {
+        Status::Done => {}
+        fault => return (fault, engine.close()),
     }
     match put_summary(commands, &counts, now, sink) {
         Ok(()) => (Status::Done, engine.close()),

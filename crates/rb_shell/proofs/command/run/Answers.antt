@@ -14,29 +14,41 @@ use Rattle.rb_shell.proofs.command.run.Given.{Over}
 use Rattle.rb_shell.proofs.command.run.Goals.{After-run_format, After-run_generator, After-run_script}
 use Rattle.rb_shell.proofs.command.run.Goals as goal
 
+-- what the words ask for
+
+asks_format : (g : Over) (c : After-run_format g) → AsksFormat c.args.words.now c.in-Ok-Some-Format.layout
+asks_format g c =
+    let request = rw c.in-Ok-Some-Format.field-0-is at c.in-Ok-Some-Format.ensures.found in
+    rw c.in-Ok-Some-Format.field-0-0-is at request
+
+asks_run : (g : Over) (c : After-run_script g) → AsksRun c.args.words.now c.in-Ok-Some-Run.field-0-0-0
+asks_run g c =
+    let request = rw c.in-Ok-Some-Run.field-0-is at c.in-Ok-Some-Run.ensures.found in
+    rw c.in-Ok-Some-Run.field-0-0-is at request
+
 -- words that ask for a new file ask for no run
 no_run : (g : Over) (c : After-run_format g) (n : ℕ) → AsksRun c.args.words.now n → ⊥
-no_run g c n asked = not_both c.args.words.now c.in-Ok-Some-Format.layout n (rw c.in-Ok-Some-Format.field-0-is at c.in-Ok-Some-Format.ensures.found) asked
+no_run g c n asked = not_both c.args.words.now c.in-Ok-Some-Format.layout n (asks_format g c) asked
 
 -- nor the other way round
 no_format : (g : Over) (c : After-run_script g) (l : Layout) → AsksFormat c.args.words.now l → ⊥
-no_format g c l asked = not_both c.args.words.now l c.in-Ok-Some-Run.field-0-0 asked (rw c.in-Ok-Some-Run.field-0-is at c.in-Ok-Some-Run.ensures.found)
+no_format g c l asked = not_both c.args.words.now l c.in-Ok-Some-Run.field-0-0-0 asked (asks_run g c)
 
 -- nor do they ask for a run of the generator
 no_gen : (g : Over) (c : After-run_format g) (n : ℕ) → AsksGen c.args.words.now n → ⊥
-no_gen g c n asked = not_format_and_gen c.args.words.now c.in-Ok-Some-Format.layout n (rw c.in-Ok-Some-Format.field-0-is at c.in-Ok-Some-Format.ensures.found) asked
+no_gen g c n asked = not_format_and_gen c.args.words.now c.in-Ok-Some-Format.layout n (asks_format g c) asked
 
 gen_no : (g : Over) (c : After-run_script g) (n : ℕ) → AsksGen c.args.words.now n → ⊥
-gen_no g c n asked = not_run_and_gen c.args.words.now c.in-Ok-Some-Run.field-0-0 n (rw c.in-Ok-Some-Run.field-0-is at c.in-Ok-Some-Run.ensures.found) asked
+gen_no g c n asked = not_run_and_gen c.args.words.now c.in-Ok-Some-Run.field-0-0-0 n (asks_run g c) asked
 
 pub returns-in-Ok-Some-Format-clause-usage : goal.returns-in-Ok-Some-Format-clause-usage
 returns-in-Ok-Some-Format-clause-usage g c = λ is. absurd (rw is at c.run_format.ensures.ends)
 
 pub returns-in-Ok-Some-Format-clause-other_words : goal.returns-in-Ok-Some-Format-clause-other_words
-returns-in-Ok-Some-Format-clause-other_words g c = λ none. absurd (none.0 c.in-Ok-Some-Format.layout (rw c.in-Ok-Some-Format.field-0-is at c.in-Ok-Some-Format.ensures.found))
+returns-in-Ok-Some-Format-clause-other_words g c = λ none. absurd (none.0 c.in-Ok-Some-Format.layout (asks_format g c))
 
 pub returns-in-Ok-Some-Format-clause-usage_disk : goal.returns-in-Ok-Some-Format-clause-usage_disk
-returns-in-Ok-Some-Format-clause-usage_disk g c = λ none. absurd (none.0 c.in-Ok-Some-Format.layout (rw c.in-Ok-Some-Format.field-0-is at c.in-Ok-Some-Format.ensures.found))
+returns-in-Ok-Some-Format-clause-usage_disk g c = λ none. absurd (none.0 c.in-Ok-Some-Format.layout (asks_format g c))
 
 pub returns-in-Ok-Some-Format-clause-format_memory : goal.returns-in-Ok-Some-Format-clause-format_memory
 returns-in-Ok-Some-Format-clause-format_memory g c = λ l asked is. absurd (c.run_format.ensures.memory is)
@@ -70,11 +82,11 @@ returns-in-Ok-Some-Format-clause-run_ends g c = λ n asked. absurd (no_run g c n
 
 pub returns-in-Ok-Some-Format-clause-formatted : goal.returns-in-Ok-Some-Format-clause-formatted
 returns-in-Ok-Some-Format-clause-formatted g c = λ told l asked done.
-    c.run_format.ensures.formatted told done ∙ same_file file_version c.args.words.now c.in-Ok-Some-Format.layout l (rw c.in-Ok-Some-Format.field-0-is at c.in-Ok-Some-Format.ensures.found) asked
+    c.run_format.ensures.formatted told done ∙ same_file file_version c.args.words.now c.in-Ok-Some-Format.layout l (asks_format g c) asked
 
 pub returns-in-Ok-Some-Format-clause-durable : goal.returns-in-Ok-Some-Format-clause-durable
 returns-in-Ok-Some-Format-clause-durable g c = λ told l asked done image left.
-    c.run_format.ensures.durable told done image left ∙ same_file file_version c.args.words.now c.in-Ok-Some-Format.layout l (rw c.in-Ok-Some-Format.field-0-is at c.in-Ok-Some-Format.ensures.found) asked
+    c.run_format.ensures.durable told done image left ∙ same_file file_version c.args.words.now c.in-Ok-Some-Format.layout l (asks_format g c) asked
 
 pub returns-in-Ok-Some-Format-clause-was_empty : goal.returns-in-Ok-Some-Format-clause-was_empty
 returns-in-Ok-Some-Format-clause-was_empty g c = λ told l asked is. c.run_format.ensures.was_empty told is
@@ -126,10 +138,10 @@ pub returns-in-Ok-Some-Run-clause-usage : goal.returns-in-Ok-Some-Run-clause-usa
 returns-in-Ok-Some-Run-clause-usage g c = λ is. absurd (rw is at c.run_script.ensures.ends)
 
 pub returns-in-Ok-Some-Run-clause-other_words : goal.returns-in-Ok-Some-Run-clause-other_words
-returns-in-Ok-Some-Run-clause-other_words g c = λ none. absurd (none.1 c.in-Ok-Some-Run.field-0-0 (rw c.in-Ok-Some-Run.field-0-is at c.in-Ok-Some-Run.ensures.found))
+returns-in-Ok-Some-Run-clause-other_words g c = λ none. absurd (none.1 c.in-Ok-Some-Run.field-0-0-0 (asks_run g c))
 
 pub returns-in-Ok-Some-Run-clause-usage_disk : goal.returns-in-Ok-Some-Run-clause-usage_disk
-returns-in-Ok-Some-Run-clause-usage_disk g c = λ none. absurd (none.1 c.in-Ok-Some-Run.field-0-0 (rw c.in-Ok-Some-Run.field-0-is at c.in-Ok-Some-Run.ensures.found))
+returns-in-Ok-Some-Run-clause-usage_disk g c = λ none. absurd (none.1 c.in-Ok-Some-Run.field-0-0-0 (asks_run g c))
 
 pub returns-in-Ok-Some-Run-clause-format_memory : goal.returns-in-Ok-Some-Run-clause-format_memory
 returns-in-Ok-Some-Run-clause-format_memory g c = λ l asked is. absurd (no_format g c l asked)
@@ -180,10 +192,10 @@ pub returns-in-Ok-Some-Run-clause-format_unchanged : goal.returns-in-Ok-Some-Run
 returns-in-Ok-Some-Run-clause-format_unchanged g c = λ told l asked some. absurd (no_format g c l asked)
 
 pub returns-in-Ok-Some-Run-clause-format_source : goal.returns-in-Ok-Some-Run-clause-format_source
-returns-in-Ok-Some-Run-clause-format_source g c = λ none. absurd (none c.in-Ok-Some-Run.field-0-0 (rw c.in-Ok-Some-Run.field-0-is at c.in-Ok-Some-Run.ensures.found))
+returns-in-Ok-Some-Run-clause-format_source g c = λ none. absurd (none c.in-Ok-Some-Run.field-0-0-0 (asks_run g c))
 
 pub returns-in-Ok-Some-Run-clause-format_sink : goal.returns-in-Ok-Some-Run-clause-format_sink
-returns-in-Ok-Some-Run-clause-format_sink g c = λ none gens. absurd (none c.in-Ok-Some-Run.field-0-0 (rw c.in-Ok-Some-Run.field-0-is at c.in-Ok-Some-Run.ensures.found))
+returns-in-Ok-Some-Run-clause-format_sink g c = λ none gens. absurd (none c.in-Ok-Some-Run.field-0-0-0 (asks_run g c))
 
 pub returns-in-Ok-Some-Run-clause-replies : goal.returns-in-Ok-Some-Run-clause-replies
 returns-in-Ok-Some-Run-clause-replies g c = λ disk told n asked is sound. c.run_script.ensures.done disk told is sound
@@ -233,34 +245,34 @@ returns-in-Ok-Some-Run-clause-complete g c = λ disk told n asked sound few same
     (λ is. let all = c.run_script.ensures.too_long disk told is sound in not_longer all.0 _ _ all.2 all.1 few)
 
 pub returns-in-Ok-None-clause-usage : goal.returns-in-Ok-None-clause-usage
-returns-in-Ok-None-clause-usage g c = λ is. (λ l asked. c.in-Ok-None.ensures.none (Format l) asked, λ n asked. c.in-Ok-None.ensures.none (Run n) asked, λ n asked. c.in-Ok-None.ensures.none (Gen n) asked)
+returns-in-Ok-None-clause-usage g c = λ is. (λ l asked. (rw c.in-Ok-None.field-0-is at c.in-Ok-None.ensures.none) (Format l) asked, λ n asked. (rw c.in-Ok-None.field-0-is at c.in-Ok-None.ensures.none) (Run n) asked, λ n asked. (rw c.in-Ok-None.field-0-is at c.in-Ok-None.ensures.none) (Gen n) asked)
 
 pub returns-in-Ok-None-clause-gen_ends : goal.returns-in-Ok-None-clause-gen_ends
-returns-in-Ok-None-clause-gen_ends g c = λ n asked. c.in-Ok-None.ensures.none (Gen n) asked
+returns-in-Ok-None-clause-gen_ends g c = λ n asked. (rw c.in-Ok-None.field-0-is at c.in-Ok-None.ensures.none) (Gen n) asked
 
 pub returns-in-Ok-None-clause-gen_untouched : goal.returns-in-Ok-None-clause-gen_untouched
-returns-in-Ok-None-clause-gen_untouched g c = λ disk n asked is. absurd (c.in-Ok-None.ensures.none (Gen n) asked)
+returns-in-Ok-None-clause-gen_untouched g c = λ disk n asked is. absurd ((rw c.in-Ok-None.field-0-is at c.in-Ok-None.ensures.none) (Gen n) asked)
 
 pub returns-in-Ok-None-clause-complete_gen : goal.returns-in-Ok-None-clause-complete_gen
-returns-in-Ok-None-clause-complete_gen g c = λ told n asked sound a b. absurd (c.in-Ok-None.ensures.none (Gen n) asked)
+returns-in-Ok-None-clause-complete_gen g c = λ told n asked sound a b. absurd ((rw c.in-Ok-None.field-0-is at c.in-Ok-None.ensures.none) (Gen n) asked)
 
 pub returns-in-Ok-None-clause-format_ends : goal.returns-in-Ok-None-clause-format_ends
-returns-in-Ok-None-clause-format_ends g c = λ l asked. c.in-Ok-None.ensures.none (Format l) asked
+returns-in-Ok-None-clause-format_ends g c = λ l asked. (rw c.in-Ok-None.field-0-is at c.in-Ok-None.ensures.none) (Format l) asked
 
 pub returns-in-Ok-None-clause-run_ends : goal.returns-in-Ok-None-clause-run_ends
-returns-in-Ok-None-clause-run_ends g c = λ n asked. c.in-Ok-None.ensures.none (Run n) asked
+returns-in-Ok-None-clause-run_ends g c = λ n asked. (rw c.in-Ok-None.field-0-is at c.in-Ok-None.ensures.none) (Run n) asked
 
 pub returns-in-Ok-None-clause-untouched : goal.returns-in-Ok-None-clause-untouched
-returns-in-Ok-None-clause-untouched g c = λ disk n asked is. absurd (c.in-Ok-None.ensures.none (Run n) asked)
+returns-in-Ok-None-clause-untouched g c = λ disk n asked is. absurd ((rw c.in-Ok-None.field-0-is at c.in-Ok-None.ensures.none) (Run n) asked)
 
 pub returns-in-Ok-None-clause-format_unchanged : goal.returns-in-Ok-None-clause-format_unchanged
-returns-in-Ok-None-clause-format_unchanged g c = λ disk l asked some. absurd (c.in-Ok-None.ensures.none (Format l) asked)
+returns-in-Ok-None-clause-format_unchanged g c = λ disk l asked some. absurd ((rw c.in-Ok-None.field-0-is at c.in-Ok-None.ensures.none) (Format l) asked)
 
 pub returns-in-Ok-None-clause-complete_format : goal.returns-in-Ok-None-clause-complete_format
-returns-in-Ok-None-clause-complete_format g c = λ disk l asked some same. absurd (c.in-Ok-None.ensures.none (Format l) asked)
+returns-in-Ok-None-clause-complete_format g c = λ disk l asked some same. absurd ((rw c.in-Ok-None.field-0-is at c.in-Ok-None.ensures.none) (Format l) asked)
 
 pub returns-in-Ok-None-clause-complete : goal.returns-in-Ok-None-clause-complete
-returns-in-Ok-None-clause-complete g c = λ disk told n asked sound few a b d. absurd (c.in-Ok-None.ensures.none (Run n) asked)
+returns-in-Ok-None-clause-complete g c = λ disk told n asked sound few a b d. absurd ((rw c.in-Ok-None.field-0-is at c.in-Ok-None.ensures.none) (Run n) asked)
 
 pub returns-in-Ok-Some-Format-clause-source : goal.returns-in-Ok-Some-Format-clause-source
 returns-in-Ok-Some-Format-clause-source g c = uncounted _ _ _ (format_source c.run_format.result.0 c.run_format.ensures.ends) refl
@@ -283,7 +295,9 @@ returns-in-Ok-Some-Run-clause-disk g c = c.run_script.ensures.disk
 -- words that ask for a run of the generator ask for nothing else
 
 gen_asked : (g : Over) (c : After-run_generator g) → AsksGen c.args.words.now c.in-Ok-Some-Gen.commands
-gen_asked g c = rw c.in-Ok-Some-Gen.field-0-is at c.in-Ok-Some-Gen.ensures.found
+gen_asked g c =
+    let request = rw c.in-Ok-Some-Gen.field-0-is at c.in-Ok-Some-Gen.ensures.found in
+    rw c.in-Ok-Some-Gen.field-0-0-is at request
 
 not_format : (g : Over) (c : After-run_generator g) (l : Layout) → AsksFormat c.args.words.now l → ⊥
 not_format g c l asked = not_format_and_gen c.args.words.now l c.in-Ok-Some-Gen.commands asked (gen_asked g c)
