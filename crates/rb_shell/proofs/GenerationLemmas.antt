@@ -1,5 +1,5 @@
 -- A run of the generator over an engine, and over the file that the engine was opened with.
-use Rattle.std.proofs.Common.{◌≡◌, ◌≢◌, ◌∙◌, refl, sym, ap, subst, ℕ, Bool, true, false, List, ◌++◌, take, Option, Some, Result, Ok, Err, inl, inr}
+use Rattle.std.proofs.Common.{◌≡◌, ◌≢◌, ◌∙◌, refl, ap, subst, ℕ, Bool, true, false, List, ◌++◌, take, Option, Result, Ok, Err}
 use Rattle.rb_base.specs.declared.faults.Failed.{Failed}
 use Rattle.rb_base.specs.declared.store.Store.{Ghosts}
 use Rattle.rb_calls.specs.Since.{IsSince, StandsAs, slots_of}
@@ -13,18 +13,15 @@ use Rattle.rb_generator.specs.Summary.{summary_text}
 use Rattle.rb_generator.specs.declared.counts.Counts.{Counts}
 use Rattle.rb_image.proofs.Crashes.{survives_on}
 use Rattle.rb_image.specs.Crash.{OpensUpTo, Survives}
-use Rattle.rb_layout.specs.declared.layout.Layout.{Layout}
 use Rattle.rb_lines.specs.Ran.{Did}
 use Rattle.rb_model.specs.Out.{Logged}
 use Rattle.rb_model.specs.Rows.{last_scn}
-use Rattle.rb_model.specs.State.{State}
-use Rattle.rb_shell.proofs.RunLemmas.{endures}
-use Rattle.rb_shell.specs.Generation.{EndsGenerator, HasMade, MadeOn, MadeOver, line_of}
-use Rattle.rb_shell.specs.Runs.{Endures, HasOpened, IsDoneOrNoMemory, IsSound, Lasts, MadeLast, first_of}
+use Rattle.rb_shell.specs.Generation.{EndsGenerator, HasMade, MadeOn, line_of}
+use Rattle.rb_shell.specs.Runs.{HasOpened, IsDoneOrNoMemory, IsSound, MadeLast, first_of}
 use Rattle.rb_shell.specs.declared.status.Status.{Status}
 use Rattle.rb_shell.specs.declared.status.Status.TheVariants.{Done, Usage, SourceFault, DiskFault, SinkFault, NotAStore, NoMemory, NotEmpty, TooLong}
 use Rattle.rb_shell.specs.Statuses.{by_source}
-use Rattle.rb_store.specs.Laps.{LapState, Opens}
+use Rattle.rb_store.specs.Laps.{LapState}
 
 module _ {S : Type 0} (s : Ghosts S) (m : Logged) (n : ℕ) (old mid : EngineView S) (tells : Type 0) (before held : List ℕ) where
   abbrev Made : Result Counts Failed → Type 0

@@ -1,5 +1,5 @@
 -- What a run of the generator over a file does.
-use Rattle.std.specs.Prelude.{◌≡◌, ◌≢◌, ℕ, Bool, true, false, List, ◌++◌, take}
+use Rattle.std.specs.Prelude.{◌≡◌, ◌≢◌, ℕ, Bool, false, List, ◌++◌, take}
 use Rattle.rb_base.specs.declared.store.Store.{Ghosts}
 use Rattle.rb_generator.specs.Answered.{CommandsAnswered}
 use Rattle.rb_generator.specs.Counted.{counts_of}

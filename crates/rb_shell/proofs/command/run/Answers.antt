@@ -1,7 +1,7 @@
 use Rattle.rb_layout.specs.Regions.{file_version}
-use Rattle.std.proofs.Common.{◌∙◌, ◌⊎◌, inl, inr, ℕ, Bool, refl, ap, subst, arith}
+use Rattle.std.proofs.Common.{◌∙◌, ◌⊎◌, ℕ, Bool, refl, ap, subst, arith}
 use Rattle.rb_layout.specs.declared.layout.Layout.{Layout}
-use Rattle.rb_words.specs.Words.{AsksFormat, AsksGen, AsksRun, IsUsage}
+use Rattle.rb_words.specs.Words.{AsksFormat, AsksGen, AsksRun}
 use Rattle.rb_words.specs.declared.words.Request.TheVariants.{Format, Gen, Run}
 use Rattle.rb_shell.proofs.RunLemmas.{complete_format, complete_run, not_longer, rests_alone, rests_itself}
 use Rattle.rb_words.proofs.Spelling.{same_file, same_gen, not_both, not_format_and_gen, not_run_and_gen}

@@ -1,14 +1,10 @@
-use Rattle.std.proofs.Common.{◌≡◌, ◌≢◌, ◌∙◌, refl, ℕ, Bool, false, Some, inl, inr, sym, ap, subst}
-use Rattle.rb_base.specs.Counts.{IsCountedAs}
-use Rattle.rb_calls.proofs.CallLemmas.{counted_as}
+use Rattle.std.proofs.Common.{◌≡◌, ◌≢◌, ◌∙◌, refl, ℕ, Bool, false, Some, inr, sym, ap, subst}
 use Rattle.rb_image.specs.Crash.{OpensUpTo}
 use Rattle.rb_model.specs.State.{State}
 use Rattle.rb_shell.proofs.GenerationLemmas.{same_made}
 use Rattle.rb_shell.proofs.RunLemmas.{endures}
-use Rattle.rb_shell.proofs.StatusLemmas.{uncounted}
-use Rattle.rb_shell.specs.Generation.{HasMade, MadeOn, MadeOver}
+use Rattle.rb_shell.specs.Generation.{HasMade, MadeOn}
 use Rattle.rb_shell.specs.Runs.{Endures, HasOpened, IsSound, Lasts, first_of}
-use Rattle.rb_shell.specs.Statuses.{by_disk}
 use Rattle.rb_shell.specs.declared.status.Status.TheVariants.{Done, DiskFault, SinkFault}
 use Rattle.rb_store.specs.Laps.{Opens}
 use Rattle.rb_store.specs.contracts.lap.LapStoreStore.TheImpl.{ghosts}
