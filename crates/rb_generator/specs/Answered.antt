@@ -13,7 +13,8 @@ abbrev pub CallsAnswered : Logged → (slots : ℕ) → Command → (most k : �
 CallsAnswered m slots c most k [] m2 = (k ≡ most) × (m2 ≡ m)
 CallsAnswered m slots c most k (r ∷ answers) m2 =
     (k < most) × (middle : Logged) × CallOut m slots (call_of c k) r middle
-    × MatchBool (goes_on r) (CallsAnswered middle slots c most (k + 1) answers m2) ((answers ≡ []) × (m2 ≡ middle))
+    × MatchBool (goes_on r) (CallsAnswered middle slots c most (k + 1) answers m2)
+    ((answers ≡ []) × (m2 ≡ middle))
 
 -- Writes of ready sessions, that of the first ready one each time, until nothing is left to try.
 abbrev pub ResumesAnswered : Logged → ℕ → List Answer → Logged → Type 0
@@ -34,4 +35,5 @@ CommandsAnswered m slots [] answers m2 = (answers ≡ []) × (m2 ≡ m)
 CommandsAnswered m slots (c ∷ commands) answers m2 =
     (first : List Answer) × (rest : List Answer) × (middle : Logged) × CommandAnswered m slots c first middle
     × (answers ≡ first ++ rest)
-    × MatchBool middle.state.stopped ((rest ≡ []) × (m2 ≡ middle)) (CommandsAnswered middle slots commands rest m2)
+    × MatchBool middle.state.stopped ((rest ≡ []) × (m2 ≡ middle))
+    (CommandsAnswered middle slots commands rest m2)

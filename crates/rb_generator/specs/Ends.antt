@@ -19,8 +19,8 @@ StopsBy true answers now = EndsInFault answers × (now.state.stopped ≡ true)
 StopsBy false answers now = now.state.stopped ≡ false
 
 -- Answers as a relation allows them were added to counts, up to a fault of the disk, if there was one.
-pub record HasCounted (allows : List Answer → Logged → Type 0) (now : Logged) (before after : Counts) (fault : Bool) :
-    Type 0 where
+pub record HasCounted (allows : List Answer → Logged → Type 0) (now : Logged) (before after : Counts)
+    (fault : Bool) : Type 0 where
   pub answers : List Answer
   pub allowed : allows answers now
   pub counted : after ≡ plus before (counts_of answers)

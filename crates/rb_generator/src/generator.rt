@@ -31,7 +31,8 @@ fn turn<T: Store>(
     ensures drawn { draws.new.state ≡ next (next (next (next draws.old.state))) }
     ensures did { (m : Logged) → StandsAs T.Store engine.old m → m.state.stopped ≡ false
         → Did (StandsAs T.Store) (IsSince T.Store) engine.old engine.new m (λ now. HasCounted (CommandAnswered m
-        (slots_of (T.slots engine.old.store)) (drawn (T.shape_of engine.old.store) draws.old.state (decimal (i + 1)))) now
+        (slots_of (T.slots engine.old.store))
+        (drawn (T.shape_of engine.old.store) draws.old.state (decimal (i + 1)))) now
         counts.old counts.new (is_err result)) }
     ensures few { told counts.new ≤ told counts.old + 20 }
     ensures same { SameStore T.Store engine.old.store engine.new.store }

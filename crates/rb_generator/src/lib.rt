@@ -1,5 +1,5 @@
-//! The generator: commands of eight sessions, drawn from a number and made on the engine. Only their answers are counted,
-//! and one line tells the counts.
+//! The generator: commands of eight sessions, drawn from a number and made on the engine. Their answers are counted,
+//! and one line tells the counts. The shell calls it.
 #![tactic(auto)]
 
 mod commands;

@@ -17,6 +17,8 @@ mod engines;
 #[cfg(test)]
 mod failures;
 #[cfg(test)]
+mod generated;
+#[cfg(test)]
 mod isolation;
 #[cfg(test)]
 mod queues;

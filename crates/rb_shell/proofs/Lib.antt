@@ -1,8 +1,8 @@
+pub mod GenerationLemmas
 pub mod NewFile
 pub mod ResumeLemmas
 pub mod Returns
 pub mod RunLemmas
 pub mod SaidLemmas
-pub mod Spelling
 pub mod StatusLemmas
 pub mod LastLemmas

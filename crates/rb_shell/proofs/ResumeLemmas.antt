@@ -1,5 +1,5 @@
 -- Writes that are tried again behind a line, and what becomes of the line with them.
-use Rattle.std.proofs.Common.{append_assoc, ◌≡◌, ◌∙◌, inl, inr, ⊎_elim, refl, sym, ap, subst, arith, ℕ, zero, suc, ◌+◌, ◌<◌, ◌≤◌, Bool, true, false, List, [], ◌++◌, Result, Ok, Err, Option, None, Some}
+use Rattle.std.proofs.Common.{append_assoc, ◌≡◌, ◌∙◌, inl, inr, refl, sym, ap, subst, arith, ℕ, suc, ◌+◌, true, false, List, [], ◌++◌, Result, Ok, Err, None, Some}
 use Rattle.std.proofs.lemmas.List.{append-nil, length-append, drop-append-le, take-append-le}
 use Rattle.std.specs.Prelude.{IfErr}
 use Rattle.std.specs.Result.{is_err}

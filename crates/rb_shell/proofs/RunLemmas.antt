@@ -2,7 +2,7 @@
 use Rattle.std.proofs.Common.{◌≡◌, ◌∙◌, ◌⊎◌, inl, inr, ⊎_elim, ap, sym, subst, refl, arith, ℕ, false, ◌+◌, ◌<◌, ◌≤◌, List, [], ◌++◌, length, Option, Some}
 use Rattle.std.proofs.lemmas.List.{length-append}
 use Rattle.rb_base.specs.Blocks.{IsShape}
-use Rattle.rb_base.specs.Moments.{LeavesOnly, joined, weaker}
+use Rattle.rb_base.specs.Moments.{LeavesOnly, joined, no_call, weaker}
 use Rattle.rb_base.specs.Stores.{room_of}
 use Rattle.rb_base.specs.declared.shape.Shape.{Shape}
 use Rattle.rb_base.specs.declared.store.Store.{Ghosts}
@@ -115,6 +115,10 @@ module _ {D : Type 0} (d : DiskGhosts D) (old : D) where
       (weaker d.moment d.image_since s.disk new (Restarts Opens (Some s.layout.log) sound.state) P
       (λ c r. inr (subst (λ (k : ℕ). Restarts Opens (Some k) sound.state c) same.log r)) stays)
 
+  -- no call at all
+  pub rests_itself : Rests d old old
+  rests_itself = record { same = refl; crashes = no_call d.image d.moment d.image_since old }
+
   -- calls that change nothing leave it alone
   pub rests_same : (new : D) (sound : IsSound (d.content old)) → ((c : List ℕ) → d.image_since old (d.moment old) c → d.image old c) → Rests d old new → OpensSame d old new sound
   rests_same new sound only_now still = rests_leave d old new (λ c. d.image old c ⊎ Restarts Opens (Some sound.store.layout.log) sound.state c) only_now (λ c here. inl here) still
@@ -200,15 +204,15 @@ pub no_opening : (file : List ℕ) → OpensToNone file → IsStore file → ⊥
 no_opening file none st = none st.layout st.blocks st.lsn st.opens
 
 -- what is left where nothing failed
-pub complete_format : (status : Status) → EndsFormat status → (status ≡ DiskFault → ⊥) → (status ≡ NotEmpty → ⊥) → status ≡ Done
-complete_format Done ends disk bytes = refl
-complete_format DiskFault ends disk bytes = absurd (disk refl)
-complete_format NotEmpty ends disk bytes = absurd (bytes refl)
+pub complete_format : (status : Status) → EndsFormat status → (status ≡ DiskFault → ⊥) → (status ≡ NotEmpty → ⊥) → IsDoneOrNoMemory status
+complete_format Done ends disk bytes = tt
+complete_format NoMemory ends disk bytes = tt
+complete_format DiskFault ends disk bytes = disk refl
+complete_format NotEmpty ends disk bytes = bytes refl
 complete_format Usage ends disk bytes = absurd ends
 complete_format SourceFault ends disk bytes = absurd ends
 complete_format SinkFault ends disk bytes = absurd ends
 complete_format NotAStore ends disk bytes = absurd ends
-complete_format NoMemory ends disk bytes = absurd ends
 complete_format TooLong ends disk bytes = absurd ends
 
 pub complete_run : (status : Status) → EndsRun status → (status ≡ SourceFault → ⊥) → (status ≡ DiskFault → ⊥) → (status ≡ SinkFault → ⊥) → (status ≡ NotAStore → ⊥) → (status ≡ TooLong → ⊥)

@@ -13,9 +13,9 @@ use Rattle.rb_lines.specs.Faults.{is_sink}
 use Rattle.rb_lines.specs.Ran.{CutShort, Replied, RepliedAs, SameButCursors}
 use Rattle.rb_lines.specs.declared.runner.StepFault.{StepFault}
 use Rattle.rb_lines.specs.declared.runner.StepFault.TheVariants.{Disk, Sink}
+use Rattle.rb_engine.proofs.DoesLemmas.{refused_none}
 use Rattle.rb_model.specs.Answers.{answer_of}
 use Rattle.rb_model.specs.declared.answer.Answer as code
-use Rattle.rb_model.specs.declared.answer.Answer.TheVariants as answers
 use Rattle.rb_model.specs.declared.row.Row.{Row}
 use Rattle.rb_model.specs.Calls.{Action, Answer, Call, Write, Commit, Rollback, SetMode, SetSavepoint, RollbackTo, OpenCursor, Fetch, CloseCursor, Cancel, Marks, Checkpoint, Done, Waits, Numbered, Given, End, Marked, Refused, Reply, early, later, name_tests, early_tests, failed_in, first_of, granted, is_fault, none_applies, refused_by, serial_tests, waited, write_tests}
 use Rattle.rb_model.specs.Calls as calls
@@ -64,10 +64,10 @@ after_fetch : (h : State) (n s : ℕ) (name : List ℕ) (r : Answer) → is_faul
 after_fetch h n s name Done e = (with_cursors h s (with_taken name (cursors_of h s)), refl, refl, λ f. taken_same h f s name n)
 after_fetch h n s name (Waits on) e = same_after h n (Fetch s name) (Waits on) refl refl
 after_fetch h n s name (Numbered k) e = (with_cursors h s (with_taken name (cursors_of h s)), refl, refl, λ f. taken_same h f s name n)
-after_fetch h n s name (Given key value) e = (with_cursors h s (with_taken name (cursors_of h s)), refl, refl, λ f. taken_same h f s name n)
-after_fetch h n s name End e = same_after h n (Fetch s name) End refl refl
+after_fetch h n s name (Given key value) e = (with_cursors h s (with_taken name (cursors_of h s)), refl, omega arith, λ f. taken_same h f s name n)
+after_fetch h n s name End e = same_after h n (Fetch s name) End refl (omega arith)
 after_fetch h n s name (Marked seg writes lost) e = same_after h n (Fetch s name) (Marked seg writes lost) refl refl
-after_fetch h n s name (Refused why) e = same_after h n (Fetch s name) (Refused why) (subst (λ (b : Bool). h ≡ (if b then record h { stopped = true } else h)) (sym e) refl) refl
+after_fetch h n s name (Refused why) e = same_after h n (Fetch s name) (Refused why) (subst (λ (b : Bool). h ≡ (if b then record h { stopped = true } else h)) (sym e) refl) (refused_none h (Fetch s name) why)
 
 after_marks : (h : State) (n seg : ℕ) (r : Answer) → is_fault r ≡ false → AfterRead h n (Marks seg) r
 after_marks h n seg Done e = same_after h n (Marks seg) Done refl refl
@@ -76,7 +76,7 @@ after_marks h n seg (Numbered k) e = same_after h n (Marks seg) (Numbered k) ref
 after_marks h n seg (Given key value) e = same_after h n (Marks seg) (Given key value) refl refl
 after_marks h n seg End e = same_after h n (Marks seg) End refl refl
 after_marks h n seg (Marked g writes lost) e = same_after h n (Marks seg) (Marked g writes lost) refl refl
-after_marks h n seg (Refused why) e = same_after h n (Marks seg) (Refused why) (subst (λ (b : Bool). h ≡ (if b then record h { stopped = true } else h)) (sym e) refl) refl
+after_marks h n seg (Refused why) e = same_after h n (Marks seg) (Refused why) (subst (λ (b : Bool). h ≡ (if b then record h { stopped = true } else h)) (sym e) refl) (refused_none h (Marks seg) why)
 
 -- the commands that make more than one call
 abbrev pub Reads : Command → Type 0

@@ -101,6 +101,11 @@ cases_end ends.DiskFault = inr (λ is. cc)
 cases_end ends.SinkFault = inr (λ is. cc)
 cases_end ends.TooLong = inr (λ is. cc)
 
+-- where they came to their own end, only the disk may fail behind it
+pub fault_behind : (s : Status) → EndsBy ends.Done s → s ≢ Done → s ≡ DiskFault
+fault_behind s (as_lines is) other = absurd (other is)
+fault_behind s (last_fault end is) other = is
+
 -- the statuses of lines that came to their own end
 
 pub last_source : (e : LinesEnd) (s : Status) → e ≡ ends.Done → EndsBy e s → by_source s ≡ false
@@ -133,7 +138,7 @@ format_source Usage ends = absurd ends
 format_source SourceFault ends = absurd ends
 format_source SinkFault ends = absurd ends
 format_source NotAStore ends = absurd ends
-format_source NoMemory ends = absurd ends
+format_source NoMemory ends = refl
 format_source TooLong ends = absurd ends
 
 pub format_sink : (s : Status) → EndsFormat s → by_sink s ≡ false
@@ -144,7 +149,7 @@ format_sink Usage ends = absurd ends
 format_sink SourceFault ends = absurd ends
 format_sink SinkFault ends = absurd ends
 format_sink NotAStore ends = absurd ends
-format_sink NoMemory ends = absurd ends
+format_sink NoMemory ends = refl
 format_sink TooLong ends = absurd ends
 
 -- the same count by the same tests

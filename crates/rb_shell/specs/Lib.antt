@@ -1,4 +1,4 @@
+pub mod Generation
 pub mod Runs
 pub mod Statuses
 pub mod Steps
-pub mod Words

@@ -39,7 +39,7 @@ EndsFormat Usage = ⊥
 EndsFormat SourceFault = ⊥
 EndsFormat SinkFault = ⊥
 EndsFormat NotAStore = ⊥
-EndsFormat NoMemory = ⊥
+EndsFormat NoMemory = Unit {0}
 EndsFormat TooLong = ⊥
 
 -- the status of lines that ended so

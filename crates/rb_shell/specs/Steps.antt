@@ -1,6 +1,6 @@
 -- What a line's calls and replies leave, while some of the replies wait to be sent.
 use Rattle.std.specs.Prelude.{◌≡◌, ◌⊎◌, ℕ, ◌+◌, ◌≤◌, Bool, true, false, List, ◌++◌, length}
-use Rattle.std.specs.Prelude.{take, drop, Option, None, Some, Result, Ok, Err}
+use Rattle.std.specs.Prelude.{take, drop, Option, Result, Ok, Err}
 use Rattle.rb_lines.specs.Ran.{CutShort}
 use Rattle.rb_lines.specs.declared.runner.StepFault.{StepFault}
 use Rattle.rb_lines.specs.declared.runner.StepFault.TheVariants.{Disk, Sink}
@@ -9,7 +9,6 @@ use Rattle.rb_model.specs.Lines.{Command, is_remark, reply_text, without_return}
 use Rattle.rb_model.specs.Out.{IsSettled, Logged, CallOut, CallsOut, LineOut, LineSaid, ResumesOut}
 use Rattle.rb_model.specs.Calls.{Answer, Call, is_disk_fault}
 use Rattle.rb_model.specs.declared.answer.Answer as code
-use Rattle.rb_model.specs.declared.answer.Answer.TheVariants as answers
 use Rattle.rb_model.specs.declared.row.Row.{Row}
 use Rattle.rb_script.specs.declared.reply.Reply.{Reply}
 use Rattle.rb_script.specs.declared.reply.Reply.TheVariants as replies

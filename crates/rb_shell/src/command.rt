@@ -1,6 +1,6 @@
 //! `run`: the program over a source, a sink and a disk. `main` calls it.
-ghost use Rattle.std.specs.Prelude.{◌≡◌, ◌⊎◌, ℕ, ◌<◌, ◌≤◌, ◌↔◌, true, false, List, []};
-ghost use Rattle.std.specs.Prelude.{length};
+ghost use Rattle.std.specs.Prelude.{◌≡◌, ◌≢◌, ◌⊎◌, ℕ, ◌<◌, ◌≤◌, Bool, true, false};
+ghost use Rattle.std.specs.Prelude.{List, [], length};
 ghost use Rattle.rb_base.specs.Counts.{IsCountedAs, Rose};
 ghost use Rattle.rb_disk.specs.DiskModel.{Only};
 ghost use Rattle.rb_disk.specs.Moments.{Rests};
@@ -9,24 +9,28 @@ ghost use Rattle.rb_layout.specs.Regions.{fresh_file};
 ghost use Rattle.rb_lines.specs.Faults.{IsCountedBeside};
 ghost use Rattle.rb_lines.specs.Whole.{whole_lines};
 ghost use Rattle.rb_model.specs.Lines.{lines_of};
+ghost use Rattle.rb_shell.specs.Generation.{EndsGenerator, HasTold, MadeOver, TellsCounts, WasNotTold};
 ghost use Rattle.rb_shell.specs.Runs.{IsSound, IsStore, HasHalted, HasRun, WasCutOff, Endures, LeftAlone};
 ghost use Rattle.rb_shell.specs.Runs.{HasRunOut, Lasts, WasStopped, WasTaken};
 ghost use Rattle.rb_shell.specs.Runs.{EndsRun, AsksScript, AsksNothing, IsDoneOrNoMemory};
 ghost use Rattle.rb_shell.specs.Statuses.{EndsFormat, by_disk, by_sink, by_source};
-ghost use Rattle.rb_shell.specs.Words.{AsksFormat, AsksRun, IsUsage};
+ghost use Rattle.rb_words.specs.Words.{AsksFormat, AsksGen, AsksRun, IsUsage};
 
+use crate::generation::run_generator;
 use crate::script::run_script;
 use crate::status::Status;
-use crate::words::{Request, parse_words};
+use rb_base::NoMemory;
 use rb_disk::Disk;
 use rb_layout::{Layout, VERSION};
 use rb_store::{FormatFault, format};
 use rb_stream::{Sink, Source};
+use rb_words::{Request, parse_words};
 use std::alloc::Global;
 
 /// Does what the words after the program's name ask for, and hands the disk back: `FILE format ...` makes a new
-/// file on the disk, and `FILE run frames=N` does the source's lines over the store of the disk, and puts each
-/// reply as soon as its line is done.
+/// file on the disk; `FILE run frames=N` does the source's lines over the store of the disk, and puts each
+/// reply as soon as its line is done; `FILE gen N` makes N drawn commands over the store of the disk, and puts one line
+/// that tells of them.
 pub fn run<S: Source, K: Sink, D: Disk>(
     alloc: Global,
     words: &[String],
@@ -34,11 +38,15 @@ pub fn run<S: Source, K: Sink, D: Disk>(
     sink: &mut K,
     disk: D,
 ) -> (Status, D)
-    // Other words are refused before anything is touched.
-    ensures usage { result.0 ≡ Status.Usage ↔ IsUsage words.now }
-    ensures usage_disk { result.0 ≡ Status.Usage → result.1 ≡ disk }
+    // Other words are refused before anything is touched, unless memory runs out as they are read.
+    ensures usage { result.0 ≡ Status.Usage → IsUsage words.now }
+    ensures other_words { IsUsage words.now → (result.0 ≡ Status.Usage) ⊎ (result.0 ≡ Status.NoMemory) }
+    ensures usage_disk { IsUsage words.now → result.1 ≡ disk }
     ensures format_ends { (l : Layout) → AsksFormat words.now l → EndsFormat result.0 }
+    ensures format_memory { (l : Layout) → AsksFormat words.now l → result.0 ≡ Status.NoMemory
+        → result.1 ≡ disk }
     ensures run_ends { (n : ℕ) → AsksRun words.now n → EndsRun result.0 }
+    ensures gen_ends { (n : ℕ) → AsksGen words.now n → EndsGenerator result.0 }
 
     // A new file.
     ensures formatted { D.tells → (l : Layout) → AsksFormat words.now l → result.0 ≡ Status.Done
@@ -51,7 +59,8 @@ pub fn run<S: Source, K: Sink, D: Disk>(
     ensures format_unchanged { D.tells → (l : Layout) → AsksFormat words.now l → 0 < length (D.content disk)
         → Rests D.Disk disk result.1 }
     ensures format_source { ((n : ℕ) → ¬ AsksRun words.now n) → source.new ≡ source.old }
-    ensures format_sink { ((n : ℕ) → ¬ AsksRun words.now n) → sink.new ≡ sink.old }
+    ensures format_sink { ((n : ℕ) → ¬ AsksRun words.now n) → ((n : ℕ) → ¬ AsksGen words.now n)
+        → sink.new ≡ sink.old }
 
     // A run to its end: the replies are those that the machine opened with the file's rows allows for the lines
     // of the whole source, and what wasn't committed was made last too. Here and below `Endures` says what a crash may
@@ -86,9 +95,28 @@ pub fn run<S: Source, K: Sink, D: Disk>(
         (K.held sink.old) (K.held sink.new) (Endures D.Disk disk result.1)
         ⊎ HasRunOut sound (S.left source.old) (S.left source.new) K.tells (K.held sink.old) (K.held sink.new)
         (Endures D.Disk disk result.1)) }
-    ensures cut_off { D.tells → S.tells → K.tells → result.0 ≡ Status.SinkFault →
-        (sound : IsSound (D.content disk)) → WasCutOff sound (lines_of (S.left source.old)) (K.held sink.old)
-        (K.held sink.new) (Endures D.Disk disk result.1) }
+    ensures cut_off { D.tells → S.tells → K.tells → (n : ℕ) → AsksRun words.now n
+        → result.0 ≡ Status.SinkFault → (sound : IsSound (D.content disk))
+        → WasCutOff sound (lines_of (S.left source.old)) (K.held sink.old) (K.held sink.new)
+        (Endures D.Disk disk result.1) }
+
+    // A run of the generator: all commands were made, with answers that the machine opened with the file's rows allows,
+    // and what wasn't committed was made last too before the line was put. A fault of the sink leaves a front of it,
+    // and one of the disk, in the opening, in a command or behind them all, nothing of it.
+    ensures generated { D.tells → (n : ℕ) → AsksGen words.now n → result.0 ≡ Status.Done
+        → (sound : IsSound (D.content disk)) → HasTold sound n K.tells (K.held sink.old) (K.held sink.new)
+        (Lasts D.Disk disk result.1) }
+    ensures not_told { D.tells → K.tells → (n : ℕ) → AsksGen words.now n → result.0 ≡ Status.SinkFault
+        → (sound : IsSound (D.content disk)) → WasNotTold sound n (K.held sink.old) (K.held sink.new)
+        (Lasts D.Disk disk result.1) }
+    ensures gen_disk { D.tells → (n : ℕ) → AsksGen words.now n → result.0 ≡ Status.DiskFault →
+        WasStopped D.Disk disk result.1 ⊎ ((sound : IsSound (D.content disk)) → (fault : Bool)
+        × MadeOver sound n fault (Endures D.Disk disk result.1)) }
+    ensures no_line { (n : ℕ) → AsksGen words.now n → result.0 ≡ Status.DiskFault → sink.new ≡ sink.old }
+    ensures gen_untouched { D.tells → (n : ℕ) → AsksGen words.now n → AsksNothing result.0
+        → LeftAlone D.Disk disk result.1 }
+    ensures gen_store { D.tells → (n : ℕ) → AsksGen words.now n → TellsCounts result.0
+        → IsStore (D.content disk) }
 
     // Where the script isn't asked for, the file opens as before. It is asked for just where the file is a store.
     ensures source_same { AsksNothing result.0 → source.new ≡ source.old }
@@ -104,23 +132,29 @@ pub fn run<S: Source, K: Sink, D: Disk>(
     ensures disk { IsCountedBeside (D.faults disk) (D.faults result.1) (by_disk result.0) (by_sink result.0) }
     ensures sink { IsCountedAs (K.faults sink.old) (K.faults sink.new) (by_sink result.0) }
     ensures complete_format { D.tells → (l : Layout) → AsksFormat words.now l → length (D.content disk) ≡ 0
-        → ¬ Rose (D.faults disk) (D.faults result.1) → result.0 ≡ Status.Done }
+        → ¬ Rose (D.faults disk) (D.faults result.1) → IsDoneOrNoMemory result.0 }
     ensures complete { D.tells → S.tells → (n : ℕ) → AsksRun words.now n → IsSound (D.content disk)
         → length (S.left source.old) < 1000000000
         → ¬ Rose (S.faults source.old) (S.faults source.new) → ¬ Rose (D.faults disk) (D.faults result.1)
         → ¬ Rose (K.faults sink.old) (K.faults sink.new)
         → IsDoneOrNoMemory result.0 }
+    ensures complete_gen { D.tells → (n : ℕ) → AsksGen words.now n → IsSound (D.content disk)
+        → ¬ Rose (D.faults disk) (D.faults result.1) → ¬ Rose (K.faults sink.old) (K.faults sink.new)
+        → IsDoneOrNoMemory result.0 }
 {
-    match parse_words(words) {
-        Some(Request::Format(layout)) => run_format(&layout, disk),
-        Some(Request::Run { frames: _ }) => run_script(alloc, source, sink, disk),
-        None => (Status::Usage, disk),
+    match parse_words(alloc, words) {
+        Ok(Some(Request::Format(layout))) => run_format(&layout, disk),
+        Ok(Some(Request::Run { frames: _ })) => run_script(alloc, source, sink, disk),
+        Ok(Some(Request::Gen { commands })) => run_generator(alloc, commands, sink, disk),
+        Ok(None) => (Status::Usage, disk),
+        Err(NoMemory) => (Status::NoMemory, disk),
     }
 }
 
 // Makes a new file.
 fn run_format<D: Disk>(layout: &Layout, mut disk: D) -> (Status, D)
     ensures ends { EndsFormat result.0 }
+    ensures memory { result.0 ≢ Status.NoMemory }
     ensures formatted { D.tells → result.0 ≡ Status.Done → D.content result.1 ≡ fresh_file VERSION layout.now }
     ensures durable { D.tells → result.0 ≡ Status.Done → Only (fresh_file VERSION layout.now) (D.image result.1) }
     ensures was_empty { D.tells → result.0 ≡ Status.Done → length (D.content disk) ≡ 0 }

@@ -3,12 +3,12 @@
 #![tactic(auto)]
 
 mod command;
+mod generation;
 mod laws;
 mod line;
 mod replies;
 mod script;
 mod status;
-mod words;
 
 pub use command::run;
 pub use laws::{new_file_sound, restarts_sound, script_pieces};

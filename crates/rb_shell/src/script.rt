@@ -62,7 +62,7 @@ impl<T: Store> LineRunner for Interpreter<T> {
 }
 
 /// The status of a store that wasn't opened.
-fn status_of_fault(fault: OpenFault) -> Status
+pub fn status_of_fault(fault: OpenFault) -> Status
     ensures is { result ≡ status_of_opening fault }
     ensures ends { EndsRun result }
     ensures no_script { ¬ AsksScript result }
@@ -82,7 +82,7 @@ fn status_of_fault(fault: OpenFault) -> Status
 
 /// Makes last what waits at the end of the script, so that the next opening finds it and puts it back. No reply tells
 /// of it: each commit was made last before its number was answered.
-fn make_last<T: Store>(engine: &mut Engine<T>) -> Status
+pub fn make_last<T: Store>(engine: &mut Engine<T>) -> Status
     ensures is { EndsBy LinesEnd.Done result }
     ensures lasts { (m : Logged) → StandsAs T.Store engine.old m → m.state.stopped ≡ false
         → MadeLast T.Store engine.old.store engine.new.store m result }
@@ -149,7 +149,7 @@ fn run_engine<S: Source, K: Sink, T: Store>(
 }
 
 /// Opens the engine over the store of a disk. An Err gives the disk back.
-fn open_engine<D: Disk>(alloc: Global, disk: D) -> Result<Engine<LapStore<D>>, (OpenFault, D)>
+pub fn open_engine<D: Disk>(alloc: Global, disk: D) -> Result<Engine<LapStore<D>>, (OpenFault, D)>
     ensures opened { D.tells → (sound : IsSound (D.content disk)) → IfOk result
         (λ e. HasOpened D.Disk ⟦<LapStore<D> as Store>⟧ disk e sound) }
     ensures store { D.tells → OnOk result (IsStore (D.content disk)) }

@@ -10,7 +10,8 @@ use std::io::{self, ErrorKind};
 use std::process::ExitCode;
 
 const FORMS: &str = "rbsh FILE format tables=N blocks=N segments=N log=N
-rbsh FILE run frames=N";
+rbsh FILE run frames=N
+rbsh FILE gen N";
 
 // The words after the program's name.
 fn words(rt: &HostRuntime) -> Result<Vec<String>, Status> {

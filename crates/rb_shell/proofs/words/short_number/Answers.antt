@@ -1,7 +1,0 @@
-use Rattle.std.proofs.Common.{arith}
-use Rattle.rb_shell.proofs.Spelling.{narrow_none}
-use Rattle.rb_shell.proofs.words.short_number.Goals as goal
-
-pub returns-clause-none : goal.returns-clause-none
-returns-clause-none c =
-    narrow_none 65536 c.in_ok-number.number c.try_from.result c.ok.result c.args.word.now c.args.name.now c.try_from.ensures c.ok.ensures.value (omega arith) (omega arith) c.in_ok-number.ensures.found
