@@ -58,7 +58,8 @@ pub fn clean_copy<S: Store>(
 /// ended.
 fn has_open(block: &[u8]) -> bool
     requires { length block.now ≡ UNIT }
-    ensures none { result ≡ false → (look : Xid → Look) → cleaned_home look (home_of block.now) ≡ home_of block.now }
+    ensures none { result ≡ false → (look : Xid → Look)
+        → cleaned_home look (home_of block.now) ≡ home_of block.now }
 {
     for i in 0..ENTRIES {
         if entry(block, i).kind == OPEN {
@@ -68,8 +69,8 @@ fn has_open(block: &[u8]) -> bool
     false
 }
 
-/// The group of patches that cleans block `no` of the store, which is one of rows; None where there is nothing to clean.
-/// The store is only loaded from. `Failed` only where a call of the store failed.
+/// The group of patches that cleans block `no` of the store, which is one of rows; None where there is nothing to
+/// clean. The store is only loaded from. `Failed` only where a call of the store failed.
 pub fn plan_clean<S: Store>(store: &mut S, no: BlockNo) -> Result<Option<Group>, Failed>
     requires going { S.failed store.old ≡ false }
     requires there { no < table_blocks (S.shape_of store.old) }

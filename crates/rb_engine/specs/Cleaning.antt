@@ -56,8 +56,8 @@ pub record HasCleaned {S : Type 0} (s : Ghosts S) (h : State) (xids : List Xid) 
   pub survives : (before : Option Call) → s.keeps → Survives s (s.slots old) before h h old new
 
 -- the same by whether the calls went well
-abbrev pub Cleans : {S : Type 0} → Ghosts S → State → List Xid → (ℕ → Type 0) → (ℕ → Type 0) → ℕ → S → S
-    → Bool → Type 0
+abbrev pub Cleans : {S : Type 0} → Ghosts S → State → List Xid → (May Must : ℕ → Type 0) → (most : ℕ)
+    → (old new : S) → Bool → Type 0
 Cleans s h xids May Must most old new true = HasCleaned s h xids May Must most old new
 Cleans s h xids May Must most old new false = (fault : Option Call) → Fails s fault h old new
 

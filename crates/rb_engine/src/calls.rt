@@ -160,17 +160,17 @@ impl<T: Store> Engine<T> {
     /// Gives the next row of a cursor into `row`, or the end. It takes no lock and waits for nobody. Where what its
     /// snapshot needs was given up, it may be refused as `TooOld`, and may be tried again: the first home that may have
     /// the next row can't be read then. Each home that it reads is cleaned of transactions that have ended, by a group
-    /// that isn't flushed, while the log has more room than rollbacks need: later readers and writers find their numbers
-    /// in the block, also where the segments have forgotten them. No row changes by it. (The delayed cleanout of
-    /// Oracle7.)
+    /// that isn't flushed, while the log has more room than rollbacks need: later readers and writers find the numbers
+    /// of these in the block, also where the segments have forgotten them. No row changes by it. (The delayed cleanout
+    /// of Oracle7.)
     pub fn fetch(&mut self, s: u16, name: &Name, row: &mut Row) -> Result<Fetched, Refusal>
         ensures did { (h : State) → Stands T.Store h self.old → Does T.Store h
             (machine.Fetch s (name_text name.now)) (fetch_answer result row.new) self.old self.new }
         ensures lost { (h : State) → Stands T.Store h self.old → (scn lost : ℕ)
             → result ≡ Err (Refusal.TooOld scn lost)
             → NeedsLost T.Store h self.old s (name_text name.now) scn lost }
-        ensures cleans { (h : State) → Stands T.Store h self.old → HasLooked result → CleansRead T.Store h self.old s
-            (name_text name.now) (is_err result ≡ false) self.new.store }
+        ensures cleans { (h : State) → Stands T.Store h self.old → HasLooked result
+            → CleansRead T.Store h self.old s (name_text name.now) (is_err result ≡ false) self.new.store }
         ensures idle { (HasLooked result → ⊥) → err_is is_disk_fault result ≡ false
             → self.new.store ≡ self.old.store }
         ensures row { LeavesRow result row.old row.new }

@@ -1,6 +1,7 @@
-//! A cursor's next row, by the homes of its table in scan order, each cleaned and rebuilt as it was at the cursor's snapshot.
-//! `fetch` calls it.
-ghost use Rattle.std.specs.Prelude.{◌≡◌, ◌⊎◌, ◌<◌, ◌≤◌, ◌%◌, ◌*◌, ℕ, List, length, true, false, not};
+//! A cursor's next row, by the homes of its table in scan order, each cleaned and rebuilt as it was at the cursor's
+//! snapshot. `fetch` calls it.
+ghost use Rattle.std.specs.Prelude.{◌≡◌, ◌⊎◌, ◌<◌, ◌≤◌, ◌%◌, ◌*◌, ℕ, List, length};
+ghost use Rattle.std.specs.Prelude.{true, false, not};
 ghost use Rattle.std.specs.Prelude.{None, Some, IfOk, IfErr, if◌then◌else◌, ◌==◌};
 ghost use Rattle.rb_base.specs.Groups.{Patch};
 ghost use Rattle.rb_base.specs.Logs.{Logs};
@@ -64,8 +65,8 @@ fn is_asked(cursor: &Cursor, blocks: u32, g: u32) -> bool
     ahead <= cursor.hi - cursor.lo
 }
 
-/// Puts the next row of home `g` into `row`, where it has one. The home is cleaned first, where the log has room for it,
-/// so that what is known of its transactions now is still known when their undo is gone.
+/// Puts the next row of home `g` into `row`, where it has one. The home is cleaned first, where the log has room for
+/// it, so that what is known of its transactions now is still known when their undo is gone.
 fn next_in<S: Store>(
     store: &mut S,
     scratch: &mut Scratch,
@@ -92,7 +93,8 @@ fn next_in<S: Store>(
     ensures same { IfErr result (λ fault. row.new ≡ row.old) }
     ensures logs { (groups : List (List Patch))
         × Logs S.Store store.old store.new groups (not (is_failed result)) × (length groups ≤ 1) }
-    ensures young { is_failed result ≡ false → (S.lsn store.new ≤ WORN) ⊎ (S.lsn store.new ≡ S.lsn store.old) }
+    ensures young { is_failed result ≡ false
+        → (S.lsn store.new ≤ WORN) ⊎ (S.lsn store.new ≡ S.lsn store.old) }
 {
     let blocks = store.shape().blocks;
     if !is_asked(cursor, blocks, g) {
@@ -135,7 +137,8 @@ pub fn next_row<S: Store>(
     ensures kept { IfOk result (λ f. f ≡ Fetched.End → row.new ≡ row.old) }
     ensures same { IfErr result (λ fault. row.new ≡ row.old) }
     ensures logs { (groups : List (List Patch)) × Logs S.Store store.old store.new groups (not (is_failed result)) }
-    ensures young { is_failed result ≡ false → (S.lsn store.new ≤ WORN) ⊎ (S.lsn store.new ≡ S.lsn store.old) }
+    ensures young { is_failed result ≡ false
+        → (S.lsn store.new ≤ WORN) ⊎ (S.lsn store.new ≡ S.lsn store.old) }
 {
     let blocks = store.shape().blocks;
     let first = first_home(cursor, blocks);

@@ -148,7 +148,13 @@ module _ {S : Type 0} (s : Ghosts S) (told : s.tells) (laws : Laws s) where
 
     pub clean_fault : {fault : Option Call} → GivesOne s old new false (λ now. CleanMade h xids b Room (s.blocks old) now) → s.keeps → Survives s (s.slots old) fault h (record h { stopped = true }) old new
     clean_fault one keeps =
-        step_fault h xids old new shape holds (record { groups = one.groups; logs = one.logs; few = one.few; one = one.one; made = λ some.
-            let m = one.made some in
-            let now = after_groups (s.lsn old + 1) one.groups (s.blocks old) in
-            has_state h xids now (s.slots old) (s.lsn old + 1) m.stand (ap (λ (n : ℕ). n + 1) holds.logged ∙ sym m.last) (room_less (s.slots old) (s.lsn old) (owed_in h.shape now) (let f = m.fits in omega (arith, f))) }) keeps
+        step_fault h xids old new shape holds (record {
+          groups = one.groups;
+          logs = one.logs;
+          few = one.few;
+          one = one.one;
+          made = λ some.
+              let m = one.made some in
+              let now = after_groups (s.lsn old + 1) one.groups (s.blocks old) in
+              has_state h xids now (s.slots old) (s.lsn old + 1) m.stand (ap (λ (n : ℕ). n + 1) holds.logged ∙ sym m.last) (room_less (s.slots old) (s.lsn old) (owed_in h.shape now) (let f = m.fits in omega (arith, f)));
+        }) keeps

@@ -33,7 +33,8 @@ pub(crate) fn parse_layout(parameters: &[&str]) -> Option<Layout>
 /// The number of frames that the words behind `run` spell.
 pub(crate) fn parse_frames(parameters: &[&str]) -> Option<u32>
     ensures found { IfSome result (λ n. (16 ≤ n) × (n ≤ 4096) × (referred parameters.now ≡ frames_words n)) }
-    ensures none { IfNone result ((n : ℕ) → 16 ≤ n → n ≤ 4096 → referred parameters.now ≢ frames_words n) }
+    ensures none { IfNone result ((n : ℕ) → 16 ≤ n → n ≤ 4096
+        → referred parameters.now ≢ frames_words n) }
 {
     let [frames] = parameters else {
         return None;
