@@ -1,7 +1,7 @@
 -- What one group makes of blocks that stand for a state, by each step of a session: a write, the put back of a change,
 -- a commit, the end of a transaction without one, the cleaning of a block that is read.
-use Rattle.std.specs.Prelude.{◌≡◌, ◌≢◌, ◌⊎◌, ◌<◌, ◌≤◌, ◌+◌, ◌∷◌, ◌++◌, ℕ, Bool}
-use Rattle.std.specs.Prelude.{true, List, [], length, Some}
+use Rattle.std.specs.Prelude.{◌≡◌, ◌≢◌, ◌⊎◌, ◌<◌, ◌≤◌, ◌+◌, ◌∷◌, ◌++◌, ℕ}
+use Rattle.std.specs.Prelude.{Bool, true, List, [], length, Some}
 use Rattle.rb_base.specs.Blocks.{after_groups, block_of}
 use Rattle.rb_base.specs.Groups.{Patch}
 use Rattle.rb_base.specs.Logs.{Logs}
