@@ -5,23 +5,30 @@ use Rattle.std.specs.Bool.{MatchBool}
 use Rattle.rb_base.specs.Counts.{IsCountedAs}
 use Rattle.rb_base.specs.Stores.{room_of}
 use Rattle.rb_base.specs.declared.store.Store.{Ghosts}
-use Rattle.rb_calls.specs.Since.{IsSince, StandsAs, slots_of}
+use Rattle.rb_calls.specs.Since.{IsSince, StandsAs, outside_of, slots_of}
 use Rattle.rb_engine.proofs.QueueLemmas.{survives_from, survives_queue}
 use Rattle.rb_engine.specs.Does.{Does, EngineView, Resumes, SameStore, Stands}
+use Rattle.rb_engine.specs.Lateness.{ResumeNeedsLost}
+use Rattle.rb_engine.specs.Worn.{CallNeedsLost, IsWorn}
 use Rattle.rb_image.specs.Crash.{Survives}
 use Rattle.rb_lines.specs.Ran.{Did}
-use Rattle.rb_model.specs.Answers.{answer_of, write_answer}
-use Rattle.rb_model.specs.Calls.{Answer, Call, Done, End, Given, Marked, Numbered, Refused, Reply, Waits, Write, failed_in, is_fault}
+use Rattle.rb_model.specs.Answers.{answer_of, fetch_answer, write_answer}
+use Rattle.rb_model.specs.Calls.{Answer, Call, Done, End, Given, Marked, Numbered, Refused, Reply, Waits, failed_in, is_fault}
+use Rattle.rb_model.specs.Calls.{Write, Commit, Rollback, SetMode, SetSavepoint, RollbackTo, OpenCursor, Fetch, CloseCursor, Cancel, Marks, Checkpoint}
 use Rattle.rb_model.specs.Change.{Asked}
 use Rattle.rb_model.specs.NextState.{After, unqueued}
-use Rattle.rb_model.specs.Out.{Logged, CallOut, Resumed, goes_on, room}
+use Rattle.rb_model.specs.Out.{Logged, Outside, CallOut, Resumed, goes_on, room}
 use Rattle.rb_model.specs.Queue.{first_ready, left_by}
 use Rattle.rb_model.specs.State.{State, asked_of}
 use Rattle.rb_model.specs.declared.answer.Answer as code
 use Rattle.rb_model.specs.declared.answer.Answer.TheVariants as answers
 use Rattle.rb_model.specs.declared.refusal.Refusal.{Refusal}
+use Rattle.rb_model.specs.declared.refusal.Refusal.TheVariants.{TooOld}
+use Rattle.rb_model.specs.declared.row.Fetched.{Fetched}
+use Rattle.rb_model.specs.declared.row.Fetched.TheVariants as fetched
 use Rattle.rb_model.specs.declared.row.Row.{Row}
 use Rattle.rb_model.specs.declared.wrote.Wrote.{Wrote}
+use Rattle.rb_model.specs.declared.wrote.Wrote.TheVariants as wrote
 use Rattle.rb_model.proofs.Stops.{after_stops, fine_stays}
 
 -- a count by another test that comes to the same
@@ -53,6 +60,38 @@ on_no_fault End e = refl
 on_no_fault (Marked seg writes lost) e = refl
 on_no_fault (Refused why) e = absurd (false≢true e)
 
+-- where it is too old, what it reads is worn
+
+pub worn_by : {S : Type 0} (s : Ghosts S) (h : State) (e : EngineView S) (c : Call) (scn lost : ℕ) → CallNeedsLost s h e c scn lost → IsWorn h c scn lost
+worn_by s h e (Write who table key action) scn lost needs = (needs.0, s.blocks e.store, needs.1)
+worn_by s h e (Fetch who name) scn lost needs = (needs.0, s.blocks e.store, needs.1)
+worn_by s h e (Commit who) scn lost needs = tt
+worn_by s h e (Rollback who) scn lost needs = tt
+worn_by s h e (SetMode who mode) scn lost needs = tt
+worn_by s h e (SetSavepoint who name) scn lost needs = tt
+worn_by s h e (RollbackTo who name) scn lost needs = tt
+worn_by s h e (OpenCursor who name table lo hi) scn lost needs = tt
+worn_by s h e (CloseCursor who name) scn lost needs = tt
+worn_by s h e (Cancel who) scn lost needs = tt
+worn_by s h e (Marks seg) scn lost needs = tt
+worn_by s h e Checkpoint scn lost needs = tt
+
+-- the outcome of a write that answers so
+pub old_outcome : (outcome : Result Wrote Refusal) (scn lost : ℕ) → write_answer outcome ≡ Refused (TooOld scn lost) → outcome ≡ Err (TooOld scn lost)
+old_outcome (Ok wrote.Done) scn lost is = cc
+old_outcome (Ok (wrote.Waits on)) scn lost is = cc
+old_outcome (Err why) scn lost is = cc
+
+-- and of a fetch
+pub old_fetch : (outcome : Result Fetched Refusal) (row : Row) (scn lost : ℕ) → fetch_answer outcome row ≡ Refused (TooOld scn lost) → outcome ≡ Err (TooOld scn lost)
+old_fetch (Ok fetched.Row) row scn lost is = cc
+old_fetch (Ok fetched.End) row scn lost is = cc
+old_fetch (Err why) row scn lost is = cc
+
+-- the answer of a write that is tried again
+pub tried_old : (w : ℕ) (outcome : Result Wrote Refusal) (scn lost : ℕ) → outcome ≡ Err (TooOld scn lost) → ◌≡◌ {A = Option (ℕ × Result Wrote Refusal)} (Some (w, outcome)) (Some (w, Err (TooOld scn lost)))
+tried_old w outcome scn lost is = ap (λ (o : Result Wrote Refusal). let r : Option (ℕ × Result Wrote Refusal) = Some (w, o) in r) is
+
 -- one call, as the engine tells it
 
 module _ {S : Type 0} (s : Ghosts S) where
@@ -62,8 +101,9 @@ module _ {S : Type 0} (s : Ghosts S) where
 
   -- from a state that the engine stood for, to the one that it stands for after the call
   pub did_call : (m : Logged) (c : Call) (r : Answer) (old new : EngineView S) (P : Logged → Type 0) → StandsAs s old m → m.state.stopped ≡ false → Does s m.state c r old new → SameStore s old.store new.store
-      → ((now : Logged) → CallOut m (slots_of (s.slots old.store)) c r now → P now) → Did (StandsAs s) (IsSince s) old new m P
-  did_call m c r old new P is going does same so =
+      → ((scn lost : ℕ) → r ≡ Refused (TooOld scn lost) → CallNeedsLost s m.state old c scn lost)
+      → ((now : Logged) → CallOut m (outside_of (s.slots old.store)) c r now → P now) → Did (StandsAs s) (IsSince s) old new m P
+  did_call m c r old new P is going does same lost so =
       let slots = slots_of (s.slots old.store) in
       let now : Logged = record { state = does.now; lsn = s.lsn new.store; fault = failed_in c r m.fault } in
       record {
@@ -73,6 +113,7 @@ module _ {S : Type 0} (s : Ghosts S) where
         ran = so now (record {
           reply = subst (λ (n : ℕ). Reply m.state n (room slots n) c r) (sym is.lsn)
               (subst (λ (more : ℕ). Reply m.state (s.lsn old.store) more c r) (all_room old m is) does.reply);
+          worn = λ n gone old_one. worn_by s m.state old c n gone (lost n gone old_one);
           state = does.after;
           fault = refl;
           groups = does.groups;
@@ -96,14 +137,15 @@ pub did_still : {M : Type 0} {stands : M → Logged → Type 0} {since : M → M
 did_still {M} {stands} {since} old mid new m P still did = subst (λ (x : M). Did stands since old x m P) (sym still) did
 
 -- The write of the first ready session was tried once more.
-pub record TriedAgain (m : Logged) (slots w : ℕ) (r : Answer) (now : Logged) : Type 0 where
+pub record TriedAgain (m : Logged) (outside : Outside) (w : ℕ) (r : Answer) (now : Logged) : Type 0 where
   pub asked : Asked
   pub known : asked_of m.state w ≡ Some asked
   pub ready : first_ready m.state.queue ≡ Some w
-  pub resumed : Resumed m slots w asked r now
+  pub resumed : Resumed m outside w asked r now
   pub stopped : now.state.stopped ≡ is_fault r
 
-module _ {S : Type 0} (s : Ghosts S) (m : Logged) (w : ℕ) (outcome : Result Wrote Refusal) (old new : EngineView S) (is : StandsAs s old m) (going : m.state.stopped ≡ false) (same : SameStore s old.store new.store) where
+module _ {S : Type 0} (s : Ghosts S) (m : Logged) (w : ℕ) (outcome : Result Wrote Refusal) (old new : EngineView S) (is : StandsAs s old m) (going : m.state.stopped ≡ false) (same : SameStore s old.store new.store)
+    (lost : (scn gone : ℕ) → outcome ≡ Err (TooOld scn gone) → ResumeNeedsLost s m.state old w scn gone) where
   abbrev r : Answer
   r = write_answer outcome
 
@@ -119,12 +161,23 @@ module _ {S : Type 0} (s : Ghosts S) (m : Logged) (w : ℕ) (outcome : Result Wr
       subst (λ (n : ℕ). Reply (unqueued m.state w) n (room (slots_of (s.slots old.store)) n) (call a) r) (sym is.lsn)
       (subst (λ (slots : Option ℕ). Reply (unqueued m.state w) (s.lsn old.store) (room_of slots (s.lsn old.store)) (call a) r) is.ended does.reply)
 
+  -- the write with which the session waited
+  asked_is : (a b : Asked) → asked_of m.state w ≡ Some a → asked_of m.state w ≡ Some b → b ≡ a
+  asked_is a b one two = let same : Some b ≡ Some a = sym two ∙ one in cc
+
+  -- where it is too old, what it reads is worn
+  worn : (a : Asked) → asked_of m.state w ≡ Some a → (scn gone : ℕ) → r ≡ Refused (TooOld scn gone) → IsWorn m.state (call a) scn gone
+  worn a known scn gone old_one =
+      let needs = lost scn gone (old_outcome outcome scn gone old_one) in
+      subst (λ (b : Asked). IsWorn m.state (call b) scn gone) (asked_is a needs.0 known needs.1)
+      (worn_by s m.state old (call needs.0) scn gone (needs.2, needs.3))
+
   ends_as : s.slots new.store ≡ Some (slots_of (s.slots new.store))
   ends_as = subst (λ (slots : Option ℕ). slots ≡ Some (slots_of slots)) (sym same.slots) is.ended
 
   -- no fault: the state after the write
   fine : (P : Logged → Type 0) (a : Asked) → asked_of m.state w ≡ Some a → first_ready m.state.queue ≡ Some w → Made a → is_fault r ≡ false
-      → ((now : Logged) → TriedAgain m (slots_of (s.slots old.store)) w r now → P now) → Did (StandsAs s) (IsSince s) old new m P
+      → ((now : Logged) → TriedAgain m (outside_of (s.slots old.store)) w r now → P now) → Did (StandsAs s) (IsSince s) old new m P
   fine P a known ready does e so =
       let now : Logged = record { state = does.now; lsn = s.lsn new.store; fault = failed_in (call a) r m.fault } in
       record {
@@ -140,6 +193,7 @@ module _ {S : Type 0} (s : Ghosts S) (m : Logged) (w : ℕ) (outcome : Result Wr
           ready = ready;
           resumed = record {
             reply = told_reply a does;
+            worn = worn a known;
             state = subst (λ (v : Bool). MatchBool v (does.now ≡ record m.state { stopped = true }) (After (unqueued m.state w) (call a) r does.now)) (sym e) does.after;
             fault = refl;
             groups = does.groups;
@@ -152,7 +206,7 @@ module _ {S : Type 0} (s : Ghosts S) (m : Logged) (w : ℕ) (outcome : Result Wr
 
   -- a fault: the session keeps its place
   failed : (P : Logged → Type 0) (a : Asked) → asked_of m.state w ≡ Some a → first_ready m.state.queue ≡ Some w → Made a → is_fault r ≡ true
-      → ((now : Logged) → TriedAgain m (slots_of (s.slots old.store)) w r now → P now) → Did (StandsAs s) (IsSince s) old new m P
+      → ((now : Logged) → TriedAgain m (outside_of (s.slots old.store)) w r now → P now) → Did (StandsAs s) (IsSince s) old new m P
   failed P a known ready does e so =
       let left : State = record (unqueued m.state w) { stopped = true } in
       let halted : State = record m.state { stopped = true } in
@@ -183,6 +237,7 @@ module _ {S : Type 0} (s : Ghosts S) (m : Logged) (w : ℕ) (outcome : Result Wr
           ready = ready;
           resumed = record {
             reply = told_reply a does;
+            worn = worn a known;
             state = subst (λ (v : Bool). MatchBool v (halted ≡ halted) (After (unqueued m.state w) (call a) r halted)) (sym e) refl;
             fault = refl;
             groups = 0;
@@ -194,7 +249,7 @@ module _ {S : Type 0} (s : Ghosts S) (m : Logged) (w : ℕ) (outcome : Result Wr
       }
 
   pub did_resume : (P : Logged → Type 0) → Resumes s m.state (Some (w, outcome)) old new
-      → ((now : Logged) → TriedAgain m (slots_of (s.slots old.store)) w r now → P now) → Did (StandsAs s) (IsSince s) old new m P
+      → ((now : Logged) → TriedAgain m (outside_of (s.slots old.store)) w r now → P now) → Did (StandsAs s) (IsSince s) old new m P
   did_resume P (on, ready, a, known, does) so = ⊎_elim
       (λ (e : is_fault r ≡ true). failed P a known ready does e so)
       (λ (e : is_fault r ≡ false). fine P a known ready does e so)

@@ -4,11 +4,12 @@ use Rattle.rb_base.specs.Logs.{Laws}
 use Rattle.rb_base.specs.Moments.{begun}
 use Rattle.rb_base.specs.declared.store.Store.{Ghosts}
 use Rattle.rb_engine.specs.Does.{EngineView, SameStore, Stands}
+use Rattle.rb_engine.specs.Worn.{IsWorn}
 use Rattle.rb_image.proofs.Crashes.{extends_same, grow_same, survives_on}
 use Rattle.rb_image.proofs.Steps.{left_with, restarts}
 use Rattle.rb_image.specs.Crash.{OnTheWay, Restarts, Survives, at_end, whole}
 use Rattle.rb_image.specs.Images.{HasState}
-use Rattle.rb_model.specs.Out.{Logged}
+use Rattle.rb_model.specs.Out.{Logged, Outside, outside_by}
 use Rattle.rb_model.specs.Rows.{last_scn}
 use Rattle.rb_model.specs.State.{State}
 
@@ -16,6 +17,10 @@ use Rattle.rb_model.specs.State.{State}
 abbrev pub slots_of : Option ℕ → ℕ
 slots_of None = 0
 slots_of (Some slots) = slots
+
+-- what answers hang on besides the state, over a log of so many slots
+abbrev pub outside_of : Option ℕ → Outside
+outside_of slots = outside_by IsWorn (slots_of slots)
 
 -- An engine stands for a state, and the last log number is that of its store, whose log has an end.
 pub record StandsAs {S : Type 0} (s : Ghosts S) (e : EngineView S) (m : Logged) : Type 0 where

@@ -1,14 +1,16 @@
 //! The calls of a command on the engine. The shell makes those of a line, and the generator those of the commands that
 //! it draws.
-ghost use Rattle.std.specs.Prelude.{◌≡◌, ◌<◌, None};
+ghost use Rattle.std.specs.Prelude.{◌≡◌, ◌<◌, ℕ, None};
 ghost use Rattle.rb_base.specs.Counts.{IsCountedAs};
 ghost use Rattle.rb_calls.specs.Fits.{FitsCaller};
 ghost use Rattle.rb_engine.specs.Does.{Does, SameStore, Stands};
+ghost use Rattle.rb_engine.specs.Worn.{CallNeedsLost};
 ghost use Rattle.rb_model.specs.Answers.{answer_of};
 ghost use Rattle.rb_model.specs.Calls as machine;
 ghost use Rattle.rb_model.specs.Calls.{is_fault};
 ghost use Rattle.rb_model.specs.Lines.{call_of, caller, most_calls};
 ghost use Rattle.rb_model.specs.State.{State};
+ghost use Rattle.rb_model.specs.declared.refusal.Refusal.TheVariants.{TooOld};
 ghost use Rattle.rb_script.specs.Commands.{command_of};
 
 use crate::answers::{
@@ -58,6 +60,9 @@ pub fn answer<T: Store>(
     requires { k < most_calls (T.shape_of engine.old.store) (command_of command.now) }
     ensures did { (h : State) → Stands T.Store h engine.old → Does T.Store h
         (call_of (command_of command.now) k) (answer_of result row.new) engine.old engine.new }
+    ensures lost { (h : State) → Stands T.Store h engine.old → (scn lost : ℕ)
+        → answer_of result row.new ≡ machine.Refused (TooOld scn lost)
+        → CallNeedsLost T.Store h engine.old (call_of (command_of command.now) k) scn lost }
     ensures fits { FitsCaller (caller (command_of command.now)) result }
     ensures same { SameStore T.Store engine.old.store engine.new.store }
     ensures disk { IsCountedAs (T.faults engine.old.store) (T.faults engine.new.store)

@@ -165,7 +165,19 @@ module _ {S : Type 0} (s : Ghosts S) (laws : Laws s) (h : State) (old : EngineVi
 
   -- what the search couldn't read
   pub needs_lost : (fault : CrFault) (scn lost : ℕ) → fault ≡ faults.TooOld scn lost → ((xids : List Xid) → Serves s h xids m old.store → CannotRead h xids blocks m fault) → NeedsLost s h old who name scn lost
-  needs_lost fault scn lost is found = (goes.xids, m, is_named, subst (CannotRead h goes.xids blocks m) is (found goes.xids serves))
+  needs_lost fault scn lost is found =
+      let one = cursor_for goes.xids goes.remembers in (
+        goes.xids,
+        record {
+          stand = goes.holds.blocks;
+          cursor = one.0;
+          named = one.1;
+          kept = m;
+          is = one.2;
+          cannot = subst (CannotRead h goes.xids blocks m) is (found goes.xids serves);
+        },
+        is_named,
+      )
 
   -- what it cleaned
   pub cleans_read : (well : Type 0) (new : S) (result : Result Fetched CrFault) → (well → (f : Fetched) × (result ≡ Ok f))

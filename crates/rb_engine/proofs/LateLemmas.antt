@@ -15,7 +15,7 @@ use Rattle.rb_cr.specs.declared.faults.CrFault.TheVariants as faults
 use Rattle.rb_cr.specs.declared.scratch.Snapshot.{Snapshot}
 use Rattle.rb_engine.specs.Checks.{NotOld}
 use Rattle.rb_engine.specs.Does.{Does, EngineView, Goes, Kept, SameStore, Stands}
-use Rattle.rb_engine.specs.Lateness.{IsKeyWorn, IsRefusedLate, IsTimely, IsWriteOld, LateAs, WriteNeedsLost}
+use Rattle.rb_engine.specs.Lateness.{IsKeyWorn, IsRefusedLate, IsTimely, IsWriteOld, IsWriteWorn, LateAs, WriteNeedsLost}
 use Rattle.rb_engine.proofs.DoesLemmas.{does_fault, does_loaded, fault_survives}
 use Rattle.rb_engine.proofs.WriteLemmas.{answered}
 use Rattle.rb_model.specs.Book.{book_at}
@@ -160,7 +160,7 @@ module _ {S : Type 0} (s : Ghosts S) (told : s.tells) (laws : Laws s) (h : State
 -- the store's blocks are those from before it was loaded from
 pub needs_lost_before : {S : Type 0} (s : Ghosts S) (told : s.tells) (h : State) (old mid : S) (memory : Kept) (who table key scn lost : ℕ) → Logs s old mid [] true
     → WriteNeedsLost s h (record { memory = memory; store = mid }) who table key scn lost → WriteNeedsLost s h (record { memory = memory; store = old }) who table key scn lost
-needs_lost_before s told h old mid memory who table key scn lost logs needs = (needs.0, subst (λ b. IsWriteOld h needs.0 b who table key scn lost) (logs.blocks told refl) needs.1)
+needs_lost_before s told h old mid memory who table key scn lost logs needs = (needs.0, subst (λ b. IsWriteWorn h needs.0 b who table key scn lost) (logs.blocks told refl) needs.1)
 
 -- what the home, the segment or the log refuses isn't too old
 pub attempt_not_old : (fault : AttemptFault) (scn lost : ℕ) → refusal_of fault ≡ refusals.TooOld scn lost → ⊥

@@ -125,7 +125,7 @@ module _ (h : State) (queue : List Waiter) (asked : List (Option Asked)) where
       let each : (λ (t : ℕ). owned Next (env.xid t) (owner_at h t)) ≡ (λ (t : ℕ). owned h (env.xid t) (owner_at h t)) = λ i t. owned_same (env.xid t) (owner_at h t) i in
       ap (λ (f : ℕ → List walk.Change). map f (range_with_len 0 (16 * h.shape.segments))) each
 
-  blocks_stand : (xids : List Xid) (blocks : List (List ℕ)) → BlocksStand h xids blocks → BlocksStand Next xids blocks
+  pub blocks_stand : (xids : List Xid) (blocks : List (List ℕ)) → BlocksStand h xids blocks → BlocksStand Next xids blocks
   blocks_stand xids blocks stand = record {
     tell = record {
       in_range = stand.tell.in_range;

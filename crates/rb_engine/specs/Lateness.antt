@@ -15,6 +15,7 @@ use Rattle.rb_model.specs.declared.refusal.Refusal.{Refusal}
 use Rattle.rb_model.specs.declared.refusal.Refusal.TheVariants as refusals
 use Rattle.rb_rebuild.specs.Reading.{Worn}
 use Rattle.rb_standing.specs.Standing.{env_of, homes_of}
+use Rattle.rb_standing.specs.States.{BlocksStand}
 use Rattle.rb_undoengine.specs.Steps.{NotLate}
 use Rattle.rb_views.specs.Views.{history}
 
@@ -49,12 +50,18 @@ abbrev pub IsTimely : State → List Xid → List (List ℕ) → (s table key : 
 IsTimely h xids blocks s table key (Ok done) = NotLate h s table key
 IsTimely h xids blocks s table key (Err why) = IsRefusedLate h xids blocks s table key why
 
--- A write of a session is too old: its transaction is serializable, and the key's home can't be read at the snapshot,
--- for what a segment lost above it.
+-- A write of a session is too old over blocks that stand for the state: its transaction is serializable, and the key's
+-- home can't be read at the snapshot, for what a segment lost above it.
+pub record IsWriteWorn (h : State) (xids : List Xid) (blocks : List (List ℕ)) (s table key scn lost : ℕ) : Type 0
+  where
+    pub stand : BlocksStand h xids blocks
+    pub old : IsWriteOld h xids blocks s table key scn lost
+
+-- So it is over an engine that stands for h.
 abbrev pub WriteNeedsLost : {S : Type 0} → Ghosts S → State → EngineView S → (s table key scn lost : ℕ)
     → Type 0
 WriteNeedsLost store h e s table key scn lost =
-    (xids : List Xid) × IsWriteOld h xids (store.blocks e.store) s table key scn lost
+    (xids : List Xid) × IsWriteWorn h xids (store.blocks e.store) s table key scn lost
 
 -- So is a write that is tried again, which is the one that its session waits with.
 abbrev pub ResumeNeedsLost : {S : Type 0} → Ghosts S → State → EngineView S → (s scn lost : ℕ) → Type 0

@@ -74,10 +74,19 @@ abbrev pub OtherHolds : State → ℕ → ℕ → ℕ → Option ℕ → Type 0
 OtherHolds h s table key None = NotOthers h s table key
 OtherHolds h s table key (Some u) = (holder h table key ≡ Some u) × (u ≢ s)
 
--- A fetch of a session is too old: its cursor of that name, by the table of an engine that stands for h, has a next row
--- that can't be read, for what a segment lost above the snapshot.
+-- A fetch of a session is too old over blocks that stand for the state: its cursor of that name, as the table of
+-- sessions keeps it, has a next row that can't be read, for what a segment lost above the snapshot.
+pub record IsFetchOld (h : State) (xids : List Xid) (blocks : List (List ℕ)) (who : ℕ) (name : List ℕ)
+    (scn lost : ℕ) : Type 0 where
+  pub stand : BlocksStand h xids blocks
+  pub cursor : machine.Cursor
+  pub named : machine.cursor_of h who name ≡ Some cursor
+  pub kept : Cursor
+  pub is : IsCursor h xids (env_of h.shape blocks) who (record { name = name; cursor = kept }) cursor
+  pub cannot : CannotRead h xids blocks kept (faults.TooOld scn lost)
+
+-- So it is over an engine that stands for h, by its table and its blocks.
 abbrev pub NeedsLost : {S : Type 0} → Ghosts S → State → EngineView S → ℕ → List ℕ → ℕ → ℕ
     → Type 0
-NeedsLost s h e who name scn lost = (xids : List Xid) × (m : Cursor)
-    × (named name (kept_at e.memory.sessions who).cursors ≡ Some m)
-    × CannotRead h xids (s.blocks e.store) m (faults.TooOld scn lost)
+NeedsLost s h e who name scn lost = (xids : List Xid) × (old : IsFetchOld h xids (s.blocks e.store) who name scn lost)
+    × (named name (kept_at e.memory.sessions who).cursors ≡ Some old.kept)

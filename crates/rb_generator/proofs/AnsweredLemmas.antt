@@ -17,7 +17,7 @@ use Rattle.rb_generator.specs.declared.counts.Counts.{Counts}
 use Rattle.rb_model.proofs.Stops.{after_stops, fine_stays, the_fault}
 use Rattle.rb_model.specs.Calls.{Answer, Done, Waits, Numbered, Given, End, Marked, Refused, is_fault}
 use Rattle.rb_model.specs.Lines.{Command, call_of, most_calls}
-use Rattle.rb_model.specs.Out.{Logged, CallOut, Resumed, goes_on}
+use Rattle.rb_model.specs.Out.{Logged, CallOut, Resumed, goes_on, Outside}
 use Rattle.rb_model.specs.Queue.{first_ready}
 use Rattle.rb_model.specs.State.{State}
 use Rattle.rb_model.specs.declared.refusal.Refusal.TheVariants.{DiskFault}
@@ -42,19 +42,19 @@ stops_by front r now stopped = ⊎_elim
 -- calls of a command
 
 -- Calls were made, each of which goes on: what goes on from here goes on from the start.
-pub record CallsSoFar (start : Logged) (slots : ℕ) (c : Command) (most k : ℕ) (now : Logged) (before counts : Counts) : Type 0 where
+pub record CallsSoFar (start : Logged) (outside : Outside) (c : Command) (most k : ℕ) (now : Logged) (before counts : Counts) : Type 0 where
   pub answers : List Answer
-  pub goes_on : (rest : List Answer) (end : Logged) → CallsAnswered now slots c most k rest end → CallsAnswered start slots c most 0 (answers ++ rest) end
+  pub goes_on : (rest : List Answer) (end : Logged) → CallsAnswered now outside c most k rest end → CallsAnswered start outside c most 0 (answers ++ rest) end
   pub counted : counts ≡ plus before (counts_of answers)
   pub going : now.state.stopped ≡ false
 
-pub calls_none : (m : Logged) (slots : ℕ) (c : Command) (most : ℕ) (before : Counts) → m.state.stopped ≡ false → CallsSoFar m slots c most 0 m before before
-calls_none m slots c most before going = record { answers = []; goes_on = λ rest end f. f; counted = sym (plus_none before); going = going }
+pub calls_none : (m : Logged) (outside : Outside) (c : Command) (most : ℕ) (before : Counts) → m.state.stopped ≡ false → CallsSoFar m outside c most 0 m before before
+calls_none m outside c most before going = record { answers = []; goes_on = λ rest end f. f; counted = sym (plus_none before); going = going }
 
-module _ (start m mid : Logged) (slots slots1 : ℕ) (c : Command) (most k : ℕ) (r : Answer) (before counts counts2 : Counts)
-    (so : CallsSoFar start slots c most k m before counts) (same : slots1 ≡ slots) (lt : k < most) (made : CallOut m slots1 (call_of c k) r mid) (counted : counts2 ≡ plus counts (counts_of (r ∷ []))) where
-  once : CallOut m slots (call_of c k) r mid
-  once = subst (λ (n : ℕ). CallOut m n (call_of c k) r mid) same made
+module _ (start m mid : Logged) (outside outside1 : Outside) (c : Command) (most k : ℕ) (r : Answer) (before counts counts2 : Counts)
+    (so : CallsSoFar start outside c most k m before counts) (same : outside1 ≡ outside) (lt : k < most) (made : CallOut m outside1 (call_of c k) r mid) (counted : counts2 ≡ plus counts (counts_of (r ∷ []))) where
+  once : CallOut m outside (call_of c k) r mid
+  once = subst (λ (n : Outside). CallOut m n (call_of c k) r mid) same made
 
   stopped : mid.state.stopped ≡ is_fault r
   stopped = ⊎_elim
@@ -62,38 +62,38 @@ module _ (start m mid : Logged) (slots slots1 : ℕ) (c : Command) (most k : ℕ
       (λ (e : is_fault r ≡ false). (fine_stays m.state mid.state (call_of c k) r e once.state).stopped ∙ so.going ∙ sym e)
       (cases_Bool (is_fault r))
 
-  pub calls_more : goes_on r ≡ true → CallsSoFar start slots c most (k + 1) mid before counts2
+  pub calls_more : goes_on r ≡ true → CallsSoFar start outside c most (k + 1) mid before counts2
   calls_more gives = record {
     answers = so.answers ++ r ∷ [];
     goes_on = λ rest end f.
-        subst (λ (xs : List Answer). CallsAnswered start slots c most 0 xs end) (sym (append_assoc so.answers (r ∷ []) rest))
-        (so.goes_on (r ∷ rest) end (lt, mid, once, subst (λ (b : Bool). MatchBool b (CallsAnswered mid slots c most (k + 1) rest end) ((rest ≡ []) × (end ≡ mid))) (sym gives) f));
+        subst (λ (xs : List Answer). CallsAnswered start outside c most 0 xs end) (sym (append_assoc so.answers (r ∷ []) rest))
+        (so.goes_on (r ∷ rest) end (lt, mid, once, subst (λ (b : Bool). MatchBool b (CallsAnswered mid outside c most (k + 1) rest end) ((rest ≡ []) × (end ≡ mid))) (sym gives) f));
     counted = counted_on before counts counts2 so.answers (r ∷ []) so.counted counted;
     going = stopped ∙ on_no_fault r gives;
   }
 
   -- the last
-  pub calls_last : goes_on r ≡ false → HasCounted (CallsAnswered start slots c most 0) mid before counts2 (is_fault r)
+  pub calls_last : goes_on r ≡ false → HasCounted (CallsAnswered start outside c most 0) mid before counts2 (is_fault r)
   calls_last gives =
       let none : ◌≡◌ {A = List Answer} [] [] = refl in
       record {
         answers = so.answers ++ r ∷ [];
-        allowed = so.goes_on (r ∷ []) mid (lt, mid, once, subst (λ (b : Bool). MatchBool b (CallsAnswered mid slots c most (k + 1) [] mid) (◌≡◌ {A = List Answer} [] [] × (mid ≡ mid))) (sym gives) (none, refl));
+        allowed = so.goes_on (r ∷ []) mid (lt, mid, once, subst (λ (b : Bool). MatchBool b (CallsAnswered mid outside c most (k + 1) [] mid) (◌≡◌ {A = List Answer} [] [] × (mid ≡ mid))) (sym gives) (none, refl));
         counted = counted_on before counts counts2 so.answers (r ∷ []) so.counted counted;
         stops = stops_by so.answers r mid stopped;
       }
 
-  pub calls_fault : is_fault r ≡ true → HasCounted (CallsAnswered start slots c most 0) mid before counts2 true
-  calls_fault e = subst (λ (v : Bool). HasCounted (CallsAnswered start slots c most 0) mid before counts2 v) e (⊎_elim
+  pub calls_fault : is_fault r ≡ true → HasCounted (CallsAnswered start outside c most 0) mid before counts2 true
+  calls_fault e = subst (λ (v : Bool). HasCounted (CallsAnswered start outside c most 0) mid before counts2 v) e (⊎_elim
       (λ (gives : goes_on r ≡ true). absurd (false≢true (sym (on_no_fault r gives) ∙ e)))
       (λ (gives : goes_on r ≡ false). calls_last gives)
       (cases_Bool (goes_on r)))
 
 -- all went on
-pub calls_all : (start m : Logged) (slots : ℕ) (c : Command) (most k : ℕ) (before counts : Counts) → k ≡ most → CallsSoFar start slots c most k m before counts → HasCounted (CallsAnswered start slots c most 0) m before counts false
-calls_all start m slots c most k before counts is so = record {
+pub calls_all : (start m : Logged) (outside : Outside) (c : Command) (most k : ℕ) (before counts : Counts) → k ≡ most → CallsSoFar start outside c most k m before counts → HasCounted (CallsAnswered start outside c most 0) m before counts false
+calls_all start m outside c most k before counts is so = record {
   answers = so.answers;
-  allowed = subst (λ (xs : List Answer). CallsAnswered start slots c most 0 xs m) (append-nil so.answers) (so.goes_on [] m (is, refl));
+  allowed = subst (λ (xs : List Answer). CallsAnswered start outside c most 0 xs m) (append-nil so.answers) (so.goes_on [] m (is, refl));
   counted = so.counted;
   stops = so.going;
 }
@@ -101,31 +101,31 @@ calls_all start m slots c most k before counts is so = record {
 -- writes that are tried again
 
 -- Some were, and none failed: what is tried from here on goes on from the start.
-pub record ResumesSoFar (start : Logged) (slots : ℕ) (now : Logged) (before counts : Counts) : Type 0 where
+pub record ResumesSoFar (start : Logged) (outside : Outside) (now : Logged) (before counts : Counts) : Type 0 where
   pub answers : List Answer
-  pub goes_on : (rest : List Answer) (end : Logged) → ResumesAnswered now slots rest end → ResumesAnswered start slots (answers ++ rest) end
+  pub goes_on : (rest : List Answer) (end : Logged) → ResumesAnswered now outside rest end → ResumesAnswered start outside (answers ++ rest) end
   pub counted : counts ≡ plus before (counts_of answers)
   pub going : now.state.stopped ≡ false
 
-pub resumes_none : (m : Logged) (slots : ℕ) (before : Counts) → m.state.stopped ≡ false → ResumesSoFar m slots m before before
-resumes_none m slots before going = record { answers = []; goes_on = λ rest end f. f; counted = sym (plus_none before); going = going }
+pub resumes_none : (m : Logged) (outside : Outside) (before : Counts) → m.state.stopped ≡ false → ResumesSoFar m outside m before before
+resumes_none m outside before going = record { answers = []; goes_on = λ rest end f. f; counted = sym (plus_none before); going = going }
 
-module _ (start m now : Logged) (slots slots1 w : ℕ) (r : Answer) (before counts counts2 : Counts)
-    (so : ResumesSoFar start slots m before counts) (same : slots1 ≡ slots) (counted : counts2 ≡ plus counts (counts_of (r ∷ []))) (again : TriedAgain m slots1 w r now) where
+module _ (start m now : Logged) (outside outside1 : Outside) (w : ℕ) (r : Answer) (before counts counts2 : Counts)
+    (so : ResumesSoFar start outside m before counts) (same : outside1 ≡ outside) (counted : counts2 ≡ plus counts (counts_of (r ∷ []))) (again : TriedAgain m outside1 w r now) where
   -- it and what follows it
-  step_on : (rest : List Answer) (end : Logged) → ResumesAnswered now slots rest end → ResumesAnswered m slots (r ∷ rest) end
-  step_on rest end f = (w, again.asked, now, so.going, again.ready, again.known, subst (λ (k : ℕ). Resumed m k w again.asked r now) same again.resumed, f)
+  step_on : (rest : List Answer) (end : Logged) → ResumesAnswered now outside rest end → ResumesAnswered m outside (r ∷ rest) end
+  step_on rest end f = (w, again.asked, now, so.going, again.ready, again.known, subst (λ (k : Outside). Resumed m k w again.asked r now) same again.resumed, f)
 
-  pub resumes_more : is_fault r ≡ false → ResumesSoFar start slots now before counts2
+  pub resumes_more : is_fault r ≡ false → ResumesSoFar start outside now before counts2
   resumes_more e = record {
     answers = so.answers ++ r ∷ [];
     goes_on = λ rest end f.
-        subst (λ (xs : List Answer). ResumesAnswered start slots xs end) (sym (append_assoc so.answers (r ∷ []) rest)) (so.goes_on (r ∷ rest) end (step_on rest end f));
+        subst (λ (xs : List Answer). ResumesAnswered start outside xs end) (sym (append_assoc so.answers (r ∷ []) rest)) (so.goes_on (r ∷ rest) end (step_on rest end f));
     counted = counted_on before counts counts2 so.answers (r ∷ []) so.counted counted;
     going = again.stopped ∙ e;
   }
 
-  pub resumes_fail : is_fault r ≡ true → HasCounted (ResumesAnswered start slots) now before counts2 true
+  pub resumes_fail : is_fault r ≡ true → HasCounted (ResumesAnswered start outside) now before counts2 true
   resumes_fail e = record {
     answers = so.answers ++ r ∷ [];
     allowed = so.goes_on (r ∷ []) now (step_on [] now (inl (again.stopped ∙ e), refl));
@@ -134,10 +134,10 @@ module _ (start m now : Logged) (slots slots1 w : ℕ) (r : Answer) (before coun
   }
 
 -- none is left
-pub resumes_all : (start m : Logged) (slots : ℕ) (before counts : Counts) → ResumesSoFar start slots m before counts → first_ready m.state.queue ≡ None → HasCounted (ResumesAnswered start slots) m before counts false
-resumes_all start m slots before counts so settled = record {
+pub resumes_all : (start m : Logged) (outside : Outside) (before counts : Counts) → ResumesSoFar start outside m before counts → first_ready m.state.queue ≡ None → HasCounted (ResumesAnswered start outside) m before counts false
+resumes_all start m outside before counts so settled = record {
   answers = so.answers;
-  allowed = subst (λ (xs : List Answer). ResumesAnswered start slots xs m) (append-nil so.answers) (so.goes_on [] m (inr settled, refl));
+  allowed = subst (λ (xs : List Answer). ResumesAnswered start outside xs m) (append-nil so.answers) (so.goes_on [] m (inr settled, refl));
   counted = so.counted;
   stops = so.going;
 }
@@ -152,19 +152,19 @@ stops_on : (fault : Bool) (xs ys : List Answer) (now : Logged) → StopsBy fault
 stops_on true xs ys now (ends, stopped) = (ends_on xs ys ends, stopped)
 stops_on false xs ys now going = going
 
-pub command_fails : (m now : Logged) (slots : ℕ) (c : Command) (before counts : Counts) → HasCounted (CallsAnswered m slots c (most_calls m.state.shape c) 0) now before counts true → HasCounted (CommandAnswered m slots c) now before counts true
-command_fails m now slots c before counts has = record {
+pub command_fails : (m now : Logged) (outside : Outside) (c : Command) (before counts : Counts) → HasCounted (CallsAnswered m outside c (most_calls m.state.shape c) 0) now before counts true → HasCounted (CommandAnswered m outside c) now before counts true
+command_fails m now outside c before counts has = record {
   answers = has.answers;
   allowed = (has.answers, [], now, has.allowed, sym (append-nil has.answers), (inl has.stops.1, refl));
   counted = has.counted;
   stops = has.stops;
 }
 
-pub command_ends : (m mid now : Logged) (slots slots1 : ℕ) (c : Command) (before counts counts2 : Counts) (fault : Bool) → HasCounted (CallsAnswered m slots c (most_calls m.state.shape c) 0) mid before counts false → slots1 ≡ slots
-    → HasCounted (ResumesAnswered mid slots1) now counts counts2 fault → HasCounted (CommandAnswered m slots c) now before counts2 fault
-command_ends m mid now slots slots1 c before counts counts2 fault own same resumed = record {
+pub command_ends : (m mid now : Logged) (outside outside1 : Outside) (c : Command) (before counts counts2 : Counts) (fault : Bool) → HasCounted (CallsAnswered m outside c (most_calls m.state.shape c) 0) mid before counts false → outside1 ≡ outside
+    → HasCounted (ResumesAnswered mid outside1) now counts counts2 fault → HasCounted (CommandAnswered m outside c) now before counts2 fault
+command_ends m mid now outside outside1 c before counts counts2 fault own same resumed = record {
   answers = own.answers ++ resumed.answers;
-  allowed = (own.answers, resumed.answers, mid, own.allowed, refl, subst (λ (n : ℕ). ResumesAnswered mid n resumed.answers now) same resumed.allowed);
+  allowed = (own.answers, resumed.answers, mid, own.allowed, refl, subst (λ (n : Outside). ResumesAnswered mid n resumed.answers now) same resumed.allowed);
   counted = counted_on before counts counts2 own.answers resumed.answers own.counted resumed.counted;
   stops = stops_on fault own.answers resumed.answers now resumed.stops;
 }
@@ -185,62 +185,62 @@ one_from shape n i lt =
     ap (λ (count : ℕ). map (command_at shape n) (range_with_len i count)) more
 
 -- The first i were made, and the disk never failed.
-pub record CommandsSoFar (start : Logged) (slots n i : ℕ) (now : Logged) (counts : Counts) : Type 0 where
+pub record CommandsSoFar (start : Logged) (outside : Outside) (n i : ℕ) (now : Logged) (counts : Counts) : Type 0 where
   pub answers : List Answer
-  pub goes_on : (rest : List Answer) (end : Logged) → CommandsAnswered now slots (commands_from start.state.shape n i) rest end → CommandsAnswered start slots (commands_of start.state.shape n) (answers ++ rest) end
+  pub goes_on : (rest : List Answer) (end : Logged) → CommandsAnswered now outside (commands_from start.state.shape n i) rest end → CommandsAnswered start outside (commands_of start.state.shape n) (answers ++ rest) end
   pub counted : counts ≡ counts_of answers
   pub going : now.state.stopped ≡ false
 
-pub commands_none : (m : Logged) (slots n : ℕ) → m.state.stopped ≡ false → CommandsSoFar m slots n 0 m no_counts
-commands_none m slots n going =
+pub commands_none : (m : Logged) (outside : Outside) (n : ℕ) → m.state.stopped ≡ false → CommandsSoFar m outside n 0 m no_counts
+commands_none m outside n going =
     let all : n - 0 ≡ n = omega arith in
     record {
       answers = [];
-      goes_on = λ rest end f. subst (λ (count : ℕ). CommandsAnswered m slots (map (command_at m.state.shape n) (range_with_len 0 count)) rest end) all f;
+      goes_on = λ rest end f. subst (λ (count : ℕ). CommandsAnswered m outside (map (command_at m.state.shape n) (range_with_len 0 count)) rest end) all f;
       counted = refl;
       going = going;
     }
 
-module _ (start m mid : Logged) (slots slots1 n i : ℕ) (counts counts2 : Counts) (so : CommandsSoFar start slots n i m counts) (same : slots1 ≡ slots) (lt : i < n) where
+module _ (start m mid : Logged) (outside outside1 : Outside) (n i : ℕ) (counts counts2 : Counts) (so : CommandsSoFar start outside n i m counts) (same : outside1 ≡ outside) (lt : i < n) where
   abbrev Here : Bool → Type 0
-  Here fault = HasCounted (CommandAnswered m slots1 (command_at start.state.shape n i)) mid counts counts2 fault
+  Here fault = HasCounted (CommandAnswered m outside1 (command_at start.state.shape n i)) mid counts counts2 fault
 
   -- it and what follows it
-  turn_on : (fault : Bool) (has : Here fault) (rest : List Answer) (end : Logged) → MatchBool mid.state.stopped ((rest ≡ []) × (end ≡ mid)) (CommandsAnswered mid slots (commands_from start.state.shape n (i + 1)) rest end)
-      → CommandsAnswered start slots (commands_of start.state.shape n) (so.answers ++ (has.answers ++ rest)) end
+  turn_on : (fault : Bool) (has : Here fault) (rest : List Answer) (end : Logged) → MatchBool mid.state.stopped ((rest ≡ []) × (end ≡ mid)) (CommandsAnswered mid outside (commands_from start.state.shape n (i + 1)) rest end)
+      → CommandsAnswered start outside (commands_of start.state.shape n) (so.answers ++ (has.answers ++ rest)) end
   turn_on fault has rest end f =
-      let first : CommandAnswered m slots (command_at start.state.shape n i) has.answers mid = subst (λ (k : ℕ). CommandAnswered m k (command_at start.state.shape n i) has.answers mid) same has.allowed in
-      so.goes_on (has.answers ++ rest) end (subst (λ (cs : List Command). CommandsAnswered m slots cs (has.answers ++ rest) end) (sym (one_from start.state.shape n i lt)) (has.answers, rest, mid, first, refl, f))
+      let first : CommandAnswered m outside (command_at start.state.shape n i) has.answers mid = subst (λ (k : Outside). CommandAnswered m k (command_at start.state.shape n i) has.answers mid) same has.allowed in
+      so.goes_on (has.answers ++ rest) end (subst (λ (cs : List Command). CommandsAnswered m outside cs (has.answers ++ rest) end) (sym (one_from start.state.shape n i lt)) (has.answers, rest, mid, first, refl, f))
 
   counts_on : (fault : Bool) (has : Here fault) → counts2 ≡ counts_of (so.answers ++ has.answers)
   counts_on fault has = counted_on no_counts counts counts2 so.answers has.answers (so.counted ∙ sym (none_plus (counts_of so.answers))) has.counted ∙ none_plus (counts_of (so.answers ++ has.answers))
 
-  pub commands_more : Here false → CommandsSoFar start slots n (i + 1) mid counts2
+  pub commands_more : Here false → CommandsSoFar start outside n (i + 1) mid counts2
   commands_more has = record {
     answers = so.answers ++ has.answers;
     goes_on = λ rest end f.
-        subst (λ (xs : List Answer). CommandsAnswered start slots (commands_of start.state.shape n) xs end) (sym (append_assoc so.answers has.answers rest))
-        (turn_on false has rest end (subst (λ (b : Bool). MatchBool b ((rest ≡ []) × (end ≡ mid)) (CommandsAnswered mid slots (commands_from start.state.shape n (i + 1)) rest end)) (sym has.stops) f));
+        subst (λ (xs : List Answer). CommandsAnswered start outside (commands_of start.state.shape n) xs end) (sym (append_assoc so.answers has.answers rest))
+        (turn_on false has rest end (subst (λ (b : Bool). MatchBool b ((rest ≡ []) × (end ≡ mid)) (CommandsAnswered mid outside (commands_from start.state.shape n (i + 1)) rest end)) (sym has.stops) f));
     counted = counts_on false has;
     going = has.stops;
   }
 
-  pub commands_fail : (failed : Failed) → Here true → HasGenerated start slots n mid (Err failed)
+  pub commands_fail : (failed : Failed) → Here true → HasGenerated start outside n mid (Err failed)
   commands_fail failed has =
       let none : ◌≡◌ {A = List Answer} [] [] = refl in
       record {
         answers = so.answers ++ (has.answers ++ []);
-        answered = turn_on true has [] mid (subst (λ (b : Bool). MatchBool b (◌≡◌ {A = List Answer} [] [] × (mid ≡ mid)) (CommandsAnswered mid slots (commands_from start.state.shape n (i + 1)) [] mid)) (sym has.stops.1) (none, refl));
+        answered = turn_on true has [] mid (subst (λ (b : Bool). MatchBool b (◌≡◌ {A = List Answer} [] [] × (mid ≡ mid)) (CommandsAnswered mid outside (commands_from start.state.shape n (i + 1)) [] mid)) (sym has.stops.1) (none, refl));
         ends = (ends_on so.answers (has.answers ++ []) (subst EndsInFault (sym (append-nil has.answers)) has.stops.0), has.stops.1);
       }
 
-pub commands_all : (start m : Logged) (slots n i : ℕ) (counts : Counts) → i ≡ n → CommandsSoFar start slots n i m counts → HasGenerated start slots n m (Ok counts)
-commands_all start m slots n i counts is so =
+pub commands_all : (start m : Logged) (outside : Outside) (n i : ℕ) (counts : Counts) → i ≡ n → CommandsSoFar start outside n i m counts → HasGenerated start outside n m (Ok counts)
+commands_all start m outside n i counts is so =
     let none : n - i ≡ 0 = omega (arith, is) in
     let nil : ◌≡◌ {A = List Answer} [] [] = refl in
     record {
       answers = so.answers;
-      answered = subst (λ (xs : List Answer). CommandsAnswered start slots (commands_of start.state.shape n) xs m) (append-nil so.answers)
-          (so.goes_on [] m (subst (λ (k : ℕ). CommandsAnswered m slots (map (command_at start.state.shape n) (range_with_len i k)) [] m) (sym none) (nil, refl)));
+      answered = subst (λ (xs : List Answer). CommandsAnswered start outside (commands_of start.state.shape n) xs m) (append-nil so.answers)
+          (so.goes_on [] m (subst (λ (k : ℕ). CommandsAnswered m outside (map (command_at start.state.shape n) (range_with_len i k)) [] m) (sym none) (nil, refl)));
       ends = (so.counted, so.going);
     }

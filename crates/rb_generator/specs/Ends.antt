@@ -6,7 +6,7 @@ use Rattle.rb_generator.specs.Counted.{counts_of, plus}
 use Rattle.rb_generator.specs.Draws.{commands_of}
 use Rattle.rb_generator.specs.declared.counts.Counts.{Counts}
 use Rattle.rb_model.specs.Calls.{Answer, Refused}
-use Rattle.rb_model.specs.Out.{Logged}
+use Rattle.rb_model.specs.Out.{Logged, Outside}
 use Rattle.rb_model.specs.declared.refusal.Refusal.TheVariants.{DiskFault}
 
 -- the last answer tells of a fault of the disk
@@ -32,7 +32,8 @@ abbrev pub EndsAs : List Answer → Logged → Result Counts Failed → Type 0
 EndsAs answers now (Ok counts) = (counts ≡ counts_of answers) × StopsBy false answers now
 EndsAs answers now (Err failed) = StopsBy true answers now
 
-pub record HasGenerated (m : Logged) (slots n : ℕ) (now : Logged) (result : Result Counts Failed) : Type 0 where
+pub record HasGenerated (m : Logged) (outside : Outside) (n : ℕ) (now : Logged) (result : Result Counts Failed) : Type
+    0 where
   pub answers : List Answer
-  pub answered : CommandsAnswered m slots (commands_of m.state.shape n) answers now
+  pub answered : CommandsAnswered m outside (commands_of m.state.shape n) answers now
   pub ends : EndsAs answers now result

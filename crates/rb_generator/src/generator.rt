@@ -3,7 +3,7 @@ ghost use Rattle.std.specs.Prelude.{◌≡◌, ◌+◌, ◌*◌, ◌<◌, ◌≤
 ghost use Rattle.std.specs.Fmt.{decimal};
 ghost use Rattle.std.specs.Result.{is_err};
 ghost use Rattle.rb_base.specs.Counts.{IsCounted};
-ghost use Rattle.rb_calls.specs.Since.{IsSince, StandsAs, slots_of};
+ghost use Rattle.rb_calls.specs.Since.{IsSince, StandsAs, outside_of};
 ghost use Rattle.rb_engine.specs.Does.{SameStore};
 ghost use Rattle.rb_generator.specs.Answered.{CommandAnswered};
 ghost use Rattle.rb_generator.specs.Counted.{told};
@@ -31,7 +31,7 @@ fn turn<T: Store>(
     ensures drawn { draws.new.state ≡ next (next (next (next draws.old.state))) }
     ensures did { (m : Logged) → StandsAs T.Store engine.old m → m.state.stopped ≡ false
         → Did (StandsAs T.Store) (IsSince T.Store) engine.old engine.new m (λ now. HasCounted (CommandAnswered m
-        (slots_of (T.slots engine.old.store))
+        (outside_of (T.slots engine.old.store))
         (drawn (T.shape_of engine.old.store) draws.old.state (decimal (i + 1)))) now
         counts.old counts.new (is_err result)) }
     ensures few { told counts.new ≤ told counts.old + 20 }
@@ -52,7 +52,7 @@ pub fn generate<T: Store>(engine: &mut Engine<T>, commands: u32) -> Result<Count
     // and the state after them. A crash may leave no more than these states.
     ensures did { (m : Logged) → StandsAs T.Store engine.old m → m.state.stopped ≡ false
         → Did (StandsAs T.Store) (IsSince T.Store) engine.old engine.new m (λ now. HasGenerated m
-        (slots_of (T.slots engine.old.store)) commands now result) }
+        (outside_of (T.slots engine.old.store)) commands now result) }
     ensures same { SameStore T.Store engine.old.store engine.new.store }
     ensures disk { IsCounted (T.faults engine.old.store) (T.faults engine.new.store) result }
 {

@@ -1,7 +1,7 @@
 -- What a run has done with the bytes taken so far.
 use Rattle.std.proofs.Common.{◌≡◌, ℕ, ◌+◌, ◌-◌, ◌≤◌, false, List, [], ◌++◌, length, take, Result, Ok, Err, refl, sym, ◌∙◌, ap, subst, arith, append_assoc, append-nil, length-append}
 use Rattle.rb_model.specs.Lines.{lines_of}
-use Rattle.rb_model.specs.Out.{Logged}
+use Rattle.rb_model.specs.Out.{Outside, Logged}
 use Rattle.rb_lines.specs.declared.runner.StepFault.{StepFault}
 use Rattle.rb_lines.specs.declared.runner.StepFault.TheVariants.{Disk, Sink}
 use Rattle.rb_lines.specs.Ends.{EndsAs, Halted, WholeRan, end_of}
@@ -32,68 +32,68 @@ lines_of_pieces first piece left =
 
 module _ {M : Type 0} (stands : M → Logged → Type 0) (since : M → M → Logged → Logged → Type 0) where
   -- `room` more bytes may be taken of a thousand million; `kept` is the front of the line under way
-  pub record Part (old new : M) (slots : ℕ) (tells : Type 0) (held_before held_now left_before left_now kept : List ℕ) (room : ℕ) : Type 0 where
+  pub record Part (old new : M) (outside : Outside) (tells : Type 0) (held_before held_now left_before left_now kept : List ℕ) (room : ℕ) : Type 0 where
     pub taken : List ℕ
     pub size : length taken + room ≡ 1000000000
     pub split : left_before ≡ taken ++ left_now
     pub rest : kept ≡ take 513 (rest_from [] taken)
     pub did : (m : Logged) → stands old m → m.state.stopped ≡ false
-        → Did stands since old new m (λ now. RanAs slots m now (lines_from [] taken) tells held_before held_now (Ok tt))
+        → Did stands since old new m (λ now. RanAs outside m now (lines_from [] taken) tells held_before held_now (Ok tt))
 
-  pub part_start : (old : M) (slots : ℕ) (tells : Type 0) (held left kept : List ℕ) → ((m : Logged) → stands old m → m.state.stopped ≡ false → since old old m m)
-      → kept ≡ [] → Part old old slots tells held held left left kept 1000000000
-  part_start old slots tells held left kept same e = record {
+  pub part_start : (old : M) (outside : Outside) (tells : Type 0) (held left kept : List ℕ) → ((m : Logged) → stands old m → m.state.stopped ≡ false → since old old m m)
+      → kept ≡ [] → Part old old outside tells held held left left kept 1000000000
+  part_start old outside tells held left kept same e = record {
     taken = [];
     size = omega arith;
     split = refl;
     rest = e;
-    did = λ m is going. record { now = m; reached = is; passed = same m is going; ran = (ran_none slots m tells held, going) };
+    did = λ m is going. record { now = m; reached = is; passed = same m is going; ran = (ran_none outside m tells held, going) };
   }
 
   -- one more piece of n bytes
-  pub part_more : (old mid new : M) (slots slots1 : ℕ) (tells : Type 0) (held held1 held2 left left1 left2 kept kept2 : List ℕ) (room n : ℕ) (piece : List ℕ)
+  pub part_more : (old mid new : M) (outside outside1 : Outside) (tells : Type 0) (held held1 held2 left left1 left2 kept kept2 : List ℕ) (room n : ℕ) (piece : List ℕ)
       → ((a b c : M) (h n k : Logged) → n.state.stopped ≡ false → since a b h n → since b c n k → since a c h k)
-      → (p : Part old mid slots tells held held1 left left1 kept room) → slots1 ≡ slots
+      → (p : Part old mid outside tells held held1 left left1 kept room) → outside1 ≡ outside
       → n ≤ room → length piece ≡ n → left1 ≡ piece ++ left2
       → ((m : Logged) → stands mid m → m.state.stopped ≡ false
-      → Did stands since mid new m (λ now. RanAs slots1 m now (lines_from (rest_from [] p.taken) piece) tells held1 held2 (Ok tt)))
+      → Did stands since mid new m (λ now. RanAs outside1 m now (lines_from (rest_from [] p.taken) piece) tells held1 held2 (Ok tt)))
       → kept2 ≡ take 513 (rest_from (rest_from [] p.taken) piece)
-      → Part old new slots tells held held2 left left2 kept2 (room - n)
-  part_more old mid new slots slots1 tells held held1 held2 left left1 left2 kept kept2 room n piece joined p same le size split more rest = record {
+      → Part old new outside tells held held2 left left2 kept2 (room - n)
+  part_more old mid new outside outside1 tells held held1 held2 left left1 left2 kept kept2 room n piece joined p same le size split more rest = record {
     taken = p.taken ++ piece;
     size = omega (arith, p.size, length-append p.taken piece);
     split = p.split ∙ ap (λ (l : List ℕ). p.taken ++ l) split ∙ sym (append_assoc p.taken piece left2);
     rest = rest ∙ ap (λ (l : List ℕ). take 513 l) (sym (rest-append [] p.taken piece));
     did = λ m is going. did_on old mid new m _ _ _ joined (p.did m is going) (λ k so_far. so_far.1) more
-        (λ k h2 so_far next. subst (λ (ls : List (List ℕ)). RanAs slots m h2 ls tells held held2 (Ok tt)) (sym (lines-append [] p.taken piece))
-        (as-append slots m k h2 _ _ tells held held1 held2 (Ok tt) so_far.0 so_far.1
-        (subst (λ (s : ℕ). RanAs s k h2 (lines_from (rest_from [] p.taken) piece) tells held1 held2 (Ok tt)) same next)));
+        (λ k h2 so_far next. subst (λ (ls : List (List ℕ)). RanAs outside m h2 ls tells held held2 (Ok tt)) (sym (lines-append [] p.taken piece))
+        (as-append outside m k h2 _ _ tells held held1 held2 (Ok tt) so_far.0 so_far.1
+        (subst (λ (s : Outside). RanAs s k h2 (lines_from (rest_from [] p.taken) piece) tells held1 held2 (Ok tt)) same next)));
   }
 
   -- the end of the input, with its last line
-  pub part_end : (old mid new : M) (m : Logged) (slots slots1 : ℕ) (tells : Type 0) (held held1 held2 left left1 kept : List ℕ) (room : ℕ) (r : Result (Unit {0}) StepFault)
+  pub part_end : (old mid new : M) (m : Logged) (outside outside1 : Outside) (tells : Type 0) (held held1 held2 left left1 kept : List ℕ) (room : ℕ) (r : Result (Unit {0}) StepFault)
       → ((a b c : M) (h n k : Logged) → n.state.stopped ≡ false → since a b h n → since b c n k → since a c h k)
-      → (p : Part old mid slots tells held held1 left left1 kept room) → slots1 ≡ slots → left1 ≡ [] → stands old m → m.state.stopped ≡ false
-      → ((k : Logged) → stands mid k → k.state.stopped ≡ false → Did stands since mid new k (λ now. RanAs slots1 k now (last_of (rest_from [] p.taken)) tells held1 held2 r))
-      → Did stands since old new m (λ now. RanAs slots m now (lines_of left) tells held held2 r)
-  part_end old mid new m slots slots1 tells held held1 held2 left left1 kept room r joined p same none is going more =
+      → (p : Part old mid outside tells held held1 left left1 kept room) → outside1 ≡ outside → left1 ≡ [] → stands old m → m.state.stopped ≡ false
+      → ((k : Logged) → stands mid k → k.state.stopped ≡ false → Did stands since mid new k (λ now. RanAs outside1 k now (last_of (rest_from [] p.taken)) tells held1 held2 r))
+      → Did stands since old new m (λ now. RanAs outside m now (lines_of left) tells held held2 r)
+  part_end old mid new m outside outside1 tells held held1 held2 left left1 kept room r joined p same none is going more =
       let whole : left ≡ p.taken = p.split ∙ ap (λ (l : List ℕ). p.taken ++ l) none ∙ append-nil p.taken in
       did_on old mid new m _ _ _ joined (p.did m is going) (λ k so_far. so_far.1) more
-      (λ k h2 so_far next. subst (λ (ls : List (List ℕ)). RanAs slots m h2 ls tells held held2 r) (sym (ap lines_of whole ∙ lines_of-parts p.taken))
-      (as-append slots m k h2 _ _ tells held held1 held2 r so_far.0 so_far.1
-      (subst (λ (s : ℕ). RanAs s k h2 (last_of (rest_from [] p.taken)) tells held1 held2 r) same next)))
+      (λ k h2 so_far next. subst (λ (ls : List (List ℕ)). RanAs outside m h2 ls tells held held2 r) (sym (ap lines_of whole ∙ lines_of-parts p.taken))
+      (as-append outside m k h2 _ _ tells held held1 held2 r so_far.0 so_far.1
+      (subst (λ (s : Outside). RanAs s k h2 (last_of (rest_from [] p.taken)) tells held1 held2 r) same next)))
 
   -- with a fault of the disk in its last line
-  part_halts : (old mid new : M) (m : Logged) (slots slots1 most : ℕ) (tells : Type 0) (held held1 held2 left left1 left2 kept : List ℕ) (room : ℕ)
+  part_halts : (old mid new : M) (m : Logged) (outside outside1 : Outside) (most : ℕ) (tells : Type 0) (held held1 held2 left left1 left2 kept : List ℕ) (room : ℕ)
       → ((a b c : M) (h n k : Logged) → n.state.stopped ≡ false → since a b h n → since b c n k → since a c h k)
-      → (p : Part old mid slots tells held held1 left left1 kept room) → slots1 ≡ slots → left1 ≡ [] → left1 ≡ left2 → stands old m → m.state.stopped ≡ false
-      → ((k : Logged) → stands mid k → k.state.stopped ≡ false → Did stands since mid new k (λ now. RanAs slots1 k now (last_of (rest_from [] p.taken)) tells held1 held2 (Err Disk)))
-      → Did stands since old new m (λ now. Halted slots most m now left left2 tells held held2)
-  part_halts old mid new m slots slots1 most tells held held1 held2 left left1 left2 kept room joined p same none stays is going more =
+      → (p : Part old mid outside tells held held1 left left1 kept room) → outside1 ≡ outside → left1 ≡ [] → left1 ≡ left2 → stands old m → m.state.stopped ≡ false
+      → ((k : Logged) → stands mid k → k.state.stopped ≡ false → Did stands since mid new k (λ now. RanAs outside1 k now (last_of (rest_from [] p.taken)) tells held1 held2 (Err Disk)))
+      → Did stands since old new m (λ now. Halted outside most m now left left2 tells held held2)
+  part_halts old mid new m outside outside1 most tells held held1 held2 left left1 left2 kept room joined p same none stays is going more =
       let whole : left ≡ p.taken = p.split ∙ ap (λ (l : List ℕ). p.taken ++ l) none ∙ append-nil p.taken in
       did_on old mid new m _ _ _ joined (p.did m is going) (λ k so_far. so_far.1) more
       (λ k h2 so_far next.
-      let last = subst (λ (s : ℕ). RanAs s k h2 (last_of (rest_from [] p.taken)) tells held1 held2 (Err Disk)) same next in
+      let last = subst (λ (s : Outside). RanAs s k h2 (last_of (rest_from [] p.taken)) tells held1 held2 (Err Disk)) same next in
       record {
         taken = p.taken;
         piece = [];
@@ -101,7 +101,7 @@ module _ {M : Type 0} (stands : M → Logged → Type 0) (since : M → M → Lo
         split = p.split ∙ ap (λ (l : List ℕ). p.taken ++ l) stays;
         middle = k;
         held = held1;
-        done = subst (λ (ls : List (List ℕ)). Ran slots m k ls tells held held1) (whole_lines-pieces p.taken) so_far.0;
+        done = subst (λ (ls : List (List ℕ)). Ran outside m k ls tells held held1) (whole_lines-pieces p.taken) so_far.0;
         going = so_far.1;
         rest = last_of (rest_from [] p.taken);
         lines = ap lines_of whole ∙ lines_of-parts p.taken ∙ ap (λ (ls : List (List ℕ)). ls ++ last_of (rest_from [] p.taken)) (whole_lines-pieces p.taken);
@@ -110,32 +110,32 @@ module _ {M : Type 0} (stands : M → Logged → Type 0) (since : M → M → Lo
       })
 
   -- a fault of the sink in a piece
-  part_cut : (old mid new : M) (m : Logged) (slots slots1 : ℕ) (tells : Type 0) (held held1 held2 left left1 left2 kept : List ℕ) (room : ℕ) (piece : List ℕ)
+  part_cut : (old mid new : M) (m : Logged) (outside outside1 : Outside) (tells : Type 0) (held held1 held2 left left1 left2 kept : List ℕ) (room : ℕ) (piece : List ℕ)
       → ((a b c : M) (h n k : Logged) → n.state.stopped ≡ false → since a b h n → since b c n k → since a c h k)
-      → (p : Part old mid slots tells held held1 left left1 kept room) → slots1 ≡ slots → left1 ≡ piece ++ left2 → stands old m → m.state.stopped ≡ false
-      → ((k : Logged) → stands mid k → k.state.stopped ≡ false → Did stands since mid new k (λ now. RanAs slots1 k now (lines_from (rest_from [] p.taken) piece) tells held1 held2 (Err Sink)))
-      → Did stands since old new m (λ now. RanAs slots m now (lines_of left) tells held held2 (Err Sink))
-  part_cut old mid new m slots slots1 tells held held1 held2 left left1 left2 kept room piece joined p same split is going more =
+      → (p : Part old mid outside tells held held1 left left1 kept room) → outside1 ≡ outside → left1 ≡ piece ++ left2 → stands old m → m.state.stopped ≡ false
+      → ((k : Logged) → stands mid k → k.state.stopped ≡ false → Did stands since mid new k (λ now. RanAs outside1 k now (lines_from (rest_from [] p.taken) piece) tells held1 held2 (Err Sink)))
+      → Did stands since old new m (λ now. RanAs outside m now (lines_of left) tells held held2 (Err Sink))
+  part_cut old mid new m outside outside1 tells held held1 held2 left left1 left2 kept room piece joined p same split is going more =
       let bytes : left ≡ p.taken ++ (piece ++ left2) = p.split ∙ ap (λ (l : List ℕ). p.taken ++ l) split in
       did_on old mid new m _ _ _ joined (p.did m is going) (λ k so_far. so_far.1) more
-      (λ k h2 so_far next. subst (λ (ls : List (List ℕ)). RanAs slots m h2 ls tells held held2 (Err Sink)) (sym (ap lines_of bytes ∙ lines_of_pieces p.taken piece left2))
-      (as_more slots m h2 _ _ tells held held2 Sink going
-      (as-append slots m k h2 _ _ tells held held1 held2 (Err Sink) so_far.0 so_far.1
-      (subst (λ (s : ℕ). RanAs s k h2 (lines_from (rest_from [] p.taken) piece) tells held1 held2 (Err Sink)) same next))))
+      (λ k h2 so_far next. subst (λ (ls : List (List ℕ)). RanAs outside m h2 ls tells held held2 (Err Sink)) (sym (ap lines_of bytes ∙ lines_of_pieces p.taken piece left2))
+      (as_more outside m h2 _ _ tells held held2 Sink going
+      (as-append outside m k h2 _ _ tells held held1 held2 (Err Sink) so_far.0 so_far.1
+      (subst (λ (s : Outside). RanAs s k h2 (lines_from (rest_from [] p.taken) piece) tells held1 held2 (Err Sink)) same next))))
 
   -- a fault of the disk in a piece
-  part_fault : (old mid new : M) (m : Logged) (slots slots1 most : ℕ) (tells : Type 0) (held held1 held2 left left1 left2 kept : List ℕ) (room : ℕ) (piece : List ℕ)
+  part_fault : (old mid new : M) (m : Logged) (outside outside1 : Outside) (most : ℕ) (tells : Type 0) (held held1 held2 left left1 left2 kept : List ℕ) (room : ℕ) (piece : List ℕ)
       → ((a b c : M) (h n k : Logged) → n.state.stopped ≡ false → since a b h n → since b c n k → since a c h k)
-      → (p : Part old mid slots tells held held1 left left1 kept room) → slots1 ≡ slots → length piece ≤ most → left1 ≡ piece ++ left2 → stands old m → m.state.stopped ≡ false
-      → ((k : Logged) → stands mid k → k.state.stopped ≡ false → Did stands since mid new k (λ now. RanAs slots1 k now (lines_from (rest_from [] p.taken) piece) tells held1 held2 (Err Disk)))
-      → Did stands since old new m (λ now. Halted slots most m now left left2 tells held held2)
-  part_fault old mid new m slots slots1 most tells held held1 held2 left left1 left2 kept room piece joined p same few split is going more =
+      → (p : Part old mid outside tells held held1 left left1 kept room) → outside1 ≡ outside → length piece ≤ most → left1 ≡ piece ++ left2 → stands old m → m.state.stopped ≡ false
+      → ((k : Logged) → stands mid k → k.state.stopped ≡ false → Did stands since mid new k (λ now. RanAs outside1 k now (lines_from (rest_from [] p.taken) piece) tells held1 held2 (Err Disk)))
+      → Did stands since old new m (λ now. Halted outside most m now left left2 tells held held2)
+  part_fault old mid new m outside outside1 most tells held held1 held2 left left1 left2 kept room piece joined p same few split is going more =
       let bytes : left ≡ p.taken ++ (piece ++ left2) = p.split ∙ ap (λ (l : List ℕ). p.taken ++ l) split in
       let here : List (List ℕ) = lines_from (rest_from [] p.taken) piece in
       let later : List (List ℕ) = lines_from (rest_from (rest_from [] p.taken) piece) left2 ++ last_of (rest_from (rest_from (rest_from [] p.taken) piece) left2) in
       did_on old mid new m _ _ _ joined (p.did m is going) (λ k so_far. so_far.1) more
       (λ k h2 so_far next.
-      let last = as_more slots k h2 here later tells held1 held2 Disk so_far.1 (subst (λ (s : ℕ). RanAs s k h2 here tells held1 held2 (Err Disk)) same next) in
+      let last = as_more outside k h2 here later tells held1 held2 Disk so_far.1 (subst (λ (s : Outside). RanAs s k h2 here tells held1 held2 (Err Disk)) same next) in
       record {
         taken = p.taken;
         piece = piece;
@@ -143,7 +143,7 @@ module _ {M : Type 0} (stands : M → Logged → Type 0) (since : M → M → Lo
         split = bytes;
         middle = k;
         held = held1;
-        done = subst (λ (ls : List (List ℕ)). Ran slots m k ls tells held held1) (whole_lines-pieces p.taken) so_far.0;
+        done = subst (λ (ls : List (List ℕ)). Ran outside m k ls tells held held1) (whole_lines-pieces p.taken) so_far.0;
         going = so_far.1;
         rest = here ++ later;
         lines = ap lines_of bytes ∙ lines_of_pieces p.taken piece left2 ∙ append_assoc (lines_from [] p.taken) here later
@@ -153,42 +153,42 @@ module _ {M : Type 0} (stands : M → Logged → Type 0) (since : M → M → Lo
       })
 
   -- how a fault in the last line ends the lines
-  pub last_fails : (old mid new : M) (m : Logged) (slots slots1 most : ℕ) (tells : Type 0) (held held1 held2 left left1 left2 kept : List ℕ) (room : ℕ) (fault : StepFault)
+  pub last_fails : (old mid new : M) (m : Logged) (outside outside1 : Outside) (most : ℕ) (tells : Type 0) (held held1 held2 left left1 left2 kept : List ℕ) (room : ℕ) (fault : StepFault)
       → ((a b c : M) (h n k : Logged) → n.state.stopped ≡ false → since a b h n → since b c n k → since a c h k)
-      → (p : Part old mid slots tells held held1 left left1 kept room) → slots1 ≡ slots → left1 ≡ [] → left1 ≡ left2 → stands old m → m.state.stopped ≡ false
-      → ((k : Logged) → stands mid k → k.state.stopped ≡ false → Did stands since mid new k (λ now. RanAs slots1 k now (last_of (rest_from [] p.taken)) tells held1 held2 (Err fault)))
-      → Did stands since old new m (λ now. EndsAs slots most m now left left2 tells held held2 (end_of fault))
-  last_fails old mid new m slots slots1 most tells held held1 held2 left left1 left2 kept room Disk joined p same none stays is going more =
-      part_halts old mid new m slots slots1 most tells held held1 held2 left left1 left2 kept room joined p same none stays is going more
-  last_fails old mid new m slots slots1 most tells held held1 held2 left left1 left2 kept room Sink joined p same none stays is going more =
-      part_end old mid new m slots slots1 tells held held1 held2 left left1 kept room (Err Sink) joined p same none is going more
+      → (p : Part old mid outside tells held held1 left left1 kept room) → outside1 ≡ outside → left1 ≡ [] → left1 ≡ left2 → stands old m → m.state.stopped ≡ false
+      → ((k : Logged) → stands mid k → k.state.stopped ≡ false → Did stands since mid new k (λ now. RanAs outside1 k now (last_of (rest_from [] p.taken)) tells held1 held2 (Err fault)))
+      → Did stands since old new m (λ now. EndsAs outside most m now left left2 tells held held2 (end_of fault))
+  last_fails old mid new m outside outside1 most tells held held1 held2 left left1 left2 kept room Disk joined p same none stays is going more =
+      part_halts old mid new m outside outside1 most tells held held1 held2 left left1 left2 kept room joined p same none stays is going more
+  last_fails old mid new m outside outside1 most tells held held1 held2 left left1 left2 kept room Sink joined p same none stays is going more =
+      part_end old mid new m outside outside1 tells held held1 held2 left left1 kept room (Err Sink) joined p same none is going more
 
   -- and how one in a piece does
-  pub piece_fails : (old mid new : M) (m : Logged) (slots slots1 most : ℕ) (tells : Type 0) (held held1 held2 left left1 left2 kept : List ℕ) (room : ℕ) (piece : List ℕ) (fault : StepFault)
+  pub piece_fails : (old mid new : M) (m : Logged) (outside outside1 : Outside) (most : ℕ) (tells : Type 0) (held held1 held2 left left1 left2 kept : List ℕ) (room : ℕ) (piece : List ℕ) (fault : StepFault)
       → ((a b c : M) (h n k : Logged) → n.state.stopped ≡ false → since a b h n → since b c n k → since a c h k)
-      → (p : Part old mid slots tells held held1 left left1 kept room) → slots1 ≡ slots → length piece ≤ most → left1 ≡ piece ++ left2 → stands old m → m.state.stopped ≡ false
-      → ((k : Logged) → stands mid k → k.state.stopped ≡ false → Did stands since mid new k (λ now. RanAs slots1 k now (lines_from (rest_from [] p.taken) piece) tells held1 held2 (Err fault)))
-      → Did stands since old new m (λ now. EndsAs slots most m now left left2 tells held held2 (end_of fault))
-  piece_fails old mid new m slots slots1 most tells held held1 held2 left left1 left2 kept room piece Disk joined p same few split is going more =
-      part_fault old mid new m slots slots1 most tells held held1 held2 left left1 left2 kept room piece joined p same few split is going more
-  piece_fails old mid new m slots slots1 most tells held held1 held2 left left1 left2 kept room piece Sink joined p same few split is going more =
-      part_cut old mid new m slots slots1 tells held held1 held2 left left1 left2 kept room piece joined p same split is going more
+      → (p : Part old mid outside tells held held1 left left1 kept room) → outside1 ≡ outside → length piece ≤ most → left1 ≡ piece ++ left2 → stands old m → m.state.stopped ≡ false
+      → ((k : Logged) → stands mid k → k.state.stopped ≡ false → Did stands since mid new k (λ now. RanAs outside1 k now (lines_from (rest_from [] p.taken) piece) tells held1 held2 (Err fault)))
+      → Did stands since old new m (λ now. EndsAs outside most m now left left2 tells held held2 (end_of fault))
+  piece_fails old mid new m outside outside1 most tells held held1 held2 left left1 left2 kept room piece Disk joined p same few split is going more =
+      part_fault old mid new m outside outside1 most tells held held1 held2 left left1 left2 kept room piece joined p same few split is going more
+  piece_fails old mid new m outside outside1 most tells held held1 held2 left left1 left2 kept room piece Sink joined p same few split is going more =
+      part_cut old mid new m outside outside1 tells held held1 held2 left left1 left2 kept room piece joined p same split is going more
 
   -- the whole lines among the bytes taken
-  pub part_whole : (old mid : M) (m : Logged) (slots : ℕ) (tells : Type 0) (held held1 left left1 left2 kept : List ℕ) (room : ℕ)
-      → (p : Part old mid slots tells held held1 left left1 kept room) → left2 ≡ left1 → stands old m → m.state.stopped ≡ false
-      → Did stands since old mid m (λ now. WholeRan slots m now p.taken left left2 tells held held1)
-  part_whole old mid m slots tells held held1 left left1 left2 kept room p stays is going =
+  pub part_whole : (old mid : M) (m : Logged) (outside : Outside) (tells : Type 0) (held held1 left left1 left2 kept : List ℕ) (room : ℕ)
+      → (p : Part old mid outside tells held held1 left left1 kept room) → left2 ≡ left1 → stands old m → m.state.stopped ≡ false
+      → Did stands since old mid m (λ now. WholeRan outside m now p.taken left left2 tells held held1)
+  part_whole old mid m outside tells held held1 left left1 left2 kept room p stays is going =
       did_as old mid m _ _ (λ k so_far. record {
         split = p.split ∙ ap (λ (l : List ℕ). p.taken ++ l) (sym stays);
-        ran = subst (λ (ls : List (List ℕ)). Ran slots m k ls tells held held1) (whole_lines-pieces p.taken) so_far.0;
+        ran = subst (λ (ls : List (List ℕ)). Ran outside m k ls tells held held1) (whole_lines-pieces p.taken) so_far.0;
         going = so_far.1;
       }) (p.did m is going)
 
   -- a piece that was taken, and what it leaves
-  pub part_took : (old mid : M) (slots : ℕ) (tells : Type 0) (held held1 left left1 left2 kept : List ℕ) (room : ℕ) (piece : List ℕ)
-      → Part old mid slots tells held held1 left left1 kept room → length piece ≤ room → left1 ≡ piece ++ left2
+  pub part_took : (old mid : M) (outside : Outside) (tells : Type 0) (held held1 left left1 left2 kept : List ℕ) (room : ℕ) (piece : List ℕ)
+      → Part old mid outside tells held held1 left left1 kept room → length piece ≤ room → left1 ≡ piece ++ left2
       → (taken : List ℕ) × (length taken ≤ 1000000000) × (left ≡ taken ++ left2)
-  part_took old mid slots tells held held1 left left1 left2 kept room piece p le split =
+  part_took old mid outside tells held held1 left left1 left2 kept room piece p le split =
       let bound : length (p.taken ++ piece) ≤ 1000000000 = omega (arith, p.size, length-append p.taken piece) in
       (p.taken ++ piece, bound, p.split ∙ ap (λ (l : List ℕ). p.taken ++ l) split ∙ sym (append_assoc p.taken piece left2))

@@ -1,7 +1,7 @@
 -- What a machine did with the bytes of one piece, byte by byte.
 use Rattle.std.proofs.Common.{◌≡◌, ℕ, ◌+◌, ◌<◌, false, List, [], ◌∷◌, ◌++◌, length, take, drop, get_or, Result, Err, sym, ◌∙◌, ap, subst}
 use Rattle.std.proofs.lemmas.List.{take_more, take-append-drop}
-use Rattle.rb_model.specs.Out.{Logged}
+use Rattle.rb_model.specs.Out.{Outside, Logged}
 use Rattle.rb_lines.specs.declared.runner.StepFault.{StepFault}
 use Rattle.rb_lines.specs.Ran.{Ran, RanAs}
 use Rattle.rb_lines.specs.Pieces.{lines_from, rest_from}
@@ -14,25 +14,25 @@ rest_more line bytes i within =
     sym (ap (λ (b : List ℕ). rest_from line b) (take_more bytes i 0 within) ∙ rest-append line (take i bytes) (get_or bytes i 0 ∷ []))
 
 -- the bytes up to one, and that one
-pub as_byte : (slots slots1 : ℕ) (h m h2 : Logged) (line bytes : List ℕ) (i : ℕ) (tells : Type 0) (held held1 held2 : List ℕ) (r : Result (Unit {0}) StepFault)
-    → i < length bytes → slots1 ≡ slots
-    → Ran slots h m (lines_from line (take i bytes)) tells held held1 → m.state.stopped ≡ false
-    → RanAs slots1 m h2 (lines_from (rest_from line (take i bytes)) (get_or bytes i 0 ∷ [])) tells held1 held2 r
-    → RanAs slots h h2 (lines_from line (take (i + 1) bytes)) tells held held2 r
-as_byte slots slots1 h m h2 line bytes i tells held held1 held2 r within same ran going q =
+pub as_byte : (outside outside1 : Outside) (h m h2 : Logged) (line bytes : List ℕ) (i : ℕ) (tells : Type 0) (held held1 held2 : List ℕ) (r : Result (Unit {0}) StepFault)
+    → i < length bytes → outside1 ≡ outside
+    → Ran outside h m (lines_from line (take i bytes)) tells held held1 → m.state.stopped ≡ false
+    → RanAs outside1 m h2 (lines_from (rest_from line (take i bytes)) (get_or bytes i 0 ∷ [])) tells held1 held2 r
+    → RanAs outside h h2 (lines_from line (take (i + 1) bytes)) tells held held2 r
+as_byte outside outside1 h m h2 line bytes i tells held held1 held2 r within same ran going q =
     let next : List ℕ = get_or bytes i 0 ∷ [] in
     let cut : lines_from line (take (i + 1) bytes) ≡ lines_from line (take i bytes) ++ lines_from (rest_from line (take i bytes)) next =
     ap (λ (b : List ℕ). lines_from line b) (take_more bytes i 0 within) ∙ lines-append line (take i bytes) next in
-    let here = subst (λ (s : ℕ). RanAs s m h2 (lines_from (rest_from line (take i bytes)) next) tells held1 held2 r) same q in
-    subst (λ (ls : List (List ℕ)). RanAs slots h h2 ls tells held held2 r) (sym cut)
-    (as-append slots h m h2 _ _ tells held held1 held2 r ran going here)
+    let here = subst (λ (s : Outside). RanAs s m h2 (lines_from (rest_from line (take i bytes)) next) tells held1 held2 r) same q in
+    subst (λ (ls : List (List ℕ)). RanAs outside h h2 ls tells held held2 r) (sym cut)
+    (as-append outside h m h2 _ _ tells held held1 held2 r ran going here)
 
 -- a fault in a piece, and the bytes behind it
-pub as_piece : (slots : ℕ) (h h2 : Logged) (line bytes : List ℕ) (n : ℕ) (tells : Type 0) (held held2 : List ℕ) (fault : StepFault)
-    → h.state.stopped ≡ false → RanAs slots h h2 (lines_from line (take n bytes)) tells held held2 (Err fault)
-    → RanAs slots h h2 (lines_from line bytes) tells held held2 (Err fault)
-as_piece slots h h2 line bytes n tells held held2 fault going q =
+pub as_piece : (outside : Outside) (h h2 : Logged) (line bytes : List ℕ) (n : ℕ) (tells : Type 0) (held held2 : List ℕ) (fault : StepFault)
+    → h.state.stopped ≡ false → RanAs outside h h2 (lines_from line (take n bytes)) tells held held2 (Err fault)
+    → RanAs outside h h2 (lines_from line bytes) tells held held2 (Err fault)
+as_piece outside h h2 line bytes n tells held held2 fault going q =
     let cut : lines_from line bytes ≡ lines_from line (take n bytes) ++ lines_from (rest_from line (take n bytes)) (drop n bytes) =
     ap (λ (b : List ℕ). lines_from line b) (sym (take-append-drop n bytes)) ∙ lines-append line (take n bytes) (drop n bytes) in
-    subst (λ (ls : List (List ℕ)). RanAs slots h h2 ls tells held held2 (Err fault)) (sym cut)
-    (as_more slots h h2 _ (lines_from (rest_from line (take n bytes)) (drop n bytes)) tells held held2 fault going q)
+    subst (λ (ls : List (List ℕ)). RanAs outside h h2 ls tells held held2 (Err fault)) (sym cut)
+    (as_more outside h h2 _ (lines_from (rest_from line (take n bytes)) (drop n bytes)) tells held held2 fault going q)

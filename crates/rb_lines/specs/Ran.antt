@@ -1,7 +1,7 @@
 -- What a line runner did with lines.
 use Rattle.std.specs.Prelude.{◌≡◌, ℕ, true, false, List, ◌++◌, length, take, Result, Ok, Err}
 use Rattle.rb_model.specs.State.{session_of}
-use Rattle.rb_model.specs.Out.{IsSettled, Logged, LineOut, Out}
+use Rattle.rb_model.specs.Out.{Outside, IsSettled, Logged, LineOut, Out}
 use Rattle.rb_lines.specs.declared.runner.StepFault.{StepFault}
 use Rattle.rb_lines.specs.declared.runner.StepFault.TheVariants.{Disk, Sink}
 
@@ -50,39 +50,39 @@ RepliedAs allows before now tells held_before held_now (Err Sink) =
     tells → IsSettled before → CutShort allows now held_before held_now
 
 -- the same of one line
-abbrev pub LineRanAs : ℕ → Logged → Logged → List ℕ → Type 0 → List ℕ → List ℕ
+abbrev pub LineRanAs : Outside → Logged → Logged → List ℕ → Type 0 → List ℕ → List ℕ
     → Result (Unit {0}) StepFault → Type 0
-LineRanAs slots before now line tells held_before held_now result =
-    RepliedAs (LineOut before slots line) before now tells held_before held_now result
+LineRanAs outside before now line tells held_before held_now result =
+    RepliedAs (LineOut before outside line) before now tells held_before held_now result
 
 -- It did these lines one after another.
-pub record Ran (slots : ℕ) (before now : Logged) (lines : List (List ℕ)) (tells : Type 0)
+pub record Ran (outside : Outside) (before now : Logged) (lines : List (List ℕ)) (tells : Type 0)
     (held_before held_now : List ℕ) : Type 0 where
   pub out : List ℕ
-  pub replies : Out before slots lines out now
+  pub replies : Out before outside lines out now
   pub written : tells → held_now ≡ held_before ++ out
 
 -- It was cut off in one of these lines: the sink holds a front of replies that the lines up to that one may have. The
 -- state after them has all but the cursors of the runner's, as in `CutShort`.
-pub record CutOff (slots : ℕ) (before now : Logged) (lines : List (List ℕ)) (held_before held_now : List ℕ) : Type
-    0 where
+pub record CutOff (outside : Outside) (before now : Logged) (lines : List (List ℕ))
+    (held_before held_now : List ℕ) : Type 0 where
   pub count : ℕ
   pub out : List ℕ
   pub state : Logged
-  pub replies : Out before slots (take count lines) out state
+  pub replies : Out before outside (take count lines) out state
   pub same : SameButCursors state now
   pub size : ℕ
   pub written : held_now ≡ held_before ++ take size out
 
 -- What it did with lines, by the answer. After a fault of the disk it is stopped, so that nothing follows.
-abbrev pub RanAs : ℕ → Logged → Logged → List (List ℕ) → Type 0 → List ℕ → List ℕ
+abbrev pub RanAs : Outside → Logged → Logged → List (List ℕ) → Type 0 → List ℕ → List ℕ
     → Result (Unit {0}) StepFault → Type 0
-RanAs slots before now lines tells held_before held_now (Ok done) =
-    Ran slots before now lines tells held_before held_now × (now.state.stopped ≡ false)
-RanAs slots before now lines tells held_before held_now (Err Disk) =
-    Ran slots before now lines tells held_before held_now × (now.state.stopped ≡ true)
-RanAs slots before now lines tells held_before held_now (Err Sink) =
-    tells → IsSettled before → CutOff slots before now lines held_before held_now
+RanAs outside before now lines tells held_before held_now (Ok done) =
+    Ran outside before now lines tells held_before held_now × (now.state.stopped ≡ false)
+RanAs outside before now lines tells held_before held_now (Err Disk) =
+    Ran outside before now lines tells held_before held_now × (now.state.stopped ≡ true)
+RanAs outside before now lines tells held_before held_now (Err Sink) =
+    tells → IsSettled before → CutOff outside before now lines held_before held_now
 
 -- From a state that a runner stood for it came to another, which it stands for now, and did on the way what `As` says.
 pub record Did {M : Type 0} (stands : M → Logged → Type 0) (since : M → M → Logged → Logged

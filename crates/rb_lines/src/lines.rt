@@ -2,7 +2,7 @@
 ghost use Rattle.std.specs.Prelude.{ℕ, ◌≡◌, ◌≤◌, ◌<◌, false, List, [], ◌++◌, length, take, IfOk};
 ghost use Rattle.std.specs.Prelude.{OnErr};
 ghost use Rattle.rb_base.specs.Counts.{IsCounted, IsCountedAs};
-ghost use Rattle.rb_model.specs.Out.{Logged};
+ghost use Rattle.rb_model.specs.Out.{Logged, outside_by};
 ghost use Rattle.rb_lines.specs.Ends.{EndsAs, ends_by_disk, ends_by_sink, ends_by_source, end_of};
 ghost use Rattle.rb_lines.specs.Faults.{IsCountedBeside};
 ghost use Rattle.rb_lines.specs.Ran.{Did};
@@ -68,8 +68,9 @@ pub fn run_lines<M: LineRunner, S: Source, K: Sink>(
 
     // Which lines were done, and what became of the runner's file.
     ensures did { S.tells → (m : Logged) → M.stands runner.old m → m.state.stopped ≡ false
-        → Did M.stands M.since runner.old runner.new m (λ now. EndsAs (M.slots runner.old) (length buffer.old) m now
-        (S.left source.old) (S.left source.new) K.tells (K.held sink.old) (K.held sink.new) result) }
+        → Did M.stands M.since runner.old runner.new m (λ now. EndsAs (outside_by M.worn (M.slots runner.old))
+        (length buffer.old) m now (S.left source.old) (S.left source.new) K.tells (K.held sink.old) (K.held sink.new)
+        result) }
     ensures at_end { result ≡ LinesEnd.Done → S.tells → S.left source.new ≡ [] }
     ensures few { result ≡ LinesEnd.Done → S.tells → length (S.left source.old) < 1000000000 }
 

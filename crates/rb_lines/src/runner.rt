@@ -1,7 +1,9 @@
 //! `LineRunner`: what does a line. The shell implements it over an engine, and `run_lines` calls it.
 ghost use Rattle.std.specs.Prelude.{ℕ, ◌≡◌, ◌≤◌, false, true};
 ghost use Rattle.rb_base.specs.Counts.{IsCountedAs, err_is};
-ghost use Rattle.rb_model.specs.Out.{Logged};
+ghost use Rattle.rb_model.specs.Calls.{Call};
+ghost use Rattle.rb_model.specs.Out.{Logged, outside_by};
+ghost use Rattle.rb_model.specs.State.{State};
 ghost use Rattle.rb_lines.specs.Faults.{IsCountedBeside, is_disk, is_sink};
 ghost use Rattle.rb_lines.specs.Ran.{Did, LineRanAs};
 
@@ -28,6 +30,9 @@ pub trait LineRunner {
     /// How many slots its log has.
     ghost slots: { Self → ℕ };
 
+    /// Whether what a call in a state reads at a snapshot is worn, by a number of which something was given up.
+    ghost worn: { State → Call → ℕ → ℕ → Type 0 };
+
     /// How often its disk has failed, up to 2^64 - 1.
     ghost faults: { Self → ℕ };
 
@@ -39,7 +44,8 @@ pub trait LineRunner {
     fn step<K: Sink>(&mut self, line: &[u8], sink: &mut K) -> Result<(), StepFault>
         ensures did { (m : Logged) → stands self.old m → m.state.stopped ≡ false
             → Did stands since self.old self.new m
-            (λ now. LineRanAs (slots self.old) m now line.now K.tells (K.held sink.old) (K.held sink.new) result) }
+            (λ now. LineRanAs (outside_by worn (slots self.old)) m now line.now K.tells (K.held sink.old)
+            (K.held sink.new) result) }
         ensures slots { slots self.new ≡ slots self.old }
         ensures disk { IsCountedBeside (faults self.old) (faults self.new) (err_is is_disk result)
             (err_is is_sink result) }

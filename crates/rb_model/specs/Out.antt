@@ -4,11 +4,12 @@ use Rattle.std.specs.Prelude.{Bool, true, false}
 use Rattle.std.specs.Prelude.{MatchBool, List, [], ◌∷◌, ◌++◌, length, Option, None, Some}
 use Rattle.rb_model.specs.Change.{Asked}
 use Rattle.rb_model.specs.State.{State, asked_of}
-use Rattle.rb_model.specs.Calls.{Call, Write, Answer, Given, Marked, Reply, failed_in, is_fault}
+use Rattle.rb_model.specs.Calls.{Call, Write, Answer, Given, Marked, Refused, Reply, failed_in, is_fault}
 use Rattle.rb_model.specs.NextState.{After, Grows, unqueued}
 use Rattle.rb_model.specs.Queue.{first_ready}
 use Rattle.rb_model.specs.Lines.{Command, Spells, SpellsNone, call_of, most_calls, caller}
 use Rattle.rb_model.specs.Lines.{without_return, is_remark, reply_text, bad_line_text}
+use Rattle.rb_model.specs.declared.refusal.Refusal.TheVariants.{TooOld}
 
 -- a state, the last log number that was given, and the call in which the disk failed, if it has
 pub record Logged : Type 0 where
@@ -16,13 +17,25 @@ pub record Logged : Type 0 where
   pub lsn : ℕ
   pub fault : Option Call
 
+-- What answers hang on besides the machine's state: how many slots the log has, and whether what a call in a state
+-- reads at a snapshot is worn, by a number above it of which something was given up.
+pub record Outside : Type 1 where
+  pub slots : ℕ
+  pub worn : State → Call → (snapshot lost : ℕ) → Type 0
+
+abbrev pub outside_by : (State → Call → (snapshot lost : ℕ) → Type 0) → (slots : ℕ) → Outside
+outside_by worn slots = record { slots = slots; worn = worn }
+
 -- How many more groups a log of so many slots has room for, behind that number. One slot stays free.
 abbrev pub room : ℕ → ℕ → ℕ
 room slots lsn = slots - 1 - lsn
 
--- One call with that answer. The log number goes up by the groups of the call, unless the disk has failed.
-pub record CallOut (m : Logged) (slots : ℕ) (call : Call) (answer : Answer) (m2 : Logged) : Type 0 where
-  pub reply : Reply m.state m.lsn (room slots m.lsn) call answer
+-- One call with that answer, which is too old only where what it reads is worn. The log number goes up by the groups of
+-- the call, unless the disk has failed.
+pub record CallOut (m : Logged) (outside : Outside) (call : Call) (answer : Answer) (m2 : Logged) : Type 0 where
+  pub reply : Reply m.state m.lsn (room outside.slots m.lsn) call answer
+  pub worn : (snapshot lost : ℕ) → answer ≡ Refused (TooOld snapshot lost)
+      → outside.worn m.state call snapshot lost
   pub state : After m.state call answer m2.state
   pub fault : m2.fault ≡ failed_in call answer m.fault
   pub groups : ℕ
@@ -37,20 +50,24 @@ goes_on _ = false
 
 -- The calls of a command from its k-th on, up to `count`, each with its reply line. They end at the first answer that
 -- is neither a row nor the marks of a segment.
-abbrev pub CallsOut : Logged → ℕ → Command → ℕ → ℕ → List ℕ → Logged → Type 0
-CallsOut m slots c k zero out m2 = (out ≡ []) × (m2 ≡ m)
-CallsOut m slots c k (suc count) out m2 =
-    (r : Answer) × (rest : List ℕ) × (middle : Logged) × CallOut m slots (call_of c k) r middle
+abbrev pub CallsOut : Logged → Outside → Command → ℕ → ℕ → List ℕ → Logged → Type 0
+CallsOut m outside c k zero out m2 = (out ≡ []) × (m2 ≡ m)
+CallsOut m outside c k (suc count) out m2 =
+    (r : Answer) × (rest : List ℕ) × (middle : Logged) × CallOut m outside (call_of c k) r middle
     × (out ≡ reply_text (caller c) r ++ rest)
-    × MatchBool (goes_on r) (CallsOut middle slots c (suc k) count rest m2) ((rest ≡ []) × (m2 ≡ middle))
+    × MatchBool (goes_on r) (CallsOut middle outside c (suc k) count rest m2) ((rest ≡ []) × (m2 ≡ middle))
 
-abbrev pub CommandOut : Logged → ℕ → Command → List ℕ → Logged → Type 0
-CommandOut m slots c out m2 = CallsOut m slots c 0 (most_calls m.state.shape c) out m2
+abbrev pub CommandOut : Logged → Outside → Command → List ℕ → Logged → Type 0
+CommandOut m outside c out m2 = CallsOut m outside c 0 (most_calls m.state.shape c) out m2
 
 -- The write of session s is tried once more, as that of one that has never waited. At a fault of the disk the session
 -- keeps its place in the queue.
-pub record Resumed (m : Logged) (slots s : ℕ) (asked : Asked) (answer : Answer) (m2 : Logged) : Type 0 where
-  pub reply : Reply (unqueued m.state s) m.lsn (room slots m.lsn) (Write s asked.table asked.key asked.action) answer
+pub record Resumed (m : Logged) (outside : Outside) (s : ℕ) (asked : Asked) (answer : Answer) (m2 : Logged) : Type
+    0 where
+  pub reply : Reply (unqueued m.state s) m.lsn (room outside.slots m.lsn)
+      (Write s asked.table asked.key asked.action) answer
+  pub worn : (snapshot lost : ℕ) → answer ≡ Refused (TooOld snapshot lost)
+      → outside.worn m.state (Write s asked.table asked.key asked.action) snapshot lost
   pub state : MatchBool (is_fault answer) (m2.state ≡ record m.state { stopped = true })
       (After (unqueued m.state s) (Write s asked.table asked.key asked.action) answer m2.state)
   pub fault : m2.fault ≡ failed_in (Write s asked.table asked.key asked.action) answer m.fault
@@ -65,32 +82,32 @@ IsSettled m = (m.state.stopped ≡ true) ⊎ (first_ready m.state.queue ≡ None
 
 -- So many writes of ready sessions, one after another, that of the first ready one each time, and then nothing is left
 -- to try. Each reply is to its session.
-abbrev pub ResumesOut : Logged → ℕ → ℕ → List ℕ → Logged → Type 0
-ResumesOut m slots zero out m2 = IsSettled m × (out ≡ []) × (m2 ≡ m)
-ResumesOut m slots (suc count) out m2 = (s : ℕ) × (asked : Asked) × (r : Answer) × (rest : List ℕ)
+abbrev pub ResumesOut : Logged → Outside → ℕ → List ℕ → Logged → Type 0
+ResumesOut m outside zero out m2 = IsSettled m × (out ≡ []) × (m2 ≡ m)
+ResumesOut m outside (suc count) out m2 = (s : ℕ) × (asked : Asked) × (r : Answer) × (rest : List ℕ)
     × (middle : Logged) × (m.state.stopped ≡ false) × (first_ready m.state.queue ≡ Some s)
-    × (asked_of m.state s ≡ Some asked) × Resumed m slots s asked r middle
-    × (out ≡ reply_text (Some s) r ++ rest) × ResumesOut middle slots count rest m2
+    × (asked_of m.state s ≡ Some asked) × Resumed m outside s asked r middle
+    × (out ≡ reply_text (Some s) r ++ rest) × ResumesOut middle outside count rest m2
 
 -- What one line does itself. A line of more than 512 bytes is bad whatever it has; one CR at its end doesn't count.
-pub data LineSaid (m : Logged) (slots : ℕ) (line out : List ℕ) (m2 : Logged) : Type 0 where
-  too_long : 512 < length line → out ≡ bad_line_text → m2 ≡ m → LineSaid m slots line out m2
+pub data LineSaid (m : Logged) (outside : Outside) (line out : List ℕ) (m2 : Logged) : Type 0 where
+  too_long : 512 < length line → out ≡ bad_line_text → m2 ≡ m → LineSaid m outside line out m2
   skipped : length line ≤ 512 → is_remark (without_return line) ≡ true → out ≡ [] → m2 ≡ m
-      → LineSaid m slots line out m2
+      → LineSaid m outside line out m2
   bad : length line ≤ 512 → is_remark (without_return line) ≡ false → SpellsNone (without_return line)
-      → out ≡ bad_line_text → m2 ≡ m → LineSaid m slots line out m2
-  command : length line ≤ 512 → (c : Command) → Spells (without_return line) c → CommandOut m slots c out m2
-      → LineSaid m slots line out m2
+      → out ≡ bad_line_text → m2 ≡ m → LineSaid m outside line out m2
+  command : length line ≤ 512 → (c : Command) → Spells (without_return line) c → CommandOut m outside c out m2
+      → LineSaid m outside line out m2
 
 -- What one line does, and what the writes do that it has made ready.
-abbrev pub LineOut : Logged → ℕ → List ℕ → List ℕ → Logged → Type 0
-LineOut m slots line out m2 = (first : List ℕ) × (rest : List ℕ) × (middle : Logged) × (count : ℕ)
-    × LineSaid m slots line first middle × (out ≡ first ++ rest) × ResumesOut middle slots count rest m2
+abbrev pub LineOut : Logged → Outside → List ℕ → List ℕ → Logged → Type 0
+LineOut m outside line out m2 = (first : List ℕ) × (rest : List ℕ) × (middle : Logged) × (count : ℕ)
+    × LineSaid m outside line first middle × (out ≡ first ++ rest) × ResumesOut middle outside count rest m2
 
 -- The replies to the lines, one line after another. Nothing follows once the disk has failed.
-abbrev pub Out : Logged → ℕ → List (List ℕ) → List ℕ → Logged → Type 0
-Out m slots [] out m2 = (out ≡ []) × (m2 ≡ m)
-Out m slots (line ∷ lines) out m2 =
-    (first : List ℕ) × (rest : List ℕ) × (middle : Logged) × LineOut m slots line first middle
+abbrev pub Out : Logged → Outside → List (List ℕ) → List ℕ → Logged → Type 0
+Out m outside [] out m2 = (out ≡ []) × (m2 ≡ m)
+Out m outside (line ∷ lines) out m2 =
+    (first : List ℕ) × (rest : List ℕ) × (middle : Logged) × LineOut m outside line first middle
     × (out ≡ first ++ rest)
-    × MatchBool middle.state.stopped ((rest ≡ []) × (m2 ≡ middle)) (Out middle slots lines rest m2)
+    × MatchBool middle.state.stopped ((rest ≡ []) × (m2 ≡ middle)) (Out middle outside lines rest m2)

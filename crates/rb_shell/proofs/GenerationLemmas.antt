@@ -2,7 +2,7 @@
 use Rattle.std.proofs.Common.{◌≡◌, ◌≢◌, ◌∙◌, refl, ap, subst, ℕ, Bool, true, false, List, ◌++◌, take, Option, Result, Ok, Err}
 use Rattle.rb_base.specs.declared.faults.Failed.{Failed}
 use Rattle.rb_base.specs.declared.store.Store.{Ghosts}
-use Rattle.rb_calls.specs.Since.{IsSince, StandsAs, slots_of}
+use Rattle.rb_calls.specs.Since.{IsSince, StandsAs, outside_of}
 use Rattle.rb_disk.specs.declared.disk.Disk.{Ghosts as DiskGhosts}
 use Rattle.rb_engine.specs.Does.{EngineView}
 use Rattle.rb_generator.specs.Answered.{CommandsAnswered}
@@ -25,10 +25,10 @@ use Rattle.rb_store.specs.Laps.{LapState}
 
 module _ {S : Type 0} (s : Ghosts S) (m : Logged) (n : ℕ) (old mid : EngineView S) (tells : Type 0) (before held : List ℕ) where
   abbrev Made : Result Counts Failed → Type 0
-  Made result = Did (StandsAs s) (IsSince s) old mid m (λ now. HasGenerated m (slots_of (s.slots old.store)) n now result)
+  Made result = Did (StandsAs s) (IsSince s) old mid m (λ now. HasGenerated m (outside_of (s.slots old.store)) n now result)
 
   -- a fault of the disk in a command
-  pub made_not : (failed : Failed) → Made (Err failed) → MadeOn s old.store mid.store (slots_of (s.slots old.store)) n m tells before held DiskFault
+  pub made_not : (failed : Failed) → Made (Err failed) → MadeOn s old.store mid.store (outside_of (s.slots old.store)) n m tells before held DiskFault
   made_not failed d = record {
     fault = true;
     made = record { answers = d.ran.answers; now = d.now; answered = d.ran.answered; stops = d.ran.ends };
@@ -39,7 +39,7 @@ module _ {S : Type 0} (s : Ghosts S) (m : Logged) (n : ℕ) (old mid : EngineVie
     cut = λ is. cc;
   }
 
-  pub made_failed : (r : Result Counts Failed) → ((counts : Counts) → r ≡ Ok counts → ⊥) → Made r → MadeOn s old.store mid.store (slots_of (s.slots old.store)) n m tells before held DiskFault
+  pub made_failed : (r : Result Counts Failed) → ((counts : Counts) → r ≡ Ok counts → ⊥) → Made r → MadeOn s old.store mid.store (outside_of (s.slots old.store)) n m tells before held DiskFault
   made_failed (Ok counts) none d = absurd (none counts refl)
   made_failed (Err failed) none d = made_not failed d
 
@@ -50,7 +50,7 @@ module _ {S : Type 0} (s : Ghosts S) (m : Logged) (n : ℕ) (old mid : EngineVie
   -- all were made, and then what waited was made last
   pub made_all : (counts : Counts) (d : Made (Ok counts)) (new : S) (last status : Status) → MadeLast s mid.store new d.now last → (status ≢ DiskFault → last ≡ Done)
       → (status ≡ Done → tells → held ≡ before ++ line_of n d.ran.answers d.now) → (status ≡ SinkFault → tells → (size : ℕ) × (held ≡ before ++ take size (line_of n d.ran.answers d.now)))
-      → MadeOn s old.store new (slots_of (s.slots old.store)) n m tells before held status
+      → MadeOn s old.store new (outside_of (s.slots old.store)) n m tells before held status
   made_all counts d new last status made fine told cut = record {
     fault = false;
     made = record { answers = d.ran.answers; now = d.now; answered = d.ran.answered; stops = d.ran.ends.1 };
@@ -68,7 +68,7 @@ module _ {D : Type 0} (d : DiskGhosts D) (old : D) (g : Ghosts (LapState D)) (e 
   same_made n had fault is made = record {
     answers = made.answers;
     now = made.now;
-    answered = subst (λ (k : ℕ). CommandsAnswered (first_of sound) k (commands_of sound.state.shape n) made.answers made.now) o.slots made.answered;
+    answered = subst (λ (k : ℕ). CommandsAnswered (first_of sound) (outside_of (Some k)) (commands_of sound.state.shape n) made.answers made.now) o.slots made.answered;
     stops = subst (λ (v : Bool). StopsBy v made.answers made.now) is made.stops;
   }
 

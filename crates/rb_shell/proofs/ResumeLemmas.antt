@@ -8,37 +8,37 @@ use Rattle.rb_lines.specs.declared.runner.StepFault.{StepFault}
 use Rattle.rb_lines.specs.declared.runner.StepFault.TheVariants.{Disk, Sink}
 use Rattle.rb_model.specs.Calls.{Answer, is_fault}
 use Rattle.rb_model.specs.Lines.{reply_text}
-use Rattle.rb_model.specs.Out.{Logged, LineOut, LineSaid, Resumed, ResumesOut}
+use Rattle.rb_model.specs.Out.{Logged, LineOut, LineSaid, Resumed, ResumesOut, Outside}
 use Rattle.rb_model.specs.Queue.{first_ready}
 use Rattle.rb_shell.specs.Steps.{HasResumed, ResumedSoFar, Said, SaidAs, SaidItself}
 
 -- one after another
 
-pub resumed_none : (m : Logged) (slots : ℕ) (waiting : List ℕ) → m.state.stopped ≡ false → ResumedSoFar m slots m waiting waiting
-resumed_none m slots waiting going = record { count = 0; rest = []; goes_on = λ more out end f. subst (λ (n : ℕ). ResumesOut m slots n out end) (omega arith) f; waits = sym (append-nil waiting); going = going }
+pub resumed_none : (m : Logged) (outside : Outside) (waiting : List ℕ) → m.state.stopped ≡ false → ResumedSoFar m outside m waiting waiting
+resumed_none m outside waiting going = record { count = 0; rest = []; goes_on = λ more out end f. subst (λ (n : ℕ). ResumesOut m outside n out end) (omega arith) f; waits = sym (append-nil waiting); going = going }
 
-module _ (start m now : Logged) (slots slots1 w : ℕ) (r : Answer) (waiting0 waiting waiting2 : List ℕ)
-    (so : ResumedSoFar start slots m waiting0 waiting) (same : slots1 ≡ slots) (told : waiting2 ≡ waiting ++ reply_text (Some w) r) (again : TriedAgain m slots1 w r now) where
+module _ (start m now : Logged) (outside outside1 : Outside) (w : ℕ) (r : Answer) (waiting0 waiting waiting2 : List ℕ)
+    (so : ResumedSoFar start outside m waiting0 waiting) (same : outside1 ≡ outside) (told : waiting2 ≡ waiting ++ reply_text (Some w) r) (again : TriedAgain m outside1 w r now) where
   -- it and what follows it
-  step_on : (more : ℕ) (out : List ℕ) (end : Logged) → ResumesOut now slots more out end → ResumesOut m slots (suc more) (reply_text (Some w) r ++ out) end
-  step_on more out end f = (w, again.asked, r, out, now, so.going, again.ready, again.known, subst (λ (k : ℕ). Resumed m k w again.asked r now) same again.resumed, refl, f)
+  step_on : (more : ℕ) (out : List ℕ) (end : Logged) → ResumesOut now outside more out end → ResumesOut m outside (suc more) (reply_text (Some w) r ++ out) end
+  step_on more out end f = (w, again.asked, r, out, now, so.going, again.ready, again.known, subst (λ (k : Outside). Resumed m k w again.asked r now) same again.resumed, refl, f)
 
   all_wait : waiting2 ≡ waiting0 ++ (so.rest ++ reply_text (Some w) r)
   all_wait = told ∙ ap (λ (xs : List ℕ). xs ++ reply_text (Some w) r) so.waits ∙ append_assoc waiting0 so.rest (reply_text (Some w) r)
 
-  pub resumed_more : is_fault r ≡ false → ResumedSoFar start slots now waiting0 waiting2
+  pub resumed_more : is_fault r ≡ false → ResumedSoFar start outside now waiting0 waiting2
   resumed_more e = record {
     count = so.count + 1;
     rest = so.rest ++ reply_text (Some w) r;
     goes_on = λ more out end f.
-        subst (λ (n : ℕ). ResumesOut start slots n ((so.rest ++ reply_text (Some w) r) ++ out) end) (omega arith)
-        (subst (λ (xs : List ℕ). ResumesOut start slots (so.count + suc more) xs end) (sym (append_assoc so.rest (reply_text (Some w) r) out))
+        subst (λ (n : ℕ). ResumesOut start outside n ((so.rest ++ reply_text (Some w) r) ++ out) end) (omega arith)
+        (subst (λ (xs : List ℕ). ResumesOut start outside (so.count + suc more) xs end) (sym (append_assoc so.rest (reply_text (Some w) r) out))
         (so.goes_on (suc more) (reply_text (Some w) r ++ out) end (step_on more out end f)));
     waits = all_wait;
     going = again.stopped ∙ e;
   }
 
-  pub resumed_fails : is_fault r ≡ true → HasResumed start slots now waiting0 waiting2 true
+  pub resumed_fails : is_fault r ≡ true → HasResumed start outside now waiting0 waiting2 true
   resumed_fails e =
       let none : ◌≡◌ {A = List ℕ} [] [] = refl in
       record {
@@ -50,8 +50,8 @@ module _ (start m now : Logged) (slots slots1 w : ℕ) (r : Answer) (waiting0 wa
       }
 
 -- none is left
-pub resumed_all : (start m : Logged) (slots : ℕ) (waiting0 waiting : List ℕ) → ResumedSoFar start slots m waiting0 waiting → first_ready m.state.queue ≡ None → HasResumed start slots m waiting0 waiting false
-resumed_all start m slots waiting0 waiting so settled =
+pub resumed_all : (start m : Logged) (outside : Outside) (waiting0 waiting : List ℕ) → ResumedSoFar start outside m waiting0 waiting → first_ready m.state.queue ≡ None → HasResumed start outside m waiting0 waiting false
+resumed_all start m outside waiting0 waiting so settled =
     let none : ◌≡◌ {A = List ℕ} [] [] = refl in
     record {
       count = so.count + 0;
@@ -63,9 +63,9 @@ resumed_all start m slots waiting0 waiting so settled =
 
 -- behind a line
 
-resumed_said : (m mid now : Logged) (slots count : ℕ) (line rest : List ℕ) (tells : Type 0) (before held waiting waiting2 : List ℕ)
-    → Said (LineSaid m slots line) mid tells before held waiting → ResumesOut mid slots count rest now → waiting2 ≡ waiting ++ rest → Said (LineOut m slots line) now tells before held waiting2
-resumed_said m mid now slots count line rest tells before held waiting waiting2 said resumed waits = record {
+resumed_said : (m mid now : Logged) (outside : Outside) (count : ℕ) (line rest : List ℕ) (tells : Type 0) (before held waiting waiting2 : List ℕ)
+    → Said (LineSaid m outside line) mid tells before held waiting → ResumesOut mid outside count rest now → waiting2 ≡ waiting ++ rest → Said (LineOut m outside line) now tells before held waiting2
+resumed_said m mid now outside count line rest tells before held waiting waiting2 said resumed waits = record {
   out = said.out ++ rest;
   reply = (said.out, rest, mid, count, said.reply, refl, resumed);
   sent = said.sent;
@@ -74,19 +74,19 @@ resumed_said m mid now slots count line rest tells before held waiting waiting2 
   waits = waits ∙ ap (λ (xs : List ℕ). xs ++ rest) said.waits ∙ sym (drop-append-le said.sent said.out rest said.few);
 }
 
-pub line_ends : (m mid now : Logged) (slots slots1 : ℕ) (line : List ℕ) (tells : Type 0) (before held waiting waiting2 : List ℕ) (result : Result (Unit {0}) StepFault)
-    → SaidItself m slots line mid tells before held waiting (Ok tt) → slots1 ≡ slots → HasResumed mid slots1 now waiting waiting2 (is_err result) → IfErr result (λ fault. fault ≡ Disk)
-    → SaidAs (LineOut m slots line) m now tells before held waiting2 result
-line_ends m mid now slots slots1 line tells before held waiting waiting2 (Ok done) (said, going) same has by =
-    (resumed_said m mid now slots has.count line has.rest tells before held waiting waiting2 said (subst (λ (k : ℕ). ResumesOut mid k has.count has.rest now) same has.resumed) has.waits, has.stopped)
-line_ends m mid now slots slots1 line tells before held waiting waiting2 (Err Disk) (said, going) same has by =
-    (resumed_said m mid now slots has.count line has.rest tells before held waiting waiting2 said (subst (λ (k : ℕ). ResumesOut mid k has.count has.rest now) same has.resumed) has.waits, has.stopped)
-line_ends m mid now slots slots1 line tells before held waiting waiting2 (Err Sink) (said, going) same has by = cc
+pub line_ends : (m mid now : Logged) (outside outside1 : Outside) (line : List ℕ) (tells : Type 0) (before held waiting waiting2 : List ℕ) (result : Result (Unit {0}) StepFault)
+    → SaidItself m outside line mid tells before held waiting (Ok tt) → outside1 ≡ outside → HasResumed mid outside1 now waiting waiting2 (is_err result) → IfErr result (λ fault. fault ≡ Disk)
+    → SaidAs (LineOut m outside line) m now tells before held waiting2 result
+line_ends m mid now outside outside1 line tells before held waiting waiting2 (Ok done) (said, going) same has by =
+    (resumed_said m mid now outside has.count line has.rest tells before held waiting waiting2 said (subst (λ (k : ℕ). ResumesOut mid k has.count has.rest now) same has.resumed) has.waits, has.stopped)
+line_ends m mid now outside outside1 line tells before held waiting waiting2 (Err Disk) (said, going) same has by =
+    (resumed_said m mid now outside has.count line has.rest tells before held waiting waiting2 said (subst (λ (k : ℕ). ResumesOut mid k has.count has.rest now) same has.resumed) has.waits, has.stopped)
+line_ends m mid now outside outside1 line tells before held waiting waiting2 (Err Sink) (said, going) same has by = cc
 
 -- a fault in the line itself, behind which none is tried
-pub line_fails : (m now : Logged) (slots : ℕ) (line : List ℕ) (tells : Type 0) (before held waiting : List ℕ) (fault : StepFault)
-    → SaidItself m slots line now tells before held waiting (Err fault) → SaidAs (LineOut m slots line) m now tells before held waiting (Err fault)
-line_fails m now slots line tells before held waiting Disk (said, stopped) =
+pub line_fails : (m now : Logged) (outside : Outside) (line : List ℕ) (tells : Type 0) (before held waiting : List ℕ) (fault : StepFault)
+    → SaidItself m outside line now tells before held waiting (Err fault) → SaidAs (LineOut m outside line) m now tells before held waiting (Err fault)
+line_fails m now outside line tells before held waiting Disk (said, stopped) =
     let none : ◌≡◌ {A = List ℕ} [] [] = refl in
-    (resumed_said m now now slots 0 line [] tells before held waiting waiting said (inl stopped, none, refl) (sym (append-nil waiting)), stopped)
-line_fails m now slots line tells before held waiting Sink cut = cut
+    (resumed_said m now now outside 0 line [] tells before held waiting waiting said (inl stopped, none, refl) (sym (append-nil waiting)), stopped)
+line_fails m now outside line tells before held waiting Sink cut = cut

@@ -18,7 +18,7 @@ use Rattle.rb_lines.specs.Ran.{Ran, CutOff}
 use Rattle.rb_lines.proofs.Runs.{ran-append}
 use Rattle.rb_model.specs.Calls.{Call}
 use Rattle.rb_model.specs.Lines.{lines_of}
-use Rattle.rb_model.specs.Out.{IsSettled, Logged}
+use Rattle.rb_model.specs.Out.{IsSettled, Logged, Outside}
 use Rattle.rb_model.specs.Queue.{first_ready}
 use Rattle.rb_model.specs.Rows.{last_scn}
 use Rattle.rb_model.specs.State.{State}
@@ -26,7 +26,7 @@ use Rattle.rb_opening.specs.Opens.{CanOpen, OpensAs}
 use Rattle.rb_segment.specs.Segments.{owed_in}
 use Rattle.rb_shell.specs.Runs.{IsSound, IsStore, HasHalted, HasOpened, HasRun, WasCutOff, Endures, LeftAlone, OpensSame, OpensToNone, EndsRun, IsDoneOrNoMemory, first_of}
 use Rattle.rb_shell.specs.declared.script.TheConstants.{SCRIPT_BYTES}
-use Rattle.rb_calls.specs.Since.{slots_of}
+use Rattle.rb_calls.specs.Since.{outside_of, slots_of}
 use Rattle.rb_shell.specs.Statuses.{EndsFormat}
 use Rattle.rb_shell.specs.declared.status.Status.{Status}
 use Rattle.rb_shell.specs.declared.status.Status.TheVariants.{Done, Usage, SourceFault, DiskFault, SinkFault, NotAStore, NoMemory, NotEmpty, TooLong}
@@ -36,10 +36,10 @@ use Rattle.rb_store.specs.OneOpening.{Agree, one_opening, opens_alike}
 use Rattle.rb_store.specs.Laps.{LapState, IsStable, Opens, OpensAt}
 
 -- the lines before a fault of the disk, and the one in which it came
-all_ran : (slots most : ℕ) (m now : Logged) (left left2 : List ℕ) (tells : Type 0) (before held : List ℕ) → Halted slots most m now left left2 tells before held → Ran slots m now (lines_of left) tells before held
-all_ran slots most m now left left2 tells before held halted =
-    subst (λ (ls : List (List ℕ)). Ran slots m now ls tells before held) (sym halted.lines)
-    (ran-append slots m halted.middle now _ _ tells before halted.held held halted.done halted.going halted.fault)
+all_ran : (outside : Outside) (most : ℕ) (m now : Logged) (left left2 : List ℕ) (tells : Type 0) (before held : List ℕ) → Halted outside most m now left left2 tells before held → Ran outside m now (lines_of left) tells before held
+all_ran outside most m now left left2 tells before held halted =
+    subst (λ (ls : List (List ℕ)). Ran outside m now ls tells before held) (sym halted.lines)
+    (ran-append outside m halted.middle now _ _ tells before halted.held held halted.done halted.going halted.fault)
 
 -- no session is ready in the state that a file opens to
 pub first_settled : {file : List ℕ} (sound : IsSound file) → IsSettled (first_of sound)
@@ -178,14 +178,14 @@ module _ {D : Type 0} (d : DiskGhosts D) (old : D) where
     pub has_run : (now : Logged) (lines : List (List ℕ)) (tells : Type 0) (before held : List ℕ) (endures : Layout → State → Logged → Type 0)
         → Ran e.store.layout.log (first_of sound) now lines tells before held → now.state.stopped ≡ false → endures sound.store.layout sound.state now → HasRun sound lines tells before held endures
     has_run now lines tells before held endures ran going endured = record {
-      run = record { now = now; ran = subst (λ (k : ℕ). Ran k (first_of sound) now lines tells before held) o.slots ran; endured = endured };
+      run = record { now = now; ran = subst (λ (k : ℕ). Ran (outside_of (Some k)) (first_of sound) now lines tells before held) o.slots ran; endured = endured };
       going = going;
     }
 
     pub has_halted : (now : Logged) (left left2 : List ℕ) (tells : Type 0) (before held : List ℕ) (endures : Layout → State → Logged → Type 0)
         → Halted e.store.layout.log SCRIPT_BYTES (first_of sound) now left left2 tells before held → endures sound.store.layout sound.state now → HasHalted sound left left2 tells before held endures
     has_halted now left left2 tells before held endures halted endured =
-        let here = subst (λ (k : ℕ). Halted k SCRIPT_BYTES (first_of sound) now left left2 tells before held) o.slots halted in
+        let here = subst (λ (k : ℕ). Halted (outside_of (Some k)) SCRIPT_BYTES (first_of sound) now left left2 tells before held) o.slots halted in
         record {
           run = record { now = now; ran = all_ran sound.store.layout.log SCRIPT_BYTES (first_of sound) now left left2 tells before held here; endured = endured };
           halted = here;
@@ -195,7 +195,7 @@ module _ {D : Type 0} (d : DiskGhosts D) (old : D) where
         → CutOff e.store.layout.log (first_of sound) now lines before held → endures sound.store.layout sound.state now → WasCutOff sound lines before held endures
     was_cut_off now lines before held endures cut endured = record {
       now = now;
-      cut = subst (λ (k : ℕ). CutOff k (first_of sound) now lines before held) o.slots cut;
+      cut = subst (λ (k : ℕ). CutOff (outside_of (Some k)) (first_of sound) now lines before held) o.slots cut;
       endured = endured;
     }
 

@@ -5,7 +5,7 @@ use Rattle.std.proofs.lemmas.List.{append-nil, length-append, length-set, drop-a
 use Rattle.std.proofs.Math.Seq.{drop-append_seam, take-add}
 use Rattle.std.specs.Bool.{MatchBool}
 use Rattle.std.specs.List.{list_all}
-use Rattle.std.specs.Prelude.{not, if◌then◌else◌, IfErr, OnErr, OnOk, Option, None, Some}
+use Rattle.std.specs.Prelude.{not, slice_get, if◌then◌else◌, IfErr, OnErr, OnOk, Option, None, Some}
 use Rattle.rb_base.specs.Counts.{err_is}
 use Rattle.rb_calls.proofs.CallLemmas.{on_no_fault}
 use Rattle.rb_base.specs.declared.shape.Shape.{Shape}
@@ -17,15 +17,16 @@ use Rattle.rb_engine.proofs.DoesLemmas.{refused_none}
 use Rattle.rb_model.specs.Answers.{answer_of}
 use Rattle.rb_model.specs.declared.answer.Answer as code
 use Rattle.rb_model.specs.declared.row.Row.{Row}
-use Rattle.rb_model.specs.Calls.{Action, Answer, Call, Write, Commit, Rollback, SetMode, SetSavepoint, RollbackTo, OpenCursor, Fetch, CloseCursor, Cancel, Marks, Checkpoint, Done, Waits, Numbered, Given, End, Marked, Refused, Reply, early, later, name_tests, early_tests, failed_in, first_of, granted, is_fault, none_applies, refused_by, serial_tests, waited, write_tests}
+use Rattle.rb_model.specs.Calls.{Action, Answer, Call, Write, Commit, Rollback, SetMode, SetSavepoint, RollbackTo, OpenCursor, Fetch, CloseCursor, Cancel, Marks, Checkpoint, Done, Waits, Numbered, Given, End, Marked, Refused, Reply, early, later, name_tests, early_tests, failed_in, first_of, given, granted, is_fault, next_row, none_applies, refused_by, serial_tests, waited, write_tests}
 use Rattle.rb_model.specs.Calls as calls
 use Rattle.rb_model.specs.Late.{late}
 use Rattle.rb_model.specs.Lines.{Command, WriteLine, CommitLine, RollbackLine, SetLine, SavepointLine, RollbackToLine, OpenLine, FetchLine, CloseLine, CancelLine, MarksLine, CheckpointLine, Spells, call_of, caller, most_calls, reply_text, without_return}
 use Rattle.rb_model.specs.NextState.{After, Grows, cursors_of, with_cursors, with_taken}
-use Rattle.rb_model.specs.Out.{IsSettled, Logged, room, CallOut, CallsOut, CommandOut, LineSaid, command, goes_on}
+use Rattle.rb_model.specs.Out.{IsSettled, Logged, room, CallOut, CallsOut, CommandOut, LineSaid, command, goes_on, Outside}
 use Rattle.rb_model.specs.Queue.{Waiter, first_ready}
-use Rattle.rb_model.specs.State.{State, Session, Cursor, no_session}
-use Rattle.rb_model.specs.Rows.{Commits}
+use Rattle.rb_model.specs.State.{State, Session, Cursor, cursor_of, cursor_rows, no_session}
+use Rattle.rb_model.specs.Rows.{Commits, TableRow}
+use Rattle.rb_model.specs.declared.refusal.Refusal.TheVariants.{TooOld}
 use Rattle.rb_model.specs.declared.mode.Isolation.{Isolation}
 use Rattle.rb_model.specs.declared.mode.Isolation.TheVariants as isolation
 use Rattle.rb_model.proofs.Stops.{after_stops, early_no_fault, fine_stays, first_keeps, granted_fine, refused_same}
@@ -82,18 +83,46 @@ after_marks h n seg (Refused why) e = same_after h n (Marks seg) (Refused why) (
 abbrev pub Reads : Command → Type 0
 Reads c = ((s : ℕ) × (name : List ℕ) × (count : ℕ) × (c ≡ FetchLine s name count)) ⊎ (c ≡ MarksLine)
 
--- a call of theirs has an answer that is no fault, and leaves all but cursors
+-- an answer that is too old
+abbrev is_old : Answer → Bool
+is_old (Refused (TooOld snapshot lost)) = true
+is_old _ = false
+
+-- a call of theirs has an answer that is no fault and isn't too old, and leaves all but cursors
 record Answered (h : State) (n more : ℕ) (c : Call) : Type 0 where
   answer : Answer
   reply : Reply h n more c answer
   fine : is_fault answer ≡ false
+  young : is_old answer ≡ false
   after : AfterRead h n c answer
 
+-- none of the tests but that by the snapshot says so
+
+early_young : (h : State) (c : Call) → is_old (first_of (early_tests h c) Done) ≡ false
+early_young h c = not-true (is_old (first_of (early_tests h c) Done)) (first_keeps (λ r. not (is_old r)) (early_tests h c) Done (tests_young h c) refl)
+  where
+    tests_young : (h : State) (c : Call) → list_all (λ test. not (is_old test.1)) (early_tests h c) ≡ true
+    tests_young h c = grind arith
+
+late_young : (h : State) (c : Call) → is_old (granted h c) ≡ false → is_old (first_of (name_tests h c) (granted h c)) ≡ false
+late_young h c young = not-true (is_old (first_of (name_tests h c) (granted h c))) (first_keeps (λ r. not (is_old r)) (name_tests h c) (granted h c) (tests_young h c) (ap not young))
+  where
+    tests_young : (h : State) (c : Call) → list_all (λ test. not (is_old test.1)) (name_tests h c) ≡ true
+    tests_young h c = grind arith
+
+given_young : (o : Option TableRow) → is_old (given o) ≡ false
+given_young None = refl
+given_young (Some row) = refl
+
+next_young : (h : State) (o : Option Cursor) → is_old (next_row h o) ≡ false
+next_young h None = refl
+next_young h (Some cursor) = given_young (slice_get (cursor_rows h cursor) cursor.taken)
+
 answered_by : (h : State) (n more : ℕ) (c : Call) → ((r : Answer) → none_applies (early_tests h c) ≡ true → r ≡ first_of (name_tests h c) (granted h c) → Reply h n more c r)
-    → ((r : Answer) → is_fault r ≡ false → AfterRead h n c r) → is_fault (first_of (name_tests h c) (granted h c)) ≡ false → Answered h n more c
-answered_by h n more c tested leaves fine = ⊎_elim
-    (λ yes. record { answer = first_of (name_tests h c) (granted h c); reply = tested _ yes refl; fine = fine; after = leaves _ fine })
-    (λ no. record { answer = first_of (early_tests h c) Done; reply = early no refl; fine = early_no_fault h c; after = leaves _ (early_no_fault h c) })
+    → ((r : Answer) → is_fault r ≡ false → AfterRead h n c r) → is_fault (first_of (name_tests h c) (granted h c)) ≡ false → is_old (granted h c) ≡ false → Answered h n more c
+answered_by h n more c tested leaves fine young = ⊎_elim
+    (λ yes. record { answer = first_of (name_tests h c) (granted h c); reply = tested _ yes refl; fine = fine; young = late_young h c young; after = leaves _ fine })
+    (λ no. record { answer = first_of (early_tests h c) Done; reply = early no refl; fine = early_no_fault h c; young = early_young h c; after = leaves _ (early_no_fault h c) })
     (cases_Bool (none_applies (early_tests h c)))
 
 late_fine : (h : State) (c : Call) → is_fault (first_of (name_tests h c) (granted h c)) ≡ false
@@ -104,8 +133,8 @@ late_fine h c = not-true (is_fault (first_of (name_tests h c) (granted h c))) (f
 
 answered : (h : State) (n more : ℕ) (c : Command) (k : ℕ) → Reads c → Answered h n more (call_of c k)
 answered h n more c k reading = ⊎_elim
-    (λ f. subst (λ (x : Command). Answered h n more (call_of x k)) (sym f.3) (answered_by h n more (Fetch f.0 f.1) (λ r yes is. later (name_tests h (Fetch f.0 f.1)) yes refl is) (λ r fine. after_fetch h n f.0 f.1 r fine) (late_fine h (Fetch f.0 f.1))))
-    (λ f. subst (λ (x : Command). Answered h n more (call_of x k)) (sym f) (answered_by h n more (Marks k) (λ r yes is. later (name_tests h (Marks k)) yes refl is) (λ r fine. after_marks h n k r fine) (late_fine h (Marks k))))
+    (λ f. subst (λ (x : Command). Answered h n more (call_of x k)) (sym f.3) (answered_by h n more (Fetch f.0 f.1) (λ r yes is. later (name_tests h (Fetch f.0 f.1)) yes refl is) (λ r fine. after_fetch h n f.0 f.1 r fine) (late_fine h (Fetch f.0 f.1)) (next_young h (cursor_of h f.0 f.1))))
+    (λ f. subst (λ (x : Command). Answered h n more (call_of x k)) (sym f) (answered_by h n more (Marks k) (λ r yes is. later (name_tests h (Marks k)) yes refl is) (λ r fine. after_marks h n k r fine) (late_fine h (Marks k)) refl))
     reading
 
 -- after an answer of each other command it makes no call more
@@ -167,26 +196,26 @@ reads CheckpointLine k h n more r (later tests none which is) gives = clash r _ 
 
 -- calls one after another
 
-once_more : (m mid end : Logged) (slots : ℕ) (c : Command) (k more : ℕ) (r : Answer) (rest : List ℕ) → CallOut m slots (call_of c k) r mid → goes_on r ≡ true → CallsOut mid slots c (suc k) more rest end → CallsOut m slots c k (suc more) (reply_text (caller c) r ++ rest) end
-once_more m mid end slots c k more r rest once gives f =
-    (r, rest, mid, once, refl, subst (λ (b : Bool). MatchBool b (CallsOut mid slots c (suc k) more rest end) ((rest ≡ []) × (end ≡ mid))) (sym gives) f)
+once_more : (m mid end : Logged) (outside : Outside) (c : Command) (k more : ℕ) (r : Answer) (rest : List ℕ) → CallOut m outside (call_of c k) r mid → goes_on r ≡ true → CallsOut mid outside c (suc k) more rest end → CallsOut m outside c k (suc more) (reply_text (caller c) r ++ rest) end
+once_more m mid end outside c k more r rest once gives f =
+    (r, rest, mid, once, refl, subst (λ (b : Bool). MatchBool b (CallsOut mid outside c (suc k) more rest end) ((rest ≡ []) × (end ≡ mid))) (sym gives) f)
 
-once_last : (m mid : Logged) (slots : ℕ) (c : Command) (k more : ℕ) (r : Answer) → CallOut m slots (call_of c k) r mid → goes_on r ≡ false → CallsOut m slots c k (suc more) (reply_text (caller c) r) mid
-once_last m mid slots c k more r once gives =
+once_last : (m mid : Logged) (outside : Outside) (c : Command) (k more : ℕ) (r : Answer) → CallOut m outside (call_of c k) r mid → goes_on r ≡ false → CallsOut m outside c k (suc more) (reply_text (caller c) r) mid
+once_last m mid outside c k more r once gives =
     let none : ◌≡◌ {A = List ℕ} [] [] = refl in
-    (r, [], mid, once, sym (append-nil (reply_text (caller c) r)), subst (λ (b : Bool). MatchBool b (CallsOut mid slots c (suc k) more [] mid) (◌≡◌ {A = List ℕ} [] [] × (mid ≡ mid))) (sym gives) (none, refl))
+    (r, [], mid, once, sym (append-nil (reply_text (caller c) r)), subst (λ (b : Bool). MatchBool b (CallsOut mid outside c (suc k) more [] mid) (◌≡◌ {A = List ℕ} [] [] × (mid ≡ mid))) (sym gives) (none, refl))
 
 -- there is always a reply to go on with
-some_calls : (more : ℕ) (m : Logged) (slots : ℕ) (c : Command) (k : ℕ) → Reads c → (out : List ℕ) × (end : Logged) × SameButCursors end m × CallsOut m slots c k more out end
-some_calls zero m slots c k reading = ([], m, itself m, (refl, refl))
-some_calls (suc more) m slots c k reading =
-    let a = answered m.state m.lsn (room slots m.lsn) c k reading in
+some_calls : (more : ℕ) (m : Logged) (outside : Outside) (c : Command) (k : ℕ) → Reads c → (out : List ℕ) × (end : Logged) × SameButCursors end m × CallsOut m outside c k more out end
+some_calls zero m outside c k reading = ([], m, itself m, (refl, refl))
+some_calls (suc more) m outside c k reading =
+    let a = answered m.state m.lsn (room outside.slots m.lsn) c k reading in
     let mid : Logged = record { state = a.after.0; lsn = m.lsn; fault = m.fault } in
-    let rest = some_calls more mid slots c (suc k) reading in
-    let once : CallOut m slots (call_of c k) a.answer mid = record { reply = a.reply; state = a.after.1; fault = rw a.fine refl; groups = 0; grows = λ going. a.after.2; lsn = λ going. omega arith } in
+    let rest = some_calls more mid outside c (suc k) reading in
+    let once : CallOut m outside (call_of c k) a.answer mid = record { reply = a.reply; worn = λ snapshot lost is. absurd (false≢true (sym a.young ∙ ap is_old is)); state = a.after.1; fault = rw a.fine refl; groups = 0; grows = λ going. a.after.2; lsn = λ going. omega arith } in
     ⊎_elim
-    (λ g. (reply_text (caller c) a.answer ++ rest.0, rest.1, same_joined rest.1 mid m rest.2 (a.after.3 m.fault), once_more m mid rest.1 slots c k more a.answer rest.0 once g rest.3))
-    (λ g. (reply_text (caller c) a.answer, mid, a.after.3 m.fault, once_last m mid slots c k more a.answer once g))
+    (λ g. (reply_text (caller c) a.answer ++ rest.0, rest.1, same_joined rest.1 mid m rest.2 (a.after.3 m.fault), once_more m mid rest.1 outside c k more a.answer rest.0 once g rest.3))
+    (λ g. (reply_text (caller c) a.answer, mid, a.after.3 m.fault, once_last m mid outside c k more a.answer once g))
     (cases_Bool (goes_on a.answer))
 
 -- calls that read leave the queue, and so no session ready that wasn't
@@ -215,8 +244,8 @@ reads_leave h h2 c k r reading e = ⊎_elim
     (λ f. subst (λ (x : Command). After h (call_of x k) r h2 → h2.queue ≡ h.queue) (sym f) (marks_leave h h2 k r e))
     reading
 
-read_settles : (m mid : Logged) (slots : ℕ) (c : Command) (k : ℕ) (r : Answer) → Reads c → CallOut m slots (call_of c k) r mid → IsSettled m → IsSettled mid
-read_settles m mid slots c k r reading once settled = ⊎_elim
+read_settles : (m mid : Logged) (outside : Outside) (c : Command) (k : ℕ) (r : Answer) → Reads c → CallOut m outside (call_of c k) r mid → IsSettled m → IsSettled mid
+read_settles m mid outside c k r reading once settled = ⊎_elim
     (λ (e : is_fault r ≡ true). inl (ap (λ (x : State). x.stopped) (after_stops m.state mid.state (call_of c k) r e once.state)))
     (λ (e : is_fault r ≡ false). ⊎_elim
     (λ stopped. inl ((fine_stays m.state mid.state (call_of c k) r e once.state).stopped ∙ stopped))
@@ -228,12 +257,12 @@ by_going : (v : Bool) (P Q R : Type 0) → (P → R) → (Q → R) → MatchBool
 by_going true P Q R f g p = f p
 by_going false P Q R f g q = g q
 
-calls_settle : (count : ℕ) (m m2 : Logged) (slots : ℕ) (c : Command) (k : ℕ) (out : List ℕ) → Reads c → CallsOut m slots c k count out m2 → IsSettled m → IsSettled m2
-calls_settle zero m m2 slots c k out reading (none, is) settled = subst IsSettled (sym is) settled
-calls_settle (suc count) m m2 slots c k out reading (r, rest, middle, once, is, next) settled =
-    let here : IsSettled middle = read_settles m middle slots c k r reading once settled in
+calls_settle : (count : ℕ) (m m2 : Logged) (outside : Outside) (c : Command) (k : ℕ) (out : List ℕ) → Reads c → CallsOut m outside c k count out m2 → IsSettled m → IsSettled m2
+calls_settle zero m m2 outside c k out reading (none, is) settled = subst IsSettled (sym is) settled
+calls_settle (suc count) m m2 outside c k out reading (r, rest, middle, once, is, next) settled =
+    let here : IsSettled middle = read_settles m middle outside c k r reading once settled in
     by_going (goes_on r) _ _ _
-    (λ more. calls_settle count middle m2 slots c (suc k) rest reading more here)
+    (λ more. calls_settle count middle m2 outside c (suc k) rest reading more here)
     (λ last. subst IsSettled (sym last.1) here) next
 
 -- what makes more calls than one reads
@@ -296,10 +325,10 @@ lost_holds tells before held waiting held2 out sent holds waits lost t =
 
 -- calls of a line, each of which goes on
 
-pub so_far_none : (m : Logged) (slots : ℕ) (c : Command) (tells : Type 0) (before waiting : List ℕ) → waiting ≡ [] → m.state.stopped ≡ false → SaidSoFar m slots c 0 m tells before before waiting
-so_far_none m slots c tells before waiting none going = record {
+pub so_far_none : (m : Logged) (outside : Outside) (c : Command) (tells : Type 0) (before waiting : List ℕ) → waiting ≡ [] → m.state.stopped ≡ false → SaidSoFar m outside c 0 m tells before before waiting
+so_far_none m outside c tells before waiting none going = record {
   out = [];
-  goes_on = λ more rest end f. subst (λ (n : ℕ). CallsOut m slots c 0 n rest end) (omega arith) f;
+  goes_on = λ more rest end f. subst (λ (n : ℕ). CallsOut m outside c 0 n rest end) (omega arith) f;
   sent = 0;
   few = omega arith;
   holds = λ told. sym (append-nil before);
@@ -308,20 +337,20 @@ so_far_none m slots c tells before waiting none going = record {
 }
 
 -- from the next call on
-next_on : (mid end : Logged) (slots : ℕ) (c : Command) (count more : ℕ) (rest : List ℕ) → CallsOut mid slots c (count + 1) more rest end → CallsOut mid slots c (suc count) more rest end
-next_on mid end slots c count more rest f = subst (λ (k : ℕ). CallsOut mid slots c k more rest end) (omega arith) f
+next_on : (mid end : Logged) (outside : Outside) (c : Command) (count more : ℕ) (rest : List ℕ) → CallsOut mid outside c (count + 1) more rest end → CallsOut mid outside c (suc count) more rest end
+next_on mid end outside c count more rest f = subst (λ (k : ℕ). CallsOut mid outside c k more rest end) (omega arith) f
 
-pub so_far_more : (start m mid : Logged) (slots : ℕ) (c : Command) (count : ℕ) (r : Answer) (tells : Type 0) (before held waiting held2 waiting2 : List ℕ) → SaidSoFar start slots c count m tells before held waiting
-    → CalledOnce m slots (caller c) (call_of c count) r mid tells held waiting held2 waiting2 → goes_on r ≡ true → mid.state.stopped ≡ false → SaidSoFar start slots c (count + 1) mid tells before held2 waiting2
-so_far_more start m mid slots c count r tells before held waiting held2 waiting2 so once gives going =
+pub so_far_more : (start m mid : Logged) (outside : Outside) (c : Command) (count : ℕ) (r : Answer) (tells : Type 0) (before held waiting held2 waiting2 : List ℕ) → SaidSoFar start outside c count m tells before held waiting
+    → CalledOnce m outside (caller c) (call_of c count) r mid tells held waiting held2 waiting2 → goes_on r ≡ true → mid.state.stopped ≡ false → SaidSoFar start outside c (count + 1) mid tells before held2 waiting2
+so_far_more start m mid outside c count r tells before held waiting held2 waiting2 so once gives going =
     let text = reply_text (caller c) r in
     let a = added_holds tells before held waiting held2 waiting2 so.out text so.sent so.few so.holds so.waits once.added in
     record {
       out = so.out ++ text;
       goes_on = λ more rest end f.
-          subst (λ (n : ℕ). CallsOut start slots c 0 n ((so.out ++ text) ++ rest) end) (omega arith)
-          (subst (λ (xs : List ℕ). CallsOut start slots c 0 (count + suc more) xs end) (sym (append_assoc so.out text rest))
-          (so.goes_on (suc more) (text ++ rest) end (once_more m mid end slots c count more r rest once.made gives (next_on mid end slots c count more rest f))));
+          subst (λ (n : ℕ). CallsOut start outside c 0 n ((so.out ++ text) ++ rest) end) (omega arith)
+          (subst (λ (xs : List ℕ). CallsOut start outside c 0 (count + suc more) xs end) (sym (append_assoc so.out text rest))
+          (so.goes_on (suc more) (text ++ rest) end (once_more m mid end outside c count more r rest once.made gives (next_on mid end outside c count more rest f))));
       sent = a.0;
       few = a.1.0;
       holds = a.1.1;
@@ -329,24 +358,24 @@ so_far_more start m mid slots c count r tells before held waiting held2 waiting2
       going = going;
     }
 
-so_far_last : (start m mid : Logged) (slots : ℕ) (c : Command) (count all : ℕ) (r : Answer) (tells : Type 0) (before held waiting : List ℕ) (so : SaidSoFar start slots c count m tells before held waiting) → count < all
-    → CallOut m slots (call_of c count) r mid → goes_on r ≡ false → CallsOut start slots c 0 all (so.out ++ reply_text (caller c) r) mid
-so_far_last start m mid slots c count all r tells before held waiting so lt once gives =
-    subst (λ (n : ℕ). CallsOut start slots c 0 n (so.out ++ reply_text (caller c) r) mid) (omega (arith, lt)) (so.goes_on (suc (all - (count + 1))) (reply_text (caller c) r) mid (once_last m mid slots c count (all - (count + 1)) r once gives))
+so_far_last : (start m mid : Logged) (outside : Outside) (c : Command) (count all : ℕ) (r : Answer) (tells : Type 0) (before held waiting : List ℕ) (so : SaidSoFar start outside c count m tells before held waiting) → count < all
+    → CallOut m outside (call_of c count) r mid → goes_on r ≡ false → CallsOut start outside c 0 all (so.out ++ reply_text (caller c) r) mid
+so_far_last start m mid outside c count all r tells before held waiting so lt once gives =
+    subst (λ (n : ℕ). CallsOut start outside c 0 n (so.out ++ reply_text (caller c) r) mid) (omega (arith, lt)) (so.goes_on (suc (all - (count + 1))) (reply_text (caller c) r) mid (once_last m mid outside c count (all - (count + 1)) r once gives))
 
 -- one was the last
-pub so_far_stop : (start m mid : Logged) (slots : ℕ) (c : Command) (count all : ℕ) (r : Answer) (tells : Type 0) (before held waiting held2 waiting2 : List ℕ) → SaidSoFar start slots c count m tells before held waiting → count < all
-    → CalledOnce m slots (caller c) (call_of c count) r mid tells held waiting held2 waiting2 → goes_on r ≡ false → Said (CallsOut start slots c 0 all) mid tells before held2 waiting2
-so_far_stop start m mid slots c count all r tells before held waiting held2 waiting2 so lt once gives =
+pub so_far_stop : (start m mid : Logged) (outside : Outside) (c : Command) (count all : ℕ) (r : Answer) (tells : Type 0) (before held waiting held2 waiting2 : List ℕ) → SaidSoFar start outside c count m tells before held waiting → count < all
+    → CalledOnce m outside (caller c) (call_of c count) r mid tells held waiting held2 waiting2 → goes_on r ≡ false → Said (CallsOut start outside c 0 all) mid tells before held2 waiting2
+so_far_stop start m mid outside c count all r tells before held waiting held2 waiting2 so lt once gives =
     let a = added_holds tells before held waiting held2 waiting2 so.out (reply_text (caller c) r) so.sent so.few so.holds so.waits once.added in
-    record { out = so.out ++ reply_text (caller c) r; reply = so_far_last start m mid slots c count all r tells before held waiting so lt once.made gives; sent = a.0; few = a.1.0; holds = a.1.1; waits = a.1.2 }
+    record { out = so.out ++ reply_text (caller c) r; reply = so_far_last start m mid outside c count all r tells before held waiting so lt once.made gives; sent = a.0; few = a.1.0; holds = a.1.1; waits = a.1.2 }
 
 -- all went on
-pub so_far_all : (start m : Logged) (slots : ℕ) (c : Command) (count : ℕ) (tells : Type 0) (before held waiting : List ℕ) → SaidSoFar start slots c count m tells before held waiting → Said (CallsOut start slots c 0 count) m tells before held waiting
-so_far_all start m slots c count tells before held waiting so = record {
+pub so_far_all : (start m : Logged) (outside : Outside) (c : Command) (count : ℕ) (tells : Type 0) (before held waiting : List ℕ) → SaidSoFar start outside c count m tells before held waiting → Said (CallsOut start outside c 0 count) m tells before held waiting
+so_far_all start m outside c count tells before held waiting so = record {
   out = so.out;
-  reply = subst (λ (n : ℕ). CallsOut start slots c 0 n so.out m) (omega arith)
-      (subst (λ (xs : List ℕ). CallsOut start slots c 0 (count + 0) xs m) (append-nil so.out) (so.goes_on 0 [] m (refl, refl)));
+  reply = subst (λ (n : ℕ). CallsOut start outside c 0 n so.out m) (omega arith)
+      (subst (λ (xs : List ℕ). CallsOut start outside c 0 (count + 0) xs m) (append-nil so.out) (so.goes_on 0 [] m (refl, refl)));
   sent = so.sent;
   few = so.few;
   holds = so.holds;
@@ -354,19 +383,19 @@ so_far_all start m slots c count tells before held waiting so = record {
 }
 
 -- the sink failed
-pub so_far_cut : (start m mid : Logged) (slots : ℕ) (c : Command) (count all : ℕ) (r : Answer) (tells : Type 0) (before held waiting held2 : List ℕ) → SaidSoFar start slots c count m tells before held waiting → count < all
-    → CallOut m slots (call_of c count) r mid → Lost tells held waiting held2 → tells → CutShort (CallsOut start slots c 0 all) mid before held2
-so_far_cut start m mid slots c count all r tells before held waiting held2 so lt once lost t =
+pub so_far_cut : (start m mid : Logged) (outside : Outside) (c : Command) (count all : ℕ) (r : Answer) (tells : Type 0) (before held waiting held2 : List ℕ) → SaidSoFar start outside c count m tells before held waiting → count < all
+    → CallOut m outside (call_of c count) r mid → Lost tells held waiting held2 → tells → CutShort (CallsOut start outside c 0 all) mid before held2
+so_far_cut start m mid outside c count all r tells before held waiting held2 so lt once lost t =
     let text = reply_text (caller c) r in
     let l = lost_holds tells before held waiting held2 so.out so.sent so.holds so.waits lost t in
     let left = all - (count + 1) in
     ⊎_elim
     (λ (gives : goes_on r ≡ true).
-    let rest = some_calls left mid slots c (suc count) (reads c count m.state m.lsn (room slots m.lsn) r once.reply gives) in
+    let rest = some_calls left mid outside c (suc count) (reads c count m.state m.lsn (room outside.slots m.lsn) r once.reply gives) in
     record {
       out = so.out ++ (text ++ rest.0);
       state = rest.1;
-      reply = subst (λ (n : ℕ). CallsOut start slots c 0 n (so.out ++ (text ++ rest.0)) rest.1) (omega (arith, lt)) (so.goes_on (suc left) (text ++ rest.0) rest.1 (once_more m mid rest.1 slots c count left r rest.0 once gives rest.3));
+      reply = subst (λ (n : ℕ). CallsOut start outside c 0 n (so.out ++ (text ++ rest.0)) rest.1) (omega (arith, lt)) (so.goes_on (suc left) (text ++ rest.0) rest.1 (once_more m mid rest.1 outside c count left r rest.0 once gives rest.3));
       same = rest.2;
       size = min l.0 (length so.out);
       written = l.1 ∙ ap (λ (xs : List ℕ). before ++ xs) (sym (take_within l.0 so.out (text ++ rest.0)));
@@ -374,7 +403,7 @@ so_far_cut start m mid slots c count all r tells before held waiting held2 so lt
     (λ (gives : goes_on r ≡ false). record {
       out = so.out ++ text;
       state = mid;
-      reply = so_far_last start m mid slots c count all r tells before held waiting so lt once gives;
+      reply = so_far_last start m mid outside c count all r tells before held waiting so lt once gives;
       same = itself mid;
       size = min l.0 (length so.out);
       written = l.1 ∙ ap (λ (xs : List ℕ). before ++ xs) (sym (take_within l.0 so.out text));
@@ -387,28 +416,28 @@ pub said_nothing : (R : List ℕ → Logged → Type 0) (m : Logged) (tells : Ty
 said_nothing R m tells held waiting r none = record { out = []; reply = r; sent = 0; few = omega arith; holds = λ t. sym (append-nil held); waits = none }
 
 -- a line that is no command, whose reply is the first one
-pub bad_said : (m : Logged) (slots : ℕ) (line text : List ℕ) (tells : Type 0) (held waiting held2 waiting2 : List ℕ) (result : Result (Unit {0}) StepFault) → LineSaid m slots line text m → m.state.stopped ≡ false → waiting ≡ []
-    → Told text false tells held waiting held2 waiting2 result → err_is is_sink result ≡ false → SaidItself m slots line m tells held held2 waiting2 result
-bad_said m slots line text tells held waiting held2 waiting2 (Ok done) r going none told first =
+pub bad_said : (m : Logged) (outside : Outside) (line text : List ℕ) (tells : Type 0) (held waiting held2 waiting2 : List ℕ) (result : Result (Unit {0}) StepFault) → LineSaid m outside line text m → m.state.stopped ≡ false → waiting ≡ []
+    → Told text false tells held waiting held2 waiting2 result → err_is is_sink result ≡ false → SaidItself m outside line m tells held held2 waiting2 result
+bad_said m outside line text tells held waiting held2 waiting2 (Ok done) r going none told first =
     let a = added_holds tells held held waiting held2 waiting2 [] text 0 (omega arith) (λ t. sym (append-nil held)) none told.1 in
     (record { out = text; reply = r; sent = a.0; few = a.1.0; holds = a.1.1; waits = a.1.2 }, going)
-bad_said m slots line text tells held waiting held2 waiting2 (Err Disk) r going none told first = absurd (false≢true told.0)
-bad_said m slots line text tells held waiting held2 waiting2 (Err Sink) r going none told first = absurd (false≢true (sym first))
+bad_said m outside line text tells held waiting held2 waiting2 (Err Disk) r going none told first = absurd (false≢true told.0)
+bad_said m outside line text tells held waiting held2 waiting2 (Err Sink) r going none told first = absurd (false≢true (sym first))
 
 -- A command is what its line does itself. Where it was cut off it reads, and none is ready behind it: all that the
 -- line does.
-pub command_said : (m now : Logged) (slots : ℕ) (line : List ℕ) (c : Command) (tells : Type 0) (before held waiting : List ℕ) (result : Result (Unit {0}) StepFault)
+pub command_said : (m now : Logged) (outside : Outside) (line : List ℕ) (c : Command) (tells : Type 0) (before held waiting : List ℕ) (result : Result (Unit {0}) StepFault)
     → length line ≤ 512 → Spells (without_return line) c → (most_calls m.state.shape c ≤ 1 → err_is is_sink result ≡ false)
-    → SaidAs (CommandOut m slots c) m now tells before held waiting result → SaidItself m slots line now tells before held waiting result
-command_said m now slots line c tells before held waiting (Ok done) short spells one (said, going) =
+    → SaidAs (CommandOut m outside c) m now tells before held waiting result → SaidItself m outside line now tells before held waiting result
+command_said m now outside line c tells before held waiting (Ok done) short spells one (said, going) =
     (record { out = said.out; reply = command short c spells said.reply; sent = said.sent; few = said.few; holds = said.holds; waits = said.waits }, going)
-command_said m now slots line c tells before held waiting (Err Disk) short spells one (said, stopped) =
+command_said m now outside line c tells before held waiting (Err Disk) short spells one (said, stopped) =
     (record { out = said.out; reply = command short c spells said.reply; sent = said.sent; few = said.few; holds = said.holds; waits = said.waits }, stopped)
-command_said m now slots line c tells before held waiting (Err Sink) short spells one cut = λ t settled.
+command_said m now outside line c tells before held waiting (Err Sink) short spells one cut = λ t settled.
     let w = cut t settled in
     let reading : Reads c = many_read m.state.shape c (λ few. false≢true (sym (one few))) in
     let none : ◌≡◌ {A = List ℕ} [] [] = refl in
-    let here : IsSettled w.state = calls_settle (most_calls m.state.shape c) m w.state slots c 0 w.out reading w.reply settled in
+    let here : IsSettled w.state = calls_settle (most_calls m.state.shape c) m w.state outside c 0 w.out reading w.reply settled in
     record {
       out = w.out;
       state = w.state;
@@ -454,48 +483,48 @@ MatchTold (Ok done) answer result = result ≡ Ok answer
 MatchTold (Err fault) answer result = result ≡ Err fault
 
 -- its answer was told
-pub calls_as : (m now : Logged) (slots : ℕ) (t : Option ℕ) (c : Call) (answer : code.Answer) (row : Row) (text : List ℕ) (fault : Bool) (tells : Type 0) (held waiting held2 waiting2 : List ℕ) (told : Result (Unit {0}) StepFault)
-    → m.state.stopped ≡ false → CallOut m slots c (answer_of answer row) now → text ≡ reply_text t (answer_of answer row) → fault ≡ is_fault (answer_of answer row)
-    → Told text fault tells held waiting held2 waiting2 told → (result : Result code.Answer StepFault) → MatchTold told answer result → Calls m slots t c row now tells held waiting held2 waiting2 result
-calls_as m now slots t c answer row text fault tells held waiting held2 waiting2 (Ok done) going once is f (fine, added) result e =
-    subst (λ (x : Result code.Answer StepFault). Calls m slots t c row now tells held waiting held2 waiting2 x) (sym e)
+pub calls_as : (m now : Logged) (outside : Outside) (t : Option ℕ) (c : Call) (answer : code.Answer) (row : Row) (text : List ℕ) (fault : Bool) (tells : Type 0) (held waiting held2 waiting2 : List ℕ) (told : Result (Unit {0}) StepFault)
+    → m.state.stopped ≡ false → CallOut m outside c (answer_of answer row) now → text ≡ reply_text t (answer_of answer row) → fault ≡ is_fault (answer_of answer row)
+    → Told text fault tells held waiting held2 waiting2 told → (result : Result code.Answer StepFault) → MatchTold told answer result → Calls m outside t c row now tells held waiting held2 waiting2 result
+calls_as m now outside t c answer row text fault tells held waiting held2 waiting2 (Ok done) going once is f (fine, added) result e =
+    subst (λ (x : Result code.Answer StepFault). Calls m outside t c row now tells held waiting held2 waiting2 x) (sym e)
     (record { made = once; added = subst (λ (xs : List ℕ). Added xs tells held waiting held2 waiting2) is added }, (fine_stays m.state now.state c (answer_of answer row) (sym f ∙ fine) once.state).stopped ∙ going)
-calls_as m now slots t c answer row text fault tells held waiting held2 waiting2 (Err Disk) going once is f (fine, added) result e =
-    subst (λ (x : Result code.Answer StepFault). Calls m slots t c row now tells held waiting held2 waiting2 x) (sym e)
+calls_as m now outside t c answer row text fault tells held waiting held2 waiting2 (Err Disk) going once is f (fine, added) result e =
+    subst (λ (x : Result code.Answer StepFault). Calls m outside t c row now tells held waiting held2 waiting2 x) (sym e)
     (answer_of answer row, record { made = once; added = subst (λ (xs : List ℕ). Added xs tells held waiting held2 waiting2) is added }, ap (λ (x : State). x.stopped) (after_stops m.state now.state c (answer_of answer row) (sym f ∙ fine) once.state))
-calls_as m now slots t c answer row text fault tells held waiting held2 waiting2 (Err Sink) going once is f lost result e =
-    subst (λ (x : Result code.Answer StepFault). Calls m slots t c row now tells held waiting held2 waiting2 x) (sym e) (answer_of answer row, once, lost)
+calls_as m now outside t c answer row text fault tells held waiting held2 waiting2 (Err Sink) going once is f lost result e =
+    subst (λ (x : Result code.Answer StepFault). Calls m outside t c row now tells held waiting held2 waiting2 x) (sym e) (answer_of answer row, once, lost)
 
 -- calls as they end
 
-module _ (start m now : Logged) (slots slots1 : ℕ) (c : Command) (count : ℕ) (row : Row) (tells : Type 0) (before held waiting held2 waiting2 : List ℕ)
-    (so : SaidSoFar start slots c count m tells before held waiting) (same : slots1 ≡ slots) where
-  abbrev Here : Result code.Answer StepFault → ℕ → Type 0
+module _ (start m now : Logged) (outside outside1 : Outside) (c : Command) (count : ℕ) (row : Row) (tells : Type 0) (before held waiting held2 waiting2 : List ℕ)
+    (so : SaidSoFar start outside c count m tells before held waiting) (same : outside1 ≡ outside) where
+  abbrev Here : Result code.Answer StepFault → Outside → Type 0
   Here result k = Calls m k (caller c) (call_of c count) row now tells held waiting held2 waiting2 result
 
-  pub calls_more : (answer : code.Answer) → goes_on (answer_of answer row) ≡ true → Here (Ok answer) slots1 → SaidSoFar start slots c (count + 1) now tells before held2 waiting2
+  pub calls_more : (answer : code.Answer) → goes_on (answer_of answer row) ≡ true → Here (Ok answer) outside1 → SaidSoFar start outside c (count + 1) now tells before held2 waiting2
   calls_more answer gives calls =
       let here = subst (Here (Ok answer)) same calls in
-      so_far_more start m now slots c count (answer_of answer row) tells before held waiting held2 waiting2 so here.0 gives here.1
+      so_far_more start m now outside c count (answer_of answer row) tells before held waiting held2 waiting2 so here.0 gives here.1
 
-  pub calls_stop : (all : ℕ) (answer : code.Answer) → count < all → goes_on (answer_of answer row) ≡ false → Here (Ok answer) slots1
-      → SaidAs (CallsOut start slots c 0 all) start now tells before held2 waiting2 (Ok tt)
+  pub calls_stop : (all : ℕ) (answer : code.Answer) → count < all → goes_on (answer_of answer row) ≡ false → Here (Ok answer) outside1
+      → SaidAs (CallsOut start outside c 0 all) start now tells before held2 waiting2 (Ok tt)
   calls_stop all answer lt other calls =
       let here = subst (Here (Ok answer)) same calls in
-      (so_far_stop start m now slots c count all (answer_of answer row) tells before held waiting held2 waiting2 so lt here.0 other, here.1)
+      (so_far_stop start m now outside c count all (answer_of answer row) tells before held waiting held2 waiting2 so lt here.0 other, here.1)
 
-  pub calls_fault : (all : ℕ) (fault : StepFault) → count < all → Here (Err fault) slots1 → SaidAs (CallsOut start slots c 0 all) start now tells before held2 waiting2 (Err fault)
+  pub calls_fault : (all : ℕ) (fault : StepFault) → count < all → Here (Err fault) outside1 → SaidAs (CallsOut start outside c 0 all) start now tells before held2 waiting2 (Err fault)
   calls_fault all Disk lt calls =
       let here = subst (Here (Err Disk)) same calls in
       let r = here.0 in
       ⊎_elim
       (λ (gives : goes_on r ≡ true). absurd (false≢true (sym ((fine_stays m.state now.state (call_of c count) r (on_no_fault r gives) here.1.made.state).stopped ∙ so.going) ∙ here.2)))
-      (λ (gives : goes_on r ≡ false). (so_far_stop start m now slots c count all r tells before held waiting held2 waiting2 so lt here.1 gives, here.2))
+      (λ (gives : goes_on r ≡ false). (so_far_stop start m now outside c count all r tells before held waiting held2 waiting2 so lt here.1 gives, here.2))
       (cases_Bool (goes_on r))
   calls_fault all Sink lt calls = λ t settled.
       let here = subst (Here (Err Sink)) same calls in
-      so_far_cut start m now slots c count all here.0 tells before held waiting held2 so lt here.1 here.2 t
+      so_far_cut start m now outside c count all here.0 tells before held waiting held2 so lt here.1 here.2 t
 
-pub calls_end : (start m : Logged) (slots : ℕ) (c : Command) (count all : ℕ) (tells : Type 0) (before held waiting : List ℕ) → count ≡ all → SaidSoFar start slots c count m tells before held waiting → SaidAs (CallsOut start slots c 0 all) start m tells before held waiting (Ok tt)
-calls_end start m slots c count all tells before held waiting is so =
-    (subst (λ (n : ℕ). Said (CallsOut start slots c 0 n) m tells before held waiting) is (so_far_all start m slots c count tells before held waiting so), so.going)
+pub calls_end : (start m : Logged) (outside : Outside) (c : Command) (count all : ℕ) (tells : Type 0) (before held waiting : List ℕ) → count ≡ all → SaidSoFar start outside c count m tells before held waiting → SaidAs (CallsOut start outside c 0 all) start m tells before held waiting (Ok tt)
+calls_end start m outside c count all tells before held waiting is so =
+    (subst (λ (n : ℕ). Said (CallsOut start outside c 0 n) m tells before held waiting) is (so_far_all start m outside c count tells before held waiting so), so.going)

@@ -9,19 +9,19 @@ use Rattle.rb_generator.specs.Summary.{summary_text}
 use Rattle.rb_image.specs.Crash.{OpensUpTo, Survives}
 use Rattle.rb_layout.specs.declared.layout.Layout.{Layout}
 use Rattle.rb_model.specs.Calls.{Answer}
-use Rattle.rb_model.specs.Out.{Logged}
+use Rattle.rb_model.specs.Out.{Logged, Outside}
 use Rattle.rb_model.specs.Rows.{last_scn}
 use Rattle.rb_model.specs.State.{State}
-use Rattle.rb_shell.specs.Runs.{IsSound, first_of}
+use Rattle.rb_shell.specs.Runs.{IsSound, first_of, outside_in}
 use Rattle.rb_shell.specs.declared.status.Status.{Status}
 use Rattle.rb_shell.specs.declared.status.Status.TheVariants.{Done, Usage, SourceFault, DiskFault, SinkFault, NotAStore}
 use Rattle.rb_shell.specs.declared.status.Status.TheVariants.{NoMemory, NotEmpty, TooLong}
 
 -- The commands of a run of n were answered, from a state to another: all of them, or those up to a fault of the disk.
-pub record HasMade (slots : ℕ) (before : Logged) (n : ℕ) (fault : Bool) : Type 0 where
+pub record HasMade (outside : Outside) (before : Logged) (n : ℕ) (fault : Bool) : Type 0 where
   pub answers : List Answer
   pub now : Logged
-  pub answered : CommandsAnswered before slots (commands_of before.state.shape n) answers now
+  pub answered : CommandsAnswered before outside (commands_of before.state.shape n) answers now
   pub stops : StopsBy fault answers now
 
 -- the line that tells of these answers, in the state behind them
@@ -32,7 +32,7 @@ line_of n answers now = summary_text n (counts_of answers) (last_scn now.state.c
 -- states before and after them.
 pub record MadeOver {file : List ℕ} (sound : IsSound file) (n : ℕ) (fault : Bool)
     (endures : Layout → State → Logged → Type 0) : Type 0 where
-  pub made : HasMade sound.store.layout.log (first_of sound) n fault
+  pub made : HasMade (outside_in sound) (first_of sound) n fault
   pub endured : endures sound.store.layout sound.state made.now
 
 -- It made them all, and the sink holds the line that tells of them, where it tells.
@@ -49,10 +49,10 @@ pub record WasNotTold {file : List ℕ} (sound : IsSound file) (n : ℕ) (before
   pub written : now_held ≡ before ++ take size (line_of n over.made.answers over.made.now)
 
 -- Commands were made over a store, and what waited was made last. At a fault of the disk there is no line.
-pub record MadeOn {S : Type 0} (s : Ghosts S) (old new : S) (slots n : ℕ) (before : Logged) (tells : Type 0)
-    (held_before held_now : List ℕ) (status : Status) : Type 0 where
+pub record MadeOn {S : Type 0} (s : Ghosts S) (old new : S) (outside : Outside) (n : ℕ) (before : Logged)
+    (tells : Type 0) (held_before held_now : List ℕ) (status : Status) : Type 0 where
   pub fault : Bool
-  pub made : HasMade slots before n fault
+  pub made : HasMade outside before n fault
   pub crash : s.keeps → Survives s (s.slots old) made.now.fault before.state made.now.state old new
   pub last : s.keeps → status ≢ DiskFault → (i : s.image) → s.left new i
       → OpensUpTo s.opens (s.slots old) made.now.state.shape made.now.lsn i

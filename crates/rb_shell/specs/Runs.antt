@@ -14,11 +14,11 @@ use Rattle.rb_lines.specs.declared.lines.LinesEnd.{LinesEnd}
 use Rattle.rb_lines.specs.declared.lines.LinesEnd.TheVariants as ends
 use Rattle.rb_model.specs.Calls.{Call}
 use Rattle.rb_model.specs.Lines.{lines_of}
-use Rattle.rb_model.specs.Out.{Logged}
+use Rattle.rb_model.specs.Out.{Logged, Outside}
 use Rattle.rb_model.specs.State.{State}
 use Rattle.rb_opening.specs.Opens.{CanOpen, OpensAs}
 use Rattle.rb_segment.specs.Segments.{owed_in}
-use Rattle.rb_calls.specs.Since.{StandsAs}
+use Rattle.rb_calls.specs.Since.{StandsAs, outside_of}
 use Rattle.rb_shell.specs.Statuses.{status_of}
 use Rattle.rb_shell.specs.declared.script.TheConstants.{SCRIPT_BYTES}
 use Rattle.rb_shell.specs.declared.status.Status.{Status}
@@ -50,19 +50,23 @@ first_of sound = record {
   fault = None;
 }
 
+-- What answers over a file hang on besides the machine's state: the slots of its log, and what is worn in its blocks.
+abbrev pub outside_in : {file : List ℕ} → IsSound file → Outside
+outside_in sound = outside_of (Some sound.store.layout.log)
+
 -- From a state and log number it did these lines, and came to others. A crash may leave no more than `endures` says of
 -- the state that it came to.
-pub record HasDone (slots : ℕ) (before : Logged) (lines : List (List ℕ)) (tells : Type 0)
+pub record HasDone (outside : Outside) (before : Logged) (lines : List (List ℕ)) (tells : Type 0)
     (held_before held_now : List ℕ) (endures : Logged → Type 0) : Type 0 where
   pub now : Logged
-  pub ran : Ran slots before now lines tells held_before held_now
+  pub ran : Ran outside before now lines tells held_before held_now
   pub endured : endures now
 
 -- The machine that opened with the file's rows did these lines: the sink holds the replies then, where it tells. A
 -- crash may leave no more than `endures` says of the states before and after them.
 abbrev pub RanOver : {file : List ℕ} → IsSound file → List (List ℕ) → Type 0 → List ℕ → List ℕ
     → (Layout → State → Logged → Type 0) → Type 0
-RanOver sound lines tells before now endures = HasDone sound.store.layout.log (first_of sound) lines tells before now
+RanOver sound lines tells before now endures = HasDone (outside_in sound) (first_of sound) lines tells before now
     (endures sound.store.layout sound.state)
 
 -- It did them all, and the disk never failed.
@@ -75,7 +79,7 @@ pub record HasRun {file : List ℕ} (sound : IsSound file) (lines : List (List �
 pub record WasCutOff {file : List ℕ} (sound : IsSound file) (lines : List (List ℕ)) (before now_held : List ℕ)
     (endures : Layout → State → Logged → Type 0) : Type 0 where
   pub now : Logged
-  pub cut : CutOff sound.store.layout.log (first_of sound) now lines before now_held
+  pub cut : CutOff (outside_in sound) (first_of sound) now lines before now_held
   pub endured : endures sound.store.layout sound.state now
 
 -- A fault of the disk ended the lines: its reply is the last, and nothing was asked for after it. The script was asked
@@ -83,7 +87,7 @@ pub record WasCutOff {file : List ℕ} (sound : IsSound file) (lines : List (Lis
 pub record HasHalted {file : List ℕ} (sound : IsSound file) (left_before left_now : List ℕ) (tells : Type 0)
     (before now : List ℕ) (endures : Layout → State → Logged → Type 0) : Type 0 where
   pub run : RanOver sound (lines_of left_before) tells before now endures
-  pub halted : Halted sound.store.layout.log SCRIPT_BYTES (first_of sound) run.now left_before left_now tells before now
+  pub halted : Halted (outside_in sound) SCRIPT_BYTES (first_of sound) run.now left_before left_now tells before now
 
 -- All lines were done, and then the disk failed as what waited was made last. No reply tells of it, as nothing is lost
 -- but what isn't committed.
@@ -133,17 +137,17 @@ pub record MadeLast {S : Type 0} (s : Ghosts S) (old new : S) (m : Logged) (stat
 
 -- Lines were done over a store, from one state to another. They ended as a status says, and where all is well a crash
 -- leaves them to the last group.
-pub record RanOn {S : Type 0} (s : Ghosts S) (old new : S) (slots most : ℕ) (before : Logged)
-    (left_before left_now : List ℕ)
-    (tells : Type 0) (held_before held_now : List ℕ) (status : Status) : Type 0 where
-  pub now : Logged
-  pub crash : s.keeps → Survives s (s.slots old) now.fault before.state now.state old new
-  pub last : s.keeps → status ≡ Done → (i : s.image) → s.left new i
-      → OpensUpTo s.opens (s.slots old) now.state.shape now.lsn i
-  pub end : LinesEnd
-  pub is : EndsBy end status
-  pub all_taken : end ≡ ends.Done → left_now ≡ []
-  pub ends : EndsAs slots most before now left_before left_now tells held_before held_now end
+pub record RanOn {S : Type 0} (s : Ghosts S) (old new : S) (outside : Outside) (most : ℕ) (before : Logged)
+    (left_before left_now : List ℕ) (tells : Type 0) (held_before held_now : List ℕ) (status : Status) : Type 0
+  where
+    pub now : Logged
+    pub crash : s.keeps → Survives s (s.slots old) now.fault before.state now.state old new
+    pub last : s.keeps → status ≡ Done → (i : s.image) → s.left new i
+        → OpensUpTo s.opens (s.slots old) now.state.shape now.lsn i
+    pub end : LinesEnd
+    pub is : EndsBy end status
+    pub all_taken : end ≡ ends.Done → left_now ≡ []
+    pub ends : EndsAs outside most before now left_before left_now tells held_before held_now end
 
 -- a file opens to no blocks
 abbrev pub OpensToNone : List ℕ → Type 0

@@ -6,7 +6,7 @@ use Rattle.rb_lines.specs.declared.runner.StepFault.{StepFault}
 use Rattle.rb_lines.specs.declared.runner.StepFault.TheVariants.{Disk, Sink}
 use Rattle.rb_model.specs.Answers.{answer_of}
 use Rattle.rb_model.specs.Lines.{Command, is_remark, reply_text, without_return}
-use Rattle.rb_model.specs.Out.{IsSettled, Logged, CallOut, CallsOut, LineOut, LineSaid, ResumesOut}
+use Rattle.rb_model.specs.Out.{IsSettled, Logged, CallOut, CallsOut, LineOut, LineSaid, ResumesOut, Outside}
 use Rattle.rb_model.specs.Calls.{Answer, Call, is_disk_fault}
 use Rattle.rb_model.specs.declared.answer.Answer as code
 use Rattle.rb_model.specs.declared.row.Row.{Row}
@@ -50,23 +50,23 @@ Told text fault tells held_before waiting_before held_now waiting_now (Err Sink)
     Lost tells held_before waiting_before held_now
 
 -- One call was made, and its reply added.
-pub record CalledOnce (m : Logged) (slots : ℕ) (to : Option ℕ) (call : Call) (answer : Answer)
+pub record CalledOnce (m : Logged) (outside : Outside) (to : Option ℕ) (call : Call) (answer : Answer)
     (now : Logged) (tells : Type 0) (held_before waiting_before held_now waiting_now : List ℕ) : Type 0 where
-  pub made : CallOut m slots call answer now
+  pub made : CallOut m outside call answer now
   pub added : Added (reply_text to answer) tells held_before waiting_before held_now waiting_now
 
 -- One call by its end: its answer, a fault of the disk, or its reply was lost.
-abbrev pub Calls : (m : Logged) (slots : ℕ) (to : Option ℕ) (call : Call) (row : Row) (now : Logged)
+abbrev pub Calls : (m : Logged) (outside : Outside) (to : Option ℕ) (call : Call) (row : Row) (now : Logged)
     (tells : Type 0) (held_before waiting_before held_now waiting_now : List ℕ)
     → Result code.Answer StepFault → Type 0
-Calls m slots to call row now tells held_before waiting_before held_now waiting_now (Ok answer) =
-    CalledOnce m slots to call (answer_of answer row) now tells held_before waiting_before held_now waiting_now
+Calls m outside to call row now tells held_before waiting_before held_now waiting_now (Ok answer) =
+    CalledOnce m outside to call (answer_of answer row) now tells held_before waiting_before held_now waiting_now
     × (now.state.stopped ≡ false)
-Calls m slots to call row now tells held_before waiting_before held_now waiting_now (Err Disk) =
-    (answer : Answer) × CalledOnce m slots to call answer now tells held_before waiting_before held_now waiting_now
+Calls m outside to call row now tells held_before waiting_before held_now waiting_now (Err Disk) =
+    (answer : Answer) × CalledOnce m outside to call answer now tells held_before waiting_before held_now waiting_now
     × (now.state.stopped ≡ true)
-Calls m slots to call row now tells held_before waiting_before held_now waiting_now (Err Sink) =
-    (answer : Answer) × CallOut m slots call answer now × Lost tells held_before waiting_before held_now
+Calls m outside to call row now tells held_before waiting_before held_now waiting_now (Err Sink) =
+    (answer : Answer) × CallOut m outside call answer now × Lost tells held_before waiting_before held_now
 
 -- Replies as a relation allows them, and the state after them. The first `sent` bytes were sent, and the others wait.
 pub record Said (allows : List ℕ → Logged → Type 0) (now : Logged) (tells : Type 0)
@@ -91,40 +91,40 @@ SaidAs allows start now tells before held waiting (Err Sink) = tells → IsSettl
 
 -- The same of what a line does itself. One that was cut off makes more calls than one, and so it only reads: no session
 -- is ready behind it that wasn't before.
-abbrev pub SaidItself : (start : Logged) (slots : ℕ) (line : List ℕ) (now : Logged) → Type 0
+abbrev pub SaidItself : (start : Logged) (outside : Outside) (line : List ℕ) (now : Logged) → Type 0
     → (before held waiting : List ℕ) → Result (Unit {0}) StepFault → Type 0
-SaidItself start slots line now tells before held waiting (Ok done) =
-    Said (LineSaid start slots line) now tells before held waiting × (now.state.stopped ≡ false)
-SaidItself start slots line now tells before held waiting (Err Disk) =
-    Said (LineSaid start slots line) now tells before held waiting × (now.state.stopped ≡ true)
-SaidItself start slots line now tells before held waiting (Err Sink) = tells → IsSettled start
-    → CutShort (LineOut start slots line) now before held
+SaidItself start outside line now tells before held waiting (Ok done) =
+    Said (LineSaid start outside line) now tells before held waiting × (now.state.stopped ≡ false)
+SaidItself start outside line now tells before held waiting (Err Disk) =
+    Said (LineSaid start outside line) now tells before held waiting × (now.state.stopped ≡ true)
+SaidItself start outside line now tells before held waiting (Err Sink) = tells → IsSettled start
+    → CutShort (LineOut start outside line) now before held
 
 -- Writes of ready sessions were tried again until none was ready, or one of them failed. Their replies wait.
-pub record HasResumed (start : Logged) (slots : ℕ) (now : Logged) (waiting_before waiting_now : List ℕ)
+pub record HasResumed (start : Logged) (outside : Outside) (now : Logged) (waiting_before waiting_now : List ℕ)
     (failed : Bool) : Type 0 where
   pub count : ℕ
   pub rest : List ℕ
-  pub resumed : ResumesOut start slots count rest now
+  pub resumed : ResumesOut start outside count rest now
   pub waits : waiting_now ≡ waiting_before ++ rest
   pub stopped : now.state.stopped ≡ failed
 
 -- So many of them were, and none failed: what is tried from here on goes on from the start.
-pub record ResumedSoFar (start : Logged) (slots : ℕ) (now : Logged) (waiting_before waiting_now : List ℕ) : Type 0
-  where
-    pub count : ℕ
-    pub rest : List ℕ
-    pub goes_on : (more : ℕ) (out : List ℕ) (end : Logged) → ResumesOut now slots more out end
-        → ResumesOut start slots (count + more) (rest ++ out) end
-    pub waits : waiting_now ≡ waiting_before ++ rest
-    pub going : now.state.stopped ≡ false
+pub record ResumedSoFar (start : Logged) (outside : Outside) (now : Logged)
+    (waiting_before waiting_now : List ℕ) : Type 0 where
+  pub count : ℕ
+  pub rest : List ℕ
+  pub goes_on : (more : ℕ) (out : List ℕ) (end : Logged) → ResumesOut now outside more out end
+      → ResumesOut start outside (count + more) (rest ++ out) end
+  pub waits : waiting_now ≡ waiting_before ++ rest
+  pub going : now.state.stopped ≡ false
 
 -- So many calls of a command were made, each of which goes on: what goes on from here goes on from the start.
-pub record SaidSoFar (start : Logged) (slots : ℕ) (c : Command) (count : ℕ) (now : Logged) (tells : Type 0)
+pub record SaidSoFar (start : Logged) (outside : Outside) (c : Command) (count : ℕ) (now : Logged) (tells : Type 0)
     (before held waiting : List ℕ) : Type 0 where
   pub out : List ℕ
-  pub goes_on : (more : ℕ) (rest : List ℕ) (end : Logged) → CallsOut now slots c count more rest end
-      → CallsOut start slots c 0 (count + more) (out ++ rest) end
+  pub goes_on : (more : ℕ) (rest : List ℕ) (end : Logged) → CallsOut now outside c count more rest end
+      → CallsOut start outside c 0 (count + more) (out ++ rest) end
   pub sent : ℕ
   pub few : sent ≤ length out
   pub holds : tells → held ≡ before ++ take sent out

@@ -4,7 +4,7 @@ ghost use Rattle.std.specs.Prelude.{◌≡◌, ◌++◌, ◌<◌, ◌≤◌, ℕ
 ghost use Rattle.std.specs.Result.{is_err};
 ghost use Rattle.arrayvec.specs.ArrayVec.{array_vec_len};
 ghost use Rattle.rb_base.specs.Counts.{IsCounted, IsCountedAs, err_is};
-ghost use Rattle.rb_calls.specs.Since.{IsSince, StandsAs, slots_of};
+ghost use Rattle.rb_calls.specs.Since.{IsSince, StandsAs, outside_of};
 ghost use Rattle.rb_engine.specs.Does.{SameStore};
 ghost use Rattle.rb_lines.specs.Faults.{IsCountedBeside, is_disk, is_sink};
 ghost use Rattle.rb_lines.specs.Ran.{Did, LineRanAs};
@@ -92,7 +92,7 @@ fn call_once<T: Store, K: Sink>(
     requires { k < most_calls (T.shape_of engine.old.store) (command_of command.now) }
     ensures did { (m : Logged) → StandsAs T.Store engine.old m → m.state.stopped ≡ false
         → Did (StandsAs T.Store) (IsSince T.Store) engine.old engine.new m (λ now. Calls m
-        (slots_of (T.slots engine.old.store)) (caller (command_of command.now)) (call_of (command_of command.now) k)
+        (outside_of (T.slots engine.old.store)) (caller (command_of command.now)) (call_of (command_of command.now) k)
         row.new now K.tells (K.held sink.old) waiting.old.items (K.held sink.new) waiting.new.items result) }
     ensures room { OnOk result (array_vec_len waiting.new ≤ OWN_BYTES) }
     ensures first { waiting.old.items ≡ [] → err_is is_sink result ≡ false }
@@ -117,7 +117,7 @@ fn run_command<T: Store, K: Sink>(
     requires { waiting.old.items ≡ [] }
     ensures did { (m : Logged) → StandsAs T.Store engine.old m → m.state.stopped ≡ false
         → Did (StandsAs T.Store) (IsSince T.Store) engine.old engine.new m (λ now. SaidAs (CommandOut m
-        (slots_of (T.slots engine.old.store)) (command_of command.now)) m now K.tells (K.held sink.old)
+        (outside_of (T.slots engine.old.store)) (command_of command.now)) m now K.tells (K.held sink.old)
         (K.held sink.new) waiting.new.items result) }
     ensures room { OnOk result (array_vec_len waiting.new ≤ OWN_BYTES) }
     // The only reply of a command that makes one call isn't sent yet.
@@ -151,7 +151,7 @@ fn say_itself<T: Store, K: Sink>(
     requires { waiting.old.items ≡ [] }
     ensures did { (m : Logged) → StandsAs T.Store engine.old m → m.state.stopped ≡ false
         → Did (StandsAs T.Store) (IsSince T.Store) engine.old engine.new m (λ now. SaidItself m
-        (slots_of (T.slots engine.old.store)) line.now now K.tells (K.held sink.old)
+        (outside_of (T.slots engine.old.store)) line.now now K.tells (K.held sink.old)
         (K.held sink.new) waiting.new.items result) }
     ensures room { OnOk result (array_vec_len waiting.new ≤ OWN_BYTES) }
     ensures skipped { IsSkipped line.now → (engine.new ≡ engine.old) × (sink.new ≡ sink.old)
@@ -180,7 +180,7 @@ fn resume_ready<T: Store>(engine: &mut Engine<T>, waiting: &mut Waiting) -> Resu
     requires { array_vec_len waiting.old ≤ OWN_BYTES }
     ensures did { (m : Logged) → StandsAs T.Store engine.old m → m.state.stopped ≡ false
         → Did (StandsAs T.Store) (IsSince T.Store) engine.old engine.new m (λ now. HasResumed m
-        (slots_of (T.slots engine.old.store)) now waiting.old.items waiting.new.items (is_err result)) }
+        (outside_of (T.slots engine.old.store)) now waiting.old.items waiting.new.items (is_err result)) }
     ensures idle { first_ready engine.old.memory.waits ≡ None
         → (engine.new ≡ engine.old) × (waiting.new ≡ waiting.old) × (is_err result ≡ false) }
     ensures same { SameStore T.Store engine.old.store engine.new.store }
@@ -207,7 +207,7 @@ fn say_line<T: Store, K: Sink>(
     requires { waiting.old.items ≡ [] }
     ensures did { (m : Logged) → StandsAs T.Store engine.old m → m.state.stopped ≡ false
         → Did (StandsAs T.Store) (IsSince T.Store) engine.old engine.new m (λ now. SaidAs (LineOut m
-        (slots_of (T.slots engine.old.store)) line.now) m now K.tells (K.held sink.old)
+        (outside_of (T.slots engine.old.store)) line.now) m now K.tells (K.held sink.old)
         (K.held sink.new) waiting.new.items result) }
     ensures skipped { IsSkipped line.now → first_ready engine.old.memory.waits ≡ None
         → (engine.new ≡ engine.old) × (sink.new ≡ sink.old)
@@ -245,7 +245,7 @@ pub fn do_line<T: Store, K: Sink>(
 ) -> Result<(), StepFault>
     ensures did { (m : Logged) → StandsAs T.Store engine.old m → m.state.stopped ≡ false
         → Did (StandsAs T.Store) (IsSince T.Store) engine.old engine.new m (λ now. LineRanAs
-        (slots_of (T.slots engine.old.store)) m now line.now K.tells (K.held sink.old) (K.held sink.new) result) }
+        (outside_of (T.slots engine.old.store)) m now line.now K.tells (K.held sink.old) (K.held sink.new) result) }
     ensures skipped { IsSkipped line.now → first_ready engine.old.memory.waits ≡ None
         → (engine.new ≡ engine.old) × (sink.new ≡ sink.old) × (is_err result ≡ false) }
     ensures same { SameStore T.Store engine.old.store engine.new.store }
@@ -275,7 +275,7 @@ pub fn step<T: Store, K: Sink>(
     // the state after them. At a fault of the disk they end with it. A crash may leave no more than these states.
     ensures did { (m : Logged) → StandsAs T.Store engine.old m → m.state.stopped ≡ false
         → Did (StandsAs T.Store) (IsSince T.Store) engine.old engine.new m (λ now. LineRanAs
-        (slots_of (T.slots engine.old.store)) m now line.now K.tells (K.held sink.old) (K.held sink.new) result) }
+        (outside_of (T.slots engine.old.store)) m now line.now K.tells (K.held sink.old) (K.held sink.new) result) }
     // A line that is empty or a remark leaves all as it is where no session is ready, and the sink isn't called.
     ensures skipped { IsSkipped line.now → first_ready engine.old.memory.waits ≡ None
         → (engine.new ≡ engine.old) × (sink.new ≡ sink.old) × (is_err result ≡ false) }

@@ -1,5 +1,6 @@
-use Rattle.std.proofs.Common.{sym, subst, None, Some}
+use Rattle.std.proofs.Common.{◌∙◌, sym, subst, None, Some}
 use Rattle.rb_engine.specs.Does.{Does}
+use Rattle.rb_engine.specs.Worn.{CallNeedsLost}
 use Rattle.rb_model.specs.Answers.{answer_of}
 use Rattle.rb_model.specs.Calls.{Answer}
 use Rattle.rb_model.specs.Lines.{call_of, caller}
@@ -7,7 +8,7 @@ use Rattle.rb_script.specs.Commands.{command_of}
 use Rattle.rb_script.specs.declared.command.Command.{Command}
 use Rattle.rb_script.specs.declared.command.Command.TheVariants as commands
 use Rattle.rb_calls.specs.Fits.{FitsCaller}
-use Rattle.rb_calls.proofs.CallLemmas.{counted_as}
+use Rattle.rb_calls.proofs.CallLemmas.{counted_as, old_fetch, old_outcome}
 use Rattle.rb_calls.proofs.calls.answer.Goals as goal
 
 pub returns-in-Write-clause-did : goal.returns-in-Write-clause-did
@@ -148,3 +149,55 @@ returns-in-Marks-clause-did g c = λ h st.
 
 pub returns-in-Marks-clause-fits : goal.returns-in-Marks-clause-fits
 returns-in-Marks-clause-fits g c = subst (λ (command : Command). FitsCaller (caller (command_of command)) c.answer_of_segment.result) (sym c.in-Marks.is) c.answer_of_segment.ensures.fits
+
+pub returns-in-Write-clause-lost : goal.returns-in-Write-clause-lost
+returns-in-Write-clause-lost g c = λ h st scn lost is.
+    subst (λ (command : Command). CallNeedsLost g.T.Store h c.args.engine.now (call_of (command_of command) c.args.k) scn lost) (sym c.in-Write.is) (c.write.ensures.lost h st scn lost (old_outcome c.write.result scn lost (sym (c.answer_to_write.ensures.answer c.args.row.now) ∙ is)))
+
+pub returns-in-Lock-clause-lost : goal.returns-in-Lock-clause-lost
+returns-in-Lock-clause-lost g c = λ h st scn lost is.
+    subst (λ (command : Command). CallNeedsLost g.T.Store h c.args.engine.now (call_of (command_of command) c.args.k) scn lost) (sym c.in-Lock.is) (c.lock.ensures.lost h st scn lost (old_outcome c.lock.result scn lost (sym (c.answer_to_write-in-Lock.ensures.answer c.args.row.now) ∙ is)))
+
+pub returns-in-Commit-clause-lost : goal.returns-in-Commit-clause-lost
+returns-in-Commit-clause-lost g c = λ h st scn lost is.
+    subst (λ (command : Command). CallNeedsLost g.T.Store h c.args.engine.now (call_of (command_of command) c.args.k) scn lost) (sym c.in-Commit.is) tt
+
+pub returns-in-Rollback-clause-lost : goal.returns-in-Rollback-clause-lost
+returns-in-Rollback-clause-lost g c = λ h st scn lost is.
+    subst (λ (command : Command). CallNeedsLost g.T.Store h c.args.engine.now (call_of (command_of command) c.args.k) scn lost) (sym c.in-Rollback.is) tt
+
+pub returns-in-Set-clause-lost : goal.returns-in-Set-clause-lost
+returns-in-Set-clause-lost g c = λ h st scn lost is.
+    subst (λ (command : Command). CallNeedsLost g.T.Store h c.args.engine.now (call_of (command_of command) c.args.k) scn lost) (sym c.in-Set.is) tt
+
+pub returns-in-Savepoint-clause-lost : goal.returns-in-Savepoint-clause-lost
+returns-in-Savepoint-clause-lost g c = λ h st scn lost is.
+    subst (λ (command : Command). CallNeedsLost g.T.Store h c.args.engine.now (call_of (command_of command) c.args.k) scn lost) (sym c.in-Savepoint.is) tt
+
+pub returns-in-RollbackTo-clause-lost : goal.returns-in-RollbackTo-clause-lost
+returns-in-RollbackTo-clause-lost g c = λ h st scn lost is.
+    subst (λ (command : Command). CallNeedsLost g.T.Store h c.args.engine.now (call_of (command_of command) c.args.k) scn lost) (sym c.in-RollbackTo.is) tt
+
+pub returns-in-OpenCursor-clause-lost : goal.returns-in-OpenCursor-clause-lost
+returns-in-OpenCursor-clause-lost g c = λ h st scn lost is.
+    subst (λ (command : Command). CallNeedsLost g.T.Store h c.args.engine.now (call_of (command_of command) c.args.k) scn lost) (sym c.in-OpenCursor.is) tt
+
+pub returns-in-Fetch-clause-lost : goal.returns-in-Fetch-clause-lost
+returns-in-Fetch-clause-lost g c = λ h st scn lost is.
+    subst (λ (command : Command). CallNeedsLost g.T.Store h c.args.engine.now (call_of (command_of command) c.args.k) scn lost) (sym c.in-Fetch.is) (c.fetch.ensures.lost h st scn lost (old_fetch c.fetch.result c.fetch.new.row scn lost (sym (c.answer_to_fetch.ensures.answer c.fetch.new.row) ∙ is)))
+
+pub returns-in-CloseCursor-clause-lost : goal.returns-in-CloseCursor-clause-lost
+returns-in-CloseCursor-clause-lost g c = λ h st scn lost is.
+    subst (λ (command : Command). CallNeedsLost g.T.Store h c.args.engine.now (call_of (command_of command) c.args.k) scn lost) (sym c.in-CloseCursor.is) tt
+
+pub returns-in-Cancel-clause-lost : goal.returns-in-Cancel-clause-lost
+returns-in-Cancel-clause-lost g c = λ h st scn lost is.
+    subst (λ (command : Command). CallNeedsLost g.T.Store h c.args.engine.now (call_of (command_of command) c.args.k) scn lost) (sym c.in-Cancel.is) tt
+
+pub returns-in-Checkpoint-clause-lost : goal.returns-in-Checkpoint-clause-lost
+returns-in-Checkpoint-clause-lost g c = λ h st scn lost is.
+    subst (λ (command : Command). CallNeedsLost g.T.Store h c.args.engine.now (call_of (command_of command) c.args.k) scn lost) (sym c.in-Checkpoint.is) tt
+
+pub returns-in-Marks-clause-lost : goal.returns-in-Marks-clause-lost
+returns-in-Marks-clause-lost g c = λ h st scn lost is.
+    subst (λ (command : Command). CallNeedsLost g.T.Store h c.args.engine.now (call_of (command_of command) c.args.k) scn lost) (sym c.in-Marks.is) tt

@@ -80,7 +80,7 @@ returns-in-Err-clause-lost g c = λ h st scn lost is.
     let going : h.stopped ≡ false = sym st.knows.stopped ∙ c.requires.going in
     let goes : Goes s h old = st.goes going in
     let at : c.refuse.result ≡ TooOld scn lost = cc in
-    (goes.xids, subst (IsRefusedLate h goes.xids (s.blocks old.store) c.args.s c.args.table c.args.key) (sym c.refuse.ensures.why ∙ at) (c.in-Err.ensures.timely st.told h goes.xids goes.holds.blocks st.shape goes.remembers))
+    (goes.xids, record { stand = goes.holds.blocks; old = subst (IsRefusedLate h goes.xids (s.blocks old.store) c.args.s c.args.table c.args.key) (sym c.refuse.ensures.why ∙ at) (c.in-Err.ensures.timely st.told h goes.xids goes.holds.blocks st.shape goes.remembers) })
 
 pub returns-in-Ok-clause-did : goal.returns-in-Ok-clause-did
 returns-in-Ok-clause-did g c = λ h st early others.

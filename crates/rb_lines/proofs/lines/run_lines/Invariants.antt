@@ -1,4 +1,5 @@
 use Rattle.std.proofs.Common.{◌≡◌, ◌≤◌, ◌<◌, length}
+use Rattle.rb_model.specs.Out.{outside_by}
 use Rattle.rb_lines.proofs.Parts.{Part}
 use Rattle.rb_lines.proofs.lines.run_lines.Given as goal
 
@@ -7,7 +8,7 @@ invariant-loop-room g l = record {
   buffer : length l.buffer ≡ length l.initial.buffer;
   some : 0 < length l.buffer;
   room : l.room ≤ 1000000000;
-  part : g.S.Source.tells → Part g.M.LineRunner.stands g.M.LineRunner.since l.initial.runner l.runner (g.M.LineRunner.slots l.initial.runner) g.K.Sink.tells (g.K.Sink.held l.initial.sink) (g.K.Sink.held l.sink) (g.S.Source.left l.initial.source) (g.S.Source.left l.source) l.pending.items l.room;
+  part : g.S.Source.tells → Part g.M.LineRunner.stands g.M.LineRunner.since l.initial.runner l.runner (outside_by g.M.LineRunner.worn (g.M.LineRunner.slots l.initial.runner)) g.K.Sink.tells (g.K.Sink.held l.initial.sink) (g.K.Sink.held l.sink) (g.S.Source.left l.initial.source) (g.S.Source.left l.source) l.pending.items l.room;
   slots : g.M.LineRunner.slots l.runner ≡ g.M.LineRunner.slots l.initial.runner;
   source : g.S.Source.faults l.source ≡ g.S.Source.faults l.initial.source;
   disk : g.M.LineRunner.faults l.runner ≡ g.M.LineRunner.faults l.initial.runner;

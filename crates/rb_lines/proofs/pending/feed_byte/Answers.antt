@@ -1,6 +1,6 @@
 use Rattle.std.proofs.Common.{◌≡◌, ℕ, List, [], ◌∷◌, take, Result, Err, sym, ◌∙◌, ap, subst}
 use Rattle.std.proofs.lemmas.Result.{err_from_is_err_and}
-use Rattle.rb_model.specs.Out.{Logged}
+use Rattle.rb_model.specs.Out.{Outside, Logged}
 use Rattle.rb_lines.specs.declared.runner.StepFault.{StepFault}
 use Rattle.rb_lines.specs.Ran.{LineRanAs, RanAs}
 use Rattle.rb_lines.specs.Pieces.{lines_from}
@@ -9,11 +9,11 @@ use Rattle.rb_lines.proofs.Runs.{step_as}
 use Rattle.rb_lines.proofs.pending.feed_byte.Goals as goal
 
 -- LF ends the line
-ended : (slots : ℕ) (h h2 : Logged) (line front : List ℕ) (b : ℕ) (tells : Type 0) (held held2 : List ℕ) (r r2 : Result (Unit {0}) StepFault)
-    → b ≡ 10 → r ≡ r2 → front ≡ take 513 line → LineRanAs slots h h2 front tells held held2 r → RanAs slots h h2 (lines_from line (b ∷ [])) tells held held2 r2
-ended slots h h2 line front b tells held held2 r r2 e f is q =
-    subst (λ (x : ℕ). RanAs slots h h2 (lines_from line (x ∷ [])) tells held held2 r2) (sym e)
-    (subst (λ (x : Result (Unit {0}) StepFault). RanAs slots h h2 (line ∷ []) tells held held2 x) f (step_as slots h h2 line front tells held held2 r is q))
+ended : (outside : Outside) (h h2 : Logged) (line front : List ℕ) (b : ℕ) (tells : Type 0) (held held2 : List ℕ) (r r2 : Result (Unit {0}) StepFault)
+    → b ≡ 10 → r ≡ r2 → front ≡ take 513 line → LineRanAs outside h h2 front tells held held2 r → RanAs outside h h2 (lines_from line (b ∷ [])) tells held held2 r2
+ended outside h h2 line front b tells held held2 r r2 e f is q =
+    subst (λ (x : ℕ). RanAs outside h h2 (lines_from line (x ∷ [])) tells held held2 r2) (sym e)
+    (subst (λ (x : Result (Unit {0}) StepFault). RanAs outside h h2 (line ∷ []) tells held held2 x) f (step_as outside h h2 line front tells held held2 r is q))
 
 pub returns-in_err-step-clause-did : goal.returns-in_err-step-clause-did
 returns-in_err-step-clause-did g c = λ m line is going e.
