@@ -28,6 +28,7 @@ use Rattle.rb_undoengine.proofs.Done.{answered, fits_is, id_is, ids_are, stands}
 use Rattle.rb_undoengine.proofs.HomeWords.{which_in}
 use Rattle.rb_undoengine.proofs.Logged.{write_logged}
 use Rattle.rb_undoengine.proofs.Refused.{refused}
+use Rattle.rb_undoengine.proofs.Told.{write_tells}
 use Rattle.rb_undoengine.proofs.Writers as writers
 use Rattle.rb_verdict.proofs.Presence.{owner_within}
 use Rattle.rb_verdict.proofs.StoodBlocks.{stood_of}
