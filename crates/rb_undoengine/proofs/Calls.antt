@@ -93,6 +93,7 @@ module _ {S : Type 0} (store : Ghosts S) (told : store.tells) (old new : S) (h :
           ids = λ r t owns. ids_are h xids Before now s Room ask about s_in first last mine x w.2 w.3 w.0 w.1 asked takes w.8 early enough few t owns.owner (owner_within h xids (segments_of h.shape Before) (homes_of h.shape Before) (stood_of h xids Before about.stand) t owns.owner owns.at) owns.at;
           id = id_is h xids Before now s Room ask about s_in first last mine x w.2 w.3 w.0 w.1 asked takes w.8 early enough few;
           fits = fits_is h xids Before now s Room ask about s_in first last mine x w.2 w.3 w.0 w.1 asked takes w.8 early enough few;
+          tells = write_tells h xids Before now (16 * x.seg + x.slot) (adds_row ask.op) (kind_of ask.op) w.0 w.1 about.stand t_in w.8;
         }
 
   -- what a group makes, where one is given

@@ -1,5 +1,5 @@
 -- What a write cleans in its home tells the looks; the entry that it takes is Open.
-use Rattle.std.proofs.Common.{◌≡◌, ◌≢◌, ◌⊎◌, inl, inr, ◌<◌, ◌*◌, ◌/◌, ℕ, Bool, List, length, ap, ◌∙◌, arith}
+use Rattle.std.proofs.Common.{◌≡◌, ◌≢◌, ◌⊎◌, inl, inr, ◌<◌, ◌*◌, ◌/◌, ℕ, Bool, List, length, ap, sym, ◌∙◌, arith}
 use Rattle.std.proofs.Math.Nat.{div-add-mod}
 use Rattle.std.proofs.lemmas.Bool.{cases_eq}
 use Rattle.std.proofs.lemmas.List.{get_or-set_other, get_or-set_same, length-map}
@@ -34,12 +34,12 @@ module _ (h : State) (xids : List Xid) (before now : List (List ℕ)) (t : ℕ) 
 
   -- neither the header nor the record is in a block of rows
   row_stays : (b : ℕ) → b < table_blocks h.shape → b ≢ u.home → block_of now b ≡ block_of before b
-  row_stays b b_in ne = block_stays h.shape Is before now is.group b (λ at.
-  let a = segment.address_within h.shape t address u before now (commit_scn h.shape before) (logged_of h.shape before) order is.recorded in
-  elim at [
-    | inl home ↦ ne home
-    | inr other ↦ elim other [ inl head ↦ omega (arith, head, b_in) | inr undo ↦ omega (arith, undo, b_in, a) ]
-  ])
+  row_stays b b_in ne =
+      let a = segment.address_within h.shape t address u before now (commit_scn h.shape before) (logged_of h.shape before) order is.recorded in
+      block_stays h.shape Is before now is.group b (λ at. elim at [
+        | inl home ↦ ne home
+        | inr other ↦ elim other [ inl head ↦ omega (arith, head, b_in) | inr undo ↦ omega (arith, undo, b_in, a) ]
+      ])
 
   abbrev Cleaned : Home
   Cleaned = cleaned_home (env_of h.shape before).look (home_of (block_of before u.home))
