@@ -1,12 +1,12 @@
 -- What a reader's cleaning leaves: the store stands for the state, the cursor is one of it, and each home has the rows
 -- that it had, and lacks what it lacked.
-use Rattle.std.proofs.Common.{◌≡◌, ◌≢◌, ◌⊎◌, inl, inr, ◌<◌, ◌≤◌, ◌+◌, ◌-◌, ◌*◌, ◌%◌, ℕ, zero, suc, Bool, true, false, not, List, [], ◌∷◌, length, map, get_or, Option, Some, None, Result, Ok, Err, OnOk, refl, sym, ◌∙◌, ap, subst, arith}
+use Rattle.std.proofs.Common.{◌≡◌, ◌⊎◌, inl, inr, ◌<◌, ◌≤◌, ◌+◌, ◌-◌, ◌*◌, ℕ, Bool, true, false, not, List, [], length, map, Option, Some, None, Result, Ok, Err, OnOk, refl, sym, ◌∙◌, ap, subst, arith}
 use Rattle.std.specs.Result.{is_err}
 use Rattle.std.proofs.Math.Nat.{add-mul, mul-le-mul_right}
 use Rattle.std.proofs.lemmas.Bool.{cases_eq, cases_lt}
 use Rattle.std.proofs.lemmas.List.{get_or-map, get_or_past, length-map}
 use Rattle.rb_base.specs.Blocks.{block_of, table_blocks}
-use Rattle.rb_base.specs.Logs.{Laws, Logs, no_logs}
+use Rattle.rb_base.specs.Logs.{Laws, Logs}
 use Rattle.rb_base.specs.Stores.{room_of}
 use Rattle.rb_base.specs.declared.faults.Failed.{Failed}
 use Rattle.rb_base.specs.declared.ids.Xid.{Xid}
@@ -23,7 +23,7 @@ use Rattle.rb_heap.specs.Cleaning.{cleaned_home}
 use Rattle.rb_heap.specs.Homes.{home_of}
 use Rattle.rb_image.specs.Crash.{Survives}
 use Rattle.rb_image.specs.Holds.{Holds}
-use Rattle.rb_image.specs.Made.{CleanMade, GivesAny, GivesOne}
+use Rattle.rb_image.specs.Made.{CleanMade, GivesAny}
 use Rattle.rb_image.proofs.Crashes.{survives_on}
 use Rattle.rb_image.proofs.StepsHeld.{clean_fault, holds_cleaned}
 use Rattle.rb_model.specs.Calls.{Call}
@@ -45,7 +45,7 @@ use Rattle.rb_txntable.specs.declared.looks.Look.TheVariants.{Active, At, Before
 use Rattle.rb_views.specs.Laws.{rows_seen}
 use Rattle.rb_views.specs.Views.{history, home_in, reader_slot}
 use Rattle.rb_walk.specs.Homes.{here, narrow}
-use Rattle.rb_walk.specs.Kinds.{Entry, Status, Free, Open, Exact, Bound}
+use Rattle.rb_walk.specs.Kinds.{Status, Free, Open, Exact, Bound}
 use Rattle.rb_walk.specs.Steps.{cleaned, cleaned_entry, cleaned_status, told_by}
 use Rattle.rb_walk.specs.Walk.{Env, Home, entry_at, free_entry}
 

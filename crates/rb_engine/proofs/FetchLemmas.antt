@@ -45,7 +45,6 @@ use Rattle.rb_model.specs.declared.row.Fetched.{Fetched}
 use Rattle.rb_model.specs.declared.row.Fetched.TheVariants as fetched
 use Rattle.rb_sessions.specs.Kept.{KeptSession, kept_at, named, with_kept, with_last}
 use Rattle.rb_sessions.specs.Kept as table
-use Rattle.rb_standing.specs.States.{BlocksStand}
 use Rattle.rb_views.proofs.Cursors.{named_is}
 use Rattle.rb_views.proofs.Taken.{taken}
 

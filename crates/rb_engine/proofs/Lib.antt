@@ -11,5 +11,6 @@ pub mod RetainsLemmas
 pub mod RollbackLemmas
 pub mod SavepointLemmas
 pub mod StepLemmas
+pub mod TellsLemmas
 pub mod WaitLemmas
 pub mod WriteLemmas

@@ -6,6 +6,7 @@ ghost use Rattle.rb_engine.specs.Cleaning.{CleansRead, HasLooked};
 ghost use Rattle.rb_engine.specs.Does.{Does, LeavesState, Resumes, SameStore, Stands, resume_fault};
 ghost use Rattle.rb_engine.specs.Lateness.{ResumeNeedsLost, WriteNeedsLost};
 ghost use Rattle.rb_engine.specs.Scanning.{NeedsLost};
+ghost use Rattle.rb_image.specs.Made.{TellsLooks};
 ghost use Rattle.rb_model.specs.Answers.{action_of, write_answer, plain_answer, fetch_answer, commit_answer, LeavesRow};
 ghost use Rattle.rb_model.specs.Answers.{marks_answer};
 ghost use Rattle.rb_model.specs.Calls.{is_disk_fault};
@@ -33,13 +34,16 @@ impl<T: Store> Engine<T> {
     /// the session waits until that one's transaction ends: then `resume` tries the write again. It may be refused, and
     /// then nothing is changed, unless a call of the store failed; where it would wait in a ring it is refused with
     /// `Deadlock`. A serializable transaction is refused with `CantSerialize` where a commit above its snapshot has
-    /// changed the row, and may be with `TooOld` where that can't be told any more. (Oracle7 Server Concepts,
-    /// *Transaction Management* and *Data Concurrency*.)
+    /// changed the row, and may be with `TooOld` where that can't be told any more. A write that is done cleans the
+    /// row's block of transactions that have ended: their slot entries tell what the headers said of them as the call
+    /// began. (Oracle7 Server Concepts, *Transaction Management* and *Data Concurrency*.)
     pub fn write(&mut self, s: u16, table: u16, key: u64, op: Op<'_>) -> Result<Wrote, Refusal>
         ensures did { (h : State) → Stands T.Store h self.old → Does T.Store h
             (machine.Write s table key (action_of op.entry)) (write_answer result) self.old self.new }
         ensures lost { (h : State) → Stands T.Store h self.old → (scn lost : ℕ)
             → result ≡ Err (Refusal.TooOld scn lost) → WriteNeedsLost T.Store h self.old s table key scn lost }
+        ensures tells { (h : State) → Stands T.Store h self.old → err_is is_disk_fault result ≡ false
+            → TellsLooks h.shape (T.blocks self.old.store) (T.blocks self.new.store) }
         ensures same { SameStore T.Store self.old.store self.new.store }
         ensures disk { IsCountedAs (T.faults self.old.store) (T.faults self.new.store)
             (err_is is_disk_fault result) }
@@ -62,6 +66,8 @@ impl<T: Store> Engine<T> {
             (machine.Write s table key machine.Lock) (write_answer result) self.old self.new }
         ensures lost { (h : State) → Stands T.Store h self.old → (scn lost : ℕ)
             → result ≡ Err (Refusal.TooOld scn lost) → WriteNeedsLost T.Store h self.old s table key scn lost }
+        ensures tells { (h : State) → Stands T.Store h self.old → err_is is_disk_fault result ≡ false
+            → TellsLooks h.shape (T.blocks self.old.store) (T.blocks self.new.store) }
         ensures same { SameStore T.Store self.old.store self.new.store }
         ensures disk { IsCountedAs (T.faults self.old.store) (T.faults self.new.store)
             (err_is is_disk_fault result) }
@@ -173,6 +179,8 @@ impl<T: Store> Engine<T> {
             → CleansRead T.Store h self.old s (name_text name.now) (is_err result ≡ false) self.new.store }
         ensures idle { (HasLooked result → ⊥) → err_is is_disk_fault result ≡ false
             → self.new.store ≡ self.old.store }
+        ensures tells { (h : State) → Stands T.Store h self.old → err_is is_disk_fault result ≡ false
+            → TellsLooks h.shape (T.blocks self.old.store) (T.blocks self.new.store) }
         ensures row { LeavesRow result row.old row.new }
         ensures same { SameStore T.Store self.old.store self.new.store }
         ensures disk { IsCountedAs (T.faults self.old.store) (T.faults self.new.store)
@@ -217,6 +225,8 @@ impl<T: Store> Engine<T> {
         ensures did { (h : State) → Stands T.Store h self.old → Resumes T.Store h result self.old self.new }
         ensures lost { (h : State) → Stands T.Store h self.old → (s scn lost : ℕ)
             → result ≡ Some (s, Err (Refusal.TooOld scn lost)) → ResumeNeedsLost T.Store h self.old s scn lost }
+        ensures tells { (h : State) → Stands T.Store h self.old → resume_fault result ≡ false
+            → TellsLooks h.shape (T.blocks self.old.store) (T.blocks self.new.store) }
         ensures fewer { IfSome result (λ r. ready_count self.new.memory.waits < ready_count self.old.memory.waits) }
         ensures few { ready_count self.old.memory.waits ≤ SESSIONS }
         ensures idle { first_ready self.old.memory.waits ≡ None → (result ≡ None) × (self.new ≡ self.old) }

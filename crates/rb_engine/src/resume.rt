@@ -1,8 +1,9 @@
 //! A write of a session that had to wait, tried again. `Engine::resume` calls it.
-ghost use Rattle.std.specs.Prelude.{◌≡◌, ◌<◌, ℕ, None, Some, Err, IfSome};
+ghost use Rattle.std.specs.Prelude.{◌≡◌, ◌<◌, ℕ, false, None, Some, Err, IfSome};
 ghost use Rattle.rb_base.specs.Counts.{IsCountedAs};
 ghost use Rattle.rb_engine.specs.Does.{IsInStep, Resumes, SameStore, Stands, resume_fault};
 ghost use Rattle.rb_engine.specs.Lateness.{ResumeNeedsLost};
+ghost use Rattle.rb_image.specs.Made.{TellsLooks};
 ghost use Rattle.rb_model.specs.Queue.{first_ready, ready_count};
 ghost use Rattle.rb_model.specs.State.{State};
 
@@ -28,6 +29,8 @@ pub fn do_resume<T: Store>(
     ensures lost { (h : State) → Stands T.Store h (record { memory = memory.old; store = store.old })
         → (s scn lost : ℕ) → result ≡ Some (s, Err (Refusal.TooOld scn lost)) → ResumeNeedsLost T.Store h
         (record { memory = memory.old; store = store.old }) s scn lost }
+    ensures tells { (h : State) → Stands T.Store h (record { memory = memory.old; store = store.old })
+        → resume_fault result ≡ false → TellsLooks h.shape (T.blocks store.old) (T.blocks store.new) }
     ensures fewer { IfSome result (λ r. ready_count memory.new.waits < ready_count memory.old.waits) }
     ensures idle { first_ready memory.old.waits ≡ None
         → (result ≡ None) × (memory.new ≡ memory.old) × (store.new ≡ store.old) }

@@ -8,6 +8,7 @@ ghost use Rattle.rb_engine.specs.Checks.{NotOld};
 ghost use Rattle.rb_engine.specs.Does.{Does, IsInStep, SameStore, Stands};
 ghost use Rattle.rb_engine.specs.Lateness.{WriteNeedsLost};
 ghost use Rattle.rb_engine.specs.Scanning.{OtherHolds};
+ghost use Rattle.rb_image.specs.Made.{TellsLooks};
 ghost use Rattle.rb_model.specs.Answers.{action_by, write_answer};
 ghost use Rattle.rb_model.specs.Calls.{is_disk_fault, is_too_long};
 ghost use Rattle.rb_model.specs.Calls as machine;
@@ -103,6 +104,10 @@ fn make_write<T: Store>(
         → MayWrite h s table key
         → Does T.Store h (machine.Write s table key (action_by op.entry)) (write_answer result)
         (record { memory = memory.old; store = store.old }) (record { memory = memory.new; store = store.new }) }
+    ensures tells { (h : State) → Stands T.Store h (record { memory = memory.old; store = store.old })
+        → machine.none_applies (machine.early_tests h (machine.Write s table key (action_by op.entry))) ≡ true
+        → MayWrite h s table key
+        → err_is is_disk_fault result ≡ false → TellsLooks h.shape (T.blocks store.old) (T.blocks store.new) }
     ensures young { IfErr result NotOld }
     ensures waits { memory.new.waits ≡ memory.old.waits }
     ensures same { SameStore T.Store store.old store.new }
@@ -144,6 +149,10 @@ fn write_free<T: Store>(
     ensures lost { (h : State) → Stands T.Store h (record { memory = memory.old; store = store.old })
         → (scn lost : ℕ) → result ≡ Err (Refusal.TooOld scn lost) → WriteNeedsLost T.Store h
         (record { memory = memory.old; store = store.old }) s table key scn lost }
+    ensures tells { (h : State) → Stands T.Store h (record { memory = memory.old; store = store.old })
+        → machine.none_applies (machine.early_tests h (machine.Write s table key (action_by op.entry))) ≡ true
+        → NotOthers h s table key
+        → err_is is_disk_fault result ≡ false → TellsLooks h.shape (T.blocks store.old) (T.blocks store.new) }
     ensures waits { memory.new.waits ≡ memory.old.waits }
     ensures same { SameStore T.Store store.old store.new }
     ensures disk { IsCountedAs (T.faults store.old) (T.faults store.new) (err_is is_disk_fault result) }
@@ -178,6 +187,9 @@ fn try_write<T: Store>(
     ensures lost { (h : State) → Stands T.Store h (record { memory = memory.old; store = store.old })
         → (scn lost : ℕ) → result ≡ Err (Refusal.TooOld scn lost) → WriteNeedsLost T.Store h
         (record { memory = memory.old; store = store.old }) s table key scn lost }
+    ensures tells { (h : State) → Stands T.Store h (record { memory = memory.old; store = store.old })
+        → machine.none_applies (machine.early_tests h (machine.Write s table key (action_by op.entry))) ≡ true
+        → err_is is_disk_fault result ≡ false → TellsLooks h.shape (T.blocks store.old) (T.blocks store.new) }
     ensures ready { ready_count memory.new.waits ≡ ready_count memory.old.waits }
     ensures same { SameStore T.Store store.old store.new }
     ensures disk { IsCountedAs (T.faults store.old) (T.faults store.new) (err_is is_disk_fault result) }
@@ -211,6 +223,8 @@ pub fn do_write<T: Store>(
     ensures lost { (h : State) → Stands T.Store h (record { memory = memory.old; store = store.old })
         → (scn lost : ℕ) → result ≡ Err (Refusal.TooOld scn lost) → WriteNeedsLost T.Store h
         (record { memory = memory.old; store = store.old }) s table key scn lost }
+    ensures tells { (h : State) → Stands T.Store h (record { memory = memory.old; store = store.old })
+        → err_is is_disk_fault result ≡ false → TellsLooks h.shape (T.blocks store.old) (T.blocks store.new) }
     ensures ready { ready_count memory.new.waits ≡ ready_count memory.old.waits }
     ensures same { SameStore T.Store store.old store.new }
     ensures disk { IsCountedAs (T.faults store.old) (T.faults store.new) (err_is is_disk_fault result) }

@@ -5,3 +5,4 @@ pub mod Steps
 pub mod StepsHeld
 pub mod Marks
 pub mod Owners
+pub mod Tells

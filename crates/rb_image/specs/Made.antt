@@ -2,13 +2,16 @@
 -- a commit, the end of a transaction without one, the cleaning of a block that is read.
 use Rattle.std.specs.Prelude.{◌≡◌, ◌≢◌, ◌⊎◌, ◌<◌, ◌≤◌, ◌+◌, ◌∷◌, ◌++◌, ℕ}
 use Rattle.std.specs.Prelude.{Bool, true, List, [], length, Some}
-use Rattle.rb_base.specs.Blocks.{after_groups, block_of}
+use Rattle.rb_base.specs.Blocks.{after_groups, block_of, table_blocks}
 use Rattle.rb_base.specs.Groups.{Patch}
 use Rattle.rb_base.specs.Logs.{Logs}
 use Rattle.rb_base.specs.declared.ids.Xid.{Xid}
+use Rattle.rb_base.specs.declared.shape.Shape.{Shape}
 use Rattle.rb_base.specs.declared.store.Store.{Ghosts}
 use Rattle.rb_heap.specs.Cleaning.{cleaned_home}
-use Rattle.rb_heap.specs.Homes.{home_of}
+use Rattle.rb_heap.specs.Homes.{home_entry, home_of}
+use Rattle.rb_itl.specs.declared.slots.Entry.{Entry}
+use Rattle.rb_itl.specs.declared.slots.TheConstants.{BOUND, EXACT, OPEN}
 use Rattle.rb_model.specs.Calls.{Action, Done, WritesIn, first_of, write_tests}
 use Rattle.rb_model.specs.Change.{Change}
 use Rattle.rb_model.specs.NextState.{change_in, committed, ended, without_owner, written}
@@ -17,6 +20,7 @@ use Rattle.rb_segment.specs.Segments.{owed_in}
 use Rattle.rb_standing.specs.NextStates.{with_own}
 use Rattle.rb_standing.specs.Standing.{env_of, logged_of, segments_of}
 use Rattle.rb_standing.specs.States.{BlocksStand, Owns}
+use Rattle.rb_txntable.specs.declared.looks.Look.TheVariants.{At, Before}
 use Rattle.rb_verdict.specs.Verdict.{IsOwnId}
 use Rattle.rb_walk.specs.Walk.{Env}
 
@@ -38,8 +42,22 @@ pub record GivesOne {S : Type 0} (s : Ghosts S) (old new : S) (going : Bool) (Is
 abbrev pub GivesAny : {S : Type 0} → Ghosts S → S → S → Bool → (List (List ℕ) → Type 0) → Type 0
 GivesAny s old new going Is = GivesOne s old new going Is ⊎ Logs s old new [] going
 
+-- slot entry i of block b of rows
+abbrev pub entry_in : List (List ℕ) → (b i : ℕ) → Entry
+entry_in blocks b i = home_entry (home_of (block_of blocks b)) i
+
+-- What was Open becomes no more than the looks tell: a slot entry of a block of rows that was Open is Exact c only where
+-- the look at its transaction, by the headers of before, gave At c; and Bound b only where it gave Before b.
+pub record TellsLooks (shape : Shape) (before now : List (List ℕ)) : Type 0 where
+  pub exact : (b i : ℕ) → b < table_blocks shape → (entry_in before b i).kind ≡ OPEN
+      → (entry_in now b i).kind ≡ EXACT
+      → (env_of shape before).look (entry_in before b i).xid ≡ At (entry_in now b i).number
+  pub bound : (b i : ℕ) → b < table_blocks shape → (entry_in before b i).kind ≡ OPEN
+      → (entry_in now b i).kind ≡ BOUND
+      → (env_of shape before).look (entry_in before b i).xid ≡ Before (entry_in now b i).number
+
 -- A write of session s, in a log with so much room: its transaction has that id then, no test of the machine refuses
--- it, and there is room for what puts all live changes back.
+-- it, and there is room for what puts all live changes back. What it cleans on its way tells the looks.
 pub record WriteMade (h : State) (xids : List Xid) (s table key : ℕ) (action : Action) (room : ℕ) (x : Xid)
     (before now : List (List ℕ)) : Type 0 where
   pub in_slot : WritesIn h s x.seg x.slot
@@ -49,6 +67,7 @@ pub record WriteMade (h : State) (xids : List Xid) (s table key : ℕ) (action :
   pub id : IsOwnId (written h s x.seg x.slot (change_in h x.seg table key action)) (env_of h.shape now) s (Some x)
   pub ids : KeepsIds h (env_of h.shape before) (env_of h.shape now)
   pub fits : owed_in h.shape now + 1 ≤ room
+  pub tells : TellsLooks h.shape before now
 
 -- The put back of the last change of session s, which has these left.
 pub record BackMade (h : State) (xids : List Xid) (s : ℕ) (front : List Change) (before now : List (List ℕ)) : Type

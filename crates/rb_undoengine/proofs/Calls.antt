@@ -28,6 +28,7 @@ use Rattle.rb_undoengine.proofs.Done.{answered, fits_is, id_is, ids_are, stands}
 use Rattle.rb_undoengine.proofs.HomeWords.{which_in}
 use Rattle.rb_undoengine.proofs.Logged.{write_logged}
 use Rattle.rb_undoengine.proofs.Refused.{refused}
+use Rattle.rb_undoengine.proofs.Told.{write_tells}
 use Rattle.rb_undoengine.proofs.Writers as writers
 use Rattle.rb_verdict.proofs.Presence.{owner_within}
 use Rattle.rb_verdict.proofs.StoodBlocks.{stood_of}
@@ -92,6 +93,7 @@ module _ {S : Type 0} (store : Ghosts S) (told : store.tells) (old new : S) (h :
           ids = λ r t owns. ids_are h xids Before now s Room ask about s_in first last mine x w.2 w.3 w.0 w.1 asked takes w.8 early enough few t owns.owner (owner_within h xids (segments_of h.shape Before) (homes_of h.shape Before) (stood_of h xids Before about.stand) t owns.owner owns.at) owns.at;
           id = id_is h xids Before now s Room ask about s_in first last mine x w.2 w.3 w.0 w.1 asked takes w.8 early enough few;
           fits = fits_is h xids Before now s Room ask about s_in first last mine x w.2 w.3 w.0 w.1 asked takes w.8 early enough few;
+          tells = write_tells h xids Before now (16 * x.seg + x.slot) (adds_row ask.op) (kind_of ask.op) w.0 w.1 about.stand t_in w.8;
         }
 
   -- what a group makes, where one is given

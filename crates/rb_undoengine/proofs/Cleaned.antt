@@ -1,8 +1,8 @@
 -- What the patches of a cleaning make of blocks that stand for the machine's state.
-use Rattle.std.proofs.Common.{◌≡◌, ◌<◌, ◌≤◌, ◌+◌, ◌^◌, ◌∷◌, ℕ, List, [], length, None, refl, sym, ◌∙◌, ap, arith}
+use Rattle.std.proofs.Common.{◌≡◌, ◌<◌, ◌≤◌, ◌+◌, ◌^◌, ℕ, List, length, None, refl, sym, ◌∙◌, ap, arith}
 use Rattle.std.specs.List.{AllByRecursion}
 use Rattle.rb_base.proofs.Each.{all_so}
-use Rattle.rb_base.specs.Blocks.{after_group, block_of, shape_blocks, table_blocks, written_to}
+use Rattle.rb_base.specs.Blocks.{after_group, block_of, table_blocks, written_to}
 use Rattle.rb_base.specs.Groups.{IsGroup, Patch}
 use Rattle.rb_base.specs.declared.ids.Xid.{Xid}
 use Rattle.rb_attempt.proofs.Looks.{block_same}

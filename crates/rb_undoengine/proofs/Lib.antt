@@ -14,6 +14,7 @@ mod OneBack
 mod Refused
 pub mod Somewhere
 mod StepBack
+mod Told
 mod WriterWords
 mod Writers
 mod Young

@@ -1,4 +1,4 @@
-use Rattle.std.proofs.Common.{inl, inr, ◌≡◌, ℕ, Bool, true, false, not, List, None, Some, Result, Ok, Err, refl, sym, ◌∙◌, ap, subst, arith}
+use Rattle.std.proofs.Common.{inl, ◌≡◌, ℕ, Bool, true, false, not, List, None, Some, Result, Ok, Err, refl, sym, ◌∙◌, ap, subst}
 use Rattle.rb_base.specs.Logs.{Laws, Logs}
 use Rattle.rb_cr.specs.Faults.{is_fault}
 use Rattle.rb_base.specs.declared.ids.Xid.{Xid}
@@ -8,7 +8,7 @@ use Rattle.rb_cr.specs.declared.faults.CrFault.TheVariants as faults
 use Rattle.rb_engine.specs.Cleaning.{Cleans, ReadIn}
 use Rattle.rb_model.specs.State.{State}
 use Rattle.rb_engine.specs.Does.{EngineView, Kept}
-use Rattle.rb_engine.proofs.DoesLemmas.{does_fault, does_refused, does_refused_late, fault_survives}
+use Rattle.rb_engine.proofs.DoesLemmas.{does_fault, does_refused, does_refused_late}
 use Rattle.rb_engine.proofs.FetchLemmas.{answer_by, cleans_read, does_end, does_old, does_row, needs_lost, not_old, same_old, serves}
 use Rattle.rb_engine.proofs.StepLemmas.{few_young, fit_at, fit_taken, in_step_moved, in_step_young, named_in, queue_moved}
 use Rattle.rb_model.specs.Calls as machine

@@ -91,3 +91,14 @@ returns-clause-lost g c = λ h st who scn lost is.
     let needs = c.do_write-outcome.ensures.lost (unqueued h w) (stands_left s h w inside now store here left) scn lost both.1 in
     subst (λ (u : ℕ). ResumeNeedsLost s h (record { memory = c.args.memory.now; store = store }) u scn lost) both.0
     (asked_of_pending p, asked_held h inside knows w c.held.result p c.held.ensures c.in_ok-pending.was, (needs.0, record { stand = blocks_stand (unqueued h w) h.queue h.asked needs.0 (s.blocks store) needs.1.stand; old = needs.1.old }))
+
+pub returns-clause-tells : goal.returns-clause-tells
+returns-clause-tells g c = λ h st fine.
+    let s = g.T.Store in
+    let store = c.args.store.now in
+    let w = c.in_ok-s.s in
+    let inside : Kept = record { sessions = c.memory.inside.sessions; waits = c.memory.inside.waits; scn = c.memory.inside.scn; stopped = c.memory.inside.stopped } in
+    let now : Kept = record { sessions = c.memory.inside.sessions; waits = c.leave.new.self; scn = c.memory.inside.scn; stopped = c.memory.inside.stopped } in
+    let here : Stands s h (record { memory = inside; store = store }) = subst (λ (k : Kept). Stands s h (record { memory = k; store = store })) (sym c.memory.view_is) st in
+    let left : now ≡ record inside { waits = left_by w inside.waits } = ap (λ (l : List Waiter). let k : Kept = record { sessions = c.memory.inside.sessions; waits = l; scn = c.memory.inside.scn; stopped = c.memory.inside.stopped } in k) c.leave.ensures in
+    c.do_write-outcome.ensures.tells (unqueued h w) (stands_left s h w inside now store here left) fine

@@ -6,7 +6,7 @@ use Rattle.rb_base.specs.declared.ids.Xid.{Xid}
 use Rattle.rb_base.specs.declared.shape.Shape.{Shape}
 use Rattle.rb_cr.specs.Faults.{is_failed}
 use Rattle.rb_cr.specs.declared.faults.CrFault.{CrFault}
-use Rattle.rb_engine.specs.Cleaning.{HasCleaned, HasSpare, IsHere, IsOnTheWay, Serves}
+use Rattle.rb_engine.specs.Cleaning.{HasCleaned, IsHere, IsOnTheWay, Serves}
 use Rattle.rb_engine.specs.Scanning.{Begins, HasKey, HasNext, HasNone, IsBehind}
 use Rattle.rb_engine.proofs.CleanLemmas.{behind_same, cleans_loaded, env_same, in_table, next_same, none_cleaned, none_same, same_or_clean, serves_on, step_cleaned, step_fails}
 use Rattle.rb_engine.proofs.FetchLemmas.{found_next, home_read, is_behind}

@@ -1,12 +1,11 @@
 use Rattle.std.proofs.Common.{◌≡◌, ◌<◌, ◌≤◌, ◌+◌, ◌++◌, inl, inr, ℕ, List, [], true, false, not, Bool, Ok, Err, Result, sym, refl, ap, ◌∙◌, subst, arith}
 use Rattle.std.proofs.lemmas.Bool.{cases_eq}
-use Rattle.rb_base.specs.Logs.{Laws, Logs, more_logs, no_logs}
+use Rattle.rb_base.specs.Logs.{Laws, more_logs, no_logs}
 use Rattle.rb_base.specs.declared.ids.Xid.{Xid}
 use Rattle.rb_base.specs.declared.shape.Shape.{Shape}
 use Rattle.rb_cr.specs.Faults.{is_fault}
-use Rattle.rb_cr.specs.declared.faults.CrFault.{CrFault}
 use Rattle.rb_engine.specs.Cleaning.{Cleans, IsBefore, IsHere, MustIn, ReadIn, Serves}
-use Rattle.rb_engine.specs.Scanning.{Begins, HasNext, HasNone, IsBehind}
+use Rattle.rb_engine.specs.Scanning.{Begins, HasNext, HasNone}
 use Rattle.rb_engine.proofs.CleanLemmas.{behind_same, cleaned_as, env_mid, in_table, next_same, none_cleaned, none_same, read_by_end, read_in_table, read_no_more, read_up_to, same_or_clean, serves_mid, turn_fails, turned, young_on}
 use Rattle.rb_model.specs.State.{State}
 use Rattle.rb_engine.proofs.scan.next_row.Given.{Over}

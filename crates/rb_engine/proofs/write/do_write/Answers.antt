@@ -1,4 +1,4 @@
-use Rattle.std.proofs.Common.{◌≡◌, ◌∙◌}
+use Rattle.std.proofs.Common.{◌≡◌, ◌∙◌, refl}
 use Rattle.rb_base.specs.Logs.{Laws}
 use Rattle.rb_model.specs.Answers.{action_by}
 use Rattle.rb_model.specs.Calls as machine
@@ -6,6 +6,7 @@ use Rattle.rb_model.specs.declared.refusal.Refusal.TheVariants.{TooOld}
 use Rattle.rb_engine.proofs.DoesLemmas.{does_refused}
 use Rattle.rb_engine.proofs.ModeLemmas.{knows_modes}
 use Rattle.rb_engine.proofs.write.do_write.Given.{Over}
+use Rattle.rb_image.proofs.Tells.{tells_same}
 use Rattle.rb_engine.proofs.write.do_write.Goals as goal
 
 laws_of : (g : Over) → Laws g.T.Store
@@ -27,3 +28,9 @@ returns-clause-did g c = λ h st. c.try_write.ensures.did h st (c.in_default.ens
 
 pub returns-in-Err-clause-lost : goal.returns-in-Err-clause-lost
 returns-in-Err-clause-lost g c = λ h st scn lost is. absurd (c.in-Err.ensures.young scn lost (let same : c.in-Err.why ≡ TooOld scn lost = cc in same))
+
+pub returns-in-Err-clause-tells : goal.returns-in-Err-clause-tells
+returns-in-Err-clause-tells g c = λ h st fine. let blocks = g.T.Store.blocks c.args.store.now in tells_same h.shape blocks blocks refl
+
+pub returns-clause-tells : goal.returns-clause-tells
+returns-clause-tells g c = λ h st fine. c.try_write.ensures.tells h st (c.in_default.ensures.granted h c.args.key st.knows (knows_modes g.T.Store h _ st) (c.shape.ensures.shape ∙ st.shape)) fine

@@ -10,6 +10,8 @@ use Rattle.rb_engine.proofs.DoesLemmas.{does_fault, fault_survives}
 use Rattle.rb_engine.proofs.LateLemmas.{needs_lost_before, young_not_old}
 use Rattle.rb_engine.proofs.WriteLemmas.{about, does_after, stands_loaded, step_waited, waited_in_step}
 use Rattle.rb_engine.proofs.write.try_write.Given.{Over}
+use Rattle.rb_engine.proofs.TellsLemmas.{tells_logged}
+use Rattle.rb_image.specs.Made.{TellsLooks}
 use Rattle.rb_engine.proofs.write.try_write.Goals as goal
 
 laws_of : (g : Over) → Laws g.T.Store
@@ -80,3 +82,23 @@ returns-in-Ok-None-clause-did g c = λ h st early.
     (c.in-Ok-None.ensures.other st.told h goes.xids goes.holds.blocks st.shape goes.remembers) in
     does_after s st.told (laws_of g) h old mid st refl logs (machine.Write u c.args.table c.args.key (action_by c.args.op)) (write_answer c.write_free.result) new
     (c.write_free.ensures.did h (stands_loaded s st.told (laws_of g) h old mid st refl logs) early others)
+
+pub returns-in-Err-clause-tells : goal.returns-in-Err-clause-tells
+returns-in-Err-clause-tells g c = λ h st early fine. (let clash : true ≡ false = fine in absurd cc)
+
+pub returns-in-Ok-Some-clause-tells : goal.returns-in-Ok-Some-clause-tells
+returns-in-Ok-Some-clause-tells g c = λ h st early fine. tells_logged g.T.Store st.told h.shape c.args.store.now c.other_holder.new.store c.in-Ok-Some.ensures.logs
+
+pub returns-in-Ok-None-clause-tells : goal.returns-in-Ok-None-clause-tells
+returns-in-Ok-None-clause-tells g c = λ h st early fine.
+    let s = g.T.Store in
+    let u = c.args.s in
+    let old : EngineView _ = record { memory = c.args.memory.now; store = c.args.store.now } in
+    let mid : EngineView _ = record { memory = c.args.memory.now; store = c.other_holder.new.store } in
+    let going : h.stopped ≡ false = sym st.knows.stopped ∙ c.requires.going in
+    let logs : Logs s old.store mid.store [] true = c.in-Ok-None.ensures.logs in
+    let goes : Goes s h old = st.goes going in
+    let others : OtherHolds h u c.args.table c.args.key None = subst (λ (o : Option ℕ). OtherHolds h u c.args.table c.args.key o) c.in-Ok-None.field-0-is
+    (c.in-Ok-None.ensures.other st.told h goes.xids goes.holds.blocks st.shape goes.remembers) in
+    subst (λ blocks. TellsLooks h.shape blocks (s.blocks c.write_free.new.store)) (logs.blocks st.told refl)
+    (c.write_free.ensures.tells h (stands_loaded s st.told (laws_of g) h old mid st refl logs) early others fine)

@@ -14,6 +14,8 @@ use Rattle.rb_engine.proofs.LateLemmas.{step_late, young_not_old}
 use Rattle.rb_engine.proofs.StepLemmas.{in_step_same}
 use Rattle.rb_engine.proofs.WriteLemmas.{about, does_after, stands_loaded}
 use Rattle.rb_engine.proofs.write.write_free.Given.{Over}
+use Rattle.rb_engine.proofs.TellsLemmas.{tells_logged}
+use Rattle.rb_image.specs.Made.{TellsLooks}
 use Rattle.rb_engine.proofs.write.write_free.Goals as goal
 
 laws_of : (g : Over) → Laws g.T.Store
@@ -97,3 +99,24 @@ returns-in-Ok-clause-did g c = λ h st early others.
 
 pub returns-in-Ok-clause-lost : goal.returns-in-Ok-clause-lost
 returns-in-Ok-clause-lost g c = λ h st scn lost is. absurd (young_not_old c.make_write.result c.make_write.ensures.young scn lost is)
+
+pub returns-in-Err-clause-tells : goal.returns-in-Err-clause-tells
+returns-in-Err-clause-tells g c = λ h st early others fine.
+    let s = g.T.Store in
+    let old = c.args.store.now in
+    let new = c.check_late.new.store in
+    let logs : Logs s old new [] (not (is_disk_fault c.refuse.result)) = subst (λ w. Logs s old new [] (not (is_disk_fault w))) (sym c.refuse.ensures.why) c.in-Err.ensures.logs in
+    let loaded : Logs s old new [] true = subst (λ b. Logs s old new [] (not b)) fine logs in
+    tells_logged s st.told h.shape old new loaded
+
+pub returns-in-Ok-clause-tells : goal.returns-in-Ok-clause-tells
+returns-in-Ok-clause-tells g c = λ h st early others fine.
+    let s = g.T.Store in
+    let old : EngineView _ = record { memory = c.args.memory.now; store = c.args.store.now } in
+    let mid : EngineView _ = record { memory = c.args.memory.now; store = c.check_late.new.store } in
+    let going : h.stopped ≡ false = sym st.knows.stopped ∙ c.requires.going in
+    let logs : Logs s old.store mid.store [] true = c.in-Ok.ensures.logs in
+    let goes : Goes s h old = st.goes going in
+    let timely = c.in-Ok.ensures.timely st.told h goes.xids goes.holds.blocks st.shape goes.remembers in
+    subst (λ blocks. TellsLooks h.shape blocks (s.blocks c.make_write.new.store)) (logs.blocks st.told refl)
+    (c.make_write.ensures.tells h (stands_loaded s st.told (laws_of g) h old mid st refl logs) early (others, timely) fine)

@@ -1,5 +1,4 @@
-use Rattle.std.proofs.Common.{◌≡◌, ◌↔◌, ◌<◌, ◌≤◌, ◌+◌, ◌^◌, ◌∷◌, Option, inl, inr, ℕ, Bool, true, false, IsTrue, not, List, [], length, OnOk, Result, Ok, Err, refl, sym, ◌∙◌, ap, subst, arith}
-use Rattle.std.specs.List.{AllByRecursion}
+use Rattle.std.proofs.Common.{◌≡◌, ◌<◌, ◌+◌, ◌^◌, ◌∷◌, Option, inl, inr, ℕ, true, false, not, List, [], Result, refl, sym, ◌∙◌, ap, subst, arith}
 use Rattle.std.specs.Result.{is_err}
 use Rattle.rb_base.proofs.Each.{all_so}
 use Rattle.rb_base.specs.Blocks.{after_group, block_of, shape_blocks, table_blocks}
@@ -13,7 +12,6 @@ use Rattle.rb_cleanout.proofs.Plans.{on_ok, planned, unplanned}
 use Rattle.rb_cleanout.specs.Cleaned.{IsPlan, PlansClean, look_of}
 use Rattle.rb_heap.specs.Cleaning.{IsCleanPatch, cleaned_home}
 use Rattle.rb_heap.specs.Homes.{home_of}
-use Rattle.rb_image.specs.Holds.{Holds}
 use Rattle.rb_image.specs.Made.{CleanMade}
 use Rattle.rb_model.specs.State.{State}
 use Rattle.rb_segment.specs.Segments.{owed_in}

@@ -4,6 +4,7 @@ use Rattle.rb_engine.specs.Lateness.{ResumeNeedsLost}
 use Rattle.rb_model.specs.Queue.{ready_count}
 use Rattle.rb_waits.proofs.Counts.{few}
 use Rattle.rb_waits.proofs.Turns.{few_ready}
+use Rattle.rb_image.specs.Made.{TellsLooks}
 use Rattle.rb_engine.proofs.engine.Engine.resume.Goals as goal
 
 pub returns-clause-did : goal.returns-clause-did
@@ -22,3 +23,8 @@ pub returns-clause-lost : goal.returns-clause-lost
 returns-clause-lost g c = λ h st who scn lost is.
     let s = g.T.Store in
     subst (λ (e : EngineView _). ResumeNeedsLost s h e who scn lost) c.self.view_is (c.do_resume.ensures.lost h (subst (Stands s h) (sym c.self.view_is) st) who scn lost is)
+
+pub returns-clause-tells : goal.returns-clause-tells
+returns-clause-tells g c = λ h st fine.
+    let s = g.T.Store in
+    subst (λ (e : EngineView _). TellsLooks h.shape (s.blocks e.store) (s.blocks c.do_resume.new.store)) c.self.view_is (c.do_resume.ensures.tells h (subst (Stands s h) (sym c.self.view_is) st) fine)

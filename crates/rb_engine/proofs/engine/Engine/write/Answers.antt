@@ -3,6 +3,7 @@ use Rattle.rb_engine.specs.Does.{Does, EngineView, Stands}
 use Rattle.rb_engine.specs.Lateness.{WriteNeedsLost}
 use Rattle.rb_model.specs.Answers.{action_of, write_answer}
 use Rattle.rb_model.specs.Calls as machine
+use Rattle.rb_image.specs.Made.{TellsLooks}
 use Rattle.rb_engine.proofs.engine.Engine.write.Goals as goal
 
 pub returns-clause-did : goal.returns-clause-did
@@ -15,3 +16,8 @@ pub returns-clause-lost : goal.returns-clause-lost
 returns-clause-lost g c = λ h st scn lost is.
     let s = g.T.Store in
     subst (λ (e : EngineView _). WriteNeedsLost s h e c.args.s c.args.table c.args.key scn lost) c.self.view_is (c.do_write.ensures.lost h (subst (Stands s h) (sym c.self.view_is) st) scn lost is)
+
+pub returns-clause-tells : goal.returns-clause-tells
+returns-clause-tells g c = λ h st fine.
+    let s = g.T.Store in
+    subst (λ (e : EngineView _). TellsLooks h.shape (s.blocks e.store) (s.blocks c.do_write.new.store)) c.self.view_is (c.do_write.ensures.tells h (subst (Stands s h) (sym c.self.view_is) st) fine)

@@ -1,0 +1,42 @@
+-- What a write or a fetch leaves of slot entries that were Open tells the looks.
+use Rattle.std.proofs.Common.{◌≡◌, inl, inr, ℕ, true, false, List, [], Result, Ok, Err, refl, sym, ap, subst, arith}
+use Rattle.rb_base.specs.Counts.{err_is}
+use Rattle.rb_base.specs.Logs.{Logs}
+use Rattle.rb_base.specs.declared.ids.Xid.{Xid}
+use Rattle.rb_base.specs.declared.shape.Shape.{Shape}
+use Rattle.rb_base.specs.declared.store.Store.{Ghosts}
+use Rattle.rb_engine.specs.Cleaning.{CleansRead, HasLooked}
+use Rattle.rb_engine.specs.Does.{EngineView}
+use Rattle.rb_image.proofs.Tells.{tells_cleaned, tells_same}
+use Rattle.rb_image.specs.Made.{GivesOne, TellsLooks, WriteMade}
+use Rattle.rb_model.specs.Calls.{Action, is_disk_fault}
+use Rattle.rb_model.specs.State.{State}
+use Rattle.rb_model.specs.declared.refusal.Refusal.{Refusal}
+use Rattle.rb_model.specs.declared.refusal.Refusal.TheVariants as refusals
+use Rattle.rb_model.specs.declared.row.Fetched.{Fetched}
+
+module _ {S : Type 0} (s : Ghosts S) (told : s.tells) where
+  -- calls that gave no group leave all entries
+  pub tells_logged : (shape : Shape) (old new : S) → Logs s old new [] true → TellsLooks shape (s.blocks old) (s.blocks new)
+  tells_logged shape old new logs = tells_same shape (s.blocks old) (s.blocks new) (logs.blocks told refl)
+
+  -- a write that is done
+  pub tells_written : (h : State) (xids : List Xid) (who table key : ℕ) (action : Action) (room : ℕ) (x : Xid) (old new : S) → GivesOne s old new true (λ now. WriteMade h xids who table key action room x (s.blocks old) now)
+      → TellsLooks h.shape (s.blocks old) (s.blocks new)
+  tells_written h xids who table key action room x old new one =
+      let single = one.one refl in
+      subst (TellsLooks h.shape (s.blocks old)) (sym (one.logs.blocks told refl)) (one.made (omega (arith, single))).tells
+
+-- A fetch that looked for its row has cleaned blocks; one that was refused before has none.
+module _ {S : Type 0} (s : Ghosts S) (h : State) where
+  tells_read : {old : EngineView S} {who : ℕ} {name : List ℕ} {well : Type 0} (new : S) → CleansRead s h old who name well new → TellsLooks h.shape (s.blocks old.store) (s.blocks new)
+  tells_read {old = old} new cleans = tells_cleaned h.shape (s.blocks old.store) (s.blocks new) (λ b b_in. elim (cleans.only.each b) [
+    | inl same ↦ inl same
+    | inr clean ↦ inr clean.1
+  ])
+
+  pub tells_fetched : {old : EngineView S} {who : ℕ} {name : List ℕ} {well : Type 0} (new : S) (r : Result Fetched Refusal) → (HasLooked r → CleansRead s h old who name well new)
+      → ((HasLooked r → ⊥) → err_is is_disk_fault r ≡ false → new ≡ old.store) → err_is is_disk_fault r ≡ false → TellsLooks h.shape (s.blocks old.store) (s.blocks new)
+  tells_fetched new (Ok found) looked idle fine = tells_read new (looked tt)
+  tells_fetched new (Err (refusals.TooOld scn lost)) looked idle fine = tells_read new (looked tt)
+  tells_fetched {old = old} new (Err _) looked idle fine = tells_same h.shape (s.blocks old.store) (s.blocks new) (ap s.blocks (idle (λ no. no) fine))
