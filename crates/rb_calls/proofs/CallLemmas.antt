@@ -1,5 +1,5 @@
 -- What one call and one write that is tried again do over an engine, as the engine tells it.
-use Rattle.std.proofs.Common.{◌≡◌, ◌∙◌, ◌⊎◌, ⊎_elim, refl, sym, ap, subst, arith, ℕ, zero, suc, ◌+◌, ◌<◌, ◌≤◌, Bool, true, false, Result, Option, None, Some}
+use Rattle.std.proofs.Common.{◌≡◌, ◌∙◌, ◌⊎◌, ⊎_elim, refl, sym, ap, subst, arith, ℕ, zero, suc, ◌+◌, ◌<◌, ◌≤◌, Bool, true, false, Result, Ok, Err, Option, None, Some}
 use Rattle.std.proofs.lemmas.Bool.{cases_Bool, false≢true}
 use Rattle.std.specs.Bool.{MatchBool}
 use Rattle.rb_base.specs.Counts.{IsCountedAs}
@@ -170,7 +170,7 @@ module _ {S : Type 0} (s : Ghosts S) (m : Logged) (w : ℕ) (outcome : Result Wr
   worn a known scn gone old_one =
       let needs = lost scn gone (old_outcome outcome scn gone old_one) in
       subst (λ (b : Asked). IsWorn m.state (call b) scn gone) (asked_is a needs.0 known needs.1)
-      (worn_by s m.state old (call needs.0) scn gone (needs.2, needs.3))
+      (worn_by s m.state old (call needs.0) scn gone needs.2)
 
   ends_as : s.slots new.store ≡ Some (slots_of (s.slots new.store))
   ends_as = subst (λ (slots : Option ℕ). slots ≡ Some (slots_of slots)) (sym same.slots) is.ended
