@@ -15,7 +15,7 @@ use Rattle.rb_generator.proofs.AnsweredLemmas.{CommandsSoFar, command_at, comman
 use Rattle.rb_generator.proofs.DrawLemmas.{four_on}
 use Rattle.rb_lines.proofs.Dids.{did_as, did_on}
 use Rattle.rb_model.specs.Lines.{Command}
-use Rattle.rb_model.specs.Out.{Logged}
+use Rattle.rb_model.specs.Out.{Logged, Outside}
 use Rattle.rb_generator.proofs.generator.generate.Given.{Over}
 use Rattle.rb_generator.proofs.generator.generate.Goals as goal
 
@@ -30,11 +30,11 @@ still g e m is going = since_same e m (λ kept. record {
 }) is going
 
 -- the command of the turn is the one of the run
-turned : (m k : Logged) (slots n i x : ℕ) (shape : Shape) (counts counts2 : Counts) (failed fault : Bool) (start : Logged) → shape ≡ start.state.shape → x ≡ state_after n (4 * i) → failed ≡ fault
-    → HasCounted (CommandAnswered m slots (drawn shape x (decimal (i + 1)))) k counts counts2 failed → HasCounted (CommandAnswered m slots (command_at start.state.shape n i)) k counts counts2 fault
-turned m k slots n i x shape counts counts2 failed fault start same drawn_as is has =
-    subst (λ (v : Bool). HasCounted (CommandAnswered m slots (command_at start.state.shape n i)) k counts counts2 v) is
-    (subst (λ (c : Command). HasCounted (CommandAnswered m slots c) k counts counts2 failed) (ap (λ (z : Shape). drawn z x (decimal (i + 1))) same ∙ ap (λ (z : ℕ). drawn start.state.shape z (decimal (i + 1))) drawn_as) has)
+turned : (m k : Logged) (outside : Outside) (n i x : ℕ) (shape : Shape) (counts counts2 : Counts) (failed fault : Bool) (start : Logged) → shape ≡ start.state.shape → x ≡ state_after n (4 * i) → failed ≡ fault
+    → HasCounted (CommandAnswered m outside (drawn shape x (decimal (i + 1)))) k counts counts2 failed → HasCounted (CommandAnswered m outside (command_at start.state.shape n i)) k counts counts2 fault
+turned m k outside n i x shape counts counts2 failed fault start same drawn_as is has =
+    subst (λ (v : Bool). HasCounted (CommandAnswered m outside (command_at start.state.shape n i)) k counts counts2 v) is
+    (subst (λ (c : Command). HasCounted (CommandAnswered m outside c) k counts counts2 failed) (ap (λ (z : Shape). drawn z x (decimal (i + 1))) same ∙ ap (λ (z : ℕ). drawn start.state.shape z (decimal (i + 1))) drawn_as) has)
 
 pub loop-i-init : goal.loop-i-init
 loop-i-init g c = record {
