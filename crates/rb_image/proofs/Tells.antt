@@ -27,6 +27,11 @@ told_bound was is Active told opened bound = let same = ap (λ (e : Entry). e.ki
 told_bound was is (At c) told opened bound = let same = ap (λ (e : Entry). e.kind) told in absurd (omega (arith, same, bound))
 told_bound was is (Before c) told opened bound = ap Before (sym (ap (λ (e : Entry). e.number) told))
 
+told_same : (was is : Entry) (look : Look) → is ≡ told_entry was look → is.xid ≡ was.xid
+told_same was is Active told = ap (λ (e : Entry). e.xid) told
+told_same was is (At c) told = ap (λ (e : Entry). e.xid) told
+told_same was is (Before c) told = ap (λ (e : Entry). e.xid) told
+
 -- an entry of a cleaned home that was Open
 pub cleaned_told : (look : Xid → Look) (block : List ℕ) (i : ℕ) → (home_entry (home_of block) i).kind ≡ OPEN
     → home_entry (cleaned_home look (home_of block)) i ≡ told_entry (home_entry (home_of block) i) (look (home_entry (home_of block) i).xid)
@@ -58,6 +63,10 @@ module _ (shape : Shape) (before now : List (List ℕ)) where
     bound = λ b i b_in opened bound. elim (each b i b_in opened) [
       | inl still ↦ absurd (omega (arith, still, bound))
       | inr told ↦ told_bound (entry_in before b i) (entry_in now b i) (look_at b i) told opened bound
+    ];
+    same = λ b i b_in opened closed. elim (each b i b_in opened) [
+      | inl still ↦ absurd (closed still)
+      | inr told ↦ told_same (entry_in before b i) (entry_in now b i) (look_at b i) told
     ];
   }
 

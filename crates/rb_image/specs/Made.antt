@@ -46,8 +46,9 @@ GivesAny s old new going Is = GivesOne s old new going Is ⊎ Logs s old new [] 
 abbrev pub entry_in : List (List ℕ) → (b i : ℕ) → Entry
 entry_in blocks b i = home_entry (home_of (block_of blocks b)) i
 
--- What was Open becomes no more than the looks tell: a slot entry of a block of rows that was Open is Exact c only where
--- the look at its transaction, by the headers of before, gave At c; and Bound b only where it gave Before b.
+-- What was Open tells no more than the looks: a slot entry of a block of rows that was Open is Exact c only where the
+-- look at its transaction, by the headers of before, gave At c, and Bound b only where it gave Before b; and where it
+-- isn't Open any more, it is still of that transaction.
 pub record TellsLooks (shape : Shape) (before now : List (List ℕ)) : Type 0 where
   pub exact : (b i : ℕ) → b < table_blocks shape → (entry_in before b i).kind ≡ OPEN
       → (entry_in now b i).kind ≡ EXACT
@@ -55,6 +56,8 @@ pub record TellsLooks (shape : Shape) (before now : List (List ℕ)) : Type 0 wh
   pub bound : (b i : ℕ) → b < table_blocks shape → (entry_in before b i).kind ≡ OPEN
       → (entry_in now b i).kind ≡ BOUND
       → (env_of shape before).look (entry_in before b i).xid ≡ Before (entry_in now b i).number
+  pub same : (b i : ℕ) → b < table_blocks shape → (entry_in before b i).kind ≡ OPEN
+      → (entry_in now b i).kind ≢ OPEN → (entry_in now b i).xid ≡ (entry_in before b i).xid
 
 -- A write of session s, in a log with so much room: its transaction has that id then, no test of the machine refuses
 -- it, and there is room for what puts all live changes back. What it cleans on its way tells the looks.

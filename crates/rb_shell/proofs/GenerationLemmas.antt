@@ -1,5 +1,5 @@
 -- A run of the generator over an engine, and over the file that the engine was opened with.
-use Rattle.std.proofs.Common.{◌≡◌, ◌≢◌, ◌∙◌, refl, ap, subst, ℕ, Bool, true, false, List, ◌++◌, take, Option, Result, Ok, Err}
+use Rattle.std.proofs.Common.{◌≡◌, ◌≢◌, ◌∙◌, refl, ap, subst, ℕ, Bool, true, false, List, ◌++◌, take, Option, Result, Ok, Err, Some}
 use Rattle.rb_base.specs.declared.faults.Failed.{Failed}
 use Rattle.rb_base.specs.declared.store.Store.{Ghosts}
 use Rattle.rb_calls.specs.Since.{IsSince, StandsAs, outside_of}
@@ -17,7 +17,7 @@ use Rattle.rb_lines.specs.Ran.{Did}
 use Rattle.rb_model.specs.Out.{Logged}
 use Rattle.rb_model.specs.Rows.{last_scn}
 use Rattle.rb_shell.specs.Generation.{EndsGenerator, HasMade, MadeOn, line_of}
-use Rattle.rb_shell.specs.Runs.{HasOpened, IsDoneOrNoMemory, IsSound, MadeLast, first_of}
+use Rattle.rb_shell.specs.Runs.{HasOpened, IsDoneOrNoMemory, IsSound, MadeLast, first_of, outside_in}
 use Rattle.rb_shell.specs.declared.status.Status.{Status}
 use Rattle.rb_shell.specs.declared.status.Status.TheVariants.{Done, Usage, SourceFault, DiskFault, SinkFault, NotAStore, NoMemory, NotEmpty, TooLong}
 use Rattle.rb_shell.specs.Statuses.{by_source}
@@ -64,7 +64,7 @@ module _ {S : Type 0} (s : Ghosts S) (m : Logged) (n : ℕ) (old mid : EngineVie
 
 module _ {D : Type 0} (d : DiskGhosts D) (old : D) (g : Ghosts (LapState D)) (e : EngineView (LapState D)) (sound : IsSound (d.content old)) (o : HasOpened d g old e sound) where
   -- the same commands over the file
-  abbrev pub same_made : (n : ℕ) (had fault : Bool) → had ≡ fault → HasMade e.store.layout.log (first_of sound) n had → HasMade sound.store.layout.log (first_of sound) n fault
+  abbrev pub same_made : (n : ℕ) (had fault : Bool) → had ≡ fault → HasMade (outside_of (Some e.store.layout.log)) (first_of sound) n had → HasMade (outside_in sound) (first_of sound) n fault
   same_made n had fault is made = record {
     answers = made.answers;
     now = made.now;

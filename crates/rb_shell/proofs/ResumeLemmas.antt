@@ -78,9 +78,9 @@ pub line_ends : (m mid now : Logged) (outside outside1 : Outside) (line : List �
     → SaidItself m outside line mid tells before held waiting (Ok tt) → outside1 ≡ outside → HasResumed mid outside1 now waiting waiting2 (is_err result) → IfErr result (λ fault. fault ≡ Disk)
     → SaidAs (LineOut m outside line) m now tells before held waiting2 result
 line_ends m mid now outside outside1 line tells before held waiting waiting2 (Ok done) (said, going) same has by =
-    (resumed_said m mid now outside has.count line has.rest tells before held waiting waiting2 said (subst (λ (k : ℕ). ResumesOut mid k has.count has.rest now) same has.resumed) has.waits, has.stopped)
+    (resumed_said m mid now outside has.count line has.rest tells before held waiting waiting2 said (subst (λ (k : Outside). ResumesOut mid k has.count has.rest now) same has.resumed) has.waits, has.stopped)
 line_ends m mid now outside outside1 line tells before held waiting waiting2 (Err Disk) (said, going) same has by =
-    (resumed_said m mid now outside has.count line has.rest tells before held waiting waiting2 said (subst (λ (k : ℕ). ResumesOut mid k has.count has.rest now) same has.resumed) has.waits, has.stopped)
+    (resumed_said m mid now outside has.count line has.rest tells before held waiting waiting2 said (subst (λ (k : Outside). ResumesOut mid k has.count has.rest now) same has.resumed) has.waits, has.stopped)
 line_ends m mid now outside outside1 line tells before held waiting waiting2 (Err Sink) (said, going) same has by = cc
 
 -- a fault in the line itself, behind which none is tried

@@ -24,7 +24,7 @@ use Rattle.rb_model.specs.Rows.{last_scn}
 use Rattle.rb_model.specs.State.{State}
 use Rattle.rb_opening.specs.Opens.{CanOpen, OpensAs}
 use Rattle.rb_segment.specs.Segments.{owed_in}
-use Rattle.rb_shell.specs.Runs.{IsSound, IsStore, HasHalted, HasOpened, HasRun, WasCutOff, Endures, LeftAlone, OpensSame, OpensToNone, EndsRun, IsDoneOrNoMemory, first_of}
+use Rattle.rb_shell.specs.Runs.{IsSound, IsStore, HasHalted, HasOpened, HasRun, WasCutOff, Endures, LeftAlone, OpensSame, OpensToNone, EndsRun, IsDoneOrNoMemory, first_of, outside_in}
 use Rattle.rb_shell.specs.declared.script.TheConstants.{SCRIPT_BYTES}
 use Rattle.rb_calls.specs.Since.{outside_of, slots_of}
 use Rattle.rb_shell.specs.Statuses.{EndsFormat}
@@ -176,23 +176,23 @@ module _ {D : Type 0} (d : DiskGhosts D) (old : D) where
   -- what was done over the engine was done over the file
   module _ (g : Ghosts (LapState D)) (e : EngineView (LapState D)) (sound : IsSound (d.content old)) (o : HasOpened d g old e sound) where
     pub has_run : (now : Logged) (lines : List (List ℕ)) (tells : Type 0) (before held : List ℕ) (endures : Layout → State → Logged → Type 0)
-        → Ran e.store.layout.log (first_of sound) now lines tells before held → now.state.stopped ≡ false → endures sound.store.layout sound.state now → HasRun sound lines tells before held endures
+        → Ran (outside_of (Some e.store.layout.log)) (first_of sound) now lines tells before held → now.state.stopped ≡ false → endures sound.store.layout sound.state now → HasRun sound lines tells before held endures
     has_run now lines tells before held endures ran going endured = record {
       run = record { now = now; ran = subst (λ (k : ℕ). Ran (outside_of (Some k)) (first_of sound) now lines tells before held) o.slots ran; endured = endured };
       going = going;
     }
 
     pub has_halted : (now : Logged) (left left2 : List ℕ) (tells : Type 0) (before held : List ℕ) (endures : Layout → State → Logged → Type 0)
-        → Halted e.store.layout.log SCRIPT_BYTES (first_of sound) now left left2 tells before held → endures sound.store.layout sound.state now → HasHalted sound left left2 tells before held endures
+        → Halted (outside_of (Some e.store.layout.log)) SCRIPT_BYTES (first_of sound) now left left2 tells before held → endures sound.store.layout sound.state now → HasHalted sound left left2 tells before held endures
     has_halted now left left2 tells before held endures halted endured =
         let here = subst (λ (k : ℕ). Halted (outside_of (Some k)) SCRIPT_BYTES (first_of sound) now left left2 tells before held) o.slots halted in
         record {
-          run = record { now = now; ran = all_ran sound.store.layout.log SCRIPT_BYTES (first_of sound) now left left2 tells before held here; endured = endured };
+          run = record { now = now; ran = all_ran (outside_in sound) SCRIPT_BYTES (first_of sound) now left left2 tells before held here; endured = endured };
           halted = here;
         }
 
     pub was_cut_off : (now : Logged) (lines : List (List ℕ)) (before held : List ℕ) (endures : Layout → State → Logged → Type 0)
-        → CutOff e.store.layout.log (first_of sound) now lines before held → endures sound.store.layout sound.state now → WasCutOff sound lines before held endures
+        → CutOff (outside_of (Some e.store.layout.log)) (first_of sound) now lines before held → endures sound.store.layout sound.state now → WasCutOff sound lines before held endures
     was_cut_off now lines before held endures cut endured = record {
       now = now;
       cut = subst (λ (k : ℕ). CutOff (outside_of (Some k)) (first_of sound) now lines before held) o.slots cut;

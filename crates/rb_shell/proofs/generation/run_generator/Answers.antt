@@ -1,10 +1,11 @@
 use Rattle.std.proofs.Common.{◌≡◌, ◌≢◌, ◌∙◌, refl, ℕ, Bool, false, Some, inr, sym, ap, subst}
 use Rattle.rb_image.specs.Crash.{OpensUpTo}
 use Rattle.rb_model.specs.State.{State}
+use Rattle.rb_calls.specs.Since.{outside_of}
 use Rattle.rb_shell.proofs.GenerationLemmas.{same_made}
 use Rattle.rb_shell.proofs.RunLemmas.{endures}
 use Rattle.rb_shell.specs.Generation.{HasMade, MadeOn}
-use Rattle.rb_shell.specs.Runs.{Endures, HasOpened, IsSound, Lasts, first_of}
+use Rattle.rb_shell.specs.Runs.{Endures, HasOpened, IsSound, Lasts, first_of, outside_in}
 use Rattle.rb_shell.specs.declared.status.Status.TheVariants.{Done, DiskFault, SinkFault}
 use Rattle.rb_store.specs.Laps.{Opens}
 use Rattle.rb_store.specs.contracts.lap.LapStoreStore.TheImpl.{ghosts}
@@ -16,7 +17,7 @@ module _ (g : Over) (c : After-close g) (disk : g.D.Disk.tells) (sound : IsSound
   opened : HasOpened g.D.Disk (ghosts g.row.D g.D.Disk g.D.Disk-dict) c.args.disk c.in-Ok.engine sound
   opened = c.in-Ok.ensures.opened disk sound
 
-  did : MadeOn (ghosts g.row.D g.D.Disk g.D.Disk-dict) c.in-Ok.engine.store c.make_commands-status.result.1 c.in-Ok.engine.store.layout.log c.args.commands (first_of sound)
+  did : MadeOn (ghosts g.row.D g.D.Disk g.D.Disk-dict) c.in-Ok.engine.store c.make_commands-status.result.1 (outside_of (Some c.in-Ok.engine.store.layout.log)) c.args.commands (first_of sound)
       g.K.Sink.tells (g.K.Sink.held c.args.sink.now) (g.K.Sink.held c.make_commands-status.new.sink) c.make_commands-status.result.0
   did = c.make_commands-status.ensures.did (first_of sound) opened.stands (ap (λ (h : State). h.stopped) sound.opening.state)
 
@@ -36,7 +37,7 @@ module _ (g : Over) (c : After-close g) (disk : g.D.Disk.tells) (sound : IsSound
   }
 
   -- the commands over the file
-  abbrev made : (fault : Bool) → did.fault ≡ fault → HasMade sound.store.layout.log (first_of sound) c.args.commands fault
+  abbrev made : (fault : Bool) → did.fault ≡ fault → HasMade (outside_in sound) (first_of sound) c.args.commands fault
   made fault is = same_made g.D.Disk c.args.disk (ghosts g.row.D g.D.Disk g.D.Disk-dict) c.in-Ok.engine sound opened c.args.commands did.fault fault is did.made
 
 pub returns-in-Ok-clause-done : goal.returns-in-Ok-clause-done

@@ -8,6 +8,7 @@ use Rattle.rb_lines.specs.declared.lines.LinesEnd.{LinesEnd}
 use Rattle.rb_lines.specs.declared.lines.LinesEnd.TheVariants as ends
 use Rattle.rb_model.specs.Out.{Logged}
 use Rattle.rb_model.specs.State.{State}
+use Rattle.rb_calls.specs.Since.{outside_of}
 use Rattle.rb_shell.specs.Runs.{IsSound, first_of}
 use Rattle.rb_store.specs.Laps.{Opens}
 use Rattle.rb_store.specs.contracts.lap.LapStoreStore.TheImpl.{ghosts}
@@ -25,7 +26,7 @@ module _ (g : Over) (c : After-close g) (disk : g.D.Disk.tells) (told : g.S.Sour
   opened : HasOpened g.D.Disk (ghosts g.row.D g.D.Disk g.D.Disk-dict) c.args.disk c.in-Ok-open_engine.engine sound
   opened = c.in-Ok-open_engine.ensures.opened disk sound
 
-  did : RanOn (ghosts g.row.D g.D.Disk g.D.Disk-dict) c.in-Ok-open_engine.engine.store c.run_engine-status.result.1 c.in-Ok-open_engine.engine.store.layout.log 65536 (first_of sound)
+  did : RanOn (ghosts g.row.D g.D.Disk g.D.Disk-dict) c.in-Ok-open_engine.engine.store c.run_engine-status.result.1 (outside_of (Some c.in-Ok-open_engine.engine.store.layout.log)) 65536 (first_of sound)
       (g.S.Source.left c.args.source.now) (g.S.Source.left c.run_engine-status.new.source) g.K.Sink.tells (g.K.Sink.held c.args.sink.now) (g.K.Sink.held c.run_engine-status.new.sink) c.run_engine-status.result.0
   did = c.run_engine-status.ensures.did told (first_of sound) opened.stands (ap (λ (h : State). h.stopped) sound.opening.state)
 
@@ -46,11 +47,11 @@ module _ (g : Over) (c : After-close g) (disk : g.D.Disk.tells) (told : g.S.Sour
 
   -- how the lines ended
   ended : (end : LinesEnd) → did.end ≡ end
-      → EndsAs c.in-Ok-open_engine.engine.store.layout.log 65536 (first_of sound) did.now (g.S.Source.left c.args.source.now) (g.S.Source.left c.run_engine-status.new.source) g.K.Sink.tells (g.K.Sink.held c.args.sink.now) (g.K.Sink.held c.run_engine-status.new.sink) end
-  ended end is = subst (λ (e : LinesEnd). EndsAs c.in-Ok-open_engine.engine.store.layout.log 65536 (first_of sound) did.now (g.S.Source.left c.args.source.now) (g.S.Source.left c.run_engine-status.new.source) g.K.Sink.tells (g.K.Sink.held c.args.sink.now) (g.K.Sink.held c.run_engine-status.new.sink) e) is did.ends
+      → EndsAs (outside_of (Some c.in-Ok-open_engine.engine.store.layout.log)) 65536 (first_of sound) did.now (g.S.Source.left c.args.source.now) (g.S.Source.left c.run_engine-status.new.source) g.K.Sink.tells (g.K.Sink.held c.args.sink.now) (g.K.Sink.held c.run_engine-status.new.sink) end
+  ended end is = subst (λ (e : LinesEnd). EndsAs (outside_of (Some c.in-Ok-open_engine.engine.store.layout.log)) 65536 (first_of sound) did.now (g.S.Source.left c.args.source.now) (g.S.Source.left c.run_engine-status.new.source) g.K.Sink.tells (g.K.Sink.held c.args.sink.now) (g.K.Sink.held c.run_engine-status.new.sink) e) is did.ends
 
   -- what was done over the engine was done over the file
-  ran : (lines : List (List ℕ)) (left : Layout → State → Logged → Type 0) → Ran c.in-Ok-open_engine.engine.store.layout.log (first_of sound) did.now lines g.K.Sink.tells (g.K.Sink.held c.args.sink.now) (g.K.Sink.held c.run_engine-status.new.sink) → did.now.state.stopped ≡ false
+  ran : (lines : List (List ℕ)) (left : Layout → State → Logged → Type 0) → Ran (outside_of (Some c.in-Ok-open_engine.engine.store.layout.log)) (first_of sound) did.now lines g.K.Sink.tells (g.K.Sink.held c.args.sink.now) (g.K.Sink.held c.run_engine-status.new.sink) → did.now.state.stopped ≡ false
       → left sound.store.layout sound.state did.now → HasRun sound lines g.K.Sink.tells (g.K.Sink.held c.args.sink.now) (g.K.Sink.held c.run_engine-status.new.sink) left
   ran lines left r going is = has_run g.D.Disk c.args.disk (ghosts g.row.D g.D.Disk g.D.Disk-dict) c.in-Ok-open_engine.engine sound opened did.now lines g.K.Sink.tells _ _ left r going is
 
