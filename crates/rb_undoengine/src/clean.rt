@@ -1,5 +1,5 @@
 //! The cleaning of a block by a reader. The engine's fetch calls it for each block that it reads.
-ghost use Rattle.std.specs.Prelude.{◌≡◌, ◌⊎◌, ◌<◌, ◌≤◌, ℕ, List, false, not, length, OnOk};
+ghost use Rattle.std.specs.Prelude.{IsTrue, ◌↔◌, ◌≡◌, ◌⊎◌, ◌<◌, ◌≤◌, ℕ, List, false, not, length, OnOk};
 ghost use Rattle.std.specs.Result.{is_err};
 ghost use Rattle.rb_base.specs.Blocks.{block_of, table_blocks};
 ghost use Rattle.rb_base.specs.Groups.{Patch};
@@ -17,6 +17,13 @@ ghost use Rattle.rb_standing.specs.Standing.{env_of};
 use rb_base::{BlockNo, Failed, Store, WORN};
 use rb_cleanout::plan_clean;
 use rb_segment::owed;
+
+/// Whether the log takes a group at all. A log that is used up is asked first, as each block of its file is still read.
+fn can_log<S: Store>(store: &S) -> bool
+    ensures { IsTrue result ↔ ((S.lsn store.now < WORN) × (1 ≤ room_of (S.slots store.now) (S.lsn store.now))) }
+{
+    store.logged() < WORN && store.room() >= 1
+}
 
 /// Cleans block `no`, which is one of rows, of the transactions that have ended: by one group, which isn't flushed, or
 /// by none where there is nothing to clean, where the log is worn out, or where it has no more room than what puts back
@@ -37,7 +44,7 @@ pub fn clean_step<S: Store>(store: &mut S, no: BlockNo) -> Result<(), Failed>
         ≡ cleaned_home (env_of h.shape (S.blocks store.old)).look (home_of (block_of (S.blocks store.old) no))) }
     ensures young { OnOk result ((S.lsn store.new ≤ WORN) ⊎ (S.lsn store.new ≡ S.lsn store.old)) }
 {
-    if store.logged() >= WORN {
+    if !can_log(store) {
         return Ok(());
     }
     let Some(plan) = plan_clean(store, no)? else {

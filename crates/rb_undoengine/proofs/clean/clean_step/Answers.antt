@@ -23,8 +23,8 @@ use Rattle.rb_undoengine.proofs.clean.clean_step.Goals as goal
 of_shape : (shape : Shape) (h : State) (blocks : List (List ℕ)) (b : ℕ) (patches : List Patch) → shape ≡ h.shape → PlansClean (look_of shape blocks) b patches (block_of blocks b) → PlansClean (look_of h.shape blocks) b patches (block_of blocks b)
 of_shape shape h blocks b patches same plans = subst (λ (k : Shape). PlansClean (look_of k blocks) b patches (block_of blocks b)) same plans
 
-pub returns-then-logged-ge-WORN-clause-logs : goal.returns-then-logged-ge-WORN-clause-logs
-returns-then-logged-ge-WORN-clause-logs g c = ([], no_logs g.S.Store c.args.store.now c.requires.going, omega arith)
+pub returns-then-not-can_log-clause-logs : goal.returns-then-not-can_log-clause-logs
+returns-then-not-can_log-clause-logs g c = ([], no_logs g.S.Store c.args.store.now c.requires.going, omega arith)
 
 -- there was nothing to clean
 pub returns-in_default-clause-cleaned : goal.returns-in_default-clause-cleaned
@@ -92,7 +92,8 @@ returns-clause-gives g c = λ told h xids shape holds sixteen.
     let is = planned (IsPlan c.args.no) c.in_ok-plan.field-0 group c.in-Some.is plan.some in
     let plans = planned (λ (l : List Patch). PlansClean (look_of (s.shape_of old) (s.blocks old)) c.args.no l (block_of (s.blocks old) c.args.no)) c.in_ok-plan.field-0 group c.in-Some.is (plan.plans told) in
     let looked = more_logs s old c.plan_clean.new.store c.owed.new.store [] [] true plan.logs c.in_ok-needed.ensures.logs in
-    let young : logged_of h.shape (s.blocks old) < 2 ^ 60 = omega (arith, holds.logged, c.logged.ensures, c.if-logged-ge-WORN.false) in
+    let can = (c.can_log.ensures.0 c.if-not-can_log.false).0 in
+    let young : logged_of h.shape (s.blocks old) < 2 ^ 60 = omega (arith, holds.logged, can) in
     let sum : c.in_ok-needed.needed ≡ owed_in h.shape (s.blocks old) =
     c.in_ok-needed.ensures.sum told ∙ (ap (λ (k : Shape). owed_in k (s.blocks c.plan_clean.new.store)) (plan.logs.same_shape ∙ shape) ∙ ap (owed_in h.shape) (plan.logs.blocks told refl)) in
     let room : c.room.result ≡ room_of (s.slots old) (s.lsn old) =
