@@ -5,7 +5,9 @@ mod memory;
 mod plan;
 mod standard;
 mod stream;
+mod watcher;
 
 pub use memory::{MemSink, MemSource};
 pub use standard::{StdSink, StdSource};
 pub use stream::{Sink, Source};
+pub use watcher::{Nobody, Watcher};
