@@ -40,7 +40,7 @@ pub trait Sink {
         ensures added { tells → Puts (held self.old) (held self.new) bytes.now result }
         ensures counted { IsCounted (faults self.old) (faults self.new) result };
 
-    /// Shows whoever watches how far a long run is: so many of so many commands are done. That adds nothing to the bytes,
-    /// and nothing depends on it.
+    /// Shows whoever watches how far a long run is: so many of so many commands are done. That adds nothing to the
+    /// bytes, and nothing depends on it.
     fn show_progress(&self, done: u32, all: u32);
 }

@@ -8,26 +8,26 @@ use std::time::{Duration, Instant};
 /// How long a run takes, in milliseconds, before its progress is shown.
 const QUIET: u64 = 1000;
 
-/// How long a line stands, in milliseconds, before the next one is written over it.
+/// How long a line stands at least, in milliseconds, before the next one is written over it.
 const STANDS: u64 = 100;
 
-/// Shows progress on standard error. Where that can't be written to, the run goes on.
+/// Shows progress on standard error. Where that can't be written to, the run goes on all the same.
 #[derive(Drop)]
 pub struct Progress<'rt> {
     rt: &'rt HostRuntime,
-    // When a line may be written next. There is none where nobody would see it, or no time is known.
+    // When a line may be written next. There is no such time where nobody would see it, or where no clock tells it.
     next: Cell<Option<Instant>>,
     // Whether a line stands there.
     stands: Cell<bool>,
 }
 
-// So many milliseconds from now, where there's a clock.
-fn after(rt: &HostRuntime, milliseconds: u64) -> Option<Instant> {
+// The time that many milliseconds from now, if a clock tells it.
+fn time_after(rt: &HostRuntime, milliseconds: u64) -> Option<Instant> {
     let now = Instant::now(rt).ok()?;
     now.checked_add(Duration::from_millis(milliseconds))
 }
 
-fn is_past(rt: &HostRuntime, time: Instant) -> bool {
+fn is_reached(rt: &HostRuntime, time: Instant) -> bool {
     match Instant::now(rt) {
         Ok(now) => now >= time,
         Err(_) => false,
@@ -38,7 +38,7 @@ impl<'rt> Progress<'rt> {
     /// The progress of a run that begins now. It shows nothing where standard error is no terminal.
     pub fn begin(rt: &'rt HostRuntime) -> Progress<'rt> {
         let next = if rt.stderr().is_terminal() {
-            after(rt, QUIET)
+            time_after(rt, QUIET)
         } else {
             None
         };
@@ -65,10 +65,10 @@ impl Watcher for Progress<'_> {
         let Some(next) = self.next.get() else {
             return;
         };
-        if is_past(self.rt, next) {
+        if is_reached(self.rt, next) {
             let _ = eprint!(self.rt; "{done:8} of {all} commands\r");
             self.stands.set(true);
-            self.next.set(after(self.rt, STANDS));
+            self.next.set(time_after(self.rt, STANDS));
         }
     }
 }
