@@ -1,4 +1,4 @@
-//! Where the script comes from and where the replies go, as traits, and streams in memory and of std.
+//! Where the script comes from and where the replies go, as traits, and streams in memory and of std; and who watches.
 #![tactic(auto)]
 
 mod memory;

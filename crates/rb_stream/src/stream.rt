@@ -1,4 +1,5 @@
-//! `Source` and `Sink`: one call each, with its meaning. The shell reads the script and writes the replies by them.
+//! `Source` and `Sink`: one call each that moves bytes, with its meaning. The shell reads the script and writes the
+//! replies by them.
 ghost use Rattle.std.specs.Prelude.{ℕ, ◌≤◌, List, length, IfOk};
 ghost use Rattle.rb_base.specs.Counts.{IsCounted};
 ghost use Rattle.rb_stream.specs.StreamModel.{Takes, Puts};

@@ -1,9 +1,9 @@
-//! `Watcher`: who is shown how far a long run is. The program's is a terminal, beside the replies.
+//! `Watcher`: whom a sink shows how far a long run is. That of the program writes it to a terminal.
 
-/// Whoever a sink shows the progress of a run. No clause speaks of what is shown.
+/// Whom a sink shows how far a long run is. No clause speaks of what is shown.
 pub trait Watcher {
-    /// Is shown that so many of so many commands are done. How often is the run's choice: a watcher to whom it is too
-    /// often leaves some out.
+    /// Is told that so many of so many commands are done. How often is up to the run; where that is too often for a
+    /// watcher, it leaves some out.
     fn see(&self, done: u32, all: u32);
 }
 
