@@ -18,6 +18,11 @@ use crate::draws::Draws;
 use itoa::Buffer;
 use rb_base::{Failed, Store};
 use rb_engine::Engine;
+use rb_stream::Sink;
+
+// After how many commands the progress is shown again: few enough that a slow device makes them within a second, and
+// enough that a quick run seldom asks what time it is.
+const SHOWN_EACH: u32 = 256;
 
 /// Draws the next command, which is command `i` from 0 on, and makes it.
 fn turn<T: Store>(
@@ -44,9 +49,21 @@ fn turn<T: Store>(
     run_command(engine, &command, counts)
 }
 
+/// Shows how far the run is, where it is time for that again.
+fn show_some<K: Sink>(sink: &K, done: u32, all: u32) {
+    if done.is_multiple_of(SHOWN_EACH) {
+        sink.show_progress(done, all);
+    }
+}
+
 /// Makes the commands of a run of so many on the engine, each with the writes that it has made ready, and gives the
-/// counts of their answers. It fails where the disk does, and makes no call then.
-pub fn generate<T: Store>(engine: &mut Engine<T>, commands: u32) -> Result<Counts, Failed>
+/// counts of their answers. It fails where the disk does, and makes no call then. Whoever watches the sink is shown how
+/// many are made; the sink stays as it is.
+pub fn generate<T: Store, K: Sink>(
+    engine: &mut Engine<T>,
+    commands: u32,
+    sink: &K,
+) -> Result<Counts, Failed>
     requires { commands ≤ 1000000 }
     // For every state that the engine stands for: the answers to the commands and to the writes that were tried again,
     // and the state after them. A crash may leave no more than these states.
@@ -61,6 +78,7 @@ pub fn generate<T: Store>(engine: &mut Engine<T>, commands: u32) -> Result<Count
     };
     let mut counts = Counts::none();
     for i in 0..commands {
+        show_some(sink, i, commands);
         turn(engine, &mut draws, i, &mut counts)?;
     }
     Ok(counts)

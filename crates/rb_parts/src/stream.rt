@@ -1,6 +1,8 @@
-//! Each stream on its happy path, failing calls, a sink past its room, and streams of std that are interrupted.
+//! Each stream on its happy path, failing calls, a sink past its room, a watched one, and streams of std that are
+//! interrupted.
 use rb_base::{Failed, NoMemory};
-use rb_stream::{MemSink, MemSource, Sink, Source, StdSink, StdSource};
+use rb_stream::{MemSink, MemSource, Sink, Source, StdSink, StdSource, Watcher};
+use std::cell::Cell;
 use std::io::{self, ErrorKind, Read, Write};
 
 #[test]
@@ -50,6 +52,31 @@ fn sink_of_std(rt: HostRuntime) {
     assert!(rt; sink.put(b"ab") == Ok(()));
     assert!(rt; sink.put(b"c") == Ok(()));
     assert!(rt; held.as_slice() == b"abc".as_slice());
+}
+
+// Keeps what it was shown last.
+#[derive(Drop)]
+struct Looking {
+    last: Cell<(u32, u32)>,
+}
+
+impl Watcher for Looking {
+    fn see(&self, done: u32, all: u32) {
+        self.last.set((done, all));
+    }
+}
+
+#[test]
+fn watched_sink_of_std(rt: HostRuntime) {
+    let mut held = Vec::new(rt.alloc());
+    let looking = Looking {
+        last: Cell::new((0, 0)),
+    };
+    let mut sink = StdSink::watched(&mut held, &looking);
+    assert!(rt; sink.put(b"ab") == Ok(()));
+    sink.show_progress(1, 2);
+    assert!(rt; looking.last.get() == (1, 2));
+    assert!(rt; held.as_slice() == b"ab".as_slice());
 }
 
 // A reader that is interrupted at its first call, fails at the third, and gives a byte at each other.

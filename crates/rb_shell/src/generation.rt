@@ -53,7 +53,7 @@ fn make_commands<K: Sink, T: Store>(
     ensures disk { IsCountedAs (T.faults engine.store) (T.faults result.1) (by_disk result.0) }
     ensures sink { IsCountedAs (K.faults sink.old) (K.faults sink.new) (by_sink result.0) }
 {
-    let Ok(counts) = generate(&mut engine, commands) else {
+    let Ok(counts) = generate(&mut engine, commands, sink) else {
         return (Status::DiskFault, engine.close());
     };
     let now = engine.now();

@@ -144,4 +144,6 @@ impl Sink for MemSink {
         self.used = end;
         Ok(())
     }
+    /// Nobody watches bytes in memory.
+    fn show_progress(&self, _done: u32, _all: u32) {}
 }

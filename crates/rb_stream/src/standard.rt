@@ -4,7 +4,7 @@ ghost use Rattle.std.specs.Prelude.{◌≡◌, ◌≤◌, [], length, IfOk, OnOk
 ghost use Rattle.rb_base.specs.Counts.{IsCounted};
 ghost use Rattle.rb_stream.specs.FaultPlan.{next_count};
 
-use crate::{Sink, Source};
+use crate::{Nobody, Sink, Source, Watcher};
 use rb_base::Failed;
 use std::io::{ErrorKind, Read, Write};
 use std::marker::Model;
@@ -71,14 +71,15 @@ impl<R: Read> Source for StdSource<R> {
     }
 }
 
-/// A sink that writes. Its clauses speak of the writer's bytes, where those are known.
+/// A sink that writes, and has a watcher. Its clauses speak of the writer's bytes, where those are known.
 #[derive(Drop)]
-pub struct StdSink<W: Write> {
+pub struct StdSink<W: Write, P: Watcher = Nobody> {
     writer: W,
+    watcher: P,
     faults: u64,
 }
 
-impl<W: Write> Model for StdSink<W> {
+impl<W: Write, P: Watcher> Model for StdSink<W, P> {
     ghost use Rattle.rb_stream.specs.StandardModel.{StandardState};
 
     ghost Value = { StandardState };
@@ -87,12 +88,26 @@ impl<W: Write> Model for StdSink<W> {
 }
 
 impl<W: Write> StdSink<W> {
-    /// A sink over a writer, with no fault yet.
+    /// A sink over a writer, with no fault yet. Nobody sees its progress.
     pub fn new(writer: W) -> StdSink<W>
         ensures known { result.known ≡ W.contents writer }
         ensures faults { result.faults ≡ 0 }
     {
-        StdSink { writer, faults: 0 }
+        StdSink::watched(writer, Nobody)
+    }
+}
+
+impl<W: Write, P: Watcher> StdSink<W, P> {
+    /// A sink over a writer, with no fault yet, which shows the watcher its progress.
+    pub fn watched(writer: W, watcher: P) -> StdSink<W, P>
+        ensures known { result.known ≡ W.contents writer }
+        ensures faults { result.faults ≡ 0 }
+    {
+        StdSink {
+            writer,
+            watcher,
+            faults: 0,
+        }
     }
 }
 
@@ -119,7 +134,7 @@ fn write_through<W: Write>(writer: &mut W, bytes: &[u8]) -> Result<(), Failed>
     flush_once(writer)
 }
 
-impl<W: Write> Sink for StdSink<W> {
+impl<W: Write, P: Watcher> Sink for StdSink<W, P> {
     ghost tells = { ⊥ };
 
     ghost held = { λ _. [] };
@@ -137,5 +152,9 @@ impl<W: Write> Sink for StdSink<W> {
             self.faults = self.faults.saturating_add(1);
         }
         put
+    }
+    /// Shows it to the watcher.
+    fn show_progress(&self, done: u32, all: u32) {
+        self.watcher.see(done, all);
     }
 }

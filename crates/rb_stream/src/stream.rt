@@ -1,4 +1,5 @@
-//! `Source` and `Sink`: one call each, with its meaning. The shell reads the script and writes the replies by them.
+//! `Source` and `Sink`: one call each that moves bytes, with its meaning. The shell reads the script and writes the
+//! replies by them.
 ghost use Rattle.std.specs.Prelude.{ℕ, ◌≤◌, List, length, IfOk};
 ghost use Rattle.rb_base.specs.Counts.{IsCounted};
 ghost use Rattle.rb_stream.specs.StreamModel.{Takes, Puts};
@@ -39,4 +40,8 @@ pub trait Sink {
     fn put(&mut self, bytes: &[u8]) -> Result<(), Failed>
         ensures added { tells → Puts (held self.old) (held self.new) bytes.now result }
         ensures counted { IsCounted (faults self.old) (faults self.new) result };
+
+    /// Shows whoever watches how far a long run is: so many of so many commands are done. That adds nothing to the
+    /// bytes, and nothing depends on it.
+    fn show_progress(&self, done: u32, all: u32);
 }

@@ -2,6 +2,9 @@
 //! first word names to the shell, and ends with its status.
 #![tactic(auto)]
 
+mod progress;
+
+use crate::progress::Progress;
 use rb_filedisk::FileDisk;
 use rb_shell::{Status, run};
 use rb_stream::{StdSink, StdSource};
@@ -30,10 +33,12 @@ fn run_words(rt: &HostRuntime, words: &[String]) -> Status {
         Some(file) => file.as_str(),
         None => "",
     };
+    let progress = Progress::begin(rt);
     let mut source = StdSource::new(rt.stdin());
-    let mut sink = StdSink::new(rt.stdout());
+    let mut sink = StdSink::watched(rt.stdout(), &progress);
     let disk = FileDisk::at(rt, path);
     let (status, _) = run(rt.alloc(), words, &mut source, &mut sink, disk);
+    progress.wipe();
     status
 }
 
