@@ -1,5 +1,6 @@
 //! The cleaning of a block by a reader. The engine's fetch calls it for each block that it reads.
-ghost use Rattle.std.specs.Prelude.{IsTrue, ◌↔◌, ◌≡◌, ◌⊎◌, ◌<◌, ◌≤◌, ℕ, List, false, not, length, OnOk};
+ghost use Rattle.std.specs.Prelude.{IsTrue, ◌↔◌, ◌≡◌, ◌⊎◌, ◌<◌, ◌≤◌};
+ghost use Rattle.std.specs.Prelude.{ℕ, List, false, not, length, OnOk};
 ghost use Rattle.std.specs.Result.{is_err};
 ghost use Rattle.rb_base.specs.Blocks.{block_of, table_blocks};
 ghost use Rattle.rb_base.specs.Groups.{Patch};
