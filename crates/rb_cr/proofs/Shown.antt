@@ -54,6 +54,15 @@ rows_step [] c k lt = absurd (omega (arith, lt))
 rows_step (x ∷ xs) zero k lt = refl
 rows_step (x ∷ xs) (suc c) k lt = rows_step xs c k (omega (arith, lt))
 
+-- cells that hold nothing show no row
+pub none_in : (xs : List Cell) (n k : ℕ) → length xs ≡ n → ((i : ℕ) (d : Cell) → i < n → get_or xs i d ≡ empty_cell)
+    → rows_in (map walk_cell xs) k ≡ None
+none_in [] n k long each = refl
+none_in (x ∷ xs) zero k long each = absurd (omega (arith, long))
+none_in (x ∷ xs) (suc n) k long each =
+    ap (λ (c : Cell). or_else (row_of (walk_cell c) k) (rows_in (map walk_cell xs) k)) (each 0 x (omega arith))
+    ∙ none_in xs n k (omega (arith, long)) (λ i d lt. each (suc i) d (omega arith))
+
 drop_all : (xs : List Cell) (c : ℕ) → length xs ≤ c → drop c xs ≡ []
 drop_all [] zero le = refl
 drop_all [] (suc c) le = refl

@@ -1,9 +1,9 @@
 //! A home decoded once, in which records are taken back, and what the reader keeps of it. A rebuild works on it.
-ghost use Rattle.std.specs.Prelude.{◌≡◌, ◌<◌, ℕ, true, false, length};
+ghost use Rattle.std.specs.Prelude.{◌≡◌, ◌<◌, ℕ, None, true, false, length, IfOk};
 ghost use Rattle.rb_base.specs.declared.shape.Shape.{Shape};
 ghost use Rattle.rb_cr.specs.Records.{fits_at, maker_of, record_of, row_items};
-ghost use Rattle.rb_cr.specs.Scratches.{kept_with, scratch_home, shown_in};
-ghost use Rattle.rb_heap.specs.Homes.{home_of};
+ghost use Rattle.rb_cr.specs.Scratches.{kept_with, scratch_home, shown_by, shown_in};
+ghost use Rattle.rb_heap.specs.Homes.{empty_cell, home_of};
 ghost use Rattle.rb_rebuild.specs.Chains.{same_xid};
 ghost use Rattle.rb_rebuild.specs.Keeping.{is_first, is_held, kept_room};
 ghost use Rattle.rb_standing.specs.Says.{walk_cell, sort_by};
@@ -39,7 +39,9 @@ pub struct Scratch {
 }
 
 /// The cell that holds nothing.
-fn empty_cell() -> Cell {
+fn empty_cell() -> Cell
+    ensures { result ≡ empty_cell }
+{
     Cell {
         state: EMPTY,
         lock: 0,
@@ -49,8 +51,10 @@ fn empty_cell() -> Cell {
 }
 
 impl Scratch {
-    /// One that no home was decoded into. Its room is taken here; `NoMemory` where there is none.
-    pub fn new(alloc: Global) -> Result<Scratch, NoMemory> {
+    /// One that no home was decoded into, and so shows no row. Its room is taken here; `NoMemory` where there is none.
+    pub fn new(alloc: Global) -> Result<Scratch, NoMemory>
+        ensures { IfOk result (λ scratch. (key : ℕ) → shown_by scratch key ≡ None) }
+    {
         Ok(Scratch {
             entries: [Entry::default(); ENTRIES as usize],
             cells: array::from_fn(|_| empty_cell()),
