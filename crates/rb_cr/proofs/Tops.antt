@@ -1,13 +1,14 @@
 -- The highest entry of those seen so far.
-use Rattle.std.proofs.Common.{◌≡◌, ◌<◌, ◌≤◌, ◌+◌, inl, inr, ℕ, List, [], length, map, get_or, sym, subst, arith}
+use Rattle.std.proofs.Common.{◌≡◌, ◌<◌, ◌≤◌, ◌+◌, inl, inr, ℕ, Bool, false, Result, Ok, Err, IfOk, List, [], length, map, get_or, sym, subst, arith}
 use Rattle.std.proofs.lemmas.List.{get_or-map}
 use Rattle.std.proofs.lemmas.Bool.{cases_eq}
+use Rattle.rb_base.specs.declared.faults.Failed.{Failed}
 use Rattle.rb_base.specs.declared.ids.Xid.{Xid}
 use Rattle.rb_rebuild.specs.Heights.{LookAtMost, StatusAtMost, AtMost}
 use Rattle.rb_standing.specs.Says.{walk_entry}
 use Rattle.rb_txntable.specs.declared.looks.Look.{Look}
 use Rattle.rb_txntable.specs.declared.looks.Look.TheVariants.{Active, At, Before}
-use Rattle.rb_walk.specs.Kinds.{Status, Free, Open, Exact, Bound}
+use Rattle.rb_walk.specs.Kinds.{Entry, Status, Free, Open, Exact, Bound}
 use Rattle.rb_walk.specs.Walk.{Home, Env, entry_at, free_entry}
 use Rattle.rb_itl.specs.declared.slots.Entry as entries
 use Rattle.rb_itl.specs.Entries.{free_entry as zero_entry}
@@ -33,3 +34,11 @@ most_step env n i number c new b seen here le le2 j lt = elim (cases_eq j i) [
 -- an entry in memory, and the one of the home
 pub entry_is : (shape : Shape) (es : List entries.Entry) (i : ℕ) → i < length es → entry_at (record { entries = map (walk_entry shape) es; cells = [] }) i ≡ walk_entry shape (get_or es i zero_entry)
 entry_is shape es i lt = get_or-map (walk_entry shape) es i zero_entry free_entry lt
+
+-- what is above n in one home is so in another one of these entries
+pub still_busy : (env env2 : Env) (n : ℕ) (b b2 : Home) (r : Result Bool Failed) → env2 ≡ env → ((j : ℕ) → entry_at b2 j ≡ entry_at b j)
+    → IfOk r (λ quiet. quiet ≡ false → ((j : ℕ) → AtMost env2 n n (entry_at b2 j)) → ⊥)
+    → IfOk r (λ quiet. quiet ≡ false → ((j : ℕ) → AtMost env n n (entry_at b j)) → ⊥)
+still_busy env env2 n b b2 (Ok quiet) same each busy = λ no most.
+    busy no (λ j. subst (λ (e : Entry). AtMost env2 n n e) (sym (each j)) (subst (λ (v : Env). AtMost v n n (entry_at b j)) (sym same) (most j)))
+still_busy env env2 n b b2 (Err fault) same each busy = tt

@@ -27,12 +27,16 @@ use rb_model::Row;
 use std::marker::Brand;
 use std::sync::ledger::{Blank, Ledger};
 
-/// Whether no entry of a home is above a snapshot. Its rows are then those at the snapshot as they stand.
+/// Whether no entry of a home is above a snapshot. Its rows are then those at the snapshot as they stand, and nothing
+/// is to be taken back.
 fn is_quiet<S: Segments>(segments: &mut S, scratch: &Scratch, scn: Scn) -> Result<bool, Failed>
     requires { S.ready segments.old }
     ensures told { S.tells → IfOk result (λ quiet. quiet ≡ true → (j : ℕ)
         → AtMost (S.says segments.old).env scn scn
         (entry_at (scratch_home (S.says segments.old).shape scratch.now) j)) }
+    ensures busy { S.tells → IfOk result (λ quiet. quiet ≡ false → ((j : ℕ)
+        → AtMost (S.says segments.old).env scn scn
+        (entry_at (scratch_home (S.says segments.old).shape scratch.now) j)) → ⊥) }
     ensures reads { Reads S.Segments segments.old segments.new (not (is_err result)) }
 {
     match greatest(segments, scratch, scn)? {
@@ -53,6 +57,9 @@ pub(crate) fn is_plain<S: Store>(
     ensures told { S.tells → IfOk result (λ plain. plain ≡ true → (j : ℕ)
         → AtMost (env_of (S.shape_of store.old) (S.blocks store.old)) scn scn
         (entry_at (homes_of (S.shape_of store.old) (S.blocks store.old) block) j)) }
+    ensures busy { S.tells → IfOk result (λ plain. plain ≡ false → ((j : ℕ)
+        → AtMost (env_of (S.shape_of store.old) (S.blocks store.old)) scn scn
+        (entry_at (homes_of (S.shape_of store.old) (S.blocks store.old) block) j)) → ⊥) }
     ensures logs { Logs S.Store store.old store.new [] (not (is_err result)) }
 {
     store.load(block)?;

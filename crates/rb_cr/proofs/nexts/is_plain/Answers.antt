@@ -1,6 +1,10 @@
-use Rattle.std.proofs.Common.{[], Ok, not}
+use Rattle.std.proofs.Common.{rules, ◌≡◌, ℕ, [], Ok, not}
 use Rattle.std.specs.Result.{is_err}
 use Rattle.rb_base.specs.Logs.{load_logs, more_logs}
+use Rattle.rb_cr.proofs.Tops.{still_busy}
+use Rattle.rb_cr.specs.Scratches.{scratch_home}
+use Rattle.rb_standing.specs.Standing.{env_of, homes_of}
+use Rattle.rb_walk.specs.Walk.{Home, entry_at}
 use Rattle.rb_cr.proofs.nexts.is_plain.Goals as goal
 
 pub returns-clause-logs : goal.returns-clause-logs
@@ -10,3 +14,15 @@ returns-clause-logs g c =
     let loaded = c.load.new.self in
     let load = c.in_ok-load.ensures in
     more_logs s old loaded c.is_quiet.new.segments [] [] (not (is_err c.is_quiet.result)) (load_logs s old loaded (Ok c.in_ok-load.field-0) load.shape load.slots load.failed load.counted load.lsn load.blocks load.settles load.any_moment) c.is_quiet.ensures.reads.made
+
+pub returns-clause-busy : goal.returns-clause-busy
+returns-clause-busy g c tells =
+    let s = g.S.Store in
+    let old = c.args.store.now in
+    let loaded = c.load.new.self in
+    let load = c.in_ok-load.ensures in
+    let home : Home = homes_of (s.shape_of old) (s.blocks old) c.args.block in
+    let read : Home = scratch_home (s.shape_of loaded) c.decode_entries.new.self in
+    let same : env_of (s.shape_of loaded) (s.blocks loaded) ≡ env_of (s.shape_of old) (s.blocks old) = search rules in
+    let each : (j : ℕ) → entry_at read j ≡ entry_at home j = search rules in
+    still_busy (env_of (s.shape_of old) (s.blocks old)) (env_of (s.shape_of loaded) (s.blocks loaded)) c.args.scn home read c.is_quiet.result same each (c.is_quiet.ensures.busy tells)
