@@ -381,12 +381,17 @@ class Store:
     def block(self, number):
         """The bytes of a block, of which those in front aren't kept here."""
         if number not in self.blocks:
-            block = self.blocks[number] = bytearray(UNIT)
-            if self.identity.kind(number) == 2:
-                # A new segment has turn 2 in extent 0, the head, and turn 1 in extent 1.
-                for extent, turn in enumerate([2, 1]):
-                    struct.pack_into(">Q", block, FIRST_EXTENT + EXTENT_BYTES * extent, turn)
+            self.blocks[number] = self.new_block(number)
         return self.blocks[number]
+
+    def new_block(self, number):
+        """The bytes of a block of a new file, of which those in front aren't kept here."""
+        block = bytearray(UNIT)
+        if self.identity.kind(number) == 2:
+            # A new segment has turn 2 in extent 0, the head, and turn 1 in extent 1.
+            for extent, turn in enumerate([2, 1]):
+                struct.pack_into(">Q", block, FIRST_EXTENT + EXTENT_BYTES * extent, turn)
+        return block
 
     @property
     def commit_number(self):
