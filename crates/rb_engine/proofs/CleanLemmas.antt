@@ -17,7 +17,7 @@ use Rattle.rb_cr.specs.declared.faults.CrFault.{CrFault}
 use Rattle.rb_cr.specs.declared.faults.CrFault.TheVariants as faults
 use Rattle.rb_engine.specs.Cleaning.{Cleans, HasCleaned, HasSpare, IsBefore, IsClean, IsHere, IsOnTheWay, OnlyCleaned, ReadIn, Serves}
 use Rattle.rb_engine.specs.Finishing.{Fails}
-use Rattle.rb_engine.specs.Scanning.{HasNext, HasNone, IsBehind, IsReader}
+use Rattle.rb_engine.specs.Scanning.{HasKey, HasNext, HasNone, IsBehind, IsReader}
 use Rattle.rb_engine.proofs.DoesLemmas.{fault_survives, holds_logged, survives_same}
 use Rattle.rb_heap.specs.Cleaning.{cleaned_home}
 use Rattle.rb_heap.specs.Homes.{home_of}
@@ -372,8 +372,8 @@ module _ {S : Type 0} (s : Ghosts S) where
     ]
 
     -- or where the homes end.
-    pub read_in_table : (g : ℕ) (old : S) → h.shape.blocks ≤ g → (b : ℕ) → ReadIn h xids (s.blocks old) m b → IsBefore h.shape m g b
-    read_in_table g old le b (f, (at, none)) = (f, (let lt = at.0.there in omega (arith, lt, le)), at)
+    pub read_in_table : (g : ℕ) (old : S) → ((f : ℕ) → g ≤ f → f < h.shape.blocks → HasKey h.shape.blocks m.lo m.hi f → ⊥) → (b : ℕ) → ReadIn h xids (s.blocks old) m b → IsBefore h.shape m g b
+    read_in_table g old past b (f, (at, none)) = elim (cases_lt f g) [ inl less ↦ (f, less, at) | inr from ↦ absurd (past f from at.0.there at.0.key) ]
 
     pub read_by_end : (g : ℕ) (old : S) → ((f : ℕ) → f < g → HasNone h xids (s.blocks old) m f) → (b : ℕ) → IsBefore h.shape m g b → ReadIn h xids (s.blocks old) m b
     read_by_end g old none b (f, less, at) = (f, (at, λ e lt. none e (omega (arith, less, lt))))

@@ -51,7 +51,7 @@ use Rattle.rb_views.proofs.Taken.{taken}
 behind_of : (blocks first g : ℕ) (last : Option ℕ) → Begins blocks first g last → (k : ℕ) → k % blocks ≡ g → is_after blocks last k ≡ true → IsBehindKey (if g == first then last else None) k
 behind_of blocks first g None begins k home after = cond_both (g == first) None None (λ (o : Option ℕ). IsBehindKey o k) (λ yes. tt) (λ no. tt)
 behind_of blocks first g (Some l) begins k home after = cond_both (g == first) (Some l) None (λ (o : Option ℕ). IsBehindKey o k)
-    (λ yes. later (l % blocks) (k % blocks) l k (same (k % blocks) (l % blocks) g first home (begins.2 l refl) yes) after) (λ no. tt)
+    (λ yes. later (l % blocks) (k % blocks) l k (same (k % blocks) (l % blocks) g first home (begins.1 l refl) yes) after) (λ no. tt)
   where
     same : (a b g first : ℕ) → a ≡ g → first ≡ b → (g == first) ≡ true → b ≡ a
     same a b g first x y e = grind (arith, nat_tests)
@@ -64,8 +64,8 @@ after_of blocks first g None begins k home behind = refl
 after_of blocks first g (Some l) begins k home behind = elim (cases_Bool (g == first)) [
   | inl first_one ↦
       let less : l < k = subst (λ (b : Bool). IsBehindKey (if b then Some l else None) k) first_one behind in
-      same_home (l % blocks) (k % blocks) l k g first home (begins.2 l refl) first_one less
-  | inr later ↦ later_home (l % blocks) (k % blocks) l k g first home (begins.2 l refl) begins.0 later
+      same_home (l % blocks) (k % blocks) l k g first home (begins.1 l refl) first_one less
+  | inr later ↦ later_home (l % blocks) (k % blocks) l k g first home (begins.1 l refl) begins.0 later
 ]
   where
     same_home : (a b l k g first : ℕ) → b ≡ g → first ≡ a → (g == first) ≡ true → l < k → (nat_lt a b || ((a == b) && nat_lt l k)) ≡ true

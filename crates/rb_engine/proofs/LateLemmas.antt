@@ -15,7 +15,7 @@ use Rattle.rb_cr.specs.declared.faults.CrFault.TheVariants as faults
 use Rattle.rb_cr.specs.declared.scratch.Snapshot.{Snapshot}
 use Rattle.rb_engine.specs.Checks.{NotOld}
 use Rattle.rb_engine.specs.Does.{Does, EngineView, Goes, Kept, SameStore, Stands}
-use Rattle.rb_engine.specs.Lateness.{IsKeyWorn, IsRefusedLate, IsTimely, IsWriteOld, IsWriteWorn, LateAs, WriteNeedsLost}
+use Rattle.rb_engine.specs.Lateness.{IsKeyWorn, IsRefusedLate, IsTimely, IsWriteWorn, LateAs, WriteNeedsLost}
 use Rattle.rb_engine.proofs.DoesLemmas.{does_fault, does_loaded, fault_survives}
 use Rattle.rb_engine.proofs.WriteLemmas.{answered}
 use Rattle.rb_model.specs.Book.{book_at}

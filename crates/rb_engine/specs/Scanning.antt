@@ -32,10 +32,9 @@ pub record IsReader (h : State) (xids : List Xid) (blocks : List (List ℕ)) (m 
   pub cursor : machine.Cursor
   pub is : IsCursor h xids (env_of h.shape blocks) session (record { name = name; cursor = m }) cursor
 
--- the search begins in the home of the last row, or in the first, and has come to home g
+-- the search begins in the home of the last row, where there is one, and has come to home g
 abbrev pub Begins : (blocks first g : ℕ) (last : Option ℕ) → Type 0
-Begins blocks first g last = (first ≤ g) × (last ≡ None → first ≡ 0)
-    × ((l : ℕ) → last ≡ Some l → first ≡ l % blocks)
+Begins blocks first g last = (first ≤ g) × ((l : ℕ) → last ≡ Some l → first ≡ l % blocks)
 
 -- home g has no row that the cursor gives next
 abbrev pub HasNone : State → List Xid → List (List ℕ) → Cursor → ℕ → Type 0

@@ -20,19 +20,47 @@ use rb_model::{Fetched, Row};
 use rb_sessions::Cursor;
 use rb_undoengine::clean_step;
 
-/// The first home that may have a row behind the last one: that of its key.
+/// Whether no multiple of the number of homes parts the range: then its keys are of the homes from that of its least key
+/// to that of its greatest one.
+fn is_in_one_round(cursor: &Cursor, blocks: u32) -> bool
+    requires { 0 < blocks }
+    ensures low { result ≡ true → (k : ℕ) → cursor.now.lo ≤ k → k ≤ cursor.now.hi
+        → cursor.now.lo % blocks ≤ k % blocks }
+    ensures high { result ≡ true → (k : ℕ) → cursor.now.lo ≤ k → k ≤ cursor.now.hi
+        → k % blocks ≤ cursor.now.hi % blocks }
+{
+    let blocks = u64::from(blocks);
+    cursor.lo / blocks == cursor.hi / blocks
+}
+
+/// The first home that may have a row behind the last one: that of its key. At first it is that of the range's least
+/// key, or the first of all where the range goes round.
 fn first_home(cursor: &Cursor, blocks: u32) -> u32
     requires { 0 < blocks }
     ensures within { result < blocks }
     ensures skips { (g k : ℕ) → g < result
         → IsAskedKey blocks cursor.now.lo cursor.now.hi cursor.now.last g k → ⊥ }
-    ensures first { cursor.now.last ≡ None → result ≡ 0 }
     ensures last { (last : ℕ) → cursor.now.last ≡ Some last → result ≡ last % blocks }
 {
-    match cursor.last {
+    let key = match cursor.last {
+        Some(last) => last,
+        None if is_in_one_round(cursor, blocks) => cursor.lo,
         None => 0,
-        Some(last) => (last % u64::from(blocks)) as u32,
+    };
+    (key % u64::from(blocks)) as u32
+}
+
+/// The home from which on none has a key of the range.
+fn end_home(cursor: &Cursor, blocks: u32) -> u32
+    requires { 0 < blocks }
+    ensures within { result ≤ blocks }
+    ensures none { (g k : ℕ) → result ≤ g → g < blocks → k % blocks ≡ g
+        → cursor.now.lo ≤ k → k ≤ cursor.now.hi → ⊥ }
+{
+    if !is_in_one_round(cursor, blocks) {
+        return blocks;
     }
+    (cursor.hi % u64::from(blocks)) as u32 + 1
 }
 
 /// The least key behind which home `g` of so many is asked: the last one in its own home, and none in a later one.
@@ -142,7 +170,8 @@ pub fn next_row<S: Store>(
 {
     let blocks = store.shape().blocks;
     let first = first_home(cursor, blocks);
-    for g in first..blocks {
+    let end = end_home(cursor, blocks);
+    for g in first..end {
         match next_in(store, scratch, cursor, g, first, row) {
             Err(fault) => return Err(fault),
             Ok(true) => return Ok(Fetched::Row),

@@ -34,7 +34,7 @@ on_way : (shape state : Shape) (m : Rattle.rb_sessions.specs.declared.cursor.Cur
 on_way shape state m blocks first g same is there key begins = record {
   there = subst (λ (k : Shape). g < k.blocks) same there;
   key = subst (λ (n : ℕ). HasKey n m.lo m.hi g) (is ∙ ap (λ (k : Shape). k.blocks) same) key;
-  behind = λ last at. let first_is = begins.2 last at in let le = begins.0 in let bs = ap (λ (n : ℕ). last % n) (ap (λ (k : Shape). k.blocks) same) in omega (arith, first_is, le, bs);
+  behind = λ last at. let first_is = begins.1 last at in let le = begins.0 in let bs = ap (λ (n : ℕ). last % n) (ap (λ (k : Shape). k.blocks) same) in omega (arith, first_is, le, bs);
 }
 
 pub returns-then-not-is_asked-clause-cleans : goal.returns-then-not-is_asked-clause-cleans

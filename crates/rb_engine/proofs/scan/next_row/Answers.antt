@@ -1,13 +1,14 @@
-use Rattle.std.proofs.Common.{◌≡◌, ◌<◌, ◌≤◌, ◌+◌, ◌++◌, inl, inr, ℕ, List, [], true, false, not, Bool, Ok, Err, Result, sym, refl, ap, ◌∙◌, subst, arith}
-use Rattle.std.proofs.lemmas.Bool.{cases_eq}
+use Rattle.std.proofs.Common.{◌≡◌, ◌<◌, ◌≤◌, ◌%◌, ◌+◌, ◌++◌, inl, inr, Option, Some, None, ℕ, List, [], true, false, not, Bool, sym, refl, ap, ◌∙◌, subst, arith}
+use Rattle.std.proofs.lemmas.Bool.{cases_eq, cases_lt}
 use Rattle.rb_base.specs.Logs.{Laws, more_logs, no_logs}
 use Rattle.rb_base.specs.declared.ids.Xid.{Xid}
 use Rattle.rb_base.specs.declared.shape.Shape.{Shape}
 use Rattle.rb_cr.specs.Faults.{is_fault}
 use Rattle.rb_engine.specs.Cleaning.{Cleans, IsBefore, IsHere, MustIn, ReadIn, Serves}
-use Rattle.rb_engine.specs.Scanning.{Begins, HasNext, HasNone}
+use Rattle.rb_engine.specs.Scanning.{Begins, HasKey, HasNext, HasNone}
 use Rattle.rb_engine.proofs.CleanLemmas.{behind_same, cleaned_as, env_mid, in_table, next_same, none_cleaned, none_same, read_by_end, read_in_table, read_no_more, read_up_to, same_or_clean, serves_mid, turn_fails, turned, young_on}
 use Rattle.rb_model.specs.State.{State}
+use Rattle.rb_views.specs.Scan.{IsAskedKey}
 use Rattle.rb_engine.proofs.scan.next_row.Given.{Over}
 use Rattle.rb_engine.proofs.scan.next_row.Goals as goal
 
@@ -26,24 +27,29 @@ loop-g-init g c =
     let s = g.S.Store in
     let old = c.args.store.now in
     record {
+      there = let bs = ap (λ (z : Shape). z.blocks) c.shape-blocks.ensures.shape in let within = c.first_home-first.ensures.within in omega (arith, bs, within);
       groups = [];
       logs = no_logs s old c.requires.going;
       young = inr refl;
       row = refl;
       none = λ told h xids serves f before k asked.
-          absurd (c.first_home-first.ensures.skips f k before (subst (λ (z : Shape). Rattle.rb_views.specs.Scan.IsAskedKey z.blocks m.lo m.hi m.last f k) (sym (c.shape-blocks.ensures.shape ∙ serves.shape)) asked));
+          absurd (c.first_home-first.ensures.skips f k before (subst (λ (z : Shape). IsAskedKey z.blocks m.lo m.hi m.last f k) (sym (c.shape-blocks.ensures.shape ∙ serves.shape)) asked));
       cleaned = λ told h xids serves.
           let bs : c.shape-blocks.result.blocks ≡ h.shape.blocks = ap (λ (z : Shape). z.blocks) (c.shape-blocks.ensures.shape ∙ serves.shape) in
           none_cleaned s told (laws_of g) h xids m (IsBefore h.shape m c.first_home-first.result) (IsBefore h.shape m c.first_home-first.result) c.first_home-first.result old old serves (no_logs s old c.requires.going)
-          (λ b is spare. absurd (not_before m.last c.first_home-first.result h.shape.blocks c.shape-blocks.result.blocks is.0 bs is.1 is.2.0.behind c.first_home-first.ensures.first c.first_home-first.ensures.last));
+          (λ b is spare. absurd (not_before m.lo m.hi m.last c.first_home-first.result h.shape.blocks c.shape-blocks.result.blocks is.0 bs is.1 is.2.0.key is.2.0.behind c.first_home-first.ensures.skips c.first_home-first.ensures.last));
     }
   where
     -- no home on the way comes before the first
-    not_before : (last : Rattle.std.proofs.Common.Option ℕ) (first blocks code f : ℕ) → code ≡ blocks → f < first → ((l : ℕ) → last ≡ Rattle.std.proofs.Common.Some l → Rattle.std.proofs.Common.◌%◌ l blocks ≤ f)
-        → (last ≡ Rattle.std.proofs.Common.None → first ≡ 0) → ((l : ℕ) → last ≡ Rattle.std.proofs.Common.Some l → first ≡ Rattle.std.proofs.Common.◌%◌ l code) → ⊥
-    not_before Rattle.std.proofs.Common.None first blocks code f same less behind one other = let zero = one refl in omega (arith, zero, less)
-    not_before (Rattle.std.proofs.Common.Some l) first blocks code f same less behind one other =
-        let at = other l refl in let le = behind l refl in let bs = ap (λ (n : ℕ). Rattle.std.proofs.Common.◌%◌ l n) same in omega (arith, at, le, bs, less)
+    not_before : (lo hi : ℕ) (last : Option ℕ) (first blocks code f : ℕ) → code ≡ blocks → f < first → HasKey blocks lo hi f → ((l : ℕ) → last ≡ Some l → l % blocks ≤ f)
+        → ((e k : ℕ) → e < first → IsAskedKey code lo hi last e k → ⊥) → ((l : ℕ) → last ≡ Some l → first ≡ l % code) → ⊥
+    not_before lo hi None first blocks code f same less (k, home, low, high) behind skips at =
+        skips f k less (record { home = ap (λ (n : ℕ). k % n) same ∙ home; low = low; high = high; after = refl })
+    not_before lo hi (Some l) first blocks code f same less key behind skips at =
+        let is = at l refl in let le = behind l refl in let bs = ap (λ (n : ℕ). l % n) same in omega (arith, is, le, bs, less)
+
+below : (n end blocks : ℕ) → n < end → end ≤ blocks → n < blocks
+below n end blocks lt le = omega (arith, lt, le)
 
 pub next_in-requires-clause-going : goal.next_in-requires-clause-going
 next_in-requires-clause-going g c = c.loop-g.invariant.logs.failed
@@ -52,13 +58,14 @@ pub next_in-requires-clause-table : goal.next_in-requires-clause-table
 next_in-requires-clause-table g c = subst (λ (z : Shape). (1 ≤ c.args.cursor.now.table) × (c.args.cursor.now.table ≤ z.tables)) (sym c.loop-g.invariant.logs.same_shape) c.requires.table
 
 pub next_in-requires-clause-there : goal.next_in-requires-clause-there
-next_in-requires-clause-there g c = subst (λ (z : Shape). c.loop-g.g < z.blocks) (c.shape-blocks.ensures.shape ∙ sym c.loop-g.invariant.logs.same_shape) c.loop-g-test.true
+next_in-requires-clause-there g c =
+    subst (λ (z : Shape). c.loop-g.g < z.blocks) (c.shape-blocks.ensures.shape ∙ sym c.loop-g.invariant.logs.same_shape) (below c.loop-g.g c.end_home-end.result c.shape-blocks.result.blocks c.loop-g-test.true c.end_home-end.ensures.within)
 
 pub next_in-requires-clause-begins : goal.next_in-requires-clause-begins
 next_in-requires-clause-begins g c =
     let e = c.first_home-first.ensures in
     subst (λ (z : Shape). Begins z.blocks c.first_home-first.result c.loop-g.g c.args.cursor.now.last) (c.shape-blocks.ensures.shape ∙ sym c.loop-g.invariant.logs.same_shape)
-    (c.loop-g.auto.g, e.first, e.last)
+    (c.loop-g.auto.g, e.last)
 
 -- the same fault behind the homes that were cleaned
 pub returns-in-Err-clause-found : goal.returns-in-Err-clause-found
@@ -71,7 +78,7 @@ returns-in-Err-clause-found g c = λ told h xids serves.
     let before = inv.cleaned told h xids serves in
     let served = serves_mid s told (laws_of g) h xids m c.loop-g.g old mid mid inv.logs.same_shape inv.logs.same_slots refl serves before in
     let both = c.in-Err.ensures.old told h xids served in
-    let there : c.loop-g.g < h.shape.blocks = subst (λ (z : Shape). c.loop-g.g < z.blocks) (c.shape-blocks.ensures.shape ∙ serves.shape) c.loop-g-test.true in (
+    let there : c.loop-g.g < h.shape.blocks = subst (λ (z : Shape). c.loop-g.g < z.blocks) (c.shape-blocks.ensures.shape ∙ serves.shape) (below c.loop-g.g c.end_home-end.result c.shape-blocks.result.blocks c.loop-g-test.true c.end_home-end.ensures.within) in (
       c.loop-g.g,
       there,
       inv.none told h xids serves,
@@ -89,7 +96,7 @@ returns-in-Err-clause-cleans g c = λ told h xids serves.
     let new = c.next_in.new.store in
     let inv = c.loop-g.invariant in
     let here = c.in-Err.ensures.cleans told h xids in
-    let there : c.loop-g.g < h.shape.blocks = subst (λ (z : Shape). c.loop-g.g < z.blocks) (c.shape-blocks.ensures.shape ∙ serves.shape) c.loop-g-test.true in
+    let there : c.loop-g.g < h.shape.blocks = subst (λ (z : Shape). c.loop-g.g < z.blocks) (c.shape-blocks.ensures.shape ∙ serves.shape) (below c.loop-g.g c.end_home-end.result c.shape-blocks.result.blocks c.loop-g-test.true c.end_home-end.ensures.within) in
     by (not (is_fault c.in-Err.fault)) c.loop-g.g told h xids serves inv.logs.same_shape inv.logs.same_slots c.in-Err.ensures.logs.1.same_slots (inv.cleaned told h xids serves) (inv.none told h xids serves) there here
   where
     by : (going : Bool) (n : ℕ) (told : g.S.Store.tells) (h : State) (xids : List Xid) → (serves : Serves g.S.Store h xids c.args.cursor.now c.args.store.now)
@@ -130,7 +137,7 @@ returns-in-Ok-true-clause-found g c = λ told h xids serves.
     let env = env_mid s told (laws_of g) h xids m c.loop-g.g old mid mid inv.logs.same_shape inv.logs.same_slots refl serves before in
     let next = (c.in-Ok-true.ensures.told told h xids served).0 c.in-Ok-true.field-0-test in (
       c.loop-g.g,
-      subst (λ (z : Shape). c.loop-g.g < z.blocks) (c.shape-blocks.ensures.shape ∙ serves.shape) c.loop-g-test.true,
+      subst (λ (z : Shape). c.loop-g.g < z.blocks) (c.shape-blocks.ensures.shape ∙ serves.shape) (below c.loop-g.g c.end_home-end.result c.shape-blocks.result.blocks c.loop-g-test.true c.end_home-end.ensures.within),
       inv.none told h xids serves,
       next_same h xids (s.blocks old) (s.blocks mid) m env c.loop-g.g c.next_in.new.row next,
     )
@@ -148,7 +155,7 @@ returns-in-Ok-true-clause-cleans g c = λ told h xids serves.
     let served = serves_mid s told (laws_of g) h xids m n old mid mid inv.logs.same_shape inv.logs.same_slots refl serves before in
     let env = env_mid s told (laws_of g) h xids m n old mid mid inv.logs.same_shape inv.logs.same_slots refl serves before in
     let next : HasNext h xids (s.blocks old) m n c.next_in.new.row = next_same h xids (s.blocks old) (s.blocks mid) m env n c.next_in.new.row ((c.in-Ok-true.ensures.told told h xids served).0 c.in-Ok-true.field-0-test) in
-    let there : n < h.shape.blocks = subst (λ (z : Shape). n < z.blocks) (c.shape-blocks.ensures.shape ∙ serves.shape) c.loop-g-test.true in
+    let there : n < h.shape.blocks = subst (λ (z : Shape). n < z.blocks) (c.shape-blocks.ensures.shape ∙ serves.shape) (below c.loop-g.g c.end_home-end.result c.shape-blocks.result.blocks c.loop-g-test.true c.end_home-end.ensures.within) in
     cleaned_as s told (laws_of g) h xids m (IsBefore h.shape m (n + 1)) (ReadIn h xids (s.blocks old) m) (IsBefore h.shape m (n + 1)) (ReadIn h xids (s.blocks old) m) (n + 1) h.shape.blocks old new
     (read_up_to s told (laws_of g) h xids m n old (inv.none told h xids serves)) (read_no_more s told (laws_of g) h xids m n old c.next_in.new.row next) (omega (arith, there))
     (turned s told (laws_of g) h xids m n old mid new inv.logs.same_shape inv.logs.same_slots c.in-Ok-true.ensures.logs.1.same_slots serves before (c.in-Ok-true.ensures.cleans told h xids))
@@ -172,6 +179,7 @@ loop-g-preserved g c =
     let inv = c.loop-g.invariant in
     let step = c.in-Ok-false.ensures.logs in
     record {
+      there = let bs = ap (λ (z : Shape). z.blocks) c.shape-blocks.ensures.shape in let lt = c.loop-g-test.true in let end = c.end_home-end.ensures.within in omega (arith, bs, lt, end);
       groups = inv.groups ++ step.0;
       logs = more_logs s old mid new inv.groups step.0 true inv.logs step.1;
       young = young_on _ (s.lsn old) (s.lsn mid) (s.lsn new) inv.young (c.in-Ok-false.ensures.young refl);
@@ -189,9 +197,12 @@ loop-g-preserved g c =
     }
 
 pub returns-clause-found : goal.returns-clause-found
-returns-clause-found g c = λ told h xids serves f there.
-    let lt : f < c.shape-blocks.result.blocks = subst (λ (z : Shape). f < z.blocks) (sym (c.shape-blocks.ensures.shape ∙ serves.shape)) there in
-    c.loop-g.invariant.none told h xids serves f (omega (arith, lt, c.loop-g-test.false))
+returns-clause-found g c = λ told h xids serves f there. elim (cases_lt f c.loop-g.g) [
+  | inl less ↦ c.loop-g.invariant.none told h xids serves f less
+  | inr from ↦ λ k asked.
+      let bs = ap (λ (z : Shape). z.blocks) (c.shape-blocks.ensures.shape ∙ serves.shape) in
+      absurd (c.end_home-end.ensures.none f k (let past = c.loop-g-test.false in omega (arith, from, past)) (omega (arith, there, bs)) (ap (λ (n : ℕ). k % n) bs ∙ asked.home) asked.low asked.high)
+]
 
 pub returns-clause-cleans : goal.returns-clause-cleans
 returns-clause-cleans g c = λ told h xids serves.
@@ -202,10 +213,11 @@ returns-clause-cleans g c = λ told h xids serves.
     let n = c.loop-g.g in
     let inv = c.loop-g.invariant in
     let bs : c.shape-blocks.result.blocks ≡ h.shape.blocks = ap (λ (z : Shape). z.blocks) (c.shape-blocks.ensures.shape ∙ serves.shape) in
-    let some = c.first_home-first.ensures.within in
-    let at_end = c.loop-g.auto.g-end in
+    let there : n ≤ h.shape.blocks = subst (λ (z : Shape). n ≤ z.blocks) serves.shape inv.there in
     cleaned_as s told (laws_of g) h xids m (IsBefore h.shape m n) (ReadIn h xids (s.blocks old) m) (IsBefore h.shape m n) (ReadIn h xids (s.blocks old) m) n h.shape.blocks old new
-    (read_by_end s told (laws_of g) h xids m n old (inv.none told h xids serves)) (read_in_table s told (laws_of g) h xids m n old (let past = c.loop-g-test.false in omega (arith, bs, past))) (omega (arith, bs, some, at_end))
+    (read_by_end s told (laws_of g) h xids m n old (inv.none told h xids serves))
+    (read_in_table s told (laws_of g) h xids m n old (λ f from there key. c.end_home-end.ensures.none f key.0 (let past = c.loop-g-test.false in omega (arith, from, past)) (omega (arith, there, bs)) (ap (λ (z : ℕ). key.0 % z) bs ∙ key.1) key.2 key.3))
+    there
     (inv.cleaned told h xids serves)
 
 pub returns-clause-kept : goal.returns-clause-kept

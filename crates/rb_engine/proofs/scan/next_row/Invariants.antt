@@ -10,6 +10,7 @@ use Rattle.rb_engine.proofs.scan.next_row.Given as goal
 
 abbrev pub invariant-loop-g : goal.invariant-loop-g
 invariant-loop-g g l = record {
+  there : l.g ≤ (g.S.Store.shape_of l.fn.store).blocks;
   groups : List (List Patch);
   logs : Logs g.S.Store l.fn.store l.store groups true;
   young : (g.S.Store.lsn l.store ≤ WORN) ⊎ (g.S.Store.lsn l.store ≡ g.S.Store.lsn l.fn.store);
