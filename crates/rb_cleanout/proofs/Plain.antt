@@ -45,3 +45,7 @@ block_stays block none look = clean_stays look (home_of block) (λ i. elim (case
       let kind : 0 ≡ OPEN = ap (λ (e : Entry). e.kind) (sym free) ∙ is in
       absurd (omega (arith, kind))
 ])
+
+-- an Open entry of a block is one of its home
+pub is_open : (block : List ℕ) (i : ℕ) → i < 8 → (e : Entry) → e ≡ entry_at block i → e.kind ≡ OPEN → (home_entry (home_of block) i).kind ≡ OPEN
+is_open block i lt e read kind = ap (λ (f : Entry). f.kind) (entry_read block i free_entry lt ∙ sym read) ∙ kind
