@@ -86,8 +86,9 @@ pub fn has_open_entry<S: Store>(store: &mut S, no: BlockNo) -> Result<bool, Fail
     Ok(has_open(store.block()))
 }
 
-/// Puts the patches that clean block `no` of the store, which is one of rows, into the group, which has none: it has none
-/// then where there is nothing to clean. The store is only loaded from. `Failed` only where a call of the store failed.
+/// Puts the patches that clean block `no` of the store, which is one of rows, into the group, which has none: it still
+/// has none where there is nothing to clean. The store is only loaded from. `Failed` only where a call of the store
+/// failed.
 pub fn plan_clean<S: Store>(store: &mut S, no: BlockNo, group: &mut Group) -> Result<(), Failed>
     requires going { S.failed store.old ≡ false }
     requires there { no < table_blocks (S.shape_of store.old) }

@@ -20,8 +20,8 @@ use rb_model::{Fetched, Row};
 use rb_sessions::Cursor;
 use rb_undoengine::clean_step;
 
-/// Whether no multiple of the number of homes parts the range: then its keys are of the homes from that of its least key
-/// to that of its greatest one.
+/// Whether no multiple of the number of homes parts the range: then its keys are of the homes from that of its least
+/// key to that of its greatest one. Else the range goes round.
 fn is_in_one_round(cursor: &Cursor, blocks: u32) -> bool
     requires { 0 < blocks }
     ensures low { result ≡ true → (k : ℕ) → cursor.now.lo ≤ k → k ≤ cursor.now.hi
