@@ -1,18 +1,21 @@
 //! The next row of a block of a store as it was at a snapshot. Whoever reads rows in the order of their keys calls it.
-ghost use Rattle.std.specs.Prelude.{[], ◌≡◌, ◌<◌, ℕ, true, false, not, None, IfOk, IfErr};
+ghost use Rattle.std.specs.Prelude.{[], ◌≡◌, ◌<◌, ℕ, true, false, not, length, None, IfOk, IfErr};
 ghost use Rattle.std.specs.Result.{is_err};
 ghost use Rattle.rb_base.specs.Blocks.{shape_blocks};
 ghost use Rattle.rb_base.specs.Logs.{Logs};
+ghost use Rattle.rb_base.specs.declared.shape.Shape.{Shape};
 ghost use Rattle.rb_cr.specs.Builds.{IsHomeRead, IsHomeOld};
 ghost use Rattle.rb_cr.specs.Clauses.{answer_to};
 ghost use Rattle.rb_cr.specs.Faults.{is_failed};
 ghost use Rattle.rb_cr.specs.Reads.{Reads};
 ghost use Rattle.rb_cr.specs.Rows.{IsNext, IsWanted};
 ghost use Rattle.rb_cr.specs.Scratches.{scratch_home};
+ghost use Rattle.rb_heap.specs.Homes.{home_of};
 ghost use Rattle.rb_rebuild.specs.Heights.{AtMost};
 ghost use Rattle.rb_rebuild.specs.Reading.{History};
+ghost use Rattle.rb_standing.specs.Says.{walk_entry, walk_home};
 ghost use Rattle.rb_standing.specs.Standing.{env_of, homes_of};
-ghost use Rattle.rb_walk.specs.Walk.{entry_at};
+ghost use Rattle.rb_walk.specs.Walk.{Env, entry_at};
 
 use crate::blocks::build;
 use crate::faults::CrFault;
@@ -22,7 +25,8 @@ use crate::rows::Wanted;
 use crate::scratch::{Scratch, Snapshot};
 use crate::segments::Segments;
 use crate::steps::Steps;
-use rb_base::{BlockNo, Failed, Scn, Store};
+use rb_base::{BlockNo, Failed, Scn, Store, UNIT};
+use rb_itl::{ENTRIES, Entry, OPEN, entry};
 use rb_model::Row;
 use std::marker::Brand;
 use std::sync::ledger::{Blank, Ledger};
@@ -45,7 +49,29 @@ fn is_quiet<S: Segments>(segments: &mut S, scratch: &Scratch, scn: Scn) -> Resul
     }
 }
 
-/// Whether no entry of a block's home is above a snapshot. Its entries alone are read for that.
+/// Whether an entry says by itself that it isn't above a snapshot, however its transaction stands.
+fn is_told_below(entry: &Entry, scn: Scn) -> bool
+    ensures { result ≡ true → (shape : Shape) (env : Env) → AtMost env scn scn (walk_entry shape entry.now) }
+{
+    entry.kind != OPEN && entry.number <= scn
+}
+
+/// Whether each entry of a block of rows says so. Most blocks are found quiet by that, and no header is looked at.
+fn all_told_below(block: &[u8], scn: Scn) -> bool
+    requires { length block.now ≡ UNIT }
+    ensures { result ≡ true → (shape : Shape) (env : Env) (j : ℕ)
+        → AtMost env scn scn (entry_at (walk_home shape (home_of block.now)) j) }
+{
+    for i in 0..ENTRIES {
+        if !is_told_below(&entry(block, i), scn) {
+            return false;
+        }
+    }
+    true
+}
+
+/// Whether no entry of a block's home is above a snapshot. Its entries alone are read for that, and how their
+/// transactions stand where one is Open or tells a greater number.
 pub(crate) fn is_plain<S: Store>(
     store: &mut S,
     block: BlockNo,
@@ -63,6 +89,9 @@ pub(crate) fn is_plain<S: Store>(
     ensures logs { Logs S.Store store.old store.new [] (not (is_err result)) }
 {
     store.load(block)?;
+    if all_told_below(store.block(), scn) {
+        return Ok(true);
+    }
     scratch.decode_entries(store.block());
     is_quiet(store, scratch, scn)
 }

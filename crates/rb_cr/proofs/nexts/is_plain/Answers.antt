@@ -1,11 +1,23 @@
-use Rattle.std.proofs.Common.{rules, ◌≡◌, ℕ, [], Ok, not}
+use Rattle.std.proofs.Common.{rules, ◌≡◌, ℕ, List, [], Ok, not, subst}
 use Rattle.std.specs.Result.{is_err}
+use Rattle.rb_base.specs.Blocks.{block_of}
 use Rattle.rb_base.specs.Logs.{load_logs, more_logs}
 use Rattle.rb_cr.proofs.Tops.{still_busy}
 use Rattle.rb_cr.specs.Scratches.{scratch_home}
+use Rattle.rb_heap.specs.Homes.{home_of}
+use Rattle.rb_rebuild.specs.Heights.{AtMost}
+use Rattle.rb_standing.specs.Says.{walk_home}
 use Rattle.rb_standing.specs.Standing.{env_of, homes_of}
 use Rattle.rb_walk.specs.Walk.{Home, entry_at}
 use Rattle.rb_cr.proofs.nexts.is_plain.Goals as goal
+
+pub returns-then-all_told_below-clause-told : goal.returns-then-all_told_below-clause-told
+returns-then-all_told_below-clause-told g c = λ tells yes j.
+    let s = g.S.Store in
+    let old = c.args.store.now in
+    let env = env_of (s.shape_of old) (s.blocks old) in
+    let same : c.block.result.now ≡ block_of (s.blocks old) c.args.block = search rules in
+    subst (λ (l : List ℕ). AtMost env c.args.scn c.args.scn (entry_at (walk_home (s.shape_of old) (home_of l)) j)) same (c.all_told_below.ensures c.if-all_told_below.true (s.shape_of old) env j)
 
 pub returns-clause-logs : goal.returns-clause-logs
 returns-clause-logs g c =
