@@ -3,3 +3,4 @@ pub mod Copies
 pub mod Grouped
 pub mod Looking
 pub mod Plain
+pub mod Plans

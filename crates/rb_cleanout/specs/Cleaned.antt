@@ -4,7 +4,7 @@ use Rattle.std.specs.Prelude.{if◌then◌else◌, List, length, slice_index_or}
 use Rattle.std.specs.List.{AllByRecursion}
 use Rattle.rb_base.specs.Blocks.{block_of, header_block, written_to}
 use Rattle.rb_base.specs.Copies.{SamePatches}
-use Rattle.rb_base.specs.Groups.{Patch, group_length}
+use Rattle.rb_base.specs.Groups.{IsGroup, Patch, group_length}
 use Rattle.rb_base.specs.declared.ids.Xid.{Xid}
 use Rattle.rb_base.specs.declared.shape.Shape.{Shape}
 use Rattle.rb_base.specs.declared.sizes.TheConstants.{SLOTS}
@@ -56,6 +56,10 @@ pub record LocksCleared (flags : List Bool) (count : ℕ) (old now : Home) : Typ
 -- some entry of the home is Open
 abbrev pub HasOpen : Home → Type 0
 HasOpen home = (i : ℕ) × ((home_entry home i).kind ≡ OPEN)
+
+-- The patches of a group that cleans block b, as one of a store.
+abbrev pub IsPlan : ℕ → List Patch → Type 0
+IsPlan b group = (0 < length group) × IsGroup group × AllByRecursion (IsCleanPatch b) group
 
 -- Patches that clean a block: of the block so patched the home is the cleaned one.
 abbrev pub PlansClean : (Xid → Look) → ℕ → List Patch → List ℕ → Type 0

@@ -1,6 +1,6 @@
 //! Cleans a copy of a block, or a block of a store. Writes of rows and later readers call it.
 ghost use Rattle.std.specs.Prelude.{◌≡◌, ◌≢◌, ◌+◌, ◌*◌, ◌^◌, ◌<◌, ◌≤◌};
-ghost use Rattle.std.specs.Prelude.{ℕ, true, false, not, List, [], length, IfOk, OnOk};
+ghost use Rattle.std.specs.Prelude.{ℕ, true, false, not, List, [], length, IfNone, IfOk, IfSome, OnOk};
 ghost use Rattle.std.specs.List.{AllByRecursion};
 ghost use Rattle.std.specs.Result.{is_err};
 ghost use Rattle.rb_base.specs.Blocks.{block_of, table_blocks, AreBlocks};
@@ -9,7 +9,7 @@ ghost use Rattle.rb_base.specs.Groups.{Patch, group_length};
 ghost use Rattle.rb_base.specs.Logs.{Logs, group_of};
 ghost use Rattle.rb_base.specs.Stores.{room_of};
 ghost use Rattle.rb_base.specs.declared.ids.Xid.{Xid};
-ghost use Rattle.rb_cleanout.specs.Cleaned.{HasOpen, PlansClean, look_of};
+ghost use Rattle.rb_cleanout.specs.Cleaned.{HasOpen, IsPlan, PlansClean, look_of};
 ghost use Rattle.rb_heap.specs.Cleaning.{cleaned_home, IsCleanPatch};
 ghost use Rattle.rb_heap.specs.Homes.{home_of};
 ghost use Rattle.rb_heap.specs.Soundness.{StaysShort};
@@ -70,39 +70,33 @@ fn has_open(block: &[u8]) -> bool
     false
 }
 
-/// Whether block `no` of the store, which is one of rows, has an Open entry. Where it has none there is nothing to
+/// The group of patches that cleans block `no` of the store, which is one of rows; None where there is nothing to
 /// clean. The store is only loaded from. `Failed` only where a call of the store failed.
-pub fn has_open_entry<S: Store>(store: &mut S, no: BlockNo) -> Result<bool, Failed>
+pub fn plan_clean<S: Store>(store: &mut S, no: BlockNo) -> Result<Option<Group>, Failed>
     requires going { S.failed store.old ≡ false }
     requires there { no < table_blocks (S.shape_of store.old) }
     ensures logs { Logs S.Store store.old store.new [] (not (is_err result)) }
-    ensures some { S.tells → IfOk result (λ some. some ≡ true
-        → HasOpen (home_of (block_of (S.blocks store.old) no))) }
-    ensures none { S.tells → IfOk result (λ some. some ≡ false → (look : Xid → Look)
-        → cleaned_home look (home_of (block_of (S.blocks store.old) no))
-        ≡ home_of (block_of (S.blocks store.old) no)) }
-{
-    store.load(no)?;
-    Ok(has_open(store.block()))
-}
-
-/// Puts the patches that clean block `no` of the store, which is one of rows, into the group, which has none: it still
-/// has none where there is nothing to clean. The store is only loaded from. `Failed` only where a call of the store
-/// failed.
-pub fn plan_clean<S: Store>(store: &mut S, no: BlockNo, group: &mut Group) -> Result<(), Failed>
-    requires going { S.failed store.old ≡ false }
-    requires there { no < table_blocks (S.shape_of store.old) }
-    requires empty { group.old ≡ [] }
-    ensures logs { Logs S.Store store.old store.new [] (not (is_err result)) }
-    ensures plan { OnOk result (AllByRecursion (IsCleanPatch no) group.new) }
-    ensures plans { S.tells → OnOk result (PlansClean (look_of (S.shape_of store.old) (S.blocks store.old)) no
-        group.new (block_of (S.blocks store.old) no)) }
+    ensures some { IfOk result (λ plan. IfSome plan (IsPlan no)) }
+    ensures plans { S.tells → IfOk result (λ plan. IfSome plan (λ group.
+        PlansClean (look_of (S.shape_of store.old) (S.blocks store.old)) no group
+        (block_of (S.blocks store.old) no))) }
+    ensures none { S.tells → IfOk result (λ plan. IfNone plan
+        (cleaned_home (look_of (S.shape_of store.old) (S.blocks store.old)) (home_of (block_of (S.blocks store.old) no))
+        ≡ home_of (block_of (S.blocks store.old) no))) }
     ensures whole { S.tells → OnOk result (AreBlocks (S.shape_of store.old) (S.blocks store.old)) }
 {
     store.load(no)?;
+    if !has_open(store.block()) {
+        return Ok(None);
+    }
     let mut copy = [0; UNIT];
     copy.copy_from_slice(store.block());
-    clean_copy(store, no, &mut copy, group)
+    let mut group = Group::new();
+    clean_copy(store, no, &mut copy, &mut group)?;
+    if group.patches() == 0 {
+        return Ok(None);
+    }
+    Ok(Some(group))
 }
 
 /// Cleans block `no` of the store, which is one of rows, by one group of patches, or by none where there is nothing to
@@ -123,10 +117,9 @@ pub fn clean<S: Store>(store: &mut S, no: BlockNo, group: &mut Group) -> Result<
     ensures others { S.tells → OnOk result ((b : ℕ) → b ≢ no
         → block_of (S.blocks store.new) b ≡ block_of (S.blocks store.old) b) }
 {
-    *group = Group::new();
-    plan_clean(store, no, group)?;
-    if group.patches() == 0 {
+    let Some(plan) = plan_clean(store, no)? else {
         return Ok(());
-    }
+    };
+    *group = plan;
     store.apply(group)
 }

@@ -7,5 +7,5 @@ mod blocks;
 mod entries;
 mod locks;
 
-pub use blocks::{CLEAN_BYTES, CLEAN_PATCHES, clean, clean_copy, has_open_entry, plan_clean};
+pub use blocks::{CLEAN_BYTES, CLEAN_PATCHES, clean, clean_copy, plan_clean};
 pub use entries::look_up;

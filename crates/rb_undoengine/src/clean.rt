@@ -15,8 +15,8 @@ ghost use Rattle.rb_model.specs.State.{State};
 ghost use Rattle.rb_segment.specs.Segments.{owed_in};
 ghost use Rattle.rb_standing.specs.Standing.{env_of};
 
-use rb_base::{BlockNo, Failed, Group, Store, WORN};
-use rb_cleanout::{has_open_entry, plan_clean};
+use rb_base::{BlockNo, Failed, Store, WORN};
+use rb_cleanout::plan_clean;
 use rb_segment::owed;
 
 /// Whether the log takes a group at all. A log that is used up is asked first, as each block of its file is still read.
@@ -48,18 +48,12 @@ pub fn clean_step<S: Store>(store: &mut S, no: BlockNo) -> Result<(), Failed>
     if !can_log(store) {
         return Ok(());
     }
-    let unclean = has_open_entry(store, no)?;
-    if !unclean {
+    let Some(plan) = plan_clean(store, no)? else {
         return Ok(());
-    }
-    let mut group = Group::new();
-    plan_clean(store, no, &mut group)?;
-    if group.patches() == 0 {
-        return Ok(());
-    }
+    };
     let needed = owed(store)?;
     if store.room() <= needed {
         return Ok(());
     }
-    store.apply(&group)
+    store.apply(&plan)
 }
