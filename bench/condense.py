@@ -1,5 +1,5 @@
-"""Gives the file of a store the same blocks by as few groups as their bytes need. bench/run measures over such files: a
-log has room for more rows then, and for commits behind them, than where each row is a group.
+"""Gives the file of a store the same blocks by fewer groups, each with as many patches as have room. bench/run measures
+over such files: a log has room for more rows then, and for commits behind them, than where each row is a group.
 
 No run leaves such a file, so what is promised of files isn't promised of it. Its blocks are those that runs left, byte
 by byte but for their log numbers."""
