@@ -67,7 +67,7 @@ module _ {S : Type 0} (s : Ghosts S) (told : s.tells) (laws : Laws s) (h : State
       let single = one.one refl in
       let blocks : s.blocks new ≡ after_groups (s.lsn old + 1) one.groups (s.blocks old) = flush.blocks told refl ∙ one.logs.blocks told refl in
       let made : CommitMade h xids who x (s.blocks old) (s.blocks new) = subst (λ b. CommitMade h xids who x (s.blocks old) b) (sym blocks) (one.made (omega (arith, single))) in
-      (all.0, made.ids, number, λ before. (holds_committed s told laws h xids who x old shape holds before mid new one flush none).1)
+      (all.0, made.ids, number, λ before. (holds_committed s told laws h xids who x old shape holds before mid new one flush none).1, made.group)
   commits_done mid new one (Err fault) flush none =
       let both : Logs s old new one.groups false = subst (λ (l : List (List Patch)). Logs s old new l false) (append-nil one.groups) (more_logs s old mid new one.groups [] false one.logs flush) in
       commits_failed new one.groups one.few both one.made

@@ -61,6 +61,11 @@ refused s old mid new (Err NotAStore) groups first logs none no_memory = λ othe
 refused s old mid new (Err NoMemory) groups first logs none no_memory = absurd (no_memory refl)
 refused s old mid new (Err Failed) groups first logs none no_memory = λ other. absurd (other refl)
 
+-- what is so at any fault
+pub fails_with : {A B : Type 0} (result : Result A B) (X : Type 0) → X → IfErr result (λ (fault : B). X)
+fails_with (Ok value) X is = tt
+fails_with (Err fault) X is = is
+
 -- no group behind the last
 pub loaded_on : {S : Type 0} (s : Ghosts S) (old mid new : S) (groups : List (List Patch)) (going : Bool) → Logs s old mid groups true → Logs s mid new [] going → Logs s old new groups going
 loaded_on s old mid new groups going logs loads = subst (λ (l : List (List Patch)). Logs s old new l going) (append-nil groups) (more_logs s old mid new groups [] going logs loads)

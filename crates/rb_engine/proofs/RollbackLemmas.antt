@@ -1,5 +1,6 @@
 -- What a rollback leaves, change by change, from the groups of its steps.
-use Rattle.std.proofs.Common.{◌≡◌, ◌<◌, ◌≤◌, ◌+◌, ◌-◌, ◌*◌, ◌^◌, ◌∷◌, ◌++◌, inl, inr, ⊎_elim, ℕ, suc, Bool, true, false, not, List, [], length, length-append, map, set, take, Option, Some, None, Result, Ok, Err, OnOk, refl, sym, ◌∙◌, ap, subst, arith}
+use Rattle.std.proofs.Common.{◌≡◌, ◌<◌, ◌≤◌, ◌+◌, ◌-◌, ◌*◌, ◌^◌, ◌∷◌, ◌++◌, inl, inr, ⊎_elim, ℕ, zero, suc, Bool, true, false, not, List, [], length, length-append, map, set, take, Option, Some, None, Result, Ok, Err, OnOk, refl, sym, ◌∙◌, ap, subst, arith}
+use Rattle.std.proofs.Math.Nat.{div-add-mod}
 use Rattle.std.proofs.lemmas.Bool.{cases_lt}
 use Rattle.std.proofs.lemmas.List.{length-set, set-set, take_all}
 use Rattle.std.specs.Result.{is_err}
@@ -19,7 +20,7 @@ use Rattle.rb_engine.proofs.FinishLemmas.{goes, no_early, none_own, own_by, own_
 use Rattle.rb_image.specs.Crash.{MarksGrow, Survives}
 use Rattle.rb_image.specs.Holds.{Holds}
 use Rattle.rb_image.specs.Images.{HasState}
-use Rattle.rb_image.specs.Made.{BackMade, EndMade, GivesOne, KeepsIds}
+use Rattle.rb_image.specs.Made.{BackMade, BackOver, EndMade, GivesOne, KeepsIds, last_record}
 use Rattle.rb_image.proofs.Crashes.{grow_same, has_later, has_state, survives_on}
 use Rattle.rb_image.proofs.Marks.{shrinks_left}
 use Rattle.rb_image.proofs.Owners.{OwnedBy, owned_by, same_owners}
@@ -39,7 +40,9 @@ use Rattle.rb_segment.specs.Calls.{Runs}
 use Rattle.rb_segment.specs.Segments.{commit_scn, owed_in}
 use Rattle.rb_sessions.specs.Kept.{KeptSession, kept_at, rolled_back, with_kept}
 use Rattle.rb_sessions.specs.Kept.{committed as kept_committed, rolled_to as kept_rolled_to}
+use Rattle.rb_standing.specs.Groups.{IsPutBack}
 use Rattle.rb_standing.specs.NextStates.{with_own}
+use Rattle.rb_undoblock.specs.declared.record.UndoRecord.{UndoRecord}
 use Rattle.rb_standing.specs.Standing.{env_of, homes_of, logged_of, segments_of}
 use Rattle.rb_standing.specs.States.{BlocksStand, Owns, lives_of, past_of}
 use Rattle.rb_standing.specs.Values.{slot_of}
@@ -75,6 +78,15 @@ take_kept l kept = ⊎_elim
     (λ (all : length l ≤ kept). take_all (length l - (length l - kept)) l (omega (arith, all)) ∙ sym (take_all kept l all))
     (cases_lt kept (length l))
 
+-- one more is put back, behind all others
+back_more : (shape : Shape) (t n : ℕ) (a b c : List (List ℕ)) → BackOver shape t n a b → IsPutBack shape t (last_record shape b t) b c → BackOver shape t (suc n) a c
+back_more shape t zero a b c same last = (c, subst (λ (z : List (List ℕ)). IsPutBack shape t (last_record shape z t) z c) same last, refl)
+back_more shape t (suc n) a b c (middle, first, rest) last = (middle, first, back_more shape t n middle b c rest last)
+
+-- the slot that a session owns, as its id names it
+slot_named : (h : State) (env : Env) (who t : ℕ) (x : Xid) → IsOwnId h env who (Some x) → Owns h who t → x ≡ env.xid t
+slot_named h env who t x id owns = let same : Some x ≡ Some (env.xid t) = id.owns t owns in cc
+
 module _ {S : Type 0} (s : Ghosts S) where
   -- The state with these changes left is what the store has, so many groups later, and of a crash no more is left.
   pub record IsLeft (h : State) (xids : List Xid) (who : ℕ) (x : Xid) (left : List Change) (turn : ℕ) (old now : S) : Type 0 where
@@ -83,6 +95,7 @@ module _ {S : Type 0} (s : Ghosts S) where
     pub id : IsOwnId (with_own h who left) (env_of h.shape (s.blocks now)) who (Some x)
     pub lsn : s.lsn now ≡ s.lsn old + turn
     pub survives : (before : Option Call) → s.keeps → Survives s (s.slots old) before h (with_own h who left) old now
+    pub back : BackOver h.shape (16 * x.seg + x.slot) turn (s.blocks old) (s.blocks now)
 
   -- a state that a rollback of so many changes starts from
   pub record Starts (h : State) (xids : List Xid) (who : ℕ) (x : Xid) (count : ℕ) (old : S) : Type 0 where
@@ -162,6 +175,15 @@ module _ {S : Type 0} (s : Ghosts S) where
               lsn = let n = one.logs.number refl in let k = one.one refl in omega (arith, n, k, left.lsn);
               survives = λ before keeps. subst (λ (z : State). Survives s (s.slots old) before h z old new) again
                   (survives_on s (s.slots old) h m (with_own m who front) old mid new st.going (left.survives before keeps) (subst (λ (k : Option ℕ). Survives s k before m (with_own m who front) mid new) same.slots ((all before).1 keeps)));
+              back =
+                  let named = slot_named m (env_of h.shape (s.blocks mid)) who made.slot x left.id made.owns in
+                  let parts = div-add-mod made.slot 16 in
+                  let at : made.slot ≡ 16 * x.seg + x.slot = omega (arith, parts, ap (λ (z : Xid). z.seg) named, ap (λ (z : Xid). z.slot) named) in
+                  let put : IsPutBack h.shape (16 * x.seg + x.slot) (last_record h.shape (s.blocks mid) (16 * x.seg + x.slot)) (s.blocks mid) (s.blocks new) =
+                  subst (λ (t : ℕ). IsPutBack h.shape t (last_record h.shape (s.blocks mid) t) (s.blocks mid) (s.blocks new)) at
+                  (subst (λ (u : UndoRecord). IsPutBack h.shape made.slot u (s.blocks mid) (s.blocks new)) (sym made.newest) made.group) in
+                  let next : suc turn ≡ turn + 1 = omega arith in
+                  subst (λ (n : ℕ). BackOver h.shape (16 * x.seg + x.slot) n (s.blocks old) (s.blocks new)) next (back_more h.shape (16 * x.seg + x.slot) turn (s.blocks old) (s.blocks mid) (s.blocks new) left.back put);
             }
 
       -- the end of the slot, once no change is left
@@ -178,6 +200,7 @@ module _ {S : Type 0} (s : Ghosts S) where
             λ before keeps. subst (λ (z : State). Survives s (s.slots old) before h z old new) again
                 (survives_on s (s.slots old) h m (without_owner x.seg x.slot (ended m who cursors)) old mid new st.going (left.survives before keeps)
                 (subst (λ (k : Option ℕ). Survives s k before m (without_owner x.seg x.slot (ended m who cursors)) mid new) same.slots ((all before).1 keeps))),
+            (s.blocks mid, subst (λ (n : ℕ). BackOver h.shape (16 * x.seg + x.slot) n (s.blocks old) (s.blocks mid)) (sym whole) left.back, made.group),
           )
       ends_all whole left false one = λ fault.
           let m : State = with_own h who [] in
@@ -201,6 +224,7 @@ module _ {S : Type 0} (s : Ghosts S) where
           lsn = omega arith;
           survives = λ before keeps. subst (λ (z : State). Survives s (s.slots old) before h z old old) all
               (survives_same s told laws h h xids old old true st.shape refl refl refl st.holds (no_logs s old runs) keeps);
+          back = refl;
         };
   }
 
@@ -265,13 +289,14 @@ module _ {S : Type 0} (s : Ghosts S) where
           }
 
     -- As many are as were asked for.
-    pub some_back : turn ≡ count → s.tells → (h : State) (xids : List Xid) (who kept : ℕ) → count ≡ length (session_own h who) - kept → Starts h xids who x count old → PutsBack s h xids who kept old mid true
+    pub some_back : turn ≡ count → s.tells → (h : State) (xids : List Xid) (who kept : ℕ) → count ≡ length (session_own h who) - kept → Starts h xids who x count old → PutsBack s h xids who kept x old mid true
     some_back is told h xids who kept count_is st =
         let mine = session_own h who in
         let l : IsLeft h xids who x (take (length mine - turn) mine) turn old mid = first.left told h xids who st in
         let front : take (length mine - turn) mine ≡ take kept mine = ap (λ (n : ℕ). take (length mine - n) mine) (is ∙ count_is) ∙ take_kept mine kept in
         let left : IsLeft h xids who x (take kept mine) turn old mid = subst (λ (c : List Change). IsLeft h xids who x c turn old mid) front l in
-        (left.holds, left.ids, (let n = left.lsn in omega (arith, n, is, count_is)), left.survives)
+        (left.holds, left.ids, (let n = left.lsn in omega (arith, n, is, count_is)), left.survives,
+        subst (λ (n : ℕ). BackOver h.shape (16 * x.seg + x.slot) n (s.blocks old) (s.blocks mid)) (is ∙ count_is) left.back)
 
     -- All are.
     pub all_back : Laws s → turn ≡ count → (new : S) (going : Bool) → EndGives mid new x going → s.tells → (h : State) (xids : List Xid) (who : ℕ) → length (session_own h who) ≡ count → Starts h xids who x count old → PutsAllBack s h xids who x old new going
@@ -285,7 +310,7 @@ module _ {S : Type 0} (s : Ghosts S) where
 module _ {S : Type 0} (s : Ghosts S) where
   -- What calls that put back so many changes and went well say of it, as the next step asks for it.
   pub put_back_as : (x : Xid) (count : ℕ) (old mid : S) → (groups : List (List Patch)) × Logs s old mid groups true × (length groups ≤ count)
-      → (s.tells → (h : State) (xids : List Xid) (who kept : ℕ) → s.shape_of old ≡ h.shape → Holds s h xids old → 1 ≤ who → who ≤ length h.sessions → IsOwnId h (env_of h.shape (s.blocks old)) who (Some x) → h.stopped ≡ false → count ≡ length (session_own h who) - kept → PutsBack s h xids who kept old mid true)
+      → (s.tells → (h : State) (xids : List Xid) (who kept : ℕ) → s.shape_of old ≡ h.shape → Holds s h xids old → 1 ≤ who → who ≤ length h.sessions → IsOwnId h (env_of h.shape (s.blocks old)) who (Some x) → h.stopped ≡ false → count ≡ length (session_own h who) - kept → PutsBack s h xids who kept x old mid true)
       → PutBacks s x count count old mid
   put_back_as x count old mid all puts = record {
     groups = all.0;
@@ -301,6 +326,7 @@ module _ {S : Type 0} (s : Ghosts S) where
           id = id_kept h (with_own h who (take kept mine)) (env_of h.shape (s.blocks old)) (env_of h.shape (s.blocks mid)) who (Some x) refl p.1 st.id;
           lsn = let n = p.2 in let own = st.own in omega (arith, n, own);
           survives = p.3;
+          back = let n : length mine - kept ≡ count = let own = st.own in omega (arith, own) in subst (λ (k : ℕ). BackOver h.shape (16 * x.seg + x.slot) k (s.blocks old) (s.blocks mid)) n p.4;
         };
   }
 
@@ -384,7 +410,7 @@ module _ {S : Type 0} (s : Ghosts S) (told : s.tells) (laws : Laws s) (h : State
         (λ before _ keeps. survives_queue bare now.queue now.asked s (s.slots old.store) before h old.store new.store (all.3 before keeps))
 
     -- A rollback to a savepoint that went well.
-    pub does_cut : is_queued who old.memory.waits ≡ false → (name : List ℕ) (p : Savepoint) → savepoint_of h who name ≡ Some p → PutsBack s h held.xids who p.kept old.store new.store true → s.failed new.store ≡ false
+    pub does_cut : is_queued who old.memory.waits ≡ false → (name : List ℕ) (p : Savepoint) → savepoint_of h who name ≡ Some p → PutsBack s h held.xids who p.kept x old.store new.store true → s.failed new.store ≡ false
         → new.memory.sessions ≡ with_kept old.memory.sessions who (kept_rolled_to name p.kept (kept_at old.memory.sessions who)) → new.memory.waits ≡ old.memory.waits → new.memory.scn ≡ old.memory.scn → new.memory.stopped ≡ old.memory.stopped → Does s h (RollbackTo who name) Done old new
     does_cut free name p named done runs table_is waits scn stopped =
         let mine = session_own h who in

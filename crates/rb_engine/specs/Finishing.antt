@@ -1,14 +1,16 @@
 -- What a commit and a rollback leave of a store that has a state, or of which a call failed on the way.
-use Rattle.std.specs.Prelude.{◌≡◌, ◌+◌, ◌-◌, ◌∷◌, ◌++◌, ℕ, Bool, true, false}
+use Rattle.std.specs.Prelude.{◌≡◌, ◌+◌, ◌-◌, ◌*◌, ◌∷◌, ◌++◌, ℕ, Bool, true, false}
 use Rattle.std.specs.Prelude.{length, take, [], Option, Some, List}
 use Rattle.rb_base.specs.declared.ids.Xid.{Xid}
 use Rattle.rb_base.specs.declared.store.Store.{Ghosts}
 use Rattle.rb_image.specs.Crash.{Survives}
 use Rattle.rb_image.specs.Holds.{Holds}
-use Rattle.rb_image.specs.Made.{KeepsIds}
+use Rattle.rb_image.specs.Made.{BackOver, KeepsIds}
 use Rattle.rb_model.specs.Calls.{Call, Commit}
 use Rattle.rb_model.specs.NextState.{committed, ended, without_owner}
+use Rattle.rb_model.specs.Rows.{last_scn}
 use Rattle.rb_model.specs.State.{Cursor, State, session_own}
+use Rattle.rb_standing.specs.Groups.{IsCommitted, IsEnded}
 use Rattle.rb_standing.specs.NextStates.{with_own}
 use Rattle.rb_standing.specs.Standing.{env_of}
 
@@ -26,15 +28,17 @@ Commits s h xids who x old new true = Holds s (committed h who x.seg x.slot) (xi
     × SameIds s h old new × (s.lsn new ≡ s.lsn old + 1)
     × ((before : Option Call) → s.keeps
     → Survives s (s.slots old) before h (committed h who x.seg x.slot) old new)
+    × IsCommitted h.shape (16 * x.seg + x.slot) (last_scn h.commits + 1) (s.blocks old) (s.blocks new)
 Commits s h xids who x old new false = Fails s (Some (Commit who)) h old new
 
--- the put back of its changes but for so many, its first ones
-abbrev pub PutsBack : {S : Type 0} → Ghosts S → State → List Xid → ℕ → ℕ → S → S → Bool → Type 0
-PutsBack s h xids who kept old new true = Holds s (with_own h who (take kept (session_own h who))) xids new
+-- the put back of its changes but for so many, its first ones, by the transaction of that id
+abbrev pub PutsBack : {S : Type 0} → Ghosts S → State → List Xid → ℕ → ℕ → Xid → S → S → Bool → Type 0
+PutsBack s h xids who kept x old new true = Holds s (with_own h who (take kept (session_own h who))) xids new
     × SameIds s h old new × (s.lsn new ≡ s.lsn old + (length (session_own h who) - kept))
     × ((before : Option Call) → s.keeps
     → Survives s (s.slots old) before h (with_own h who (take kept (session_own h who))) old new)
-PutsBack s h xids who kept old new false = (fault : Option Call) → Fails s fault h old new
+    × BackOver h.shape (16 * x.seg + x.slot) (length (session_own h who) - kept) (s.blocks old) (s.blocks new)
+PutsBack s h xids who kept x old new false = (fault : Option Call) → Fails s fault h old new
 
 -- its rollback, whatever cursors it keeps
 abbrev pub PutsAllBack : {S : Type 0} → Ghosts S → State → List Xid → ℕ → Xid → S → S → Bool
@@ -44,4 +48,7 @@ PutsAllBack s h xids who x old new true = (cursors : List Cursor)
     × SameIds s h old new × (s.lsn new ≡ s.lsn old + (length (session_own h who) + 1))
     × ((before : Option Call) → s.keeps
     → Survives s (s.slots old) before h (without_owner x.seg x.slot (ended h who cursors)) old new)
+    × ((middle : List (List ℕ))
+    × BackOver h.shape (16 * x.seg + x.slot) (length (session_own h who)) (s.blocks old) middle
+    × IsEnded h.shape (16 * x.seg + x.slot) middle (s.blocks new))
 PutsAllBack s h xids who x old new false = (fault : Option Call) → Fails s fault h old new

@@ -65,7 +65,7 @@ pub fn put_back<T: Store>(
         → Holds T.Store h xids store.old → 1 ≤ who → who ≤ length h.sessions
         → IsOwnId h (env_of h.shape (T.blocks store.old)) who (Some xid) → h.stopped ≡ false
         → count ≡ length (session_own h who) - kept
-        → PutsBack T.Store h xids who kept store.old store.new (not (is_err result)) }
+        → PutsBack T.Store h xids who kept xid store.old store.new (not (is_err result)) }
     ensures logs { (groups : List (List Patch))
         × Logs T.Store store.old store.new groups (not (is_err result)) × (length groups ≤ count) }
     ensures lsn { OnOk result (T.lsn store.new ≤ T.lsn store.old + count) }

@@ -1,5 +1,5 @@
 //! Opens a store: puts back what was under way in its blocks. `Engine` is made here.
-ghost use Rattle.std.specs.Prelude.{◌≡◌, ◌≢◌, ℕ, ◌+◌, ◌^◌, ◌≤◌, [], replicate};
+ghost use Rattle.std.specs.Prelude.{◌≡◌, ◌≢◌, ℕ, ◌+◌, ◌^◌, ◌≤◌, [], replicate, Bool};
 ghost use Rattle.std.specs.Prelude.{IfOk, IfErr, OnOk, not, true, false};
 ghost use Rattle.std.specs.Result.{is_err};
 ghost use Rattle.rb_base.specs.Counts.{IsCountedAs, err_is, is_failed};
@@ -53,6 +53,9 @@ fn open_memory<T: Store>(store: &mut T) -> Result<Memory, OpenFault>
         → StaysOpen T.Store h store.old store.new }
     ensures unchanged { IfErr result (λ fault. fault ≢ OpenFault.Failed
         → Logs T.Store store.old store.new [] true) }
+    ensures untouched { T.tells
+        → ¬ CanOpen (T.shape_of store.old) (T.blocks store.old) (room_of (T.slots store.old) (T.lsn store.old))
+        → IfErr result (λ fault. (going : Bool) × Logs T.Store store.old store.new [] going) }
     ensures sound { T.tells → OnOk result
         (CanOpen (T.shape_of store.old) (T.blocks store.old) (room_of (T.slots store.old) (T.lsn store.old))) }
     ensures none { T.tells → IfErr result (λ fault. fault ≡ OpenFault.NotAStore
@@ -74,6 +77,8 @@ fn open_with<T: Store>(scratch: Scratch, store: T) -> Result<Engine<T>, (OpenFau
     ensures stays { T.tells → (h : State) → OpensTo T.Store h store
         → IfErr result (λ r. StaysOpen T.Store h store r.1) }
     ensures unchanged { IfErr result (λ r. r.0 ≢ OpenFault.Failed → Logs T.Store store r.1 [] true) }
+    ensures untouched { T.tells → ¬ CanOpen (T.shape_of store) (T.blocks store) (room_of (T.slots store) (T.lsn store))
+        → IfErr result (λ r. (going : Bool) × Logs T.Store store r.1 [] going) }
     ensures sound { T.tells → OnOk result
         (CanOpen (T.shape_of store) (T.blocks store) (room_of (T.slots store) (T.lsn store))) }
     ensures none { T.tells → IfErr result (λ r. r.0 ≡ OpenFault.NotAStore
@@ -106,6 +111,8 @@ impl<T: Store> Engine<T> {
         ensures stays { T.tells → (h : State) → OpensTo T.Store h store
             → IfErr result (λ r. StaysOpen T.Store h store r.1) }
         ensures unchanged { IfErr result (λ r. r.0 ≢ OpenFault.Failed → Logs T.Store store r.1 [] true) }
+    ensures untouched { T.tells → ¬ CanOpen (T.shape_of store) (T.blocks store) (room_of (T.slots store) (T.lsn store))
+        → IfErr result (λ r. (going : Bool) × Logs T.Store store r.1 [] going) }
         ensures sound { T.tells → OnOk result
             (CanOpen (T.shape_of store) (T.blocks store) (room_of (T.slots store) (T.lsn store))) }
         ensures none { T.tells → IfErr result (λ r. r.0 ≡ OpenFault.NotAStore

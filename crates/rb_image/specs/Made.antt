@@ -1,10 +1,11 @@
 -- What one group makes of blocks that stand for a state, by each step of a session: a write, the put back of a change,
 -- a commit, the end of a transaction without one, the cleaning of a block that is read.
-use Rattle.std.specs.Prelude.{◌≡◌, ◌≢◌, ◌⊎◌, ◌<◌, ◌≤◌, ◌+◌, ◌∷◌, ◌++◌, ℕ}
+use Rattle.std.specs.Prelude.{◌≡◌, ◌≢◌, ◌⊎◌, ◌<◌, ◌≤◌, ◌+◌, ◌*◌, ◌/◌, ◌∷◌, ◌++◌, ℕ, zero, suc}
 use Rattle.std.specs.Prelude.{Bool, true, List, [], length, Some}
-use Rattle.rb_base.specs.Blocks.{after_groups, block_of, table_blocks}
+use Rattle.rb_base.specs.Blocks.{after_groups, block_of, home_block, table_blocks}
 use Rattle.rb_base.specs.Groups.{Patch}
 use Rattle.rb_base.specs.Logs.{Logs}
+use Rattle.rb_base.specs.declared.ids.Uba.{Uba}
 use Rattle.rb_base.specs.declared.ids.Xid.{Xid}
 use Rattle.rb_base.specs.declared.shape.Shape.{Shape}
 use Rattle.rb_base.specs.declared.store.Store.{Ghosts}
@@ -12,15 +13,22 @@ use Rattle.rb_heap.specs.Cleaning.{cleaned_home}
 use Rattle.rb_heap.specs.Homes.{home_entry, home_of}
 use Rattle.rb_itl.specs.declared.slots.Entry.{Entry}
 use Rattle.rb_itl.specs.declared.slots.TheConstants.{BOUND, EXACT, OPEN}
-use Rattle.rb_model.specs.Calls.{Action, Done, WritesIn, first_of, write_tests}
+use Rattle.rb_model.specs.Calls.{Action, Done, WritesIn, adds, first_of, write_tests}
 use Rattle.rb_model.specs.Change.{Change}
-use Rattle.rb_model.specs.NextState.{change_in, committed, ended, without_owner, written}
-use Rattle.rb_model.specs.State.{Cursor, State}
+use Rattle.rb_model.specs.NextState.{change_in, committed, ended, kind_by, without_owner, written}
+use Rattle.rb_model.specs.Rows.{last_scn}
+use Rattle.rb_model.specs.State.{Cursor, State, session_own}
+use Rattle.rb_segment.specs.Header.{record_in}
 use Rattle.rb_segment.specs.Segments.{owed_in}
+use Rattle.rb_standing.specs.Groups.{IsCommitted, IsEnded, IsPutBack}
 use Rattle.rb_standing.specs.NextStates.{with_own}
 use Rattle.rb_standing.specs.Standing.{env_of, logged_of, segments_of}
 use Rattle.rb_standing.specs.States.{BlocksStand, Owns}
+use Rattle.rb_standing.specs.Values.{slot_of}
+use Rattle.rb_standing.specs.Writing.{IsWritten}
 use Rattle.rb_txntable.specs.declared.looks.Look.TheVariants.{At, Before}
+use Rattle.rb_undoblock.specs.Undo.{undo_at}
+use Rattle.rb_undoblock.specs.declared.record.UndoRecord.{UndoRecord}
 use Rattle.rb_verdict.specs.Verdict.{IsOwnId}
 use Rattle.rb_walk.specs.Walk.{Env}
 
@@ -71,6 +79,24 @@ pub record WriteMade (h : State) (xids : List Xid) (s table key : ℕ) (action :
   pub ids : KeepsIds h (env_of h.shape before) (env_of h.shape now)
   pub fits : owed_in h.shape now + 1 ≤ room
   pub tells : TellsLooks h.shape before now
+  -- the record of its change, and where it is, which says all that the group changes
+  pub address : Uba
+  pub undo : UndoRecord
+  pub of_table : undo.table ≡ table
+  pub of_key : undo.key ≡ key
+  pub of_home : undo.home ≡ home_block h.shape table key
+  pub group : IsWritten h.shape (16 * x.seg + x.slot) (adds action) (kind_by action) address undo before now
+
+-- the newest live record of slot t
+abbrev pub last_record : Shape → List (List ℕ) → ℕ → UndoRecord
+last_record shape blocks t = undo_at (block_of blocks (slot_of (segments_of shape blocks) t).newest_at.block)
+    (slot_of (segments_of shape blocks) t).newest_at.rec
+
+-- So many changes of slot t are put back, the newest first, each as its record keeps it.
+abbrev pub BackOver : Shape → (t : ℕ) → ℕ → (before now : List (List ℕ)) → Type 0
+BackOver shape t zero before now = now ≡ before
+BackOver shape t (suc n) before now = (middle : List (List ℕ))
+    × IsPutBack shape t (last_record shape before t) before middle × BackOver shape t n middle now
 
 -- The put back of the last change of session s, which has these left.
 pub record BackMade (h : State) (xids : List Xid) (s : ℕ) (front : List Change) (before now : List (List ℕ)) : Type
@@ -79,6 +105,15 @@ pub record BackMade (h : State) (xids : List Xid) (s : ℕ) (front : List Change
   pub last : logged_of h.shape now ≡ logged_of h.shape before + 1
   pub ids : KeepsIds h (env_of h.shape before) (env_of h.shape now)
   pub owed : owed_in h.shape now + 1 ≤ owed_in h.shape before
+  -- its slot, the change, and the record of it, which says all that the group changes
+  pub slot : ℕ
+  pub owns : Owns h s slot
+  pub change : Change
+  pub own : session_own h s ≡ front ++ change ∷ []
+  pub undo : UndoRecord
+  pub there : record_in (segments_of h.shape before (slot / 16)) change.place.index ≡ Some undo
+  pub newest : last_record h.shape before slot ≡ undo
+  pub group : IsPutBack h.shape slot undo before now
 
 -- A commit of session s, whose transaction has that id.
 pub record CommitMade (h : State) (xids : List Xid) (s : ℕ) (x : Xid) (before now : List (List ℕ)) : Type 0 where
@@ -86,6 +121,8 @@ pub record CommitMade (h : State) (xids : List Xid) (s : ℕ) (x : Xid) (before 
   pub ids : KeepsIds h (env_of h.shape before) (env_of h.shape now)
   pub last : logged_of h.shape now ≡ logged_of h.shape before + 1
   pub owed : owed_in h.shape now + 1 ≤ owed_in h.shape before
+  -- the group changes its header alone, and that so
+  pub group : IsCommitted h.shape (16 * x.seg + x.slot) (last_scn h.commits + 1) before now
 
 -- The end of its transaction, which has no live change, whatever cursors it keeps.
 pub record EndMade (h : State) (xids : List Xid) (s : ℕ) (x : Xid) (before now : List (List ℕ)) : Type 0 where
@@ -93,6 +130,8 @@ pub record EndMade (h : State) (xids : List Xid) (s : ℕ) (x : Xid) (before now
   pub ids : KeepsIds h (env_of h.shape before) (env_of h.shape now)
   pub last : logged_of h.shape now ≡ logged_of h.shape before + 1
   pub owed : owed_in h.shape now + 1 ≤ owed_in h.shape before
+  -- the group changes its header alone, and that so
+  pub group : IsEnded h.shape (16 * x.seg + x.slot) before now
 
 -- Block b of rows is cleaned of the transactions that have ended, in a log with so much room; no other block changes.
 -- There is room for what puts all live changes back.

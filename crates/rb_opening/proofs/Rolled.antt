@@ -59,6 +59,12 @@ failed s old new result groups fault logs few stay =
     other : (let r : Result (Unit {0}) OpenFault = Err Failed in r) ≡ Err NotAStore → groups ≡ []
     other is = cc
 
+-- where a call of the store failed before any group
+pub failed_first : {S : Type 0} (s : Ghosts S) (old new : S) (result : Result (Unit {0}) OpenFault) → IsErrAnd result (λ (fault : OpenFault). fault ≡ Failed) → Logs s old new [] false → Logs s old new [] (not (err_is is_failed result))
+failed_first s old new result fault logs =
+    let p = err_from_is_err_and result fault in
+    subst (λ (r : Result (Unit {0}) OpenFault). Logs s old new [] (not (err_is is_failed r))) (sym (p.1 ∙ ap (λ (x : OpenFault). Err x) p.2)) logs
+
 -- the machine's state that they leave
 pub opened_by : {S : Type 0} (s : Ghosts S) (old new : S) (groups : List (List Patch)) → Logs s old new groups true → s.tells → (number : ℕ) (rows : List TableRow) → IsShape (s.shape_of old) → s.lsn old ≡ logged_of (s.shape_of old) (s.blocks old)
     → StaySound (s.shape_of old) number rows (s.lsn old) groups (s.blocks old) → RolledBack (s.shape_of old) groups (s.blocks old) (s.blocks new)

@@ -47,6 +47,9 @@ pub fn open_blocks<S: Store>(store: &mut S) -> Result<(), OpenFault>
     ensures sound { S.tells → OnOk result
         (CanOpen (S.shape_of store.old) (S.blocks store.old) (room_of (S.slots store.old) (S.lsn store.old))) }
     ensures no_memory { ¬ IsErrOf result OpenFault.NoMemory }
+    ensures untouched { S.tells
+        → ¬ CanOpen (S.shape_of store.old) (S.blocks store.old) (room_of (S.slots store.old) (S.lsn store.old))
+        → Logs S.Store store.old store.new [] (not (err_is is_failed result)) }
     ensures rolled_back { (groups : List (List Patch))
         × Logs S.Store store.old store.new groups (not (err_is is_failed result))
         × (IsErrOf result OpenFault.NotAStore → groups ≡ [])

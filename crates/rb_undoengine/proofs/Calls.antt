@@ -1,5 +1,5 @@
 -- What an attempt over a store tells of a write is the machine's answer, and its next state.
-use Rattle.std.proofs.Common.{◌≡◌, ◌<◌, ◌≤◌, ◌+◌, ◌*◌, ◌^◌, ℕ, true, false, not, List, [], ◌∷◌, length, Result, Ok, Err, IfOk, IfErr, OnOk, refl, sym, ap, subst, arith}
+use Rattle.std.proofs.Common.{◌≡◌, ◌<◌, ◌≤◌, ◌+◌, ◌*◌, ◌^◌, ℕ, Bool, true, false, not, List, [], ◌∷◌, length, Result, Ok, Err, IfOk, IfErr, OnOk, refl, sym, ap, subst, arith}
 use Rattle.rb_attempt.specs.Asks.{IsWriterOf, adds_row, home_for, kind_of}
 use Rattle.rb_attempt.specs.Making.{MakesIfAny}
 use Rattle.rb_attempt.specs.Refusals.{Refuses, TakesWrite, has_failed}
@@ -15,7 +15,8 @@ use Rattle.rb_base.specs.declared.shape.Shape.{Shape}
 use Rattle.rb_base.specs.declared.sizes.TheConstants.{WORN}
 use Rattle.rb_base.specs.declared.store.Store.{Ghosts}
 use Rattle.rb_image.specs.Made.{GivesOne, WriteMade}
-use Rattle.rb_model.specs.Calls.{Answer, Done, Refused, WritesIn, first_of, write_tests}
+use Rattle.rb_model.specs.Change.{Kind}
+use Rattle.rb_model.specs.Calls.{Answer, Done, Refused, WritesIn, adds, first_of, write_tests}
 use Rattle.rb_model.specs.State.{State}
 use Rattle.rb_segment.specs.Header.{Header}
 use Rattle.rb_standing.specs.Standing.{homes_of, logged_of, segments_of}
@@ -24,6 +25,7 @@ use Rattle.rb_undoblock.specs.declared.record.UndoRecord.{UndoRecord}
 use Rattle.rb_undoengine.specs.StepLaws.{IsAsked}
 use Rattle.rb_model.specs.Answers.{action_by}
 use Rattle.rb_undoengine.specs.Steps.{IsAbout, MayWrite, refusal_of, kept_room}
+use Rattle.rb_undoengine.proofs.Firsts.{adds_is, kind_is}
 use Rattle.rb_undoengine.proofs.Done.{answered, fits_is, id_is, ids_are, stands}
 use Rattle.rb_undoengine.proofs.HomeWords.{which_in}
 use Rattle.rb_undoengine.proofs.Logged.{write_logged}
@@ -94,6 +96,14 @@ module _ {S : Type 0} (store : Ghosts S) (told : store.tells) (old new : S) (h :
           id = id_is h xids Before now s Room ask about s_in first last mine x w.2 w.3 w.0 w.1 asked takes w.8 early enough few;
           fits = fits_is h xids Before now s Room ask about s_in first last mine x w.2 w.3 w.0 w.1 asked takes w.8 early enough few;
           tells = write_tells h xids Before now (16 * x.seg + x.slot) (adds_row ask.op) (kind_of ask.op) w.0 w.1 about.stand t_in w.8;
+          address = w.0;
+          undo = w.1;
+          of_table = w.4;
+          of_key = w.5;
+          of_home = w.7;
+          group =
+              subst (λ (k : Kind). IsWritten h.shape (16 * x.seg + x.slot) (adds (action_by ask.op)) k w.0 w.1 Before now) (sym (kind_is ask.op))
+              (subst (λ (b : Bool). IsWritten h.shape (16 * x.seg + x.slot) b (kind_of ask.op) w.0 w.1 Before now) (sym (adds_is ask.op)) w.8);
         }
 
   -- what a group makes, where one is given

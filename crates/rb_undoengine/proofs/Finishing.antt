@@ -191,6 +191,7 @@ module _ (h : State) (xids : List Xid) (before now : List (List ℕ)) (s : ℕ) 
           ids = λ r v mine. ids_committed h xids before now stand s T t_in owns is v;
           last = logged;
           owed = omega (arith, less, moved_segments, a, b);
+          group = subst (λ (k : ℕ). IsCommitted h.shape T k before now) (sym number ∙ next) is;
         }
       where
         xid_is : xid_by (segments_of h.shape before) T ≡ x
@@ -221,4 +222,5 @@ module _ (h : State) (xids : List Xid) (before now : List (List ℕ)) (s : ℕ) 
           ids = λ r v mine. ids_ended h xids before now stand s T t_in owns empty is v;
           last = logged;
           owed = omega (arith, less, moved_segments, a, b);
+          group = is;
         }

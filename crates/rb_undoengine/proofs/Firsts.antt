@@ -22,7 +22,7 @@ use Rattle.rb_verdict.specs.Verdict as verdict
 use Rattle.rb_verdict.specs.Verdict.{Verdict, tested}
 
 -- an operation, or the lock without one, adds a row or not, and is of a kind, in both words
-adds_is : (op : Option Op) → adds (action_by op) ≡ adds_row op
+pub adds_is : (op : Option Op) → adds (action_by op) ≡ adds_row op
 adds_is (Some (Insert value)) = refl
 adds_is (Some (Update value)) = refl
 adds_is (Some Delete) = refl

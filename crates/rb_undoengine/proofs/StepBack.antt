@@ -20,7 +20,7 @@ use Rattle.rb_segment.specs.Segments.{commit_scn, owed_in}
 use Rattle.rb_standing.specs.Groups.{IsPutBack}
 use Rattle.rb_standing.proofs.OwedMoves.{owed_back}
 use Rattle.rb_standing.proofs.StandingBack.{xid_back}
-use Rattle.rb_image.specs.Made.{BackMade}
+use Rattle.rb_image.specs.Made.{BackMade, last_record}
 use Rattle.rb_standing.specs.NextStates.{with_own}
 use Rattle.rb_standing.specs.Says.{xid_by}
 use Rattle.rb_standing.specs.Standing.{env_of, homes_of, logged_of, segments_of}
@@ -44,6 +44,7 @@ record Newest (h : State) (blocks : List (List ℕ)) (t wrap : ℕ) (c : model.C
   there : record_in (segments_of h.shape blocks (t / 16)) c.place.index ≡ Some u
   can : CanBack h.shape blocks (xid_of t wrap)
   read : newest_record h.shape blocks (xid_of t wrap) ≡ u
+  reads : last_record h.shape blocks t ≡ u
 
 module _ (h : State) (xids : List Xid) (before : List (List ℕ)) (stand : BlocksStand h xids before) (s t wrap : ℕ) (t_in : t < 16 * h.shape.segments) (owns : Owns h s t) (front : List model.Change) (c : model.Change) (runs : Runs (header_in h.shape before (t / 16)) (xid_of t wrap)) (own_is : session_own h s ≡ front ++ c ∷ []) where
   abbrev Segs : ℕ → Segment
@@ -95,6 +96,7 @@ module _ (h : State) (xids : List Xid) (before : List (List ℕ)) (stand : Block
           cell = subst (λ (z : UndoRecord). z.cell < 16) (sym read) listed.4.6.cell;
         };
         read = read;
+        reads = reads;
       }
 
   can_at : CanBack h.shape before X
@@ -155,5 +157,13 @@ back_is h xids before stand s x there few owned runs front c own_is =
         last = logged_at h xids before stand s t x.wrap t_in owns front c running own_is now valid made takes;
         ids = λ r v mine. ids_at h xids before stand s t x.wrap t_in owns front c running own_is now valid made takes v;
         owed = owed_at h xids before stand s t x.wrap t_in owns front c running own_is now valid made takes;
+        slot = t;
+        owns = owns;
+        change = c;
+        own = own_is;
+        undo = (newest h xids before stand s t x.wrap t_in owns front c running own_is).u;
+        there = (newest h xids before stand s t x.wrap t_in owns front c running own_is).there;
+        newest = (newest h xids before stand s t x.wrap t_in owns front c running own_is).reads;
+        group = puts h xids before stand s t x.wrap t_in owns front c running own_is now valid made takes;
       };
     })

@@ -36,7 +36,7 @@ returns-in_err-back_step-clause-puts_back g c = λ told h xids who kept shape ho
     let old = c.args.store.now in
     let new = c.back_step.new.store in
     let start : Starts s h xids who x c.args.count old = record { shape = shape; holds = holds; low = low; high = high; id = mine; going = going; own = omega (arith, count) } in
-    subst (λ (b : Bool). PutsBack s h xids who kept old new (not b)) (sym c.from_residual.ensures.0)
+    subst (λ (b : Bool). PutsBack s h xids who kept c.args.xid old new (not b)) (sym c.from_residual.ensures.0)
     (one_fails s x c.args.count c.loop-change._change old c.loop-change.store c.loop-change.invariant (laws_of g) c.loop-change-test.true new c.in_err-back_step.ensures.gives told h xids who start)
 
 pub returns-in_err-back_step-clause-logs : goal.returns-in_err-back_step-clause-logs

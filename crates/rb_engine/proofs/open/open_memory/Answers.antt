@@ -1,7 +1,11 @@
-use Rattle.std.proofs.Common.{◌≡◌, ◌≢◌, [], Err, true, rules}
+use Rattle.std.proofs.Common.{◌≡◌, ◌≢◌, ℕ, List, Option, [], Err, true, false, Bool, not, rules}
 use Rattle.rb_base.specs.Logs.{Laws, Logs, more_logs}
 use Rattle.rb_base.specs.declared.faults.OpenFault.TheVariants.{Failed}
-use Rattle.rb_engine.proofs.OpenLemmas.{in_step, moved, opened_engine, refused, stays, unchanged_stays}
+use Rattle.rb_engine.proofs.OpenLemmas.{fails_with, in_step, moved, opened_engine, refused, stays, unchanged_stays}
+use Rattle.rb_base.specs.Counts.{err_is, is_failed}
+use Rattle.rb_base.specs.Stores.{room_of}
+use Rattle.rb_base.specs.declared.shape.Shape.{Shape}
+use Rattle.rb_opening.specs.Opens.{CanOpen}
 use Rattle.rb_restart.specs.Rollback.{RolledBack, StaySound}
 use Rattle.rb_standing.specs.Standing.{SoundAs, logged_of}
 use Rattle.rb_engine.proofs.open.open_memory.Given.{Over}
@@ -76,3 +80,18 @@ returns-clause-opened g c = λ told h opens.
     let both = moved s old mid (λ shape slots lsn blocks. lsn ≡ logged_of shape blocks → SoundAs shape blocks opens.opening.number opens.opening.rows → StaySound shape opens.opening.number opens.opening.rows lsn back.0 blocks × RolledBack shape back.0 blocks (s.blocks new)) first.logs told
     (λ logged sound. back.4 opens.opening.number opens.opening.rows told logged sound) opens.logged opens.opening.sound in
     opened_engine s (laws_of g) told h old opens new back.0 logs both.0 both.1 c.in_ok-memory.memory first.sessions first.waits (first.scn told) first.going
+
+pub returns-in_err-memory-clause-untouched : goal.returns-in_err-memory-clause-untouched
+returns-in_err-memory-clause-untouched g c = λ told cannot. fails_with _ _ (false, c.in_err-memory.ensures.logs)
+
+pub returns-in_err-open_blocks-clause-untouched : goal.returns-in_err-open_blocks-clause-untouched
+returns-in_err-open_blocks-clause-untouched g c = λ told cannot.
+    let s = g.T.Store in
+    let old = c.args.store.now in
+    let mid = c.new_memory.new.store in
+    let new = c.open_blocks.new.store in
+    let going = not (err_is is_failed c.open_blocks.result) in
+    let first = c.in_ok-memory.ensures.logs in
+    let none = moved s old mid (λ (shape : Shape) (slots : Option ℕ) (lsn : ℕ) (blocks : List (List ℕ)). (CanOpen shape blocks (room_of slots lsn) → ⊥) → Logs s mid new [] going) first told
+    (c.in_err-open_blocks.ensures.untouched told) cannot in
+    fails_with _ _ (going, more_logs s old mid new [] [] going first none)

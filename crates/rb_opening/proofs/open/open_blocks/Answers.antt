@@ -2,7 +2,7 @@ use Rattle.std.proofs.Common.{◌≡◌, [], true, false, arith, Result, Ok, Err
 use Rattle.rb_base.specs.Logs.{more_logs}
 use Rattle.rb_base.specs.declared.faults.OpenFault.{OpenFault}
 use Rattle.rb_base.specs.declared.faults.OpenFault.TheVariants.{NotAStore}
-use Rattle.rb_opening.proofs.Rolled.{failed, moved, none_sound, opened_by}
+use Rattle.rb_opening.proofs.Rolled.{failed, failed_first, moved, none_sound, opened_by}
 use Rattle.rb_opening.proofs.open.open_blocks.Goals as goal
 
 pub returns-in_err-can_open-clause-rolled_back : goal.returns-in_err-can_open-clause-rolled_back
@@ -52,3 +52,16 @@ returns-clause-stands g c told number rows in_range logged sound =
     let can = (c.in_ok-can_open.ensures.told told).0 c.if-not-branch.false in
     let back = moved s old mid rolled.0 (Ok tt) (s.blocks new) loads told (λ number rows. rolled.3 number rows told) number rows logged sound can.fits in
     opened_by s old new rolled.0 (more_logs s old mid new [] rolled.0 true loads rolled.1) told number rows in_range logged back.0 back.1
+
+pub returns-in_err-can_open-clause-untouched : goal.returns-in_err-can_open-clause-untouched
+returns-in_err-can_open-clause-untouched g c = λ told cannot.
+    failed_first g.S.Store c.args.store.now c.can_open.new.store c.from_residual.result c.from_residual.ensures.1 c.in_err-can_open.ensures.logs
+
+pub returns-then-not-branch-clause-untouched : goal.returns-then-not-branch-clause-untouched
+returns-then-not-branch-clause-untouched g c = λ told cannot. c.in_ok-can_open.ensures.logs
+
+pub returns-in_err-roll_back_all-clause-untouched : goal.returns-in_err-roll_back_all-clause-untouched
+returns-in_err-roll_back_all-clause-untouched g c = λ told cannot. absurd (cannot ((c.in_ok-can_open.ensures.told told).0 c.if-not-branch.false))
+
+pub returns-clause-untouched : goal.returns-clause-untouched
+returns-clause-untouched g c = λ told cannot. absurd (cannot ((c.in_ok-can_open.ensures.told told).0 c.if-not-branch.false))
