@@ -10,6 +10,7 @@ use Rattle.rb_base.specs.Stores.{room_of}
 use Rattle.rb_base.specs.declared.ids.Xid.{Xid}
 use Rattle.rb_base.specs.declared.store.Store.{Ghosts}
 use Rattle.rb_engine.specs.Checks.{Refuses}
+use Rattle.rb_engine.proofs.FewLemmas.{grows_few}
 use Rattle.rb_engine.specs.Does.{Does, EngineView, Goes, Kept, Keeps as Retained, Knows, KnowsQueue, SameStore, Stands}
 use Rattle.rb_engine.proofs.QueueLemmas.{knows_same}
 use Rattle.rb_image.specs.Crash.{MarksGrow, Survives}
@@ -86,6 +87,7 @@ module _ {S : Type 0} (s : Ghosts S) where
     };
     groups = n;
     grows = λ going. (goes going).0;
+    few = λ began going. let from = st.goes began in grows_few h from.xids (s.blocks old.store) from.holds.blocks call answer n (goes going).0;
     lsn = λ going. (goes going).1;
     survives = survives;
   }

@@ -254,7 +254,7 @@ module _ {S : Type 0} (s : Ghosts S) (laws : Laws s) (h : State) (old : EngineVi
     does_old scn lost is memory =
         let behind = finds (Err (faults.TooOld scn lost)) is in
         stays (Refused (TooOld scn lost)) refl
-        (old_reply h goes.xids blocks goes.holds.blocks (s.lsn old.store) (room_of (s.slots old.store) (s.lsn old.store)) (machine.Fetch who name) _ m.scn scn lost early (one.0, one.1, sym one.2.number) behind.4)
+        (old_reply h goes.xids blocks goes.holds.blocks (s.lsn old.store) (room_of (s.slots old.store) (s.lsn old.store)) (machine.Fetch who name) _ m.scn scn lost early (one.0, one.1, sym one.2.number) behind.5)
         refl clean.few memory
 
 -- no early test answers that it is too old

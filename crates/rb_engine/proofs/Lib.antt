@@ -1,7 +1,7 @@
 pub mod CleanLemmas
 pub mod DoesLemmas
-pub mod SeenHomes
 pub mod FetchLemmas
+pub mod FewLemmas
 pub mod FinishLemmas
 pub mod LateLemmas
 pub mod ModeLemmas
@@ -10,6 +10,7 @@ pub mod QueueLemmas
 pub mod RetainsLemmas
 pub mod RollbackLemmas
 pub mod SavepointLemmas
+pub mod SeenHomes
 pub mod StepLemmas
 pub mod TellsLemmas
 pub mod WaitLemmas

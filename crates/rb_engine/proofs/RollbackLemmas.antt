@@ -294,9 +294,13 @@ module _ {S : Type 0} (s : Ghosts S) where
         let mine = session_own h who in
         let l : IsLeft h xids who x (take (length mine - turn) mine) turn old mid = first.left told h xids who st in
         let front : take (length mine - turn) mine ≡ take kept mine = ap (λ (n : ℕ). take (length mine - n) mine) (is ∙ count_is) ∙ take_kept mine kept in
-        let left : IsLeft h xids who x (take kept mine) turn old mid = subst (λ (c : List Change). IsLeft h xids who x c turn old mid) front l in
-        (left.holds, left.ids, (let n = left.lsn in omega (arith, n, is, count_is)), left.survives,
-        subst (λ (n : ℕ). BackOver h.shape (16 * x.seg + x.slot) n (s.blocks old) (s.blocks mid)) (is ∙ count_is) left.back)
+        let left : IsLeft h xids who x (take kept mine) turn old mid = subst (λ (c : List Change). IsLeft h xids who x c turn old mid) front l in (
+          left.holds,
+          left.ids,
+          (let n = left.lsn in omega (arith, n, is, count_is)),
+          left.survives,
+          subst (λ (n : ℕ). BackOver h.shape (16 * x.seg + x.slot) n (s.blocks old) (s.blocks mid)) (is ∙ count_is) left.back,
+        )
 
     -- All are.
     pub all_back : Laws s → turn ≡ count → (new : S) (going : Bool) → EndGives mid new x going → s.tells → (h : State) (xids : List Xid) (who : ℕ) → length (session_own h who) ≡ count → Starts h xids who x count old → PutsAllBack s h xids who x old new going

@@ -62,6 +62,7 @@ does_from s h call answer kept mid store new does = record {
   stands = does.stands;
   groups = does.groups;
   grows = does.grows;
+  few = does.few;
   lsn = does.lsn;
   survives = does.survives;
 }

@@ -254,6 +254,7 @@ module _ {S : Type 0} (s : Ghosts S) (told : s.tells) (laws : Laws s) (h : State
         stands = does.stands;
         groups = does.groups;
         grows = does.grows;
+        few = does.few;
         lsn = λ going. does.lsn going ∙ ap (λ (n : ℕ). n + does.groups) number;
         survives = λ before going keeps. survives_on s (s.slots old.store) {first = None} {fault = failed_in call answer before} h h does.now old.store mid.store new.store going
             (survives_same s told laws {fault = None} h h (st.goes going).xids old.store mid.store true st.shape refl refl refl (st.goes going).holds logs keeps)

@@ -10,7 +10,7 @@ use Rattle.rb_base.specs.declared.store.Store.{Ghosts}
 use Rattle.rb_cr.specs.declared.faults.CrFault.{CrFault}
 use Rattle.rb_engine.specs.Does.{EngineView}
 use Rattle.rb_engine.specs.Finishing.{Fails}
-use Rattle.rb_engine.specs.Scanning.{HasKey, HasNone, IsReader}
+use Rattle.rb_engine.specs.Scanning.{ComesTo, HasKey, HasNone, IsReader}
 use Rattle.rb_heap.specs.Cleaning.{cleaned_home}
 use Rattle.rb_heap.specs.Homes.{home_of}
 use Rattle.rb_image.specs.Crash.{Survives}
@@ -74,7 +74,7 @@ pub record Serves {S : Type 0} (s : Ghosts S) (h : State) (xids : List Xid) (m :
 pub record IsOnTheWay (shape : Shape) (m : Cursor) (g : ℕ) : Type 0 where
   pub there : g < shape.blocks
   pub key : HasKey shape.blocks m.lo m.hi g
-  pub behind : (last : ℕ) → m.last ≡ Some last → last % shape.blocks ≤ g
+  pub behind : ComesTo shape.blocks m.last g
 
 -- block b is that of such a home, which is the g-th, or one of the first g
 abbrev pub IsHere : Shape → Cursor → (g b : ℕ) → Type 0

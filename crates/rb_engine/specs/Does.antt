@@ -113,8 +113,9 @@ Keeps h call answer now = (s table key : ℕ) (action : Action)
     → call ≡ Write s table key action → answer ≡ Done → Retains h s now
 
 -- A call with that answer on an engine that stood for h: the machine allows the answer, and the engine stands for the
--- state after it. Unless it is stopped then, the log has so many groups more. A crash in it leaves no more than the
--- states before and after it; where the call answers a fault of the disk, what such a call may have left besides.
+-- state after it. Unless it is stopped then, the log has so many groups more, 2^14 at most. A crash in it leaves no more
+-- than the states before and after it; where the call answers a fault of the disk, what such a call may have left
+-- besides.
 pub record Does {S : Type 0} (s : Ghosts S) (h : State) (call : Call) (answer : Answer) (old new : EngineView S) : Type
     0 where
   pub reply : Reply h (s.lsn old.store) (room_of (s.slots old.store) (s.lsn old.store)) call answer
@@ -124,6 +125,7 @@ pub record Does {S : Type 0} (s : Ghosts S) (h : State) (call : Call) (answer : 
   pub stands : Stands s now new
   pub groups : ℕ
   pub grows : now.stopped ≡ false → Grows h call answer groups
+  pub few : h.stopped ≡ false → now.stopped ≡ false → groups ≤ 2 ^ 14
   pub lsn : now.stopped ≡ false → s.lsn new.store ≡ s.lsn old.store + groups
   pub survives : (before : Option Call) → h.stopped ≡ false → s.keeps
       → Survives s (s.slots old.store) (failed_in call answer before) h now old.store new.store

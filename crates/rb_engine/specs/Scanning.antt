@@ -49,17 +49,22 @@ HasNext h xids blocks m g row =
 abbrev pub HasKey : (blocks lo hi g : ℕ) → Type 0
 HasKey blocks lo hi g = (k : ℕ) × (k % blocks ≡ g) × (lo ≤ k) × (k ≤ hi)
 
+-- a search comes to home g: it isn't before that of the last row
+abbrev pub ComesTo : (blocks : ℕ) → Option ℕ → (g : ℕ) → Type 0
+ComesTo blocks last g = (l : ℕ) → last ≡ Some l → l % blocks ≤ g
+
 -- home g can't be read at the cursor's snapshot, for what a segment lost above it
 abbrev pub IsBehind : State → List Xid → List (List ℕ) → Cursor → ℕ → CrFault → Type 0
 IsBehind h xids blocks m g = Because (env_of h.shape blocks) m.scn (Worn (env_of h.shape blocks)
     (history h xids blocks (home_in h.shape m.table g) m.own) m.scn
     (homes_of h.shape blocks (home_in h.shape m.table g)))
 
--- the first home that may have the next row, as those before it have none, can't be read
+-- the first home that may have the next row, as those before it have none and it isn't before that of the last row,
+-- can't be read
 abbrev pub CannotRead : State → List Xid → List (List ℕ) → Cursor → CrFault → Type 0
 CannotRead h xids blocks m fault = (g : ℕ) × (g < h.shape.blocks)
     × ((f : ℕ) → f < g → HasNone h xids blocks m f) × HasKey h.shape.blocks m.lo m.hi g
-    × IsBehind h xids blocks m g fault
+    × ComesTo h.shape.blocks m.last g × IsBehind h xids blocks m g fault
 
 -- the first row of the homes in order, or that there is none, or that a home can't be read
 abbrev pub Finds : State → List Xid → List (List ℕ) → Cursor → Result Fetched CrFault → Row → Type 0

@@ -2,7 +2,7 @@ use Rattle.std.proofs.Common.{◌≡◌, ◌≢◌, ℕ, List, Option, [], Err, 
 use Rattle.rb_base.specs.Logs.{Laws, Logs, more_logs}
 use Rattle.rb_base.specs.declared.faults.OpenFault.TheVariants.{Failed}
 use Rattle.rb_engine.proofs.OpenLemmas.{fails_with, in_step, moved, opened_engine, refused, stays, unchanged_stays}
-use Rattle.rb_base.specs.Counts.{err_is, is_failed}
+use Rattle.rb_base.specs.Counts.{is_failed}
 use Rattle.rb_base.specs.Stores.{room_of}
 use Rattle.rb_base.specs.declared.shape.Shape.{Shape}
 use Rattle.rb_opening.specs.Opens.{CanOpen}
@@ -82,7 +82,9 @@ returns-clause-opened g c = λ told h opens.
     opened_engine s (laws_of g) told h old opens new back.0 logs both.0 both.1 c.in_ok-memory.memory first.sessions first.waits (first.scn told) first.going
 
 pub returns-in_err-memory-clause-untouched : goal.returns-in_err-memory-clause-untouched
-returns-in_err-memory-clause-untouched g c = λ told cannot. fails_with _ _ (false, c.in_err-memory.ensures.logs)
+returns-in_err-memory-clause-untouched g c = λ told cannot.
+    let some : (b : Bool) × Logs g.T.Store c.args.store.now c.new_memory.new.store [] b = (false, c.in_err-memory.ensures.logs) in
+    fails_with c.from_residual.result _ some
 
 pub returns-in_err-open_blocks-clause-untouched : goal.returns-in_err-open_blocks-clause-untouched
 returns-in_err-open_blocks-clause-untouched g c = λ told cannot.
@@ -90,8 +92,9 @@ returns-in_err-open_blocks-clause-untouched g c = λ told cannot.
     let old = c.args.store.now in
     let mid = c.new_memory.new.store in
     let new = c.open_blocks.new.store in
-    let going = not (err_is is_failed c.open_blocks.result) in
+    let going = not (is_failed c.in_err-open_blocks.field-0.0) in
     let first = c.in_ok-memory.ensures.logs in
     let none = moved s old mid (λ (shape : Shape) (slots : Option ℕ) (lsn : ℕ) (blocks : List (List ℕ)). (CanOpen shape blocks (room_of slots lsn) → ⊥) → Logs s mid new [] going) first told
     (c.in_err-open_blocks.ensures.untouched told) cannot in
-    fails_with _ _ (going, more_logs s old mid new [] [] going first none)
+    let some : (b : Bool) × Logs s old new [] b = (going, more_logs s old mid new [] [] going first none) in
+    fails_with _ _ some

@@ -83,6 +83,11 @@ returns-in-Err-clause-found g c = λ told h xids serves.
       there,
       inv.none told h xids serves,
       both.0,
+      λ l at.
+          let first_is = c.first_home-first.ensures.last l at in
+          let le = c.loop-g.auto.g in
+          let bs : l % c.shape-blocks.result.blocks ≡ l % h.shape.blocks = ap (λ (z : Shape). l % z.blocks) (c.shape-blocks.ensures.shape ∙ serves.shape) in
+          omega (arith, first_is, le, bs),
       behind_same h xids (s.blocks old) (s.blocks mid) serves.holds.blocks m c.loop-g.g (in_table m.table c.loop-g.g h.shape there (subst (λ (k : Shape). (1 ≤ m.table) × (m.table ≤ k.tables)) serves.shape c.requires.table))
           (env_mid s told (laws_of g) h xids m c.loop-g.g old mid mid inv.logs.same_shape inv.logs.same_slots refl serves before) (same_or_clean (before.only.each (Rattle.rb_views.specs.Views.home_in h.shape m.table c.loop-g.g))) c.in-Err.fault both.1,
     )
