@@ -118,6 +118,7 @@ module _ {S : Type 0} (s : Ghosts S) where
           fault = refl;
           groups = does.groups;
           grows = does.grows;
+          few = does.few going;
           lsn = λ on. does.lsn on ∙ ap (λ (n : ℕ). n + does.groups) (sym is.lsn);
         });
       }
@@ -198,6 +199,7 @@ module _ {S : Type 0} (s : Ghosts S) (m : Logged) (w : ℕ) (outcome : Result Wr
             fault = refl;
             groups = does.groups;
             grows = does.grows;
+            few = does.few going;
             lsn = λ on. does.lsn on ∙ ap (λ (n : ℕ). n + does.groups) (sym is.lsn);
           };
           stopped = (fine_stays (unqueued m.state w) does.now (call a) r e does.after).stopped ∙ going ∙ sym e;
@@ -242,6 +244,7 @@ module _ {S : Type 0} (s : Ghosts S) (m : Logged) (w : ℕ) (outcome : Result Wr
             fault = refl;
             groups = 0;
             grows = λ on. absurd (false≢true (sym on));
+            few = λ on. absurd (false≢true (sym on));
             lsn = λ on. absurd (false≢true (sym on));
           };
           stopped = sym e;

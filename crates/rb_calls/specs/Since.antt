@@ -35,7 +35,7 @@ pub record IsSince {S : Type 0} (s : Ghosts S) (old new : EngineView S) (before 
 
 module _ {S : Type 0} {s : Ghosts S} where
   -- an image of an engine's store has its state
-  image_has : Laws s → (e : EngineView S) (h : State) → Stands s h e → h.stopped ≡ false → s.keeps
+  pub image_has : Laws s → (e : EngineView S) (h : State) → Stands s h e → h.stopped ≡ false → s.keeps
       → (i : s.image) → s.left e.store i → Restarts s.opens (s.slots e.store) h i
   image_has laws e h stands going kept i here =
       restarts s laws kept h h.books (last_scn h.commits) e.store i stands.shape

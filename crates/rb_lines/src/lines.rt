@@ -71,6 +71,11 @@ pub fn run_lines<M: LineRunner, S: Source, K: Sink>(
         → Did M.stands M.since runner.old runner.new m (λ now. EndsAs (outside_by M.worn (M.slots runner.old))
         (length buffer.old) m now (S.left source.old) (S.left source.new) K.tells (K.held sink.old) (K.held sink.new)
         result) }
+
+    // What became of its file, also where the source doesn't tell.
+    ensures passed { (m : Logged) → M.stands runner.old m → m.state.stopped ≡ false
+        → Did M.stands M.since runner.old runner.new m
+        (λ now. result ≡ LinesEnd.Done → now.state.stopped ≡ false) }
     ensures at_end { result ≡ LinesEnd.Done → S.tells → S.left source.new ≡ [] }
     ensures few { result ≡ LinesEnd.Done → S.tells → length (S.left source.old) < 1000000000 }
 

@@ -1,5 +1,5 @@
 -- What is written for a script, line by line.
-use Rattle.std.specs.Prelude.{◌≡◌, ◌⊎◌, ℕ, zero, suc, ◌+◌, ◌-◌, ◌<◌, ◌≤◌}
+use Rattle.std.specs.Prelude.{◌≡◌, ◌⊎◌, ℕ, zero, suc, ◌+◌, ◌-◌, ◌^◌, ◌<◌, ◌≤◌}
 use Rattle.std.specs.Prelude.{Bool, true, false}
 use Rattle.std.specs.Prelude.{MatchBool, List, [], ◌∷◌, ◌++◌, length, Option, None, Some}
 use Rattle.rb_model.specs.Change.{Asked}
@@ -31,7 +31,7 @@ abbrev pub room : ℕ → ℕ → ℕ
 room slots lsn = slots - 1 - lsn
 
 -- One call with that answer, which is too old only where what it reads is worn. The log number goes up by the groups of
--- the call, unless the disk has failed.
+-- the call, 2^14 at most, unless the disk has failed.
 pub record CallOut (m : Logged) (outside : Outside) (call : Call) (answer : Answer) (m2 : Logged) : Type 0 where
   pub reply : Reply m.state m.lsn (room outside.slots m.lsn) call answer
   pub worn : (snapshot lost : ℕ) → answer ≡ Refused (TooOld snapshot lost)
@@ -40,6 +40,7 @@ pub record CallOut (m : Logged) (outside : Outside) (call : Call) (answer : Answ
   pub fault : m2.fault ≡ failed_in call answer m.fault
   pub groups : ℕ
   pub grows : m2.state.stopped ≡ false → Grows m.state call answer groups
+  pub few : m2.state.stopped ≡ false → groups ≤ 2 ^ 14
   pub lsn : m2.state.stopped ≡ false → m2.lsn ≡ m.lsn + groups
 
 -- after this answer a command makes its next call
@@ -74,6 +75,7 @@ pub record Resumed (m : Logged) (outside : Outside) (s : ℕ) (asked : Asked) (a
   pub groups : ℕ
   pub grows : m2.state.stopped ≡ false
       → Grows (unqueued m.state s) (Write s asked.table asked.key asked.action) answer groups
+  pub few : m2.state.stopped ≡ false → groups ≤ 2 ^ 14
   pub lsn : m2.state.stopped ≡ false → m2.lsn ≡ m.lsn + groups
 
 -- the disk has failed, or no session is ready

@@ -130,30 +130,40 @@ module _ {D : Type 0} (d : DiskGhosts D) (old : D) where
     none = λ nothing. still;
   }
 
+  -- of a file whose blocks don't pass the tests
+  pub rests_damaged : (new : D) → ((c : List ℕ) → d.image_since old (d.moment old) c → d.image old c) → Rests d old new
+      → (l : Layout) (blocks : List (List ℕ)) (lsn : ℕ) → OpensAt l (d.content old) blocks lsn → Leaves d old new (λ c. d.image old c ⊎ OpensAt l c blocks lsn)
+  rests_damaged new only_now still l blocks lsn opens = (rests_alone new only_now still).images l blocks lsn opens
+
+  pub stays_damaged : (s : LapState D) (new : LapState D) → Found d old s → Leaves d s.disk new.disk (λ c. OpensAt s.layout c s.blocks s.lsn)
+      → (l : Layout) (blocks : List (List ℕ)) (lsn : ℕ) → OpensAt l (d.content old) blocks lsn → Leaves d old new.disk (λ c. d.image old c ⊎ OpensAt l c blocks lsn)
+  stays_damaged s new found leaves l blocks lsn opens =
+      let P : List ℕ → Type 0 = λ c. d.image old c ⊎ OpensAt l c blocks lsn in
+      joined d.moment d.image_since old s.disk new.disk P
+      (rests_leave d old s.disk P found.only_old (λ c here. inl here) found.rests)
+      (weaker d.moment d.image_since s.disk new.disk (λ c. OpensAt s.layout c s.blocks s.lsn) P
+      (λ c at. inr (opens_alike s.layout l (d.content old) c s.blocks blocks s.lsn lsn found.opens opens at)) leaves)
+
   -- and so do calls of the store that was found
   pub stays_alone : (s : LapState D) (new : LapState D) → Found d old s → OpensAt s.layout (d.content new.disk) s.blocks s.lsn
       → Leaves d s.disk new.disk (λ c. OpensAt s.layout c s.blocks s.lsn) → LeftAlone d old new.disk
   stays_alone s new found file leaves = record {
     file = λ l blocks lsn opens. opens_alike s.layout l (d.content old) (d.content new.disk) s.blocks blocks s.lsn lsn found.opens opens file;
-    images = λ l blocks lsn opens.
-        let P : List ℕ → Type 0 = λ c. d.image old c ⊎ OpensAt l c blocks lsn in
-        joined d.moment d.image_since old s.disk new.disk P
-        (rests_leave d old s.disk P found.only_old (λ c here. inl here) found.rests)
-        (weaker d.moment d.image_since s.disk new.disk (λ c. OpensAt s.layout c s.blocks s.lsn) P
-        (λ c at. inr (opens_alike s.layout l (d.content old) c s.blocks blocks s.lsn lsn found.opens opens at)) leaves);
+    images = stays_damaged s new found leaves;
     none = λ nothing. absurd (nothing s.layout s.blocks s.lsn found.opens);
   }
 
   -- an engine over it
   pub has_opened : (g : Ghosts (LapState D)) (s : LapState D) (e : EngineView (LapState D)) (sound : IsSound (d.content old)) → Found d old s → e.store.layout.log ≡ s.layout.log
       → g.slots e.store ≡ Some e.store.layout.log → Stands g sound.state e → g.lsn e.store ≡ s.lsn + owed_in (shape_of s.layout) s.blocks
-      → Leaves d s.disk e.store.disk (Restarts Opens (Some s.layout.log) sound.state) → HasOpened d g old e sound
-  has_opened g s e sound found slots ended stands lsn stays =
+      → Leaves d s.disk e.store.disk (Restarts Opens (Some s.layout.log) sound.state) → ((c : List ℕ) → d.image e.store.disk c → Restarts Opens (Some e.store.layout.log) sound.state c) → HasOpened d g old e sound
+  has_opened g s e sound found slots ended stands lsn stays only =
       let same = same_of sound s.layout s.blocks s.lsn found.opens in
       record {
         slots = slots ∙ same.log;
         stands = record { engine = stands; lsn = same.next ∙ sym lsn; ended = subst (λ (o : Option ℕ). o ≡ Some (slots_of o)) (sym ended) refl };
         any_moment = opens_same s e.store.disk sound found stays;
+        now_only = λ c here. subst (λ (k : ℕ). Restarts Opens (Some k) sound.state c) (slots ∙ same.log) (only c here);
       }
 
   -- an opening, and the lines after it
@@ -165,6 +175,7 @@ module _ {D : Type 0} (d : DiskGhosts D) (old : D) where
       let h = sound.state in
       let P : List ℕ → Type 0 = λ c. d.image old c ⊎ OnTheWay Opens (Some l.log) m.fault h m.state c in
       record {
+        extends = extends;
         any_moment = joined d.moment d.image_since old e.store.disk new P
             (weaker d.moment d.image_since old e.store.disk (λ c. d.image old c ⊎ Restarts Opens (Some l.log) h c) P
             (λ c p. ⊎_elim (λ was. inl was) (λ r. inr (restarts_on_the_way (Some l.log) m.fault h m.state c extends r)) p) o.any_moment)

@@ -212,7 +212,7 @@ some_calls (suc more) m outside c k reading =
     let a = answered m.state m.lsn (room outside.slots m.lsn) c k reading in
     let mid : Logged = record { state = a.after.0; lsn = m.lsn; fault = m.fault } in
     let rest = some_calls more mid outside c (suc k) reading in
-    let once : CallOut m outside (call_of c k) a.answer mid = record { reply = a.reply; worn = λ snapshot lost is. absurd (false≢true (sym a.young ∙ ap is_old is)); state = a.after.1; fault = rw a.fine refl; groups = 0; grows = λ going. a.after.2; lsn = λ going. omega arith } in
+    let once : CallOut m outside (call_of c k) a.answer mid = record { reply = a.reply; worn = λ snapshot lost is. absurd (false≢true (sym a.young ∙ ap is_old is)); state = a.after.1; fault = rw a.fine refl; groups = 0; grows = λ going. a.after.2; few = λ going. omega arith; lsn = λ going. omega arith } in
     ⊎_elim
     (λ g. (reply_text (caller c) a.answer ++ rest.0, rest.1, same_joined rest.1 mid m rest.2 (a.after.3 m.fault), once_more m mid rest.1 outside c k more a.answer rest.0 once g rest.3))
     (λ g. (reply_text (caller c) a.answer, mid, a.after.3 m.fault, once_last m mid outside c k more a.answer once g))

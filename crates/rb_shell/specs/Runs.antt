@@ -5,7 +5,7 @@ use Rattle.rb_base.specs.declared.store.Store.{Ghosts}
 use Rattle.rb_disk.specs.Moments.{Leaves, Rests}
 use Rattle.rb_disk.specs.declared.disk.Disk.{Ghosts as DiskGhosts}
 use Rattle.rb_engine.specs.Does.{EngineView}
-use Rattle.rb_image.specs.Crash.{AtEnd, OnTheWay, OpensUpTo, Restarts, Survives}
+use Rattle.rb_image.specs.Crash.{AtEnd, Extends, OnTheWay, OpensUpTo, Restarts, Survives}
 use Rattle.rb_layout.specs.Regions.{shape_of}
 use Rattle.rb_layout.specs.declared.layout.Layout.{Layout}
 use Rattle.rb_lines.specs.Ends.{EndsAs, Halted}
@@ -96,10 +96,12 @@ pub record HasRunOut {file : List ℕ} (sound : IsSound file) (left_before left_
   pub run : HasRun sound (lines_of left_before) tells before now endures
   pub all_taken : left_now ≡ []
 
--- What a crash may leave over a run, which opens the file first: at any moment since its start an image that the disk
--- had at the start, or a file on the way from the state opened; and at its end all commits of the state.
+-- What a crash may leave over a run, which opens the file first and comes to a state that has more commits, if any, than
+-- the one opened: at any moment since its start an image that the disk had at the start, or a file on the way from the
+-- state opened; and at its end all commits of the state.
 pub record Endures {D : Type 0} (d : DiskGhosts D) (old new : D) (l : Layout) (before : State) (now : Logged) : Type 0
   where
+    pub extends : Extends before now.state
     pub any_moment : Leaves d old new (λ c. d.image old c ⊎ OnTheWay Opens (Some l.log) now.fault before now.state c)
     pub now_only : (c : List ℕ) → d.image new c → AtEnd Opens (Some l.log) now.fault now.state c
 
@@ -115,13 +117,21 @@ abbrev pub OpensSame : {D : Type 0} (d : DiskGhosts D) (old : D) → D → IsSou
 OpensSame d old new sound = Leaves d old new
     (λ c. d.image old c ⊎ Restarts Opens (Some sound.store.layout.log) sound.state c)
 
+-- A run over a sound file, whatever lines it took and whatever became of its replies: the machine came to some state
+-- from that to which the file opens, and a crash may leave no more than what it did.
+pub record LeftBehind {D : Type 0} (d : DiskGhosts D) (old new : D) (sound : IsSound (d.content old)) : Type 0 where
+  pub now : Logged
+  pub endured : Endures d old new sound.store.layout sound.state now
+
 -- An engine was opened over the file of a disk, whose log it goes on with, and stands for the state to which the file
--- opens.
+-- opens. A crash from then on leaves no image of before: each that it may leave now restarts to that state.
 pub record HasOpened {D : Type 0} (d : DiskGhosts D) (s : Ghosts (LapState D)) (old : D) (e : EngineView (LapState D))
     (sound : IsSound (d.content old)) : Type 0 where
   pub slots : e.store.layout.log ≡ sound.store.layout.log
   pub stands : StandsAs s e (first_of sound)
   pub any_moment : OpensSame d old e.store.disk sound
+  pub now_only : (c : List ℕ) → d.image e.store.disk c
+      → Restarts Opens (Some sound.store.layout.log) sound.state c
 
 -- The status of lines that ended so. At their own end what waits is made last, and the disk may fail in that.
 pub data EndsBy (end : LinesEnd) (status : Status) : Type 0 where
@@ -134,6 +144,11 @@ pub record MadeLast {S : Type 0} (s : Ghosts S) (old new : S) (m : Logged) (stat
   pub crash : (fault : Option Call) → s.keeps → Survives s (s.slots old) fault m.state m.state old new
   pub last : s.keeps → status ≡ Done → (i : s.image) → s.left new i
       → OpensUpTo s.opens (s.slots old) m.state.shape m.lsn i
+
+-- Some lines were done over a store: a crash leaves no more than the states before and after them.
+pub record PassedOn {S : Type 0} (s : Ghosts S) (old new : S) (before : Logged) : Type 0 where
+  pub now : Logged
+  pub crash : s.keeps → Survives s (s.slots old) now.fault before.state now.state old new
 
 -- Lines were done over a store, from one state to another. They ended as a status says, and where all is well a crash
 -- leaves them to the last group.
@@ -153,9 +168,12 @@ pub record RanOn {S : Type 0} (s : Ghosts S) (old new : S) (outside : Outside) (
 abbrev pub OpensToNone : List ℕ → Type 0
 OpensToNone file = (l : Layout) (blocks : List (List ℕ)) (lsn : ℕ) → OpensAt l file blocks lsn → ⊥
 
--- An opening was stopped: the images are as `OpensSame` says, and a file that opens to no blocks is as it was.
+-- An opening was stopped: the images are as `OpensSame` says. Where the blocks to which the file opens don't pass the
+-- tests, each image is one of before or opens to them, and a file that opens to no blocks is as it was.
 pub record WasStopped {D : Type 0} (d : DiskGhosts D) (old new : D) : Type 0 where
   pub images : (sound : IsSound (d.content old)) → OpensSame d old new sound
+  pub damaged : (IsStore (d.content old) → ⊥) → (l : Layout) (blocks : List (List ℕ)) (lsn : ℕ)
+      → OpensAt l (d.content old) blocks lsn → Leaves d old new (λ c. d.image old c ⊎ OpensAt l c blocks lsn)
   pub none : OpensToNone (d.content old) → Rests d old new
 
 -- Nothing was done but that the file was read: the file and each image open to the same blocks as before, with the same

@@ -11,7 +11,7 @@ ghost use Rattle.rb_lines.specs.Whole.{whole_lines};
 ghost use Rattle.rb_model.specs.Lines.{lines_of};
 ghost use Rattle.rb_shell.specs.Generation.{EndsGenerator, HasTold, MadeOver, TellsCounts, WasNotTold};
 ghost use Rattle.rb_shell.specs.Runs.{IsSound, IsStore, HasHalted, HasRun, WasCutOff, Endures, LeftAlone};
-ghost use Rattle.rb_shell.specs.Runs.{HasRunOut, Lasts, WasStopped, WasTaken};
+ghost use Rattle.rb_shell.specs.Runs.{HasRunOut, Lasts, LeftBehind, OpensSame, WasStopped, WasTaken};
 ghost use Rattle.rb_shell.specs.Runs.{EndsRun, AsksScript, AsksNothing, IsDoneOrNoMemory};
 ghost use Rattle.rb_shell.specs.Statuses.{EndsFormat, by_disk, by_sink, by_source};
 ghost use Rattle.rb_words.specs.Words.{AsksFormat, AsksGen, AsksRun, IsUsage};
@@ -100,6 +100,13 @@ pub fn run<S: Source, K: Sink, D: Disk>(
         → WasCutOff sound (lines_of (S.left source.old)) (K.held sink.old) (K.held sink.new)
         (Endures D.Disk disk result.1) }
 
+    // Whatever the source tells: a crash leaves a state of the machine's, from that to which the file opens on.
+    ensures left_behind { D.tells → (n : ℕ) → AsksRun words.now n → AsksScript result.0
+        → (sound : IsSound (D.content disk)) → LeftBehind D.Disk disk result.1 sound }
+    ensures disk_left { D.tells → (n : ℕ) → AsksRun words.now n → result.0 ≡ Status.DiskFault
+        → (sound : IsSound (D.content disk))
+        → OpensSame D.Disk disk result.1 sound ⊎ LeftBehind D.Disk disk result.1 sound }
+
     // A run of the generator: all commands were made, with answers that the machine opened with the file's rows allows,
     // and what wasn't committed was made last too before the line was put. A fault of the sink leaves a front of it,
     // and one of the disk, in the opening, in a command or behind them all, nothing of it.
@@ -127,10 +134,12 @@ pub fn run<S: Source, K: Sink, D: Disk>(
     ensures store { D.tells → (n : ℕ) → AsksRun words.now n → AsksScript result.0 → IsStore (D.content disk) }
 
     // It ends by a fault only where that count rose, and else the count is as before. A fault of the sink may hide one
-    // of the disk. Where none rises, all is done.
+    // of the disk, but not in a run of the generator, which calls the sink last. Where none rises, all is done.
     ensures source { IsCountedAs (S.faults source.old) (S.faults source.new) (by_source result.0) }
     ensures disk { IsCountedBeside (D.faults disk) (D.faults result.1) (by_disk result.0) (by_sink result.0) }
     ensures sink { IsCountedAs (K.faults sink.old) (K.faults sink.new) (by_sink result.0) }
+    ensures gen_count { (n : ℕ) → AsksGen words.now n
+        → IsCountedAs (D.faults disk) (D.faults result.1) (by_disk result.0) }
     ensures complete_format { D.tells → (l : Layout) → AsksFormat words.now l → length (D.content disk) ≡ 0
         → ¬ Rose (D.faults disk) (D.faults result.1) → IsDoneOrNoMemory result.0 }
     ensures complete { D.tells → S.tells → (n : ℕ) → AsksRun words.now n → IsSound (D.content disk)

@@ -9,7 +9,7 @@ ghost use Rattle.rb_model.specs.Lines.{lines_of};
 ghost use Rattle.rb_model.specs.Out.{Logged};
 ghost use Rattle.rb_shell.specs.Runs.{IsSound, IsStore, HasHalted, HasOpened, HasRun, HasRunOut, RanOn, WasCutOff};
 ghost use Rattle.rb_shell.specs.Runs.{LeftAlone, WasStopped, WasTaken, EndsRun, AsksScript, AsksNothing};
-ghost use Rattle.rb_shell.specs.Runs.{Endures, EndsBy, Lasts, MadeLast};
+ghost use Rattle.rb_shell.specs.Runs.{Endures, EndsBy, Lasts, LeftBehind, MadeLast, OpensSame, PassedOn};
 ghost use Rattle.rb_shell.specs.Statuses.{by_disk, by_sink, by_source, status_of, status_of_opening};
 
 use crate::line::do_line;
@@ -130,6 +130,8 @@ fn run_engine<S: Source, K: Sink, T: Store>(
     ensures did { S.tells → (m : Logged) → StandsAs T.Store engine m → m.state.stopped ≡ false
         → RanOn T.Store engine.store result.1 (outside_of (T.slots engine.store)) SCRIPT_BYTES m (S.left source.old)
         (S.left source.new) K.tells (K.held sink.old) (K.held sink.new) result.0 }
+    ensures passed { (m : Logged) → StandsAs T.Store engine m → m.state.stopped ≡ false
+        → PassedOn T.Store engine.store result.1 m }
     ensures ends { EndsRun result.0 }
     ensures asks { ¬ AsksNothing result.0 }
     ensures at_end { result.0 ≡ Status.Done → S.tells → S.left source.new ≡ [] }
@@ -206,6 +208,12 @@ pub fn run_script<S: Source, K: Sink, D: Disk>(
         → (sound : IsSound (D.content disk)) → WasCutOff sound (lines_of (S.left source.old)) (K.held sink.old)
         (K.held sink.new)
         (Endures D.Disk disk result.1) }
+
+    // What a crash leaves, whatever the source tells.
+    ensures left_behind { D.tells → AsksScript result.0 → (sound : IsSound (D.content disk))
+        → LeftBehind D.Disk disk result.1 sound }
+    ensures disk_left { D.tells → result.0 ≡ Status.DiskFault → (sound : IsSound (D.content disk))
+        → OpensSame D.Disk disk result.1 sound ⊎ LeftBehind D.Disk disk result.1 sound }
 
     // Nothing was asked for.
     ensures source_same { AsksNothing result.0 → source.new ≡ source.old }

@@ -1,12 +1,21 @@
-use Rattle.std.proofs.Common.{◌≡◌, ℕ, ◌≤◌, [], ◌++◌, length, take, Ok, refl, sym, ◌∙◌, ap, subst, arith}
+use Rattle.std.proofs.Common.{◌≡◌, ◌≢◌, ℕ, false, ◌≤◌, [], ◌++◌, length, take, Ok, refl, sym, ◌∙◌, ap, subst, arith}
 use Rattle.std.proofs.lemmas.List.{length-take-le}
 use Rattle.rb_model.specs.Out.{outside_by}
 use Rattle.rb_lines.specs.declared.lines.LinesEnd.{LinesEnd}
-use Rattle.rb_lines.specs.Ends.{EndsAs}
+use Rattle.rb_lines.specs.declared.lines.LinesEnd.TheVariants.{Done}
+use Rattle.rb_lines.specs.declared.runner.StepFault.{StepFault}
+use Rattle.rb_lines.specs.declared.runner.StepFault.TheVariants.{Disk, Sink}
+use Rattle.rb_lines.specs.Ends.{EndsAs, end_of}
 use Rattle.rb_lines.specs.Pieces.{rest_from}
 use Rattle.rb_lines.specs.Ran.{Did}
+use Rattle.rb_lines.proofs.Dids.{did_as, did_on}
 use Rattle.rb_lines.proofs.Parts.{part_start, part_more, part_end, part_whole, part_took, last_fails, piece_fails}
 use Rattle.rb_lines.proofs.lines.run_lines.Goals as goal
+
+-- lines that end by a fault didn't come to their end
+not_done : (fault : StepFault) (end : LinesEnd) → end ≡ end_of fault → end ≢ Done
+not_done Disk end is done = cc
+not_done Sink end is done = cc
 
 pub loop-room-init : goal.loop-room-init
 loop-room-init g c = record {
@@ -14,6 +23,9 @@ loop-room-init g c = record {
   some = c.requires.buffer;
   room = omega arith;
   part = λ t. part_start _ _ c.args.runner.now _ g.K.Sink.tells _ _ _ (λ m is going. g.met.M.LineRunner.since_same c.args.runner.now m is going) c.new-pending.ensures;
+  line = [];
+  held = c.new-pending.ensures;
+  passed = λ m is going. record { now = m; reached = is; passed = g.met.M.LineRunner.since_same c.args.runner.now m is going; ran = going };
   slots = refl;
   source = refl;
   disk = refl;
@@ -55,6 +67,9 @@ loop-room-preserved g c =
       part = λ t. let p = i.part t in
           part_more _ _ _ _ _ _ _ g.K.Sink.tells _ _ _ _ _ _ _ _ c.loop-room.room c.in-Ok.count (take c.in-Ok.count c.take_bytes.new.buffer) g.met.M.LineRunner.since_joined p (ap (outside_by g.M.LineRunner.worn) i.slots) o.room size (o.taken t)
           (λ k reached on. f.did k (rest_from [] p.taken) reached on p.rest) (f.kept (rest_from [] p.taken) p.rest);
+      line = rest_from i.line (take c.in-Ok.count c.take_bytes.new.buffer);
+      held = f.kept i.line i.held;
+      passed = λ m is going. did_on _ _ _ m _ _ _ g.met.M.LineRunner.since_joined (i.passed m is going) (λ n on. on) (λ n reached on. f.did n i.line reached on i.held) (λ n k on so. so.1);
       slots = f.slots ∙ i.slots;
       source = o.counted.still ∙ i.source;
       disk = f.disk.still refl refl ∙ i.disk;
@@ -83,3 +98,24 @@ returns-clause-did g c = λ t m is going.
     let size : length p.taken ≡ 1000000000 = omega (arith, p.size) in
     let d = part_whole _ _ _ _ m _ g.K.Sink.tells _ _ _ _ _ _ c.loop-room.room p refl is going in
     record { now = d.now; reached = d.reached; passed = d.passed; ran = (p.taken, size, d.ran) }
+
+pub returns-in_default-clause-passed : goal.returns-in_default-clause-passed
+returns-in_default-clause-passed g c = λ m is going. did_as _ _ m _ _ (λ n on done. on) (c.loop-room.invariant.passed m is going)
+
+pub returns-in-Ok-finish-clause-passed : goal.returns-in-Ok-finish-clause-passed
+returns-in-Ok-finish-clause-passed g c = λ m is going.
+    let i = c.loop-room.invariant in
+    did_on _ _ _ m _ _ _ g.met.M.LineRunner.since_joined (i.passed m is going) (λ n on. on) (λ n reached on. c.in-Ok-finish.ensures.did n i.line reached on i.held) (λ n k on so done. so.1)
+
+pub returns-in-Err-clause-passed : goal.returns-in-Err-clause-passed
+returns-in-Err-clause-passed g c = λ m is going.
+    let i = c.loop-room.invariant in
+    did_on _ _ _ m _ _ _ g.met.M.LineRunner.since_joined (i.passed m is going) (λ n on. on) (λ n reached on. c.in-Err.ensures.did n i.line reached on i.held) (λ n k on so done. absurd (not_done c.in-Err.fault _ c.from.ensures done))
+
+pub returns-in-Err-feed-clause-passed : goal.returns-in-Err-feed-clause-passed
+returns-in-Err-feed-clause-passed g c = λ m is going.
+    let i = c.loop-room.invariant in
+    did_on _ _ _ m _ _ _ g.met.M.LineRunner.since_joined (i.passed m is going) (λ n on. on) (λ n reached on. c.in-Err-feed.ensures.did n i.line reached on i.held) (λ n k on so done. absurd (not_done c.in-Err-feed.fault _ c.from-in-Err-feed.ensures done))
+
+pub returns-clause-passed : goal.returns-clause-passed
+returns-clause-passed g c = λ m is going. did_as _ _ m _ _ (λ n on done. on) (c.loop-room.invariant.passed m is going)

@@ -115,6 +115,15 @@ returns-in-Ok-Some-Format-clause-too_long g c = λ disk told is. absurd (rw is a
 pub returns-in-Ok-Some-Format-clause-disk_done : goal.returns-in-Ok-Some-Format-clause-disk_done
 returns-in-Ok-Some-Format-clause-disk_done g c = λ disk told n asked is. absurd (no_run g c n asked)
 
+pub returns-in-Ok-Some-Format-clause-left_behind : goal.returns-in-Ok-Some-Format-clause-left_behind
+returns-in-Ok-Some-Format-clause-left_behind g c = λ disk n asked asks. absurd (no_run g c n asked)
+
+pub returns-in-Ok-Some-Format-clause-disk_left : goal.returns-in-Ok-Some-Format-clause-disk_left
+returns-in-Ok-Some-Format-clause-disk_left g c = λ disk n asked is. absurd (no_run g c n asked)
+
+pub returns-in-Ok-Some-Format-clause-gen_count : goal.returns-in-Ok-Some-Format-clause-gen_count
+returns-in-Ok-Some-Format-clause-gen_count g c = λ n asked. absurd (no_gen g c n asked)
+
 pub returns-in-Ok-Some-Format-clause-cut_off : goal.returns-in-Ok-Some-Format-clause-cut_off
 returns-in-Ok-Some-Format-clause-cut_off g c = λ disk told tells n asked is. absurd (no_run g c n asked)
 
@@ -227,6 +236,15 @@ returns-in-Ok-Some-Run-clause-not_a_store g c = λ disk is. c.run_script.ensures
 pub returns-in-Ok-Some-Run-clause-disk_done : goal.returns-in-Ok-Some-Run-clause-disk_done
 returns-in-Ok-Some-Run-clause-disk_done g c = λ disk told n asked is. c.run_script.ensures.disk_done disk told is
 
+pub returns-in-Ok-Some-Run-clause-left_behind : goal.returns-in-Ok-Some-Run-clause-left_behind
+returns-in-Ok-Some-Run-clause-left_behind g c = λ disk n asked asks sound. c.run_script.ensures.left_behind disk asks sound
+
+pub returns-in-Ok-Some-Run-clause-disk_left : goal.returns-in-Ok-Some-Run-clause-disk_left
+returns-in-Ok-Some-Run-clause-disk_left g c = λ disk n asked is sound. c.run_script.ensures.disk_left disk is sound
+
+pub returns-in-Ok-Some-Run-clause-gen_count : goal.returns-in-Ok-Some-Run-clause-gen_count
+returns-in-Ok-Some-Run-clause-gen_count g c = λ n asked. absurd (gen_no g c n asked)
+
 pub returns-in-Ok-Some-Run-clause-untouched : goal.returns-in-Ok-Some-Run-clause-untouched
 returns-in-Ok-Some-Run-clause-untouched g c = λ disk n asked is. c.run_script.ensures.untouched disk is
 
@@ -261,6 +279,9 @@ returns-in-Ok-None-clause-format_ends g c = λ l asked. (rw c.in-Ok-None.field-0
 
 pub returns-in-Ok-None-clause-run_ends : goal.returns-in-Ok-None-clause-run_ends
 returns-in-Ok-None-clause-run_ends g c = λ n asked. (rw c.in-Ok-None.field-0-is at c.in-Ok-None.ensures.none) (Run n) asked
+
+pub returns-in-Ok-None-clause-gen_count : goal.returns-in-Ok-None-clause-gen_count
+returns-in-Ok-None-clause-gen_count g c = λ n asked. absurd ((rw c.in-Ok-None.field-0-is at c.in-Ok-None.ensures.none) (Gen n) asked)
 
 pub returns-in-Ok-None-clause-untouched : goal.returns-in-Ok-None-clause-untouched
 returns-in-Ok-None-clause-untouched g c = λ disk n asked is. absurd ((rw c.in-Ok-None.field-0-is at c.in-Ok-None.ensures.none) (Run n) asked)
@@ -361,6 +382,15 @@ returns-in-Ok-Some-Gen-clause-too_long g c = λ disk told is. absurd (rw is at c
 
 pub returns-in-Ok-Some-Gen-clause-disk_done : goal.returns-in-Ok-Some-Gen-clause-disk_done
 returns-in-Ok-Some-Gen-clause-disk_done g c = λ disk told n asked is. absurd (not_run g c n asked)
+
+pub returns-in-Ok-Some-Gen-clause-left_behind : goal.returns-in-Ok-Some-Gen-clause-left_behind
+returns-in-Ok-Some-Gen-clause-left_behind g c = λ disk n asked asks. absurd (not_run g c n asked)
+
+pub returns-in-Ok-Some-Gen-clause-disk_left : goal.returns-in-Ok-Some-Gen-clause-disk_left
+returns-in-Ok-Some-Gen-clause-disk_left g c = λ disk n asked is. absurd (not_run g c n asked)
+
+pub returns-in-Ok-Some-Gen-clause-gen_count : goal.returns-in-Ok-Some-Gen-clause-gen_count
+returns-in-Ok-Some-Gen-clause-gen_count g c = λ n asked. c.run_generator.ensures.disk
 
 pub returns-in-Ok-Some-Gen-clause-cut_off : goal.returns-in-Ok-Some-Gen-clause-cut_off
 returns-in-Ok-Some-Gen-clause-cut_off g c = λ disk told tells n asked is. absurd (not_run g c n asked)

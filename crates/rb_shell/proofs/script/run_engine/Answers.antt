@@ -51,6 +51,29 @@ returns-clause-did g c = λ t m is going.
       ends = ran;
     }
 
+pub returns-clause-passed : goal.returns-clause-passed
+returns-clause-passed g c = λ m is going.
+    let s = g.T.Store in
+    let old = c.args.engine.store in
+    let mid = c.run_lines-end.new.runner.engine.store in
+    let new = c.end_script-status.new.engine.store in
+    let end = c.run_lines-end.result in
+    let e = c.end_script-status.ensures in
+    let d = c.run_lines-end.ensures.passed m is going in
+    let crash : s.keeps → Survives s (s.slots old) d.now.fault m.state d.now.state old new = ⊎_elim
+    (λ (done : end ≡ ends.Done).
+    let on = d.ran done in
+    let made : MadeLast s mid new d.now c.end_script-status.result = e.lasts done d.now d.reached on in
+    λ kept. survives_on s (s.slots old) m.state d.now.state d.now.state old mid new on (d.passed.crash kept) (subst (λ (k : _). Survives s k d.now.fault d.now.state d.now.state mid new) d.passed.same.slots (made.crash d.now.fault kept)))
+    (λ (other : end ≢ ends.Done).
+    let store : new ≡ mid = ap (λ x. x.store) (e.same other).1 in
+    λ kept. subst (λ x. Survives s (s.slots old) d.now.fault m.state d.now.state old x) (sym store) (d.passed.crash kept))
+    (cases_end end) in
+    record {
+      now = d.now;
+      crash = λ kept. subst (λ x. Survives s (s.slots old) d.now.fault m.state d.now.state old x) (sym c.close.ensures) (crash kept);
+    }
+
 pub returns-clause-source : goal.returns-clause-source
 returns-clause-source g c = ⊎_elim
     (λ (done : c.run_lines-end.result ≡ ends.Done). counted_as _ _ _ _ (ap lines.ends_by_source done ∙ sym (last_source c.run_lines-end.result c.end_script-status.result done c.end_script-status.ensures.is)) c.run_lines-end.ensures.source)

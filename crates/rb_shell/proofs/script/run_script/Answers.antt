@@ -12,7 +12,7 @@ use Rattle.rb_calls.specs.Since.{outside_of}
 use Rattle.rb_shell.specs.Runs.{IsSound, first_of}
 use Rattle.rb_store.specs.Laps.{Opens}
 use Rattle.rb_store.specs.contracts.lap.LapStoreStore.TheImpl.{ghosts}
-use Rattle.rb_shell.specs.Runs.{Endures, HasOpened, HasRun, Lasts, RanOn}
+use Rattle.rb_shell.specs.Runs.{Endures, HasOpened, HasRun, Lasts, LeftBehind, PassedOn, RanOn}
 use Rattle.rb_shell.specs.Statuses.{by_disk, by_sink}
 use Rattle.rb_shell.specs.declared.status.Status.TheVariants.{Done}
 use Rattle.rb_shell.proofs.RunLemmas.{endures, first_settled, has_halted, has_run, was_cut_off}
@@ -21,6 +21,35 @@ use Rattle.rb_shell.proofs.StatusLemmas.{beside, disk_by, done_by, long_by, sink
 use Rattle.rb_shell.proofs.script.run_script.Given.{Over}
 use Rattle.rb_shell.proofs.script.run_script.Goals.{After-close}
 use Rattle.rb_shell.proofs.script.run_script.Goals as goal
+
+-- what a crash leaves, whatever the source tells
+module _ (g : Over) (c : After-close g) (disk : g.D.Disk.tells) (sound : IsSound (g.D.Disk.content c.args.disk)) where
+  over : HasOpened g.D.Disk (ghosts g.row.D g.D.Disk g.D.Disk-dict) c.args.disk c.in-Ok-open_engine.engine sound
+  over = c.in-Ok-open_engine.ensures.opened disk sound
+
+  passed : PassedOn (ghosts g.row.D g.D.Disk g.D.Disk-dict) c.in-Ok-open_engine.engine.store c.run_engine-status.result.1 (first_of sound)
+  passed = c.run_engine-status.ensures.passed (first_of sound) over.stands (ap (λ (h : State). h.stopped) sound.opening.state)
+
+  left : LeftBehind g.D.Disk c.args.disk c.close.result sound
+  left =
+      let v = passed.crash disk in
+      record {
+        now = passed.now;
+        endured = subst (λ d. Endures g.D.Disk c.args.disk d sound.store.layout sound.state passed.now) (sym c.close.ensures)
+            (endures g.D.Disk c.args.disk (ghosts g.row.D g.D.Disk g.D.Disk-dict) c.in-Ok-open_engine.engine passed.now c.run_engine-status.result.1.disk sound over v.extends (record { later = v.any_moment.later; each = v.any_moment.each; earlier = v.any_moment.earlier }) v.now_only);
+      }
+
+pub returns-in-Ok-open_engine-clause-left_behind : goal.returns-in-Ok-open_engine-clause-left_behind
+returns-in-Ok-open_engine-clause-left_behind g c = λ disk asks sound. left g (goal.at.returns-in-Ok-open_engine-clause-left_behind g c).After-close disk sound
+
+pub returns-in-Ok-open_engine-clause-disk_left : goal.returns-in-Ok-open_engine-clause-disk_left
+returns-in-Ok-open_engine-clause-disk_left g c = λ disk is sound. inr (left g (goal.at.returns-in-Ok-open_engine-clause-disk_left g c).After-close disk sound)
+
+pub returns-clause-left_behind : goal.returns-clause-left_behind
+returns-clause-left_behind g c = λ disk asks sound. absurd (c.status_of_fault.ensures.no_script asks)
+
+pub returns-clause-disk_left : goal.returns-clause-disk_left
+returns-clause-disk_left g c = λ disk is sound. inl ((c.in-Err.ensures.images disk).images sound)
 
 module _ (g : Over) (c : After-close g) (disk : g.D.Disk.tells) (told : g.S.Source.tells) (sound : IsSound (g.D.Disk.content c.args.disk)) where
   opened : HasOpened g.D.Disk (ghosts g.row.D g.D.Disk g.D.Disk-dict) c.args.disk c.in-Ok-open_engine.engine sound
