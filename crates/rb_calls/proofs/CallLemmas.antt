@@ -102,14 +102,19 @@ module _ {S : Type 0} (s : Ghosts S) where
   -- from a state that the engine stood for, to the one that it stands for after the call
   pub did_call : (m : Logged) (c : Call) (r : Answer) (old new : EngineView S) (P : Logged → Type 0) → StandsAs s old m → m.state.stopped ≡ false → Does s m.state c r old new → SameStore s old.store new.store
       → ((scn lost : ℕ) → r ≡ Refused (TooOld scn lost) → CallNeedsLost s m.state old c scn lost)
+      → (is_fault r ≡ false → s.faults new.store ≡ s.faults old.store)
       → ((now : Logged) → CallOut m (outside_of (s.slots old.store)) c r now → P now) → Did (StandsAs s) (IsSince s) old new m P
-  did_call m c r old new P is going does same lost so =
+  did_call m c r old new P is going does same lost quiet so =
       let slots = slots_of (s.slots old.store) in
+      let no_fault : does.now.stopped ≡ false → is_fault r ≡ false = λ on. ⊎_elim
+      (λ (e : is_fault r ≡ true). absurd (false≢true (sym on ∙ ap (λ (h : State). h.stopped) (after_stops m.state does.now c r e does.after))))
+      (λ (e : is_fault r ≡ false). e)
+      (cases_Bool (is_fault r)) in
       let now : Logged = record { state = does.now; lsn = s.lsn new.store; fault = failed_in c r m.fault } in
       record {
         now = now;
         reached = record { engine = does.stands; lsn = refl; ended = subst (λ (slots : Option ℕ). slots ≡ Some (slots_of slots)) (sym same.slots) is.ended };
-        passed = record { same = same; crash = λ kept. does.survives m.fault going kept };
+        passed = record { same = same; crash = λ kept. does.survives m.fault going kept; still = λ on. quiet (no_fault on) };
         ran = so now (record {
           reply = subst (λ (n : ℕ). Reply m.state n (room slots n) c r) (sym is.lsn)
               (subst (λ (more : ℕ). Reply m.state (s.lsn old.store) more c r) (all_room old m is) does.reply);
@@ -146,7 +151,8 @@ pub record TriedAgain (m : Logged) (outside : Outside) (w : ℕ) (r : Answer) (n
   pub stopped : now.state.stopped ≡ is_fault r
 
 module _ {S : Type 0} (s : Ghosts S) (m : Logged) (w : ℕ) (outcome : Result Wrote Refusal) (old new : EngineView S) (is : StandsAs s old m) (going : m.state.stopped ≡ false) (same : SameStore s old.store new.store)
-    (lost : (scn gone : ℕ) → outcome ≡ Err (TooOld scn gone) → ResumeNeedsLost s m.state old w scn gone) where
+    (lost : (scn gone : ℕ) → outcome ≡ Err (TooOld scn gone) → ResumeNeedsLost s m.state old w scn gone)
+    (quiet : is_fault (write_answer outcome) ≡ false → s.faults new.store ≡ s.faults old.store) where
   abbrev r : Answer
   r = write_answer outcome
 
@@ -187,6 +193,7 @@ module _ {S : Type 0} (s : Ghosts S) (m : Logged) (w : ℕ) (outcome : Result Wr
         passed = record {
           same = same;
           crash = λ kept. survives_from m.state (left_by w m.state.queue) m.state.asked s (s.slots old.store) now.fault does.now old.store new.store (does.survives m.fault going kept);
+          still = λ on. quiet e;
         };
         ran = so now (record {
           asked = a;
@@ -232,6 +239,7 @@ module _ {S : Type 0} (s : Ghosts S) (m : Logged) (w : ℕ) (outcome : Result Wr
           crash = λ kept. survives_queue left m.state.queue m.state.asked s (s.slots old.store) now.fault m.state old.store new.store
               (survives_from m.state (left_by w m.state.queue) m.state.asked s (s.slots old.store) now.fault left old.store new.store
               (subst (λ (h : State). Survives s (s.slots old.store) now.fault (unqueued m.state w) h old.store new.store) after (does.survives m.fault going kept)));
+          still = λ on. absurd (false≢true (sym on));
         };
         ran = so now (record {
           asked = a;

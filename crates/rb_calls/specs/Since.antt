@@ -28,10 +28,12 @@ pub record StandsAs {S : Type 0} (s : Ghosts S) (e : EngineView S) (m : Logged) 
   pub lsn : m.lsn ≡ s.lsn e.store
   pub ended : s.slots e.store ≡ Some (slots_of (s.slots e.store))
 
--- The store has as many slots, and the same shape, and a crash may leave no more than `Survives` says.
+-- The store has as many slots, and the same shape, and a crash may leave no more than `Survives` says. Unless it is stopped
+-- now, it has not failed.
 pub record IsSince {S : Type 0} (s : Ghosts S) (old new : EngineView S) (before now : Logged) : Type 0 where
   pub same : SameStore s old.store new.store
   pub crash : s.keeps → Survives s (s.slots old.store) now.fault before.state now.state old.store new.store
+  pub still : now.state.stopped ≡ false → s.faults new.store ≡ s.faults old.store
 
 module _ {S : Type 0} {s : Ghosts S} where
   -- an image of an engine's store has its state
@@ -53,6 +55,7 @@ module _ {S : Type 0} {s : Ghosts S} where
           ((laws kept).only_now e.store i kept left))));
       now_only = λ i here. whole (image_has (laws kept) e m.state is.engine going kept i here);
     };
+    still = λ on. refl;
   }
 
   pub since_joined : (a b c : EngineView S) (m n k : Logged) → n.state.stopped ≡ false → IsSince s a b m n
@@ -63,4 +66,5 @@ module _ {S : Type 0} {s : Ghosts S} where
         (x.crash kept)
         (subst (λ (slots : Option ℕ). Survives s slots k.fault n.state k.state b.store c.store)
         x.same.slots (y.crash kept));
+    still = λ on. y.still on ∙ x.still going;
   }

@@ -105,7 +105,13 @@ pub record Endures {D : Type 0} (d : DiskGhosts D) (old new : D) (l : Layout) (b
     pub any_moment : Leaves d old new (λ c. d.image old c ⊎ OnTheWay Opens (Some l.log) now.fault before now.state c)
     pub now_only : (c : List ℕ) → d.image new c → AtEnd Opens (Some l.log) now.fault now.state c
 
--- The same, and at its end a crash leaves what was done to the last group, also what isn't committed: nothing waits.
+-- The same, and where no call of the disk failed its count of faults is as before.
+pub record EnduresCounted {D : Type 0} (d : DiskGhosts D) (old new : D) (l : Layout) (before : State) (now : Logged)
+    : Type 0 where
+  pub endured : Endures d old new l before now
+  pub still : now.state.stopped ≡ false → d.faults new ≡ d.faults old
+
+-- As `Endures`, and at its end a crash leaves what was done to the last group, also what isn't committed: nothing waits.
 pub record Lasts {D : Type 0} (d : DiskGhosts D) (old new : D) (l : Layout) (before : State) (now : Logged) : Type 0
   where
     pub endured : Endures d old new l before now
@@ -159,6 +165,7 @@ pub record RanOn {S : Type 0} (s : Ghosts S) (old new : S) (outside : Outside) (
     pub crash : s.keeps → Survives s (s.slots old) now.fault before.state now.state old new
     pub last : s.keeps → status ≡ Done → (i : s.image) → s.left new i
         → OpensUpTo s.opens (s.slots old) now.state.shape now.lsn i
+    pub still : status ≡ SinkFault → now.state.stopped ≡ false → s.faults new ≡ s.faults old
     pub end : LinesEnd
     pub is : EndsBy end status
     pub all_taken : end ≡ ends.Done → left_now ≡ []

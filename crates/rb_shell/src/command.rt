@@ -11,7 +11,7 @@ ghost use Rattle.rb_lines.specs.Whole.{whole_lines};
 ghost use Rattle.rb_model.specs.Lines.{lines_of};
 ghost use Rattle.rb_shell.specs.Generation.{EndsGenerator, HasTold, MadeOver, TellsCounts, WasNotTold};
 ghost use Rattle.rb_shell.specs.Runs.{IsSound, IsStore, HasHalted, HasRun, WasCutOff, Endures, LeftAlone};
-ghost use Rattle.rb_shell.specs.Runs.{HasRunOut, Lasts, LeftBehind, OpensSame, WasStopped, WasTaken};
+ghost use Rattle.rb_shell.specs.Runs.{EnduresCounted, HasRunOut, Lasts, LeftBehind, OpensSame, WasStopped, WasTaken};
 ghost use Rattle.rb_shell.specs.Runs.{EndsRun, AsksScript, AsksNothing, IsDoneOrNoMemory};
 ghost use Rattle.rb_shell.specs.Statuses.{EndsFormat, by_disk, by_sink, by_source};
 ghost use Rattle.rb_words.specs.Words.{AsksFormat, AsksGen, AsksRun, IsUsage};
@@ -98,7 +98,7 @@ pub fn run<S: Source, K: Sink, D: Disk>(
     ensures cut_off { D.tells → S.tells → K.tells → (n : ℕ) → AsksRun words.now n
         → result.0 ≡ Status.SinkFault → (sound : IsSound (D.content disk))
         → WasCutOff sound (lines_of (S.left source.old)) (K.held sink.old) (K.held sink.new)
-        (Endures D.Disk disk result.1) }
+        (EnduresCounted D.Disk disk result.1) }
 
     // Whatever the source tells: a crash leaves a state of the machine's, from that to which the file opens on.
     ensures left_behind { D.tells → (n : ℕ) → AsksRun words.now n → AsksScript result.0

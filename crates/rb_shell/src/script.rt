@@ -9,7 +9,7 @@ ghost use Rattle.rb_model.specs.Lines.{lines_of};
 ghost use Rattle.rb_model.specs.Out.{Logged};
 ghost use Rattle.rb_shell.specs.Runs.{IsSound, IsStore, HasHalted, HasOpened, HasRun, HasRunOut, RanOn, WasCutOff};
 ghost use Rattle.rb_shell.specs.Runs.{LeftAlone, WasStopped, WasTaken, EndsRun, AsksScript, AsksNothing};
-ghost use Rattle.rb_shell.specs.Runs.{Endures, EndsBy, Lasts, LeftBehind, MadeLast, OpensSame, PassedOn};
+ghost use Rattle.rb_shell.specs.Runs.{Endures, EnduresCounted, EndsBy, Lasts, LeftBehind, MadeLast, OpensSame, PassedOn};
 ghost use Rattle.rb_shell.specs.Statuses.{by_disk, by_sink, by_source, status_of, status_of_opening};
 
 use crate::line::do_line;
@@ -207,7 +207,7 @@ pub fn run_script<S: Source, K: Sink, D: Disk>(
     ensures cut_off { D.tells → S.tells → K.tells → result.0 ≡ Status.SinkFault
         → (sound : IsSound (D.content disk)) → WasCutOff sound (lines_of (S.left source.old)) (K.held sink.old)
         (K.held sink.new)
-        (Endures D.Disk disk result.1) }
+        (EnduresCounted D.Disk disk result.1) }
 
     // What a crash leaves, whatever the source tells.
     ensures left_behind { D.tells → AsksScript result.0 → (sound : IsSound (D.content disk))

@@ -11,7 +11,7 @@ use Rattle.rb_calls.specs.Since.{outside_of}
 use Rattle.rb_shell.specs.Statuses.{by_disk, by_sink, by_source}
 use Rattle.rb_shell.specs.declared.status.Status.TheVariants as statuses
 use Rattle.rb_calls.proofs.CallLemmas.{counted_as}
-use Rattle.rb_shell.proofs.StatusLemmas.{cases_end, counted_beside, counted_on, disk_of, done_by, done_of, last_sink, last_source, line_ends, sink_of, source_of}
+use Rattle.rb_shell.proofs.StatusLemmas.{cases_end, counted_beside, counted_on, disk_of, done_by, done_of, last_sink, last_source, line_ends, sink_by, sink_of, source_of}
 use Rattle.rb_shell.proofs.script.run_engine.Goals as goal
 
 pub returns-clause-did : goal.returns-clause-did
@@ -45,6 +45,10 @@ returns-clause-did g c = λ t m is going.
       now = d.now;
       crash = λ kept. subst (λ x. Survives s (s.slots old) d.now.fault m.state d.now.state old x) (sym c.close.ensures) (crash.0 kept);
       last = λ kept fine i here. crash.1 kept fine i (subst (λ x. s.left x i) c.close.ensures here);
+      still = λ cut on.
+          let by_sink_is : end ≡ ends.SinkFault = sink_by end status cut e.is in
+          let other : end ≢ ends.Done = λ done. let clash : ends.Done ≡ ends.SinkFault = sym done ∙ by_sink_is in cc in
+          ap (λ x. s.faults x) (c.close.ensures ∙ ap (λ x. x.store) (e.same other).1) ∙ d.passed.still on;
       end = end;
       is = e.is;
       all_taken = λ done. c.run_lines-end.ensures.at_end done t;

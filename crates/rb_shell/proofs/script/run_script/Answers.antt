@@ -121,7 +121,11 @@ returns-in-Ok-open_engine-clause-cut_off g c = λ disk told tells is sound.
     let a = (goal.at.returns-in-Ok-open_engine-clause-cut_off g c).After-close in
     let d = did g a disk told sound in
     let e = ended g a disk told sound ends.SinkFault (sink_by d.end _ is d.is) in
-    was_cut_off g.D.Disk c.args.disk (ghosts g.row.D g.D.Disk g.D.Disk-dict) c.in-Ok-open_engine.engine sound (opened g a disk told sound) d.now _ _ _ _ (e tells (first_settled sound)) (endured g a disk told sound)
+    was_cut_off g.D.Disk c.args.disk (ghosts g.row.D g.D.Disk g.D.Disk-dict) c.in-Ok-open_engine.engine sound (opened g a disk told sound) d.now _ _ _ _ (e tells (first_settled sound))
+    (record {
+      endured = endured g a disk told sound;
+      still = λ on. ap (λ d. g.D.Disk.faults d) c.close.ensures ∙ d.still is on ∙ c.in-Ok-open_engine.ensures.counted_ok;
+    })
 
 pub returns-in-Ok-open_engine-clause-store : goal.returns-in-Ok-open_engine-clause-store
 returns-in-Ok-open_engine-clause-store g c = λ disk asks. c.in-Ok-open_engine.ensures.store disk
