@@ -13,7 +13,8 @@ use Rattle.rb_engine.specs.Checks.{Refuses}
 use Rattle.rb_engine.proofs.FewLemmas.{grows_few}
 use Rattle.rb_engine.specs.Does.{Does, EngineView, Goes, Kept, Keeps as Retained, Knows, KnowsQueue, SameStore, Stands}
 use Rattle.rb_engine.proofs.QueueLemmas.{knows_same}
-use Rattle.rb_image.specs.Crash.{MarksGrow, Survives}
+use Rattle.rb_image.specs.Between.{MarksGrow}
+use Rattle.rb_image.specs.Crash.{Survives}
 use Rattle.rb_image.specs.Holds.{Holds}
 use Rattle.rb_image.specs.Images.{HasState}
 use Rattle.rb_image.proofs.Crashes.{grow_same, has_later}

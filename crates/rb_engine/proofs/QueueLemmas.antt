@@ -7,7 +7,8 @@ use Rattle.rb_base.specs.Moments.{weaker}
 use Rattle.rb_base.specs.declared.ids.Xid.{Xid}
 use Rattle.rb_base.specs.declared.store.Store.{Ghosts}
 use Rattle.rb_engine.specs.Does.{EngineView, Goes, IsQueue, Kept, KnowsQueue}
-use Rattle.rb_image.specs.Crash.{AtEnd, OnTheWay, RestartsAt, Survives, at_end, one_commit, one_write, reached, whole}
+use Rattle.rb_image.specs.Between.{at_end, one_commit, one_write, reached, whole}
+use Rattle.rb_image.specs.Crash.{AtEnd, OnTheWay, RestartsAt, Survives}
 use Rattle.rb_image.specs.Holds.{Holds}
 use Rattle.rb_image.specs.Images.{HasState}
 use Rattle.rb_model.specs.Book.{Book, Owner}

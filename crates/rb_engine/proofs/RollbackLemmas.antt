@@ -17,7 +17,8 @@ use Rattle.rb_engine.specs.Does.{Does, EngineView, Goes, SameStore, Stands}
 use Rattle.rb_engine.specs.Finishing.{Fails, PutsAllBack, PutsBack, SameIds}
 use Rattle.rb_engine.proofs.DoesLemmas.{does_by, holds_session, knows_on, survives_same, with_session}
 use Rattle.rb_engine.proofs.FinishLemmas.{goes, no_early, none_own, own_by, own_id, runs_in}
-use Rattle.rb_image.specs.Crash.{MarksGrow, Survives}
+use Rattle.rb_image.specs.Between.{MarksGrow}
+use Rattle.rb_image.specs.Crash.{Survives}
 use Rattle.rb_image.specs.Holds.{Holds}
 use Rattle.rb_image.specs.Images.{HasState}
 use Rattle.rb_image.specs.Made.{BackMade, BackOver, EndMade, GivesOne, KeepsIds, last_record}

@@ -6,7 +6,8 @@ use Rattle.rb_base.specs.Logs.{Laws, Logs, more_logs}
 use Rattle.rb_base.specs.Stores.{room_of}
 use Rattle.rb_base.specs.declared.ids.Xid.{Xid}
 use Rattle.rb_base.specs.declared.store.Store.{Ghosts}
-use Rattle.rb_image.specs.Crash.{Extends, Survives, with_commit}
+use Rattle.rb_image.specs.Between.{Extends, with_commit}
+use Rattle.rb_image.specs.Crash.{Survives}
 use Rattle.rb_image.specs.Holds.{Holds}
 use Rattle.rb_image.specs.Images.{HasState}
 use Rattle.rb_image.specs.Made.{CommitMade, GivesOne}

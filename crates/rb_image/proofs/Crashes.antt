@@ -8,7 +8,8 @@ use Rattle.rb_base.specs.Stores.{room_of}
 use Rattle.rb_base.specs.declared.ids.Xid.{Xid}
 use Rattle.rb_base.specs.declared.shape.Shape.{Shape}
 use Rattle.rb_base.specs.declared.store.Store.{Ghosts}
-use Rattle.rb_image.specs.Crash.{AtEnd, whole, one_commit, one_write, OnTheWay, reached, at_end, Extends, MarksGrow, Restarts, RestartsAt, Survives}
+use Rattle.rb_image.specs.Between.{whole, one_commit, one_write, reached, at_end, Extends, MarksGrow}
+use Rattle.rb_image.specs.Crash.{AtEnd, OnTheWay, Restarts, RestartsAt, Survives}
 use Rattle.rb_image.specs.Images.{HasState, MarksWithin}
 use Rattle.rb_image.proofs.Past.{sound_as}
 use Rattle.rb_model.specs.Book.{Book}

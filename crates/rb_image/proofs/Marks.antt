@@ -3,7 +3,7 @@ use Rattle.std.proofs.Common.{◌≡◌, inl, inr, ◌<◌, ◌≤◌, ℕ, Bool
 use Rattle.std.proofs.lemmas.Bool.{cases_eq, cond_both}
 use Rattle.std.proofs.lemmas.List.{get_or-set_same, get_or-set_other}
 use Rattle.rb_base.specs.declared.shape.Shape.{Shape}
-use Rattle.rb_image.specs.Crash.{MarksGrow}
+use Rattle.rb_image.specs.Between.{MarksGrow}
 use Rattle.rb_model.specs.Book.{Book, book_at, finished, fresh_book, is_pinned, left, marked, needs_turn, taken, turned}
 use Rattle.rb_model.specs.NextState.{books_written}
 

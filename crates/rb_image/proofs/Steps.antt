@@ -12,7 +12,8 @@ use Rattle.rb_base.specs.Moments.{LeavesOnly, weaker}
 use Rattle.rb_base.specs.Settling.{after_joined, told_same}
 use Rattle.rb_base.specs.declared.shape.Shape.{Shape}
 use Rattle.rb_base.specs.declared.store.Store.{Ghosts}
-use Rattle.rb_image.specs.Crash.{AtEnd, whole, one_commit, one_write, OnTheWay, reached, at_end, Extends, MarksGrow, OpensUpTo, Restarts, RestartsAt, Survives, with_commit}
+use Rattle.rb_image.specs.Between.{whole, one_commit, one_write, reached, at_end, Extends, MarksGrow, with_commit}
+use Rattle.rb_image.specs.Crash.{AtEnd, OnTheWay, OpensUpTo, Restarts, RestartsAt, Survives}
 use Rattle.rb_image.specs.Images.{HasState}
 use Rattle.rb_image.proofs.Crashes.{extends_later, extends_same, grow_same, has_later, restarts_later}
 use Rattle.rb_model.specs.Book.{Book}

@@ -7,7 +7,8 @@ use Rattle.rb_base.specs.Logs.{Laws}
 use Rattle.rb_base.specs.Stores.{room_of}
 use Rattle.rb_base.specs.declared.ids.Xid.{Xid}
 use Rattle.rb_base.specs.declared.store.Store.{Ghosts}
-use Rattle.rb_image.specs.Crash.{MarksGrow, Survives}
+use Rattle.rb_image.specs.Between.{MarksGrow}
+use Rattle.rb_image.specs.Crash.{Survives}
 use Rattle.rb_image.specs.Holds.{Holds}
 use Rattle.rb_image.specs.Images.{HasState}
 use Rattle.rb_image.specs.Made.{BackMade, CleanMade, EndMade, GivesOne, WriteMade}

@@ -3,7 +3,7 @@
 use Rattle.std.specs.Prelude.{◌≡◌, ◌≤◌, ◌<◌, ℕ, List, Option}
 use Rattle.rb_base.specs.Stores.{room_of}
 use Rattle.rb_base.specs.declared.ids.Xid.{Xid}
-use Rattle.rb_image.specs.Crash.{Extends}
+use Rattle.rb_image.specs.Between.{Extends}
 use Rattle.rb_image.specs.Images.{HasState}
 use Rattle.rb_model.specs.Book.{Book, book_at}
 use Rattle.rb_model.specs.Rows.{last_scn, rows_at}

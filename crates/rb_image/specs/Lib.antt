@@ -1,3 +1,4 @@
+pub mod Between
 pub mod Crash
 pub mod Holds
 pub mod ImageLaws

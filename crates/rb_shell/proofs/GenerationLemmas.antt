@@ -16,12 +16,20 @@ use Rattle.rb_image.specs.Crash.{OpensUpTo, Survives}
 use Rattle.rb_lines.specs.Ran.{Did}
 use Rattle.rb_model.specs.Out.{Logged}
 use Rattle.rb_model.specs.Rows.{last_scn}
-use Rattle.rb_shell.specs.Generation.{EndsGenerator, HasMade, MadeOn, line_of}
+use Rattle.rb_base.specs.declared.faults.OpenFault.{OpenFault}
+use Rattle.rb_base.specs.declared.faults.OpenFault.TheVariants as faults
+use Rattle.rb_shell.specs.Generation.{EndsGenerator, HasMade, MadeOn, TellsCounts, line_of}
 use Rattle.rb_shell.specs.Runs.{HasOpened, IsDoneOrNoMemory, IsSound, MadeLast, first_of, outside_in}
 use Rattle.rb_shell.specs.declared.status.Status.{Status}
 use Rattle.rb_shell.specs.declared.status.Status.TheVariants.{Done, Usage, SourceFault, DiskFault, SinkFault, NotAStore, NoMemory, NotEmpty, TooLong}
-use Rattle.rb_shell.specs.Statuses.{by_source}
+use Rattle.rb_shell.specs.Statuses.{by_source, status_of_opening}
 use Rattle.rb_store.specs.Laps.{LapState}
+
+-- an opening that was refused makes no line
+pub no_counts : (fault : OpenFault) (status : Status) → status ≡ status_of_opening fault → TellsCounts status → ⊥
+no_counts faults.Failed status is tells = subst TellsCounts is tells
+no_counts faults.NotAStore status is tells = subst TellsCounts is tells
+no_counts faults.NoMemory status is tells = subst TellsCounts is tells
 
 module _ {S : Type 0} (s : Ghosts S) (m : Logged) (n : ℕ) (old mid : EngineView S) (tells : Type 0) (before held : List ℕ) where
   abbrev Made : Result Counts Failed → Type 0

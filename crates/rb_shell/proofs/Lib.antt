@@ -1,8 +1,11 @@
+pub mod BooksNew
+pub mod Forgets
 pub mod GenerationLemmas
+pub mod LastLemmas
+pub mod LeftLemmas
 pub mod NewFile
 pub mod ResumeLemmas
 pub mod Returns
 pub mod RunLemmas
 pub mod SaidLemmas
 pub mod StatusLemmas
-pub mod LastLemmas

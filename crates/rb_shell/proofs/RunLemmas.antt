@@ -10,7 +10,8 @@ use Rattle.rb_disk.specs.Moments.{Leaves, Rests, rests_leave}
 use Rattle.rb_disk.specs.declared.disk.Disk.{Ghosts as DiskGhosts}
 use Rattle.rb_engine.specs.Does.{EngineView, Stands}
 use Rattle.rb_image.proofs.Crashes.{extends_later, restarts_later}
-use Rattle.rb_image.specs.Crash.{AtEnd, Extends, OnTheWay, Restarts, reached}
+use Rattle.rb_image.specs.Between.{Extends, reached}
+use Rattle.rb_image.specs.Crash.{AtEnd, OnTheWay, Restarts}
 use Rattle.rb_layout.specs.Regions.{shape_of}
 use Rattle.rb_layout.specs.declared.layout.Layout.{Layout}
 use Rattle.rb_lines.specs.Ends.{Halted}

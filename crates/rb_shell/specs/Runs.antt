@@ -5,7 +5,8 @@ use Rattle.rb_base.specs.declared.store.Store.{Ghosts}
 use Rattle.rb_disk.specs.Moments.{Leaves, Rests}
 use Rattle.rb_disk.specs.declared.disk.Disk.{Ghosts as DiskGhosts}
 use Rattle.rb_engine.specs.Does.{EngineView}
-use Rattle.rb_image.specs.Crash.{AtEnd, Extends, OnTheWay, OpensUpTo, Restarts, Survives}
+use Rattle.rb_image.specs.Between.{Extends}
+use Rattle.rb_image.specs.Crash.{AtEnd, OnTheWay, OpensUpTo, Restarts, Survives}
 use Rattle.rb_layout.specs.Regions.{shape_of}
 use Rattle.rb_layout.specs.declared.layout.Layout.{Layout}
 use Rattle.rb_lines.specs.Ends.{EndsAs, Halted}

@@ -14,6 +14,11 @@ ghost use Rattle.rb_shell.specs.Runs.{IsSound, IsStore, HasHalted, HasRun, WasCu
 ghost use Rattle.rb_shell.specs.Runs.{EnduresCounted, HasRunOut, Lasts, LeftBehind, OpensSame, WasStopped, WasTaken};
 ghost use Rattle.rb_shell.specs.Runs.{EndsRun, AsksScript, AsksNothing, IsDoneOrNoMemory};
 ghost use Rattle.rb_shell.specs.Statuses.{EndsFormat, by_disk, by_sink, by_source};
+ghost use Rattle.rb_model.specs.State.{State, opened};
+ghost use Rattle.rb_layout.specs.Regions.{shape_of};
+ghost use Rattle.rb_shell.specs.Left.{Left};
+ghost use Rattle.rb_shell.specs.NewBooks.{new_books};
+ghost use Rattle.rb_shell.specs.Over.{IsCutOver, LeavesSame, LeavesSome, RunsOver};
 ghost use Rattle.rb_words.specs.Words.{AsksFormat, AsksGen, AsksRun, IsUsage};
 
 use crate::generation::run_generator;
@@ -124,6 +129,39 @@ pub fn run<S: Source, K: Sink, D: Disk>(
         → LeftAlone D.Disk disk result.1 }
     ensures gen_store { D.tells → (n : ℕ) → AsksGen words.now n → TellsCounts result.0
         → IsStore (D.content disk) }
+
+    // The same without a word of what a sound file is: a new file is `Left`, and over each such file the replies are
+    // those of the machine that opens with its state, and each file that is left behind is such a one again.
+    ensures left_new { D.tells → (l : Layout) → AsksFormat words.now l → result.0 ≡ Status.Done
+        → (file : List ℕ) → D.image result.1 file
+        → Left l.log file (opened (shape_of l) 0 [] (new_books (shape_of l))) }
+    ensures left { D.tells → S.tells → (n : ℕ) → AsksRun words.now n → result.0 ≡ Status.Done
+        → (slots : ℕ) (h : State) → Left slots (D.content disk) h
+        → RunsOver D.Disk disk result.1 slots h (lines_of (S.left source.old)) K.tells (K.held sink.old)
+        (K.held sink.new) }
+    ensures left_source { D.tells → S.tells → result.0 ≡ Status.SourceFault
+        → (slots : ℕ) (h : State) → Left slots (D.content disk) h
+        → ((taken : List ℕ) × WasTaken taken (S.left source.old) (S.left source.new)
+        × RunsOver D.Disk disk result.1 slots h (whole_lines taken) K.tells (K.held sink.old) (K.held sink.new)) }
+    ensures left_long { D.tells → S.tells → result.0 ≡ Status.TooLong
+        → (slots : ℕ) (h : State) → Left slots (D.content disk) h
+        → ((taken : List ℕ) × (length taken ≡ 1000000000) × WasTaken taken (S.left source.old) (S.left source.new)
+        × RunsOver D.Disk disk result.1 slots h (whole_lines taken) K.tells (K.held sink.old) (K.held sink.new)) }
+    ensures left_disk { D.tells → S.tells → (n : ℕ) → AsksRun words.now n → result.0 ≡ Status.DiskFault
+        → (slots : ℕ) (h : State) → Left slots (D.content disk) h
+        → ((source.new ≡ source.old) × (sink.new ≡ sink.old) × LeavesSame D.Disk disk result.1 slots h)
+        ⊎ RunsOver D.Disk disk result.1 slots h (lines_of (S.left source.old)) K.tells (K.held sink.old)
+        (K.held sink.new) }
+    ensures left_cut { D.tells → S.tells → K.tells → (n : ℕ) → AsksRun words.now n
+        → result.0 ≡ Status.SinkFault → (slots : ℕ) (h : State) → Left slots (D.content disk) h
+        → IsCutOver D.Disk disk result.1 slots h (lines_of (S.left source.old)) (K.held sink.old) (K.held sink.new) }
+    ensures left_some { D.tells → (n : ℕ) → AsksRun words.now n → AsksScript result.0
+        → (slots : ℕ) (h : State) → Left slots (D.content disk) h → LeavesSome D.Disk disk result.1 slots h }
+    ensures left_gen { D.tells → (n : ℕ) → AsksGen words.now n → TellsCounts result.0
+        → (slots : ℕ) (h : State) → Left slots (D.content disk) h → LeavesSome D.Disk disk result.1 slots h }
+    ensures left_fault { D.tells → result.0 ≡ Status.DiskFault → ((l : Layout) → ¬ AsksFormat words.now l)
+        → (slots : ℕ) (h : State) → Left slots (D.content disk) h
+        → LeavesSame D.Disk disk result.1 slots h ⊎ LeavesSome D.Disk disk result.1 slots h }
 
     // Where the script isn't asked for, the file opens as before. It is asked for just where the file is a store.
     ensures source_same { AsksNothing result.0 → source.new ≡ source.old }

@@ -8,7 +8,7 @@ ghost use Rattle.rb_model.specs.Out.{Logged};
 ghost use Rattle.rb_shell.specs.Generation.{EndsCommands, EndsGenerator, HasTold, MadeOn, MadeOver, TellsCounts};
 ghost use Rattle.rb_shell.specs.Generation.{WasNotTold};
 ghost use Rattle.rb_shell.specs.Runs.{AsksNothing, Endures, IsSound, IsStore, Lasts, LeftAlone};
-ghost use Rattle.rb_shell.specs.Runs.{WasStopped};
+ghost use Rattle.rb_shell.specs.Runs.{LeftBehind, OpensSame, WasStopped};
 ghost use Rattle.rb_shell.specs.Statuses.{by_disk, by_sink};
 ghost use Rattle.rb_stream.specs.StreamModel.{Puts};
 
@@ -50,6 +50,12 @@ fn make_commands<K: Sink, T: Store>(
         (K.held sink.old) (K.held sink.new) result.0 }
     ensures ends { EndsCommands result.0 }
     ensures no_line { result.0 ≡ Status.DiskFault → sink.new ≡ sink.old }
+
+    // What a crash leaves, whatever the sink tells.
+    ensures left_behind { D.tells → TellsCounts result.0 → (sound : IsSound (D.content disk))
+        → LeftBehind D.Disk disk result.1 sound }
+    ensures disk_left { D.tells → result.0 ≡ Status.DiskFault → (sound : IsSound (D.content disk))
+        → OpensSame D.Disk disk result.1 sound ⊎ LeftBehind D.Disk disk result.1 sound }
     ensures disk { IsCountedAs (T.faults engine.store) (T.faults result.1) (by_disk result.0) }
     ensures sink { IsCountedAs (K.faults sink.old) (K.faults sink.new) (by_sink result.0) }
 {

@@ -1,5 +1,5 @@
 use Rattle.rb_layout.specs.Regions.{file_version}
-use Rattle.std.proofs.Common.{◌∙◌, ◌⊎◌, ℕ, Bool, refl, ap, subst, arith}
+use Rattle.std.proofs.Common.{◌∙◌, ◌⊎◌, ⊎_elim, inl, inr, ℕ, Bool, refl, ap, subst, arith}
 use Rattle.rb_layout.specs.declared.layout.Layout.{Layout}
 use Rattle.rb_words.specs.Words.{AsksFormat, AsksGen, AsksRun}
 use Rattle.rb_words.specs.declared.words.Request.TheVariants.{Format, Gen, Run}
@@ -7,6 +7,8 @@ use Rattle.rb_shell.proofs.RunLemmas.{complete_format, complete_run, not_longer,
 use Rattle.rb_words.proofs.Spelling.{same_file, same_gen, not_both, not_format_and_gen, not_run_and_gen}
 use Rattle.rb_shell.proofs.GenerationLemmas.{complete_gen, gen_source}
 use Rattle.rb_shell.proofs.StatusLemmas.{beside, format_sink, format_source, uncounted}
+use Rattle.rb_shell.proofs.LeftLemmas.{is_cut_over, leaves_same, leaves_some, opens_with, runs_over}
+use Rattle.rb_shell.specs.Left.{fresh}
 use Rattle.rb_shell.specs.Generation.{HasTold, MadeOver, WasNotTold}
 use Rattle.rb_shell.specs.Runs.{Endures, IsSound, Lasts, WasStopped}
 use Rattle.rb_shell.specs.Statuses.{by_disk, by_sink, by_source}
@@ -123,6 +125,34 @@ returns-in-Ok-Some-Format-clause-disk_left g c = λ disk n asked is. absurd (no_
 
 pub returns-in-Ok-Some-Format-clause-gen_count : goal.returns-in-Ok-Some-Format-clause-gen_count
 returns-in-Ok-Some-Format-clause-gen_count g c = λ n asked. absurd (no_gen g c n asked)
+
+pub returns-in-Ok-Some-Format-clause-left_new : goal.returns-in-Ok-Some-Format-clause-left_new
+returns-in-Ok-Some-Format-clause-left_new g c = λ told l asked done file here.
+    fresh l refl file (c.run_format.ensures.durable told done file here ∙ same_file file_version c.args.words.now c.in-Ok-Some-Format.layout l (asks_format g c) asked) _ refl
+
+pub returns-in-Ok-Some-Format-clause-left : goal.returns-in-Ok-Some-Format-clause-left
+returns-in-Ok-Some-Format-clause-left g c = λ disk told n asked is. absurd (no_run g c n asked)
+
+pub returns-in-Ok-Some-Format-clause-left_source : goal.returns-in-Ok-Some-Format-clause-left_source
+returns-in-Ok-Some-Format-clause-left_source g c = λ disk told is. absurd (rw is at c.run_format.ensures.ends)
+
+pub returns-in-Ok-Some-Format-clause-left_long : goal.returns-in-Ok-Some-Format-clause-left_long
+returns-in-Ok-Some-Format-clause-left_long g c = λ disk told is. absurd (rw is at c.run_format.ensures.ends)
+
+pub returns-in-Ok-Some-Format-clause-left_disk : goal.returns-in-Ok-Some-Format-clause-left_disk
+returns-in-Ok-Some-Format-clause-left_disk g c = λ disk told n asked is. absurd (no_run g c n asked)
+
+pub returns-in-Ok-Some-Format-clause-left_cut : goal.returns-in-Ok-Some-Format-clause-left_cut
+returns-in-Ok-Some-Format-clause-left_cut g c = λ disk told tells n asked is. absurd (no_run g c n asked)
+
+pub returns-in-Ok-Some-Format-clause-left_some : goal.returns-in-Ok-Some-Format-clause-left_some
+returns-in-Ok-Some-Format-clause-left_some g c = λ disk n asked asks. absurd (no_run g c n asked)
+
+pub returns-in-Ok-Some-Format-clause-left_gen : goal.returns-in-Ok-Some-Format-clause-left_gen
+returns-in-Ok-Some-Format-clause-left_gen g c = λ disk n asked tells. absurd (no_gen g c n asked)
+
+pub returns-in-Ok-Some-Format-clause-left_fault : goal.returns-in-Ok-Some-Format-clause-left_fault
+returns-in-Ok-Some-Format-clause-left_fault g c = λ disk is none. absurd (none c.in-Ok-Some-Format.layout (asks_format g c))
 
 pub returns-in-Ok-Some-Format-clause-cut_off : goal.returns-in-Ok-Some-Format-clause-cut_off
 returns-in-Ok-Some-Format-clause-cut_off g c = λ disk told tells n asked is. absurd (no_run g c n asked)
@@ -245,6 +275,63 @@ returns-in-Ok-Some-Run-clause-disk_left g c = λ disk n asked is sound. c.run_sc
 pub returns-in-Ok-Some-Run-clause-gen_count : goal.returns-in-Ok-Some-Run-clause-gen_count
 returns-in-Ok-Some-Run-clause-gen_count g c = λ n asked. absurd (gen_no g c n asked)
 
+pub returns-in-Ok-Some-Run-clause-left_new : goal.returns-in-Ok-Some-Run-clause-left_new
+returns-in-Ok-Some-Run-clause-left_new g c = λ told l asked. absurd (no_format g c l asked)
+
+pub returns-in-Ok-Some-Run-clause-left : goal.returns-in-Ok-Some-Run-clause-left
+returns-in-Ok-Some-Run-clause-left g c = λ disk told n asked is slots h left.
+    let w = opens_with slots (g.D.Disk.content c.args.disk) h left in
+    let r = (c.run_script.ensures.done disk told is w.sound).run in
+    runs_over slots (g.D.Disk.content c.args.disk) h left g.D.Disk c.args.disk c.run_script.result.1 w _ g.K.Sink.tells _ _ r.now r.ran r.endured.endured
+
+pub returns-in-Ok-Some-Run-clause-left_source : goal.returns-in-Ok-Some-Run-clause-left_source
+returns-in-Ok-Some-Run-clause-left_source g c = λ disk told is slots h left.
+    let w = opens_with slots (g.D.Disk.content c.args.disk) h left in
+    let all = c.run_script.ensures.source_done disk told is w.sound in
+    let r = all.2.run in
+    (all.0, all.1, runs_over slots (g.D.Disk.content c.args.disk) h left g.D.Disk c.args.disk c.run_script.result.1 w _ g.K.Sink.tells _ _ r.now r.ran r.endured)
+
+pub returns-in-Ok-Some-Run-clause-left_long : goal.returns-in-Ok-Some-Run-clause-left_long
+returns-in-Ok-Some-Run-clause-left_long g c = λ disk told is slots h left.
+    let w = opens_with slots (g.D.Disk.content c.args.disk) h left in
+    let all = c.run_script.ensures.too_long disk told is w.sound in
+    let r = all.3.run in
+    (all.0, all.1, all.2, runs_over slots (g.D.Disk.content c.args.disk) h left g.D.Disk c.args.disk c.run_script.result.1 w _ g.K.Sink.tells _ _ r.now r.ran r.endured)
+
+pub returns-in-Ok-Some-Run-clause-left_disk : goal.returns-in-Ok-Some-Run-clause-left_disk
+returns-in-Ok-Some-Run-clause-left_disk g c = λ disk told n asked is slots h left.
+    let w = opens_with slots (g.D.Disk.content c.args.disk) h left in
+    let over = runs_over slots (g.D.Disk.content c.args.disk) h left g.D.Disk c.args.disk c.run_script.result.1 w _ g.K.Sink.tells in
+    ⊎_elim
+    (λ stopped. inl (stopped.0, stopped.1, leaves_same slots (g.D.Disk.content c.args.disk) h left g.D.Disk c.args.disk c.run_script.result.1 w (stopped.2.images w.sound)))
+    (λ on. inr (⊎_elim
+    (λ halted. over _ _ halted.run.now halted.run.ran halted.run.endured)
+    (λ behind. over _ _ behind.run.run.now behind.run.run.ran behind.run.run.endured)
+    (on w.sound)))
+    (c.run_script.ensures.disk_done disk told is)
+
+pub returns-in-Ok-Some-Run-clause-left_cut : goal.returns-in-Ok-Some-Run-clause-left_cut
+returns-in-Ok-Some-Run-clause-left_cut g c = λ disk told tells n asked is slots h left.
+    let w = opens_with slots (g.D.Disk.content c.args.disk) h left in
+    let cut = c.run_script.ensures.cut_off disk told tells is w.sound in
+    is_cut_over slots (g.D.Disk.content c.args.disk) h left g.D.Disk c.args.disk c.run_script.result.1 w _ _ _ cut.now cut.cut cut.endured.endured
+
+pub returns-in-Ok-Some-Run-clause-left_some : goal.returns-in-Ok-Some-Run-clause-left_some
+returns-in-Ok-Some-Run-clause-left_some g c = λ disk n asked asks slots h left.
+    let w = opens_with slots (g.D.Disk.content c.args.disk) h left in
+    leaves_some slots (g.D.Disk.content c.args.disk) h left g.D.Disk c.args.disk c.run_script.result.1 w (c.run_script.ensures.left_behind disk asks w.sound)
+
+pub returns-in-Ok-Some-Run-clause-left_gen : goal.returns-in-Ok-Some-Run-clause-left_gen
+returns-in-Ok-Some-Run-clause-left_gen g c = λ disk n asked tells. absurd (gen_no g c n asked)
+
+pub returns-in-Ok-Some-Run-clause-left_fault : goal.returns-in-Ok-Some-Run-clause-left_fault
+returns-in-Ok-Some-Run-clause-left_fault g c = λ disk is none slots h left.
+    let w = opens_with slots (g.D.Disk.content c.args.disk) h left in
+    ⊎_elim
+    (λ same. inl (leaves_same slots (g.D.Disk.content c.args.disk) h left g.D.Disk c.args.disk c.run_script.result.1 w same))
+    (λ on. inr (leaves_some slots (g.D.Disk.content c.args.disk) h left g.D.Disk c.args.disk c.run_script.result.1 w on))
+    (c.run_script.ensures.disk_left disk is w.sound)
+
 pub returns-in-Ok-Some-Run-clause-untouched : goal.returns-in-Ok-Some-Run-clause-untouched
 returns-in-Ok-Some-Run-clause-untouched g c = λ disk n asked is. c.run_script.ensures.untouched disk is
 
@@ -282,6 +369,9 @@ returns-in-Ok-None-clause-run_ends g c = λ n asked. (rw c.in-Ok-None.field-0-is
 
 pub returns-in-Ok-None-clause-gen_count : goal.returns-in-Ok-None-clause-gen_count
 returns-in-Ok-None-clause-gen_count g c = λ n asked. absurd ((rw c.in-Ok-None.field-0-is at c.in-Ok-None.ensures.none) (Gen n) asked)
+
+pub returns-in-Ok-None-clause-left_new : goal.returns-in-Ok-None-clause-left_new
+returns-in-Ok-None-clause-left_new g c = λ told l asked is. absurd ((rw c.in-Ok-None.field-0-is at c.in-Ok-None.ensures.none) (Format l) asked)
 
 pub returns-in-Ok-None-clause-untouched : goal.returns-in-Ok-None-clause-untouched
 returns-in-Ok-None-clause-untouched g c = λ disk n asked is. absurd ((rw c.in-Ok-None.field-0-is at c.in-Ok-None.ensures.none) (Run n) asked)
@@ -391,6 +481,40 @@ returns-in-Ok-Some-Gen-clause-disk_left g c = λ disk n asked is. absurd (not_ru
 
 pub returns-in-Ok-Some-Gen-clause-gen_count : goal.returns-in-Ok-Some-Gen-clause-gen_count
 returns-in-Ok-Some-Gen-clause-gen_count g c = λ n asked. c.run_generator.ensures.disk
+
+pub returns-in-Ok-Some-Gen-clause-left_new : goal.returns-in-Ok-Some-Gen-clause-left_new
+returns-in-Ok-Some-Gen-clause-left_new g c = λ told l asked. absurd (not_format g c l asked)
+
+pub returns-in-Ok-Some-Gen-clause-left : goal.returns-in-Ok-Some-Gen-clause-left
+returns-in-Ok-Some-Gen-clause-left g c = λ disk told n asked is. absurd (not_run g c n asked)
+
+pub returns-in-Ok-Some-Gen-clause-left_source : goal.returns-in-Ok-Some-Gen-clause-left_source
+returns-in-Ok-Some-Gen-clause-left_source g c = λ disk told is. absurd (rw is at c.run_generator.ensures.ends)
+
+pub returns-in-Ok-Some-Gen-clause-left_long : goal.returns-in-Ok-Some-Gen-clause-left_long
+returns-in-Ok-Some-Gen-clause-left_long g c = λ disk told is. absurd (rw is at c.run_generator.ensures.ends)
+
+pub returns-in-Ok-Some-Gen-clause-left_disk : goal.returns-in-Ok-Some-Gen-clause-left_disk
+returns-in-Ok-Some-Gen-clause-left_disk g c = λ disk told n asked is. absurd (not_run g c n asked)
+
+pub returns-in-Ok-Some-Gen-clause-left_cut : goal.returns-in-Ok-Some-Gen-clause-left_cut
+returns-in-Ok-Some-Gen-clause-left_cut g c = λ disk told tells n asked is. absurd (not_run g c n asked)
+
+pub returns-in-Ok-Some-Gen-clause-left_some : goal.returns-in-Ok-Some-Gen-clause-left_some
+returns-in-Ok-Some-Gen-clause-left_some g c = λ disk n asked asks. absurd (not_run g c n asked)
+
+pub returns-in-Ok-Some-Gen-clause-left_gen : goal.returns-in-Ok-Some-Gen-clause-left_gen
+returns-in-Ok-Some-Gen-clause-left_gen g c = λ disk n asked tells slots h left.
+    let w = opens_with slots (g.D.Disk.content c.args.disk) h left in
+    leaves_some slots (g.D.Disk.content c.args.disk) h left g.D.Disk c.args.disk c.run_generator.result.1 w (c.run_generator.ensures.left_behind disk tells w.sound)
+
+pub returns-in-Ok-Some-Gen-clause-left_fault : goal.returns-in-Ok-Some-Gen-clause-left_fault
+returns-in-Ok-Some-Gen-clause-left_fault g c = λ disk is none slots h left.
+    let w = opens_with slots (g.D.Disk.content c.args.disk) h left in
+    ⊎_elim
+    (λ same. inl (leaves_same slots (g.D.Disk.content c.args.disk) h left g.D.Disk c.args.disk c.run_generator.result.1 w same))
+    (λ on. inr (leaves_some slots (g.D.Disk.content c.args.disk) h left g.D.Disk c.args.disk c.run_generator.result.1 w on))
+    (c.run_generator.ensures.disk_left disk is w.sound)
 
 pub returns-in-Ok-Some-Gen-clause-cut_off : goal.returns-in-Ok-Some-Gen-clause-cut_off
 returns-in-Ok-Some-Gen-clause-cut_off g c = λ disk told tells n asked is. absurd (not_run g c n asked)

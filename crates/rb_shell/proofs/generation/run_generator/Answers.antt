@@ -1,8 +1,8 @@
-use Rattle.std.proofs.Common.{◌≡◌, ◌≢◌, ◌∙◌, refl, ℕ, Bool, false, Some, inr, sym, ap, subst}
+use Rattle.std.proofs.Common.{◌≡◌, ◌≢◌, ◌∙◌, refl, ℕ, Bool, false, Some, inl, inr, sym, ap, subst}
 use Rattle.rb_image.specs.Crash.{OpensUpTo}
 use Rattle.rb_model.specs.State.{State}
 use Rattle.rb_calls.specs.Since.{outside_of}
-use Rattle.rb_shell.proofs.GenerationLemmas.{same_made}
+use Rattle.rb_shell.proofs.GenerationLemmas.{no_counts, same_made}
 use Rattle.rb_shell.proofs.RunLemmas.{endures}
 use Rattle.rb_shell.specs.Generation.{HasMade, MadeOn}
 use Rattle.rb_shell.specs.Runs.{Endures, HasOpened, IsSound, Lasts, first_of, outside_in}
@@ -54,6 +54,22 @@ returns-in-Ok-clause-cut_off g c = λ disk tells is sound.
     let fine : c.make_commands-status.result.0 ≢ DiskFault = λ fault. (let clash : SinkFault ≡ DiskFault = sym is ∙ fault in cc) in
     let cut = d.cut is tells in
     record { over = record { made = made g a disk sound false (d.all fine); endured = lasts g a disk sound fine }; size = cut.0; written = cut.1 }
+
+pub returns-in-Ok-clause-left_behind : goal.returns-in-Ok-clause-left_behind
+returns-in-Ok-clause-left_behind g c = λ disk tells sound.
+    let a = (goal.at.returns-in-Ok-clause-left_behind g c).After-close in
+    record { now = (did g a disk sound).made.now; endured = endured g a disk sound }
+
+pub returns-in-Ok-clause-disk_left : goal.returns-in-Ok-clause-disk_left
+returns-in-Ok-clause-disk_left g c = λ disk is sound.
+    let a = (goal.at.returns-in-Ok-clause-disk_left g c).After-close in
+    inr (record { now = (did g a disk sound).made.now; endured = endured g a disk sound })
+
+pub returns-clause-left_behind : goal.returns-clause-left_behind
+returns-clause-left_behind g c = λ disk tells sound. absurd (no_counts c.in-Err.fault c.status_of_fault.result c.status_of_fault.ensures.is tells)
+
+pub returns-clause-disk_left : goal.returns-clause-disk_left
+returns-clause-disk_left g c = λ disk is sound. inl ((c.in-Err.ensures.images disk).images sound)
 
 pub returns-in-Ok-clause-disk_done : goal.returns-in-Ok-clause-disk_done
 returns-in-Ok-clause-disk_done g c = λ disk is. inr (λ sound.

@@ -1,0 +1,57 @@
+-- What a run over a file that a person may have does, and which files it may leave, without a word of blocks.
+use Rattle.std.specs.Prelude.{◌≡◌, ◌⊎◌, ℕ, List, Option, None}
+use Rattle.rb_disk.specs.Moments.{Leaves}
+use Rattle.rb_disk.specs.declared.disk.Disk.{Ghosts as DiskGhosts}
+use Rattle.rb_image.specs.Between.{FoundAtEnd, FoundBetween, MarksGrow}
+use Rattle.rb_lines.specs.Ran.{CutOff, Ran}
+use Rattle.rb_model.specs.Book.{Book}
+use Rattle.rb_model.specs.Out.{Logged, Outside, outside_by}
+use Rattle.rb_model.specs.Rows.{last_scn, rows_at}
+use Rattle.rb_model.specs.State.{State, opened}
+use Rattle.rb_shell.specs.Left.{Left}
+
+-- The file opens with the rows after a state's commits up to n, and with marks that are no more than these books say.
+pub record HasRows (slots : ℕ) (books : List Book) (h : State) (n : ℕ) (file : List ℕ) : Type 0 where
+  pub found : List Book
+  pub marks : MarksGrow h.shape found books
+  pub left : Left slots file (opened h.shape n (rows_at h.shape.blocks h.commits n) found)
+
+-- The files that are left at each moment of a run: those that the disk had at its start, or some with a number from that
+-- of the state it opened with on; and at its end the files with all commits.
+pub record LeavesFiles {D : Type 0} (d : DiskGhosts D) (old new : D) (slots : ℕ) (before : State) (now : Logged)
+    : Type 0 where
+  pub any_moment : Leaves d old new
+      (λ c. d.image old c ⊎ FoundBetween (HasRows slots) now.fault before now.state c)
+  pub now_only : (c : List ℕ) → d.image new c → FoundAtEnd (HasRows slots) now.fault now.state c
+
+-- what answers hang on besides the machine's state, where a snapshot may be too old whenever something above it was
+-- given up
+abbrev pub plain : ℕ → Outside
+plain slots = outside_by (λ h call snapshot lost. Unit {0}) slots
+
+-- The machine that opens with that state did these lines, and the sink holds the replies then, where it tells; and the
+-- files that are left have what the machine has.
+pub record RunsOver {D : Type 0} (d : DiskGhosts D) (old new : D) (slots : ℕ) (h : State) (lines : List (List ℕ))
+    (tells : Type 0) (held_before held_now : List ℕ) : Type 0 where
+  pub lsn : ℕ
+  pub now : Logged
+  pub ran : Ran (plain slots) (record { state = h; lsn = lsn; fault = None }) now lines tells held_before held_now
+  pub leaves : LeavesFiles d old new slots h now
+
+-- It was cut off in one of these lines: the sink holds a front of the replies.
+pub record IsCutOver {D : Type 0} (d : DiskGhosts D) (old new : D) (slots : ℕ) (h : State) (lines : List (List ℕ))
+    (held_before held_now : List ℕ) : Type 0 where
+  pub lsn : ℕ
+  pub now : Logged
+  pub cut : CutOff (plain slots) (record { state = h; lsn = lsn; fault = None }) now lines held_before held_now
+  pub leaves : LeavesFiles d old new slots h now
+
+-- whatever it did, it came to some state
+pub record LeavesSome {D : Type 0} (d : DiskGhosts D) (old new : D) (slots : ℕ) (h : State) : Type 0 where
+  pub now : Logged
+  pub leaves : LeavesFiles d old new slots h now
+
+-- the opening was stopped: each file that is left has all of that state, but for those of before
+abbrev pub LeavesSame : {D : Type 0} → (d : DiskGhosts D) (old new : D) (slots : ℕ) → State → Type 0
+LeavesSame d old new slots h =
+    Leaves d old new (λ c. d.image old c ⊎ HasRows slots h.books h (last_scn h.commits) c)
