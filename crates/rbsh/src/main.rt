@@ -65,14 +65,17 @@ fn end(rt: &HostRuntime, ended: &Ended<'_>) -> ExitCode {
     ExitCode::from(ended.status.code())
 }
 
+// Answers a question about the program, or does what the words ask for over a file.
+fn do_words<'a>(rt: &HostRuntime, words: &'a [String]) -> Ended<'a> {
+    match parse_question(words) {
+        Some(question) => answer_words(rt, question),
+        None => run_words(rt, words),
+    }
+}
+
 fn main(rt: HostRuntime) -> ExitCode {
-    let words = match words(&rt) {
-        Ok(words) => words,
-        Err(status) => return end(&rt, &Ended::by(status)),
-    };
-    let ended = match parse_question(&words) {
-        Some(question) => answer_words(&rt, question),
-        None => run_words(&rt, &words),
-    };
-    end(&rt, &ended)
+    match words(&rt) {
+        Ok(words) => end(&rt, &do_words(&rt, &words)),
+        Err(status) => end(&rt, &Ended::by(status)),
+    }
 }
