@@ -29,8 +29,8 @@ pub record StandsAs {S : Type 0} (s : Ghosts S) (e : EngineView S) (m : Logged) 
   pub lsn : m.lsn ≡ s.lsn e.store
   pub ended : s.slots e.store ≡ Some (slots_of (s.slots e.store))
 
--- The store has as many slots, and the same shape, and a crash may leave no more than `Survives` says. Unless it is stopped
--- now, it has not failed.
+-- The store has as many slots, and the same shape, and a crash may leave no more than `Survives` says. Unless it is
+-- stopped now, it has not failed.
 pub record IsSince {S : Type 0} (s : Ghosts S) (old new : EngineView S) (before now : Logged) : Type 0 where
   pub same : SameStore s old.store new.store
   pub crash : s.keeps → Survives s (s.slots old.store) now.fault before.state now.state old.store new.store

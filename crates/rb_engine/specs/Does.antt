@@ -113,8 +113,8 @@ Keeps h call answer now = (s table key : ℕ) (action : Action)
     → call ≡ Write s table key action → answer ≡ Done → Retains h s now
 
 -- A call with that answer on an engine that stood for h: the machine allows the answer, and the engine stands for the
--- state after it. Unless it is stopped then, the log has so many groups more, 2^14 at most. A crash in it leaves no more
--- than the states before and after it; where the call answers a fault of the disk, what such a call may have left
+-- state after it. Unless it is stopped then, the log has so many groups more, 2^14 at most. A crash in it leaves no
+-- more than the states before and after it; where the call answers a fault of the disk, what such a call may have left
 -- besides.
 pub record Does {S : Type 0} (s : Ghosts S) (h : State) (call : Call) (answer : Answer) (old new : EngineView S) : Type
     0 where

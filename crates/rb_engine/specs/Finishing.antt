@@ -32,7 +32,8 @@ Commits s h xids who x old new true = Holds s (committed h who x.seg x.slot) (xi
 Commits s h xids who x old new false = Fails s (Some (Commit who)) h old new
 
 -- the put back of its changes but for so many, its first ones, by the transaction of that id
-abbrev pub PutsBack : {S : Type 0} → Ghosts S → State → List Xid → ℕ → ℕ → Xid → S → S → Bool → Type 0
+abbrev pub PutsBack : {S : Type 0} → Ghosts S → State → List Xid → ℕ → ℕ → Xid → S → S → Bool
+    → Type 0
 PutsBack s h xids who kept x old new true = Holds s (with_own h who (take kept (session_own h who))) xids new
     × SameIds s h old new × (s.lsn new ≡ s.lsn old + (length (session_own h who) - kept))
     × ((before : Option Call) → s.keeps

@@ -28,8 +28,9 @@ use Rattle.rb_views.specs.Views.{IsCursor}
 -- And then the slot ends, where the session has one.
 abbrev pub EndOver : State → (s n : ℕ) → (before now : List (List ℕ)) → Type 0
 EndOver h s n before now =
-    ((g : ℕ) × (i : ℕ) × Owned h s g i × (middle : List (List ℕ)) × BackOver h.shape (16 * g + i) n before middle
-    × IsEnded h.shape (16 * g + i) middle now) ⊎ (HasNoSlot h s × (now ≡ before))
+    ((g : ℕ) × (i : ℕ) × Owned h s g i × (middle : List (List ℕ))
+    × BackOver h.shape (16 * g + i) n before middle × IsEnded h.shape (16 * g + i) middle now)
+    ⊎ (HasNoSlot h s × (now ≡ before))
 
 -- a write in slot i of segment g
 pub record WritesOne (h : State) (g i table key : ℕ) (action : Action) (before now : List (List ℕ)) : Type 0 where
@@ -56,8 +57,8 @@ MadeBy h (RollbackTo s name) before now = (p : Savepoint) × (savepoint_of h s n
 MadeBy h call before now = now ≡ before
 
 -- A fetch cleans no block but those that it reads, and all of them where it went well and the log has room.
-pub record ReadBy (h : State) (who : ℕ) (name : List ℕ) (well : Type 0) (slots lsn : ℕ) (before now : List (List ℕ))
-    : Type 0 where
+pub record ReadBy (h : State) (who : ℕ) (name : List ℕ) (well : Type 0) (slots lsn : ℕ)
+    (before now : List (List ℕ)) : Type 0 where
   pub xids : List Xid
   pub cursor : machine.Cursor
   pub named : machine.cursor_of h who name ≡ Some cursor

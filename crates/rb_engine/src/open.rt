@@ -77,7 +77,8 @@ fn open_with<T: Store>(scratch: Scratch, store: T) -> Result<Engine<T>, (OpenFau
     ensures stays { T.tells → (h : State) → OpensTo T.Store h store
         → IfErr result (λ r. StaysOpen T.Store h store r.1) }
     ensures unchanged { IfErr result (λ r. r.0 ≢ OpenFault.Failed → Logs T.Store store r.1 [] true) }
-    ensures untouched { T.tells → ¬ CanOpen (T.shape_of store) (T.blocks store) (room_of (T.slots store) (T.lsn store))
+    ensures untouched { T.tells
+        → ¬ CanOpen (T.shape_of store) (T.blocks store) (room_of (T.slots store) (T.lsn store))
         → IfErr result (λ r. (going : Bool) × Logs T.Store store r.1 [] going) }
     ensures sound { T.tells → OnOk result
         (CanOpen (T.shape_of store) (T.blocks store) (room_of (T.slots store) (T.lsn store))) }
@@ -111,7 +112,8 @@ impl<T: Store> Engine<T> {
         ensures stays { T.tells → (h : State) → OpensTo T.Store h store
             → IfErr result (λ r. StaysOpen T.Store h store r.1) }
         ensures unchanged { IfErr result (λ r. r.0 ≢ OpenFault.Failed → Logs T.Store store r.1 [] true) }
-        ensures untouched { T.tells → ¬ CanOpen (T.shape_of store) (T.blocks store) (room_of (T.slots store) (T.lsn store))
+        ensures untouched { T.tells
+            → ¬ CanOpen (T.shape_of store) (T.blocks store) (room_of (T.slots store) (T.lsn store))
             → IfErr result (λ r. (going : Bool) × Logs T.Store store r.1 [] going) }
         ensures sound { T.tells → OnOk result
             (CanOpen (T.shape_of store) (T.blocks store) (room_of (T.slots store) (T.lsn store))) }

@@ -1,5 +1,5 @@
--- What is found of a state at the end of calls, and on the way to it. What "found" means is open here: an image may have
--- a state's rows after its commits up to a number, and marks that are no more than those of some books.
+-- What is found of a state at the end of calls, and on the way to it. What that is is open here (`has`): an image may
+-- have a state's rows after its commits up to a number, and marks that are no more than those of some books.
 use Rattle.std.specs.Prelude.{◌≡◌, ℕ, ◌+◌, ◌<◌, ◌≤◌, true, false, List, [], ◌∷◌, ◌++◌}
 use Rattle.std.specs.Prelude.{Option, Some}
 use Rattle.rb_base.specs.declared.shape.Shape.{Shape}
@@ -31,8 +31,8 @@ with_commit h s = record h { commits = record h.commits { list = h.commits.list 
 -- An image of an engine that is in that state, and of the call in which the disk failed, if it has. A commit that
 -- answered the fault may be in the image or not; so may a write that did, of which the marks alone tell, as it is put
 -- back. Any other call leaves the whole state.
-pub data FoundAtEnd {I : Type 0} (has : List Book → State → ℕ → I → Type 0) (fault : Option Call) (h : State) (i : I)
-    : Type 0 where
+pub data FoundAtEnd {I : Type 0} (has : List Book → State → ℕ → I → Type 0) (fault : Option Call) (h : State)
+    (i : I) : Type 0 where
   whole : has h.books h (last_scn h.commits) i → FoundAtEnd has fault h i
   one_commit : (s : ℕ) → fault ≡ Some (Commit s) → h.stopped ≡ true → is_empty (session_own h s) ≡ false
       → has h.books (with_commit h s) (last_scn h.commits + 1) i → FoundAtEnd has fault h i

@@ -31,8 +31,8 @@ abbrev pub AtEnd : {I : Type 0} → (Shape → Option ℕ → I → List (List �
     → Option Call → State → I → Type 0
 AtEnd opens slots fault h i = FoundAtEnd (RestartsAt opens slots) fault h i
 
-abbrev pub OnTheWay : {I : Type 0} → (Shape → Option ℕ → I → List (List ℕ) → ℕ → Type 0) → Option ℕ
-    → Option Call → (before now : State) → I → Type 0
+abbrev pub OnTheWay : {I : Type 0} → (Shape → Option ℕ → I → List (List ℕ) → ℕ → Type 0)
+    → Option ℕ → Option Call → (before now : State) → I → Type 0
 OnTheWay opens slots fault before now i = FoundBetween (RestartsAt opens slots) fault before now i
 
 -- What a crash may leave at any moment since an earlier store, and what it may leave now.

@@ -1,6 +1,7 @@
 -- What one group makes of blocks that stand for a state, by each step of a session: a write, the put back of a change,
 -- a commit, the end of a transaction without one, the cleaning of a block that is read.
-use Rattle.std.specs.Prelude.{◌≡◌, ◌≢◌, ◌⊎◌, ◌<◌, ◌≤◌, ◌+◌, ◌*◌, ◌/◌, ◌∷◌, ◌++◌, ℕ, zero, suc}
+use Rattle.std.proofs.Common.{◌*◌, ◌/◌, zero, suc}
+use Rattle.std.specs.Prelude.{◌≡◌, ◌≢◌, ◌⊎◌, ◌<◌, ◌≤◌, ◌+◌, ◌∷◌, ◌++◌, ℕ}
 use Rattle.std.specs.Prelude.{Bool, true, List, [], length, Some}
 use Rattle.rb_base.specs.Blocks.{after_groups, block_of, home_block, table_blocks}
 use Rattle.rb_base.specs.Groups.{Patch}

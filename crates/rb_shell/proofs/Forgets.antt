@@ -58,9 +58,14 @@ module _ (o : Outside) where
 
   lines : (ls : List (List ℕ)) (m : Logged) (out : List ℕ) (m2 : Logged) → Out m o ls out m2 → Out m O ls out m2
   lines [] m out m2 x = x
-  lines (line ∷ ls) m out m2 (first, rest, middle, (itself, again, between, count, says, joined, tried), is, more) =
-      (first, rest, middle, (itself, again, between, count, said m line itself between says, joined, resumes count between again middle tried), is,
-      either middle.state.stopped _ _ _ _ (λ p. p) (λ q. lines ls middle rest m2 q) more)
+  lines (line ∷ ls) m out m2 (first, rest, middle, (itself, again, between, count, says, joined, tried), is, more) = (
+    first,
+    rest,
+    middle,
+    (itself, again, between, count, said m line itself between says, joined, resumes count between again middle tried),
+    is,
+    either middle.state.stopped _ _ _ _ (λ p. p) (λ q. lines ls middle rest m2 q) more,
+  )
 
   pub ran_plain : (m m2 : Logged) (ls : List (List ℕ)) (tells : Type 0) (before held : List ℕ) → Ran o m m2 ls tells before held → Ran O m m2 ls tells before held
   ran_plain m m2 ls tells before held x = record { out = x.out; replies = lines ls m x.out m2 x.replies; written = x.written }

@@ -18,8 +18,10 @@ use Rattle.rb_model.specs.Out.{Logged}
 use Rattle.rb_model.specs.Rows.{last_scn}
 use Rattle.rb_base.specs.declared.faults.OpenFault.{OpenFault}
 use Rattle.rb_base.specs.declared.faults.OpenFault.TheVariants as faults
-use Rattle.rb_shell.specs.Generation.{EndsGenerator, HasMade, MadeOn, TellsCounts, line_of}
-use Rattle.rb_shell.specs.Runs.{HasOpened, IsDoneOrNoMemory, IsSound, MadeLast, first_of, outside_in}
+use Rattle.rb_shell.specs.Generation.{HasMade, MadeOn, line_of}
+use Rattle.rb_shell.specs.Statuses.{EndsGenerator, TellsCounts}
+use Rattle.rb_shell.specs.Runs.{HasOpened, IsSound, MadeLast, first_of, outside_in}
+use Rattle.rb_shell.specs.Statuses.{IsDoneOrNoMemory}
 use Rattle.rb_shell.specs.declared.status.Status.{Status}
 use Rattle.rb_shell.specs.declared.status.Status.TheVariants.{Done, Usage, SourceFault, DiskFault, SinkFault, NotAStore, NoMemory, NotEmpty, TooLong}
 use Rattle.rb_shell.specs.Statuses.{by_source, status_of_opening}

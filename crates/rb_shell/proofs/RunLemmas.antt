@@ -25,7 +25,8 @@ use Rattle.rb_model.specs.Rows.{last_scn}
 use Rattle.rb_model.specs.State.{State}
 use Rattle.rb_opening.specs.Opens.{CanOpen, OpensAs}
 use Rattle.rb_segment.specs.Segments.{owed_in}
-use Rattle.rb_shell.specs.Runs.{IsSound, IsStore, HasHalted, HasOpened, HasRun, WasCutOff, Endures, LeftAlone, OpensSame, OpensToNone, EndsRun, IsDoneOrNoMemory, first_of, outside_in}
+use Rattle.rb_shell.specs.Runs.{IsSound, IsStore, HasHalted, HasOpened, HasRun, WasCutOff, Endures, LeftAlone, OpensSame, OpensToNone, first_of, outside_in}
+use Rattle.rb_shell.specs.Statuses.{EndsRun, IsDoneOrNoMemory}
 use Rattle.rb_shell.specs.declared.script.TheConstants.{SCRIPT_BYTES}
 use Rattle.rb_calls.specs.Since.{outside_of, slots_of}
 use Rattle.rb_shell.specs.Statuses.{EndsFormat}

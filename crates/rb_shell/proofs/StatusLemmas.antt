@@ -6,7 +6,8 @@ use Rattle.rb_lines.specs.declared.lines.LinesEnd.{LinesEnd}
 use Rattle.rb_lines.specs.declared.lines.LinesEnd.TheVariants as ends
 use Rattle.rb_lines.specs.Ends as lines
 use Rattle.rb_lines.specs.Faults.{IsCountedBeside}
-use Rattle.rb_shell.specs.Runs.{AsksNothing, EndsBy, EndsRun, as_lines, last_fault}
+use Rattle.rb_shell.specs.Runs.{EndsBy, as_lines, last_fault}
+use Rattle.rb_shell.specs.Statuses.{AsksNothing, EndsRun}
 use Rattle.rb_shell.specs.Statuses.{EndsFormat, by_disk, by_sink, by_source, status_of}
 use Rattle.rb_shell.specs.declared.status.Status.{Status}
 use Rattle.rb_shell.specs.declared.status.Status.TheVariants.{Done, Usage, SourceFault, DiskFault, SinkFault, NotAStore, NoMemory, NotEmpty, TooLong}

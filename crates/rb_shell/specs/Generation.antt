@@ -14,8 +14,7 @@ use Rattle.rb_model.specs.Rows.{last_scn}
 use Rattle.rb_model.specs.State.{State}
 use Rattle.rb_shell.specs.Runs.{IsSound, first_of, outside_in}
 use Rattle.rb_shell.specs.declared.status.Status.{Status}
-use Rattle.rb_shell.specs.declared.status.Status.TheVariants.{Done, Usage, SourceFault, DiskFault, SinkFault, NotAStore}
-use Rattle.rb_shell.specs.declared.status.Status.TheVariants.{NoMemory, NotEmpty, TooLong}
+use Rattle.rb_shell.specs.declared.status.Status.TheVariants.{Done, DiskFault, SinkFault}
 
 -- The commands of a run of n were answered, from a state to another: all of them, or those up to a fault of the disk.
 pub record HasMade (outside : Outside) (before : Logged) (n : ℕ) (fault : Bool) : Type 0 where
@@ -60,39 +59,3 @@ pub record MadeOn {S : Type 0} (s : Ghosts S) (old new : S) (outside : Outside) 
   pub told : status ≡ Done → tells → held_now ≡ held_before ++ line_of n made.answers made.now
   pub cut : status ≡ SinkFault → tells → (size : ℕ)
       × (held_now ≡ held_before ++ take size (line_of n made.answers made.now))
-
--- how a command that runs the generator ends
-abbrev pub EndsGenerator : Status → Type 0
-EndsGenerator Done = Unit {0}
-EndsGenerator DiskFault = Unit {0}
-EndsGenerator SinkFault = Unit {0}
-EndsGenerator NotAStore = Unit {0}
-EndsGenerator NoMemory = Unit {0}
-EndsGenerator Usage = ⊥
-EndsGenerator SourceFault = ⊥
-EndsGenerator NotEmpty = ⊥
-EndsGenerator TooLong = ⊥
-
--- and over an engine
-abbrev pub EndsCommands : Status → Type 0
-EndsCommands Done = Unit {0}
-EndsCommands DiskFault = Unit {0}
-EndsCommands SinkFault = Unit {0}
-EndsCommands NotAStore = ⊥
-EndsCommands NoMemory = ⊥
-EndsCommands Usage = ⊥
-EndsCommands SourceFault = ⊥
-EndsCommands NotEmpty = ⊥
-EndsCommands TooLong = ⊥
-
--- all commands were made, and the line was put
-abbrev pub TellsCounts : Status → Type 0
-TellsCounts Done = Unit {0}
-TellsCounts SinkFault = Unit {0}
-TellsCounts DiskFault = ⊥
-TellsCounts NotAStore = ⊥
-TellsCounts NoMemory = ⊥
-TellsCounts Usage = ⊥
-TellsCounts SourceFault = ⊥
-TellsCounts NotEmpty = ⊥
-TellsCounts TooLong = ⊥

@@ -13,8 +13,8 @@ use Rattle.rb_opening.specs.Opens.{books_of}
 use Rattle.rb_shell.specs.NewBooks.{new_books}
 use Rattle.rb_store.specs.Laps.{Opens}
 
--- The log has so many slots. A new file opens with no commit. What a run left, which opened with one state and came to a
--- later one, opens with the rows after the commits up to some number in between.
+-- The log has so many slots. A new file opens with no commit. What a run left, which opened with one state and came to
+-- a later one, opens with the rows after the commits up to some number in between.
 pub data Left (slots : ℕ) : List ℕ → State → Type 0 where
   fresh : (l : Layout) → l.log ≡ slots → (file : List ℕ) → file ≡ fresh_file file_version l → (h : State)
       → h ≡ opened (shape_of l) 0 [] (new_books (shape_of l)) → Left slots file h

@@ -16,8 +16,8 @@ pub record HasRows (slots : ℕ) (books : List Book) (h : State) (n : ℕ) (file
   pub marks : MarksGrow h.shape found books
   pub left : Left slots file (opened h.shape n (rows_at h.shape.blocks h.commits n) found)
 
--- The files that are left at each moment of a run: those that the disk had at its start, or some with a number from that
--- of the state it opened with on; and at its end the files with all commits.
+-- The files that are left at each moment of a run: those that the disk had at its start, or some with a number from
+-- that of the state it opened with on; and at its end the files with all commits.
 pub record LeavesFiles {D : Type 0} (d : DiskGhosts D) (old new : D) (slots : ℕ) (before : State) (now : Logged)
     : Type 0 where
   pub any_moment : Leaves d old new

@@ -23,8 +23,7 @@ use Rattle.rb_calls.specs.Since.{StandsAs, outside_of}
 use Rattle.rb_shell.specs.Statuses.{status_of}
 use Rattle.rb_shell.specs.declared.script.TheConstants.{SCRIPT_BYTES}
 use Rattle.rb_shell.specs.declared.status.Status.{Status}
-use Rattle.rb_shell.specs.declared.status.Status.TheVariants.{Done, Usage, SourceFault, DiskFault, SinkFault, NotAStore}
-use Rattle.rb_shell.specs.declared.status.Status.TheVariants.{NoMemory, NotEmpty, TooLong}
+use Rattle.rb_shell.specs.declared.status.Status.TheVariants.{Done, DiskFault, SinkFault}
 use Rattle.rb_store.specs.Laps.{LapState, Opens, OpensAt}
 
 -- The file is a store of some layout: its log gives these blocks and that last log number, they are in order, and the
@@ -97,9 +96,9 @@ pub record HasRunOut {file : List ℕ} (sound : IsSound file) (left_before left_
   pub run : HasRun sound (lines_of left_before) tells before now endures
   pub all_taken : left_now ≡ []
 
--- What a crash may leave over a run, which opens the file first and comes to a state that has more commits, if any, than
--- the one opened: at any moment since its start an image that the disk had at the start, or a file on the way from the
--- state opened; and at its end all commits of the state.
+-- What a crash may leave over a run, which opens the file first and comes to a state with the commits of the one opened
+-- and perhaps more: at any moment since its start an image that the disk had at the start, or a file on the way from
+-- the state opened; and at its end all commits of the state.
 pub record Endures {D : Type 0} (d : DiskGhosts D) (old new : D) (l : Layout) (before : State) (now : Logged) : Type 0
   where
     pub extends : Extends before now.state
@@ -112,7 +111,8 @@ pub record EnduresCounted {D : Type 0} (d : DiskGhosts D) (old new : D) (l : Lay
   pub endured : Endures d old new l before now
   pub still : now.state.stopped ≡ false → d.faults new ≡ d.faults old
 
--- As `Endures`, and at its end a crash leaves what was done to the last group, also what isn't committed: nothing waits.
+-- As `Endures`, and at its end a crash leaves what was done to the last group, also what isn't committed: nothing
+-- waits.
 pub record Lasts {D : Type 0} (d : DiskGhosts D) (old new : D) (l : Layout) (before : State) (now : Logged) : Type 0
   where
     pub endured : Endures d old new l before now
@@ -196,51 +196,3 @@ pub record LeftAlone {D : Type 0} (d : DiskGhosts D) (old new : D) : Type 0 wher
 -- these bytes were taken from what was left, and nothing else
 abbrev pub WasTaken : List ℕ → List ℕ → List ℕ → Type 0
 WasTaken taken left_before left_now = left_before ≡ taken ++ left_now
-
--- how a command that runs a script ends
-abbrev pub EndsRun : Status → Type 0
-EndsRun Done = Unit {0}
-EndsRun SourceFault = Unit {0}
-EndsRun DiskFault = Unit {0}
-EndsRun SinkFault = Unit {0}
-EndsRun NotAStore = Unit {0}
-EndsRun NoMemory = Unit {0}
-EndsRun TooLong = Unit {0}
-EndsRun Usage = ⊥
-EndsRun NotEmpty = ⊥
-
--- the script was asked for
-abbrev pub AsksScript : Status → Type 0
-AsksScript Done = Unit {0}
-AsksScript SourceFault = Unit {0}
-AsksScript SinkFault = Unit {0}
-AsksScript TooLong = Unit {0}
-AsksScript DiskFault = ⊥
-AsksScript NotAStore = ⊥
-AsksScript NoMemory = ⊥
-AsksScript Usage = ⊥
-AsksScript NotEmpty = ⊥
-
--- the script wasn't asked for
-abbrev pub AsksNothing : Status → Type 0
-AsksNothing NotAStore = Unit {0}
-AsksNothing NoMemory = Unit {0}
-AsksNothing Usage = Unit {0}
-AsksNothing NotEmpty = Unit {0}
-AsksNothing Done = ⊥
-AsksNothing SourceFault = ⊥
-AsksNothing DiskFault = ⊥
-AsksNothing SinkFault = ⊥
-AsksNothing TooLong = ⊥
-
--- all was done, unless memory ran out
-abbrev pub IsDoneOrNoMemory : Status → Type 0
-IsDoneOrNoMemory Done = Unit {0}
-IsDoneOrNoMemory NoMemory = Unit {0}
-IsDoneOrNoMemory Usage = ⊥
-IsDoneOrNoMemory SourceFault = ⊥
-IsDoneOrNoMemory DiskFault = ⊥
-IsDoneOrNoMemory SinkFault = ⊥
-IsDoneOrNoMemory NotAStore = ⊥
-IsDoneOrNoMemory NotEmpty = ⊥
-IsDoneOrNoMemory TooLong = ⊥

@@ -42,6 +42,90 @@ EndsFormat NotAStore = ⊥
 EndsFormat NoMemory = Unit {0}
 EndsFormat TooLong = ⊥
 
+-- how a command that runs a script ends
+abbrev pub EndsRun : Status → Type 0
+EndsRun Done = Unit {0}
+EndsRun SourceFault = Unit {0}
+EndsRun DiskFault = Unit {0}
+EndsRun SinkFault = Unit {0}
+EndsRun NotAStore = Unit {0}
+EndsRun NoMemory = Unit {0}
+EndsRun TooLong = Unit {0}
+EndsRun Usage = ⊥
+EndsRun NotEmpty = ⊥
+
+-- how a command that runs the generator ends
+abbrev pub EndsGenerator : Status → Type 0
+EndsGenerator Done = Unit {0}
+EndsGenerator DiskFault = Unit {0}
+EndsGenerator SinkFault = Unit {0}
+EndsGenerator NotAStore = Unit {0}
+EndsGenerator NoMemory = Unit {0}
+EndsGenerator Usage = ⊥
+EndsGenerator SourceFault = ⊥
+EndsGenerator NotEmpty = ⊥
+EndsGenerator TooLong = ⊥
+
+-- and over an engine
+abbrev pub EndsCommands : Status → Type 0
+EndsCommands Done = Unit {0}
+EndsCommands DiskFault = Unit {0}
+EndsCommands SinkFault = Unit {0}
+EndsCommands NotAStore = ⊥
+EndsCommands NoMemory = ⊥
+EndsCommands Usage = ⊥
+EndsCommands SourceFault = ⊥
+EndsCommands NotEmpty = ⊥
+EndsCommands TooLong = ⊥
+
+-- the script was asked for
+abbrev pub AsksScript : Status → Type 0
+AsksScript Done = Unit {0}
+AsksScript SourceFault = Unit {0}
+AsksScript SinkFault = Unit {0}
+AsksScript TooLong = Unit {0}
+AsksScript DiskFault = ⊥
+AsksScript NotAStore = ⊥
+AsksScript NoMemory = ⊥
+AsksScript Usage = ⊥
+AsksScript NotEmpty = ⊥
+
+-- the script wasn't asked for
+abbrev pub AsksNothing : Status → Type 0
+AsksNothing NotAStore = Unit {0}
+AsksNothing NoMemory = Unit {0}
+AsksNothing Usage = Unit {0}
+AsksNothing NotEmpty = Unit {0}
+AsksNothing Done = ⊥
+AsksNothing SourceFault = ⊥
+AsksNothing DiskFault = ⊥
+AsksNothing SinkFault = ⊥
+AsksNothing TooLong = ⊥
+
+-- all commands were made, and the line was put
+abbrev pub TellsCounts : Status → Type 0
+TellsCounts Done = Unit {0}
+TellsCounts SinkFault = Unit {0}
+TellsCounts DiskFault = ⊥
+TellsCounts NotAStore = ⊥
+TellsCounts NoMemory = ⊥
+TellsCounts Usage = ⊥
+TellsCounts SourceFault = ⊥
+TellsCounts NotEmpty = ⊥
+TellsCounts TooLong = ⊥
+
+-- all was done, unless memory ran out
+abbrev pub IsDoneOrNoMemory : Status → Type 0
+IsDoneOrNoMemory Done = Unit {0}
+IsDoneOrNoMemory NoMemory = Unit {0}
+IsDoneOrNoMemory Usage = ⊥
+IsDoneOrNoMemory SourceFault = ⊥
+IsDoneOrNoMemory DiskFault = ⊥
+IsDoneOrNoMemory SinkFault = ⊥
+IsDoneOrNoMemory NotAStore = ⊥
+IsDoneOrNoMemory NotEmpty = ⊥
+IsDoneOrNoMemory TooLong = ⊥
+
 -- the status of lines that ended so
 abbrev pub status_of : LinesEnd → Status
 status_of ends.Done = Done

@@ -1,6 +1,6 @@
 //! `run`: the program over a source, a sink and a disk. `main` calls it.
 ghost use Rattle.std.specs.Prelude.{◌≡◌, ◌≢◌, ◌⊎◌, ℕ, ◌<◌, ◌≤◌, Bool, true, false};
-ghost use Rattle.std.specs.Prelude.{List, [], length};
+ghost use Rattle.std.specs.Prelude.{List, [], ◌++◌, length};
 ghost use Rattle.rb_base.specs.Counts.{IsCountedAs, Rose};
 ghost use Rattle.rb_disk.specs.DiskModel.{Only};
 ghost use Rattle.rb_disk.specs.Moments.{Rests};
@@ -9,10 +9,11 @@ ghost use Rattle.rb_layout.specs.Regions.{fresh_file};
 ghost use Rattle.rb_lines.specs.Faults.{IsCountedBeside};
 ghost use Rattle.rb_lines.specs.Whole.{whole_lines};
 ghost use Rattle.rb_model.specs.Lines.{lines_of};
-ghost use Rattle.rb_shell.specs.Generation.{EndsGenerator, HasTold, MadeOver, TellsCounts, WasNotTold};
+ghost use Rattle.rb_shell.specs.Generation.{HasTold, MadeOver, WasNotTold};
+ghost use Rattle.rb_shell.specs.Statuses.{EndsGenerator, TellsCounts};
 ghost use Rattle.rb_shell.specs.Runs.{IsSound, IsStore, HasHalted, HasRun, WasCutOff, Endures, LeftAlone};
 ghost use Rattle.rb_shell.specs.Runs.{EnduresCounted, HasRunOut, Lasts, LeftBehind, OpensSame, WasStopped, WasTaken};
-ghost use Rattle.rb_shell.specs.Runs.{EndsRun, AsksScript, AsksNothing, IsDoneOrNoMemory};
+ghost use Rattle.rb_shell.specs.Statuses.{EndsRun, AsksScript, AsksNothing, IsDoneOrNoMemory};
 ghost use Rattle.rb_shell.specs.Statuses.{EndsFormat, by_disk, by_sink, by_source};
 ghost use Rattle.rb_model.specs.State.{State, opened};
 ghost use Rattle.rb_layout.specs.Regions.{shape_of};
@@ -106,9 +107,9 @@ pub fn run<S: Source, K: Sink, D: Disk>(
         (EnduresCounted D.Disk disk result.1) }
 
     // Whatever the source tells: a crash leaves a state of the machine's, from that to which the file opens on.
-    ensures left_behind { D.tells → (n : ℕ) → AsksRun words.now n → AsksScript result.0
+    ensures endures { D.tells → (n : ℕ) → AsksRun words.now n → AsksScript result.0
         → (sound : IsSound (D.content disk)) → LeftBehind D.Disk disk result.1 sound }
-    ensures disk_left { D.tells → (n : ℕ) → AsksRun words.now n → result.0 ≡ Status.DiskFault
+    ensures endures_disk { D.tells → (n : ℕ) → AsksRun words.now n → result.0 ≡ Status.DiskFault
         → (sound : IsSound (D.content disk))
         → OpensSame D.Disk disk result.1 sound ⊎ LeftBehind D.Disk disk result.1 sound }
 
@@ -141,11 +142,11 @@ pub fn run<S: Source, K: Sink, D: Disk>(
         (K.held sink.new) }
     ensures left_source { D.tells → S.tells → result.0 ≡ Status.SourceFault
         → (slots : ℕ) (h : State) → Left slots (D.content disk) h
-        → ((taken : List ℕ) × WasTaken taken (S.left source.old) (S.left source.new)
+        → ((taken : List ℕ) × (S.left source.old ≡ taken ++ S.left source.new)
         × RunsOver D.Disk disk result.1 slots h (whole_lines taken) K.tells (K.held sink.old) (K.held sink.new)) }
     ensures left_long { D.tells → S.tells → result.0 ≡ Status.TooLong
         → (slots : ℕ) (h : State) → Left slots (D.content disk) h
-        → ((taken : List ℕ) × (length taken ≡ 1000000000) × WasTaken taken (S.left source.old) (S.left source.new)
+        → ((taken : List ℕ) × (length taken ≡ 1000000000) × (S.left source.old ≡ taken ++ S.left source.new)
         × RunsOver D.Disk disk result.1 slots h (whole_lines taken) K.tells (K.held sink.old) (K.held sink.new)) }
     ensures left_disk { D.tells → S.tells → (n : ℕ) → AsksRun words.now n → result.0 ≡ Status.DiskFault
         → (slots : ℕ) (h : State) → Left slots (D.content disk) h

@@ -5,9 +5,11 @@ ghost use Rattle.rb_base.specs.Counts.{IsCounted, IsCountedAs};
 ghost use Rattle.rb_calls.specs.Since.{StandsAs, outside_of};
 ghost use Rattle.rb_generator.specs.Summary.{summary_text};
 ghost use Rattle.rb_model.specs.Out.{Logged};
-ghost use Rattle.rb_shell.specs.Generation.{EndsCommands, EndsGenerator, HasTold, MadeOn, MadeOver, TellsCounts};
+ghost use Rattle.rb_shell.specs.Generation.{HasTold, MadeOn, MadeOver};
+ghost use Rattle.rb_shell.specs.Statuses.{EndsCommands, EndsGenerator, TellsCounts};
 ghost use Rattle.rb_shell.specs.Generation.{WasNotTold};
-ghost use Rattle.rb_shell.specs.Runs.{AsksNothing, Endures, IsSound, IsStore, Lasts, LeftAlone};
+ghost use Rattle.rb_shell.specs.Runs.{Endures, IsSound, IsStore, Lasts, LeftAlone};
+ghost use Rattle.rb_shell.specs.Statuses.{AsksNothing};
 ghost use Rattle.rb_shell.specs.Runs.{LeftBehind, OpensSame, WasStopped};
 ghost use Rattle.rb_shell.specs.Statuses.{by_disk, by_sink};
 ghost use Rattle.rb_stream.specs.StreamModel.{Puts};
@@ -52,9 +54,9 @@ fn make_commands<K: Sink, T: Store>(
     ensures no_line { result.0 ≡ Status.DiskFault → sink.new ≡ sink.old }
 
     // What a crash leaves, whatever the sink tells.
-    ensures left_behind { D.tells → TellsCounts result.0 → (sound : IsSound (D.content disk))
+    ensures endures { D.tells → TellsCounts result.0 → (sound : IsSound (D.content disk))
         → LeftBehind D.Disk disk result.1 sound }
-    ensures disk_left { D.tells → result.0 ≡ Status.DiskFault → (sound : IsSound (D.content disk))
+    ensures endures_disk { D.tells → result.0 ≡ Status.DiskFault → (sound : IsSound (D.content disk))
         → OpensSame D.Disk disk result.1 sound ⊎ LeftBehind D.Disk disk result.1 sound }
     ensures disk { IsCountedAs (T.faults engine.store) (T.faults result.1) (by_disk result.0) }
     ensures sink { IsCountedAs (K.faults sink.old) (K.faults sink.new) (by_sink result.0) }

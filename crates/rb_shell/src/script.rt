@@ -8,8 +8,10 @@ ghost use Rattle.rb_lines.specs.Whole.{whole_lines};
 ghost use Rattle.rb_model.specs.Lines.{lines_of};
 ghost use Rattle.rb_model.specs.Out.{Logged};
 ghost use Rattle.rb_shell.specs.Runs.{IsSound, IsStore, HasHalted, HasOpened, HasRun, HasRunOut, RanOn, WasCutOff};
-ghost use Rattle.rb_shell.specs.Runs.{LeftAlone, WasStopped, WasTaken, EndsRun, AsksScript, AsksNothing};
-ghost use Rattle.rb_shell.specs.Runs.{Endures, EnduresCounted, EndsBy, Lasts, LeftBehind, MadeLast, OpensSame, PassedOn};
+ghost use Rattle.rb_shell.specs.Runs.{LeftAlone, WasStopped, WasTaken};
+ghost use Rattle.rb_shell.specs.Statuses.{EndsRun, AsksScript, AsksNothing};
+ghost use Rattle.rb_shell.specs.Runs.{Endures, EnduresCounted, EndsBy, Lasts, LeftBehind, MadeLast};
+ghost use Rattle.rb_shell.specs.Runs.{OpensSame, PassedOn};
 ghost use Rattle.rb_shell.specs.Statuses.{by_disk, by_sink, by_source, status_of, status_of_opening};
 
 use crate::line::do_line;
@@ -210,9 +212,9 @@ pub fn run_script<S: Source, K: Sink, D: Disk>(
         (EnduresCounted D.Disk disk result.1) }
 
     // What a crash leaves, whatever the source tells.
-    ensures left_behind { D.tells → AsksScript result.0 → (sound : IsSound (D.content disk))
+    ensures endures { D.tells → AsksScript result.0 → (sound : IsSound (D.content disk))
         → LeftBehind D.Disk disk result.1 sound }
-    ensures disk_left { D.tells → result.0 ≡ Status.DiskFault → (sound : IsSound (D.content disk))
+    ensures endures_disk { D.tells → result.0 ≡ Status.DiskFault → (sound : IsSound (D.content disk))
         → OpensSame D.Disk disk result.1 sound ⊎ LeftBehind D.Disk disk result.1 sound }
 
     // Nothing was asked for.

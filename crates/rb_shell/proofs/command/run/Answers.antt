@@ -117,11 +117,11 @@ returns-in-Ok-Some-Format-clause-too_long g c = λ disk told is. absurd (rw is a
 pub returns-in-Ok-Some-Format-clause-disk_done : goal.returns-in-Ok-Some-Format-clause-disk_done
 returns-in-Ok-Some-Format-clause-disk_done g c = λ disk told n asked is. absurd (no_run g c n asked)
 
-pub returns-in-Ok-Some-Format-clause-left_behind : goal.returns-in-Ok-Some-Format-clause-left_behind
-returns-in-Ok-Some-Format-clause-left_behind g c = λ disk n asked asks. absurd (no_run g c n asked)
+pub returns-in-Ok-Some-Format-clause-endures : goal.returns-in-Ok-Some-Format-clause-endures
+returns-in-Ok-Some-Format-clause-endures g c = λ disk n asked asks. absurd (no_run g c n asked)
 
-pub returns-in-Ok-Some-Format-clause-disk_left : goal.returns-in-Ok-Some-Format-clause-disk_left
-returns-in-Ok-Some-Format-clause-disk_left g c = λ disk n asked is. absurd (no_run g c n asked)
+pub returns-in-Ok-Some-Format-clause-endures_disk : goal.returns-in-Ok-Some-Format-clause-endures_disk
+returns-in-Ok-Some-Format-clause-endures_disk g c = λ disk n asked is. absurd (no_run g c n asked)
 
 pub returns-in-Ok-Some-Format-clause-gen_count : goal.returns-in-Ok-Some-Format-clause-gen_count
 returns-in-Ok-Some-Format-clause-gen_count g c = λ n asked. absurd (no_gen g c n asked)
@@ -266,11 +266,11 @@ returns-in-Ok-Some-Run-clause-not_a_store g c = λ disk is. c.run_script.ensures
 pub returns-in-Ok-Some-Run-clause-disk_done : goal.returns-in-Ok-Some-Run-clause-disk_done
 returns-in-Ok-Some-Run-clause-disk_done g c = λ disk told n asked is. c.run_script.ensures.disk_done disk told is
 
-pub returns-in-Ok-Some-Run-clause-left_behind : goal.returns-in-Ok-Some-Run-clause-left_behind
-returns-in-Ok-Some-Run-clause-left_behind g c = λ disk n asked asks sound. c.run_script.ensures.left_behind disk asks sound
+pub returns-in-Ok-Some-Run-clause-endures : goal.returns-in-Ok-Some-Run-clause-endures
+returns-in-Ok-Some-Run-clause-endures g c = λ disk n asked asks sound. c.run_script.ensures.endures disk asks sound
 
-pub returns-in-Ok-Some-Run-clause-disk_left : goal.returns-in-Ok-Some-Run-clause-disk_left
-returns-in-Ok-Some-Run-clause-disk_left g c = λ disk n asked is sound. c.run_script.ensures.disk_left disk is sound
+pub returns-in-Ok-Some-Run-clause-endures_disk : goal.returns-in-Ok-Some-Run-clause-endures_disk
+returns-in-Ok-Some-Run-clause-endures_disk g c = λ disk n asked is sound. c.run_script.ensures.endures_disk disk is sound
 
 pub returns-in-Ok-Some-Run-clause-gen_count : goal.returns-in-Ok-Some-Run-clause-gen_count
 returns-in-Ok-Some-Run-clause-gen_count g c = λ n asked. absurd (gen_no g c n asked)
@@ -319,7 +319,7 @@ returns-in-Ok-Some-Run-clause-left_cut g c = λ disk told tells n asked is slots
 pub returns-in-Ok-Some-Run-clause-left_some : goal.returns-in-Ok-Some-Run-clause-left_some
 returns-in-Ok-Some-Run-clause-left_some g c = λ disk n asked asks slots h left.
     let w = opens_with slots (g.D.Disk.content c.args.disk) h left in
-    leaves_some slots (g.D.Disk.content c.args.disk) h left g.D.Disk c.args.disk c.run_script.result.1 w (c.run_script.ensures.left_behind disk asks w.sound)
+    leaves_some slots (g.D.Disk.content c.args.disk) h left g.D.Disk c.args.disk c.run_script.result.1 w (c.run_script.ensures.endures disk asks w.sound)
 
 pub returns-in-Ok-Some-Run-clause-left_gen : goal.returns-in-Ok-Some-Run-clause-left_gen
 returns-in-Ok-Some-Run-clause-left_gen g c = λ disk n asked tells. absurd (gen_no g c n asked)
@@ -330,7 +330,7 @@ returns-in-Ok-Some-Run-clause-left_fault g c = λ disk is none slots h left.
     ⊎_elim
     (λ same. inl (leaves_same slots (g.D.Disk.content c.args.disk) h left g.D.Disk c.args.disk c.run_script.result.1 w same))
     (λ on. inr (leaves_some slots (g.D.Disk.content c.args.disk) h left g.D.Disk c.args.disk c.run_script.result.1 w on))
-    (c.run_script.ensures.disk_left disk is w.sound)
+    (c.run_script.ensures.endures_disk disk is w.sound)
 
 pub returns-in-Ok-Some-Run-clause-untouched : goal.returns-in-Ok-Some-Run-clause-untouched
 returns-in-Ok-Some-Run-clause-untouched g c = λ disk n asked is. c.run_script.ensures.untouched disk is
@@ -473,11 +473,11 @@ returns-in-Ok-Some-Gen-clause-too_long g c = λ disk told is. absurd (rw is at c
 pub returns-in-Ok-Some-Gen-clause-disk_done : goal.returns-in-Ok-Some-Gen-clause-disk_done
 returns-in-Ok-Some-Gen-clause-disk_done g c = λ disk told n asked is. absurd (not_run g c n asked)
 
-pub returns-in-Ok-Some-Gen-clause-left_behind : goal.returns-in-Ok-Some-Gen-clause-left_behind
-returns-in-Ok-Some-Gen-clause-left_behind g c = λ disk n asked asks. absurd (not_run g c n asked)
+pub returns-in-Ok-Some-Gen-clause-endures : goal.returns-in-Ok-Some-Gen-clause-endures
+returns-in-Ok-Some-Gen-clause-endures g c = λ disk n asked asks. absurd (not_run g c n asked)
 
-pub returns-in-Ok-Some-Gen-clause-disk_left : goal.returns-in-Ok-Some-Gen-clause-disk_left
-returns-in-Ok-Some-Gen-clause-disk_left g c = λ disk n asked is. absurd (not_run g c n asked)
+pub returns-in-Ok-Some-Gen-clause-endures_disk : goal.returns-in-Ok-Some-Gen-clause-endures_disk
+returns-in-Ok-Some-Gen-clause-endures_disk g c = λ disk n asked is. absurd (not_run g c n asked)
 
 pub returns-in-Ok-Some-Gen-clause-gen_count : goal.returns-in-Ok-Some-Gen-clause-gen_count
 returns-in-Ok-Some-Gen-clause-gen_count g c = λ n asked. c.run_generator.ensures.disk
@@ -506,7 +506,7 @@ returns-in-Ok-Some-Gen-clause-left_some g c = λ disk n asked asks. absurd (not_
 pub returns-in-Ok-Some-Gen-clause-left_gen : goal.returns-in-Ok-Some-Gen-clause-left_gen
 returns-in-Ok-Some-Gen-clause-left_gen g c = λ disk n asked tells slots h left.
     let w = opens_with slots (g.D.Disk.content c.args.disk) h left in
-    leaves_some slots (g.D.Disk.content c.args.disk) h left g.D.Disk c.args.disk c.run_generator.result.1 w (c.run_generator.ensures.left_behind disk tells w.sound)
+    leaves_some slots (g.D.Disk.content c.args.disk) h left g.D.Disk c.args.disk c.run_generator.result.1 w (c.run_generator.ensures.endures disk tells w.sound)
 
 pub returns-in-Ok-Some-Gen-clause-left_fault : goal.returns-in-Ok-Some-Gen-clause-left_fault
 returns-in-Ok-Some-Gen-clause-left_fault g c = λ disk is none slots h left.
@@ -514,7 +514,7 @@ returns-in-Ok-Some-Gen-clause-left_fault g c = λ disk is none slots h left.
     ⊎_elim
     (λ same. inl (leaves_same slots (g.D.Disk.content c.args.disk) h left g.D.Disk c.args.disk c.run_generator.result.1 w same))
     (λ on. inr (leaves_some slots (g.D.Disk.content c.args.disk) h left g.D.Disk c.args.disk c.run_generator.result.1 w on))
-    (c.run_generator.ensures.disk_left disk is w.sound)
+    (c.run_generator.ensures.endures_disk disk is w.sound)
 
 pub returns-in-Ok-Some-Gen-clause-cut_off : goal.returns-in-Ok-Some-Gen-clause-cut_off
 returns-in-Ok-Some-Gen-clause-cut_off g c = λ disk told tells n asked is. absurd (not_run g c n asked)

@@ -3,7 +3,8 @@ use Rattle.rb_base.specs.Counts.{IsCountedAs}
 use Rattle.rb_calls.specs.Since.{outside_of}
 use Rattle.rb_shell.proofs.GenerationLemmas.{line_as, made_all, made_failed}
 use Rattle.rb_shell.proofs.StatusLemmas.{fault_behind, uncounted}
-use Rattle.rb_shell.specs.Generation.{EndsCommands, MadeOn}
+use Rattle.rb_shell.specs.Generation.{MadeOn}
+use Rattle.rb_shell.specs.Statuses.{EndsCommands}
 use Rattle.rb_shell.specs.Statuses.{by_disk, by_sink}
 use Rattle.rb_shell.specs.declared.status.Status.TheVariants.{Done, DiskFault, SinkFault}
 use Rattle.rb_shell.proofs.generation.make_commands.Goals as goal

@@ -55,21 +55,21 @@ returns-in-Ok-clause-cut_off g c = λ disk tells is sound.
     let cut = d.cut is tells in
     record { over = record { made = made g a disk sound false (d.all fine); endured = lasts g a disk sound fine }; size = cut.0; written = cut.1 }
 
-pub returns-in-Ok-clause-left_behind : goal.returns-in-Ok-clause-left_behind
-returns-in-Ok-clause-left_behind g c = λ disk tells sound.
-    let a = (goal.at.returns-in-Ok-clause-left_behind g c).After-close in
+pub returns-in-Ok-clause-endures : goal.returns-in-Ok-clause-endures
+returns-in-Ok-clause-endures g c = λ disk tells sound.
+    let a = (goal.at.returns-in-Ok-clause-endures g c).After-close in
     record { now = (did g a disk sound).made.now; endured = endured g a disk sound }
 
-pub returns-in-Ok-clause-disk_left : goal.returns-in-Ok-clause-disk_left
-returns-in-Ok-clause-disk_left g c = λ disk is sound.
-    let a = (goal.at.returns-in-Ok-clause-disk_left g c).After-close in
+pub returns-in-Ok-clause-endures_disk : goal.returns-in-Ok-clause-endures_disk
+returns-in-Ok-clause-endures_disk g c = λ disk is sound.
+    let a = (goal.at.returns-in-Ok-clause-endures_disk g c).After-close in
     inr (record { now = (did g a disk sound).made.now; endured = endured g a disk sound })
 
-pub returns-clause-left_behind : goal.returns-clause-left_behind
-returns-clause-left_behind g c = λ disk tells sound. absurd (no_counts c.in-Err.fault c.status_of_fault.result c.status_of_fault.ensures.is tells)
+pub returns-clause-endures : goal.returns-clause-endures
+returns-clause-endures g c = λ disk tells sound. absurd (no_counts c.in-Err.fault c.status_of_fault.result c.status_of_fault.ensures.is tells)
 
-pub returns-clause-disk_left : goal.returns-clause-disk_left
-returns-clause-disk_left g c = λ disk is sound. inl ((c.in-Err.ensures.images disk).images sound)
+pub returns-clause-endures_disk : goal.returns-clause-endures_disk
+returns-clause-endures_disk g c = λ disk is sound. inl ((c.in-Err.ensures.images disk).images sound)
 
 pub returns-in-Ok-clause-disk_done : goal.returns-in-Ok-clause-disk_done
 returns-in-Ok-clause-disk_done g c = λ disk is. inr (λ sound.

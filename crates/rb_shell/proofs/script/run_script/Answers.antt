@@ -39,17 +39,17 @@ module _ (g : Over) (c : After-close g) (disk : g.D.Disk.tells) (sound : IsSound
             (endures g.D.Disk c.args.disk (ghosts g.row.D g.D.Disk g.D.Disk-dict) c.in-Ok-open_engine.engine passed.now c.run_engine-status.result.1.disk sound over v.extends (record { later = v.any_moment.later; each = v.any_moment.each; earlier = v.any_moment.earlier }) v.now_only);
       }
 
-pub returns-in-Ok-open_engine-clause-left_behind : goal.returns-in-Ok-open_engine-clause-left_behind
-returns-in-Ok-open_engine-clause-left_behind g c = λ disk asks sound. left g (goal.at.returns-in-Ok-open_engine-clause-left_behind g c).After-close disk sound
+pub returns-in-Ok-open_engine-clause-endures : goal.returns-in-Ok-open_engine-clause-endures
+returns-in-Ok-open_engine-clause-endures g c = λ disk asks sound. left g (goal.at.returns-in-Ok-open_engine-clause-endures g c).After-close disk sound
 
-pub returns-in-Ok-open_engine-clause-disk_left : goal.returns-in-Ok-open_engine-clause-disk_left
-returns-in-Ok-open_engine-clause-disk_left g c = λ disk is sound. inr (left g (goal.at.returns-in-Ok-open_engine-clause-disk_left g c).After-close disk sound)
+pub returns-in-Ok-open_engine-clause-endures_disk : goal.returns-in-Ok-open_engine-clause-endures_disk
+returns-in-Ok-open_engine-clause-endures_disk g c = λ disk is sound. inr (left g (goal.at.returns-in-Ok-open_engine-clause-endures_disk g c).After-close disk sound)
 
-pub returns-clause-left_behind : goal.returns-clause-left_behind
-returns-clause-left_behind g c = λ disk asks sound. absurd (c.status_of_fault.ensures.no_script asks)
+pub returns-clause-endures : goal.returns-clause-endures
+returns-clause-endures g c = λ disk asks sound. absurd (c.status_of_fault.ensures.no_script asks)
 
-pub returns-clause-disk_left : goal.returns-clause-disk_left
-returns-clause-disk_left g c = λ disk is sound. inl ((c.in-Err.ensures.images disk).images sound)
+pub returns-clause-endures_disk : goal.returns-clause-endures_disk
+returns-clause-endures_disk g c = λ disk is sound. inl ((c.in-Err.ensures.images disk).images sound)
 
 module _ (g : Over) (c : After-close g) (disk : g.D.Disk.tells) (told : g.S.Source.tells) (sound : IsSound (g.D.Disk.content c.args.disk)) where
   opened : HasOpened g.D.Disk (ghosts g.row.D g.D.Disk g.D.Disk-dict) c.args.disk c.in-Ok-open_engine.engine sound
