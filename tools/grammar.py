@@ -137,6 +137,12 @@ def is_skipped(line):
     return line in (b"", b"\r") or line.startswith(b"#")
 
 
+def session_of(line):
+    """The session of a line, as it is written there; None where the line names none."""
+    _, wanted, parts = parts_of(line)
+    return dict(zip(wanted, parts)).get("S")
+
+
 def with_session(line, session):
     """A line as the program takes it. One that is a command stays as it is; else the session's number is put after its
     word, where that makes it a command."""
