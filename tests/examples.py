@@ -6,6 +6,7 @@
 Takes the repository's program, and builds it where it isn't there. One line for each check; ends with 1 where one failed.
 CHECKS has functions of a place, as those of tests/tools."""
 import ast
+import functools
 import os
 import pathlib
 import re
@@ -209,7 +210,7 @@ class Line:
 
     def last(self):
         """The reply to a write that waits."""
-        return next(reply for reply in iter(self.next, "") if not reply.startswith("waits "))
+        return next((reply for reply in iter(self.next, "") if not reply.startswith("waits ")), "no more replies")
 
     def close(self):
         self.read.close()
@@ -230,7 +231,7 @@ def hub_routes(place):
         told = hub_dialogue(path)
     finally:
         hub.send_signal(signal.SIGTERM)
-        errors = hub.communicate()[1]
+        errors = hub.communicate(timeout=DEADLINE)[1]
     equal("how it ended", (hub.returncode, errors), (0, b""))
     equal("rows", rows(place, file, 1), {1: "b", 2: "n" * 80, 3: "f"})
     equal("a file that is missing", said_status(place, place.folder / "none" / "x.rb", path), 3)
@@ -260,12 +261,13 @@ def hub_dialogue(path):
     equal("who is ready", [ann.ask("commit"), ben.next(), carl.next()], [["committed 2"], "ok", "waits 2"])
     # Ben's connection ends, and with it what he did; so Carl has the row. Carl's ends too.
     ben.close()
-    equal("after an end", carl.next(), "ok")
+    equal("after an end", [carl.next(), carl.ask("open c 1 0 9")], ["ok", ["ok"]])
     carl.close()
     found = ann.ask("lock 1 1")
     equal("after another end", found == ["ok"] or ann.last() == "ok", True)
     # One that waits ends: it is taken out of the queue, or puts back what it has made.
     dan, eve = Line(path), Line(path)
+    equal("cursors", [other.ask("open c 1 0 9") for other in (dan, eve)], [["ok"], ["ok"]])
     equal("who waits", [dan.ask("delete 1 1"), eve.ask("lock 1 1")], [["waits 1"], ["waits 1"]])
     dan.close()
     equal("its end", [ann.ask("commit"), eve.last(), eve.ask("commit")], [["committed 3"], "ok", ["committed 4"]])
@@ -290,7 +292,20 @@ def hub_dialogue(path):
     return "five kinds of lines, sixteen sessions"
 
 
-CHECKS = [readme_lines, client_answers, seats_sold, book_reported, counter_counts, hub_routes]
+def readable(check):
+    """The check, of which any text that isn't as it is to be is Wrong."""
+
+    @functools.wraps(check)
+    def tried(place):
+        try:
+            return check(place)
+        except (ArithmeticError, LookupError, SyntaxError, TypeError, ValueError, subprocess.TimeoutExpired) as why:
+            raise Wrong(f"{type(why).__name__}: {why}")
+
+    return tried
+
+
+CHECKS = [readable(check) for check in [readme_lines, client_answers, seats_sold, book_reported, counter_counts, hub_routes]]
 
 
 class Place:
