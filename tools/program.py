@@ -74,14 +74,16 @@ class Ended:
     def __init__(self, status, out, err):
         self.status, self.out, self.err = status, out, err
 
-    def wants(self, status, out=None):
-        """Fails unless the run ended with the status, its name on standard error and these replies."""
+    def wants(self, status, out=None, cause=""):
+        """Fails unless the run ended with the status, one line on standard error with its name and a cause that ends so,
+        and these replies."""
         if self.status < 0:
             raise Wrong(f"killed by signal {-self.status}")
         if self.status != status:
             raise Wrong(f"status {self.status} in place of {status} {STATUSES[status]}: {self.err!r}")
-        said = self.err.splitlines()
-        if said[:1] != ([STATUSES[status].encode()] if status else []) or len(said) > 1 and STATUSES[status] != "Usage":
+        first, *more = self.err.decode(errors="replace").splitlines() or [""]
+        named = first.startswith(STATUSES[status] + ": ") and first.endswith(cause) if status else not first
+        if not named or more and STATUSES[status] != "Usage":
             raise Wrong(f"standard error has {self.err[:200]!r} at status {status}")
         if out is not None and self.out != out:
             raise Wrong(f"replies {shortened(self.out)} in place of {shortened(out)}")

@@ -2,13 +2,13 @@
 ghost use Rattle.std.specs.Prelude.{◌≡◌};
 ghost use Rattle.rb_filedisk.specs.Folders.{folder_name};
 
-use crate::Hold;
+use crate::{Cause, Hold};
 use std::fs::{Files, OpenFile, OpenOptions};
 use std::io;
 use std::path::Path;
 
 // Opens the file, which is made if it isn't there, for this run alone.
-pub fn open_held<R: Files>(runtime: &R, path: &str) -> io::Result<R::File>
+pub fn open_held<R: Files>(runtime: &R, path: &str) -> Result<R::File, Cause>
 where
     R::File: Hold,
 {
@@ -21,9 +21,9 @@ where
     let file = options.open(runtime, path)?.try_clone()?;
     // Of a device the length is 0, whatever it holds, so it would count as a new file.
     if !file.metadata()?.is_file() {
-        return Err(io::Error::from(io::ErrorKind::Unsupported));
+        return Err(Cause::NotRegular);
     }
-    file.hold()?;
+    file.hold().map_err(Cause::of_lock)?;
     Ok(file)
 }
 

@@ -3,18 +3,17 @@
 #![tactic(auto)]
 
 mod progress;
+mod report;
 
 use crate::progress::Progress;
+use crate::report::{Ended, answer, report};
 use rb_filedisk::FileDisk;
 use rb_shell::{Status, run};
 use rb_stream::{StdSink, StdSource};
+use rb_words::{Question, parse_question};
 use std::env;
-use std::io::{self, ErrorKind};
+use std::io::ErrorKind;
 use std::process::ExitCode;
-
-const FORMS: &str = "rbsh FILE format tables=N blocks=N segments=N log=N
-rbsh FILE run frames=N
-rbsh FILE gen N";
 
 // The words after the program's name.
 fn words(rt: &HostRuntime) -> Result<Vec<String>, Status> {
@@ -28,37 +27,55 @@ fn words(rt: &HostRuntime) -> Result<Vec<String>, Status> {
     args.collect(rt.alloc()).map_err(|_| Status::NoMemory)
 }
 
-fn run_words(rt: &HostRuntime, words: &[String]) -> Status {
-    let path = match words.first() {
+// Does what the words ask for.
+fn run_words<'a>(rt: &HostRuntime, words: &'a [String]) -> Ended<'a> {
+    let file = match words.first() {
         Some(file) => file.as_str(),
         None => "",
     };
     let progress = Progress::begin(rt);
     let mut source = StdSource::new(rt.stdin());
     let mut sink = StdSink::watched(rt.stdout(), &progress);
-    let disk = FileDisk::at(rt, path);
-    let (status, _) = run(rt.alloc(), words, &mut source, &mut sink, disk);
+    let disk = FileDisk::at(rt, file);
+    let (status, disk) = run(rt.alloc(), words, &mut source, &mut sink, disk);
     progress.wipe();
-    status
+    Ended {
+        status,
+        file,
+        source: source.error(),
+        disk: disk.cause(),
+        sink: sink.error(),
+    }
 }
 
-// Says on standard error how the run ended, where all wasn't done.
-fn report(rt: &HostRuntime, status: Status) -> io::Result<()> {
-    if status != Status::Done {
-        eprintln!(rt; "{}", status.name())?;
+// Answers a question about the program.
+fn answer_words<'a>(rt: &HostRuntime, question: Question) -> Ended<'a> {
+    match answer(rt, question) {
+        Ok(()) => Ended::by(Status::Done),
+        Err(error) => Ended {
+            sink: Some(error),
+            ..Ended::by(Status::SinkFault)
+        },
     }
-    if status == Status::Usage {
-        eprintln!(rt; "{FORMS}")?;
+}
+
+fn end(rt: &HostRuntime, ended: &Ended<'_>) -> ExitCode {
+    // Where standard error can't be written to, the status still tells.
+    let _ = report(rt, ended);
+    ExitCode::from(ended.status.code())
+}
+
+// Answers a question about the program, or does what the words ask for over a file.
+fn do_words<'a>(rt: &HostRuntime, words: &'a [String]) -> Ended<'a> {
+    match parse_question(words) {
+        Some(question) => answer_words(rt, question),
+        None => run_words(rt, words),
     }
-    Ok(())
 }
 
 fn main(rt: HostRuntime) -> ExitCode {
-    let status = match words(&rt) {
-        Ok(words) => run_words(&rt, &words),
-        Err(status) => status,
-    };
-    // Where standard error can't be written to, the status still tells.
-    let _ = report(&rt, status);
-    ExitCode::from(status.code())
+    match words(&rt) {
+        Ok(words) => end(&rt, &do_words(&rt, &words)),
+        Err(status) => end(&rt, &Ended::by(status)),
+    }
 }
