@@ -48,7 +48,7 @@ def built_program():
 
 def build():
     """Proves and builds the program, as demo/run does."""
-    print("proving and building rbsh: ten minutes or more the first time", file=sys.stderr)
+    print("proving and building rbsh: README.md says how long that takes the first time", file=sys.stderr)
     with tempfile.TemporaryDirectory() as folder:
         words = [f"{folder}/made.rb", "format", "tables=1", "blocks=1", "segments=1", "log=64"]
         built = subprocess.run(["rt", "run", "--", *words], cwd=CRATE, stdout=subprocess.PIPE, stderr=subprocess.STDOUT)

@@ -1,4 +1,4 @@
-"""Reads a file of the store by docs/FORMAT.md, and never writes. tools/inspect and tools/copy use it.
+"""Reads a file of the store by docs/FORMAT.md, and never writes. tools/inspect, tools/copy and the tests use it.
 
 It is a second reading of the format: nothing of it is shared with the program."""
 import os
@@ -299,12 +299,22 @@ def places(first, size, count):
     return range(first, first + size * count, size)
 
 
+def gate_of(content, slot):
+    """The gate of a log slot: open exactly where it is 1."""
+    return content[(4 + slot) * UNIT]
+
+
 def group_at(content, identity, slot):
     """The patches of the group in a log slot; None where its gate isn't open, or where it is the last slot."""
-    at = (4 + slot) * UNIT
-    gate, length, number = struct.unpack_from(">BxHxxxxQ", content, at)
-    if gate != 1 or slot == identity.log - 1:
+    if gate_of(content, slot) != 1 or slot == identity.log - 1:
         return None
+    return group_in(content, identity, slot)
+
+
+def group_in(content, identity, slot):
+    """The patches of the group in a log slot, whatever its gate is."""
+    at = (4 + slot) * UNIT
+    length, number = struct.unpack_from(">xxHxxxxQ", content, at)
     if number != slot + 1:
         raise NotAStore(f"log slot {slot} is open with the log number {number}, and {slot + 1} belongs there")
     if not 11 <= length <= GROUP_BYTES:
@@ -313,6 +323,17 @@ def group_at(content, identity, slot):
         return patches_of(content[at + 16 : at + 16 + length], identity)
     except (NotAStore, struct.error) as why:
         raise NotAStore(f"log slot {slot} is open without a whole group: {why}")
+
+
+def groups_from(content, identity, slot):
+    """The whole groups that stand from a log slot on with the numbers of their places, whatever their gates are."""
+    found = []
+    try:
+        while slot + len(found) < identity.log - 1:
+            found.append(group_in(content, identity, slot + len(found)))
+    except NotAStore:
+        pass
+    return found
 
 
 def patches_of(group, identity):
@@ -330,6 +351,15 @@ def patches_of(group, identity):
     return patches
 
 
+class LogEnd:
+    """The slot where the log ends: its gate, and the whole groups with the next numbers that stand from it on, or from
+    the slot after it on. A run doesn't read them."""
+
+    def __init__(self, content, identity, slot):
+        self.slot, self.at, self.gate = slot, (4 + slot) * UNIT, gate_of(content, slot)
+        self.unread = groups_from(content, identity, slot) or groups_from(content, identity, slot + 1)
+
+
 class Store:
     """What a file says: its identity, the groups of its log, and the blocks after them."""
 
@@ -341,6 +371,7 @@ class Store:
         self.groups = []
         while (patches := group_at(content, identity, len(self.groups))) is not None:
             self.groups.append(patches)
+        self.log_end = LogEnd(content, identity, len(self.groups))
         self.blocks = {}
         for patches in self.groups:
             for patch in patches:

@@ -17,12 +17,13 @@ commit 1
 // Where no mode is set.
 #[test]
 fn read_committed(rt: HostRuntime) -> Result<(), Fail> {
-    let rows: [(&str, &[u8]); 18] = [
+    let rows: [(&str, &[u8]); 19] = [
         ("dirty write", DIRTY_WRITE),
         ("dirty read", DIRTY_READ),
         ("aborted read", ABORTED_READ),
         ("intermediate read", INTERMEDIATE_READ),
         ("circular information flow", CIRCULAR_FLOW),
+        ("observed transaction vanishes", VANISHES),
         ("lost update", LOST_UPDATE),
         ("lost update behind a commit", LATE_UPDATE),
         ("predicate-many-preceders", MANY_PRECEDERS),
@@ -49,12 +50,13 @@ fn read_committed(rt: HostRuntime) -> Result<(), Fail> {
 // Where sessions 2 and 3 are serializable.
 #[test]
 fn serializable(rt: HostRuntime) -> Result<(), Fail> {
-    let rows: [(&str, &[u8]); 18] = [
+    let rows: [(&str, &[u8]); 19] = [
         ("dirty write", DIRTY_WRITE_SERIALIZABLE),
         ("dirty read", DIRTY_READ_SERIALIZABLE),
         ("aborted read", ABORTED_READ_SERIALIZABLE),
         ("intermediate read", INTERMEDIATE_READ_SERIALIZABLE),
         ("circular information flow", CIRCULAR_FLOW_SERIALIZABLE),
+        ("observed transaction vanishes", VANISHES_SERIALIZABLE),
         ("lost update", LOST_UPDATE_SERIALIZABLE),
         ("lost update behind a commit", LATE_UPDATE_SERIALIZABLE),
         ("predicate-many-preceders", MANY_PRECEDERS_SERIALIZABLE),
@@ -515,6 +517,78 @@ commit 2
 #> 2 committed 2
 commit 3
 #> 3 committed 3
+";
+
+const VANISHES: &[u8] = b"\
+update 2 1 1 11
+#> 2 ok
+update 2 1 2 21
+#> 2 ok
+update 3 1 1 12
+#> 3 waits 2
+commit 2
+#> 2 committed 2
+#> 3 ok
+open 4 c 1 1 1
+#> 4 ok
+fetch 4 c 1
+#> 4 row 1 11
+update 3 1 2 22
+#> 3 ok
+open 4 d 1 2 2
+#> 4 ok
+fetch 4 d 1
+#> 4 row 2 21
+commit 3
+#> 3 committed 3
+open 4 e 1 0 9
+#> 4 ok
+fetch 4 e 9
+#> 4 row 1 12
+#> 4 row 2 22
+#> 4 end
+";
+
+const VANISHES_SERIALIZABLE: &[u8] = b"\
+set 2 serializable
+#> 2 ok
+set 3 serializable
+#> 3 ok
+update 2 1 1 11
+#> 2 ok
+update 2 1 2 21
+#> 2 ok
+update 3 1 1 12
+#> 3 waits 2
+commit 2
+#> 2 committed 2
+#> 3 cannot serialize 1 2
+rollback 3
+#> 3 ok
+set 3 serializable
+#> 3 ok
+update 3 1 1 12
+#> 3 ok
+set 4 serializable
+#> 4 ok
+open 4 c 1 1 1
+#> 4 ok
+fetch 4 c 1
+#> 4 row 1 11
+update 3 1 2 22
+#> 3 ok
+open 4 d 1 2 2
+#> 4 ok
+fetch 4 d 1
+#> 4 row 2 21
+commit 3
+#> 3 committed 3
+open 4 e 1 0 9
+#> 4 ok
+fetch 4 e 9
+#> 4 row 1 11
+#> 4 row 2 21
+#> 4 end
 ";
 
 // Two transactions read a row, session 2 to add 1 to it and session 3 to add 2, and each writes its sum.

@@ -1,0 +1,107 @@
+"""A client of rbsh, to import or to copy. It starts the program over a file, and has an object for each session:
+
+    create("shop.rb")
+    with Store("shop.rb") as store:
+        ann = store.session(1)
+        ann.ask("insert 1 7 window")        # the line `insert 1 1 7 window`: a session puts in its own number
+        ann.ask("commit")                   # gives ["committed 1"]
+
+The program is that of this repository, or the one that RBSH names."""
+import contextlib
+import os
+import pathlib
+import subprocess
+
+BUILT = pathlib.Path(__file__).resolve().parent.parent / "crates" / "rbsh" / "out" / "rbsh"
+PROGRAM = os.environ.get("RBSH") or str(BUILT)
+# The first words of all replies that refuse nothing.
+DONE = {"ok", "committed", "row", "end", "waits", "segment"}
+
+
+class Refused(Exception):
+    """A line was refused. `reply` has the words, such as "not found" or "deadlock 2", and `before` the rows before them."""
+
+    def __init__(self, line, replies):
+        super().__init__(f"{line}: {replies[-1]}")
+        self.reply, self.before = replies[-1], replies[:-1]
+
+
+def create(file, tables=1, blocks=256, segments=4, log=4096):
+    """Makes a new file."""
+    sizes = [f"tables={tables}", f"blocks={blocks}", f"segments={segments}", f"log={log}"]
+    subprocess.run([PROGRAM, str(file), "format", *sizes], check=True)
+
+
+class Store:
+    """A run of the program over a file. Its end commits nothing."""
+
+    def __init__(self, file):
+        self.run = subprocess.Popen([PROGRAM, str(file), "run", "frames=16"], stdin=subprocess.PIPE, stdout=subprocess.PIPE)
+        self.sessions = {number: Session(self, number) for number in range(1, 17)}
+        self.session = self.sessions.get
+
+    def __enter__(self):
+        return self
+
+    def __exit__(self, *_):
+        self.run.communicate()
+
+    def ask(self, line):
+        """All replies to a line, as they are. No reply says that it is the last one. So a line that is always bad is sent
+        after each, and its `bad line` is the end. The line itself has at least one reply, which may be `bad line` too."""
+        if not line.strip() or line.startswith("#") or "\n" in line:
+            raise ValueError(f"this is no command: {line!r}")
+        with contextlib.suppress(BrokenPipeError):
+            os.write(self.run.stdin.fileno(), f"{line}\n?\n".encode())
+        replies = [self.reply()]
+        while replies[1:2] == [] or replies[-1] != "bad line":
+            replies.append(self.reply())
+        return replies[:-1]
+
+    def reply(self):
+        """The next reply. Where the program has ended there is none; it has written the reason to standard error."""
+        reply = self.run.stdout.readline().decode()
+        if not reply:
+            raise EOFError(f"the program ended with status {self.run.wait()}")
+        return reply[:-1]
+
+
+class Session:
+    """A session: its lines are written, and its replies are given, without its number."""
+
+    def __init__(self, store, number):
+        self.store, self.number, self.waiting, self.late = store, number, None, []
+
+    def ask(self, line):
+        """The session's replies to a line; raises Refused if the last one refuses it. Replies of other sessions that come
+        with them are kept for these: a commit or rollback is followed by the writes that waited for it."""
+        word, *rest = line.split(" ", 1)
+        own = []
+        for reply in self.store.ask(" ".join([word, str(self.number), *rest])):
+            number, words = reply.split(" ", 1)
+            if number in ("bad", str(self.number)):
+                own.append(reply if number == "bad" else words)
+            else:
+                self.store.sessions[int(number)].late.append(words)
+        if own[-1].startswith("waits "):
+            self.waiting, self.late = line, []
+        return self.checked(line, own)
+
+    def wait(self):
+        """The reply to a write that was answered `waits`, or None as long as it waits. `waits` may come more than once, so
+        the last reply is the first that is another one. It comes with the replies to lines of other sessions: ask those."""
+        last = [reply for reply in self.late if not reply.startswith("waits ")]
+        return self.checked(self.waiting, last)[0] if last else None
+
+    def checked(self, line, replies):
+        if replies[-1].split(" ")[0] not in DONE:
+            raise Refused(line, replies)
+        return replies
+
+    def rows(self, table, low, high):
+        """The rows of a range of keys, all of one moment, as pairs of key and value."""
+        self.ask(f"open rows {table} {low} {high}")
+        try:
+            return [(int(row.split(" ")[1]), row.split(" ")[2]) for row in self.ask("fetch rows 1000000")[:-1]]
+        finally:
+            self.ask("close rows")
