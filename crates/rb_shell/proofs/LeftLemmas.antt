@@ -26,7 +26,7 @@ use Rattle.rb_segment.specs.Header.{segment_of}
 use Rattle.rb_segment.specs.Segments.{owed_in}
 use Rattle.rb_shell.proofs.BooksNew.{books_new}
 use Rattle.rb_shell.proofs.Forgets.{cut_plain, ran_plain}
-use Rattle.rb_shell.proofs.NewFile.{new_file}
+use Rattle.rb_shell.proofs.NewFile.{new_file, new_log}
 use Rattle.rb_shell.specs.Left.{Left, fresh, later}
 use Rattle.rb_shell.specs.Over.{HasRows, IsCutOver, LeavesFiles, LeavesSame, LeavesSome, RunsOver, plain}
 use Rattle.rb_shell.specs.Runs.{Endures, HasRun, IsSound, LeftBehind, OpensSame, RanOver, first_of, outside_in}
@@ -67,11 +67,11 @@ restarted slots n books h file r =
     }
 
 pub opens_with : (slots : ℕ) (file : List ℕ) (h : State) → Left slots file h → OpensWith slots file h
-opens_with slots file h (fresh l log file is h opens) =
+opens_with slots _ _ (fresh l log file is h opens) =
     let new = new_file l in
     subst (λ (f : List ℕ). OpensWith slots f h) (sym is)
-    (record { sound = new.0; state = new.1 ∙ (ap (opened (shape_of l) 0 []) (books_new (shape_of l)) ∙ sym opens); log = log })
-opens_with slots file h (later before first was now extends books n low file r h opens) =
+    (record { sound = new.0; state = new.1 ∙ (ap (opened (shape_of l) 0 []) (books_new (shape_of l)) ∙ sym opens); log = new_log l ∙ log })
+opens_with slots _ _ (later before first was now extends books n low file r h opens) =
     subst (OpensWith slots file) (sym opens) (restarted slots n books now file r)
 
 -- ---- what a run over it leaves is one

@@ -156,3 +156,7 @@ new_file l =
       },
       refl,
     )
+
+pub new_log : (l : Layout) → (new_file l).0.store.layout.log ≡ l.log
+unfolding new_file
+new_log l = refl

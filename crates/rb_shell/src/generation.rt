@@ -52,12 +52,6 @@ fn make_commands<K: Sink, T: Store>(
         (K.held sink.old) (K.held sink.new) result.0 }
     ensures ends { EndsCommands result.0 }
     ensures no_line { result.0 ≡ Status.DiskFault → sink.new ≡ sink.old }
-
-    // What a crash leaves, whatever the sink tells.
-    ensures endures { D.tells → TellsCounts result.0 → (sound : IsSound (D.content disk))
-        → LeftBehind D.Disk disk result.1 sound }
-    ensures endures_disk { D.tells → result.0 ≡ Status.DiskFault → (sound : IsSound (D.content disk))
-        → OpensSame D.Disk disk result.1 sound ⊎ LeftBehind D.Disk disk result.1 sound }
     ensures disk { IsCountedAs (T.faults engine.store) (T.faults result.1) (by_disk result.0) }
     ensures sink { IsCountedAs (K.faults sink.old) (K.faults sink.new) (by_sink result.0) }
 {
@@ -97,6 +91,12 @@ pub fn run_generator<K: Sink, D: Disk>(
         ⊎ ((sound : IsSound (D.content disk)) → (fault : Bool)
         × MadeOver sound commands fault (Endures D.Disk disk result.1)) }
     ensures no_line { result.0 ≡ Status.DiskFault → sink.new ≡ sink.old }
+
+    // What a crash leaves, whatever the sink tells.
+    ensures endures { D.tells → TellsCounts result.0 → (sound : IsSound (D.content disk))
+        → LeftBehind D.Disk disk result.1 sound }
+    ensures endures_disk { D.tells → result.0 ≡ Status.DiskFault → (sound : IsSound (D.content disk))
+        → OpensSame D.Disk disk result.1 sound ⊎ LeftBehind D.Disk disk result.1 sound }
 
     // No command was made.
     ensures sink_same { AsksNothing result.0 → sink.new ≡ sink.old }

@@ -65,11 +65,11 @@ returns-in-Ok-clause-endures_disk g c = λ disk is sound.
     let a = (goal.at.returns-in-Ok-clause-endures_disk g c).After-close in
     inr (record { now = (did g a disk sound).made.now; endured = endured g a disk sound })
 
-pub returns-clause-endures : goal.returns-clause-endures
-returns-clause-endures g c = λ disk tells sound. absurd (no_counts c.in-Err.fault c.status_of_fault.result c.status_of_fault.ensures.is tells)
+pub returns-in-Err-clause-endures : goal.returns-in-Err-clause-endures
+returns-in-Err-clause-endures g c = λ disk tells sound. absurd (no_counts c.in-Err.fault c.status_of_fault.result c.status_of_fault.ensures.is tells)
 
-pub returns-clause-endures_disk : goal.returns-clause-endures_disk
-returns-clause-endures_disk g c = λ disk is sound. inl ((c.in-Err.ensures.images disk).images sound)
+pub returns-in-Err-clause-endures_disk : goal.returns-in-Err-clause-endures_disk
+returns-in-Err-clause-endures_disk g c = λ disk is sound. inl ((c.in-Err.ensures.images disk).images sound)
 
 pub returns-in-Ok-clause-disk_done : goal.returns-in-Ok-clause-disk_done
 returns-in-Ok-clause-disk_done g c = λ disk is. inr (λ sound.

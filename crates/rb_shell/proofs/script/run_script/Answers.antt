@@ -1,4 +1,4 @@
-use Rattle.std.proofs.Common.{◌≡◌, ⊎_elim, ℕ, List, Some, inl, inr, sym, ap, subst, refl, false}
+use Rattle.std.proofs.Common.{◌≡◌, ◌∙◌, ⊎_elim, ℕ, List, Some, inl, inr, sym, ap, subst, refl, false}
 use Rattle.rb_image.specs.Crash.{OpensUpTo}
 use Rattle.rb_layout.specs.declared.layout.Layout.{Layout}
 use Rattle.rb_lines.specs.Ends.{EndsAs}
