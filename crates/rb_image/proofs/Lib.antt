@@ -6,3 +6,4 @@ pub mod StepsHeld
 pub mod Marks
 pub mod Owners
 pub mod Tells
+pub mod Kept

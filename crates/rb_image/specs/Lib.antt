@@ -3,4 +3,5 @@ pub mod Crash
 pub mod Holds
 pub mod ImageLaws
 pub mod Images
+pub mod Keeps
 pub mod Made

@@ -2,6 +2,7 @@
 ghost use Rattle.std.specs.Prelude.{◌≡◌, ◌≢◌, ◌≤◌, ℕ, List, Option, Some, false};
 ghost use Rattle.rb_base.specs.declared.ids.Xid.{Xid};
 ghost use Rattle.rb_image.specs.Crash.{AtEnd, Restarts, Survives};
+ghost use Rattle.rb_image.specs.Keeps.{BackKeeps, CleanKeeps, CommitKeeps, EndKeeps, WriteKeeps};
 ghost use Rattle.rb_image.specs.ImageLaws.{LaterHasCommits, LaterHasState, StandingHasState, StateIsSeen};
 ghost use Rattle.rb_model.specs.Calls.{Action, Call, Commit, Write};
 ghost use Rattle.rb_model.specs.Rows.{last_scn, rows_at};
@@ -23,6 +24,18 @@ pub fn image_laws()
     ensures later { LaterHasState }
     ensures commits { LaterHasCommits }
     ensures seen { StateIsSeen }
+{}
+
+/// What slot entries tell isn't forgotten. A commit and an end leave every block of rows as it is. A put back changes
+/// one entry, to what its record keeps; a write takes one over, and cleans others of its home; a cleaning cleans those
+/// of its block. So an entry that tells a number goes on telling it, but for the one that a write takes over or a put
+/// back gives back.
+pub fn keep_laws()
+    ensures commit { CommitKeeps }
+    ensures end { EndKeeps }
+    ensures back { BackKeeps }
+    ensures write { WriteKeeps }
+    ensures clean { CleanKeeps }
 {}
 
 /// An image of an engine that goes on restarts to its whole state, and so does one of an engine that a fault stopped in

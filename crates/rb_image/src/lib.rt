@@ -4,4 +4,4 @@
 
 mod laws;
 
-pub use laws::{crash_laws, image_laws};
+pub use laws::{crash_laws, image_laws, keep_laws};
