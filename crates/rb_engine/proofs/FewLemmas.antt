@@ -1,6 +1,6 @@
 -- A call gives the log few groups: what it is to put back are changes of one transaction, and what it cleans are homes
 -- of one table.
-use Rattle.std.proofs.Common.{◌≡◌, ◌<◌, ◌≤◌, ◌+◌, ◌*◌, ◌-◌, ◌^◌, ◌⊎◌, ⊎_elim, ℕ, zero, suc, List, length, arith}
+use Rattle.std.proofs.Common.{◌≡◌, ◌≤◌, ◌+◌, ◌^◌, ⊎_elim, ℕ, zero, suc, List, length, arith}
 use Rattle.rb_base.specs.declared.ids.Xid.{Xid}
 use Rattle.rb_model.specs.Calls.{Answer, Call, Cancel, Checkpoint, CloseCursor, Commit, Done, End, Fetch, Given, HasNoSlot}
 use Rattle.rb_model.specs.Calls.{Marked, Marks, Numbered, OpenCursor, Owned, Refused, Rollback, RollbackTo, SetMode, SetSavepoint, Waits, Write}

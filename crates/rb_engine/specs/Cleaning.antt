@@ -1,5 +1,5 @@
 -- What a reader's cleaning of homes leaves of a store.
-use Rattle.std.specs.Prelude.{◌≡◌, ◌⊎◌, ◌<◌, ◌≤◌, ◌+◌, ◌%◌, ℕ, Bool, true, false}
+use Rattle.std.specs.Prelude.{◌≡◌, ◌⊎◌, ◌<◌, ◌≤◌, ◌+◌, ℕ, Bool, true, false}
 use Rattle.std.specs.Prelude.{List, length, Option, Some, Result, Ok, Err}
 use Rattle.rb_base.specs.Blocks.{block_of}
 use Rattle.rb_base.specs.Stores.{room_of}

@@ -1,17 +1,16 @@
 -- No group makes a slot entry tell less than it told, but the one that a write takes over or a put back gives back.
-use Rattle.std.proofs.Common.{◌≡◌, ◌≢◌, ◌⊎◌, inl, inr, ◌<◌, ◌+◌, ◌*◌, ◌/◌, ◌%◌, ℕ, List, length, ap, sym, ◌∙◌, arith, refl}
+use Rattle.std.proofs.Common.{◌≡◌, ◌≢◌, ◌⊎◌, inl, inr, ◌<◌, ◌+◌, ◌*◌, ◌/◌, ℕ, List, length, ap, ◌∙◌, arith}
 use Rattle.std.proofs.Math.Nat.{div-add-mod}
 use Rattle.std.proofs.lemmas.Bool.{cases_eq}
-use Rattle.std.proofs.lemmas.List.{get_or-map, get_or-set_other, get_or-set_same, length-map}
+use Rattle.std.proofs.lemmas.List.{get_or-map, get_or-set_other, get_or-set_same}
 use Rattle.rb_base.specs.Blocks.{block_of, header_block, table_blocks}
 use Rattle.rb_base.specs.declared.ids.Xid.{Xid}
 use Rattle.rb_base.specs.declared.shape.Shape.{Shape}
 use Rattle.rb_heap.proofs.Reading.{entries_counted}
 use Rattle.rb_heap.specs.Cleaning.{back_home, cleaned_entry, cleaned_home}
 use Rattle.rb_heap.specs.Homes.{Home, home_entry, home_of}
-use Rattle.rb_image.specs.Made.{BackMade, CleanMade, CommitMade, EndMade, WriteMade, entry_in}
+use Rattle.rb_image.specs.Made.{BackMade, CleanMade, WriteMade, entry_in}
 use Rattle.rb_itl.specs.Entries.{entry_of, free_entry}
-use Rattle.rb_itl.specs.declared.slots.Entry.{Entry}
 use Rattle.rb_image.specs.Keeps.{KeepsBut, KeepsRows, TellsNoLess}
 use Rattle.rb_model.specs.Calls.{Action}
 use Rattle.rb_model.specs.Change.{Change}
@@ -21,7 +20,7 @@ use Rattle.rb_segment.specs.Segments.{commit_scn}
 use Rattle.rb_standing.specs.Groups.{GroupOn}
 use Rattle.rb_standing.specs.Standing.{env_of, logged_of, segments_of}
 use Rattle.rb_standing.specs.States.{BlocksStand}
-use Rattle.rb_standing.specs.Writing.{entry_after, home_after}
+use Rattle.rb_standing.specs.Writing.{entry_after}
 use Rattle.rb_standing.proofs.Group.{block_stays}
 use Rattle.rb_standing.proofs.SegmentRecorded as segment
 use Rattle.rb_undoblock.specs.declared.record.UndoRecord.{UndoRecord}
