@@ -1,12 +1,12 @@
 -- What answers hang on besides the machine's state may be forgotten.
-use Rattle.std.proofs.Common.{◌≡◌, ℕ, zero, suc, Bool, true, false, List, [], ◌∷◌, ◌++◌, take}
+use Rattle.std.proofs.Common.{ℕ, zero, suc, Bool, true, false, List, [], ◌∷◌, take}
 use Rattle.std.specs.Prelude.{MatchBool}
 use Rattle.rb_shell.specs.Over.{plain}
 use Rattle.rb_lines.specs.Ran.{CutOff, Ran}
 use Rattle.rb_model.specs.Calls.{Answer, Call}
 use Rattle.rb_model.specs.Change.{Asked}
 use Rattle.rb_model.specs.Lines.{Command}
-use Rattle.rb_model.specs.Out.{CallOut, CallsOut, CommandOut, LineOut, LineSaid, Logged, Out, Outside, Resumed, ResumesOut, bad, command, goes_on, skipped, too_long}
+use Rattle.rb_model.specs.Out.{CallOut, CallsOut, LineSaid, Logged, Out, Outside, Resumed, ResumesOut, bad, command, goes_on, skipped, too_long}
 
 either : (v : Bool) (P Q P2 Q2 : Type 0) → (P → P2) → (Q → Q2) → MatchBool v P Q → MatchBool v P2 Q2
 either true P Q P2 Q2 f g p = f p

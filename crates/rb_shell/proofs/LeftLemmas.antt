@@ -4,13 +4,12 @@ use Rattle.std.proofs.lemmas.List.FromFn.{get_or-map-range_with_len}
 use Rattle.rb_base.specs.Moments.{weaker}
 use Rattle.rb_base.specs.Stores.{room_of}
 use Rattle.rb_base.specs.declared.shape.Shape.{Shape}
-use Rattle.rb_calls.specs.Since.{outside_of}
 use Rattle.rb_disk.specs.Moments.{Leaves}
 use Rattle.rb_disk.specs.declared.disk.Disk.{Ghosts as DiskGhosts}
 use Rattle.rb_image.proofs.Crashes.{extends_later, extends_same, grow_same}
 use Rattle.rb_image.specs.Between.{Extends, FoundAtEnd, FoundBetween, MarksGrow, at_end, one_commit, one_write, reached, whole, with_commit}
 use Rattle.rb_image.specs.Crash.{AtEnd, OnTheWay, RestartsAt}
-use Rattle.rb_layout.specs.Regions.{file_version, fresh_file, shape_of}
+use Rattle.rb_layout.specs.Regions.{shape_of}
 use Rattle.rb_layout.specs.declared.layout.Layout.{Layout}
 use Rattle.rb_lines.specs.Ran.{CutOff, Ran}
 use Rattle.rb_model.specs.Book.{Book, book_at, fresh_book}
@@ -29,7 +28,7 @@ use Rattle.rb_shell.proofs.Forgets.{cut_plain, ran_plain}
 use Rattle.rb_shell.proofs.NewFile.{new_file, new_log}
 use Rattle.rb_shell.specs.Left.{Left, fresh, later}
 use Rattle.rb_shell.specs.Over.{HasRows, IsCutOver, LeavesFiles, LeavesSame, LeavesSome, RunsOver, plain}
-use Rattle.rb_shell.specs.Runs.{Endures, HasRun, IsSound, LeftBehind, OpensSame, RanOver, first_of, outside_in}
+use Rattle.rb_shell.specs.Runs.{Endures, IsSound, LeftBehind, OpensSame, first_of, outside_in}
 use Rattle.rb_standing.specs.Standing.{SoundAs}
 use Rattle.rb_store.specs.Laps.{Opens}
 
