@@ -6,6 +6,7 @@ ghost use Rattle.rb_engine.specs.Cleaning.{CleansRead, HasLooked};
 ghost use Rattle.rb_engine.specs.Does.{Does, LeavesState, Resumes, SameStore, Stands, resume_fault};
 ghost use Rattle.rb_engine.specs.Lateness.{ResumeNeedsLost, WriteNeedsLost};
 ghost use Rattle.rb_engine.specs.Scanning.{NeedsLost};
+ghost use Rattle.rb_image.specs.Keeps.{KeepsRows};
 ghost use Rattle.rb_image.specs.Made.{TellsLooks};
 ghost use Rattle.rb_model.specs.Answers.{action_of, write_answer, plain_answer, fetch_answer, commit_answer, LeavesRow};
 ghost use Rattle.rb_model.specs.Answers.{marks_answer};
@@ -99,10 +100,12 @@ impl<T: Store> Engine<T> {
     }
 
     /// Makes the session's changes one more commit, which is in the file in every image once its number is answered.
-    /// Without changes it answers None.
+    /// Without changes it answers None. No block of rows is written: what a commit makes true stands in a header.
     pub fn commit(&mut self, s: u16) -> Result<Option<u64>, Refusal>
         ensures did { (h : State) → Stands T.Store h self.old → Does T.Store h
             (machine.Commit s) (commit_answer result) self.old self.new }
+        ensures rows { (h : State) → Stands T.Store h self.old
+            → OnOk result (KeepsRows h.shape (T.blocks self.old.store) (T.blocks self.new.store)) }
         ensures same { SameStore T.Store self.old.store self.new.store }
         ensures disk { IsCountedAs (T.faults self.old.store) (T.faults self.new.store)
             (err_is is_disk_fault result) }

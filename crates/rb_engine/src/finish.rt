@@ -10,6 +10,7 @@ ghost use Rattle.rb_base.specs.Stores.{room_of};
 ghost use Rattle.rb_engine.specs.Does.{Does, IsInStep, SameStore, Stands};
 ghost use Rattle.rb_engine.specs.Finishing.{Commits, PutsAllBack, PutsBack};
 ghost use Rattle.rb_image.specs.Holds.{Holds};
+ghost use Rattle.rb_image.specs.Keeps.{KeepsRows};
 ghost use Rattle.rb_model.specs.Answers.{commit_answer, plain_answer};
 ghost use Rattle.rb_model.specs.Calls.{is_disk_fault};
 ghost use Rattle.rb_model.specs.Calls as machine;
@@ -118,6 +119,8 @@ fn commit_changes<T: Store>(
     ensures did { (h : State) → Stands T.Store h (record { memory = memory.old; store = store.old })
         → Does T.Store h (machine.Commit s) (commit_answer result)
         (record { memory = memory.old; store = store.old }) (record { memory = memory.new; store = store.new }) }
+    ensures rows { (h : State) → Stands T.Store h (record { memory = memory.old; store = store.old })
+        → OnOk result (KeepsRows h.shape (T.blocks store.old) (T.blocks store.new)) }
     ensures same { SameStore T.Store store.old store.new }
     ensures disk { IsCountedAs (T.faults store.old) (T.faults store.new) (err_is is_disk_fault result) }
 {
@@ -157,6 +160,8 @@ fn end_without_changes<T: Store>(
     ensures did { (h : State) → Stands T.Store h (record { memory = memory.old; store = store.old })
         → Does T.Store h (machine.Commit s) (commit_answer result)
         (record { memory = memory.old; store = store.old }) (record { memory = memory.new; store = store.new }) }
+    ensures rows { (h : State) → Stands T.Store h (record { memory = memory.old; store = store.old })
+        → OnOk result (KeepsRows h.shape (T.blocks store.old) (T.blocks store.new)) }
     ensures same { SameStore T.Store store.old store.new }
     ensures disk { IsCountedAs (T.faults store.old) (T.faults store.new) (err_is is_disk_fault result) }
 {
@@ -222,6 +227,8 @@ pub fn do_commit<T: Store>(
     ensures did { (h : State) → Stands T.Store h (record { memory = memory.old; store = store.old })
         → Does T.Store h (machine.Commit s) (commit_answer result)
         (record { memory = memory.old; store = store.old }) (record { memory = memory.new; store = store.new }) }
+    ensures rows { (h : State) → Stands T.Store h (record { memory = memory.old; store = store.old })
+        → OnOk result (KeepsRows h.shape (T.blocks store.old) (T.blocks store.new)) }
     ensures same { SameStore T.Store store.old store.new }
     ensures disk { IsCountedAs (T.faults store.old) (T.faults store.new) (err_is is_disk_fault result) }
 {

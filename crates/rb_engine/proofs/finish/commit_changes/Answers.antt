@@ -1,6 +1,7 @@
-use Rattle.std.proofs.Common.{inr, ◌≡◌, ◌<◌, length, Some, false, true, refl, sym, ◌∙◌, ap, subst, arith}
+use Rattle.std.proofs.Common.{inr, ◌≡◌, ◌<◌, ◌+◌, ◌*◌, ◌/◌, length, Some, false, true, refl, sym, ◌∙◌, ap, subst, arith}
 use Rattle.rb_base.specs.Logs.{Laws}
 use Rattle.rb_engine.specs.Does.{Does, EngineView, IsInStep, Kept, Stands}
+use Rattle.rb_image.proofs.Kept.{rows_kept}
 use Rattle.rb_model.specs.Calls as machine
 use Rattle.rb_model.specs.Calls.{Reply, is_empty}
 use Rattle.rb_model.specs.Queue.{is_queued}
@@ -70,6 +71,26 @@ returns-in-Ok-clause-did g c = λ h st.
     (does_committed s st.told (laws_of g) h old c.args.s c.args.xid here going there own some new c.commit_and_flush.ensures.same out c.saturating_add-scn.result number
     (c.in-Ok.ensures.commits st.told h held.xids c.args.s st.shape held.holds who.0 who.1 (own_id s st.told (laws_of g) h old c.args.s c.args.xid here going there own) some number)
     c.commit.ensures c.free.ensures refl refl)
+
+pub returns-in-Ok-clause-rows : goal.returns-in-Ok-clause-rows
+returns-in-Ok-clause-rows g c = λ h st.
+    let s = g.T.Store in
+    let store = c.args.store.now in
+    let inside : Kept = record { sessions = c.memory.inside.sessions; waits = c.memory.inside.waits; scn = c.memory.inside.scn; stopped = c.memory.inside.stopped } in
+    let old : EngineView _ = record { memory = inside; store = store } in
+    let here : Stands s h old = subst (λ (k : Kept). Stands s h (record { memory = k; store = store })) (sym c.memory.view_is) st in
+    let own : (kept_at inside.sessions c.args.s).own ≡ Some c.args.xid = ap (λ (k : Kept). (kept_at k.sessions c.args.s).own) c.memory.view_is ∙ c.requires.own in
+    let going : h.stopped ≡ false = sym st.knows.stopped ∙ c.requires.going in
+    let there = c.requires.session in
+    let low = (subst (λ (k : Kept). IsInStep s k store) (sym c.memory.view_is) c.requires.step) in
+    let count = count_is s st.told (laws_of g) h old c.args.s c.args.xid here going there own in
+    let held = goes s st.told (laws_of g) h old c.args.s c.args.xid here going there own in
+    let busy : 0 < (kept_at inside.sessions c.args.s).count = subst (λ (k : Kept). 0 < (kept_at k.sessions c.args.s).count) (sym c.memory.view_is) c.requires.some in
+    let some : 0 < length (session_own h c.args.s) = omega (arith, busy, count) in
+    let number = next_known s st.told (laws_of g) h old c.args.s c.args.xid here going there own c.saturating_add-scn.result (let few = low.few (ap (λ (k : Kept). k.stopped) c.memory.view_is ∙ c.requires.going) in omega (arith, few)) c.saturating_add-scn.ensures in
+    let who = who_in s st.told (laws_of g) h old c.args.s c.args.xid here going there own in
+    let did = c.in-Ok.ensures.commits st.told h held.xids c.args.s st.shape held.holds who.0 who.1 (own_id s st.told (laws_of g) h old c.args.s c.args.xid here going there own) some number in
+    rows_kept h.shape ((16 * c.args.xid.seg + c.args.xid.slot) / 16) (s.blocks store) (s.blocks c.commit_and_flush.new.store) did.4.group
 
 pub returns-in-Err-clause-did : goal.returns-in-Err-clause-did
 returns-in-Err-clause-did g c = λ h st.

@@ -1,12 +1,15 @@
-use Rattle.std.proofs.Common.{inr, ◌≡◌, Some, length, false, refl, sym, ◌∙◌, ap, subst, arith}
+use Rattle.std.proofs.Common.{inr, [], ◌≡◌, ◌+◌, ◌*◌, ◌/◌, ℕ, List, Some, length, false, refl, sym, ◌∙◌, ap, subst, arith}
 use Rattle.rb_base.specs.Logs.{Laws}
 use Rattle.rb_engine.specs.Does.{Does, EngineView, IsInStep, Kept, Stands, slots_had}
+use Rattle.rb_image.proofs.Kept.{rows_kept}
+use Rattle.rb_image.specs.Made.{BackOver}
 use Rattle.rb_model.specs.Calls as machine
 use Rattle.rb_model.specs.Calls.{Reply, is_empty}
 use Rattle.rb_model.specs.Queue.{is_queued}
 use Rattle.rb_model.specs.State.{session_own}
 use Rattle.rb_sessions.specs.Kept.{KeptSession, kept_at}
 use Rattle.rb_sessions.specs.Kept as table
+use Rattle.rb_standing.specs.Groups.{IsEnded}
 use Rattle.rb_engine.proofs.FinishLemmas.{count_is, does_not, goes, no_early, no_items, own_id, room_one, who_in}
 use Rattle.rb_engine.proofs.RollbackLemmas.{does_left}
 use Rattle.rb_engine.proofs.StepLemmas.{few_less, fit_at, fit_committed, in_step_moved, queue_moved}
@@ -68,6 +71,27 @@ returns-clause-did g c = λ h st.
     (does_left s st.told (laws_of g) h old c.args.s c.args.xid here going there own new c.put_all_back.ensures.same out (no_items (session_own h c.args.s) none)
     (c.in-Ok.ensures.puts_back st.told h held.xids c.args.s st.shape held.holds who.0 who.1 (own_id s st.told (laws_of g) h old c.args.s c.args.xid here going there own) going none)
     c.commit.ensures c.free.ensures refl refl)
+
+pub returns-clause-rows : goal.returns-clause-rows
+returns-clause-rows g c = λ h st.
+    let s = g.T.Store in
+    let store = c.args.store.now in
+    let inside : Kept = record { sessions = c.memory.inside.sessions; waits = c.memory.inside.waits; scn = c.memory.inside.scn; stopped = c.memory.inside.stopped } in
+    let old : EngineView _ = record { memory = inside; store = store } in
+    let here : Stands s h old = subst (λ (k : Kept). Stands s h (record { memory = k; store = store })) (sym c.memory.view_is) st in
+    let own : (kept_at inside.sessions c.args.s).own ≡ Some c.args.xid = ap (λ (k : Kept). (kept_at k.sessions c.args.s).own) c.memory.view_is ∙ c.requires.own in
+    let going : h.stopped ≡ false = sym st.knows.stopped ∙ c.requires.going in
+    let there = c.requires.session in
+    let count = count_is s st.told (laws_of g) h old c.args.s c.args.xid here going there own in
+    let none : length (session_own h c.args.s) ≡ 0 = sym count ∙ (ap (λ (k : Kept). (kept_at k.sessions c.args.s).count) c.memory.view_is ∙ c.requires.none) in
+    let held = goes s st.told (laws_of g) h old c.args.s c.args.xid here going there own in
+    let who = who_in s st.told (laws_of g) h old c.args.s c.args.xid here going there own in
+    let slot = 16 * c.args.xid.seg + c.args.xid.slot in
+    let now = s.blocks c.put_all_back.new.store in
+    let did = c.in-Ok.ensures.puts_back st.told h held.xids c.args.s st.shape held.holds who.0 who.1 (own_id s st.told (laws_of g) h old c.args.s c.args.xid here going there own) going none in
+    let last = (did []).4 in
+    let back : last.0 ≡ s.blocks store = subst (λ n. BackOver h.shape slot n (s.blocks store) last.0) none last.1 in
+    rows_kept h.shape (slot / 16) (s.blocks store) now (subst (λ (blocks : List (List ℕ)). IsEnded h.shape slot blocks now) back last.2).group
 
 pub returns-in-Err-clause-did : goal.returns-in-Err-clause-did
 returns-in-Err-clause-did g c = λ h st.
