@@ -1,1 +1,4 @@
 pub mod Cells
+pub mod Files
+pub mod Numbers
+pub mod Same

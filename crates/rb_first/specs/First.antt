@@ -1,15 +1,15 @@
--- The cells of a home as they were before all that is under way, each told by one record.
+-- The committed cells of a home: what its cells were before all that is under way, each told by one record.
 use Rattle.std.specs.Prelude.{◌≡◌, ◌≢◌, ◌⊎◌, ◌<◌, ◌≤◌, ℕ, List, [], ◌∷◌, Some}
 use Rattle.rb_walk.specs.Kinds.{Cell, Undo}
 use Rattle.rb_walk.specs.Walk.{Change, Env, Home, In, Rows, own, cell_at, row_of}
 
--- a live record of session s: that of one of its live changes
+-- a live record of the transaction in slot s: that of one of its live changes
 pub record IsLive (env : Env) (lives : List (List Change)) (s : ℕ) (r : Undo) : Type 0 where
   pub change : Change
   pub live : In change (own lives s)
   pub there : env.store change.place ≡ Some r
 
--- of the live records of session s that are of cell j the one with the lowest number
+-- of the live records of slot s that are of cell j the one with the lowest number
 pub record IsFirst (env : Env) (lives : List (List Change)) (s j : ℕ) (r : Undo) : Type 0 where
   pub live : IsLive env lives s r
   pub cell : r.cell ≡ j
@@ -19,19 +19,20 @@ pub record IsFirst (env : Env) (lives : List (List Change)) (s j : ℕ) (r : Und
 abbrev pub IsUnchanged : Env → List (List Change) → ℕ → Type 0
 IsUnchanged env lives j = (s : ℕ) (r : Undo) → IsLive env lives s r → r.cell ≢ j
 
--- What cell j was before all that is live: itself where no live record is of it, else the cell before in the first
--- such record of a session.
+-- The committed cell j is the cell itself where no live transaction changed it, else the cell before in the first
+-- live record of it of one that did.
 abbrev pub CommittedCell : Env → List (List Change) → Home → ℕ → Cell → Type 0
 CommittedCell env lives b j x = (IsUnchanged env lives j × (cell_at b j ≡ x))
     ⊎ ((s : ℕ) × (r : Undo) × IsFirst env lives s j r × (r.cell_before ≡ x))
 
--- a home's cells, as they were, have these rows and no others
+-- the committed cells of a home have these rows and no others
 pub record CommittedRows (env : Env) (lives : List (List Change)) (b : Home) (rows : Rows) : Type 0 where
-  pub sound : (j k : ℕ) (x : Cell) (v : List ℕ) → CommittedCell env lives b j x → row_of x k ≡ Some v → rows k ≡ Some v
+  pub sound : (j k : ℕ) (x : Cell) (v : List ℕ) → CommittedCell env lives b j x → row_of x k ≡ Some v
+      → rows k ≡ Some v
   pub complete : (k : ℕ) (v : List ℕ) → rows k ≡ Some v
       → (j : ℕ) × (x : Cell) × CommittedCell env lives b j x × (row_of x k ≡ Some v)
 
--- the live records of a session, newest first, have numbers that fall
+-- the records of these changes, newest first, have numbers that fall
 abbrev pub Falls : Env → List Change → Type 0
 Falls env [] = Unit {0}
 Falls env (ch ∷ more) = ((c : Change) (r q : Undo) → In c more → env.store ch.place ≡ Some r

@@ -4,4 +4,4 @@
 
 mod laws;
 
-pub use laws::first_laws;
+pub use laws::{committed_laws, first_laws};

@@ -1,0 +1,16 @@
+use Rattle.rb_first.proofs.Files.{home_shows, sound_committed}
+use Rattle.rb_first.proofs.Numbers.{standing_falls}
+use Rattle.rb_first.proofs.Same.{committed_one}
+use Rattle.rb_first.proofs.laws.committed_laws.Goals as goal
+
+pub returns-clause-falls : goal.returns-clause-falls
+returns-clause-falls c = standing_falls
+
+pub returns-clause-homes : goal.returns-clause-homes
+returns-clause-homes c = home_shows
+
+pub returns-clause-sound : goal.returns-clause-sound
+returns-clause-sound c = sound_committed
+
+pub returns-clause-one : goal.returns-clause-one
+returns-clause-one c = committed_one
