@@ -1,4 +1,5 @@
 pub mod Cells
 pub mod Files
 pub mod Numbers
+pub mod One
 pub mod Same

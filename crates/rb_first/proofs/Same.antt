@@ -53,7 +53,7 @@ found_after blocks y x (z ∷ ys) v before has = ⊎_elim
     (cases_Bool (is_row_of x.table x.key z))
 
 -- each value of the one is the other's
-abbrev Within : List TableRow → List TableRow → Type 0
+abbrev pub Within : List TableRow → List TableRow → Type 0
 Within xs ys = (t k : ℕ) (v : List ℕ) → value_of t k xs ≡ Some v → value_of t k ys ≡ Some v
 
 own_value : (x : TableRow) (xs : List TableRow) → value_of x.table x.key (x ∷ xs) ≡ Some x.value
@@ -80,7 +80,7 @@ module _ (blocks : ℕ) (x y : TableRow) (xs ys : List TableRow) (ordered : InOr
       (λ other. sym (later t k y ys (sym alike ∙ other)) ∙ within t k v (later t k x xs other ∙ has))
       (cases_Bool (is_row_of t k x))
 
-same_rows : (blocks : ℕ) (xs ys : List TableRow) → InOrder blocks xs → InOrder blocks ys → Within xs ys → Within ys xs → xs ≡ ys
+pub same_rows : (blocks : ℕ) (xs ys : List TableRow) → InOrder blocks xs → InOrder blocks ys → Within xs ys → Within ys xs → xs ≡ ys
 same_rows blocks [] [] o p to from = refl
 same_rows blocks [] (y ∷ ys) o p to from = absurd (none_is_some y.value (from y.table y.key y.value (own_value y ys)))
 same_rows blocks (x ∷ xs) [] o p to from = absurd (none_is_some x.value (to x.table x.key x.value (own_value x xs)))
@@ -99,19 +99,19 @@ same_rows blocks (x ∷ xs) (y ∷ ys) o p to from = ⊎_elim
     absurd (false≢true (sym (row_asym blocks x y before) ∙ after)))
     (cases_Bool (is_row_of x.table x.key y))
 
-module _ (shape : Shape) (blocks : List (List ℕ)) (lives : List (List Change)) where
-  -- the table of a value is one that there is
-  in_range : (t k : ℕ) (rows : List TableRow) (v : List ℕ) → AllByRecursion (λ row. (1 ≤ row.table) × (row.table ≤ shape.tables)) rows
-      → value_of t k rows ≡ Some v → (1 ≤ t) × (t ≤ shape.tables)
-  in_range t k [] v all has = absurd (none_is_some v has)
-  in_range t k (x ∷ rows) v all has = ⊎_elim
-      (λ same. let s = row_same t k x same in rw (← s.0) all.0)
-      (λ other. in_range t k rows v all.1 (sym (later t k x rows other) ∙ has))
-      (cases_Bool (is_row_of t k x))
+-- the table of a value is one that there is
+pub in_range : (shape : Shape) (t k : ℕ) (rows : List TableRow) (v : List ℕ) → AllByRecursion (λ row. (1 ≤ row.table) × (row.table ≤ shape.tables)) rows
+    → value_of t k rows ≡ Some v → (1 ≤ t) × (t ≤ shape.tables)
+in_range shape t k [] v all has = absurd (none_is_some v has)
+in_range shape t k (x ∷ rows) v all has = ⊎_elim
+    (λ same. let s = row_same t k x same in rw (← s.0) all.0)
+    (λ other. in_range shape t k rows v all.1 (sym (later t k x rows other) ∙ has))
+    (cases_Bool (is_row_of t k x))
 
+module _ (shape : Shape) (blocks : List (List ℕ)) (lives : List (List Change)) where
   within : (rows others : List TableRow) → AreCommitted shape blocks lives rows → AreCommitted shape blocks lives others → Within rows others
   within rows others are too t k v has =
-      let range : (1 ≤ t) × (t ≤ shape.tables) = in_range t k rows v are.tables has in
+      let range : (1 ≤ t) × (t ≤ shape.tables) = in_range shape t k rows v are.tables has in
       too.complete (row_with t k v) range.0 range.1 (are.sound (row_with t k v) range.0 range.1 has)
 
   pub committed_one : (rows others : List TableRow) → AreCommitted shape blocks lives rows → AreCommitted shape blocks lives others → rows ≡ others

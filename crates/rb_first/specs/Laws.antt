@@ -56,3 +56,9 @@ SoundIsCommitted = (shape : Shape) (blocks : List (List ℕ)) (number : ℕ) (ro
 abbrev pub CommittedAreOne : Type 0
 CommittedAreOne = (shape : Shape) (blocks : List (List ℕ)) (lives : List (List Change)) (rows others : List TableRow)
     → AreCommitted shape blocks lives rows → AreCommitted shape blocks lives others → rows ≡ others
+
+-- The blocks of a file have one number and one list of rows, whatever live changes are found in them.
+abbrev pub SoundIsOne : Type 0
+SoundIsOne = (shape : Shape) (blocks : List (List ℕ)) (number other : ℕ) (rows others : List TableRow)
+    → IsShape shape → SoundAs shape blocks number rows → SoundAs shape blocks other others
+    → (number ≡ other) × (rows ≡ others)
