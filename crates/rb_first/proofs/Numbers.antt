@@ -56,7 +56,7 @@ module _ (shape : Shape) (segments : ℕ → Segment) (x : Xid) (Saved : UndoRec
     listed_falls more listed.4.0.previous listed.4.7,
   )
 
-in_here : (b : ℕ) (chs : List Change) (c : Change) → In c (here b chs) → In c chs
+pub in_here : (b : ℕ) (chs : List Change) (c : Change) → In c (here b chs) → In c chs
 in_here b [] c named = named
 in_here b (ch ∷ more) c named = elim (cases_eq ch.home b) [
   | inl is ↦

@@ -7,7 +7,6 @@ use Rattle.rb_first.specs.Files.{AreCommitted}
 use Rattle.rb_model.proofs.Order.{row_apart, row_asym, row_same, same_itself}
 use Rattle.rb_model.proofs.RowLemmas.{AllBefore}
 use Rattle.rb_model.specs.Rows.{InOrder, TableRow, is_row_of, row_before, value_of}
-use Rattle.rb_walk.specs.Walk.{Change}
 
 abbrev row_with : ℕ → ℕ → List ℕ → TableRow
 row_with t k v = record { table = t; key = k; value = v }
@@ -53,7 +52,7 @@ found_after blocks y x (z ∷ ys) v before has = ⊎_elim
     (cases_Bool (is_row_of x.table x.key z))
 
 -- each value of the one is the other's
-abbrev pub Within : List TableRow → List TableRow → Type 0
+abbrev Within : List TableRow → List TableRow → Type 0
 Within xs ys = (t k : ℕ) (v : List ℕ) → value_of t k xs ≡ Some v → value_of t k ys ≡ Some v
 
 own_value : (x : TableRow) (xs : List TableRow) → value_of x.table x.key (x ∷ xs) ≡ Some x.value
@@ -80,7 +79,7 @@ module _ (blocks : ℕ) (x y : TableRow) (xs ys : List TableRow) (ordered : InOr
       (λ other. sym (later t k y ys (sym alike ∙ other)) ∙ within t k v (later t k x xs other ∙ has))
       (cases_Bool (is_row_of t k x))
 
-pub same_rows : (blocks : ℕ) (xs ys : List TableRow) → InOrder blocks xs → InOrder blocks ys → Within xs ys → Within ys xs → xs ≡ ys
+same_rows : (blocks : ℕ) (xs ys : List TableRow) → InOrder blocks xs → InOrder blocks ys → Within xs ys → Within ys xs → xs ≡ ys
 same_rows blocks [] [] o p to from = refl
 same_rows blocks [] (y ∷ ys) o p to from = absurd (none_is_some y.value (from y.table y.key y.value (own_value y ys)))
 same_rows blocks (x ∷ xs) [] o p to from = absurd (none_is_some x.value (to x.table x.key x.value (own_value x xs)))
@@ -100,7 +99,7 @@ same_rows blocks (x ∷ xs) (y ∷ ys) o p to from = ⊎_elim
     (cases_Bool (is_row_of x.table x.key y))
 
 -- the table of a value is one that there is
-pub in_range : (shape : Shape) (t k : ℕ) (rows : List TableRow) (v : List ℕ) → AllByRecursion (λ row. (1 ≤ row.table) × (row.table ≤ shape.tables)) rows
+in_range : (shape : Shape) (t k : ℕ) (rows : List TableRow) (v : List ℕ) → AllByRecursion (λ row. (1 ≤ row.table) × (row.table ≤ shape.tables)) rows
     → value_of t k rows ≡ Some v → (1 ≤ t) × (t ≤ shape.tables)
 in_range shape t k [] v all has = absurd (none_is_some v has)
 in_range shape t k (x ∷ rows) v all has = ⊎_elim
@@ -108,12 +107,12 @@ in_range shape t k (x ∷ rows) v all has = ⊎_elim
     (λ other. in_range shape t k rows v all.1 (sym (later t k x rows other) ∙ has))
     (cases_Bool (is_row_of t k x))
 
-module _ (shape : Shape) (blocks : List (List ℕ)) (lives : List (List Change)) where
-  within : (rows others : List TableRow) → AreCommitted shape blocks lives rows → AreCommitted shape blocks lives others → Within rows others
+module _ (shape : Shape) (blocks : List (List ℕ)) where
+  within : (rows others : List TableRow) → AreCommitted shape blocks rows → AreCommitted shape blocks others → Within rows others
   within rows others are too t k v has =
       let range : (1 ≤ t) × (t ≤ shape.tables) = in_range shape t k rows v are.tables has in
       too.complete (row_with t k v) range.0 range.1 (are.sound (row_with t k v) range.0 range.1 has)
 
-  pub committed_one : (rows others : List TableRow) → AreCommitted shape blocks lives rows → AreCommitted shape blocks lives others → rows ≡ others
+  pub committed_one : (rows others : List TableRow) → AreCommitted shape blocks rows → AreCommitted shape blocks others → rows ≡ others
   committed_one rows others are too =
       same_rows shape.blocks rows others are.order too.order (within rows others are too) (within others rows too are)

@@ -1,29 +1,60 @@
--- The rows of a file before all that is under way, told by the committed cells of its homes.
-use Rattle.std.specs.Prelude.{◌≡◌, ◌≤◌, ℕ, List, map, Some}
+-- The rows of a file before all that is under way, by its blocks alone: each cell is told by one record.
+use Rattle.std.specs.Prelude.{◌≡◌, ◌≤◌, ◌<◌, ◌*◌, ◌⊎◌, ℕ, zero, suc, List, Some}
 use Rattle.std.specs.List.{AllByRecursion}
-use Rattle.rb_base.specs.Blocks.{home_block}
+use Rattle.rb_base.specs.Blocks.{block_of, home_block}
+use Rattle.rb_base.specs.declared.ids.Uba.{Uba}
 use Rattle.rb_base.specs.declared.shape.Shape.{Shape}
-use Rattle.rb_first.specs.First.{CommittedCell}
+use Rattle.rb_base.specs.declared.sizes.TheConstants.{ACTIVE}
+use Rattle.rb_cell.specs.Cells.{cell_of}
 use Rattle.rb_model.specs.Rows.{TableRow, InOrder, value_of}
-use Rattle.rb_standing.specs.Standing.{env_of, homes_of}
-use Rattle.rb_walk.specs.Homes.{here}
+use Rattle.rb_standing.specs.Says.{walk_cell}
+use Rattle.rb_standing.specs.Standing.{homes_of, segments_of}
+use Rattle.rb_standing.specs.Values.{slot_of}
+use Rattle.rb_undoblock.specs.Undo.{undo_at}
+use Rattle.rb_undoblock.specs.declared.record.UndoRecord.{UndoRecord}
 use Rattle.rb_walk.specs.Kinds.{Cell}
-use Rattle.rb_walk.specs.Walk.{Change, row_of}
+use Rattle.rb_walk.specs.Walk.{cell_at, row_of}
+
+-- one of so many records, of which the newest is at this address and each leads to the one before it
+abbrev pub OnChain : List (List ℕ) → ℕ → Uba → UndoRecord → Type 0
+OnChain blocks zero at u = ⊥
+OnChain blocks (suc n) at u = (undo_at (block_of blocks at.block) at.rec ≡ u)
+    ⊎ OnChain blocks n (undo_at (block_of blocks at.block) at.rec).previous u
+
+-- a live record of the transaction in table slot t that is of cell j of home b
+pub record LiveRecord (shape : Shape) (blocks : List (List ℕ)) (t b j : ℕ) (u : UndoRecord) : Type 0 where
+  pub slot : t < 16 * shape.segments
+  pub active : (slot_of (segments_of shape blocks) t).state ≡ ACTIVE
+  pub on_chain : OnChain blocks (slot_of (segments_of shape blocks) t).live
+      (slot_of (segments_of shape blocks) t).newest_at u
+  pub home : u.home ≡ b
+  pub cell : u.cell ≡ j
+
+-- the first of these: that with the lowest number
+pub record FirstRecord (shape : Shape) (blocks : List (List ℕ)) (t b j : ℕ) (u : UndoRecord) : Type 0 where
+  pub live : LiveRecord shape blocks t b j u
+  pub lowest : (q : UndoRecord) → LiveRecord shape blocks t b j q → u.number ≤ q.number
+
+-- The committed cell j of home b is the cell itself where no live transaction changed it, else the cell before in the
+-- first live record of it of one that did.
+abbrev pub CommittedAt : Shape → List (List ℕ) → ℕ → ℕ → Cell → Type 0
+CommittedAt shape blocks b j x =
+    (((t : ℕ) (u : UndoRecord) → LiveRecord shape blocks t b j u → ⊥)
+    × (cell_at (homes_of shape blocks b) j ≡ x))
+    ⊎ ((t : ℕ) × (u : UndoRecord) × FirstRecord shape blocks t b j u × (walk_cell (cell_of u.cell_before) ≡ x))
 
 -- a committed cell of home b has this row
-abbrev pub CommittedIn : Shape → List (List ℕ) → List (List Change) → ℕ → TableRow → Type 0
-CommittedIn shape blocks lives b row = (j : ℕ) × (x : Cell)
-    × CommittedCell (env_of shape blocks) (map (here b) lives) (homes_of shape blocks b) j x
+abbrev pub CommittedIn : Shape → List (List ℕ) → ℕ → TableRow → Type 0
+CommittedIn shape blocks b row = (j : ℕ) × (x : Cell) × CommittedAt shape blocks b j x
     × (row_of x row.key ≡ Some row.value)
 
 -- Rows in scan order, those of the tables that a committed cell of the key's home has, and no others.
-pub record AreCommitted (shape : Shape) (blocks : List (List ℕ)) (lives : List (List Change))
-    (rows : List TableRow) : Type 0 where
+pub record AreCommitted (shape : Shape) (blocks : List (List ℕ)) (rows : List TableRow) : Type 0 where
   pub order : InOrder shape.blocks rows
   pub tables : AllByRecursion (λ row. (1 ≤ row.table) × (row.table ≤ shape.tables)) rows
   pub sound : (row : TableRow) → 1 ≤ row.table → row.table ≤ shape.tables
       → value_of row.table row.key rows ≡ Some row.value
-      → CommittedIn shape blocks lives (home_block shape row.table row.key) row
+      → CommittedIn shape blocks (home_block shape row.table row.key) row
   pub complete : (row : TableRow) → 1 ≤ row.table → row.table ≤ shape.tables
-      → CommittedIn shape blocks lives (home_block shape row.table row.key) row
+      → CommittedIn shape blocks (home_block shape row.table row.key) row
       → value_of row.table row.key rows ≡ Some row.value

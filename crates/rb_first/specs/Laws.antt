@@ -6,6 +6,7 @@ use Rattle.rb_first.specs.Files.{AreCommitted}
 use Rattle.rb_first.specs.First.{Falls, CommittedCell, CommittedRows}
 use Rattle.rb_model.specs.Rows.{TableRow}
 use Rattle.rb_segment.specs.Header.{Segment}
+use Rattle.rb_segment.specs.Segments.{commit_scn}
 use Rattle.rb_standing.specs.Says.{says}
 use Rattle.rb_standing.specs.Standing.{SoundAs}
 use Rattle.rb_standing.specs.Values.{Past, StandingAs, rows_here}
@@ -47,18 +48,12 @@ StandingShows = (shape : Shape) (commit logged : ℕ) (segments : ℕ → Segmen
     → b < table_blocks shape → CommittedRows (says shape segments) (map (here b) lives) (homes b)
     (rows_of (rows_here shape b past.rows) (map (narrow b) past.list))
 
--- So the rows of a sound file are those of its committed cells,
+-- So a sound file's number is its greatest commit number, and its rows are those of its committed cells,
 abbrev pub SoundIsCommitted : Type 0
 SoundIsCommitted = (shape : Shape) (blocks : List (List ℕ)) (number : ℕ) (rows : List TableRow) → IsShape shape
-    → (sound : SoundAs shape blocks number rows) → AreCommitted shape blocks sound.lives rows
+    → SoundAs shape blocks number rows → (number ≡ commit_scn shape blocks) × AreCommitted shape blocks rows
 
--- and those are one list of rows.
+-- and those are one list of rows: no file is sound for two.
 abbrev pub CommittedAreOne : Type 0
-CommittedAreOne = (shape : Shape) (blocks : List (List ℕ)) (lives : List (List Change)) (rows others : List TableRow)
-    → AreCommitted shape blocks lives rows → AreCommitted shape blocks lives others → rows ≡ others
-
--- The blocks of a file have one number and one list of rows, whatever live changes are found in them.
-abbrev pub SoundIsOne : Type 0
-SoundIsOne = (shape : Shape) (blocks : List (List ℕ)) (number other : ℕ) (rows others : List TableRow)
-    → IsShape shape → SoundAs shape blocks number rows → SoundAs shape blocks other others
-    → (number ≡ other) × (rows ≡ others)
+CommittedAreOne = (shape : Shape) (blocks : List (List ℕ)) (rows others : List TableRow)
+    → AreCommitted shape blocks rows → AreCommitted shape blocks others → rows ≡ others

@@ -1,6 +1,5 @@
 use Rattle.rb_first.proofs.Files.{home_shows, sound_committed}
 use Rattle.rb_first.proofs.Numbers.{standing_falls}
-use Rattle.rb_first.proofs.One.{sound_one}
 use Rattle.rb_first.proofs.Same.{committed_one}
 use Rattle.rb_first.proofs.laws.committed_laws.Goals as goal
 
@@ -15,6 +14,3 @@ returns-clause-sound c = sound_committed
 
 pub returns-clause-one : goal.returns-clause-one
 returns-clause-one c = committed_one
-
-pub returns-clause-file : goal.returns-clause-file
-returns-clause-file c = sound_one
