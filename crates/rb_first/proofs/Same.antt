@@ -1,11 +1,13 @@
 -- Rows in scan order are told by the value of each key.
-use Rattle.std.proofs.Common.{◌≡◌, ◌≤◌, ⊎_elim, ℕ, true, false, List, [], ◌∷◌, None, Some, refl, sym, ◌∙◌, ap}
+use Rattle.std.proofs.Common.{◌≡◌, ◌≤◌, ◌+◌, ◌/◌, ⊎_elim, ℕ, true, false, List, [], ◌∷◌, None, Some, refl, sym, ◌∙◌, ap, subst}
 use Rattle.std.proofs.lemmas.Bool.{cases_Bool, cond-true, cond-false, false≢true}
 use Rattle.std.specs.List.{AllByRecursion}
+use Rattle.rb_base.specs.Blocks.{IsShape, home_block}
 use Rattle.rb_base.specs.declared.shape.Shape.{Shape}
 use Rattle.rb_first.specs.Files.{AreCommitted}
 use Rattle.rb_model.proofs.Order.{row_apart, row_asym, row_same, same_itself}
 use Rattle.rb_model.proofs.RowLemmas.{AllBefore}
+use Rattle.rb_verdict.proofs.Sites.{home_table, row_block}
 use Rattle.rb_model.specs.Rows.{InOrder, TableRow, is_row_of, row_before, value_of}
 
 abbrev row_with : ℕ → ℕ → List ℕ → TableRow
@@ -99,7 +101,7 @@ same_rows blocks (x ∷ xs) (y ∷ ys) o p to from = ⊎_elim
     (cases_Bool (is_row_of x.table x.key y))
 
 -- the table of a value is one that there is
-in_range : (shape : Shape) (t k : ℕ) (rows : List TableRow) (v : List ℕ) → AllByRecursion (λ row. (1 ≤ row.table) × (row.table ≤ shape.tables)) rows
+pub in_range : (shape : Shape) (t k : ℕ) (rows : List TableRow) (v : List ℕ) → AllByRecursion (λ row. (1 ≤ row.table) × (row.table ≤ shape.tables)) rows
     → value_of t k rows ≡ Some v → (1 ≤ t) × (t ≤ shape.tables)
 in_range shape t k [] v all has = absurd (none_is_some v has)
 in_range shape t k (x ∷ rows) v all has = ⊎_elim
@@ -108,11 +110,14 @@ in_range shape t k (x ∷ rows) v all has = ⊎_elim
     (cases_Bool (is_row_of t k x))
 
 module _ (shape : Shape) (blocks : List (List ℕ)) where
-  within : (rows others : List TableRow) → AreCommitted shape blocks rows → AreCommitted shape blocks others → Within rows others
-  within rows others are too t k v has =
+  within : IsShape shape → (rows others : List TableRow) → AreCommitted shape blocks rows → AreCommitted shape blocks others → Within rows others
+  within shaped rows others are too t k v has =
+      let some : 1 ≤ shape.blocks = shaped.few_blocks.0 in
       let range : (1 ≤ t) × (t ≤ shape.tables) = in_range shape t k rows v are.tables has in
-      too.complete (row_with t k v) range.0 range.1 (are.sound (row_with t k v) range.0 range.1 has)
+      let found : value_of (home_block shape t k / shape.blocks + 1) k others ≡ Some v =
+      too.complete (home_block shape t k) k v (row_block shape t k some range.0 range.1) (are.sound t k v has) in
+      subst (λ (z : ℕ). value_of z k others ≡ Some v) (home_table shape t k some range.0) found
 
-  pub committed_one : (rows others : List TableRow) → AreCommitted shape blocks rows → AreCommitted shape blocks others → rows ≡ others
-  committed_one rows others are too =
-      same_rows shape.blocks rows others are.order too.order (within rows others are too) (within others rows too are)
+  pub committed_one : (rows others : List TableRow) → IsShape shape → AreCommitted shape blocks rows → AreCommitted shape blocks others → rows ≡ others
+  committed_one rows others shaped are too =
+      same_rows shape.blocks rows others are.order too.order (within shaped rows others are too) (within shaped others rows too are)

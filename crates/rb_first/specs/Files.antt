@@ -1,7 +1,7 @@
 -- The rows of a file before all that is under way, by its blocks alone: each cell is told by one record.
-use Rattle.std.specs.Prelude.{◌≡◌, ◌≤◌, ◌<◌, ◌*◌, ◌⊎◌, ℕ, zero, suc, List, Some}
+use Rattle.std.specs.Prelude.{◌≡◌, ◌≤◌, ◌<◌, ◌+◌, ◌*◌, ◌/◌, ◌⊎◌, ℕ, zero, suc, List, Some}
 use Rattle.std.specs.List.{AllByRecursion}
-use Rattle.rb_base.specs.Blocks.{block_of, home_block}
+use Rattle.rb_base.specs.Blocks.{block_of, home_block, table_blocks}
 use Rattle.rb_base.specs.declared.ids.Uba.{Uba}
 use Rattle.rb_base.specs.declared.shape.Shape.{Shape}
 use Rattle.rb_base.specs.declared.sizes.TheConstants.{ACTIVE}
@@ -43,18 +43,17 @@ CommittedAt shape blocks b j x =
     × (cell_at (homes_of shape blocks b) j ≡ x))
     ⊎ ((t : ℕ) × (u : UndoRecord) × FirstRecord shape blocks t b j u × (walk_cell (cell_of u.cell_before) ≡ x))
 
--- a committed cell of home b has this row
-abbrev pub CommittedIn : Shape → List (List ℕ) → ℕ → TableRow → Type 0
-CommittedIn shape blocks b row = (j : ℕ) × (x : Cell) × CommittedAt shape blocks b j x
-    × (row_of x row.key ≡ Some row.value)
+-- a committed cell of home b has a row of this key and value
+abbrev pub CommittedIn : Shape → List (List ℕ) → ℕ → ℕ → List ℕ → Type 0
+CommittedIn shape blocks b key value = (j : ℕ) × (x : Cell) × CommittedAt shape blocks b j x
+    × (row_of x key ≡ Some value)
 
--- Rows in scan order, those of the tables that a committed cell of the key's home has, and no others.
+-- Rows in scan order, of tables that there are: those that the committed cells of all homes have, each row in the home
+-- of its key, and no others.
 pub record AreCommitted (shape : Shape) (blocks : List (List ℕ)) (rows : List TableRow) : Type 0 where
   pub order : InOrder shape.blocks rows
   pub tables : AllByRecursion (λ row. (1 ≤ row.table) × (row.table ≤ shape.tables)) rows
-  pub sound : (row : TableRow) → 1 ≤ row.table → row.table ≤ shape.tables
-      → value_of row.table row.key rows ≡ Some row.value
-      → CommittedIn shape blocks (home_block shape row.table row.key) row
-  pub complete : (row : TableRow) → 1 ≤ row.table → row.table ≤ shape.tables
-      → CommittedIn shape blocks (home_block shape row.table row.key) row
-      → value_of row.table row.key rows ≡ Some row.value
+  pub sound : (table key : ℕ) (value : List ℕ) → value_of table key rows ≡ Some value
+      → CommittedIn shape blocks (home_block shape table key) key value
+  pub complete : (b key : ℕ) (value : List ℕ) → b < table_blocks shape → CommittedIn shape blocks b key value
+      → value_of (b / shape.blocks + 1) key rows ≡ Some value

@@ -2,7 +2,7 @@
 use Rattle.std.specs.Prelude.{◌≡◌, ◌<◌, ℕ, List, map}
 use Rattle.rb_base.specs.Blocks.{IsShape, table_blocks}
 use Rattle.rb_base.specs.declared.shape.Shape.{Shape}
-use Rattle.rb_first.specs.Files.{AreCommitted}
+use Rattle.rb_first.specs.Files.{AreCommitted, CommittedAt}
 use Rattle.rb_first.specs.First.{Falls, CommittedCell, CommittedRows}
 use Rattle.rb_model.specs.Rows.{TableRow}
 use Rattle.rb_segment.specs.Header.{Segment}
@@ -53,7 +53,13 @@ abbrev pub SoundIsCommitted : Type 0
 SoundIsCommitted = (shape : Shape) (blocks : List (List ℕ)) (number : ℕ) (rows : List TableRow) → IsShape shape
     → SoundAs shape blocks number rows → (number ≡ commit_scn shape blocks) × AreCommitted shape blocks rows
 
+-- each cell of a home having just one;
+abbrev pub CommittedAtIsOne : Type 0
+CommittedAtIsOne = (shape : Shape) (blocks : List (List ℕ)) (number : ℕ) (rows : List TableRow)
+    → SoundAs shape blocks number rows → (b j : ℕ) → b < table_blocks shape
+    → (x : Cell) × CommittedAt shape blocks b j x × ((y : Cell) → CommittedAt shape blocks b j y → x ≡ y)
+
 -- and those are one list of rows: no file is sound for two.
 abbrev pub CommittedAreOne : Type 0
-CommittedAreOne = (shape : Shape) (blocks : List (List ℕ)) (rows others : List TableRow)
+CommittedAreOne = (shape : Shape) (blocks : List (List ℕ)) (rows others : List TableRow) → IsShape shape
     → AreCommitted shape blocks rows → AreCommitted shape blocks others → rows ≡ others

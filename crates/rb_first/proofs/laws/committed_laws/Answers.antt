@@ -1,4 +1,4 @@
-use Rattle.rb_first.proofs.Files.{home_shows, sound_committed}
+use Rattle.rb_first.proofs.Files.{at_one, home_shows, sound_committed}
 use Rattle.rb_first.proofs.Numbers.{standing_falls}
 use Rattle.rb_first.proofs.Same.{committed_one}
 use Rattle.rb_first.proofs.laws.committed_laws.Goals as goal
@@ -12,5 +12,8 @@ returns-clause-homes c = home_shows
 pub returns-clause-sound : goal.returns-clause-sound
 returns-clause-sound c = sound_committed
 
-pub returns-clause-one : goal.returns-clause-one
-returns-clause-one c = committed_one
+pub returns-clause-cells : goal.returns-clause-cells
+returns-clause-cells c = at_one
+
+pub returns-clause-rows_one : goal.returns-clause-rows_one
+returns-clause-rows_one c = committed_one
