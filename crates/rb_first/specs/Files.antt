@@ -1,5 +1,6 @@
 -- The rows of a file before all that is under way, by its blocks alone: each cell is told by one record.
-use Rattle.std.specs.Prelude.{◌≡◌, ◌≤◌, ◌<◌, ◌+◌, ◌*◌, ◌/◌, ◌⊎◌, ℕ, zero, suc, List, Some}
+use Rattle.std.specs.Prelude.{◌≡◌, ◌≤◌, ◌<◌, ◌+◌, ◌*◌, ◌/◌, ◌⊎◌, ℕ}
+use Rattle.std.specs.Prelude.{zero, suc, List, Some}
 use Rattle.std.specs.List.{AllByRecursion}
 use Rattle.rb_base.specs.Blocks.{block_of, home_block, table_blocks}
 use Rattle.rb_base.specs.declared.ids.Uba.{Uba}

@@ -12,7 +12,7 @@ pub fn first_laws()
 {}
 
 /// So it is in each home where segments and homes stand. The rows of a sound file are those of the committed cells of
-/// all its homes, in scan order, and its blocks alone tell these cells, one for each. There is one such list of rows, so
+/// all its homes, in scan order, and its blocks alone tell these cells, one for each. There is one such list of rows:
 /// no file is sound for two.
 pub fn committed_laws()
     ensures falls { StandingFalls }
