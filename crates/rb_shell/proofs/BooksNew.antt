@@ -1,14 +1,14 @@
 -- The headers of a new file tell the new book of each segment.
-use Rattle.std.proofs.Common.{◌≡◌, ◌<◌, ◌-◌, ◌*◌, ◌%◌, ◌==◌, ℕ, zero, suc, Bool, nat_lt, false, if◌then◌else◌, List, ◌++◌, length, replicate, refl, sym, ◌∙◌, ap, arith}
+use Rattle.std.proofs.Common.{◌≡◌, ◌<◌, ◌-◌, ◌*◌, ◌%◌, ◌==◌, ℕ, Bool, nat_lt, false, if◌then◌else◌, ◌++◌, refl, sym, ◌∙◌, ap, arith}
 use Rattle.std.proofs.Math.Nat.{mul-mod_right}
 use Rattle.std.proofs.lemmas.Bool.{le-ltb}
 use Rattle.std.proofs.lemmas.List.{ext_get_or, get_or-replicate, length-replicate}
 use Rattle.std.proofs.lemmas.List.FromFn.{get_or-map-range_with_len, length-map-range_with_len}
-use Rattle.rb_base.specs.Blocks.{block_kind, block_of, fresh_blocks, fresh_head, fresh_rest, fresh_segment, header_block, table_blocks}
+use Rattle.rb_base.specs.Blocks.{block_kind, fresh_blocks, fresh_head, fresh_rest, fresh_segment, header_block, table_blocks}
 use Rattle.rb_base.specs.declared.shape.Shape.{Shape}
 use Rattle.rb_heap.proofs.Fresh.{new_block}
 use Rattle.rb_shell.specs.NewBooks.{new_books}
-use Rattle.rb_model.specs.Book.{Book, fresh_book}
+use Rattle.rb_model.specs.Book.{fresh_book}
 use Rattle.rb_opening.specs.Opens.{books_of}
 use Rattle.rb_restart.specs.Rollback.{found_book}
 use Rattle.rb_ring.specs.Ring.{extent_ord, extent_newest, head_extent, head_records, record_count, lost_number}
