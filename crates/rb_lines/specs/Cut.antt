@@ -1,13 +1,14 @@
 -- Where a fault of the sink cut a run of lines off.
-use Rattle.std.specs.Prelude.{◌≡◌, ◌⊎◌, ℕ, ◌<◌, ◌≤◌, false, List, [], ◌∷◌, ◌++◌, length}
+use Rattle.std.specs.Prelude.{◌≡◌, ◌⊎◌, ℕ, ◌<◌, ◌≤◌, false, List, [], ◌∷◌}
+use Rattle.std.specs.Prelude.{◌++◌, length}
 use Rattle.rb_model.specs.Lines.{lines_of}
 use Rattle.rb_model.specs.Out.{Outside, Logged}
 use Rattle.rb_lines.specs.Ran.{CutShort, LineBegun, Ran}
 use Rattle.rb_lines.specs.Whole.{whole_lines}
 
--- A fault of the sink ended the lines. When the last piece of at most `most` bytes was asked for, no call had failed, and
--- the lines that were whole had been done. All lines before the one that was cut off had their replies put. It is one
--- that was whole with that piece, or the last one at the end of the source: nothing was taken after it.
+-- A fault of the sink ended the lines. When the last piece of at most `most` bytes was asked for, no call had failed,
+-- and the lines that were whole had been done. All lines before the one that was cut off had their replies put. It is
+-- one that was whole with that piece, or the last one at the end of the source: nothing was taken after it.
 pub record CutOff (outside : Outside) (most : ℕ) (before now : Logged) (left_before left_now : List ℕ)
     (held_before held_now : List ℕ) : Type 0 where
   pub taken : List ℕ

@@ -1,5 +1,6 @@
 -- What a line runner did with lines.
-use Rattle.std.specs.Prelude.{◌≡◌, ◌⊎◌, ℕ, ◌<◌, ◌≤◌, true, false, List, ◌∷◌, ◌++◌, length, take, Result, Ok, Err}
+use Rattle.std.specs.Prelude.{◌≡◌, ◌⊎◌, ℕ, ◌<◌, ◌≤◌, true, false, List, ◌∷◌}
+use Rattle.std.specs.Prelude.{◌++◌, length, take, Result, Ok, Err}
 use Rattle.rb_model.specs.Lines.{Command, Spells, most_calls, without_return}
 use Rattle.rb_model.specs.Out.{Outside, Logged, CallsOut, LineOut, Out}
 use Rattle.rb_lines.specs.declared.runner.StepFault.{StepFault}
@@ -23,14 +24,15 @@ LineBegun m outside line out m2 = LineOut m outside line out m2
     ⊎ ((length line ≤ 512) × (c : Command) × Spells (without_return line) c × CallsBegun m outside c out m2)
 
 -- A front of replies as a relation allows them, and the state after what was done for them.
-pub record CutShort (begun : List ℕ → Logged → Type 0) (now : Logged) (held_before held_now : List ℕ) : Type 0 where
-  pub out : List ℕ
-  pub reply : begun out now
-  pub size : ℕ
-  pub written : held_now ≡ held_before ++ take size out
+pub record CutShort (begun : List ℕ → Logged → Type 0) (now : Logged) (held_before held_now : List ℕ) : Type 0
+  where
+    pub out : List ℕ
+    pub reply : begun out now
+    pub size : ℕ
+    pub written : held_now ≡ held_before ++ take size out
 
--- What was replied, by the answer: after a fault of the disk the state is stopped, and one of the sink cuts off what was
--- begun.
+-- What was replied, by the answer: after a fault of the disk the state is stopped, and one of the sink cuts off what
+-- was begun.
 abbrev pub RepliedAs : (allows begun : List ℕ → Logged → Type 0) → Logged → Type 0 → List ℕ → List ℕ
     → Result (Unit {0}) StepFault → Type 0
 RepliedAs allows begun now tells held_before held_now (Ok done) =

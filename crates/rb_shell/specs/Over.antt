@@ -40,8 +40,8 @@ pub record RunsOver {D : Type 0} (d : DiskGhosts D) (old new : D) (slots : ℕ) 
   pub ran : Ran (plain slots) (record { state = h; lsn = lsn; fault = None }) now lines tells held_before held_now
   pub leaves : LeavesFiles d old new slots h now
 
--- It was cut off in one of its lines: the sink holds all replies of those before it, and a front of its own. Nothing was
--- done after that, and the script was asked for in pieces of at most 65,536 bytes.
+-- It was cut off in one of its lines: the sink holds all replies of those before it, and a front of its own. Nothing
+-- was done after that, and the script was asked for in pieces of at most 65,536 bytes.
 pub record IsCutOver {D : Type 0} (d : DiskGhosts D) (old new : D) (slots : ℕ) (h : State)
     (left_before left_now held_before held_now : List ℕ) : Type 0 where
   pub lsn : ℕ

@@ -76,8 +76,8 @@ pub record HasRun {file : List ℕ} (sound : IsSound file) (lines : List (List �
   pub run : RanOver sound lines tells before now endures
   pub going : run.now.state.stopped ≡ false
 
--- It was cut off in one of its lines: the sink holds all replies of those before it, and a front of its own. Nothing was
--- done after that, and the script was asked for in pieces of at most 65,536 bytes.
+-- It was cut off in one of its lines: the sink holds all replies of those before it, and a front of its own. Nothing
+-- was done after that, and the script was asked for in pieces of at most 65,536 bytes.
 pub record WasCutOff {file : List ℕ} (sound : IsSound file) (left_before left_now : List ℕ)
     (before now_held : List ℕ) (endures : Layout → State → Logged → Type 0) : Type 0 where
   pub now : Logged

@@ -79,7 +79,8 @@ pub record Said (allows : List ℕ → Logged → Type 0) (now : Logged) (tells 
   pub waits : waiting ≡ drop sent out
 
 -- the same by the end of a step, as `RepliedAs` says it of what was sent
-abbrev pub SaidAs : (allows begun : List ℕ → Logged → Type 0) → Logged → Type 0 → (before held waiting : List ℕ)
+abbrev pub SaidAs : (allows begun : List ℕ → Logged → Type 0) → Logged → Type 0
+    → (before held waiting : List ℕ)
     → Result (Unit {0}) StepFault → Type 0
 SaidAs allows begun now tells before held waiting (Ok done) = Said allows now tells before held waiting
     × (now.state.stopped ≡ false)
