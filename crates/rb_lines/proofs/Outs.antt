@@ -1,8 +1,10 @@
 -- The replies to lines one after another.
-use Rattle.std.proofs.Common.{◌≡◌, ℕ, zero, suc, ◌≤◌, Bool, true, false, List, [], ◌∷◌, ◌++◌, length, take, refl, sym, ◌∙◌, ap, subst, arith, append_assoc, append-nil, length-take}
+use Rattle.std.proofs.Common.{◌≡◌, inl, inr, ⊎_elim, ℕ, ◌≤◌, Bool, true, false, List, [], ◌∷◌, ◌++◌, length, take, refl, sym, ◌∙◌, ap, subst, arith, append_assoc, append-nil, length-take}
 use Rattle.std.specs.Prelude.{MatchBool}
 use Rattle.std.proofs.lemmas.List.{take_all}
-use Rattle.rb_model.specs.Out.{Outside, IsSettled, Logged, LineOut, LineSaid, too_long, skipped, bad, command, Out, ResumesOut}
+use Rattle.rb_model.specs.Lines.{Command, Spells, without_return}
+use Rattle.rb_model.specs.Out.{Outside, Logged, LineOut, LineSaid, too_long, skipped, bad, command, Out}
+use Rattle.rb_lines.specs.Ran.{CallsBegun, LineBegun}
 
 -- A line's first 513 bytes say what the line says.
 front_said : (h : Logged) (outside : Outside) (line front out : List ℕ) (h2 : Logged) → front ≡ take 513 line → LineSaid h outside front out h2 → LineSaid h outside line out h2
@@ -22,6 +24,15 @@ front_said h outside line front out h2 e (command short c s o) =
 pub front_out : (h : Logged) (outside : Outside) (line front out : List ℕ) (h2 : Logged) → front ≡ take 513 line → LineOut h outside front out h2 → LineOut h outside line out h2
 front_out h outside line front out h2 e (first, rest, middle, count, said, is, resumes) =
     (first, rest, middle, count, front_said h outside line front first middle e said, is, resumes)
+
+-- also where it was only begun
+pub front_begun : (h : Logged) (outside : Outside) (line front out : List ℕ) (h2 : Logged) → front ≡ take 513 line → LineBegun h outside front out h2 → LineBegun h outside line out h2
+front_begun h outside line front out h2 e begun = ⊎_elim
+    (λ whole. inl (front_out h outside line front out h2 e whole))
+    (λ first.
+    let le : length line ≤ 513 = omega (arith, first.0, ap length e, length-take 513 line) in
+    inr (subst (λ (l : List ℕ). (length l ≤ 512) × (c : Command) × Spells (without_return l) c × CallsBegun h outside c out h2) (e ∙ take_all 513 line le) first))
+    begun
 
 pub one_out : (h : Logged) (outside : Outside) (line out : List ℕ) (h2 : Logged) → LineOut h outside line out h2 → Out h outside (line ∷ []) out h2
 one_out h outside line out h2 l =
@@ -57,22 +68,3 @@ stopped_out outside (line ∷ xs) ys h h2 out going (first, rest, middle, l, e, 
     let after : MatchBool middle.state.stopped ((rest ≡ []) × (h2 ≡ middle)) (Out middle outside (xs ++ ys) rest h2) =
     follows middle.state.stopped _ _ _ _ (λ s p. p) (λ s p. stopped_out outside xs ys middle h2 rest s p stopped) next in
     (first, rest, middle, l, e, after)
-
--- Nothing is left to try behind writes that were tried again, so a line leaves no session ready.
-
-resumes_settle : (count : ℕ) (m : Logged) (outside : Outside) (out : List ℕ) (m2 : Logged) → ResumesOut m outside count out m2 → IsSettled m2
-resumes_settle zero m outside out m2 (settled, none, is) = subst IsSettled (sym is) settled
-resumes_settle (suc count) m outside out m2 (s, asked, r, rest, middle, going, ready, known, resumed, is, later) =
-    resumes_settle count middle outside rest m2 later
-
-settled_by : (v : Bool) (P Q R : Type 0) → (P → R) → (Q → R) → MatchBool v P Q → R
-settled_by true P Q R f g p = f p
-settled_by false P Q R f g q = g q
-
-pub out_settles : (outside : Outside) (lines : List (List ℕ)) (h h2 : Logged) (out : List ℕ) → Out h outside lines out h2 → IsSettled h → IsSettled h2
-out_settles outside [] h h2 out p settled = subst IsSettled (sym p.1) settled
-out_settles outside (line ∷ lines) h h2 out (first, rest, middle, (said, resumed, mid, count, does, is, resumes), e, next) settled =
-    let here : IsSettled middle = resumes_settle count mid outside resumed middle resumes in
-    settled_by middle.state.stopped _ _ _
-    (λ p. subst IsSettled (sym p.1) here)
-    (λ p. out_settles outside lines middle h2 rest p here) next

@@ -1,15 +1,17 @@
 -- What a run has done with the bytes taken so far.
-use Rattle.std.proofs.Common.{◌≡◌, ℕ, ◌+◌, ◌-◌, ◌≤◌, false, List, [], ◌++◌, length, take, Result, Ok, Err, refl, sym, ◌∙◌, ap, subst, arith, append_assoc, append-nil, length-append}
+use Rattle.std.proofs.Common.{◌≡◌, inl, inr, ℕ, ◌+◌, ◌-◌, ◌<◌, ◌≤◌, false, List, [], ◌∷◌, ◌++◌, length, take, Result, Ok, Err, refl, sym, ◌∙◌, ap, subst, arith, append_assoc, append-nil, length-append}
 use Rattle.rb_model.specs.Lines.{lines_of}
 use Rattle.rb_model.specs.Out.{Outside, Logged}
 use Rattle.rb_lines.specs.declared.runner.StepFault.{StepFault}
 use Rattle.rb_lines.specs.declared.runner.StepFault.TheVariants.{Disk, Sink}
+use Rattle.rb_lines.specs.Cut.{CutOff}
 use Rattle.rb_lines.specs.Ends.{EndsAs, Halted, WholeRan, end_of}
-use Rattle.rb_lines.specs.Ran.{Did, Ran, RanAs}
+use Rattle.rb_lines.specs.Ran.{CutIn, Did, Ran, RanAs}
 use Rattle.rb_lines.specs.Pieces.{lines_from, rest_from, last_of}
+use Rattle.rb_lines.specs.Whole.{whole_lines}
 use Rattle.rb_lines.proofs.Cuts.{lines-append, rest-append, lines_of-parts, whole_lines-pieces}
 use Rattle.rb_lines.proofs.Dids.{did_as, did_on}
-use Rattle.rb_lines.proofs.Runs.{ran_none, as-append, as_more}
+use Rattle.rb_lines.proofs.Runs.{ran_none, ran_told, ran-append, as-append, as_more}
 
 -- all lines of the bytes of which one piece was taken and then another
 lines_of_pieces : (first piece left : List ℕ)
@@ -29,6 +31,29 @@ lines_of_pieces first piece left =
     ∙ ap (λ (l : List ℕ). lines_from [] ((first ++ piece) ++ left) ++ last_of l) lastis
     ∙ ap (λ (ls : List (List ℕ)). ls ++ last_of (rest_from (rest_from rest piece) left)) linesare
     ∙ append_assoc (lines_from [] first ++ lines_from rest piece) (lines_from (rest_from rest piece) left) (last_of (rest_from (rest_from rest piece) left))
+
+-- a last line is the only one
+none_after : (line : List ℕ) (done : List (List ℕ)) (next : List ℕ) (more : List (List ℕ)) → last_of line ≡ done ++ next ∷ more → more ≡ []
+none_after line done next [] is = refl
+none_after [] done next (other ∷ more) is =
+    let some = ap length is ∙ length-append done (next ∷ (other ∷ more)) in
+    absurd (omega (arith, some))
+none_after (b ∷ line) done next (other ∷ more) is =
+    let some = ap length is ∙ length-append done (next ∷ (other ∷ more)) in
+    absurd (omega (arith, some))
+
+-- a line among others is before their end
+within : (first done : List (List ℕ)) (line : List ℕ) (more all : List (List ℕ)) → all ≡ first ++ (done ++ line ∷ more) → length (first ++ done) < length all
+within first done line more all is =
+    omega (arith, ap length is, length-append first done, length-append first (done ++ line ∷ more), length-append done (line ∷ more))
+
+-- the whole lines of what was taken, and those of the next piece that were done
+cut_ran : (outside : Outside) (m k middle : Logged) (taken : List ℕ) (done : List (List ℕ)) (tells : Type 0) (held held1 held2 : List ℕ) → tells
+    → Ran outside m k (lines_from [] taken) tells held held1 → k.state.stopped ≡ false → Ran outside k middle done (Unit {0}) held1 held2
+    → Ran outside m middle (whole_lines taken ++ done) (Unit {0}) held held2
+cut_ran outside m k middle taken done tells held held1 held2 t ran going next =
+    ran-append outside m k middle (whole_lines taken) done (Unit {0}) held held1 held2
+    (subst (λ (ls : List (List ℕ)). Ran outside m k ls (Unit {0}) held held1) (whole_lines-pieces taken) (ran_told outside m k (lines_from [] taken) tells held held1 t ran)) going next
 
 module _ {M : Type 0} (stands : M → Logged → Type 0) (since : M → M → Logged → Logged → Type 0) where
   -- `room` more bytes may be taken of a thousand million; `kept` is the front of the line under way
@@ -109,19 +134,72 @@ module _ {M : Type 0} (stands : M → Logged → Type 0) (since : M → M → Lo
         stopped = last.1;
       })
 
-  -- a fault of the sink in a piece
-  part_cut : (old mid new : M) (m : Logged) (outside outside1 : Outside) (tells : Type 0) (held held1 held2 left left1 left2 kept : List ℕ) (room : ℕ) (piece : List ℕ)
+  -- with one of the sink in it
+  part_last_cut : (old mid new : M) (m : Logged) (outside outside1 : Outside) (most : ℕ) (tells : Type 0) (held held1 held2 left left1 left2 kept : List ℕ) (room : ℕ)
       → ((a b c : M) (h n k : Logged) → n.state.stopped ≡ false → since a b h n → since b c n k → since a c h k)
-      → (p : Part old mid outside tells held held1 left left1 kept room) → outside1 ≡ outside → left1 ≡ piece ++ left2 → stands old m → m.state.stopped ≡ false
-      → ((k : Logged) → stands mid k → k.state.stopped ≡ false → Did stands since mid new k (λ now. RanAs outside1 k now (lines_from (rest_from [] p.taken) piece) tells held1 held2 (Err Sink)))
-      → Did stands since old new m (λ now. RanAs outside m now (lines_of left) tells held held2 (Err Sink))
-  part_cut old mid new m outside outside1 tells held held1 held2 left left1 left2 kept room piece joined p same split is going more =
-      let bytes : left ≡ p.taken ++ (piece ++ left2) = p.split ∙ ap (λ (l : List ℕ). p.taken ++ l) split in
+      → (p : Part old mid outside tells held held1 left left1 kept room) → outside1 ≡ outside → left1 ≡ [] → left1 ≡ left2 → stands old m → m.state.stopped ≡ false
+      → ((k : Logged) → stands mid k → k.state.stopped ≡ false → Did stands since mid new k (λ now. RanAs outside1 k now (last_of (rest_from [] p.taken)) tells held1 held2 (Err Sink)))
+      → Did stands since old new m (λ now. tells → CutOff outside most m now left left2 held held2)
+  part_last_cut old mid new m outside outside1 most tells held held1 held2 left left1 left2 kept room joined p same none stays is going more =
+      let whole : left ≡ p.taken = p.split ∙ ap (λ (l : List ℕ). p.taken ++ l) none ∙ append-nil p.taken in
+      let last : List (List ℕ) = last_of (rest_from [] p.taken) in
       did_on old mid new m _ _ _ joined (p.did m is going) (λ k so_far. so_far.1) more
-      (λ k h2 so_far next. subst (λ (ls : List (List ℕ)). RanAs outside m h2 ls tells held held2 (Err Sink)) (sym (ap lines_of bytes ∙ lines_of_pieces p.taken piece left2))
-      (as_more outside m h2 _ _ tells held held2 Sink going
-      (as-append outside m k h2 _ _ tells held held1 held2 (Err Sink) so_far.0 so_far.1
-      (subst (λ (s : Outside). RanAs s k h2 (lines_from (rest_from [] p.taken) piece) tells held1 held2 (Err Sink)) same next))))
+      (λ k h2 so_far next t.
+      let q : CutIn outside k h2 last held1 held2 = subst (λ (s : Outside). CutIn s k h2 last held1 held2) same (next t) in
+      record {
+        taken = p.taken;
+        piece = [];
+        few = omega arith;
+        split = p.split ∙ ap (λ (l : List ℕ). p.taken ++ l) stays;
+        done = q.done;
+        line = q.line;
+        more = q.more;
+        lines = ap lines_of whole ∙ lines_of-parts p.taken ∙ ap (λ (ls : List (List ℕ)). ls ++ last) (whole_lines-pieces p.taken)
+            ∙ ap (λ (ls : List (List ℕ)). whole_lines p.taken ++ ls) q.split ∙ sym (append_assoc (whole_lines p.taken) q.done (q.line ∷ q.more));
+        here = inr (sym stays ∙ none, none_after (rest_from [] p.taken) q.done q.line q.more q.split);
+        middle = q.middle;
+        held = q.held;
+        ran = cut_ran outside m k q.middle p.taken q.done tells held held1 q.held t so_far.0 so_far.1 q.ran;
+        going = q.going;
+        cut = q.cut;
+      })
+
+  -- and in a piece
+  part_cut : (old mid new : M) (m : Logged) (outside outside1 : Outside) (most : ℕ) (tells : Type 0) (held held1 held2 left left1 left2 kept : List ℕ) (room : ℕ) (piece : List ℕ)
+      → ((a b c : M) (h n k : Logged) → n.state.stopped ≡ false → since a b h n → since b c n k → since a c h k)
+      → (p : Part old mid outside tells held held1 left left1 kept room) → outside1 ≡ outside → length piece ≤ most → left1 ≡ piece ++ left2 → stands old m → m.state.stopped ≡ false
+      → ((k : Logged) → stands mid k → k.state.stopped ≡ false → Did stands since mid new k (λ now. RanAs outside1 k now (lines_from (rest_from [] p.taken) piece) tells held1 held2 (Err Sink)))
+      → Did stands since old new m (λ now. tells → CutOff outside most m now left left2 held held2)
+  part_cut old mid new m outside outside1 most tells held held1 held2 left left1 left2 kept room piece joined p same few split is going more =
+      let bytes : left ≡ p.taken ++ (piece ++ left2) = p.split ∙ ap (λ (l : List ℕ). p.taken ++ l) split in
+      let here : List (List ℕ) = lines_from (rest_from [] p.taken) piece in
+      let later : List (List ℕ) = lines_from (rest_from (rest_from [] p.taken) piece) left2 ++ last_of (rest_from (rest_from (rest_from [] p.taken) piece) left2) in
+      let first : List (List ℕ) = whole_lines p.taken in
+      let whole : whole_lines (p.taken ++ piece) ≡ first ++ here =
+      sym (whole_lines-pieces (p.taken ++ piece)) ∙ lines-append [] p.taken piece ∙ ap (λ (ls : List (List ℕ)). ls ++ here) (whole_lines-pieces p.taken) in
+      did_on old mid new m _ _ _ joined (p.did m is going) (λ k so_far. so_far.1) more
+      (λ k h2 so_far next t.
+      let q : CutIn outside k h2 here held1 held2 = subst (λ (s : Outside). CutIn s k h2 here held1 held2) same (next t) in
+      record {
+        taken = p.taken;
+        piece = piece;
+        few = few;
+        split = bytes;
+        done = q.done;
+        line = q.line;
+        more = q.more ++ later;
+        lines = ap lines_of bytes ∙ lines_of_pieces p.taken piece left2 ∙ append_assoc (lines_from [] p.taken) here later
+            ∙ ap (λ (ls : List (List ℕ)). ls ++ (here ++ later)) (whole_lines-pieces p.taken)
+            ∙ ap (λ (ls : List (List ℕ)). first ++ (ls ++ later)) q.split
+            ∙ ap (λ (ls : List (List ℕ)). first ++ ls) (append_assoc q.done (q.line ∷ q.more) later)
+            ∙ sym (append_assoc first q.done (q.line ∷ (q.more ++ later)));
+        here = inl (within first q.done q.line q.more (whole_lines (p.taken ++ piece)) (whole ∙ ap (λ (ls : List (List ℕ)). first ++ ls) q.split));
+        middle = q.middle;
+        held = q.held;
+        ran = cut_ran outside m k q.middle p.taken q.done tells held held1 q.held t so_far.0 so_far.1 q.ran;
+        going = q.going;
+        cut = q.cut;
+      })
 
   -- a fault of the disk in a piece
   part_fault : (old mid new : M) (m : Logged) (outside outside1 : Outside) (most : ℕ) (tells : Type 0) (held held1 held2 left left1 left2 kept : List ℕ) (room : ℕ) (piece : List ℕ)
@@ -161,7 +239,7 @@ module _ {M : Type 0} (stands : M → Logged → Type 0) (since : M → M → Lo
   last_fails old mid new m outside outside1 most tells held held1 held2 left left1 left2 kept room Disk joined p same none stays is going more =
       part_halts old mid new m outside outside1 most tells held held1 held2 left left1 left2 kept room joined p same none stays is going more
   last_fails old mid new m outside outside1 most tells held held1 held2 left left1 left2 kept room Sink joined p same none stays is going more =
-      part_end old mid new m outside outside1 tells held held1 held2 left left1 kept room (Err Sink) joined p same none is going more
+      part_last_cut old mid new m outside outside1 most tells held held1 held2 left left1 left2 kept room joined p same none stays is going more
 
   -- and how one in a piece does
   pub piece_fails : (old mid new : M) (m : Logged) (outside outside1 : Outside) (most : ℕ) (tells : Type 0) (held held1 held2 left left1 left2 kept : List ℕ) (room : ℕ) (piece : List ℕ) (fault : StepFault)
@@ -172,7 +250,7 @@ module _ {M : Type 0} (stands : M → Logged → Type 0) (since : M → M → Lo
   piece_fails old mid new m outside outside1 most tells held held1 held2 left left1 left2 kept room piece Disk joined p same few split is going more =
       part_fault old mid new m outside outside1 most tells held held1 held2 left left1 left2 kept room piece joined p same few split is going more
   piece_fails old mid new m outside outside1 most tells held held1 held2 left left1 left2 kept room piece Sink joined p same few split is going more =
-      part_cut old mid new m outside outside1 tells held held1 held2 left left1 left2 kept room piece joined p same split is going more
+      part_cut old mid new m outside outside1 most tells held held1 held2 left left1 left2 kept room piece joined p same few split is going more
 
   -- the whole lines among the bytes taken
   pub part_whole : (old mid : M) (m : Logged) (outside : Outside) (tells : Type 0) (held held1 left left1 left2 kept : List ℕ) (room : ℕ)

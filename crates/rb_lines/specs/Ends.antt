@@ -1,8 +1,9 @@
 -- How a run of lines ends, and what it did with the bytes of its source by then.
 use Rattle.std.specs.Prelude.{◌≡◌, ℕ, ◌≤◌, Bool, true, false, List, ◌++◌, length}
 use Rattle.rb_model.specs.Lines.{lines_of}
-use Rattle.rb_model.specs.Out.{Outside, IsSettled, Logged}
-use Rattle.rb_lines.specs.Ran.{Ran, CutOff}
+use Rattle.rb_model.specs.Out.{Outside, Logged}
+use Rattle.rb_lines.specs.Cut.{CutOff}
+use Rattle.rb_lines.specs.Ran.{Ran}
 use Rattle.rb_lines.specs.Whole.{whole_lines}
 use Rattle.rb_lines.specs.declared.lines.LinesEnd.{LinesEnd}
 use Rattle.rb_lines.specs.declared.lines.LinesEnd.TheVariants.{Done, SourceFault, DiskFault, SinkFault, TooLong}
@@ -51,8 +52,7 @@ pub record Halted (outside : Outside) (most : ℕ) (before now : Logged) (left_b
   pub fault : Ran outside middle now rest tells held held_now
   pub stopped : now.state.stopped ≡ true
 
--- What was done by the end of a run. A fault of the sink cuts the replies off, which is told where no session was ready
--- before.
+-- What was done by the end of a run.
 abbrev pub EndsAs : Outside → ℕ → Logged → Logged → List ℕ → List ℕ → Type 0 → List ℕ → List ℕ
     → LinesEnd → Type 0
 EndsAs outside most before now left_before left_now tells held_before held_now Done =
@@ -62,7 +62,7 @@ EndsAs outside most before now left_before left_now tells held_before held_now S
 EndsAs outside most before now left_before left_now tells held_before held_now DiskFault =
     Halted outside most before now left_before left_now tells held_before held_now
 EndsAs outside most before now left_before left_now tells held_before held_now SinkFault =
-    tells → IsSettled before → CutOff outside before now (lines_of left_before) held_before held_now
+    tells → CutOff outside most before now left_before left_now held_before held_now
 EndsAs outside most before now left_before left_now tells held_before held_now TooLong =
     (taken : List ℕ) × (length taken ≡ 1000000000)
     × WholeRan outside before now taken left_before left_now tells held_before held_now

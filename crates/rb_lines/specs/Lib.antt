@@ -1,3 +1,4 @@
+pub mod Cut
 pub mod Ends
 pub mod Faults
 pub mod Pieces

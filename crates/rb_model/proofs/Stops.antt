@@ -1,15 +1,12 @@
 -- When a state is stopped: after a fault of the disk, and else where it was before. No call changes the shape or how many
 -- sessions there are.
-use Rattle.std.proofs.Common.{arith, not, ◌≡◌, ◌≢◌, ◌∙◌, inl, inr, ⊎_elim, refl, sym, ap, ℕ, ◌-◌, Bool, true, false, List, [], ◌∷◌, length, length-set, Option, None, Some, Result, Ok, Err}
-use Rattle.std.specs.List.{list_all}
-use Rattle.std.specs.Prelude.{slice_get}
-use Rattle.std.proofs.lemmas.Bool.{cond_both, cases_Bool, false≢true, and_parts, not-true}
+use Rattle.std.proofs.Common.{◌≡◌, ◌≢◌, ◌∙◌, inl, inr, ⊎_elim, refl, sym, ap, ℕ, ◌-◌, true, false, List, length, length-set, Option, None, Some, Result, Ok, Err}
+use Rattle.std.proofs.lemmas.Bool.{cond_both, cases_Bool, false≢true}
 use Rattle.rb_base.specs.Counts.{err_is}
 use Rattle.rb_model.specs.Answers.{commit_answer, fetch_answer, marks_answer, plain_answer, write_answer}
-use Rattle.rb_model.specs.Calls.{Call, Write, Commit, Rollback, SetMode, SetSavepoint, RollbackTo, OpenCursor, Fetch, CloseCursor, Cancel, Marks, Checkpoint, Answer, Done, Waits, Numbered, Given, End, Marked, Refused, early_tests, first_of, given, granted, is_disk_fault, is_fault, next_row}
+use Rattle.rb_model.specs.Calls.{Call, Write, Commit, Rollback, SetMode, SetSavepoint, RollbackTo, OpenCursor, Fetch, CloseCursor, Cancel, Marks, Checkpoint, Answer, Done, Waits, Numbered, Given, End, Marked, Refused, is_disk_fault, is_fault}
 use Rattle.rb_model.specs.NextState.{After, AfterGrant, AfterWait, EndsAs}
-use Rattle.rb_model.specs.Rows.{TableRow}
-use Rattle.rb_model.specs.State.{State, Cursor, cursor_rows}
+use Rattle.rb_model.specs.State.{State, Cursor}
 use Rattle.rb_model.specs.declared.marks.Marks.{Marks as CodeMarks}
 use Rattle.rb_model.specs.declared.row.Row.{Row}
 use Rattle.rb_model.specs.declared.row.Fetched.{Fetched}
@@ -112,33 +109,6 @@ after_shape h h2 c r after = ⊎_elim
     (λ (is : is_fault r ≡ true). ap (λ (x : State). x.shape) (after_stops h h2 c r is after))
     (λ (is : is_fault r ≡ false). (fine_stays h h2 c r is after).shape)
     (cases_Bool (is_fault r))
-
--- what is granted, and what a test answers, is no fault of the disk
-
-given_fine : (o : Option TableRow) → is_fault (given o) ≡ false
-given_fine None = refl
-given_fine (Some row) = refl
-
-next_fine : (h : State) (o : Option Cursor) → is_fault (next_row h o) ≡ false
-next_fine h None = refl
-next_fine h (Some cursor) = given_fine (slice_get (cursor_rows h cursor) cursor.taken)
-
--- what holds of the answers of all tests, and of the good one, holds of the first of them that applies
-pub first_keeps : (p : Answer → Bool) (tests : List (Bool × Answer)) (good : Answer) → list_all (λ test. p test.1) tests ≡ true → p good ≡ true → p (first_of tests good) ≡ true
-first_keeps p [] good all here = here
-first_keeps p (test ∷ tests) good all here =
-    let parts = and_parts (p test.1) (list_all (λ test. p test.1) tests) all in
-    cond_both test.0 test.1 (first_of tests good) (λ r. p r ≡ true) (λ w. parts.0) (λ w. first_keeps p tests good parts.1 here)
-
-early_fine : (h : State) (c : Call) → list_all (λ test. not (is_fault test.1)) (early_tests h c) ≡ true
-early_fine h c = grind arith
-
-pub granted_fine : (h : State) (c : Call) → not (is_fault (granted h c)) ≡ true
-granted_fine h c = grind (arith, next_fine)
-
--- an early refusal tells of no fault
-pub early_no_fault : (h : State) (c : Call) → is_fault (first_of (early_tests h c) Done) ≡ false
-early_no_fault h c = not-true (is_fault (first_of (early_tests h c) Done)) (first_keeps (λ r. not (is_fault r)) (early_tests h c) Done (early_fine h c) refl)
 
 -- the code's refusals that tell of one, as the machine's answers
 

@@ -1,12 +1,22 @@
 -- What answers hang on besides the machine's state may be forgotten.
+<<<<<<< HEAD
 use Rattle.std.proofs.Common.{ℕ, zero, suc, Bool, true, false, List, [], ◌∷◌, take}
+=======
+use Rattle.std.proofs.Common.{inl, inr, ⊎_elim, ℕ, zero, suc, Bool, true, false, List, [], ◌∷◌, ◌++◌}
+>>>>>>> 2e53b535159866970f3f42cb1fb974f4a749eea7
 use Rattle.std.specs.Prelude.{MatchBool}
 use Rattle.rb_shell.specs.Over.{plain}
-use Rattle.rb_lines.specs.Ran.{CutOff, Ran}
+use Rattle.rb_lines.specs.Cut.{CutOff}
+use Rattle.rb_lines.specs.Ran.{LineBegun, Ran}
+use Rattle.rb_lines.specs.Whole.{whole_lines}
 use Rattle.rb_model.specs.Calls.{Answer, Call}
 use Rattle.rb_model.specs.Change.{Asked}
 use Rattle.rb_model.specs.Lines.{Command}
+<<<<<<< HEAD
 use Rattle.rb_model.specs.Out.{CallOut, CallsOut, LineSaid, Logged, Out, Outside, Resumed, ResumesOut, bad, command, goes_on, skipped, too_long}
+=======
+use Rattle.rb_model.specs.Out.{CallOut, CallsOut, LineOut, LineSaid, Logged, Out, Outside, Resumed, ResumesOut, bad, command, goes_on, skipped, too_long}
+>>>>>>> 2e53b535159866970f3f42cb1fb974f4a749eea7
 
 either : (v : Bool) (P Q P2 Q2 : Type 0) → (P → P2) → (Q → Q2) → MatchBool v P Q → MatchBool v P2 Q2
 either true P Q P2 Q2 f g p = f p
@@ -56,13 +66,17 @@ module _ (o : Outside) where
   said m line out m2 (bad short r none is same) = bad short r none is same
   said m line out m2 (command short c spells does) = command short c spells (calls _ 0 m c out m2 does)
 
+  whole_line : (m : Logged) (line out : List ℕ) (m2 : Logged) → LineOut m o line out m2 → LineOut m O line out m2
+  whole_line m line out m2 (itself, again, between, count, says, joined, tried) =
+      (itself, again, between, count, said m line itself between says, joined, resumes count between again m2 tried)
+
   lines : (ls : List (List ℕ)) (m : Logged) (out : List ℕ) (m2 : Logged) → Out m o ls out m2 → Out m O ls out m2
   lines [] m out m2 x = x
-  lines (line ∷ ls) m out m2 (first, rest, middle, (itself, again, between, count, says, joined, tried), is, more) = (
+  lines (line ∷ ls) m out m2 (first, rest, middle, does, is, more) = (
     first,
     rest,
     middle,
-    (itself, again, between, count, said m line itself between says, joined, resumes count between again middle tried),
+    whole_line m line first middle does,
     is,
     either middle.state.stopped _ _ _ _ (λ p. p) (λ q. lines ls middle rest m2 q) more,
   )
@@ -70,5 +84,26 @@ module _ (o : Outside) where
   pub ran_plain : (m m2 : Logged) (ls : List (List ℕ)) (tells : Type 0) (before held : List ℕ) → Ran o m m2 ls tells before held → Ran O m m2 ls tells before held
   ran_plain m m2 ls tells before held x = record { out = x.out; replies = lines ls m x.out m2 x.replies; written = x.written }
 
-  pub cut_plain : (m m2 : Logged) (ls : List (List ℕ)) (before held : List ℕ) → CutOff o m m2 ls before held → CutOff O m m2 ls before held
-  cut_plain m m2 ls before held x = record { count = x.count; out = x.out; state = x.state; replies = lines (take x.count ls) m x.out x.state x.replies; same = x.same; size = x.size; written = x.written }
+  begun : (m : Logged) (line out : List ℕ) (m2 : Logged) → LineBegun m o line out m2 → LineBegun m O line out m2
+  begun m line out m2 x = ⊎_elim
+      (λ whole. inl (whole_line m line out m2 whole))
+      (λ first. inr (first.0, first.1, first.2, (first.3.0, first.3.1, first.3.2, calls first.3.0 0 m first.1 out m2 first.3.3)))
+      x
+
+  pub cut_plain : (m m2 : Logged) (most : ℕ) (left left2 before held : List ℕ) → CutOff o most m m2 left left2 before held → CutOff O most m m2 left left2 before held
+  cut_plain m m2 most left left2 before held x = record {
+    taken = x.taken;
+    piece = x.piece;
+    few = x.few;
+    split = x.split;
+    done = x.done;
+    line = x.line;
+    more = x.more;
+    lines = x.lines;
+    here = x.here;
+    middle = x.middle;
+    held = x.held;
+    ran = ran_plain m x.middle (whole_lines x.taken ++ x.done) (Unit {0}) before x.held x.ran;
+    going = x.going;
+    cut = record { out = x.cut.out; reply = begun x.middle x.line x.cut.out m2 x.cut.reply; size = x.cut.size; written = x.cut.written };
+  }

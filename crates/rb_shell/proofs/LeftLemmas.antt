@@ -11,7 +11,8 @@ use Rattle.rb_image.specs.Between.{Extends, FoundAtEnd, FoundBetween, MarksGrow,
 use Rattle.rb_image.specs.Crash.{AtEnd, OnTheWay, RestartsAt}
 use Rattle.rb_layout.specs.Regions.{shape_of}
 use Rattle.rb_layout.specs.declared.layout.Layout.{Layout}
-use Rattle.rb_lines.specs.Ran.{CutOff, Ran}
+use Rattle.rb_lines.specs.Cut.{CutOff}
+use Rattle.rb_lines.specs.Ran.{Ran}
 use Rattle.rb_model.specs.Book.{Book, book_at, fresh_book}
 use Rattle.rb_model.specs.Calls.{Call}
 use Rattle.rb_model.specs.Change.{Change}
@@ -29,6 +30,10 @@ use Rattle.rb_shell.proofs.NewFile.{new_file, new_log}
 use Rattle.rb_shell.specs.Left.{Left, fresh, later}
 use Rattle.rb_shell.specs.Over.{HasRows, IsCutOver, LeavesFiles, LeavesSame, LeavesSome, RunsOver, plain}
 use Rattle.rb_shell.specs.Runs.{Endures, IsSound, LeftBehind, OpensSame, first_of, outside_in}
+<<<<<<< HEAD
+=======
+use Rattle.rb_shell.specs.declared.script.TheConstants.{SCRIPT_BYTES}
+>>>>>>> 2e53b535159866970f3f42cb1fb974f4a749eea7
 use Rattle.rb_standing.specs.Standing.{SoundAs}
 use Rattle.rb_store.specs.Laps.{Opens}
 
@@ -156,17 +161,17 @@ module _ (slots : ℕ) (before : List ℕ) (h : State) (is : Left slots before h
           leaves = leaves_by now w.sound.store.layout w.sound.state w.state w.log e;
         }
 
-    pub is_cut_over : (w : OpensWith slots (d.content old) h) (lines : List (List ℕ)) (held_before held_now : List ℕ) (now : Logged)
-        → CutOff (outside_in w.sound) (first_of w.sound) now lines held_before held_now → Endures d old new w.sound.store.layout w.sound.state now
-        → IsCutOver d old new slots h lines held_before held_now
-    is_cut_over w lines held_before held_now now cut e =
+    pub is_cut_over : (w : OpensWith slots (d.content old) h) (left left2 held_before held_now : List ℕ) (now : Logged)
+        → CutOff (outside_in w.sound) SCRIPT_BYTES (first_of w.sound) now left left2 held_before held_now → Endures d old new w.sound.store.layout w.sound.state now
+        → IsCutOver d old new slots h left left2 held_before held_now
+    is_cut_over w left left2 held_before held_now now cut e =
         let first = first_of w.sound in
-        let forgot : CutOff (plain w.sound.store.layout.log) first now lines held_before held_now = cut_plain (outside_in w.sound) first now lines held_before held_now cut in
+        let forgot : CutOff (plain w.sound.store.layout.log) SCRIPT_BYTES first now left left2 held_before held_now = cut_plain (outside_in w.sound) first now SCRIPT_BYTES left left2 held_before held_now cut in
         record {
           lsn = first.lsn;
           now = now;
-          cut = subst (λ (z : State). CutOff (plain slots) (record { state = z; lsn = first.lsn; fault = None }) now lines held_before held_now) w.state
-              (subst (λ (k : ℕ). CutOff (plain k) first now lines held_before held_now) w.log forgot);
+          cut = subst (λ (z : State). CutOff (plain slots) SCRIPT_BYTES (record { state = z; lsn = first.lsn; fault = None }) now left left2 held_before held_now) w.state
+              (subst (λ (k : ℕ). CutOff (plain k) SCRIPT_BYTES first now left left2 held_before held_now) w.log forgot);
           leaves = leaves_by now w.sound.store.layout w.sound.state w.state w.log e;
         }
 

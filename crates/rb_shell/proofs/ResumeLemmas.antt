@@ -4,13 +4,14 @@ use Rattle.std.proofs.lemmas.List.{append-nil, length-append, drop-append-le, ta
 use Rattle.std.specs.Prelude.{IfErr}
 use Rattle.std.specs.Result.{is_err}
 use Rattle.rb_calls.proofs.CallLemmas.{TriedAgain}
+use Rattle.rb_lines.specs.Ran.{LineBegun}
 use Rattle.rb_lines.specs.declared.runner.StepFault.{StepFault}
 use Rattle.rb_lines.specs.declared.runner.StepFault.TheVariants.{Disk, Sink}
 use Rattle.rb_model.specs.Calls.{Answer, is_fault}
 use Rattle.rb_model.specs.Lines.{reply_text}
 use Rattle.rb_model.specs.Out.{Logged, LineOut, LineSaid, Resumed, ResumesOut, Outside}
 use Rattle.rb_model.specs.Queue.{first_ready}
-use Rattle.rb_shell.specs.Steps.{HasResumed, ResumedSoFar, Said, SaidAs, SaidItself}
+use Rattle.rb_shell.specs.Steps.{HasResumed, ResumedSoFar, Said, SaidAs}
 
 -- one after another
 
@@ -75,8 +76,8 @@ resumed_said m mid now outside count line rest tells before held waiting waiting
 }
 
 pub line_ends : (m mid now : Logged) (outside outside1 : Outside) (line : List ℕ) (tells : Type 0) (before held waiting waiting2 : List ℕ) (result : Result (Unit {0}) StepFault)
-    → SaidItself m outside line mid tells before held waiting (Ok tt) → outside1 ≡ outside → HasResumed mid outside1 now waiting waiting2 (is_err result) → IfErr result (λ fault. fault ≡ Disk)
-    → SaidAs (LineOut m outside line) m now tells before held waiting2 result
+    → SaidAs (LineSaid m outside line) (LineBegun m outside line) mid tells before held waiting (Ok tt) → outside1 ≡ outside → HasResumed mid outside1 now waiting waiting2 (is_err result) → IfErr result (λ fault. fault ≡ Disk)
+    → SaidAs (LineOut m outside line) (LineBegun m outside line) now tells before held waiting2 result
 line_ends m mid now outside outside1 line tells before held waiting waiting2 (Ok done) (said, going) same has by =
     (resumed_said m mid now outside has.count line has.rest tells before held waiting waiting2 said (subst (λ (k : Outside). ResumesOut mid k has.count has.rest now) same has.resumed) has.waits, has.stopped)
 line_ends m mid now outside outside1 line tells before held waiting waiting2 (Err Disk) (said, going) same has by =
@@ -85,7 +86,7 @@ line_ends m mid now outside outside1 line tells before held waiting waiting2 (Er
 
 -- a fault in the line itself, behind which none is tried
 pub line_fails : (m now : Logged) (outside : Outside) (line : List ℕ) (tells : Type 0) (before held waiting : List ℕ) (fault : StepFault)
-    → SaidItself m outside line now tells before held waiting (Err fault) → SaidAs (LineOut m outside line) m now tells before held waiting (Err fault)
+    → SaidAs (LineSaid m outside line) (LineBegun m outside line) now tells before held waiting (Err fault) → SaidAs (LineOut m outside line) (LineBegun m outside line) now tells before held waiting (Err fault)
 line_fails m now outside line tells before held waiting Disk (said, stopped) =
     let none : ◌≡◌ {A = List ℕ} [] [] = refl in
     (resumed_said m now now outside 0 line [] tells before held waiting waiting said (inl stopped, none, refl) (sym (append-nil waiting)), stopped)

@@ -14,13 +14,13 @@ use Rattle.rb_image.specs.Between.{Extends, reached}
 use Rattle.rb_image.specs.Crash.{AtEnd, OnTheWay, Restarts}
 use Rattle.rb_layout.specs.Regions.{shape_of}
 use Rattle.rb_layout.specs.declared.layout.Layout.{Layout}
+use Rattle.rb_lines.specs.Cut.{CutOff}
 use Rattle.rb_lines.specs.Ends.{Halted}
-use Rattle.rb_lines.specs.Ran.{Ran, CutOff}
+use Rattle.rb_lines.specs.Ran.{Ran}
 use Rattle.rb_lines.proofs.Runs.{ran-append}
 use Rattle.rb_model.specs.Calls.{Call}
 use Rattle.rb_model.specs.Lines.{lines_of}
-use Rattle.rb_model.specs.Out.{IsSettled, Logged, Outside}
-use Rattle.rb_model.specs.Queue.{first_ready}
+use Rattle.rb_model.specs.Out.{Logged, Outside}
 use Rattle.rb_model.specs.Rows.{last_scn}
 use Rattle.rb_model.specs.State.{State}
 use Rattle.rb_opening.specs.Opens.{CanOpen, OpensAs}
@@ -42,10 +42,6 @@ all_ran : (outside : Outside) (most : ℕ) (m now : Logged) (left left2 : List �
 all_ran outside most m now left left2 tells before held halted =
     subst (λ (ls : List (List ℕ)). Ran outside m now ls tells before held) (sym halted.lines)
     (ran-append outside m halted.middle now _ _ tells before halted.held held halted.done halted.going halted.fault)
-
--- no session is ready in the state that a file opens to
-pub first_settled : {file : List ℕ} (sound : IsSound file) → IsSettled (first_of sound)
-first_settled sound = inr (ap (λ (h : State). first_ready h.queue) sound.opening.state)
 
 -- an image that has a state is on the way to a later one
 restarts_on_the_way : (slots : Option ℕ) (fault : Option Call) (h h2 : State) (c : List ℕ) → Extends h h2 → Restarts Opens slots h c → OnTheWay Opens slots fault h h2 c
@@ -204,11 +200,11 @@ module _ {D : Type 0} (d : DiskGhosts D) (old : D) where
           halted = here;
         }
 
-    pub was_cut_off : (now : Logged) (lines : List (List ℕ)) (before held : List ℕ) (endures : Layout → State → Logged → Type 0)
-        → CutOff (outside_of (Some e.store.layout.log)) (first_of sound) now lines before held → endures sound.store.layout sound.state now → WasCutOff sound lines before held endures
-    was_cut_off now lines before held endures cut endured = record {
+    pub was_cut_off : (now : Logged) (left left2 before held : List ℕ) (endures : Layout → State → Logged → Type 0)
+        → CutOff (outside_of (Some e.store.layout.log)) SCRIPT_BYTES (first_of sound) now left left2 before held → endures sound.store.layout sound.state now → WasCutOff sound left left2 before held endures
+    was_cut_off now left left2 before held endures cut endured = record {
       now = now;
-      cut = subst (λ (k : ℕ). CutOff (outside_of (Some k)) (first_of sound) now lines before held) o.slots cut;
+      cut = subst (λ (k : ℕ). CutOff (outside_of (Some k)) SCRIPT_BYTES (first_of sound) now left left2 before held) o.slots cut;
       endured = endured;
     }
 

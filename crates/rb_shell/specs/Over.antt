@@ -3,12 +3,14 @@ use Rattle.std.specs.Prelude.{◌⊎◌, ℕ, List, None}
 use Rattle.rb_disk.specs.Moments.{Leaves}
 use Rattle.rb_disk.specs.declared.disk.Disk.{Ghosts as DiskGhosts}
 use Rattle.rb_image.specs.Between.{FoundAtEnd, FoundBetween, MarksGrow}
-use Rattle.rb_lines.specs.Ran.{CutOff, Ran}
+use Rattle.rb_lines.specs.Cut.{CutOff}
+use Rattle.rb_lines.specs.Ran.{Ran}
 use Rattle.rb_model.specs.Book.{Book}
 use Rattle.rb_model.specs.Out.{Logged, Outside, outside_by}
 use Rattle.rb_model.specs.Rows.{last_scn, rows_at}
 use Rattle.rb_model.specs.State.{State, opened}
 use Rattle.rb_shell.specs.Left.{Left}
+use Rattle.rb_shell.specs.declared.script.TheConstants.{SCRIPT_BYTES}
 
 -- The file opens with the rows after a state's commits up to n, and with marks that are no more than these books say.
 pub record HasRows (slots : ℕ) (books : List Book) (h : State) (n : ℕ) (file : List ℕ) : Type 0 where
@@ -38,12 +40,14 @@ pub record RunsOver {D : Type 0} (d : DiskGhosts D) (old new : D) (slots : ℕ) 
   pub ran : Ran (plain slots) (record { state = h; lsn = lsn; fault = None }) now lines tells held_before held_now
   pub leaves : LeavesFiles d old new slots h now
 
--- It was cut off in one of these lines: the sink holds a front of the replies.
-pub record IsCutOver {D : Type 0} (d : DiskGhosts D) (old new : D) (slots : ℕ) (h : State) (lines : List (List ℕ))
-    (held_before held_now : List ℕ) : Type 0 where
+-- It was cut off in one of its lines: the sink holds all replies of those before it, and a front of its own. Nothing
+-- was done after that, and the script was asked for in pieces of at most 65,536 bytes.
+pub record IsCutOver {D : Type 0} (d : DiskGhosts D) (old new : D) (slots : ℕ) (h : State)
+    (left_before left_now held_before held_now : List ℕ) : Type 0 where
   pub lsn : ℕ
   pub now : Logged
-  pub cut : CutOff (plain slots) (record { state = h; lsn = lsn; fault = None }) now lines held_before held_now
+  pub cut : CutOff (plain slots) SCRIPT_BYTES (record { state = h; lsn = lsn; fault = None }) now left_before left_now
+      held_before held_now
   pub leaves : LeavesFiles d old new slots h now
 
 -- whatever it did, it came to some state

@@ -9,8 +9,9 @@ use Rattle.rb_image.specs.Between.{Extends}
 use Rattle.rb_image.specs.Crash.{AtEnd, OnTheWay, OpensUpTo, Restarts, Survives}
 use Rattle.rb_layout.specs.Regions.{shape_of}
 use Rattle.rb_layout.specs.declared.layout.Layout.{Layout}
+use Rattle.rb_lines.specs.Cut.{CutOff}
 use Rattle.rb_lines.specs.Ends.{EndsAs, Halted}
-use Rattle.rb_lines.specs.Ran.{Ran, CutOff}
+use Rattle.rb_lines.specs.Ran.{Ran}
 use Rattle.rb_lines.specs.declared.lines.LinesEnd.{LinesEnd}
 use Rattle.rb_lines.specs.declared.lines.LinesEnd.TheVariants as ends
 use Rattle.rb_model.specs.Calls.{Call}
@@ -75,11 +76,12 @@ pub record HasRun {file : List ℕ} (sound : IsSound file) (lines : List (List �
   pub run : RanOver sound lines tells before now endures
   pub going : run.now.state.stopped ≡ false
 
--- It was cut off in one of these lines: the sink holds a front of replies that the lines may have.
-pub record WasCutOff {file : List ℕ} (sound : IsSound file) (lines : List (List ℕ)) (before now_held : List ℕ)
-    (endures : Layout → State → Logged → Type 0) : Type 0 where
+-- It was cut off in one of its lines: the sink holds all replies of those before it, and a front of its own. Nothing
+-- was done after that, and the script was asked for in pieces of at most 65,536 bytes.
+pub record WasCutOff {file : List ℕ} (sound : IsSound file) (left_before left_now : List ℕ)
+    (before now_held : List ℕ) (endures : Layout → State → Logged → Type 0) : Type 0 where
   pub now : Logged
-  pub cut : CutOff (outside_in sound) (first_of sound) now lines before now_held
+  pub cut : CutOff (outside_in sound) SCRIPT_BYTES (first_of sound) now left_before left_now before now_held
   pub endured : endures sound.store.layout sound.state now
 
 -- A fault of the disk ended the lines: its reply is the last, and nothing was asked for after it. The script was asked

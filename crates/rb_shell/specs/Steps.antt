@@ -6,7 +6,7 @@ use Rattle.rb_lines.specs.declared.runner.StepFault.{StepFault}
 use Rattle.rb_lines.specs.declared.runner.StepFault.TheVariants.{Disk, Sink}
 use Rattle.rb_model.specs.Answers.{answer_of}
 use Rattle.rb_model.specs.Lines.{Command, is_remark, reply_text, without_return}
-use Rattle.rb_model.specs.Out.{IsSettled, Logged, CallOut, CallsOut, LineOut, LineSaid, ResumesOut, Outside}
+use Rattle.rb_model.specs.Out.{Logged, CallOut, CallsOut, ResumesOut, Outside}
 use Rattle.rb_model.specs.Calls.{Answer, Call, is_disk_fault}
 use Rattle.rb_model.specs.declared.answer.Answer as code
 use Rattle.rb_model.specs.declared.row.Row.{Row}
@@ -79,26 +79,14 @@ pub record Said (allows : List ℕ → Logged → Type 0) (now : Logged) (tells 
   pub waits : waiting ≡ drop sent out
 
 -- the same by the end of a step, as `RepliedAs` says it of what was sent
-abbrev pub SaidAs : (List ℕ → Logged → Type 0) → Logged → Logged → Type 0
+abbrev pub SaidAs : (allows begun : List ℕ → Logged → Type 0) → Logged → Type 0
     → (before held waiting : List ℕ)
     → Result (Unit {0}) StepFault → Type 0
-SaidAs allows start now tells before held waiting (Ok done) = Said allows now tells before held waiting
+SaidAs allows begun now tells before held waiting (Ok done) = Said allows now tells before held waiting
     × (now.state.stopped ≡ false)
-SaidAs allows start now tells before held waiting (Err Disk) = Said allows now tells before held waiting
+SaidAs allows begun now tells before held waiting (Err Disk) = Said allows now tells before held waiting
     × (now.state.stopped ≡ true)
-SaidAs allows start now tells before held waiting (Err Sink) = tells → IsSettled start
-    → CutShort allows now before held
-
--- The same of what a line does itself. One that was cut off makes more calls than one, and so it only reads: no session
--- is ready behind it that wasn't before.
-abbrev pub SaidItself : (start : Logged) (outside : Outside) (line : List ℕ) (now : Logged) → Type 0
-    → (before held waiting : List ℕ) → Result (Unit {0}) StepFault → Type 0
-SaidItself start outside line now tells before held waiting (Ok done) =
-    Said (LineSaid start outside line) now tells before held waiting × (now.state.stopped ≡ false)
-SaidItself start outside line now tells before held waiting (Err Disk) =
-    Said (LineSaid start outside line) now tells before held waiting × (now.state.stopped ≡ true)
-SaidItself start outside line now tells before held waiting (Err Sink) = tells → IsSettled start
-    → CutShort (LineOut start outside line) now before held
+SaidAs allows begun now tells before held waiting (Err Sink) = tells → CutShort begun now before held
 
 -- Writes of ready sessions were tried again until none was ready, or one of them failed. Their replies wait.
 pub record HasResumed (start : Logged) (outside : Outside) (now : Logged) (waiting_before waiting_now : List ℕ)

@@ -93,7 +93,7 @@ pub fn run<S: Source, K: Sink, D: Disk>(
     // At a fault of the disk in the opening nothing was asked for, and a crash leaves what restarts to the state that a
     // sound file opens to; a file that opens to nothing is as it was. Else the reply that tells of the fault is the
     // last, and nothing was asked for after it; or all lines were done, and the fault came as what waited was made
-    // last. At a fault of the sink the replies are cut off.
+    // last. At a fault of the sink the replies are cut off in one line, and none was begun after it.
     ensures disk_done { D.tells → S.tells → (n : ℕ) → AsksRun words.now n → result.0 ≡ Status.DiskFault →
         ((source.new ≡ source.old) × (sink.new ≡ sink.old)
         × WasStopped D.Disk disk result.1)
@@ -103,7 +103,7 @@ pub fn run<S: Source, K: Sink, D: Disk>(
         (Endures D.Disk disk result.1)) }
     ensures cut_off { D.tells → S.tells → K.tells → (n : ℕ) → AsksRun words.now n
         → result.0 ≡ Status.SinkFault → (sound : IsSound (D.content disk))
-        → WasCutOff sound (lines_of (S.left source.old)) (K.held sink.old) (K.held sink.new)
+        → WasCutOff sound (S.left source.old) (S.left source.new) (K.held sink.old) (K.held sink.new)
         (EnduresCounted D.Disk disk result.1) }
 
     // Whatever the source tells: a crash leaves a state of the machine's, from that to which the file opens on.
@@ -155,7 +155,8 @@ pub fn run<S: Source, K: Sink, D: Disk>(
         (K.held sink.new) }
     ensures left_cut { D.tells → S.tells → K.tells → (n : ℕ) → AsksRun words.now n
         → result.0 ≡ Status.SinkFault → (slots : ℕ) (h : State) → Left slots (D.content disk) h
-        → IsCutOver D.Disk disk result.1 slots h (lines_of (S.left source.old)) (K.held sink.old) (K.held sink.new) }
+        → IsCutOver D.Disk disk result.1 slots h (S.left source.old) (S.left source.new) (K.held sink.old)
+        (K.held sink.new) }
     ensures left_some { D.tells → (n : ℕ) → AsksRun words.now n → AsksScript result.0
         → (slots : ℕ) (h : State) → Left slots (D.content disk) h → LeavesSome D.Disk disk result.1 slots h }
     ensures left_gen { D.tells → (n : ℕ) → AsksGen words.now n → TellsCounts result.0

@@ -7,13 +7,13 @@ ghost use Rattle.rb_base.specs.Counts.{IsCounted, IsCountedAs, err_is};
 ghost use Rattle.rb_calls.specs.Since.{IsSince, StandsAs, outside_of};
 ghost use Rattle.rb_engine.specs.Does.{SameStore};
 ghost use Rattle.rb_lines.specs.Faults.{IsCountedBeside, is_disk, is_sink};
-ghost use Rattle.rb_lines.specs.Ran.{Did, LineRanAs};
+ghost use Rattle.rb_lines.specs.Ran.{CallsBegun, Did, LineBegun, LineRanAs};
 ghost use Rattle.rb_model.specs.Lines as lines;
 ghost use Rattle.rb_model.specs.Lines.{call_of, caller, most_calls};
-ghost use Rattle.rb_model.specs.Out.{Logged, CommandOut, LineOut};
+ghost use Rattle.rb_model.specs.Out.{Logged, CommandOut, LineOut, LineSaid};
 ghost use Rattle.rb_model.specs.Queue.{first_ready};
 ghost use Rattle.rb_script.specs.Commands.{command_of};
-ghost use Rattle.rb_shell.specs.Steps.{Calls, HasResumed, IsSkipped, Lost, SaidAs, SaidItself};
+ghost use Rattle.rb_shell.specs.Steps.{Calls, HasResumed, IsSkipped, Lost, SaidAs};
 
 use crate::replies::{OWN_BYTES, Waiting, reply_of, send, tell, tell_resumed};
 use arrayvec::ArrayVec;
@@ -116,13 +116,11 @@ fn run_command<T: Store, K: Sink>(
 ) -> Result<(), StepFault>
     requires { waiting.old.items ≡ [] }
     ensures did { (m : Logged) → StandsAs T.Store engine.old m → m.state.stopped ≡ false
-        → Did (StandsAs T.Store) (IsSince T.Store) engine.old engine.new m (λ now. SaidAs (CommandOut m
-        (outside_of (T.slots engine.old.store)) (command_of command.now)) m now K.tells (K.held sink.old)
-        (K.held sink.new) waiting.new.items result) }
+        → Did (StandsAs T.Store) (IsSince T.Store) engine.old engine.new m (λ now. SaidAs
+        (CommandOut m (outside_of (T.slots engine.old.store)) (command_of command.now))
+        (CallsBegun m (outside_of (T.slots engine.old.store)) (command_of command.now)) now K.tells
+        (K.held sink.old) (K.held sink.new) waiting.new.items result) }
     ensures room { OnOk result (array_vec_len waiting.new ≤ OWN_BYTES) }
-    // The only reply of a command that makes one call isn't sent yet.
-    ensures one_call { most_calls (T.shape_of engine.old.store) (command_of command.now) ≤ 1
-        → err_is is_sink result ≡ false }
     ensures same { SameStore T.Store engine.old.store engine.new.store }
     ensures disk { IsCountedBeside (T.faults engine.old.store) (T.faults engine.new.store) (err_is is_disk result)
         (err_is is_sink result) }
@@ -150,8 +148,9 @@ fn say_itself<T: Store, K: Sink>(
 ) -> Result<(), StepFault>
     requires { waiting.old.items ≡ [] }
     ensures did { (m : Logged) → StandsAs T.Store engine.old m → m.state.stopped ≡ false
-        → Did (StandsAs T.Store) (IsSince T.Store) engine.old engine.new m (λ now. SaidItself m
-        (outside_of (T.slots engine.old.store)) line.now now K.tells (K.held sink.old)
+        → Did (StandsAs T.Store) (IsSince T.Store) engine.old engine.new m (λ now. SaidAs
+        (LineSaid m (outside_of (T.slots engine.old.store)) line.now)
+        (LineBegun m (outside_of (T.slots engine.old.store)) line.now) now K.tells (K.held sink.old)
         (K.held sink.new) waiting.new.items result) }
     ensures room { OnOk result (array_vec_len waiting.new ≤ OWN_BYTES) }
     ensures skipped { IsSkipped line.now → (engine.new ≡ engine.old) × (sink.new ≡ sink.old)
@@ -206,8 +205,9 @@ fn say_line<T: Store, K: Sink>(
 ) -> Result<(), StepFault>
     requires { waiting.old.items ≡ [] }
     ensures did { (m : Logged) → StandsAs T.Store engine.old m → m.state.stopped ≡ false
-        → Did (StandsAs T.Store) (IsSince T.Store) engine.old engine.new m (λ now. SaidAs (LineOut m
-        (outside_of (T.slots engine.old.store)) line.now) m now K.tells (K.held sink.old)
+        → Did (StandsAs T.Store) (IsSince T.Store) engine.old engine.new m (λ now. SaidAs
+        (LineOut m (outside_of (T.slots engine.old.store)) line.now)
+        (LineBegun m (outside_of (T.slots engine.old.store)) line.now) now K.tells (K.held sink.old)
         (K.held sink.new) waiting.new.items result) }
     ensures skipped { IsSkipped line.now → first_ready engine.old.memory.waits ≡ None
         → (engine.new ≡ engine.old) × (sink.new ≡ sink.old)

@@ -207,9 +207,8 @@ pub fn run_script<S: Source, K: Sink, D: Disk>(
         ⊎ HasRunOut sound (S.left source.old) (S.left source.new) K.tells (K.held sink.old) (K.held sink.new)
         (Endures D.Disk disk result.1)) }
     ensures cut_off { D.tells → S.tells → K.tells → result.0 ≡ Status.SinkFault
-        → (sound : IsSound (D.content disk)) → WasCutOff sound (lines_of (S.left source.old)) (K.held sink.old)
-        (K.held sink.new)
-        (EnduresCounted D.Disk disk result.1) }
+        → (sound : IsSound (D.content disk)) → WasCutOff sound (S.left source.old) (S.left source.new)
+        (K.held sink.old) (K.held sink.new) (EnduresCounted D.Disk disk result.1) }
 
     // What a crash leaves, whatever the source tells.
     ensures endures { D.tells → AsksScript result.0 → (sound : IsSound (D.content disk))

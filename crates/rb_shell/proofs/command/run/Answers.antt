@@ -314,7 +314,7 @@ pub returns-in-Ok-Some-Run-clause-left_cut : goal.returns-in-Ok-Some-Run-clause-
 returns-in-Ok-Some-Run-clause-left_cut g c = λ disk told tells n asked is slots h left.
     let w = opens_with slots (g.D.Disk.content c.args.disk) h left in
     let cut = c.run_script.ensures.cut_off disk told tells is w.sound in
-    is_cut_over slots (g.D.Disk.content c.args.disk) h left g.D.Disk c.args.disk c.run_script.result.1 w _ _ _ cut.now cut.cut cut.endured.endured
+    is_cut_over slots (g.D.Disk.content c.args.disk) h left g.D.Disk c.args.disk c.run_script.result.1 w _ _ _ _ cut.now cut.cut cut.endured.endured
 
 pub returns-in-Ok-Some-Run-clause-left_some : goal.returns-in-Ok-Some-Run-clause-left_some
 returns-in-Ok-Some-Run-clause-left_some g c = λ disk n asked asks slots h left.

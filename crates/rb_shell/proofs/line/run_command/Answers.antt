@@ -4,6 +4,7 @@ use Rattle.rb_base.specs.Counts.{err_is}
 use Rattle.rb_base.specs.declared.shape.Shape.{Shape}
 use Rattle.rb_lines.proofs.Dids.{did_as, did_on}
 use Rattle.rb_lines.specs.Faults.{is_sink}
+use Rattle.rb_lines.specs.Ran.{CallsBegun}
 use Rattle.rb_lines.specs.declared.runner.StepFault.{StepFault}
 use Rattle.rb_model.specs.Lines.{call_of, caller, most_calls}
 use Rattle.rb_model.specs.Out.{CommandOut, Logged}
@@ -69,9 +70,8 @@ returns-in_default g c =
     record {
       did = λ m is going. did_on c.args.engine.now c.loop-k.engine c.call_once.new.engine m _ _ _ (λ a b d h n k. since_joined a b d h n k) (i.so_far m is going) (λ n so. so.going)
           (λ n reached on. o.did n reached on)
-          (λ n k so calls. calls_stop m n k _ _ _ c.loop-k.k c.call_once.new.row g.K.Sink.tells _ _ _ _ _ so (ap outside_of i.same.slots) _ _ (subst (λ (end : ℕ). c.loop-k.k < end) (c.calls_of-k-end.ensures ∙ ap (λ (x : Shape). most_calls x (command_of c.args.command.now)) (c.shape.ensures.shape ∙ is.engine.shape)) c.loop-k-test.true) (ends_calls _ _ c.in_default.not-Row c.in_default.not-Marked) calls);
+          (λ n k so calls. calls_stop m n k _ _ _ c.loop-k.k c.call_once.new.row g.K.Sink.tells _ _ _ _ _ so (ap outside_of i.same.slots) _ (subst (λ (end : ℕ). c.loop-k.k < end) (c.calls_of-k-end.ensures ∙ ap (λ (x : Shape). most_calls x (command_of c.args.command.now)) (c.shape.ensures.shape ∙ is.engine.shape)) c.loop-k-test.true) (ends_calls _ _ c.in_default.not-Row c.in_default.not-Marked) calls);
       room = o.room;
-      one_call = λ few. refl;
       same = record { shape = o.same.shape ∙ i.same.shape; slots = o.same.slots ∙ i.same.slots };
       disk = record { no_less = omega (arith, o.disk.still refl refl, i.disk); cause = λ fault. cc; still = λ a b. o.disk.still refl refl ∙ i.disk };
       sink = record { no_less = omega (arith, o.sink.still refl, i.sink); cause = λ fault. cc; still = λ a. o.sink.still refl ∙ i.sink };
@@ -86,23 +86,14 @@ returns-in_err-call_once-clause-did g c = λ m is going.
     (λ n k so calls.
     let fault : c.call_once.result ≡ Err p.0 = c.in_err-call_once.was ∙ sym (ap (λ (x : StepFault). Err x) p.2) in
     let here = subst (λ (r : Result code.Answer StepFault). Calls n (outside_of (g.T.Store.slots c.loop-k.engine.store)) (caller (command_of c.args.command.now)) (call_of (command_of c.args.command.now) c.loop-k.k) c.call_once.new.row k g.K.Sink.tells (g.K.Sink.held c.loop-k.sink) c.loop-k.waiting.items (g.K.Sink.held c.call_once.new.sink) c.call_once.new.waiting.items r) fault calls in
-    subst (λ (r : Result (Unit {0}) StepFault). SaidAs (CommandOut m (outside_of (g.T.Store.slots c.args.engine.now.store)) (command_of c.args.command.now)) m k g.K.Sink.tells (g.K.Sink.held c.args.sink.now) (g.K.Sink.held c.call_once.new.sink) c.call_once.new.waiting.items r) (sym p.1)
-    (calls_fault m n k _ _ _ c.loop-k.k c.call_once.new.row g.K.Sink.tells _ _ _ _ _ so (ap outside_of i.same.slots) _ p.0 (subst (λ (end : ℕ). c.loop-k.k < end) (c.calls_of-k-end.ensures ∙ ap (λ (x : Shape). most_calls x (command_of c.args.command.now)) (c.shape.ensures.shape ∙ is.engine.shape)) c.loop-k-test.true) here))
-
-pub returns-in_err-call_once-clause-one_call : goal.returns-in_err-call_once-clause-one_call
-returns-in_err-call_once-clause-one_call g c = λ few.
-    let i = c.loop-k.invariant in
-    let p = err_from_is_err_and c.from_residual.result c.from_residual.ensures.1 in
-    let fault : c.call_once.result ≡ Err p.0 = c.in_err-call_once.was ∙ sym (ap (λ (x : StepFault). Err x) p.2) in
-    let here : c.loop-k.k < most_calls (g.T.Store.shape_of c.args.engine.now.store) (command_of c.args.command.now) = subst (λ (end : ℕ). c.loop-k.k < end) (c.calls_of-k-end.ensures ∙ ap (λ (x : Shape). most_calls x (command_of c.args.command.now)) c.shape.ensures.shape) c.loop-k-test.true in
-    let none = c.call_once.ensures.first (i.first (omega (arith, here, few))) in
-    ap (λ (r : Result (Unit {0}) StepFault). err_is is_sink r) p.1 ∙ sym (ap (λ (r : Result code.Answer StepFault). err_is is_sink r) fault) ∙ none
+    subst (λ (r : Result (Unit {0}) StepFault). SaidAs (CommandOut m (outside_of (g.T.Store.slots c.args.engine.now.store)) (command_of c.args.command.now)) (CallsBegun m (outside_of (g.T.Store.slots c.args.engine.now.store)) (command_of c.args.command.now)) k g.K.Sink.tells (g.K.Sink.held c.args.sink.now) (g.K.Sink.held c.call_once.new.sink) c.call_once.new.waiting.items r) (sym p.1)
+    (calls_fault m n k _ _ _ c.loop-k.k c.call_once.new.row g.K.Sink.tells _ _ _ _ _ so (ap outside_of i.same.slots) p.0 (λ zero. sym (ap (λ (r : Result code.Answer StepFault). err_is is_sink r) fault) ∙ c.call_once.ensures.first (i.first zero)) (subst (λ (end : ℕ). c.loop-k.k < end) (c.calls_of-k-end.ensures ∙ ap (λ (x : Shape). most_calls x (command_of c.args.command.now)) (c.shape.ensures.shape ∙ is.engine.shape)) c.loop-k-test.true) here))
 
 pub returns-clause-did : goal.returns-clause-did
 returns-clause-did g c = λ m is going.
     let ended : c.loop-k.k ≡ c.calls_of-k-end.result = omega arith in
     let all : c.loop-k.k ≡ most_calls m.state.shape (command_of c.args.command.now) = ended ∙ c.calls_of-k-end.ensures ∙ ap (λ (x : Shape). most_calls x (command_of c.args.command.now)) (c.shape.ensures.shape ∙ is.engine.shape) in
-    did_as c.args.engine.now c.loop-k.engine m _ _ (λ n so. calls_end m n _ _ c.loop-k.k _ g.K.Sink.tells _ _ _ all so) (c.loop-k.invariant.so_far m is going)
+    did_as c.args.engine.now c.loop-k.engine m _ _ (λ n so. calls_end m n _ _ c.loop-k.k g.K.Sink.tells _ _ _ all so) (c.loop-k.invariant.so_far m is going)
 
 pub call_once-requires : goal.call_once-requires
 call_once-requires g c = subst (λ (end : ℕ). c.loop-k.k < end) (c.calls_of-k-end.ensures ∙ ap (λ (x : Shape). most_calls x (command_of c.args.command.now)) (c.shape.ensures.shape ∙ sym c.loop-k.invariant.same.shape)) c.loop-k-test.true

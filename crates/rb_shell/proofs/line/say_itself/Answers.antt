@@ -1,8 +1,5 @@
-use Rattle.std.proofs.Common.{◌≡◌, ◌≤◌, false, ℕ, List, refl, ap, sym, ◌∙◌, subst}
-use Rattle.rb_base.specs.Counts.{err_is}
-use Rattle.rb_base.specs.declared.shape.Shape.{Shape}
-use Rattle.rb_lines.specs.Faults.{is_sink}
-use Rattle.rb_model.specs.Lines.{bad_line_text, Spells, SpellsNone, is_remark, most_calls}
+use Rattle.std.proofs.Common.{◌≡◌, false, ℕ, List, refl, ap, sym, ◌∙◌, subst}
+use Rattle.rb_model.specs.Lines.{bad_line_text, Spells, SpellsNone, is_remark}
 use Rattle.rb_model.specs.Out.{LineSaid, Logged, too_long, skipped, bad}
 use Rattle.rb_lines.proofs.Dids.{did_as}
 use Rattle.rb_script.specs.Commands.{command_of}
@@ -58,6 +55,5 @@ returns-in-Some-clause-did g c = λ m is going.
     let outside = outside_of (g.T.Store.slots c.args.engine.now.store) in
     did_as _ _ m _ _
     (λ n said. command_said m n outside c.args.line.now (command_of c.in-Some.command) g.K.Sink.tells _ _ _ c.run_command.result c.if-line-gt-LINE_BYTES.false
-    (subst (λ (text : List ℕ). Spells text (command_of c.in-Some.command)) c.without_return-text.ensures c.in-Some.ensures.found)
-    (subst (λ (shape : Shape). most_calls shape (command_of c.in-Some.command) ≤ 1 → err_is is_sink c.run_command.result ≡ false) is.engine.shape c.run_command.ensures.one_call) said)
+    (subst (λ (text : List ℕ). Spells text (command_of c.in-Some.command)) c.without_return-text.ensures c.in-Some.ensures.found) said)
     (c.run_command.ensures.did m is going)

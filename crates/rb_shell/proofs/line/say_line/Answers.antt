@@ -1,10 +1,11 @@
 use Rattle.std.proofs.Common.{◌≡◌, Result, Err, sym, ◌∙◌, ap, subst}
 use Rattle.std.proofs.lemmas.Result.{err_from_is_err_and}
 use Rattle.rb_lines.proofs.Dids.{did_as, did_on}
+use Rattle.rb_lines.specs.Ran.{LineBegun}
 use Rattle.rb_lines.specs.declared.runner.StepFault.{StepFault}
-use Rattle.rb_model.specs.Out.{LineOut}
+use Rattle.rb_model.specs.Out.{LineOut, LineSaid}
 use Rattle.rb_calls.specs.Since.{since_joined, outside_of}
-use Rattle.rb_shell.specs.Steps.{SaidAs, SaidItself}
+use Rattle.rb_shell.specs.Steps.{SaidAs}
 use Rattle.rb_shell.proofs.ResumeLemmas.{line_ends, line_fails}
 use Rattle.rb_shell.proofs.line.say_line.Goals as goal
 
@@ -16,9 +17,9 @@ returns-in_err-say_itself-clause-did g c = λ m is going.
     let p = err_from_is_err_and c.from_residual.result c.from_residual.ensures.1 in
     let fault : c.say_itself.result ≡ Err p.0 = c.in_err-say_itself.was ∙ sym (ap (λ (x : StepFault). Err x) p.2) in
     did_as _ _ m _ _
-    (λ n said. subst (λ (r : Result (Unit {0}) StepFault). SaidAs (LineOut m outside c.args.line.now) m n g.K.Sink.tells before held c.say_itself.new.waiting.items r) (sym p.1)
+    (λ n said. subst (λ (r : Result (Unit {0}) StepFault). SaidAs (LineOut m outside c.args.line.now) (LineBegun m outside c.args.line.now) n g.K.Sink.tells before held c.say_itself.new.waiting.items r) (sym p.1)
     (line_fails m n outside c.args.line.now g.K.Sink.tells before held c.say_itself.new.waiting.items p.0
-    (subst (λ (r : Result (Unit {0}) StepFault). SaidItself m outside c.args.line.now n g.K.Sink.tells before held c.say_itself.new.waiting.items r) fault said)))
+    (subst (λ (r : Result (Unit {0}) StepFault). SaidAs (LineSaid m outside c.args.line.now) (LineBegun m outside c.args.line.now) n g.K.Sink.tells before held c.say_itself.new.waiting.items r) fault said)))
     (c.say_itself.ensures.did m is going)
 
 pub returns-clause-did : goal.returns-clause-did

@@ -15,7 +15,7 @@ use Rattle.rb_store.specs.contracts.lap.LapStoreStore.TheImpl.{ghosts}
 use Rattle.rb_shell.specs.Runs.{Endures, HasOpened, HasRun, Lasts, LeftBehind, PassedOn, RanOn}
 use Rattle.rb_shell.specs.Statuses.{by_disk, by_sink}
 use Rattle.rb_shell.specs.declared.status.Status.TheVariants.{Done}
-use Rattle.rb_shell.proofs.RunLemmas.{endures, first_settled, has_halted, has_run, was_cut_off}
+use Rattle.rb_shell.proofs.RunLemmas.{endures, has_halted, has_run, was_cut_off}
 use Rattle.rb_calls.proofs.CallLemmas.{counted_as}
 use Rattle.rb_shell.proofs.StatusLemmas.{beside, disk_by, done_by, long_by, sink_by, source_by, uncounted}
 use Rattle.rb_shell.proofs.script.run_script.Given.{Over}
@@ -121,7 +121,7 @@ returns-in-Ok-open_engine-clause-cut_off g c = λ disk told tells is sound.
     let a = (goal.at.returns-in-Ok-open_engine-clause-cut_off g c).After-close in
     let d = did g a disk told sound in
     let e = ended g a disk told sound ends.SinkFault (sink_by d.end _ is d.is) in
-    was_cut_off g.D.Disk c.args.disk (ghosts g.row.D g.D.Disk g.D.Disk-dict) c.in-Ok-open_engine.engine sound (opened g a disk told sound) d.now _ _ _ _ (e tells (first_settled sound))
+    was_cut_off g.D.Disk c.args.disk (ghosts g.row.D g.D.Disk g.D.Disk-dict) c.in-Ok-open_engine.engine sound (opened g a disk told sound) d.now _ _ _ _ _ (e tells)
     (record {
       endured = endured g a disk told sound;
       still = λ on. ap (λ d. g.D.Disk.faults d) c.close.ensures ∙ d.still is on ∙ c.in-Ok-open_engine.ensures.counted_ok;
