@@ -1,2 +1,4 @@
 pub mod ByteLemmas
+pub mod KeepLemmas
 pub mod RangeLemmas
+pub mod SyncLemmas

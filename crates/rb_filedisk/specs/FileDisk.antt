@@ -1,21 +1,32 @@
 -- What a file disk is seen as.
 use Rattle.std.specs.Prelude.{ℕ, List, Option}
 use Rattle.rb_filedisk.specs.declared.cause.Cause.{Cause}
-use Rattle.rb_filedisk.specs.declared.file.FileDisk.{FileDisk}
+use Rattle.rb_filedisk.specs.declared.synced.SyncedFile.{SyncedFile}
+use Rattle.rb_filedisk.specs.declared.system.SystemFile.{SystemFile}
 use Rattle.rb_filedisk.specs.declared.unsynced.Unsynced.{Unsynced}
 
+-- a raw file with what was written to it since the last sync, and the faults of its calls
+pub record FileState (F : Type 0) : Type 0 where
+  pub file : SyncedFile F
+  pub faults : ℕ
+  pub cause : Option Cause
+
+-- its raw file
+abbrev pub file_of : {F : Type 0} → FileState F → F
+file_of disk = disk.file.file
+
 -- how often it has failed
-abbrev pub faults_of : {R F D : Type 0} → FileDisk R F D → ℕ
+abbrev pub faults_of : {F : Type 0} → FileState F → ℕ
 faults_of disk = disk.faults
 
 -- why the last call that failed did so
-abbrev pub cause_of : {R F D : Type 0} → FileDisk R F D → Option Cause
+abbrev pub cause_of : {F : Type 0} → FileState F → Option Cause
 cause_of disk = disk.cause
 
--- the bytes of its file's path
-abbrev pub path_of : {R F D : Type 0} → FileDisk R F D → List ℕ
-path_of disk = disk.path.now
-
 -- what a sync that fails writes again
-abbrev pub unsynced_of : {R F D : Type 0} → FileDisk R F D → Unsynced
-unsynced_of disk = disk.unsynced
+abbrev pub unsynced_of : {F : Type 0} → FileState F → Unsynced
+unsynced_of disk = disk.file.unsynced
+
+-- the bytes of a file's path
+abbrev pub path_of : {R F D : Type 0} → SystemFile R F D → List ℕ
+path_of file = file.path.now

@@ -1,3 +1,6 @@
 pub mod FileDisk
 pub mod Folders
+pub mod Keeps
+pub mod RawModel
+pub mod Rests
 pub mod Unsynced

@@ -49,7 +49,10 @@ abbrev pub RemembersAll : (at count : ℕ) (before now : Unsynced) → Type 0
 RemembersAll at count before now =
     (byte : ℕ) → HasOne (written at count ∷ ranges_of before) byte → HasOne (ranges_of now) byte
 
+-- no other byte is
+abbrev pub RemembersNoOtherAt : (at count : ℕ) (before now : Unsynced) → Type 0
+RemembersNoOtherAt at count before now =
+    (byte : ℕ) → HasOne (ranges_of now) byte → HasOne (written at count ∷ ranges_of before) byte
+
 abbrev pub RemembersNoOther : (at count : ℕ) (before now : Unsynced) → Type 0
-RemembersNoOther at count before now =
-    length (ranges_of before) < 128
-    → (byte : ℕ) → HasOne (ranges_of now) byte → HasOne (written at count ∷ ranges_of before) byte
+RemembersNoOther at count before now = length (ranges_of before) < 128 → RemembersNoOtherAt at count before now

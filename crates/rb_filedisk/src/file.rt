@@ -1,52 +1,69 @@
-//! `FileDisk`: a file that is opened at its first call, for this run alone. The program's `main` makes it.
-ghost use Rattle.std.specs.Prelude.{◌≡◌, ◌↔◌, ◌+◌, ◌-◌, ◌^◌, min, max, [], length, IsOk, OnOk};
+//! `FileDisk`: a raw file as a disk. The program's `main` makes it over the file of a path.
+ghost use Rattle.std.specs.Prelude.{◌≡◌, ◌↔◌, ◌+◌, ◌-◌, ◌^◌, ◌≤◌, ℕ, min, max, [], length, IsOk, IfOk, OnOk};
 ghost use Rattle.std.specs.Prelude.{OnErr, IfErr, None, Some, IsSome};
 ghost use Rattle.rb_base.specs.Counts.{IsCounted};
+ghost use Rattle.rb_base.specs.Fields.{part, overwritten};
+ghost use Rattle.rb_base.specs.Moments.{NoMore, Passes};
+ghost use Rattle.rb_disk.specs.DiskModel.{Torn, Follows, Only};
+ghost use Rattle.rb_filedisk.specs.FileDisk.{FileState, cause_of, faults_of, file_of, path_of, unsynced_of};
+ghost use Rattle.rb_filedisk.specs.Unsynced.{IsNothing, IsWith, RemembersAll, RemembersNoOther};
 
-use crate::open::{open_held, sync_folder};
-use crate::unsynced::Unsynced;
+use crate::raw::RawFile;
+use crate::synced::SyncedFile;
+use crate::system::SystemFile;
 use crate::{Cause, Hold};
 use rb_base::Failed;
 use rb_disk::Disk;
-use std::fs::{Files, OpenFile};
-use std::io;
+use std::fs::Files;
+use std::marker::Model;
 use std::os::unix::fs::FileExt;
 
-/// The file of a path, which no second run may have. It tells nothing of its bytes: what a file gives or keeps is
-/// outside of any proof.
+/// A disk over a raw file, which tells its bytes where the file does.
 #[derive(Drop)]
-pub struct FileDisk<'a, R: Files> {
-    runtime: &'a R,
-    path: &'a str,
-    file: Option<R::File>,
-    // The length at the last sync that succeeded, if there was one, and what was written since.
-    synced: Option<u64>,
-    unsynced: Unsynced,
+pub struct FileDisk<F: RawFile> {
+    file: SyncedFile<F>,
     faults: u64,
     // Why the last call that failed did so.
     cause: Option<Cause>,
 }
 
-impl<'a, R: Files> FileDisk<'a, R>
+impl<F: RawFile> Model for FileDisk<F> {
+    ghost use Rattle.rb_filedisk.specs.FileDisk.{FileState};
+    ghost use Rattle.rb_filedisk.specs.Keeps.{IsKept};
+
+    ghost Value = { FileState F };
+
+    ghost view = { λ disk. record { file = disk.file; faults = disk.faults; cause = disk.cause } };
+
+    ghost invariant = { λ disk. F.tells → IsKept F.RawFile disk.file };
+}
+
+impl<'a, R: Files> FileDisk<SystemFile<'a, R>>
 where
     R::File: FileExt + Hold,
 {
-    ghost use Rattle.rb_filedisk.specs.FileDisk.{cause_of, faults_of, path_of, unsynced_of};
-    ghost use Rattle.rb_filedisk.specs.Unsynced.{IsNothing};
-
-    /// The file of this path, which its first call opens, and makes if it isn't there.
+    /// The file of this path, which its first call opens, and makes if it isn't there. No second run may have it.
     pub fn at(runtime: &'a R, path: &'a str) -> Self
-        ensures path { path_of result ≡ path.now }
+        ensures path { path_of (file_of result) ≡ path.now }
+        ensures faults { faults_of result ≡ 0 }
+        ensures no_cause { cause_of result ≡ None }
+        ensures unsynced { IsNothing (unsynced_of result) }
+    {
+        FileDisk::over(SystemFile::at(runtime, path))
+    }
+}
+
+impl<F: RawFile> FileDisk<F> {
+    /// A disk over a file, none of whose places is unsettled.
+    pub fn over(file: F) -> Self
+        requires { F.tells → (place : ℕ) → F.unsettled file place → ⊥ }
+        ensures file { file_of result ≡ file }
         ensures faults { faults_of result ≡ 0 }
         ensures no_cause { cause_of result ≡ None }
         ensures unsynced { IsNothing (unsynced_of result) }
     {
         FileDisk {
-            runtime,
-            path,
-            file: None,
-            synced: None,
-            unsynced: Unsynced::nothing(),
+            file: SyncedFile::over(file),
             faults: 0,
             cause: None,
         }
@@ -62,12 +79,13 @@ where
     // Counts a fault where the answer is one, and keeps its cause.
     fn count_fault<T>(&mut self, answer: Result<T, Cause>) -> Result<T, Failed>
         ensures same { IsOk result ↔ IsOk answer }
+        ensures value { IfOk answer (λ value. IfOk result (λ given. given ≡ value)) }
         ensures counted { IsCounted (faults_of self.old) (faults_of self.new) result }
         ensures faulted { OnErr result (faults_of self.new ≡ min (faults_of self.old + 1) (2 ^ 64 - 1)) }
         ensures no_fault { OnOk result (faults_of self.new ≡ faults_of self.old) }
         ensures caused { IfErr answer (λ cause. cause_of self.new ≡ Some cause) }
         ensures no_cause { OnOk result (cause_of self.new ≡ cause_of self.old) }
-        ensures kept { unsynced_of self.new ≡ unsynced_of self.old }
+        ensures kept { self.new.file ≡ self.old.file }
     {
         match answer {
             Ok(value) => Ok(value),
@@ -78,86 +96,33 @@ where
             }
         }
     }
-
-    fn length(&mut self) -> Result<u64, Cause>
-        ensures faults { faults_of self.new ≡ faults_of self.old }
-        ensures cause { cause_of self.new ≡ cause_of self.old }
-        ensures kept { unsynced_of self.new ≡ unsynced_of self.old }
-    {
-        Ok(
-            open_file(self.runtime, self.path, &mut self.file)?
-                .metadata()?
-                .len(),
-        )
-    }
-
-    // Where nothing was written past the length of the last sync, the file's data is all that there is to sync. Where
-    // something was, the file may be new, and its folder has to keep its name too.
-    fn flush(&mut self) -> Result<(), Cause>
-        ensures faults { faults_of self.new ≡ faults_of self.old }
-        ensures cause { cause_of self.new ≡ cause_of self.old }
-        ensures kept { unsynced_of self.new ≡ unsynced_of self.old }
-    {
-        let file = open_file(self.runtime, self.path, &mut self.file)?;
-        if let Some(len) = self.synced
-            && self.unsynced.is_within(len)
-        {
-            return Ok(file.sync_data()?);
-        }
-        let len = file.metadata()?.len();
-        file.sync_all()?;
-        if !self.unsynced.is_within(0) {
-            sync_folder(self.runtime, self.path)?;
-        }
-        self.synced = Some(len);
-        Ok(())
-    }
 }
 
-// The open file, which is opened here if it isn't yet.
-fn open_file<'f, R: Files>(
-    runtime: &R,
-    path: &str,
-    file: &'f mut Option<R::File>,
-) -> Result<&'f R::File, Cause>
-where
-    R::File: Hold,
-{
-    if file.is_none() {
-        *file = Some(open_held(runtime, path)?);
-    }
-    match file {
-        Some(file) => Ok(file),
-        None => Err(Cause::System(io::Error::from(io::ErrorKind::NotFound))),
-    }
-}
+impl<F: RawFile> Disk for FileDisk<F> {
+    ghost tells = { F.tells };
 
-impl<'a, R: Files> Disk for FileDisk<'a, R>
-where
-    R::File: FileExt + Hold,
-{
-    ghost use Rattle.rb_filedisk.specs.FileDisk.{cause_of, faults_of, unsynced_of};
-    ghost use Rattle.rb_filedisk.specs.Unsynced.{IsNothing, IsWith, RemembersAll, RemembersNoOther};
+    ghost content = { λ disk. F.content disk.file.file };
 
-    ghost tells = { ⊥ };
+    ghost image = { λ disk c. F.image disk.file.file c };
 
-    ghost content = { λ disk. [] };
+    ghost moment = { λ disk. F.moment disk.file.file };
 
-    ghost image = { λ disk c. ⊥ };
-
-    ghost moment = { λ disk. 0 };
-
-    ghost image_since = { λ disk t c. ⊥ };
+    ghost image_since = { λ disk t c. F.image_since disk.file.file t c };
 
     ghost faults = { λ disk. disk.faults };
 
-    ghost reads_an_image = { λ disk told. absurd told };
+    ghost reads_an_image = { λ disk told. F.reads_an_image disk.file.file told };
 
-    ghost now_counts = { λ disk t c told le here. absurd told };
+    ghost now_counts = { λ disk t c told le here. F.now_counts disk.file.file t c told le here };
 
-    ghost only_now = { λ disk c told since. absurd told };
+    ghost only_now = { λ disk c told since. F.only_now disk.file.file c told since };
 
     fn len(&mut self) -> Result<u64, Failed>
+        ensures value { F.tells → IfOk result (λ n. n ≡ length (F.content (file_of self.old))) }
+        ensures content { F.tells → F.content (file_of self.new) ≡ F.content (file_of self.old) }
+        ensures images { F.tells → NoMore (F.image (file_of self.old)) (F.image (file_of self.new)) }
+        ensures time { F.tells → Passes (F.moment (file_of self.old)) (F.moment (file_of self.new))
+            (F.image_since (file_of self.old)) (F.image_since (file_of self.new)) (F.image (file_of self.new)) }
         ensures counted { IsCounted (faults_of self.old) (faults_of self.new) result }
         ensures faulted { OnErr result (faults_of self.new ≡ min (faults_of self.old + 1) (2 ^ 64 - 1)) }
         ensures no_fault { OnOk result (faults_of self.new ≡ faults_of self.old) }
@@ -165,11 +130,16 @@ where
         ensures no_cause { OnOk result (cause_of self.new ≡ cause_of self.old) }
         ensures kept { unsynced_of self.new ≡ unsynced_of self.old }
     {
-        let answer = self.length();
+        let answer = self.file.len();
         self.count_fault(answer)
     }
 
     fn read_at(&mut self, at: u64, into: &mut [u8]) -> Result<(), Failed>
+        ensures value { F.tells → OnOk result (into.new ≡ part (F.content (file_of self.old)) at (length into.old)) }
+        ensures content { F.tells → F.content (file_of self.new) ≡ F.content (file_of self.old) }
+        ensures images { F.tells → NoMore (F.image (file_of self.old)) (F.image (file_of self.new)) }
+        ensures time { F.tells → Passes (F.moment (file_of self.old)) (F.moment (file_of self.new))
+            (F.image_since (file_of self.old)) (F.image_since (file_of self.new)) (F.image (file_of self.new)) }
         ensures counted { IsCounted (faults_of self.old) (faults_of self.new) result }
         ensures faulted { OnErr result (faults_of self.new ≡ min (faults_of self.old + 1) (2 ^ 64 - 1)) }
         ensures no_fault { OnOk result (faults_of self.new ≡ faults_of self.old) }
@@ -177,13 +147,20 @@ where
         ensures no_cause { OnOk result (cause_of self.new ≡ cause_of self.old) }
         ensures kept { unsynced_of self.new ≡ unsynced_of self.old }
     {
-        let answer = open_file(self.runtime, self.path, &mut self.file).and_then(|file| Ok(
-            file.read_exact_at(into, at)?,
-        ));
+        let answer = self.file.read_at(at, into);
         self.count_fault(answer)
     }
 
     fn write_at(&mut self, at: u64, bytes: &[u8]) -> Result<(), Failed>
+        requires { F.tells → at ≤ length (F.content (file_of self.old)) }
+        ensures written { F.tells → OnOk result (F.content (file_of self.new)
+            ≡ overwritten (F.content (file_of self.old)) at bytes.now) }
+        ensures torn { F.tells → OnErr result (Torn at (length bytes.now) (F.content (file_of self.old))
+            (F.content (file_of self.new))) }
+        ensures images { F.tells → Follows (Torn at (length bytes.now)) (F.image (file_of self.old))
+            (F.image (file_of self.new)) }
+        ensures time { F.tells → Passes (F.moment (file_of self.old)) (F.moment (file_of self.new))
+            (F.image_since (file_of self.old)) (F.image_since (file_of self.new)) (F.image (file_of self.new)) }
         ensures counted { IsCounted (faults_of self.old) (faults_of self.new) result }
         ensures faulted { OnErr result (faults_of self.new ≡ min (faults_of self.old + 1) (2 ^ 64 - 1)) }
         ensures no_fault { OnOk result (faults_of self.new ≡ faults_of self.old) }
@@ -193,14 +170,16 @@ where
         ensures every { RemembersAll at (length bytes.now) (unsynced_of self.old) (unsynced_of self.new) }
         ensures no_other { RemembersNoOther at (length bytes.now) (unsynced_of self.old) (unsynced_of self.new) }
     {
-        self.unsynced.add(at, bytes.len());
-        let answer = open_file(self.runtime, self.path, &mut self.file).and_then(|file| Ok(
-            file.write_all_at(bytes, at)?,
-        ));
+        let answer = self.file.write_at(at, bytes);
         self.count_fault(answer)
     }
 
     fn sync(&mut self) -> Result<(), Failed>
+        ensures durable { F.tells → OnOk result (Only (F.content (file_of self.old)) (F.image (file_of self.new))) }
+        ensures content { F.tells → F.content (file_of self.new) ≡ F.content (file_of self.old) }
+        ensures images { F.tells → NoMore (F.image (file_of self.old)) (F.image (file_of self.new)) }
+        ensures time { F.tells → Passes (F.moment (file_of self.old)) (F.moment (file_of self.new))
+            (F.image_since (file_of self.old)) (F.image_since (file_of self.new)) (F.image (file_of self.new)) }
         ensures counted { IsCounted (faults_of self.old) (faults_of self.new) result }
         ensures faulted { OnErr result (faults_of self.new ≡ min (faults_of self.old + 1) (2 ^ 64 - 1)) }
         ensures no_fault { OnOk result (faults_of self.new ≡ faults_of self.old) }
@@ -209,12 +188,7 @@ where
         ensures forgotten { OnOk result (IsNothing (unsynced_of self.new)) }
         ensures kept { OnErr result (unsynced_of self.new ≡ unsynced_of self.old) }
     {
-        let answer = self.flush();
-        if answer.is_ok() {
-            self.unsynced.forget();
-        } else if let Some(file) = &self.file {
-            self.unsynced.write_again(file);
-        }
+        let answer = self.file.sync();
         self.count_fault(answer)
     }
 }

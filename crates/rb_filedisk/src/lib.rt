@@ -5,8 +5,14 @@ mod cause;
 mod file;
 mod hold;
 mod open;
+mod raw;
+mod rewrite;
+mod synced;
+mod system;
 mod unsynced;
 
 pub use cause::Cause;
 pub use file::FileDisk;
 pub use hold::Hold;
+pub use raw::RawFile;
+pub use system::SystemFile;

@@ -1,13 +1,10 @@
 //! `Unsynced`: what was written since the last sync. `FileDisk` writes it again where a sync fails.
-ghost use Rattle.std.specs.Prelude.{◌≡◌, ◌≤◌, ◌↔◌, IsTrue, All};
+ghost use Rattle.std.specs.Prelude.{◌≡◌, ◌<◌, ◌≤◌, ◌↔◌, ℕ, IsTrue, All, length};
 ghost use Rattle.rb_filedisk.specs.Unsynced.{written, touches, joined};
 
+use crate::raw::RawFile;
+use crate::rewrite::write_range_again;
 use arrayvec::ArrayVec;
-use std::fs::OpenFile;
-use std::os::unix::fs::FileExt;
-
-// How many bytes are read and written again at a time.
-const PIECE: usize = 4096;
 
 /// The bytes from an offset up to another one.
 #[derive(Clone, Copy, Default)]
@@ -45,21 +42,6 @@ impl Range {
             end: self.end.max(other.end),
         }
     }
-
-    // Reads the bytes, as far as a file of this length goes, and writes them again.
-    fn write_again<F: FileExt>(self, len: u64, file: &F) {
-        let end = self.end.min(len);
-        let mut piece = [0; PIECE];
-        let mut at = self.start;
-        while at < end {
-            let count = (end - at).min(PIECE as u64) as usize;
-            // What can't be read isn't in the system's memory either, so no run takes it for what the device has.
-            if file.read_exact_at(&mut piece[..count], at).is_ok() {
-                let _ = file.write_all_at(&piece[..count], at);
-            }
-            at += count as u64;
-        }
-    }
 }
 
 /// The bytes written, as up to 128 ranges in the order of their writes.
@@ -69,7 +51,8 @@ pub struct Unsynced {
 }
 
 impl Unsynced {
-    ghost use Rattle.rb_filedisk.specs.Unsynced.{ranges_of, IsNothing, IsWith};
+    ghost use Rattle.rb_filedisk.specs.Rests.{Rests};
+    ghost use Rattle.rb_filedisk.specs.Unsynced.{ranges_of, HasOne, IsNothing, IsWith, RemembersNoOtherAt};
 
     /// No byte.
     pub fn nothing() -> Self
@@ -80,9 +63,10 @@ impl Unsynced {
         }
     }
 
-    /// Takes in so many bytes from an offset on.
-    pub fn add(&mut self, at: u64, count: usize)
-        ensures { IsWith at count self.old self.new }
+    /// Takes in so many bytes from an offset on. Whether it took in no other.
+    pub fn add(&mut self, at: u64, count: usize) -> bool
+        ensures with { IsWith at count self.old self.new }
+        ensures exact { IsTrue result → RemembersNoOtherAt at count self.old self.new }
     {
         let written = Range::of_write(at, count);
         let full = self.ranges.is_full();
@@ -91,12 +75,17 @@ impl Unsynced {
             // in this form: a flush has at most 128 runs, and of each only the gate lies apart.
             Some(last) if full || last.touches(written) => {
                 self.ranges.push(last.span_with(written));
+                last.touches(written)
             }
             Some(last) => {
                 self.ranges.push(last);
                 self.ranges.push(written);
+                true
             }
-            None => self.ranges.push(written),
+            None => {
+                self.ranges.push(written);
+                true
+            }
         }
     }
 
@@ -115,13 +104,21 @@ impl Unsynced {
     }
 
     /// Reads the bytes, as far as the file goes, and writes them again. After a sync that failed the system counts them
-    /// as written, and the next sync would answer Ok without writing them; now it writes them.
-    pub fn write_again<F: OpenFile + FileExt>(&self, file: &F) {
-        let Ok(metadata) = file.metadata() else {
-            return;
+    /// as written, and the next sync would answer Ok without writing them; now it writes them. Whether all of them were:
+    /// what can't be read isn't written.
+    pub fn write_again<F: RawFile>(&self, file: &mut F) -> bool
+        requires { F.tells → (place : ℕ) → HasOne (ranges_of self.now) place → F.unsettled file.old place }
+        ensures rests { F.tells → Rests F.RawFile file.old file.new }
+        ensures found { F.tells → IsTrue result → (place : ℕ) → HasOne (ranges_of self.now) place
+            → place < length (F.content file.old) → F.lost file.new place → ⊥ }
+    {
+        let Ok(len) = file.len() else {
+            return false;
         };
+        let mut all = true;
         for range in self.ranges.as_slice() {
-            range.write_again(metadata.len(), file);
+            all = write_range_again(*range, len, file) && all;
         }
+        all
     }
 }

@@ -31,6 +31,8 @@ mod patches;
 #[cfg(test)]
 mod plainstore;
 #[cfg(test)]
+mod rawfile;
+#[cfg(test)]
 mod ring;
 #[cfg(test)]
 mod script;
