@@ -1,25 +1,16 @@
 -- What a sync and a write leave of what is known of a file.
 use Rattle.std.proofs.Common.{◌≡◌, ℕ, ◌+◌, ◌-◌, ◌<◌, ◌≤◌, ◌^◌, max, Bool, true, List, ◌∷◌, length, take, drop, sym, subst, ap, ◌∙◌, inl, inr, ⊎_elim, arith, Option}
 use Rattle.std.specs.Prelude.{All}
-use Rattle.std.proofs.lemmas.List.{ext_get_or, drop-drop, length-take, places}
+use Rattle.std.proofs.lemmas.List.{drop-drop, length-take, places}
 use Rattle.std.proofs.lemmas.Bool.{cases_lt}
 use Rattle.rb_base.specs.Fields.{overwritten}
-use Rattle.rb_base.specs.Moments.{NoMore}
-use Rattle.rb_disk.specs.DiskModel.{Torn, Follows, Only}
-use Rattle.rb_filedisk.specs.Keeps.{HasNone, IsInStep, IsSynced}
+use Rattle.rb_disk.specs.DiskModel.{Torn, Follows}
+use Rattle.rb_filedisk.specs.Keeps.{IsInStep}
 use Rattle.rb_disk.specs.Writes.{done_is_torn}
-use Rattle.rb_filedisk.specs.RawModel.{Began, HasLength, IsOf, IsSettled, SamePlaces, with_range_of}
+use Rattle.rb_filedisk.specs.RawModel.{Began, IsOf, SamePlaces, with_range_of}
 use Rattle.rb_filedisk.specs.Unsynced.{Has, HasOne, written}
 use Rattle.rb_filedisk.specs.declared.unsynced.Range.{Range}
 use Rattle.rb_filedisk.specs.declared.raw.RawFile.{Ghosts}
-
--- images of the length that is read, and settled where nothing is lost, are what is read
-settled_only : (content : List ℕ) (image : List ℕ → Type 0) (lost : ℕ → Type 0) → HasLength (length content) image → HasNone content lost
-    → IsSettled lost content image → Only content image
-settled_only content image lost long none settled c here =
-    ext_get_or 0 c content (long c here) (λ place lt.
-    let within : place < length content = omega (arith, lt, long c here) in
-    ⊎_elim (λ gone. absurd (none place within gone)) (λ is. is) (settled c here place within lt))
 
 -- a range torn within a longer one
 torn_wider : (at first count : ℕ) (old new : List ℕ) → first ≤ count → Torn at first old new → Torn at count old new
@@ -44,15 +35,6 @@ grown : (file bytes : List ℕ) (at : ℕ) → at ≤ length file → length (ov
 grown file bytes at begins = grind (arith, places)
 
 module _ {F : Type 0} (f : Ghosts F) where
-  pub synced_by : (mid new : F) (content : List ℕ) → f.content mid ≡ content → HasLength (length content) (f.image new)
-      → IsSettled (f.lost mid) (f.content mid) (f.image new) → HasNone content (f.lost mid) → NoMore (f.lost mid) (f.unsettled new)
-      → NoMore (f.lost mid) (f.lost new) → IsSynced f content new
-  synced_by mid new content same long settled none places losses = record {
-    only = settled_only content (f.image new) (f.lost mid) long none (subst (λ (file : List ℕ). IsSettled (f.lost mid) file (f.image new)) same settled);
-    settled = λ place within here. none place within (places place here);
-    none_lost = λ place within gone. none place within (losses place gone);
-  }
-
   -- a write leaves the file in step with the ranges that have its own
   pub in_step_written : (old new : F) (synced : Option ℕ) (was now : List Range) (exact exact_now stale : Bool) (at : ℕ) (bytes : List ℕ)
       → IsInStep f old synced was exact stale → at ≤ length (f.content old) → length (f.content old) < 2 ^ 63 → length (f.content new) < 2 ^ 63

@@ -33,8 +33,8 @@ Began at bytes content now lost lost_now = (count : ℕ) × (count ≤ length by
 
 -- each image has the bytes that are read, but in the places that were lost and past the end of either
 abbrev pub IsSettled : (ℕ → Type 0) → List ℕ → (List ℕ → Type 0) → Type 0
-IsSettled lost content image = (c : List ℕ) → image c → (place : ℕ) → place < length content → place < length c
-    → lost place ⊎ (get_or c place 0 ≡ get_or content place 0)
+IsSettled lost content image = (c : List ℕ) → image c → (place : ℕ) → place < length content
+    → place < length c → lost place ⊎ (get_or c place 0 ≡ get_or content place 0)
 
 -- each image is this long
 abbrev pub HasLength : ℕ → (List ℕ → Type 0) → Type 0

@@ -1,6 +1,6 @@
 //! `FileDisk`: a raw file as a disk. The program's `main` makes it over the file of a path.
-ghost use Rattle.std.specs.Prelude.{◌≡◌, ◌↔◌, ◌+◌, ◌-◌, ◌^◌, ◌≤◌, ℕ, min, max, [], length, IsOk, IfOk, OnOk};
-ghost use Rattle.std.specs.Prelude.{OnErr, IfErr, None, Some, IsSome};
+ghost use Rattle.std.specs.Prelude.{◌≡◌, ◌↔◌, ◌+◌, ◌-◌, ◌^◌, ◌≤◌, ℕ, min, max, []};
+ghost use Rattle.std.specs.Prelude.{length, IsOk, IfOk, OnOk, OnErr, IfErr, None, Some, IsSome};
 ghost use Rattle.rb_base.specs.Counts.{IsCounted};
 ghost use Rattle.rb_base.specs.Fields.{part, overwritten};
 ghost use Rattle.rb_base.specs.Moments.{NoMore, Passes};
@@ -135,7 +135,8 @@ impl<F: RawFile> Disk for FileDisk<F> {
     }
 
     fn read_at(&mut self, at: u64, into: &mut [u8]) -> Result<(), Failed>
-        ensures value { F.tells → OnOk result (into.new ≡ part (F.content (file_of self.old)) at (length into.old)) }
+        ensures value { F.tells → OnOk result
+            (into.new ≡ part (F.content (file_of self.old)) at (length into.old)) }
         ensures content { F.tells → F.content (file_of self.new) ≡ F.content (file_of self.old) }
         ensures images { F.tells → NoMore (F.image (file_of self.old)) (F.image (file_of self.new)) }
         ensures time { F.tells → Passes (F.moment (file_of self.old)) (F.moment (file_of self.new))

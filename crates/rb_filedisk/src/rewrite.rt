@@ -16,7 +16,8 @@ pub fn write_range_again<F: RawFile>(range: Range, len: u64, file: &mut F) -> bo
     requires long { F.tells → len ≡ length (F.content file.old) }
     requires unsettled { F.tells → (place : ℕ) → Has range place → F.unsettled file.old place }
     ensures rests { F.tells → Rests F.RawFile file.old file.new }
-    ensures found { F.tells → IsTrue result → (place : ℕ) → Has range place → place < len → F.lost file.new place → ⊥ }
+    ensures found { F.tells → IsTrue result → (place : ℕ) → Has range place → place < len
+        → F.lost file.new place → ⊥ }
 {
     let end = range.end.min(len);
     let mut piece = [0; PIECE];

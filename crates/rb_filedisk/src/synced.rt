@@ -1,5 +1,6 @@
 //! `SyncedFile`: a raw file that knows what a sync of it has to write. `FileDisk` counts its faults.
-ghost use Rattle.std.specs.Prelude.{◌≡◌, ◌+◌, ◌<◌, ◌≤◌, ℕ, Some, None, true, length, IsTrue, IfOk, OnOk, OnErr};
+ghost use Rattle.std.specs.Prelude.{◌≡◌, ◌+◌, ◌<◌, ◌≤◌, ℕ, Some, None, true, length};
+ghost use Rattle.std.specs.Prelude.{IsTrue, IfOk, OnOk, OnErr};
 ghost use Rattle.rb_base.specs.Fields.{part, overwritten};
 ghost use Rattle.rb_base.specs.Moments.{Passes};
 ghost use Rattle.rb_disk.specs.DiskModel.{Torn, Follows, Only};
@@ -74,9 +75,10 @@ impl<F: RawFile> SyncedFile<F> {
         ensures written { F.tells → OnOk result (F.content self.new.file
             ≡ overwritten (F.content self.old.file) at bytes.now) }
         ensures torn { F.tells → Torn at (length bytes.now) (F.content self.old.file) (F.content self.new.file) }
-        ensures images { F.tells → Follows (Torn at (length bytes.now)) (F.image self.old.file) (F.image self.new.file) }
-        ensures time { F.tells → Passes (F.moment self.old.file) (F.moment self.new.file) (F.image_since self.old.file)
-            (F.image_since self.new.file) (F.image self.new.file) }
+        ensures images { F.tells → Follows (Torn at (length bytes.now)) (F.image self.old.file)
+            (F.image self.new.file) }
+        ensures time { F.tells → Passes (F.moment self.old.file) (F.moment self.new.file)
+            (F.image_since self.old.file) (F.image_since self.new.file) (F.image self.new.file) }
         ensures remembered { IsWith at (length bytes.now) self.old.unsynced self.new.unsynced }
     {
         let alone = self.unsynced.add(at, bytes.len());
@@ -84,8 +86,8 @@ impl<F: RawFile> SyncedFile<F> {
         self.file.write_at(at, bytes)
     }
 
-    /// Syncs the file. Where that fails, what it may have lost is written again, now or before the next sync: the system
-    /// would answer Ok to that one without writing it.
+    /// Syncs the file. Where that fails, what it may have lost is written again, now or before the next sync: the
+    /// system would answer Ok to that one without writing it.
     pub fn sync(&mut self) -> Result<(), Cause>
         requires { F.tells → IsKept F.RawFile self.old }
         ensures in_step { F.tells → IsKept F.RawFile self.new }

@@ -104,8 +104,8 @@ impl Unsynced {
     }
 
     /// Reads the bytes, as far as the file goes, and writes them again. After a sync that failed the system counts them
-    /// as written, and the next sync would answer Ok without writing them; now it writes them. Whether all of them were:
-    /// what can't be read isn't written.
+    /// as written, and the next sync would answer Ok without writing them; now it writes them. Whether all of them
+    /// were: what can't be read isn't written.
     pub fn write_again<F: RawFile>(&self, file: &mut F) -> bool
         requires { F.tells → (place : ℕ) → HasOne (ranges_of self.now) place → F.unsettled file.old place }
         ensures rests { F.tells → Rests F.RawFile file.old file.new }

@@ -1,5 +1,5 @@
-//! A file disk over a file in memory whose syncs fail as systems' do: what was written isn't on its device, and the next
-//! sync answers Ok without writing it.
+//! A file disk over a file in memory whose syncs fail as systems' do: what was written isn't on its device, and the
+//! next sync answers Ok without writing it.
 ghost use Rattle.std.specs.Prelude.{[]};
 
 use rb_disk::Disk;
