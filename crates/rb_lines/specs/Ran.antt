@@ -13,7 +13,7 @@ pub record Replied (allows : List ℕ → Logged → Type 0) (now : Logged) (tel
   pub reply : allows out now
   pub written : tells → held_now ≡ held_before ++ out
 
--- The first calls of a command, two or more of them: the replies up to the last can't wait until the end of the line.
+-- The first calls of a command, two or more: only where one leaves no room for its reply are those before it sent.
 abbrev pub CallsBegun : Logged → Outside → Command → List ℕ → Logged → Type 0
 CallsBegun m outside c out m2 =
     (count : ℕ) × (1 < count) × (count ≤ most_calls m.state.shape c) × CallsOut m outside c 0 count out m2
