@@ -1,9 +1,5 @@
 -- What answers hang on besides the machine's state may be forgotten.
-<<<<<<< HEAD
-use Rattle.std.proofs.Common.{ℕ, zero, suc, Bool, true, false, List, [], ◌∷◌, take}
-=======
 use Rattle.std.proofs.Common.{inl, inr, ⊎_elim, ℕ, zero, suc, Bool, true, false, List, [], ◌∷◌, ◌++◌}
->>>>>>> 2e53b535159866970f3f42cb1fb974f4a749eea7
 use Rattle.std.specs.Prelude.{MatchBool}
 use Rattle.rb_shell.specs.Over.{plain}
 use Rattle.rb_lines.specs.Cut.{CutOff}
@@ -12,11 +8,7 @@ use Rattle.rb_lines.specs.Whole.{whole_lines}
 use Rattle.rb_model.specs.Calls.{Answer, Call}
 use Rattle.rb_model.specs.Change.{Asked}
 use Rattle.rb_model.specs.Lines.{Command}
-<<<<<<< HEAD
-use Rattle.rb_model.specs.Out.{CallOut, CallsOut, LineSaid, Logged, Out, Outside, Resumed, ResumesOut, bad, command, goes_on, skipped, too_long}
-=======
 use Rattle.rb_model.specs.Out.{CallOut, CallsOut, LineOut, LineSaid, Logged, Out, Outside, Resumed, ResumesOut, bad, command, goes_on, skipped, too_long}
->>>>>>> 2e53b535159866970f3f42cb1fb974f4a749eea7
 
 either : (v : Bool) (P Q P2 Q2 : Type 0) → (P → P2) → (Q → Q2) → MatchBool v P Q → MatchBool v P2 Q2
 either true P Q P2 Q2 f g p = f p

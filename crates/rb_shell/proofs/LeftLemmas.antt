@@ -30,10 +30,7 @@ use Rattle.rb_shell.proofs.NewFile.{new_file, new_log}
 use Rattle.rb_shell.specs.Left.{Left, fresh, later}
 use Rattle.rb_shell.specs.Over.{HasRows, IsCutOver, LeavesFiles, LeavesSame, LeavesSome, RunsOver, plain}
 use Rattle.rb_shell.specs.Runs.{Endures, IsSound, LeftBehind, OpensSame, first_of, outside_in}
-<<<<<<< HEAD
-=======
 use Rattle.rb_shell.specs.declared.script.TheConstants.{SCRIPT_BYTES}
->>>>>>> 2e53b535159866970f3f42cb1fb974f4a749eea7
 use Rattle.rb_standing.specs.Standing.{SoundAs}
 use Rattle.rb_store.specs.Laps.{Opens}
 
