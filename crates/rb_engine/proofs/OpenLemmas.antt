@@ -32,7 +32,7 @@ use Rattle.rb_model.specs.State.{State, opened, owner_at}
 use Rattle.rb_opening.specs.Opens.{books_of}
 use Rattle.rb_opening.proofs.Opened.{books_same, unowned}
 use Rattle.rb_opening.proofs.Rolled.{none_sound, opened_by}
-use Rattle.rb_restart.specs.Rollback.{IsPartlyBack, RolledBack, StaySound, found_book}
+use Rattle.rb_restart.specs.Rollback.{BackBy, IsPartlyBack, RolledBack, StaySound, found_book}
 use Rattle.rb_restart.proofs.Joined.{room_on}
 use Rattle.rb_restart.proofs.Slots.{owed_none}
 use Rattle.rb_segment.specs.Header.{segment_of}
@@ -227,6 +227,7 @@ module _ {S : Type 0} (s : Ghosts S) (laws : Laws s) (told : s.tells) (h : State
         };
       };
       lsn = logs.number refl ∙ ap (λ (n : ℕ). s.lsn old + n) back.count;
+      back = subst (λ (n : ℕ). BackBy Sh n (s.blocks old) (s.blocks new)) back.count back.back;
       stays = stays new groups true logs stay;
     }
       where

@@ -21,7 +21,7 @@ use Rattle.rb_image.specs.Between.{MarksGrow}
 use Rattle.rb_image.specs.Crash.{Survives}
 use Rattle.rb_image.specs.Holds.{Holds}
 use Rattle.rb_image.specs.Images.{HasState}
-use Rattle.rb_image.specs.Made.{BackMade, BackOver, EndMade, GivesOne, KeepsIds, last_record}
+use Rattle.rb_image.specs.Made.{BackMade, BackOver, EndMade, GivesOne, KeepsIds}
 use Rattle.rb_image.proofs.Crashes.{grow_same, has_later, has_state, survives_on}
 use Rattle.rb_image.proofs.Marks.{shrinks_left}
 use Rattle.rb_image.proofs.Owners.{OwnedBy, owned_by, same_owners}
@@ -41,7 +41,7 @@ use Rattle.rb_segment.specs.Calls.{Runs}
 use Rattle.rb_segment.specs.Segments.{commit_scn, owed_in}
 use Rattle.rb_sessions.specs.Kept.{KeptSession, kept_at, rolled_back, with_kept}
 use Rattle.rb_sessions.specs.Kept.{committed as kept_committed, rolled_to as kept_rolled_to}
-use Rattle.rb_standing.specs.Groups.{IsPutBack}
+use Rattle.rb_standing.specs.Groups.{IsPutBack, last_record}
 use Rattle.rb_standing.specs.NextStates.{with_own}
 use Rattle.rb_undoblock.specs.declared.record.UndoRecord.{UndoRecord}
 use Rattle.rb_standing.specs.Standing.{env_of, homes_of, logged_of, segments_of}

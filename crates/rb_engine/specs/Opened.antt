@@ -8,6 +8,7 @@ use Rattle.rb_engine.specs.Does.{EngineView, Stands}
 use Rattle.rb_image.specs.Crash.{Restarts}
 use Rattle.rb_model.specs.State.{State}
 use Rattle.rb_opening.specs.Opens.{OpensAs}
+use Rattle.rb_restart.specs.Rollback.{BackBy}
 use Rattle.rb_segment.specs.Segments.{owed_in}
 use Rattle.rb_standing.specs.Standing.{logged_of}
 
@@ -26,8 +27,9 @@ abbrev pub StaysOpen : {S : Type 0} → Ghosts S → State → S → S → Type 
 StaysOpen s h old new = s.keeps → LeavesOnly s.moment s.left_since old new (Restarts s.opens (s.slots old) h)
 
 -- An engine that was opened over a store stands for the state that its blocks opened to. The groups that put back what
--- was under way are logged.
+-- was under way are logged, each a change or a slot, and nothing else changed.
 pub record Opened {S : Type 0} (s : Ghosts S) (h : State) (old : S) (e : EngineView S) : Type 0 where
   pub stands : Stands s h e
   pub lsn : s.lsn e.store ≡ s.lsn old + owed_in (s.shape_of old) (s.blocks old)
+  pub back : BackBy (s.shape_of old) (owed_in (s.shape_of old) (s.blocks old)) (s.blocks old) (s.blocks e.store)
   pub stays : StaysOpen s h old e.store

@@ -21,14 +21,12 @@ use Rattle.rb_model.specs.Rows.{last_scn}
 use Rattle.rb_model.specs.State.{Cursor, State, session_own}
 use Rattle.rb_segment.specs.Header.{record_in}
 use Rattle.rb_segment.specs.Segments.{owed_in}
-use Rattle.rb_standing.specs.Groups.{IsCommitted, IsEnded, IsPutBack}
+use Rattle.rb_standing.specs.Groups.{IsCommitted, IsEnded, IsPutBack, last_record}
 use Rattle.rb_standing.specs.NextStates.{with_own}
 use Rattle.rb_standing.specs.Standing.{env_of, logged_of, segments_of}
 use Rattle.rb_standing.specs.States.{BlocksStand, Owns}
-use Rattle.rb_standing.specs.Values.{slot_of}
 use Rattle.rb_standing.specs.Writing.{IsWritten}
 use Rattle.rb_txntable.specs.declared.looks.Look.TheVariants.{At, Before}
-use Rattle.rb_undoblock.specs.Undo.{undo_at}
 use Rattle.rb_undoblock.specs.declared.record.UndoRecord.{UndoRecord}
 use Rattle.rb_verdict.specs.Verdict.{IsOwnId}
 use Rattle.rb_walk.specs.Walk.{Env}
@@ -87,11 +85,6 @@ pub record WriteMade (h : State) (xids : List Xid) (s table key : ℕ) (action :
   pub of_key : undo.key ≡ key
   pub of_home : undo.home ≡ home_block h.shape table key
   pub group : IsWritten h.shape (16 * x.seg + x.slot) (adds action) (kind_by action) address undo before now
-
--- the newest live record of slot t
-abbrev pub last_record : Shape → List (List ℕ) → ℕ → UndoRecord
-last_record shape blocks t = undo_at (block_of blocks (slot_of (segments_of shape blocks) t).newest_at.block)
-    (slot_of (segments_of shape blocks) t).newest_at.rec
 
 -- So many changes of slot t are put back, the newest first, each as its record keeps it.
 abbrev pub BackOver : Shape → (t : ℕ) → ℕ → (before now : List (List ℕ)) → Type 0

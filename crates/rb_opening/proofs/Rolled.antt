@@ -39,7 +39,7 @@ moved s old mid groups result now loads told rolled =
 
 -- no group leaves the blocks as they were
 pub none_sound : (shape : Shape) (number : ℕ) (rows : List TableRow) (lsn : ℕ) (blocks : List (List ℕ)) → SoundAs shape blocks number rows → StaySound shape number rows lsn [] blocks
-none_sound shape number rows lsn blocks sound zero le = record { sound = sound; logged = omega arith; owed = omega arith; books = λ g there. refl }
+none_sound shape number rows lsn blocks sound zero le = record { sound = sound; logged = omega arith; owed = omega arith; back = refl; books = λ g there. refl }
 none_sound shape number rows lsn blocks sound (suc count) le = absurd (omega arith)
 
 -- what an opening says of its groups, and that it does where a call failed

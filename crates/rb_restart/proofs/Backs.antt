@@ -10,7 +10,7 @@ use Rattle.rb_base.specs.declared.ids.Xid.{Xid}
 use Rattle.rb_base.specs.declared.shape.Shape.{Shape}
 use Rattle.rb_base.specs.declared.sizes.TheConstants.{ACTIVE}
 use Rattle.rb_model.specs.Rows.{TableRow}
-use Rattle.rb_restart.specs.Rollback.{found_book}
+use Rattle.rb_restart.specs.Rollback.{change, found_book}
 use Rattle.rb_restart.specs.Steps.{HasLive, IsIdle, PutsBack}
 use Rattle.rb_restart.proofs.Joined.{one_puts}
 use Rattle.rb_restart.proofs.Marks.{book_back, books_same}
@@ -19,7 +19,7 @@ use Rattle.rb_segment.proofs.Back.{back_other}
 use Rattle.rb_segment.proofs.Parts.{slots_many}
 use Rattle.rb_segment.specs.Header.{Header, Segment, record_in, slot_in}
 use Rattle.rb_segment.specs.Segments.{commit_scn}
-use Rattle.rb_standing.specs.Groups.{IsPutBack, header_at}
+use Rattle.rb_standing.specs.Groups.{IsPutBack, header_at, last_record}
 use Rattle.rb_standing.specs.Standing.{SoundAs, Standing, homes_of, logged_of, segments_of}
 use Rattle.rb_standing.specs.Values.{IsSaved, Listed, Past, slot_of, wraps_of, xid_in}
 use Rattle.rb_standing.specs.Writes.{back_segment}
@@ -67,6 +67,7 @@ record Newest (shape : Shape) (blocks : List (List ℕ)) (lives : List (List Cha
   home : u.home < table_blocks shape
   can : CanBack shape blocks (xid_of t wrap)
   read : newest_record shape blocks (xid_of t wrap) ≡ u
+  last : last_record shape blocks t ≡ u
 
 module _ (shape : Shape) (number : ℕ) (rows : List TableRow) (before : List (List ℕ)) (lives : List (List Change)) (stand : Standing shape before (record { base = number; rows = rows; list = [] }) lives) (t wrap : ℕ) (t_in : t < 16 * shape.segments) (n : ℕ) (live : HasLive shape before (xid_of t wrap) (n + 1)) where
   abbrev Segs : ℕ → Segment
@@ -117,6 +118,7 @@ module _ (shape : Shape) (number : ℕ) (rows : List TableRow) (before : List (L
           cell = subst (λ (z : UndoRecord). z.cell < 16) (sym read) listed.4.6.cell;
         };
         read = read;
+        last = reads;
       }
 
   pub can_back : CanBack shape before X
@@ -172,6 +174,7 @@ module _ (shape : Shape) (number : ℕ) (rows : List TableRow) (before : List (L
           let a = owed_is shape before in
           let b = owed_is shape now in
           omega (arith, o, a, b))
+          (change t t_in (subst (λ (u : UndoRecord). IsPutBack shape t u before now) (sym newest.last) puts))
           (books_same shape t Is before now puts.group only (ap found_book puts.header ∙ book_back (t % 16) newest.u.previous (header_at shape before t)))
           idle
 

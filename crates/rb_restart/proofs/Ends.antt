@@ -10,7 +10,7 @@ use Rattle.rb_base.specs.declared.ids.Xid.{Xid}
 use Rattle.rb_base.specs.declared.shape.Shape.{Shape}
 use Rattle.rb_base.specs.declared.sizes.TheConstants.{ACTIVE}
 use Rattle.rb_model.specs.Rows.{TableRow}
-use Rattle.rb_restart.specs.Rollback.{found_book}
+use Rattle.rb_restart.specs.Rollback.{found_book, slot}
 use Rattle.rb_restart.specs.Steps.{HasLive, IsIdle, PutsBack}
 use Rattle.rb_restart.proofs.Joined.{one_puts}
 use Rattle.rb_restart.proofs.Marks.{book_ended, books_same}
@@ -124,6 +124,7 @@ module _ (shape : Shape) (number : ℕ) (rows : List TableRow) (before : List (L
         let b = owed_is shape now in
         let c = ap (owed shape) (segments_ended shape t before now ends) in
         omega (arith, o, a, b, c))
+        (slot t t_in ends)
         (books_same shape t Is before now ends.group (λ b at. inr at) (ap found_book ends.header ∙ book_ended (t % 16) (header_at shape before t)))
         idle
 

@@ -11,22 +11,29 @@ use Rattle.rb_base.specs.Stores.{room_of}
 use Rattle.rb_base.specs.declared.shape.Shape.{Shape}
 use Rattle.rb_base.specs.declared.store.Store.{Ghosts}
 use Rattle.rb_model.specs.Rows.{TableRow}
-use Rattle.rb_restart.specs.Rollback.{IsPartlyBack, SameBooks}
+use Rattle.rb_restart.specs.Rollback.{BackBy, IsBackGroup, IsPartlyBack, SameBooks}
 use Rattle.rb_restart.specs.Steps.{IsIdle, MayRoll, PutsBack, Rolls}
 use Rattle.rb_segment.specs.Segments.{owed_in}
 use Rattle.rb_standing.specs.Standing.{SoundAs, logged_of}
 
+-- groups that put back, after others
+back_on : (shape : Shape) (m n all : ℕ) (a b c : List (List ℕ)) → all ≡ m + n → BackBy shape m a b → BackBy shape n b c → BackBy shape all a c
+back_on shape zero n all a b c is same more = subst (λ (k : ℕ). BackBy shape k a c) (omega (arith, is)) (subst (λ (z : List (List ℕ)). BackBy shape n z c) same more)
+back_on shape (suc m) n zero a b c is first more = absurd (omega (arith, is))
+back_on shape (suc m) n (suc all) a b c is (middle, first, rest) more = (middle, first, back_on shape m n all middle b c (omega (arith, is)) rest more)
+
 module _ (shape : Shape) (number : ℕ) (rows : List TableRow) where
   -- before the first group
   pub first_partly : (blocks : List (List ℕ)) → SoundAs shape blocks number rows → IsPartlyBack shape number rows 0 blocks blocks
-  first_partly blocks sound = record { sound = sound; logged = omega arith; owed = omega arith; books = λ g g_in. refl }
+  first_partly blocks sound = record { sound = sound; logged = omega arith; owed = omega arith; back = refl; books = λ g g_in. refl }
 
   -- so many groups behind others
-  partly_on : (first count : ℕ) (before mid now : List (List ℕ)) → logged_of shape mid ≡ logged_of shape before + first → owed_in shape mid + first ≡ owed_in shape before → SameBooks shape before mid → IsPartlyBack shape number rows count mid now → IsPartlyBack shape number rows (first + count) before now
-  partly_on first count before mid now logged owed books b = record {
+  partly_on : (first count : ℕ) (before mid now : List (List ℕ)) → logged_of shape mid ≡ logged_of shape before + first → owed_in shape mid + first ≡ owed_in shape before → BackBy shape first before mid → SameBooks shape before mid → IsPartlyBack shape number rows count mid now → IsPartlyBack shape number rows (first + count) before now
+  partly_on first count before mid now logged owed back books b = record {
     sound = b.sound;
     logged = omega (arith, logged, b.logged);
     owed = omega (arith, owed, b.owed);
+    back = back_on shape first count (first + count) before mid now refl back b.back;
     books = λ g g_in. b.books g g_in ∙ books g g_in;
   }
 
@@ -37,6 +44,7 @@ module _ (shape : Shape) (number : ℕ) (rows : List TableRow) where
     made = refl;
     logged = omega arith;
     owed = omega arith;
+    back = refl;
     books = λ g g_in. refl;
     idle = λ t t_in is. is;
   }
@@ -46,19 +54,20 @@ module _ (shape : Shape) (number : ℕ) (rows : List TableRow) where
       none (suc count) few = absurd (omega (arith, few))
 
   -- one group
-  pub one_puts : (group : List Patch) (before now : List (List ℕ)) → SoundAs shape before number rows → SoundAs shape now number rows → now ≡ after_group (logged_of shape before + 1) group before → logged_of shape now ≡ logged_of shape before + 1 → owed_in shape now + 1 ≡ owed_in shape before → SameBooks shape before now → ((t : ℕ) → t < 16 * shape.segments → IsIdle shape before t → IsIdle shape now t) → PutsBack shape number rows (group ∷ []) before now
-  one_puts group before now sound after made logged owed books idle = record {
+  pub one_puts : (group : List Patch) (before now : List (List ℕ)) → SoundAs shape before number rows → SoundAs shape now number rows → now ≡ after_group (logged_of shape before + 1) group before → logged_of shape now ≡ logged_of shape before + 1 → owed_in shape now + 1 ≡ owed_in shape before → IsBackGroup shape before now → SameBooks shape before now → ((t : ℕ) → t < 16 * shape.segments → IsIdle shape before t → IsIdle shape now t) → PutsBack shape number rows (group ∷ []) before now
+  one_puts group before now sound after made logged owed back books idle = record {
     sound = each;
     made = made;
     logged = logged;
     owed = owed;
+    back = (now, back, refl);
     books = books;
     idle = idle;
   }
     where
       each : (count : ℕ) → count ≤ length (group ∷ []) → IsPartlyBack shape number rows count before (after_groups (logged_of shape before + 1) (take count (group ∷ [])) before)
       each zero few = first_partly before sound
-      each (suc zero) few = subst (IsPartlyBack shape number rows 1 before) made (record { sound = after; logged = logged; owed = owed; books = books })
+      each (suc zero) few = subst (IsPartlyBack shape number rows 1 before) made (record { sound = after; logged = logged; owed = owed; back = (now, back, refl); books = books })
       each (suc (suc count)) few = absurd (omega (arith, few))
 
   -- some groups after others
@@ -71,6 +80,7 @@ module _ (shape : Shape) (number : ℕ) (rows : List TableRow) where
     made = b.made ∙ sym (joined second);
     logged = omega (arith, a.logged, b.logged, length-append first second);
     owed = omega (arith, a.owed, b.owed, length-append first second);
+    back = back_on shape (length first) (length second) (length (first ++ second)) before mid now (length-append first second) a.back b.back;
     books = λ g g_in. b.books g g_in ∙ a.books g g_in;
     idle = λ t t_in is. b.idle t t_in (a.idle t t_in is);
   }
@@ -87,7 +97,7 @@ module _ (shape : Shape) (number : ℕ) (rows : List TableRow) where
           let at : take count (first ++ second) ≡ first ++ take rest second = ap (λ (n : ℕ). take n (first ++ second)) (omega (arith, le)) ∙ take-append-add first second rest in
           let blocks : after_groups (logged_of shape before + 1) (take count (first ++ second)) before ≡ after_groups (logged_of shape mid + 1) (take rest second) mid = ap (λ (l : List (List Patch)). after_groups (logged_of shape before + 1) l before) at ∙ joined (take rest second) in
           let number_is : length first + rest ≡ count = omega (arith, le) in
-          let whole = partly_on (length first) rest before mid (after_groups (logged_of shape mid + 1) (take rest second) mid) a.logged a.owed a.books (b.sound rest (omega (arith, few, le, length-append first second))) in
+          let whole = partly_on (length first) rest before mid (after_groups (logged_of shape mid + 1) (take rest second) mid) a.logged a.owed a.back a.books (b.sound rest (omega (arith, few, le, length-append first second))) in
           subst (IsPartlyBack shape number rows count before) (sym blocks) (subst (λ (n : ℕ). IsPartlyBack shape number rows n before (after_groups (logged_of shape mid + 1) (take rest second) mid)) number_is whole)
 
 -- a log has room still for what is owed, as groups fall off both

@@ -21,6 +21,7 @@ rolled_back s shape old new most going a number rows told logged sound fits = (
       record {
         count = let none = owed_none shape (s.blocks new) idle in omega (arith, none, now.owed);
         logged = now.logged;
+        back = now.back;
         idle = idle;
         books = now.books;
       },

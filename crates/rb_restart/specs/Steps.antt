@@ -9,7 +9,7 @@ use Rattle.rb_base.specs.declared.shape.Shape.{Shape}
 use Rattle.rb_base.specs.declared.sizes.TheConstants.{ACTIVE}
 use Rattle.rb_base.specs.declared.store.Store.{Ghosts}
 use Rattle.rb_model.specs.Rows.{TableRow}
-use Rattle.rb_restart.specs.Rollback.{SameBooks, StaySound}
+use Rattle.rb_restart.specs.Rollback.{BackBy, SameBooks, StaySound}
 use Rattle.rb_segment.specs.Calls.{Runs}
 use Rattle.rb_segment.specs.Header.{slot_in}
 use Rattle.rb_segment.specs.Segments.{owed_in}
@@ -34,14 +34,15 @@ pub record MayRoll (shape : Shape) (number : ℕ) (rows : List TableRow) (lsn ro
   pub logged : lsn ≡ logged_of shape blocks
   pub fits : owed_in shape blocks ≤ room
 
--- Groups that put back what is under way: a stop behind any of them leaves nothing else to find, each is one of those
--- that are owed, and no slot is taken.
+-- Groups that put back what is under way, each a change or a slot: a stop behind any of them leaves nothing else to
+-- find, each is one of those that are owed, and no slot is taken.
 pub record PutsBack (shape : Shape) (number : ℕ) (rows : List TableRow) (groups : List (List Patch))
     (before now : List (List ℕ)) : Type 0 where
   pub sound : StaySound shape number rows (logged_of shape before) groups before
   pub made : now ≡ after_groups (logged_of shape before + 1) groups before
   pub logged : logged_of shape now ≡ logged_of shape before + length groups
   pub owed : owed_in shape now + length groups ≡ owed_in shape before
+  pub back : BackBy shape (length groups) before now
   pub books : SameBooks shape before now
   pub idle : (t : ℕ) → t < 16 * shape.segments → IsIdle shape before t → IsIdle shape now t
 

@@ -11,7 +11,9 @@ use Rattle.rb_heap.specs.Soundness.{StaysShort}
 use Rattle.rb_itl.specs.Entries.{entry_of}
 use Rattle.rb_segment.specs.Header.{Header, header_of}
 use Rattle.rb_segment.specs.Moves.{committed, ended, taken_back}
-use Rattle.rb_standing.specs.Standing.{env_of, logged_of}
+use Rattle.rb_standing.specs.Standing.{env_of, logged_of, segments_of}
+use Rattle.rb_standing.specs.Values.{slot_of}
+use Rattle.rb_undoblock.specs.Undo.{undo_at}
 use Rattle.rb_undoblock.specs.declared.record.UndoRecord.{UndoRecord}
 
 -- the blocks after one group, the next to be logged, which patches such blocks alone
@@ -25,6 +27,11 @@ pub record GroupOn (shape : Shape) (Is : ℕ → Type 0) (before now : List (Lis
 -- the header of the segment of slot t
 abbrev pub header_at : Shape → List (List ℕ) → ℕ → Header
 header_at shape blocks t = header_of (block_of blocks (header_block shape (t / 16)))
+
+-- the newest live record of slot t
+abbrev pub last_record : Shape → List (List ℕ) → ℕ → UndoRecord
+last_record shape blocks t = undo_at (block_of blocks (slot_of (segments_of shape blocks) t).newest_at.block)
+    (slot_of (segments_of shape blocks) t).newest_at.rec
 
 -- Block b is cleaned of the transactions that have ended.
 pub record IsCleaned (shape : Shape) (b : ℕ) (before now : List (List ℕ)) : Type 0 where

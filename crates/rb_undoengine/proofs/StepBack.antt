@@ -17,10 +17,10 @@ use Rattle.rb_restart.proofs.Slots.{owed_is, slot_is, xid_is, xid_of}
 use Rattle.rb_segment.specs.Calls.{Runs}
 use Rattle.rb_segment.specs.Header.{Segment, record_in}
 use Rattle.rb_segment.specs.Segments.{commit_scn, owed_in}
-use Rattle.rb_standing.specs.Groups.{IsPutBack}
+use Rattle.rb_standing.specs.Groups.{IsPutBack, last_record}
 use Rattle.rb_standing.proofs.OwedMoves.{owed_back}
 use Rattle.rb_standing.proofs.StandingBack.{xid_back}
-use Rattle.rb_image.specs.Made.{BackMade, last_record}
+use Rattle.rb_image.specs.Made.{BackMade}
 use Rattle.rb_standing.specs.NextStates.{with_own}
 use Rattle.rb_standing.specs.Says.{xid_by}
 use Rattle.rb_standing.specs.Standing.{env_of, homes_of, logged_of, segments_of}
