@@ -1,5 +1,5 @@
 -- The put back of a transaction's newest live change: in blocks that stand it can be done, and is one group that puts back.
-use Rattle.std.proofs.Common.{◌≡◌, ◌≢◌, ◌⊎◌, ◌<◌, ◌≤◌, ◌+◌, ◌-◌, ◌*◌, ◌/◌, ◌%◌, inl, inr, ℕ, List, [], ◌∷◌, length, set, Some, refl, sym, ◌∙◌, ap, subst, arith}
+use Rattle.std.proofs.Common.{◌≡◌, ◌≢◌, ◌⊎◌, ◌<◌, ◌≤◌, ◌+◌, ◌-◌, ◌*◌, ◌/◌, ◌%◌, inl, inr, ℕ, List, [], ◌∷◌, ◌++◌, length, set, Some, refl, sym, ◌∙◌, ap, subst, arith}
 use Rattle.std.proofs.lemmas.Bool.{cases_eq}
 use Rattle.std.proofs.lemmas.List.{get_or-set_same}
 use Rattle.std.proofs.Math.Nat.{div-add-mod}
@@ -9,6 +9,9 @@ use Rattle.rb_base.specs.declared.ids.Uba.{Uba}
 use Rattle.rb_base.specs.declared.ids.Xid.{Xid}
 use Rattle.rb_base.specs.declared.shape.Shape.{Shape}
 use Rattle.rb_base.specs.declared.sizes.TheConstants.{ACTIVE}
+use Rattle.rb_cell.specs.Cells.{cell_of}
+use Rattle.rb_heap.specs.Homes.{home_patches}
+use Rattle.rb_itl.specs.Entries.{entry_of}
 use Rattle.rb_model.specs.Rows.{TableRow}
 use Rattle.rb_restart.specs.Rollback.{change, found_book}
 use Rattle.rb_restart.specs.Steps.{HasLive, IsIdle, PutsBack}
@@ -17,7 +20,9 @@ use Rattle.rb_restart.proofs.Marks.{book_back, books_same}
 use Rattle.rb_restart.proofs.Slots.{owed_is, slot_is, xid_is, xid_of}
 use Rattle.rb_segment.proofs.Back.{back_other}
 use Rattle.rb_segment.proofs.Parts.{slots_many}
+use Rattle.rb_segment.specs.Calls.{slot_patches}
 use Rattle.rb_segment.specs.Header.{Header, Segment, record_in, slot_in}
+use Rattle.rb_segment.specs.Moves.{taken_back}
 use Rattle.rb_segment.specs.Segments.{commit_scn}
 use Rattle.rb_standing.specs.Groups.{IsPutBack, header_at, last_record}
 use Rattle.rb_standing.specs.Standing.{SoundAs, Standing, homes_of, logged_of, segments_of}
@@ -51,6 +56,17 @@ less_live shape x u before now n few takes has =
       };
       live = ap (λ (s : TableSlot). s.live) at ∙ omega (arith, has.live);
     }
+
+-- the group that puts back a transaction's newest change
+abbrev pub back_group : Shape → List (List ℕ) → Xid → List Patch
+back_group shape blocks x = back_patches shape x (newest_record shape blocks x) (header_for shape blocks x)
+
+-- Its patches are those of the record and of the slot as it is then.
+pub patches_back : (shape : Shape) (t wrap : ℕ) (u : UndoRecord) (before now : List (List ℕ)) → newest_record shape before (xid_of t wrap) ≡ u → header_at shape now t ≡ taken_back (t % 16) u.previous (header_at shape before t)
+    → back_group shape before (xid_of t wrap) ≡ home_patches u.home u.cell (cell_of u.cell_before) u.entry (entry_of u.entry_before) ++ slot_patches (header_block shape (t / 16)) (t % 16) (header_at shape now t)
+patches_back shape t wrap u before now read header =
+    ap (λ (r : UndoRecord). back_patches shape (xid_of t wrap) r (header_at shape before t)) read
+    ∙ ap (λ (h : Header). home_patches u.home u.cell (cell_of u.cell_before) u.entry (entry_of u.entry_before) ++ slot_patches (header_block shape (t / 16)) (t % 16) h) (sym header)
 
 -- a list of some length has a first item
 first_of : (chs : List Change) (n : ℕ) → length chs ≡ n + 1 → (ch : Change) × (more : List Change) × (chs ≡ ch ∷ more)
@@ -126,7 +142,7 @@ module _ (shape : Shape) (number : ℕ) (rows : List TableRow) (before : List (L
 
   module _ (now : List (List ℕ)) (shaped : IsShape shape) where
     abbrev group : List Patch
-    group = back_patches shape X (newest_record shape before X) (header_for shape before X)
+    group = back_group shape before X
 
     module _ (valid : IsGroup group) (made : now ≡ after_group (logged_of shape before + 1) group before) (takes : TakesBack shape X (newest_record shape before X) before now) where
       abbrev Is : ℕ → Type 0
@@ -149,6 +165,7 @@ module _ (shape : Shape) (number : ℕ) (rows : List TableRow) (before : List (L
             home = back.home;
             short = back.short;
             header = back.header;
+            patches = patches_back shape t wrap newest.u before now newest.read back.header;
           }
 
       only : (b : ℕ) → Is b → RowsOrHeader shape (t / 16) b
@@ -177,10 +194,6 @@ module _ (shape : Shape) (number : ℕ) (rows : List TableRow) (before : List (L
           (change t t_in (subst (λ (u : UndoRecord). IsPutBack shape t u before now) (sym newest.last) puts))
           (books_same shape t Is before now puts.group only (ap found_book puts.header ∙ book_back (t % 16) newest.u.previous (header_at shape before t)))
           idle
-
--- the group that puts back a transaction's newest change
-abbrev pub back_group : Shape → List (List ℕ) → Xid → List Patch
-back_group shape blocks x = back_patches shape x (newest_record shape blocks x) (header_for shape blocks x)
 
 -- the same by the transaction's id
 module _ (shape : Shape) (number : ℕ) (rows : List TableRow) (before : List (List ℕ)) (sound : SoundAs shape before number rows) (x : Xid) (there : x.seg < shape.segments) (few : x.slot < 16) where

@@ -88,6 +88,7 @@ module _ (shape : Shape) (number : ℕ) (rows : List TableRow) (before : List (L
             made = made;
           };
           header = header;
+          patches = ap (slot_patches (header_block shape (t / 16)) (t % 16)) (sym header);
         }
 
     within : t % 16 < length (Segs (t / 16)).header.slots

@@ -170,15 +170,24 @@ module _ (h : State) (xids : List Xid) (before now : List (List ℕ)) (s : ℕ) 
     active : (slot_of (segments_of h.shape before) T).state ≡ 1
     active = ap (λ (z : TableSlot). z.state) (slot_for h.shape before x few) ∙ runs.active
 
-    pub commits : (n : ℕ) → n ≡ last_scn h.commits + 1 → (header : List ℕ) → header ≡ written_to at group (block_of before at) → header_of header ≡ moves.committed n x.slot (header_of (block_of before at))
+    -- The patches are those of the header that there is then.
+    patched : (patches : ℕ → ℕ → Header → List Patch) (header : List ℕ) → group ≡ patches at x.slot (header_of header) → header ≡ written_to at group (block_of before at) → on.patches ≡ patches (header_block h.shape (T / 16)) (T % 16) (header_at h.shape now T)
+    unfolding on
+    patched patches header is copied =
+        is
+        ∙ (ap (patches at x.slot) (sym (header_now ∙ moved header copied))
+        ∙ (ap (λ (i : ℕ). patches at i (header_at h.shape now T)) (sym slot_is)
+        ∙ ap (λ (g : ℕ). patches (header_block h.shape g) (T % 16) (header_at h.shape now T)) (sym seg_is)))
+
+    pub commits : (n : ℕ) → n ≡ last_scn h.commits + 1 → (header : List ℕ) → group ≡ commit_patches at x.slot (header_of header) → header ≡ written_to at group (block_of before at) → header_of header ≡ moves.committed n x.slot (header_of (block_of before at))
         → CommitMade h xids s x before now
-    commits n next header copied means =
+    commits n next header patches copied means =
         let scn = scn_is h xids before stand in
         let number : n ≡ commit_scn h.shape before + 1 = omega (arith, next, scn) in
         let header_moved : header_at h.shape now T ≡ moves.committed (commit_scn h.shape before + 1) (T % 16) (header_at h.shape before T) = header_now ∙ (moved header copied ∙ (means
         ∙ (ap (λ (k : ℕ). moves.committed k x.slot (header_of (block_of before at))) number ∙ (ap (λ (i : ℕ). moves.committed (commit_scn h.shape before + 1) i (header_of (block_of before at))) (sym slot_is)
         ∙ ap (moves.committed (commit_scn h.shape before + 1) (T % 16)) (sym header_is))))) in
-        let is : IsCommitted h.shape T (commit_scn h.shape before + 1) before now = record { group = on; header = header_moved } in
+        let is : IsCommitted h.shape T (commit_scn h.shape before + 1) before now = record { group = on; header = header_moved; patches = patched commit_patches header patches copied } in
         let kept = commit_keeps_machine h xids before now stand s T t_in owns (map not_present (cursors_of h s)) is in
         let state : after_commit h s T (commit_scn h.shape before + 1) (map not_present (cursors_of h s)) ≡ committed h s x.seg x.slot = rw (seg_is, slot_is, scn) refl in
         let id : xid_by (segments_of h.shape before) T ≡ x = xid_is in
@@ -200,12 +209,12 @@ module _ (h : State) (xids : List Xid) (before now : List (List ℕ)) (s : ℕ) 
             let wrap : (slot_in (segments_of h.shape before (T / 16)).header (T % 16)).wrap ≡ x.wrap = ap (λ (k : Header). (slot_in k (T % 16)).wrap) head ∙ (ap (λ (i : ℕ). (slot_in (header_of (block_of before at)) i).wrap) slot_is ∙ runs.wrap) in
             Rattle.rb_standing.proofs.Seen.one_xid (xid_by (segments_of h.shape before) T) x seg_is slot_is wrap
 
-    pub ends : session_own h s ≡ [] → (header : List ℕ) → header ≡ written_to at group (block_of before at) → header_of header ≡ moves.ended x.slot (header_of (block_of before at))
+    pub ends : session_own h s ≡ [] → (header : List ℕ) → group ≡ slot_patches at x.slot (header_of header) → header ≡ written_to at group (block_of before at) → header_of header ≡ moves.ended x.slot (header_of (block_of before at))
         → EndMade h xids s x before now
-    ends empty header copied means =
+    ends empty header patches copied means =
         let header_moved : header_at h.shape now T ≡ moves.ended (T % 16) (header_at h.shape before T) = header_now ∙ (moved header copied ∙ (means
         ∙ (ap (λ (i : ℕ). moves.ended i (header_of (block_of before at))) (sym slot_is) ∙ ap (moves.ended (T % 16)) (sym header_is)))) in
-        let is : IsEnded h.shape T before now = record { group = on; header = header_moved } in
+        let is : IsEnded h.shape T before now = record { group = on; header = header_moved; patches = patched slot_patches header patches copied } in
         let kept = end_keeps_machine h xids before now stand s T t_in owns empty is in
         let s_in = stand.tell.owner_there s T owns in
         let env = env_of h.shape before in

@@ -12,7 +12,7 @@ use Rattle.rb_image.proofs.Owners.{owns_of}
 use Rattle.rb_model.specs.Calls.{Owned}
 use Rattle.rb_model.specs.Change as model
 use Rattle.rb_model.specs.State.{State, session_own}
-use Rattle.rb_restart.proofs.Backs.{back_group}
+use Rattle.rb_restart.proofs.Backs.{back_group, patches_back}
 use Rattle.rb_restart.proofs.Slots.{owed_is, slot_is, xid_is, xid_of}
 use Rattle.rb_segment.specs.Calls.{Runs}
 use Rattle.rb_segment.specs.Header.{Segment, record_in}
@@ -120,6 +120,7 @@ module _ (h : State) (xids : List Xid) (before : List (List ℕ)) (stand : Block
           home = taken.home;
           short = taken.short;
           header = taken.header;
+          patches = patches_back h.shape t wrap newest.u before now newest.read taken.header;
         }
 
     stands_at : BlocksStand (with_own h s front) xids now

@@ -99,7 +99,7 @@ makes g c told h xids r stand same owned number next =
     let there : x.seg < h.shape.segments = omega (arith, c.requires.there, ap (λ (k : Shape). k.segments) same) in
     let now = after_group (s.lsn old + 1) group blocks in
     let made : now ≡ after_group (logged_of h.shape blocks + 1) group blocks = ap (λ (n : ℕ). after_group (n + 1) group blocks) number in
-    commits h xids blocks now r x stand there c.requires.slot owned run group some valid only made c.args.scn next header copied means
+    commits h xids blocks now r x stand there c.requires.slot owned run group some valid only made c.args.scn next header patches copied means
 
 pub returns-clause-logs : goal.returns-clause-logs
 returns-clause-logs g c = (c.commit.new.group ∷ [], applied g c, omega arith)

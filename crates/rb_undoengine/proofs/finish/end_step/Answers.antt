@@ -98,7 +98,7 @@ makes g c told h xids r stand same owned empty number =
     let there : x.seg < h.shape.segments = omega (arith, c.requires.there, ap (λ (k : Shape). k.segments) same) in
     let now = after_group (s.lsn old + 1) group blocks in
     let made : now ≡ after_group (logged_of h.shape blocks + 1) group blocks = ap (λ (n : ℕ). after_group (n + 1) group blocks) number in
-    ends h xids blocks now r x stand there c.requires.slot owned run group some valid only made empty header copied means
+    ends h xids blocks now r x stand there c.requires.slot owned run group some valid only made empty header patches copied means
 
 pub returns-clause-logs : goal.returns-clause-logs
 returns-clause-logs g c = (c.end.new.group ∷ [], applied g c, omega arith)
