@@ -1,11 +1,13 @@
 -- Chains taken back, one record after another.
-use Rattle.std.proofs.Common.{◌≡◌, ◌<◌, ◌+◌, ◌-◌, ◌==◌, ◌&&◌, nat_lt, ℕ, suc, true, length, Option, Some, refl, ◌∙◌, ap}
+use Rattle.std.proofs.Common.{◌≡◌, ◌≢◌, ◌<◌, ◌+◌, ◌-◌, ◌==◌, ◌&&◌, nat_lt, ℕ, suc, Bool, true, false, if◌then◌else◌}
+use Rattle.std.proofs.Common.{length, Option, Some, None, refl, ◌∙◌, ap}
 use Rattle.std.proofs.Common.{arith}
 use Rattle.std.proofs.lemmas.Bool.Decides.{nat_tests}
 use Rattle.rb_base.specs.declared.ids.Xid.{Xid}
-use Rattle.rb_rebuild.specs.Chains.{same_xid, stepped, applied, unwound, and_then}
-use Rattle.rb_walk.specs.Kinds.{Undo}
-use Rattle.rb_walk.specs.Walk.{Home, Env, back}
+use Rattle.rb_rebuild.specs.Chains.{same_xid, stepped, applied, unwound, and_then, fits, is_own, leads_back, number_falls}
+use Rattle.rb_walk.specs.Kinds.{Status, Free, Open, Exact, Bound, Entry, Undo}
+use Rattle.rb_walk.specs.Walk.{Home, Env, back, entry_at}
+use Rattle.rb_walk.specs.Writes.{is_open}
 
 pub step_on : (env : Env) (n k i : ℕ) (xid : Xid) (b : Home) (o : Option Home) → k < n → stepped env i xid b ≡ o → unwound env (n - k) i xid b ≡ and_then o (unwound env (n - (k + 1)) i xid)
 step_on env n k i xid b o lt step = ap (λ (z : ℕ). unwound env z i xid b) e ∙ ap (λ (z : Option Home). and_then z (unwound env (n - (k + 1)) i xid)) step
@@ -30,8 +32,43 @@ is_same a b same =
     let w : a.wrap ≡ b.wrap = grind (arith, nat_tests) in
     ap (λ (z : ℕ). xid_of z a.slot a.wrap) s ∙ (ap (λ (z : ℕ). xid_of b.seg z a.wrap) t ∙ ap (λ (z : ℕ). xid_of b.seg b.slot z) w)
 
-pub fits_record : (i : ℕ) (xid : Xid) (b : Home) (r : Undo) → r.entry ≡ i → r.xid ≡ xid → r.cell < length b.cells → ((r.entry == i) && (same_xid r.xid xid && nat_lt r.cell (length b.cells))) ≡ true
-fits_record i xid b r e x c = let same : same_xid r.xid xid ≡ true = same_is r.xid xid x in grind (arith, nat_tests, same)
+not_open : (s : Status) → s ≢ Open → is_open s ≡ false
+not_open Free not = refl
+not_open Open not = absurd (not refl)
+not_open (Exact k) not = refl
+not_open (Bound b) not = refl
 
-pub passes : (r : Undo) (i : ℕ) (xid : Xid) (b : Home) → r.entry ≡ i → r.xid ≡ xid → r.cell < length b.cells → applied i xid b (Some r) ≡ Some (back r b)
-passes r i xid b e x c = rw (fits_record i xid b r e x c) refl
+pub leads_own : (xid : Xid) (e before : Entry) → before.status ≡ Open → before.xid ≡ xid → before.chain + 1 ≡ e.chain → leads_back xid e before ≡ true
+leads_own xid e before is_open_still same shorter =
+    let own : is_own xid before ≡ true = rw is_open_still (same_is before.xid xid same) in
+    let test : (before.chain + 1 == e.chain) ≡ true = grind (arith, nat_tests) in
+    rw (own, test) refl
+
+pub leads_other : (xid : Xid) (e before : Entry) → before.status ≢ Open → e.chain ≡ 1 → number_falls before.status e.status ≡ true → leads_back xid e before ≡ true
+leads_other xid e before not one falls =
+    let own : is_own xid before ≡ false = ap (λ (t : Bool). t && same_xid before.xid xid) (not_open before.status not) in
+    let test : (e.chain == 1) ≡ true = grind (arith, nat_tests) in
+    rw (own, test) falls
+
+pub fits_record : (i : ℕ) (xid : Xid) (b : Home) (r : Undo) → r.entry ≡ i → r.xid ≡ xid → r.home ≡ b.block → r.cell < length b.cells → leads_back xid (entry_at b i) r.entry_before ≡ true → fits i xid b r ≡ true
+fits_record i xid b r e x h c leads =
+    let same : same_xid r.xid xid ≡ true = same_is r.xid xid x in
+    let at : (r.entry == i) ≡ true = grind (arith, nat_tests) in
+    let here : (r.home == b.block) ≡ true = grind (arith, nat_tests) in
+    let there : nat_lt r.cell (length b.cells) ≡ true = grind (arith, nat_tests) in
+    rw (at, same, here, there) leads
+
+pub passes : (r : Undo) (i : ℕ) (xid : Xid) (b : Home) → fits i xid b r ≡ true → applied i xid b (Some r) ≡ Some (back r b)
+passes r i xid b is = ap (λ (t : Bool). if t then Some (back r b) else None) is
+
+-- a record that fits is of this transaction
+pub of_this : (i : ℕ) (xid : Xid) (b : Home) (r : Undo) → fits i xid b r ≡ true → r.xid ≡ xid
+of_this i xid b r is = is_same r.xid xid (by_entry (r.entry == i) is)
+  where
+    by_same : (t rest : Bool) → t && rest ≡ true → t ≡ true
+    by_same true rest is = refl
+    by_same false rest is = is
+
+    by_entry : (t : Bool) → t && (same_xid r.xid xid && (r.home == b.block && (nat_lt r.cell (length b.cells) && leads_back xid (entry_at b i) r.entry_before))) ≡ true → same_xid r.xid xid ≡ true
+    by_entry true is = by_same (same_xid r.xid xid) (r.home == b.block && (nat_lt r.cell (length b.cells) && leads_back xid (entry_at b i) r.entry_before)) is
+    by_entry false is = absurd (cc)

@@ -1,17 +1,40 @@
 -- An entry's chain of records taken back, the newest first.
-use Rattle.std.specs.Prelude.{◌==◌, ◌&&◌, ℕ, zero, suc, if◌then◌else◌, nat_lt}
-use Rattle.std.specs.Prelude.{length, Option, Some, None, Bool}
+use Rattle.std.specs.Prelude.{◌==◌, ◌&&◌, ◌+◌, ℕ, zero, suc, if◌then◌else◌, nat_lt}
+use Rattle.std.specs.Prelude.{length, Option, Some, None, Bool, true}
 use Rattle.rb_base.specs.declared.ids.Xid.{Xid}
-use Rattle.rb_walk.specs.Kinds.{Undo}
+use Rattle.rb_walk.specs.Kinds.{Status, Free, Open, Exact, Bound, Entry, Undo}
 use Rattle.rb_walk.specs.Walk.{Home, Env, entry_at, back}
+use Rattle.rb_walk.specs.Writes.{is_open}
 
 abbrev pub same_xid : Xid → Xid → Bool
 same_xid a b = (a.seg == b.seg) && ((a.slot == b.slot) && (a.wrap == b.wrap))
 
--- A record names this entry and this transaction, and a cell that there is. One that doesn't is of a place that was
--- used again.
+-- the entry is this transaction's, which was still to commit
+abbrev pub is_own : Xid → Entry → Bool
+is_own xid e = is_open e.status && same_xid e.xid xid
+
+-- where both say a number, the first one is lower
+abbrev pub number_falls : Status → Status → Bool
+number_falls (Exact k) (Exact c) = nat_lt k c
+number_falls (Exact k) Free = true
+number_falls (Exact k) Open = true
+number_falls (Exact k) (Bound b) = true
+number_falls Free status = true
+number_falls Open status = true
+number_falls (Bound b) status = true
+
+-- The entry before is the transaction's own, with a chain shorter by one; or it is another's, below it, and then this
+-- was the last record of the chain.
+abbrev pub leads_back : Xid → Entry → Entry → Bool
+leads_back xid e before =
+    if is_own xid before then before.chain + 1 == e.chain else e.chain == 1 && number_falls before.status e.status
+
+-- A record names this entry, this transaction, this block and a cell that there is, and leads back. One that doesn't
+-- is of a place that was used again.
 abbrev pub fits : ℕ → Xid → Home → Undo → Bool
-fits i xid b r = (r.entry == i) && ((same_xid r.xid xid) && nat_lt r.cell (length b.cells))
+fits i xid b r =
+    r.entry == i && (same_xid r.xid xid && (r.home == b.block && (nat_lt r.cell (length b.cells)
+    && leads_back xid (entry_at b i) r.entry_before)))
 
 abbrev pub applied : ℕ → Xid → Home → Option Undo → Option Home
 applied i xid b None = None
