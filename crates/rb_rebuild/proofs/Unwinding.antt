@@ -4,7 +4,7 @@ use Rattle.std.proofs.Common.{length, Option, Some, None, refl, ◌∙◌, ap}
 use Rattle.std.proofs.Common.{arith}
 use Rattle.std.proofs.lemmas.Bool.Decides.{nat_tests}
 use Rattle.rb_base.specs.declared.ids.Xid.{Xid}
-use Rattle.rb_rebuild.specs.Chains.{same_xid, stepped, applied, unwound, and_then, fits, is_own, leads_back, number_falls}
+use Rattle.rb_rebuild.specs.Chains.{same_xid, stepped, applied, unwound, and_then, fits, names, is_own, leads_back, number_falls}
 use Rattle.rb_walk.specs.Kinds.{Status, Free, Open, Exact, Bound, Entry, Undo}
 use Rattle.rb_walk.specs.Walk.{Home, Env, back, entry_at}
 use Rattle.rb_walk.specs.Writes.{is_open}
@@ -63,12 +63,8 @@ passes r i xid b is = ap (λ (t : Bool). if t then Some (back r b) else None) is
 
 -- a record that fits is of this transaction
 pub of_this : (i : ℕ) (xid : Xid) (b : Home) (r : Undo) → fits i xid b r ≡ true → r.xid ≡ xid
-of_this i xid b r is = is_same r.xid xid (by_entry (r.entry == i) is)
+of_this i xid b r is = is_same r.xid xid (both_parts (same_xid r.xid xid) (r.home == b.block && nat_lt r.cell (length b.cells)) (both_parts (r.entry == i) (same_xid r.xid xid && (r.home == b.block && nat_lt r.cell (length b.cells))) (both_parts (names i xid b r) (leads_back xid (entry_at b i) r.entry_before) is).0).1).0
   where
-    by_same : (t rest : Bool) → t && rest ≡ true → t ≡ true
-    by_same true rest is = refl
-    by_same false rest is = is
-
-    by_entry : (t : Bool) → t && (same_xid r.xid xid && (r.home == b.block && (nat_lt r.cell (length b.cells) && leads_back xid (entry_at b i) r.entry_before))) ≡ true → same_xid r.xid xid ≡ true
-    by_entry true is = by_same (same_xid r.xid xid) (r.home == b.block && (nat_lt r.cell (length b.cells) && leads_back xid (entry_at b i) r.entry_before)) is
-    by_entry false is = absurd (cc)
+    both_parts : (t rest : Bool) → t && rest ≡ true → (t ≡ true) × (rest ≡ true)
+    both_parts true rest is = (refl, is)
+    both_parts false rest is = absurd (cc (is))

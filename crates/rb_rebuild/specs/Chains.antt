@@ -29,12 +29,14 @@ abbrev pub leads_back : Xid → Entry → Entry → Bool
 leads_back xid e before =
     if is_own xid before then before.chain + 1 == e.chain else e.chain == 1 && number_falls before.status e.status
 
--- A record names this entry, this transaction, this block and a cell that there is, and leads back. One that doesn't
--- is of a place that was used again.
+-- a record names this entry, this transaction, this block and a cell that there is
+abbrev pub names : ℕ → Xid → Home → Undo → Bool
+names i xid b r =
+    r.entry == i && (same_xid r.xid xid && (r.home == b.block && nat_lt r.cell (length b.cells)))
+
+-- It does, and leads back. One that doesn't is of a place that was used again.
 abbrev pub fits : ℕ → Xid → Home → Undo → Bool
-fits i xid b r =
-    r.entry == i && (same_xid r.xid xid && (r.home == b.block && (nat_lt r.cell (length b.cells)
-    && leads_back xid (entry_at b i) r.entry_before)))
+fits i xid b r = names i xid b r && leads_back xid (entry_at b i) r.entry_before
 
 abbrev pub applied : ℕ → Xid → Home → Option Undo → Option Home
 applied i xid b None = None
