@@ -1,10 +1,10 @@
 -- Chains taken back, one record after another.
-use Rattle.std.proofs.Common.{◌≡◌, ◌≢◌, ◌<◌, ◌+◌, ◌-◌, ◌==◌, ◌&&◌, nat_lt, ℕ, suc, Bool, true, false, if◌then◌else◌}
+use Rattle.std.proofs.Common.{◌≡◌, ◌≢◌, ◌<◌, ◌+◌, ◌-◌, ◌==◌, ◌&&◌, nat_lt, ℕ, zero, suc, Bool, true, false, if◌then◌else◌}
 use Rattle.std.proofs.Common.{length, Option, Some, None, refl, ◌∙◌, ap}
 use Rattle.std.proofs.Common.{arith}
 use Rattle.std.proofs.lemmas.Bool.Decides.{nat_tests}
 use Rattle.rb_base.specs.declared.ids.Xid.{Xid}
-use Rattle.rb_rebuild.specs.Chains.{same_xid, stepped, applied, unwound, and_then, fits, names, is_own, leads_back, number_falls}
+use Rattle.rb_rebuild.specs.Chains.{same_xid, stepped, applied, unwound, and_then, Stops, fits, names, is_own, leads_back, number_falls}
 use Rattle.rb_walk.specs.Kinds.{Status, Free, Open, Exact, Bound, Entry, Undo}
 use Rattle.rb_walk.specs.Walk.{Home, Env, back, entry_at}
 use Rattle.rb_walk.specs.Writes.{is_open}
@@ -68,3 +68,41 @@ of_this i xid b r is = is_same r.xid xid (both_parts (same_xid r.xid xid) (r.hom
     both_parts : (t rest : Bool) → t && rest ≡ true → (t ≡ true) × (rest ≡ true)
     both_parts true rest is = (refl, is)
     both_parts false rest is = absurd (cc (is))
+
+-- one record more is taken back
+pub unwound_more : (env : Env) (k i : ℕ) (xid : Xid) (b b2 : Home) (o : Option Home) → unwound env k i xid b ≡ Some b2 → stepped env i xid b2 ≡ o → unwound env (k + 1) i xid b ≡ o
+unwound_more env k i xid b b2 o is step = ap (λ (z : ℕ). unwound env z i xid b) e ∙ later k b is
+  where
+    e : k + 1 ≡ suc k
+    e = omega arith
+
+    same : (b3 : Home) → Some b3 ≡ Some b2 → b3 ≡ b2
+    same b3 is = cc
+
+    later : (k : ℕ) (b : Home) → unwound env k i xid b ≡ Some b2 → unwound env (suc k) i xid b ≡ o
+    later zero b is = ap (λ (z : Home). and_then (stepped env i xid z) (unwound env zero i xid)) (same b is) ∙ (ap (λ (z : Option Home). and_then z (unwound env zero i xid)) step ∙ whole o)
+      where
+        whole : (o : Option Home) → and_then o (unwound env zero i xid) ≡ o
+        whole None = refl
+        whole (Some b3) = refl
+    later (suc k) b is = by_step (stepped env i xid b) (later k) is
+      where
+        by_step : (s : Option Home) → ((b3 : Home) → unwound env k i xid b3 ≡ Some b2 → unwound env (suc k) i xid b3 ≡ o) → and_then s (unwound env k i xid) ≡ Some b2 → and_then s (unwound env (suc k) i xid) ≡ o
+        by_step None deeper gone = absurd (cc (gone))
+        by_step (Some b3) deeper deep = deeper b3 deep
+
+-- where a record is gone, the chain can't be taken back
+pub stopped_none : (env : Env) (n k i : ℕ) (xid : Xid) (b : Home) → Stops env i xid b k → k < n → unwound env n i xid b ≡ None
+stopped_none env n k i xid b stops lt = gone n k b stops.1 lt
+  where
+    same : (b3 : Home) → Some b3 ≡ Some stops.0 → b3 ≡ stops.0
+    same b3 is = cc
+
+    gone : (n k : ℕ) (b : Home) → unwound env k i xid b ≡ Some stops.0 → k < n → unwound env n i xid b ≡ None
+    gone zero k b is lt = absurd (omega arith)
+    gone (suc n) zero b is lt = ap (λ (z : Home). and_then (stepped env i xid z) (unwound env n i xid)) (same b is) ∙ ap (λ (z : Option Home). and_then z (unwound env n i xid)) stops.2
+    gone (suc n) (suc k) b is lt = by_step (stepped env i xid b) (λ b3 deep. gone n k b3 deep (omega (arith, lt))) is
+      where
+        by_step : (s : Option Home) → ((b3 : Home) → unwound env k i xid b3 ≡ Some stops.0 → unwound env n i xid b3 ≡ None) → and_then s (unwound env k i xid) ≡ Some stops.0 → and_then s (unwound env n i xid) ≡ None
+        by_step None deeper none = refl
+        by_step (Some b3) deeper deep = deeper b3 deep

@@ -1,6 +1,6 @@
 -- An entry's chain of records taken back, the newest first.
-use Rattle.std.specs.Prelude.{◌==◌, ◌&&◌, ◌+◌, ℕ, zero, suc, if◌then◌else◌, nat_lt}
-use Rattle.std.specs.Prelude.{length, Option, Some, None, Bool, true}
+use Rattle.std.specs.Prelude.{◌≡◌, ◌⊎◌, ◌<◌, ◌==◌, ◌&&◌, ◌+◌, ℕ, zero, suc, if◌then◌else◌, nat_lt}
+use Rattle.std.specs.Prelude.{List, [], ◌∷◌, length, Option, Some, None, Bool, true}
 use Rattle.rb_base.specs.declared.ids.Xid.{Xid}
 use Rattle.rb_walk.specs.Kinds.{Status, Free, Open, Exact, Bound, Entry, Undo}
 use Rattle.rb_walk.specs.Walk.{Home, Env, entry_at, back}
@@ -55,6 +55,24 @@ abbrev pub unwound : Env → ℕ → ℕ → Xid → Home → Option Home
 unwound env zero i xid b = Some b
 unwound env (suc n) i xid b = and_then (stepped env i xid b) (unwound env n i xid)
 
+-- so many were, and the next one is gone
+abbrev pub Stops : Env → ℕ → Xid → Home → ℕ → Type 0
+Stops env i xid b k = (b2 : Home) × (unwound env k i xid b ≡ Some b2) × (stepped env i xid b2 ≡ None)
+
 -- entry i's whole chain taken back
 abbrev pub spent : Env → Home → ℕ → Option Home
 spent env b i = unwound env (entry_at b i).chain i (entry_at b i).xid b
+
+-- From home start and count first on, the whole chains of these entries were taken back, the last one of them first in
+-- the list, and each record was counted. That left this home and this count.
+abbrev pub Whole : Env → Home → ℕ → List ℕ → Home → ℕ → Type 0
+Whole env start first [] b count = (b ≡ start) × (count ≡ first)
+Whole env start first (i ∷ before) b count = (mid : Home) × (k : ℕ) × Whole env start first before mid k
+    × (spent env mid i ≡ Some b) × (count ≡ k + (entry_at mid i).chain)
+
+-- Whole chains were taken back and counted, and then the first k records of one more, whose next one is gone; or none.
+abbrev pub Counted : Env → Home → ℕ → ℕ → Type 0
+Counted env start first count = (entries : List ℕ) × (b : Home) × (so_far : ℕ)
+    × Whole env start first entries b so_far
+    × ((count ≡ so_far) ⊎ ((i : ℕ) × (k : ℕ) × (k < (entry_at b i).chain)
+    × Stops env i (entry_at b i).xid b k × (count ≡ so_far + k)))
