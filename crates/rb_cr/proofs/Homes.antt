@@ -14,17 +14,17 @@ use Rattle.rb_walk.specs.Walk.{Env, Home}
 pub env_stays : (shape shape2 : Shape) (blocks blocks2 : List (List ℕ)) → shape2 ≡ shape → blocks2 ≡ blocks → env_of shape2 blocks2 ≡ env_of shape blocks
 env_stays shape shape2 blocks blocks2 same kept = ap (λ (z : Shape). env_of z blocks2) same ∙ ap (env_of shape) kept
 
-home_is : (es es2 : List entries.Entry) (xs xs2 : List cells.Cell) (shape : Shape) → es ≡ es2 → xs ≡ xs2
-    → walk_home shape (record { entries = es; cells = xs }) ≡ walk_home shape (record { entries = es2; cells = xs2 })
-home_is es es2 xs xs2 shape e c = cc
+home_is : (n n2 : ℕ) (es es2 : List entries.Entry) (xs xs2 : List cells.Cell) (shape : Shape) → n ≡ n2 → es ≡ es2 → xs ≡ xs2
+    → walk_home shape n (record { entries = es; cells = xs }) ≡ walk_home shape n2 (record { entries = es2; cells = xs2 })
+home_is n n2 es es2 xs xs2 shape same e c = cc
 
 pub home_stays : (s : Scratch) (shape shape2 : Shape) (block : List ℕ) (blocks blocks2 : List (List ℕ)) (which : ℕ)
-    → s.entries ≡ (heap.home_of block).entries → s.cells ≡ (heap.home_of block).cells → block ≡ block_of blocks2 which
+    → s.block ≡ which → s.entries ≡ (heap.home_of block).entries → s.cells ≡ (heap.home_of block).cells → block ≡ block_of blocks2 which
     → shape2 ≡ shape → blocks2 ≡ blocks → scratch_home shape2 s ≡ homes_of shape blocks which
-home_stays s shape shape2 block blocks blocks2 which e c read same kept =
-    home_is s.entries (heap.home_of block).entries s.cells (heap.home_of block).cells shape2 e c
-    ∙ ap (λ (z : Shape). walk_home z (heap.home_of block)) same
-    ∙ ap (λ (z : List ℕ). walk_home shape (heap.home_of z)) (read ∙ ap (λ (z : List (List ℕ)). block_of z which) kept)
+home_stays s shape shape2 block blocks blocks2 which number e c read same kept =
+    home_is s.block which s.entries (heap.home_of block).entries s.cells (heap.home_of block).cells shape2 number e c
+    ∙ ap (λ (z : Shape). walk_home z which (heap.home_of block)) same
+    ∙ ap (λ (z : List ℕ). walk_home shape which (heap.home_of z)) (read ∙ ap (λ (z : List (List ℕ)). block_of z which) kept)
 
 -- what holds of one home and what the segments say of it, of the same ones
 pub both : (P : Env → Home → Type 0) (env env2 : Env) (b b2 : Home) → env2 ≡ env → b2 ≡ b → P env2 b2 → P env b

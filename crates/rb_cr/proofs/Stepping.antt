@@ -6,7 +6,7 @@ use Rattle.rb_base.specs.declared.ids.Xid.{Xid}
 use Rattle.rb_base.specs.declared.shape.Shape.{Shape}
 use Rattle.rb_cr.specs.Late.{Saw}
 use Rattle.rb_cr.specs.Parts.{Took}
-use Rattle.rb_cr.specs.Records.{fits_at, maker_of, record_of, walk_found}
+use Rattle.rb_cr.specs.Records.{record_of, walk_found}
 use Rattle.rb_cr.specs.Scratches.{kept_with, scratch_home}
 use Rattle.rb_cr.specs.declared.records.SegmentRecord.{SegmentRecord}
 use Rattle.rb_cr.specs.declared.scratch.Scratch.{Scratch}
@@ -31,21 +31,18 @@ module _ (shape : Shape) (env : Env) (s : Scratch) (i : ℕ) (xid : Xid) (eight 
   stored : env.store (entry_at b i).newest ≡ Some r
   stored = ap (λ (e : Entry). env.store e.newest) (entry_is shape s.entries i (omega (arith, eight, there))) ∙ sym told
 
-  fits_is : fits i xid b r ≡ fits_at i xid found
-  fits_is = ap (λ (n : ℕ). (found.undo.entry == i) && (same_xid (maker_of found) xid && nat_lt found.undo.cell n)) (length-map s.cells walk_cell ∙ sixteen)
+  pub unfit : fits i xid b r ≡ false → stepped env i xid b ≡ None
+  unfit not = ap (applied i xid b) stored ∙ ap (λ (t : Bool). if t then Some (back r b) else None) not
 
-  pub unfit : fits_at i xid found ≡ false → stepped env i xid b ≡ None
-  unfit not = ap (applied i xid b) stored ∙ ap (λ (t : Bool). if t then Some (back r b) else None) (fits_is ∙ not)
-
-  module _ (yes_fits : fits_at i xid found ≡ true) where
+  module _ (yes_fits : fits i xid b r ≡ true) where
     stepped_is : stepped env i xid b ≡ Some (back r b)
-    stepped_is = ap (applied i xid b) stored ∙ ap (λ (t : Bool). if t then Some (back r b) else None) (fits_is ∙ yes_fits)
+    stepped_is = ap (applied i xid b) stored ∙ ap (λ (t : Bool). if t then Some (back r b) else None) yes_fits
 
     pub saw : (key : ℕ) (t : Bool) (s2 : Scratch) → scratch_home shape s2 ≡ back r b → t ≡ touches key (Some r) → Saw env key i xid b (scratch_home shape s2) (Some t)
     saw key t s2 home is = (stepped_is ∙ ap Some (sym home), is ∙ ap (touches key) (sym stored))
 
     kept_is : (snap : Snapshot) → kept_one snap.own snap.upto i xid b (env.store (entry_at b i).newest) s.kept ≡ kept_with snap found s
-    kept_is snap = ap (λ (o : Option Undo). kept_one snap.own snap.upto i xid b o s.kept) stored ∙ ap (λ (t : Bool). if t then keep snap.own snap.upto r b s.kept else s.kept) (fits_is ∙ yes_fits)
+    kept_is snap = ap (λ (o : Option Undo). kept_one snap.own snap.upto i xid b o s.kept) stored ∙ ap (λ (t : Bool). if t then keep snap.own snap.upto r b s.kept else s.kept) yes_fits
 
     pub took : (snap : Snapshot) (t : Bool) (s2 : Scratch) → scratch_home shape s2 ≡ back r b → (t ≡ true → s2.kept ≡ kept_with snap found s) → (t ≡ false → kept_room < length (kept_with snap found s))
         → Took env snap.own snap.upto i xid b s.kept (scratch_home shape s2) s2.kept t

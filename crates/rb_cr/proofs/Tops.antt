@@ -32,7 +32,7 @@ most_step env n i number c new b seen here le le2 j lt = elim (cases_eq j i) [
 ]
 
 -- an entry in memory, and the one of the home
-pub entry_is : (shape : Shape) (es : List entries.Entry) (i : ℕ) → i < length es → entry_at (record { entries = map (walk_entry shape) es; cells = [] }) i ≡ walk_entry shape (get_or es i zero_entry)
+pub entry_is : (shape : Shape) (es : List entries.Entry) (i : ℕ) → i < length es → entry_at (record { block = 0; entries = map (walk_entry shape) es; cells = [] }) i ≡ walk_entry shape (get_or es i zero_entry)
 entry_is shape es i lt = get_or-map (walk_entry shape) es i zero_entry free_entry lt
 
 -- what is above n in one home is so in another one of these entries

@@ -20,10 +20,10 @@ walk_found shape (Some found) = Some (record_of shape found)
 abbrev pub maker_of : SegmentRecord → Xid
 maker_of found = record { seg = found.seg; slot = found.undo.slot; wrap = found.undo.wrap }
 
--- it is of this entry and transaction, and names a cell that there is
-abbrev pub fits_at : ℕ → Xid → SegmentRecord → Bool
-fits_at i xid found =
-    (found.undo.entry == i) && (same_xid (maker_of found) xid && nat_lt found.undo.cell CELLS)
+-- it names this entry, this transaction, this block and a cell that there is
+abbrev pub names_at : ℕ → ℕ → Xid → SegmentRecord → Bool
+names_at i block xid found = found.undo.entry == i
+    && (same_xid (maker_of found) xid && (found.undo.home == block && nat_lt found.undo.cell CELLS))
 
 abbrev pub row_items : Option (ArrayVec ℕ) → Option (List ℕ)
 row_items None = None

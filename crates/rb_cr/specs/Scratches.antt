@@ -13,7 +13,7 @@ use Rattle.rb_walk.specs.Kinds.{Empty}
 use Rattle.rb_walk.specs.Walk.{Home, Rows, row_of}
 
 abbrev pub scratch_home : Shape → Scratch → Home
-scratch_home shape s = walk_home shape (record { entries = s.entries; cells = s.cells })
+scratch_home shape s = walk_home shape s.block (record { entries = s.entries; cells = s.cells })
 
 -- what is kept lies over what the cells show
 abbrev pub shown_by : Scratch → Rows

@@ -44,6 +44,6 @@ pub fn build<S: Store, L: Ledger>(
     let Ok(()) = store.load(block) else {
         return Err(CrFault::Failed);
     };
-    scratch.decode(store.block());
+    scratch.decode(block, store.block());
     rebuild(store, scratch, snapshot, steps)
 }

@@ -32,7 +32,7 @@ fn step<S: Segments>(
     let Some(found) = segments.record(scratch.entries[i].newest)? else {
         return Ok(false);
     };
-    if !fits(&found, i, xid) {
+    if !fits(scratch, &found, i, xid) {
         return Ok(false);
     }
     Ok(apply(scratch, &found, snapshot))

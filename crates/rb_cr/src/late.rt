@@ -48,7 +48,7 @@ fn step_seen<S: Segments>(
     let Some(found) = segments.record(scratch.entries[i].newest)? else {
         return Ok(None);
     };
-    if !fits(&found, i, xid) {
+    if !fits(scratch, &found, i, xid) {
         return Ok(None);
     }
     back(scratch, &found.undo);
@@ -189,7 +189,7 @@ fn first_rebuilt<S: Store, L: Ledger>(
     let Ok(()) = store.load(block) else {
         return Err(CrFault::Failed);
     };
-    scratch.decode(store.block());
+    scratch.decode(block, store.block());
     let mut steps = Steps::<L>::new(blank);
     first_seen(store, scratch, snapshot.scn, key, &mut steps)
 }

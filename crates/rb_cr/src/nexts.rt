@@ -59,8 +59,8 @@ fn is_told_below(entry: &Entry, scn: Scn) -> bool
 /// Whether each entry of a block of rows says so. Most blocks are found quiet by that, and no header is looked at.
 fn all_told_below(block: &[u8], scn: Scn) -> bool
     requires { length block.now ≡ UNIT }
-    ensures { result ≡ true → (shape : Shape) (env : Env) (j : ℕ)
-        → AtMost env scn scn (entry_at (walk_home shape (home_of block.now)) j) }
+    ensures { result ≡ true → (shape : Shape) (env : Env) (b j : ℕ)
+        → AtMost env scn scn (entry_at (walk_home shape b (home_of block.now)) j) }
 {
     for i in 0..ENTRIES {
         if !is_told_below(&entry(block, i), scn) {

@@ -1,20 +1,20 @@
 //! A home decoded once, in which records are taken back, and what the reader keeps of it. A rebuild works on it.
 ghost use Rattle.std.specs.Prelude.{◌≡◌, ◌<◌, ℕ, None, true, false, length, IfOk};
 ghost use Rattle.rb_base.specs.declared.shape.Shape.{Shape};
-ghost use Rattle.rb_cr.specs.Records.{fits_at, maker_of, record_of, row_items};
+ghost use Rattle.rb_cr.specs.Records.{maker_of, names_at, record_of, row_items};
 ghost use Rattle.rb_cr.specs.Scratches.{kept_with, scratch_home, shown_by, shown_in};
 ghost use Rattle.rb_heap.specs.Homes.{empty_cell, home_of};
-ghost use Rattle.rb_rebuild.specs.Chains.{same_xid};
+ghost use Rattle.rb_rebuild.specs.Chains.{fits, is_own, leads_back, number_falls, same_xid};
 ghost use Rattle.rb_rebuild.specs.Keeping.{is_first, is_held, kept_room};
-ghost use Rattle.rb_standing.specs.Says.{walk_cell, sort_by};
+ghost use Rattle.rb_standing.specs.Says.{walk_cell, walk_entry, sort_by};
 ghost use Rattle.rb_walk.specs.Walk.{row_of, back as taken_back};
 
 use crate::kept::{KeptRows, copied};
 use crate::records::SegmentRecord;
 use arrayvec::ArrayVec;
-use rb_base::{NoMemory, Scn, UNIT, VALUE_BYTES, Xid};
+use rb_base::{BlockNo, NoMemory, Scn, UNIT, VALUE_BYTES, Xid};
 use rb_cell::{CELLS, Cell, EMPTY, ROW, cell_from, cells};
-use rb_itl::{ENTRIES, Entry, entry, entry_from};
+use rb_itl::{ENTRIES, EXACT, Entry, OPEN, entry, entry_from};
 use rb_undoblock::{GONE, PUT, UndoRecord};
 use std::alloc::Global;
 use std::{array, mem};
@@ -30,9 +30,10 @@ pub struct Snapshot {
     pub upto: u32,
 }
 
-/// The entries and cells of a home, and the reader's own rows that were taken back from it.
+/// The entries and cells of a home, its block's number, and the reader's own rows that were taken back from it.
 #[derive(Drop)]
 pub struct Scratch {
+    pub(crate) block: BlockNo,
     pub(crate) entries: [Entry; ENTRIES as usize],
     pub(crate) cells: [Cell; CELLS as usize],
     pub(crate) kept: KeptRows,
@@ -56,6 +57,7 @@ impl Scratch {
         ensures { IfOk result (λ scratch. (key : ℕ) → shown_by scratch key ≡ None) }
     {
         Ok(Scratch {
+            block: 0,
             entries: [Entry::default(); ENTRIES as usize],
             cells: array::from_fn(|_| empty_cell()),
             kept: KeptRows::new(alloc)?,
@@ -67,6 +69,7 @@ impl Scratch {
         requires { length block.now ≡ UNIT }
         ensures entries { self.new.entries ≡ (home_of block.now).entries }
         ensures cells { self.new.cells ≡ self.old.cells }
+        ensures number { self.new.block ≡ self.old.block }
     {
         for i in 0..ENTRIES {
             self.entries[i as usize] = entry(block, i);
@@ -78,18 +81,21 @@ impl Scratch {
         requires { length block.now ≡ UNIT }
         ensures entries { self.new.entries ≡ self.old.entries }
         ensures cells { self.new.cells ≡ (home_of block.now).cells }
+        ensures number { self.new.block ≡ self.old.block }
     {
         for c in 0..CELLS {
             self.cells[c as usize] = cells(block, c);
         }
     }
 
-    /// Decodes the home that a block's bytes say, in the place of the one that it had.
-    pub(crate) fn decode(&mut self, block: &[u8])
+    /// Decodes the home that the bytes of block `no` say, in the place of the one that it had.
+    pub(crate) fn decode(&mut self, no: BlockNo, block: &[u8])
         requires { length block.now ≡ UNIT }
         ensures entries { self.new.entries ≡ (home_of block.now).entries }
         ensures cells { self.new.cells ≡ (home_of block.now).cells }
+        ensures number { self.new.block ≡ no }
     {
+        self.block = no;
         self.decode_entries(block);
         self.decode_cells(block);
     }
@@ -141,11 +147,54 @@ pub(crate) fn row_in(cell: &Cell, key: u64) -> Option<ArrayVec<u8, VALUE_BYTES>>
     None
 }
 
-/// Whether a record is of this entry and transaction, and its cell is there. One that isn't stands where another was.
-pub(crate) fn fits(found: &SegmentRecord, i: usize, xid: Xid) -> bool
-    ensures { result ≡ fits_at i xid found.now }
+/// Whether an entry is this transaction's, which was still to commit.
+fn is_own(entry: &Entry, xid: Xid) -> bool
+    ensures { (shape : Shape) → result ≡ is_own xid (walk_entry shape entry.now) }
 {
-    found.undo.entry as usize == i && same(maker(found), xid) && found.undo.cell < CELLS
+    entry.kind == OPEN && same(entry.xid, xid)
+}
+
+/// Whether the entry before has a lower number, where both say one.
+fn number_falls(entry: &Entry, before: &Entry) -> bool
+    ensures { (shape : Shape) → result
+        ≡ number_falls (walk_entry shape before.now).status (walk_entry shape entry.now).status }
+{
+    before.kind != EXACT || entry.kind != EXACT || before.number < entry.number
+}
+
+/// Whether the entry before is the transaction's own, with a chain shorter by one; or another's, below it, where this
+/// was the last record of the chain.
+fn leads_back(entry: &Entry, before: &Entry, xid: Xid) -> bool
+    ensures { (shape : Shape) → result ≡ leads_back xid (walk_entry shape entry.now) (walk_entry shape before.now) }
+{
+    if is_own(before, xid) {
+        u64::from(before.length) + 1 == u64::from(entry.length)
+    } else {
+        entry.length == 1 && number_falls(entry, before)
+    }
+}
+
+/// Whether a record is of this entry, transaction and block, and its cell is there.
+fn names(found: &SegmentRecord, i: usize, block: BlockNo, xid: Xid) -> bool
+    ensures { result ≡ names_at i block xid found.now }
+{
+    found.undo.entry as usize == i
+        && same(maker(found), xid)
+        && found.undo.home == block
+        && found.undo.cell < CELLS
+}
+
+/// The same, and whether it leads back. One that doesn't stands where another was. So over whatever bytes, a chain that
+/// is taken back gets shorter by each record.
+pub(crate) fn fits(scratch: &Scratch, found: &SegmentRecord, i: usize, xid: Xid) -> bool
+    requires there { i < ENTRIES }
+    requires cells { length scratch.now.cells ≡ CELLS }
+    ensures told { (shape : Shape) → result ≡ fits i xid (scratch_home shape scratch.now) (record_of shape found.now) }
+    ensures entry { result ≡ true → found.now.undo.entry < ENTRIES }
+    ensures cell { result ≡ true → found.now.undo.cell < CELLS }
+{
+    names(found, i, scratch.block, xid)
+        && leads_back(&scratch.entries[i], &entry_from(&found.undo.entry_before), xid)
 }
 
 /// Puts back the entry and the cell that a record kept, and answers the cell as it was before.

@@ -126,8 +126,8 @@ module _ (h : State) (xids : List Xid) (before now : List (List ℕ)) (stand : B
   -- the home as it is read is as it was, or cleaned
   homes_read : (block_of now B ≡ block_of before B) ⊎ IsClean h.shape before now B
       → (homes_of h.shape now B ≡ homes_of h.shape before B) ⊎ (homes_of h.shape now B ≡ cleaned (env_of h.shape before) (homes_of h.shape before B))
-  homes_read (inl is) = inl (ap (λ (l : List ℕ). walk_home h.shape (home_of l)) is)
-  homes_read (inr clean) = inr (ap (walk_home h.shape) clean ∙ home_walked h.shape before (past_of h xids) (lives_of h (env_of h.shape before)) stand.standing B there)
+  homes_read (inl is) = inl (ap (λ (l : List ℕ). walk_home h.shape B (home_of l)) is)
+  homes_read (inr clean) = inr (ap (walk_home h.shape B) clean ∙ home_walked h.shape before (past_of h xids) (lives_of h (env_of h.shape before)) stand.standing B there)
 
   pub behind_same : (block_of now B ≡ block_of before B) ⊎ IsClean h.shape before now B → (fault : CrFault) → IsBehind h xids now m g fault → IsBehind h xids before m g fault
   behind_same is fault behind =

@@ -13,7 +13,8 @@ use Rattle.rb_rebuild.specs.Keeping.{kept_go, kept_after, behind_mine}
 use Rattle.rb_walk.specs.Kinds.{sort_of, Undo}
 use Rattle.rb_walk.specs.Walk.{Head, Tree, Next, IsActive, own, free_entry, Change, Home, Env, Rows, Chain, Names}
 use Rattle.rb_walk.specs.Walk.{changed, row_of, cell_at, entry_at, back}
-use Rattle.rb_rebuild.proofs.Unwinding.{passes, fits_record, is_same}
+use Rattle.rb_rebuild.proofs.Fitting.{Fitting, live_fitting}
+use Rattle.rb_rebuild.proofs.Unwinding.{passes, of_this, is_same}
 use Rattle.rb_walk.proofs.Committing.{changed_other}
 
 -- rows that agree at a key
@@ -88,15 +89,12 @@ keep_step mine upto r b kept ch rows k xid number key sort shows = rw (xid, numb
     ]
 
 -- one step of a chain whose record is there
-pub one_more : (env : Env) (mine : Option Xid) (upto n i : ℕ) (xid : Xid) (r : Undo) (b : Home) (kept : Kept) → env.store (entry_at b i).newest ≡ Some r → r.entry ≡ i → r.xid ≡ xid → r.cell < length b.cells → kept_after env mine upto (suc n) i xid b kept ≡ kept_after env mine upto n i xid (back r b) (keep mine upto r b kept)
-one_more env mine upto n i xid r b kept there e x c = rw (there, test) refl
-  where
-    test : (r.entry == i) && (same_xid r.xid xid && nat_lt r.cell (length b.cells)) ≡ true
-    test = fits_record i xid b r e x c
+pub one_more : (env : Env) (mine : Option Xid) (upto n i : ℕ) (xid : Xid) (r : Undo) (b : Home) (kept : Kept) → env.store (entry_at b i).newest ≡ Some r → fits i xid b r ≡ true → kept_after env mine upto (suc n) i xid b kept ≡ kept_after env mine upto n i xid (back r b) (keep mine upto r b kept)
+one_more env mine upto n i xid r b kept there test = rw (there, test) refl
 
-pub chain_keeps : (env : Env) (mine : Option Xid) (upto : ℕ) (t : Xid) (c i : ℕ) (rest : Home → Type 0) (chs : List Change) (b b2 : Home) (kept : Kept) → Chain env t c i chs b rest → unwound env (length chs) i t b ≡ Some b2 → (rows : Rows) (k : ℕ) → overlay (kept_after env mine upto (length chs) i t b kept) rows k ≡ overlay kept (behind_mine mine upto chs rows) k
-chain_keeps env mine upto t c i rest [] b b2 kept chain is rows k = refl
-chain_keeps env mine upto t c i rest (ch ∷ more) b b2 kept chain is rows k = by_store (env.store ch.place) refl (λ r there kept2 deep. chain_keeps env mine upto t c i rest more (back r b) b2 kept2 (chain.2 r there).1 deep rows k)
+pub chain_keeps : (env : Env) (mine : Option Xid) (upto : ℕ) (t : Xid) (c i : ℕ) (rest : Home → Type 0) (chs : List Change) (b b2 : Home) (kept : Kept) → Chain env t c i chs b rest → Fitting env t i chs b → unwound env (length chs) i t b ≡ Some b2 → (rows : Rows) (k : ℕ) → overlay (kept_after env mine upto (length chs) i t b kept) rows k ≡ overlay kept (behind_mine mine upto chs rows) k
+chain_keeps env mine upto t c i rest [] b b2 kept chain fit is rows k = refl
+chain_keeps env mine upto t c i rest (ch ∷ more) b b2 kept chain fit is rows k = by_store (env.store ch.place) refl (λ r there kept2 deep. chain_keeps env mine upto t c i rest more (back r b) b2 kept2 (chain.2 r there).1 (fit r there).1 deep rows k)
   where
     place : (entry_at b i).newest ≡ ch.place
     place = chain.0.newest
@@ -111,9 +109,9 @@ chain_keeps env mine upto t c i rest (ch ∷ more) b b2 kept chain is rows k = b
     by_store (Some r) there deeper =
         let names : Names r t i ch (length more) b = (chain.2 r there).0 in
         let step : and_then (applied i t b (Some r)) (unwound env (length more) i t) ≡ Some b2 = subst (λ (z : Option Undo). and_then (applied i t b z) (unwound env (length more) i t) ≡ Some b2) there is2 in
-        let deep : unwound env (length more) i t (back r b) ≡ Some b2 = ap (λ (z : Option Home). and_then z (unwound env (length more) i t)) (sym (passes r i t b names.entry names.xid names.cell)) ∙ step in
+        let deep : unwound env (length more) i t (back r b) ≡ Some b2 = ap (λ (z : Option Home). and_then z (unwound env (length more) i t)) (sym (passes r i t b (fit r there).0)) ∙ step in
         let here : env.store (entry_at b i).newest ≡ Some r = ap env.store place ∙ there in
-        let one : kept_after env mine upto (suc (length more)) i t b kept ≡ kept_after env mine upto (length more) i t (back r b) (keep mine upto r b kept) = one_more env mine upto (length more) i t r b kept here names.entry names.xid names.cell in
+        let one : kept_after env mine upto (suc (length more)) i t b kept ≡ kept_after env mine upto (length more) i t (back r b) (keep mine upto r b kept) = one_more env mine upto (length more) i t r b kept here (fit r there).0 in
         ap (λ (z : Kept). overlay z rows k) one ∙ (deeper r there (keep mine upto r b kept) deep ∙ keep_step mine upto r b kept ch (behind_mine mine upto more rows) k (names.xid ∙ sym names.of) names.number names.key names.sort names.shows)
 
 other_mine : (mine : Option Xid) (xid : Xid) → Some xid ≢ mine → is_mine mine xid ≡ false
@@ -135,7 +133,7 @@ other_keeps env mine upto (suc n) i xid b kept ne = by_store (env.store (entry_a
     by_store : (o : Option Undo) → ((b2 : Home) → kept_after env mine upto n i xid b2 kept ≡ kept) → kept_go (applied i xid b o) (λ b2. kept_after env mine upto n i xid b2 (kept_one mine upto i xid b o kept)) kept ≡ kept
     by_store None deeper = refl
     by_store (Some r) deeper = elim (bools (fits i xid b r)) [
-      | inl yes_fits ↦ let test : same_xid r.xid xid ≡ true = grind (arith, nat_tests) in let same : r.xid ≡ xid = is_same r.xid xid test in let k : keep mine upto r b kept ≡ kept = not_mine r same in rw (yes_fits) (ap (λ (z : Kept). kept_after env mine upto n i xid (back r b) z) k ∙ deeper (back r b))
+      | inl yes_fits ↦ let same : r.xid ≡ xid = of_this i xid b r yes_fits in let k : keep mine upto r b kept ≡ kept = not_mine r same in rw (yes_fits) (ap (λ (z : Kept). kept_after env mine upto n i xid (back r b) z) k ∙ deeper (back r b))
       | inr no_fit ↦ rw no_fit refl
     ]
 
@@ -149,7 +147,7 @@ live_keeps env rest s i mine upto (ch ∷ more) (suc m) lives b kept is s_in onl
     let at : next.0.entry ≡ i = only next.0.entry (head.status, ap env.look head.leads.xid ∙ head.active) head.leads.xid in
     let place : (entry_at b i).newest ≡ ch.place = subst (λ (z : ℕ). (entry_at b z).newest ≡ ch.place) at head.leads.newest in
     let here : env.store (entry_at b i).newest ≡ Some next.0 = ap env.store place ∙ head.there in
-    let one : kept_after env mine upto (suc (length more)) i (env.xid s) b kept ≡ kept_after env mine upto (length more) i (env.xid s) (back next.0 b) (keep mine upto next.0 b kept) = one_more env mine upto (length more) i (env.xid s) next.0 b kept here at head.xid head.cell in
+    let one : kept_after env mine upto (suc (length more)) i (env.xid s) b kept ≡ kept_after env mine upto (length more) i (env.xid s) (back next.0 b) (keep mine upto next.0 b kept) = one_more env mine upto (length more) i (env.xid s) next.0 b kept here (live_fitting env rest s i ch more m lives b is only next) in
     let deeper : overlay (kept_after env mine upto (length more) i (env.xid s) (back next.0 b) (keep mine upto next.0 b kept)) over k ≡ overlay (keep mine upto next.0 b kept) (behind_mine mine upto more over) k = live_keeps env rest s i mine upto more m (set lives s more) (back next.0 b) (keep mine upto next.0 b kept) (get_or-set_same lives s more [] s_in) (simp length-set s_in)
     (λ j active same. elim (cases_eq j next.0.entry) [
       | inl je ↦ je ∙ at
@@ -178,9 +176,9 @@ keep_fits mine upto r b kept ch more xid number = rw (xid, number) (by_first (is
     by_first false = omega arith
 
 -- a chain keeps no more rows than it has first changes, also where one of its records is gone
-pub chain_fits : (env : Env) (mine : Option Xid) (upto : ℕ) (t : Xid) (c i : ℕ) (rest : Home → Type 0) (chs : List Change) (b : Home) (kept : Kept) → Chain env t c i chs b rest → length (kept_after env mine upto (length chs) i t b kept) ≤ length kept + first_count mine upto chs
-chain_fits env mine upto t c i rest [] b kept chain = omega arith
-chain_fits env mine upto t c i rest (ch ∷ more) b kept chain = by_store (env.store ch.place) refl (λ r there kept2. chain_fits env mine upto t c i rest more (back r b) kept2 (chain.2 r there).1)
+pub chain_fits : (env : Env) (mine : Option Xid) (upto : ℕ) (t : Xid) (c i : ℕ) (rest : Home → Type 0) (chs : List Change) (b : Home) (kept : Kept) → Chain env t c i chs b rest → Fitting env t i chs b → length (kept_after env mine upto (length chs) i t b kept) ≤ length kept + first_count mine upto chs
+chain_fits env mine upto t c i rest [] b kept chain fit = omega arith
+chain_fits env mine upto t c i rest (ch ∷ more) b kept chain fit = by_store (env.store ch.place) refl (λ r there kept2. chain_fits env mine upto t c i rest more (back r b) kept2 (chain.2 r there).1 (fit r there).1)
   where
     by_store : (o : Option Undo) → env.store ch.place ≡ o
         → ((r : Undo) → env.store ch.place ≡ Some r → (kept2 : Kept) → length (kept_after env mine upto (length more) i t (back r b) kept2) ≤ length kept2 + first_count mine upto more)
@@ -189,7 +187,7 @@ chain_fits env mine upto t c i rest (ch ∷ more) b kept chain = by_store (env.s
     by_store (Some r) there deeper =
         let names : Names r t i ch (length more) b = (chain.2 r there).0 in
         let here : env.store (entry_at b i).newest ≡ Some r = ap env.store chain.0.newest ∙ there in
-        let one : kept_after env mine upto (suc (length more)) i t b kept ≡ kept_after env mine upto (length more) i t (back r b) (keep mine upto r b kept) = one_more env mine upto (length more) i t r b kept here names.entry names.xid names.cell in
+        let one : kept_after env mine upto (suc (length more)) i t b kept ≡ kept_after env mine upto (length more) i t (back r b) (keep mine upto r b kept) = one_more env mine upto (length more) i t r b kept here (fit r there).0 in
         let deep : length (kept_after env mine upto (length more) i t (back r b) (keep mine upto r b kept)) ≤ length (keep mine upto r b kept) + first_count mine upto more = deeper r there (keep mine upto r b kept) in
         let fits : length (keep mine upto r b kept) + first_count mine upto more ≤ length kept + first_count mine upto (ch ∷ more) = keep_fits mine upto r b kept ch more (names.xid ∙ sym names.of) names.number in
         let long : length (kept_after env mine upto (suc (length more)) i t b kept) ≡ length (kept_after env mine upto (length more) i t (back r b) (keep mine upto r b kept)) = ap length one in
@@ -204,7 +202,7 @@ live_fits env rest s i mine upto (ch ∷ more) (suc m) lives b kept is s_in only
     let at : next.0.entry ≡ i = only next.0.entry (head.status, ap env.look head.leads.xid ∙ head.active) head.leads.xid in
     let place : (entry_at b i).newest ≡ ch.place = subst (λ (z : ℕ). (entry_at b z).newest ≡ ch.place) at head.leads.newest in
     let here : env.store (entry_at b i).newest ≡ Some next.0 = ap env.store place ∙ head.there in
-    let one : kept_after env mine upto (suc (length more)) i (env.xid s) b kept ≡ kept_after env mine upto (length more) i (env.xid s) (back next.0 b) (keep mine upto next.0 b kept) = one_more env mine upto (length more) i (env.xid s) next.0 b kept here at head.xid head.cell in
+    let one : kept_after env mine upto (suc (length more)) i (env.xid s) b kept ≡ kept_after env mine upto (length more) i (env.xid s) (back next.0 b) (keep mine upto next.0 b kept) = one_more env mine upto (length more) i (env.xid s) next.0 b kept here (live_fitting env rest s i ch more m lives b is only next) in
     let deep : length (kept_after env mine upto (length more) i (env.xid s) (back next.0 b) (keep mine upto next.0 b kept)) ≤ length (keep mine upto next.0 b kept) + first_count mine upto more = live_fits env rest s i mine upto more m (set lives s more) (back next.0 b) (keep mine upto next.0 b kept) (get_or-set_same lives s more [] s_in) (simp length-set s_in)
     (λ j active same. elim (cases_eq j next.0.entry) [
       | inl je ↦ je ∙ at

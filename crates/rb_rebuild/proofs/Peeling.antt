@@ -17,6 +17,7 @@ use Rattle.rb_walk.specs.Kinds.{Status, Free, Open, Exact, Bound, Entry, Undo}
 use Rattle.rb_walk.specs.Walk.{In, Change, Commit, Home, Env, Rows, Match, Walk, Chain, Below, LookBelow, StatusBelow}
 use Rattle.rb_walk.specs.Walk.{Told, Names, Leads, back, entry_at, last}
 use Rattle.rb_rebuild.proofs.Keeping.{chain_keeps, chain_fits}
+use Rattle.rb_rebuild.proofs.Fitting.{Fitting, commit_fitting}
 use Rattle.rb_rebuild.proofs.Unwinding.{passes}
 use Rattle.rb_rebuild.proofs.Wearing.{Worn, From, chain_wears}
 use Rattle.rb_walk.proofs.Committing.{top}
@@ -26,13 +27,13 @@ pub ends_map : (env : Env) (seg c : ℕ) (why why2 : Type 0) (P Q : Home → Typ
 ends_map env seg c why why2 P Q None w f ends = (ends.0, w ends.1)
 ends_map env seg c why why2 P Q (Some b) w f ends = f b refl ends
 
-pub chain_ends : (env : Env) (t : Xid) (c i : ℕ) (why : Type 0) (rest : Home → Type 0) → Honest env → (chs : List Change) (b : Home) → ((ch : Change) → In ch chs → env.store ch.place ≡ None → ch.place.seg ≡ t.seg → why) → Chain env t c i chs b rest → Ends env t.seg c why rest (unwound env (length chs) i t b)
-chain_ends env t c i why rest honest [] b gone chain = chain
-chain_ends env t c i why rest honest (ch ∷ more) b gone chain = rw chain.0.newest (one (env.store ch.place) refl (λ r there. chain_ends env t c i why rest honest more (back r b) (λ x named none at. gone x (inr named) none at) (chain.2 r there).1))
+pub chain_ends : (env : Env) (t : Xid) (c i : ℕ) (why : Type 0) (rest : Home → Type 0) → Honest env → (chs : List Change) (b : Home) → ((ch : Change) → In ch chs → env.store ch.place ≡ None → ch.place.seg ≡ t.seg → why) → Chain env t c i chs b rest → Fitting env t i chs b → Ends env t.seg c why rest (unwound env (length chs) i t b)
+chain_ends env t c i why rest honest [] b gone chain fit = chain
+chain_ends env t c i why rest honest (ch ∷ more) b gone chain fit = rw chain.0.newest (one (env.store ch.place) refl (λ r there. chain_ends env t c i why rest honest more (back r b) (λ x named none at. gone x (inr named) none at) (chain.2 r there).1 (fit r there).1))
   where
     one : (o : Option Undo) → env.store ch.place ≡ o → ((r : Undo) → env.store ch.place ≡ Some r → Ends env t.seg c why rest (unwound env (length more) i t (back r b))) → Ends env t.seg c why rest (and_then (applied i t b o) (unwound env (length more) i t))
     one None is deeper = (subst (λ (z : ℕ). c ≤ env.lost z) chain.0.seg (omega (arith, chain.1, honest ch.place is)), gone ch (inl refl) is chain.0.seg)
-    one (Some r) is deeper = let names : Names r t i ch (length more) b = (chain.2 r is).0 in rw (passes r i t b names.entry names.xid names.cell) (deeper r is)
+    one (Some r) is deeper = rw (passes r i t b (fit r is).0) (deeper r is)
 
 in_append : (x : Change) (chs more : List Change) → In x chs ⊎ In x more → In x (chs ++ more)
 in_append x [] more (inl none) = absurd none
@@ -93,7 +94,7 @@ module _ (env : Env) (base : ℕ) (rows : Rows) (honest : Honest env) (n : ℕ) 
     | inr ne ↦ inl (j, subst (λ (z : Entry). BeyondIn env n seg z) (from.others j ne) over)
   ]
 
-  module _ (list : List Commit) (b : Home) (i c : ℕ) (high : Newest env base rows n i c b list) where
+  module _ (list : List Commit) (b : Home) (i c : ℕ) (high : Newest env base rows n i c b list) (is_c : Numbered env (entry_at b i) c) where
     abbrev chs : List Change
     chs = high.ch ∷ high.more
 
@@ -102,6 +103,9 @@ module _ (env : Env) (base : ℕ) (rows : Rows) (honest : Honest env) (n : ℕ) 
 
     leads : Leads (entry_at b i) high.xid high.ch.place (length chs)
     leads = high.chain.0
+
+    pub fitting : Fitting env high.xid i chs b
+    fitting = commit_fitting env base rows high.older high.xid c i chs b high.lower is_c high.chain
 
     pub spent_is : spent env b i ≡ unwound env (length chs) i high.xid b
     spent_is = rw (leads.chain, leads.xid) refl
@@ -113,11 +117,11 @@ module _ (env : Env) (base : ℕ) (rows : Rows) (honest : Honest env) (n : ℕ) 
     pub left_ends : Ends env (entry_at b i).xid.seg c Why (Walk env base rows high.older) (spent env b i)
     left_ends =
         let seg_is : high.xid.seg ≡ (entry_at b i).xid.seg = sym (ap (λ (z : Xid). z.seg) leads.xid) in
-        let ends : Ends env high.xid.seg c Why (Walk env base rows high.older) (unwound env (length chs) i high.xid b) = chain_ends env high.xid c i Why (Walk env base rows high.older) honest chs b (λ x named none at. inr (x, named_in x (inl named), inl (none, at ∙ seg_is))) high.chain in
+        let ends : Ends env high.xid.seg c Why (Walk env base rows high.older) (unwound env (length chs) i high.xid b) = chain_ends env high.xid c i Why (Walk env base rows high.older) honest chs b (λ x named none at. inr (x, named_in x (inl named), inl (none, at ∙ seg_is))) high.chain fitting in
         subst (λ (z : ℕ). Ends env z c Why (Walk env base rows high.older) (spent env b i)) seg_is (subst (λ (z : Option Home). Ends env high.xid.seg c Why (Walk env base rows high.older) z) (sym spent_is) ends)
 
     pub left_source : (b2 : Home) → spent env b i ≡ Some b2 → (j seg : ℕ) → BeyondIn env n seg (entry_at b2 j) → WornIn env n seg (flat n list) b
-    left_source b2 is j seg over = came i chs (flat n list) b b2 (λ x named. named_in x (inl named)) (subst (λ (z : Option Home). Worn env i chs b z) (sym spent_is ∙ is) (chain_wears env high.xid c i (Walk env base rows high.older) chs b high.chain)) j seg over
+    left_source b2 is j seg over = came i chs (flat n list) b b2 (λ x named. named_in x (inl named)) (subst (λ (z : Option Home). Worn env i chs b z) (sym spent_is ∙ is) (chain_wears env high.xid c i (Walk env base rows high.older) chs b high.chain fitting)) j seg over
 
 module _ (env : Env) (base : ℕ) (rows : Rows) (honest : Honest env) (mine : Option Xid) (upto n : ℕ) where
   abbrev pub Left : Home → ℕ → ℕ → List Commit → Home → Type 0
@@ -136,23 +140,23 @@ module _ (env : Env) (base : ℕ) (rows : Rows) (honest : Honest env) (mine : Op
       let why : Type 0 = WornIn env n (entry_at b i).xid.seg (flat n list) b in
       let saves_is : (kept : Kept) → kept_whole env mine upto b i kept ≡ kept_after env mine upto (length chs) i high.xid b kept = λ kept. rw (leads.chain, leads.xid) refl in
       let firsts : first_count mine upto (flat n list) ≡ first_count mine upto chs + first_count mine upto (flat n high.older) = ap (first_count mine upto) high.changes ∙ first_append mine upto chs (flat n high.older) in
-      let fits : (kept : Kept) → length (kept_whole env mine upto b i kept) ≤ length kept + first_count mine upto chs = λ kept. subst (λ (z : Kept). length z ≤ length kept + first_count mine upto chs) (sym (saves_is kept)) (chain_fits env mine upto high.xid c i (Walk env base rows high.older) chs b kept high.chain) in (
+      let fits : (kept : Kept) → length (kept_whole env mine upto b i kept) ≤ length kept + first_count mine upto chs = λ kept. subst (λ (z : Kept). length z ≤ length kept + first_count mine upto chs) (sym (saves_is kept)) (chain_fits env mine upto high.xid c i (Walk env base rows high.older) chs b kept high.chain (fitting env base rows honest n list b i c high is)) in (
         high.most,
         (omega (arith, high.count, leads.chain), λ kept. omega (arith, fits kept, firsts)),
         ends_map env (entry_at b i).xid.seg c why why (Walk env base rows high.older) (Left b i c list) (spent env b i) (λ w. w)
-            (λ b2 is w. record {
+            (λ b2 done w. record {
               left = high.older;
-              inside = λ x named. named_in env base rows honest n list b i c high x (inr named);
-              source = left_source env base rows honest n list b i c high b2 is;
+              inside = λ x named. named_in env base rows honest n list b i c high is x (inr named);
+              source = left_source env base rows honest n list b i c high is b2 done;
               walk = w;
               same = sym high.same;
               lower = high.lower;
               count = omega (arith, high.count, leads.chain);
               room = λ kept. omega (arith, fits kept, firsts);
               keeps = λ kept over k. ap (λ (z : Kept). overlay z (behind_mine mine upto (flat n high.older) over) k) (saves_is kept)
-                  ∙ (chain_keeps env mine upto high.xid c i (Walk env base rows high.older) chs b b2 kept high.chain (sym (spent_is env base rows honest n list b i c high) ∙ is) (behind_mine mine upto (flat n high.older) over) k
+                  ∙ (chain_keeps env mine upto high.xid c i (Walk env base rows high.older) chs b b2 kept high.chain (fitting env base rows honest n list b i c high is) (sym (spent_is env base rows honest n list b i c high is) ∙ done) (behind_mine mine upto (flat n high.older) over) k
                   ∙ ap (λ (z : Rows). overlay kept z k) (sym (behind_append mine upto chs (flat n high.older) over) ∙ ap (λ (z : List Change). behind_mine mine upto z over) (sym high.changes)));
-            }) (left_ends env base rows honest n list b i c high),
+            }) (left_ends env base rows honest n list b i c high is),
       )
 
 look_over : (lost : ℕ) (look : Look) (n m : ℕ) → LookOver n look → LookBelow lost look m → n < lost

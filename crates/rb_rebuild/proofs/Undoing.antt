@@ -15,6 +15,7 @@ use Rattle.rb_walk.specs.Walk.{In, Change, Commit, Home, Env, Rows, Walk, Head, 
 use Rattle.rb_walk.specs.Walk.{Distinct, own, back, entry_at, free_entry}
 use Rattle.rb_rebuild.proofs.Keeping.{other_keeps, live_keeps, live_fits}
 use Rattle.rb_rebuild.proofs.Peeling.{late_in}
+use Rattle.rb_rebuild.proofs.Fitting.{live_fitting}
 use Rattle.rb_rebuild.proofs.Unwinding.{passes}
 use Rattle.rb_rebuild.proofs.Wearing.{Saved, live_from}
 use Rattle.rb_walk.proofs.Lives.{own_within, found, first}
@@ -46,7 +47,7 @@ module _ (env : Env) (rest : Home → Type 0) (s i : ℕ) where
       let head : Head env s ch (suc (length more)) b next.0 = next.1 in
       let at : next.0.entry ≡ i = only next.0.entry (head.status, ap env.look head.leads.xid ∙ head.active) head.leads.xid in
       let place : (entry_at b i).newest ≡ ch.place = subst (λ (z : ℕ). (entry_at b z).newest ≡ ch.place) at head.leads.newest in
-      let taken : stepped env i (env.xid s) b ≡ Some (back next.0 b) = ap (λ (z : Place). applied i (env.xid s) b (env.store z)) place ∙ (ap (applied i (env.xid s) b) head.there ∙ passes next.0 i (env.xid s) b at head.xid head.cell) in
+      let taken : stepped env i (env.xid s) b ≡ Some (back next.0 b) = ap (λ (z : Place). applied i (env.xid s) b (env.store z)) place ∙ (ap (applied i (env.xid s) b) head.there ∙ passes next.0 i (env.xid s) b (live_fitting env rest s i ch more m lives b is only next)) in
       let here : entry_at (back next.0 b) next.0.entry ≡ next.0.entry_before = get_or-set_same b.entries next.0.entry next.0.entry_before free_entry head.within in
       let here_i : entry_at (back next.0 b) i ≡ next.0.entry_before = subst (λ (z : ℕ). entry_at (back next.0 b) z ≡ next.0.entry_before) at here in
       let others : (j : ℕ) → j ≢ i → entry_at (back next.0 b) j ≡ entry_at b j = λ j ne. get_or-set_other b.entries next.0.entry j next.0.entry_before free_entry (λ je. ne (je ∙ at)) in

@@ -15,8 +15,9 @@ use Rattle.rb_rebuild.specs.Turns.{Ends, Starts, Watched, WornIn}
 use Rattle.rb_walk.specs.Kinds.{sort_of, Undo}
 use Rattle.rb_walk.specs.Walk.{Change, Commit, Home, Env, Rows, Walk, Chain, Names, Leads, back, entry_at}
 use Rattle.rb_rebuild.proofs.Newest.{Newest, newest, cut_flat, earlier_none, late_past, here_none}
-use Rattle.rb_rebuild.proofs.Peeling.{ends_map, left_ends, left_source, named_in, over_worn, settled, spent_is, wider}
+use Rattle.rb_rebuild.proofs.Peeling.{ends_map, fitting, left_ends, left_source, named_in, over_worn, settled, spent_is, wider}
 use Rattle.rb_rebuild.proofs.Quiet.{quiet_commits}
+use Rattle.rb_rebuild.proofs.Fitting.{Fitting}
 use Rattle.rb_rebuild.proofs.Unwinding.{passes}
 
 held_is : (kind : Kind) → sorts.is_held (sort_of kind) ≡ is_held kind
@@ -29,11 +30,11 @@ touches_is : (key : ℕ) (r : Undo) (ch : Change) → r.key ≡ ch.key → r.sor
 touches_is key r ch same sort = rw (same, sort, held_is ch.kind) refl
 
 -- a chain that is taken back whole tells whether one of its changes changes the key
-chain_touches : (env : Env) (key : ℕ) (t : Xid) (c i : ℕ) (rest : Home → Type 0) (chs : List Change) (b b2 : Home) → Chain env t c i chs b rest → unwound env (length chs) i t b ≡ Some b2 → touched_after env key (length chs) i t b ≡ list_any (changes_key key) chs
-chain_touches env key t c i rest [] b b2 chain is = refl
-chain_touches env key t c i rest (ch ∷ more) b b2 chain is =
+chain_touches : (env : Env) (key : ℕ) (t : Xid) (c i : ℕ) (rest : Home → Type 0) (chs : List Change) (b b2 : Home) → Chain env t c i chs b rest → Fitting env t i chs b → unwound env (length chs) i t b ≡ Some b2 → touched_after env key (length chs) i t b ≡ list_any (changes_key key) chs
+chain_touches env key t c i rest [] b b2 chain fit is = refl
+chain_touches env key t c i rest (ch ∷ more) b b2 chain fit is =
     ap (λ (z : Option Undo). touches key z || touched_go (applied i t b z) (touched_after env key (length more) i t)) place
-    ∙ by_store (env.store ch.place) refl is2 (λ r there deep. chain_touches env key t c i rest more (back r b) b2 (chain.2 r there).1 deep)
+    ∙ by_store (env.store ch.place) refl is2 (λ r there deep. chain_touches env key t c i rest more (back r b) b2 (chain.2 r there).1 (fit r there).1 deep)
   where
     place : env.store (entry_at b i).newest ≡ env.store ch.place
     place = ap env.store chain.0.newest
@@ -47,7 +48,7 @@ chain_touches env key t c i rest (ch ∷ more) b b2 chain is =
     by_store None there gone deeper = absurd (cc (gone))
     by_store (Some r) there step deeper =
         let names : Names r t i ch (length more) b = (chain.2 r there).0 in
-        let taken : applied i t b (Some r) ≡ Some (back r b) = passes r i t b names.entry names.xid names.cell in
+        let taken : applied i t b (Some r) ≡ Some (back r b) = passes r i t b (fit r there).0 in
         let deep : unwound env (length more) i t (back r b) ≡ Some b2 = ap (λ (z : Option Home). and_then z (unwound env (length more) i t)) (sym taken) ∙ step in
         ap (λ (z : Option Home). touches key (Some r) || touched_go z (touched_after env key (length more) i t)) taken
         ∙ ap (λ (z : Bool). z || touched_after env key (length more) i t (back r b)) (touches_is key r ch names.key names.sort)
@@ -93,17 +94,17 @@ module _ (env : Env) (base : ℕ) (rows : Rows) (n key : ℕ) (list : List Commi
         let wide : (seg : ℕ) → WornIn env n seg (flat n p.left) b → WornIn env n seg (flat n list) start = wider env base rows n p.left list start b p.source p.inside in (
           omega (arith, high.most, p.lower),
           ends_map env seg c (WornIn env n seg (flat n p.left) b) (WornIn env n seg (flat n list) start) (Walk env base rows high.older) (Watched env base rows n key c (seen_at c (touched env key b i) least) list start) (spent env b i) (wide seg)
-              (λ b2 is w.
-              let touched_is : touched env key b i ≡ list_any (changes_key key) chs = rw (leads.chain, leads.xid) (chain_touches env key high.xid c i (Walk env base rows high.older) chs b b2 high.chain (sym (spent_is env base rows honest n p.left b i c high) ∙ is)) in
+              (λ b2 done w.
+              let touched_is : touched env key b i ≡ list_any (changes_key key) chs = rw (leads.chain, leads.xid) (chain_touches env key high.xid c i (Walk env base rows high.older) chs b b2 high.chain (fitting env base rows honest n p.left b i c high is) (sym (spent_is env base rows honest n p.left b i c high is) ∙ done)) in
               record {
                 left = high.older;
-                inside = λ x named. p.inside x (named_in env base rows honest n p.left b i c high x (inr named));
-                source = λ j seg over. wide seg (left_source env base rows honest n p.left b i c high b2 is j seg over);
+                inside = λ x named. p.inside x (named_in env base rows honest n p.left b i c high is x (inr named));
+                source = λ j seg over. wide seg (left_source env base rows honest n p.left b i c high is b2 done j seg over);
                 walk = w;
                 lower = high.lower;
                 late = p.late ∙ ap (λ (z : Option ℕ). earlier z least) (high.late key) ∙ later_first (late_above n key high.older) least (list_any (changes_key key) chs) c ∙ ap (λ (z : Bool). earlier (late_above n key high.older) (seen_at c z least)) (sym touched_is);
               })
-              (left_ends env base rows honest n p.left b i c high),
+              (left_ends env base rows honest n p.left b i c high is),
         )
 
 pub quiet_late : (env : Env) (h : History) (mine : Option Xid) (upto n key : ℕ) (b : Home) → Reading env h mine upto n b → ((j : ℕ) → AtMost env n n (entry_at b j)) → late_above n key h.list ≡ None

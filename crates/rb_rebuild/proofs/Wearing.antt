@@ -9,6 +9,7 @@ use Rattle.rb_rebuild.specs.Chains.{stepped, unwound, and_then, applied}
 use Rattle.rb_walk.specs.Kinds.{Open, Undo}
 use Rattle.rb_walk.specs.Walk.{Head, Tree, Next, IsActive, own, In, Change, Home, Env, Chain, Names, entry_at, back}
 use Rattle.rb_walk.specs.Walk.{free_entry}
+use Rattle.rb_rebuild.proofs.Fitting.{Fitting, live_fitting}
 use Rattle.rb_rebuild.proofs.Unwinding.{passes}
 
 module _ (env : Env) where
@@ -41,13 +42,13 @@ module _ (env : Env) where
         from.here;
   }
 
-  pub chain_wears : (t : Xid) (c i : ℕ) (rest : Home → Type 0) (chs : List Change) (b : Home) → Chain env t c i chs b rest → Worn i chs b (unwound env (length chs) i t b)
-  chain_wears t c i rest [] b chain = record { others = λ j ne. refl; here = inl (refl, refl) }
-  chain_wears t c i rest (ch ∷ more) b chain = rw chain.0.newest (one (env.store ch.place) refl (λ r there. chain_wears t c i rest more (back r b) (chain.2 r there).1))
+  pub chain_wears : (t : Xid) (c i : ℕ) (rest : Home → Type 0) (chs : List Change) (b : Home) → Chain env t c i chs b rest → Fitting env t i chs b → Worn i chs b (unwound env (length chs) i t b)
+  chain_wears t c i rest [] b chain fit = record { others = λ j ne. refl; here = inl (refl, refl) }
+  chain_wears t c i rest (ch ∷ more) b chain fit = rw chain.0.newest (one (env.store ch.place) refl (λ r there. chain_wears t c i rest more (back r b) (chain.2 r there).1 (fit r there).1))
     where
       one : (o : Option Undo) → env.store ch.place ≡ o → ((r : Undo) → env.store ch.place ≡ Some r → Worn i more (back r b) (unwound env (length more) i t (back r b))) → Worn i (ch ∷ more) b (and_then (applied i t b o) (unwound env (length more) i t))
       one None is deeper = (ch, inl refl, is)
-      one (Some r) is deeper = let names : Names r t i ch (length more) b = (chain.2 r is).0 in rw (passes r i t b names.entry names.xid names.cell) (later i ch more r b is names.entry names.within names.oldest (unwound env (length more) i t (back r b)) (deeper r is))
+      one (Some r) is deeper = let names : Names r t i ch (length more) b = (chain.2 r is).0 in rw (passes r i t b (fit r is).0) (later i ch more r b is names.entry names.within names.oldest (unwound env (length more) i t (back r b)) (deeper r is))
 
 -- after a live chain the entry is one that was saved in a record of it
 pub live_from : (env : Env) (rest : Home → Type 0) (s i : ℕ) (chs : List Change) (m : ℕ) (lives : List (List Change)) (b b2 : Home) → own lives s ≡ chs → s < length lives → ((j : ℕ) → IsActive env (entry_at b j) → (entry_at b j).xid ≡ env.xid s → j ≡ i) → Tree env m lives b rest → unwound env (length chs) i (env.xid s) b ≡ Some b2 → ((chs ≡ []) × (entry_at b2 i ≡ entry_at b i)) ⊎ Saved env chs b2 i
@@ -58,7 +59,7 @@ live_from env rest s i (ch ∷ more) (suc m) lives b b2 is s_in only tree done =
     let head : Head env s ch (suc (length more)) b next.0 = next.1 in
     let at : next.0.entry ≡ i = only next.0.entry (head.status, ap env.look head.leads.xid ∙ head.active) head.leads.xid in
     let place : (entry_at b i).newest ≡ ch.place = subst (λ (z : ℕ). (entry_at b z).newest ≡ ch.place) at head.leads.newest in
-    let taken : stepped env i (env.xid s) b ≡ Some (back next.0 b) = ap (λ (z : Place). applied i (env.xid s) b (env.store z)) place ∙ (ap (applied i (env.xid s) b) head.there ∙ passes next.0 i (env.xid s) b at head.xid head.cell) in
+    let taken : stepped env i (env.xid s) b ≡ Some (back next.0 b) = ap (λ (z : Place). applied i (env.xid s) b (env.store z)) place ∙ (ap (applied i (env.xid s) b) head.there ∙ passes next.0 i (env.xid s) b (live_fitting env rest s i ch more m lives b is only next)) in
     let done2 : unwound env (length more) i (env.xid s) (back next.0 b) ≡ Some b2 = ap (λ (z : Option Home). and_then z (unwound env (length more) i (env.xid s))) (sym taken) ∙ done in
     let here : entry_at (back next.0 b) i ≡ next.0.entry_before = subst (λ (z : ℕ). entry_at (back next.0 b) z ≡ next.0.entry_before) at (get_or-set_same b.entries next.0.entry next.0.entry_before free_entry head.within) in
     ⊎_elim (λ last. inr (ch, next.0, inl refl, head.there, head.oldest (ap suc (ap length last.0)), last.1 ∙ here)) (λ saved. inr (saved.0, saved.1, inr saved.2, saved.3, saved.4, saved.5))

@@ -77,14 +77,14 @@ module _ (shape : Shape) where
   unfolding segment_of
   undo_counted g = length-map-range_with_len (λ i. undo_at (block_of Blocks (undo_block shape g i)) (i % 10)) 0 320
 
-  home_read : (b : ℕ) → b < table_blocks shape → homes_of shape Blocks b ≡ walk_home shape heap.empty_home
-  home_read b lt = ap (walk_home shape) (new_empty shape b lt)
+  home_read : (b : ℕ) → b < table_blocks shape → homes_of shape Blocks b ≡ walk_home shape b heap.empty_home
+  home_read b lt = ap (walk_home shape b) (new_empty shape b lt)
 
   are_fresh : IsFresh shape (segments_of shape Blocks) (homes_of shape Blocks)
   are_fresh = record {
     headers = header_fresh;
     undo = λ g lt. undo_counted g;
-    entries = λ b i lt. ap (λ (h : Home). (entry_at h i).status) (home_read b lt) ∙ free_at (entry_at (walk_home shape heap.empty_home) 0) refl 8 i;
+    entries = λ b i lt. ap (λ (h : Home). (entry_at h i).status) (home_read b lt) ∙ free_at (entry_at (walk_home shape b heap.empty_home) 0) refl 8 i;
     cells = λ b j lt. ap (λ (h : Home). cell_at h j) (home_read b lt) ∙ all_same Empty 16 j;
   }
 

@@ -101,9 +101,9 @@ module _ (shape : Shape) (before now : List (List ℕ)) (past : Past) (lives : L
   home_is : homes_of shape now u.home ≡ walk.back (walk_undo shape (t / 16) u) (homes_of shape before u.home)
   home_is =
       let old = home_of (block_of before u.home) in
-      ap (walk_home shape) put.home
-      ∙ ap (λ (l : List Rattle.rb_walk.specs.Kinds.Entry). record { entries = l; cells = map walk_cell (set old.cells u.cell (cells_of.cell_of u.cell_before)) }) (map-set (walk_entry shape) old.entries u.entry (itl.entry_of u.entry_before))
-      ∙ ap (λ (l : List Rattle.rb_walk.specs.Kinds.Cell). record { entries = set (map (walk_entry shape) old.entries) u.entry (walk_entry shape (itl.entry_of u.entry_before)); cells = l }) (map-set walk_cell old.cells u.cell (cells_of.cell_of u.cell_before))
+      ap (walk_home shape u.home) put.home
+      ∙ ap (λ (l : List Rattle.rb_walk.specs.Kinds.Entry). record { block = u.home; entries = l; cells = map walk_cell (set old.cells u.cell (cells_of.cell_of u.cell_before)) }) (map-set (walk_entry shape) old.entries u.entry (itl.entry_of u.entry_before))
+      ∙ ap (λ (l : List Rattle.rb_walk.specs.Kinds.Cell). record { block = u.home; entries = set (map (walk_entry shape) old.entries) u.entry (walk_entry shape (itl.entry_of u.entry_before)); cells = l }) (map-set walk_cell old.cells u.cell (cells_of.cell_of u.cell_before))
 
   -- the homes as values: the blocks behind those of rows are read as they were
   abbrev pub Homes2 : ℕ → walk.Home

@@ -58,10 +58,10 @@ module _ (shape : Shape) (before now : List (List ℕ)) (past : Past) (lives : L
   New = block_of now b
 
   home_is : homes_of shape now b ≡ cleaned (env_of shape before) (homes_of shape before b)
-  home_is = ap (walk_home shape) clean.home ∙ home_walked shape before past lives stand b b_in
+  home_is = ap (walk_home shape b) clean.home ∙ home_walked shape before past lives stand b b_in
 
   home_stays : (k : ℕ) → k ≢ b → homes_of shape now k ≡ homes_of shape before k
-  home_stays k ne = ap (λ (l : List ℕ). walk_home shape (home_of l)) (stays k ne)
+  home_stays k ne = ap (λ (l : List ℕ). walk_home shape k (home_of l)) (stays k ne)
 
   values : StandingAs shape (commit_scn shape before) (logged_of shape before + 1) (segments_of shape before) (homes_of shape now) past lives
   values = standing_cleaned shape (commit_scn shape before) (logged_of shape before) (segments_of shape before) (homes_of shape before) past lives stand.stands (homes_of shape now) b home_is home_stays

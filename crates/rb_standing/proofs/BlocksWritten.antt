@@ -136,7 +136,7 @@ module _ (shape : Shape) (before now : List (List ℕ)) (past : Past) (lives : L
   undo_xid = one_xid (walk_undo shape G u).xid X refl is.recorded.slot refl
 
   pub cell_few : u.cell < 16
-  cell_few = chosen.cell_few shape Cleaned eight sixteen G X adds kind (block_of before u.home) u keeps undo_xid
+  cell_few = chosen.cell_few shape u.home Cleaned eight sixteen G X adds kind (block_of before u.home) u keeps undo_xid
 
   abbrev pub Rec : Records S I address u Made
   Rec = segment.recorded shape t address u before now Commit Logged order is.recorded
@@ -199,7 +199,7 @@ module _ (shape : Shape) (before now : List (List ℕ)) (past : Past) (lives : L
     reads : Reads kind (walk_undo shape G u) X (cleaned (env_of shape before) (homes_of shape before u.home))
     reads = chosen_reads shape Segs (homes_of shape before) past lives stand.stands.homes_stand u.home home_in X writer kind (walk_undo shape G u)
         (subst (Chooses kind (walk_undo shape G u) X) (clean.home_walked shape before past lives stand u.home home_in)
-        (chosen.chooses shape Cleaned eight sixteen G X adds kind (block_of before u.home) u keeps undo_xid (u.home % shape.blocks) (clean.cell_in_order shape before past lives stand u.home home_in) free))
+        (chosen.chooses shape u.home Cleaned eight sixteen G X adds kind (block_of before u.home) u keeps undo_xid (u.home % shape.blocks) refl (clean.cell_in_order shape before past lives stand u.home home_in) free))
 
     pub written_values : Written shape Commit Segs After (homes_of shape before) Homes2 lives t kind address u
     written_values = record {
@@ -215,8 +215,8 @@ module _ (shape : Shape) (before now : List (List ℕ)) (past : Past) (lives : L
       place = ap (place_of shape) is.recorded.at ∙ (next_place_is shape G is.recorded.room room.ring room.few ∙ ap (λ (z : ℕ). let p : Place = record { seg = G; index = z + 1 } in p) room.writes);
       saved = saved;
       reads = subst (λ (z : Xid). Reads kind (walk_undo shape G u) z (cleaned (env_of shape before) (homes_of shape before u.home))) (sym xid_after) reads;
-      home = read_rows u.home home_in ∙ (ap (walk_home shape) home_now
-          ∙ (chosen.home_changed shape Cleaned eight sixteen G X adds kind (block_of before u.home) u keeps undo_xid address
+      home = read_rows u.home home_in ∙ (ap (walk_home shape u.home) home_now
+          ∙ (chosen.home_changed shape u.home Cleaned eight sixteen G X adds kind (block_of before u.home) u keeps undo_xid address
           ∙ ap (written kind (walk_undo shape G u) (place_of shape address)) (clean.home_walked shape before past lives stand u.home home_in)));
       homes_same = λ b ne. elim (cases_lt b (table_blocks shape)) [
         | inl lt ↦ read_rows b lt ∙ home_stays shape before now b (stays b (row_stays b lt ne))

@@ -36,6 +36,7 @@ free_unlocked (Stub key (suc lock)) none = let wrong : Some key ≡ None = none 
 reads_by : (b : Home) (x : Xid) → ((i j : ℕ) → IsOwn x (entry_at b i) → IsOwn x (entry_at b j) → i ≡ j) → (kind : Kind) (r : Undo) → Chooses kind r x b → Reads kind r x b
 reads_by b x one kind r chooses = record {
   xid = chooses.xid;
+  here = chooses.here;
   sort = chooses.sort;
   entry_before = chooses.entry_before;
   cell_before = chooses.cell_before;

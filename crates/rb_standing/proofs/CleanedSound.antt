@@ -118,8 +118,8 @@ module _ (shape : Shape) (blocks : List (List ℕ)) (past : Past) (lives : List 
   all_locked = all_of (IsLockedOpen (home_of Old)) (home_of Old).cells empty_cell (λ c lt. let few : c < 16 = let n = cells_counted Old in omega (arith, n, lt) in subst (IsLockedOpen (home_of Old)) (sym (cell_read Old c empty_cell few)) (locked c few))
 
   -- the home is the walk's
-  pub home_walked : walk_home shape Cleaned ≡ cleaned (env_of shape blocks) (homes_of shape blocks b)
-  home_walked = home_cleaned shape (env_of shape blocks) (home_of Old) all_locked
+  pub home_walked : walk_home shape b Cleaned ≡ cleaned (env_of shape blocks) (homes_of shape blocks b)
+  home_walked = home_cleaned shape (env_of shape blocks) b (home_of Old) all_locked
 
   -- each entry and each cell
   pub entry_cleaned_is : (i : ℕ) → i < 8 → home_entry Cleaned i ≡ cleaned_entry Looks (itl.entry_at Old i)

@@ -40,7 +40,7 @@ abbrev segments : ℕ → Segment
 segments g = fresh_segment
 
 abbrev homes : ℕ → Home
-homes b = record { entries = replicate 8 unused; cells = replicate 16 Empty }
+homes b = record { block = b; entries = replicate 8 unused; cells = replicate 16 Empty }
 
 abbrev sessions : List Session
 sessions = no_session ∷ []
@@ -162,6 +162,7 @@ is_written = record {
   };
   reads = record {
     xid = refl;
+    here = refl;
     sort = refl;
     entry_before = refl;
     cell_before = refl;

@@ -133,7 +133,7 @@ module _ (shape : Shape) (segments : ℕ → Segment) (homes : ℕ → Home) (is
     }
 
 -- the definition can be met
-pub fresh_met : (shape : Shape) → IsFresh shape (λ g. fresh_segment) (λ b. fresh_home)
+pub fresh_met : (shape : Shape) → IsFresh shape (λ g. fresh_segment) fresh_home
 fresh_met shape = record {
   headers = λ g g_in. refl;
   undo = λ g g_in. length-replicate 320 no_undo;

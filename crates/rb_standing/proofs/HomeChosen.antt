@@ -87,9 +87,9 @@ cell_changed Held key i x held = by_state (x.state == ROW) (x.state == EMPTY) (i
     by_state false false false l is = let k = held refl in rw k (ap (Stub key) (omega arith))
 
 -- a home with as many entries and cells as a block has
-module _ (shape : Shape) (home : Home) (eight : length home.entries ≡ 8) (sixteen : length home.cells ≡ 16) where
+module _ (shape : Shape) (n : ℕ) (home : Home) (eight : length home.entries ≡ 8) (sixteen : length home.cells ≡ 16) where
   abbrev Walked : walk.Home
-  Walked = walk_home shape home
+  Walked = walk_home shape n home
 
   entry_walked : (i : ℕ) → i < 8 → walk.entry_at Walked i ≡ walk_entry shape (home_entry home i)
   entry_walked i few = get_or-map (walk_entry shape) home.entries i free_entry walk.free_entry (omega (arith, eight, few))
@@ -121,14 +121,14 @@ module _ (shape : Shape) (home : Home) (eight : length home.entries ≡ 8) (sixt
     ]
 
     -- the home with the change
-    pub home_changed : (address : Uba) → walk_home shape (home_after kind x address u home) ≡ written kind R (place_of shape address) Walked
+    pub home_changed : (address : Uba) → walk_home shape n (home_after kind x address u home) ≡ written kind R (place_of shape address) Walked
     home_changed address =
         let e = entry_after x address E in
         let c = cell_after kind u.key u.entry C in
         let entry : walk_entry shape e ≡ new_entry R.entry_before R.xid (place_of shape address) = entry_changed shape x address E ∙ (ap (λ (z : entries.Entry). new_entry (walk_entry shape z) x (place_of shape address)) (sym keeps.entry_before) ∙ ap (λ (z : Xid). new_entry R.entry_before z (place_of shape address)) (sym xid)) in
         let cell : walk_cell c ≡ new_cell kind R.key (suc R.entry) R.cell_before = cell_changed kind u.key u.entry C key_there ∙ ap (λ (z : cells.Cell). new_cell kind u.key (suc u.entry) (walk_cell z)) (sym keeps.cell_before) in
-        ap (λ (l : List kinds.Entry). let h : walk.Home = record { entries = l; cells = map walk_cell (set home.cells u.cell c) } in h) (map-set (walk_entry shape) home.entries u.entry e ∙ ap (set (map (walk_entry shape) home.entries) u.entry) entry)
-        ∙ ap (λ (l : List kinds.Cell). let h : walk.Home = record { entries = set (map (walk_entry shape) home.entries) u.entry (new_entry R.entry_before R.xid (place_of shape address)); cells = l } in h) (map-set walk_cell home.cells u.cell c ∙ ap (set (map walk_cell home.cells) u.cell) cell)
+        ap (λ (l : List kinds.Entry). let h : walk.Home = record { block = n; entries = l; cells = map walk_cell (set home.cells u.cell c) } in h) (map-set (walk_entry shape) home.entries u.entry e ∙ ap (set (map (walk_entry shape) home.entries) u.entry) entry)
+        ∙ ap (λ (l : List kinds.Cell). let h : walk.Home = record { block = n; entries = set (map (walk_entry shape) home.entries) u.entry (new_entry R.entry_before R.xid (place_of shape address)); cells = l } in h) (map-set walk_cell home.cells u.cell c ∙ ap (set (map walk_cell home.cells) u.cell) cell)
 
     own_walked : (i : ℕ) → i < 8 → IsOwnEntry x (home_entry home i) → IsOwn x (walk.entry_at Walked i)
     own_walked i few own = subst (IsOwn x) (sym (entry_walked i few)) (status_open (home_entry home i).kind (home_entry home i).number own.0, own.1)
@@ -149,9 +149,10 @@ module _ (shape : Shape) (home : Home) (eight : length home.entries ≡ 8) (sixt
     not_open other = ap (λ (z : kinds.Entry). is_open z.status) (entry_walked u.entry keeps.entry.within) ∙ (open_is E.kind E.number ∙ grind (arith, nat_tests))
 
     -- what the walk asks of the choice
-    pub chooses : (h : ℕ) → ((c : ℕ) → c < 16 → IsCellSound shape h (home_cell home c)) → IsNotHeld home x u.key → Chooses kind R x Walked
-    chooses h sound free_of = record {
+    pub chooses : (h : ℕ) → u.home ≡ n → ((c : ℕ) → c < 16 → IsCellSound shape h (home_cell home c)) → IsNotHeld home x u.key → Chooses kind R x Walked
+    chooses h at_home sound free_of = record {
       xid = xid;
+      here = at_home;
       within = omega (arith, keeps.entry.within, entries_walked);
       cell = omega (arith, cell_few, cells_walked);
       sort = keeps.sort;

@@ -65,9 +65,9 @@ module _ (shape : Shape) (env : Env) where
   kept_told (At c) lock = refl
   kept_told (Before b) lock = refl
 
-  module _ (home : heap.Home) where
+  module _ (n : ℕ) (home : heap.Home) where
     abbrev b : Home
-    b = walk_home shape home
+    b = walk_home shape n home
 
     abbrev there : ℕ → entries.Entry
     there i = heap.home_entry home i
@@ -104,12 +104,12 @@ module _ (shape : Shape) (env : Env) where
         by_state false false is lock same un = ap (λ (n : ℕ). Stub x.key n) (sym same)
 
     -- The two say the same.
-    pub home_cleaned : AllByRecursion (IsLockedOpen home) home.cells → walk_home shape (heap_clean.cleaned_home env.look home) ≡ cleaned env b
+    pub home_cleaned : AllByRecursion (IsLockedOpen home) home.cells → walk_home shape n (heap_clean.cleaned_home env.look home) ≡ cleaned env b
     home_cleaned all =
         let es : map (walk_entry shape) (map (heap_clean.cleaned_entry env.look) home.entries) ≡ map (cleaned_entry env) (map (walk_entry shape) home.entries) = entries_are home.entries in
         let cs : map walk_cell (map (heap_clean.cleaned_cell env.look home) home.cells) ≡ map (cleaned_cell env b) (map walk_cell home.cells) = cells_are home.cells all in
-        ap (λ (l : List Entry). record { entries = l; cells = map walk_cell (map (heap_clean.cleaned_cell env.look home) home.cells) }) es
-        ∙ ap (λ (l : List Cell). record { entries = map (cleaned_entry env) (map (walk_entry shape) home.entries); cells = l }) cs
+        ap (λ (l : List Entry). record { block = n; entries = l; cells = map walk_cell (map (heap_clean.cleaned_cell env.look home) home.cells) }) es
+        ∙ ap (λ (l : List Cell). record { block = n; entries = map (cleaned_entry env) (map (walk_entry shape) home.entries); cells = l }) cs
       where
         entries_are : (l : List entries.Entry) → map (walk_entry shape) (map (heap_clean.cleaned_entry env.look) l) ≡ map (cleaned_entry env) (map (walk_entry shape) l)
         entries_are [] = refl

@@ -60,9 +60,10 @@ open_kind kind number is = by_kind (kind == OPEN) (kind == EXACT) (kind == BOUND
     by_kind false false true test was = absurd cc
     by_kind false false false test was = absurd cc
 
+-- what stands in a block, whatever its number
 module _ (shape : Shape) (block : List ℕ) where
   abbrev home : walk.Home
-  home = walk_home shape (home_of block)
+  home = walk_home shape 0 (home_of block)
 
   pub cell_here : (c : ℕ) → c < 16 → walk.cell_at home c ≡ walk_cell (cells_of.cell_at block c)
   cell_here c few = lists.get_or-map walk_cell (home_of block).cells c empty_cell ∙ ap walk_cell (cell_read block c empty_cell few)

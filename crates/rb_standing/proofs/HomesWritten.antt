@@ -66,7 +66,7 @@ module _ (shape : Shape) (segments after : ℕ → Segment) (past : Past) (lives
         let clean : Here b Old OldWrites (map (here b) lives) (cleaned Old (homes b)) = stands_clean past.base (rows_here shape b past.rows) (map (narrow b) past.list) OldWrites Old (map (here b) lives) (homes b) before in
         let aged : Here b New NewWrites (map (here b) lives) (cleaned Old (homes b)) = home_ages b (cleaned Old (homes b)) clean in
         let reads_here : Reads kind r (New.xid t) (cleaned Old (homes b)) = subst (λ (z : ℕ). Reads kind r (New.xid t) (cleaned Old (homes z))) (sym at) reads in
-        let wrote : Here b New NewWrites (set (map (here b) lives) t (change_of kind r place ∷ own (map (here b) lives) t)) (written kind r place (cleaned Old (homes b))) = write_stands NewWrites past.base (rows_here shape b past.rows) (map (narrow b) past.list) New (map (here b) lives) (cleaned Old (homes b)) aged t (omega (arith, t_in, length_here b lives)) active r kind place there reads_here.xid reads_here.sort seg reads_here.entry_before reads_here.cell_before reads_here.fits in
+        let wrote : Here b New NewWrites (set (map (here b) lives) t (change_of kind r place ∷ own (map (here b) lives) t)) (written kind r place (cleaned Old (homes b))) = write_stands NewWrites past.base (rows_here shape b past.rows) (map (narrow b) past.list) New (map (here b) lives) (cleaned Old (homes b)) aged t (omega (arith, t_in, length_here b lives)) active r kind place there reads_here.xid reads_here.here reads_here.sort seg reads_here.entry_before reads_here.cell_before reads_here.fits in
         let lists : set (map (here b) lives) t (change_of kind r place ∷ own (map (here b) lives) t) ≡ map (here b) Longer = ap (λ (z : List Change). set (map (here b) lives) t (change_of kind r place ∷ z)) (own_here b lives t) ∙ (ap (set (map (here b) lives) t) (sym (live_here b (own lives t) (change_of kind r place) (sym at))) ∙ sym (lives_here b lives t (change_of kind r place ∷ own lives t))) in
         let home : written kind r place (cleaned Old (homes b)) ≡ homes2 b = ap (λ (z : ℕ). written kind r place (cleaned Old (homes z))) at ∙ (sym written_home ∙ ap homes2 (sym at)) in
         subst (λ (z : Home). Here b New NewWrites (map (here b) Longer) z) home (subst (λ (z : List (List Change)). Here b New NewWrites z (written kind r place (cleaned Old (homes b)))) lists wrote)

@@ -77,7 +77,7 @@ segment_stays shape before now g same header =
     ∙ (ap (λ (z : Header). with_header z (segments_of shape before g)) (header ∙ sym (header_is shape before g)))
 
 pub home_stays : (shape : Shape) (before now : List (List ℕ)) (b : ℕ) → block_of now b ≡ block_of before b → homes_of shape now b ≡ homes_of shape before b
-home_stays shape before now b same = ap (λ (z : List ℕ). walk_home shape (home_of z)) same
+home_stays shape before now b same = ap (λ (z : List ℕ). walk_home shape b (home_of z)) same
 
 -- a block of rows, or the header of segment g
 abbrev pub RowsOrHeader : Shape → ℕ → ℕ → Type 0

@@ -19,9 +19,9 @@ pub record IsFresh (shape : Shape) (segments : ℕ → Segment) (homes : ℕ →
   pub entries : (b i : ℕ) → b < table_blocks shape → (entry_at (homes b) i).status ≡ Free
   pub cells : (b j : ℕ) → b < table_blocks shape → cell_at (homes b) j ≡ Empty
 
--- a home of no entry and no row
-abbrev pub fresh_home : Home
-fresh_home = record { entries = replicate ENTRIES free_entry; cells = replicate CELLS Empty }
+-- the home of block b, of no entry and no row
+abbrev pub fresh_home : ℕ → Home
+fresh_home b = record { block = b; entries = replicate ENTRIES free_entry; cells = replicate CELLS Empty }
 
 abbrev pub no_past : Past
 no_past = record { base = 0; rows = []; list = [] }

@@ -50,8 +50,13 @@ walk_cell x =
     else if (x.state == EMPTY) && (x.lock == 0) then Empty
     else Stub x.key x.lock
 
-abbrev pub walk_home : Shape → heap.Home → Home
-walk_home shape home = record { entries = map (walk_entry shape) home.entries; cells = map walk_cell home.cells }
+-- the home of block b
+abbrev pub walk_home : Shape → ℕ → heap.Home → Home
+walk_home shape b home = record {
+  block = b;
+  entries = map (walk_entry shape) home.entries;
+  cells = map walk_cell home.cells;
+}
 
 abbrev pub sort_by : ℕ → Sort
 sort_by kind = if kind == PUT then Puts else if kind == GONE then Takes else Holds

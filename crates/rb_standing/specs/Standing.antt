@@ -17,7 +17,7 @@ abbrev pub segments_of : Shape → List (List ℕ) → ℕ → Segment
 segments_of shape blocks g = segment_of shape blocks g
 
 abbrev pub homes_of : Shape → List (List ℕ) → ℕ → Home
-homes_of shape blocks b = walk_home shape (home_of (block_of blocks b))
+homes_of shape blocks b = walk_home shape b (home_of (block_of blocks b))
 
 abbrev pub env_of : Shape → List (List ℕ) → Env
 env_of shape blocks = says shape (segments_of shape blocks)

@@ -126,7 +126,7 @@ FreshStateStands = (shape : Shape) (segments : ℕ → Segment) (homes : ℕ →
     → BlocksStandAs (fresh_state shape sessions) [] 0 0 segments homes
 
 abbrev pub FreshIsMet : Type 0
-FreshIsMet = (shape : Shape) → IsFresh shape (λ g. fresh_segment) (λ b. fresh_home)
+FreshIsMet = (shape : Shape) → IsFresh shape (λ g. fresh_segment) fresh_home
 
 -- What is owed rises by one for the record of a write, and by one for a slot that it takes.
 abbrev pub OwedRises : Type 0

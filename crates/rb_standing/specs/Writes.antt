@@ -19,6 +19,7 @@ use Rattle.rb_walk.specs.Writes.{is_open, IsOwn, written, Fits, change_of}
 -- what a write reads of its block, once that is cleaned, and keeps in its record
 pub record Reads (kind : Kind) (r : Undo) (t : Xid) (b : Home) : Type 0 where
   pub xid : r.xid ≡ t
+  pub here : r.home ≡ b.block
   pub sort : r.sort ≡ sort_of kind
   pub entry_before : r.entry_before ≡ entry_at b r.entry
   pub cell_before : r.cell_before ≡ cell_at b r.cell
@@ -75,6 +76,7 @@ committed_past segments t c past lives = record past {
 -- transaction's own.
 pub record Chooses (kind : Kind) (r : Undo) (t : Xid) (b : Home) : Type 0 where
   pub xid : r.xid ≡ t
+  pub here : r.home ≡ b.block
   pub within : r.entry < length b.entries
   pub cell : r.cell < length b.cells
   pub sort : r.sort ≡ sort_of kind

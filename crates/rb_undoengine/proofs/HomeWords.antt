@@ -86,7 +86,7 @@ module _ (h : State) (xids : List Xid) (blocks : List (List ℕ)) (stand : Block
   pub which_in : Which < table_blocks h.shape
   which_in = row_block h.shape table key stand.tell.in_range.few_blocks.0 first last
 
-  pub walked_is : walk_home h.shape Cleaned ≡ Walked
+  pub walked_is : walk_home h.shape Which Cleaned ≡ Walked
   walked_is = home_is h xids blocks stand Which which_in
 
   pub is_clean_here : IsClean (env_of h.shape blocks) Walked

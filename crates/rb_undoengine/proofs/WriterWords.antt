@@ -115,7 +115,7 @@ module _ (h : State) (xids : List Xid) (blocks : List (List ℕ)) (s : ℕ) (own
     | inr many ↦
         let n = length-map Cleaned.entries (walk_entry h.shape) in
         let k = eight in
-        let out : entry_at (walk_home h.shape Cleaned) i ≡ walk.free_entry = lists.get_or-eq_default (walk_home h.shape Cleaned).entries walk.free_entry (omega (arith, n, k, many)) in
+        let out : entry_at (walk_home h.shape 0 Cleaned) i ≡ walk.free_entry = lists.get_or-eq_default (walk_home h.shape 0 Cleaned).entries walk.free_entry (omega (arith, n, k, many)) in
         let never : Free ≡ Open = sym (ap (λ (z : Entry). z.status) out) ∙ (ap (λ (b : walk.Home). (entry_at b i).status) (home.walked_is h xids blocks about.stand table key first last) ∙ is) in
         absurd cc
   ]

@@ -74,8 +74,8 @@ module _ (h : State) (xids : List Xid) (blocks : List (List ℕ)) (stand : Block
     }
 
     -- The home, cleaned, in both words.
-    pub home_is : walk_home h.shape (cleaned_home (env_of h.shape blocks).look (home_of Block)) ≡ cleaned (env_of h.shape blocks) (homes_of h.shape blocks b)
-    home_is = home_cleaned h.shape (env_of h.shape blocks) (home_of Block) (all_of (IsLockedOpen (home_of Block)) (home_of Block).cells empty_cell (λ c lt.
+    pub home_is : walk_home h.shape b (cleaned_home (env_of h.shape blocks).look (home_of Block)) ≡ cleaned (env_of h.shape blocks) (homes_of h.shape blocks b)
+    home_is = home_cleaned h.shape (env_of h.shape blocks) b (home_of Block) (all_of (IsLockedOpen (home_of Block)) (home_of Block).cells empty_cell (λ c lt.
         let few : c < 16 = let n = cells_counted Block in omega (arith, n, lt) in
         subst (IsLockedOpen (home_of Block)) (sym (cell_read Block c empty_cell few)) (locked c few)))
 

@@ -31,7 +31,7 @@ open_entry slot = record free_entry { status = Open; xid = id slot }
 
 -- session 1 has put key 1, session 2 has deleted key 3, and key 7 is nobody's
 abbrev home : Home
-home = record { entries = open_entry 0 ∷ open_entry 1 ∷ []; cells = Row 1 [] 1 ∷ Stub 3 2 ∷ Row 7 [] 0 ∷ [] }
+home = record { block = 0; entries = open_entry 0 ∷ open_entry 1 ∷ []; cells = Row 1 [] 1 ∷ Stub 3 2 ∷ Row 7 [] 0 ∷ [] }
 
 other_waits : home_verdict two home fresh_header (Some (id 1)) 2 1 true ≡ Waits 1
 other_waits = refl

@@ -53,7 +53,7 @@ CleanVerdictIsMachines = (h : State) (xids : List Xid) (segments : ℕ → Segme
 abbrev pub CleanHomeIsBlocks : Type 0
 CleanHomeIsBlocks = (h : State) (xids : List Xid) (blocks : List (List ℕ)) (b : ℕ)
     → BlocksStand h xids blocks → b < table_blocks h.shape
-    → walk_home h.shape (cleaned_home (env_of h.shape blocks).look (home_of (block_of blocks b)))
+    → walk_home h.shape b (cleaned_home (env_of h.shape blocks).look (home_of (block_of blocks b)))
     ≡ clean_home h blocks b
 
 -- What slots owe, to put back what is under way, is one group for each live change and one for each owner.

@@ -17,6 +17,7 @@ set_both P xs ys i x d hx hy here all j = elim (cases_eq j i) [
 module _ (w : ℕ → ℕ) (env env2 : Env) (ages : Ages w env env2) where
   pub back_alike : (r : Undo) (b b2 : Home) → r.entry < length b.entries → r.cell < length b.cells → Alike env env2 b b2 → Alike env env2 (back r b) (back r b2)
   back_alike r b b2 e_in c_in alike = record {
+    block = alike.block;
     entries = simp length-set alike.entries;
     cells = simp length-set alike.cells;
     rows =
@@ -66,9 +67,11 @@ module _ (w : ℕ → ℕ) (env env2 : Env) (ages : Ages w env env2) where
         number = step.0.number;
         key = step.0.key;
         home = step.0.home;
+        here = step.0.here ∙ sym alike.block;
         sort = step.0.sort;
         shows = λ k. alike.rows r.cell k ∙ step.0.shows k;
         oldest = step.0.oldest;
+        later = step.0.later;
       },
       chain_alike rest rest2 after t c i more (back r b) (back r b2) old.1 (back_alike r b b2 step.0.within step.0.cell alike) step.1,
     ),

@@ -69,7 +69,7 @@ new_shows Held key lock x k is = row_locked x key lock k is
 
 module _ (w : ℕ → ℕ) (base : ℕ) (rows : Rows) (list : List Commit) (env : Env) (lives : List (List Change)) (b : Home)
     (stands : Stands env w base rows list lives b) (s : ℕ) (s_in : s < length lives) (active : env.look (env.xid s) ≡ Active) (r : Undo) (kind : Kind)
-    (place : Place) (there : env.store place ≡ Some r) (xid : r.xid ≡ env.xid s) (sort : r.sort ≡ sort_of kind) (seg : place.seg ≡ (env.xid s).seg)
+    (place : Place) (there : env.store place ≡ Some r) (xid : r.xid ≡ env.xid s) (here : r.home ≡ b.block) (sort : r.sort ≡ sort_of kind) (seg : place.seg ≡ (env.xid s).seg)
     (entry_was : r.entry_before ≡ entry_at b r.entry) (cell_was : r.cell_before ≡ cell_at b r.cell)
     (fits : Fits b (env.xid s) r.key r.entry r.cell) where
   abbrev Mine : Entry → Type 0
@@ -124,6 +124,7 @@ module _ (w : ℕ → ℕ) (base : ℕ) (rows : Rows) (list : List Commit) (env 
 
   saved : Saved env s r b
   saved = record {
+    here = here;
     within = fits.within;
     cell = fits.cell;
     entry_was = sym entry_was;

@@ -105,6 +105,7 @@ cell_lock_open env b (Stub key lock) i is = lock_is_open env b lock i is
 pub clean_alike : (env : Env) (b : Home) → LiveAlike env env b (cleaned env b)
 clean_alike env b = record {
   alike = record {
+    block = refl;
     entries = length_map (cleaned_entry env) b.entries;
     cells = length_map (cleaned_cell env b) b.cells;
     rows = λ j k. ap (λ (z : Cell). row_of z k) (x_at j) ∙ row_cleaned env b (cell_at b j) k;

@@ -9,6 +9,7 @@ use Rattle.rb_walk.specs.Walk.{In, NamesCell, Change, Commit, Home, Env, Rows, H
 use Rattle.rb_txntable.specs.declared.looks.Look.{Look}
 use Rattle.rb_txntable.specs.declared.looks.Look.TheVariants.{Active, At, Before}
 use Rattle.rb_walk.proofs.Aging.{walk_alike}
+use Rattle.rb_walk.proofs.Lives.{leads_on}
 use Rattle.rb_walk.proofs.Writing.{moved}
 use Rattle.rb_base.specs.declared.ids.Xid.{Xid}
 
@@ -106,6 +107,7 @@ module _ (w : ℕ → ℕ) (env env2 : Env) (s c : ℕ) (now : Commits w env env
     (later : last base older < c) (old : OldCommits w older) where
   same_home : (b : Home) → Alike env env2 b b
   same_home b = record {
+    block = refl;
     entries = refl;
     cells = refl;
     rows = λ j k. refl;
@@ -149,12 +151,15 @@ module _ (w : ℕ → ℕ) (env env2 : Env) (s c : ℕ) (now : Commits w env env
       let head : Head env s ch (suc (length more)) b next.0 = next.1 in
       let r_active : IsActive env (entry_at b next.0.entry) = (head.status, ap env.look head.leads.xid ∙ head.active) in
       let at : next.0.entry ≡ i = only next.0.entry r_active head.leads.xid in
-      let deeper : Here i more (back next.0 b) =
-      here more m i (set lives s more) (back next.0 b) (unique_back env s ch (suc (length more)) b next.0 head unique) (simp length-set s_in) (get_or-set_same lives s more [] s_in) (λ u ne. get_or-set_other lives s u more [] ne ∙ others u ne)
+      let own_more : own (set lives s more) s ≡ more = get_or-set_same lives s more [] s_in in
+      let only_more : (j : ℕ) → IsActive env (entry_at (back next.0 b) j) → (entry_at (back next.0 b) j).xid ≡ env.xid s → j ≡ i =
       (λ j active same. elim (cases_eq j next.0.entry) [
         | inl je ↦ je ∙ at
         | inr nj ↦ only j (rw (sym (get_or-set_other b.entries next.0.entry j next.0.entry_before free_entry nj)) active) (rw (sym (get_or-set_other b.entries next.0.entry j next.0.entry_before free_entry nj)) same)
-      ]) next.2 in
+      ]) in
+      let before_is : entry_at (back next.0 b) i ≡ next.0.entry_before = subst (λ (z : ℕ). entry_at (back next.0 b) z ≡ next.0.entry_before) at (get_or-set_same b.entries next.0.entry next.0.entry_before free_entry head.within) in
+      let deeper : Here i more (back next.0 b) =
+      here more m i (set lives s more) (back next.0 b) (unique_back env s ch (suc (length more)) b next.0 head unique) (simp length-set s_in) own_more (λ u ne. get_or-set_other lives s u more [] ne ∙ others u ne) only_more next.2 in
       let others_below : (j : ℕ) → j ≢ i
       → Below env2 (entry_at b j) (last base older) =
       λ j ne. rw (sym (get_or-set_other b.entries next.0.entry j next.0.entry_before free_entry (λ je. ne (je ∙ at)))) (deeper.4 j ne) in (
@@ -171,7 +176,8 @@ module _ (w : ℕ → ℕ) (env env2 : Env) (s c : ℕ) (now : Commits w env env
               let same : next.0 ≡ r =
               let a : env.store ch.place ≡ Some next.0 = head.there in let b2 : env2.store ch.place ≡ env.store ch.place = now.store ch.place in cc in
               subst (λ (z : Undo). Names z (env.xid s) i ch (length more) b × Chain env2 (env.xid s) c i more (back z b) (Walk env2 base rows older)) same
-              (record { xid = head.xid; of = head.of; entry = at; within = head.within; cell = head.cell; number = head.number; key = head.key; home = head.home; sort = head.sort; shows = head.shows; oldest = λ none. head.oldest (ap suc none) }, deeper.3),
+              (record { xid = head.xid; of = head.of; entry = at; within = head.within; cell = head.cell; number = head.number; key = head.key; home = head.home; here = head.here; sort = head.sort; shows = head.shows; oldest = λ none. head.oldest (ap suc none);
+              later = λ some. ap (λ (z : Entry). z.status) (sym before_is) ∙ (leads_on env (Walk env base rows older) s i more m (set lives s more) (back next.0 b) own_more only_more next.2 some).0 }, deeper.3),
         ),
         others_below,
       )
@@ -216,6 +222,7 @@ module _ (w : ℕ → ℕ) (env env2 : Env) (s c : ℕ) (now : Commits w env env
     number = head.number;
     key = head.key;
     home = head.home;
+    here = head.here;
     sort = head.sort;
     status = head.status;
     leads = record {

@@ -22,6 +22,7 @@ module _ (going : ℕ → Type 0) (w : ℕ → ℕ) (env env2 : Env) (ages : Liv
     number = head.number;
     key = head.key;
     home = head.home;
+    here = head.here ∙ sym live.alike.block;
     sort = head.sort;
     status = rw e_at head.status;
     leads = record {

@@ -32,6 +32,7 @@ module _ (base : ℕ) (rows : Rows) (list : List Commit) where
       same : LiveAlike env env2 b b
       same = record {
         alike = record {
+          block = refl;
           entries = refl;
           cells = refl;
           rows = λ j k. refl;

@@ -5,11 +5,11 @@ use Rattle.std.proofs.lemmas.List.{get_or-set_same, get_or-set_other, length-set
 use Rattle.rb_walk.specs.Kinds.{Open, Entry, Cell, Empty, Undo}
 use Rattle.rb_walk.specs.Walk.{In, Owned, NamesCell, Change, Home, Env, Head, Tree, Next, IsActive, AllEmpty, Write, Saved, Distinct, own, back, put, cell_at, entry_at, lock_of, free_entry}
 
-abbrev home : List Entry → List Cell → Home
-home es cs = record { entries = es; cells = cs }
+abbrev home : ℕ → List Entry → List Cell → Home
+home n es cs = record { block = n; entries = es; cells = cs }
 
-home_is : (es fs : List Entry) (cs ds : List Cell) → es ≡ fs → cs ≡ ds → home es cs ≡ home fs ds
-home_is es fs cs ds e c = cc
+home_is : (n : ℕ) (es fs : List Entry) (cs ds : List Cell) → es ≡ fs → cs ≡ ds → home n es cs ≡ home n fs ds
+home_is n es fs cs ds e c = cc
 
 -- what was put is taken back
 pub back_put : (r : Undo) (e : Entry) (x : Cell) (b : Home) → entry_at b r.entry ≡ r.entry_before → cell_at b r.cell ≡ r.cell_before
@@ -19,7 +19,7 @@ back_put r e x b e_was c_was =
     ∙ (rw (← e_was) (set-get_or b.entries r.entry free_entry)) in
     let cs : set (set b.cells r.cell x) r.cell r.cell_before ≡ b.cells = set-set b.cells r.cell x r.cell_before
     ∙ (rw (← c_was) (set-get_or b.cells r.cell Empty)) in
-    home_is (set (set b.entries r.entry e) r.entry r.entry_before) b.entries (set (set b.cells r.cell x) r.cell r.cell_before) b.cells es cs
+    home_is b.block (set (set b.entries r.entry e) r.entry r.entry_before) b.entries (set (set b.cells r.cell x) r.cell r.cell_before) b.cells es cs
 
 pub back_put_comm : (u r : Undo) (e : Entry) (x : Cell) (b : Home) → u.entry ≢ r.entry → u.cell ≢ r.cell
     → put r.entry e r.cell x (back u b) ≡ back u (put r.entry e r.cell x b)
@@ -51,6 +51,7 @@ module _ (env : Env) (rest : Home → Type 0) (s : ℕ) (ch : Change) (mine : Li
       number = write.number;
       key = write.key;
       home = write.home;
+      here = saved.here;
       sort = write.sort;
       status = rw e_at write.status;
       leads = rw e_at write.leads;
@@ -101,6 +102,7 @@ module _ (env : Env) (rest : Home → Type 0) (s : ℕ) (ch : Change) (mine : Li
     number = head.number;
     key = head.key;
     home = head.home;
+    here = head.here;
     sort = head.sort;
     status = rw e_at head.status;
     leads = rw e_at head.leads;
@@ -140,6 +142,7 @@ module _ (env : Env) (rest : Home → Type 0) (s : ℕ) (ch : Change) (mine : Li
   -- and leaves what the writer saw
   saved_stays : (u : ℕ) (chu : Change) (n : ℕ) (ru : Undo) (b : Home) → u ≢ s → Saved env s r b → Head env u chu n b ru → Saved env s r (back ru b)
   saved_stays u chu n ru b ne saved head = record {
+    here = saved.here;
     within = simp length-set saved.within;
     cell = simp length-set saved.cell;
     entry_was = get_or-set_other b.entries ru.entry r.entry ru.entry_before free_entry (λ same. apart_entry u chu n ru b ne saved head (sym same))

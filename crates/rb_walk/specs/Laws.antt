@@ -27,12 +27,12 @@ CleanedStands = (base : ℕ) (rows : Rows) (list : List Commit) (w : ℕ → ℕ
     → Stands env w base rows list lives (cleaned env b)
 
 -- It stands after a write of a session that is active, at an entry and a cell that the change may use, where the
--- record of the change is made already and says what stood there.
+-- record of the change is made already, names this block and says what stood there.
 abbrev pub WrittenStands : Type 0
 WrittenStands = (w : ℕ → ℕ) (base : ℕ) (rows : Rows) (list : List Commit) (env : Env)
     (lives : List (List Change)) (b : Home) → Stands env w base rows list lives b → (s : ℕ) → s < length lives
     → env.look (env.xid s) ≡ Active → (r : Undo) (kind : Kind) (place : Place) → env.store place ≡ Some r
-    → r.xid ≡ env.xid s → r.sort ≡ sort_of kind → place.seg ≡ (env.xid s).seg
+    → r.xid ≡ env.xid s → r.home ≡ b.block → r.sort ≡ sort_of kind → place.seg ≡ (env.xid s).seg
     → r.entry_before ≡ entry_at b r.entry → r.cell_before ≡ cell_at b r.cell
     → Fits b (env.xid s) r.key r.entry r.cell
     → Stands env w base rows list (set lives s (change_of kind r place ∷ own lives s)) (written kind r place b)

@@ -41,7 +41,11 @@ cleaned_cell env b (Row key v lock) = Row key v (cleaned_lock env b lock)
 cleaned_cell env b (Stub key lock) = Stub key (cleaned_lock env b lock)
 
 abbrev pub cleaned : Env → Home → Home
-cleaned env b = record { entries = map (cleaned_entry env) b.entries; cells = map (cleaned_cell env b) b.cells }
+cleaned env b = record {
+  block = b.block;
+  entries = map (cleaned_entry env) b.entries;
+  cells = map (cleaned_cell env b) b.cells;
+}
 
 -- the rows with the live changes of each session over them
 abbrev pub live_rows : List (List Change) → Rows → Rows

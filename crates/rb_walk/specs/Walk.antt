@@ -21,7 +21,9 @@ pub record Commit : Type 0 where
   pub number : ℕ
   pub changes : List Change
 
+-- a block's number, and what stands in it
 pub record Home : Type 0 where
+  pub block : ℕ
   pub entries : List Entry
   pub cells : List Cell
 
@@ -92,10 +94,14 @@ Unique b = (i j k : ℕ) → taken (cell_at b i) ≡ Some k → taken (cell_at b
 
 -- one undo record applied
 abbrev pub back : Undo → Home → Home
-back r b = record { entries = set b.entries r.entry r.entry_before; cells = set b.cells r.cell r.cell_before }
+back r b = record {
+  block = b.block;
+  entries = set b.entries r.entry r.entry_before;
+  cells = set b.cells r.cell r.cell_before;
+}
 
 abbrev pub put : ℕ → Entry → ℕ → Cell → Home → Home
-put i e c x b = record { entries = set b.entries i e; cells = set b.cells c x }
+put i e c x b = record { block = b.block; entries = set b.entries i e; cells = set b.cells c x }
 
 -- an entry, or a look, that says of a transaction committed at c what is true
 abbrev pub LookSays : ℕ → Look → ℕ → Type 0
@@ -128,7 +134,7 @@ abbrev pub Below : Env → Entry → ℕ → Type 0
 Below env e n = StatusBelow env e.xid e.status n
 
 -- the record of a committed change, at this entry, with so many older ones of its transaction here. The oldest one
--- took an entry that wasn't open
+-- took an entry that wasn't open, and the others the transaction's own
 pub record Names (r : Undo) (t : Xid) (i : ℕ) (ch : Change) (older : ℕ) (b : Home) : Type 0 where
   pub xid : r.xid ≡ t
   pub of : ch.xid ≡ t
@@ -138,9 +144,11 @@ pub record Names (r : Undo) (t : Xid) (i : ℕ) (ch : Change) (older : ℕ) (b :
   pub number : r.number ≡ ch.number
   pub key : r.key ≡ ch.key
   pub home : r.home ≡ ch.home
+  pub here : r.home ≡ b.block
   pub sort : r.sort ≡ sort_of ch.kind
   pub shows : (k : ℕ) → row_of (cell_at b r.cell) k ≡ changed ch.kind ch.key (row_of r.cell_before) k
   pub oldest : older ≡ 0 → r.entry_before.status ≢ Open
+  pub later : older ≢ 0 → r.entry_before.status ≡ Open
 
 -- where the entry stands for a chain of so many changes, the newest at this place, which is of the transaction's
 -- segment
@@ -196,6 +204,7 @@ pub record Head (env : Env) (s : ℕ) (ch : Change) (n : ℕ) (b : Home) (r : Un
   pub number : r.number ≡ ch.number
   pub key : r.key ≡ ch.key
   pub home : r.home ≡ ch.home
+  pub here : r.home ≡ b.block
   pub sort : r.sort ≡ sort_of ch.kind
   pub status : (entry_at b r.entry).status ≡ Open
   pub leads : Leads (entry_at b r.entry) (env.xid s) ch.place n
@@ -258,6 +267,7 @@ pub record Ages (w : ℕ → ℕ) (env env2 : Env) : Type 0 where
 
 -- two states that differ at most in locks and in how an entry tells its number
 pub record Alike (env env2 : Env) (b b2 : Home) : Type 0 where
+  pub block : b2.block ≡ b.block
   pub entries : length b2.entries ≡ length b.entries
   pub cells : length b2.cells ≡ length b.cells
   pub rows : (j k : ℕ) → row_of (cell_at b2 j) k ≡ row_of (cell_at b j) k
@@ -289,6 +299,7 @@ pub record Write (env : Env) (s : ℕ) (ch : Change) (n : ℕ) (r : Undo) (e : E
   pub oldest : n ≡ 0 → r.entry_before.status ≢ Open
 
 pub record Saved (env : Env) (s : ℕ) (r : Undo) (b : Home) : Type 0 where
+  pub here : r.home ≡ b.block
   pub within : r.entry < length b.entries
   pub cell : r.cell < length b.cells
   pub entry_was : entry_at b r.entry ≡ r.entry_before

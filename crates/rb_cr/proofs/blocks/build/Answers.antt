@@ -23,7 +23,7 @@ loads g c told =
     let now = c.load.new.self in
     let load = c.in-Ok.ensures in (
       env_stays (s.shape_of old) (s.shape_of now) (s.blocks old) (s.blocks now) load.shape (load.blocks told),
-      home_stays c.decode.new.self (s.shape_of old) (s.shape_of now) c.block.result.now (s.blocks old) (s.blocks now) c.args.block c.decode.ensures.entries c.decode.ensures.cells (c.block.ensures.block told c.args.block load.loaded) load.shape (load.blocks told),
+      home_stays c.decode.new.self (s.shape_of old) (s.shape_of now) c.block.result.now (s.blocks old) (s.blocks now) c.args.block c.decode.ensures.number c.decode.ensures.entries c.decode.ensures.cells (c.block.ensures.block told c.args.block load.loaded) load.shape (load.blocks told),
     )
 
 -- what holds of both before holds after it, and the other way round

@@ -25,7 +25,7 @@ saw g c told h reading =
     let load = c.in-Ok.ensures in
     let snap = c.args.snapshot.now in
     let env_is : env_of (s.shape_of now) (s.blocks now) ≡ env_of (s.shape_of old) (s.blocks old) = env_stays (s.shape_of old) (s.shape_of now) (s.blocks old) (s.blocks now) load.shape (load.blocks told) in
-    let home_is : scratch_home (s.shape_of now) c.decode.new.self ≡ homes_of (s.shape_of old) (s.blocks old) c.args.block = home_stays c.decode.new.self (s.shape_of old) (s.shape_of now) c.block.result.now (s.blocks old) (s.blocks now) c.args.block c.decode.ensures.entries c.decode.ensures.cells (c.block.ensures.block told c.args.block load.loaded) load.shape (load.blocks told) in
+    let home_is : scratch_home (s.shape_of now) c.decode.new.self ≡ homes_of (s.shape_of old) (s.blocks old) c.args.block = home_stays c.decode.new.self (s.shape_of old) (s.shape_of now) c.block.result.now (s.blocks old) (s.blocks now) c.args.block c.decode.ensures.number c.decode.ensures.entries c.decode.ensures.cells (c.block.ensures.block told c.args.block load.loaded) load.shape (load.blocks told) in
     both (λ env b. SawAbove env h snap.scn c.args.key b c.first_seen.result) _ _ _ _ env_is home_is
     (c.first_seen.ensures.told told h snap.own snap.upto (both (λ env b. Reading env h snap.own snap.upto snap.scn b) _ _ _ _ (sym env_is) (sym home_is) reading))
 

@@ -12,7 +12,7 @@ returns-then-not-fits-clause-told g c = λ told.
     let eight : length scratch.entries ≡ 8 = search rules in
     let sixteen : length scratch.cells ≡ 16 = search rules in
     let here : walk_found said.shape (Some c.in-Some.found) ≡ said.env.store (place_of said.shape (get_or scratch.entries c.args.i zero_entry).newest) = ap (walk_found said.shape) (sym c.in-Some.is) ∙ c.in_ok-found.ensures.told told in
-    unfit said.shape said.env scratch c.args.i c.args.xid eight sixteen c.requires.there c.in-Some.found here (sym c.fits.ensures ∙ c.if-not-fits.true)
+    unfit said.shape said.env scratch c.args.i c.args.xid eight sixteen c.requires.there c.in-Some.found here (sym (c.fits.ensures.told said.shape) ∙ c.if-not-fits.true)
 
 pub returns-clause-told : goal.returns-clause-told
 returns-clause-told g c = λ told.
@@ -22,4 +22,4 @@ returns-clause-told g c = λ told.
     let eight : length scratch.entries ≡ 8 = search rules in
     let sixteen : length scratch.cells ≡ 16 = search rules in
     let here : walk_found said.shape (Some found) ≡ said.env.store (place_of said.shape (get_or scratch.entries c.args.i zero_entry).newest) = ap (walk_found said.shape) (sym c.in-Some.is) ∙ c.in_ok-found.ensures.told told in
-    saw said.shape said.env scratch c.args.i c.args.xid eight sixteen c.requires.there found here (sym c.fits.ensures ∙ c.if-not-fits.false) c.args.key c.changes.result c.back.new.scratch (c.back.ensures.home said.shape found.seg) (c.changes.ensures said.shape)
+    saw said.shape said.env scratch c.args.i c.args.xid eight sixteen c.requires.there found here (sym (c.fits.ensures.told said.shape) ∙ c.if-not-fits.false) c.args.key c.changes.result c.back.new.scratch (c.back.ensures.home said.shape found.seg) (c.changes.ensures said.shape)

@@ -12,28 +12,28 @@ use Rattle.rb_walk.specs.Walk.{Env, entry_at, free_entry}
 use Rattle.rb_cr.proofs.nexts.all_told_below.Goals as goal
 
 -- what is said of an entry's bytes is said of the home's
-of_home : (block : List ℕ) (scn i : ℕ) (shape : Shape) (env : Env) → i < 8 → AtMost env scn scn (walk_entry shape (bytes.entry_at block i)) → AtMost env scn scn (entry_at (walk_home shape (home_of block)) i)
-of_home block scn i shape env lt is =
+of_home : (block : List ℕ) (scn i : ℕ) (shape : Shape) (env : Env) (b : ℕ) → i < 8 → AtMost env scn scn (walk_entry shape (bytes.entry_at block i)) → AtMost env scn scn (entry_at (walk_home shape b (home_of block)) i)
+of_home block scn i shape env b lt is =
     let within : i < length (home_of block).entries = omega (arith, lt, entries_counted block) in
     subst (AtMost env scn scn) (sym (get_or-map (walk_entry shape) (home_of block).entries i bytes.free_entry free_entry within ∙ ap (walk_entry shape) (entry_read block i bytes.free_entry lt))) is
 
 -- a place behind the eighth has no entry
-behind : (block : List ℕ) (scn i : ℕ) (shape : Shape) (env : Env) → (i < 8 → ⊥) → AtMost env scn scn (entry_at (walk_home shape (home_of block)) i)
-behind block scn i shape env past =
-    subst (AtMost env scn scn) (sym (get_or_past (walk_home shape (home_of block)).entries i free_entry (omega (arith, past, length-map (home_of block).entries (walk_entry shape), entries_counted block)))) tt
+behind : (block : List ℕ) (scn i : ℕ) (shape : Shape) (env : Env) (b : ℕ) → (i < 8 → ⊥) → AtMost env scn scn (entry_at (walk_home shape b (home_of block)) i)
+behind block scn i shape env b past =
+    subst (AtMost env scn scn) (sym (get_or_past (walk_home shape b (home_of block)).entries i free_entry (omega (arith, past, length-map (home_of block).entries (walk_entry shape), entries_counted block)))) tt
 
 pub loop-i-preserved : goal.loop-i-preserved
-loop-i-preserved c = λ shape env j up. elim (cases_eq j c.loop-i.i) [
+loop-i-preserved c = λ shape env b j up. elim (cases_eq j c.loop-i.i) [
   | inl is ↦
       let block = c.args.block.now in
       let told = subst (λ (e : Entry). AtMost env c.args.scn c.args.scn (walk_entry shape e)) c.entry.ensures (c.is_told_below.ensures c.if-not-is_told_below.false shape env) in
-      subst (λ (n : ℕ). AtMost env c.args.scn c.args.scn (entry_at (walk_home shape (home_of block)) n)) (sym is)
-      (of_home block c.args.scn c.loop-i.i shape env (let lt = c.loop-i-test.true in omega (arith, lt)) told)
-  | inr ne ↦ c.loop-i.invariant shape env j (omega (arith, up, ne))
+      subst (λ (n : ℕ). AtMost env c.args.scn c.args.scn (entry_at (walk_home shape b (home_of block)) n)) (sym is)
+      (of_home block c.args.scn c.loop-i.i shape env b (let lt = c.loop-i-test.true in omega (arith, lt)) told)
+  | inr ne ↦ c.loop-i.invariant shape env b j (omega (arith, up, ne))
 ]
 
 pub returns : goal.returns
-returns c = λ yes shape env j. elim (cases_lt j 8) [
-  | inl lt ↦ c.loop-i.invariant shape env j (let past = c.loop-i-test.false in omega (arith, lt, past))
-  | inr past ↦ behind c.args.block.now c.args.scn j shape env (λ lt. omega (arith, lt, past))
+returns c = λ yes shape env b j. elim (cases_lt j 8) [
+  | inl lt ↦ c.loop-i.invariant shape env b j (let past = c.loop-i-test.false in omega (arith, lt, past))
+  | inr past ↦ behind c.args.block.now c.args.scn j shape env b (λ lt. omega (arith, lt, past))
 ]

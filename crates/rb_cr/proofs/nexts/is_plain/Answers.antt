@@ -17,7 +17,7 @@ returns-then-all_told_below-clause-told g c = λ tells yes j.
     let old = c.args.store.now in
     let env = env_of (s.shape_of old) (s.blocks old) in
     let same : c.block.result.now ≡ block_of (s.blocks old) c.args.block = search rules in
-    subst (λ (l : List ℕ). AtMost env c.args.scn c.args.scn (entry_at (walk_home (s.shape_of old) (home_of l)) j)) same (c.all_told_below.ensures c.if-all_told_below.true (s.shape_of old) env j)
+    subst (λ (l : List ℕ). AtMost env c.args.scn c.args.scn (entry_at (walk_home (s.shape_of old) c.args.block (home_of l)) j)) same (c.all_told_below.ensures c.if-all_told_below.true (s.shape_of old) env c.args.block j)
 
 pub returns-clause-logs : goal.returns-clause-logs
 returns-clause-logs g c =

@@ -16,8 +16,8 @@ pub returns-clause-cleaned : goal.returns-clause-cleaned
 returns-clause-cleaned c = stands_clean
 
 pub returns-clause-written : goal.returns-clause-written
-returns-clause-written c w base rows list env lives b stands s s_in active r kind place there xid sort seg entry_was cell_was fits =
-    write_stands w base rows list env lives b stands s s_in active r kind place there xid sort seg entry_was cell_was fits
+returns-clause-written c w base rows list env lives b stands s s_in active r kind place there xid here sort seg entry_was cell_was fits =
+    write_stands w base rows list env lives b stands s s_in active r kind place there xid here sort seg entry_was cell_was fits
 
 pub returns-clause-put_back : goal.returns-clause-put_back
 returns-clause-put_back c = stands_back

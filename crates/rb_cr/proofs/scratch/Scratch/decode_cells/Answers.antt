@@ -6,7 +6,7 @@ use Rattle.rb_cr.proofs.Decoded.{CellsFilled, cells_all, filled_more}
 use Rattle.rb_cr.proofs.scratch.Scratch.decode_cells.Goals as goal
 
 pub loop-c-init : goal.loop-c-init
-loop-c-init c = record { long = search rules; filled = λ j lt. absurd (omega (arith, lt)); entries = refl }
+loop-c-init c = record { long = search rules; filled = λ j lt. absurd (omega (arith, lt)); entries = refl; number = refl }
 
 pub loop-c-preserved : goal.loop-c-preserved
 loop-c-preserved c =
@@ -17,6 +17,7 @@ loop-c-preserved c =
       long = length-set c.loop-c.self.cells c.loop-c.c c.cells.result ∙ inv.long;
       filled = subst (λ z. CellsFilled block (c.loop-c.c + 1) (set c.loop-c.self.cells c.loop-c.c z)) (sym c.cells.ensures.cell) more;
       entries = inv.entries;
+      number = inv.number;
     }
 
 pub returns-clause-cells : goal.returns-clause-cells
@@ -24,3 +25,6 @@ returns-clause-cells c = cells_all c.args.block.now c.loop-c.c c.loop-c.self.cel
 
 pub returns-clause-entries : goal.returns-clause-entries
 returns-clause-entries c = c.loop-c.invariant.entries
+
+pub returns-clause-number : goal.returns-clause-number
+returns-clause-number c = c.loop-c.invariant.number

@@ -7,4 +7,5 @@ invariant-loop-c l = record {
   long : length l.self.cells ≡ 16;
   filled : CellsFilled l.block l.c l.self.cells;
   entries : l.self.entries ≡ l.initial.self.entries;
+  number : l.self.block ≡ l.initial.self.block;
 }

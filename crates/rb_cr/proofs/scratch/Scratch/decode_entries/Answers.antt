@@ -6,7 +6,7 @@ use Rattle.rb_cr.proofs.Decoded.{EntriesFilled, entries_all, filled_more}
 use Rattle.rb_cr.proofs.scratch.Scratch.decode_entries.Goals as goal
 
 pub loop-i-init : goal.loop-i-init
-loop-i-init c = record { long = search rules; filled = λ j lt. absurd (omega (arith, lt)); cells = refl }
+loop-i-init c = record { long = search rules; filled = λ j lt. absurd (omega (arith, lt)); cells = refl; number = refl }
 
 pub loop-i-preserved : goal.loop-i-preserved
 loop-i-preserved c =
@@ -17,6 +17,7 @@ loop-i-preserved c =
       long = length-set c.loop-i.self.entries c.loop-i.i c.entry.result ∙ inv.long;
       filled = subst (λ z. EntriesFilled block (c.loop-i.i + 1) (set c.loop-i.self.entries c.loop-i.i z)) (sym c.entry.ensures) more;
       cells = inv.cells;
+      number = inv.number;
     }
 
 pub returns-clause-entries : goal.returns-clause-entries
@@ -24,3 +25,6 @@ returns-clause-entries c = entries_all c.args.block.now c.loop-i.i c.loop-i.self
 
 pub returns-clause-cells : goal.returns-clause-cells
 returns-clause-cells c = c.loop-i.invariant.cells
+
+pub returns-clause-number : goal.returns-clause-number
+returns-clause-number c = c.loop-i.invariant.number

@@ -7,4 +7,5 @@ invariant-loop-i l = record {
   long : length l.self.entries ≡ 8;
   filled : EntriesFilled l.block l.i l.self.entries;
   cells : l.self.cells ≡ l.initial.self.cells;
+  number : l.self.block ≡ l.initial.self.block;
 }
