@@ -4,7 +4,7 @@ use Rattle.std.proofs.Common.{arith, sym, ap, ◌∙◌, refl, append-nil}
 use Rattle.std.proofs.lemmas.List.{length-drop}
 use Rattle.rb_base.specs.Blocks.{after_groups}
 use Rattle.rb_base.specs.Groups.{Patch}
-use Rattle.rb_base.specs.Logs.{Laws, Logs}
+use Rattle.rb_base.specs.Logs.{Laws, LogsBy}
 use Rattle.rb_base.specs.Moments.{LeavesOnly, weaker}
 use Rattle.rb_base.specs.Settling.{told_same, two_steps}
 use Rattle.rb_base.specs.Stores.{OpensToSome}
@@ -25,8 +25,9 @@ pub record Keeps {S : Type 0} (s : Ghosts S) (P : List (List ℕ) → ℕ → Ty
 
 module _ {S : Type 0} (s : Ghosts S) where
   -- a property goes on over calls where it holds after each of their groups
-  pub keeps_logged : (P : List (List ℕ) → ℕ → Type 0) (old new : S) (groups : List (List Patch)) → s.keeps
-      → (kept : Keeps s P old) → Logs s old new groups true
+  pub keeps_logged : {Between : S → S → Type 0} (P : List (List ℕ) → ℕ → Type 0) (old new : S)
+      (groups : List (List Patch)) → s.keeps
+      → (kept : Keeps s P old) → LogsBy s Between old new groups true
       → AfterEach P kept.first (s.pending old ++ groups) kept.base → Keeps s P new
   keeps_logged P old new groups keeps kept logs each =
       let given = s.pending old ++ groups in
@@ -49,8 +50,9 @@ module _ {S : Type 0} (s : Ghosts S) where
       }
 
   -- each image that a crash in calls may leave opens to what has a property, where that holds after each group
-  pub leaves_logged : (P : List (List ℕ) → ℕ → Type 0) (old new : S) (groups : List (List Patch)) (going : Bool)
-      → s.keeps → Laws s → (kept : Keeps s P old) → Logs s old new groups going
+  pub leaves_logged : {Between : S → S → Type 0} (P : List (List ℕ) → ℕ → Type 0) (old new : S)
+      (groups : List (List Patch)) (going : Bool)
+      → s.keeps → Laws s → (kept : Keeps s P old) → LogsBy s Between old new groups going
       → AfterEach P kept.first (s.pending old ++ groups) kept.base
       → LeavesOnly s.moment s.left_since old new
       (λ i. (b : List (List ℕ)) × (n : ℕ) × s.opens (s.shape_of old) (s.slots old) i b n × P b n)

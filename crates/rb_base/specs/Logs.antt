@@ -23,10 +23,14 @@ pub record Laws {S : Type 0} (s : Ghosts S) : Type 0 where
   pub now_counts : (store : S) (t : ℕ) (i : s.image) → s.keeps → t ≤ s.moment store → s.left store i
       → s.left_since store t i
   pub only_now : (store : S) (i : s.image) → s.keeps → s.left_since store (s.moment store) i → s.left store i
+  pub holds_back_same : (store : S) → s.holds_back store store
+  pub holds_back_joined : (a b c : S) → s.holds_back a b → s.holds_back b c → s.holds_back a c
 
 -- Calls of a store of the kind s gave it these groups, in order: each has the next log number, and any of them may
--- have been made last. Where a call failed, some of them may be given, and the store is no more to be called.
-pub record Logs {S : Type 0} (s : Ghosts S) (old new : S) (groups : List (List Patch)) (going : Bool) : Type 0 where
+-- have been made last. Where a call failed, some of them may be given, and the store is no more to be called. Where none
+-- did, `Between` says more of the store before and after them.
+pub record LogsBy {S : Type 0} (s : Ghosts S) (Between : S → S → Type 0) (old new : S) (groups : List (List Patch))
+    (going : Bool) : Type 0 where
   pub same_shape : s.shape_of new ≡ s.shape_of old
   pub same_slots : s.slots new ≡ s.slots old
   pub failed : s.failed new ≡ not going
@@ -40,6 +44,15 @@ pub record Logs {S : Type 0} (s : Ghosts S) (old new : S) (groups : List (List P
   pub any_moment : s.keeps → Laws s → (b : List (List ℕ)) (n : ℕ) → s.stable old b n
       → LeavesOnly s.moment s.left_since old new
       (OpensToSome (s.opens (s.shape_of old) (s.slots old)) n (s.pending old ++ groups) b)
+  pub between : going ≡ true → Laws s → Between old new
+
+-- such calls that made no group last of themselves,
+abbrev pub Logs : {S : Type 0} → Ghosts S → S → S → List (List Patch) → Bool → Type 0
+Logs s old new groups going = LogsBy s s.holds_back old new groups going
+
+-- and such of which some may have
+abbrev pub Flushes : {S : Type 0} → Ghosts S → S → S → List (List Patch) → Bool → Type 0
+Flushes s old new groups going = LogsBy s (λ a b. Unit {0}) old new groups going
 
 -- the group of these patches, where there is one
 abbrev pub group_of : List Patch → List (List Patch)
@@ -75,12 +88,15 @@ module _ {S : Type 0} (s : Ghosts S) where
           opening = subst (s.opens (s.shape_of store) (s.slots store) i b) (omega arith)
               (laws.stable_left store b n i kept stable (laws.only_now store i kept left));
         });
+    between = λ _ laws. laws.holds_back_same store;
   }
 
   -- calls after others that went well
-  pub more_logs : (old mid new : S) (first second : List (List Patch)) (going : Bool) → Logs s old mid first true
-      → Logs s mid new second going → Logs s old new (first ++ second) going
-  more_logs old mid new first second going a b = record {
+  more_by : (Between : S → S → Type 0) (old mid new : S)
+      → (Laws s → Between old mid → Between mid new → Between old new)
+      → (first second : List (List Patch)) (going : Bool) → LogsBy s Between old mid first true
+      → LogsBy s Between mid new second going → LogsBy s Between old new (first ++ second) going
+  more_by Between old mid new join first second going a b = record {
     same_shape = b.same_shape ∙ a.same_shape;
     same_slots = b.same_slots ∙ a.same_slots;
     failed = b.failed;
@@ -100,6 +116,7 @@ module _ {S : Type 0} (s : Ghosts S) where
         (settles_joined n (s.pending old ++ first) second l (s.stable mid) (s.stable new) (s.pending mid)
         (s.pending new) settled (b.settles kept goes _ _ settled.settled));
     any_moment = λ kept laws l n stable. moments kept laws l n stable (a.settles kept refl l n stable);
+    between = λ goes laws. join laws (a.between refl laws) (b.between goes laws);
   }
     where
       rose : Rose (s.faults mid) (s.faults new) → Rose (s.faults old) (s.faults new)
@@ -129,8 +146,37 @@ module _ {S : Type 0} (s : Ghosts S) where
           (OpensToSome f (n + settled.count) (s.pending mid ++ second) made)) same
           (b.any_moment kept laws made (n + settled.count) settled.settled))))
 
-  -- a load, from its clauses
-  pub load_logs : {T E : Type 0} (old new : S) (result : Result T E) → s.shape_of new ≡ s.shape_of old
+  pub more_logs : (old mid new : S) (first second : List (List Patch)) (going : Bool) → Logs s old mid first true
+      → Logs s mid new second going → Logs s old new (first ++ second) going
+  more_logs old mid new =
+      more_by s.holds_back old mid new (λ laws. laws.holds_back_joined old mid new)
+
+  -- what is said of calls that held back is said of any
+  pub any_logs : {Between : S → S → Type 0} (old new : S) (groups : List (List Patch)) (going : Bool)
+      → LogsBy s Between old new groups going → Flushes s old new groups going
+  any_logs old new groups going a = record {
+    same_shape = a.same_shape;
+    same_slots = a.same_slots;
+    failed = a.failed;
+    no_less = a.no_less;
+    cause = a.cause;
+    still = a.still;
+    number = a.number;
+    blocks = a.blocks;
+    settles = a.settles;
+    any_moment = a.any_moment;
+    between = λ _ _. tt;
+  }
+
+  -- any calls after others that went well
+  pub more_flushes : {Between : S → S → Type 0} (old mid new : S) (first second : List (List Patch)) (going : Bool)
+      → LogsBy s Between old mid first true → Flushes s mid new second going → Flushes s old new (first ++ second) going
+  more_flushes old mid new first second going a b =
+      more_by (λ _ _. Unit {0}) old mid new (λ _ _ _. tt) first second going (any_logs old mid first true a) b
+
+  -- a call that gives no group, from its clauses
+  load_by : {T E : Type 0} (Between : S → S → Type 0) (old new : S) (result : Result T E)
+      → s.shape_of new ≡ s.shape_of old
       → s.slots new ≡ s.slots old → s.failed new ≡ is_err result
       → IsCounted (s.faults old) (s.faults new) result → s.lsn new ≡ s.lsn old
       → (s.tells → OnOk result (s.blocks new ≡ s.blocks old))
@@ -138,8 +184,9 @@ module _ {S : Type 0} (s : Ghosts S) where
       → Settles n (s.pending old) b (s.stable new) (s.pending new)))
       → (s.keeps → (b : List (List ℕ)) (n : ℕ) → s.stable old b n → LeavesOnly s.moment s.left_since old new
       (OpensToSome (s.opens (s.shape_of old) (s.slots old)) n (s.pending old) b))
-      → Logs s old new [] (not (is_err result))
-  load_logs old new (Ok value) shape slots failed counted lsn blocks settles any_moment = record {
+      → OnOk result (Between old new)
+      → LogsBy s Between old new [] (not (is_err result))
+  load_by Between old new (Ok value) shape slots failed counted lsn blocks settles any_moment between = record {
     same_shape = shape;
     same_slots = slots;
     failed = failed;
@@ -155,8 +202,9 @@ module _ {S : Type 0} (s : Ghosts S) where
         (λ (given : List (List Patch)). LeavesOnly s.moment s.left_since old new
         (OpensToSome (s.opens (s.shape_of old) (s.slots old)) n given b))
         (sym (append-nil (s.pending old))) (any_moment kept b n stable);
+    between = λ _ _. between;
   }
-  load_logs old new (Err error) shape slots failed counted lsn blocks settles any_moment = record {
+  load_by Between old new (Err error) shape slots failed counted lsn blocks settles any_moment between = record {
     same_shape = shape;
     same_slots = slots;
     failed = failed;
@@ -170,9 +218,23 @@ module _ {S : Type 0} (s : Ghosts S) where
         (λ (given : List (List Patch)). LeavesOnly s.moment s.left_since old new
         (OpensToSome (s.opens (s.shape_of old) (s.slots old)) n given b))
         (sym (append-nil (s.pending old))) (any_moment kept b n stable);
+    between = λ is _. no_clash is;
   }
 
-  -- a flush or a checkpoint, from its clauses: they are those of a load, and that no group waits any more
+  -- a load
+  pub load_logs : {T E : Type 0} (old new : S) (result : Result T E) → s.shape_of new ≡ s.shape_of old
+      → s.slots new ≡ s.slots old → s.failed new ≡ is_err result
+      → IsCounted (s.faults old) (s.faults new) result → s.lsn new ≡ s.lsn old
+      → (s.tells → OnOk result (s.blocks new ≡ s.blocks old))
+      → (s.keeps → OnOk result ((b : List (List ℕ)) (n : ℕ) → s.stable old b n
+      → Settles n (s.pending old) b (s.stable new) (s.pending new)))
+      → (s.keeps → (b : List (List ℕ)) (n : ℕ) → s.stable old b n → LeavesOnly s.moment s.left_since old new
+      (OpensToSome (s.opens (s.shape_of old) (s.slots old)) n (s.pending old) b))
+      → OnOk result (s.holds_back old new)
+      → Logs s old new [] (not (is_err result))
+  load_logs old new result = load_by s.holds_back old new result
+
+  -- a flush or a checkpoint: their clauses are those of a load, but that they make groups last, and none waits any more
   pub flush_logs : {T E : Type 0} (old new : S) (result : Result T E) → s.shape_of new ≡ s.shape_of old
       → s.slots new ≡ s.slots old → s.failed new ≡ is_err result
       → IsCounted (s.faults old) (s.faults new) result → s.lsn new ≡ s.lsn old
@@ -181,8 +243,13 @@ module _ {S : Type 0} (s : Ghosts S) where
       → Settles n (s.pending old) b (s.stable new) (s.pending new)))
       → (s.keeps → (b : List (List ℕ)) (n : ℕ) → s.stable old b n → LeavesOnly s.moment s.left_since old new
       (OpensToSome (s.opens (s.shape_of old) (s.slots old)) n (s.pending old) b))
-      → Logs s old new [] (not (is_err result))
-  flush_logs old new result = load_logs old new result
+      → Flushes s old new [] (not (is_err result))
+  flush_logs old new result shape slots failed counted lsn blocks settles any_moment =
+      load_by (λ a b. Unit {0}) old new result shape slots failed counted lsn blocks settles any_moment (nothing result)
+    where
+      nothing : {T E : Type 0} (r : Result T E) → OnOk r (Unit {0})
+      nothing (Ok value) = tt
+      nothing (Err error) = tt
 
   -- a call that applies a group, from its clauses
   pub apply_logs : {T E : Type 0} (old new : S) (group : List Patch) (result : Result T E)
@@ -193,8 +260,9 @@ module _ {S : Type 0} (s : Ghosts S) where
       → Settles n (s.pending old ++ group ∷ []) b (s.stable new) (s.pending new)))
       → (s.keeps → (b : List (List ℕ)) (n : ℕ) → s.stable old b n → LeavesOnly s.moment s.left_since old new
       (OpensToSome (s.opens (s.shape_of old) (s.slots old)) n (s.pending old ++ group ∷ []) b))
+      → OnOk result (s.holds_back old new)
       → Logs s old new (group ∷ []) (not (is_err result))
-  apply_logs old new group (Ok value) shape slots failed counted lsn blocks settles any_moment = record {
+  apply_logs old new group (Ok value) shape slots failed counted lsn blocks settles any_moment between = record {
     same_shape = shape;
     same_slots = slots;
     failed = failed;
@@ -205,8 +273,9 @@ module _ {S : Type 0} (s : Ghosts S) where
     blocks = λ told _. blocks told;
     settles = λ kept _. settles kept;
     any_moment = λ kept _. any_moment kept;
+    between = λ _ _. between;
   }
-  apply_logs old new group (Err error) shape slots failed counted lsn blocks settles any_moment = record {
+  apply_logs old new group (Err error) shape slots failed counted lsn blocks settles any_moment between = record {
     same_shape = shape;
     same_slots = slots;
     failed = failed;
@@ -217,4 +286,5 @@ module _ {S : Type 0} (s : Ghosts S) where
     blocks = λ _. no_clash;
     settles = λ _. no_clash;
     any_moment = λ kept _. any_moment kept;
+    between = λ is _. no_clash is;
   }

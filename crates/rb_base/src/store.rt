@@ -63,6 +63,9 @@ pub trait Store {
     /// What a crash at some moment since that one may have left.
     ghost left_since: { Self → ℕ → image → Type 0 };
 
+    /// From the one to the other its calls made no group last of themselves: none but those that the store itself had to.
+    ghost holds_back: { Self → Self → Type 0 };
+
     /// To which blocks and which last log number an image opens, in a file of that shape and as many slots.
     ghost opens: { Shape → Option ℕ → image → List (List ℕ) → ℕ → Type 0 };
 
@@ -84,6 +87,7 @@ pub trait Store {
         ensures lsn { lsn self.new ≡ lsn self.old }
         ensures blocks { tells → OnOk result (blocks self.new ≡ blocks self.old) }
         ensures whole { tells → OnOk result (AreBlocks (shape_of self.new) (blocks self.new)) }
+        ensures holds_back { OnOk result (holds_back self.old self.new) }
         ensures settles { keeps → OnOk result ((b : List (List ℕ)) (n : ℕ) → stable self.old b n
             → Settles n (pending self.old) b (stable self.new) (pending self.new)) }
         ensures any_moment { keeps → (b : List (List ℕ)) (n : ℕ) → stable self.old b n
@@ -111,6 +115,7 @@ pub trait Store {
         ensures lsn { OnOk result (lsn self.new ≡ lsn self.old + 1) }
         ensures blocks { tells → OnOk result (blocks self.new
             ≡ after_group (lsn self.old + 1) group.now (blocks self.old)) }
+        ensures holds_back { OnOk result (holds_back self.old self.new) }
         ensures settles { keeps → OnOk result ((b : List (List ℕ)) (n : ℕ) → stable self.old b n
             → Settles n (pending self.old ++ group.now ∷ []) b (stable self.new) (pending self.new)) }
         ensures any_moment { keeps → (b : List (List ℕ)) (n : ℕ) → stable self.old b n
@@ -178,6 +183,12 @@ pub trait Store {
     /// This moment is one of those since an earlier one.
     ghost now_counts: { (store : Self) (t : ℕ) (i : image) → keeps → t ≤ moment store → left store i
         → left_since store t i };
+
+    /// Where no call is made, none is made last.
+    ghost holds_back_same: { (store : Self) → holds_back store store };
+
+    /// What two runs of calls held back, both together did.
+    ghost holds_back_joined: { (a b c : Self) → holds_back a b → holds_back b c → holds_back a c };
 
     /// Since this moment there is no other.
     ghost only_now: { (store : Self) (i : image) → keeps → left_since store (moment store) i → left store i };

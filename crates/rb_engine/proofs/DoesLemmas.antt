@@ -5,7 +5,7 @@ use Rattle.std.specs.Result.{is_err}
 use Rattle.rb_base.specs.Blocks.{block_of, header_block}
 use Rattle.rb_base.specs.Counts.{err_is}
 use Rattle.rb_base.specs.Keeps.{Keeps}
-use Rattle.rb_base.specs.Logs.{Laws, Logs, no_logs}
+use Rattle.rb_base.specs.Logs.{Laws, Logs, LogsBy, no_logs}
 use Rattle.rb_base.specs.Stores.{room_of}
 use Rattle.rb_base.specs.declared.ids.Xid.{Xid}
 use Rattle.rb_base.specs.declared.store.Store.{Ghosts}
@@ -95,7 +95,7 @@ module _ {S : Type 0} (s : Ghosts S) where
 
   module _ (told : s.tells) (laws : Laws s) where
     -- Calls that gave no group leave a state with the same commits and books.
-    pub survives_same : {fault : Option Call} → (h h2 : State) (xids : List Xid) (old new : S) (going : Bool) → s.shape_of old ≡ h.shape → h2.shape ≡ h.shape → h2.commits ≡ h.commits → h2.books ≡ h.books → Holds s h xids old → Logs s old new [] going
+    pub survives_same : {Between : S → S → Type 0} {fault : Option Call} → (h h2 : State) (xids : List Xid) (old new : S) (going : Bool) → s.shape_of old ≡ h.shape → h2.shape ≡ h.shape → h2.commits ≡ h.commits → h2.books ≡ h.books → Holds s h xids old → LogsBy s Between old new [] going
         → s.keeps → Survives s (s.slots old) fault h h2 old new
     survives_same h h2 xids old new going shape shapes commits books holds logs keeps =
         let P : List (List ℕ) → ℕ → Type 0 = HasState h h.books (last_scn h.commits) (s.slots old) in
@@ -122,7 +122,7 @@ module _ {S : Type 0} (s : Ghosts S) where
         }
 
     -- Calls that gave no group and went well leave what the store has.
-    pub holds_logged : (h : State) (xids : List Xid) (old new : S) → Holds s h xids old → Logs s old new [] true → Holds s h xids new
+    pub holds_logged : {Between : S → S → Type 0} (h : State) (xids : List Xid) (old new : S) → Holds s h xids old → LogsBy s Between old new [] true → Holds s h xids new
     holds_logged h xids old new holds logs =
         let P : List (List ℕ) → ℕ → Type 0 = HasState h h.books (last_scn h.commits) (s.slots old) in
         let same : s.blocks new ≡ s.blocks old = logs.blocks told refl in
@@ -138,10 +138,10 @@ module _ {S : Type 0} (s : Ghosts S) where
         }
 
     -- A table remembers the state over calls that gave no group and went well.
-    pub remembers_logged : (h : State) (xids : List Xid) (sessions : List KeptSession) (old new : S) → Logs s old new [] true → Remembers h xids (env_of h.shape (s.blocks old)) sessions → Remembers h xids (env_of h.shape (s.blocks new)) sessions
+    pub remembers_logged : {Between : S → S → Type 0} (h : State) (xids : List Xid) (sessions : List KeptSession) (old new : S) → LogsBy s Between old new [] true → Remembers h xids (env_of h.shape (s.blocks old)) sessions → Remembers h xids (env_of h.shape (s.blocks new)) sessions
     remembers_logged h xids sessions old new logs knows = subst (λ b. Remembers h xids (env_of h.shape b) sessions) (sym (logs.blocks told refl)) knows
 
-    pub goes_logged : (h : State) (old new : EngineView S) → Goes s h old → Logs s old.store new.store [] true → new.memory.sessions ≡ old.memory.sessions → Goes s h new
+    pub goes_logged : {Between : S → S → Type 0} (h : State) (old new : EngineView S) → Goes s h old → LogsBy s Between old.store new.store [] true → new.memory.sessions ≡ old.memory.sessions → Goes s h new
     goes_logged h old new goes logs same = record {
       xids = goes.xids;
       holds = holds_logged h goes.xids old.store new.store goes.holds logs;
@@ -149,9 +149,9 @@ module _ {S : Type 0} (s : Ghosts S) where
     }
 
     -- A call that does nothing but load or make groups last, with an answer that leaves the state.
-    pub does_loaded : (h : State) (call : Call) (answer : Answer) (old new : EngineView S) → Stands s h old
+    pub does_loaded : {Between : S → S → Type 0} (h : State) (call : Call) (answer : Answer) (old new : EngineView S) → Stands s h old
         → Reply h (s.lsn old.store) (room_of (s.slots old.store) (s.lsn old.store)) call answer → After h call answer h → Grows h call answer 0 → Retained h call answer h
-        → new.memory ≡ old.memory → (h.stopped ≡ false → Logs s old.store new.store [] true) → SameStore s old.store new.store → Does s h call answer old new
+        → new.memory ≡ old.memory → (h.stopped ≡ false → LogsBy s Between old.store new.store [] true) → SameStore s old.store new.store → Does s h call answer old new
     does_loaded h call answer old new st reply after grows retains memory logs same =
         does_by h h call answer old new 0 st reply after (λ _. retains) (subst (Knows h) (sym memory) st.knows) same
         (λ going. (grows, (logs going).number refl, goes_logged h old new (st.goes going) (logs going) (ap (λ (k : Kept). k.sessions) memory)))
@@ -167,7 +167,7 @@ module _ {S : Type 0} (s : Ghosts S) where
         (λ clash. absurd (false≢true (sym clash)))
         (λ before going keeps. survives keeps)
 
-    pub fault_survives : {fault : Option Call} → (h : State) (xids : List Xid) (old new : S) → s.shape_of old ≡ h.shape → Holds s h xids old → Logs s old new [] false → s.keeps → Survives s (s.slots old) fault h (record h { stopped = true }) old new
+    pub fault_survives : {Between : S → S → Type 0} {fault : Option Call} → (h : State) (xids : List Xid) (old new : S) → s.shape_of old ≡ h.shape → Holds s h xids old → LogsBy s Between old new [] false → s.keeps → Survives s (s.slots old) fault h (record h { stopped = true }) old new
     fault_survives h xids old new shape holds logs keeps = survives_same h (record h { stopped = true }) xids old new false shape refl refl refl holds logs keeps
 
     -- A call that changed what one session has beside its changes, and perhaps loaded blocks.

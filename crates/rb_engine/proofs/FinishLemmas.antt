@@ -6,7 +6,7 @@ use Rattle.std.specs.Result.{is_err}
 use Rattle.rb_attempt.specs.Asks.{header_in}
 use Rattle.rb_base.specs.Blocks.{after_groups}
 use Rattle.rb_base.specs.Groups.{Patch}
-use Rattle.rb_base.specs.Logs.{Laws, Logs, more_logs, no_logs}
+use Rattle.rb_base.specs.Logs.{Flushes, Laws, Logs, LogsBy, more_flushes, no_logs}
 use Rattle.rb_base.specs.Stores.{room_of}
 use Rattle.rb_base.specs.declared.ids.Xid.{Xid}
 use Rattle.rb_base.specs.declared.store.Store.{Ghosts}
@@ -57,10 +57,10 @@ no_items (c ∷ l) e = absurd (omega (arith, e))
 
 module _ {S : Type 0} (s : Ghosts S) (told : s.tells) (laws : Laws s) (h : State) (xids : List Xid) (who : ℕ) (x : Xid) (old : S) (shape : s.shape_of old ≡ h.shape) (holds : Holds s h xids old)
     (some : 0 < length (session_own h who)) where
-  pub commits_failed : (new : S) (groups : List (List Patch)) → length groups ≤ 1 → Logs s old new groups false → (1 ≤ length groups → CommitMade h xids who x (s.blocks old) (after_groups (s.lsn old + 1) groups (s.blocks old))) → Fails s (Some (Commit who)) h old new
+  pub commits_failed : {Between : S → S → Type 0} (new : S) (groups : List (List Patch)) → length groups ≤ 1 → LogsBy s Between old new groups false → (1 ≤ length groups → CommitMade h xids who x (s.blocks old) (after_groups (s.lsn old + 1) groups (s.blocks old))) → Fails s (Some (Commit who)) h old new
   commits_failed new groups few logs made keeps = commit_fault s told laws h xids who x old shape holds new groups few logs made (some_own (session_own h who) some) keeps
 
-  pub commits_done : {T E : Type 0} (mid new : S) → GivesOne s old mid true (λ now. CommitMade h xids who x (s.blocks old) now) → (r : Result T E) → Logs s mid new [] (not (is_err r)) → (s.keeps → OnOk r (s.pending new ≡ [])) → Commits s h xids who x old new (not (is_err r))
+  pub commits_done : {T E : Type 0} (mid new : S) → GivesOne s old mid true (λ now. CommitMade h xids who x (s.blocks old) now) → (r : Result T E) → Flushes s mid new [] (not (is_err r)) → (s.keeps → OnOk r (s.pending new ≡ [])) → Commits s h xids who x old new (not (is_err r))
   commits_done mid new one (Ok value) flush none =
       let all = holds_committed s told laws h xids who x old shape holds None mid new one flush none in
       let number : s.lsn new ≡ s.lsn old + 1 = let a = one.logs.number refl in let b = flush.number refl in let k = one.one refl in omega (arith, a, b, k) in
@@ -69,7 +69,7 @@ module _ {S : Type 0} (s : Ghosts S) (told : s.tells) (laws : Laws s) (h : State
       let made : CommitMade h xids who x (s.blocks old) (s.blocks new) = subst (λ b. CommitMade h xids who x (s.blocks old) b) (sym blocks) (one.made (omega (arith, single))) in
       (all.0, made.ids, number, λ before. (holds_committed s told laws h xids who x old shape holds before mid new one flush none).1, made.group)
   commits_done mid new one (Err fault) flush none =
-      let both : Logs s old new one.groups false = subst (λ (l : List (List Patch)). Logs s old new l false) (append-nil one.groups) (more_logs s old mid new one.groups [] false one.logs flush) in
+      let both : Flushes s old new one.groups false = subst (λ (l : List (List Patch)). Flushes s old new l false) (append-nil one.groups) (more_flushes s old mid new one.groups [] false one.logs flush) in
       commits_failed new one.groups one.few both one.made
 
 -- a session of that number is there

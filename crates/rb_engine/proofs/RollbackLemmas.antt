@@ -441,3 +441,8 @@ module _ {S : Type 0} (s : Ghosts S) (told : s.tells) (laws : Laws s) (h : State
         ))
         (λ before _ keeps. survives_on s (s.slots old.store) h m now old.store new.store new.store going (done.3 before keeps)
         (subst (λ (k : Option ℕ). Survives s k before m now new.store new.store) same.slots (survives_same s told laws m now held.xids new.store new.store true shape_new refl refl refl done.0 (no_logs s new.store runs) keeps)))
+
+-- what holds where a call went well
+pub ok_by : {T E : Type 0} {P : Type 0} (r : Result T E) → (not (is_err r) ≡ true → P) → OnOk r P
+ok_by (Ok value) so = so refl
+ok_by (Err error) so = tt

@@ -1,6 +1,6 @@
 -- What a commit and a rollback leave of a store that has a state, or of which a call failed on the way.
 use Rattle.std.specs.Prelude.{◌≡◌, ◌+◌, ◌-◌, ◌*◌, ◌∷◌, ◌++◌, ℕ, Bool, true, false}
-use Rattle.std.specs.Prelude.{length, take, [], Option, Some, List}
+use Rattle.std.specs.Prelude.{length, take, [], Option, None, Some, List, Result, Ok, Err}
 use Rattle.rb_base.specs.declared.ids.Xid.{Xid}
 use Rattle.rb_base.specs.declared.store.Store.{Ghosts}
 use Rattle.rb_image.specs.Crash.{Survives}
@@ -10,6 +10,8 @@ use Rattle.rb_model.specs.Calls.{Call, Commit}
 use Rattle.rb_model.specs.NextState.{committed, ended, without_owner}
 use Rattle.rb_model.specs.Rows.{last_scn}
 use Rattle.rb_model.specs.State.{Cursor, State, session_own}
+use Rattle.rb_model.specs.declared.refusal.Refusal.{Refusal}
+use Rattle.rb_model.specs.declared.refusal.Refusal.TheVariants.{DiskFault}
 use Rattle.rb_standing.specs.Groups.{IsCommitted, IsEnded}
 use Rattle.rb_standing.specs.NextStates.{with_own}
 use Rattle.rb_standing.specs.Standing.{env_of}
@@ -53,3 +55,10 @@ PutsAllBack s h xids who x old new true = (cursors : List Cursor)
     × BackOver h.shape (16 * x.seg + x.slot) (length (session_own h who)) (s.blocks old) middle
     × IsEnded h.shape (16 * x.seg + x.slot) middle (s.blocks new))
 PutsAllBack s h xids who x old new false = (fault : Option Call) → Fails s fault h old new
+
+-- a commit answered no number, nor a fault of the disk: it ended a transaction without changes, or was refused
+abbrev pub HasNoNumber : Result (Option ℕ) Refusal → Type 0
+HasNoNumber (Ok None) = Unit {0}
+HasNoNumber (Ok (Some number)) = ⊥
+HasNoNumber (Err DiskFault) = ⊥
+HasNoNumber (Err _) = Unit {0}

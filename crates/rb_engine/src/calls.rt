@@ -3,6 +3,7 @@ ghost use Rattle.std.specs.Prelude.{◌≡◌, ◌<◌, ◌≤◌, ℕ, false, O
 ghost use Rattle.std.specs.Result.{is_err};
 ghost use Rattle.rb_base.specs.Counts.{IsCountedAs, err_is};
 ghost use Rattle.rb_engine.specs.Cleaning.{CleansRead, HasLooked};
+ghost use Rattle.rb_engine.specs.Finishing.{HasNoNumber};
 ghost use Rattle.rb_engine.specs.Does.{Does, LeavesState, Resumes, SameStore, Stands, resume_fault};
 ghost use Rattle.rb_engine.specs.Lateness.{ResumeNeedsLost, WriteNeedsLost};
 ghost use Rattle.rb_engine.specs.Scanning.{NeedsLost};
@@ -45,6 +46,8 @@ impl<T: Store> Engine<T> {
             → result ≡ Err (Refusal.TooOld scn lost) → WriteNeedsLost T.Store h self.old s table key scn lost }
         ensures tells { (h : State) → Stands T.Store h self.old → err_is is_disk_fault result ≡ false
             → TellsLooks h.shape (T.blocks self.old.store) (T.blocks self.new.store) }
+        ensures holds_back { err_is is_disk_fault result ≡ false
+            → T.holds_back self.old.store self.new.store }
         ensures same { SameStore T.Store self.old.store self.new.store }
         ensures disk { IsCountedAs (T.faults self.old.store) (T.faults self.new.store)
             (err_is is_disk_fault result) }
@@ -69,6 +72,8 @@ impl<T: Store> Engine<T> {
             → result ≡ Err (Refusal.TooOld scn lost) → WriteNeedsLost T.Store h self.old s table key scn lost }
         ensures tells { (h : State) → Stands T.Store h self.old → err_is is_disk_fault result ≡ false
             → TellsLooks h.shape (T.blocks self.old.store) (T.blocks self.new.store) }
+        ensures holds_back { err_is is_disk_fault result ≡ false
+            → T.holds_back self.old.store self.new.store }
         ensures same { SameStore T.Store self.old.store self.new.store }
         ensures disk { IsCountedAs (T.faults self.old.store) (T.faults self.new.store)
             (err_is is_disk_fault result) }
@@ -92,6 +97,8 @@ impl<T: Store> Engine<T> {
     pub fn set(&mut self, s: u16, mode: Mode) -> Result<(), Refusal>
         ensures did { (h : State) → Stands T.Store h self.old → Does T.Store h
             (machine.SetMode s mode) (plain_answer result) self.old self.new }
+        ensures holds_back { err_is is_disk_fault result ≡ false
+            → T.holds_back self.old.store self.new.store }
         ensures same { SameStore T.Store self.old.store self.new.store }
         ensures disk { IsCountedAs (T.faults self.old.store) (T.faults self.new.store)
             (err_is is_disk_fault result) }
@@ -106,6 +113,7 @@ impl<T: Store> Engine<T> {
             (machine.Commit s) (commit_answer result) self.old self.new }
         ensures rows { (h : State) → Stands T.Store h self.old
             → OnOk result (KeepsRows h.shape (T.blocks self.old.store) (T.blocks self.new.store)) }
+        ensures holds_back { HasNoNumber result → T.holds_back self.old.store self.new.store }
         ensures same { SameStore T.Store self.old.store self.new.store }
         ensures disk { IsCountedAs (T.faults self.old.store) (T.faults self.new.store)
             (err_is is_disk_fault result) }
@@ -117,6 +125,8 @@ impl<T: Store> Engine<T> {
     pub fn rollback(&mut self, s: u16) -> Result<(), Refusal>
         ensures did { (h : State) → Stands T.Store h self.old → Does T.Store h
             (machine.Rollback s) (plain_answer result) self.old self.new }
+        ensures holds_back { err_is is_disk_fault result ≡ false
+            → T.holds_back self.old.store self.new.store }
         ensures same { SameStore T.Store self.old.store self.new.store }
         ensures disk { IsCountedAs (T.faults self.old.store) (T.faults self.new.store)
             (err_is is_disk_fault result) }
@@ -129,6 +139,8 @@ impl<T: Store> Engine<T> {
     pub fn savepoint(&mut self, s: u16, name: &Name) -> Result<(), Refusal>
         ensures did { (h : State) → Stands T.Store h self.old → Does T.Store h
             (machine.SetSavepoint s (name_text name.now)) (plain_answer result) self.old self.new }
+        ensures holds_back { err_is is_disk_fault result ≡ false
+            → T.holds_back self.old.store self.new.store }
         ensures same { SameStore T.Store self.old.store self.new.store }
         ensures disk { IsCountedAs (T.faults self.old.store) (T.faults self.new.store)
             (err_is is_disk_fault result) }
@@ -141,6 +153,8 @@ impl<T: Store> Engine<T> {
     pub fn rollback_to(&mut self, s: u16, name: &Name) -> Result<(), Refusal>
         ensures did { (h : State) → Stands T.Store h self.old → Does T.Store h
             (machine.RollbackTo s (name_text name.now)) (plain_answer result) self.old self.new }
+        ensures holds_back { err_is is_disk_fault result ≡ false
+            → T.holds_back self.old.store self.new.store }
         ensures same { SameStore T.Store self.old.store self.new.store }
         ensures disk { IsCountedAs (T.faults self.old.store) (T.faults self.new.store)
             (err_is is_disk_fault result) }
@@ -159,6 +173,8 @@ impl<T: Store> Engine<T> {
     ) -> Result<(), Refusal>
         ensures did { (h : State) → Stands T.Store h self.old → Does T.Store h
             (machine.OpenCursor s (name_text name.now) table lo hi) (plain_answer result) self.old self.new }
+        ensures holds_back { err_is is_disk_fault result ≡ false
+            → T.holds_back self.old.store self.new.store }
         ensures same { SameStore T.Store self.old.store self.new.store }
         ensures disk { IsCountedAs (T.faults self.old.store) (T.faults self.new.store)
             (err_is is_disk_fault result) }
@@ -185,6 +201,8 @@ impl<T: Store> Engine<T> {
         ensures tells { (h : State) → Stands T.Store h self.old → err_is is_disk_fault result ≡ false
             → TellsLooks h.shape (T.blocks self.old.store) (T.blocks self.new.store) }
         ensures row { LeavesRow result row.old row.new }
+        ensures holds_back { err_is is_disk_fault result ≡ false
+            → T.holds_back self.old.store self.new.store }
         ensures same { SameStore T.Store self.old.store self.new.store }
         ensures disk { IsCountedAs (T.faults self.old.store) (T.faults self.new.store)
             (err_is is_disk_fault result) }
@@ -203,6 +221,8 @@ impl<T: Store> Engine<T> {
     pub fn close_cursor(&mut self, s: u16, name: &Name) -> Result<(), Refusal>
         ensures did { (h : State) → Stands T.Store h self.old → Does T.Store h
             (machine.CloseCursor s (name_text name.now)) (plain_answer result) self.old self.new }
+        ensures holds_back { err_is is_disk_fault result ≡ false
+            → T.holds_back self.old.store self.new.store }
         ensures same { SameStore T.Store self.old.store self.new.store }
         ensures disk { IsCountedAs (T.faults self.old.store) (T.faults self.new.store)
             (err_is is_disk_fault result) }
@@ -214,6 +234,8 @@ impl<T: Store> Engine<T> {
     pub fn cancel(&mut self, s: u16) -> Result<(), Refusal>
         ensures did { (h : State) → Stands T.Store h self.old → Does T.Store h
             (machine.Cancel s) (plain_answer result) self.old self.new }
+        ensures holds_back { err_is is_disk_fault result ≡ false
+            → T.holds_back self.old.store self.new.store }
         ensures same { SameStore T.Store self.old.store self.new.store }
         ensures disk { IsCountedAs (T.faults self.old.store) (T.faults self.new.store)
             (err_is is_disk_fault result) }
@@ -233,6 +255,7 @@ impl<T: Store> Engine<T> {
         ensures fewer { IfSome result (λ r. ready_count self.new.memory.waits < ready_count self.old.memory.waits) }
         ensures few { ready_count self.old.memory.waits ≤ SESSIONS }
         ensures idle { first_ready self.old.memory.waits ≡ None → (result ≡ None) × (self.new ≡ self.old) }
+        ensures holds_back { resume_fault result ≡ false → T.holds_back self.old.store self.new.store }
         ensures same { SameStore T.Store self.old.store self.new.store }
         ensures disk { IsCountedAs (T.faults self.old.store) (T.faults self.new.store) (resume_fault result) }
     {
@@ -244,6 +267,8 @@ impl<T: Store> Engine<T> {
         requires { seg < (T.shape_of self.old.store).segments }
         ensures did { (h : State) → Stands T.Store h self.old → Does T.Store h
             (machine.Marks seg) (marks_answer seg result) self.old self.new }
+        ensures holds_back { err_is is_disk_fault result ≡ false
+            → T.holds_back self.old.store self.new.store }
         ensures same { SameStore T.Store self.old.store self.new.store }
         ensures disk { IsCountedAs (T.faults self.old.store) (T.faults self.new.store)
             (err_is is_disk_fault result) }

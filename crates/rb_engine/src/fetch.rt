@@ -41,6 +41,7 @@ pub fn do_fetch<T: Store>(
         → HasLooked result → CleansRead T.Store h (record { memory = memory.old; store = store.old }) s
         (name_text name.now) (is_err result ≡ false) store.new }
     ensures idle { (HasLooked result → ⊥) → err_is is_disk_fault result ≡ false → store.new ≡ store.old }
+    ensures holds_back { err_is is_disk_fault result ≡ false → T.holds_back store.old store.new }
     ensures row { LeavesRow result row.old row.new }
     ensures same { SameStore T.Store store.old store.new }
     ensures disk { IsCountedAs (T.faults store.old) (T.faults store.new) (err_is is_disk_fault result) }

@@ -8,7 +8,7 @@ ghost use Rattle.rb_base.specs.Groups.{Patch};
 ghost use Rattle.rb_base.specs.Logs.{Logs};
 ghost use Rattle.rb_base.specs.Stores.{room_of};
 ghost use Rattle.rb_engine.specs.Does.{Does, IsInStep, SameStore, Stands};
-ghost use Rattle.rb_engine.specs.Finishing.{Commits, PutsAllBack, PutsBack};
+ghost use Rattle.rb_engine.specs.Finishing.{Commits, HasNoNumber, PutsAllBack, PutsBack};
 ghost use Rattle.rb_image.specs.Holds.{Holds};
 ghost use Rattle.rb_image.specs.Keeps.{KeepsRows};
 ghost use Rattle.rb_model.specs.Answers.{commit_answer, plain_answer};
@@ -92,6 +92,7 @@ fn put_all_back<T: Store>(store: &mut T, xid: Xid, count: u32) -> Result<(), Fai
         → IsOwnId h (env_of h.shape (T.blocks store.old)) who (Some xid) → h.stopped ≡ false
         → length (session_own h who) ≡ count
         → PutsAllBack T.Store h xids who xid store.old store.new (not (is_err result)) }
+    ensures holds_back { OnOk result (T.holds_back store.old store.new) }
     ensures lsn { OnOk result (T.lsn store.new ≤ T.lsn store.old + count + 1) }
     ensures same { SameStore T.Store store.old store.new }
     ensures failed { T.failed store.new ≡ is_err result }
@@ -121,6 +122,7 @@ fn commit_changes<T: Store>(
         (record { memory = memory.old; store = store.old }) (record { memory = memory.new; store = store.new }) }
     ensures rows { (h : State) → Stands T.Store h (record { memory = memory.old; store = store.old })
         → OnOk result (KeepsRows h.shape (T.blocks store.old) (T.blocks store.new)) }
+    ensures holds_back { HasNoNumber result → T.holds_back store.old store.new }
     ensures same { SameStore T.Store store.old store.new }
     ensures disk { IsCountedAs (T.faults store.old) (T.faults store.new) (err_is is_disk_fault result) }
 {
@@ -162,6 +164,7 @@ fn end_without_changes<T: Store>(
         (record { memory = memory.old; store = store.old }) (record { memory = memory.new; store = store.new }) }
     ensures rows { (h : State) → Stands T.Store h (record { memory = memory.old; store = store.old })
         → OnOk result (KeepsRows h.shape (T.blocks store.old) (T.blocks store.new)) }
+    ensures holds_back { HasNoNumber result → T.holds_back store.old store.new }
     ensures same { SameStore T.Store store.old store.new }
     ensures disk { IsCountedAs (T.faults store.old) (T.faults store.new) (err_is is_disk_fault result) }
 {
@@ -196,6 +199,7 @@ fn roll_back_changes<T: Store>(
     ensures did { (h : State) → Stands T.Store h (record { memory = memory.old; store = store.old })
         → Does T.Store h (machine.Rollback s) (plain_answer result)
         (record { memory = memory.old; store = store.old }) (record { memory = memory.new; store = store.new }) }
+    ensures holds_back { err_is is_disk_fault result ≡ false → T.holds_back store.old store.new }
     ensures same { SameStore T.Store store.old store.new }
     ensures disk { IsCountedAs (T.faults store.old) (T.faults store.new) (err_is is_disk_fault result) }
 {
@@ -229,6 +233,7 @@ pub fn do_commit<T: Store>(
         (record { memory = memory.old; store = store.old }) (record { memory = memory.new; store = store.new }) }
     ensures rows { (h : State) → Stands T.Store h (record { memory = memory.old; store = store.old })
         → OnOk result (KeepsRows h.shape (T.blocks store.old) (T.blocks store.new)) }
+    ensures holds_back { HasNoNumber result → T.holds_back store.old store.new }
     ensures same { SameStore T.Store store.old store.new }
     ensures disk { IsCountedAs (T.faults store.old) (T.faults store.new) (err_is is_disk_fault result) }
 {
@@ -255,6 +260,7 @@ pub fn do_rollback<T: Store>(memory: &mut Memory, store: &mut T, s: u16) -> Resu
     ensures did { (h : State) → Stands T.Store h (record { memory = memory.old; store = store.old })
         → Does T.Store h (machine.Rollback s) (plain_answer result)
         (record { memory = memory.old; store = store.old }) (record { memory = memory.new; store = store.new }) }
+    ensures holds_back { err_is is_disk_fault result ≡ false → T.holds_back store.old store.new }
     ensures same { SameStore T.Store store.old store.new }
     ensures disk { IsCountedAs (T.faults store.old) (T.faults store.new) (err_is is_disk_fault result) }
 {

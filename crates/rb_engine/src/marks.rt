@@ -20,6 +20,7 @@ pub fn do_marks<T: Store>(memory: &mut Memory, store: &mut T, seg: u16) -> Resul
     ensures did { (h : State) → Stands T.Store h (record { memory = memory.old; store = store.old })
         → Does T.Store h (machine.Marks seg) (marks_answer seg result)
         (record { memory = memory.old; store = store.old }) (record { memory = memory.new; store = store.new }) }
+    ensures holds_back { err_is is_disk_fault result ≡ false → T.holds_back store.old store.new }
     ensures same { SameStore T.Store store.old store.new }
     ensures disk { IsCountedAs (T.faults store.old) (T.faults store.new) (err_is is_disk_fault result) }
 {

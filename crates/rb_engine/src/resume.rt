@@ -31,6 +31,7 @@ pub fn do_resume<T: Store>(
         (record { memory = memory.old; store = store.old }) s scn lost }
     ensures tells { (h : State) → Stands T.Store h (record { memory = memory.old; store = store.old })
         → resume_fault result ≡ false → TellsLooks h.shape (T.blocks store.old) (T.blocks store.new) }
+    ensures holds_back { resume_fault result ≡ false → T.holds_back store.old store.new }
     ensures fewer { IfSome result (λ r. ready_count memory.new.waits < ready_count memory.old.waits) }
     ensures idle { first_ready memory.old.waits ≡ None
         → (result ≡ None) × (memory.new ≡ memory.old) × (store.new ≡ store.old) }

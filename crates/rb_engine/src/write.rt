@@ -108,6 +108,7 @@ fn make_write<T: Store>(
         → machine.none_applies (machine.early_tests h (machine.Write s table key (action_by op.entry))) ≡ true
         → MayWrite h s table key
         → err_is is_disk_fault result ≡ false → TellsLooks h.shape (T.blocks store.old) (T.blocks store.new) }
+    ensures holds_back { err_is is_disk_fault result ≡ false → T.holds_back store.old store.new }
     ensures young { IfErr result NotOld }
     ensures waits { memory.new.waits ≡ memory.old.waits }
     ensures same { SameStore T.Store store.old store.new }
@@ -153,6 +154,7 @@ fn write_free<T: Store>(
         → machine.none_applies (machine.early_tests h (machine.Write s table key (action_by op.entry))) ≡ true
         → NotOthers h s table key
         → err_is is_disk_fault result ≡ false → TellsLooks h.shape (T.blocks store.old) (T.blocks store.new) }
+    ensures holds_back { err_is is_disk_fault result ≡ false → T.holds_back store.old store.new }
     ensures waits { memory.new.waits ≡ memory.old.waits }
     ensures same { SameStore T.Store store.old store.new }
     ensures disk { IsCountedAs (T.faults store.old) (T.faults store.new) (err_is is_disk_fault result) }
@@ -190,6 +192,7 @@ fn try_write<T: Store>(
     ensures tells { (h : State) → Stands T.Store h (record { memory = memory.old; store = store.old })
         → machine.none_applies (machine.early_tests h (machine.Write s table key (action_by op.entry))) ≡ true
         → err_is is_disk_fault result ≡ false → TellsLooks h.shape (T.blocks store.old) (T.blocks store.new) }
+    ensures holds_back { err_is is_disk_fault result ≡ false → T.holds_back store.old store.new }
     ensures ready { ready_count memory.new.waits ≡ ready_count memory.old.waits }
     ensures same { SameStore T.Store store.old store.new }
     ensures disk { IsCountedAs (T.faults store.old) (T.faults store.new) (err_is is_disk_fault result) }
@@ -225,6 +228,7 @@ pub fn do_write<T: Store>(
         (record { memory = memory.old; store = store.old }) s table key scn lost }
     ensures tells { (h : State) → Stands T.Store h (record { memory = memory.old; store = store.old })
         → err_is is_disk_fault result ≡ false → TellsLooks h.shape (T.blocks store.old) (T.blocks store.new) }
+    ensures holds_back { err_is is_disk_fault result ≡ false → T.holds_back store.old store.new }
     ensures ready { ready_count memory.new.waits ≡ ready_count memory.old.waits }
     ensures same { SameStore T.Store store.old store.new }
     ensures disk { IsCountedAs (T.faults store.old) (T.faults store.new) (err_is is_disk_fault result) }

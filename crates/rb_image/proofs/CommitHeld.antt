@@ -2,7 +2,7 @@
 use Rattle.std.proofs.Common.{◌≡◌, ◌⊎◌, inl, inr, ◌≤◌, ◌+◌, ℕ, true, false, List, [], ◌∷◌, ◌++◌, length, Option, Some, refl, sym, ◌∙◌, ap, subst, arith, length-append}
 use Rattle.rb_base.specs.Blocks.{after_group, after_groups}
 use Rattle.rb_base.specs.Groups.{Patch}
-use Rattle.rb_base.specs.Logs.{Laws, Logs, more_logs}
+use Rattle.rb_base.specs.Logs.{Flushes, Laws, Logs, LogsBy, more_flushes}
 use Rattle.rb_base.specs.Stores.{room_of}
 use Rattle.rb_base.specs.declared.ids.Xid.{Xid}
 use Rattle.rb_base.specs.declared.store.Store.{Ghosts}
@@ -44,13 +44,13 @@ module _ {S : Type 0} (s : Ghosts S) (told : s.tells) (laws : Laws s) (h : State
   one_group (g ∷ k ∷ more) e = absurd (omega (arith, e))
 
   -- The commit's group was given, and all groups were made last.
-  pub holds_committed : (fault : Option Call) (mid new : S) → GivesOne s old mid true (λ now. CommitMade h xids who x (s.blocks old) now) → Logs s mid new [] true → (s.keeps → s.pending new ≡ [])
+  pub holds_committed : (fault : Option Call) (mid new : S) → GivesOne s old mid true (λ now. CommitMade h xids who x (s.blocks old) now) → Flushes s mid new [] true → (s.keeps → s.pending new ≡ [])
       → Holds s next (xids ++ x ∷ []) new × (s.keeps → Survives s (s.slots old) fault h next old new)
   holds_committed fault mid new one flush none =
       let single = one_group one.groups (one.one refl) in
       let g = single.0 in
       let logs : Logs s old mid (g ∷ []) true = subst (λ (l : List (List Patch)). Logs s old mid l true) single.1 one.logs in
-      let both : Logs s old new (g ∷ []) true = more_logs s old mid new (g ∷ []) [] true logs flush in
+      let both : Flushes s old new (g ∷ []) true = more_flushes s old mid new (g ∷ []) [] true logs flush in
       let made : CommitMade h xids who x (s.blocks old) (after_groups (s.lsn old + 1) one.groups (s.blocks old)) = one.made (let n = one.one refl in omega (arith, n)) in
       let read : s.blocks new ≡ after_group (s.lsn old + 1) g (s.blocks old) = both.blocks told refl in
       let is : CommitMade h xids who x (s.blocks old) (s.blocks new) = subst Is (ap (λ (l : List (List Patch)). after_groups (s.lsn old + 1) l (s.blocks old)) single.1 ∙ sym read) made in
@@ -68,7 +68,7 @@ module _ {S : Type 0} (s : Ghosts S) (told : s.tells) (laws : Laws s) (h : State
       )
 
   -- A call failed, with the group or before it.
-  pub commit_fault : (new : S) (groups : List (List Patch)) → length groups ≤ 1 → Logs s old new groups false → (1 ≤ length groups → CommitMade h xids who x (s.blocks old) (after_groups (s.lsn old + 1) groups (s.blocks old)))
+  pub commit_fault : {Between : S → S → Type 0} (new : S) (groups : List (List Patch)) → length groups ≤ 1 → LogsBy s Between old new groups false → (1 ≤ length groups → CommitMade h xids who x (s.blocks old) (after_groups (s.lsn old + 1) groups (s.blocks old)))
       → is_empty (session_own h who) ≡ false → s.keeps → Survives s (s.slots old) (Some (Commit who)) h (record h { stopped = true }) old new
   commit_fault new groups few logs made some keeps =
       let P : List (List ℕ) → ℕ → Type 0 = HasState h h.books (last_scn h.commits) (s.slots old) in

@@ -7,7 +7,7 @@ use Rattle.std.proofs.Math.Seq.{take-append-add}
 use Rattle.rb_base.specs.Blocks.{after_group, after_groups}
 use Rattle.rb_base.specs.Groups.{Patch}
 use Rattle.rb_base.specs.Keeps.{AfterEach, Keeps, all_stable, keeps_logged, leaves_logged}
-use Rattle.rb_base.specs.Logs.{Laws, Logs}
+use Rattle.rb_base.specs.Logs.{Flushes, Laws, Logs, LogsBy}
 use Rattle.rb_base.specs.Moments.{LeavesOnly, weaker}
 use Rattle.rb_base.specs.Settling.{after_joined, told_same}
 use Rattle.rb_base.specs.declared.shape.Shape.{Shape}
@@ -81,12 +81,12 @@ module _ {S : Type 0} (s : Ghosts S) (laws : Laws s) (keeps : s.keeps) where
       (cases_lt count 1)
 
   -- a call that went well keeps the property, and leaves nothing else
-  pub keeps_on : (P Q : Property) → ((b : List (List ℕ)) (n : ℕ) → P b n → Q b n) → (old new : S) (groups : List (List Patch)) → Keeps s P old → Logs s old new groups true → AfterEach Q (s.lsn old) groups (s.blocks old) → Keeps s Q new
+  pub keeps_on : {Between : S → S → Type 0} (P Q : Property) → ((b : List (List ℕ)) (n : ℕ) → P b n → Q b n) → (old new : S) (groups : List (List Patch)) → Keeps s P old → LogsBy s Between old new groups true → AfterEach Q (s.lsn old) groups (s.blocks old) → Keeps s Q new
   keeps_on P Q so old new groups kept logs each =
       let wider : Keeps s Q old = record { base = kept.base; first = kept.first; stable = kept.stable; each = λ count few. so _ _ (kept.each count few) } in
       keeps_logged s Q old new groups keeps wider logs (each_on P Q so old groups kept each)
 
-  pub leaves_on : (P Q : Property) → ((b : List (List ℕ)) (n : ℕ) → P b n → Q b n) → (old new : S) (groups : List (List Patch)) (going : Bool) → Keeps s P old → Logs s old new groups going → AfterEach Q (s.lsn old) groups (s.blocks old)
+  pub leaves_on : {Between : S → S → Type 0} (P Q : Property) → ((b : List (List ℕ)) (n : ℕ) → P b n → Q b n) → (old new : S) (groups : List (List Patch)) (going : Bool) → Keeps s P old → LogsBy s Between old new groups going → AfterEach Q (s.lsn old) groups (s.blocks old)
       → LeavesOnly s.moment s.left_since old new (OpensWith s Q old)
   leaves_on P Q so old new groups going kept logs each =
       let wider : Keeps s Q old = record { base = kept.base; first = kept.first; stable = kept.stable; each = λ count few. so _ _ (kept.each count few) } in
@@ -121,8 +121,8 @@ module _ {S : Type 0} (s : Ghosts S) (laws : Laws s) (keeps : s.keeps) where
   }
 
   -- Calls that went well, or gave no group: the state then has the same commits, and no less marks.
-  pub survives_going : {fault : Option Call} → (h h2 : State) (old new : S) (groups : List (List Patch)) → s.shape_of old ≡ h.shape → h2.shape ≡ h.shape → h2.commits ≡ h.commits → MarksGrow h.shape h.books h2.books
-      → Keeps s (HasState h h.books (last_scn h.commits) (s.slots old)) old → (going : Bool) → Logs s old new groups going
+  pub survives_going : {Between : S → S → Type 0} {fault : Option Call} → (h h2 : State) (old new : S) (groups : List (List Patch)) → s.shape_of old ≡ h.shape → h2.shape ≡ h.shape → h2.commits ≡ h.commits → MarksGrow h.shape h.books h2.books
+      → Keeps s (HasState h h.books (last_scn h.commits) (s.slots old)) old → (going : Bool) → LogsBy s Between old new groups going
       → AfterEach (HasState h2 h2.books (last_scn h2.commits) (s.slots old)) (s.lsn old) groups (s.blocks old)
       → Survives s (s.slots old) fault h h2 old new
   survives_going {fault = fault} h h2 old new groups shape shapes commits grow kept going logs each =
@@ -164,7 +164,7 @@ module _ {S : Type 0} (s : Ghosts S) (laws : Laws s) (keeps : s.keeps) where
 
   -- A commit that answered its number: the group was given, and then all were made last.
   pub survives_commit : {fault : Option Call} → (h h2 : State) (old mid new : S) (g : List Patch) → s.shape_of old ≡ h.shape → Extends h h2 → Keeps s (HasState h h.books (last_scn h.commits) (s.slots old)) old
-      → Logs s old mid (g ∷ []) true → Logs s mid new [] true → Logs s old new (g ∷ []) true → s.pending new ≡ [] → HasState h2 h2.books (last_scn h2.commits) (s.slots old) (s.blocks new) (s.lsn new) → s.blocks new ≡ after_group (s.lsn old + 1) g (s.blocks old) → s.lsn new ≡ s.lsn old + 1
+      → Logs s old mid (g ∷ []) true → Flushes s mid new [] true → Flushes s old new (g ∷ []) true → s.pending new ≡ [] → HasState h2 h2.books (last_scn h2.commits) (s.slots old) (s.blocks new) (s.lsn new) → s.blocks new ≡ after_group (s.lsn old + 1) g (s.blocks old) → s.lsn new ≡ s.lsn old + 1
       → Survives s (s.slots old) fault h h2 old new × Keeps s (HasState h2 h2.books (last_scn h2.commits) (s.slots old)) new
   survives_commit {fault = fault} h h2 old mid new g shape extends kept one two both none has made number =
       let P : Property = HasState h h.books (last_scn h.commits) (s.slots old) in
@@ -198,7 +198,7 @@ module _ {S : Type 0} (s : Ghosts S) (laws : Laws s) (keeps : s.keeps) where
       )
 
   -- A commit that answered a fault: its group may be there.
-  pub commit_failed : (h : State) (t : ℕ) (old new : S) (groups : List (List Patch)) → s.shape_of old ≡ h.shape → is_empty (session_own h t) ≡ false → Keeps s (HasState h h.books (last_scn h.commits) (s.slots old)) old → Logs s old new groups false
+  pub commit_failed : {Between : S → S → Type 0} (h : State) (t : ℕ) (old new : S) (groups : List (List Patch)) → s.shape_of old ≡ h.shape → is_empty (session_own h t) ≡ false → Keeps s (HasState h h.books (last_scn h.commits) (s.slots old)) old → LogsBy s Between old new groups false
       → AfterEach (λ b n. HasState h h.books (last_scn h.commits) (s.slots old) b n ⊎ HasState (with_commit h t) h.books (last_scn h.commits + 1) (s.slots old) b n) (s.lsn old) groups (s.blocks old)
       → Survives s (s.slots old) (Some (Commit t)) h (record h { stopped = true }) old new
   commit_failed h t old new groups shape some kept logs each =

@@ -83,6 +83,8 @@ impl Store for PlainStore {
 
     ghost left_since = { λ _ _ _. ⊥ };
 
+    ghost holds_back = { λ _ _. Unit {0} };
+
     ghost opens = { λ _ _ _ _ _. ⊥ };
 
     ghost stable = { λ _ _ _. ⊥ };
@@ -94,6 +96,10 @@ impl Store for PlainStore {
     ghost stable_patched = { λ store b n keeps. absurd keeps };
 
     ghost now_counts = { λ store t i keeps. absurd keeps };
+
+    ghost holds_back_same = { λ store. tt };
+
+    ghost holds_back_joined = { λ a b c first second. tt };
 
     ghost only_now = { λ store i keeps. absurd keeps };
 

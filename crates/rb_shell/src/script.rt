@@ -57,6 +57,8 @@ impl<T: Store> LineRunner for Interpreter<T> {
       stable_patched = λ store b n told stable. T.stable_patched store b n told stable;
       now_counts = λ store t i told le here. T.now_counts store t i told le here;
       only_now = λ store i told left. T.only_now store i told left;
+      holds_back_same = λ store. T.holds_back_same store;
+      holds_back_joined = λ a b c first second. T.holds_back_joined a b c first second;
     }) stands going };
 
     ghost since_joined = { λ a b c m n k. since_joined a.engine b.engine c.engine m n k };

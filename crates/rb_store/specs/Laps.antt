@@ -1,5 +1,5 @@
 -- Files whose log has groups of patches: what they open to, and what a contract sees of the store over one.
-use Rattle.std.specs.Prelude.{◌≡◌, ℕ, ◌+◌, Bool, List, length, Option, Some}
+use Rattle.std.specs.Prelude.{◌≡◌, ℕ, ◌+◌, ◌++◌, Bool, List, length, Option, Some}
 use Rattle.rb_base.specs.Blocks.{after_groups, fresh_blocks}
 use Rattle.rb_base.specs.Groups.{Patch}
 use Rattle.rb_base.specs.declared.shape.Shape.{Shape}
@@ -48,3 +48,7 @@ pub record IsStable {D : Type 0} (d : Ghosts D) (s : LapState D) (blocks : List 
   pub images : (c : List ℕ) → d.image s.disk c → OpensAt s.layout c blocks lsn
   pub numbered : lsn + length s.pending ≡ s.lsn
   pub patched : s.blocks ≡ after_groups (lsn + 1) s.pending blocks
+
+-- what waited goes on to wait, and perhaps more behind it
+abbrev pub WaitsMore : {D : Type 0} → (old new : LapState D) → Type 0
+WaitsMore old new = (more : List (List Patch)) × (new.pending ≡ old.pending ++ more)

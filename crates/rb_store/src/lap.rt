@@ -70,8 +70,8 @@ impl<D: Disk> LapStore<D> {
 impl<D: Disk> Store for LapStore<D> {
     ghost use Rattle.std.specs.Prelude.{Some, ℕ, List};
     ghost use Rattle.rb_layout.specs.Regions.{shape_of as layout_shape};
-    ghost use Rattle.rb_store.specs.Laps.{Opens, IsStable};
-    ghost use Rattle.rb_store.specs.LapLaws.{stable_left as left_opens};
+    ghost use Rattle.rb_store.specs.Laps.{Opens, IsStable, WaitsMore};
+    ghost use Rattle.rb_store.specs.LapLaws.{stable_left as left_opens, waits_joined, waits_same};
 
     ghost tells = { D.tells };
 
@@ -101,6 +101,8 @@ impl<D: Disk> Store for LapStore<D> {
 
     ghost left_since = { λ s t c. D.image_since s.disk t c };
 
+    ghost holds_back = { λ a b. WaitsMore a b };
+
     ghost opens = { Opens };
 
     ghost stable = { λ s b n. IsStable D.Disk s b n };
@@ -112,6 +114,10 @@ impl<D: Disk> Store for LapStore<D> {
     ghost stable_patched = { λ s b n told stands. stands.patched };
 
     ghost now_counts = { λ s t i told le here. D.now_counts s.disk t i told le here };
+
+    ghost holds_back_same = { λ s. waits_same s };
+
+    ghost holds_back_joined = { λ a b c first second. waits_joined a b c first second };
 
     ghost only_now = { λ s i told left. D.only_now s.disk i told left };
 

@@ -19,7 +19,7 @@ returns-in-Ok-clause-logs g c =
     let new = c.apply.new.self in
     let group = c.prepare.new.group in
     let call = c.in-Ok.ensures in
-    let applied = apply_logs s mid new group (Ok c.in-Ok.field-0) call.shape call.slots call.failed call.counted call.lsn call.blocks call.settles call.any_moment in (
+    let applied = apply_logs s mid new group (Ok c.in-Ok.field-0) call.shape call.slots call.failed call.counted call.lsn call.blocks call.settles call.any_moment call.holds_back in (
       group,
       subst (λ (l : List (List Patch)). Logs s old new l true) (one_group group c.in_ok-xid.ensures.some)
           (more_logs s old mid new [] (group ∷ []) true c.in_ok-xid.ensures.logs applied),
@@ -33,7 +33,7 @@ returns-in-Err-clause-logs g c =
     let new = c.apply.new.self in
     let group = c.prepare.new.group in
     let call = c.in-Err.ensures in
-    let applied = apply_logs s mid new group (Err c.in-Err.field-0) call.shape call.slots call.failed call.counted call.lsn call.blocks call.settles call.any_moment in (
+    let applied = apply_logs s mid new group (Err c.in-Err.field-0) call.shape call.slots call.failed call.counted call.lsn call.blocks call.settles call.any_moment call.holds_back in (
       group,
       subst (λ (l : List (List Patch)). Logs s old new l false) (one_group group c.in_ok-xid.ensures.some)
           (more_logs s old mid new [] (group ∷ []) false c.in_ok-xid.ensures.logs applied),
@@ -97,3 +97,10 @@ returns-in-Err-clause-group g c told number young =
         (c.in_ok-xid.xid, subst (λ (n : ℕ). IsMade shape blocks (after_group (n + 1) c.prepare.new.group blocks) c.args.ask.now c.in_ok-xid.xid) (sym number) (made.made told young)),
       ),
     )
+
+pub returns-in_err-xid-clause-cause : goal.returns-in_err-xid-clause-cause
+returns-in_err-xid-clause-cause g c =
+    let fault = c.in_err-xid.field-0.0 in
+    let p = err_from_is_err_and c.from_residual.result c.from_residual.ensures.1 in
+    let is : c.from_residual.result ≡ Err fault = p.1 ∙ ap (λ (f : AttemptFault). Err f) p.2 in
+    rw is c.in_err-xid.ensures.cause

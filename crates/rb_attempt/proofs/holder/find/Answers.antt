@@ -10,31 +10,31 @@ pub returns-in_err-load-clause-logs : goal.returns-in_err-load-clause-logs
 returns-in_err-load-clause-logs g c =
     let load = c.in_err-load.ensures in
     rw c.from_residual.ensures.0
-    (load_logs g.S.Store c.args.store.now c.load.new.self (Err c.in_err-load.field-0.0) load.shape load.slots load.failed load.counted load.lsn load.blocks load.settles load.any_moment)
+    (load_logs g.S.Store c.args.store.now c.load.new.self (Err c.in_err-load.field-0.0) load.shape load.slots load.failed load.counted load.lsn load.blocks load.settles load.any_moment load.holds_back)
 
 pub returns-in_default-clause-logs : goal.returns-in_default-clause-logs
 returns-in_default-clause-logs g c =
     let load = c.in_ok-load.ensures in
-    load_logs g.S.Store c.args.store.now c.load.new.self (Ok c.in_ok-load.field-0) load.shape load.slots load.failed load.counted load.lsn load.blocks load.settles load.any_moment
+    load_logs g.S.Store c.args.store.now c.load.new.self (Ok c.in_ok-load.field-0) load.shape load.slots load.failed load.counted load.lsn load.blocks load.settles load.any_moment load.holds_back
 
 pub returns-in_err-look_up-clause-logs : goal.returns-in_err-look_up-clause-logs
 returns-in_err-look_up-clause-logs g c =
     let load = c.in_ok-load.ensures in
     rw c.from_residual-in_err-look_up.ensures.0 (more_logs g.S.Store c.args.store.now c.load.new.self c.look_up.new.store [] [] false
-    (load_logs g.S.Store c.args.store.now c.load.new.self (Ok c.in_ok-load.field-0) load.shape load.slots load.failed load.counted load.lsn load.blocks load.settles load.any_moment) c.in_err-look_up.ensures.logs)
+    (load_logs g.S.Store c.args.store.now c.load.new.self (Ok c.in_ok-load.field-0) load.shape load.slots load.failed load.counted load.lsn load.blocks load.settles load.any_moment load.holds_back) c.in_err-look_up.ensures.logs)
 
 pub returns-in-Active-clause-logs : goal.returns-in-Active-clause-logs
 returns-in-Active-clause-logs g c =
     let load = c.in_ok-load.ensures in
     more_logs g.S.Store c.args.store.now c.load.new.self c.look_up.new.store [] [] true
-    (load_logs g.S.Store c.args.store.now c.load.new.self (Ok c.in_ok-load.field-0) load.shape load.slots load.failed load.counted load.lsn load.blocks load.settles load.any_moment) c.in_ok-look_up.ensures.logs
+    (load_logs g.S.Store c.args.store.now c.load.new.self (Ok c.in_ok-load.field-0) load.shape load.slots load.failed load.counted load.lsn load.blocks load.settles load.any_moment load.holds_back) c.in_ok-look_up.ensures.logs
 
 pub returns-in-Active-clause-holder : goal.returns-in-Active-clause-holder
 returns-in-Active-clause-holder g c told young =
     let s = g.S.Store in
     let old = c.args.store.now in
     let load = c.in_ok-load.ensures in
-    let loads = load_logs s old c.load.new.self (Ok c.in_ok-load.field-0) load.shape load.slots load.failed load.counted load.lsn load.blocks load.settles load.any_moment in
+    let loads = load_logs s old c.load.new.self (Ok c.in_ok-load.field-0) load.shape load.slots load.failed load.counted load.lsn load.blocks load.settles load.any_moment load.holds_back in
     let at = home_at c.shape-shape.result (s.shape_of old) c.args.table c.args.key c.home_block.result c.shape-shape.ensures.shape c.home_block.ensures.number c.home_block.ensures.there in
     let read = c.block.ensures.block told c.home_block.result load.loaded ∙ (ap (λ (l : List (List ℕ)). block_of l c.home_block.result) (load.blocks told) ∙ ap (block_of (s.blocks old)) at.0) in
     holder_runs s old c.load.new.self loads told young c.args.table c.args.key c.block.result.now at.1 read c.in-Some.xid c.in_ok-look_up.field-0
@@ -45,7 +45,7 @@ returns-in_default-2 g c =
     let s = g.S.Store in
     let old = c.args.store.now in
     let load = c.in_ok-load.ensures in
-    let loads = load_logs s old c.load.new.self (Ok c.in_ok-load.field-0) load.shape load.slots load.failed load.counted load.lsn load.blocks load.settles load.any_moment in
+    let loads = load_logs s old c.load.new.self (Ok c.in_ok-load.field-0) load.shape load.slots load.failed load.counted load.lsn load.blocks load.settles load.any_moment load.holds_back in
     let at = home_at c.shape-shape.result (s.shape_of old) c.args.table c.args.key c.home_block.result c.shape-shape.ensures.shape c.home_block.ensures.number c.home_block.ensures.there in
     let read = λ (told : s.tells). c.block.ensures.block told c.home_block.result load.loaded ∙ (ap (λ (l : List (List ℕ)). block_of l c.home_block.result) (load.blocks told) ∙ ap (block_of (s.blocks old)) at.0) in
     record {

@@ -15,7 +15,7 @@ returns-in-Ok-clean_copy-clause-cleaned g c told young =
     let old = c.args.store.now in
     let loaded = c.load.new.self in
     let load = c.in-Ok.ensures in
-    let loads = load_logs s old loaded (Ok c.in-Ok.field-0) load.shape load.slots load.failed load.counted load.lsn load.blocks load.settles load.any_moment in
+    let loads = load_logs s old loaded (Ok c.in-Ok.field-0) load.shape load.slots load.failed load.counted load.lsn load.blocks load.settles load.any_moment load.holds_back in
     let copied : c.copy_from_slice.new.self ≡ block_of (s.blocks loaded) c.args.no = c.copy_from_slice.ensures.after ∙ c.block.ensures.block told c.args.no load.loaded in
     c.in-Ok-clean_copy.ensures.cleaned told
     ∙ ap (λ (look : Xid → Look). cleaned_home look (home_of c.copy_from_slice.new.self)) (same_looks s old loaded loads told)
@@ -28,7 +28,7 @@ returns-in-Ok-clean_copy-clause-logs g c =
     let old = c.args.store.now in
     let loaded = c.load.new.self in
     let load = c.in-Ok.ensures in
-    more_logs s old loaded c.clean_copy.new.store [] [] true (load_logs s old loaded (Ok c.in-Ok.field-0) load.shape load.slots load.failed load.counted load.lsn load.blocks load.settles load.any_moment) c.in-Ok-clean_copy.ensures.logs
+    more_logs s old loaded c.clean_copy.new.store [] [] true (load_logs s old loaded (Ok c.in-Ok.field-0) load.shape load.slots load.failed load.counted load.lsn load.blocks load.settles load.any_moment load.holds_back) c.in-Ok-clean_copy.ensures.logs
 
 pub returns-in-Err-clause-logs : goal.returns-in-Err-clause-logs
 returns-in-Err-clause-logs g c =
@@ -36,4 +36,4 @@ returns-in-Err-clause-logs g c =
     let old = c.args.store.now in
     let loaded = c.load.new.self in
     let load = c.in-Ok.ensures in
-    more_logs s old loaded c.clean_copy.new.store [] [] false (load_logs s old loaded (Ok c.in-Ok.field-0) load.shape load.slots load.failed load.counted load.lsn load.blocks load.settles load.any_moment) c.in-Err.ensures.logs
+    more_logs s old loaded c.clean_copy.new.store [] [] false (load_logs s old loaded (Ok c.in-Ok.field-0) load.shape load.slots load.failed load.counted load.lsn load.blocks load.settles load.any_moment load.holds_back) c.in-Err.ensures.logs

@@ -34,7 +34,7 @@ returns-clause-logs g c =
     let plan = c.in_ok-plan.ensures in
     let is = planned (IsPlan c.args.no) c.in_ok-plan.field-0 group c.in-Some.is plan.some in
     let call = c.apply.ensures in
-    let applied = apply_logs s mid new group c.apply.result call.shape call.slots call.failed call.counted call.lsn call.blocks call.settles call.any_moment in (
+    let applied = apply_logs s mid new group c.apply.result call.shape call.slots call.failed call.counted call.lsn call.blocks call.settles call.any_moment call.holds_back in (
       group,
       is.2,
       subst (λ (l : List (List Patch)). Logs s old new l (not (is_err c.apply.result))) (one_group group is.0) (more_logs s old mid new [] (group ∷ []) (not (is_err c.apply.result)) plan.logs applied),

@@ -58,4 +58,4 @@ returns-clause-logs g c =
     let old = c.args.store.now in
     let loaded = c.load.new.self in
     let load = c.in-Ok.ensures in
-    more_logs s old loaded c.rebuild.new.segments [] [] (not (is_failed c.rebuild.result)) (load_logs s old loaded (Ok c.in-Ok.field-0) load.shape load.slots load.failed load.counted load.lsn load.blocks load.settles load.any_moment) c.rebuild.ensures.reads.made
+    more_logs s old loaded c.rebuild.new.segments [] [] (not (is_failed c.rebuild.result)) (load_logs s old loaded (Ok c.in-Ok.field-0) load.shape load.slots load.failed load.counted load.lsn load.blocks load.settles load.any_moment load.holds_back) c.rebuild.ensures.reads.made

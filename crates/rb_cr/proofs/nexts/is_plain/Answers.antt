@@ -25,7 +25,7 @@ returns-clause-logs g c =
     let old = c.args.store.now in
     let loaded = c.load.new.self in
     let load = c.in_ok-load.ensures in
-    more_logs s old loaded c.is_quiet.new.segments [] [] (not (is_err c.is_quiet.result)) (load_logs s old loaded (Ok c.in_ok-load.field-0) load.shape load.slots load.failed load.counted load.lsn load.blocks load.settles load.any_moment) c.is_quiet.ensures.reads.made
+    more_logs s old loaded c.is_quiet.new.segments [] [] (not (is_err c.is_quiet.result)) (load_logs s old loaded (Ok c.in_ok-load.field-0) load.shape load.slots load.failed load.counted load.lsn load.blocks load.settles load.any_moment load.holds_back) c.is_quiet.ensures.reads.made
 
 pub returns-clause-busy : goal.returns-clause-busy
 returns-clause-busy g c tells =

@@ -38,7 +38,7 @@ returns-in-Err-load-clause-logs g c =
     let mid = c.is_plain.new.store in
     let new = c.load.new.self in
     let load = c.in-Err-load.ensures in
-    more_logs s c.args.store.now mid new [] [] false c.in-Ok-true.ensures.logs (load_logs s mid new (Err c.in-Err-load.field-0) load.shape load.slots load.failed load.counted load.lsn load.blocks load.settles load.any_moment)
+    more_logs s c.args.store.now mid new [] [] false c.in-Ok-true.ensures.logs (load_logs s mid new (Err c.in-Err-load.field-0) load.shape load.slots load.failed load.counted load.lsn load.blocks load.settles load.any_moment load.holds_back)
 
 pub returns-in-Ok-clause-logs : goal.returns-in-Ok-clause-logs
 returns-in-Ok-clause-logs g c =
@@ -46,7 +46,7 @@ returns-in-Ok-clause-logs g c =
     let mid = c.is_plain.new.store in
     let new = c.load.new.self in
     let load = c.in-Ok.ensures in
-    more_logs s c.args.store.now mid new [] [] true c.in-Ok-true.ensures.logs (load_logs s mid new (Ok c.in-Ok.field-0) load.shape load.slots load.failed load.counted load.lsn load.blocks load.settles load.any_moment)
+    more_logs s c.args.store.now mid new [] [] true c.in-Ok-true.ensures.logs (load_logs s mid new (Ok c.in-Ok.field-0) load.shape load.slots load.failed load.counted load.lsn load.blocks load.settles load.any_moment load.holds_back)
 
 -- no change is above the snapshot, so the block that is read shows the rows as they were
 shown : (g : Over) (c : goal.After-next_plain g) → g.S.Store.tells → (h : History)

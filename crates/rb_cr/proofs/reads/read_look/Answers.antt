@@ -37,9 +37,9 @@ pub returns-in_err-load-clause-logs : goal.returns-in_err-load-clause-logs
 returns-in_err-load-clause-logs g c =
     let load = c.in_err-load.ensures in
     rw c.from_residual.ensures.0
-    (load_logs g.S.Store c.args.store.now c.load.new.self (Err c.in_err-load.field-0.0) load.shape load.slots load.failed load.counted load.lsn load.blocks load.settles load.any_moment)
+    (load_logs g.S.Store c.args.store.now c.load.new.self (Err c.in_err-load.field-0.0) load.shape load.slots load.failed load.counted load.lsn load.blocks load.settles load.any_moment load.holds_back)
 
 pub returns-clause-logs : goal.returns-clause-logs
 returns-clause-logs g c =
     let load = c.in_ok-load.ensures in
-    load_logs g.S.Store c.args.store.now c.load.new.self (Ok c.in_ok-load.field-0) load.shape load.slots load.failed load.counted load.lsn load.blocks load.settles load.any_moment
+    load_logs g.S.Store c.args.store.now c.load.new.self (Ok c.in_ok-load.field-0) load.shape load.slots load.failed load.counted load.lsn load.blocks load.settles load.any_moment load.holds_back

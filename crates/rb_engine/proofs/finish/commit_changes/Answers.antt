@@ -21,6 +21,8 @@ laws_of g = record {
   stable_patched = λ store b n keeps stable. g.met.T.Store.stable_patched store b n keeps stable;
   now_counts = λ store t i keeps le here. g.met.T.Store.now_counts store t i keeps le here;
   only_now = λ store i keeps here. g.met.T.Store.only_now store i keeps here;
+  holds_back_same = λ store. g.met.T.Store.holds_back_same store;
+  holds_back_joined = λ a b c first second. g.met.T.Store.holds_back_joined a b c first second;
 }
 
 pub returns-then-room-eq0-clause-did : goal.returns-then-room-eq0-clause-did
@@ -115,3 +117,12 @@ returns-in-Err-clause-did g c = λ h st.
     (does_not s st.told (laws_of g) h old c.args.s c.args.xid here going there own new c.commit_and_flush.ensures.same (machine.Commit c.args.s) (no_early h inside c.args.s here.knows going there out)
     (c.in-Err.ensures.commits st.told h held.xids c.args.s st.shape held.holds who.0 who.1 (own_id s st.told (laws_of g) h old c.args.s c.args.xid here going there own) some number)
     (c.stop.ensures ∙ ap (λ (k : Kept). let n : Kept = record k { stopped = true } in n) (sym c.memory.view_is)))
+
+pub returns-then-room-eq0-clause-holds_back : goal.returns-then-room-eq0-clause-holds_back
+returns-then-room-eq0-clause-holds_back g c = λ none. g.met.T.Store.holds_back_same c.args.store.now
+
+pub returns-in-Ok-clause-holds_back : goal.returns-in-Ok-clause-holds_back
+returns-in-Ok-clause-holds_back g c = λ none. absurd none
+
+pub returns-in-Err-clause-holds_back : goal.returns-in-Err-clause-holds_back
+returns-in-Err-clause-holds_back g c = λ none. absurd none

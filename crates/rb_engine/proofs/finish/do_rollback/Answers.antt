@@ -23,6 +23,8 @@ laws_of g = record {
   stable_patched = λ store b n keeps stable. g.met.T.Store.stable_patched store b n keeps stable;
   now_counts = λ store t i keeps le here. g.met.T.Store.now_counts store t i keeps le here;
   only_now = λ store i keeps here. g.met.T.Store.only_now store i keeps here;
+  holds_back_same = λ store. g.met.T.Store.holds_back_same store;
+  holds_back_joined = λ a b c first second. g.met.T.Store.holds_back_joined a b c first second;
 }
 
 pub returns-in-Err-clause-did : goal.returns-in-Err-clause-did
@@ -63,3 +65,9 @@ returns-in-None-clause-did g c = λ h st.
     (λ free empty xids stand knows. subst (Remembers (freeing (ended h c.args.s (left_open 0 (cursors_of h c.args.s))) c.args.s) xids (env_of h.shape (s.blocks store))) (sym c.rollback.ensures) (back_remembered h (freeing (ended h c.args.s (left_open 0 (cursors_of h c.args.s))) c.args.s) xids (s.blocks store) (env_of h.shape (s.blocks store)) inside.sessions c.args.s stand knows there.0 there.1 (inr (free, refl)) (λ u t owns. refl)))
     (ap (λ (l : List KeptSession). map (λ k. k.asked) l) c.rollback.ensures ∙ all_asked inside.sessions (c.args.s - 1) (table.rolled_back (kept_at inside.sessions c.args.s)) refl) c.free.ensures
     refl refl refl)
+
+pub returns-in-Err-clause-holds_back : goal.returns-in-Err-clause-holds_back
+returns-in-Err-clause-holds_back g c = λ fine. g.met.T.Store.holds_back_same c.args.store.now
+
+pub returns-in-None-clause-holds_back : goal.returns-in-None-clause-holds_back
+returns-in-None-clause-holds_back g c = λ fine. g.met.T.Store.holds_back_same c.args.store.now

@@ -2,7 +2,7 @@ use Rattle.std.proofs.Common.{◌+◌, not, Bool, refl, sym, subst, arith}
 use Rattle.std.specs.Result.{is_err}
 use Rattle.rb_base.specs.Logs.{Laws}
 use Rattle.rb_engine.specs.Finishing.{PutsAllBack}
-use Rattle.rb_engine.proofs.RollbackLemmas.{all_back, few_left, groups_more, logs_counted, logs_number, logs_same, put_back_as, room_left, there}
+use Rattle.rb_engine.proofs.RollbackLemmas.{all_back, few_left, groups_more, logs_counted, logs_number, logs_same, ok_by, put_back_as, room_left, there}
 use Rattle.rb_engine.proofs.finish.put_all_back.Given.{Over}
 use Rattle.rb_engine.proofs.finish.put_all_back.Goals as goal
 
@@ -13,6 +13,8 @@ laws_of g = record {
   stable_patched = λ store b n keeps stable. g.met.T.Store.stable_patched store b n keeps stable;
   now_counts = λ store t i keeps le here. g.met.T.Store.now_counts store t i keeps le here;
   only_now = λ store i keeps here. g.met.T.Store.only_now store i keeps here;
+  holds_back_same = λ store. g.met.T.Store.holds_back_same store;
+  holds_back_joined = λ a b c first second. g.met.T.Store.holds_back_joined a b c first second;
 }
 
 pub returns-in_err-put_back-clause-puts_back : goal.returns-in_err-put_back-clause-puts_back
@@ -59,3 +61,9 @@ returns-clause-counted g c =
     let first = put_back_as g.T.Store c.args.xid c.args.count c.args.store.now c.put_back.new.store c.in_ok-put_back.ensures.logs c.in_ok-put_back.ensures.puts_back in
     let all = groups_more g.T.Store c.args.xid c.args.count c.args.count c.args.store.now c.put_back.new.store first c.end_step.new.store (not (is_err c.end_step.result)) c.end_step.ensures.logs in
     logs_counted g.T.Store c.args.store.now c.end_step.new.store all.0 c.end_step.result all.1
+
+pub returns-clause-holds_back : goal.returns-clause-holds_back
+returns-clause-holds_back g c = 
+    let first = put_back_as g.T.Store c.args.xid c.args.count c.args.store.now c.put_back.new.store c.in_ok-put_back.ensures.logs c.in_ok-put_back.ensures.puts_back in
+    let all = groups_more g.T.Store c.args.xid c.args.count c.args.count c.args.store.now c.put_back.new.store first c.end_step.new.store (not (is_err c.end_step.result)) c.end_step.ensures.logs in
+    ok_by c.end_step.result (λ fine. all.1.between fine (laws_of g))

@@ -20,6 +20,8 @@ laws_of g = record {
   stable_patched = λ store b n keeps stable. g.met.T.Store.stable_patched store b n keeps stable;
   now_counts = λ store t i keeps le here. g.met.T.Store.now_counts store t i keeps le here;
   only_now = λ store i keeps here. g.met.T.Store.only_now store i keeps here;
+  holds_back_same = λ store. g.met.T.Store.holds_back_same store;
+  holds_back_joined = λ a b c first second. g.met.T.Store.holds_back_joined a b c first second;
 }
 
 pub returns-then-room-from-clause-did : goal.returns-then-room-from-clause-did
@@ -97,3 +99,12 @@ returns-in-Err-clause-did g c = λ h st.
     (does_not s st.told (laws_of g) h old c.args.s c.args.xid here going there own new c.put_all_back.ensures.same (machine.Rollback c.args.s) (no_early h inside c.args.s here.knows going there out)
     (c.in-Err.ensures.puts_back st.told h held.xids c.args.s st.shape held.holds who.0 who.1 (own_id s st.told (laws_of g) h old c.args.s c.args.xid here going there own) going (sym count ∙ sym c.session-count.ensures.length) (Some (machine.Rollback c.args.s)))
     (c.stop.ensures ∙ ap (λ (k : Kept). let n : Kept = record k { stopped = true } in n) (sym c.memory.view_is)))
+
+pub returns-then-room-from-clause-holds_back : goal.returns-then-room-from-clause-holds_back
+returns-then-room-from-clause-holds_back g c = λ fine. g.met.T.Store.holds_back_same c.args.store.now
+
+pub returns-in-Ok-clause-holds_back : goal.returns-in-Ok-clause-holds_back
+returns-in-Ok-clause-holds_back g c = λ fine. c.in-Ok.ensures.holds_back
+
+pub returns-in-Err-clause-holds_back : goal.returns-in-Err-clause-holds_back
+returns-in-Err-clause-holds_back g c = λ fine. (let clash : true ≡ false = fine in absurd cc)

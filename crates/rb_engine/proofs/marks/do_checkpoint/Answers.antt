@@ -1,5 +1,5 @@
 use Rattle.std.proofs.Common.{◌≡◌, [], Ok, Err, false, true, refl, sym, ◌∙◌, ap, arith}
-use Rattle.rb_base.specs.Logs.{Laws, Logs, flush_logs}
+use Rattle.rb_base.specs.Logs.{Flushes, Laws, flush_logs}
 use Rattle.rb_engine.specs.Does.{EngineView, Kept}
 use Rattle.rb_model.specs.Calls as machine
 use Rattle.rb_model.specs.Calls.{Reply}
@@ -15,6 +15,8 @@ laws_of g = record {
   stable_patched = λ store b n keeps stable. g.met.T.Store.stable_patched store b n keeps stable;
   now_counts = λ store t i keeps le here. g.met.T.Store.now_counts store t i keeps le here;
   only_now = λ store i keeps here. g.met.T.Store.only_now store i keeps here;
+  holds_back_same = λ store. g.met.T.Store.holds_back_same store;
+  holds_back_joined = λ a b c first second. g.met.T.Store.holds_back_joined a b c first second;
 }
 
 pub returns-in-Err-clause-did : goal.returns-in-Err-clause-did
@@ -23,7 +25,7 @@ returns-in-Err-clause-did g c = λ h st.
     let old : EngineView _ = record { memory = c.args.memory.now; store = c.args.store.now } in
     let going : h.stopped ≡ false = sym st.knows.stopped ∙ (ap (λ (k : Kept). k.stopped) (sym c.memory.view_is) ∙ c.if-memory.false) in
     let e = c.in-Err.ensures in
-    let logs : Logs s c.args.store.now c.checkpoint.new.self [] false = flush_logs s c.args.store.now c.checkpoint.new.self (Err c.in-Err.field-0) e.shape e.slots e.failed e.counted e.lsn e.blocks e.settles e.any_moment in
+    let logs : Flushes s c.args.store.now c.checkpoint.new.self [] false = flush_logs s c.args.store.now c.checkpoint.new.self (Err c.in-Err.field-0) e.shape e.slots e.failed e.counted e.lsn e.blocks e.settles e.any_moment in
     let goes = st.goes going in
     does_fault s st.told (laws_of g) h machine.Checkpoint old (record { memory = c.stop.new.self; store = c.checkpoint.new.self }) st going (rw going refl) c.stop.ensures
     (record { shape = e.shape; slots = e.slots }) (λ keeps. fault_survives s st.told (laws_of g) h goes.xids old.store c.checkpoint.new.self st.shape goes.holds logs keeps)
@@ -34,7 +36,7 @@ returns-in-Ok-clause-did g c = λ h st.
     let old : EngineView _ = record { memory = c.args.memory.now; store = c.args.store.now } in
     let going : h.stopped ≡ false = sym st.knows.stopped ∙ (ap (λ (k : Kept). k.stopped) (sym c.memory.view_is) ∙ c.if-memory.false) in
     let e = c.in-Ok.ensures in
-    let logs : Logs s c.args.store.now c.checkpoint.new.self [] true = flush_logs s c.args.store.now c.checkpoint.new.self (Ok c.in-Ok.field-0) e.shape e.slots e.failed e.counted e.lsn e.blocks e.settles e.any_moment in
+    let logs : Flushes s c.args.store.now c.checkpoint.new.self [] true = flush_logs s c.args.store.now c.checkpoint.new.self (Ok c.in-Ok.field-0) e.shape e.slots e.failed e.counted e.lsn e.blocks e.settles e.any_moment in
     does_loaded s st.told (laws_of g) h machine.Checkpoint machine.Done old (record { memory = c.args.memory.now; store = c.checkpoint.new.self }) st
     (Reply.later [] (rw going refl) refl refl) refl refl (λ s t k a is done. cc) refl (λ _. logs) (record { shape = e.shape; slots = e.slots })
 
@@ -42,7 +44,7 @@ pub returns-in-Ok-clause-step : goal.returns-in-Ok-clause-step
 returns-in-Ok-clause-step g c =
     let s = g.T.Store in
     let e = c.in-Ok.ensures in
-    let logs : Logs s c.args.store.now c.checkpoint.new.self [] true = flush_logs s c.args.store.now c.checkpoint.new.self (Ok c.in-Ok.field-0) e.shape e.slots e.failed e.counted e.lsn e.blocks e.settles e.any_moment in
+    let logs : Flushes s c.args.store.now c.checkpoint.new.self [] true = flush_logs s c.args.store.now c.checkpoint.new.self (Ok c.in-Ok.field-0) e.shape e.slots e.failed e.counted e.lsn e.blocks e.settles e.any_moment in
     in_step_same s c.args.memory.now c.args.memory.now c.args.store.now c.checkpoint.new.self c.requires.step e.shape refl refl (λ going. (logs.failed, (let n = logs.number refl in omega (arith, n)), going))
 
 pub returns-in-Err-clause-leaves : goal.returns-in-Err-clause-leaves
@@ -50,7 +52,7 @@ returns-in-Err-clause-leaves g c = λ h st going fault keeps.
     let s = g.T.Store in
     let e = c.in-Err.ensures in
     let goes = st.goes going in
-    let logs : Logs s c.args.store.now c.checkpoint.new.self [] false = flush_logs s c.args.store.now c.checkpoint.new.self (Err c.in-Err.field-0) e.shape e.slots e.failed e.counted e.lsn e.blocks e.settles e.any_moment in
+    let logs : Flushes s c.args.store.now c.checkpoint.new.self [] false = flush_logs s c.args.store.now c.checkpoint.new.self (Err c.in-Err.field-0) e.shape e.slots e.failed e.counted e.lsn e.blocks e.settles e.any_moment in
     survives_same s st.told (laws_of g) h h goes.xids c.args.store.now c.checkpoint.new.self false st.shape refl refl refl goes.holds logs keeps
 
 pub returns-in-Ok-clause-leaves : goal.returns-in-Ok-clause-leaves
@@ -58,5 +60,5 @@ returns-in-Ok-clause-leaves g c = λ h st going fault keeps.
     let s = g.T.Store in
     let e = c.in-Ok.ensures in
     let goes = st.goes going in
-    let logs : Logs s c.args.store.now c.checkpoint.new.self [] true = flush_logs s c.args.store.now c.checkpoint.new.self (Ok c.in-Ok.field-0) e.shape e.slots e.failed e.counted e.lsn e.blocks e.settles e.any_moment in
+    let logs : Flushes s c.args.store.now c.checkpoint.new.self [] true = flush_logs s c.args.store.now c.checkpoint.new.self (Ok c.in-Ok.field-0) e.shape e.slots e.failed e.counted e.lsn e.blocks e.settles e.any_moment in
     survives_same s st.told (laws_of g) h h goes.xids c.args.store.now c.checkpoint.new.self true st.shape refl refl refl goes.holds logs keeps

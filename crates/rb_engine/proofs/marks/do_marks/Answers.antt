@@ -19,6 +19,8 @@ laws_of g = record {
   stable_patched = λ store b n keeps stable. g.met.T.Store.stable_patched store b n keeps stable;
   now_counts = λ store t i keeps le here. g.met.T.Store.now_counts store t i keeps le here;
   only_now = λ store i keeps here. g.met.T.Store.only_now store i keeps here;
+  holds_back_same = λ store. g.met.T.Store.holds_back_same store;
+  holds_back_joined = λ a b c first second. g.met.T.Store.holds_back_joined a b c first second;
 }
 
 pub returns-then-is_err-clause-did : goal.returns-then-is_err-clause-did
@@ -28,7 +30,7 @@ returns-then-is_err-clause-did g c = λ h st.
     let going : h.stopped ≡ false = sym st.knows.stopped ∙ (ap (λ (k : Kept). k.stopped) (sym c.memory.view_is) ∙ c.if-memory.false) in
     let e = c.load.ensures in
     let failed : is_err c.load.result ≡ true = sym c.is_err.ensures.value ∙ c.if-is_err.true in
-    let logs = subst (λ (b : Bool). Logs s c.args.store.now c.load.new.self [] (not b)) failed (load_logs s c.args.store.now c.load.new.self c.load.result e.shape e.slots e.failed e.counted e.lsn e.blocks e.settles e.any_moment) in
+    let logs = subst (λ (b : Bool). Logs s c.args.store.now c.load.new.self [] (not b)) failed (load_logs s c.args.store.now c.load.new.self c.load.result e.shape e.slots e.failed e.counted e.lsn e.blocks e.settles e.any_moment e.holds_back) in
     let goes = st.goes going in
     does_fault s st.told (laws_of g) h (machine.Marks c.args.seg) old (record { memory = c.stop.new.self; store = c.load.new.self }) st going (rw going refl) c.stop.ensures
     (record { shape = e.shape; slots = e.slots }) (λ keeps. fault_survives s st.told (laws_of g) h goes.xids old.store c.load.new.self st.shape goes.holds logs keeps)
@@ -38,7 +40,7 @@ returns-clause-step g c =
     let s = g.T.Store in
     let e = c.load.ensures in
     let fine : is_err c.load.result ≡ false = sym c.is_err.ensures.value ∙ c.if-is_err.false in
-    let logs : Logs s c.args.store.now c.load.new.self [] true = subst (λ (b : Bool). Logs s c.args.store.now c.load.new.self [] (not b)) fine (load_logs s c.args.store.now c.load.new.self c.load.result e.shape e.slots e.failed e.counted e.lsn e.blocks e.settles e.any_moment) in
+    let logs : Logs s c.args.store.now c.load.new.self [] true = subst (λ (b : Bool). Logs s c.args.store.now c.load.new.self [] (not b)) fine (load_logs s c.args.store.now c.load.new.self c.load.result e.shape e.slots e.failed e.counted e.lsn e.blocks e.settles e.any_moment e.holds_back) in
     in_step_same s c.args.memory.now c.args.memory.now c.args.store.now c.load.new.self c.requires.step e.shape refl refl (λ going. (logs.failed, (let n = logs.number refl in omega (arith, n)), going))
 
 pub returns-clause-did : goal.returns-clause-did
@@ -48,7 +50,7 @@ returns-clause-did g c = λ h st.
     let going : h.stopped ≡ false = sym st.knows.stopped ∙ (ap (λ (k : Kept). k.stopped) (sym c.memory.view_is) ∙ c.if-memory.false) in
     let e = c.load.ensures in
     let fine : is_err c.load.result ≡ false = sym c.is_err.ensures.value ∙ c.if-is_err.false in
-    let logs : Logs s c.args.store.now c.load.new.self [] true = subst (λ (b : Bool). Logs s c.args.store.now c.load.new.self [] (not b)) fine (load_logs s c.args.store.now c.load.new.self c.load.result e.shape e.slots e.failed e.counted e.lsn e.blocks e.settles e.any_moment) in
+    let logs : Logs s c.args.store.now c.load.new.self [] true = subst (λ (b : Bool). Logs s c.args.store.now c.load.new.self [] (not b)) fine (load_logs s c.args.store.now c.load.new.self c.load.result e.shape e.slots e.failed e.counted e.lsn e.blocks e.settles e.any_moment e.holds_back) in
     let goes = st.goes going in
     let shape_is : c.shape.result ≡ h.shape = c.shape.ensures.shape ∙ st.shape in
     let at : c.header_block-header.result ≡ header_block h.shape c.args.seg = c.header_block-header.ensures.number ∙ ap (λ (k : Shape). header_block k c.args.seg) shape_is in
@@ -57,3 +59,17 @@ returns-clause-did g c = λ h st.
     (block_read s c.args.store.now c.load.new.self c.header_block-header.result (header_block h.shape c.args.seg) c.block-block.result.now st.told (logs.blocks st.told refl) c.block-block.ensures.block (ok_of c.load.result fine e.loaded) at) c.writes.result c.lost.result c.writes.ensures c.lost.ensures in
     does_loaded s st.told (laws_of g) h (machine.Marks c.args.seg) (machine.Marked c.args.seg c.writes.result c.lost.result) old (record { memory = c.args.memory.now; store = c.load.new.self }) st
     (Reply.later [] (rw going refl) refl answer) refl refl (λ s t k a is done. cc) refl (λ _. logs) (record { shape = e.shape; slots = e.slots })
+
+pub returns-then-memory-clause-holds_back : goal.returns-then-memory-clause-holds_back
+returns-then-memory-clause-holds_back g c = λ fine. g.met.T.Store.holds_back_same c.args.store.now
+
+pub returns-then-is_err-clause-holds_back : goal.returns-then-is_err-clause-holds_back
+returns-then-is_err-clause-holds_back g c = λ fine. (let clash : true ≡ false = fine in absurd cc)
+
+pub returns-clause-holds_back : goal.returns-clause-holds_back
+returns-clause-holds_back g c = λ _.
+    let s = g.T.Store in
+    let e = c.load.ensures in
+    let fine : is_err c.load.result ≡ false = sym c.is_err.ensures.value ∙ c.if-is_err.false in
+    let logs : Logs s c.args.store.now c.load.new.self [] true = subst (λ (b : Bool). Logs s c.args.store.now c.load.new.self [] (not b)) fine (load_logs s c.args.store.now c.load.new.self c.load.result e.shape e.slots e.failed e.counted e.lsn e.blocks e.settles e.any_moment e.holds_back) in
+    logs.between refl (laws_of g)

@@ -27,6 +27,8 @@ laws_of g = record {
   stable_patched = λ store b n keeps stable. g.met.T.Store.stable_patched store b n keeps stable;
   now_counts = λ store t i keeps le here. g.met.T.Store.now_counts store t i keeps le here;
   only_now = λ store i keeps here. g.met.T.Store.only_now store i keeps here;
+  holds_back_same = λ store. g.met.T.Store.holds_back_same store;
+  holds_back_joined = λ a b c first second. g.met.T.Store.holds_back_joined a b c first second;
 }
 
 pub returns-in-Err-clause-did : goal.returns-in-Err-clause-did

@@ -27,6 +27,8 @@ laws_of g = record {
   stable_patched = λ store b n keeps stable. g.met.T.Store.stable_patched store b n keeps stable;
   now_counts = λ store t i keeps le here. g.met.T.Store.now_counts store t i keeps le here;
   only_now = λ store i keeps here. g.met.T.Store.only_now store i keeps here;
+  holds_back_same = λ store. g.met.T.Store.holds_back_same store;
+  holds_back_joined = λ a b c first second. g.met.T.Store.holds_back_joined a b c first second;
 }
 
 pub returns-in-Err-clause-did : goal.returns-in-Err-clause-did
@@ -101,3 +103,12 @@ returns-in-None-clause-did g c = λ h st.
     nothing : (n : ℕ) → ◌≡◌ {A = List Change} (take n []) []
     nothing zero = refl
     nothing (suc n) = refl
+
+pub returns-in-Err-clause-holds_back : goal.returns-in-Err-clause-holds_back
+returns-in-Err-clause-holds_back g c = λ fine. g.met.T.Store.holds_back_same c.args.store.now
+
+pub returns-in_default-savepoint-clause-holds_back : goal.returns-in_default-savepoint-clause-holds_back
+returns-in_default-savepoint-clause-holds_back g c = λ fine. g.met.T.Store.holds_back_same c.args.store.now
+
+pub returns-in-None-clause-holds_back : goal.returns-in-None-clause-holds_back
+returns-in-None-clause-holds_back g c = λ fine. g.met.T.Store.holds_back_same c.args.store.now

@@ -19,6 +19,8 @@ laws_of g = record {
   stable_patched = λ store b n keeps stable. g.met.S.Store.stable_patched store b n keeps stable;
   now_counts = λ store t i keeps le here. g.met.S.Store.now_counts store t i keeps le here;
   only_now = λ store i keeps here. g.met.S.Store.only_now store i keeps here;
+  holds_back_same = λ store. g.met.S.Store.holds_back_same store;
+  holds_back_joined = λ a b c first second. g.met.S.Store.holds_back_joined a b c first second;
 }
 
 pub loop-g-init : goal.loop-g-init

@@ -16,6 +16,8 @@ laws_of g = record {
   stable_patched = λ store b n keeps stable. g.met.T.Store.stable_patched store b n keeps stable;
   now_counts = λ store t i keeps le here. g.met.T.Store.now_counts store t i keeps le here;
   only_now = λ store i keeps here. g.met.T.Store.only_now store i keeps here;
+  holds_back_same = λ store. g.met.T.Store.holds_back_same store;
+  holds_back_joined = λ a b c first second. g.met.T.Store.holds_back_joined a b c first second;
 }
 
 pub returns-in-Err-clause-did : goal.returns-in-Err-clause-did
@@ -34,3 +36,6 @@ returns-in-Err-clause-tells g c = λ h st fine. let blocks = g.T.Store.blocks c.
 
 pub returns-clause-tells : goal.returns-clause-tells
 returns-clause-tells g c = λ h st fine. c.try_write.ensures.tells h st (c.in_default.ensures.granted h c.args.key st.knows (knows_modes g.T.Store h _ st) (c.shape.ensures.shape ∙ st.shape)) fine
+
+pub returns-in-Err-clause-holds_back : goal.returns-in-Err-clause-holds_back
+returns-in-Err-clause-holds_back g c = λ fine. g.met.T.Store.holds_back_same c.args.store.now

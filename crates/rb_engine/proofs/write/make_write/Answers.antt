@@ -24,6 +24,8 @@ laws_of g = record {
   stable_patched = λ store b n keeps stable. g.met.T.Store.stable_patched store b n keeps stable;
   now_counts = λ store t i keeps le here. g.met.T.Store.now_counts store t i keeps le here;
   only_now = λ store i keeps here. g.met.T.Store.only_now store i keeps here;
+  holds_back_same = λ store. g.met.T.Store.holds_back_same store;
+  holds_back_joined = λ a b c first second. g.met.T.Store.holds_back_joined a b c first second;
 }
 
 pub returns-in-Ok-clause-step : goal.returns-in-Ok-clause-step
@@ -149,3 +151,12 @@ returns-in-Err-clause-tells g c = λ h st early others fine.
     let fault = c.in-Err.fault in
     let why : c.refuse.result ≡ refusal_of fault = c.refuse.ensures.why ∙ c.refusal.ensures in
     tells_logged g.T.Store st.told h.shape c.args.store.now c.write_step.new.store (c.in-Err.ensures.unchanged (sym (failed_is fault) ∙ (ap is_disk_fault (sym why) ∙ fine)))
+
+pub returns-in-Ok-clause-holds_back : goal.returns-in-Ok-clause-holds_back
+returns-in-Ok-clause-holds_back g c = λ fine. c.in-Ok.ensures.logs.1.between refl (laws_of g)
+
+pub returns-in-Err-clause-holds_back : goal.returns-in-Err-clause-holds_back
+returns-in-Err-clause-holds_back g c = λ fine.
+    let fault = c.in-Err.fault in
+    let why : c.refuse.result ≡ refusal_of fault = c.refuse.ensures.why ∙ c.refusal.ensures in
+    (c.in-Err.ensures.unchanged (sym (failed_is fault) ∙ (ap is_disk_fault (sym why) ∙ fine))).between refl (laws_of g)

@@ -21,6 +21,8 @@ laws_of g = record {
   stable_patched = λ store b n keeps stable. g.met.T.Store.stable_patched store b n keeps stable;
   now_counts = λ store t i keeps le here. g.met.T.Store.now_counts store t i keeps le here;
   only_now = λ store i keeps here. g.met.T.Store.only_now store i keeps here;
+  holds_back_same = λ store. g.met.T.Store.holds_back_same store;
+  holds_back_joined = λ a b c first second. g.met.T.Store.holds_back_joined a b c first second;
 }
 
 pub returns-in-Err-clause-did : goal.returns-in-Err-clause-did
@@ -102,3 +104,14 @@ returns-in-Ok-None-clause-tells g c = λ h st early fine.
     (c.in-Ok-None.ensures.other st.told h goes.xids goes.holds.blocks st.shape goes.remembers) in
     subst (λ blocks. TellsLooks h.shape blocks (s.blocks c.write_free.new.store)) (logs.blocks st.told refl)
     (c.write_free.ensures.tells h (stands_loaded s st.told (laws_of g) h old mid st refl logs) early others fine)
+
+pub returns-in-Err-clause-holds_back : goal.returns-in-Err-clause-holds_back
+returns-in-Err-clause-holds_back g c = λ fine. (let clash : true ≡ false = fine in absurd cc)
+
+pub returns-in-Ok-Some-clause-holds_back : goal.returns-in-Ok-Some-clause-holds_back
+returns-in-Ok-Some-clause-holds_back g c = λ fine. c.in-Ok-Some.ensures.logs.between refl (laws_of g)
+
+pub returns-in-Ok-None-clause-holds_back : goal.returns-in-Ok-None-clause-holds_back
+returns-in-Ok-None-clause-holds_back g c = λ fine.
+    let logs : Logs g.T.Store c.args.store.now c.other_holder.new.store [] true = c.in-Ok-None.ensures.logs in
+    g.met.T.Store.holds_back_joined c.args.store.now c.other_holder.new.store c.write_free.new.store (logs.between refl (laws_of g)) (c.write_free.ensures.holds_back fine)

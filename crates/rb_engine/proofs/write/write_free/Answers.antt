@@ -25,6 +25,8 @@ laws_of g = record {
   stable_patched = λ store b n keeps stable. g.met.T.Store.stable_patched store b n keeps stable;
   now_counts = λ store t i keeps le here. g.met.T.Store.now_counts store t i keeps le here;
   only_now = λ store i keeps here. g.met.T.Store.only_now store i keeps here;
+  holds_back_same = λ store. g.met.T.Store.holds_back_same store;
+  holds_back_joined = λ a b c first second. g.met.T.Store.holds_back_joined a b c first second;
 }
 
 pub returns-in-Err-clause-step : goal.returns-in-Err-clause-step
@@ -120,3 +122,17 @@ returns-in-Ok-clause-tells g c = λ h st early others fine.
     let timely = c.in-Ok.ensures.timely st.told h goes.xids goes.holds.blocks st.shape goes.remembers in
     subst (λ blocks. TellsLooks h.shape blocks (s.blocks c.make_write.new.store)) (logs.blocks st.told refl)
     (c.make_write.ensures.tells h (stands_loaded s st.told (laws_of g) h old mid st refl logs) early (others, timely) fine)
+
+pub returns-in-Err-clause-holds_back : goal.returns-in-Err-clause-holds_back
+returns-in-Err-clause-holds_back g c = λ fine.
+    let s = g.T.Store in
+    let old = c.args.store.now in
+    let new = c.check_late.new.store in
+    let logs : Logs s old new [] (not (is_disk_fault c.refuse.result)) = subst (λ w. Logs s old new [] (not (is_disk_fault w))) (sym c.refuse.ensures.why) c.in-Err.ensures.logs in
+    let loaded : Logs s old new [] true = subst (λ b. Logs s old new [] (not b)) fine logs in
+    loaded.between refl (laws_of g)
+
+pub returns-in-Ok-clause-holds_back : goal.returns-in-Ok-clause-holds_back
+returns-in-Ok-clause-holds_back g c = λ fine.
+    let logs : Logs g.T.Store c.args.store.now c.check_late.new.store [] true = c.in-Ok.ensures.logs in
+    g.met.T.Store.holds_back_joined c.args.store.now c.check_late.new.store c.make_write.new.store (logs.between refl (laws_of g)) (c.make_write.ensures.holds_back fine)

@@ -17,7 +17,7 @@ returns-in_err-load g c =
     let load = c.in_err-load.ensures in
     rw c.from_residual.ensures.0
     (fault_rolls g.S.Store c.args.shape c.args.store.now c.load.new.self 1 (Ends g.S.Store c.args.shape c.args.xid c.args.store.now c.load.new.self)
-    (load_logs g.S.Store c.args.store.now c.load.new.self (Err c.in_err-load.field-0.0) load.shape load.slots load.failed load.counted load.lsn load.blocks load.settles load.any_moment))
+    (load_logs g.S.Store c.args.store.now c.load.new.self (Err c.in_err-load.field-0.0) load.shape load.slots load.failed load.counted load.lsn load.blocks load.settles load.any_moment load.holds_back))
 
 pub returns-then-not-is_rolled_back : goal.returns-then-not-is_rolled_back
 returns-then-not-is_rolled_back g c =
@@ -27,7 +27,7 @@ returns-then-not-is_rolled_back g c =
     let shape = c.args.shape in
     let x = c.args.xid in
     let load = c.in_ok-load.ensures in
-    none_rolls s shape old mid 1 true (Ends s shape x old mid) (load_logs s old mid (Ok c.in_ok-load.field-0) load.shape load.slots load.failed load.counted load.lsn load.blocks load.settles load.any_moment)
+    none_rolls s shape old mid 1 true (Ends s shape x old mid) (load_logs s old mid (Ok c.in_ok-load.field-0) load.shape load.slots load.failed load.counted load.lsn load.blocks load.settles load.any_moment load.holds_back)
     (λ told goes number rows may still live. elim c.then-not-is_rolled_back.branch [
       | then-not-is_rolled_back-via-then-not-is_rolled_back w ↦
           let read = c.copy_from_slice.ensures.after ∙ block_read s old mid c.header_block.result (header_block shape x.seg) c.block.result.now told (load.blocks told) c.block.ensures.block load.loaded c.header_block.ensures.number in
@@ -54,8 +54,8 @@ returns g c =
     let group = slot_patches at x.slot (header_of header) in
     let read = λ (told : s.tells). c.copy_from_slice.ensures.after ∙ block_read s old mid c.header_block.result at c.block.result.now told (load.blocks told) c.block.ensures.block load.loaded c.header_block.ensures.number in
     let rolled = c.is_rolled_back.ensures.0 c.if-not-is_rolled_back.false in
-    let logs = more_logs s old mid new [] (c.end.new.group ∷ []) (not (is_err c.apply.result)) (load_logs s old mid (Ok c.in_ok-load.field-0) load.shape load.slots load.failed load.counted load.lsn load.blocks load.settles load.any_moment)
-    (apply_logs s mid new c.end.new.group c.apply.result call.shape call.slots call.failed call.counted call.lsn call.blocks call.settles call.any_moment) in
+    let logs = more_logs s old mid new [] (c.end.new.group ∷ []) (not (is_err c.apply.result)) (load_logs s old mid (Ok c.in_ok-load.field-0) load.shape load.slots load.failed load.counted load.lsn load.blocks load.settles load.any_moment load.holds_back)
+    (apply_logs s mid new c.end.new.group c.apply.result call.shape call.slots call.failed call.counted call.lsn call.blocks call.settles call.any_moment call.holds_back) in
     end_rolls s shape x old new c.end.new.group header (c.end.ensures.patches ∙ ap (λ (l : List Patch). l ++ group) c.new.ensures)
     (λ told. c.end.ensures.copy ∙ ap (written_to at group) (read told))
     (λ told. c.end.ensures.moved ∙ ap (λ (l : List ℕ). ended x.slot (header_of l)) (read told))

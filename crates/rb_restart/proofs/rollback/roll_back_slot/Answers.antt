@@ -14,7 +14,7 @@ returns-in_err-load g c =
     let load = c.in_err-load.ensures in
     rw c.from_residual.ensures.0
     (fault_rolls g.S.Store c.args.shape c.args.store.now c.load.new.self (2 ^ 32) (λ now. IsIdle c.args.shape now (16 * c.args.seg + c.args.i))
-    (load_logs g.S.Store c.args.store.now c.load.new.self (Err c.in_err-load.field-0.0) load.shape load.slots load.failed load.counted load.lsn load.blocks load.settles load.any_moment))
+    (load_logs g.S.Store c.args.store.now c.load.new.self (Err c.in_err-load.field-0.0) load.shape load.slots load.failed load.counted load.lsn load.blocks load.settles load.any_moment load.holds_back))
 
 pub returns-then-slot-ne-ACTIVE : goal.returns-then-slot-ne-ACTIVE
 returns-then-slot-ne-ACTIVE g c =
@@ -24,7 +24,7 @@ returns-then-slot-ne-ACTIVE g c =
     let shape = c.args.shape in
     let x : Xid = record { seg = c.args.seg; slot = c.args.i; wrap = 0 } in
     let load = c.in_ok-load.ensures in
-    none_rolls s shape old mid (2 ^ 32) true (λ now. IsIdle shape now (16 * c.args.seg + c.args.i)) (load_logs s old mid (Ok c.in_ok-load.field-0) load.shape load.slots load.failed load.counted load.lsn load.blocks load.settles load.any_moment)
+    none_rolls s shape old mid (2 ^ 32) true (λ now. IsIdle shape now (16 * c.args.seg + c.args.i)) (load_logs s old mid (Ok c.in_ok-load.field-0) load.shape load.slots load.failed load.counted load.lsn load.blocks load.settles load.any_moment load.holds_back)
     (λ told goes number rows may same.
     let read = block_read s old mid c.header_block.result (header_block shape x.seg) c.block.result.now told (load.blocks told) c.block.ensures.block load.loaded c.header_block.ensures.number in
     idle_read shape (s.blocks old) x c.slot_at-slot.result c.block.result.now c.requires.slot read c.slot_at-slot.ensures c.if-slot-ne-ACTIVE.true)
@@ -38,7 +38,7 @@ returns-in_err-roll_back g c =
     let shape = c.args.shape in
     let x : Xid = record { seg = c.args.seg; slot = c.args.i; wrap = c.slot_at-slot.result.wrap } in
     let load = c.in_ok-load.ensures in
-    let logs = load_logs s old loaded (Ok c.in_ok-load.field-0) load.shape load.slots load.failed load.counted load.lsn load.blocks load.settles load.any_moment in
+    let logs = load_logs s old loaded (Ok c.in_ok-load.field-0) load.shape load.slots load.failed load.counted load.lsn load.blocks load.settles load.any_moment load.holds_back in
     let first : Rolls s shape old loaded 0 true (λ now. Unit {0}) = none_rolls s shape old loaded 0 true (λ now. Unit {0}) logs (λ told goes number rows may same. tt) in
     let live = c.slot_at-slot.result.live in
     rw c.from_residual-in_err-roll_back.ensures.0
@@ -55,7 +55,7 @@ returns g c =
     let shape = c.args.shape in
     let x : Xid = record { seg = c.args.seg; slot = c.args.i; wrap = c.slot_at-slot.result.wrap } in
     let load = c.in_ok-load.ensures in
-    let logs = load_logs s old loaded (Ok c.in_ok-load.field-0) load.shape load.slots load.failed load.counted load.lsn load.blocks load.settles load.any_moment in
+    let logs = load_logs s old loaded (Ok c.in_ok-load.field-0) load.shape load.slots load.failed load.counted load.lsn load.blocks load.settles load.any_moment load.holds_back in
     let first : Rolls s shape old loaded 0 true (λ now. Unit {0}) = none_rolls s shape old loaded 0 true (λ now. Unit {0}) logs (λ told goes number rows may same. tt) in
     let live = c.slot_at-slot.result.live in
     let back : Rolls s shape old mid live true (λ now. HasLive shape now x 0) = rolls_joined s shape old loaded mid 0 live live true (λ now. Unit {0}) (λ now. HasLive shape (s.blocks loaded) x live → HasLive shape now x 0) (λ now. HasLive shape now x 0) (omega arith) first c.in_ok-roll_back.ensures (λ told goes number rows may idle first second.

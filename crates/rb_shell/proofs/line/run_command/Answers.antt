@@ -26,6 +26,8 @@ still g e m is going = since_same e m (λ kept. record {
   stable_patched = g.met.T.Store.stable_patched;
   now_counts = g.met.T.Store.now_counts;
   only_now = g.met.T.Store.only_now;
+  holds_back_same = g.met.T.Store.holds_back_same;
+  holds_back_joined = g.met.T.Store.holds_back_joined;
 }) is going
 
 -- nothing that waits has room

@@ -11,7 +11,7 @@ use Rattle.rb_layout.specs.OneLayout.{SameNumbers}
 use Rattle.rb_layout.specs.Regions.{shape_of}
 use Rattle.rb_layout.specs.declared.layout.Layout.{Layout}
 use Rattle.rb_model.specs.State.{State}
-use Rattle.rb_store.specs.LapLaws.{stable_left}
+use Rattle.rb_store.specs.LapLaws.{stable_left, waits_joined, waits_same}
 use Rattle.rb_store.specs.Laps.{IsStable, Opens, OpensAt}
 use Rattle.rb_store.specs.OneOpening.{opens_moves}
 use Rattle.rb_store.specs.contracts.lap.LapStoreStore.TheImpl.{ghosts}
@@ -46,6 +46,8 @@ laws g told = record {
   stable_patched = λ s b n kept stands. stands.patched;
   now_counts = λ s t i kept le here. g.met.D.Disk.now_counts s.disk t i told le here;
   only_now = λ s i kept left. g.met.D.Disk.only_now s.disk i told left;
+  holds_back_same = λ s. waits_same s;
+  holds_back_joined = λ a b c first second. waits_joined a b c first second;
 }
 
 -- the state that a sound file opens to is that of the blocks that were found

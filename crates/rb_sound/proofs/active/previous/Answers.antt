@@ -16,13 +16,13 @@ pub returns-in_err-load-clause-logs : goal.returns-in_err-load-clause-logs
 returns-in_err-load-clause-logs g c =
     let load = c.in_err-load.ensures in
     rw c.from_residual.ensures.0
-    (load_logs g.S.Store c.args.store.now c.load.new.self (Err c.in_err-load.field-0.0) load.shape load.slots load.failed load.counted load.lsn load.blocks load.settles load.any_moment)
+    (load_logs g.S.Store c.args.store.now c.load.new.self (Err c.in_err-load.field-0.0) load.shape load.slots load.failed load.counted load.lsn load.blocks load.settles load.any_moment load.holds_back)
 
 -- the load that went well
 loaded : (g : Over) (c : After-is_live g) → Logs g.S.Store c.args.store.now c.load.new.self [] true
 loaded g c =
     let load = c.in_ok-load.ensures in
-    load_logs g.S.Store c.args.store.now c.load.new.self (Ok c.in_ok-load.field-0) load.shape load.slots load.failed load.counted load.lsn load.blocks load.settles load.any_moment
+    load_logs g.S.Store c.args.store.now c.load.new.self (Ok c.in_ok-load.field-0) load.shape load.slots load.failed load.counted load.lsn load.blocks load.settles load.any_moment load.holds_back
 
 pub returns-then-is_live-clause-logs : goal.returns-then-is_live-clause-logs
 returns-then-is_live-clause-logs g c = loaded g (goal.at.returns-then-is_live-clause-logs g c).After-is_live

@@ -1,4 +1,5 @@
-use Rattle.std.proofs.Common.{◌≡◌, ℕ, List, [], true, false, Ok, Err, refl, subst}
+use Rattle.std.proofs.Common.{◌≡◌, ◌∙◌, ℕ, List, [], true, false, Ok, Err, refl, sym, subst, arith}
+use Rattle.std.proofs.lemmas.Bool.{false≢true}
 use borrow.Author.Count.{below_more, below_none}
 use Rattle.rb_base.specs.Logs.{load_logs, more_logs}
 use Rattle.rb_base.specs.declared.sizes.TheConstants.{ACTIVE}
@@ -10,13 +11,13 @@ pub returns-in_err-load-clause-logs : goal.returns-in_err-load-clause-logs
 returns-in_err-load-clause-logs g c =
     let load = c.in_err-load.ensures in
     rw c.from_residual.ensures.0
-    (load_logs g.S.Store c.args.store.now c.load.new.self (Err c.in_err-load.field-0.0) load.shape load.slots load.failed load.counted load.lsn load.blocks load.settles load.any_moment)
+    (load_logs g.S.Store c.args.store.now c.load.new.self (Err c.in_err-load.field-0.0) load.shape load.slots load.failed load.counted load.lsn load.blocks load.settles load.any_moment load.holds_back)
 
 pub loop-i-init : goal.loop-i-init
 loop-i-init g c =
     let load = c.in_ok-load.ensures in
     record {
-      logs = load_logs g.S.Store c.args.store.now c.load.new.self (Ok c.in_ok-load.field-0) load.shape load.slots load.failed load.counted load.lsn load.blocks load.settles load.any_moment;
+      logs = load_logs g.S.Store c.args.store.now c.load.new.self (Ok c.in_ok-load.field-0) load.shape load.slots load.failed load.counted load.lsn load.blocks load.settles load.any_moment load.holds_back;
       so_far = λ told. below_none (λ (k : ℕ). (slot_in (segment_of c.args.shape (g.S.Store.blocks c.args.store.now) c.args.g).header k).state ≡ ACTIVE → IsActive c.args.shape c.args.g (segment_of c.args.shape (g.S.Store.blocks c.args.store.now) c.args.g) k);
     }
 
@@ -43,3 +44,15 @@ loop-i-preserved g c =
 
 pub returns-clause-logs : goal.returns-clause-logs
 returns-clause-logs g c = c.loop-i.invariant.logs
+
+pub returns-then-not-branch-clause-told : goal.returns-then-not-branch-clause-told
+returns-then-not-branch-clause-told g c = λ told. (
+  λ clash. absurd (false≢true clash),
+  λ all.
+      let s = g.S.Store in
+      let shape = c.args.shape in
+      let test = c.loop-i-test.true in
+      let here = subst (λ (b : List (List ℕ)). (slot_in (segment_of shape b c.args.g).header c.loop-i.i).state ≡ ACTIVE → IsActive shape c.args.g (segment_of shape b c.args.g) c.loop-i.i)
+      (sym (c.loop-i.invariant.logs.blocks told refl)) (all c.loop-i.i (omega (arith, test))) in
+      sym c.if-not-branch.true ∙ (c.in_ok-slot_sound.ensures.told told).1 here,
+)

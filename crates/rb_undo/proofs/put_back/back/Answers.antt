@@ -22,7 +22,7 @@ returns-in_err-load-clause-logs g c =
     let load = c.in_err-load.ensures in (
       [],
       rw c.from_residual.ensures.0
-          (load_logs g.S.Store c.args.store.now c.load.new.self (Err c.in_err-load.field-0.0) load.shape load.slots load.failed load.counted load.lsn load.blocks load.settles load.any_moment),
+          (load_logs g.S.Store c.args.store.now c.load.new.self (Err c.in_err-load.field-0.0) load.shape load.slots load.failed load.counted load.lsn load.blocks load.settles load.any_moment load.holds_back),
       λ told. inl refl,
       omega arith,
     )
@@ -34,7 +34,7 @@ returns-in_err-undo-clause-logs g c =
       [],
       rw c.from_residual-in_err-undo.ensures.0
           (more_logs g.S.Store c.args.store.now c.load.new.self c.newest.new.store [] [] false
-          (load_logs g.S.Store c.args.store.now c.load.new.self (Ok c.in_ok-load.field-0) load.shape load.slots load.failed load.counted load.lsn load.blocks load.settles load.any_moment)
+          (load_logs g.S.Store c.args.store.now c.load.new.self (Ok c.in_ok-load.field-0) load.shape load.slots load.failed load.counted load.lsn load.blocks load.settles load.any_moment load.holds_back)
           c.in_err-undo.ensures.logs),
       λ told. inl refl,
       omega arith,
@@ -46,7 +46,7 @@ returns-in_default-clause-logs g c =
     let load = c.in_ok-load.ensures in (
       [],
       more_logs g.S.Store c.args.store.now c.load.new.self c.newest.new.store [] [] true
-          (load_logs g.S.Store c.args.store.now c.load.new.self (Ok c.in_ok-load.field-0) load.shape load.slots load.failed load.counted load.lsn load.blocks load.settles load.any_moment)
+          (load_logs g.S.Store c.args.store.now c.load.new.self (Ok c.in_ok-load.field-0) load.shape load.slots load.failed load.counted load.lsn load.blocks load.settles load.any_moment load.holds_back)
           c.in_ok-undo.ensures.logs,
       λ told. inl refl,
       omega arith,
@@ -56,7 +56,7 @@ pub returns-in_default-clause-nothing : goal.returns-in_default-clause-nothing
 returns-in_default-clause-nothing g c told not =
     let load = c.in_ok-load.ensures in
     more_logs g.S.Store c.args.store.now c.load.new.self c.newest.new.store [] [] true
-    (load_logs g.S.Store c.args.store.now c.load.new.self (Ok c.in_ok-load.field-0) load.shape load.slots load.failed load.counted load.lsn load.blocks load.settles load.any_moment)
+    (load_logs g.S.Store c.args.store.now c.load.new.self (Ok c.in_ok-load.field-0) load.shape load.slots load.failed load.counted load.lsn load.blocks load.settles load.any_moment load.holds_back)
     c.in_ok-undo.ensures.logs
 
 pub take_back-requires-clause-room : goal.take_back-requires-clause-room
@@ -112,9 +112,9 @@ applied g c =
     let mid = c.newest.new.store in
     let call = c.apply.ensures in
     let load = c.in_ok-load.ensures in
-    let loaded = load_logs s old c.load.new.self (Ok c.in_ok-load.field-0) load.shape load.slots load.failed load.counted load.lsn load.blocks load.settles load.any_moment in
+    let loaded = load_logs s old c.load.new.self (Ok c.in_ok-load.field-0) load.shape load.slots load.failed load.counted load.lsn load.blocks load.settles load.any_moment load.holds_back in
     more_logs s old mid c.apply.new.self [] (c.take_back.new.group ∷ []) (not (is_err c.apply.result)) (more_logs s old c.load.new.self mid [] [] true loaded c.in_ok-undo.ensures.logs)
-    (apply_logs s mid c.apply.new.self c.take_back.new.group c.apply.result call.shape call.slots call.failed call.counted call.lsn call.blocks call.settles call.any_moment)
+    (apply_logs s mid c.apply.new.self c.take_back.new.group c.apply.result call.shape call.slots call.failed call.counted call.lsn call.blocks call.settles call.any_moment call.holds_back)
 
 -- it can be put back
 can : (g : Over) (c : goal.After-apply g) → g.S.Store.tells → CanBack (g.S.Store.shape_of c.args.store.now) (g.S.Store.blocks c.args.store.now) c.args.xid

@@ -78,7 +78,7 @@ returns-clause-logs g c =
     let call = c.apply.ensures in (
       group ∷ [],
       given s c.args.store.now c.plan_clean.new.store c.owed.new.store c.apply.new.self group c.apply.result c.in_ok-plan.ensures.logs c.in_ok-needed.ensures.logs
-          (apply_logs s c.owed.new.store c.apply.new.self group c.apply.result call.shape call.slots call.failed call.counted call.lsn call.blocks call.settles call.any_moment),
+          (apply_logs s c.owed.new.store c.apply.new.self group c.apply.result call.shape call.slots call.failed call.counted call.lsn call.blocks call.settles call.any_moment call.holds_back),
       omega arith,
     )
 
@@ -103,7 +103,7 @@ returns-clause-gives g c = λ told h xids shape holds sixteen.
     inl (record {
       groups = group ∷ [];
       logs = given s old c.plan_clean.new.store c.owed.new.store c.apply.new.self group c.apply.result plan.logs c.in_ok-needed.ensures.logs
-          (apply_logs s c.owed.new.store c.apply.new.self group c.apply.result call.shape call.slots call.failed call.counted call.lsn call.blocks call.settles call.any_moment);
+          (apply_logs s c.owed.new.store c.apply.new.self group c.apply.result call.shape call.slots call.failed call.counted call.lsn call.blocks call.settles call.any_moment call.holds_back);
       few = omega arith;
       one = λ goes. refl;
       made = λ any. subst (λ (n : ℕ). CleanMade h xids c.args.no (room_of (s.slots old) (s.lsn old)) (s.blocks old) (after_group (n + 1) group (s.blocks old))) (sym holds.logged)

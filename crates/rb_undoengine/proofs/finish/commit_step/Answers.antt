@@ -26,7 +26,7 @@ pub returns-in_err-load-clause-logs : goal.returns-in_err-load-clause-logs
 returns-in_err-load-clause-logs g c =
     let load = c.in_err-load.ensures in (
       [],
-      rw c.from_residual.ensures.0 (load_logs g.S.Store c.args.store.now c.load.new.self (Err c.in_err-load.field-0.0) load.shape load.slots load.failed load.counted load.lsn load.blocks load.settles load.any_moment),
+      rw c.from_residual.ensures.0 (load_logs g.S.Store c.args.store.now c.load.new.self (Err c.in_err-load.field-0.0) load.shape load.slots load.failed load.counted load.lsn load.blocks load.settles load.any_moment load.holds_back),
       omega arith,
     )
 
@@ -35,7 +35,7 @@ returns-in_err-load-clause-gives g c = λ told h xids r stand same owned runs so
     let load = c.in_err-load.ensures in
     record {
       groups = [];
-      logs = rw c.from_residual.ensures.0 (load_logs g.S.Store c.args.store.now c.load.new.self (Err c.in_err-load.field-0.0) load.shape load.slots load.failed load.counted load.lsn load.blocks load.settles load.any_moment);
+      logs = rw c.from_residual.ensures.0 (load_logs g.S.Store c.args.store.now c.load.new.self (Err c.in_err-load.field-0.0) load.shape load.slots load.failed load.counted load.lsn load.blocks load.settles load.any_moment load.holds_back);
       few = omega arith;
       one = λ goes. (let clash : false ≡ true = sym (ap not c.from_residual.ensures.0) ∙ goes in absurd cc);
       made = λ any. absurd (omega (arith, any));
@@ -45,7 +45,7 @@ returns-in_err-load-clause-gives g c = λ told h xids r stand same owned runs so
 pub returns-then-not-has_live-clause-logs : goal.returns-then-not-has_live-clause-logs
 returns-then-not-has_live-clause-logs g c =
     let load = c.in_ok-load.ensures in
-    ([], load_logs g.S.Store c.args.store.now c.load.new.self (Ok c.in_ok-load.field-0) load.shape load.slots load.failed load.counted load.lsn load.blocks load.settles load.any_moment, omega arith)
+    ([], load_logs g.S.Store c.args.store.now c.load.new.self (Ok c.in_ok-load.field-0) load.shape load.slots load.failed load.counted load.lsn load.blocks load.settles load.any_moment load.holds_back, omega arith)
 
 -- which isn't so of a transaction that runs and has a live change
 pub returns-then-not-has_live-clause-gives : goal.returns-then-not-has_live-clause-gives
@@ -70,8 +70,8 @@ applied g c =
     let load = c.in_ok-load.ensures in
     let call = c.apply.ensures in
     more_logs s c.args.store.now c.load.new.self c.apply.new.self [] (c.commit.new.group ∷ []) (not (is_err c.apply.result))
-    (load_logs s c.args.store.now c.load.new.self (Ok c.in_ok-load.field-0) load.shape load.slots load.failed load.counted load.lsn load.blocks load.settles load.any_moment)
-    (apply_logs s c.load.new.self c.apply.new.self c.commit.new.group c.apply.result call.shape call.slots call.failed call.counted call.lsn call.blocks call.settles call.any_moment)
+    (load_logs s c.args.store.now c.load.new.self (Ok c.in_ok-load.field-0) load.shape load.slots load.failed load.counted load.lsn load.blocks load.settles load.any_moment load.holds_back)
+    (apply_logs s c.load.new.self c.apply.new.self c.commit.new.group c.apply.result call.shape call.slots call.failed call.counted call.lsn call.blocks call.settles call.any_moment call.holds_back)
 
 -- and the blocks after it stand for the state after the commit
 makes : (g : Over) (c : goal.After-apply g) → g.S.Store.tells → (h : State) (xids : List Xid) (r : ℕ) → BlocksStand h xids (g.S.Store.blocks c.args.store.now) → g.S.Store.shape_of c.args.store.now ≡ h.shape → Owned h r c.args.xid.seg c.args.xid.slot
@@ -135,7 +135,7 @@ apply-requires-clause-within g c =
 pub returns-then-not-has_live-clause-nothing : goal.returns-then-not-has_live-clause-nothing
 returns-then-not-has_live-clause-nothing g c = λ told none.
     let load = c.in_ok-load.ensures in
-    load_logs g.S.Store c.args.store.now c.load.new.self (Ok c.in_ok-load.field-0) load.shape load.slots load.failed load.counted load.lsn load.blocks load.settles load.any_moment
+    load_logs g.S.Store c.args.store.now c.load.new.self (Ok c.in_ok-load.field-0) load.shape load.slots load.failed load.counted load.lsn load.blocks load.settles load.any_moment load.holds_back
 
 pub returns-clause-nothing : goal.returns-clause-nothing
 returns-clause-nothing g c = λ told none.

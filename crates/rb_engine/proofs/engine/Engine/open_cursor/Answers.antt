@@ -1,5 +1,5 @@
 use Rattle.std.proofs.Common.{sym, subst}
-use Rattle.rb_engine.specs.Does.{Does, Stands}
+use Rattle.rb_engine.specs.Does.{Does, EngineView, Stands}
 use Rattle.rb_model.specs.Answers.{plain_answer}
 use Rattle.rb_model.specs.Calls as machine
 use Rattle.rb_model.specs.Names.{name_text}
@@ -10,3 +10,7 @@ returns-clause-did g c = λ h st.
     let s = g.T.Store in
     let call = c.do_open_cursor in
     subst (λ e. Does s h (machine.OpenCursor c.args.s (name_text c.args.name.now) c.args.table c.args.lo c.args.hi) (plain_answer call.result) e (record { memory = call.new.memory; store = c.self.inside.store })) c.self.view_is (call.ensures.did h (subst (Stands s h) (sym c.self.view_is) st))
+
+pub returns-clause-holds_back : goal.returns-clause-holds_back
+returns-clause-holds_back g c = λ fine.
+    subst (λ (e : EngineView _). g.T.Store.holds_back e.store c.self.inside.store) c.self.view_is (g.met.T.Store.holds_back_same c.self.inside.store)
