@@ -31,7 +31,7 @@ fn feed_byte<M: LineRunner, K: Sink>(
 ) -> Result<(), StepFault>
     ensures did { (m : Logged) (line : List ℕ) → M.stands runner.old m → m.state.stopped ≡ false
         → pending.old.items ≡ take 513 line → Did M.stands M.since runner.old runner.new m
-        (λ now. RanAs (outside_by M.worn (M.slots runner.old)) m now (lines_from line (byte ∷ [])) K.tells
+        (λ now. RanAs (outside_by M.worn M.makes (M.slots runner.old)) m now (lines_from line (byte ∷ [])) K.tells
         (K.held sink.old) (K.held sink.new) result) }
     ensures kept { OnOk result ((line : List ℕ) → pending.old.items ≡ take 513 line
         → pending.new.items ≡ take 513 (rest_from line (byte ∷ []))) }
@@ -58,7 +58,7 @@ pub fn feed<M: LineRunner, K: Sink>(
 ) -> Result<(), StepFault>
     ensures did { (m : Logged) (line : List ℕ) → M.stands runner.old m → m.state.stopped ≡ false
         → pending.old.items ≡ take 513 line → Did M.stands M.since runner.old runner.new m
-        (λ now. RanAs (outside_by M.worn (M.slots runner.old)) m now (lines_from line bytes.now) K.tells
+        (λ now. RanAs (outside_by M.worn M.makes (M.slots runner.old)) m now (lines_from line bytes.now) K.tells
         (K.held sink.old) (K.held sink.new) result) }
     ensures kept { OnOk result ((line : List ℕ) → pending.old.items ≡ take 513 line
         → pending.new.items ≡ take 513 (rest_from line bytes.now)) }
@@ -81,7 +81,7 @@ pub fn finish<M: LineRunner, K: Sink>(
 ) -> Result<(), StepFault>
     ensures did { (m : Logged) (line : List ℕ) → M.stands runner.old m → m.state.stopped ≡ false
         → pending.now.items ≡ take 513 line → Did M.stands M.since runner.old runner.new m
-        (λ now. RanAs (outside_by M.worn (M.slots runner.old)) m now (last_of line) K.tells
+        (λ now. RanAs (outside_by M.worn M.makes (M.slots runner.old)) m now (last_of line) K.tells
         (K.held sink.old) (K.held sink.new) result) }
     ensures slots { M.slots runner.new ≡ M.slots runner.old }
     ensures disk { IsCountedBeside (M.faults runner.old) (M.faults runner.new) (err_is is_disk result)

@@ -1,7 +1,7 @@
 //! `LineRunner`: what does a line. The shell implements it over an engine, and `run_lines` calls it.
-ghost use Rattle.std.specs.Prelude.{ℕ, ◌≡◌, ◌≤◌, false, true};
+ghost use Rattle.std.specs.Prelude.{ℕ, ◌≡◌, ◌≤◌, false, true, List};
 ghost use Rattle.rb_base.specs.Counts.{IsCountedAs, err_is};
-ghost use Rattle.rb_model.specs.Calls.{Call};
+ghost use Rattle.rb_model.specs.Calls.{Answer, Call};
 ghost use Rattle.rb_model.specs.Out.{Logged, outside_by};
 ghost use Rattle.rb_model.specs.State.{State};
 ghost use Rattle.rb_lines.specs.Faults.{IsCountedBeside, is_disk, is_sink};
@@ -21,17 +21,22 @@ pub enum StepFault {
     Sink,
 }
 
-/// What does lines. It stands for states of the abstract machine, each with the last log number given: nothing that
-/// it holds need tell them, so what it does is said of each state that it stands for.
+/// What does lines. It stands for states of the abstract machine, each with the last log number given and the blocks
+/// from which the state is read: nothing that it holds need tell them, so what it does is said of each state that it
+/// stands for.
 pub trait LineRunner {
-    /// It stands for this state and last log number.
+    /// It stands for this state, with its last log number and its blocks.
     ghost stands: { Self → Logged → Type 0 };
 
     /// How many slots its log has.
     ghost slots: { Self → ℕ };
 
-    /// Whether what a call in a state reads at a snapshot is worn, by a number of which something was given up.
-    ghost worn: { State → Call → ℕ → ℕ → Type 0 };
+    /// Whether what a call in a state reads at a snapshot is worn in these blocks, by a number of which something was
+    /// given up.
+    ghost worn: { State → List (List ℕ) → Call → ℕ → ℕ → Type 0 };
+
+    /// What a call in a state with an answer makes of the machine's blocks, over a log of so many slots.
+    ghost makes: { ℕ → Logged → Call → Answer → Logged → Type 0 };
 
     /// How often its disk has failed, up to 2^64 - 1.
     ghost faults: { Self → ℕ };
@@ -44,7 +49,7 @@ pub trait LineRunner {
     fn step<K: Sink>(&mut self, line: &[u8], sink: &mut K) -> Result<(), StepFault>
         ensures did { (m : Logged) → stands self.old m → m.state.stopped ≡ false
             → Did stands since self.old self.new m
-            (λ now. LineRanAs (outside_by worn (slots self.old)) m now line.now K.tells (K.held sink.old)
+            (λ now. LineRanAs (outside_by worn makes (slots self.old)) m now line.now K.tells (K.held sink.old)
             (K.held sink.new) result) }
         ensures slots { slots self.new ≡ slots self.old }
         ensures disk { IsCountedBeside (faults self.old) (faults self.new) (err_is is_disk result)

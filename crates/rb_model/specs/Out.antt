@@ -16,32 +16,39 @@ pub record Logged : Type 0 where
   pub state : State
   pub lsn : ℕ
   pub fault : Option Call
+  -- the blocks from which the state is read; of those of a stopped state nothing is said
+  pub blocks : List (List ℕ)
 
--- What answers hang on besides the machine's state: how many slots the log has, and whether what a call in a state
--- reads at a snapshot is worn, by a number above it of which something was given up.
+-- What answers hang on besides the machine's state: how many slots the log has, and two relations.
 pub record Outside : Type 1 where
   pub slots : ℕ
-  pub worn : State → Call → (snapshot lost : ℕ) → Type 0
+  -- what a call in a state reads at a snapshot is worn in these blocks, by a number above it of which something was
+  -- given up
+  pub worn : State → List (List ℕ) → Call → (snapshot lost : ℕ) → Type 0
+  -- what a call in a state with that answer makes of the machine's blocks, over a log of so many slots
+  pub makes : (slots : ℕ) → Logged → Call → Answer → Logged → Type 0
 
-abbrev pub outside_by : (State → Call → (snapshot lost : ℕ) → Type 0) → (slots : ℕ) → Outside
-outside_by worn slots = record { slots = slots; worn = worn }
+abbrev pub outside_by : (State → List (List ℕ) → Call → (snapshot lost : ℕ) → Type 0)
+    → ((slots : ℕ) → Logged → Call → Answer → Logged → Type 0) → (slots : ℕ) → Outside
+outside_by worn makes slots = record { slots = slots; worn = worn; makes = makes }
 
 -- How many more groups a log of so many slots has room for, behind that number. One slot stays free.
 abbrev pub room : ℕ → ℕ → ℕ
 room slots lsn = slots - 1 - lsn
 
--- One call with that answer, which is too old only where what it reads is worn. The log number goes up by the groups of
--- the call, 2^14 at most, unless the disk has failed.
+-- One call with that answer, which is too old only where what it reads is worn in the machine's blocks. Unless the disk
+-- has failed, the log number goes up by the groups of the call, 2^14 at most, and the call makes the blocks that follow.
 pub record CallOut (m : Logged) (outside : Outside) (call : Call) (answer : Answer) (m2 : Logged) : Type 0 where
   pub reply : Reply m.state m.lsn (room outside.slots m.lsn) call answer
   pub worn : (snapshot lost : ℕ) → answer ≡ Refused (TooOld snapshot lost)
-      → outside.worn m.state call snapshot lost
+      → outside.worn m.state m.blocks call snapshot lost
   pub state : After m.state call answer m2.state
   pub fault : m2.fault ≡ failed_in call answer m.fault
   pub groups : ℕ
   pub grows : m2.state.stopped ≡ false → Grows m.state call answer groups
   pub few : m2.state.stopped ≡ false → groups ≤ 2 ^ 14
   pub lsn : m2.state.stopped ≡ false → m2.lsn ≡ m.lsn + groups
+  pub makes : m2.state.stopped ≡ false → outside.makes outside.slots m call answer m2
 
 -- after this answer a command makes its next call
 abbrev pub goes_on : Answer → Bool
@@ -68,7 +75,7 @@ pub record Resumed (m : Logged) (outside : Outside) (s : ℕ) (asked : Asked) (a
   pub reply : Reply (unqueued m.state s) m.lsn (room outside.slots m.lsn)
       (Write s asked.table asked.key asked.action) answer
   pub worn : (snapshot lost : ℕ) → answer ≡ Refused (TooOld snapshot lost)
-      → outside.worn m.state (Write s asked.table asked.key asked.action) snapshot lost
+      → outside.worn m.state m.blocks (Write s asked.table asked.key asked.action) snapshot lost
   pub state : MatchBool (is_fault answer) (m2.state ≡ record m.state { stopped = true })
       (After (unqueued m.state s) (Write s asked.table asked.key asked.action) answer m2.state)
   pub fault : m2.fault ≡ failed_in (Write s asked.table asked.key asked.action) answer m.fault
@@ -77,6 +84,8 @@ pub record Resumed (m : Logged) (outside : Outside) (s : ℕ) (asked : Asked) (a
       → Grows (unqueued m.state s) (Write s asked.table asked.key asked.action) answer groups
   pub few : m2.state.stopped ≡ false → groups ≤ 2 ^ 14
   pub lsn : m2.state.stopped ≡ false → m2.lsn ≡ m.lsn + groups
+  pub makes : m2.state.stopped ≡ false → outside.makes outside.slots (record m { state = unqueued m.state s })
+      (Write s asked.table asked.key asked.action) answer m2
 
 -- the disk has failed, or no session is ready
 abbrev pub IsSettled : Logged → Type 0
