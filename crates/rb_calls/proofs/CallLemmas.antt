@@ -1,5 +1,5 @@
 -- What one call and one write that is tried again do over an engine, as the engine tells it.
-use Rattle.std.proofs.Common.{◌≡◌, ◌∙◌, ◌⊎◌, ⊎_elim, refl, sym, ap, subst, arith, ℕ, zero, suc, ◌+◌, ◌<◌, ◌≤◌, Bool, true, false, Result, Ok, Err, Option, None, Some}
+use Rattle.std.proofs.Common.{◌≡◌, ◌∙◌, ◌⊎◌, ⊎_elim, refl, sym, ap, subst, arith, ℕ, zero, suc, ◌+◌, ◌<◌, ◌≤◌, Bool, true, false, List, Result, Ok, Err, Option, None, Some}
 use Rattle.std.proofs.lemmas.Bool.{cases_Bool, false≢true}
 use Rattle.std.specs.Bool.{MatchBool}
 use Rattle.rb_base.specs.Counts.{IsCountedAs}
@@ -9,6 +9,7 @@ use Rattle.rb_calls.specs.Since.{IsSince, StandsAs, outside_of, slots_of}
 use Rattle.rb_engine.proofs.QueueLemmas.{survives_from, survives_queue}
 use Rattle.rb_engine.specs.Does.{Does, EngineView, Resumes, SameStore, Stands}
 use Rattle.rb_engine.specs.Lateness.{ResumeNeedsLost}
+use Rattle.rb_engine.specs.Makes.{Makes, ResumeMakes}
 use Rattle.rb_engine.specs.Worn.{CallNeedsLost, IsWorn}
 use Rattle.rb_image.specs.Crash.{Survives}
 use Rattle.rb_lines.specs.Ran.{Did}
@@ -62,9 +63,9 @@ on_no_fault (Refused why) e = absurd (false≢true e)
 
 -- where it is too old, what it reads is worn
 
-pub worn_by : {S : Type 0} (s : Ghosts S) (h : State) (e : EngineView S) (c : Call) (scn lost : ℕ) → CallNeedsLost s h e c scn lost → IsWorn h c scn lost
-worn_by s h e (Write who table key action) scn lost needs = (needs.0, s.blocks e.store, needs.1)
-worn_by s h e (Fetch who name) scn lost needs = (needs.0, s.blocks e.store, needs.1)
+pub worn_by : {S : Type 0} (s : Ghosts S) (h : State) (e : EngineView S) (c : Call) (scn lost : ℕ) → CallNeedsLost s h e c scn lost → IsWorn h (s.blocks e.store) c scn lost
+worn_by s h e (Write who table key action) scn lost needs = needs
+worn_by s h e (Fetch who name) scn lost needs = (needs.0, needs.1)
 worn_by s h e (Commit who) scn lost needs = tt
 worn_by s h e (Rollback who) scn lost needs = tt
 worn_by s h e (SetMode who mode) scn lost needs = tt
@@ -99,32 +100,41 @@ module _ {S : Type 0} (s : Ghosts S) where
   all_room : (e : EngineView S) (m : Logged) → StandsAs s e m → room_of (s.slots e.store) (s.lsn e.store) ≡ room (slots_of (s.slots e.store)) (s.lsn e.store)
   all_room e m is = ap (λ (slots : Option ℕ). room_of slots (s.lsn e.store)) is.ended
 
+  -- what a call makes of the store's blocks, it makes of the machine's
+  pub made_of : (m : Logged) (h : State) (c : Call) (r : Answer) (old new : EngineView S) → StandsAs s old m → Makes h c r (s.slots old.store) (s.lsn new.store) (s.blocks old.store) (s.blocks new.store)
+      → Makes h c r (Some (slots_of (s.slots old.store))) (s.lsn new.store) m.blocks (s.blocks new.store)
+  made_of m h c r old new is makes =
+      subst (λ (b : List (List ℕ)). Makes h c r (Some (slots_of (s.slots old.store))) (s.lsn new.store) b (s.blocks new.store)) (sym is.blocks)
+      (subst (λ (slots : Option ℕ). Makes h c r slots (s.lsn new.store) (s.blocks old.store) (s.blocks new.store)) is.ended makes)
+
   -- from a state that the engine stood for, to the one that it stands for after the call
   pub did_call : (m : Logged) (c : Call) (r : Answer) (old new : EngineView S) (P : Logged → Type 0) → StandsAs s old m → m.state.stopped ≡ false → Does s m.state c r old new → SameStore s old.store new.store
       → ((scn lost : ℕ) → r ≡ Refused (TooOld scn lost) → CallNeedsLost s m.state old c scn lost)
+      → (is_fault r ≡ false → Makes m.state c r (s.slots old.store) (s.lsn new.store) (s.blocks old.store) (s.blocks new.store))
       → (is_fault r ≡ false → s.faults new.store ≡ s.faults old.store)
       → ((now : Logged) → CallOut m (outside_of (s.slots old.store)) c r now → P now) → Did (StandsAs s) (IsSince s) old new m P
-  did_call m c r old new P is going does same lost quiet so =
+  did_call m c r old new P is going does same lost makes quiet so =
       let slots = slots_of (s.slots old.store) in
       let no_fault : does.now.stopped ≡ false → is_fault r ≡ false = λ on. ⊎_elim
       (λ (e : is_fault r ≡ true). absurd (false≢true (sym on ∙ ap (λ (h : State). h.stopped) (after_stops m.state does.now c r e does.after))))
       (λ (e : is_fault r ≡ false). e)
       (cases_Bool (is_fault r)) in
-      let now : Logged = record { state = does.now; lsn = s.lsn new.store; fault = failed_in c r m.fault } in
+      let now : Logged = record { state = does.now; lsn = s.lsn new.store; fault = failed_in c r m.fault; blocks = s.blocks new.store } in
       record {
         now = now;
-        reached = record { engine = does.stands; lsn = refl; ended = subst (λ (slots : Option ℕ). slots ≡ Some (slots_of slots)) (sym same.slots) is.ended };
+        reached = record { engine = does.stands; lsn = refl; blocks = refl; ended = subst (λ (slots : Option ℕ). slots ≡ Some (slots_of slots)) (sym same.slots) is.ended };
         passed = record { same = same; crash = λ kept. does.survives m.fault going kept; still = λ on. quiet (no_fault on) };
         ran = so now (record {
           reply = subst (λ (n : ℕ). Reply m.state n (room slots n) c r) (sym is.lsn)
               (subst (λ (more : ℕ). Reply m.state (s.lsn old.store) more c r) (all_room old m is) does.reply);
-          worn = λ n gone old_one. worn_by s m.state old c n gone (lost n gone old_one);
+          worn = λ n gone old_one. subst (λ (b : List (List ℕ)). IsWorn m.state b c n gone) (sym is.blocks) (worn_by s m.state old c n gone (lost n gone old_one));
           state = does.after;
           fault = refl;
           groups = does.groups;
           grows = does.grows;
           few = does.few going;
           lsn = λ on. does.lsn on ∙ ap (λ (n : ℕ). n + does.groups) (sym is.lsn);
+          makes = λ on. (made_of m m.state c r old new is (makes (no_fault on)), ((does.stands.goes on).xids, (does.stands.goes on).holds.blocks));
         });
       }
 
@@ -152,6 +162,7 @@ pub record TriedAgain (m : Logged) (outside : Outside) (w : ℕ) (r : Answer) (n
 
 module _ {S : Type 0} (s : Ghosts S) (m : Logged) (w : ℕ) (outcome : Result Wrote Refusal) (old new : EngineView S) (is : StandsAs s old m) (going : m.state.stopped ≡ false) (same : SameStore s old.store new.store)
     (lost : (scn gone : ℕ) → outcome ≡ Err (TooOld scn gone) → ResumeNeedsLost s m.state old w scn gone)
+    (makes : is_fault (write_answer outcome) ≡ false → ResumeMakes m.state (Some (w, outcome)) (s.slots old.store) (s.lsn new.store) (s.blocks old.store) (s.blocks new.store))
     (quiet : is_fault (write_answer outcome) ≡ false → s.faults new.store ≡ s.faults old.store) where
   abbrev r : Answer
   r = write_answer outcome
@@ -173,11 +184,19 @@ module _ {S : Type 0} (s : Ghosts S) (m : Logged) (w : ℕ) (outcome : Result Wr
   asked_is a b one two = let same : Some b ≡ Some a = sym two ∙ one in cc
 
   -- where it is too old, what it reads is worn
-  worn : (a : Asked) → asked_of m.state w ≡ Some a → (scn gone : ℕ) → r ≡ Refused (TooOld scn gone) → IsWorn m.state (call a) scn gone
+  worn : (a : Asked) → asked_of m.state w ≡ Some a → (scn gone : ℕ) → r ≡ Refused (TooOld scn gone) → IsWorn m.state m.blocks (call a) scn gone
   worn a known scn gone old_one =
       let needs = lost scn gone (old_outcome outcome scn gone old_one) in
-      subst (λ (b : Asked). IsWorn m.state (call b) scn gone) (asked_is a needs.0 known needs.1)
-      (worn_by s m.state old (call needs.0) scn gone needs.2)
+      subst (λ (l : List (List ℕ)). IsWorn m.state l (call a) scn gone) (sym is.blocks)
+      (subst (λ (b : Asked). IsWorn m.state (s.blocks old.store) (call b) scn gone) (asked_is a needs.0 known needs.1)
+      (worn_by s m.state old (call needs.0) scn gone needs.2))
+
+  -- and what it makes of the machine's blocks
+  made : (a : Asked) → asked_of m.state w ≡ Some a → is_fault r ≡ false → Makes (unqueued m.state w) (call a) r (Some (slots_of (s.slots old.store))) (s.lsn new.store) m.blocks (s.blocks new.store)
+  made a known e =
+      let all = makes e in
+      made_of s m (unqueued m.state w) (call a) r old new is
+      (subst (λ (b : Asked). Makes (unqueued m.state w) (call b) r (s.slots old.store) (s.lsn new.store) (s.blocks old.store) (s.blocks new.store)) (asked_is a all.0 known all.1) all.2)
 
   ends_as : s.slots new.store ≡ Some (slots_of (s.slots new.store))
   ends_as = subst (λ (slots : Option ℕ). slots ≡ Some (slots_of slots)) (sym same.slots) is.ended
@@ -186,10 +205,10 @@ module _ {S : Type 0} (s : Ghosts S) (m : Logged) (w : ℕ) (outcome : Result Wr
   fine : (P : Logged → Type 0) (a : Asked) → asked_of m.state w ≡ Some a → first_ready m.state.queue ≡ Some w → Made a → is_fault r ≡ false
       → ((now : Logged) → TriedAgain m (outside_of (s.slots old.store)) w r now → P now) → Did (StandsAs s) (IsSince s) old new m P
   fine P a known ready does e so =
-      let now : Logged = record { state = does.now; lsn = s.lsn new.store; fault = failed_in (call a) r m.fault } in
+      let now : Logged = record { state = does.now; lsn = s.lsn new.store; fault = failed_in (call a) r m.fault; blocks = s.blocks new.store } in
       record {
         now = now;
-        reached = record { engine = does.stands; lsn = refl; ended = ends_as };
+        reached = record { engine = does.stands; lsn = refl; blocks = refl; ended = ends_as };
         passed = record {
           same = same;
           crash = λ kept. survives_from m.state (left_by w m.state.queue) m.state.asked s (s.slots old.store) now.fault does.now old.store new.store (does.survives m.fault going kept);
@@ -208,6 +227,7 @@ module _ {S : Type 0} (s : Ghosts S) (m : Logged) (w : ℕ) (outcome : Result Wr
             grows = does.grows;
             few = does.few going;
             lsn = λ on. does.lsn on ∙ ap (λ (n : ℕ). n + does.groups) (sym is.lsn);
+            makes = λ on. (made a known e, ((does.stands.goes on).xids, (does.stands.goes on).holds.blocks));
           };
           stopped = (fine_stays (unqueued m.state w) does.now (call a) r e does.after).stopped ∙ going ∙ sym e;
         });
@@ -219,7 +239,7 @@ module _ {S : Type 0} (s : Ghosts S) (m : Logged) (w : ℕ) (outcome : Result Wr
   failed P a known ready does e so =
       let left : State = record (unqueued m.state w) { stopped = true } in
       let halted : State = record m.state { stopped = true } in
-      let now : Logged = record { state = halted; lsn = s.lsn new.store; fault = failed_in (call a) r m.fault } in
+      let now : Logged = record { state = halted; lsn = s.lsn new.store; fault = failed_in (call a) r m.fault; blocks = s.blocks new.store } in
       let after : does.now ≡ left = after_stops (unqueued m.state w) does.now (call a) r e does.after in
       let stands : Stands s left new = subst (λ (h : State). Stands s h new) after does.stands in
       record {
@@ -232,6 +252,7 @@ module _ {S : Type 0} (s : Ghosts S) (m : Logged) (w : ℕ) (outcome : Result Wr
             goes = λ on. absurd (false≢true (sym on));
           };
           lsn = refl;
+          blocks = refl;
           ended = ends_as;
         };
         passed = record {
@@ -254,6 +275,7 @@ module _ {S : Type 0} (s : Ghosts S) (m : Logged) (w : ℕ) (outcome : Result Wr
             grows = λ on. absurd (false≢true (sym on));
             few = λ on. absurd (false≢true (sym on));
             lsn = λ on. absurd (false≢true (sym on));
+            makes = λ on. absurd (false≢true (sym on));
           };
           stopped = sym e;
         });

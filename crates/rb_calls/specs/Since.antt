@@ -4,12 +4,14 @@ use Rattle.rb_base.specs.Logs.{Laws}
 use Rattle.rb_base.specs.Moments.{begun}
 use Rattle.rb_base.specs.declared.store.Store.{Ghosts}
 use Rattle.rb_engine.specs.Does.{EngineView, SameStore, Stands}
+use Rattle.rb_engine.specs.Makes.{Makes, StandFor}
 use Rattle.rb_engine.specs.Worn.{IsWorn}
 use Rattle.rb_image.proofs.Crashes.{extends_same, grow_same, survives_on}
 use Rattle.rb_image.proofs.Steps.{left_with, restarts}
 use Rattle.rb_image.specs.Between.{at_end, whole}
 use Rattle.rb_image.specs.Crash.{OnTheWay, Restarts, Survives}
 use Rattle.rb_image.specs.Images.{HasState}
+use Rattle.rb_model.specs.Calls.{Answer, Call}
 use Rattle.rb_model.specs.Out.{Logged, Outside, outside_by}
 use Rattle.rb_model.specs.Rows.{last_scn}
 use Rattle.rb_model.specs.State.{State}
@@ -19,14 +21,21 @@ abbrev pub slots_of : Option ℕ → ℕ
 slots_of None = 0
 slots_of (Some slots) = slots
 
+-- What a call with that answer makes of the machine's blocks, over a log of so many slots. They stand for its state
+-- then.
+abbrev pub MakesOf : (slots : ℕ) → Logged → Call → Answer → Logged → Type 0
+MakesOf slots m call answer m2 =
+    Makes m.state call answer (Some slots) m2.lsn m.blocks m2.blocks × StandFor m2.state m2.blocks
+
 -- what answers hang on besides the state, over a log of so many slots
 abbrev pub outside_of : Option ℕ → Outside
-outside_of slots = outside_by IsWorn (slots_of slots)
+outside_of slots = outside_by IsWorn MakesOf (slots_of slots)
 
--- An engine stands for a state, and the last log number is that of its store, whose log has an end.
+-- An engine stands for a state, and the last log number and the blocks are those of its store, whose log has an end.
 pub record StandsAs {S : Type 0} (s : Ghosts S) (e : EngineView S) (m : Logged) : Type 0 where
   pub engine : Stands s m.state e
   pub lsn : m.lsn ≡ s.lsn e.store
+  pub blocks : m.blocks ≡ s.blocks e.store
   pub ended : s.slots e.store ≡ Some (slots_of (s.slots e.store))
 
 -- The store has as many slots, and the same shape, and a crash may leave no more than `Survives` says. Unless it is

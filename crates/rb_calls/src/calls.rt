@@ -1,9 +1,10 @@
 //! The calls of a command on the engine. The shell makes those of a line, and the generator those of the commands that
 //! it draws.
-ghost use Rattle.std.specs.Prelude.{◌≡◌, ◌<◌, ℕ, None};
+ghost use Rattle.std.specs.Prelude.{◌≡◌, ◌<◌, ℕ, false, None};
 ghost use Rattle.rb_base.specs.Counts.{IsCountedAs};
 ghost use Rattle.rb_calls.specs.Fits.{FitsCaller};
 ghost use Rattle.rb_engine.specs.Does.{Does, SameStore, Stands};
+ghost use Rattle.rb_engine.specs.Makes.{Makes};
 ghost use Rattle.rb_engine.specs.Worn.{CallNeedsLost};
 ghost use Rattle.rb_model.specs.Answers.{answer_of};
 ghost use Rattle.rb_model.specs.Calls as machine;
@@ -40,6 +41,9 @@ fn answer_of_segment<T: Store>(engine: &mut Engine<T>, k: u32) -> Answer
     requires { k < (T.shape_of engine.old.store).segments }
     ensures did { (h : State) (row : Row) → Stands T.Store h engine.old → Does T.Store h
         (machine.Marks k) (answer_of result row) engine.old engine.new }
+    ensures makes { (h : State) (row : Row) → Stands T.Store h engine.old → is_fault (answer_of result row) ≡ false
+        → Makes h (machine.Marks k) (answer_of result row) (T.slots engine.old.store) (T.lsn engine.new.store)
+        (T.blocks engine.old.store) (T.blocks engine.new.store) }
     ensures fits { FitsCaller None result }
     ensures same { SameStore T.Store engine.old.store engine.new.store }
     ensures disk { (row : Row) → IsCountedAs (T.faults engine.old.store) (T.faults engine.new.store)
@@ -60,6 +64,9 @@ pub fn answer<T: Store>(
     requires { k < most_calls (T.shape_of engine.old.store) (command_of command.now) }
     ensures did { (h : State) → Stands T.Store h engine.old → Does T.Store h
         (call_of (command_of command.now) k) (answer_of result row.new) engine.old engine.new }
+    ensures makes { (h : State) → Stands T.Store h engine.old → is_fault (answer_of result row.new) ≡ false
+        → Makes h (call_of (command_of command.now) k) (answer_of result row.new) (T.slots engine.old.store)
+        (T.lsn engine.new.store) (T.blocks engine.old.store) (T.blocks engine.new.store) }
     ensures lost { (h : State) → Stands T.Store h engine.old → (scn lost : ℕ)
         → answer_of result row.new ≡ machine.Refused (TooOld scn lost)
         → CallNeedsLost T.Store h engine.old (call_of (command_of command.now) k) scn lost }

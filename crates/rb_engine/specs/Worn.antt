@@ -8,14 +8,13 @@ use Rattle.rb_engine.specs.Scanning.{IsFetchOld, NeedsLost}
 use Rattle.rb_model.specs.Calls.{Call, Fetch, Write}
 use Rattle.rb_model.specs.State.{State}
 
--- What a call in a state reads at a snapshot is worn: blocks that stand for the state can't tell it any more, for what
--- a segment lost above the snapshot. No other call reads at one.
-abbrev pub IsWorn : State → Call → (scn lost : ℕ) → Type 0
-IsWorn h (Fetch who name) scn lost =
-    (xids : List Xid) × (blocks : List (List ℕ)) × IsFetchOld h xids blocks who name scn lost
-IsWorn h (Write who table key action) scn lost =
-    (xids : List Xid) × (blocks : List (List ℕ)) × IsWriteWorn h xids blocks who table key scn lost
-IsWorn h call scn lost = Unit {0}
+-- What a call in a state reads at a snapshot is worn: these blocks, which stand for the state, can't tell it any more,
+-- for what a segment lost above the snapshot. No other call reads at one.
+abbrev pub IsWorn : State → List (List ℕ) → Call → (scn lost : ℕ) → Type 0
+IsWorn h blocks (Fetch who name) scn lost = (xids : List Xid) × IsFetchOld h xids blocks who name scn lost
+IsWorn h blocks (Write who table key action) scn lost =
+    (xids : List Xid) × IsWriteWorn h xids blocks who table key scn lost
+IsWorn h blocks call scn lost = Unit {0}
 
 -- and so can't those of an engine that stands for it
 abbrev pub CallNeedsLost : {S : Type 0} → Ghosts S → State → EngineView S → Call → (scn lost : ℕ) → Type 0
