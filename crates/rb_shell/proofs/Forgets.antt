@@ -28,6 +28,7 @@ module _ (o : Outside) where
     grows = x.grows;
     few = x.few;
     lsn = x.lsn;
+    makes = λ on. tt;
   }
 
   calls : (count k : ℕ) (m : Logged) (c : Command) (out : List ℕ) (m2 : Logged) → CallsOut m o c k count out m2 → CallsOut m O c k count out m2
@@ -45,6 +46,7 @@ module _ (o : Outside) where
     grows = x.grows;
     few = x.few;
     lsn = x.lsn;
+    makes = λ on. tt;
   }
 
   resumes : (count : ℕ) (m : Logged) (out : List ℕ) (m2 : Logged) → ResumesOut m o count out m2 → ResumesOut m O count out m2

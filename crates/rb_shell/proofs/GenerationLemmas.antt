@@ -12,7 +12,7 @@ use Rattle.rb_generator.specs.Ends.{HasGenerated, StopsBy}
 use Rattle.rb_generator.specs.Summary.{summary_text}
 use Rattle.rb_generator.specs.declared.counts.Counts.{Counts}
 use Rattle.rb_image.proofs.Crashes.{survives_on}
-use Rattle.rb_image.specs.Crash.{OpensUpTo, Survives}
+use Rattle.rb_image.specs.Crash.{Survives}
 use Rattle.rb_lines.specs.Ran.{Did}
 use Rattle.rb_model.specs.Out.{Logged}
 use Rattle.rb_model.specs.Rows.{last_scn}
@@ -66,7 +66,7 @@ module _ {S : Type 0} (s : Ghosts S) (m : Logged) (n : ℕ) (old mid : EngineVie
     made = record { answers = d.ran.answers; now = d.now; answered = d.ran.answered; stops = d.ran.ends.1 };
     crash = λ kept. survives_on s (s.slots old.store) m.state d.now.state d.now.state old.store mid.store new d.ran.ends.1 (d.passed.crash kept)
         (subst (λ (k : Option ℕ). Survives s k d.now.fault d.now.state d.now.state mid.store new) d.passed.same.slots (made.crash d.now.fault kept));
-    last = λ kept other i here. subst (λ (k : Option ℕ). OpensUpTo s.opens k d.now.state.shape d.now.lsn i) d.passed.same.slots (made.last kept (fine other) i here);
+    last = λ kept other i here. subst (λ (k : Option ℕ). s.opens d.now.state.shape k i d.now.blocks d.now.lsn) d.passed.same.slots (made.last kept (fine other) i here);
     all = λ other. refl;
     told = told;
     cut = cut;
@@ -74,11 +74,11 @@ module _ {S : Type 0} (s : Ghosts S) (m : Logged) (n : ℕ) (old mid : EngineVie
 
 module _ {D : Type 0} (d : DiskGhosts D) (old : D) (g : Ghosts (LapState D)) (e : EngineView (LapState D)) (sound : IsSound (d.content old)) (o : HasOpened d g old e sound) where
   -- the same commands over the file
-  abbrev pub same_made : (n : ℕ) (had fault : Bool) → had ≡ fault → HasMade (outside_of (Some e.store.layout.log)) (first_of sound) n had → HasMade (outside_in sound) (first_of sound) n fault
+  abbrev pub same_made : (n : ℕ) (had fault : Bool) → had ≡ fault → HasMade (outside_of (Some e.store.layout.log)) (first_of sound o.first) n had → HasMade (outside_in sound) (first_of sound o.first) n fault
   same_made n had fault is made = record {
     answers = made.answers;
     now = made.now;
-    answered = subst (λ (k : ℕ). CommandsAnswered (first_of sound) (outside_of (Some k)) (commands_of sound.state.shape n) made.answers made.now) o.slots made.answered;
+    answered = subst (λ (k : ℕ). CommandsAnswered (first_of sound o.first) (outside_of (Some k)) (commands_of sound.state.shape n) made.answers made.now) o.slots made.answered;
     stops = subst (λ (v : Bool). StopsBy v made.answers made.now) is made.stops;
   }
 

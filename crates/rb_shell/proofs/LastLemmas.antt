@@ -1,12 +1,11 @@
 -- What is left where a script's end makes last what waits.
-use Rattle.std.proofs.Common.{◌≡◌, ◌≢◌, ◌∙◌, ℕ, false, [], Option, refl, sym, ap, subst, arith}
+use Rattle.std.proofs.Common.{◌≡◌, ◌≢◌, ◌∙◌, ℕ, false, List, [], Option, refl, sym, ap, subst, arith}
 use Rattle.std.proofs.lemmas.Bool.{false≢true}
 use Rattle.rb_base.specs.Logs.{Laws}
 use Rattle.rb_base.specs.declared.shape.Shape.{Shape}
 use Rattle.rb_base.specs.declared.store.Store.{Ghosts}
 use Rattle.rb_engine.specs.Does.{Does, EngineView, LeavesState, SameStore}
 use Rattle.rb_image.proofs.Steps.{opens_last}
-use Rattle.rb_image.specs.Crash.{OpensUpTo}
 use Rattle.rb_image.specs.Images.{HasState}
 use Rattle.rb_model.specs.Calls.{Answer, Checkpoint, Done, Refused, Reply, early, later, first_of}
 use Rattle.rb_model.specs.Calls as calls
@@ -28,10 +27,10 @@ only_fault h n more why going (calls.fault none is) = cc
 only_fault h n more why going (calls.old none late) = absurd late.reads
 
 module _ {S : Type 0} (s : Ghosts S) (laws : Laws s) (m : Logged) (old new : EngineView S) (is : StandsAs s old m) (going : m.state.stopped ≡ false) where
-  -- an image has all to the last group
-  last_of : Does s m.state Checkpoint Done old new → SameStore s old.store new.store → s.keeps → s.pending new.store ≡ [] → (i : s.image) → s.left new.store i
-      → OpensUpTo s.opens (s.slots old.store) m.state.shape m.lsn i
-  last_of does same kept none i here =
+  -- an image has all to the last group, in the machine's blocks
+  last_of : Does s m.state Checkpoint Done old new → SameStore s old.store new.store → s.blocks new.store ≡ s.blocks old.store → s.keeps → s.pending new.store ≡ [] → (i : s.image) → s.left new.store i
+      → s.opens m.state.shape (s.slots old.store) i m.blocks m.lsn
+  last_of does same read kept none i here =
       let state : does.now ≡ m.state = does.after in
       let on : does.now.stopped ≡ false = ap (λ (h : State). h.stopped) state ∙ going in
       let holds = (does.stands.goes on).holds in
@@ -39,15 +38,16 @@ module _ {S : Type 0} (s : Ghosts S) (laws : Laws s) (m : Logged) (old new : Eng
       let number : s.lsn new.store ≡ m.lsn = does.lsn on ∙ omega (arith, groups, is.lsn) in
       let shape : s.shape_of new.store ≡ m.state.shape = does.stands.shape ∙ ap (λ (h : State). h.shape) state in
       let opens = opens_last s laws kept (HasState does.now does.now.books (last_scn does.now.commits) (s.slots new.store)) new.store (holds.images kept) none i here in
-      subst (λ (n : ℕ). OpensUpTo s.opens (s.slots old.store) m.state.shape n i) number
-      (subst (λ (x : Shape). OpensUpTo s.opens (s.slots old.store) x (s.lsn new.store) i) shape
-      (subst (λ (k : Option ℕ). OpensUpTo s.opens k (s.shape_of new.store) (s.lsn new.store) i) same.slots opens))
+      subst (λ (n : ℕ). s.opens m.state.shape (s.slots old.store) i m.blocks n) number
+      (subst (λ (b : List (List ℕ)). s.opens m.state.shape (s.slots old.store) i b (s.lsn new.store)) (read ∙ sym is.blocks)
+      (subst (λ (x : Shape). s.opens x (s.slots old.store) i (s.blocks new.store) (s.lsn new.store)) shape
+      (subst (λ (k : Option ℕ). s.opens (s.shape_of new.store) k i (s.blocks new.store) (s.lsn new.store)) same.slots opens)))
 
-  pub made_last : Does s m.state Checkpoint Done old new → SameStore s old.store new.store → LeavesState s m.state old.store new.store → (s.keeps → s.pending new.store ≡ []) → (status : Status)
-      → MadeLast s old.store new.store m status
-  made_last does same leaves none status = record {
+  pub made_last : Does s m.state Checkpoint Done old new → SameStore s old.store new.store → s.blocks new.store ≡ s.blocks old.store → LeavesState s m.state old.store new.store → (s.keeps → s.pending new.store ≡ [])
+      → (status : Status) → MadeLast s old.store new.store m status
+  made_last does same read leaves none status = record {
     crash = leaves;
-    last = λ kept done i here. last_of does same kept (none kept) i here;
+    last = λ kept done i here. last_of does same read kept (none kept) i here;
   }
 
   pub not_made : LeavesState s m.state old.store new.store → (status : Status) → status ≢ ends.Done → MadeLast s old.store new.store m status

@@ -29,7 +29,7 @@ use Rattle.rb_shell.proofs.Forgets.{cut_plain, ran_plain}
 use Rattle.rb_shell.proofs.NewFile.{new_file, new_log}
 use Rattle.rb_shell.specs.Left.{Left, fresh, later}
 use Rattle.rb_shell.specs.Over.{HasRows, IsCutOver, LeavesFiles, LeavesSame, LeavesSome, RunsOver, plain}
-use Rattle.rb_shell.specs.Runs.{Endures, IsSound, LeftBehind, OpensSame, first_of, outside_in}
+use Rattle.rb_shell.specs.Runs.{Endures, FirstBlocks, IsSound, LeftBehind, OpensSame, first_of, outside_in}
 use Rattle.rb_shell.specs.declared.script.TheConstants.{SCRIPT_BYTES}
 use Rattle.rb_standing.specs.Standing.{SoundAs}
 use Rattle.rb_store.specs.Laps.{Opens}
@@ -144,30 +144,32 @@ module _ (slots : ℕ) (before : List ℕ) (h : State) (is : Left slots before h
         (λ c p. ⊎_elim (λ was. inl was) (λ r. inr (has_rows h itself h.books (last_scn h.commits) (omega arith) c r)) p) moved
 
     -- lines that were done over it
-    pub runs_over : (w : OpensWith slots (d.content old) h) (lines : List (List ℕ)) (tells : Type 0) (held_before held_now : List ℕ) (now : Logged)
-        → Ran (outside_in w.sound) (first_of w.sound) now lines tells held_before held_now → Endures d old new w.sound.store.layout w.sound.state now
+    pub runs_over : (w : OpensWith slots (d.content old) h) (first : FirstBlocks w.sound) (lines : List (List ℕ)) (tells : Type 0) (held_before held_now : List ℕ) (now : Logged)
+        → Ran (outside_in w.sound) (first_of w.sound first) now lines tells held_before held_now → Endures d old new w.sound.store.layout w.sound.state now
         → RunsOver d old new slots h lines tells held_before held_now
-    runs_over w lines tells held_before held_now now ran e =
-        let first = first_of w.sound in
+    runs_over w blocks lines tells held_before held_now now ran e =
+        let first = first_of w.sound blocks in
         let forgot : Ran (plain w.sound.store.layout.log) first now lines tells held_before held_now = ran_plain (outside_in w.sound) first now lines tells held_before held_now ran in
         record {
           lsn = first.lsn;
+          blocks = first.blocks;
           now = now;
-          ran = subst (λ (z : State). Ran (plain slots) (record { state = z; lsn = first.lsn; fault = None }) now lines tells held_before held_now) w.state
+          ran = subst (λ (z : State). Ran (plain slots) (record { state = z; lsn = first.lsn; fault = None; blocks = first.blocks }) now lines tells held_before held_now) w.state
               (subst (λ (k : ℕ). Ran (plain k) first now lines tells held_before held_now) w.log forgot);
           leaves = leaves_by now w.sound.store.layout w.sound.state w.state w.log e;
         }
 
-    pub is_cut_over : (w : OpensWith slots (d.content old) h) (left left2 held_before held_now : List ℕ) (now : Logged)
-        → CutOff (outside_in w.sound) SCRIPT_BYTES (first_of w.sound) now left left2 held_before held_now → Endures d old new w.sound.store.layout w.sound.state now
+    pub is_cut_over : (w : OpensWith slots (d.content old) h) (first : FirstBlocks w.sound) (left left2 held_before held_now : List ℕ) (now : Logged)
+        → CutOff (outside_in w.sound) SCRIPT_BYTES (first_of w.sound first) now left left2 held_before held_now → Endures d old new w.sound.store.layout w.sound.state now
         → IsCutOver d old new slots h left left2 held_before held_now
-    is_cut_over w left left2 held_before held_now now cut e =
-        let first = first_of w.sound in
+    is_cut_over w blocks left left2 held_before held_now now cut e =
+        let first = first_of w.sound blocks in
         let forgot : CutOff (plain w.sound.store.layout.log) SCRIPT_BYTES first now left left2 held_before held_now = cut_plain (outside_in w.sound) first now SCRIPT_BYTES left left2 held_before held_now cut in
         record {
           lsn = first.lsn;
+          blocks = first.blocks;
           now = now;
-          cut = subst (λ (z : State). CutOff (plain slots) SCRIPT_BYTES (record { state = z; lsn = first.lsn; fault = None }) now left left2 held_before held_now) w.state
+          cut = subst (λ (z : State). CutOff (plain slots) SCRIPT_BYTES (record { state = z; lsn = first.lsn; fault = None; blocks = first.blocks }) now left left2 held_before held_now) w.state
               (subst (λ (k : ℕ). CutOff (plain k) SCRIPT_BYTES first now left left2 held_before held_now) w.log forgot);
           leaves = leaves_by now w.sound.store.layout w.sound.state w.state w.log e;
         }

@@ -24,6 +24,7 @@ use Rattle.rb_model.specs.Out.{Logged, Outside}
 use Rattle.rb_model.specs.Rows.{last_scn}
 use Rattle.rb_model.specs.State.{State}
 use Rattle.rb_opening.specs.Opens.{CanOpen, OpensAs}
+use Rattle.rb_restart.specs.Rollback.{BackBy}
 use Rattle.rb_segment.specs.Segments.{owed_in}
 use Rattle.rb_shell.specs.Runs.{IsSound, IsStore, HasHalted, HasOpened, HasRun, WasCutOff, Endures, LeftAlone, OpensSame, OpensToNone, first_of, outside_in}
 use Rattle.rb_shell.specs.Statuses.{EndsRun, IsDoneOrNoMemory}
@@ -62,6 +63,8 @@ pub record Found {D : Type 0} (d : DiskGhosts D) (old : D) (s : LapState D) : Ty
 -- Blocks are only one list with one number: what a sound file opens to is what was found in it.
 pub record Same {file : List ℕ} (sound : IsSound file) (l : Layout) (blocks : List (List ℕ)) (lsn : ℕ) : Type 0 where
   pub log : l.log ≡ sound.store.layout.log
+  pub shape : shape_of l ≡ shape_of sound.store.layout
+  pub there : blocks ≡ sound.store.blocks
   pub opening : OpensAs (shape_of l) blocks sound.state
   pub logged : lsn ≡ logged_of (shape_of l) blocks
   pub fits : owed_in (shape_of l) blocks ≤ room_of (Some l.log) lsn
@@ -80,6 +83,8 @@ same_of {file} sound l blocks lsn opens =
     let agree = one_opening st.layout l file st.blocks blocks st.lsn lsn st.opens opens in
     record {
       log = sym agree.numbers.log;
+      shape = sym agree.shape;
+      there = sym agree.blocks;
       opening = subst (λ (b : List (List ℕ)). OpensAs (shape_of l) b sound.state) agree.blocks (subst (λ (shape : Shape). OpensAs shape st.blocks sound.state) agree.shape sound.opening);
       logged = sym (last_number l file blocks lsn opens);
       fits = (can_move st.layout l st.blocks blocks st.lsn lsn agree st.can_open).fits;
@@ -154,12 +159,18 @@ module _ {D : Type 0} (d : DiskGhosts D) (old : D) where
   -- an engine over it
   pub has_opened : (g : Ghosts (LapState D)) (s : LapState D) (e : EngineView (LapState D)) (sound : IsSound (d.content old)) → Found d old s → e.store.layout.log ≡ s.layout.log
       → g.slots e.store ≡ Some e.store.layout.log → Stands g sound.state e → g.lsn e.store ≡ s.lsn + owed_in (shape_of s.layout) s.blocks
+      → BackBy (shape_of s.layout) (owed_in (shape_of s.layout) s.blocks) s.blocks (g.blocks e.store)
       → Leaves d s.disk e.store.disk (Restarts Opens (Some s.layout.log) sound.state) → ((c : List ℕ) → d.image e.store.disk c → Restarts Opens (Some e.store.layout.log) sound.state c) → HasOpened d g old e sound
-  has_opened g s e sound found slots ended stands lsn stays only =
+  has_opened g s e sound found slots ended stands lsn back stays only =
       let same = same_of sound s.layout s.blocks s.lsn found.opens in
       record {
         slots = slots ∙ same.log;
-        stands = record { engine = stands; lsn = same.next ∙ sym lsn; ended = subst (λ (o : Option ℕ). o ≡ Some (slots_of o)) (sym ended) refl };
+        first = record {
+          blocks = g.blocks e.store;
+          back = subst (λ (shape : Shape). BackBy shape (owed_in shape sound.store.blocks) sound.store.blocks (g.blocks e.store)) same.shape
+              (subst (λ (b : List (List ℕ)). BackBy (shape_of s.layout) (owed_in (shape_of s.layout) b) b (g.blocks e.store)) same.there back);
+        };
+        stands = record { engine = stands; lsn = same.next ∙ sym lsn; blocks = refl; ended = subst (λ (o : Option ℕ). o ≡ Some (slots_of o)) (sym ended) refl };
         any_moment = opens_same s e.store.disk sound found stays;
         now_only = λ c here. subst (λ (k : ℕ). Restarts Opens (Some k) sound.state c) (slots ∙ same.log) (only c here);
       }
@@ -185,26 +196,29 @@ module _ {D : Type 0} (d : DiskGhosts D) (old : D) where
   -- what was done over the engine was done over the file
   module _ (g : Ghosts (LapState D)) (e : EngineView (LapState D)) (sound : IsSound (d.content old)) (o : HasOpened d g old e sound) where
     pub has_run : (now : Logged) (lines : List (List ℕ)) (tells : Type 0) (before held : List ℕ) (endures : Layout → State → Logged → Type 0)
-        → Ran (outside_of (Some e.store.layout.log)) (first_of sound) now lines tells before held → now.state.stopped ≡ false → endures sound.store.layout sound.state now → HasRun sound lines tells before held endures
+        → Ran (outside_of (Some e.store.layout.log)) (first_of sound o.first) now lines tells before held → now.state.stopped ≡ false → endures sound.store.layout sound.state now → HasRun sound lines tells before held endures
     has_run now lines tells before held endures ran going endured = record {
-      run = record { now = now; ran = subst (λ (k : ℕ). Ran (outside_of (Some k)) (first_of sound) now lines tells before held) o.slots ran; endured = endured };
+      first = o.first;
+      run = record { now = now; ran = subst (λ (k : ℕ). Ran (outside_of (Some k)) (first_of sound o.first) now lines tells before held) o.slots ran; endured = endured };
       going = going;
     }
 
     pub has_halted : (now : Logged) (left left2 : List ℕ) (tells : Type 0) (before held : List ℕ) (endures : Layout → State → Logged → Type 0)
-        → Halted (outside_of (Some e.store.layout.log)) SCRIPT_BYTES (first_of sound) now left left2 tells before held → endures sound.store.layout sound.state now → HasHalted sound left left2 tells before held endures
+        → Halted (outside_of (Some e.store.layout.log)) SCRIPT_BYTES (first_of sound o.first) now left left2 tells before held → endures sound.store.layout sound.state now → HasHalted sound left left2 tells before held endures
     has_halted now left left2 tells before held endures halted endured =
-        let here = subst (λ (k : ℕ). Halted (outside_of (Some k)) SCRIPT_BYTES (first_of sound) now left left2 tells before held) o.slots halted in
+        let here = subst (λ (k : ℕ). Halted (outside_of (Some k)) SCRIPT_BYTES (first_of sound o.first) now left left2 tells before held) o.slots halted in
         record {
-          run = record { now = now; ran = all_ran (outside_in sound) SCRIPT_BYTES (first_of sound) now left left2 tells before held here; endured = endured };
+          first = o.first;
+          run = record { now = now; ran = all_ran (outside_in sound) SCRIPT_BYTES (first_of sound o.first) now left left2 tells before held here; endured = endured };
           halted = here;
         }
 
     pub was_cut_off : (now : Logged) (left left2 before held : List ℕ) (endures : Layout → State → Logged → Type 0)
-        → CutOff (outside_of (Some e.store.layout.log)) SCRIPT_BYTES (first_of sound) now left left2 before held → endures sound.store.layout sound.state now → WasCutOff sound left left2 before held endures
+        → CutOff (outside_of (Some e.store.layout.log)) SCRIPT_BYTES (first_of sound o.first) now left left2 before held → endures sound.store.layout sound.state now → WasCutOff sound left left2 before held endures
     was_cut_off now left left2 before held endures cut endured = record {
+      first = o.first;
       now = now;
-      cut = subst (λ (k : ℕ). CutOff (outside_of (Some k)) SCRIPT_BYTES (first_of sound) now left left2 before held) o.slots cut;
+      cut = subst (λ (k : ℕ). CutOff (outside_of (Some k)) SCRIPT_BYTES (first_of sound o.first) now left left2 before held) o.slots cut;
       endured = endured;
     }
 

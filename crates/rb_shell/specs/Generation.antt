@@ -6,13 +6,13 @@ use Rattle.rb_generator.specs.Counted.{counts_of}
 use Rattle.rb_generator.specs.Draws.{commands_of}
 use Rattle.rb_generator.specs.Ends.{StopsBy}
 use Rattle.rb_generator.specs.Summary.{summary_text}
-use Rattle.rb_image.specs.Crash.{OpensUpTo, Survives}
+use Rattle.rb_image.specs.Crash.{Survives}
 use Rattle.rb_layout.specs.declared.layout.Layout.{Layout}
 use Rattle.rb_model.specs.Calls.{Answer}
 use Rattle.rb_model.specs.Out.{Logged, Outside}
 use Rattle.rb_model.specs.Rows.{last_scn}
 use Rattle.rb_model.specs.State.{State}
-use Rattle.rb_shell.specs.Runs.{IsSound, first_of, outside_in}
+use Rattle.rb_shell.specs.Runs.{FirstBlocks, IsSound, first_of, outside_in}
 use Rattle.rb_shell.specs.declared.status.Status.{Status}
 use Rattle.rb_shell.specs.declared.status.Status.TheVariants.{Done, DiskFault, SinkFault}
 
@@ -31,7 +31,8 @@ line_of n answers now = summary_text n (counts_of answers) (last_scn now.state.c
 -- states before and after them.
 pub record MadeOver {file : List ℕ} (sound : IsSound file) (n : ℕ) (fault : Bool)
     (endures : Layout → State → Logged → Type 0) : Type 0 where
-  pub made : HasMade (outside_in sound) (first_of sound) n fault
+  pub first : FirstBlocks sound
+  pub made : HasMade (outside_in sound) (first_of sound first) n fault
   pub endured : endures sound.store.layout sound.state made.now
 
 -- It made them all, and the sink holds the line that tells of them, where it tells.
@@ -54,7 +55,7 @@ pub record MadeOn {S : Type 0} (s : Ghosts S) (old new : S) (outside : Outside) 
   pub made : HasMade outside before n fault
   pub crash : s.keeps → Survives s (s.slots old) made.now.fault before.state made.now.state old new
   pub last : s.keeps → status ≢ DiskFault → (i : s.image) → s.left new i
-      → OpensUpTo s.opens (s.slots old) made.now.state.shape made.now.lsn i
+      → s.opens made.now.state.shape (s.slots old) i made.now.blocks made.now.lsn
   pub all : status ≢ DiskFault → fault ≡ false
   pub told : status ≡ Done → tells → held_now ≡ held_before ++ line_of n made.answers made.now
   pub cut : status ≡ SinkFault → tells → (size : ℕ)

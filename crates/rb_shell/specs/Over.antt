@@ -27,17 +27,20 @@ pub record LeavesFiles {D : Type 0} (d : DiskGhosts D) (old new : D) (slots : �
   pub now_only : (c : List ℕ) → d.image new c → FoundAtEnd (HasRows slots) now.fault now.state c
 
 -- what answers hang on besides the machine's state, where a snapshot may be too old whenever something above it was
--- given up
+-- given up, and nothing is said of blocks
 abbrev pub plain : ℕ → Outside
-plain slots = outside_by (λ h call snapshot lost. Unit {0}) slots
+plain slots = outside_by (λ h blocks call snapshot lost. Unit {0}) (λ slots m call answer m2. Unit {0}) slots
 
 -- The machine that opens with that state did these lines, and the sink holds the replies then, where it tells; and the
 -- files that are left have what the machine has.
 pub record RunsOver {D : Type 0} (d : DiskGhosts D) (old new : D) (slots : ℕ) (h : State) (lines : List (List ℕ))
     (tells : Type 0) (held_before held_now : List ℕ) : Type 0 where
   pub lsn : ℕ
+  -- nothing is said of them
+  pub blocks : List (List ℕ)
   pub now : Logged
-  pub ran : Ran (plain slots) (record { state = h; lsn = lsn; fault = None }) now lines tells held_before held_now
+  pub ran : Ran (plain slots) (record { state = h; lsn = lsn; fault = None; blocks = blocks }) now lines tells
+      held_before held_now
   pub leaves : LeavesFiles d old new slots h now
 
 -- It was cut off in one of its lines: the sink holds all replies of those before it, and a front of its own. Nothing
@@ -45,9 +48,11 @@ pub record RunsOver {D : Type 0} (d : DiskGhosts D) (old new : D) (slots : ℕ) 
 pub record IsCutOver {D : Type 0} (d : DiskGhosts D) (old new : D) (slots : ℕ) (h : State)
     (left_before left_now held_before held_now : List ℕ) : Type 0 where
   pub lsn : ℕ
+  -- nothing is said of them
+  pub blocks : List (List ℕ)
   pub now : Logged
-  pub cut : CutOff (plain slots) SCRIPT_BYTES (record { state = h; lsn = lsn; fault = None }) now left_before left_now
-      held_before held_now
+  pub cut : CutOff (plain slots) SCRIPT_BYTES (record { state = h; lsn = lsn; fault = None; blocks = blocks }) now
+      left_before left_now held_before held_now
   pub leaves : LeavesFiles d old new slots h now
 
 -- whatever it did, it came to some state

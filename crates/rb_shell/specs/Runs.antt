@@ -6,7 +6,7 @@ use Rattle.rb_disk.specs.Moments.{Leaves, Rests}
 use Rattle.rb_disk.specs.declared.disk.Disk.{Ghosts as DiskGhosts}
 use Rattle.rb_engine.specs.Does.{EngineView}
 use Rattle.rb_image.specs.Between.{Extends}
-use Rattle.rb_image.specs.Crash.{AtEnd, OnTheWay, OpensUpTo, Restarts, Survives}
+use Rattle.rb_image.specs.Crash.{AtEnd, OnTheWay, Restarts, Survives}
 use Rattle.rb_layout.specs.Regions.{shape_of}
 use Rattle.rb_layout.specs.declared.layout.Layout.{Layout}
 use Rattle.rb_lines.specs.Cut.{CutOff}
@@ -19,6 +19,7 @@ use Rattle.rb_model.specs.Lines.{lines_of}
 use Rattle.rb_model.specs.Out.{Logged, Outside}
 use Rattle.rb_model.specs.State.{State}
 use Rattle.rb_opening.specs.Opens.{CanOpen, OpensAs}
+use Rattle.rb_restart.specs.Rollback.{BackBy}
 use Rattle.rb_segment.specs.Segments.{owed_in}
 use Rattle.rb_calls.specs.Since.{StandsAs, outside_of}
 use Rattle.rb_shell.specs.Statuses.{status_of}
@@ -43,15 +44,24 @@ pub record IsSound (file : List ℕ) : Type 0 where
   pub state : State
   pub opening : OpensAs (shape_of store.layout) store.blocks state
 
--- The state that a file opens to, and the last log number then: what was under way is put back.
-abbrev pub first_of : {file : List ℕ} → IsSound file → Logged
-first_of sound = record {
+-- The blocks with which the machine opens over a file: those to which the file opens, with all that was under way put
+-- back.
+pub record FirstBlocks {file : List ℕ} (sound : IsSound file) : Type 0 where
+  pub blocks : List (List ℕ)
+  pub back : BackBy (shape_of sound.store.layout) (owed_in (shape_of sound.store.layout) sound.store.blocks)
+      sound.store.blocks blocks
+
+-- The state that a file opens to, and the last log number and the blocks then: what was under way is put back.
+abbrev pub first_of : {file : List ℕ} → (sound : IsSound file) → FirstBlocks sound → Logged
+first_of sound first = record {
   state = sound.state;
   lsn = sound.store.lsn + owed_in (shape_of sound.store.layout) sound.store.blocks;
   fault = None;
+  blocks = first.blocks;
 }
 
--- What answers over a file hang on besides the machine's state: the slots of its log, and what is worn in its blocks.
+-- What answers over a file hang on besides the machine's state: the slots of its log, what is worn in blocks, and what
+-- calls make of them.
 abbrev pub outside_in : {file : List ℕ} → IsSound file → Outside
 outside_in sound = outside_of (Some sound.store.layout.log)
 
@@ -65,31 +75,35 @@ pub record HasDone (outside : Outside) (before : Logged) (lines : List (List ℕ
 
 -- The machine that opened with the file's rows did these lines: the sink holds the replies then, where it tells. A
 -- crash may leave no more than `endures` says of the states before and after them.
-abbrev pub RanOver : {file : List ℕ} → IsSound file → List (List ℕ) → Type 0 → List ℕ → List ℕ
-    → (Layout → State → Logged → Type 0) → Type 0
-RanOver sound lines tells before now endures = HasDone (outside_in sound) (first_of sound) lines tells before now
-    (endures sound.store.layout sound.state)
+abbrev pub RanOver : {file : List ℕ} → (sound : IsSound file) → FirstBlocks sound → List (List ℕ) → Type 0
+    → List ℕ → List ℕ → (Layout → State → Logged → Type 0) → Type 0
+RanOver sound first lines tells before now endures =
+    HasDone (outside_in sound) (first_of sound first) lines tells before now (endures sound.store.layout sound.state)
 
 -- It did them all, and the disk never failed.
 pub record HasRun {file : List ℕ} (sound : IsSound file) (lines : List (List ℕ)) (tells : Type 0)
     (before now : List ℕ) (endures : Layout → State → Logged → Type 0) : Type 0 where
-  pub run : RanOver sound lines tells before now endures
+  pub first : FirstBlocks sound
+  pub run : RanOver sound first lines tells before now endures
   pub going : run.now.state.stopped ≡ false
 
 -- It was cut off in one of its lines: the sink holds all replies of those before it, and a front of its own. Nothing
 -- was done after that, and the script was asked for in pieces of at most 65,536 bytes.
 pub record WasCutOff {file : List ℕ} (sound : IsSound file) (left_before left_now : List ℕ)
     (before now_held : List ℕ) (endures : Layout → State → Logged → Type 0) : Type 0 where
+  pub first : FirstBlocks sound
   pub now : Logged
-  pub cut : CutOff (outside_in sound) SCRIPT_BYTES (first_of sound) now left_before left_now before now_held
+  pub cut : CutOff (outside_in sound) SCRIPT_BYTES (first_of sound first) now left_before left_now before now_held
   pub endured : endures sound.store.layout sound.state now
 
 -- A fault of the disk ended the lines: its reply is the last, and nothing was asked for after it. The script was asked
 -- for in pieces of at most 65,536 bytes.
 pub record HasHalted {file : List ℕ} (sound : IsSound file) (left_before left_now : List ℕ) (tells : Type 0)
     (before now : List ℕ) (endures : Layout → State → Logged → Type 0) : Type 0 where
-  pub run : RanOver sound (lines_of left_before) tells before now endures
-  pub halted : Halted (outside_in sound) SCRIPT_BYTES (first_of sound) run.now left_before left_now tells before now
+  pub first : FirstBlocks sound
+  pub run : RanOver sound first (lines_of left_before) tells before now endures
+  pub halted : Halted (outside_in sound) SCRIPT_BYTES (first_of sound first) run.now left_before left_now tells before
+      now
 
 -- All lines were done, and then the disk failed as what waited was made last. No reply tells of it, as nothing is lost
 -- but what isn't committed.
@@ -113,12 +127,12 @@ pub record EnduresCounted {D : Type 0} (d : DiskGhosts D) (old new : D) (l : Lay
   pub endured : Endures d old new l before now
   pub still : now.state.stopped ≡ false → d.faults new ≡ d.faults old
 
--- As `Endures`, and at its end a crash leaves what was done to the last group, also what isn't committed: nothing
--- waits.
+-- As `Endures`, and at its end a crash leaves what was done to the last group, also what isn't committed, as nothing
+-- waits: each file opens to the blocks of the state, and to its log number.
 pub record Lasts {D : Type 0} (d : DiskGhosts D) (old new : D) (l : Layout) (before : State) (now : Logged) : Type 0
   where
     pub endured : Endures d old new l before now
-    pub last : (c : List ℕ) → d.image new c → OpensUpTo Opens (Some l.log) now.state.shape now.lsn c
+    pub last : (c : List ℕ) → d.image new c → Opens now.state.shape (Some l.log) c now.blocks now.lsn
 
 -- At any moment since the start of an opening a crash leaves an image that the disk had at the start, or one that
 -- restarts to the state to which the file opens.
@@ -133,11 +147,13 @@ pub record LeftBehind {D : Type 0} (d : DiskGhosts D) (old new : D) (sound : IsS
   pub endured : Endures d old new sound.store.layout sound.state now
 
 -- An engine was opened over the file of a disk, whose log it goes on with, and stands for the state to which the file
--- opens. A crash from then on leaves no image of before: each that it may leave now restarts to that state.
+-- opens, with what was under way put back in its blocks. A crash from then on leaves no image of before: each that it
+-- may leave now restarts to that state.
 pub record HasOpened {D : Type 0} (d : DiskGhosts D) (s : Ghosts (LapState D)) (old : D) (e : EngineView (LapState D))
     (sound : IsSound (d.content old)) : Type 0 where
   pub slots : e.store.layout.log ≡ sound.store.layout.log
-  pub stands : StandsAs s e (first_of sound)
+  pub first : FirstBlocks sound
+  pub stands : StandsAs s e (first_of sound first)
   pub any_moment : OpensSame d old e.store.disk sound
   pub now_only : (c : List ℕ) → d.image e.store.disk c
       → Restarts Opens (Some sound.store.layout.log) sound.state c
@@ -148,11 +164,11 @@ pub data EndsBy (end : LinesEnd) (status : Status) : Type 0 where
   last_fault : end ≡ ends.Done → status ≡ DiskFault → EndsBy end status
 
 -- What waited was made last over a store, in the state that its calls came to: a crash leaves that state, and where
--- the status says that all is well, all of it to the last group.
+-- the status says that all is well, all of it to the last group, in the blocks of that state.
 pub record MadeLast {S : Type 0} (s : Ghosts S) (old new : S) (m : Logged) (status : Status) : Type 0 where
   pub crash : (fault : Option Call) → s.keeps → Survives s (s.slots old) fault m.state m.state old new
   pub last : s.keeps → status ≡ Done → (i : s.image) → s.left new i
-      → OpensUpTo s.opens (s.slots old) m.state.shape m.lsn i
+      → s.opens m.state.shape (s.slots old) i m.blocks m.lsn
 
 -- Some lines were done over a store: a crash leaves no more than the states before and after them.
 pub record PassedOn {S : Type 0} (s : Ghosts S) (old new : S) (before : Logged) : Type 0 where
@@ -167,7 +183,7 @@ pub record RanOn {S : Type 0} (s : Ghosts S) (old new : S) (outside : Outside) (
     pub now : Logged
     pub crash : s.keeps → Survives s (s.slots old) now.fault before.state now.state old new
     pub last : s.keeps → status ≡ Done → (i : s.image) → s.left new i
-        → OpensUpTo s.opens (s.slots old) now.state.shape now.lsn i
+        → s.opens now.state.shape (s.slots old) i now.blocks now.lsn
     pub still : status ≡ SinkFault → now.state.stopped ≡ false → s.faults new ≡ s.faults old
     pub end : LinesEnd
     pub is : EndsBy end status

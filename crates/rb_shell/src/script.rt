@@ -38,7 +38,7 @@ struct Interpreter<T: Store> {
 }
 
 impl<T: Store> LineRunner for Interpreter<T> {
-    ghost use Rattle.rb_calls.specs.Since.{since_same, since_joined};
+    ghost use Rattle.rb_calls.specs.Since.{MakesOf, since_same, since_joined};
     ghost use Rattle.rb_engine.specs.Worn.{IsWorn};
 
     ghost stands = { λ r m. StandsAs T.Store r.engine m };
@@ -46,6 +46,8 @@ impl<T: Store> LineRunner for Interpreter<T> {
     ghost slots = { λ r. slots_of (T.slots r.engine.store) };
 
     ghost worn = { IsWorn };
+
+    ghost makes = { MakesOf };
 
     ghost faults = { λ r. T.faults r.engine.store };
 

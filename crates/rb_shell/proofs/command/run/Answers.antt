@@ -281,32 +281,33 @@ returns-in-Ok-Some-Run-clause-left_new g c = λ told l asked. absurd (no_format 
 pub returns-in-Ok-Some-Run-clause-left : goal.returns-in-Ok-Some-Run-clause-left
 returns-in-Ok-Some-Run-clause-left g c = λ disk told n asked is slots h left.
     let w = opens_with slots (g.D.Disk.content c.args.disk) h left in
-    let r = (c.run_script.ensures.done disk told is w.sound).run in
-    runs_over slots (g.D.Disk.content c.args.disk) h left g.D.Disk c.args.disk c.run_script.result.1 w _ g.K.Sink.tells _ _ r.now r.ran r.endured.endured
+    let all = c.run_script.ensures.done disk told is w.sound in
+    let r = all.run in
+    runs_over slots (g.D.Disk.content c.args.disk) h left g.D.Disk c.args.disk c.run_script.result.1 w all.first _ g.K.Sink.tells _ _ r.now r.ran r.endured.endured
 
 pub returns-in-Ok-Some-Run-clause-left_source : goal.returns-in-Ok-Some-Run-clause-left_source
 returns-in-Ok-Some-Run-clause-left_source g c = λ disk told is slots h left.
     let w = opens_with slots (g.D.Disk.content c.args.disk) h left in
     let all = c.run_script.ensures.source_done disk told is w.sound in
     let r = all.2.run in
-    (all.0, all.1, runs_over slots (g.D.Disk.content c.args.disk) h left g.D.Disk c.args.disk c.run_script.result.1 w _ g.K.Sink.tells _ _ r.now r.ran r.endured)
+    (all.0, all.1, runs_over slots (g.D.Disk.content c.args.disk) h left g.D.Disk c.args.disk c.run_script.result.1 w all.2.first _ g.K.Sink.tells _ _ r.now r.ran r.endured)
 
 pub returns-in-Ok-Some-Run-clause-left_long : goal.returns-in-Ok-Some-Run-clause-left_long
 returns-in-Ok-Some-Run-clause-left_long g c = λ disk told is slots h left.
     let w = opens_with slots (g.D.Disk.content c.args.disk) h left in
     let all = c.run_script.ensures.too_long disk told is w.sound in
     let r = all.3.run in
-    (all.0, all.1, all.2, runs_over slots (g.D.Disk.content c.args.disk) h left g.D.Disk c.args.disk c.run_script.result.1 w _ g.K.Sink.tells _ _ r.now r.ran r.endured)
+    (all.0, all.1, all.2, runs_over slots (g.D.Disk.content c.args.disk) h left g.D.Disk c.args.disk c.run_script.result.1 w all.3.first _ g.K.Sink.tells _ _ r.now r.ran r.endured)
 
 pub returns-in-Ok-Some-Run-clause-left_disk : goal.returns-in-Ok-Some-Run-clause-left_disk
 returns-in-Ok-Some-Run-clause-left_disk g c = λ disk told n asked is slots h left.
     let w = opens_with slots (g.D.Disk.content c.args.disk) h left in
-    let over = runs_over slots (g.D.Disk.content c.args.disk) h left g.D.Disk c.args.disk c.run_script.result.1 w _ g.K.Sink.tells in
+    let over = runs_over slots (g.D.Disk.content c.args.disk) h left g.D.Disk c.args.disk c.run_script.result.1 w in
     ⊎_elim
     (λ stopped. inl (stopped.0, stopped.1, leaves_same slots (g.D.Disk.content c.args.disk) h left g.D.Disk c.args.disk c.run_script.result.1 w (stopped.2.images w.sound)))
     (λ on. inr (⊎_elim
-    (λ halted. over _ _ halted.run.now halted.run.ran halted.run.endured)
-    (λ behind. over _ _ behind.run.run.now behind.run.run.ran behind.run.run.endured)
+    (λ halted. over halted.first _ g.K.Sink.tells _ _ halted.run.now halted.run.ran halted.run.endured)
+    (λ behind. over behind.run.first _ g.K.Sink.tells _ _ behind.run.run.now behind.run.run.ran behind.run.run.endured)
     (on w.sound)))
     (c.run_script.ensures.disk_done disk told is)
 
@@ -314,7 +315,7 @@ pub returns-in-Ok-Some-Run-clause-left_cut : goal.returns-in-Ok-Some-Run-clause-
 returns-in-Ok-Some-Run-clause-left_cut g c = λ disk told tells n asked is slots h left.
     let w = opens_with slots (g.D.Disk.content c.args.disk) h left in
     let cut = c.run_script.ensures.cut_off disk told tells is w.sound in
-    is_cut_over slots (g.D.Disk.content c.args.disk) h left g.D.Disk c.args.disk c.run_script.result.1 w _ _ _ _ cut.now cut.cut cut.endured.endured
+    is_cut_over slots (g.D.Disk.content c.args.disk) h left g.D.Disk c.args.disk c.run_script.result.1 w cut.first _ _ _ _ cut.now cut.cut cut.endured.endured
 
 pub returns-in-Ok-Some-Run-clause-left_some : goal.returns-in-Ok-Some-Run-clause-left_some
 returns-in-Ok-Some-Run-clause-left_some g c = λ disk n asked asks slots h left.

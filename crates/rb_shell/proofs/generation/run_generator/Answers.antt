@@ -1,5 +1,4 @@
 use Rattle.std.proofs.Common.{◌≡◌, ◌≢◌, ◌∙◌, refl, ℕ, Bool, false, Some, inl, inr, sym, ap, subst}
-use Rattle.rb_image.specs.Crash.{OpensUpTo}
 use Rattle.rb_model.specs.State.{State}
 use Rattle.rb_calls.specs.Since.{outside_of}
 use Rattle.rb_shell.proofs.GenerationLemmas.{no_counts, same_made}
@@ -17,9 +16,9 @@ module _ (g : Over) (c : After-close g) (disk : g.D.Disk.tells) (sound : IsSound
   opened : HasOpened g.D.Disk (ghosts g.row.D g.D.Disk g.D.Disk-dict) c.args.disk c.in-Ok.engine sound
   opened = c.in-Ok.ensures.opened disk sound
 
-  did : MadeOn (ghosts g.row.D g.D.Disk g.D.Disk-dict) c.in-Ok.engine.store c.make_commands-status.result.1 (outside_of (Some c.in-Ok.engine.store.layout.log)) c.args.commands (first_of sound)
+  did : MadeOn (ghosts g.row.D g.D.Disk g.D.Disk-dict) c.in-Ok.engine.store c.make_commands-status.result.1 (outside_of (Some c.in-Ok.engine.store.layout.log)) c.args.commands (first_of sound opened.first)
       g.K.Sink.tells (g.K.Sink.held c.args.sink.now) (g.K.Sink.held c.make_commands-status.new.sink) c.make_commands-status.result.0
-  did = c.make_commands-status.ensures.did (first_of sound) opened.stands (ap (λ (h : State). h.stopped) sound.opening.state)
+  did = c.make_commands-status.ensures.did (first_of sound opened.first) opened.stands (ap (λ (h : State). h.stopped) sound.opening.state)
 
   -- it endures
   endured : Endures g.D.Disk c.args.disk c.close.result sound.store.layout sound.state did.made.now
@@ -32,12 +31,12 @@ module _ (g : Over) (c : After-close g) (disk : g.D.Disk.tells) (sound : IsSound
   lasts : c.make_commands-status.result.0 ≢ DiskFault → Lasts g.D.Disk c.args.disk c.close.result sound.store.layout sound.state did.made.now
   lasts fine = record {
     endured = endured;
-    last = λ file here. subst (λ (k : ℕ). OpensUpTo Opens (Some k) did.made.now.state.shape did.made.now.lsn file) opened.slots
+    last = λ file here. subst (λ (k : ℕ). Opens did.made.now.state.shape (Some k) file did.made.now.blocks did.made.now.lsn) opened.slots
         (did.last disk fine file (subst (λ d. g.D.Disk.image d file) c.close.ensures here));
   }
 
   -- the commands over the file
-  abbrev made : (fault : Bool) → did.fault ≡ fault → HasMade (outside_in sound) (first_of sound) c.args.commands fault
+  abbrev made : (fault : Bool) → did.fault ≡ fault → HasMade (outside_in sound) (first_of sound opened.first) c.args.commands fault
   made fault is = same_made g.D.Disk c.args.disk (ghosts g.row.D g.D.Disk g.D.Disk-dict) c.in-Ok.engine sound opened c.args.commands did.fault fault is did.made
 
 pub returns-in-Ok-clause-done : goal.returns-in-Ok-clause-done
@@ -45,7 +44,7 @@ returns-in-Ok-clause-done g c = λ disk is sound.
     let a = (goal.at.returns-in-Ok-clause-done g c).After-close in
     let d = did g a disk sound in
     let fine : c.make_commands-status.result.0 ≢ DiskFault = λ fault. (let clash : Done ≡ DiskFault = sym is ∙ fault in cc) in
-    record { over = record { made = made g a disk sound false (d.all fine); endured = lasts g a disk sound fine }; written = d.told is }
+    record { over = record { first = (opened g a disk sound).first; made = made g a disk sound false (d.all fine); endured = lasts g a disk sound fine }; written = d.told is }
 
 pub returns-in-Ok-clause-cut_off : goal.returns-in-Ok-clause-cut_off
 returns-in-Ok-clause-cut_off g c = λ disk tells is sound.
@@ -53,7 +52,7 @@ returns-in-Ok-clause-cut_off g c = λ disk tells is sound.
     let d = did g a disk sound in
     let fine : c.make_commands-status.result.0 ≢ DiskFault = λ fault. (let clash : SinkFault ≡ DiskFault = sym is ∙ fault in cc) in
     let cut = d.cut is tells in
-    record { over = record { made = made g a disk sound false (d.all fine); endured = lasts g a disk sound fine }; size = cut.0; written = cut.1 }
+    record { over = record { first = (opened g a disk sound).first; made = made g a disk sound false (d.all fine); endured = lasts g a disk sound fine }; size = cut.0; written = cut.1 }
 
 pub returns-in-Ok-clause-endures : goal.returns-in-Ok-clause-endures
 returns-in-Ok-clause-endures g c = λ disk tells sound.
@@ -75,4 +74,4 @@ pub returns-in-Ok-clause-disk_done : goal.returns-in-Ok-clause-disk_done
 returns-in-Ok-clause-disk_done g c = λ disk is. inr (λ sound.
     let a = (goal.at.returns-in-Ok-clause-disk_done g c).After-close in
     let d = did g a disk sound in
-    (d.fault, record { made = made g a disk sound d.fault refl; endured = endured g a disk sound }))
+    (d.fault, record { first = (opened g a disk sound).first; made = made g a disk sound d.fault refl; endured = endured g a disk sound }))

@@ -49,7 +49,7 @@ returns-in_err-tell_resumed-clause-did g c = λ m is going.
     let t = c.tell_resumed.ensures in
     let p = err_from_is_err_and c.from_residual.result c.from_residual.ensures.1 in
     did_on c.args.engine.now c.loop-turn.engine c.resume.new.self m _ _ _ (λ a b d h n k. since_joined a b d h n k) (i.so_far m is going) (λ n so. so.going)
-    (λ n reached on. did_resume g.T.Store n c.in-Some.s c.in-Some.outcome c.loop-turn.engine c.resume.new.self reached on c.resume.ensures.same (λ scn lost is. c.in-Some.ensures.lost n.state reached.engine c.in-Some.s scn lost (tried_old c.in-Some.s c.in-Some.outcome scn lost is)) (λ fine. c.in-Some.ensures.disk.still (fault_of_write c.in-Some.outcome ∙ fine)) _ (c.in-Some.ensures.did n.state reached.engine) (λ now again. again))
+    (λ n reached on. did_resume g.T.Store n c.in-Some.s c.in-Some.outcome c.loop-turn.engine c.resume.new.self reached on c.resume.ensures.same (λ scn lost is. c.in-Some.ensures.lost n.state reached.engine c.in-Some.s scn lost (tried_old c.in-Some.s c.in-Some.outcome scn lost is)) (λ fine. c.in-Some.ensures.makes n.state reached.engine (fault_of_write c.in-Some.outcome ∙ fine)) (λ fine. c.in-Some.ensures.disk.still (fault_of_write c.in-Some.outcome ∙ fine)) _ (c.in-Some.ensures.did n.state reached.engine) (λ now again. again))
     (λ n k so again. subst (λ (failed : Bool). HasResumed m (outside_of (g.T.Store.slots c.args.engine.now.store)) k c.args.waiting.now.items c.tell_resumed.new.waiting.items failed) (sym (ap is_err p.1))
     (resumed_fails m n k _ _ c.in-Some.s _ _ _ _ so (ap outside_of i.same.slots) t.told again (sym t.fault ∙ ap is_err c.in_err-tell_resumed.was)))
 
@@ -60,7 +60,7 @@ loop-turn-preserved g c =
     let fine = sym t.fault ∙ ap is_err c.in_ok-tell_resumed.was in
     record {
       so_far = λ m is going. did_on c.args.engine.now c.loop-turn.engine c.resume.new.self m _ _ _ (λ a b d h n k. since_joined a b d h n k) (i.so_far m is going) (λ n so. so.going)
-          (λ n reached on. did_resume g.T.Store n c.in-Some.s c.in-Some.outcome c.loop-turn.engine c.resume.new.self reached on c.resume.ensures.same (λ scn lost is. c.in-Some.ensures.lost n.state reached.engine c.in-Some.s scn lost (tried_old c.in-Some.s c.in-Some.outcome scn lost is)) (λ fine. c.in-Some.ensures.disk.still (fault_of_write c.in-Some.outcome ∙ fine)) _ (c.in-Some.ensures.did n.state reached.engine) (λ now again. again))
+          (λ n reached on. did_resume g.T.Store n c.in-Some.s c.in-Some.outcome c.loop-turn.engine c.resume.new.self reached on c.resume.ensures.same (λ scn lost is. c.in-Some.ensures.lost n.state reached.engine c.in-Some.s scn lost (tried_old c.in-Some.s c.in-Some.outcome scn lost is)) (λ fine. c.in-Some.ensures.makes n.state reached.engine (fault_of_write c.in-Some.outcome ∙ fine)) (λ fine. c.in-Some.ensures.disk.still (fault_of_write c.in-Some.outcome ∙ fine)) _ (c.in-Some.ensures.did n.state reached.engine) (λ now again. again))
           (λ n k so again. resumed_more m n k _ _ c.in-Some.s _ _ _ _ so (ap outside_of i.same.slots) t.told again fine);
       fewer = λ one. fewer_on _ _ c.loop-turn._turn c.in-Some.ensures.fewer c.resume.ensures.few i.fewer;
       room = omega (arith, i.room, t.len);

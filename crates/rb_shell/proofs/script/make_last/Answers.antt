@@ -1,3 +1,4 @@
+use Rattle.std.proofs.Common.{refl}
 use Rattle.rb_base.specs.Logs.{Laws}
 use Rattle.rb_shell.proofs.LastLemmas.{made_last, not_made}
 use Rattle.rb_shell.specs.declared.status.Status.TheVariants.{DiskFault}
@@ -19,7 +20,7 @@ laws_of g = record {
 pub returns-in_default-clause-lasts : goal.returns-in_default-clause-lasts
 returns-in_default-clause-lasts g c = λ m is going.
     let e = c.in_default.ensures in
-    made_last g.T.Store (laws_of g) m c.args.engine.now c.checkpoint.new.self is going (e.did m.state is.engine) e.same (e.leaves m.state is.engine going) (λ kept. e.nothing_waits kept) ends.Done
+    made_last g.T.Store (laws_of g) m c.args.engine.now c.checkpoint.new.self is going (e.did m.state is.engine) e.same (e.makes m.state is.engine refl) (e.leaves m.state is.engine going) (λ kept. e.nothing_waits kept) ends.Done
 
 pub returns-then-eq-clause-lasts : goal.returns-then-eq-clause-lasts
 returns-then-eq-clause-lasts g c = λ m is going.

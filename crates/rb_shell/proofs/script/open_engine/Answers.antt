@@ -111,7 +111,7 @@ returns-in-Ok-clause-opened g c = λ told sound.
     let a = (goal.at.returns-in-Ok-clause-opened g c).In_ok-store in
     let o = c.in-Ok.ensures.opened told sound.state (opens_to g a told sound) in
     let stays = o.stays told in
-    has_opened g.D.Disk c.args.disk (ghosts g.row.D g.D.Disk g.D.Disk-dict) c.in_ok-store.store c.in-Ok.engine sound (found g a told) (ap slots_of c.in-Ok.ensures.same_ok.slots) refl o.stands o.lsn
+    has_opened g.D.Disk c.args.disk (ghosts g.row.D g.D.Disk g.D.Disk-dict) c.in_ok-store.store c.in-Ok.engine sound (found g a told) (ap slots_of c.in-Ok.ensures.same_ok.slots) refl o.stands o.lsn o.back
     (record { later = stays.later; each = stays.each; earlier = stays.earlier })
     (λ im here. image_has (laws g told) c.in-Ok.engine sound.state o.stands (ap (λ (h : State). h.stopped) sound.opening.state) told im here)
 

@@ -1,5 +1,4 @@
 use Rattle.std.proofs.Common.{◌≡◌, ◌∙◌, ⊎_elim, ℕ, List, Some, inl, inr, sym, ap, subst, refl, false}
-use Rattle.rb_image.specs.Crash.{OpensUpTo}
 use Rattle.rb_layout.specs.declared.layout.Layout.{Layout}
 use Rattle.rb_lines.specs.Ends.{EndsAs}
 use Rattle.rb_lines.specs.Faults.{IsCountedBeside}
@@ -27,8 +26,8 @@ module _ (g : Over) (c : After-close g) (disk : g.D.Disk.tells) (sound : IsSound
   over : HasOpened g.D.Disk (ghosts g.row.D g.D.Disk g.D.Disk-dict) c.args.disk c.in-Ok-open_engine.engine sound
   over = c.in-Ok-open_engine.ensures.opened disk sound
 
-  passed : PassedOn (ghosts g.row.D g.D.Disk g.D.Disk-dict) c.in-Ok-open_engine.engine.store c.run_engine-status.result.1 (first_of sound)
-  passed = c.run_engine-status.ensures.passed (first_of sound) over.stands (ap (λ (h : State). h.stopped) sound.opening.state)
+  passed : PassedOn (ghosts g.row.D g.D.Disk g.D.Disk-dict) c.in-Ok-open_engine.engine.store c.run_engine-status.result.1 (first_of sound over.first)
+  passed = c.run_engine-status.ensures.passed (first_of sound over.first) over.stands (ap (λ (h : State). h.stopped) sound.opening.state)
 
   left : LeftBehind g.D.Disk c.args.disk c.close.result sound
   left =
@@ -55,9 +54,9 @@ module _ (g : Over) (c : After-close g) (disk : g.D.Disk.tells) (told : g.S.Sour
   opened : HasOpened g.D.Disk (ghosts g.row.D g.D.Disk g.D.Disk-dict) c.args.disk c.in-Ok-open_engine.engine sound
   opened = c.in-Ok-open_engine.ensures.opened disk sound
 
-  did : RanOn (ghosts g.row.D g.D.Disk g.D.Disk-dict) c.in-Ok-open_engine.engine.store c.run_engine-status.result.1 (outside_of (Some c.in-Ok-open_engine.engine.store.layout.log)) 65536 (first_of sound)
+  did : RanOn (ghosts g.row.D g.D.Disk g.D.Disk-dict) c.in-Ok-open_engine.engine.store c.run_engine-status.result.1 (outside_of (Some c.in-Ok-open_engine.engine.store.layout.log)) 65536 (first_of sound opened.first)
       (g.S.Source.left c.args.source.now) (g.S.Source.left c.run_engine-status.new.source) g.K.Sink.tells (g.K.Sink.held c.args.sink.now) (g.K.Sink.held c.run_engine-status.new.sink) c.run_engine-status.result.0
-  did = c.run_engine-status.ensures.did told (first_of sound) opened.stands (ap (λ (h : State). h.stopped) sound.opening.state)
+  did = c.run_engine-status.ensures.did told (first_of sound opened.first) opened.stands (ap (λ (h : State). h.stopped) sound.opening.state)
 
   -- it endures
   endured : Endures g.D.Disk c.args.disk c.close.result sound.store.layout sound.state did.now
@@ -70,17 +69,17 @@ module _ (g : Over) (c : After-close g) (disk : g.D.Disk.tells) (told : g.S.Sour
   lasts : c.run_engine-status.result.0 ≡ Done → Lasts g.D.Disk c.args.disk c.close.result sound.store.layout sound.state did.now
   lasts fine = record {
     endured = endured;
-    last = λ file here. subst (λ (k : ℕ). OpensUpTo Opens (Some k) did.now.state.shape did.now.lsn file) opened.slots
+    last = λ file here. subst (λ (k : ℕ). Opens did.now.state.shape (Some k) file did.now.blocks did.now.lsn) opened.slots
         (did.last disk fine file (subst (λ d. g.D.Disk.image d file) c.close.ensures here));
   }
 
   -- how the lines ended
   ended : (end : LinesEnd) → did.end ≡ end
-      → EndsAs (outside_of (Some c.in-Ok-open_engine.engine.store.layout.log)) 65536 (first_of sound) did.now (g.S.Source.left c.args.source.now) (g.S.Source.left c.run_engine-status.new.source) g.K.Sink.tells (g.K.Sink.held c.args.sink.now) (g.K.Sink.held c.run_engine-status.new.sink) end
-  ended end is = subst (λ (e : LinesEnd). EndsAs (outside_of (Some c.in-Ok-open_engine.engine.store.layout.log)) 65536 (first_of sound) did.now (g.S.Source.left c.args.source.now) (g.S.Source.left c.run_engine-status.new.source) g.K.Sink.tells (g.K.Sink.held c.args.sink.now) (g.K.Sink.held c.run_engine-status.new.sink) e) is did.ends
+      → EndsAs (outside_of (Some c.in-Ok-open_engine.engine.store.layout.log)) 65536 (first_of sound opened.first) did.now (g.S.Source.left c.args.source.now) (g.S.Source.left c.run_engine-status.new.source) g.K.Sink.tells (g.K.Sink.held c.args.sink.now) (g.K.Sink.held c.run_engine-status.new.sink) end
+  ended end is = subst (λ (e : LinesEnd). EndsAs (outside_of (Some c.in-Ok-open_engine.engine.store.layout.log)) 65536 (first_of sound opened.first) did.now (g.S.Source.left c.args.source.now) (g.S.Source.left c.run_engine-status.new.source) g.K.Sink.tells (g.K.Sink.held c.args.sink.now) (g.K.Sink.held c.run_engine-status.new.sink) e) is did.ends
 
   -- what was done over the engine was done over the file
-  ran : (lines : List (List ℕ)) (left : Layout → State → Logged → Type 0) → Ran (outside_of (Some c.in-Ok-open_engine.engine.store.layout.log)) (first_of sound) did.now lines g.K.Sink.tells (g.K.Sink.held c.args.sink.now) (g.K.Sink.held c.run_engine-status.new.sink) → did.now.state.stopped ≡ false
+  ran : (lines : List (List ℕ)) (left : Layout → State → Logged → Type 0) → Ran (outside_of (Some c.in-Ok-open_engine.engine.store.layout.log)) (first_of sound opened.first) did.now lines g.K.Sink.tells (g.K.Sink.held c.args.sink.now) (g.K.Sink.held c.run_engine-status.new.sink) → did.now.state.stopped ≡ false
       → left sound.store.layout sound.state did.now → HasRun sound lines g.K.Sink.tells (g.K.Sink.held c.args.sink.now) (g.K.Sink.held c.run_engine-status.new.sink) left
   ran lines left r going is = has_run g.D.Disk c.args.disk (ghosts g.row.D g.D.Disk g.D.Disk-dict) c.in-Ok-open_engine.engine sound opened did.now lines g.K.Sink.tells _ _ left r going is
 
