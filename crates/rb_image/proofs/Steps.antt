@@ -13,7 +13,7 @@ use Rattle.rb_base.specs.Settling.{after_joined, told_same}
 use Rattle.rb_base.specs.declared.shape.Shape.{Shape}
 use Rattle.rb_base.specs.declared.store.Store.{Ghosts}
 use Rattle.rb_image.specs.Between.{whole, one_commit, one_write, reached, at_end, Extends, MarksGrow, with_commit}
-use Rattle.rb_image.specs.Crash.{AtEnd, OnTheWay, OpensUpTo, Restarts, RestartsAt, Survives}
+use Rattle.rb_image.specs.Crash.{AtEnd, OnTheWay, Restarts, RestartsAt, Survives}
 use Rattle.rb_image.specs.Images.{HasState}
 use Rattle.rb_image.proofs.Crashes.{extends_later, extends_same, grow_same, has_later, restarts_later}
 use Rattle.rb_model.specs.Book.{Book}
@@ -100,16 +100,15 @@ module _ {S : Type 0} (s : Ghosts S) (laws : Laws s) (keeps : s.keeps) where
   pub left_with : (Q : Property) (store : S) → Keeps s Q store → (i : s.image) → s.left store i → OpensWith s Q store i
   left_with Q store kept i here = (kept.base, kept.first, laws.stable_left store kept.base kept.first i keeps kept.stable here, told_same Q _ _ _ _ refl (omega arith) (kept.each 0 (omega arith)))
 
-  -- Where nothing waits, an image opens to the last group.
-  pub opens_last : (P : Property) (store : S) → Keeps s P store → s.pending store ≡ [] → (i : s.image) → s.left store i → OpensUpTo s.opens (s.slots store) (s.shape_of store) (s.lsn store) i
+  -- Where nothing waits, an image opens to the blocks that the store reads, and to the last group.
+  pub opens_last : (P : Property) (store : S) → Keeps s P store → s.pending store ≡ [] → (i : s.image) → s.left store i → s.opens (s.shape_of store) (s.slots store) i (s.blocks store) (s.lsn store)
   opens_last P store kept none i here =
       let numbered : kept.first + length (s.pending store) ≡ s.lsn store = laws.stable_numbered store kept.base kept.first keeps kept.stable in
       let nothing : length (s.pending store) ≡ 0 = ap (λ (l : List (List Patch)). length l) none in
       let last : kept.first ≡ s.lsn store = omega (arith, numbered, nothing) in
-      record {
-        blocks = kept.base;
-        opening = subst (λ (n : ℕ). s.opens (s.shape_of store) (s.slots store) i kept.base n) last (laws.stable_left store kept.base kept.first i keeps kept.stable here);
-      }
+      let read : s.blocks store ≡ kept.base = laws.stable_patched store kept.base kept.first keeps kept.stable ∙ ap (λ (groups : List (List Patch)). after_groups (kept.first + 1) groups kept.base) none in
+      subst (λ (n : ℕ). s.opens (s.shape_of store) (s.slots store) i (s.blocks store) n) last
+      (subst (λ (b : List (List ℕ)). s.opens (s.shape_of store) (s.slots store) i b kept.first) (sym read) (laws.stable_left store kept.base kept.first i keeps kept.stable here))
 
   -- An image opens to what has a state: it restarts there.
   pub restarts : (h : State) (books : List Book) (n : ℕ) (store : S) (i : s.image) → s.shape_of store ≡ h.shape → OpensWith s (HasState h books n (s.slots store)) store i → RestartsAt s.opens (s.slots store) books h n i

@@ -41,9 +41,3 @@ pub record Survives {S : Type 0} (s : Ghosts S) (slots : Option ℕ) (fault : Op
   pub extends : Extends before now
   pub any_moment : LeavesOnly s.moment s.left_since old new (OnTheWay s.opens slots fault before now)
   pub now_only : (i : s.image) → s.left new i → AtEnd s.opens slots fault now i
-
--- the image opens to blocks whose last log number this is
-pub record OpensUpTo {I : Type 0} (opens : Shape → Option ℕ → I → List (List ℕ) → ℕ → Type 0)
-    (slots : Option ℕ) (shape : Shape) (lsn : ℕ) (i : I) : Type 0 where
-  pub blocks : List (List ℕ)
-  pub opening : opens shape slots i blocks lsn
