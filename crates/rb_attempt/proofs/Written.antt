@@ -1,5 +1,5 @@
 -- What the group of a write makes of the blocks of a file.
-use Rattle.std.proofs.Common.{◌≡◌, ◌≢◌, ◌⊎◌, ℕ, ◌+◌, ◌*◌, ◌/◌, ◌%◌, ◌<◌, ◌≤◌, ◌==◌, true, false, List, [], ◌∷◌, ◌++◌, length, take, drop, refl, arith, ap, sym, subst, ◌∙◌, inl, inr, Option, None, Some}
+use Rattle.std.proofs.Common.{◌≡◌, ◌≢◌, ◌⊎◌, ℕ, ◌+◌, ◌*◌, ◌/◌, ◌%◌, ◌<◌, ◌≤◌, ◌==◌, true, false, List, [], ◌∷◌, ◌++◌, length, take, drop, refl, arith, append_assoc, ap, sym, subst, ◌∙◌, inl, inr, Option, None, Some}
 use Rattle.std.proofs.lemmas.Bool.{eq-eqb, ne_eqb}
 use Rattle.std.proofs.lemmas.List.{drop-drop, drop-take, length-append}
 use Rattle.std.specs.List.{AllByRecursion}
@@ -36,7 +36,7 @@ use Rattle.rb_segment.proofs.HeaderAfter.{header_after}
 use Rattle.rb_segment.specs.Calls.{AddedAs, HasTurned, IsYoungAt, Runs, record_patches}
 use Rattle.rb_segment.specs.Header.{Header, header_of}
 use Rattle.rb_standing.specs.Standing.{env_of, logged_of}
-use Rattle.rb_standing.specs.Writing.{cell_after, entry_after, home_after, IsCellChoice, IsHeaderReady, IsRecorded, IsWritten, KeepsHome}
+use Rattle.rb_standing.specs.Writing.{cell_after, entry_after, home_after, AreOfChange, AreOfReady, IsCellChoice, IsHeaderReady, IsRecorded, IsWritten, KeepsHome}
 use Rattle.rb_undoblock.proofs.Places.{others_kept, own_read}
 use Rattle.rb_undoblock.specs.Undo.{undo_at, undo_of, with_undo}
 use Rattle.rb_undoblock.specs.declared.record.UndoRecord.{UndoRecord}
@@ -75,7 +75,7 @@ pub record Prepared (shape : Shape) (blocks : List (List ℕ)) (ask : Ask) (p : 
   pub cleaned : home_of copy ≡ cleaned_home (env_of shape blocks).look (home_of (block_of blocks p.block))
   pub header : List ℕ
   pub taking : List Patch
-  pub takes : AllByRecursion (λ (q : Patch). q.block ≡ header_block shape x.seg) taking
+  pub takes : AreOfReady (header_block shape x.seg) x.slot (header_of header) taking
   pub taken : header ≡ written_to (header_block shape x.seg) taking (block_of blocks (header_block shape x.seg))
   pub runs : Runs (header_of header) x
   pub ready : IsHeaderReady (header_in shape blocks x.seg) x.slot (header_of header)
@@ -90,14 +90,21 @@ undo_same : (one other : List ℕ) (r : ℕ) → behind_head one ≡ behind_head
 unfolding undo_at
 undo_same one other r same = ap (λ (l : List ℕ). undo_of (take 192 l)) (sym (drop-drop (192 * r) 32 one) ∙ ap (drop (192 * r)) same ∙ drop-drop (192 * r) 32 other)
 
--- what turns patches the header alone
+-- What turns patches the header alone,
 turn_blocks : (block : ℕ) (h room : Header) (before : List Patch) → HasTurned block h room before → AllByRecursion (λ (q : Patch). q.block ≡ block) before
 turn_blocks block h room before turned = elim turned [
   | inl same ↦ subst (AllByRecursion (λ (q : Patch). q.block ≡ block)) (sym same.2) tt
   | inr turn ↦ subst (AllByRecursion (λ (q : Patch). q.block ≡ block)) (sym turn.3) (refl, (refl, (refl, tt)))
 ]
 
--- and leaves a head that there is, and room
+-- and so does what takes a slot
+pub ready_blocks : (block i : ℕ) (ready : Header) (taking : List Patch) → AreOfReady block i ready taking → AllByRecursion (λ (q : Patch). q.block ≡ block) taking
+ready_blocks block i ready taking takes = elim takes [
+  | inl none ↦ subst (AllByRecursion (λ (q : Patch). q.block ≡ block)) (sym none) tt
+  | inr claims ↦ subst (AllByRecursion (λ (q : Patch). q.block ≡ block)) (sym claims) (refl, (refl, tt))
+]
+
+-- A turn leaves a head that there is, and room.
 turn_place : (block : ℕ) (h room : Header) (before : List Patch) → h.head < 8 → HasTurned block h room before → (room.head < 8) × (room.records < 40)
 turn_place block h room before few turned = elim turned [
   | inl same ↦ subst (λ (k : Header). (k.head < 8) × (k.records < 40)) (sym same.1) (few, same.0)
@@ -130,6 +137,11 @@ module _ (copy : List ℕ) (h : Header) (ask : Ask) (x : Xid) (p : Place) (u : U
       → with_home_entry (with_home_cell (home_of copy) p.cell cell) p.entry entry ≡ home_after (kind_of ask.op) x a u (home_of copy)
   changed a cell entry cell_is entry_is = rw (of.cell, of.entry, of.key, cell_is, entry_is) refl
 
+  -- by these patches
+  home_part : (a : Uba) (cell : Cell) (entry : Entry) → cell ≡ cell_after (kind_of ask.op) ask.key p.entry (home_cell (home_of copy) p.cell) → entry ≡ entry_after x a (home_entry (home_of copy) p.entry)
+      → home_patches p.block p.cell cell p.entry entry ≡ home_patches u.home u.cell (cell_after (kind_of ask.op) u.key u.entry (home_cell (home_of copy) u.cell)) u.entry (entry_after x a (home_entry (home_of copy) u.entry))
+  home_part a cell entry cell_is entry_is = rw (of.home, of.cell, of.entry, of.key, cell_is, entry_is) refl
+
 module _ (shape : Shape) (blocks : List (List ℕ)) (ask : Ask) (p : Place) (group : List Patch) (x : Xid) (number : ℕ) (pr : Prepared shape blocks ask p group x) where
   abbrev hb : ℕ
   hb = header_block shape x.seg
@@ -145,6 +157,9 @@ module _ (shape : Shape) (blocks : List (List ℕ)) (ask : Ask) (p : Place) (gro
 
   abbrev now : List (List ℕ)
   now = after_group number group blocks
+
+  taking_blocks : AllByRecursion (λ (q : Patch). q.block ≡ hb) pr.taking
+  taking_blocks = ready_blocks hb x.slot (header_of pr.header) pr.taking pr.takes
 
   -- the group's patches, part by part
   parts : (which : ℕ) (copy : List ℕ) → written_to which group copy ≡ written_to which last (written_to which pr.changes.patches (written_to which pr.taking (written_to which pr.cleaning copy)))
@@ -167,7 +182,7 @@ module _ (shape : Shape) (blocks : List (List ℕ)) (ask : Ask) (p : Place) (gro
   clean_elsewhere which differ copy = untouched which pr.cleaning copy (all_so (IsCleanPatch p.block) (λ (q : Patch). q.block ≢ which) pr.cleaning (λ q is same. differ (sym (of_block p.block q is) ∙ same)) pr.cleans)
 
   take_elsewhere : (which : ℕ) → hb ≢ which → (copy : List ℕ) → written_to which pr.taking copy ≡ copy
-  take_elsewhere which differ copy = untouched which pr.taking copy (all_so (λ (q : Patch). q.block ≡ hb) (λ (q : Patch). q.block ≢ which) pr.taking (λ q is same. differ (sym is ∙ same)) pr.takes)
+  take_elsewhere which differ copy = untouched which pr.taking copy (all_so (λ (q : Patch). q.block ≡ hb) (λ (q : Patch). q.block ≢ which) pr.taking (λ q is same. differ (sym is ∙ same)) taking_blocks)
 
   last_elsewhere : (which : ℕ) → p.block ≢ which → (copy : List ℕ) → written_to which last copy ≡ copy
   last_elsewhere which differ copy = untouched which last copy (differ, (differ, tt))
@@ -280,12 +295,34 @@ module _ (shape : Shape) (blocks : List (List ℕ)) (ask : Ask) (p : Place) (gro
         previous = of.previous;
       }
 
+  -- all patches of the group
+  patched : AreOfChange hb x.slot (kind_of ask.op) x a u (cleaned_home (env_of shape blocks).look (home_of (block_of blocks p.block))) (header_of pr.header) pr.changes.recorded.room (header_of (block_of now hb)) group
+  patched =
+      let front = pr.cleaning ++ pr.taking in
+      let turning = pr.changes.recorded.before in
+      let record_part = record_patches hb x.slot (header_of pr.header2) a u in
+      let Last : Home → List Patch = λ h. home_patches u.home u.cell (cell_after (kind_of ask.op) u.key u.entry (home_cell h u.cell)) u.entry (entry_after x a (home_entry h u.entry)) in
+      record {
+        cleaning = pr.cleaning;
+        taking = pr.taking;
+        turning = turning;
+        cleans = subst (λ (b : ℕ). AllByRecursion (IsCleanPatch b) pr.cleaning) (sym pr.changes.undo_of.home) pr.cleans;
+        takes = pr.takes;
+        turns = pr.changes.recorded.has_turned;
+        all = pr.changes.group
+            ∙ (ap (λ (l : List Patch). front ++ l ++ last) pr.changes.recorded.patched
+            ∙ (ap (λ (l : List Patch). l ++ last) (sym (append_assoc front turning record_part))
+            ∙ (ap (λ (h : Header). front ++ turning ++ record_patches hb x.slot h a u ++ last) (sym header_now)
+            ∙ (ap (λ (l : List Patch). front ++ turning ++ record_patches hb x.slot (header_of (block_of now hb)) a u ++ l) (home_part pr.copy (header_of pr.header) ask x p u pr.changes.undo_of a pr.changes.cell pr.changes.entry pr.changes.cell_is pr.changes.entry_is)
+            ∙ ap (λ (h : Home). front ++ turning ++ record_patches hb x.slot (header_of (block_of now hb)) a u ++ Last h) pr.cleaned))));
+      }
+
   -- the patches are of the home, the header and the record's block
   only : AllByRecursion (λ (q : Patch). (q.block ≡ p.block) ⊎ (q.block ≡ hb) ⊎ (q.block ≡ a.block)) group
   only =
       let Is : Patch → Type 0 = λ q. (q.block ≡ p.block) ⊎ (q.block ≡ hb) ⊎ (q.block ≡ a.block) in
       let cleaning = all_so (IsCleanPatch p.block) Is pr.cleaning (λ q is. inl (of_block p.block q is)) pr.cleans in
-      let taking = all_so (λ (q : Patch). q.block ≡ hb) Is pr.taking (λ q is. inr (inl is)) pr.takes in
+      let taking = all_so (λ (q : Patch). q.block ≡ hb) Is pr.taking (λ q is. inr (inl is)) taking_blocks in
       let adding = all_so (λ (q : Patch). (q.block ≡ hb) ⊎ (q.block ≡ a.block)) Is pr.changes.patches (λ q is. inr is) add_blocks in
       subst (AllByRecursion Is) (sym pr.changes.group)
       (all_joined Is (pr.cleaning ++ pr.taking ++ pr.changes.patches) last (all_joined Is (pr.cleaning ++ pr.taking) pr.changes.patches (all_joined Is pr.cleaning pr.taking cleaning taking) adding) (inl refl, (inl refl, tt)))
@@ -296,6 +333,7 @@ module _ (shape : Shape) (blocks : List (List ℕ)) (ask : Ask) (p : Place) (gro
 -- So the transaction of slot t has made the write.
 written : (shape : Shape) (blocks : List (List ℕ)) (ask : Ask) (p : Place) (group : List Patch) (t w : ℕ) (pr : Prepared shape blocks ask p group (record { seg = t / 16; slot = t % 16; wrap = w }))
     → IsWritten shape t (adds_row ask.op) (kind_of ask.op) pr.changes.address pr.changes.undo blocks (after_group (logged_of shape blocks + 1) group blocks)
+unfolding recorded
 written shape blocks ask p group t w pr =
     let x : Xid = record { seg = t / 16; slot = t % 16; wrap = w } in
     let number = logged_of shape blocks + 1 in
@@ -320,6 +358,8 @@ written shape blocks ask p group t w pr =
       home = subst (λ (b : ℕ). home_of (block_of now b) ≡ home_after (kind_of ask.op) x a u (cleaned_home look (home_of (block_of blocks b)))) at (home_now shape blocks ask p group x number pr);
       short = subst (λ (b : ℕ). StaysShort (block_of blocks b) (block_of now b)) at (short_now shape blocks ask p group x number pr);
       recorded = recorded shape blocks ask p group x number pr;
+      patches = subst (λ (b : ℕ). AreOfChange (header_block shape (t / 16)) (t % 16) (kind_of ask.op) x a u (cleaned_home look (home_of (block_of blocks b))) (header_of pr.header) pr.changes.recorded.room (header_of (block_of now (header_block shape (t / 16)))) group) at
+          (patched shape blocks ask p group x number pr);
     }
 
 -- the write of a transaction, with what is told of its record

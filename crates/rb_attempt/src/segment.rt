@@ -3,7 +3,6 @@
 ghost use Rattle.std.specs.Prelude.{IsTrue, ◌≡◌, ◌≢◌, ◌↔◌, ◌<◌, ◌≤◌, ◌+◌};
 ghost use Rattle.std.specs.Prelude.{◌++◌, ℕ};
 ghost use Rattle.std.specs.Prelude.{List, [], false, true, not, length, Some, None, IfOk, OnErr, OnOk};
-ghost use Rattle.std.specs.List.{AllByRecursion};
 ghost use Rattle.std.specs.Result.{is_err};
 ghost use Rattle.rb_attempt.specs.Asks.{header_in, AreYoung, IsFewest, IsWriterOf, MayWrite};
 ghost use Rattle.rb_attempt.specs.Refusals.{has_failed};
@@ -11,8 +10,9 @@ ghost use Rattle.rb_base.specs.Blocks.{block_of, header_block, written_to, IsSha
 ghost use Rattle.rb_base.specs.Groups.{Patch, group_length};
 ghost use Rattle.rb_base.specs.Logs.{Logs};
 ghost use Rattle.rb_base.specs.declared.ids.Xid.{Xid};
-ghost use Rattle.rb_segment.specs.Calls.{Runs};
+ghost use Rattle.rb_segment.specs.Calls.{claim_patches, Runs};
 ghost use Rattle.rb_segment.specs.Header.{header_of, slot_in};
+ghost use Rattle.rb_standing.specs.Writing.{AreOfReady};
 ghost use Rattle.rb_txntable.specs.Slots.{active_count};
 
 use crate::ask::AttemptFault;
@@ -144,7 +144,7 @@ fn new_writer<S: Store>(
     ensures runs { IfOk result (Runs (header_of header.new)) }
     ensures patches { IfOk result (λ x. (patches : List Patch)
         × (group.new ≡ group.old ++ patches)
-        × AllByRecursion (λ p. p.block ≡ header_block (S.shape_of store.old) x.seg) patches
+        × (patches ≡ claim_patches (header_block (S.shape_of store.old) x.seg) x.slot (header_of header.new))
         × (S.tells → header.new ≡ written_to (header_block (S.shape_of store.old) x.seg) patches
         (block_of (S.blocks store.old) (header_block (S.shape_of store.old) x.seg)))) }
     ensures writer { S.tells → AreYoung (S.shape_of store.old) (S.blocks store.old)
@@ -185,7 +185,7 @@ pub fn writer<S: Store>(
     ensures runs { IfOk result (Runs (header_of header.new)) }
     ensures patches { IfOk result (λ x. (patches : List Patch)
         × (group.new ≡ group.old ++ patches)
-        × AllByRecursion (λ p. p.block ≡ header_block (S.shape_of store.old) x.seg) patches
+        × AreOfReady (header_block (S.shape_of store.old) x.seg) x.slot (header_of header.new) patches
         × (S.tells → header.new ≡ written_to (header_block (S.shape_of store.old) x.seg) patches
         (block_of (S.blocks store.old) (header_block (S.shape_of store.old) x.seg)))) }
     ensures writer { S.tells → AreYoung (S.shape_of store.old) (S.blocks store.old)

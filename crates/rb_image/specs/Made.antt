@@ -21,7 +21,7 @@ use Rattle.rb_model.specs.Rows.{last_scn}
 use Rattle.rb_model.specs.State.{Cursor, State, session_own}
 use Rattle.rb_segment.specs.Header.{record_in}
 use Rattle.rb_segment.specs.Segments.{owed_in}
-use Rattle.rb_standing.specs.Groups.{IsCommitted, IsEnded, IsPutBack, last_record}
+use Rattle.rb_standing.specs.Groups.{IsCleaned, IsCommitted, IsEnded, IsPutBack, last_record}
 use Rattle.rb_standing.specs.NextStates.{with_own}
 use Rattle.rb_standing.specs.Standing.{env_of, logged_of, segments_of}
 use Rattle.rb_standing.specs.States.{BlocksStand, Owns}
@@ -132,6 +132,7 @@ pub record EndMade (h : State) (xids : List Xid) (s : ℕ) (x : Xid) (before now
 pub record CleanMade (h : State) (xids : List Xid) (b room : ℕ) (before now : List (List ℕ)) : Type 0 where
   pub stand : BlocksStand h xids now
   pub segments : segments_of h.shape now ≡ segments_of h.shape before
+  pub group : IsCleaned h.shape b before now
   pub home : home_of (block_of now b) ≡ cleaned_home (env_of h.shape before).look (home_of (block_of before b))
   pub others : (k : ℕ) → k ≢ b → block_of now k ≡ block_of before k
   pub last : logged_of h.shape now ≡ logged_of h.shape before + 1

@@ -1,5 +1,6 @@
 -- All that is under way in the blocks of a file, put back.
-use Rattle.std.specs.Prelude.{◌≡◌, ◌≢◌, ◌<◌, ◌≤◌, ◌*◌, ◌+◌, ℕ, zero, suc, List, length, take}
+use Rattle.std.specs.Prelude.{◌≡◌, ◌≢◌, ◌<◌, ◌≤◌, ◌*◌, ◌+◌}
+use Rattle.std.specs.Prelude.{ℕ, zero, suc, List, length, take}
 use Rattle.rb_base.specs.Blocks.{after_groups, block_of, header_block}
 use Rattle.rb_base.specs.Groups.{Patch}
 use Rattle.rb_base.specs.declared.shape.Shape.{Shape}

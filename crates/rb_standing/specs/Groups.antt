@@ -5,7 +5,7 @@ use Rattle.rb_base.specs.Blocks.{after_group, block_of, header_block}
 use Rattle.rb_base.specs.Groups.{Patch, IsPatch}
 use Rattle.rb_base.specs.declared.shape.Shape.{Shape}
 use Rattle.rb_cell.specs.Cells.{cell_of}
-use Rattle.rb_heap.specs.Cleaning.{back_home, cleaned_home}
+use Rattle.rb_heap.specs.Cleaning.{back_home, cleaned_home, IsCleanPatch}
 use Rattle.rb_heap.specs.Homes.{home_of, home_patches}
 use Rattle.rb_heap.specs.Soundness.{StaysShort}
 use Rattle.rb_itl.specs.Entries.{entry_of}
@@ -34,11 +34,13 @@ abbrev pub last_record : Shape → List (List ℕ) → ℕ → UndoRecord
 last_record shape blocks t = undo_at (block_of blocks (slot_of (segments_of shape blocks) t).newest_at.block)
     (slot_of (segments_of shape blocks) t).newest_at.rec
 
--- Block b is cleaned of the transactions that have ended.
+-- Block b is cleaned of the transactions that have ended, and no byte is patched but those of its slot entries and of
+-- the locks of its cells.
 pub record IsCleaned (shape : Shape) (b : ℕ) (before now : List (List ℕ)) : Type 0 where
   pub group : GroupOn shape (λ x. x ≡ b) before now
   pub home : home_of (block_of now b) ≡ cleaned_home (env_of shape before).look (home_of (block_of before b))
   pub short : StaysShort (block_of before b) (block_of now b)
+  pub patches : AllByRecursion (IsCleanPatch b) group.patches
 
 -- The change of slot t with that undo record is put back, in its home and in its table slot: no byte is patched but
 -- those of the cell, of the slot entry and of the table slot, each as it is then.

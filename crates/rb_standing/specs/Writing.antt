@@ -1,9 +1,11 @@
 -- A write of a row as the blocks of a file see it: what it chooses in its home, once that is cleaned, what it makes
 -- there, and the record that it adds to its segment.
-use Rattle.std.specs.Prelude.{◌≡◌, ◌≢◌, ◌⊎◌, ◌<◌, ◌/◌, ◌%◌, ◌+◌, ◌==◌}
+use Rattle.std.specs.Prelude.{◌≡◌, ◌≢◌, ◌⊎◌, ◌<◌, ◌/◌, ◌%◌, ◌+◌, ◌++◌, ◌==◌}
 use Rattle.std.specs.Prelude.{ℕ, suc, false, true, Bool, if◌then◌else◌, List, []}
+use Rattle.std.specs.List.{AllByRecursion}
 use Rattle.rb_base.specs.Blocks.{block_of, header_block}
 use Rattle.rb_base.specs.Fields.{number_at}
+use Rattle.rb_base.specs.Groups.{Patch}
 use Rattle.rb_base.specs.declared.ids.Uba.{Uba}
 use Rattle.rb_base.specs.declared.ids.Xid.{Xid}
 use Rattle.rb_base.specs.declared.shape.Shape.{Shape}
@@ -12,16 +14,16 @@ use Rattle.rb_cell.specs.Cells.{cell_of, value_length}
 use Rattle.rb_cell.specs.declared.cell.Cell.{Cell}
 use Rattle.rb_cell.specs.declared.cell.TheConstants.{LENGTH_AT, ROW, STUB}
 use Rattle.rb_heap.specs.Choices.{IsEntryChoice, IsOwnEntry}
-use Rattle.rb_heap.specs.Cleaning.{cleaned_home}
+use Rattle.rb_heap.specs.Cleaning.{cleaned_home, IsCleanPatch}
 use Rattle.rb_heap.specs.Homes.{Home, home_cell, home_entry, home_of, is_free, is_keyed, with_home_cell}
-use Rattle.rb_heap.specs.Homes.{with_home_entry, IsFirst, IsNowhere}
+use Rattle.rb_heap.specs.Homes.{home_patches, with_home_entry, IsFirst, IsNowhere}
 use Rattle.rb_heap.specs.Soundness.{StaysShort}
 use Rattle.rb_itl.specs.Entries.{entry_of}
 use Rattle.rb_itl.specs.declared.slots.Entry.{Entry}
 use Rattle.rb_itl.specs.declared.slots.TheConstants.{OPEN}
 use Rattle.rb_model.specs.Change.{Kind, Put, Gone, Held}
 use Rattle.rb_ring.specs.declared.extents.TheConstants.{EXTENT_RECORDS}
-use Rattle.rb_segment.specs.Calls.{AddedAs}
+use Rattle.rb_segment.specs.Calls.{claim_patches, record_patches, AddedAs, HasTurned}
 use Rattle.rb_segment.specs.Header.{Header, slot_in}
 use Rattle.rb_segment.specs.Moves.{claimed, next_address, turned, MayClaim, MayTurn}
 use Rattle.rb_standing.specs.Groups.{GroupOn, header_at}
@@ -105,6 +107,24 @@ pub record IsRecorded (shape : Shape) (g i : ℕ) (address : Uba) (u : UndoRecor
   pub number : u.number ≡ (slot_in ready i).live + 1
   pub previous : u.previous ≡ (slot_in ready i).newest_at
 
+-- the patches of a header that is ready for slot i: none, or those of the slot, where it was taken
+abbrev pub AreOfReady : ℕ → ℕ → Header → List Patch → Type 0
+AreOfReady block i ready patches = (patches ≡ []) ⊎ (patches ≡ claim_patches block i ready)
+
+-- The patches of a change of slot i, one behind the other: what cleans its home; the slot, where it was taken; an
+-- extent, where it took the next turn; the record; and the cell and the slot entry. No other byte is patched.
+pub record AreOfChange (block i : ℕ) (kind : Kind) (xid : Xid) (address : Uba) (u : UndoRecord) (home : Home)
+    (ready room now : Header) (patches : List Patch) : Type 0 where
+  pub cleaning : List Patch
+  pub taking : List Patch
+  pub turning : List Patch
+  pub cleans : AllByRecursion (IsCleanPatch u.home) cleaning
+  pub takes : AreOfReady block i ready taking
+  pub turns : HasTurned block ready room turning
+  pub all : patches ≡ cleaning ++ taking ++ turning ++ record_patches block i now address u
+      ++ home_patches u.home u.cell (cell_after kind u.key u.entry (home_cell home u.cell))
+      u.entry (entry_after xid address (home_entry home u.entry))
+
 -- A change by the transaction that has or takes table slot t: its block is cleaned by what the headers said before, and
 -- has the change, and its segment has the record.
 pub record IsWritten (shape : Shape) (t : ℕ) (adds : Bool) (kind : Kind) (address : Uba) (u : UndoRecord)
@@ -120,3 +140,6 @@ pub record IsWritten (shape : Shape) (t : ℕ) (adds : Bool) (kind : Kind) (addr
   pub short : StaysShort (block_of before u.home) (block_of now u.home)
   pub recorded : IsRecorded shape (t / 16) (t % 16) address u (header_at shape before t) (header_at shape now t)
       before now
+  pub patches : AreOfChange (header_block shape (t / 16)) (t % 16) kind xid address u
+      (cleaned_home (env_of shape before).look (home_of (block_of before u.home)))
+      recorded.ready recorded.room (header_at shape now t) group.patches

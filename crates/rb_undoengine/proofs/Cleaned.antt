@@ -53,6 +53,7 @@ module _ (h : State) (xids : List Xid) (before : List (List ℕ)) (stand : Block
       };
       home = copy_home (logged_of h.shape before + 1) b patches clean h.shape before (written_to b patches (block_of before b)) stand.standing.whole (omega (arith, there)) refl ∙ plans ∙ looks_same;
       short = lengths_stay (logged_of h.shape before + 1) b patches clean h.shape before stand.standing.whole (omega (arith, there));
+      patches = clean;
     }
 
     segments : segments_of h.shape Now ≡ segments_of h.shape before
@@ -65,6 +66,7 @@ module _ (h : State) (xids : List Xid) (before : List (List ℕ)) (stand : Block
     clean_made room fits = record {
       stand = machine_cleaned h xids before Now b there next stand is_cleaned;
       segments = segments;
+      group = is_cleaned;
       home = is_cleaned.home;
       others = λ k ne. others_stay (logged_of h.shape before + 1) b patches clean before k ne;
       last = logged_next h.shape (λ x. x ≡ b) before Now is_cleaned.group stand.standing.whole (λ x is. omega (arith, is, there)) (let a = next in omega (arith, a));

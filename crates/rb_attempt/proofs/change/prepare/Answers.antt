@@ -6,7 +6,7 @@ use Rattle.rb_attempt.proofs.Causes.{both_ways, fails_same, log_refuses, logs_on
 use Rattle.rb_attempt.proofs.Choices.{chain_short, choice_agrees, none_agrees}
 use Rattle.rb_attempt.proofs.Headers.{ready_is, turned_may, young_at}
 use Rattle.rb_attempt.proofs.Writers.{writer_there}
-use Rattle.rb_attempt.proofs.Written.{made_by, Prepared}
+use Rattle.rb_attempt.proofs.Written.{made_by, ready_blocks, Prepared}
 use Rattle.rb_attempt.specs.Asks.{adds_row, home_for, AreYoung, IsWriterOf}
 use Rattle.rb_attempt.specs.Making.{Changes}
 use Rattle.rb_attempt.specs.Refusals.{has_failed, HasCause, LogRefuses, Refuses, TakesWrite, TakesWriter}
@@ -30,6 +30,7 @@ use Rattle.rb_itl.specs.Entries.{entry_at, free_entry}
 use Rattle.rb_segment.specs.Header.{header_of}
 use Rattle.rb_segment.specs.Segments.{owed_in}
 use Rattle.rb_standing.specs.Standing.{env_of}
+use Rattle.rb_standing.specs.Writing.{AreOfReady}
 use Rattle.rb_attempt.proofs.change.prepare.Goals as goal
 
 plus_none : (a b : ℕ) → a ≡ b + 0 → a ≡ b
@@ -186,7 +187,7 @@ returns-clause-within g c =
     let cleaning : AreWithin c.shape-shape.result c.clean_home.new.group = all_so (IsCleanPatch block) (λ (p : Patch). p.block < all) c.clean_home.new.group
     (λ p is. omega (arith, of_block block p is, c.home_block-block.ensures.there)) c.in_ok-clean_home.ensures.patches in
     let taken : AreWithin c.shape-shape.result taking.0 = all_so (λ (p : Patch). p.block ≡ header_block (s.shape_of c.clean_home.new.store) x.seg) (λ (p : Patch). p.block < all) taking.0
-    (λ p is. omega (arith, is, header, segments)) taking.2 in
+    (λ p is. omega (arith, is, header, segments)) (ready_blocks (header_block (s.shape_of c.clean_home.new.store) x.seg) x.slot (header_of c.writer.new.header) taking.0 taking.2) in
     let before : AreWithin c.shape-shape.result c.writer.new.group = subst (AreWithin c.shape-shape.result) (sym taking.1) (all_joined (λ (p : Patch). p.block < all) c.clean_home.new.group taking.0 cleaning taken) in
     subst (λ (k : Shape). AreWithin k c.put_change.new.group) same (c.in_ok-put_change.ensures.within before)
 
@@ -241,7 +242,7 @@ returns-clause-made g c told young =
       cleaned = cleaned;
       header = c.writer.new.header;
       taking = taking.0;
-      takes = subst (λ (k : Shape). AllByRecursion (λ (q : Patch). q.block ≡ header_block k x.seg) taking.0) same_shape taking.2;
+      takes = subst (λ (k : Shape). AreOfReady (header_block k x.seg) x.slot (header_of c.writer.new.header) taking.0) same_shape taking.2;
       taken = both_ways (λ (k : Shape) (l : List (List ℕ)). c.writer.new.header ≡ written_to (header_block k x.seg) taking.0 (block_of l (header_block k x.seg))) (s.shape_of mid) shape (s.blocks mid) blocks same_shape same_blocks (taking.3 told);
       runs = c.in_ok-xid.ensures.runs;
       ready = ready_is shape blocks x ready seg ask.own c.in_ok-xid.ensures.runs writer;
