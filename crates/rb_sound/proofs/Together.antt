@@ -34,7 +34,8 @@ home_later shape commit later wrap_of other home block le same sound = record {
   cells = sound.cells;
 }
 
-stand_alike : (shape : Shape) (commit : ℕ) (wrap_of other : ℕ → ℕ → ℕ) (r : UndoRecord) → AreAlike shape wrap_of other → CouldStand shape commit wrap_of r → CouldStand shape commit other r
+-- the same of what a record keeps
+pub stand_alike : (shape : Shape) (commit : ℕ) (wrap_of other : ℕ → ℕ → ℕ) (r : UndoRecord) → AreAlike shape wrap_of other → CouldStand shape commit wrap_of r → CouldStand shape commit other r
 stand_alike shape commit wrap_of other r same stand = record {
   entry = record { kind = stand.entry.kind; taken = λ not_free. taken_later shape commit commit wrap_of other _ (omega arith) same (stand.entry.taken not_free) };
   cell = stand.cell;
