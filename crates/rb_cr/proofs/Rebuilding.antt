@@ -1,10 +1,10 @@
 -- The rebuild's loops: what each turn leaves, and what the answers then say.
 use Rattle.std.proofs.Common.{◌≡◌, ◌⊎◌, ⊎_elim, inl, inr, ◌<◌, ◌≤◌, ◌+◌, ◌-◌, ◌^◌, ℕ, Bool, true, false}
-use Rattle.std.proofs.Common.{List, [], length, Option, None, Result, Ok, Err, OnOk, refl, sym, ◌∙◌}
+use Rattle.std.proofs.Common.{List, [], ◌∷◌, length, Option, None, Result, Ok, Err, OnOk, refl, sym, ◌∙◌}
 use Rattle.std.proofs.Common.{ap, subst, arith}
 use Rattle.rb_base.specs.declared.ids.Xid.{Xid}
 use Rattle.rb_cr.specs.Faults.{Because, is_fault}
-use Rattle.rb_cr.specs.Parts.{Built, Highest, Passed, Rewound, Spent, Undone}
+use Rattle.rb_cr.specs.Parts.{Built, Goes, Gone, Highest, Passed, Rewound, Spent, Undone}
 use Rattle.rb_cr.specs.declared.faults.CrFault.{CrFault}
 use Rattle.rb_rebuild.specs.Chains.{unwound}
 use Rattle.rb_rebuild.specs.Heights.{AtMost}
@@ -17,6 +17,7 @@ use Rattle.rb_walk.specs.Walk.{entry_at}
 use Rattle.rb_rebuild.proofs.Keeping.{overlay_same}
 use Rattle.rb_rebuild.proofs.Peeling.{begins, fails, finishes, turns}
 use Rattle.rb_rebuild.proofs.Showing.{match_rows}
+use Rattle.rb_rebuild.proofs.Unwinding.{stopped_none}
 use Rattle.rb_rebuild.proofs.Undoing.{Turned, allows, passes_by, taken_back, takes_back}
 use Rattle.rb_cr.proofs.Blaming.{because_lost, because_map, because_over}
 use Rattle.rb_cr.specs.declared.faults.CrFault.TheVariants as faults
@@ -41,13 +42,15 @@ module _ (env : Env) (base : ℕ) (rows : Rows) (list : List Commit) (mine : Opt
           most = omega (arith, so.2, f.1);
           ok = (f.0, so.2 ∙ ap (λ (z : ℕ). count0 + z) f.1, λ over k. ap (λ (z : Kept). overlay z over k) so.3 ∙ f.2 kept0 over k);
           err = tt;
+          counted = tt;
         }
 
-    pub rewound_over : (e : CrFault) → Highest env n b (Err e) → Rewound env rows list mine upto n start kept0 count0 (Err e) b kept count
-    rewound_over e top = record {
+    pub rewound_over : (e : CrFault) → Highest env n b (Err e) → Goes env start count0 b count → Rewound env rows list mine upto n start kept0 count0 (Err e) b kept count
+    rewound_over e top goes = record {
       most = omega (arith, so.2, few_left);
       ok = tt;
       err = because_over env n (λ seg. WornIn env n seg (flat n list) start) b e (fails env base rows mine upto n (2 ^ 64 - 1) list st.honest st.low limit so.0 so.1 start b so.4) top.err;
+      counted = λ start0 first entries whole old. let to = goes start0 first entries whole in (to.0, b, count, to.1, inl refl);
     }
 
     module _ (i c : ℕ) (above : n < c) (top : Highest env n b (Ok (i, c))) where
@@ -67,22 +70,23 @@ module _ (env : Env) (base : ℕ) (rows : Rows) (list : List Commit) (mine : Opt
       pub falls : c < limit
       falls = turn.0
 
-      pub rewound_worn : (e : CrFault) (b2 : Home) (kept2 : Kept) (count2 : ℕ) → Spent env mine upto n i b kept (Err e) b2 kept2 → count2 ≤ count + (entry_at b i).chain → Rewound env rows list mine upto n start kept0 count0 (Err e) b2 kept2 count2
-      rewound_worn e b2 kept2 count2 spent most = record { most = omega (arith, most, so.2, turn.1.0); ok = tt; err = because_lost env n (λ seg. WornIn env n seg (flat n list) start) (entry_at b i).xid.seg e (λ old. gone (spent.err.0 old)) spent.err.1 }
+      pub rewound_worn : (e : CrFault) (b2 : Home) (kept2 : Kept) (count2 : ℕ) → Spent env mine upto n i b kept count (Err e) b2 kept2 count2 → count2 ≤ count + (entry_at b i).chain → Goes env start count0 b count → Rewound env rows list mine upto n start kept0 count0 (Err e) b2 kept2 count2
+      rewound_worn e b2 kept2 count2 spent most goes = record { most = omega (arith, most, so.2, turn.1.0); ok = tt; err = because_lost env n (λ seg. WornIn env n seg (flat n list) start) (entry_at b i).xid.seg e (λ old. gone (spent.err.0 old)) spent.err.1; counted = λ start0 first entries whole old. let to = goes start0 first entries whole in ⊎_elim (λ stops. (to.0, b, count, to.1, inr (i, stops.0, stops.1, stops.3, stops.2))) (λ full. absurd (too_few full)) (spent.err.0 old) }
         where
           too_few : kept_room < length (kept_after env mine upto (entry_at b i).chain i (entry_at b i).xid b kept) → ⊥
           too_few full =
               let over : kept_room < length (saved kept0) = subst (λ (z : Kept). kept_room < length (kept_after env mine upto (entry_at b i).chain i (entry_at b i).xid b z)) so.3 full in
               omega (arith, over, turn.1.1 kept0, few)
 
-          gone : (unwound env (entry_at b i).chain i (entry_at b i).xid b ≡ None) ⊎ (kept_room < length (kept_after env mine upto (entry_at b i).chain i (entry_at b i).xid b kept)) → (n < env.lost (entry_at b i).xid.seg) × WornIn env n (entry_at b i).xid.seg (flat n list) start
+          gone : Gone env (entry_at b i).chain i (entry_at b i).xid b count count2 ⊎ (kept_room < length (kept_after env mine upto (entry_at b i).chain i (entry_at b i).xid b kept)) → (n < env.lost (entry_at b i).xid.seg) × WornIn env n (entry_at b i).xid.seg (flat n list) start
           gone why = ⊎_elim
-              (λ none.
+              (λ stops.
+              let none : unwound env (entry_at b i).chain i (entry_at b i).xid b ≡ None = stopped_none env (entry_at b i).chain stops.0 i (entry_at b i).xid b stops.3 stops.1 in
               let ends : (c ≤ env.lost (entry_at b i).xid.seg) × WornIn env n (entry_at b i).xid.seg (flat n list) start = subst (λ (z : Option Home). Ends env (entry_at b i).xid.seg c (WornIn env n (entry_at b i).xid.seg (flat n list) start) (Peeled env base rows mine upto n c (so.0 + chain) saved list start) z) none turn.2 in
               (omega (arith, ends.0, above), ends.1))
               (λ full. absurd (too_few full)) why
 
-      pub goes_on : (b2 : Home) (kept2 : Kept) (count2 : ℕ) → Spent env mine upto n i b kept (Ok (tt {0})) b2 kept2 → count2 ≡ count + (entry_at b i).chain → SoFar c b2 kept2 count2
+      pub goes_on : (b2 : Home) (kept2 : Kept) (count2 : ℕ) → Spent env mine upto n i b kept count (Ok (tt {0})) b2 kept2 count2 → count2 ≡ count + (entry_at b i).chain → SoFar c b2 kept2 count2
       goes_on b2 kept2 count2 spent is =
           let left : Peeled env base rows mine upto n c (so.0 + chain) saved list start b2 = subst (λ (z : Option Home). Ends env (entry_at b i).xid.seg c (WornIn env n (entry_at b i).xid.seg (flat n list) start) (Peeled env base rows mine upto n c (so.0 + chain) saved list start) z) spent.ok.0 turn.2 in
           (so.0 + chain, saved, omega (arith, is, so.2), spent.ok.1 ∙ ap (kept_after env mine upto (entry_at b i).chain i (entry_at b i).xid b) so.3, left)
@@ -109,7 +113,7 @@ module _ (env : Env) (base : ℕ) (rows : Rows) (list : List Commit) (lives : Li
       allowed : (d + (entry_at b i).chain ≤ total lives) × ((kept : Kept) → length (rows_kept kept) ≤ length kept + first_count mine upto (own lives r))
       allowed = allows env base rows list lives distinct r mine upto n start i d f b alone run active
 
-      pub passed_back : (result : Result (Unit {0}) CrFault) (b2 : Home) (kept2 : Kept) (count2 : ℕ) → Spent env mine upto n i b kept result b2 kept2 → count2 ≤ count + (entry_at b i).chain → OnOk result (count2 ≡ count + (entry_at b i).chain) → Passed env base rows list lives r mine upto n i d start first count result b2 kept2 count2
+      pub passed_back : (result : Result (Unit {0}) CrFault) (b2 : Home) (kept2 : Kept) (count2 : ℕ) → Spent env mine upto n i b kept count result b2 kept2 count2 → count2 ≤ count + (entry_at b i).chain → OnOk result (count2 ≡ count + (entry_at b i).chain) → Passed env base rows list lives r mine upto n i d start first count result b2 kept2 count2
       passed_back (Ok u) b2 kept2 count2 spent most counted = record {
         most = omega (arith, most, allowed.0);
         ok = ((entry_at b i).chain, rows_kept, counted, spent.ok.1 ∙ ap (kept_after env mine upto (entry_at b i).chain i (entry_at b i).xid b) is, subst (λ (z : Option Home). Turned env base rows list lives distinct r mine upto n start i (d + (entry_at b i).chain) rows_kept z) spent.ok.0 back);
@@ -125,7 +129,7 @@ module _ (env : Env) (base : ℕ) (rows : Rows) (list : List Commit) (lives : Li
           never : (t : Bool) → is_fault e ≡ t → is_fault e ≡ true
           never true fault = fault
           never false old = ⊎_elim
-              (λ none. absurd (subst (λ (z : Option Home). Turned env base rows list lives distinct r mine upto n start i (d + (entry_at b i).chain) rows_kept z) none back))
+              (λ stops. absurd (subst (λ (z : Option Home). Turned env base rows list lives distinct r mine upto n start i (d + (entry_at b i).chain) rows_kept z) (stopped_none env (entry_at b i).chain stops.0 i (entry_at b i).xid b stops.3 stops.1) back))
               (λ full. absurd (too_few full)) (spent.err.0 old)
 
   -- the active entries before i were taken back
@@ -165,7 +169,7 @@ undone env h mine upto n start kept count result b2 kept2 count2 none reading sa
 -- the whole rebuild
 module _ (env : Env) (h : History) (mine : Option Xid) (upto n : ℕ) (start : Home) (count0 : ℕ) (reading : Reading env h mine upto n start) where
   pub built_failed : (e : CrFault) (b : Home) (kept : Kept) (count : ℕ) → Undone env h.base h.rows h.list h.lives h.reader mine upto n start [] count0 (Err e) b kept count → Built env h mine upto n start count0 (Err e) b kept count
-  built_failed e b kept count undone = record { rows = tt; counted = tt; most = omega (arith, undone.most); old = because e undone.err }
+  built_failed e b kept count undone = record { rows = tt; counted = tt; most = omega (arith, undone.most); old = because e undone.err; stopped = λ old. let wrong : true ≡ false = sym undone.err ∙ old in absurd (cc (wrong)) }
     where
       because : (e : CrFault) → is_fault e ≡ true → Because env n (Worn env h n start) e
       because faults.Failed fault = tt
@@ -183,12 +187,26 @@ module _ (env : Env) (h : History) (mine : Option Xid) (upto n : ℕ) (start : H
         (λ at. ⊎_elim (λ entry. inl entry) (λ cause. inr (cause.1, inl (cause.0, cause.2), cause.3)) (undone.source at.0 seg at.1))
         (λ cause. inr (cause.0, inr cause.1, cause.2)) why
 
-    pub built : (result : Result (Unit {0}) CrFault) (b2 : Home) (kept2 : Kept) (count2 : ℕ) → Rewound env h.rows h.list mine upto n b kept count result b2 kept2 count2 → Built env h mine upto n start count0 result b2 kept2 count2
-    built (Ok u) b2 kept2 count2 rewound = record {
+    pub built : (result : Result (Unit {0}) CrFault) (b2 : Home) (kept2 : Kept) (count2 : ℕ) → Goes env start count0 b count → Rewound env h.rows h.list mine upto n b kept count result b2 kept2 count2 → Built env h mine upto n start count0 result b2 kept2 count2
+    built (Ok u) b2 kept2 count2 goes rewound = record {
       rows = λ k. overlay_same kept2 (rows_in b2.cells) (rows_at n h.rows h.list) k (match_rows b2 (rows_at n h.rows h.list) rewound.ok.0 k)
           ∙ (rewound.ok.2 (rows_at n h.rows h.list) k ∙ undone.keeps (behind_mine mine upto (flat n h.list) (rows_at n h.rows h.list)) k);
       counted = omega (arith, rewound.ok.1, undone.counted);
       most = omega (arith, rewound.most, undone.counted);
       old = tt;
+      stopped = tt;
     }
-    built (Err e) b2 kept2 count2 rewound = record { rows = tt; counted = tt; most = omega (arith, rewound.most, undone.counted); old = because_map env n (λ seg. WornIn env n seg (flat n h.list) b) (Worn env h n start) e worn rewound.err }
+    built (Err e) b2 kept2 count2 goes rewound = record { rows = tt; counted = tt; most = omega (arith, rewound.most, undone.counted); old = because_map env n (λ seg. WornIn env n seg (flat n h.list) b) (Worn env h n start) e worn rewound.err; stopped = λ old. let to = goes start count0 [] (refl, refl) in rewound.counted start count0 to.0 to.1 old }
+
+-- no chain more
+pub goes_nowhere : (env : Env) (b : Home) (count : ℕ) → Goes env b count b count
+goes_nowhere env b count start first entries whole = (entries, whole)
+
+-- one chain more
+pub goes_spent : (env : Env) (mine : Option Xid) (upto n i : ℕ) (b : Home) (kept : Kept) (count : ℕ) (result : Result (Unit {0}) CrFault) (b2 : Home) (kept2 : Kept) (count2 : ℕ) → Spent env mine upto n i b kept count result b2 kept2 count2
+    → OnOk result (count2 ≡ count + (entry_at b i).chain) → OnOk result (Goes env b count b2 count2)
+goes_spent env mine upto n i b kept count (Ok u) b2 kept2 count2 spent counted = λ start first entries whole. (i ∷ entries, (b, count, whole, spent.ok.0, counted))
+goes_spent env mine upto n i b kept count (Err e) b2 kept2 count2 spent counted = tt
+
+pub goes_after : (env : Env) (b b2 b3 : Home) (count count2 count3 : ℕ) → Goes env b count b2 count2 → Goes env b2 count2 b3 count3 → Goes env b count b3 count3
+goes_after env b b2 b3 count count2 count3 one two start first entries whole = let to = one start first entries whole in two start first to.0 to.1

@@ -21,13 +21,11 @@ one_grows env mine upto n i xid b kept = by_store (env.store (entry_at b i).newe
       | inr no_fit ↦ rw no_fit (omega arith)
     ]
 
-pub step_fails : (env : Env) (mine : Option Xid) (upto n k i : ℕ) (xid : Xid) (b : Home) (kept : Kept) (b2 : Home) (kept2 : Kept) → k < n → Took env mine upto i xid b kept b2 kept2 false
-    → (unwound env (n - k) i xid b ≡ None) ⊎ (kept_room < length (kept_after env mine upto (n - k) i xid b kept))
-step_fails env mine upto n k i xid b kept b2 kept2 lt took = ⊎_elim (λ none. inl (step_on env n k i xid b None lt none)) (λ full. inr (more full)) took
+pub room_fails : (env : Env) (mine : Option Xid) (upto n k i : ℕ) (xid : Xid) (b : Home) (kept : Kept) → k < n
+    → kept_room < length (kept_one mine upto i xid b (env.store (entry_at b i).newest) kept) → kept_room < length (kept_after env mine upto (n - k) i xid b kept)
+room_fails env mine upto n k i xid b kept lt full =
+    let grown : length (kept_one mine upto i xid b (env.store (entry_at b i).newest) kept) ≤ length (kept_after env mine upto (suc (n - (k + 1))) i xid b kept) = one_grows env mine upto (n - (k + 1)) i xid b kept in
+    subst (λ (z : ℕ). kept_room < length (kept_after env mine upto z i xid b kept)) (sym e) (omega (arith, full, grown))
   where
     e : n - k ≡ suc (n - (k + 1))
     e = omega arith
-
-    more : kept_room < length (kept_one mine upto i xid b (env.store (entry_at b i).newest) kept) → kept_room < length (kept_after env mine upto (n - k) i xid b kept)
-    more full = let grown : length (kept_one mine upto i xid b (env.store (entry_at b i).newest) kept) ≤ length (kept_after env mine upto (suc (n - (k + 1))) i xid b kept) = one_grows env mine upto (n - (k + 1)) i xid b kept in
-        subst (λ (z : ℕ). kept_room < length (kept_after env mine upto z i xid b kept)) (sym e) (omega (arith, full, grown))

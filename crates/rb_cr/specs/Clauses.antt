@@ -3,7 +3,7 @@ use Rattle.std.specs.Prelude.{◌≡◌, ◌≤◌, ◌+◌, ◌-◌, ◌^◌, �
 use Rattle.rb_base.specs.declared.ids.Xid.{Xid}
 use Rattle.rb_cr.specs.Calls.{Said}
 use Rattle.rb_cr.specs.Faults.{Because}
-use Rattle.rb_cr.specs.Parts.{Built, Passed, Rewound, Spent, Took, Undone, Unwound}
+use Rattle.rb_cr.specs.Parts.{Built, Goes, Passed, Rewound, Spent, Took, Undone, Unwound}
 use Rattle.rb_cr.specs.Scratches.{scratch_home}
 use Rattle.rb_cr.specs.declared.faults.CrFault.{CrFault}
 use Rattle.rb_cr.specs.declared.scratch.Scratch.{Scratch}
@@ -17,14 +17,20 @@ abbrev pub StepsBack : Said → Snapshot → ℕ → Xid → Scratch → Scratch
 StepsBack said snap i xid old new =
     Took said.env snap.own snap.upto i xid (scratch_home said.shape old) old.kept (scratch_home said.shape new) new.kept
 
-abbrev pub Unwinds : Said → Snapshot → ℕ → ℕ → Xid → Scratch → Scratch → Bool → Type 0
-Unwinds said snap n i xid old new =
-    Unwound said.env snap.own snap.upto n i xid (scratch_home said.shape old) old.kept
-    (scratch_home said.shape new) new.kept
+abbrev pub Unwinds : Said → Snapshot → ℕ → ℕ → Xid → Scratch → ℕ → Scratch → ℕ → Bool → Type 0
+Unwinds said snap n i xid old count new count2 =
+    Unwound said.env snap.own snap.upto n i xid (scratch_home said.shape old) old.kept count
+    (scratch_home said.shape new) new.kept count2
 
-abbrev pub Spends : Said → Snapshot → ℕ → Scratch → Result (Unit {0}) CrFault → Scratch → Type 0
-Spends said snap i old result new = Spent said.env snap.own snap.upto snap.scn i (scratch_home said.shape old) old.kept
-    result (scratch_home said.shape new) new.kept
+abbrev pub Spends : Said → Snapshot → ℕ → Scratch → ℕ → Result (Unit {0}) CrFault → Scratch → ℕ → Type 0
+Spends said snap i old count result new count2 =
+    Spent said.env snap.own snap.upto snap.scn i (scratch_home said.shape old) old.kept count
+    result (scratch_home said.shape new) new.kept count2
+
+-- whole chains were taken back from one decoded home to another
+abbrev pub GoesOn : Said → Scratch → ℕ → Scratch → ℕ → Type 0
+GoesOn said old count new count2 =
+    Goes said.env (scratch_home said.shape old) count (scratch_home said.shape new) count2
 
 -- there is room for the rows of the reader's first changes among these
 abbrev pub HasRoom : Snapshot → Kept → List Change → Type 0

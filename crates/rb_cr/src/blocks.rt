@@ -5,9 +5,11 @@ ghost use Rattle.rb_base.specs.Blocks.{shape_blocks};
 ghost use Rattle.rb_base.specs.Logs.{Logs};
 ghost use Rattle.rb_cr.specs.Builds.{IsHomeRead, IsHomeOld};
 ghost use Rattle.rb_cr.specs.Clauses.{answer_to};
-ghost use Rattle.rb_cr.specs.Faults.{is_failed};
+ghost use Rattle.rb_cr.specs.Faults.{is_failed, is_fault};
 ghost use Rattle.rb_cr.specs.Scratches.{shown_by};
+ghost use Rattle.rb_rebuild.specs.Chains.{Counted};
 ghost use Rattle.rb_rebuild.specs.Reading.{needed, History};
+ghost use Rattle.rb_standing.specs.Standing.{env_of, homes_of};
 
 use crate::faults::CrFault;
 use crate::restore::rebuild;
@@ -19,7 +21,8 @@ use std::sync::ledger::Ledger;
 /// Makes of a scratch the home of a block as it was at a snapshot, and keeps the reader's own first changes beside it.
 /// What the scratch had is forgotten, and what it has after a refusal is open. For each history that the home stands
 /// for, the rows are those at the snapshot with these changes over them. Each record that is taken back is counted: as
-/// many as changes stand above the snapshot. `TooOld` only where what that needs was given up by a segment, above the
+/// many as changes stand above the snapshot; or, where one of them is gone, those that were taken back before it and no
+/// more. `TooOld` only where what that needs was given up by a segment, above the
 /// snapshot; `Failed` only where a call failed. The store is only loaded from. (Oracle7 Server Concepts, *Multiversion
 /// Consistency Model*.)
 pub fn build<S: Store, L: Ledger>(
@@ -37,6 +40,10 @@ pub fn build<S: Store, L: Ledger>(
         snapshot.now → OnOk result (steps.new ≡ steps.old + needed h snapshot.now.scn) }
     ensures most { S.tells → (h : History) → IsHomeRead (S.shape_of store.old) (S.blocks store.old) block h
         snapshot.now → steps.new ≤ steps.old + needed h snapshot.now.scn }
+    ensures counted { S.tells → (h : History) → IsHomeRead (S.shape_of store.old) (S.blocks store.old) block h
+        snapshot.now → IfErr result (λ fault. is_fault fault ≡ false
+        → Counted (env_of (S.shape_of store.old) (S.blocks store.old))
+        (homes_of (S.shape_of store.old) (S.blocks store.old) block) steps.old steps.new) }
     ensures old { S.tells → (h : History) → IsHomeRead (S.shape_of store.old) (S.blocks store.old) block h
         snapshot.now → IfErr result (IsHomeOld (S.shape_of store.old) (S.blocks store.old) block h snapshot.now) }
     ensures logs { Logs S.Store store.old store.new [] (not (is_failed result)) }

@@ -38,7 +38,7 @@ fn step<S: Segments>(
     Ok(apply(scratch, &found, snapshot))
 }
 
-/// So many records of an entry's chain taken back; false where one is gone.
+/// So many records of an entry's chain taken back, each of them counted; false where one is gone.
 fn unwind<S: Segments, L: Ledger>(
     segments: &mut S,
     scratch: &mut Scratch,
@@ -51,7 +51,7 @@ fn unwind<S: Segments, L: Ledger>(
     requires ready { S.ready segments.old }
     requires there { i < 8 }
     ensures told { S.tells → IfOk result (Unwinds (S.says segments.old) snapshot.now count i
-        xid scratch.old scratch.new) }
+        xid scratch.old steps.old scratch.new steps.new) }
     ensures steps { IfOk result (λ whole. whole ≡ true → steps.new ≡ steps.old + count) }
     ensures most { steps.new ≤ steps.old + count }
     ensures reads { Reads S.Segments segments.old segments.new (not (is_err result)) }
@@ -87,8 +87,8 @@ pub(crate) fn unwind_at<S: Segments, L: Ledger>(
 ) -> Result<(), CrFault>
     requires ready { S.ready segments.old }
     requires there { i < 8 }
-    ensures told { S.tells → Spends (S.says segments.old) snapshot.now i scratch.old result
-        scratch.new }
+    ensures told { S.tells → Spends (S.says segments.old) snapshot.now i scratch.old steps.old result
+        scratch.new steps.new }
     ensures steps { (shape : Shape)
         → OnOk result (steps.new ≡ steps.old + (entry_at (scratch_home shape scratch.old) i).chain) }
     ensures most { (shape : Shape) → steps.new ≤ steps.old + (entry_at (scratch_home shape scratch.old) i).chain }

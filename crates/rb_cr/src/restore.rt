@@ -2,12 +2,14 @@
 ghost use Rattle.std.specs.Prelude.{[], ◌≡◌, ◌+◌, ◌<◌, ◌≤◌, ℕ, true, false, not};
 ghost use Rattle.std.specs.Prelude.{IfOk, IfErr, OnOk};
 ghost use Rattle.std.specs.Result.{is_err};
-ghost use Rattle.rb_cr.specs.Clauses.{answer_to, Rewinds, UndoesEntry, UndoesActive, Builds, IsRead, IsOld};
-ghost use Rattle.rb_cr.specs.Faults.{is_failed};
+ghost use Rattle.rb_cr.specs.Clauses.{answer_to, GoesOn, Rewinds, UndoesEntry, UndoesActive, Builds};
+ghost use Rattle.rb_cr.specs.Clauses.{IsRead, IsOld};
+ghost use Rattle.rb_cr.specs.Faults.{is_failed, is_fault};
 ghost use Rattle.rb_cr.specs.Heights.{ActiveIs};
 ghost use Rattle.rb_cr.specs.Parts.{Highest};
 ghost use Rattle.rb_cr.specs.Reads.{Reads};
 ghost use Rattle.rb_cr.specs.Scratches.{scratch_home, shown_by};
+ghost use Rattle.rb_rebuild.specs.Chains.{Counted};
 ghost use Rattle.rb_rebuild.specs.Reading.{needed, History};
 ghost use Rattle.rb_standing.specs.Says.{walk_entry};
 
@@ -104,6 +106,8 @@ fn undo_entry<S: Segments, L: Ledger>(
     requires there { i < 8 }
     ensures told { S.tells → UndoesEntry (S.says segments.old) snapshot.now i scratch.old
         steps.old result scratch.new steps.new }
+    ensures goes { S.tells
+        → OnOk result (GoesOn (S.says segments.old) scratch.old steps.old scratch.new steps.new) }
     ensures reads { Reads S.Segments segments.old segments.new (not (is_failed result)) }
 {
     let entry = scratch.entries[i];
@@ -124,6 +128,8 @@ pub(crate) fn undo_active<S: Segments, L: Ledger>(
     requires { S.ready segments.old }
     ensures told { S.tells → UndoesActive (S.says segments.old) snapshot.now scratch.old
         steps.old result scratch.new steps.new }
+    ensures goes { S.tells
+        → OnOk result (GoesOn (S.says segments.old) scratch.old steps.old scratch.new steps.new) }
     ensures reads { Reads S.Segments segments.old segments.new (not (is_failed result)) }
 {
     for i in 0..scratch.entries.len() {
@@ -156,8 +162,9 @@ fn take_all_back<S: Segments, L: Ledger>(
 
 /// Makes of a decoded home what it was at a snapshot, and keeps the reader's own first changes beside it. For each
 /// history that the home stands for, the rows are those at the snapshot with these changes over them. Each record that
-/// is taken back is counted: as many as changes stand above the snapshot. `TooOld` only where what that needs was given
-/// up by a segment, above the snapshot; `Failed` only where a call failed. (Oracle7 Server Concepts, *Multiversion
+/// is taken back is counted: as many as changes stand above the snapshot; or, where one of them is gone, those that were
+/// taken back before it and no more. `TooOld` only where what that needs was given up by a segment, above the snapshot;
+/// `Failed` only where a call failed. (Oracle7 Server Concepts, *Multiversion
 /// Consistency Model*: older versions are rebuilt from rollback segments. The order is this project's choice: what
 /// isn't committed first, and then the greatest number.)
 pub fn rebuild<S: Segments, L: Ledger>(
@@ -173,6 +180,9 @@ pub fn rebuild<S: Segments, L: Ledger>(
         scratch.old → OnOk result (steps.new ≡ steps.old + needed h snapshot.now.scn) }
     ensures most { S.tells → (h : History) → IsRead (S.says segments.old) h snapshot.now
         scratch.old → steps.new ≤ steps.old + needed h snapshot.now.scn }
+    ensures counted { S.tells → (h : History) → IsRead (S.says segments.old) h snapshot.now
+        scratch.old → IfErr result (λ fault. is_fault fault ≡ false → Counted (S.says segments.old).env
+        (scratch_home (S.says segments.old).shape scratch.old) steps.old steps.new) }
     ensures old { S.tells → (h : History) → IsRead (S.says segments.old) h snapshot.now
         scratch.old → IfErr result (IsOld (S.says segments.old) h snapshot.now scratch.old) }
     ensures reads { Reads S.Segments segments.old segments.new (not (is_failed result)) }

@@ -67,9 +67,9 @@ module _ (shape : Shape) (s : Segment) (x : Xid) (count : s.header.writes + 80 �
         ap (λ (i : ℕ). get_or s.undo i no_undo) (joined (40 * (D / 4)) (10 * (D % 4)) at.rec)
         ∙ address_reads shape x.seg s at k r a tells.0 tells.1 is
 
-  -- a record that may be written back names what there is
-  module _ (Saved : UndoRecord → Type 0) (saved : (r : UndoRecord) → Saved r → (r.home < table_blocks shape) × (r.entry < 8) × (r.cell < 16)) where
-    pub listed_chain : (at : Uba) (chs : List Change) → Listed shape s x Saved at chs → Chain shape s x (length chs) at
+  -- a record that may be written back names what there is, and keeps what could stand there
+  module _ (Saved Kept : UndoRecord → Type 0) (saved : (r : UndoRecord) → Saved r → (r.home < table_blocks shape) × (r.entry < 8) × (r.cell < 16)) (kept : (r : UndoRecord) → Saved r → Kept r) where
+    pub listed_chain : (at : Uba) (chs : List Change) → Listed shape s x Saved at chs → Chain Kept shape s x (length chs) at
     listed_chain at [] listed = listed
     listed_chain at (ch ∷ more) listed =
         let r = listed.4.0 in
@@ -85,6 +85,6 @@ module _ (shape : Shape) (s : Segment) (x : Xid) (count : s.header.writes + 80 �
           cell = there.2;
         } in (
           valid at ch.place.index r listed.1 place listed.4.1,
-          subst (IsLive shape x (suc (length more))) (sym is) live,
-          subst (λ (z : UndoRecord). Chain shape s x (length more) z.previous) (sym is) (listed_chain r.previous more listed.4.7),
+          subst (λ (z : UndoRecord). IsLive shape x (suc (length more)) z × Kept z) (sym is) (live, kept r listed.4.6),
+          subst (λ (z : UndoRecord). Chain Kept shape s x (length more) z.previous) (sym is) (listed_chain r.previous more listed.4.7),
         )

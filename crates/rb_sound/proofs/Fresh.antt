@@ -15,6 +15,7 @@ use Rattle.rb_base.specs.Blocks.{header_block}
 use Rattle.rb_heap.specs.Soundness.{IsEntrySound, IsCellSound, IsLock, IsHomeSound}
 use Rattle.rb_txntable.specs.Slots.{slot_state, slot_before}
 use Rattle.rb_ring.specs.Ring.{extent_ord, extent_newest, head_extent, head_records, lost_number, IsRing}
+use Rattle.rb_undoblock.specs.declared.record.UndoRecord.{UndoRecord}
 use Rattle.rb_sound.specs.Active.{AreActive}
 use Rattle.rb_sound.specs.Sound.{IsSegment}
 use Rattle.rb_sound.proofs.Chains.{slot_is}
@@ -115,8 +116,8 @@ idle_fresh shape g i lt few =
     let both = and_parts (slot_state (header_of which) i == 0) (slot_before (header_of which) i == 0) (slots_test which i few) in
     subst (λ (header : List ℕ). slot_state header i ≡ 0) (sym (new_block shape which (omega arith) ∙ kind)) (eqb-true (slot_state (header_of which) i) 0 both.0)
 
-pub active_fresh : (shape : Shape) → AreActive shape (fresh_blocks shape)
-active_fresh shape g i there few runs =
+pub active_fresh : (Kept : UndoRecord → Type 0) (shape : Shape) → AreActive Kept shape (fresh_blocks shape)
+active_fresh Kept shape g i there few runs =
     let same = slot_is shape (fresh_blocks shape) g i (block_of (fresh_blocks shape) (header_block shape g)) refl few in
     let state = ap (λ (slot : TableSlot). slot.state) same in
     absurd (omega (arith, state, runs, idle_fresh shape g i there few))

@@ -10,8 +10,9 @@ use Rattle.rb_segment.proofs.FoundBooks.{onto}
 use Rattle.rb_segment.specs.Header.{Segment}
 use Rattle.rb_sound.specs.Active.{Chain, IsLive, IsValid, extent_named, position_named, undo_named}
 use Rattle.rb_undoblock.specs.Undo.{no_undo}
+use Rattle.rb_undoblock.specs.declared.record.UndoRecord.{UndoRecord}
 
-module _ (shape : Shape) (s : Segment) (x : Xid) where
+module _ (Kept : UndoRecord → Type 0) (shape : Shape) (s : Segment) (x : Xid) where
   -- the address behind so many records of a chain
   abbrev behind : ℕ → Uba → Uba
   behind zero at = at
@@ -26,9 +27,9 @@ module _ (shape : Shape) (s : Segment) (x : Xid) where
     valid : IsValid shape x.seg s.header at
     live : IsLive shape x (n - j) (undo_named shape x.seg s at)
 
-  links : (n j : ℕ) (at : Uba) → Chain shape s x n at → j < n → Links n j (behind j at)
+  links : (n j : ℕ) (at : Uba) → Chain Kept shape s x n at → j < n → Links n j (behind j at)
   links zero j at chain lt = absurd (omega arith)
-  links (suc n) zero at chain lt = record { valid = chain.0; live = subst (λ (m : ℕ). IsLive shape x m (undo_named shape x.seg s at)) (omega arith) chain.1 }
+  links (suc n) zero at chain lt = record { valid = chain.0; live = subst (λ (m : ℕ). IsLive shape x m (undo_named shape x.seg s at)) (omega arith) chain.1.0 }
   links (suc n) (suc j) at chain lt =
       let before = (undo_named shape x.seg s at).previous in
       let l = links n j before chain.2 (omega arith) in
@@ -45,14 +46,14 @@ module _ (shape : Shape) (s : Segment) (x : Xid) where
       omega (arith, a, b, is.behind, is.within, is.rec)
 
   -- two records at one place are one
-  one_number : (n j k : ℕ) (at : Uba) → Chain shape s x n at → j < n → k < n → place (behind j at) ≡ place (behind k at) → j ≡ k
+  one_number : (n j k : ℕ) (at : Uba) → Chain Kept shape s x n at → j < n → k < n → place (behind j at) ≡ place (behind k at) → j ≡ k
   one_number n j k at chain j_lt k_lt same =
       let first = (links n j at chain j_lt).live.number in
       let second = (links n k at chain k_lt).live.number in
       let record_is = ap (λ (i : ℕ). (get_or s.undo i no_undo).number) same in
       omega (arith, first, second, record_is, j_lt, k_lt)
 
-  pub short : (n : ℕ) (at : Uba) → Chain shape s x n at → n ≤ 320
+  pub short : (n : ℕ) (at : Uba) → Chain Kept shape s x n at → n ≤ 320
   short n at chain = elim (cases_lt 320 n) [
     | inr le ↦ le
     | inl more ↦

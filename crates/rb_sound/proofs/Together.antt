@@ -1,11 +1,15 @@
 -- What is tested of the headers, and what is tested of the blocks of rows by the numbers that the headers have.
-use Rattle.std.proofs.Common.{◌≡◌, ◌↔◌, ℕ, ◌%◌, ◌<◌, ◌≤◌, Bool, true, List, subst, sym, arith}
+use Rattle.std.proofs.Common.{◌≡◌, ◌↔◌, ℕ, zero, suc, ◌%◌, ◌<◌, ◌≤◌, Bool, true, List, subst, sym, arith}
 use Rattle.rb_base.specs.declared.shape.Shape.{Shape}
 use Rattle.rb_base.specs.Blocks.{block_of}
 use Rattle.rb_itl.specs.declared.slots.Entry.{Entry}
 use Rattle.rb_heap.specs.Soundness.{IsTaken, IsHomeSound}
 use Rattle.rb_segment.specs.Segments.{commit_scn, wrap_at}
-use Rattle.rb_sound.specs.Active.{AreActive}
+use Rattle.rb_base.specs.declared.ids.Uba.{Uba}
+use Rattle.rb_base.specs.declared.ids.Xid.{Xid}
+use Rattle.rb_segment.specs.Header.{Segment}
+use Rattle.rb_undoblock.specs.declared.record.UndoRecord.{UndoRecord}
+use Rattle.rb_sound.specs.Active.{AreActive, Chain, CouldStand, undo_named}
 use Rattle.rb_sound.specs.Sound.{AreSegmentsSound, AreHomesSound, AreSound}
 
 -- the two are alike at each slot of the segments of a file
@@ -30,6 +34,22 @@ home_later shape commit later wrap_of other home block le same sound = record {
   cells = sound.cells;
 }
 
+-- the same of what a record keeps
+pub stand_alike : (shape : Shape) (commit : ℕ) (wrap_of other : ℕ → ℕ → ℕ) (r : UndoRecord) → AreAlike shape wrap_of other → CouldStand shape commit wrap_of r → CouldStand shape commit other r
+stand_alike shape commit wrap_of other r same stand = record {
+  entry = record { kind = stand.entry.kind; taken = λ not_free. taken_later shape commit commit wrap_of other _ (omega arith) same (stand.entry.taken not_free) };
+  cell = stand.cell;
+  value = stand.value;
+}
+
+-- what holds of each live record, and something that follows from it
+chain_weaker : (K L : UndoRecord → Type 0) → ((r : UndoRecord) → K r → L r) → (shape : Shape) (s : Segment) (x : Xid) (n : ℕ) (at : Uba) → Chain K shape s x n at → Chain L shape s x n at
+chain_weaker K L weaker shape s x zero at chain = chain
+chain_weaker K L weaker shape s x (suc n) at chain = (chain.0, (chain.1.0, weaker (undo_named shape x.seg s at) chain.1.1), chain_weaker K L weaker shape s x n (undo_named shape x.seg s at).previous chain.2)
+
+active_weaker : (K L : UndoRecord → Type 0) → ((r : UndoRecord) → K r → L r) → (shape : Shape) (blocks : List (List ℕ)) → AreActive K shape blocks → AreActive L shape blocks
+active_weaker K L weaker shape blocks all g i there few runs = let one = all g i there few runs in record { begun = one.begun; chain = chain_weaker K L weaker shape _ _ _ _ one.chain }
+
 homes_alike : (shape : Shape) (commit : ℕ) (wrap_of other : ℕ → ℕ → ℕ) (blocks : List (List ℕ)) → AreAlike shape wrap_of other → AreHomesSound shape commit wrap_of blocks → AreHomesSound shape commit other blocks
 homes_alike shape commit wrap_of other blocks same homes which lt = home_later shape commit commit wrap_of other (which % shape.blocks) (block_of blocks which) (omega arith) same (homes which lt)
 
@@ -39,14 +59,14 @@ homes_by shape blocks commit wrap_of commit_is same all =
     homes_alike shape commit (wrap_at shape blocks) wrap_of blocks (λ seg slot there few. sym (same seg slot there few)) (subst (λ (number : ℕ). AreHomesSound shape number (wrap_at shape blocks) blocks) (sym commit_is) all.homes)
 
 pub all_sound : (shape : Shape) (blocks : List (List ℕ)) (commit : ℕ) (wrap_of : ℕ → ℕ → ℕ) (sound : Bool) → commit ≡ commit_scn shape blocks → AreAlike shape wrap_of (wrap_at shape blocks) → AreSegmentsSound shape commit blocks → AreHomesSound shape commit wrap_of blocks
-    → (sound ≡ true ↔ AreActive shape blocks) → sound ≡ true ↔ AreSound shape blocks
+    → (sound ≡ true ↔ AreActive (CouldStand shape commit wrap_of) shape blocks) → sound ≡ true ↔ AreSound shape blocks
 all_sound shape blocks commit wrap_of sound commit_is same segments homes is = (
   (λ (e : sound ≡ true). record {
     segments = subst (λ (number : ℕ). AreSegmentsSound shape number blocks) commit_is segments;
     homes = subst (λ (number : ℕ). AreHomesSound shape number (wrap_at shape blocks) blocks) commit_is (homes_alike shape commit wrap_of (wrap_at shape blocks) blocks same homes);
-    active = is.0 e;
+    active = subst (λ (number : ℕ). AreActive (CouldStand shape number (wrap_at shape blocks)) shape blocks) commit_is (active_weaker (CouldStand shape commit wrap_of) (CouldStand shape commit (wrap_at shape blocks)) (λ r. stand_alike shape commit wrap_of (wrap_at shape blocks) r same) shape blocks (is.0 e));
   }),
-  λ all. is.1 all.active,
+  λ all. is.1 (active_weaker (CouldStand shape commit (wrap_at shape blocks)) (CouldStand shape commit wrap_of) (λ r. stand_alike shape commit (wrap_at shape blocks) wrap_of r (λ seg slot there few. sym (same seg slot there few))) shape blocks (subst (λ (number : ℕ). AreActive (CouldStand shape number (wrap_at shape blocks)) shape blocks) (sym commit_is) all.active)),
 )
 
 -- the same of the shape and the blocks that are equal
@@ -62,6 +82,6 @@ pub homes_moved : (commit : ℕ) (wrap_of : ℕ → ℕ → ℕ) (now shape : Sh
 homes_moved commit wrap_of now shape blocks_now blocks shape_is blocks_are =
     subst (λ (s : Shape). AreHomesSound now commit wrap_of blocks_now ↔ AreHomesSound s commit wrap_of blocks) shape_is (subst (λ (b : List (List ℕ)). AreHomesSound now commit wrap_of blocks_now ↔ AreHomesSound now commit wrap_of b) blocks_are (λ a. a, λ a. a))
 
-pub active_moved : (sound : Bool) (now shape : Shape) (blocks_now blocks : List (List ℕ)) → now ≡ shape → blocks_now ≡ blocks → (sound ≡ true ↔ AreActive now blocks_now) → sound ≡ true ↔ AreActive shape blocks
-active_moved sound now shape blocks_now blocks shape_is blocks_are is =
-    subst (λ (s : Shape). sound ≡ true ↔ AreActive s blocks) shape_is (subst (λ (b : List (List ℕ)). sound ≡ true ↔ AreActive now b) blocks_are is)
+pub active_moved : (Kept : UndoRecord → Type 0) (sound : Bool) (now shape : Shape) (blocks_now blocks : List (List ℕ)) → now ≡ shape → blocks_now ≡ blocks → (sound ≡ true ↔ AreActive Kept now blocks_now) → sound ≡ true ↔ AreActive Kept shape blocks
+active_moved Kept sound now shape blocks_now blocks shape_is blocks_are is =
+    subst (λ (s : Shape). sound ≡ true ↔ AreActive Kept s blocks) shape_is (subst (λ (b : List (List ℕ)). sound ≡ true ↔ AreActive Kept now b) blocks_are is)

@@ -8,7 +8,7 @@ use Rattle.rb_heap.specs.Soundness.{IsHomeSound}
 use Rattle.rb_ring.specs.Ring.{extent_ord, extent_newest, head_extent, head_records, lost_number, IsRing}
 use Rattle.rb_ring.specs.declared.extents.TheConstants.{EXTENTS, EXTENT_RECORDS}
 use Rattle.rb_segment.specs.Segments.{commit_scn, wrap_at}
-use Rattle.rb_sound.specs.Active.{AreActive}
+use Rattle.rb_sound.specs.Active.{AreActive, CouldStand}
 use Rattle.rb_txntable.specs.Slots.{IsSlot}
 
 -- the header of a segment is in order, in a file of that commit number
@@ -33,4 +33,4 @@ AreHomesSound shape commit wrap_of blocks = (which : ℕ) → which < table_bloc
 pub record AreSound (shape : Shape) (blocks : List (List ℕ)) : Type 0 where
   pub segments : AreSegmentsSound shape (commit_scn shape blocks) blocks
   pub homes : AreHomesSound shape (commit_scn shape blocks) (wrap_at shape blocks) blocks
-  pub active : AreActive shape blocks
+  pub active : AreActive (CouldStand shape (commit_scn shape blocks) (wrap_at shape blocks)) shape blocks

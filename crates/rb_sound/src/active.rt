@@ -5,14 +5,20 @@ ghost use Rattle.std.specs.Result.{is_err};
 ghost use Rattle.rb_base.specs.Blocks.{block_of, header_block, IsShape};
 ghost use Rattle.rb_base.specs.Logs.{Logs};
 ghost use Rattle.rb_segment.specs.Header.{header_of, ord_in, segment_of, slot_in};
-ghost use Rattle.rb_sound.specs.Active.{AreActive, Chain, HasBegun, IsActive, IsLive, IsValid};
+ghost use Rattle.rb_sound.specs.Active.{AreActive, Chain, Fits, HasBegun, IsActive, IsLive, IsValid};
 
-use rb_base::{ACTIVE, Failed, SEGMENT_BLOCKS, SLOTS, Shape, Store, UNIT, Uba, Xid};
-use rb_cell::CELLS;
-use rb_itl::ENTRIES;
+use crate::home::{Limits, cell_sound, entry_sound};
+use rb_base::{
+    ACTIVE, Failed, SEGMENT_BLOCKS, SLOTS, Shape, Store, UNIT, Uba, VALUE_BYTES, Xid, u16_at,
+};
+use rb_cell::{CELLS, cell_from};
+use rb_itl::{ENTRIES, entry_from};
 use rb_ring::{EXTENTS, extent_ord, head_extent, head_records, writes};
 use rb_txntable::{TableSlot, slot_at};
 use rb_undoblock::{UNDO_RECORDS, UndoRecord, undo_at};
+
+/// The byte of a cell at which the length of its value begins.
+const LENGTH_AT: usize = 2;
 
 /// The undo blocks of an extent.
 const EXTENT_BLOCKS: u32 = 4;
@@ -52,7 +58,7 @@ fn is_valid(shape: Shape, g: u16, header: &[u8], at: Uba) -> bool
 
 /// Whether a record is that of number `n` of a transaction's live ones, and names a block of rows, an entry and a cell
 /// that there are.
-fn is_live(shape: Shape, xid: Xid, n: u32, undo: &UndoRecord) -> bool
+fn is_of(shape: Shape, xid: Xid, n: u32, undo: &UndoRecord) -> bool
     requires { IsShape shape }
     ensures { IsTrue result ↔ IsLive shape xid n undo.now }
 {
@@ -64,6 +70,31 @@ fn is_live(shape: Shape, xid: Xid, n: u32, undo: &UndoRecord) -> bool
         && undo.cell < CELLS
 }
 
+/// Whether what a record keeps could stand in its block.
+fn could_stand(undo: &UndoRecord, limits: &Limits) -> bool
+    requires { IsShape limits.now.shape }
+    ensures { IsTrue result ↔ Fits limits.now undo.now }
+{
+    if u16_at(&undo.cell_before, LENGTH_AT) as usize > VALUE_BYTES {
+        return false;
+    }
+    entry_sound(&entry_from(&undo.entry_before), limits)
+        && cell_sound(
+            &cell_from(&undo.cell_before),
+            limits.shape,
+            undo.home % limits.shape.blocks,
+        )
+}
+
+/// The same as `is_of`, and what the record keeps could stand in its block, by the numbers of the file.
+fn is_live(shape: Shape, xid: Xid, n: u32, undo: &UndoRecord, limits: &Limits) -> bool
+    requires shape { IsShape shape }
+    requires limits { IsShape limits.now.shape }
+    ensures { IsTrue result ↔ (IsLive shape xid n undo.now × Fits limits.now undo.now) }
+{
+    is_of(shape, xid, n, undo) && could_stand(undo, limits)
+}
+
 /// The address that the record at an address keeps of the one before it, where that is number `n` of a transaction's
 /// live ones, from 1 on. The transaction's segment has that header. `Failed` where the record's block can't be loaded.
 fn previous<S: Store>(
@@ -73,27 +104,29 @@ fn previous<S: Store>(
     xid: Xid,
     n: u32,
     at: Uba,
+    limits: &Limits,
 ) -> Result<Option<Uba>, Failed>
     requires going { S.failed store.old ≡ false }
     requires shape { shape ≡ S.shape_of store.old }
     requires in_range { IsShape shape }
+    requires limits { IsShape limits.now.shape }
     requires there { xid.seg < shape.segments }
     requires header { length header.now ≡ UNIT }
     requires told { S.tells → header.now ≡ block_of (S.blocks store.old) (header_block shape xid.seg) }
     requires some { 1 ≤ n }
     ensures logs { Logs S.Store store.old store.new [] (not (is_err result)) }
     ensures some { S.tells → IfOk result (λ found. IfSome found (λ before.
-        (k : ℕ) → n ≡ k + 1 → Chain shape (segment_of shape (S.blocks store.old) xid.seg) xid n at
-        ↔ Chain shape (segment_of shape (S.blocks store.old) xid.seg) xid k before)) }
+        (k : ℕ) → n ≡ k + 1 → Chain (Fits limits.now) shape (segment_of shape (S.blocks store.old) xid.seg) xid n at
+        ↔ Chain (Fits limits.now) shape (segment_of shape (S.blocks store.old) xid.seg) xid k before)) }
     ensures none { S.tells → IfOk result (λ found. IfNone found
-        (¬ Chain shape (segment_of shape (S.blocks store.old) xid.seg) xid n at)) }
+        (¬ Chain (Fits limits.now) shape (segment_of shape (S.blocks store.old) xid.seg) xid n at)) }
 {
     if !is_valid(shape, xid.seg, header, at) {
         return Ok(None);
     }
     store.load(at.block)?;
     let undo = undo_at(store.block(), at.rec as u8);
-    if is_live(shape, xid, n, &undo) {
+    if is_live(shape, xid, n, &undo, limits) {
         Ok(Some(undo.previous))
     } else {
         Ok(None)
@@ -109,20 +142,22 @@ fn chain_sound<S: Store>(
     xid: Xid,
     live: u32,
     newest: Uba,
+    limits: &Limits,
 ) -> Result<bool, Failed>
     requires going { S.failed store.old ≡ false }
     requires shape { shape ≡ S.shape_of store.old }
     requires in_range { IsShape shape }
+    requires limits { IsShape limits.now.shape }
     requires there { xid.seg < shape.segments }
     requires header { length header.now ≡ UNIT }
     requires told { S.tells → header.now ≡ block_of (S.blocks store.old) (header_block shape xid.seg) }
     ensures logs { Logs S.Store store.old store.new [] (not (is_err result)) }
     ensures told { S.tells → IfOk result (λ sound. sound ≡ true
-        ↔ Chain shape (segment_of shape (S.blocks store.old) xid.seg) xid live newest) }
+        ↔ Chain (Fits limits.now) shape (segment_of shape (S.blocks store.old) xid.seg) xid live newest) }
 {
     let mut at = newest;
     for done in 0..live {
-        let Some(before) = previous(store, shape, header, xid, live - done, at)? else {
+        let Some(before) = previous(store, shape, header, xid, live - done, at, limits)? else {
             return Ok(false);
         };
         at = before;
@@ -161,10 +196,12 @@ fn slot_sound<S: Store>(
     g: u16,
     header: &[u8],
     i: u8,
+    limits: &Limits,
 ) -> Result<bool, Failed>
     requires going { S.failed store.old ≡ false }
     requires shape { shape ≡ S.shape_of store.old }
     requires in_range { IsShape shape }
+    requires limits { IsShape limits.now.shape }
     requires there { g < shape.segments }
     requires header { length header.now ≡ UNIT }
     requires told { S.tells → header.now ≡ block_of (S.blocks store.old) (header_block shape g) }
@@ -172,7 +209,7 @@ fn slot_sound<S: Store>(
     ensures logs { Logs S.Store store.old store.new [] (not (is_err result)) }
     ensures told { S.tells → IfOk result (λ sound. sound ≡ true
         ↔ ((slot_in (segment_of shape (S.blocks store.old) g).header i).state ≡ ACTIVE
-        → IsActive shape g (segment_of shape (S.blocks store.old) g) i)) }
+        → IsActive (Fits limits.now) shape g (segment_of shape (S.blocks store.old) g) i)) }
 {
     let slot = slot_at(header, i);
     if slot.state != ACTIVE {
@@ -186,25 +223,31 @@ fn slot_sound<S: Store>(
         slot: i as u16,
         wrap: slot.wrap,
     };
-    chain_sound(store, shape, header, xid, slot.live, slot.newest_at)
+    chain_sound(store, shape, header, xid, slot.live, slot.newest_at, limits)
 }
 
 /// The same for each table slot of segment `g`.
-fn slots_sound<S: Store>(store: &mut S, shape: Shape, g: u16) -> Result<bool, Failed>
+fn slots_sound<S: Store>(
+    store: &mut S,
+    shape: Shape,
+    g: u16,
+    limits: &Limits,
+) -> Result<bool, Failed>
     requires going { S.failed store.old ≡ false }
     requires shape { shape ≡ S.shape_of store.old }
     requires in_range { IsShape shape }
+    requires limits { IsShape limits.now.shape }
     requires there { g < shape.segments }
     ensures logs { Logs S.Store store.old store.new [] (not (is_err result)) }
     ensures told { S.tells → IfOk result (λ sound. sound ≡ true ↔ ((i : ℕ) → i < SLOTS
         → (slot_in (segment_of shape (S.blocks store.old) g).header i).state ≡ ACTIVE
-        → IsActive shape g (segment_of shape (S.blocks store.old) g) i)) }
+        → IsActive (Fits limits.now) shape g (segment_of shape (S.blocks store.old) g) i)) }
 {
     store.load(shape.header_block(g))?;
     let mut header = [0; UNIT];
     header.copy_from_slice(store.block());
     for i in 0..SLOTS as u8 {
-        if !slot_sound(store, shape, g, &header, i)? {
+        if !slot_sound(store, shape, g, &header, i, limits)? {
             return Ok(false);
         }
     }
@@ -212,15 +255,16 @@ fn slots_sound<S: Store>(store: &mut S, shape: Shape, g: u16) -> Result<bool, Fa
 }
 
 /// Whether each Active table slot of the file has its live records, in whatever state the headers are.
-pub fn active_sound<S: Store>(store: &mut S) -> Result<bool, Failed>
-    requires { S.failed store.old ≡ false }
+pub fn active_sound<S: Store>(store: &mut S, limits: &Limits) -> Result<bool, Failed>
+    requires going { S.failed store.old ≡ false }
+    requires limits { IsShape limits.now.shape }
     ensures logs { Logs S.Store store.old store.new [] (not (is_err result)) }
     ensures told { S.tells → IfOk result (λ sound. sound ≡ true
-        ↔ AreActive (S.shape_of store.old) (S.blocks store.old)) }
+        ↔ AreActive (Fits limits.now) (S.shape_of store.old) (S.blocks store.old)) }
 {
     let shape = store.shape();
     for g in 0..shape.segments {
-        if !slots_sound(store, shape, g)? {
+        if !slots_sound(store, shape, g, limits)? {
             return Ok(false);
         }
     }

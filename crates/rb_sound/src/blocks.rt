@@ -95,5 +95,5 @@ pub fn blocks_sound<S: Store>(store: &mut S) -> Result<bool, Failed>
     if !homes_sound(store, &limits)? {
         return Ok(false);
     }
-    active_sound(store)
+    active_sound(store, &limits)
 }

@@ -43,7 +43,7 @@ fn entry_taken(entry: &Entry, limits: &Limits) -> bool
 }
 
 /// Whether an entry is in order.
-fn entry_sound(entry: &Entry, limits: &Limits) -> bool
+pub(crate) fn entry_sound(entry: &Entry, limits: &Limits) -> bool
     requires { IsShape limits.now.shape }
     ensures { IsTrue result ↔ IsEntrySound limits.now.shape limits.now.commit (wrap_in limits.now.wraps) entry.now }
 {
@@ -66,7 +66,7 @@ fn entries_sound(block: &[u8], limits: &Limits) -> bool
 }
 
 /// Whether a cell is in order, but for its value and its lock.
-fn cell_sound(cell: &Cell, shape: Shape, home: u32) -> bool
+pub(crate) fn cell_sound(cell: &Cell, shape: Shape, home: u32) -> bool
     requires { IsShape shape }
     ensures { IsTrue result ↔ IsCellSound shape home cell.now }
 {

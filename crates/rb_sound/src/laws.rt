@@ -6,7 +6,7 @@ ghost use Rattle.rb_base.specs.declared.shape.Shape.{Shape};
 ghost use Rattle.rb_base.specs.Blocks.{block_of, fresh_blocks};
 ghost use Rattle.rb_heap.specs.Soundness.{IsHomeSound};
 ghost use Rattle.rb_segment.specs.Header.{Segment};
-ghost use Rattle.rb_sound.specs.Active.{Chain};
+ghost use Rattle.rb_sound.specs.Active.{Chain, CouldStand};
 ghost use Rattle.rb_sound.specs.Sound.{AreHomesSound, AreSound};
 
 /// Where all blocks of rows are in order, so is the block of each home of each table, which are counted from 1.
@@ -23,5 +23,6 @@ pub fn fresh_sound()
 
 /// A chain of live records has at most 320: it goes over as many places as its segment has.
 pub fn chains_short()
-    ensures { (shape : Shape) (s : Segment) (x : Xid) (n : ℕ) (at : Uba) → Chain shape s x n at → n ≤ 320 }
+    ensures { (shape : Shape) (commit : ℕ) (wrap_of : ℕ → ℕ → ℕ) (s : Segment) (x : Xid) (n : ℕ) (at : Uba)
+        → Chain (CouldStand shape commit wrap_of) shape s x n at → n ≤ 320 }
 {}

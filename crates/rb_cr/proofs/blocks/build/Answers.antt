@@ -1,7 +1,8 @@
-use Rattle.std.proofs.Common.{◌≡◌, [], Ok, not, IfErr, sym}
+use Rattle.std.proofs.Common.{◌≡◌, [], Ok, not, IfErr, sym, false}
 use Rattle.rb_base.specs.Logs.{load_logs, more_logs}
-use Rattle.rb_cr.specs.Faults.{Because, is_failed}
+use Rattle.rb_cr.specs.Faults.{Because, is_failed, is_fault}
 use Rattle.rb_cr.specs.Scratches.{scratch_home}
+use Rattle.rb_rebuild.specs.Chains.{Counted}
 use Rattle.rb_rebuild.specs.Reading.{History, Reading, Worn}
 use Rattle.rb_standing.specs.Standing.{env_of, homes_of}
 use Rattle.rb_walk.specs.Walk.{Env, Home}
@@ -48,6 +49,12 @@ returns-clause-count g c = λ told h reading. c.rebuild.ensures.count told h (af
 
 pub returns-clause-most : goal.returns-clause-most
 returns-clause-most g c = λ told h reading. c.rebuild.ensures.most told h (after g c told (IsReadAt c.args.snapshot.now h) reading)
+
+pub returns-in_default-clause-counted : goal.returns-in_default-clause-counted
+returns-in_default-clause-counted g c = λ told h reading old. absurd (cc (old))
+
+pub returns-clause-counted : goal.returns-clause-counted
+returns-clause-counted g c = λ told h reading. before g c told (λ env b. IfErr c.rebuild.result (λ fault. is_fault fault ≡ false → Counted env b c.args.steps.now c.rebuild.new.steps)) (c.rebuild.ensures.counted told h (after g c told (IsReadAt c.args.snapshot.now h) reading))
 
 pub returns-clause-old : goal.returns-clause-old
 returns-clause-old g c = λ told h reading. before g c told (λ env b. IfErr c.rebuild.result (Because env c.args.snapshot.now.scn (Worn env h c.args.snapshot.now.scn b))) (c.rebuild.ensures.old told h (after g c told (IsReadAt c.args.snapshot.now h) reading))

@@ -5,9 +5,9 @@ use Rattle.rb_cr.specs.Parts.{Took}
 use Rattle.rb_cr.specs.Reads.{more_reads}
 use Rattle.rb_cr.specs.Scratches.{scratch_home}
 use Rattle.rb_rebuild.specs.Keeping.{kept_room, Kept}
-use Rattle.rb_cr.proofs.Rooms.{step_fails}
+use Rattle.rb_cr.proofs.Rooms.{room_fails}
 use Rattle.rb_rebuild.proofs.Keeping.{kept_on}
-use Rattle.rb_rebuild.proofs.Unwinding.{step_on}
+use Rattle.rb_rebuild.proofs.Unwinding.{step_on, unwound_more}
 use Rattle.rb_cr.proofs.chains.unwind.Goals as goal
 
 pub returns-then-not-branch-clause-told : goal.returns-then-not-branch-clause-told
@@ -21,8 +21,8 @@ returns-then-not-branch-clause-told g c = λ told.
     let kept2 = c.step.new.scratch.kept in
     let here : StepsBack said snap c.args.i c.args.xid c.loop-k.scratch c.step.new.scratch c.in_ok-step.field-0 = subst (λ (z : Said). StepsBack z snap c.args.i c.args.xid c.loop-k.scratch c.step.new.scratch c.in_ok-step.field-0) (inv.reads.same told refl) (c.in_ok-step.ensures.told told) in
     let took : Took said.env snap.own snap.upto c.args.i c.args.xid b kept b2 kept2 false = subst (λ (z : Bool). Took said.env snap.own snap.upto c.args.i c.args.xid b kept b2 kept2 z) c.if-not-branch.true here in
-    ⊎_elim (λ none. inl (sym (inv.rest told) ∙ none)) (λ full. inr (subst (λ (z : Kept). kept_room < length z) (inv.kept told) full))
-    (step_fails said.env snap.own snap.upto c.args.count c.loop-k._k c.args.i c.args.xid b kept b2 kept2 c.loop-k-test.true took)
+    ⊎_elim (λ none. inl (c.loop-k._k, c.loop-k-test.true, inv.count, (b, inv.back told, none)))
+    (λ full. inr (subst (λ (z : Kept). kept_room < length z) (inv.kept told) (room_fails said.env snap.own snap.upto c.args.count c.loop-k._k c.args.i c.args.xid b kept c.loop-k-test.true full))) took
 
 pub loop-k-preserved : goal.loop-k-preserved
 loop-k-preserved g c =
@@ -42,5 +42,6 @@ loop-k-preserved g c =
       reads = more_reads s c.args.segments.now c.loop-k.segments c.step.new.segments true g.met.S.Segments.more_calls inv.reads c.in_ok-step.ensures.reads;
       count = omega (arith, c.tick.ensures, inv.count);
       rest = λ told. sym (step_on said.env c.args.count c.loop-k._k c.args.i c.args.xid b (Some b2) c.loop-k-test.true (took told).0) ∙ inv.rest told;
+      back = λ told. unwound_more said.env c.loop-k._k c.args.i c.args.xid (scratch_home said.shape c.args.scratch.now) b (Some b2) (inv.back told) (took told).0;
       kept = λ told. sym (kept_on said.env snap.own snap.upto c.args.count c.loop-k._k c.args.i c.args.xid b b2 kept kept2 c.loop-k-test.true (took told).0 (took told).1) ∙ inv.kept told;
     }

@@ -1,4 +1,4 @@
-use Rattle.std.proofs.Common.{◌≡◌, ◌+◌, ◌-◌, true}
+use Rattle.std.proofs.Common.{◌≡◌, ◌+◌, ◌-◌, Some, true}
 use Rattle.rb_cr.specs.Reads.{Reads}
 use Rattle.rb_cr.specs.Scratches.{scratch_home}
 use Rattle.rb_rebuild.specs.Chains.{unwound}
@@ -10,5 +10,6 @@ invariant-loop-k g l = record {
   reads : Reads g.S.Segments l.fn.segments l.segments true;
   count : l.steps ≡ l.fn.steps + l._k;
   rest : g.S.Segments.tells → unwound (g.S.Segments.says l.fn.segments).env (l.count - l._k) l.i l.xid (scratch_home (g.S.Segments.says l.fn.segments).shape l.scratch) ≡ unwound (g.S.Segments.says l.fn.segments).env l.count l.i l.xid (scratch_home (g.S.Segments.says l.fn.segments).shape l.fn.scratch);
+  back : g.S.Segments.tells → unwound (g.S.Segments.says l.fn.segments).env l._k l.i l.xid (scratch_home (g.S.Segments.says l.fn.segments).shape l.fn.scratch) ≡ Some (scratch_home (g.S.Segments.says l.fn.segments).shape l.scratch);
   kept : g.S.Segments.tells → kept_after (g.S.Segments.says l.fn.segments).env l.snapshot.own l.snapshot.upto (l.count - l._k) l.i l.xid (scratch_home (g.S.Segments.says l.fn.segments).shape l.scratch) l.scratch.kept ≡ kept_after (g.S.Segments.says l.fn.segments).env l.snapshot.own l.snapshot.upto l.count l.i l.xid (scratch_home (g.S.Segments.says l.fn.segments).shape l.fn.scratch) l.fn.scratch.kept;
 }

@@ -11,3 +11,6 @@ returns-clause-most g c = λ told h reading. (c.take_all_back.ensures.told told 
 
 pub returns-clause-old : goal.returns-clause-old
 returns-clause-old g c = λ told h reading. (c.take_all_back.ensures.told told h reading).old
+
+pub returns-clause-counted : goal.returns-clause-counted
+returns-clause-counted g c = λ told h reading. (c.take_all_back.ensures.told told h reading).stopped

@@ -31,4 +31,4 @@ returns-in-Ok-clause-told g c = λ told h reading.
     let rewinds : Rewinds said snap after count c.rewind.result last c.rewind.new.steps = subst (λ (z : Said). Rewinds z snap after count c.rewind.result last c.rewind.new.steps) (c.in-Ok.ensures.reads.same told refl) (c.rewind.ensures.told told) in
     let st = starts said.env h snap.own snap.upto snap.scn start c.args.steps.now reading b after.kept count half in
     let few = few_more said.env h snap.own snap.upto snap.scn start c.args.steps.now reading b after.kept count half in
-    built said.env h snap.own snap.upto snap.scn start c.args.steps.now reading b after.kept count half c.rewind.result (scratch_home said.shape last) last.kept c.rewind.new.steps (rewinds h.base h.rows h.list st few)
+    built said.env h snap.own snap.upto snap.scn start c.args.steps.now reading b after.kept count half c.rewind.result (scratch_home said.shape last) last.kept c.rewind.new.steps (c.in-Ok.ensures.goes told) (rewinds h.base h.rows h.list st few)

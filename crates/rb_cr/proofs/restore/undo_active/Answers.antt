@@ -2,11 +2,11 @@ use Rattle.std.proofs.Common.{rules, ◌≡◌, length, Ok, Err, refl, arith, tr
 use Rattle.std.proofs.Common.{subst}
 use Rattle.std.proofs.lemmas.List.{length-map}
 use Rattle.rb_cr.specs.Calls.{Said}
-use Rattle.rb_cr.specs.Clauses.{UndoesEntry}
+use Rattle.rb_cr.specs.Clauses.{GoesOn, UndoesEntry}
 use Rattle.rb_cr.specs.Reads.{more_reads, no_read}
 use Rattle.rb_cr.specs.Scratches.{scratch_home}
 use Rattle.rb_standing.specs.Says.{walk_entry}
-use Rattle.rb_cr.proofs.Rebuilding.{one_more, undone_failed, undone_all}
+use Rattle.rb_cr.proofs.Rebuilding.{goes_after, goes_nowhere, one_more, undone_failed, undone_all}
 use Rattle.rb_rebuild.proofs.Undoing.{starts_running}
 use Rattle.rb_cr.proofs.restore.undo_active.Goals as goal
 
@@ -19,6 +19,7 @@ loop-i-init g c =
       reads = no_read s c.args.segments.now c.requires (g.met.S.Segments.no_call c.args.segments.now c.requires);
       eight = search rules;
       so_far = λ told base rows list m lives r runs alone few. (0, λ kept. kept, omega arith, refl, starts_running said.env base rows list lives r snap.own snap.upto snap.scn (scratch_home said.shape c.args.scratch.now) m runs);
+      goes = λ told. goes_nowhere said.env (scratch_home said.shape c.args.scratch.now) c.args.steps.now;
     }
 
 pub returns-in-Err-clause-told : goal.returns-in-Err-clause-told
@@ -54,6 +55,9 @@ loop-i-preserved g c =
           let undoes : UndoesEntry said snap c.loop-i.i c.loop-i.scratch c.loop-i.steps (Ok (tt {0})) after c.undo_entry.new.steps = subst (λ (z : Said). UndoesEntry z snap c.loop-i.i c.loop-i.scratch c.loop-i.steps (Ok (tt {0})) after c.undo_entry.new.steps) (inv.reads.same told refl) (c.in-Ok.ensures.told told) in
           one_more said.env base rows list lives runs.distinct r snap.own snap.upto snap.scn start alone first few c.loop-i.i c.args.steps.now b c.loop-i.scratch.kept c.loop-i.steps so (scratch_home said.shape after) after.kept c.undo_entry.new.steps
           (undoes base rows list lives r so.0 so.1 start first runs.distinct alone so.4 so.3 few);
+      goes = λ told.
+          let more : GoesOn said c.loop-i.scratch c.loop-i.steps after c.undo_entry.new.steps = subst (λ (z : Said). GoesOn z c.loop-i.scratch c.loop-i.steps after c.undo_entry.new.steps) (inv.reads.same told refl) (c.in-Ok.ensures.goes told) in
+          goes_after said.env start b (scratch_home said.shape after) c.args.steps.now c.loop-i.steps c.undo_entry.new.steps (inv.goes told) more;
     }
 
 pub returns-clause-told : goal.returns-clause-told
@@ -65,3 +69,6 @@ returns-clause-told g c = λ told base rows list m lives r runs alone few.
     let so = c.loop-i.invariant.so_far told base rows list m lives r runs alone few in
     let long : length (scratch_home said.shape c.args.scratch.now).entries ≡ length es = length-map es (walk_entry said.shape) in
     undone_all said.env base rows list lives runs.distinct r snap.own snap.upto snap.scn (scratch_home said.shape c.args.scratch.now) alone c.args.scratch.now.kept few c.loop-i.i c.args.steps.now b c.loop-i.scratch.kept c.loop-i.steps so (omega (arith, long, so.4.long, c.loop-i.invariant.eight, c.loop-i-test.false))
+
+pub returns-clause-goes : goal.returns-clause-goes
+returns-clause-goes g c = c.loop-i.invariant.goes

@@ -1,5 +1,5 @@
 use Rattle.std.proofs.Common.{◌≡◌, ◌+◌, ℕ, List, length, true}
-use Rattle.rb_cr.specs.Clauses.{HasRoom}
+use Rattle.rb_cr.specs.Clauses.{GoesOn, HasRoom}
 use Rattle.rb_cr.specs.Reads.{Reads}
 use Rattle.rb_cr.specs.Scratches.{scratch_home}
 use Rattle.rb_rebuild.specs.Keeping.{Kept}
@@ -12,6 +12,7 @@ abbrev pub invariant-loop-i : goal.invariant-loop-i
 invariant-loop-i g l = record {
   reads : Reads g.S.Segments l.fn.segments l.segments true;
   eight : length l.fn.scratch.entries ≡ 8;
+  goes : g.S.Segments.tells → GoesOn (g.S.Segments.says l.fn.segments) l.fn.scratch l.fn.steps l.scratch l.steps;
   so_far : g.S.Segments.tells → (base : ℕ) (rows : Rows) (list : List Commit) (m : ℕ) (lives : List (List Change)) (r : ℕ)
       → Runs (g.S.Segments.says l.fn.segments).env base rows list m lives (scratch_home (g.S.Segments.says l.fn.segments).shape l.fn.scratch) → Reader (g.S.Segments.says l.fn.segments).env r l.snapshot.own
       → HasRoom l.snapshot l.fn.scratch.kept (own lives r)

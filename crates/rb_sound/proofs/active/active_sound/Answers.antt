@@ -4,12 +4,13 @@ use Rattle.rb_base.specs.Logs.{more_logs}
 use Rattle.rb_base.specs.declared.shape.Shape.{Shape}
 use Rattle.rb_base.specs.declared.sizes.TheConstants.{ACTIVE}
 use Rattle.rb_segment.specs.Header.{segment_of, slot_in}
-use Rattle.rb_sound.specs.Active.{IsActive}
+use Rattle.rb_sound.specs.Active.{Fits, IsActive}
+use Rattle.rb_undoblock.specs.declared.record.UndoRecord.{UndoRecord}
 use Rattle.rb_sound.proofs.active.active_sound.Goals as goal
 
 -- each Active slot of segment k has its live records
-abbrev IsSoundAt : Shape → List (List ℕ) → ℕ → Type 0
-IsSoundAt shape blocks k = (i : ℕ) → i < 16 → (slot_in (segment_of shape blocks k).header i).state ≡ ACTIVE → IsActive shape k (segment_of shape blocks k) i
+abbrev IsSoundAt : (UndoRecord → Type 0) → Shape → List (List ℕ) → ℕ → Type 0
+IsSoundAt Kept shape blocks k = (i : ℕ) → i < 16 → (slot_in (segment_of shape blocks k).header i).state ≡ ACTIVE → IsActive Kept shape k (segment_of shape blocks k) i
 
 pub returns-in_err-slots_sound-clause-logs : goal.returns-in_err-slots_sound-clause-logs
 returns-in_err-slots_sound-clause-logs g c =
@@ -29,7 +30,7 @@ loop-g-preserved g c =
       logs = more_logs s old c.loop-g.store c.slots_sound.new.store [] [] true inv.logs c.in_ok-slots_sound.ensures.logs;
       so_far = λ told.
           let here = (c.in_ok-slots_sound.ensures.told told).0 c.if-not-branch.false in
-          let of_old = subst (λ (b : List (List ℕ)). IsSoundAt c.shape-shape.result b c.loop-g.g) (inv.logs.blocks told refl) here in
-          let all = below_more (IsSoundAt shape blocks) c.loop-g.g (λ k lt i. inv.so_far told k i lt) (subst (λ (z : Shape). IsSoundAt z blocks c.loop-g.g) c.shape-shape.ensures.shape of_old) in
+          let of_old = subst (λ (b : List (List ℕ)). IsSoundAt (Fits c.args.limits.now) c.shape-shape.result b c.loop-g.g) (inv.logs.blocks told refl) here in
+          let all = below_more (IsSoundAt (Fits c.args.limits.now) shape blocks) c.loop-g.g (λ k lt i. inv.so_far told k i lt) (subst (λ (z : Shape). IsSoundAt (Fits c.args.limits.now) z blocks c.loop-g.g) c.shape-shape.ensures.shape of_old) in
           λ k i lt. all k lt i;
     }

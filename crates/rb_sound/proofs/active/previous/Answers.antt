@@ -3,7 +3,8 @@ use Rattle.std.proofs.lemmas.Bool.{iff_false}
 use Rattle.rb_base.specs.Blocks.{block_of}
 use Rattle.rb_base.specs.Logs.{Logs, load_logs, no_logs}
 use Rattle.rb_segment.specs.Header.{Header, segment_of}
-use Rattle.rb_sound.specs.Active.{IsLive, IsValid}
+use Rattle.rb_sound.specs.Active.{Fits, IsLive, IsValid}
+use Rattle.rb_undoblock.specs.declared.record.UndoRecord.{UndoRecord}
 use Rattle.rb_sound.proofs.Chains.{chain_has, chain_next, header_is, named_at}
 use Rattle.rb_sound.proofs.active.previous.Given.{Over}
 use Rattle.rb_sound.proofs.active.previous.Goals.{After-is_live}
@@ -34,7 +35,7 @@ pub returns-then-not-is_valid-clause-none : goal.returns-then-not-is_valid-claus
 returns-then-not-is_valid-clause-none g c told chain =
     let x = c.args.xid in
     let s = segment_of c.args.shape (g.S.Store.blocks c.args.store.now) x.seg in
-    let first = chain_has c.args.shape s x c.args.n c.args.at c.requires.some chain in
+    let first = chain_has (Fits c.args.limits.now) c.args.shape s x c.args.n c.args.at c.requires.some chain in
     let same = header_is c.args.shape (g.S.Store.blocks c.args.store.now) x.seg c.args.header.now (c.requires.told told) in
     iff_false c.is_valid.ensures c.if-not-is_valid.true (subst (λ (h : Header). IsValid c.args.shape x.seg h c.args.at) (sym same) first.0)
 
@@ -47,13 +48,13 @@ returns-then-is_live-clause-some g c told k one =
     let valid = subst (λ (h : Header). IsValid c.args.shape x.seg h c.args.at) same by_header in
     let block = c.block.ensures.block told c.args.at.block c.in_ok-load.ensures.loaded ∙ ap (λ (l : List (List ℕ)). block_of l c.args.at.block) (c.in_ok-load.ensures.blocks told) in
     let read = named_at c.args.shape blocks x.seg (segment_of c.args.shape blocks x.seg).header c.args.at c.block.result.now c.undo_at-undo.result valid block c.undo_at-undo.ensures in
-    chain_next c.args.shape (segment_of c.args.shape blocks x.seg) x c.args.n k c.args.at c.undo_at-undo.result one valid read (c.is_live.ensures.0 c.if-is_live.true)
+    chain_next (Fits c.args.limits.now) c.args.shape (segment_of c.args.shape blocks x.seg) x c.args.n k c.args.at c.undo_at-undo.result one valid read (c.is_live.ensures.0 c.if-is_live.true)
 
 pub returns-else-is_live-clause-none : goal.returns-else-is_live-clause-none
 returns-else-is_live-clause-none g c told chain =
     let blocks = g.S.Store.blocks c.args.store.now in
     let x = c.args.xid in
-    let first = chain_has c.args.shape (segment_of c.args.shape blocks x.seg) x c.args.n c.args.at c.requires.some chain in
+    let first = chain_has (Fits c.args.limits.now) c.args.shape (segment_of c.args.shape blocks x.seg) x c.args.n c.args.at c.requires.some chain in
     let block = c.block.ensures.block told c.args.at.block c.in_ok-load.ensures.loaded ∙ ap (λ (l : List (List ℕ)). block_of l c.args.at.block) (c.in_ok-load.ensures.blocks told) in
     let read = named_at c.args.shape blocks x.seg (segment_of c.args.shape blocks x.seg).header c.args.at c.block.result.now c.undo_at-undo.result first.0 block c.undo_at-undo.ensures in
-    iff_false c.is_live.ensures c.if-is_live.false (subst (IsLive c.args.shape x c.args.n) read first.1)
+    iff_false c.is_live.ensures c.if-is_live.false (subst (λ (r : UndoRecord). IsLive c.args.shape x c.args.n r × Fits c.args.limits.now r) read first.1)

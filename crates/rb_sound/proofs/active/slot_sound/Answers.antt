@@ -4,7 +4,7 @@ use Rattle.std.proofs.lemmas.Result.{IfOk-weaker}
 use Rattle.rb_base.specs.Logs.{no_logs}
 use Rattle.rb_base.specs.declared.sizes.TheConstants.{ACTIVE}
 use Rattle.rb_segment.specs.Header.{Header, segment_of, slot_in}
-use Rattle.rb_sound.specs.Active.{Chain, HasBegun, IsActive}
+use Rattle.rb_sound.specs.Active.{Fits, Chain, HasBegun, IsActive}
 use Rattle.rb_txntable.specs.declared.slots.TableSlot.{TableSlot}
 use Rattle.rb_sound.proofs.Chains.{active_is, header_is, slot_is}
 use Rattle.rb_sound.proofs.active.slot_sound.Goals as goal
@@ -37,7 +37,7 @@ returns-clause-told g c told =
     let slot = c.slot_at-slot.result in
     let s = segment_of c.args.shape blocks c.args.g in
     IfOk-weaker c.chain_sound.result
-    (λ (sound : Bool). sound ≡ true ↔ Chain c.args.shape s (record { seg = c.args.g; slot = c.args.i; wrap = slot.wrap }) slot.live slot.newest_at)
-    (λ (sound : Bool). sound ≡ true ↔ ((slot_in s.header c.args.i).state ≡ ACTIVE → IsActive c.args.shape c.args.g s c.args.i))
-    (λ sound chain. active_is c.args.shape blocks c.args.g c.args.i c.args.header.now slot sound (c.requires.told told) c.requires.place c.slot_at-slot.ensures (c.has_begun.ensures.0 c.if-not-has_begun.false) chain c.if-slot-ne-ACTIVE.false)
+    (λ (sound : Bool). sound ≡ true ↔ Chain (Fits c.args.limits.now) c.args.shape s (record { seg = c.args.g; slot = c.args.i; wrap = slot.wrap }) slot.live slot.newest_at)
+    (λ (sound : Bool). sound ≡ true ↔ ((slot_in s.header c.args.i).state ≡ ACTIVE → IsActive (Fits c.args.limits.now) c.args.shape c.args.g s c.args.i))
+    (λ sound chain. active_is (Fits c.args.limits.now) c.args.shape blocks c.args.g c.args.i c.args.header.now slot sound (c.requires.told told) c.requires.place c.slot_at-slot.ensures (c.has_begun.ensures.0 c.if-not-has_begun.false) chain c.if-slot-ne-ACTIVE.false)
     (c.chain_sound.ensures.told told)

@@ -4,7 +4,7 @@ use borrow.Author.Count.{below_more, below_none}
 use Rattle.rb_base.specs.Logs.{load_logs, more_logs}
 use Rattle.rb_base.specs.declared.sizes.TheConstants.{ACTIVE}
 use Rattle.rb_segment.specs.Header.{segment_of, slot_in}
-use Rattle.rb_sound.specs.Active.{IsActive}
+use Rattle.rb_sound.specs.Active.{Fits, IsActive}
 use Rattle.rb_sound.proofs.active.slots_sound.Goals as goal
 
 pub returns-in_err-load-clause-logs : goal.returns-in_err-load-clause-logs
@@ -18,7 +18,7 @@ loop-i-init g c =
     let load = c.in_ok-load.ensures in
     record {
       logs = load_logs g.S.Store c.args.store.now c.load.new.self (Ok c.in_ok-load.field-0) load.shape load.slots load.failed load.counted load.lsn load.blocks load.settles load.any_moment load.holds_back;
-      so_far = λ told. below_none (λ (k : ℕ). (slot_in (segment_of c.args.shape (g.S.Store.blocks c.args.store.now) c.args.g).header k).state ≡ ACTIVE → IsActive c.args.shape c.args.g (segment_of c.args.shape (g.S.Store.blocks c.args.store.now) c.args.g) k);
+      so_far = λ told. below_none (λ (k : ℕ). (slot_in (segment_of c.args.shape (g.S.Store.blocks c.args.store.now) c.args.g).header k).state ≡ ACTIVE → IsActive (Fits c.args.limits.now) c.args.shape c.args.g (segment_of c.args.shape (g.S.Store.blocks c.args.store.now) c.args.g) k);
     }
 
 pub returns-in_err-slot_sound-clause-logs : goal.returns-in_err-slot_sound-clause-logs
@@ -38,8 +38,8 @@ loop-i-preserved g c =
       logs = more_logs s old c.loop-i.store c.slot_sound.new.store [] [] true inv.logs c.in_ok-slot_sound.ensures.logs;
       so_far = λ told.
           let here = (c.in_ok-slot_sound.ensures.told told).0 c.if-not-branch.false in
-          below_more (λ (k : ℕ). (slot_in (segment_of shape (s.blocks old) c.args.g).header k).state ≡ ACTIVE → IsActive shape c.args.g (segment_of shape (s.blocks old) c.args.g) k) c.loop-i.i (inv.so_far told)
-          (subst (λ (b : List (List ℕ)). (slot_in (segment_of shape b c.args.g).header c.loop-i.i).state ≡ ACTIVE → IsActive shape c.args.g (segment_of shape b c.args.g) c.loop-i.i) (inv.logs.blocks told refl) here);
+          below_more (λ (k : ℕ). (slot_in (segment_of shape (s.blocks old) c.args.g).header k).state ≡ ACTIVE → IsActive (Fits c.args.limits.now) shape c.args.g (segment_of shape (s.blocks old) c.args.g) k) c.loop-i.i (inv.so_far told)
+          (subst (λ (b : List (List ℕ)). (slot_in (segment_of shape b c.args.g).header c.loop-i.i).state ≡ ACTIVE → IsActive (Fits c.args.limits.now) shape c.args.g (segment_of shape b c.args.g) c.loop-i.i) (inv.logs.blocks told refl) here);
     }
 
 pub returns-clause-logs : goal.returns-clause-logs
@@ -52,7 +52,7 @@ returns-then-not-branch-clause-told g c = λ told. (
       let s = g.S.Store in
       let shape = c.args.shape in
       let test = c.loop-i-test.true in
-      let here = subst (λ (b : List (List ℕ)). (slot_in (segment_of shape b c.args.g).header c.loop-i.i).state ≡ ACTIVE → IsActive shape c.args.g (segment_of shape b c.args.g) c.loop-i.i)
+      let here = subst (λ (b : List (List ℕ)). (slot_in (segment_of shape b c.args.g).header c.loop-i.i).state ≡ ACTIVE → IsActive (Fits c.args.limits.now) shape c.args.g (segment_of shape b c.args.g) c.loop-i.i)
       (sym (c.loop-i.invariant.logs.blocks told refl)) (all c.loop-i.i (omega (arith, test))) in
       sym c.if-not-branch.true ∙ (c.in_ok-slot_sound.ensures.told told).1 here,
 )

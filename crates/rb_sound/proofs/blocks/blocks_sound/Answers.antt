@@ -1,10 +1,11 @@
-use Rattle.std.proofs.Common.{◌≡◌, ◌↔◌, Bool, true, false, not, refl, [], ◌∙◌}
+use Rattle.std.proofs.Common.{◌≡◌, ◌↔◌, Bool, true, false, not, refl, subst, [], ◌∙◌}
 use Rattle.std.proofs.lemmas.Bool.{iff_false, false≢true}
 use Rattle.std.proofs.lemmas.Result.{IfOk-weaker}
 use Rattle.std.specs.Result.{is_err}
 use Rattle.rb_base.specs.Logs.{more_logs}
 use Rattle.rb_segment.specs.Segments.{wrap_in}
-use Rattle.rb_sound.specs.Active.{AreActive}
+use Rattle.rb_base.specs.declared.shape.Shape.{Shape}
+use Rattle.rb_sound.specs.Active.{AreActive, CouldStand}
 use Rattle.rb_sound.specs.Sound.{AreSound}
 use Rattle.rb_sound.proofs.Together.{active_moved, all_sound, homes_by, homes_moved, segments_moved, wraps_moved}
 use Rattle.rb_sound.proofs.blocks.blocks_sound.Goals as goal
@@ -89,7 +90,7 @@ returns-clause-told g c told =
     let segments = segments_moved commit _ shape _ blocks first.same_shape (first.blocks told refl) ((c.in_ok-segments_sound.ensures.told told).0 c.if-not-branch.false) in
     let homes = moved.0 ((c.in_ok-homes_sound.ensures.told told).0 c.if-not-branch-2.false) in
     IfOk-weaker c.active_sound.result
-    (λ (sound : Bool). sound ≡ true ↔ AreActive (s.shape_of c.homes_sound.new.store) (s.blocks c.homes_sound.new.store))
+    (λ (sound : Bool). sound ≡ true ↔ AreActive (CouldStand c.shape.result commit wraps) (s.shape_of c.homes_sound.new.store) (s.blocks c.homes_sound.new.store))
     (λ (sound : Bool). sound ≡ true ↔ AreSound shape blocks)
-    (λ sound is. all_sound shape blocks commit wraps sound (c.in_ok-commit.ensures.told told) same segments homes (active_moved sound _ shape _ blocks fourth.same_shape (fourth.blocks told refl) is))
+    (λ sound is. all_sound shape blocks commit wraps sound (c.in_ok-commit.ensures.told told) same segments homes (subst (λ (z : Shape). sound ≡ true ↔ AreActive (CouldStand z commit wraps) shape blocks) (c.shape.ensures.shape ∙ second.same_shape) (active_moved (CouldStand c.shape.result commit wraps) sound _ shape _ blocks fourth.same_shape (fourth.blocks told refl) is)))
     (c.active_sound.ensures.told told)

@@ -5,5 +5,5 @@ pub returns : goal.returns
 returns c shape = record {
   segments = λ g lt. segments_fresh shape _ g lt;
   homes = λ which lt. homes_fresh shape _ _ _ which lt;
-  active = active_fresh shape;
+  active = active_fresh _ shape;
 }
