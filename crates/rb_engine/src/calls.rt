@@ -5,6 +5,7 @@ ghost use Rattle.rb_base.specs.Counts.{IsCountedAs, err_is};
 ghost use Rattle.rb_engine.specs.Cleaning.{CleansRead, HasLooked};
 ghost use Rattle.rb_engine.specs.Does.{Does, LeavesState, Resumes, SameStore, Stands, resume_fault};
 ghost use Rattle.rb_engine.specs.Lateness.{ResumeNeedsLost, WriteNeedsLost};
+ghost use Rattle.rb_engine.specs.Makes.{Makes, ResumeMakes};
 ghost use Rattle.rb_engine.specs.Scanning.{NeedsLost};
 ghost use Rattle.rb_image.specs.Keeps.{KeepsRows};
 ghost use Rattle.rb_image.specs.Made.{TellsLooks};
@@ -41,6 +42,9 @@ impl<T: Store> Engine<T> {
     pub fn write(&mut self, s: u16, table: u16, key: u64, op: Op<'_>) -> Result<Wrote, Refusal>
         ensures did { (h : State) → Stands T.Store h self.old → Does T.Store h
             (machine.Write s table key (action_of op.entry)) (write_answer result) self.old self.new }
+        ensures makes { (h : State) → Stands T.Store h self.old → err_is is_disk_fault result ≡ false
+            → Makes h (machine.Write s table key (action_of op.entry)) (write_answer result)
+            (T.slots self.old.store) (T.lsn self.new.store) (T.blocks self.old.store) (T.blocks self.new.store) }
         ensures lost { (h : State) → Stands T.Store h self.old → (scn lost : ℕ)
             → result ≡ Err (Refusal.TooOld scn lost) → WriteNeedsLost T.Store h self.old s table key scn lost }
         ensures tells { (h : State) → Stands T.Store h self.old → err_is is_disk_fault result ≡ false
@@ -65,6 +69,9 @@ impl<T: Store> Engine<T> {
     pub fn lock(&mut self, s: u16, table: u16, key: u64) -> Result<Wrote, Refusal>
         ensures did { (h : State) → Stands T.Store h self.old → Does T.Store h
             (machine.Write s table key machine.Lock) (write_answer result) self.old self.new }
+        ensures makes { (h : State) → Stands T.Store h self.old → err_is is_disk_fault result ≡ false
+            → Makes h (machine.Write s table key machine.Lock) (write_answer result)
+            (T.slots self.old.store) (T.lsn self.new.store) (T.blocks self.old.store) (T.blocks self.new.store) }
         ensures lost { (h : State) → Stands T.Store h self.old → (scn lost : ℕ)
             → result ≡ Err (Refusal.TooOld scn lost) → WriteNeedsLost T.Store h self.old s table key scn lost }
         ensures tells { (h : State) → Stands T.Store h self.old → err_is is_disk_fault result ≡ false
@@ -92,6 +99,9 @@ impl<T: Store> Engine<T> {
     pub fn set(&mut self, s: u16, mode: Mode) -> Result<(), Refusal>
         ensures did { (h : State) → Stands T.Store h self.old → Does T.Store h
             (machine.SetMode s mode) (plain_answer result) self.old self.new }
+        ensures makes { (h : State) → Stands T.Store h self.old → err_is is_disk_fault result ≡ false
+            → Makes h (machine.SetMode s mode) (plain_answer result)
+            (T.slots self.old.store) (T.lsn self.new.store) (T.blocks self.old.store) (T.blocks self.new.store) }
         ensures same { SameStore T.Store self.old.store self.new.store }
         ensures disk { IsCountedAs (T.faults self.old.store) (T.faults self.new.store)
             (err_is is_disk_fault result) }
@@ -104,6 +114,9 @@ impl<T: Store> Engine<T> {
     pub fn commit(&mut self, s: u16) -> Result<Option<u64>, Refusal>
         ensures did { (h : State) → Stands T.Store h self.old → Does T.Store h
             (machine.Commit s) (commit_answer result) self.old self.new }
+        ensures makes { (h : State) → Stands T.Store h self.old → err_is is_disk_fault result ≡ false
+            → Makes h (machine.Commit s) (commit_answer result)
+            (T.slots self.old.store) (T.lsn self.new.store) (T.blocks self.old.store) (T.blocks self.new.store) }
         ensures rows { (h : State) → Stands T.Store h self.old
             → OnOk result (KeepsRows h.shape (T.blocks self.old.store) (T.blocks self.new.store)) }
         ensures same { SameStore T.Store self.old.store self.new.store }
@@ -117,6 +130,9 @@ impl<T: Store> Engine<T> {
     pub fn rollback(&mut self, s: u16) -> Result<(), Refusal>
         ensures did { (h : State) → Stands T.Store h self.old → Does T.Store h
             (machine.Rollback s) (plain_answer result) self.old self.new }
+        ensures makes { (h : State) → Stands T.Store h self.old → err_is is_disk_fault result ≡ false
+            → Makes h (machine.Rollback s) (plain_answer result)
+            (T.slots self.old.store) (T.lsn self.new.store) (T.blocks self.old.store) (T.blocks self.new.store) }
         ensures same { SameStore T.Store self.old.store self.new.store }
         ensures disk { IsCountedAs (T.faults self.old.store) (T.faults self.new.store)
             (err_is is_disk_fault result) }
@@ -129,6 +145,9 @@ impl<T: Store> Engine<T> {
     pub fn savepoint(&mut self, s: u16, name: &Name) -> Result<(), Refusal>
         ensures did { (h : State) → Stands T.Store h self.old → Does T.Store h
             (machine.SetSavepoint s (name_text name.now)) (plain_answer result) self.old self.new }
+        ensures makes { (h : State) → Stands T.Store h self.old → err_is is_disk_fault result ≡ false
+            → Makes h (machine.SetSavepoint s (name_text name.now)) (plain_answer result)
+            (T.slots self.old.store) (T.lsn self.new.store) (T.blocks self.old.store) (T.blocks self.new.store) }
         ensures same { SameStore T.Store self.old.store self.new.store }
         ensures disk { IsCountedAs (T.faults self.old.store) (T.faults self.new.store)
             (err_is is_disk_fault result) }
@@ -141,6 +160,9 @@ impl<T: Store> Engine<T> {
     pub fn rollback_to(&mut self, s: u16, name: &Name) -> Result<(), Refusal>
         ensures did { (h : State) → Stands T.Store h self.old → Does T.Store h
             (machine.RollbackTo s (name_text name.now)) (plain_answer result) self.old self.new }
+        ensures makes { (h : State) → Stands T.Store h self.old → err_is is_disk_fault result ≡ false
+            → Makes h (machine.RollbackTo s (name_text name.now)) (plain_answer result)
+            (T.slots self.old.store) (T.lsn self.new.store) (T.blocks self.old.store) (T.blocks self.new.store) }
         ensures same { SameStore T.Store self.old.store self.new.store }
         ensures disk { IsCountedAs (T.faults self.old.store) (T.faults self.new.store)
             (err_is is_disk_fault result) }
@@ -159,6 +181,9 @@ impl<T: Store> Engine<T> {
     ) -> Result<(), Refusal>
         ensures did { (h : State) → Stands T.Store h self.old → Does T.Store h
             (machine.OpenCursor s (name_text name.now) table lo hi) (plain_answer result) self.old self.new }
+        ensures makes { (h : State) → Stands T.Store h self.old → err_is is_disk_fault result ≡ false
+            → Makes h (machine.OpenCursor s (name_text name.now) table lo hi) (plain_answer result)
+            (T.slots self.old.store) (T.lsn self.new.store) (T.blocks self.old.store) (T.blocks self.new.store) }
         ensures same { SameStore T.Store self.old.store self.new.store }
         ensures disk { IsCountedAs (T.faults self.old.store) (T.faults self.new.store)
             (err_is is_disk_fault result) }
@@ -175,6 +200,9 @@ impl<T: Store> Engine<T> {
     pub fn fetch(&mut self, s: u16, name: &Name, row: &mut Row) -> Result<Fetched, Refusal>
         ensures did { (h : State) → Stands T.Store h self.old → Does T.Store h
             (machine.Fetch s (name_text name.now)) (fetch_answer result row.new) self.old self.new }
+        ensures makes { (h : State) → Stands T.Store h self.old → err_is is_disk_fault result ≡ false
+            → Makes h (machine.Fetch s (name_text name.now)) (fetch_answer result row.new)
+            (T.slots self.old.store) (T.lsn self.new.store) (T.blocks self.old.store) (T.blocks self.new.store) }
         ensures lost { (h : State) → Stands T.Store h self.old → (scn lost : ℕ)
             → result ≡ Err (Refusal.TooOld scn lost)
             → NeedsLost T.Store h self.old s (name_text name.now) scn lost }
@@ -203,6 +231,9 @@ impl<T: Store> Engine<T> {
     pub fn close_cursor(&mut self, s: u16, name: &Name) -> Result<(), Refusal>
         ensures did { (h : State) → Stands T.Store h self.old → Does T.Store h
             (machine.CloseCursor s (name_text name.now)) (plain_answer result) self.old self.new }
+        ensures makes { (h : State) → Stands T.Store h self.old → err_is is_disk_fault result ≡ false
+            → Makes h (machine.CloseCursor s (name_text name.now)) (plain_answer result)
+            (T.slots self.old.store) (T.lsn self.new.store) (T.blocks self.old.store) (T.blocks self.new.store) }
         ensures same { SameStore T.Store self.old.store self.new.store }
         ensures disk { IsCountedAs (T.faults self.old.store) (T.faults self.new.store)
             (err_is is_disk_fault result) }
@@ -214,6 +245,9 @@ impl<T: Store> Engine<T> {
     pub fn cancel(&mut self, s: u16) -> Result<(), Refusal>
         ensures did { (h : State) → Stands T.Store h self.old → Does T.Store h
             (machine.Cancel s) (plain_answer result) self.old self.new }
+        ensures makes { (h : State) → Stands T.Store h self.old → err_is is_disk_fault result ≡ false
+            → Makes h (machine.Cancel s) (plain_answer result)
+            (T.slots self.old.store) (T.lsn self.new.store) (T.blocks self.old.store) (T.blocks self.new.store) }
         ensures same { SameStore T.Store self.old.store self.new.store }
         ensures disk { IsCountedAs (T.faults self.old.store) (T.faults self.new.store)
             (err_is is_disk_fault result) }
@@ -226,6 +260,9 @@ impl<T: Store> Engine<T> {
     /// wait again, it does so behind all others. None where no session is ready, and of a stopped engine.
     pub fn resume(&mut self) -> Option<(u16, Result<Wrote, Refusal>)>
         ensures did { (h : State) → Stands T.Store h self.old → Resumes T.Store h result self.old self.new }
+        ensures makes { (h : State) → Stands T.Store h self.old → resume_fault result ≡ false
+            → ResumeMakes h result (T.slots self.old.store) (T.lsn self.new.store)
+            (T.blocks self.old.store) (T.blocks self.new.store) }
         ensures lost { (h : State) → Stands T.Store h self.old → (s scn lost : ℕ)
             → result ≡ Some (s, Err (Refusal.TooOld scn lost)) → ResumeNeedsLost T.Store h self.old s scn lost }
         ensures tells { (h : State) → Stands T.Store h self.old → resume_fault result ≡ false
@@ -244,6 +281,9 @@ impl<T: Store> Engine<T> {
         requires { seg < (T.shape_of self.old.store).segments }
         ensures did { (h : State) → Stands T.Store h self.old → Does T.Store h
             (machine.Marks seg) (marks_answer seg result) self.old self.new }
+        ensures makes { (h : State) → Stands T.Store h self.old → err_is is_disk_fault result ≡ false
+            → Makes h (machine.Marks seg) (marks_answer seg result)
+            (T.slots self.old.store) (T.lsn self.new.store) (T.blocks self.old.store) (T.blocks self.new.store) }
         ensures same { SameStore T.Store self.old.store self.new.store }
         ensures disk { IsCountedAs (T.faults self.old.store) (T.faults self.new.store)
             (err_is is_disk_fault result) }
@@ -256,6 +296,9 @@ impl<T: Store> Engine<T> {
     pub fn checkpoint(&mut self) -> Result<(), Refusal>
         ensures did { (h : State) → Stands T.Store h self.old → Does T.Store h
             machine.Checkpoint (plain_answer result) self.old self.new }
+        ensures makes { (h : State) → Stands T.Store h self.old → err_is is_disk_fault result ≡ false
+            → Makes h machine.Checkpoint (plain_answer result)
+            (T.slots self.old.store) (T.lsn self.new.store) (T.blocks self.old.store) (T.blocks self.new.store) }
         ensures leaves { (h : State) → Stands T.Store h self.old → h.stopped ≡ false
             → LeavesState T.Store h self.old.store self.new.store }
         ensures nothing_waits { T.keeps → OnOk result (T.pending self.new.store ≡ []) }

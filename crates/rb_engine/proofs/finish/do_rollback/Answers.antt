@@ -13,6 +13,7 @@ use Rattle.rb_engine.proofs.DoesLemmas.{does_refused}
 use Rattle.rb_engine.proofs.FinishLemmas.{does_ended}
 use Rattle.rb_engine.proofs.StepLemmas.{few_less, fit_at, fit_rolled_back, in_step_moved, queue_moved}
 use Rattle.rb_views.specs.Views.{Remembers}
+use Rattle.rb_engine.proofs.MakesLemmas.{makes_refused, no_slot}
 use Rattle.rb_engine.proofs.finish.do_rollback.Given.{Over}
 use Rattle.rb_engine.proofs.finish.do_rollback.Goals as goal
 
@@ -63,3 +64,20 @@ returns-in-None-clause-did g c = λ h st.
     (λ free empty xids stand knows. subst (Remembers (freeing (ended h c.args.s (left_open 0 (cursors_of h c.args.s))) c.args.s) xids (env_of h.shape (s.blocks store))) (sym c.rollback.ensures) (back_remembered h (freeing (ended h c.args.s (left_open 0 (cursors_of h c.args.s))) c.args.s) xids (s.blocks store) (env_of h.shape (s.blocks store)) inside.sessions c.args.s stand knows there.0 there.1 (inr (free, refl)) (λ u t owns. refl)))
     (ap (λ (l : List KeptSession). map (λ k. k.asked) l) c.rollback.ensures ∙ all_asked inside.sessions (c.args.s - 1) (table.rolled_back (kept_at inside.sessions c.args.s)) refl) c.free.ensures
     refl refl refl)
+
+pub returns-in-None-clause-makes : goal.returns-in-None-clause-makes
+returns-in-None-clause-makes g c = λ h st fine.
+    let s = g.T.Store in
+    let store = c.args.store.now in
+    let inside : Kept = record { sessions = c.memory.inside.sessions; waits = c.memory.inside.waits; scn = c.memory.inside.scn; stopped = c.memory.inside.stopped } in
+    let old : EngineView _ = record { memory = inside; store = store } in
+    let here : Stands s h old = subst (λ (k : Kept). Stands s h (record { memory = k; store = store })) (sym c.memory.view_is) st in
+    let going : h.stopped ≡ false = sym st.knows.stopped ∙ c.in_default.ensures.going in
+    let own : (kept_at inside.sessions c.args.s).own ≡ None = sym c.session.ensures.own ∙ c.in-None.is in
+    inr (no_slot s h old (here.goes going) c.args.s c.in_default.ensures.session own, refl)
+
+pub returns-in-Err-clause-makes : goal.returns-in-Err-clause-makes
+returns-in-Err-clause-makes g c = λ h st fine.
+    let s = g.T.Store in
+    let store = c.args.store.now in
+    makes_refused h (machine.Rollback c.args.s) (s.slots store) (s.lsn store) (s.blocks store) (s.blocks store) refl c.in-Err.why (λ scn lost is. refl)

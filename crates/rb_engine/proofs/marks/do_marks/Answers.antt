@@ -57,3 +57,7 @@ returns-clause-did g c = λ h st.
     (block_read s c.args.store.now c.load.new.self c.header_block-header.result (header_block h.shape c.args.seg) c.block-block.result.now st.told (logs.blocks st.told refl) c.block-block.ensures.block (ok_of c.load.result fine e.loaded) at) c.writes.result c.lost.result c.writes.ensures c.lost.ensures in
     does_loaded s st.told (laws_of g) h (machine.Marks c.args.seg) (machine.Marked c.args.seg c.writes.result c.lost.result) old (record { memory = c.args.memory.now; store = c.load.new.self }) st
     (Reply.later [] (rw going refl) refl answer) refl refl (λ s t k a is done. cc) refl (λ _. logs) (record { shape = e.shape; slots = e.slots })
+
+pub returns-clause-blocks : goal.returns-clause-blocks
+returns-clause-blocks g c = λ tells fine.
+    ok_of c.load.result (sym c.is_err.ensures.value ∙ c.if-is_err.false) (c.load.ensures.blocks tells)
