@@ -21,6 +21,7 @@ use Rattle.rb_model.specs.Next.{is_after}
 use Rattle.rb_model.specs.State.{Session, State, cursor_of, is_session, is_waiting, session_of}
 use Rattle.rb_model.specs.declared.row.Row.{Row}
 use Rattle.rb_rebuild.specs.Reading.{Reading}
+use Rattle.rb_segment.specs.Segments.{owed_in}
 use Rattle.rb_sessions.specs.declared.cursor.Cursor.{Cursor}
 use Rattle.rb_standing.specs.Standing.{env_of, homes_of}
 use Rattle.rb_views.specs.Laws.{rows_seen}
@@ -31,6 +32,7 @@ use Rattle.rb_engine.specs.Does.{Does, EngineView, Goes, Kept, Knows, SameStore,
 use Rattle.rb_engine.proofs.CleanLemmas.{env_same}
 use Rattle.rb_engine.proofs.DoesLemmas.{after_sessions, does_by, holds_session, knows_on, survives_same}
 use Rattle.rb_engine.specs.Cleaning.{CleansRead, HasCleaned, MustIn, ReadIn, Serves}
+use Rattle.rb_engine.specs.Makes.{ReadBy}
 use Rattle.rb_image.proofs.Crashes.{survives_on}
 use Rattle.rb_image.specs.Crash.{Survives}
 use Rattle.rb_walk.specs.Walk.{Env}
@@ -188,6 +190,21 @@ module _ {S : Type 0} (s : Ghosts S) (laws : Laws s) (h : State) (old : EngineVi
         is = is_named;
         only = clean.only;
         all = λ yes b read spare. clean.all b (subst (λ (r : Result Fetched CrFault). MustIn h goes.xids blocks m r b) (sym (fine yes).1) read) spare;
+      }
+
+  -- and so of the machine's cursor
+  pub read_by : (well : Type 0) (new : S) (result : Result Fetched CrFault) → (well → (f : Fetched) × (result ≡ Ok f)) → s.slots new ≡ s.slots old.store
+      → ((xids : List Xid) → Serves s h xids m old.store → HasCleaned s h xids (ReadIn h xids blocks m) (MustIn h xids blocks m result) h.shape.blocks old.store new) → ReadBy h who name well (s.slots old.store) (s.lsn new) blocks (s.blocks new)
+  read_by well new result fine slots cleaned =
+      let clean = cleaned goes.xids serves in
+      let one = cursor_for goes.xids goes.remembers in record {
+        xids = goes.xids;
+        cursor = one.0;
+        named = one.1;
+        kept = m;
+        is = one.2;
+        only = clean.only;
+        all = λ yes b read young room. clean.all b (subst (λ (r : Result Fetched CrFault). MustIn h goes.xids blocks m r b) (sym (fine yes).1) read) (record { young = young; room = subst (λ (k : Option ℕ). owed_in h.shape (s.blocks new) < room_of k (s.lsn new)) (sym slots) room });
       }
 
   -- what the search found, and what that makes of the call

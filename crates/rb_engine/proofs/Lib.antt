@@ -4,6 +4,7 @@ pub mod FetchLemmas
 pub mod FewLemmas
 pub mod FinishLemmas
 pub mod LateLemmas
+pub mod MakesLemmas
 pub mod ModeLemmas
 pub mod OpenLemmas
 pub mod QueueLemmas

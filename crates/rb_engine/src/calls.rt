@@ -6,6 +6,7 @@ ghost use Rattle.rb_engine.specs.Cleaning.{CleansRead, HasLooked};
 ghost use Rattle.rb_engine.specs.Finishing.{HasNoNumber};
 ghost use Rattle.rb_engine.specs.Does.{Does, LeavesState, Resumes, SameStore, Stands, resume_fault};
 ghost use Rattle.rb_engine.specs.Lateness.{ResumeNeedsLost, WriteNeedsLost};
+ghost use Rattle.rb_engine.specs.Makes.{Makes, ResumeMakes};
 ghost use Rattle.rb_engine.specs.Scanning.{NeedsLost};
 ghost use Rattle.rb_image.specs.Keeps.{KeepsRows};
 ghost use Rattle.rb_image.specs.Made.{TellsLooks};
@@ -42,6 +43,9 @@ impl<T: Store> Engine<T> {
     pub fn write(&mut self, s: u16, table: u16, key: u64, op: Op<'_>) -> Result<Wrote, Refusal>
         ensures did { (h : State) → Stands T.Store h self.old → Does T.Store h
             (machine.Write s table key (action_of op.entry)) (write_answer result) self.old self.new }
+        ensures makes { (h : State) → Stands T.Store h self.old → err_is is_disk_fault result ≡ false
+            → Makes h (machine.Write s table key (action_of op.entry)) (write_answer result)
+            (T.slots self.old.store) (T.lsn self.new.store) (T.blocks self.old.store) (T.blocks self.new.store) }
         ensures lost { (h : State) → Stands T.Store h self.old → (scn lost : ℕ)
             → result ≡ Err (Refusal.TooOld scn lost) → WriteNeedsLost T.Store h self.old s table key scn lost }
         ensures tells { (h : State) → Stands T.Store h self.old → err_is is_disk_fault result ≡ false
@@ -68,6 +72,9 @@ impl<T: Store> Engine<T> {
     pub fn lock(&mut self, s: u16, table: u16, key: u64) -> Result<Wrote, Refusal>
         ensures did { (h : State) → Stands T.Store h self.old → Does T.Store h
             (machine.Write s table key machine.Lock) (write_answer result) self.old self.new }
+        ensures makes { (h : State) → Stands T.Store h self.old → err_is is_disk_fault result ≡ false
+            → Makes h (machine.Write s table key machine.Lock) (write_answer result)
+            (T.slots self.old.store) (T.lsn self.new.store) (T.blocks self.old.store) (T.blocks self.new.store) }
         ensures lost { (h : State) → Stands T.Store h self.old → (scn lost : ℕ)
             → result ≡ Err (Refusal.TooOld scn lost) → WriteNeedsLost T.Store h self.old s table key scn lost }
         ensures tells { (h : State) → Stands T.Store h self.old → err_is is_disk_fault result ≡ false
@@ -99,6 +106,9 @@ impl<T: Store> Engine<T> {
             (machine.SetMode s mode) (plain_answer result) self.old self.new }
         ensures holds_back { err_is is_disk_fault result ≡ false
             → T.holds_back self.old.store self.new.store }
+        ensures makes { (h : State) → Stands T.Store h self.old → err_is is_disk_fault result ≡ false
+            → Makes h (machine.SetMode s mode) (plain_answer result)
+            (T.slots self.old.store) (T.lsn self.new.store) (T.blocks self.old.store) (T.blocks self.new.store) }
         ensures same { SameStore T.Store self.old.store self.new.store }
         ensures disk { IsCountedAs (T.faults self.old.store) (T.faults self.new.store)
             (err_is is_disk_fault result) }
@@ -111,6 +121,9 @@ impl<T: Store> Engine<T> {
     pub fn commit(&mut self, s: u16) -> Result<Option<u64>, Refusal>
         ensures did { (h : State) → Stands T.Store h self.old → Does T.Store h
             (machine.Commit s) (commit_answer result) self.old self.new }
+        ensures makes { (h : State) → Stands T.Store h self.old → err_is is_disk_fault result ≡ false
+            → Makes h (machine.Commit s) (commit_answer result)
+            (T.slots self.old.store) (T.lsn self.new.store) (T.blocks self.old.store) (T.blocks self.new.store) }
         ensures rows { (h : State) → Stands T.Store h self.old
             → OnOk result (KeepsRows h.shape (T.blocks self.old.store) (T.blocks self.new.store)) }
         ensures holds_back { HasNoNumber result → T.holds_back self.old.store self.new.store }
@@ -127,6 +140,9 @@ impl<T: Store> Engine<T> {
             (machine.Rollback s) (plain_answer result) self.old self.new }
         ensures holds_back { err_is is_disk_fault result ≡ false
             → T.holds_back self.old.store self.new.store }
+        ensures makes { (h : State) → Stands T.Store h self.old → err_is is_disk_fault result ≡ false
+            → Makes h (machine.Rollback s) (plain_answer result)
+            (T.slots self.old.store) (T.lsn self.new.store) (T.blocks self.old.store) (T.blocks self.new.store) }
         ensures same { SameStore T.Store self.old.store self.new.store }
         ensures disk { IsCountedAs (T.faults self.old.store) (T.faults self.new.store)
             (err_is is_disk_fault result) }
@@ -141,6 +157,9 @@ impl<T: Store> Engine<T> {
             (machine.SetSavepoint s (name_text name.now)) (plain_answer result) self.old self.new }
         ensures holds_back { err_is is_disk_fault result ≡ false
             → T.holds_back self.old.store self.new.store }
+        ensures makes { (h : State) → Stands T.Store h self.old → err_is is_disk_fault result ≡ false
+            → Makes h (machine.SetSavepoint s (name_text name.now)) (plain_answer result)
+            (T.slots self.old.store) (T.lsn self.new.store) (T.blocks self.old.store) (T.blocks self.new.store) }
         ensures same { SameStore T.Store self.old.store self.new.store }
         ensures disk { IsCountedAs (T.faults self.old.store) (T.faults self.new.store)
             (err_is is_disk_fault result) }
@@ -155,6 +174,9 @@ impl<T: Store> Engine<T> {
             (machine.RollbackTo s (name_text name.now)) (plain_answer result) self.old self.new }
         ensures holds_back { err_is is_disk_fault result ≡ false
             → T.holds_back self.old.store self.new.store }
+        ensures makes { (h : State) → Stands T.Store h self.old → err_is is_disk_fault result ≡ false
+            → Makes h (machine.RollbackTo s (name_text name.now)) (plain_answer result)
+            (T.slots self.old.store) (T.lsn self.new.store) (T.blocks self.old.store) (T.blocks self.new.store) }
         ensures same { SameStore T.Store self.old.store self.new.store }
         ensures disk { IsCountedAs (T.faults self.old.store) (T.faults self.new.store)
             (err_is is_disk_fault result) }
@@ -175,6 +197,9 @@ impl<T: Store> Engine<T> {
             (machine.OpenCursor s (name_text name.now) table lo hi) (plain_answer result) self.old self.new }
         ensures holds_back { err_is is_disk_fault result ≡ false
             → T.holds_back self.old.store self.new.store }
+        ensures makes { (h : State) → Stands T.Store h self.old → err_is is_disk_fault result ≡ false
+            → Makes h (machine.OpenCursor s (name_text name.now) table lo hi) (plain_answer result)
+            (T.slots self.old.store) (T.lsn self.new.store) (T.blocks self.old.store) (T.blocks self.new.store) }
         ensures same { SameStore T.Store self.old.store self.new.store }
         ensures disk { IsCountedAs (T.faults self.old.store) (T.faults self.new.store)
             (err_is is_disk_fault result) }
@@ -191,6 +216,9 @@ impl<T: Store> Engine<T> {
     pub fn fetch(&mut self, s: u16, name: &Name, row: &mut Row) -> Result<Fetched, Refusal>
         ensures did { (h : State) → Stands T.Store h self.old → Does T.Store h
             (machine.Fetch s (name_text name.now)) (fetch_answer result row.new) self.old self.new }
+        ensures makes { (h : State) → Stands T.Store h self.old → err_is is_disk_fault result ≡ false
+            → Makes h (machine.Fetch s (name_text name.now)) (fetch_answer result row.new)
+            (T.slots self.old.store) (T.lsn self.new.store) (T.blocks self.old.store) (T.blocks self.new.store) }
         ensures lost { (h : State) → Stands T.Store h self.old → (scn lost : ℕ)
             → result ≡ Err (Refusal.TooOld scn lost)
             → NeedsLost T.Store h self.old s (name_text name.now) scn lost }
@@ -223,6 +251,9 @@ impl<T: Store> Engine<T> {
             (machine.CloseCursor s (name_text name.now)) (plain_answer result) self.old self.new }
         ensures holds_back { err_is is_disk_fault result ≡ false
             → T.holds_back self.old.store self.new.store }
+        ensures makes { (h : State) → Stands T.Store h self.old → err_is is_disk_fault result ≡ false
+            → Makes h (machine.CloseCursor s (name_text name.now)) (plain_answer result)
+            (T.slots self.old.store) (T.lsn self.new.store) (T.blocks self.old.store) (T.blocks self.new.store) }
         ensures same { SameStore T.Store self.old.store self.new.store }
         ensures disk { IsCountedAs (T.faults self.old.store) (T.faults self.new.store)
             (err_is is_disk_fault result) }
@@ -236,6 +267,9 @@ impl<T: Store> Engine<T> {
             (machine.Cancel s) (plain_answer result) self.old self.new }
         ensures holds_back { err_is is_disk_fault result ≡ false
             → T.holds_back self.old.store self.new.store }
+        ensures makes { (h : State) → Stands T.Store h self.old → err_is is_disk_fault result ≡ false
+            → Makes h (machine.Cancel s) (plain_answer result)
+            (T.slots self.old.store) (T.lsn self.new.store) (T.blocks self.old.store) (T.blocks self.new.store) }
         ensures same { SameStore T.Store self.old.store self.new.store }
         ensures disk { IsCountedAs (T.faults self.old.store) (T.faults self.new.store)
             (err_is is_disk_fault result) }
@@ -248,6 +282,9 @@ impl<T: Store> Engine<T> {
     /// wait again, it does so behind all others. None where no session is ready, and of a stopped engine.
     pub fn resume(&mut self) -> Option<(u16, Result<Wrote, Refusal>)>
         ensures did { (h : State) → Stands T.Store h self.old → Resumes T.Store h result self.old self.new }
+        ensures makes { (h : State) → Stands T.Store h self.old → resume_fault result ≡ false
+            → ResumeMakes h result (T.slots self.old.store) (T.lsn self.new.store)
+            (T.blocks self.old.store) (T.blocks self.new.store) }
         ensures lost { (h : State) → Stands T.Store h self.old → (s scn lost : ℕ)
             → result ≡ Some (s, Err (Refusal.TooOld scn lost)) → ResumeNeedsLost T.Store h self.old s scn lost }
         ensures tells { (h : State) → Stands T.Store h self.old → resume_fault result ≡ false
@@ -269,6 +306,9 @@ impl<T: Store> Engine<T> {
             (machine.Marks seg) (marks_answer seg result) self.old self.new }
         ensures holds_back { err_is is_disk_fault result ≡ false
             → T.holds_back self.old.store self.new.store }
+        ensures makes { (h : State) → Stands T.Store h self.old → err_is is_disk_fault result ≡ false
+            → Makes h (machine.Marks seg) (marks_answer seg result)
+            (T.slots self.old.store) (T.lsn self.new.store) (T.blocks self.old.store) (T.blocks self.new.store) }
         ensures same { SameStore T.Store self.old.store self.new.store }
         ensures disk { IsCountedAs (T.faults self.old.store) (T.faults self.new.store)
             (err_is is_disk_fault result) }
@@ -281,6 +321,9 @@ impl<T: Store> Engine<T> {
     pub fn checkpoint(&mut self) -> Result<(), Refusal>
         ensures did { (h : State) → Stands T.Store h self.old → Does T.Store h
             machine.Checkpoint (plain_answer result) self.old self.new }
+        ensures makes { (h : State) → Stands T.Store h self.old → err_is is_disk_fault result ≡ false
+            → Makes h machine.Checkpoint (plain_answer result)
+            (T.slots self.old.store) (T.lsn self.new.store) (T.blocks self.old.store) (T.blocks self.new.store) }
         ensures leaves { (h : State) → Stands T.Store h self.old → h.stopped ≡ false
             → LeavesState T.Store h self.old.store self.new.store }
         ensures nothing_waits { T.keeps → OnOk result (T.pending self.new.store ≡ []) }

@@ -9,6 +9,7 @@ ghost use Rattle.rb_base.specs.Logs.{Logs};
 ghost use Rattle.rb_base.specs.Stores.{room_of};
 ghost use Rattle.rb_engine.specs.Does.{Does, IsInStep, SameStore, Stands};
 ghost use Rattle.rb_engine.specs.Finishing.{Commits, HasNoNumber, PutsAllBack, PutsBack};
+ghost use Rattle.rb_engine.specs.Makes.{Makes};
 ghost use Rattle.rb_image.specs.Holds.{Holds};
 ghost use Rattle.rb_image.specs.Keeps.{KeepsRows};
 ghost use Rattle.rb_model.specs.Answers.{commit_answer, plain_answer};
@@ -120,6 +121,9 @@ fn commit_changes<T: Store>(
     ensures did { (h : State) → Stands T.Store h (record { memory = memory.old; store = store.old })
         → Does T.Store h (machine.Commit s) (commit_answer result)
         (record { memory = memory.old; store = store.old }) (record { memory = memory.new; store = store.new }) }
+    ensures makes { (h : State) → Stands T.Store h (record { memory = memory.old; store = store.old })
+        → err_is is_disk_fault result ≡ false → Makes h (machine.Commit s) (commit_answer result)
+        (T.slots store.old) (T.lsn store.new) (T.blocks store.old) (T.blocks store.new) }
     ensures rows { (h : State) → Stands T.Store h (record { memory = memory.old; store = store.old })
         → OnOk result (KeepsRows h.shape (T.blocks store.old) (T.blocks store.new)) }
     ensures holds_back { HasNoNumber result → T.holds_back store.old store.new }
@@ -162,6 +166,9 @@ fn end_without_changes<T: Store>(
     ensures did { (h : State) → Stands T.Store h (record { memory = memory.old; store = store.old })
         → Does T.Store h (machine.Commit s) (commit_answer result)
         (record { memory = memory.old; store = store.old }) (record { memory = memory.new; store = store.new }) }
+    ensures makes { (h : State) → Stands T.Store h (record { memory = memory.old; store = store.old })
+        → err_is is_disk_fault result ≡ false → Makes h (machine.Commit s) (commit_answer result)
+        (T.slots store.old) (T.lsn store.new) (T.blocks store.old) (T.blocks store.new) }
     ensures rows { (h : State) → Stands T.Store h (record { memory = memory.old; store = store.old })
         → OnOk result (KeepsRows h.shape (T.blocks store.old) (T.blocks store.new)) }
     ensures holds_back { HasNoNumber result → T.holds_back store.old store.new }
@@ -200,6 +207,9 @@ fn roll_back_changes<T: Store>(
         → Does T.Store h (machine.Rollback s) (plain_answer result)
         (record { memory = memory.old; store = store.old }) (record { memory = memory.new; store = store.new }) }
     ensures holds_back { err_is is_disk_fault result ≡ false → T.holds_back store.old store.new }
+    ensures makes { (h : State) → Stands T.Store h (record { memory = memory.old; store = store.old })
+        → err_is is_disk_fault result ≡ false → Makes h (machine.Rollback s) (plain_answer result)
+        (T.slots store.old) (T.lsn store.new) (T.blocks store.old) (T.blocks store.new) }
     ensures same { SameStore T.Store store.old store.new }
     ensures disk { IsCountedAs (T.faults store.old) (T.faults store.new) (err_is is_disk_fault result) }
 {
@@ -231,6 +241,9 @@ pub fn do_commit<T: Store>(
     ensures did { (h : State) → Stands T.Store h (record { memory = memory.old; store = store.old })
         → Does T.Store h (machine.Commit s) (commit_answer result)
         (record { memory = memory.old; store = store.old }) (record { memory = memory.new; store = store.new }) }
+    ensures makes { (h : State) → Stands T.Store h (record { memory = memory.old; store = store.old })
+        → err_is is_disk_fault result ≡ false → Makes h (machine.Commit s) (commit_answer result)
+        (T.slots store.old) (T.lsn store.new) (T.blocks store.old) (T.blocks store.new) }
     ensures rows { (h : State) → Stands T.Store h (record { memory = memory.old; store = store.old })
         → OnOk result (KeepsRows h.shape (T.blocks store.old) (T.blocks store.new)) }
     ensures holds_back { HasNoNumber result → T.holds_back store.old store.new }
@@ -261,6 +274,9 @@ pub fn do_rollback<T: Store>(memory: &mut Memory, store: &mut T, s: u16) -> Resu
         → Does T.Store h (machine.Rollback s) (plain_answer result)
         (record { memory = memory.old; store = store.old }) (record { memory = memory.new; store = store.new }) }
     ensures holds_back { err_is is_disk_fault result ≡ false → T.holds_back store.old store.new }
+    ensures makes { (h : State) → Stands T.Store h (record { memory = memory.old; store = store.old })
+        → err_is is_disk_fault result ≡ false → Makes h (machine.Rollback s) (plain_answer result)
+        (T.slots store.old) (T.lsn store.new) (T.blocks store.old) (T.blocks store.new) }
     ensures same { SameStore T.Store store.old store.new }
     ensures disk { IsCountedAs (T.faults store.old) (T.faults store.new) (err_is is_disk_fault result) }
 {

@@ -21,6 +21,7 @@ pub fn do_marks<T: Store>(memory: &mut Memory, store: &mut T, seg: u16) -> Resul
         → Does T.Store h (machine.Marks seg) (marks_answer seg result)
         (record { memory = memory.old; store = store.old }) (record { memory = memory.new; store = store.new }) }
     ensures holds_back { err_is is_disk_fault result ≡ false → T.holds_back store.old store.new }
+    ensures blocks { T.tells → err_is is_disk_fault result ≡ false → T.blocks store.new ≡ T.blocks store.old }
     ensures same { SameStore T.Store store.old store.new }
     ensures disk { IsCountedAs (T.faults store.old) (T.faults store.new) (err_is is_disk_fault result) }
 {
@@ -46,6 +47,7 @@ pub fn do_checkpoint<T: Store>(memory: &mut Memory, store: &mut T) -> Result<(),
     ensures did { (h : State) → Stands T.Store h (record { memory = memory.old; store = store.old })
         → Does T.Store h machine.Checkpoint (plain_answer result)
         (record { memory = memory.old; store = store.old }) (record { memory = memory.new; store = store.new }) }
+    ensures blocks { T.tells → err_is is_disk_fault result ≡ false → T.blocks store.new ≡ T.blocks store.old }
     ensures leaves { (h : State) → Stands T.Store h (record { memory = memory.old; store = store.old })
         → h.stopped ≡ false → LeavesState T.Store h store.old store.new }
     ensures nothing_waits { T.keeps → OnOk result (T.pending store.new ≡ []) }

@@ -3,6 +3,7 @@ ghost use Rattle.std.specs.Prelude.{◌≡◌, ◌<◌, ℕ, false, None, Some, 
 ghost use Rattle.rb_base.specs.Counts.{IsCountedAs};
 ghost use Rattle.rb_engine.specs.Does.{IsInStep, Resumes, SameStore, Stands, resume_fault};
 ghost use Rattle.rb_engine.specs.Lateness.{ResumeNeedsLost};
+ghost use Rattle.rb_engine.specs.Makes.{ResumeMakes};
 ghost use Rattle.rb_image.specs.Made.{TellsLooks};
 ghost use Rattle.rb_model.specs.Queue.{first_ready, ready_count};
 ghost use Rattle.rb_model.specs.State.{State};
@@ -26,6 +27,9 @@ pub fn do_resume<T: Store>(
     ensures did { (h : State) → Stands T.Store h (record { memory = memory.old; store = store.old })
         → Resumes T.Store h result (record { memory = memory.old; store = store.old })
         (record { memory = memory.new; store = store.new }) }
+    ensures makes { (h : State) → Stands T.Store h (record { memory = memory.old; store = store.old })
+        → resume_fault result ≡ false → ResumeMakes h result (T.slots store.old)
+        (T.lsn store.new) (T.blocks store.old) (T.blocks store.new) }
     ensures lost { (h : State) → Stands T.Store h (record { memory = memory.old; store = store.old })
         → (s scn lost : ℕ) → result ≡ Some (s, Err (Refusal.TooOld scn lost)) → ResumeNeedsLost T.Store h
         (record { memory = memory.old; store = store.old }) s scn lost }

@@ -2,6 +2,7 @@
 ghost use Rattle.std.specs.Prelude.{◌≡◌, ◌≢◌, ◌≤◌, ℕ, false, Some, IfErr};
 ghost use Rattle.rb_base.specs.Counts.{IsCountedAs, err_is};
 ghost use Rattle.rb_engine.specs.Does.{Does, IsInStep, SameStore, Stands};
+ghost use Rattle.rb_engine.specs.Makes.{Makes};
 ghost use Rattle.rb_model.specs.Answers.{plain_answer};
 ghost use Rattle.rb_model.specs.Calls.{is_disk_fault};
 ghost use Rattle.rb_model.specs.Calls as machine;
@@ -63,6 +64,10 @@ fn roll_back_later<T: Store>(
         → Does T.Store h (machine.RollbackTo s (name_text name.now)) (plain_answer result)
         (record { memory = memory.old; store = store.old }) (record { memory = memory.new; store = store.new }) }
     ensures holds_back { err_is is_disk_fault result ≡ false → T.holds_back store.old store.new }
+    ensures makes { (h : State) → Stands T.Store h (record { memory = memory.old; store = store.old })
+        → err_is is_disk_fault result ≡ false
+        → Makes h (machine.RollbackTo s (name_text name.now)) (plain_answer result)
+        (T.slots store.old) (T.lsn store.new) (T.blocks store.old) (T.blocks store.new) }
     ensures same { SameStore T.Store store.old store.new }
     ensures disk { IsCountedAs (T.faults store.old) (T.faults store.new) (err_is is_disk_fault result) }
 {
@@ -97,6 +102,10 @@ pub fn do_rollback_to<T: Store>(
         → Does T.Store h (machine.RollbackTo s (name_text name.now)) (plain_answer result)
         (record { memory = memory.old; store = store.old }) (record { memory = memory.new; store = store.new }) }
     ensures holds_back { err_is is_disk_fault result ≡ false → T.holds_back store.old store.new }
+    ensures makes { (h : State) → Stands T.Store h (record { memory = memory.old; store = store.old })
+        → err_is is_disk_fault result ≡ false
+        → Makes h (machine.RollbackTo s (name_text name.now)) (plain_answer result)
+        (T.slots store.old) (T.lsn store.new) (T.blocks store.old) (T.blocks store.new) }
     ensures same { SameStore T.Store store.old store.new }
     ensures disk { IsCountedAs (T.faults store.old) (T.faults store.new) (err_is is_disk_fault result) }
 {

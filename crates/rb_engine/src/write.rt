@@ -7,6 +7,7 @@ ghost use Rattle.rb_base.specs.declared.ids.Xid.{Xid};
 ghost use Rattle.rb_engine.specs.Checks.{NotOld};
 ghost use Rattle.rb_engine.specs.Does.{Does, IsInStep, SameStore, Stands};
 ghost use Rattle.rb_engine.specs.Lateness.{WriteNeedsLost};
+ghost use Rattle.rb_engine.specs.Makes.{Makes};
 ghost use Rattle.rb_engine.specs.Scanning.{OtherHolds};
 ghost use Rattle.rb_image.specs.Made.{TellsLooks};
 ghost use Rattle.rb_model.specs.Answers.{action_by, write_answer};
@@ -104,6 +105,12 @@ fn make_write<T: Store>(
         → MayWrite h s table key
         → Does T.Store h (machine.Write s table key (action_by op.entry)) (write_answer result)
         (record { memory = memory.old; store = store.old }) (record { memory = memory.new; store = store.new }) }
+    ensures makes { (h : State) → Stands T.Store h (record { memory = memory.old; store = store.old })
+        → machine.none_applies (machine.early_tests h (machine.Write s table key (action_by op.entry))) ≡ true
+        → MayWrite h s table key
+        → err_is is_disk_fault result ≡ false
+        → Makes h (machine.Write s table key (action_by op.entry)) (write_answer result)
+        (T.slots store.old) (T.lsn store.new) (T.blocks store.old) (T.blocks store.new) }
     ensures tells { (h : State) → Stands T.Store h (record { memory = memory.old; store = store.old })
         → machine.none_applies (machine.early_tests h (machine.Write s table key (action_by op.entry))) ≡ true
         → MayWrite h s table key
@@ -147,6 +154,12 @@ fn write_free<T: Store>(
         → NotOthers h s table key
         → Does T.Store h (machine.Write s table key (action_by op.entry)) (write_answer result)
         (record { memory = memory.old; store = store.old }) (record { memory = memory.new; store = store.new }) }
+    ensures makes { (h : State) → Stands T.Store h (record { memory = memory.old; store = store.old })
+        → machine.none_applies (machine.early_tests h (machine.Write s table key (action_by op.entry))) ≡ true
+        → NotOthers h s table key
+        → err_is is_disk_fault result ≡ false
+        → Makes h (machine.Write s table key (action_by op.entry)) (write_answer result)
+        (T.slots store.old) (T.lsn store.new) (T.blocks store.old) (T.blocks store.new) }
     ensures lost { (h : State) → Stands T.Store h (record { memory = memory.old; store = store.old })
         → (scn lost : ℕ) → result ≡ Err (Refusal.TooOld scn lost) → WriteNeedsLost T.Store h
         (record { memory = memory.old; store = store.old }) s table key scn lost }
@@ -186,6 +199,11 @@ fn try_write<T: Store>(
         → machine.none_applies (machine.early_tests h (machine.Write s table key (action_by op.entry))) ≡ true
         → Does T.Store h (machine.Write s table key (action_by op.entry)) (write_answer result)
         (record { memory = memory.old; store = store.old }) (record { memory = memory.new; store = store.new }) }
+    ensures makes { (h : State) → Stands T.Store h (record { memory = memory.old; store = store.old })
+        → machine.none_applies (machine.early_tests h (machine.Write s table key (action_by op.entry))) ≡ true
+        → err_is is_disk_fault result ≡ false
+        → Makes h (machine.Write s table key (action_by op.entry)) (write_answer result)
+        (T.slots store.old) (T.lsn store.new) (T.blocks store.old) (T.blocks store.new) }
     ensures lost { (h : State) → Stands T.Store h (record { memory = memory.old; store = store.old })
         → (scn lost : ℕ) → result ≡ Err (Refusal.TooOld scn lost) → WriteNeedsLost T.Store h
         (record { memory = memory.old; store = store.old }) s table key scn lost }
@@ -223,6 +241,10 @@ pub fn do_write<T: Store>(
     ensures did { (h : State) → Stands T.Store h (record { memory = memory.old; store = store.old })
         → Does T.Store h (machine.Write s table key (action_by op.entry)) (write_answer result)
         (record { memory = memory.old; store = store.old }) (record { memory = memory.new; store = store.new }) }
+    ensures makes { (h : State) → Stands T.Store h (record { memory = memory.old; store = store.old })
+        → err_is is_disk_fault result ≡ false
+        → Makes h (machine.Write s table key (action_by op.entry)) (write_answer result)
+        (T.slots store.old) (T.lsn store.new) (T.blocks store.old) (T.blocks store.new) }
     ensures lost { (h : State) → Stands T.Store h (record { memory = memory.old; store = store.old })
         → (scn lost : ℕ) → result ≡ Err (Refusal.TooOld scn lost) → WriteNeedsLost T.Store h
         (record { memory = memory.old; store = store.old }) s table key scn lost }

@@ -9,7 +9,7 @@ use Rattle.rb_engine.specs.Cleaning.{Cleans, ReadIn}
 use Rattle.rb_model.specs.State.{State}
 use Rattle.rb_engine.specs.Does.{EngineView, Kept}
 use Rattle.rb_engine.proofs.DoesLemmas.{does_fault, does_refused, does_refused_late}
-use Rattle.rb_engine.proofs.FetchLemmas.{answer_by, cleans_read, does_end, does_old, does_row, needs_lost, not_old, same_old, serves}
+use Rattle.rb_engine.proofs.FetchLemmas.{answer_by, cleans_read, does_end, does_old, does_row, needs_lost, not_old, read_by, same_old, serves}
 use Rattle.rb_engine.proofs.StepLemmas.{few_young, fit_at, fit_taken, in_step_moved, in_step_young, named_in, queue_moved}
 use Rattle.rb_model.specs.Calls as machine
 use Rattle.rb_model.specs.Calls.{Answer, Refused, Reply, early_tests, none_applies, next_row}
@@ -19,6 +19,7 @@ use Rattle.rb_model.specs.declared.row.Fetched.{Fetched}
 use Rattle.rb_sessions.specs.Kept.{KeptSession, kept_at, named, with_kept, with_last}
 use Rattle.rb_sessions.specs.Kept as table
 use Rattle.rb_views.proofs.Cursors.{named_is}
+use Rattle.rb_engine.proofs.MakesLemmas.{makes_refused}
 use Rattle.rb_engine.proofs.fetch.do_fetch.Given.{Over}
 use Rattle.rb_engine.proofs.fetch.do_fetch.Goals as goal
 
@@ -246,3 +247,46 @@ returns-in-Err-TooOld-clause-holds_back g c = λ fine.
 
 pub returns-in-Err-Failed-clause-holds_back : goal.returns-in-Err-Failed-clause-holds_back
 returns-in-Err-Failed-clause-holds_back g c = λ fine. (let clash : true ≡ false = fine in absurd cc)
+
+-- And so what it makes of the blocks.
+pub returns-in-Err-clause-makes : goal.returns-in-Err-clause-makes
+returns-in-Err-clause-makes g c = λ h st fine.
+    let s = g.T.Store in
+    let store = c.args.store.now in
+    makes_refused h (machine.Fetch c.args.s (name_text c.args.name.now)) (s.slots store) (s.lsn store) (s.blocks store) (s.blocks store) refl c.in-Err.why
+    (λ scn lost is. absurd (not_old h c.args.s c.in-Err.why scn lost (c.in-Err.ensures.refused h st.knows) is))
+
+pub returns-in-Ok-Row-clause-makes : goal.returns-in-Ok-Row-clause-makes
+returns-in-Ok-Row-clause-makes g c = λ h st fine.
+    let s = g.T.Store in
+    let kept = c.args.memory.now in
+    let name = name_text c.args.name.now in
+    let e = c.in_default.ensures in
+    let table_is : c.memory.inside.sessions ≡ kept.sessions = ap (λ (k : Kept). k.sessions) c.memory.view_is in
+    let is_named = ap (λ (l : List KeptSession). named name (kept_at l c.args.s).cursors) (sym table_is) ∙ (sym c.cursor.ensures ∙ c.in-Some.is) in
+    read_by s (laws_of g) h (record { memory = kept; store = c.args.store.now }) st (sym st.knows.stopped ∙ e.going) c.args.s e.session name (e.granted h st.knows) c.in-Some.cursor is_named
+    (Unit {0}) c.next_row.new.store (Ok c.in-Ok-Row.field-0) (λ well. (c.in-Ok-Row.field-0, refl)) c.in-Ok-Row.ensures.logs.1.same_slots (λ xids serves. c.in-Ok-Row.ensures.cleans st.told h xids serves)
+
+pub returns-in-Ok-End-clause-makes : goal.returns-in-Ok-End-clause-makes
+returns-in-Ok-End-clause-makes g c = λ h st fine.
+    let s = g.T.Store in
+    let kept = c.args.memory.now in
+    let name = name_text c.args.name.now in
+    let e = c.in_default.ensures in
+    let table_is : c.memory.inside.sessions ≡ kept.sessions = ap (λ (k : Kept). k.sessions) c.memory.view_is in
+    let is_named = ap (λ (l : List KeptSession). named name (kept_at l c.args.s).cursors) (sym table_is) ∙ (sym c.cursor.ensures ∙ c.in-Some.is) in
+    read_by s (laws_of g) h (record { memory = kept; store = c.args.store.now }) st (sym st.knows.stopped ∙ e.going) c.args.s e.session name (e.granted h st.knows) c.in-Some.cursor is_named
+    (Unit {0}) c.next_row.new.store (Ok c.in-Ok-End.field-0) (λ well. (c.in-Ok-End.field-0, refl)) c.in-Ok-End.ensures.logs.1.same_slots (λ xids serves. c.in-Ok-End.ensures.cleans st.told h xids serves)
+
+pub returns-in-Err-TooOld-clause-makes : goal.returns-in-Err-TooOld-clause-makes
+returns-in-Err-TooOld-clause-makes g c = λ h st fine.
+    let s = g.T.Store in
+    let kept = c.args.memory.now in
+    let name = name_text c.args.name.now in
+    let e = c.in_default.ensures in
+    let table_is : c.memory.inside.sessions ≡ kept.sessions = ap (λ (k : Kept). k.sessions) c.memory.view_is in
+    let is_named = ap (λ (l : List KeptSession). named name (kept_at l c.args.s).cursors) (sym table_is) ∙ (sym c.cursor.ensures ∙ c.in-Some.is) in
+    let m = c.in-Some.cursor in
+    read_by s (laws_of g) h (record { memory = kept; store = c.args.store.now }) st (sym st.knows.stopped ∙ e.going) c.args.s e.session name (e.granted h st.knows) m is_named
+    ⊥ c.next_row.new.store (Err c.in-Err-TooOld.field-0) (λ clash. absurd clash) c.in-Err-TooOld.ensures.logs.1.same_slots
+    (λ xids serves. by_fault s h xids (ReadIn h xids (s.blocks c.args.store.now) m) h.shape.blocks c.args.store.now c.next_row.new.store true c.in-Err-TooOld.field-0 (faults.TooOld c.in-Err-TooOld.scn c.in-Err-TooOld.lost) c.in-Err-TooOld.field-0-is refl (c.in-Err-TooOld.ensures.cleans st.told h xids serves))

@@ -11,6 +11,7 @@ use Rattle.rb_sessions.specs.Kept.{KeptSession, kept_at}
 use Rattle.rb_sessions.specs.Kept as table
 use Rattle.rb_engine.proofs.FinishLemmas.{count_is, does_committed, does_not, goes, next_known, no_early, own_id, room_one, who_in}
 use Rattle.rb_engine.proofs.StepLemmas.{few_less, fit_at, fit_committed, in_step_moved, queue_moved}
+use Rattle.rb_engine.proofs.MakesLemmas.{makes_committed}
 use Rattle.rb_engine.proofs.finish.commit_changes.Given.{Over}
 use Rattle.rb_engine.proofs.finish.commit_changes.Goals as goal
 
@@ -126,3 +127,26 @@ returns-in-Ok-clause-holds_back g c = λ none. absurd none
 
 pub returns-in-Err-clause-holds_back : goal.returns-in-Err-clause-holds_back
 returns-in-Err-clause-holds_back g c = λ none. absurd none
+
+pub returns-in-Ok-clause-makes : goal.returns-in-Ok-clause-makes
+returns-in-Ok-clause-makes g c = λ h st fine.
+    let s = g.T.Store in
+    let store = c.args.store.now in
+    let inside : Kept = record { sessions = c.memory.inside.sessions; waits = c.memory.inside.waits; scn = c.memory.inside.scn; stopped = c.memory.inside.stopped } in
+    let old : EngineView _ = record { memory = inside; store = store } in
+    let here : Stands s h old = subst (λ (k : Kept). Stands s h (record { memory = k; store = store })) (sym c.memory.view_is) st in
+    let own : (kept_at inside.sessions c.args.s).own ≡ Some c.args.xid = ap (λ (k : Kept). (kept_at k.sessions c.args.s).own) c.memory.view_is ∙ c.requires.own in
+    let going : h.stopped ≡ false = sym st.knows.stopped ∙ c.requires.going in
+    let there = c.requires.session in
+    let count = count_is s st.told (laws_of g) h old c.args.s c.args.xid here going there own in
+    let held = goes s st.told (laws_of g) h old c.args.s c.args.xid here going there own in
+    let who = who_in s st.told (laws_of g) h old c.args.s c.args.xid here going there own in
+    let id = own_id s st.told (laws_of g) h old c.args.s c.args.xid here going there own in
+    let low = subst (λ (k : Kept). IsInStep s k store) (sym c.memory.view_is) c.requires.step in
+    let busy : 0 < (kept_at inside.sessions c.args.s).count = subst (λ (k : Kept). 0 < (kept_at k.sessions c.args.s).count) (sym c.memory.view_is) c.requires.some in
+    let some : 0 < length (session_own h c.args.s) = omega (arith, busy, count) in
+    let scn = c.saturating_add-scn.result in
+    let number = next_known s st.told (laws_of g) h old c.args.s c.args.xid here going there own scn (let few = low.few (ap (λ (k : Kept). k.stopped) c.memory.view_is ∙ c.requires.going) in omega (arith, few)) c.saturating_add-scn.ensures in
+    let new = c.commit_and_flush.new.store in
+    makes_committed s st.told (laws_of g) h old c.args.s c.args.xid here going there own (s.slots store) (s.lsn new) new scn some
+    (c.in-Ok.ensures.commits st.told h held.xids c.args.s st.shape held.holds who.0 who.1 id some number)

@@ -13,6 +13,7 @@ use Rattle.rb_engine.proofs.DoesLemmas.{does_refused}
 use Rattle.rb_engine.proofs.FinishLemmas.{does_ended}
 use Rattle.rb_engine.proofs.StepLemmas.{few_less, fit_at, fit_rolled_back, in_step_moved, queue_moved}
 use Rattle.rb_views.specs.Views.{Remembers}
+use Rattle.rb_engine.proofs.MakesLemmas.{makes_refused, no_slot}
 use Rattle.rb_engine.proofs.finish.do_rollback.Given.{Over}
 use Rattle.rb_engine.proofs.finish.do_rollback.Goals as goal
 
@@ -71,3 +72,20 @@ returns-in-Err-clause-holds_back g c = λ fine. g.met.T.Store.holds_back_same c.
 
 pub returns-in-None-clause-holds_back : goal.returns-in-None-clause-holds_back
 returns-in-None-clause-holds_back g c = λ fine. g.met.T.Store.holds_back_same c.args.store.now
+
+pub returns-in-None-clause-makes : goal.returns-in-None-clause-makes
+returns-in-None-clause-makes g c = λ h st fine.
+    let s = g.T.Store in
+    let store = c.args.store.now in
+    let inside : Kept = record { sessions = c.memory.inside.sessions; waits = c.memory.inside.waits; scn = c.memory.inside.scn; stopped = c.memory.inside.stopped } in
+    let old : EngineView _ = record { memory = inside; store = store } in
+    let here : Stands s h old = subst (λ (k : Kept). Stands s h (record { memory = k; store = store })) (sym c.memory.view_is) st in
+    let going : h.stopped ≡ false = sym st.knows.stopped ∙ c.in_default.ensures.going in
+    let own : (kept_at inside.sessions c.args.s).own ≡ None = sym c.session.ensures.own ∙ c.in-None.is in
+    inr (no_slot s h old (here.goes going) c.args.s c.in_default.ensures.session own, refl)
+
+pub returns-in-Err-clause-makes : goal.returns-in-Err-clause-makes
+returns-in-Err-clause-makes g c = λ h st fine.
+    let s = g.T.Store in
+    let store = c.args.store.now in
+    makes_refused h (machine.Rollback c.args.s) (s.slots store) (s.lsn store) (s.blocks store) (s.blocks store) refl c.in-Err.why (λ scn lost is. refl)

@@ -10,6 +10,7 @@ use Rattle.rb_model.specs.Queue.{is_queued}
 use Rattle.rb_engine.proofs.FinishLemmas.{count_is, does_not, goes, no_early, own_id, who_in}
 use Rattle.rb_engine.proofs.RollbackLemmas.{does_back, room_back}
 use Rattle.rb_engine.proofs.StepLemmas.{few_less, fit_at, fit_rolled_back, in_step_moved, queue_moved}
+use Rattle.rb_engine.proofs.MakesLemmas.{makes_back}
 use Rattle.rb_engine.proofs.finish.roll_back_changes.Given.{Over}
 use Rattle.rb_engine.proofs.finish.roll_back_changes.Goals as goal
 
@@ -108,3 +109,21 @@ returns-in-Ok-clause-holds_back g c = λ fine. c.in-Ok.ensures.holds_back
 
 pub returns-in-Err-clause-holds_back : goal.returns-in-Err-clause-holds_back
 returns-in-Err-clause-holds_back g c = λ fine. (let clash : true ≡ false = fine in absurd cc)
+
+pub returns-in-Ok-clause-makes : goal.returns-in-Ok-clause-makes
+returns-in-Ok-clause-makes g c = λ h st fine.
+    let s = g.T.Store in
+    let store = c.args.store.now in
+    let inside : Kept = record { sessions = c.memory.inside.sessions; waits = c.memory.inside.waits; scn = c.memory.inside.scn; stopped = c.memory.inside.stopped } in
+    let old : EngineView _ = record { memory = inside; store = store } in
+    let here : Stands s h old = subst (λ (k : Kept). Stands s h (record { memory = k; store = store })) (sym c.memory.view_is) st in
+    let own : (kept_at inside.sessions c.args.s).own ≡ Some c.args.xid = ap (λ (k : Kept). (kept_at k.sessions c.args.s).own) c.memory.view_is ∙ c.requires.own in
+    let going : h.stopped ≡ false = sym st.knows.stopped ∙ c.requires.going in
+    let there = c.requires.session in
+    let count = count_is s st.told (laws_of g) h old c.args.s c.args.xid here going there own in
+    let held = goes s st.told (laws_of g) h old c.args.s c.args.xid here going there own in
+    let who = who_in s st.told (laws_of g) h old c.args.s c.args.xid here going there own in
+    let id = own_id s st.told (laws_of g) h old c.args.s c.args.xid here going there own in
+    let new = c.put_all_back.new.store in
+    makes_back s st.told (laws_of g) h old c.args.s c.args.xid here going there own (s.slots store) (s.lsn new) new
+    (c.in-Ok.ensures.puts_back st.told h held.xids c.args.s st.shape held.holds who.0 who.1 id going (sym count ∙ sym c.session-count.ensures.length))

@@ -73,3 +73,7 @@ returns-clause-holds_back g c = λ _.
     let fine : is_err c.load.result ≡ false = sym c.is_err.ensures.value ∙ c.if-is_err.false in
     let logs : Logs s c.args.store.now c.load.new.self [] true = subst (λ (b : Bool). Logs s c.args.store.now c.load.new.self [] (not b)) fine (load_logs s c.args.store.now c.load.new.self c.load.result e.shape e.slots e.failed e.counted e.lsn e.blocks e.settles e.any_moment e.holds_back) in
     logs.between refl (laws_of g)
+
+pub returns-clause-blocks : goal.returns-clause-blocks
+returns-clause-blocks g c = λ tells fine.
+    ok_of c.load.result (sym c.is_err.ensures.value ∙ c.if-is_err.false) (c.load.ensures.blocks tells)

@@ -14,6 +14,7 @@ use Rattle.rb_engine.proofs.QueueLemmas.{blocks_stand, queue_left}
 use Rattle.rb_engine.proofs.LateLemmas.{same_resumed}
 use Rattle.rb_engine.proofs.StepLemmas.{in_step_queue}
 use Rattle.rb_engine.proofs.WaitLemmas.{asked_held, does_from, held_some, stands_left}
+use Rattle.rb_engine.specs.Makes.{Makes}
 use Rattle.rb_engine.proofs.resume.do_resume.Goals as goal
 
 pub held-requires : goal.held-requires
@@ -102,3 +103,21 @@ returns-clause-tells g c = λ h st fine.
     let here : Stands s h (record { memory = inside; store = store }) = subst (λ (k : Kept). Stands s h (record { memory = k; store = store })) (sym c.memory.view_is) st in
     let left : now ≡ record inside { waits = left_by w inside.waits } = ap (λ (l : List Waiter). let k : Kept = record { sessions = c.memory.inside.sessions; waits = l; scn = c.memory.inside.scn; stopped = c.memory.inside.stopped } in k) c.leave.ensures in
     c.do_write-outcome.ensures.tells (unqueued h w) (stands_left s h w inside now store here left) fine
+
+pub returns-clause-makes : goal.returns-clause-makes
+returns-clause-makes g c = λ h st fine.
+    let s = g.T.Store in
+    let store = c.args.store.now in
+    let w = c.in_ok-s.s in
+    let p = c.in_ok-pending.pending in
+    let inside : Kept = record { sessions = c.memory.inside.sessions; waits = c.memory.inside.waits; scn = c.memory.inside.scn; stopped = c.memory.inside.stopped } in
+    let now : Kept = record { sessions = c.memory.inside.sessions; waits = c.leave.new.self; scn = c.memory.inside.scn; stopped = c.memory.inside.stopped } in
+    let here : Stands s h (record { memory = inside; store = store }) = subst (λ (k : Kept). Stands s h (record { memory = k; store = store })) (sym c.memory.view_is) st in
+    let left : now ≡ record inside { waits = left_by w inside.waits } = ap (λ (l : List Waiter). let k : Kept = record { sessions = c.memory.inside.sessions; waits = l; scn = c.memory.inside.scn; stopped = c.memory.inside.stopped } in k) c.leave.ensures in
+    let going : h.stopped ≡ false = sym here.knows.stopped ∙ c.if-memory.false in
+    let new = c.do_write-outcome.new.store in
+    let made = c.do_write-outcome.ensures.makes (unqueued h w) (stands_left s h w inside now store here left) fine in (
+      asked_of_pending p,
+      asked_held h inside (here.knows.queue going) w c.held.result p c.held.ensures c.in_ok-pending.was,
+      subst (λ (a : Action). Makes (unqueued h w) (machine.Write w p.table p.key a) (write_answer c.do_write-outcome.result) (s.slots store) (s.lsn new) (s.blocks store) (s.blocks new)) c.op.ensures.op made,
+    )

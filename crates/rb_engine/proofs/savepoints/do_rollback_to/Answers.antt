@@ -1,6 +1,6 @@
-use Rattle.std.proofs.Common.{inl, ◌≡◌, ℕ, zero, suc, List, length, [], Some, None, Option, take, refl, sym, ◌∙◌, ap, subst, arith, map, ◌-◌}
+use Rattle.std.proofs.Common.{inl, inr, ◌≡◌, ℕ, zero, suc, List, length, [], Some, None, Option, take, refl, sym, ◌∙◌, ap, subst, arith, map, ◌-◌}
 use Rattle.rb_base.specs.Logs.{Laws, no_logs}
-use Rattle.rb_engine.specs.Does.{Does, Goes, IsInStep, Kept, Stands}
+use Rattle.rb_engine.specs.Does.{Does, EngineView, Goes, IsInStep, Kept, Stands}
 use Rattle.rb_model.specs.Calls as machine
 use Rattle.rb_model.specs.Calls.{Reply, name_tests}
 use Rattle.rb_model.specs.Change.{Change}
@@ -17,6 +17,7 @@ use Rattle.rb_engine.proofs.DoesLemmas.{does_refused, does_refused_late, does_se
 use Rattle.rb_engine.proofs.FinishLemmas.{no_items}
 use Rattle.rb_engine.proofs.SavepointLemmas.{kept_none, kept_some}
 use Rattle.rb_engine.proofs.StepLemmas.{few_less, fit_at, fit_rolled_to, in_step_moved, queue_moved}
+use Rattle.rb_engine.proofs.MakesLemmas.{makes_refused, no_slot}
 use Rattle.rb_engine.proofs.savepoints.do_rollback_to.Given.{Over}
 use Rattle.rb_engine.proofs.savepoints.do_rollback_to.Goals as goal
 
@@ -112,3 +113,23 @@ returns-in_default-savepoint-clause-holds_back g c = λ fine. g.met.T.Store.hold
 
 pub returns-in-None-clause-holds_back : goal.returns-in-None-clause-holds_back
 returns-in-None-clause-holds_back g c = λ fine. g.met.T.Store.holds_back_same c.args.store.now
+
+pub returns-in-None-clause-makes : goal.returns-in-None-clause-makes
+returns-in-None-clause-makes g c = λ h st fine.
+    let s = g.T.Store in
+    let store = c.args.store.now in
+    let inside : Kept = record { sessions = c.memory.inside.sessions; waits = c.memory.inside.waits; scn = c.memory.inside.scn; stopped = c.memory.inside.stopped } in
+    let old : EngineView _ = record { memory = inside; store = store } in
+    let here : Stands s h old = subst (λ (k : Kept). Stands s h (record { memory = k; store = store })) (sym c.memory.view_is) st in
+    let there = c.in_default.ensures.session in
+    let goes : Goes s h old = here.goes (sym st.knows.stopped ∙ c.in_default.ensures.going) in
+    let name = name_text c.args.name.now in
+    let found = kept_some (savepoint_named name (kept_at inside.sessions c.args.s).savepoints) c.in-Some.kept (sym c.savepoint.ensures ∙ c.in-Some.is) in
+    let at : savepoint_of h c.args.s name ≡ Some found.0 = ap (savepoint_named name) (sym (goes.remembers.each c.args.s there.0 there.1).savepoints) ∙ found.1 in
+    (found.0, at, inr (no_slot s h old goes c.args.s there (sym c.session.ensures.own ∙ c.in-None.is), refl))
+
+pub returns-in-Err-clause-makes : goal.returns-in-Err-clause-makes
+returns-in-Err-clause-makes g c = λ h st fine.
+    let s = g.T.Store in
+    let store = c.args.store.now in
+    makes_refused h (machine.RollbackTo c.args.s (name_text c.args.name.now)) (s.slots store) (s.lsn store) (s.blocks store) (s.blocks store) refl c.in-Err.why (λ scn lost is. refl)

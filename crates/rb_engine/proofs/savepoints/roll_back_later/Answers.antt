@@ -11,6 +11,7 @@ use Rattle.rb_engine.proofs.FinishLemmas.{count_is, does_not, goes, no_early, ow
 use Rattle.rb_engine.proofs.RollbackLemmas.{does_cut, room_back}
 use Rattle.rb_engine.proofs.SavepointLemmas.{kept_some}
 use Rattle.rb_engine.proofs.StepLemmas.{few_less, fit_at, fit_rolled_to, in_step_moved, queue_moved}
+use Rattle.rb_engine.proofs.MakesLemmas.{makes_cut}
 use Rattle.rb_engine.proofs.savepoints.roll_back_later.Given.{Over}
 use Rattle.rb_engine.proofs.savepoints.roll_back_later.Goals as goal
 
@@ -124,3 +125,26 @@ returns-in-Ok-clause-holds_back g c = λ fine. c.in-Ok.ensures.logs.1.between re
 
 pub returns-in-Err-clause-holds_back : goal.returns-in-Err-clause-holds_back
 returns-in-Err-clause-holds_back g c = λ fine. (let clash : true ≡ false = fine in absurd cc)
+
+pub returns-in-Ok-clause-makes : goal.returns-in-Ok-clause-makes
+returns-in-Ok-clause-makes g c = λ h st fine.
+    let s = g.T.Store in
+    let store = c.args.store.now in
+    let inside : Kept = record { sessions = c.memory.inside.sessions; waits = c.memory.inside.waits; scn = c.memory.inside.scn; stopped = c.memory.inside.stopped } in
+    let old : EngineView _ = record { memory = inside; store = store } in
+    let here : Stands s h old = subst (λ (k : Kept). Stands s h (record { memory = k; store = store })) (sym c.memory.view_is) st in
+    let own : (kept_at inside.sessions c.args.s).own ≡ Some c.args.xid = ap (λ (k : Kept). (kept_at k.sessions c.args.s).own) c.memory.view_is ∙ c.requires.own in
+    let going : h.stopped ≡ false = sym st.knows.stopped ∙ c.requires.going in
+    let there = c.requires.session in
+    let count = count_is s st.told (laws_of g) h old c.args.s c.args.xid here going there own in
+    let held = goes s st.told (laws_of g) h old c.args.s c.args.xid here going there own in
+    let who = who_in s st.told (laws_of g) h old c.args.s c.args.xid here going there own in
+    let id = own_id s st.told (laws_of g) h old c.args.s c.args.xid here going there own in
+    let name = name_text c.args.name.now in
+    let found = kept_some (savepoint_named name (kept_at inside.sessions c.args.s).savepoints) c.args.kept (ap (λ (k : Kept). kept_by (savepoint_named name (kept_at k.sessions c.args.s).savepoints)) c.memory.view_is ∙ c.requires.named) in
+    let p = found.0 in
+    let back : c.saturating_sub-count.result ≡ length (session_own h c.args.s) - p.kept = (let a = c.saturating_sub-count.ensures in let b = c.session.ensures.length in let e = found.2 in omega (arith, a, b, e, count)) in
+    let at : savepoint_of h c.args.s name ≡ Some p = ap (savepoint_named name) (sym (held.remembers.each c.args.s there.0 there.1).savepoints) ∙ found.1 in
+    let new = c.put_back.new.store in
+    makes_cut s st.told (laws_of g) h old c.args.s c.args.xid here going there own (s.slots store) (s.lsn new) new name p at
+    (c.in-Ok.ensures.puts_back st.told h held.xids c.args.s p.kept st.shape held.holds who.0 who.1 id going back)

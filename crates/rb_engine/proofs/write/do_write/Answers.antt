@@ -5,6 +5,7 @@ use Rattle.rb_model.specs.Calls as machine
 use Rattle.rb_model.specs.declared.refusal.Refusal.TheVariants.{TooOld}
 use Rattle.rb_engine.proofs.DoesLemmas.{does_refused}
 use Rattle.rb_engine.proofs.ModeLemmas.{knows_modes}
+use Rattle.rb_engine.proofs.MakesLemmas.{makes_refused}
 use Rattle.rb_engine.proofs.write.do_write.Given.{Over}
 use Rattle.rb_image.proofs.Tells.{tells_same}
 use Rattle.rb_engine.proofs.write.do_write.Goals as goal
@@ -39,3 +40,12 @@ returns-clause-tells g c = λ h st fine. c.try_write.ensures.tells h st (c.in_de
 
 pub returns-in-Err-clause-holds_back : goal.returns-in-Err-clause-holds_back
 returns-in-Err-clause-holds_back g c = λ fine. g.met.T.Store.holds_back_same c.args.store.now
+
+pub returns-in-Err-clause-makes : goal.returns-in-Err-clause-makes
+returns-in-Err-clause-makes g c = λ h st fine.
+    let s = g.T.Store in
+    let store = c.args.store.now in
+    makes_refused h (machine.Write c.args.s c.args.table c.args.key (action_by c.args.op)) (s.slots store) (s.lsn store) (s.blocks store) (s.blocks store) refl c.in-Err.why (λ scn lost is. refl)
+
+pub returns-clause-makes : goal.returns-clause-makes
+returns-clause-makes g c = λ h st fine. c.try_write.ensures.makes h st (c.in_default.ensures.granted h c.args.key st.knows (knows_modes g.T.Store h _ st) (c.shape.ensures.shape ∙ st.shape)) fine

@@ -12,6 +12,7 @@ use Rattle.rb_undoengine.specs.Steps.{IsAbout, refusal_of}
 use Rattle.rb_engine.proofs.LateLemmas.{attempt_not_old}
 use Rattle.rb_engine.proofs.StepLemmas.{few_wrote, fit_at, fit_wrote, in_step_moved, queue_moved, in_step_same}
 use Rattle.rb_engine.proofs.WriteLemmas.{about, failed_is, few_group, step_done, step_failed, step_refused, the_failure}
+use Rattle.rb_engine.proofs.MakesLemmas.{makes_refused, makes_written}
 use Rattle.rb_engine.proofs.write.make_write.Given.{Over}
 use Rattle.rb_engine.proofs.TellsLemmas.{tells_logged, tells_written}
 use Rattle.rb_base.specs.Stores.{room_of}
@@ -160,3 +161,30 @@ returns-in-Err-clause-holds_back g c = λ fine.
     let fault = c.in-Err.fault in
     let why : c.refuse.result ≡ refusal_of fault = c.refuse.ensures.why ∙ c.refusal.ensures in
     (c.in-Err.ensures.unchanged (sym (failed_is fault) ∙ (ap is_disk_fault (sym why) ∙ fine))).between refl (laws_of g)
+
+pub returns-in-Ok-clause-makes : goal.returns-in-Ok-clause-makes
+returns-in-Ok-clause-makes g c = λ h st early others fine.
+    let s = g.T.Store in
+    let kept = c.args.memory.now in
+    let u = c.args.s in
+    let store = c.args.store.now in
+    let old : EngineView _ = record { memory = kept; store = store } in
+    let going : h.stopped ≡ false = sym st.knows.stopped ∙ c.requires.going in
+    let goes : Goes s h old = st.goes going in
+    let action = action_by c.args.op in
+    let sixteen = st.knows.sixteen in
+    let table : c.memory.inside.sessions ≡ kept.sessions = ap (λ (m : Kept). m.sessions) c.memory.view_is in
+    let own : c.session-own.result.own ≡ (kept_at kept.sessions u).own = c.session-own.ensures.own ∙ ap (λ (l : List KeptSession). (kept_at l u).own) table in
+    let is : IsAbout h goes.xids u c.session-own.result.own (s.blocks store) = subst (λ (o : Option Xid). IsAbout h goes.xids u o (s.blocks store)) (sym own) (about s st.told (laws_of g) h old st going u c.args.table c.args.key action c.requires.session early) in
+    makes_written s st.told h goes.xids u c.args.table c.args.key action (room_of (s.slots store) (s.lsn store)) c.in-Ok.xid (s.slots store) (s.lsn c.write_step.new.store) store c.write_step.new.store
+    (c.in-Ok.ensures.gives st.told h goes.xids u is st.shape (omega (arith, sixteen, c.requires.session.1)) others goes.holds.logged (omega (arith, sixteen)))
+
+pub returns-in-Err-clause-makes : goal.returns-in-Err-clause-makes
+returns-in-Err-clause-makes g c = λ h st early others fine.
+    let s = g.T.Store in
+    let old = c.args.store.now in
+    let new = c.write_step.new.store in
+    let fault = c.in-Err.fault in
+    let why : c.refuse.result ≡ refusal_of fault = c.refuse.ensures.why ∙ c.refusal.ensures in
+    let same = (c.in-Err.ensures.unchanged (sym (failed_is fault) ∙ (ap is_disk_fault (sym why) ∙ fine))).blocks st.told refl in
+    makes_refused h (machine.Write c.args.s c.args.table c.args.key (action_by c.args.op)) (s.slots old) (s.lsn new) (s.blocks old) (s.blocks new) same c.refuse.result (λ scn lost is. same)

@@ -9,6 +9,7 @@ use Rattle.rb_undoengine.proofs.Somewhere.{somewhere}
 use Rattle.rb_engine.proofs.DoesLemmas.{does_fault, fault_survives}
 use Rattle.rb_engine.proofs.LateLemmas.{needs_lost_before, young_not_old}
 use Rattle.rb_engine.proofs.WriteLemmas.{about, does_after, stands_loaded, step_waited, waited_in_step}
+use Rattle.rb_engine.proofs.MakesLemmas.{makes_loaded, makes_waited}
 use Rattle.rb_engine.proofs.write.try_write.Given.{Over}
 use Rattle.rb_engine.proofs.TellsLemmas.{tells_logged}
 use Rattle.rb_image.specs.Made.{TellsLooks}
@@ -115,3 +116,30 @@ pub returns-in-Ok-None-clause-holds_back : goal.returns-in-Ok-None-clause-holds_
 returns-in-Ok-None-clause-holds_back g c = λ fine.
     let logs : Logs g.T.Store c.args.store.now c.other_holder.new.store [] true = c.in-Ok-None.ensures.logs in
     g.met.T.Store.holds_back_joined c.args.store.now c.other_holder.new.store c.write_free.new.store (logs.between refl (laws_of g)) (c.write_free.ensures.holds_back fine)
+
+pub returns-in-Err-clause-makes : goal.returns-in-Err-clause-makes
+returns-in-Err-clause-makes g c = λ h st early fine. (let clash : true ≡ false = fine in absurd cc)
+
+pub returns-in-Ok-Some-clause-makes : goal.returns-in-Ok-Some-clause-makes
+returns-in-Ok-Some-clause-makes g c = λ h st early fine.
+    let s = g.T.Store in
+    let old = c.args.store.now in
+    let new = c.other_holder.new.store in
+    let logs : Logs s old new [] true = c.in-Ok-Some.ensures.logs in
+    let same = logs.blocks st.told refl in
+    makes_waited h (machine.Write c.args.s c.args.table c.args.key (action_by c.args.op)) (s.slots old) (s.lsn new) (s.blocks old) (s.blocks new) same c.in-Ok-Some.on c.wait_for.result (λ w is. is.0) c.wait_for.ensures.waits same
+
+pub returns-in-Ok-None-clause-makes : goal.returns-in-Ok-None-clause-makes
+returns-in-Ok-None-clause-makes g c = λ h st early fine.
+    let s = g.T.Store in
+    let u = c.args.s in
+    let old : EngineView _ = record { memory = c.args.memory.now; store = c.args.store.now } in
+    let mid : EngineView _ = record { memory = c.args.memory.now; store = c.other_holder.new.store } in
+    let going : h.stopped ≡ false = sym st.knows.stopped ∙ c.requires.going in
+    let logs : Logs s old.store mid.store [] true = c.in-Ok-None.ensures.logs in
+    let goes : Goes s h old = st.goes going in
+    let others : OtherHolds h u c.args.table c.args.key None = subst (λ (o : Option ℕ). OtherHolds h u c.args.table c.args.key o) c.in-Ok-None.field-0-is
+    (c.in-Ok-None.ensures.other st.told h goes.xids goes.holds.blocks st.shape goes.remembers) in
+    let new = c.write_free.new.store in
+    makes_loaded s st.told h (machine.Write c.args.s c.args.table c.args.key (action_by c.args.op)) (write_answer c.write_free.result) (s.lsn new) old.store mid.store (s.blocks new) logs
+    (c.write_free.ensures.makes h (stands_loaded s st.told (laws_of g) h old mid st refl logs) early others fine)

@@ -13,6 +13,7 @@ use Rattle.rb_undoengine.proofs.Somewhere.{somewhere}
 use Rattle.rb_engine.proofs.LateLemmas.{step_late, young_not_old}
 use Rattle.rb_engine.proofs.StepLemmas.{in_step_same}
 use Rattle.rb_engine.proofs.WriteLemmas.{about, does_after, stands_loaded}
+use Rattle.rb_engine.proofs.MakesLemmas.{makes_loaded, makes_refused}
 use Rattle.rb_engine.proofs.write.write_free.Given.{Over}
 use Rattle.rb_engine.proofs.TellsLemmas.{tells_logged}
 use Rattle.rb_image.specs.Made.{TellsLooks}
@@ -125,6 +126,9 @@ returns-in-Ok-clause-tells g c = λ h st early others fine.
 
 pub returns-in-Err-clause-holds_back : goal.returns-in-Err-clause-holds_back
 returns-in-Err-clause-holds_back g c = λ fine.
+
+pub returns-in-Err-clause-makes : goal.returns-in-Err-clause-makes
+returns-in-Err-clause-makes g c = λ h st early others fine.
     let s = g.T.Store in
     let old = c.args.store.now in
     let new = c.check_late.new.store in
@@ -136,3 +140,19 @@ pub returns-in-Ok-clause-holds_back : goal.returns-in-Ok-clause-holds_back
 returns-in-Ok-clause-holds_back g c = λ fine.
     let logs : Logs g.T.Store c.args.store.now c.check_late.new.store [] true = c.in-Ok.ensures.logs in
     g.met.T.Store.holds_back_joined c.args.store.now c.check_late.new.store c.make_write.new.store (logs.between refl (laws_of g)) (c.make_write.ensures.holds_back fine)
+
+    let same = loaded.blocks st.told refl in
+    makes_refused h (machine.Write c.args.s c.args.table c.args.key (action_by c.args.op)) (s.slots old) (s.lsn new) (s.blocks old) (s.blocks new) same c.refuse.result (λ scn lost is. same)
+
+pub returns-in-Ok-clause-makes : goal.returns-in-Ok-clause-makes
+returns-in-Ok-clause-makes g c = λ h st early others fine.
+    let s = g.T.Store in
+    let old : EngineView _ = record { memory = c.args.memory.now; store = c.args.store.now } in
+    let mid : EngineView _ = record { memory = c.args.memory.now; store = c.check_late.new.store } in
+    let going : h.stopped ≡ false = sym st.knows.stopped ∙ c.requires.going in
+    let logs : Logs s old.store mid.store [] true = c.in-Ok.ensures.logs in
+    let goes : Goes s h old = st.goes going in
+    let timely = c.in-Ok.ensures.timely st.told h goes.xids goes.holds.blocks st.shape goes.remembers in
+    let new = c.make_write.new.store in
+    makes_loaded s st.told h (machine.Write c.args.s c.args.table c.args.key (action_by c.args.op)) (write_answer c.make_write.result) (s.lsn new) old.store mid.store (s.blocks new) logs
+    (c.make_write.ensures.makes h (stands_loaded s st.told (laws_of g) h old mid st refl logs) early (others, timely) fine)

@@ -1,7 +1,9 @@
-use Rattle.std.proofs.Common.{sym, subst}
+use Rattle.std.proofs.Common.{sym, subst, refl}
 use Rattle.rb_engine.specs.Does.{Does, EngineView, Stands}
 use Rattle.rb_model.specs.Answers.{plain_answer}
 use Rattle.rb_model.specs.Calls as machine
+use Rattle.rb_engine.specs.Makes.{Makes}
+use Rattle.rb_engine.proofs.MakesLemmas.{makes_plain}
 use Rattle.rb_engine.proofs.engine.Engine.cancel.Goals as goal
 
 pub returns-clause-did : goal.returns-clause-did
@@ -13,3 +15,10 @@ returns-clause-did g c = λ h st.
 pub returns-clause-holds_back : goal.returns-clause-holds_back
 returns-clause-holds_back g c = λ fine.
     subst (λ (e : EngineView _). g.T.Store.holds_back e.store c.self.inside.store) c.self.view_is (g.met.T.Store.holds_back_same c.self.inside.store)
+
+pub returns-clause-makes : goal.returns-clause-makes
+returns-clause-makes g c = λ h st fine.
+    let s = g.T.Store in
+    let new = c.self.inside.store in
+    subst (λ (e : EngineView _). Makes h (machine.Cancel c.args.s) (plain_answer c.do_cancel.result) (s.slots e.store) (s.lsn new) (s.blocks e.store) (s.blocks new)) c.self.view_is
+    (makes_plain h (machine.Cancel c.args.s) (s.slots new) (s.lsn new) (s.blocks new) (s.blocks new) refl c.do_cancel.result refl refl)

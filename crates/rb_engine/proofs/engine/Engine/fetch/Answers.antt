@@ -6,6 +6,7 @@ use Rattle.rb_model.specs.Calls as machine
 use Rattle.rb_model.specs.Names.{name_text}
 use Rattle.rb_engine.proofs.TellsLemmas.{tells_fetched}
 use Rattle.rb_image.specs.Made.{TellsLooks}
+use Rattle.rb_engine.specs.Makes.{Makes}
 use Rattle.rb_engine.proofs.engine.Engine.fetch.Goals as goal
 
 pub returns-clause-did : goal.returns-clause-did
@@ -26,3 +27,10 @@ returns-clause-tells g c = λ h st fine.
     let cleans = call.ensures.cleans h (subst (Stands s h) (sym c.self.view_is) st) in
     subst (λ (e : EngineView _). TellsLooks h.shape (s.blocks e.store) (s.blocks call.new.store)) c.self.view_is
     (tells_fetched s h call.new.store call.result cleans call.ensures.idle fine)
+
+pub returns-clause-makes : goal.returns-clause-makes
+returns-clause-makes g c = λ h st fine.
+    let s = g.T.Store in
+    let new = c.do_fetch.new.store in
+    subst (λ (e : EngineView _). Makes h (machine.Fetch c.args.s (name_text c.args.name.now)) (fetch_answer c.do_fetch.result c.do_fetch.new.row) (s.slots e.store) (s.lsn new) (s.blocks e.store) (s.blocks new)) c.self.view_is
+    (c.do_fetch.ensures.makes h (subst (Stands s h) (sym c.self.view_is) st) fine)

@@ -4,6 +4,7 @@ use Rattle.rb_engine.specs.Lateness.{WriteNeedsLost}
 use Rattle.rb_model.specs.Answers.{write_answer}
 use Rattle.rb_model.specs.Calls as machine
 use Rattle.rb_image.specs.Made.{TellsLooks}
+use Rattle.rb_engine.specs.Makes.{Makes}
 use Rattle.rb_engine.proofs.engine.Engine.lock.Goals as goal
 
 pub returns-clause-did : goal.returns-clause-did
@@ -21,3 +22,10 @@ pub returns-clause-tells : goal.returns-clause-tells
 returns-clause-tells g c = λ h st fine.
     let s = g.T.Store in
     subst (λ (e : EngineView _). TellsLooks h.shape (s.blocks e.store) (s.blocks c.do_write.new.store)) c.self.view_is (c.do_write.ensures.tells h (subst (Stands s h) (sym c.self.view_is) st) fine)
+
+pub returns-clause-makes : goal.returns-clause-makes
+returns-clause-makes g c = λ h st fine.
+    let s = g.T.Store in
+    let new = c.do_write.new.store in
+    subst (λ (e : EngineView _). Makes h (machine.Write c.args.s c.args.table c.args.key machine.Lock) (write_answer c.do_write.result) (s.slots e.store) (s.lsn new) (s.blocks e.store) (s.blocks new)) c.self.view_is
+    (c.do_write.ensures.makes h (subst (Stands s h) (sym c.self.view_is) st) fine)

@@ -1,7 +1,9 @@
 use Rattle.std.proofs.Common.{sym, subst}
-use Rattle.rb_engine.specs.Does.{Does, Stands}
+use Rattle.rb_engine.specs.Does.{Does, EngineView, Stands}
 use Rattle.rb_model.specs.Answers.{marks_answer}
 use Rattle.rb_model.specs.Calls as machine
+use Rattle.rb_engine.specs.Makes.{Makes}
+use Rattle.rb_engine.proofs.MakesLemmas.{makes_marked}
 use Rattle.rb_engine.proofs.engine.Engine.marks.Goals as goal
 
 pub returns-clause-did : goal.returns-clause-did
@@ -9,3 +11,10 @@ returns-clause-did g c = λ h st.
     let s = g.T.Store in
     let call = c.do_marks in
     subst (λ e. Does s h (machine.Marks c.args.seg) (marks_answer c.args.seg call.result) e (record { memory = call.new.memory; store = call.new.store })) c.self.view_is (call.ensures.did h (subst (Stands s h) (sym c.self.view_is) st))
+
+pub returns-clause-makes : goal.returns-clause-makes
+returns-clause-makes g c = λ h st fine.
+    let s = g.T.Store in
+    let new = c.do_marks.new.store in
+    subst (λ (e : EngineView _). Makes h (machine.Marks c.args.seg) (marks_answer c.args.seg c.do_marks.result) (s.slots e.store) (s.lsn new) (s.blocks e.store) (s.blocks new)) c.self.view_is
+    (makes_marked h c.args.seg (s.slots c.self.inside.store) (s.lsn new) (s.blocks c.self.inside.store) (s.blocks new) c.do_marks.result (c.do_marks.ensures.blocks st.told fine))

@@ -5,6 +5,7 @@ use Rattle.rb_model.specs.Queue.{ready_count}
 use Rattle.rb_waits.proofs.Counts.{few}
 use Rattle.rb_waits.proofs.Turns.{few_ready}
 use Rattle.rb_image.specs.Made.{TellsLooks}
+use Rattle.rb_engine.specs.Makes.{ResumeMakes}
 use Rattle.rb_engine.proofs.engine.Engine.resume.Goals as goal
 
 pub returns-clause-did : goal.returns-clause-did
@@ -28,3 +29,10 @@ pub returns-clause-tells : goal.returns-clause-tells
 returns-clause-tells g c = λ h st fine.
     let s = g.T.Store in
     subst (λ (e : EngineView _). TellsLooks h.shape (s.blocks e.store) (s.blocks c.do_resume.new.store)) c.self.view_is (c.do_resume.ensures.tells h (subst (Stands s h) (sym c.self.view_is) st) fine)
+
+pub returns-clause-makes : goal.returns-clause-makes
+returns-clause-makes g c = λ h st fine.
+    let s = g.T.Store in
+    let new = c.do_resume.new.store in
+    subst (λ (e : EngineView _). ResumeMakes h c.do_resume.result (s.slots e.store) (s.lsn new) (s.blocks e.store) (s.blocks new)) c.self.view_is
+    (c.do_resume.ensures.makes h (subst (Stands s h) (sym c.self.view_is) st) fine)

@@ -1,8 +1,9 @@
 use Rattle.std.proofs.Common.{sym, subst}
-use Rattle.rb_engine.specs.Does.{Does, Stands}
+use Rattle.rb_engine.specs.Does.{Does, EngineView, Stands}
 use Rattle.rb_model.specs.Answers.{plain_answer}
 use Rattle.rb_model.specs.Calls as machine
 use Rattle.rb_model.specs.Names.{name_text}
+use Rattle.rb_engine.specs.Makes.{Makes}
 use Rattle.rb_engine.proofs.engine.Engine.rollback_to.Goals as goal
 
 pub returns-clause-did : goal.returns-clause-did
@@ -10,3 +11,10 @@ returns-clause-did g c = λ h st.
     let s = g.T.Store in
     let call = c.do_rollback_to in
     subst (λ e. Does s h (machine.RollbackTo c.args.s (name_text c.args.name.now)) (plain_answer call.result) e (record { memory = call.new.memory; store = call.new.store })) c.self.view_is (call.ensures.did h (subst (Stands s h) (sym c.self.view_is) st))
+
+pub returns-clause-makes : goal.returns-clause-makes
+returns-clause-makes g c = λ h st fine.
+    let s = g.T.Store in
+    let new = c.do_rollback_to.new.store in
+    subst (λ (e : EngineView _). Makes h (machine.RollbackTo c.args.s (name_text c.args.name.now)) (plain_answer c.do_rollback_to.result) (s.slots e.store) (s.lsn new) (s.blocks e.store) (s.blocks new)) c.self.view_is
+    (c.do_rollback_to.ensures.makes h (subst (Stands s h) (sym c.self.view_is) st) fine)

@@ -1,0 +1,105 @@
+-- What a call with an answer makes of the blocks.
+use Rattle.std.specs.Prelude.{◌≡◌, ◌⊎◌, ◌<◌, ◌+◌, ◌-◌, ◌*◌, ℕ}
+use Rattle.std.specs.Prelude.{true, false, List, length, Option, None, Some, Result}
+use Rattle.rb_base.specs.Blocks.{home_block}
+use Rattle.rb_base.specs.Stores.{room_of}
+use Rattle.rb_base.specs.declared.ids.Uba.{Uba}
+use Rattle.rb_base.specs.declared.ids.Xid.{Xid}
+use Rattle.rb_base.specs.declared.sizes.TheConstants.{WORN}
+use Rattle.rb_engine.specs.Cleaning.{IsClean, OnlyCleaned, ReadIn}
+use Rattle.rb_image.specs.Made.{BackOver}
+use Rattle.rb_model.specs.Answers.{write_answer}
+use Rattle.rb_model.specs.Calls.{Action, Answer, Call, Commit, Done, End, Fetch, Given, HasNoSlot, Marked, Numbered}
+use Rattle.rb_model.specs.Calls.{Owned, Refused, Rollback, RollbackTo, Waits, Write, WritesIn, adds, is_empty}
+use Rattle.rb_model.specs.Change.{Asked}
+use Rattle.rb_model.specs.NextState.{kind_by, unqueued}
+use Rattle.rb_model.specs.Rows.{last_scn}
+use Rattle.rb_model.specs.State as machine
+use Rattle.rb_model.specs.State.{Savepoint, State, asked_of, savepoint_of, session_own}
+use Rattle.rb_model.specs.declared.refusal.Refusal.{Refusal}
+use Rattle.rb_model.specs.declared.refusal.Refusal.TheVariants.{TooOld}
+use Rattle.rb_model.specs.declared.wrote.Wrote.{Wrote}
+use Rattle.rb_segment.specs.Segments.{owed_in}
+use Rattle.rb_sessions.specs.declared.cursor.Cursor.{Cursor}
+use Rattle.rb_standing.specs.Groups.{IsCommitted, IsEnded}
+use Rattle.rb_standing.specs.Standing.{env_of}
+use Rattle.rb_standing.specs.States.{BlocksStand}
+use Rattle.rb_standing.specs.Writing.{IsWritten}
+use Rattle.rb_undoblock.specs.declared.record.UndoRecord.{UndoRecord}
+use Rattle.rb_views.specs.Views.{IsCursor}
+
+-- So many changes of a session are put back, the newest first, and then its slot ends, where it has one.
+abbrev pub EndOver : State → (s n : ℕ) → (before now : List (List ℕ)) → Type 0
+EndOver h s n before now =
+    ((g : ℕ) × (i : ℕ) × Owned h s g i × (middle : List (List ℕ)) × BackOver h.shape (16 * g + i) n before middle
+    × IsEnded h.shape (16 * g + i) middle now) ⊎ (HasNoSlot h s × (now ≡ before))
+
+-- a write in slot i of segment g, with the record of its change
+pub record WritesOne (h : State) (g i table key : ℕ) (action : Action) (before now : List (List ℕ)) : Type 0 where
+  pub address : Uba
+  pub undo : UndoRecord
+  pub of_table : undo.table ≡ table
+  pub of_key : undo.key ≡ key
+  pub of_home : undo.home ≡ home_block h.shape table key
+  pub group : IsWritten h.shape (16 * g + i) (adds action) (kind_by action) address undo before now
+
+-- What a call makes that did what it was asked for, but for a fetch: a write its change, a commit its number in a
+-- header, a rollback its changes back. No other call changes a block.
+abbrev pub MadeBy : State → Call → (before now : List (List ℕ)) → Type 0
+MadeBy h (Write s table key action) before now =
+    (g : ℕ) × (i : ℕ) × WritesIn h s g i × WritesOne h g i table key action before now
+MadeBy h (Commit s) before now =
+    ((is_empty (session_own h s) ≡ false) × ((g : ℕ) × (i : ℕ) × Owned h s g i
+    × IsCommitted h.shape (16 * g + i) (last_scn h.commits + 1) before now))
+    ⊎ ((is_empty (session_own h s) ≡ true) × EndOver h s 0 before now)
+MadeBy h (Rollback s) before now = EndOver h s (length (session_own h s)) before now
+MadeBy h (RollbackTo s name) before now = (p : Savepoint) × (savepoint_of h s name ≡ Some p)
+    × (((g : ℕ) × (i : ℕ) × Owned h s g i
+    × BackOver h.shape (16 * g + i) (length (session_own h s) - p.kept) before now)
+    ⊎ (HasNoSlot h s × (now ≡ before)))
+MadeBy h call before now = now ≡ before
+
+-- A fetch cleans no block but those that it reads, and all of them where it went well and the log, which has come to
+-- that number, isn't worn out and has room.
+pub record ReadBy (h : State) (who : ℕ) (name : List ℕ) (well : Type 0) (slots : Option ℕ) (lsn : ℕ)
+    (before now : List (List ℕ)) : Type 0 where
+  pub xids : List Xid
+  pub cursor : machine.Cursor
+  pub named : machine.cursor_of h who name ≡ Some cursor
+  pub kept : Cursor
+  pub is : IsCursor h xids (env_of h.shape before) who (record { name = name; cursor = kept }) cursor
+  pub only : OnlyCleaned h.shape (ReadIn h xids before kept) before now
+  pub all : well → (b : ℕ) → ReadIn h xids before kept b → lsn < WORN
+      → owed_in h.shape now < room_of slots lsn → IsClean h.shape before now b
+
+abbrev pub MadeReading : State → Call → Type 0 → Option ℕ → ℕ → (before now : List (List ℕ)) → Type 0
+MadeReading h (Fetch who name) well slots lsn before now = ReadBy h who name well slots lsn before now
+MadeReading h call well slots lsn before now = now ≡ before
+
+-- a refused call changes no block, but a fetch that is too old may have cleaned some
+abbrev pub MadeRefused : State → Call → Refusal → Option ℕ → ℕ → (before now : List (List ℕ)) → Type 0
+MadeRefused h call (TooOld scn lost) slots lsn before now = MadeReading h call ⊥ slots lsn before now
+MadeRefused h call why slots lsn before now = now ≡ before
+
+-- A call in a state with that answer, other than a fault of the disk, makes these blocks of those before, over a log of
+-- so many slots, which has come to that number.
+abbrev pub Makes : State → Call → Answer → Option ℕ → ℕ → (before now : List (List ℕ)) → Type 0
+Makes h call Done slots lsn before now = MadeBy h call before now
+Makes h call (Numbered n) slots lsn before now = MadeBy h call before now
+Makes h call (Waits on) slots lsn before now = now ≡ before
+Makes h call (Given key value) slots lsn before now = MadeReading h call (Unit {0}) slots lsn before now
+Makes h call End slots lsn before now = MadeReading h call (Unit {0}) slots lsn before now
+Makes h call (Marked seg writes lost) slots lsn before now = now ≡ before
+Makes h call (Refused why) slots lsn before now = MadeRefused h call why slots lsn before now
+
+-- A resumed write makes what the write makes that its session waited with, as if the session had never been in the
+-- queue. Where none was tried, no block changed.
+abbrev pub ResumeMakes : State → Option (ℕ × Result Wrote Refusal) → Option ℕ → ℕ → (before now : List (List ℕ))
+    → Type 0
+ResumeMakes h None slots lsn before now = now ≡ before
+ResumeMakes h (Some (w, outcome)) slots lsn before now = (a : Asked) × (asked_of h w ≡ Some a)
+    × Makes (unqueued h w) (Write w a.table a.key a.action) (write_answer outcome) slots lsn before now
+
+-- blocks stand for a state
+abbrev pub StandFor : State → List (List ℕ) → Type 0
+StandFor h blocks = (xids : List Xid) × BlocksStand h xids blocks
