@@ -226,28 +226,6 @@ returns-in-Err-TooOld-clause-cleans g c = λ h st looked.
     (true ≡ false) c.next_row.new.store (Err c.in-Err-TooOld.field-0) (λ clash. (let clash2 : true ≡ false = clash in absurd cc))
     (λ xids serves. by_fault s h xids (ReadIn h xids (s.blocks c.args.store.now) m) h.shape.blocks c.args.store.now c.next_row.new.store true c.in-Err-TooOld.field-0 (faults.TooOld c.in-Err-TooOld.scn c.in-Err-TooOld.lost) c.in-Err-TooOld.field-0-is refl (c.in-Err-TooOld.ensures.cleans st.told h xids serves))
 
-pub returns-in-Err-clause-holds_back : goal.returns-in-Err-clause-holds_back
-returns-in-Err-clause-holds_back g c = λ fine. g.met.T.Store.holds_back_same c.args.store.now
-
-pub returns-in_default-cursor-clause-holds_back : goal.returns-in_default-cursor-clause-holds_back
-returns-in_default-cursor-clause-holds_back g c = λ fine. g.met.T.Store.holds_back_same c.args.store.now
-
-pub returns-in-Ok-Row-clause-holds_back : goal.returns-in-Ok-Row-clause-holds_back
-returns-in-Ok-Row-clause-holds_back g c = λ fine. c.in-Ok-Row.ensures.logs.1.between refl (laws_of g)
-
-pub returns-in-Ok-End-clause-holds_back : goal.returns-in-Ok-End-clause-holds_back
-returns-in-Ok-End-clause-holds_back g c = λ fine. c.in-Ok-End.ensures.logs.1.between refl (laws_of g)
-
-pub returns-in-Err-TooOld-clause-holds_back : goal.returns-in-Err-TooOld-clause-holds_back
-returns-in-Err-TooOld-clause-holds_back g c = λ fine.
-    let e = c.in-Err-TooOld.ensures in
-    let s = g.T.Store in
-    let logs = subst (λ (f : CrFault). Logs s c.args.store.now c.next_row.new.store e.logs.0 (not (is_fault f))) c.in-Err-TooOld.field-0-is e.logs.1 in
-    logs.between refl (laws_of g)
-
-pub returns-in-Err-Failed-clause-holds_back : goal.returns-in-Err-Failed-clause-holds_back
-returns-in-Err-Failed-clause-holds_back g c = λ fine. (let clash : true ≡ false = fine in absurd cc)
-
 -- And so what it makes of the blocks.
 pub returns-in-Err-clause-makes : goal.returns-in-Err-clause-makes
 returns-in-Err-clause-makes g c = λ h st fine.
@@ -290,3 +268,25 @@ returns-in-Err-TooOld-clause-makes g c = λ h st fine.
     read_by s (laws_of g) h (record { memory = kept; store = c.args.store.now }) st (sym st.knows.stopped ∙ e.going) c.args.s e.session name (e.granted h st.knows) m is_named
     ⊥ c.next_row.new.store (Err c.in-Err-TooOld.field-0) (λ clash. absurd clash) c.in-Err-TooOld.ensures.logs.1.same_slots
     (λ xids serves. by_fault s h xids (ReadIn h xids (s.blocks c.args.store.now) m) h.shape.blocks c.args.store.now c.next_row.new.store true c.in-Err-TooOld.field-0 (faults.TooOld c.in-Err-TooOld.scn c.in-Err-TooOld.lost) c.in-Err-TooOld.field-0-is refl (c.in-Err-TooOld.ensures.cleans st.told h xids serves))
+
+pub returns-in-Err-clause-holds_back : goal.returns-in-Err-clause-holds_back
+returns-in-Err-clause-holds_back g c = λ fine. g.met.T.Store.holds_back_same c.args.store.now
+
+pub returns-in_default-cursor-clause-holds_back : goal.returns-in_default-cursor-clause-holds_back
+returns-in_default-cursor-clause-holds_back g c = λ fine. g.met.T.Store.holds_back_same c.args.store.now
+
+pub returns-in-Ok-Row-clause-holds_back : goal.returns-in-Ok-Row-clause-holds_back
+returns-in-Ok-Row-clause-holds_back g c = λ fine. c.in-Ok-Row.ensures.logs.1.between refl (laws_of g)
+
+pub returns-in-Ok-End-clause-holds_back : goal.returns-in-Ok-End-clause-holds_back
+returns-in-Ok-End-clause-holds_back g c = λ fine. c.in-Ok-End.ensures.logs.1.between refl (laws_of g)
+
+pub returns-in-Err-TooOld-clause-holds_back : goal.returns-in-Err-TooOld-clause-holds_back
+returns-in-Err-TooOld-clause-holds_back g c = λ fine.
+    let e = c.in-Err-TooOld.ensures in
+    let s = g.T.Store in
+    let logs = subst (λ (f : CrFault). Logs s c.args.store.now c.next_row.new.store e.logs.0 (not (is_fault f))) c.in-Err-TooOld.field-0-is e.logs.1 in
+    logs.between refl (laws_of g)
+
+pub returns-in-Err-Failed-clause-holds_back : goal.returns-in-Err-Failed-clause-holds_back
+returns-in-Err-Failed-clause-holds_back g c = λ fine. (let clash : true ≡ false = fine in absurd cc)

@@ -119,15 +119,6 @@ returns-in-Err-clause-did g c = λ h st.
     (c.in-Err.ensures.commits st.told h held.xids c.args.s st.shape held.holds who.0 who.1 (own_id s st.told (laws_of g) h old c.args.s c.args.xid here going there own) some number)
     (c.stop.ensures ∙ ap (λ (k : Kept). let n : Kept = record k { stopped = true } in n) (sym c.memory.view_is)))
 
-pub returns-then-room-eq0-clause-holds_back : goal.returns-then-room-eq0-clause-holds_back
-returns-then-room-eq0-clause-holds_back g c = λ none. g.met.T.Store.holds_back_same c.args.store.now
-
-pub returns-in-Ok-clause-holds_back : goal.returns-in-Ok-clause-holds_back
-returns-in-Ok-clause-holds_back g c = λ none. absurd none
-
-pub returns-in-Err-clause-holds_back : goal.returns-in-Err-clause-holds_back
-returns-in-Err-clause-holds_back g c = λ none. absurd none
-
 pub returns-in-Ok-clause-makes : goal.returns-in-Ok-clause-makes
 returns-in-Ok-clause-makes g c = λ h st fine.
     let s = g.T.Store in
@@ -150,3 +141,12 @@ returns-in-Ok-clause-makes g c = λ h st fine.
     let new = c.commit_and_flush.new.store in
     makes_committed s st.told (laws_of g) h old c.args.s c.args.xid here going there own (s.slots store) (s.lsn new) new scn some
     (c.in-Ok.ensures.commits st.told h held.xids c.args.s st.shape held.holds who.0 who.1 id some number)
+
+pub returns-then-room-eq0-clause-holds_back : goal.returns-then-room-eq0-clause-holds_back
+returns-then-room-eq0-clause-holds_back g c = λ none. g.met.T.Store.holds_back_same c.args.store.now
+
+pub returns-in-Ok-clause-holds_back : goal.returns-in-Ok-clause-holds_back
+returns-in-Ok-clause-holds_back g c = λ none. absurd none
+
+pub returns-in-Err-clause-holds_back : goal.returns-in-Err-clause-holds_back
+returns-in-Err-clause-holds_back g c = λ none. absurd none

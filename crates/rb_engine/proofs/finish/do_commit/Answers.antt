@@ -67,12 +67,6 @@ returns-in-None-clause-did g c = λ h st.
     (ap (λ (l : List KeptSession). map (λ k. k.asked) l) c.commit.ensures ∙ all_asked inside.sessions (c.args.s - 1) (table.committed (kept_at inside.sessions c.args.s)) refl) c.free.ensures
     refl refl refl)
 
-pub returns-in-Err-clause-holds_back : goal.returns-in-Err-clause-holds_back
-returns-in-Err-clause-holds_back g c = λ none. g.met.T.Store.holds_back_same c.args.store.now
-
-pub returns-in-None-clause-holds_back : goal.returns-in-None-clause-holds_back
-returns-in-None-clause-holds_back g c = λ none. g.met.T.Store.holds_back_same c.args.store.now
-
 pub returns-in-None-clause-makes : goal.returns-in-None-clause-makes
 returns-in-None-clause-makes g c = λ h st fine.
     let s = g.T.Store in
@@ -90,3 +84,9 @@ returns-in-Err-clause-makes g c = λ h st fine.
     let s = g.T.Store in
     let store = c.args.store.now in
     makes_refused h (machine.Commit c.args.s) (s.slots store) (s.lsn store) (s.blocks store) (s.blocks store) refl c.in-Err.why (λ scn lost is. refl)
+
+pub returns-in-Err-clause-holds_back : goal.returns-in-Err-clause-holds_back
+returns-in-Err-clause-holds_back g c = λ none. g.met.T.Store.holds_back_same c.args.store.now
+
+pub returns-in-None-clause-holds_back : goal.returns-in-None-clause-holds_back
+returns-in-None-clause-holds_back g c = λ none. g.met.T.Store.holds_back_same c.args.store.now

@@ -112,15 +112,6 @@ returns-in-Err-clause-did g c = λ h st.
     (c.in-Err.ensures.puts_back st.told h held.xids c.args.s st.shape held.holds who.0 who.1 (own_id s st.told (laws_of g) h old c.args.s c.args.xid st going there own) going none (Some (machine.Commit c.args.s)))
     c.stop.ensures
 
-pub returns-then-room-eq0-clause-holds_back : goal.returns-then-room-eq0-clause-holds_back
-returns-then-room-eq0-clause-holds_back g c = λ none. g.met.T.Store.holds_back_same c.args.store.now
-
-pub returns-clause-holds_back : goal.returns-clause-holds_back
-returns-clause-holds_back g c = λ none. c.in-Ok.ensures.holds_back
-
-pub returns-in-Err-clause-holds_back : goal.returns-in-Err-clause-holds_back
-returns-in-Err-clause-holds_back g c = λ none. absurd none
-
 pub returns-clause-makes : goal.returns-clause-makes
 returns-clause-makes g c = λ h st fine.
     let s = g.T.Store in
@@ -139,3 +130,12 @@ returns-clause-makes g c = λ h st fine.
     let new = c.put_all_back.new.store in
     makes_left s st.told (laws_of g) h old c.args.s c.args.xid here going there own (s.slots store) (s.lsn new) new none
     (c.in-Ok.ensures.puts_back st.told h held.xids c.args.s st.shape held.holds who.0 who.1 id going none)
+
+pub returns-then-room-eq0-clause-holds_back : goal.returns-then-room-eq0-clause-holds_back
+returns-then-room-eq0-clause-holds_back g c = λ none. g.met.T.Store.holds_back_same c.args.store.now
+
+pub returns-clause-holds_back : goal.returns-clause-holds_back
+returns-clause-holds_back g c = λ none. c.in-Ok.ensures.holds_back
+
+pub returns-in-Err-clause-holds_back : goal.returns-in-Err-clause-holds_back
+returns-in-Err-clause-holds_back g c = λ none. absurd none

@@ -101,15 +101,6 @@ returns-in-Err-clause-did g c = λ h st.
     (c.in-Err.ensures.puts_back st.told h held.xids c.args.s st.shape held.holds who.0 who.1 (own_id s st.told (laws_of g) h old c.args.s c.args.xid here going there own) going (sym count ∙ sym c.session-count.ensures.length) (Some (machine.Rollback c.args.s)))
     (c.stop.ensures ∙ ap (λ (k : Kept). let n : Kept = record k { stopped = true } in n) (sym c.memory.view_is)))
 
-pub returns-then-room-from-clause-holds_back : goal.returns-then-room-from-clause-holds_back
-returns-then-room-from-clause-holds_back g c = λ fine. g.met.T.Store.holds_back_same c.args.store.now
-
-pub returns-in-Ok-clause-holds_back : goal.returns-in-Ok-clause-holds_back
-returns-in-Ok-clause-holds_back g c = λ fine. c.in-Ok.ensures.holds_back
-
-pub returns-in-Err-clause-holds_back : goal.returns-in-Err-clause-holds_back
-returns-in-Err-clause-holds_back g c = λ fine. (let clash : true ≡ false = fine in absurd cc)
-
 pub returns-in-Ok-clause-makes : goal.returns-in-Ok-clause-makes
 returns-in-Ok-clause-makes g c = λ h st fine.
     let s = g.T.Store in
@@ -127,3 +118,12 @@ returns-in-Ok-clause-makes g c = λ h st fine.
     let new = c.put_all_back.new.store in
     makes_back s st.told (laws_of g) h old c.args.s c.args.xid here going there own (s.slots store) (s.lsn new) new
     (c.in-Ok.ensures.puts_back st.told h held.xids c.args.s st.shape held.holds who.0 who.1 id going (sym count ∙ sym c.session-count.ensures.length))
+
+pub returns-then-room-from-clause-holds_back : goal.returns-then-room-from-clause-holds_back
+returns-then-room-from-clause-holds_back g c = λ fine. g.met.T.Store.holds_back_same c.args.store.now
+
+pub returns-in-Ok-clause-holds_back : goal.returns-in-Ok-clause-holds_back
+returns-in-Ok-clause-holds_back g c = λ fine. c.in-Ok.ensures.holds_back
+
+pub returns-in-Err-clause-holds_back : goal.returns-in-Err-clause-holds_back
+returns-in-Err-clause-holds_back g c = λ fine. (let clash : true ≡ false = fine in absurd cc)

@@ -60,6 +60,10 @@ returns-clause-did g c = λ h st.
     does_loaded s st.told (laws_of g) h (machine.Marks c.args.seg) (machine.Marked c.args.seg c.writes.result c.lost.result) old (record { memory = c.args.memory.now; store = c.load.new.self }) st
     (Reply.later [] (rw going refl) refl answer) refl refl (λ s t k a is done. cc) refl (λ _. logs) (record { shape = e.shape; slots = e.slots })
 
+pub returns-clause-blocks : goal.returns-clause-blocks
+returns-clause-blocks g c = λ tells fine.
+    ok_of c.load.result (sym c.is_err.ensures.value ∙ c.if-is_err.false) (c.load.ensures.blocks tells)
+
 pub returns-then-memory-clause-holds_back : goal.returns-then-memory-clause-holds_back
 returns-then-memory-clause-holds_back g c = λ fine. g.met.T.Store.holds_back_same c.args.store.now
 
@@ -73,7 +77,3 @@ returns-clause-holds_back g c = λ _.
     let fine : is_err c.load.result ≡ false = sym c.is_err.ensures.value ∙ c.if-is_err.false in
     let logs : Logs s c.args.store.now c.load.new.self [] true = subst (λ (b : Bool). Logs s c.args.store.now c.load.new.self [] (not b)) fine (load_logs s c.args.store.now c.load.new.self c.load.result e.shape e.slots e.failed e.counted e.lsn e.blocks e.settles e.any_moment e.holds_back) in
     logs.between refl (laws_of g)
-
-pub returns-clause-blocks : goal.returns-clause-blocks
-returns-clause-blocks g c = λ tells fine.
-    ok_of c.load.result (sym c.is_err.ensures.value ∙ c.if-is_err.false) (c.load.ensures.blocks tells)

@@ -105,15 +105,6 @@ returns-in-None-clause-did g c = λ h st.
     nothing zero = refl
     nothing (suc n) = refl
 
-pub returns-in-Err-clause-holds_back : goal.returns-in-Err-clause-holds_back
-returns-in-Err-clause-holds_back g c = λ fine. g.met.T.Store.holds_back_same c.args.store.now
-
-pub returns-in_default-savepoint-clause-holds_back : goal.returns-in_default-savepoint-clause-holds_back
-returns-in_default-savepoint-clause-holds_back g c = λ fine. g.met.T.Store.holds_back_same c.args.store.now
-
-pub returns-in-None-clause-holds_back : goal.returns-in-None-clause-holds_back
-returns-in-None-clause-holds_back g c = λ fine. g.met.T.Store.holds_back_same c.args.store.now
-
 pub returns-in-None-clause-makes : goal.returns-in-None-clause-makes
 returns-in-None-clause-makes g c = λ h st fine.
     let s = g.T.Store in
@@ -133,3 +124,12 @@ returns-in-Err-clause-makes g c = λ h st fine.
     let s = g.T.Store in
     let store = c.args.store.now in
     makes_refused h (machine.RollbackTo c.args.s (name_text c.args.name.now)) (s.slots store) (s.lsn store) (s.blocks store) (s.blocks store) refl c.in-Err.why (λ scn lost is. refl)
+
+pub returns-in-Err-clause-holds_back : goal.returns-in-Err-clause-holds_back
+returns-in-Err-clause-holds_back g c = λ fine. g.met.T.Store.holds_back_same c.args.store.now
+
+pub returns-in_default-savepoint-clause-holds_back : goal.returns-in_default-savepoint-clause-holds_back
+returns-in_default-savepoint-clause-holds_back g c = λ fine. g.met.T.Store.holds_back_same c.args.store.now
+
+pub returns-in-None-clause-holds_back : goal.returns-in-None-clause-holds_back
+returns-in-None-clause-holds_back g c = λ fine. g.met.T.Store.holds_back_same c.args.store.now

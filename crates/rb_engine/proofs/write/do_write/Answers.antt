@@ -38,9 +38,6 @@ returns-in-Err-clause-tells g c = λ h st fine. let blocks = g.T.Store.blocks c.
 pub returns-clause-tells : goal.returns-clause-tells
 returns-clause-tells g c = λ h st fine. c.try_write.ensures.tells h st (c.in_default.ensures.granted h c.args.key st.knows (knows_modes g.T.Store h _ st) (c.shape.ensures.shape ∙ st.shape)) fine
 
-pub returns-in-Err-clause-holds_back : goal.returns-in-Err-clause-holds_back
-returns-in-Err-clause-holds_back g c = λ fine. g.met.T.Store.holds_back_same c.args.store.now
-
 pub returns-in-Err-clause-makes : goal.returns-in-Err-clause-makes
 returns-in-Err-clause-makes g c = λ h st fine.
     let s = g.T.Store in
@@ -49,3 +46,6 @@ returns-in-Err-clause-makes g c = λ h st fine.
 
 pub returns-clause-makes : goal.returns-clause-makes
 returns-clause-makes g c = λ h st fine. c.try_write.ensures.makes h st (c.in_default.ensures.granted h c.args.key st.knows (knows_modes g.T.Store h _ st) (c.shape.ensures.shape ∙ st.shape)) fine
+
+pub returns-in-Err-clause-holds_back : goal.returns-in-Err-clause-holds_back
+returns-in-Err-clause-holds_back g c = λ fine. g.met.T.Store.holds_back_same c.args.store.now

@@ -153,15 +153,6 @@ returns-in-Err-clause-tells g c = λ h st early others fine.
     let why : c.refuse.result ≡ refusal_of fault = c.refuse.ensures.why ∙ c.refusal.ensures in
     tells_logged g.T.Store st.told h.shape c.args.store.now c.write_step.new.store (c.in-Err.ensures.unchanged (sym (failed_is fault) ∙ (ap is_disk_fault (sym why) ∙ fine)))
 
-pub returns-in-Ok-clause-holds_back : goal.returns-in-Ok-clause-holds_back
-returns-in-Ok-clause-holds_back g c = λ fine. c.in-Ok.ensures.logs.1.between refl (laws_of g)
-
-pub returns-in-Err-clause-holds_back : goal.returns-in-Err-clause-holds_back
-returns-in-Err-clause-holds_back g c = λ fine.
-    let fault = c.in-Err.fault in
-    let why : c.refuse.result ≡ refusal_of fault = c.refuse.ensures.why ∙ c.refusal.ensures in
-    (c.in-Err.ensures.unchanged (sym (failed_is fault) ∙ (ap is_disk_fault (sym why) ∙ fine))).between refl (laws_of g)
-
 pub returns-in-Ok-clause-makes : goal.returns-in-Ok-clause-makes
 returns-in-Ok-clause-makes g c = λ h st early others fine.
     let s = g.T.Store in
@@ -188,3 +179,12 @@ returns-in-Err-clause-makes g c = λ h st early others fine.
     let why : c.refuse.result ≡ refusal_of fault = c.refuse.ensures.why ∙ c.refusal.ensures in
     let same = (c.in-Err.ensures.unchanged (sym (failed_is fault) ∙ (ap is_disk_fault (sym why) ∙ fine))).blocks st.told refl in
     makes_refused h (machine.Write c.args.s c.args.table c.args.key (action_by c.args.op)) (s.slots old) (s.lsn new) (s.blocks old) (s.blocks new) same c.refuse.result (λ scn lost is. same)
+
+pub returns-in-Ok-clause-holds_back : goal.returns-in-Ok-clause-holds_back
+returns-in-Ok-clause-holds_back g c = λ fine. c.in-Ok.ensures.logs.1.between refl (laws_of g)
+
+pub returns-in-Err-clause-holds_back : goal.returns-in-Err-clause-holds_back
+returns-in-Err-clause-holds_back g c = λ fine.
+    let fault = c.in-Err.fault in
+    let why : c.refuse.result ≡ refusal_of fault = c.refuse.ensures.why ∙ c.refusal.ensures in
+    (c.in-Err.ensures.unchanged (sym (failed_is fault) ∙ (ap is_disk_fault (sym why) ∙ fine))).between refl (laws_of g)

@@ -106,17 +106,6 @@ returns-in-Ok-None-clause-tells g c = λ h st early fine.
     subst (λ blocks. TellsLooks h.shape blocks (s.blocks c.write_free.new.store)) (logs.blocks st.told refl)
     (c.write_free.ensures.tells h (stands_loaded s st.told (laws_of g) h old mid st refl logs) early others fine)
 
-pub returns-in-Err-clause-holds_back : goal.returns-in-Err-clause-holds_back
-returns-in-Err-clause-holds_back g c = λ fine. (let clash : true ≡ false = fine in absurd cc)
-
-pub returns-in-Ok-Some-clause-holds_back : goal.returns-in-Ok-Some-clause-holds_back
-returns-in-Ok-Some-clause-holds_back g c = λ fine. c.in-Ok-Some.ensures.logs.between refl (laws_of g)
-
-pub returns-in-Ok-None-clause-holds_back : goal.returns-in-Ok-None-clause-holds_back
-returns-in-Ok-None-clause-holds_back g c = λ fine.
-    let logs : Logs g.T.Store c.args.store.now c.other_holder.new.store [] true = c.in-Ok-None.ensures.logs in
-    g.met.T.Store.holds_back_joined c.args.store.now c.other_holder.new.store c.write_free.new.store (logs.between refl (laws_of g)) (c.write_free.ensures.holds_back fine)
-
 pub returns-in-Err-clause-makes : goal.returns-in-Err-clause-makes
 returns-in-Err-clause-makes g c = λ h st early fine. (let clash : true ≡ false = fine in absurd cc)
 
@@ -143,3 +132,14 @@ returns-in-Ok-None-clause-makes g c = λ h st early fine.
     let new = c.write_free.new.store in
     makes_loaded s st.told h (machine.Write c.args.s c.args.table c.args.key (action_by c.args.op)) (write_answer c.write_free.result) (s.lsn new) old.store mid.store (s.blocks new) logs
     (c.write_free.ensures.makes h (stands_loaded s st.told (laws_of g) h old mid st refl logs) early others fine)
+
+pub returns-in-Err-clause-holds_back : goal.returns-in-Err-clause-holds_back
+returns-in-Err-clause-holds_back g c = λ fine. (let clash : true ≡ false = fine in absurd cc)
+
+pub returns-in-Ok-Some-clause-holds_back : goal.returns-in-Ok-Some-clause-holds_back
+returns-in-Ok-Some-clause-holds_back g c = λ fine. c.in-Ok-Some.ensures.logs.between refl (laws_of g)
+
+pub returns-in-Ok-None-clause-holds_back : goal.returns-in-Ok-None-clause-holds_back
+returns-in-Ok-None-clause-holds_back g c = λ fine.
+    let logs : Logs g.T.Store c.args.store.now c.other_holder.new.store [] true = c.in-Ok-None.ensures.logs in
+    g.met.T.Store.holds_back_joined c.args.store.now c.other_holder.new.store c.write_free.new.store (logs.between refl (laws_of g)) (c.write_free.ensures.holds_back fine)

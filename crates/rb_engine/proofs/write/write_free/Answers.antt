@@ -124,9 +124,6 @@ returns-in-Ok-clause-tells g c = λ h st early others fine.
     subst (λ blocks. TellsLooks h.shape blocks (s.blocks c.make_write.new.store)) (logs.blocks st.told refl)
     (c.make_write.ensures.tells h (stands_loaded s st.told (laws_of g) h old mid st refl logs) early (others, timely) fine)
 
-pub returns-in-Err-clause-holds_back : goal.returns-in-Err-clause-holds_back
-returns-in-Err-clause-holds_back g c = λ fine.
-
 pub returns-in-Err-clause-makes : goal.returns-in-Err-clause-makes
 returns-in-Err-clause-makes g c = λ h st early others fine.
     let s = g.T.Store in
@@ -134,13 +131,6 @@ returns-in-Err-clause-makes g c = λ h st early others fine.
     let new = c.check_late.new.store in
     let logs : Logs s old new [] (not (is_disk_fault c.refuse.result)) = subst (λ w. Logs s old new [] (not (is_disk_fault w))) (sym c.refuse.ensures.why) c.in-Err.ensures.logs in
     let loaded : Logs s old new [] true = subst (λ b. Logs s old new [] (not b)) fine logs in
-    loaded.between refl (laws_of g)
-
-pub returns-in-Ok-clause-holds_back : goal.returns-in-Ok-clause-holds_back
-returns-in-Ok-clause-holds_back g c = λ fine.
-    let logs : Logs g.T.Store c.args.store.now c.check_late.new.store [] true = c.in-Ok.ensures.logs in
-    g.met.T.Store.holds_back_joined c.args.store.now c.check_late.new.store c.make_write.new.store (logs.between refl (laws_of g)) (c.make_write.ensures.holds_back fine)
-
     let same = loaded.blocks st.told refl in
     makes_refused h (machine.Write c.args.s c.args.table c.args.key (action_by c.args.op)) (s.slots old) (s.lsn new) (s.blocks old) (s.blocks new) same c.refuse.result (λ scn lost is. same)
 
@@ -156,3 +146,17 @@ returns-in-Ok-clause-makes g c = λ h st early others fine.
     let new = c.make_write.new.store in
     makes_loaded s st.told h (machine.Write c.args.s c.args.table c.args.key (action_by c.args.op)) (write_answer c.make_write.result) (s.lsn new) old.store mid.store (s.blocks new) logs
     (c.make_write.ensures.makes h (stands_loaded s st.told (laws_of g) h old mid st refl logs) early (others, timely) fine)
+
+pub returns-in-Err-clause-holds_back : goal.returns-in-Err-clause-holds_back
+returns-in-Err-clause-holds_back g c = λ fine.
+    let s = g.T.Store in
+    let old = c.args.store.now in
+    let new = c.check_late.new.store in
+    let logs : Logs s old new [] (not (is_disk_fault c.refuse.result)) = subst (λ w. Logs s old new [] (not (is_disk_fault w))) (sym c.refuse.ensures.why) c.in-Err.ensures.logs in
+    let loaded : Logs s old new [] true = subst (λ b. Logs s old new [] (not b)) fine logs in
+    loaded.between refl (laws_of g)
+
+pub returns-in-Ok-clause-holds_back : goal.returns-in-Ok-clause-holds_back
+returns-in-Ok-clause-holds_back g c = λ fine.
+    let logs : Logs g.T.Store c.args.store.now c.check_late.new.store [] true = c.in-Ok.ensures.logs in
+    g.met.T.Store.holds_back_joined c.args.store.now c.check_late.new.store c.make_write.new.store (logs.between refl (laws_of g)) (c.make_write.ensures.holds_back fine)

@@ -1,4 +1,4 @@
-use Rattle.std.proofs.Common.{sym, subst, refl}
+use Rattle.std.proofs.Common.{refl, sym, subst}
 use Rattle.rb_engine.specs.Does.{Does, EngineView, Stands}
 use Rattle.rb_model.specs.Answers.{plain_answer}
 use Rattle.rb_model.specs.Calls as machine
@@ -12,13 +12,13 @@ returns-clause-did g c = λ h st.
     let call = c.do_set in
     subst (λ e. Does s h (machine.SetMode c.args.s c.args.mode) (plain_answer call.result) e (record { memory = call.new.memory; store = c.self.inside.store })) c.self.view_is (call.ensures.did h (subst (Stands s h) (sym c.self.view_is) st))
 
-pub returns-clause-holds_back : goal.returns-clause-holds_back
-returns-clause-holds_back g c = λ fine.
-    subst (λ (e : EngineView _). g.T.Store.holds_back e.store c.self.inside.store) c.self.view_is (g.met.T.Store.holds_back_same c.self.inside.store)
-
 pub returns-clause-makes : goal.returns-clause-makes
 returns-clause-makes g c = λ h st fine.
     let s = g.T.Store in
     let new = c.self.inside.store in
     subst (λ (e : EngineView _). Makes h (machine.SetMode c.args.s c.args.mode) (plain_answer c.do_set.result) (s.slots e.store) (s.lsn new) (s.blocks e.store) (s.blocks new)) c.self.view_is
     (makes_plain h (machine.SetMode c.args.s c.args.mode) (s.slots new) (s.lsn new) (s.blocks new) (s.blocks new) refl c.do_set.result refl refl)
+
+pub returns-clause-holds_back : goal.returns-clause-holds_back
+returns-clause-holds_back g c = λ fine.
+    subst (λ (e : EngineView _). g.T.Store.holds_back e.store c.self.inside.store) c.self.view_is (g.met.T.Store.holds_back_same c.self.inside.store)
