@@ -1,11 +1,19 @@
-use Rattle.std.proofs.Common.{◌≡◌, ◌≤◌, List, None, IfErr, IfOk, sym, ◌∙◌, ap, subst}
+use Rattle.std.proofs.Common.{◌≡◌, ◌≤◌, ℕ, Bool, not, List, [], Option, None, Some, Result, Ok, Err, IfErr, IfOk, OnOk, sym, ◌∙◌, ap, subst}
 use Rattle.rb_base.specs.Blocks.{home_block}
+use Rattle.rb_base.specs.Logs.{Logs}
 use Rattle.rb_base.specs.declared.shape.Shape.{Shape}
 use Rattle.rb_cr.specs.Builds.{IsHomeOld, IsHomeRead}
+use Rattle.rb_cr.specs.Faults.{is_failed}
+use Rattle.rb_cr.specs.declared.faults.CrFault.{CrFault}
+use Rattle.rb_cr.specs.declared.faults.CrFault.TheVariants.{Failed, TooOld}
 use Rattle.rb_cr.specs.declared.scratch.Snapshot.{Snapshot}
+use Rattle.rb_engine.specs.Checks.{err_faults}
 use Rattle.rb_engine.specs.Does.{Kept}
+use Rattle.rb_engine.specs.Lateness.{LateAs}
 use Rattle.rb_engine.proofs.LateLemmas.{reads, timely}
+use Rattle.rb_model.specs.Calls.{is_disk_fault}
 use Rattle.rb_model.specs.declared.mode.Isolation.TheVariants as isolation
+use Rattle.rb_model.specs.declared.refusal.Refusal.{Refusal}
 use Rattle.rb_rebuild.specs.Late.{late_above}
 use Rattle.rb_rebuild.specs.Reading.{History}
 use Rattle.rb_sessions.specs.Kept.{KeptSession, kept_at}
@@ -31,3 +39,16 @@ returns-clause-timely g c = λ tells h xids stand shape knows.
     let old : IsHomeRead h.shape blocks (home_block h.shape table key) past snap → IfErr c.changed_after.result (IsHomeOld h.shape blocks (home_block h.shape table key) past snap) =
     subst (λ (z : Shape). IsHomeRead z blocks (home_block z table key) past snap → IfErr c.changed_after.result (IsHomeOld z blocks (home_block z table key) past snap)) shape (c.changed_after.ensures.old tells past) in
     timely h xids blocks sessions stand knows c.args.s table key c.requires.session tables n serial c.changed_after.result (late read) (old read) c.refusal.result c.refusal.ensures.none c.refusal.ensures.why
+
+-- the search failed where its refusal tells of a fault of the disk
+same_fault : (scn : ℕ) (found : Result (Option ℕ) CrFault) (result : Result (Unit {0}) Refusal) → OnOk result (found ≡ Ok None) → IfErr result (LateAs scn found) → is_failed found ≡ err_faults result
+same_fault scn found (Ok done) none why = ap (λ (r : Result (Option ℕ) CrFault). is_failed r) none
+same_fault scn (Ok None) (Err w) none why = absurd why
+same_fault scn (Ok (Some by)) (Err w) none why = sym (ap (λ (r : Refusal). is_disk_fault r) why)
+same_fault scn (Err (TooOld n lost)) (Err w) none why = sym (ap (λ (r : Refusal). is_disk_fault r) why)
+same_fault scn (Err Failed) (Err w) none why = sym (ap (λ (r : Refusal). is_disk_fault r) why)
+
+pub returns-clause-logs : goal.returns-clause-logs
+returns-clause-logs g c =
+    subst (λ (b : Bool). Logs g.T.Store c.args.store.now c.changed_after.new.store [] (not b))
+    (same_fault c.in-Serializable.snapshot c.changed_after.result c.refusal.result c.refusal.ensures.none c.refusal.ensures.why) c.changed_after.ensures.logs
