@@ -277,9 +277,9 @@ class Segment:
             if slot.state > ENDED or slot.before > slot.newest:
                 yield f"slot {at}: {slot}"
         for at in self.active():
-            yield from self.slot_faults(at)
+            yield from self.slot_faults(at, commit_number)
 
-    def slot_faults(self, at):
+    def slot_faults(self, at, commit_number):
         """What is wrong with the live records of an Active slot."""
         slot, live = self.slots[at], self.live(at)
         identity = self.store.identity
@@ -292,6 +292,9 @@ class Segment:
             own = (undo.slot, undo.wrap, undo.number) == (at, slot.wrap, number)
             if not (own and undo.home < identity.table_blocks and undo.entry < ENTRIES and undo.cell < CELLS):
                 yield f"slot {at}: live record {number} is {undo}"
+            elif not self.store.could_stand(undo, commit_number):
+                entry = Entry(undo.entry_before)
+                yield f"slot {at}: live record {number} keeps what can't stand in its block: entry {entry}; {undo}"
 
 
 def places(first, size, count):
@@ -475,14 +478,25 @@ class Store:
         if self.owed > self.room:
             yield f"{self.owed} groups put back what is under way, and the log has room for {self.room}"
 
+    def is_entry(self, entry, commit_number):
+        """Whether a slot entry is free, or names what there is by numbers that were given."""
+        if entry.kind == FREE:
+            return True
+        if entry.kind > BOUND or entry.segment >= self.identity.segments or entry.slot >= TABLE_SLOTS:
+            return False
+        few = 1 <= entry.length <= EXTENTS * EXTENT_RECORDS and entry.number <= commit_number
+        return few and 1 <= entry.wrap <= self.segments[entry.segment].slots[entry.slot].wrap
+
+    def could_stand(self, undo, commit_number):
+        """Whether the entry and the cell that a live record keeps could stand in its block."""
+        entry, cell = Entry(undo.entry_before), Cell(undo.cell_before)
+        if not self.is_entry(entry, commit_number) or cell.length > VALUE_BYTES or cell.state > STUB:
+            return False
+        return not cell.lock if cell.state == EMPTY else (cell.key - undo.home) % self.identity.blocks == 0
+
     def entry_faults(self, entries, commit_number):
         for at, entry in enumerate(entries):
-            if entry.kind == FREE:
-                continue
-            known = entry.kind <= BOUND and entry.segment < self.identity.segments and entry.slot < TABLE_SLOTS
-            if not known or not 1 <= entry.wrap <= self.segments[entry.segment].slots[entry.slot].wrap:
-                yield f"entry {at}: {entry}"
-            elif not 1 <= entry.length <= EXTENTS * EXTENT_RECORDS or entry.number > commit_number:
+            if not self.is_entry(entry, commit_number):
                 yield f"entry {at}: {entry}"
 
     def cell_faults(self, home, entries, cells):

@@ -194,7 +194,11 @@ pub(crate) fn fits(scratch: &Scratch, found: &SegmentRecord, i: usize, xid: Xid)
     ensures cell { result ≡ true → found.now.undo.cell < CELLS }
 {
     names(found, i, scratch.block, xid)
-        && leads_back(&scratch.entries[i], &entry_from(&found.undo.entry_before), xid)
+        && leads_back(
+            &scratch.entries[i],
+            &entry_from(&found.undo.entry_before),
+            xid,
+        )
 }
 
 /// Puts back the entry and the cell that a record kept, and answers the cell as it was before.

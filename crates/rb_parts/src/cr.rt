@@ -1,10 +1,10 @@
 //! Homes of a small file as they were at snapshots: rows that records of undo bring back, the reader's own changes over
 //! them, and snapshots that are too old.
-ghost use Rattle.std.specs.Prelude.{◌≡◌, ◌<◌, false};
+ghost use Rattle.std.specs.Prelude.{◌≡◌, ◌<◌, ◌≤◌, false};
 
-use crate::writers::{SHAPE, Writers, copy_of};
+use crate::writers::{SHAPE, Writers, apply, copy_of};
 use arrayvec::ArrayVec;
-use rb_base::{BlockNo, Scn, Store};
+use rb_base::{BlockNo, Group, Scn, Store};
 use rb_cell::{CELLS, EMPTY, ROW, STUB, cells};
 use rb_cr::{CrFault, Scratch, Snapshot, Steps, build};
 use rb_itl::{ENTRIES, EXACT, OPEN, entry};
@@ -182,6 +182,44 @@ fn extent_taken_again(rt: HostRuntime) -> Result<(), Fail> {
     }
     let sights: [Sight; 2] = [(40, 0, 0, &[(0, b"u")]), (80, 0, 0, &[(0, b"u")])];
     assert!(rt; see(&mut writers, &mut scratch, &sights));
+    Ok(())
+}
+
+// Commit 2 has two records, the last at this place of the first undo block.
+const TWO_UPDATES: &[u8] = b"\
+insert 1 1 2 a
+commit 1
+update 1 1 2 b
+update 1 1 2 c
+commit 1
+";
+
+const LAST_RECORD: u16 = 416;
+
+/// Whether a reader at commit 1 is told that it is too old, once these bytes stand in the first undo block.
+fn is_too_old_by(rt: &HostRuntime, at: u16, bytes: [u8; 4]) -> Result<bool, Fail>
+    requires { (32 ≤ at) × (at ≤ 2044) }
+{
+    let mut writers = Writers::new(rt.alloc(), SHAPE)?;
+    let mut scratch = Scratch::new(rt.alloc())?;
+    let undo = writers.store.shape().header_block(0) + 1;
+    let mut group = Group::new();
+    group.push(undo, at, &bytes);
+    let is_damaged = writers.lines(TWO_UPDATES) && apply(&mut writers.store, &group).is_ok();
+    let old = CrFault::TooOld { scn: 1, lost: 0 };
+    Ok(is_damaged && built(&mut writers, 0, 1, 0, 0, &mut scratch) == Err(old))
+}
+
+// A record that names another block, leads to itself, or keeps a chain that isn't shorter isn't taken back.
+#[test]
+fn record_that_leads_nowhere(rt: HostRuntime) -> Result<(), Fail> {
+    assert!(rt; !is_too_old_by(&rt, LAST_RECORD + 20, [0, 0, 0, 0])?);
+    assert!(rt; is_too_old_by(&rt, LAST_RECORD + 20, [0, 0, 0, 1])?);
+    assert!(rt; !is_too_old_by(&rt, LAST_RECORD + 76, [0, 1, 0, 0])?);
+    assert!(rt; is_too_old_by(&rt, LAST_RECORD + 76, [0, 2, 0, 0])?);
+    assert!(rt; !is_too_old_by(&rt, LAST_RECORD + 88, [0, 0, 0, 1])?);
+    assert!(rt; is_too_old_by(&rt, LAST_RECORD + 88, [0, 0, 0, 2])?);
+    assert!(rt; is_too_old_by(&rt, LAST_RECORD + 88, [255, 255, 255, 255])?);
     Ok(())
 }
 

@@ -175,9 +175,24 @@ module _ (w : ℕ → ℕ) (env env2 : Env) (s c : ℕ) (now : Commits w env env
           λ r there.
               let same : next.0 ≡ r =
               let a : env.store ch.place ≡ Some next.0 = head.there in let b2 : env2.store ch.place ≡ env.store ch.place = now.store ch.place in cc in
-              subst (λ (z : Undo). Names z (env.xid s) i ch (length more) b × Chain env2 (env.xid s) c i more (back z b) (Walk env2 base rows older)) same
-              (record { xid = head.xid; of = head.of; entry = at; within = head.within; cell = head.cell; number = head.number; key = head.key; home = head.home; here = head.here; sort = head.sort; shows = head.shows; oldest = λ none. head.oldest (ap suc none);
-              later = λ some. ap (λ (z : Entry). z.status) (sym before_is) ∙ (leads_on env (Walk env base rows older) s i more m (set lives s more) (back next.0 b) own_more only_more next.2 some).0 }, deeper.3),
+              subst (λ (z : Undo). Names z (env.xid s) i ch (length more) b × Chain env2 (env.xid s) c i more (back z b) (Walk env2 base rows older)) same (
+                record {
+                  xid = head.xid;
+                  of = head.of;
+                  entry = at;
+                  within = head.within;
+                  cell = head.cell;
+                  number = head.number;
+                  key = head.key;
+                  home = head.home;
+                  here = head.here;
+                  sort = head.sort;
+                  shows = head.shows;
+                  oldest = λ none. head.oldest (ap suc none);
+                  later = λ some. ap (λ (z : Entry). z.status) (sym before_is) ∙ (leads_on env (Walk env base rows older) s i more m (set lives s more) (back next.0 b) own_more only_more next.2 some).0;
+                },
+                deeper.3,
+              ),
         ),
         others_below,
       )

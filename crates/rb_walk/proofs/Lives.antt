@@ -27,8 +27,7 @@ pub leads_on : (env : Env) (rest : Home → Type 0) (s i : ℕ) (chs : List Chan
 leads_on env rest s i [] m lives b is only tree some = absurd (some refl)
 leads_on env rest s i (ch ∷ more) m lives b is only tree some =
     let h : (r : Undo) × Head env s ch (suc (length more)) b r = first env rest m lives b s ch more is tree in
-    let at : h.0.entry ≡ i = only h.0.entry (h.1.status, ap env.look h.1.leads.xid ∙ h.1.active) h.1.leads.xid in
-    (
+    let at : h.0.entry ≡ i = only h.0.entry (h.1.status, ap env.look h.1.leads.xid ∙ h.1.active) h.1.leads.xid in (
       subst (λ (z : ℕ). (entry_at b z).status ≡ Open) at h.1.status,
       subst (λ (z : ℕ). (entry_at b z).xid ≡ env.xid s) at h.1.leads.xid,
       subst (λ (z : ℕ). (entry_at b z).chain ≡ suc (length more)) at h.1.leads.chain,

@@ -7,8 +7,7 @@ use Rattle.rb_sound.proofs.active.could_stand.Goals as goal
 
 pub returns-then-entry_sound : goal.returns-then-entry_sound
 returns-then-entry_sound c =
-    let limits = c.args.limits.now in
-    (
+    let limits = c.args.limits.now in (
       λ yes. record {
         entry = subst (λ (e : Entry). IsEntrySound limits.shape limits.commit (wrap_in limits.wraps) e) c.entry_from.ensures (c.entry_sound.ensures.0 c.if-entry_sound.true);
         cell = subst (λ (x : Cell). IsCellSound limits.shape (c.args.undo.now.home % limits.shape.blocks) x) c.cell_from.ensures (c.cell_sound.ensures.0 yes);
