@@ -1,14 +1,12 @@
 -- A chain that can't be taken back for want of room would keep more rows than there is room for.
-use Rattle.std.proofs.Common.{◌≡◌, ◌⊎◌, inl, inr, ⊎_elim, ◌<◌, ◌≤◌, ◌+◌, ◌-◌, ℕ, suc, false, length, Option, Some, None}
+use Rattle.std.proofs.Common.{◌≡◌, inl, inr, ◌<◌, ◌≤◌, ◌+◌, ◌-◌, ℕ, suc, length, Option, Some, None}
 use Rattle.std.proofs.Common.{sym, subst, arith}
 use Rattle.rb_base.specs.declared.ids.Xid.{Xid}
-use Rattle.rb_cr.specs.Parts.{Took}
-use Rattle.rb_rebuild.specs.Chains.{applied, unwound, fits}
+use Rattle.rb_rebuild.specs.Chains.{applied, fits}
 use Rattle.rb_rebuild.specs.Keeping.{kept_room, Kept, keep, kept_one, kept_go, kept_after}
 use Rattle.rb_walk.specs.Kinds.{Undo}
 use Rattle.rb_walk.specs.Walk.{Home, Env, entry_at, back}
 use Rattle.rb_rebuild.proofs.Keeping.{kept_grows, bools}
-use Rattle.rb_rebuild.proofs.Unwinding.{step_on}
 
 one_grows : (env : Env) (mine : Option Xid) (upto n i : ℕ) (xid : Xid) (b : Home) (kept : Kept)
     → length (kept_one mine upto i xid b (env.store (entry_at b i).newest) kept) ≤ length (kept_after env mine upto (suc n) i xid b kept)

@@ -1,7 +1,6 @@
 -- One record taken back in a decoded home is one step of the walk's home.
-use Rattle.std.proofs.Common.{◌≡◌, inr, ◌<◌, ◌==◌, ◌&&◌, nat_lt, ℕ, Bool, true, false, if◌then◌else◌, length, get_or}
+use Rattle.std.proofs.Common.{◌≡◌, inr, ◌<◌, ℕ, Bool, true, false, if◌then◌else◌, length, get_or}
 use Rattle.std.proofs.Common.{Option, Some, None, refl, sym, ◌∙◌, ap, subst, arith}
-use Rattle.std.proofs.lemmas.List.{length-map}
 use Rattle.rb_base.specs.declared.ids.Xid.{Xid}
 use Rattle.rb_base.specs.declared.shape.Shape.{Shape}
 use Rattle.rb_cr.specs.Late.{Saw}
@@ -12,10 +11,10 @@ use Rattle.rb_cr.specs.declared.records.SegmentRecord.{SegmentRecord}
 use Rattle.rb_cr.specs.declared.scratch.Scratch.{Scratch}
 use Rattle.rb_cr.specs.declared.scratch.Snapshot.{Snapshot}
 use Rattle.rb_itl.specs.Entries.{free_entry as zero_entry}
-use Rattle.rb_rebuild.specs.Chains.{same_xid, fits, applied, stepped}
+use Rattle.rb_rebuild.specs.Chains.{fits, applied, stepped}
 use Rattle.rb_rebuild.specs.Keeping.{Kept, keep, kept_one, kept_room}
 use Rattle.rb_rebuild.specs.Late.{touches}
-use Rattle.rb_standing.specs.Says.{place_of, walk_cell}
+use Rattle.rb_standing.specs.Says.{place_of}
 use Rattle.rb_walk.specs.Kinds.{Entry, Undo}
 use Rattle.rb_walk.specs.Walk.{Env, Home, entry_at, back}
 use Rattle.rb_cr.proofs.Tops.{entry_is}

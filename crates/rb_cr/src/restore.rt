@@ -162,11 +162,11 @@ fn take_all_back<S: Segments, L: Ledger>(
 
 /// Makes of a decoded home what it was at a snapshot, and keeps the reader's own first changes beside it. For each
 /// history that the home stands for, the rows are those at the snapshot with these changes over them. Each record that
-/// is taken back is counted: as many as changes stand above the snapshot; or, where one of them is gone, those that were
-/// taken back before it and no more. `TooOld` only where what that needs was given up by a segment, above the snapshot;
-/// `Failed` only where a call failed. (Oracle7 Server Concepts, *Multiversion
-/// Consistency Model*: older versions are rebuilt from rollback segments. The order is this project's choice: what
-/// isn't committed first, and then the greatest number.)
+/// is taken back is counted: as many as changes stand above the snapshot; or, where one of them is gone, those that
+/// were taken back before it and no more. `TooOld` only where what that needs was given up by a segment, above the
+/// snapshot; `Failed` only where a call failed. (Oracle7 Server Concepts, *Multiversion Consistency Model*: older
+/// versions are rebuilt from rollback segments. The order is this project's choice: what isn't committed first, and
+/// then the greatest number.)
 pub fn rebuild<S: Segments, L: Ledger>(
     segments: &mut S,
     scratch: &mut Scratch,

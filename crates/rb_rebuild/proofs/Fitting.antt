@@ -1,5 +1,5 @@
 -- Each record of a chain fits, where it is there.
-use Rattle.std.proofs.Common.{◌≡◌, ◌≢◌, ◌<◌, ◌+◌, ℕ, suc, Bool, true, false, List, [], ◌∷◌, length, set, Some, refl, sym}
+use Rattle.std.proofs.Common.{◌≡◌, ◌≢◌, ◌<◌, ℕ, suc, true, List, [], ◌∷◌, length, set, Some, refl, sym}
 use Rattle.std.proofs.Common.{◌∙◌, ap, subst, arith, inl, inr, ◌≤◌}
 use Rattle.std.proofs.lemmas.Bool.{cases_eq}
 use Rattle.std.proofs.lemmas.Bool.Decides.{nat_tests}
@@ -8,7 +8,7 @@ use Rattle.rb_base.specs.declared.ids.Xid.{Xid}
 use Rattle.rb_rebuild.specs.Chains.{fits, leads_back, number_falls}
 use Rattle.rb_rebuild.specs.Heights.{Numbered, StatusNumbered}
 use Rattle.rb_walk.specs.Kinds.{Status, Free, Open, Exact, Bound, Entry, Undo}
-use Rattle.rb_walk.specs.Walk.{Change, Commit, Home, Env, Rows, Walk, Chain, Names, Head, Tree, Next, IsActive, Below}
+use Rattle.rb_walk.specs.Walk.{Change, Commit, Home, Env, Rows, Walk, Chain, Names, Head, Next, IsActive}
 use Rattle.rb_walk.specs.Walk.{StatusBelow, back, entry_at, free_entry, last, own}
 use Rattle.rb_walk.proofs.Committing.{top}
 use Rattle.rb_walk.proofs.Lives.{leads_on, own_within}

@@ -4,6 +4,7 @@ pub mod Newest
 pub mod Numbering
 pub mod Peeling
 pub mod Quiet
+pub mod Shortening
 pub mod Showing
 pub mod Undoing
 pub mod Unwinding

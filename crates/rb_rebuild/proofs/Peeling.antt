@@ -15,7 +15,7 @@ use Rattle.rb_txntable.specs.declared.looks.Look.{Look}
 use Rattle.rb_txntable.specs.declared.looks.Look.TheVariants.{Active, At, Before}
 use Rattle.rb_walk.specs.Kinds.{Status, Free, Open, Exact, Bound, Entry, Undo}
 use Rattle.rb_walk.specs.Walk.{In, Change, Commit, Home, Env, Rows, Match, Walk, Chain, Below, LookBelow, StatusBelow}
-use Rattle.rb_walk.specs.Walk.{Told, Names, Leads, back, entry_at, last}
+use Rattle.rb_walk.specs.Walk.{Told, Leads, back, entry_at, last}
 use Rattle.rb_rebuild.proofs.Keeping.{chain_keeps, chain_fits}
 use Rattle.rb_rebuild.proofs.Fitting.{Fitting, commit_fitting}
 use Rattle.rb_rebuild.proofs.Unwinding.{passes}

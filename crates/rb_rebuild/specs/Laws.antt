@@ -1,8 +1,8 @@
 -- What holds of a home that is read at a snapshot: turn by turn, as chains are taken back, and in the end.
-use Rattle.std.specs.Prelude.{◌≡◌, ◌<◌, ◌≤◌, ◌+◌, ◌-◌, ◌^◌, ℕ, List, length}
-use Rattle.std.specs.Prelude.{Option, Some, None}
+use Rattle.std.specs.Prelude.{◌≡◌, ◌⊎◌, ◌<◌, ◌≤◌, ◌+◌, ◌-◌, ◌^◌, ℕ, List, length}
+use Rattle.std.specs.Prelude.{Option, Some, None, true}
 use Rattle.rb_base.specs.declared.ids.Xid.{Xid}
-use Rattle.rb_rebuild.specs.Chains.{spent}
+use Rattle.rb_rebuild.specs.Chains.{is_own, spent, stepped}
 use Rattle.rb_rebuild.specs.Heights.{AtMost, Numbered, Over}
 use Rattle.rb_rebuild.specs.Keeping.{Kept, behind_mine, first_count, kept_room, kept_whole, overlay}
 use Rattle.rb_rebuild.specs.Late.{late_above, seen_at, touched}
@@ -12,6 +12,13 @@ use Rattle.rb_rebuild.specs.Turns.{Ends, Peeled, Running, Starts, Watched, WornI
 use Rattle.rb_rebuild.specs.Heights.{BeyondIn}
 use Rattle.rb_walk.specs.Steps.{Stands}
 use Rattle.rb_walk.specs.Walk.{Change, Commit, Distinct, Home, Env, Rows, Walk, Match, IsActive, entry_at, last, own}
+
+-- Whatever the records are, one that is taken back leaves an entry of the same transaction with a chain shorter by one,
+-- or it was the last one of the chain. So a chain ends, and takes no record back twice.
+abbrev pub StepsShorten : Type 0
+StepsShorten = (env : Env) (i : ℕ) (xid : Xid) (b b2 : Home) → i < length b.entries → stepped env i xid b ≡ Some b2
+    → ((is_own xid (entry_at b2 i) ≡ true) × ((entry_at b2 i).chain + 1 ≡ (entry_at b i).chain))
+    ⊎ ((entry_at b i).chain ≡ 1)
 
 -- A home that stands can be read by few enough changes of one slot, at any number from the base on.
 abbrev pub StandingIsRead : Type 0

@@ -3,15 +3,17 @@ ghost use Rattle.rb_rebuild.specs.Laws.{StandingIsRead, FirstAreFew, LiveBegin, 
 ghost use Rattle.rb_rebuild.specs.Laws.{LiveAreTakenBack, CommitsBegin, CommitIsTakenBack, NoneAboveIsRead};
 ghost use Rattle.rb_rebuild.specs.Laws.{BoundIsWorn, CellsShowRows, QuietIsRead};
 ghost use Rattle.rb_rebuild.specs.Laws.{WatchBegins, WatchedBoundIsWorn, CommitIsWatched, NoneAboveIsLate};
-ghost use Rattle.rb_rebuild.specs.Laws.{QuietIsOld};
+ghost use Rattle.rb_rebuild.specs.Laws.{QuietIsOld, StepsShorten};
 
-/// A home that stands can be read. The live changes are taken back entry by entry, and none of their records is gone;
+/// Each record that is taken back makes its chain shorter or ends it, over whatever bytes. A home that stands can be
+/// read. The live changes are taken back entry by entry, and none of their records is gone;
 /// then the commits above the snapshot, the greatest number first. In the end the cells show the rows at the snapshot,
 /// what is kept lies over them as the reader's first changes do, and as many records were taken back as changes stand
 /// above the snapshot. Where that can't be done, a segment lost what was needed, above the snapshot. A home in which
 /// nothing is active or above the snapshot shows these rows as it is. The chains of the commits above it also tell
 /// which of these was the first to change a key: the last one that is seen to do so.
 pub fn rebuild_laws()
+    ensures shorter { StepsShorten }
     ensures read { StandingIsRead × FirstAreFew }
     ensures live { LiveBegin × QuietIsPassed }
     ensures active { ActiveIsTakenBack }

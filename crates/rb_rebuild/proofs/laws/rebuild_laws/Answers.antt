@@ -1,10 +1,14 @@
 use Rattle.rb_rebuild.proofs.Numbering.{first_few}
 use Rattle.rb_rebuild.proofs.Peeling.{begins, fails, finishes, turns}
+use Rattle.rb_rebuild.proofs.Shortening.{shorter}
 use Rattle.rb_rebuild.proofs.Quiet.{quiet_reads}
 use Rattle.rb_rebuild.proofs.Showing.{match_rows, reading_of}
 use Rattle.rb_rebuild.proofs.Undoing.{allows, passes_by, starts_running, taken_back, taken_whole}
 use Rattle.rb_rebuild.proofs.Watching.{quiet_late, watch_begins, watch_ends, watched_over, watches}
 use Rattle.rb_rebuild.proofs.laws.rebuild_laws.Goals as goal
+
+pub returns-clause-shorter : goal.returns-clause-shorter
+returns-clause-shorter c = shorter
 
 pub returns-clause-read : goal.returns-clause-read
 returns-clause-read c = (reading_of, first_few)
