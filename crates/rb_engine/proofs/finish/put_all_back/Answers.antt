@@ -63,7 +63,7 @@ returns-clause-counted g c =
     logs_counted g.T.Store c.args.store.now c.end_step.new.store all.0 c.end_step.result all.1
 
 pub returns-clause-holds_back : goal.returns-clause-holds_back
-returns-clause-holds_back g c = 
+returns-clause-holds_back g c =
     let first = put_back_as g.T.Store c.args.xid c.args.count c.args.store.now c.put_back.new.store c.in_ok-put_back.ensures.logs c.in_ok-put_back.ensures.puts_back in
     let all = groups_more g.T.Store c.args.xid c.args.count c.args.count c.args.store.now c.put_back.new.store first c.end_step.new.store (not (is_err c.end_step.result)) c.end_step.ensures.logs in
     ok_by c.end_step.result (λ fine. all.1.between fine (laws_of g))
