@@ -27,8 +27,8 @@ pub record Laws {S : Type 0} (s : Ghosts S) : Type 0 where
   pub holds_back_joined : (a b c : S) → s.holds_back a b → s.holds_back b c → s.holds_back a c
 
 -- Calls of a store of the kind s gave it these groups, in order: each has the next log number, and any of them may
--- have been made last. Where a call failed, some of them may be given, and the store is no more to be called. Where none
--- did, `Between` says more of the store before and after them.
+-- have been made last. Where a call failed, some of them may be given, and the store is no more to be called. Where
+-- none did, `Between` says more of the store before and after them.
 pub record LogsBy {S : Type 0} (s : Ghosts S) (Between : S → S → Type 0) (old new : S) (groups : List (List Patch))
     (going : Bool) : Type 0 where
   pub same_shape : s.shape_of new ≡ s.shape_of old
@@ -170,7 +170,8 @@ module _ {S : Type 0} (s : Ghosts S) where
 
   -- any calls after others that went well
   pub more_flushes : {Between : S → S → Type 0} (old mid new : S) (first second : List (List Patch)) (going : Bool)
-      → LogsBy s Between old mid first true → Flushes s mid new second going → Flushes s old new (first ++ second) going
+      → LogsBy s Between old mid first true → Flushes s mid new second going
+      → Flushes s old new (first ++ second) going
   more_flushes old mid new first second going a b =
       more_by (λ _ _. Unit {0}) old mid new (λ _ _ _. tt) first second going (any_logs old mid first true a) b
 
@@ -245,7 +246,8 @@ module _ {S : Type 0} (s : Ghosts S) where
       (OpensToSome (s.opens (s.shape_of old) (s.slots old)) n (s.pending old) b))
       → Flushes s old new [] (not (is_err result))
   flush_logs old new result shape slots failed counted lsn blocks settles any_moment =
-      load_by (λ a b. Unit {0}) old new result shape slots failed counted lsn blocks settles any_moment (nothing result)
+      load_by (λ a b. Unit {0}) old new result shape slots failed counted lsn blocks settles any_moment
+      (nothing result)
     where
       nothing : {T E : Type 0} (r : Result T E) → OnOk r (Unit {0})
       nothing (Ok value) = tt

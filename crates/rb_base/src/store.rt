@@ -63,7 +63,8 @@ pub trait Store {
     /// What a crash at some moment since that one may have left.
     ghost left_since: { Self → ℕ → image → Type 0 };
 
-    /// From the one to the other its calls made no group last of themselves: none but those that the store itself had to.
+    /// From the one to the other its calls made no group last of themselves: none but those that the store itself had
+    /// to.
     ghost holds_back: { Self → Self → Type 0 };
 
     /// To which blocks and which last log number an image opens, in a file of that shape and as many slots.

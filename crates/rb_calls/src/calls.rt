@@ -41,8 +41,9 @@ fn answer_of_segment<T: Store>(engine: &mut Engine<T>, k: u32) -> Answer
     requires { k < (T.shape_of engine.old.store).segments }
     ensures did { (h : State) (row : Row) → Stands T.Store h engine.old → Does T.Store h
         (machine.Marks k) (answer_of result row) engine.old engine.new }
-    ensures makes { (h : State) (row : Row) → Stands T.Store h engine.old → is_fault (answer_of result row) ≡ false
-        → Makes h (machine.Marks k) (answer_of result row) (T.slots engine.old.store) (T.lsn engine.new.store)
+    ensures makes { (h : State) (row : Row) → Stands T.Store h engine.old
+        → is_fault (answer_of result row) ≡ false → Makes h (machine.Marks k) (answer_of result row)
+        (T.slots engine.old.store) (T.lsn engine.new.store)
         (T.blocks engine.old.store) (T.blocks engine.new.store) }
     ensures fits { FitsCaller None result }
     ensures same { SameStore T.Store engine.old.store engine.new.store }

@@ -17,12 +17,14 @@ abbrev pub StepsBack : Said → Snapshot → ℕ → Xid → Scratch → Scratch
 StepsBack said snap i xid old new =
     Took said.env snap.own snap.upto i xid (scratch_home said.shape old) old.kept (scratch_home said.shape new) new.kept
 
-abbrev pub Unwinds : Said → Snapshot → ℕ → ℕ → Xid → Scratch → ℕ → Scratch → ℕ → Bool → Type 0
+abbrev pub Unwinds : Said → Snapshot → ℕ → ℕ → Xid → Scratch → ℕ → Scratch → ℕ → Bool
+    → Type 0
 Unwinds said snap n i xid old count new count2 =
     Unwound said.env snap.own snap.upto n i xid (scratch_home said.shape old) old.kept count
     (scratch_home said.shape new) new.kept count2
 
-abbrev pub Spends : Said → Snapshot → ℕ → Scratch → ℕ → Result (Unit {0}) CrFault → Scratch → ℕ → Type 0
+abbrev pub Spends : Said → Snapshot → ℕ → Scratch → ℕ → Result (Unit {0}) CrFault → Scratch → ℕ
+    → Type 0
 Spends said snap i old count result new count2 =
     Spent said.env snap.own snap.upto snap.scn i (scratch_home said.shape old) old.kept count
     result (scratch_home said.shape new) new.kept count2

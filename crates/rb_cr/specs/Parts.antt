@@ -24,8 +24,8 @@ abbrev pub Gone : Env → ℕ → ℕ → Xid → Home → ℕ → ℕ → Type 
 Gone env n i xid b count count2 = (k : ℕ) × (k < n) × (count2 ≡ count + k) × Stops env i xid b k
 
 -- So many records taken back, and their rows kept; else one is gone, or the room is used up.
-abbrev pub Unwound : Env → Option Xid → ℕ → ℕ → ℕ → Xid → Home → Kept → ℕ → Home → Kept → ℕ → Bool
-    → Type 0
+abbrev pub Unwound : Env → Option Xid → ℕ → ℕ → ℕ → Xid → Home → Kept → ℕ → Home → Kept
+    → ℕ → Bool → Type 0
 Unwound env mine upto n i xid b kept count b2 kept2 count2 true = (unwound env n i xid b ≡ Some b2)
     × (kept2 ≡ kept_after env mine upto n i xid b kept)
 Unwound env mine upto n i xid b kept count b2 kept2 count2 false = Gone env n i xid b count count2

@@ -189,7 +189,8 @@ fn names(found: &SegmentRecord, i: usize, block: BlockNo, xid: Xid) -> bool
 pub(crate) fn fits(scratch: &Scratch, found: &SegmentRecord, i: usize, xid: Xid) -> bool
     requires there { i < ENTRIES }
     requires cells { length scratch.now.cells ≡ CELLS }
-    ensures told { (shape : Shape) → result ≡ fits i xid (scratch_home shape scratch.now) (record_of shape found.now) }
+    ensures told { (shape : Shape) → result
+        ≡ fits i xid (scratch_home shape scratch.now) (record_of shape found.now) }
     ensures entry { result ≡ true → found.now.undo.entry < ENTRIES }
     ensures cell { result ≡ true → found.now.undo.cell < CELLS }
 {

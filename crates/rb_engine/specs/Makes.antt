@@ -31,8 +31,9 @@ use Rattle.rb_views.specs.Views.{IsCursor}
 -- So many changes of a session are put back, the newest first, and then its slot ends, where it has one.
 abbrev pub EndOver : State → (s n : ℕ) → (before now : List (List ℕ)) → Type 0
 EndOver h s n before now =
-    ((g : ℕ) × (i : ℕ) × Owned h s g i × (middle : List (List ℕ)) × BackOver h.shape (16 * g + i) n before middle
-    × IsEnded h.shape (16 * g + i) middle now) ⊎ (HasNoSlot h s × (now ≡ before))
+    ((g : ℕ) × (i : ℕ) × Owned h s g i × (middle : List (List ℕ))
+    × BackOver h.shape (16 * g + i) n before middle × IsEnded h.shape (16 * g + i) middle now)
+    ⊎ (HasNoSlot h s × (now ≡ before))
 
 -- a write in slot i of segment g, with the record of its change
 pub record WritesOne (h : State) (g i table key : ℕ) (action : Action) (before now : List (List ℕ)) : Type 0 where
@@ -94,8 +95,8 @@ Makes h call (Refused why) slots lsn before now = MadeRefused h call why slots l
 
 -- A resumed write makes what the write makes that its session waited with, as if the session had never been in the
 -- queue. Where none was tried, no block changed.
-abbrev pub ResumeMakes : State → Option (ℕ × Result Wrote Refusal) → Option ℕ → ℕ → (before now : List (List ℕ))
-    → Type 0
+abbrev pub ResumeMakes : State → Option (ℕ × Result Wrote Refusal) → Option ℕ → ℕ
+    → (before now : List (List ℕ)) → Type 0
 ResumeMakes h None slots lsn before now = now ≡ before
 ResumeMakes h (Some (w, outcome)) slots lsn before now = (a : Asked) × (asked_of h w ≡ Some a)
     × Makes (unqueued h w) (Write w a.table a.key a.action) (write_answer outcome) slots lsn before now

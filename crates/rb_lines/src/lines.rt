@@ -68,9 +68,9 @@ pub fn run_lines<M: LineRunner, S: Source, K: Sink>(
 
     // Which lines were done, and what became of the runner's file.
     ensures did { S.tells → (m : Logged) → M.stands runner.old m → m.state.stopped ≡ false
-        → Did M.stands M.since runner.old runner.new m (λ now. EndsAs (outside_by M.worn M.makes (M.slots runner.old))
-        (length buffer.old) m now (S.left source.old) (S.left source.new) K.tells (K.held sink.old) (K.held sink.new)
-        result) }
+        → Did M.stands M.since runner.old runner.new m
+        (λ now. EndsAs (outside_by M.worn M.makes (M.slots runner.old)) (length buffer.old) m now
+        (S.left source.old) (S.left source.new) K.tells (K.held sink.old) (K.held sink.new) result) }
 
     // What became of its file, also where the source doesn't tell.
     ensures passed { (m : Logged) → M.stands runner.old m → m.state.stopped ≡ false

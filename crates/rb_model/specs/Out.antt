@@ -36,8 +36,9 @@ outside_by worn makes slots = record { slots = slots; worn = worn; makes = makes
 abbrev pub room : ℕ → ℕ → ℕ
 room slots lsn = slots - 1 - lsn
 
--- One call with that answer, which is too old only where what it reads is worn in the machine's blocks. Unless the disk
--- has failed, the log number goes up by the groups of the call, 2^14 at most, and the call makes the blocks that follow.
+-- One call with that answer, which is too old only where what it reads is worn in the machine's blocks. Unless the
+-- disk has failed, the log number goes up by the groups of the call, 2^14 at most, and the call makes the blocks that
+-- follow.
 pub record CallOut (m : Logged) (outside : Outside) (call : Call) (answer : Answer) (m2 : Logged) : Type 0 where
   pub reply : Reply m.state m.lsn (room outside.slots m.lsn) call answer
   pub worn : (snapshot lost : ℕ) → answer ≡ Refused (TooOld snapshot lost)

@@ -1,5 +1,6 @@
 -- An entry's chain of records taken back, the newest first.
-use Rattle.std.specs.Prelude.{◌≡◌, ◌⊎◌, ◌<◌, ◌==◌, ◌&&◌, ◌+◌, ℕ, zero, suc, if◌then◌else◌, nat_lt}
+use Rattle.std.specs.Prelude.{◌≡◌, ◌⊎◌, ◌<◌, ◌==◌, ◌&&◌, ◌+◌, ℕ, zero, suc}
+use Rattle.std.specs.Prelude.{if◌then◌else◌, nat_lt}
 use Rattle.std.specs.Prelude.{List, [], ◌∷◌, length, Option, Some, None, Bool, true}
 use Rattle.rb_base.specs.declared.ids.Xid.{Xid}
 use Rattle.rb_walk.specs.Kinds.{Status, Free, Open, Exact, Bound, Entry, Undo}

@@ -16,7 +16,8 @@ use Rattle.rb_walk.specs.Walk.{Change, Commit, Distinct, Home, Env, Rows, Walk, 
 -- Whatever the records are, one that is taken back leaves an entry of the same transaction with a chain shorter by one,
 -- or it was the last one of the chain. So a chain ends, and takes no record back twice.
 abbrev pub StepsShorten : Type 0
-StepsShorten = (env : Env) (i : ℕ) (xid : Xid) (b b2 : Home) → i < length b.entries → stepped env i xid b ≡ Some b2
+StepsShorten = (env : Env) (i : ℕ) (xid : Xid) (b b2 : Home) → i < length b.entries
+    → stepped env i xid b ≡ Some b2
     → ((is_own xid (entry_at b2 i) ≡ true) × ((entry_at b2 i).chain + 1 ≡ (entry_at b i).chain))
     ⊎ ((entry_at b i).chain ≡ 1)
 

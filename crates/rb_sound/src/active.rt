@@ -115,8 +115,8 @@ fn previous<S: Store>(
     requires told { S.tells → header.now ≡ block_of (S.blocks store.old) (header_block shape xid.seg) }
     requires some { 1 ≤ n }
     ensures logs { Logs S.Store store.old store.new [] (not (is_err result)) }
-    ensures some { S.tells → IfOk result (λ found. IfSome found (λ before.
-        (k : ℕ) → n ≡ k + 1 → Chain (Fits limits.now) shape (segment_of shape (S.blocks store.old) xid.seg) xid n at
+    ensures some { S.tells → IfOk result (λ found. IfSome found (λ before. (k : ℕ) → n ≡ k + 1
+        → Chain (Fits limits.now) shape (segment_of shape (S.blocks store.old) xid.seg) xid n at
         ↔ Chain (Fits limits.now) shape (segment_of shape (S.blocks store.old) xid.seg) xid k before)) }
     ensures none { S.tells → IfOk result (λ found. IfNone found
         (¬ Chain (Fits limits.now) shape (segment_of shape (S.blocks store.old) xid.seg) xid n at)) }

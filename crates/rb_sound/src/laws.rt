@@ -23,6 +23,6 @@ pub fn fresh_sound()
 
 /// A chain of live records has at most 320: it goes over as many places as its segment has.
 pub fn chains_short()
-    ensures { (shape : Shape) (commit : ℕ) (wrap_of : ℕ → ℕ → ℕ) (s : Segment) (x : Xid) (n : ℕ) (at : Uba)
-        → Chain (CouldStand shape commit wrap_of) shape s x n at → n ≤ 320 }
+    ensures { (shape : Shape) (commit : ℕ) (wrap_of : ℕ → ℕ → ℕ) (s : Segment) (x : Xid) (n : ℕ)
+        (at : Uba) → Chain (CouldStand shape commit wrap_of) shape s x n at → n ≤ 320 }
 {}
