@@ -194,9 +194,6 @@ update 1 1 2 c
 commit 1
 ";
 
-// The first undo block, behind two blocks of rows and the header of the segment.
-const FIRST_UNDO: BlockNo = 3;
-
 const LAST_RECORD: u16 = 416;
 
 /// Whether a reader at commit 1 is told that it is too old, once these bytes stand in the first undo block.
@@ -205,8 +202,9 @@ fn is_too_old_by(rt: &HostRuntime, at: u16, bytes: [u8; 4]) -> Result<bool, Fail
 {
     let mut writers = Writers::new(rt.alloc(), SHAPE)?;
     let mut scratch = Scratch::new(rt.alloc())?;
+    let undo = writers.store.shape().header_block(0) + 1;
     let mut group = Group::new();
-    group.push(FIRST_UNDO, at, &bytes);
+    group.push(undo, at, &bytes);
     let is_damaged = writers.lines(TWO_UPDATES) && apply(&mut writers.store, &group).is_ok();
     let old = CrFault::TooOld { scn: 1, lost: 0 };
     Ok(is_damaged && built(&mut writers, 0, 1, 0, 0, &mut scratch) == Err(old))
