@@ -65,7 +65,7 @@ class Hub:
                 await writer.drain()
         del self.writers[session]
         writer.close()
-        with contextlib.suppress(ConnectionError):
+        with contextlib.suppress(ConnectionError, asyncio.CancelledError):
             for line in [f"cancel {session}", f"rollback {session}", *(f"close {session} {name}" for name in cursors)]:
                 await self.ask(line)
             self.free.append(session)
