@@ -110,8 +110,8 @@ abbrev pub AreOpen : Layout → Head → ℕ → ℕ → List ℕ → Type 0
 AreOpen l head end count c = (k : ℕ) → k < count → begins_run (l.log - slot_of l head end) k ≡ true
     → gate_of l head c (end + k) ≡ 1
 
--- An image of a flush: its log has the groups of before and the first of those that wait, whole runs of them. Behind
--- these its gate is shut. Outside the log it is as an image of before.
+-- An image of a flush: its log has the groups of before and the first of those that wait, whole runs of them. Outside
+-- the log it is as an image of before.
 pub record FlushedSome (image : List ℕ → Type 0) (l : Layout) (head : Head) (groups pending : List (List Patch))
     (c : List ℕ) : Type 0 where
   pub outside : (d : List ℕ) × image d × SameOutside l.log d c
@@ -145,7 +145,8 @@ pub record LogState : Type 0 where
   pub ahead : List ℕ
 
 -- What the log has in memory: room for as many groups as there are slots, of which one stays free, and 32 units. Before
--- the end is found the last of them are read ahead, up to the last slot of the file.
+-- the end is found the last of them are read ahead, up to the last slot of the file. No group's number is near the end
+-- of its type.
 pub record IsLogMemory (l : Layout) (head : Head) (used : ℕ) (pending : List (List Patch)) (scanned : Bool)
     (buffer : List ℕ) (ahead room : ℕ) : Type 0 where
   pub slot : head.slot < l.log

@@ -63,7 +63,7 @@ impl Model for Log {
 
 impl Log {
     /// A log whose groups are yet to be scanned, from its head on. It takes all the memory that the log needs, and
-    /// doesn't touch the disk.
+    /// doesn't touch the disk. The head's number is at most 2^61, so that none behind it is near the end of its type.
     pub fn open<D: Disk>(
         alloc: Global,
         _disk: &mut D,
@@ -94,7 +94,7 @@ impl Log {
         })
     }
 
-    /// The group of a number, one more than the last. None is the end: a closed gate, or the last slot, which stays
+    /// The group of a number, one more than the last. None is the end: a closed gate, or the last place, which stays
     /// free. NotAStore is an open slot without such a group. It reads units ahead, which must be those of this file.
     pub fn scan<D: Disk>(&mut self, disk: &mut D, next: Lsn) -> Result<Option<Group>, OpenFault>
         requires before { self.old.scanned ≡ false }
