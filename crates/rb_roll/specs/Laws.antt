@@ -24,13 +24,13 @@ RolledFront = (which n : ℕ) (gs more : List (List Patch)) (x : List ℕ) → n
 
 -- Over a block whose number is below theirs all are made,
 abbrev pub RolledAbove : Type 0
-RolledAbove = (which n : ℕ) (gs : List (List Patch)) (x : List ℕ) → n + length gs ≤ 2 ^ 63 → number_at x 0 8 < n
-    → rolled n gs which x ≡ after_blocks n gs which x
+RolledAbove = (which n : ℕ) (gs : List (List Patch)) (x : List ℕ) → n + length gs ≤ 2 ^ 63
+    → number_at x 0 8 < n → rolled n gs which x ≡ after_blocks n gs which x
 
 -- and then its number is below the next group's.
 abbrev pub AfterBelow : Type 0
-AfterBelow = (which n : ℕ) (gs : List (List Patch)) (x : List ℕ) → n + length gs ≤ 2 ^ 63 → number_at x 0 8 < n
-    → number_at (after_blocks n gs which x) 0 8 < n + length gs
+AfterBelow = (which n : ℕ) (gs : List (List Patch)) (x : List ℕ) → n + length gs ≤ 2 ^ 63
+    → number_at x 0 8 < n → number_at (after_blocks n gs which x) 0 8 < n + length gs
 
 -- A number doesn't fall,
 abbrev pub RolledNoLower : Type 0
@@ -44,13 +44,13 @@ RolledNoHigher = (which n : ℕ) (gs : List (List Patch)) (x : List ℕ) (most :
 
 -- a block of all blocks after a group, and after groups
 abbrev pub BlockAfter : Type 0
-BlockAfter = (shape : Shape) (n which : ℕ) (g : List Patch) (blocks : List (List ℕ)) → AreBlocks shape blocks
-    → which < shape_blocks shape → AllByRecursion StaysBehind g
+BlockAfter = (shape : Shape) (n which : ℕ) (g : List Patch) (blocks : List (List ℕ))
+    → AreBlocks shape blocks → which < shape_blocks shape → AllByRecursion StaysBehind g
     → block_of (after_group n g blocks) which ≡ after_block n g which (block_of blocks which)
 
 abbrev pub BlocksAfter : Type 0
-BlocksAfter = (shape : Shape) (n which : ℕ) (gs : List (List Patch)) (blocks : List (List ℕ)) → AreBlocks shape blocks
-    → which < shape_blocks shape → AllByRecursion IsGroup gs
+BlocksAfter = (shape : Shape) (n which : ℕ) (gs : List (List Patch)) (blocks : List (List ℕ))
+    → AreBlocks shape blocks → which < shape_blocks shape → AllByRecursion IsGroup gs
     → block_of (after_groups n gs blocks) which ≡ after_blocks n gs which (block_of blocks which)
 
 -- a block of a unit, with another's bytes 8 to 31: its kind and its own number
@@ -59,9 +59,9 @@ pub record SameHead (x y : List ℕ) : Type 0 where
   pub head : part y 8 24 ≡ part x 8 24
 
 abbrev pub AfterKeepsHead : Type 0
-AfterKeepsHead = (which n : ℕ) (gs : List (List Patch)) (x : List ℕ) → length x ≡ 2048 → AllByRecursion IsGroup gs
-    → SameHead x (after_blocks n gs which x)
+AfterKeepsHead = (which n : ℕ) (gs : List (List Patch)) (x : List ℕ) → length x ≡ 2048
+    → AllByRecursion IsGroup gs → SameHead x (after_blocks n gs which x)
 
 abbrev pub RolledKeepsHead : Type 0
-RolledKeepsHead = (which n : ℕ) (gs : List (List Patch)) (x : List ℕ) → length x ≡ 2048 → AllByRecursion IsGroup gs
-    → SameHead x (rolled n gs which x)
+RolledKeepsHead = (which n : ℕ) (gs : List (List Patch)) (x : List ℕ) → length x ≡ 2048
+    → AllByRecursion IsGroup gs → SameHead x (rolled n gs which x)

@@ -1,6 +1,7 @@
 //! What holds of a block that groups are rolled forward over, as clauses for proofs to cite. Nothing calls it.
-ghost use Rattle.rb_roll.specs.Laws.{RolledAgain, RolledJoined, RolledFront, RolledAbove, RolledNoLower, RolledNoHigher};
-ghost use Rattle.rb_roll.specs.Laws.{AfterBelow, BlockAfter, BlocksAfter, AfterKeepsHead, RolledKeepsHead};
+ghost use Rattle.rb_roll.specs.Laws.{RolledAgain, RolledJoined, RolledFront, RolledAbove};
+ghost use Rattle.rb_roll.specs.Laws.{RolledNoLower, RolledNoHigher, AfterBelow};
+ghost use Rattle.rb_roll.specs.Laws.{BlockAfter, BlocksAfter, AfterKeepsHead, RolledKeepsHead};
 
 /// Groups that are rolled forward once more change nothing, and those that a block has already do no harm: so homes may
 /// be newer than the head of the log, each by a number of its own. Over a block below all of them they are all made.
