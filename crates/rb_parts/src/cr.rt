@@ -210,16 +210,44 @@ fn is_too_old_by(rt: &HostRuntime, at: u16, bytes: [u8; 4]) -> Result<bool, Fail
     Ok(is_damaged && built(&mut writers, 0, 1, 0, 0, &mut scratch) == Err(old))
 }
 
+/// What of the last record may be damaged: the block that it names, the record that it leads to, or the length of the
+/// chain that it keeps.
+#[derive(Copy, Clone)]
+enum Field {
+    Block,
+    Newest,
+    Length,
+}
+
+/// Where four bytes of that field stand in the first undo block.
+fn place(field: Field) -> u16
+    ensures { (32 ≤ result) × (result ≤ 2044) }
+{
+    match field {
+        Field::Block => LAST_RECORD + 20,
+        Field::Newest => LAST_RECORD + 76,
+        Field::Length => LAST_RECORD + 88,
+    }
+}
+
+// Each with whether the way back ends there: the first of each field is what the record has.
+const DAMAGES: [(Field, [u8; 4], bool); 7] = [
+    (Field::Block, [0, 0, 0, 0], false),
+    (Field::Block, [0, 0, 0, 1], true),
+    (Field::Newest, [0, 1, 0, 0], false),
+    (Field::Newest, [0, 2, 0, 0], true),
+    (Field::Length, [0, 0, 0, 1], false),
+    (Field::Length, [0, 0, 0, 2], true),
+    (Field::Length, [255, 255, 255, 255], true),
+];
+
 // A record that names another block, leads to itself, or keeps a chain that isn't shorter isn't taken back.
 #[test]
 fn record_that_leads_nowhere(rt: HostRuntime) -> Result<(), Fail> {
-    assert!(rt; !is_too_old_by(&rt, LAST_RECORD + 20, [0, 0, 0, 0])?);
-    assert!(rt; is_too_old_by(&rt, LAST_RECORD + 20, [0, 0, 0, 1])?);
-    assert!(rt; !is_too_old_by(&rt, LAST_RECORD + 76, [0, 1, 0, 0])?);
-    assert!(rt; is_too_old_by(&rt, LAST_RECORD + 76, [0, 2, 0, 0])?);
-    assert!(rt; !is_too_old_by(&rt, LAST_RECORD + 88, [0, 0, 0, 1])?);
-    assert!(rt; is_too_old_by(&rt, LAST_RECORD + 88, [0, 0, 0, 2])?);
-    assert!(rt; is_too_old_by(&rt, LAST_RECORD + 88, [255, 255, 255, 255])?);
+    for (field, bytes, is_end) in &DAMAGES {
+        let is_too_old = is_too_old_by(&rt, place(*field), *bytes)?;
+        assert!(rt; is_too_old == *is_end);
+    }
     Ok(())
 }
 

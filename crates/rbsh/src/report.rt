@@ -1,4 +1,6 @@
 //! What is written beside the replies: why a run ended as it did, and what the program says of itself. `main` calls it.
+ghost use Rattle.std.specs.Prelude.{◌≡◌};
+
 use rb_filedisk::Cause;
 use rb_layout::VERSION;
 use rb_shell::Status;
@@ -31,7 +33,9 @@ pub struct Ended<'a> {
 
 impl<'a> Ended<'a> {
     /// A run that ended with this status before it had a file or a stream.
-    pub fn by(status: Status) -> Ended<'a> {
+    pub fn by(status: Status) -> Ended<'a>
+        ensures status { result.status ≡ status }
+    {
         Ended {
             status,
             file: "",
