@@ -1,0 +1,4 @@
+pub mod BatchSteps
+pub mod HomeSteps
+pub mod ImagePut
+pub mod Images

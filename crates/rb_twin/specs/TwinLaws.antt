@@ -1,6 +1,6 @@
 -- What the steps of a batch leave of the blocks that a file keeps.
-use Rattle.std.specs.Prelude.{◌≡◌, ◌≢◌, ◌⊎◌, ℕ, zero, suc, ◌+◌, ◌-◌, ◌*◌, ◌<◌, ◌≤◌, ◌==◌}
-use Rattle.std.specs.Prelude.{if◌then◌else◌, Bool, true, false, List, [], ◌∷◌, ◌++◌}
+use Rattle.std.specs.Prelude.{◌≡◌, ◌≢◌, ◌⊎◌, ℕ, zero, suc, ◌+◌, ◌-◌, ◌*◌, ◌<◌}
+use Rattle.std.specs.Prelude.{◌≤◌, ◌==◌, if◌then◌else◌, Bool, true, false, List, [], ◌∷◌, ◌++◌}
 use Rattle.std.specs.Prelude.{length, take, drop, slice_index}
 use Rattle.std.specs.List.{AllByRecursion}
 use Rattle.std.proofs.Common.{inl, inr, ⊎_elim, refl, sym, ◌∙◌, ap, subst, arith}
@@ -63,14 +63,15 @@ kept_open l file which opened =
     let test : (twin_gate l file == 1) ≡ true = grind (arith, nat_tests) in rw test refl
 
 -- The batch is read from the bytes behind the gate, as many units of them as it has images, and the header.
-part_of : (a : List ℕ) (n k m : ℕ) → 1 ≤ k → k + m ≤ 1 + n → part (part a 1 n) (k - 1) m ≡ part a k m
+pub part_of : (a : List ℕ) (n k m : ℕ) → 1 ≤ k → k + m ≤ 1 + n
+    → part (part a 1 n) (k - 1) m ≡ part a k m
 part_of a n k m low le =
     let all = drop 1 a in
     sym (drop-take (k - 1) m (take n all)) ∙ ap (drop (k - 1)) (take-take (k - 1 + m) n all (omega (arith, low, le)))
     ∙ drop-take (k - 1) m all
     ∙ ap (take m) (drop-drop (k - 1) 1 a ∙ ap (λ (i : ℕ). drop i a) (omega (arith, low)))
 
-same_part : (a b : List ℕ) (n k m : ℕ) → part a 1 n ≡ part b 1 n → 1 ≤ k → k + m ≤ 1 + n
+pub same_part : (a b : List ℕ) (n k m : ℕ) → part a 1 n ≡ part b 1 n → 1 ≤ k → k + m ≤ 1 + n
     → part a k m ≡ part b k m
 same_part a b n k m same low le = sym (part_of a n k m low le) ∙ ap (λ (h : List ℕ). part h (k - 1) m) same
     ∙ part_of b n k m low le
@@ -94,7 +95,7 @@ images_same a b n place (suc count) same few fits =
     ∙ ap (λ (x : List Image). record { no = two; unit = part b (2048 * (place + 1)) 2048 } ∷ x)
     (images_same a b n (place + 1) count same (omega (arith, few)) (omega (arith, fits)))
 
-length-images : (a : List ℕ) (place count : ℕ) → length (images_in a place count) ≡ count
+pub length-images : (a : List ℕ) (place count : ℕ) → length (images_in a place count) ≡ count
 length-images a place zero = refl
 length-images a place (suc count) = let rest = length-images a (place + 1) count in omega (arith, rest)
 
@@ -110,25 +111,25 @@ batch_same a b n same few fits =
     ∙ sym (images_same a b n 0 (slice_index a 1) same (omega (arith, few, counted)) (omega (arith, fits, counted)))
 
 -- bytes in front of a place, and from one on
-before_same : (f g : List ℕ) (n k m : ℕ) → take n g ≡ take n f → k + m ≤ n → part g k m ≡ part f k m
+pub before_same : (f g : List ℕ) (n k m : ℕ) → take n g ≡ take n f → k + m ≤ n → part g k m ≡ part f k m
 before_same f g n k m same le =
     let front = λ (h : List ℕ). sym (drop-take k m (take n h)) ∙ ap (drop k) (take-take (k + m) n h le)
     ∙ drop-take k m h in
     sym (front g) ∙ ap (λ (h : List ℕ). part h k m) same ∙ front f
 
-behind_same : (f g : List ℕ) (n k m : ℕ) → drop n g ≡ drop n f → n ≤ k → part g k m ≡ part f k m
+pub behind_same : (f g : List ℕ) (n k m : ℕ) → drop n g ≡ drop n f → n ≤ k → part g k m ≡ part f k m
 behind_same f g n k m same le =
     let place : n + (k - n) ≡ k = omega (arith, le) in
     let back = λ (h : List ℕ). ap (take m) (drop-drop (k - n) n h ∙ ap (λ (i : ℕ). drop i h) place) in
     sym (back g) ∙ ap (λ (h : List ℕ). take m (drop (k - n) h)) same ∙ back f
 
-drop_later : (f g : List ℕ) (n k : ℕ) → drop n g ≡ drop n f → n ≤ k → drop k g ≡ drop k f
+pub drop_later : (f g : List ℕ) (n k : ℕ) → drop n g ≡ drop n f → n ≤ k → drop k g ≡ drop k f
 drop_later f g n k same le =
     let place : n + (k - n) ≡ k = omega (arith, le) in
     let back = λ (h : List ℕ). drop-drop (k - n) n h ∙ ap (λ (i : ℕ). drop i h) place in
     sym (back g) ∙ ap (drop (k - n)) same ∙ back f
 
-take_earlier : (f g : List ℕ) (n k : ℕ) → take n g ≡ take n f → k ≤ n → take k g ≡ take k f
+pub take_earlier : (f g : List ℕ) (n k : ℕ) → take n g ≡ take n f → k ≤ n → take k g ≡ take k f
 take_earlier f g n k same le = sym (take-take k n g le) ∙ ap (take k) same ∙ take-take k n f le
 
 -- Files that differ in the twin area alone have the same blocks at home, and are the same in front of it.
@@ -210,7 +211,8 @@ area_stays l f g same = (
 
 -- What an image of each step keeps. The first step leaves the gate shut.
 pub kept_one : (l : Layout) (f c : List ℕ) → twin_gate l c ≢ 1
-    → ((which : ℕ) → home l c which ≡ home l f which) → IsTwin l c × ((which : ℕ) → kept l c which ≡ home l f which)
+    → ((which : ℕ) → home l c which ≡ home l f which)
+    → IsTwin l c × ((which : ℕ) → kept l c which ≡ home l f which)
 kept_one l f c shut homes = (λ opened. absurd (shut opened), λ which. kept_shut l c which shut ∙ homes which)
 
 -- The second leaves any gate over the batch.

@@ -1,7 +1,7 @@
 //! The bytes of a batch: a header that counts and names its blocks, and their images behind it. `Twin` fills and reads
 //! them.
-ghost use Rattle.std.specs.Prelude.{◌≡◌, ◌≢◌, ◌+◌, ◌*◌, ◌++◌, ◌<◌, ◌≤◌, ◌↔◌, [], ◌∷◌, ℕ};
-ghost use Rattle.std.specs.Prelude.{length, IsTrue};
+ghost use Rattle.std.specs.Prelude.{◌≡◌, ◌≢◌, ◌+◌, ◌*◌, ◌++◌, ◌<◌, ◌≤◌, ◌↔◌};
+ghost use Rattle.std.specs.Prelude.{[], ◌∷◌, ℕ, length, IsTrue};
 ghost use Rattle.rb_base.specs.Fields.{number_at, part};
 ghost use Rattle.rb_layout.specs.Regions.{block_count};
 ghost use Rattle.rb_twin.specs.Batches.{Image, IsBatch, batch_in};

@@ -8,7 +8,8 @@ ghost use Rattle.rb_twin.specs.Twins.{home, twin_area, twin_gate, kept, IsTwin};
 /// The four steps: images behind a shut gate, the gate, the homes, the gate again.
 pub fn batch_steps()
     ensures one { (l : Layout) (f c : List ℕ) → twin_gate l c ≢ 1
-        → ((which : ℕ) → home l c which ≡ home l f which) → IsTwin l c × ((which : ℕ) → kept l c which ≡ home l f which) }
+        → ((which : ℕ) → home l c which ≡ home l f which)
+        → IsTwin l c × ((which : ℕ) → kept l c which ≡ home l f which) }
     ensures two { (l : Layout) (batch : List Image) (f c : List ℕ) → IsBatch (block_count l) batch
         → batch_in (twin_area l c) ≡ batch → ((which : ℕ) → home l c which ≡ home l f which)
         → IsTwin l c × (((which : ℕ) → kept l c which ≡ home l f which)

@@ -1,5 +1,5 @@
-//! The twin area of a file: blocks on their way home, so that a crash leaves all of a batch as they were, or all as they
-//! are to be.
+//! The twin area of a file: blocks on their way home, so that a crash leaves all of a batch as they were, or all as
+//! they are to be.
 #![tactic(auto)]
 
 mod batch;

@@ -24,6 +24,7 @@ const SHUT: u8 = 0;
 /// Step one: writes the header behind the gate and the images, and syncs. The gate of before isn't touched.
 fn stage<D: Disk>(disk: &mut D, layout: &Layout, area: &[u8]) -> Result<(), Failed>
     requires whole { D.tells → length (D.content disk.old) ≡ file_length layout.now }
+    requires sized { D.tells → (c : List ℕ) → D.image disk.old c → length c ≡ file_length layout.now }
     requires area { length area.now ≡ AREA }
     requires few { length (batch_in area.now) ≤ 8 }
     ensures staged { D.tells → OnOk result
@@ -41,6 +42,7 @@ fn stage<D: Disk>(disk: &mut D, layout: &Layout, area: &[u8]) -> Result<(), Fail
 /// Steps two and four: writes the gate, and syncs.
 fn write_gate<D: Disk>(disk: &mut D, layout: &Layout, gate: u8) -> Result<(), Failed>
     requires whole { D.tells → length (D.content disk.old) ≡ file_length layout.now }
+    requires sized { D.tells → (c : List ℕ) → D.image disk.old c → length c ≡ file_length layout.now }
     ensures gate { D.tells → OnOk result (twin_gate layout.now (D.content disk.new) ≡ gate) }
     ensures others { D.tells → SameBehindGate layout.now (D.content disk.old) (D.content disk.new) }
     ensures durable { D.tells → OnOk result (Only (D.content disk.new) (D.image disk.new)) }
@@ -53,6 +55,7 @@ fn write_gate<D: Disk>(disk: &mut D, layout: &Layout, gate: u8) -> Result<(), Fa
 /// Step three: writes each block of a batch home, and syncs.
 fn bring_home<D: Disk>(disk: &mut D, layout: &Layout, area: &[u8]) -> Result<(), Failed>
     requires whole { D.tells → length (D.content disk.old) ≡ file_length layout.now }
+    requires sized { D.tells → (c : List ℕ) → D.image disk.old c → length c ≡ file_length layout.now }
     requires area { length area.now ≡ AREA }
     requires valid { IsBatch (block_count layout.now) (batch_in area.now) }
     ensures homes { D.tells → OnOk result ((which : ℕ) → home layout.now (D.content disk.new) which

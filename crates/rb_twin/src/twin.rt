@@ -1,7 +1,7 @@
 //! `Twin`: a batch of blocks that are written home together. A cache fills and writes it, and an opening repairs what a
 //! crash left of one.
-ghost use Rattle.std.specs.Prelude.{◌≡◌, ◌≢◌, ◌≤◌, ◌<◌, ◌++◌, [], ◌∷◌, ℕ, List, length};
-ghost use Rattle.std.specs.Prelude.{IfOk, OnOk, OnErr, IsErrOf};
+ghost use Rattle.std.specs.Prelude.{◌≡◌, ◌≢◌, ◌≤◌, ◌<◌, ◌++◌, [], ◌∷◌, ℕ, List};
+ghost use Rattle.std.specs.Prelude.{length, IfOk, OnOk, OnErr, IsErrOf};
 ghost use Rattle.rb_base.specs.Counts.{IsCounted, IsCountedAs, err_is, is_failed};
 ghost use Rattle.rb_disk.specs.DiskModel.{Only};
 ghost use Rattle.rb_disk.specs.Moments.{Leaves, Rests};
@@ -71,9 +71,9 @@ impl Twin {
         put_image(&mut self.area, block, unit);
     }
 
-    /// Writes the batch, which isn't empty, to the twin area and then each of its blocks home, with four syncs. After an
-    /// Ok every image has all of them at home, and the batch is empty; a crash before leaves a file that keeps all of
-    /// these blocks as they were, or all as the batch has them. It is called where no image has an open gate, and each
+    /// Writes the batch, which isn't empty, to the twin area and then each of its blocks home, with four syncs. After
+    /// an Ok every image has all of them at home, and the batch is empty; a crash before leaves a file that keeps all
+    /// of these blocks as they were, or all as the batch has them. It is called where no image has an open gate, and each
     /// has the blocks that are read.
     pub fn write<D: Disk>(&mut self, disk: &mut D) -> Result<(), Failed>
         requires some { 0 < length self.old.batch }
