@@ -64,15 +64,15 @@ differ_at area place (suc count) differ (suc i) j before lt is =
     differ_at area (place + 1) count differ.1 i (j - 1) (omega (arith, before)) (omega (arith, before, lt)) (ap (name_of area) (omega arith) ∙ is ∙ ap (name_of area) (sym there))
 
 -- one that is put behind others
-all_push : (P : Image → Type 0) (images : List Image) (image : Image) → AllByRecursion P images → P image → AllByRecursion P (images ++ image ∷ [])
+pub all_push : (P : Image → Type 0) (images : List Image) (image : Image) → AllByRecursion P images → P image → AllByRecursion P (images ++ image ∷ [])
 all_push P [] image all holds = (holds, tt)
 all_push P (first ∷ images) image all holds = (all.0, all_push P images image all.1 holds)
 
-differ_push : (images : List Image) (image : Image) → Differ images → IsNoneOf image.no images → Differ (images ++ image ∷ [])
+pub differ_push : (images : List Image) (image : Image) → Differ images → IsNoneOf image.no images → Differ (images ++ image ∷ [])
 differ_push [] image differ none = (tt, tt)
 differ_push (first ∷ images) image differ none = (all_push (λ x. x.no ≢ first.no) images image differ.0 (λ is. none.0 (sym is)), differ_push images image differ.1 none.1)
 
-length-push : (images : List Image) (image : Image) → length (images ++ image ∷ []) ≡ length images + 1
+pub length-push : (images : List Image) (image : Image) → length (images ++ image ∷ []) ≡ length images + 1
 length-push [] image = refl
 length-push (first ∷ images) image = let rest = length-push images image in omega (arith, rest)
 

@@ -2,3 +2,4 @@ pub mod BatchSteps
 pub mod HomeSteps
 pub mod ImagePut
 pub mod Images
+pub mod KeptBlocks

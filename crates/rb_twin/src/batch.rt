@@ -1,7 +1,7 @@
 //! The bytes of a batch: a header that counts and names its blocks, and their images behind it. `Twin` fills and reads
 //! them.
 ghost use Rattle.std.specs.Prelude.{◌≡◌, ◌≢◌, ◌+◌, ◌*◌, ◌++◌, ◌<◌, ◌≤◌, ◌↔◌};
-ghost use Rattle.std.specs.Prelude.{[], ◌∷◌, ℕ, length, IsTrue};
+ghost use Rattle.std.specs.Prelude.{[], ◌∷◌, ℕ, length, slice_index, IsTrue};
 ghost use Rattle.rb_base.specs.Fields.{number_at, part};
 ghost use Rattle.rb_layout.specs.Regions.{block_count};
 ghost use Rattle.rb_twin.specs.Batches.{Image, IsBatch, batch_in};
@@ -19,10 +19,18 @@ pub const AREA: usize = UNIT * (TWIN_IMAGES + 1);
 pub const GATE: usize = 0;
 
 /// Where the count of images stands.
-pub const COUNT: usize = 1;
+const COUNT: usize = 1;
 
 /// Where the block numbers begin, of four bytes each.
 const NAMES: usize = 8;
+
+/// How many images there are, by the area's count, which is over eight in no batch.
+pub fn image_count(area: &[u8]) -> usize
+    requires whole { length area.now ≡ AREA }
+    ensures { result ≡ slice_index area.now 1 }
+{
+    usize::from(area[COUNT])
+}
 
 /// The number of the block of which an image is.
 pub fn name_at(area: &[u8], place: usize) -> BlockNo
@@ -60,7 +68,7 @@ pub fn is_batch(layout: &Layout, area: &[u8]) -> bool
     requires whole { length area.now ≡ AREA }
     ensures { IsTrue result ↔ IsBatch (block_count layout.now) (batch_in area.now) }
 {
-    let count = usize::from(area[COUNT]);
+    let count = image_count(area);
     if count == 0 || count > TWIN_IMAGES {
         return false;
     }
@@ -82,7 +90,7 @@ pub fn put_image(area: &mut [u8], block: BlockNo, unit: &[u8])
     ensures batch { batch_in area.new ≡ batch_in area.old ++ record { no = block; unit = unit.now } ∷ [] }
     ensures whole { length area.new ≡ AREA }
 {
-    let place = usize::from(area[COUNT]);
+    let place = image_count(area);
     area[COUNT] += 1;
     put_u32(area, NAMES + 4 * place, block);
     let at = image_at(place);

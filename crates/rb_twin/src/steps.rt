@@ -10,7 +10,7 @@ ghost use Rattle.rb_twin.specs.Batches.{IsBatch, batch_in, with_batch};
 ghost use Rattle.rb_twin.specs.Twins.{home, kept, twin_area, twin_gate, IsTwin, TwinSome, Repaired};
 ghost use Rattle.rb_twin.specs.Twins.{SameBehindGate, SameButHomes, StagedFrom, GateFrom, HomesFrom};
 
-use crate::batch::{AREA, COUNT, GATE, image_at, is_batch, name_at};
+use crate::batch::{AREA, GATE, image_at, image_count, is_batch, name_at};
 use rb_base::{Failed, OpenFault, UNIT};
 use rb_disk::{Disk, write_synced};
 use rb_layout::Layout;
@@ -35,7 +35,7 @@ fn stage<D: Disk>(disk: &mut D, layout: &Layout, area: &[u8]) -> Result<(), Fail
     ensures any_moment { D.tells → Leaves D.Disk disk.old disk.new (StagedFrom layout.now (D.image disk.old)) }
     ensures counted { IsCounted (D.faults disk.old) (D.faults disk.new) result }
 {
-    let end = UNIT * (usize::from(area[COUNT]) + 1);
+    let end = UNIT * (image_count(area) + 1);
     write_synced(disk, layout.twin_at(0) + 1, &area[1..end])
 }
 
@@ -66,7 +66,7 @@ fn bring_home<D: Disk>(disk: &mut D, layout: &Layout, area: &[u8]) -> Result<(),
         (HomesFrom layout.now (batch_in area.now) (D.image disk.old)) }
     ensures counted { IsCounted (D.faults disk.old) (D.faults disk.new) result }
 {
-    for place in 0..usize::from(area[COUNT]) {
+    for place in 0..image_count(area) {
         let at = image_at(place);
         disk.write_at(layout.block_at(name_at(area, place)), &area[at..at + UNIT])?;
     }

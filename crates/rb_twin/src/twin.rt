@@ -10,7 +10,7 @@ ghost use Rattle.rb_layout.specs.Regions.{file_length, twin_offset, block_offset
 ghost use Rattle.rb_twin.specs.Batches.{Image, IsNoneOf, with_batch};
 ghost use Rattle.rb_twin.specs.Twins.{home, kept, twin_gate, IsTwin, TwinSome, Repaired};
 
-use crate::batch::{AREA, COUNT, TWIN_IMAGES, clear_batch, put_image};
+use crate::batch::{AREA, TWIN_IMAGES, clear_batch, image_count, put_image};
 use crate::steps::{repair_file, write_batch};
 use rb_base::{BlockNo, Failed, NoMemory, OpenFault, UNIT};
 use rb_disk::Disk;
@@ -56,7 +56,7 @@ impl Twin {
         ensures count { result ≡ length self.now.batch }
         ensures few { result ≤ TWIN_IMAGES }
     {
-        usize::from(self.area[COUNT])
+        image_count(&self.area)
     }
 
     /// Puts an image of a block of the file behind those of the batch, which has room and none of that block.

@@ -12,8 +12,8 @@ returns-then-count-eq0 c = (search rules, λ valid. absurd (none valid))
   where
     none : IsBatch (block_count c.args.layout.now) (batch_in c.args.area.now) → ⊥
     none valid = elim c.then-count-eq0.branch [
-      | then-count-eq0-via-then-count-eq0 w ↦ omega (arith, w.if-count-eq0.true, c.from-count.ensures, counted c.args.area.now, valid.some)
-      | then-count-eq0-via-else-count-eq0+then-count-gt-TWIN_IMAGES w ↦ omega (arith, w.if-count-gt-TWIN_IMAGES.true, c.from-count.ensures, counted c.args.area.now, valid.few)
+      | then-count-eq0-via-then-count-eq0 w ↦ omega (arith, w.if-count-eq0.true, c.image_count-count.ensures, counted c.args.area.now, valid.some)
+      | then-count-eq0-via-else-count-eq0+then-count-gt-TWIN_IMAGES w ↦ omega (arith, w.if-count-gt-TWIN_IMAGES.true, c.image_count-count.ensures, counted c.args.area.now, valid.few)
     ]
 
 pub returns-then-block-blocks : goal.returns-then-block-blocks
@@ -21,7 +21,7 @@ returns-then-block-blocks c = (search rules, λ valid. absurd (none valid))
   where
     none : IsBatch (block_count c.args.layout.now) (batch_in c.args.area.now) → ⊥
     none valid =
-        let lt : c.loop-place.place < slice_index c.args.area.now 1 = omega (arith, c.loop-place-test.true, c.from-count.ensures) in elim c.then-block-blocks.branch [
+        let lt : c.loop-place.place < slice_index c.args.area.now 1 = omega (arith, c.loop-place-test.true, c.image_count-count.ensures) in elim c.then-block-blocks.branch [
           | then-block-blocks-via-then-block-blocks w ↦
               let below = batch_at (λ image. image.no < block_count c.args.layout.now) c.args.area.now valid.within c.loop-place.place lt in
               let blocks : c.block_count-blocks.result ≡ block_count c.args.layout.now = c.block_count-blocks.ensures.blocks ∙ ap shape_blocks c.shape.ensures.shape in
@@ -34,10 +34,10 @@ returns-then-block-blocks c = (search rules, λ valid. absurd (none valid))
 pub returns : goal.returns
 returns c = (
   λ yes. record {
-    some = omega (arith, counted c.args.area.now, c.from-count.ensures, c.if-count-eq0.false);
-    few = omega (arith, counted c.args.area.now, c.from-count.ensures, c.if-count-gt-TWIN_IMAGES.false);
-    differ = front_differ c.args.area.now _ (λ i j before lt. c.loop-place.invariant.differ i j before (omega (arith, lt, c.loop-place-test.false, c.from-count.ensures)));
-    within = front_by (λ image. image.no < block_count c.args.layout.now) c.args.area.now _ (λ k lt. c.loop-place.invariant.within k (omega (arith, lt, c.loop-place-test.false, c.from-count.ensures)));
+    some = omega (arith, counted c.args.area.now, c.image_count-count.ensures, c.if-count-eq0.false);
+    few = omega (arith, counted c.args.area.now, c.image_count-count.ensures, c.if-count-gt-TWIN_IMAGES.false);
+    differ = front_differ c.args.area.now _ (λ i j before lt. c.loop-place.invariant.differ i j before (omega (arith, lt, c.loop-place-test.false, c.image_count-count.ensures)));
+    within = front_by (λ image. image.no < block_count c.args.layout.now) c.args.area.now _ (λ k lt. c.loop-place.invariant.within k (omega (arith, lt, c.loop-place-test.false, c.image_count-count.ensures)));
   },
   λ valid. search rules,
 )

@@ -19,18 +19,18 @@ loop-place-init g c = record {
 }
 
 pub image_at-at-requires : goal.image_at-at-requires
-image_at-at-requires g c = omega (arith, c.loop-place-test.true, c.from-place-end.ensures, c.requires.valid.few, counted c.args.area.now)
+image_at-at-requires g c = omega (arith, c.loop-place-test.true, c.image_count-place-end.ensures, c.requires.valid.few, counted c.args.area.now)
 
 pub name_at-requires-clause-place : goal.name_at-requires-clause-place
-name_at-requires-clause-place g c = omega (arith, c.loop-place-test.true, c.from-place-end.ensures, c.requires.valid.few, counted c.args.area.now)
+name_at-requires-clause-place g c = omega (arith, c.loop-place-test.true, c.image_count-place-end.ensures, c.requires.valid.few, counted c.args.area.now)
 
 pub block_at-requires : goal.block_at-requires
 block_at-requires g c =
-    let below = batch_at (λ image. image.no < block_count c.args.layout.now) c.args.area.now c.requires.valid.within c.loop-place.place (omega (arith, c.loop-place-test.true, c.from-place-end.ensures)) in omega (arith, below, c.name_at.ensures)
+    let below = batch_at (λ image. image.no < block_count c.args.layout.now) c.args.area.now c.requires.valid.within c.loop-place.place (omega (arith, c.loop-place-test.true, c.image_count-place-end.ensures)) in omega (arith, below, c.name_at.ensures)
 
 -- the place is one of the batch's, and its image lies within the area
 within : (g : Over) (c : After-block_at g) → c.loop-place.place < slice_index c.args.area.now 1
-within g c = omega (arith, c.loop-place-test.true, c.from-place-end.ensures)
+within g c = omega (arith, c.loop-place-test.true, c.image_count-place-end.ensures)
 
 fits : (g : Over) (c : After-block_at g) → c.image_at-at.result + 2048 ≤ length c.args.area.now
 fits g c = omega (arith, c.image_at-at.ensures, within g c, c.requires.valid.few, counted c.args.area.now, c.requires.area)
@@ -47,7 +47,7 @@ slice_bounds-write_at-end g c = fits g (goal.at.slice_bounds-write_at-end g c).A
 pub write_at-requires : goal.write_at-requires
 write_at-requires g c told =
     let so_far = c.loop-place.invariant.so_far told in
-    let below = batch_at (λ image. image.no < block_count c.args.layout.now) c.args.area.now c.requires.valid.within c.loop-place.place (omega (arith, c.loop-place-test.true, c.from-place-end.ensures)) in
+    let below = batch_at (λ image. image.no < block_count c.args.layout.now) c.args.area.now c.requires.valid.within c.loop-place.place (omega (arith, c.loop-place-test.true, c.image_count-place-end.ensures)) in
     omega (arith, below, c.block_at.ensures, c.name_at.ensures, so_far.same.front.long, c.requires.whole told)
 
 pub returns-in_err-write_at-clause-others : goal.returns-in_err-write_at-clause-others
