@@ -1,14 +1,14 @@
 -- One image more, put behind those of a batch.
-use Rattle.std.proofs.Common.{◌≡◌, ℕ, ◌+◌, ◌-◌, ◌*◌, ◌^◌, ◌<◌, ◌≤◌, List, [], ◌∷◌, ◌++◌, length, take, drop, slice_index, slice_set, refl, sym, ◌∙◌, ap, subst, arith, inl, inr, append_assoc}
+use Rattle.std.proofs.Common.{◌≡◌, ℕ, ◌+◌, ◌*◌, ◌^◌, ◌<◌, ◌≤◌, List, [], ◌∷◌, ◌++◌, length, take, drop, slice_index, slice_set, sym, ◌∙◌, ap, arith, inl, inr, append_assoc}
 use Rattle.std.proofs.lemmas.List.{length-set, drop-set-lt, drop-drop, get_or-set_same}
 use borrow.Rule.Slice.PartMut.{put_mid}
-use Rattle.byteorder.specs.Endian.{big_bytes, big_number}
+use Rattle.byteorder.specs.Endian.{big_bytes}
 use Rattle.byteorder.specs.Numbers.{length-bytes_high_first, big_number-reads_back}
 use Rattle.rb_base.specs.Fields.{part, number_at, overwritten, with_number, AreApart}
 use Rattle.rb_base.proofs.Fronts.{number_of_part, byte_of_part}
 use Rattle.rb_base.proofs.Overwriting.{length-overwritten, part_written, part_apart}
 use Rattle.rb_twin.specs.Batches.{Image, images_in, batch_in}
-use Rattle.rb_twin.proofs.Images.{image_of, name_of, counted, images_kept, front_more}
+use Rattle.rb_twin.proofs.Images.{image_of, counted, images_kept, front_more}
 
 number_written : (old : List ℕ) (at value : ℕ) → with_number old at 4 value ≡ overwritten old at (big_bytes 4 value)
 number_written old at value = ap (λ (n : ℕ). take at old ++ big_bytes 4 value ++ drop (at + n) old) (sym (length-bytes_high_first 4 value))

@@ -1,9 +1,8 @@
 -- The images among the bytes of an area, by their places.
-use Rattle.std.proofs.Common.{◌≡◌, ◌≢◌, ℕ, zero, suc, ◌+◌, ◌-◌, ◌*◌, ◌<◌, ◌≤◌, List, [], ◌∷◌, ◌++◌, length, take, drop, slice_index, slice_set, refl, sym, ◌∙◌, ap, subst, arith, inl, inr}
+use Rattle.std.proofs.Common.{◌≡◌, ◌≢◌, ℕ, zero, suc, ◌+◌, ◌-◌, ◌*◌, ◌<◌, List, [], ◌∷◌, ◌++◌, length, slice_index, refl, sym, ◌∙◌, ap, subst, arith}
 use Rattle.std.specs.List.{AllByRecursion}
-use Rattle.std.proofs.lemmas.List.{drop-drop, drop-take, take-take}
 use Rattle.rb_base.specs.Fields.{part, number_at}
-use Rattle.rb_twin.specs.Batches.{Image, IsBatch, IsNoneOf, Differ, images_in, batch_in}
+use Rattle.rb_twin.specs.Batches.{Image, IsNoneOf, Differ, images_in, batch_in}
 use Rattle.rb_twin.specs.TwinLaws.{length-images}
 
 -- the image in a place, and the number of its block

@@ -1,8 +1,7 @@
 -- What the steps of a batch leave of the blocks that a file keeps.
 use Rattle.std.specs.Prelude.{◌≡◌, ◌≢◌, ◌⊎◌, ℕ, zero, suc, ◌+◌, ◌-◌, ◌*◌, ◌<◌}
-use Rattle.std.specs.Prelude.{◌≤◌, ◌==◌, if◌then◌else◌, Bool, true, false, List, [], ◌∷◌, ◌++◌}
+use Rattle.std.specs.Prelude.{◌≤◌, ◌==◌, if◌then◌else◌, true, false, List, [], ◌∷◌, ◌++◌}
 use Rattle.std.specs.Prelude.{length, take, drop, slice_index}
-use Rattle.std.specs.List.{AllByRecursion}
 use Rattle.std.proofs.Common.{inl, inr, ⊎_elim, refl, sym, ◌∙◌, ap, subst, arith}
 use Rattle.std.proofs.lemmas.Bool.{cases_lt, cases_eq}
 use Rattle.std.proofs.lemmas.Bool.Decides.{nat_tests}
@@ -15,8 +14,8 @@ use Rattle.rb_disk.specs.Ranges.{SameBut}
 use Rattle.rb_disk.specs.Writes.{torn_stays}
 use Rattle.rb_layout.specs.Regions.{twin_offset, block_offset, block_count, file_length}
 use Rattle.rb_layout.specs.declared.layout.Layout.{Layout}
-use Rattle.rb_twin.specs.Batches.{Image, IsBatch, IsNoneOf, Differ, with_batch, images_in, batch_in}
-use Rattle.rb_twin.specs.Twins.{home, twin_area, twin_gate, kept, IsTwin, TwinSome, Repaired, SameButHomes}
+use Rattle.rb_twin.specs.Batches.{Image, IsBatch, IsNoneOf, with_batch, images_in, batch_in}
+use Rattle.rb_twin.specs.Twins.{home, twin_area, twin_gate, kept, IsTwin}
 
 -- a block that the batch has, or hasn't
 pub with_none : (images : List Image) (which : ℕ) (unit : List ℕ) → IsNoneOf which images

@@ -1,4 +1,4 @@
-use Rattle.std.proofs.Common.{◌≡◌, ◌<◌, ◌≤◌, slice_index, IsTrue, true, false, ap, ◌∙◌, subst, arith, rules}
+use Rattle.std.proofs.Common.{◌≡◌, ◌<◌, slice_index, IsTrue, true, false, ap, ◌∙◌, subst, arith, rules}
 use Rattle.rb_base.specs.Blocks.{shape_blocks}
 use Rattle.rb_layout.specs.Regions.{block_count}
 use Rattle.rb_twin.specs.Batches.{IsBatch, batch_in}

@@ -1,4 +1,4 @@
-use Rattle.std.proofs.Common.{◌≡◌, ◌<◌, ◌≤◌, ◌+◌, ◌-◌, ◌*◌, ◌∙◌, ℕ, List, length, slice_set, slice_index, ap, sym, arith}
+use Rattle.std.proofs.Common.{◌≡◌, ◌+◌, ◌-◌, ◌*◌, ◌∙◌, ℕ, length, slice_set, slice_index, ap, sym, arith}
 use Rattle.std.proofs.lemmas.List.{length-set}
 use Rattle.rb_base.specs.Fields.{overwritten}
 use Rattle.rb_twin.proofs.ImagePut.{part_put, image_put}

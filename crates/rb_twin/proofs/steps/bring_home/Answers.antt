@@ -1,10 +1,6 @@
-use Rattle.std.proofs.Common.{◌≡◌, ◌<◌, ◌≤◌, ◌+◌, ◌-◌, ◌*◌, ◌∙◌, ℕ, List, length, slice_index, refl, ap, sym, subst, arith}
+use Rattle.std.proofs.Common.{◌≡◌, ◌<◌, ◌≤◌, ◌+◌, ◌-◌, ◌∙◌, length, slice_index, refl, ap, arith}
 use Rattle.rb_base.specs.Fields.{part}
-use Rattle.rb_base.specs.Moments.{goes_on}
-use Rattle.rb_disk.specs.DiskModel.{Torn}
 use Rattle.rb_layout.specs.Regions.{block_offset, block_count}
-use Rattle.rb_twin.specs.Batches.{batch_in, with_batch, images_in}
-use Rattle.rb_twin.specs.Twins.{HomesFrom, home}
 use Rattle.rb_twin.proofs.BatchSteps.{length-part, image_bytes}
 use Rattle.rb_twin.proofs.HomeSteps.{none_brought, brought_torn, brought_moment, brought_more}
 use Rattle.rb_twin.proofs.Images.{batch_at, counted, name_of}

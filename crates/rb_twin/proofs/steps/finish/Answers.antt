@@ -1,4 +1,4 @@
-use Rattle.std.proofs.Common.{◌≡◌, ◌∙◌, ℕ, List, Result, Ok, Err, OnOk}
+use Rattle.std.proofs.Common.{◌∙◌, Result, Ok, Err, OnOk}
 use Rattle.rb_base.specs.Moments.{LeavesOnly, weaker, joined}
 use Rattle.rb_layout.specs.Regions.{file_length, twin_offset}
 use Rattle.rb_twin.specs.Batches.{batch_in}
@@ -52,6 +52,6 @@ returns-clause-any_moment g c told =
     let image = g.D.Disk.image disk in
     let last = weaker g.D.Disk.moment g.D.Disk.image_since mid new _ (Repaired image c.args.layout.now file)
     (repair_gate c.args.layout.now (batch_in c.args.area.now) file c.requires.valid (c.requires.whole told) (c.requires.staged told) (c.requires.opened told) image (g.met.D.Disk.reads_an_image disk told) (g.D.Disk.content mid) (c.bring_home.ensures.others told)
-        (c.in_ok-bring_home.ensures.homes told) (g.D.Disk.image mid) (c.in_ok-bring_home.ensures.durable told))
+    (c.in_ok-bring_home.ensures.homes told) (g.D.Disk.image mid) (c.in_ok-bring_home.ensures.durable told))
     (c.write_gate.ensures.any_moment told) in
     joined g.D.Disk.moment g.D.Disk.image_since disk mid new _ (brought g (goal.at.returns-clause-any_moment g c).After-bring_home told) last

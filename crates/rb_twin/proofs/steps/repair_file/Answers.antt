@@ -1,4 +1,4 @@
-use Rattle.std.proofs.Common.{◌≡◌, ◌∙◌, ◌*◌, ℕ, List, IsTrue, true, false, length, slice_index, ap, sym, subst, arith}
+use Rattle.std.proofs.Common.{◌≡◌, ◌∙◌, ℕ, List, IsTrue, true, false, length, slice_index, ap, sym, subst, arith}
 use Rattle.rb_base.specs.Fields.{part}
 use Rattle.rb_base.specs.Moments.{LeavesOnly, weaker, joined}
 use Rattle.rb_base.proofs.Fronts.{byte_of_part}

@@ -1,10 +1,9 @@
-use Rattle.std.proofs.Common.{◌≡◌, ◌+◌, ◌-◌, ◌*◌, ◌<◌, ◌≤◌, ◌∙◌, List, ℕ, length, slice_index, sym, ap, arith, refl}
+use Rattle.std.proofs.Common.{◌+◌, ◌-◌, ◌*◌, ℕ, ap, arith}
 use Rattle.std.proofs.lemmas.Result.{on_ok_weaker}
 use Rattle.rb_base.specs.Fields.{part}
 use Rattle.rb_base.specs.Moments.{weaker}
 use Rattle.rb_twin.proofs.Images.{counted}
 use Rattle.rb_twin.proofs.BatchSteps.{staged_torn, staged_from, staged_batch}
-use Rattle.rb_twin.proofs.steps.stage.Given.{Over}
 use Rattle.rb_twin.proofs.steps.stage.Goals as goal
 
 pub slice_bounds-write_synced-end : goal.slice_bounds-write_synced-end

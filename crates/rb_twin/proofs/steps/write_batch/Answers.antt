@@ -1,10 +1,10 @@
-use Rattle.std.proofs.Common.{◌≡◌, ◌∙◌, ℕ, List, length, ap, sym, subst, refl}
+use Rattle.std.proofs.Common.{◌≡◌, ◌∙◌, ℕ, ap, subst}
 use Rattle.std.proofs.lemmas.Result.{on_ok_weaker}
 use Rattle.rb_base.specs.Counts.{IsCounted}
 use Rattle.rb_base.specs.Moments.{LeavesOnly, weaker, joined}
-use Rattle.rb_disk.specs.Ranges.{SameBut, SamePart}
+use Rattle.rb_disk.specs.Ranges.{SameBut}
 use Rattle.rb_layout.specs.Regions.{file_length, twin_offset, block_offset}
-use Rattle.rb_twin.specs.Batches.{Image, batch_in, with_batch}
+use Rattle.rb_twin.specs.Batches.{batch_in, with_batch}
 use Rattle.rb_twin.specs.Twins.{TwinSome, twin_area}
 use Rattle.rb_twin.specs.TwinLaws.{front_stays, homes_stay}
 use Rattle.rb_twin.proofs.HomeSteps.{but_both}
@@ -40,7 +40,7 @@ opened g c told one =
     let file = g.D.Disk.content disk in
     let two = weaker g.D.Disk.moment g.D.Disk.image_since mid new _ (TwinSome (g.D.Disk.image disk) c.args.layout.now (batch_in c.args.area.now) file)
     (write_opened c.args.layout.now (batch_in c.args.area.now) file c.requires.valid (c.requires.whole told) (g.D.Disk.image disk) (g.met.D.Disk.reads_an_image disk told) (g.D.Disk.content mid) (c.stage.ensures.others told) (c.in_ok-stage.ensures.staged told) (g.D.Disk.image mid)
-        (c.in_ok-stage.ensures.durable told))
+    (c.in_ok-stage.ensures.durable told))
     (c.write_gate.ensures.any_moment told) in
     joined g.D.Disk.moment g.D.Disk.image_since disk mid new _ one two
 
@@ -86,7 +86,7 @@ returns-clause-any_moment g c told =
     let file = g.D.Disk.content disk in
     let last = weaker g.D.Disk.moment g.D.Disk.image_since mid new _ (TwinSome (g.D.Disk.image disk) c.args.layout.now (batch_in c.args.area.now) file)
     (write_finished c.args.layout.now (batch_in c.args.area.now) file c.requires.valid (c.requires.whole told) (g.D.Disk.image disk) (g.met.D.Disk.reads_an_image disk told) (g.D.Disk.content mid) (both g here told) (batch g here told) (g.D.Disk.image mid)
-        (c.in_ok-write_gate.ensures.durable told) (c.in_ok-write_gate.ensures.gate told))
+    (c.in_ok-write_gate.ensures.durable told) (c.in_ok-write_gate.ensures.gate told))
     (c.finish.ensures.any_moment told) in
     joined g.D.Disk.moment g.D.Disk.image_since disk mid new _ (opened g here told (staged g so_far.After-stage told)) last
 

@@ -1,4 +1,4 @@
-use Rattle.std.proofs.Common.{◌≡◌, ◌≤◌, ◌∙◌, List, ℕ, length, slice_index, ap, sym, arith}
+use Rattle.std.proofs.Common.{◌∙◌, List, ℕ, length, slice_index, ap, sym, arith}
 use Rattle.rb_twin.specs.Twins.{TwinState}
 use Rattle.rb_twin.proofs.Images.{counted}
 use Rattle.rb_twin.proofs.twin.Twin.len.Goals as goal
