@@ -5,6 +5,13 @@ ghost use Rattle.rb_layout.specs.declared.layout.Layout.{Layout};
 ghost use Rattle.rb_twin.specs.Batches.{Image, IsBatch, IsNoneOf, with_batch, batch_in};
 ghost use Rattle.rb_twin.specs.Twins.{home, twin_area, twin_gate, kept, IsTwin};
 
+use crate::batch::TWIN_IMAGES;
+
+/// How many images a batch has at most.
+pub fn twin_sizes()
+    ensures { TWIN_IMAGES ≡ 8 }
+{}
+
 /// The four steps: images behind a shut gate, the gate, the homes, the gate again.
 pub fn batch_steps()
     ensures one { (l : Layout) (f c : List ℕ) → twin_gate l c ≢ 1

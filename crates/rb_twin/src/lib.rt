@@ -8,5 +8,5 @@ mod steps;
 mod twin;
 
 pub use batch::TWIN_IMAGES;
-pub use laws::batch_steps;
+pub use laws::{batch_steps, twin_sizes};
 pub use twin::Twin;

@@ -127,6 +127,7 @@ pub fn repair_file<D: Disk>(disk: &mut D, layout: &Layout, area: &mut [u8]) -> R
         → SamePart (twin_offset layout.now 0) (file_length layout.now) (D.content disk.old) c }
     ensures none { D.tells → IsErrOf result OpenFault.NotAStore → ¬ IsTwin layout.now (D.content disk.old) }
     ensures refused { D.tells → IsErrOf result OpenFault.NotAStore → Rests D.Disk disk.old disk.new }
+    ensures foreign { D.tells → ¬ IsTwin layout.now (D.content disk.old) → Rests D.Disk disk.old disk.new }
     ensures untouched { D.tells → twin_gate layout.now (D.content disk.old) ≢ 1 → Rests D.Disk disk.old disk.new }
     ensures twin { D.tells → OnOk result (IsTwin layout.now (D.content disk.old)) }
     ensures shut { D.tells → OnOk result (twin_gate layout.now (D.content disk.new) ≢ 1) }

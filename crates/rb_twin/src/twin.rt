@@ -73,8 +73,8 @@ impl Twin {
 
     /// Writes the batch, which isn't empty, to the twin area and then each of its blocks home, with four syncs. After
     /// an Ok every image has all of them at home, and the batch is empty; a crash before leaves a file that keeps all
-    /// of these blocks as they were, or all as the batch has them. It is called where no image has an open gate, and each
-    /// has the blocks that are read.
+    /// of these blocks as they were, or all as the batch has them. It is called where no image has an open gate, and
+    /// each has the blocks that are read.
     pub fn write<D: Disk>(&mut self, disk: &mut D) -> Result<(), Failed>
         requires some { 0 < length self.old.batch }
         requires whole { D.tells → length (D.content disk.old) ≡ file_length self.old.layout }
@@ -109,6 +109,7 @@ impl Twin {
         ensures none { D.tells → IsErrOf result OpenFault.NotAStore
             → ¬ IsTwin self.old.layout (D.content disk.old) }
         ensures refused { D.tells → IsErrOf result OpenFault.NotAStore → Rests D.Disk disk.old disk.new }
+        ensures foreign { D.tells → ¬ IsTwin self.old.layout (D.content disk.old) → Rests D.Disk disk.old disk.new }
         ensures untouched { D.tells → twin_gate self.old.layout (D.content disk.old) ≢ 1
             → Rests D.Disk disk.old disk.new }
         ensures twin { D.tells → OnOk result (IsTwin self.old.layout (D.content disk.old)) }
