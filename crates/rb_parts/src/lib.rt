@@ -45,6 +45,8 @@ mod sound;
 #[cfg(test)]
 mod stream;
 #[cfg(test)]
+mod twin;
+#[cfg(test)]
 mod txntable;
 #[cfg(test)]
 mod undo;
