@@ -1,0 +1,76 @@
+//! `Frame`: one block in memory, and what a group makes of it. `Frames` has as many as its cache was made with.
+ghost use Rattle.std.specs.Prelude.{◌≡◌, ◌++◌, ◌∷◌, [], ◌<◌, false, length};
+ghost use Rattle.rb_layout.specs.Regions.{block_count};
+ghost use Rattle.rb_base.specs.Blocks.{written_to};
+ghost use Rattle.rb_roll.specs.Rolled.{has_block, step};
+ghost use Rattle.rb_twin.specs.Batches.{IsNoneOf};
+ghost use Rattle.rb_twin.specs.declared.batch.TheConstants.{TWIN_IMAGES};
+
+use rb_base::{BlockNo, Group, Lsn, UNIT, put_u64, u64_at};
+use rb_twin::Twin;
+
+/// The block number of a frame that holds none.
+pub const NO_BLOCK: BlockNo = BlockNo::MAX;
+
+/// The most blocks that a file has: 16 tables of 4,096, and 16 segments of 33.
+pub const BLOCKS: usize = 66_064;
+
+/// A block in memory.
+#[derive(Drop)]
+pub struct Frame {
+    /// Its number.
+    pub block: BlockNo,
+    /// What it is.
+    pub bytes: [u8; UNIT],
+    /// Whether what stands at home may be older.
+    pub dirty: bool,
+}
+
+/// Writes those patches of a group over a block that are of it. Answers whether there is one.
+fn write_patches(bytes: &mut [u8], no: BlockNo, group: &Group) -> bool
+    requires unit { length bytes.old ≡ UNIT }
+    ensures written { bytes.new ≡ written_to no group.now bytes.old }
+    ensures any { result ≡ has_block no group.now }
+    ensures unit { length bytes.new ≡ UNIT }
+{
+    let mut any = false;
+    for i in 0..group.patches() {
+        if group.patch_block(i) == no {
+            let at = usize::from(group.patch_at(i));
+            let patch = group.patch_bytes(i);
+            bytes[at..at + patch.len()].copy_from_slice(patch);
+            any = true;
+        }
+    }
+    any
+}
+
+impl Frame {
+    /// Patches the block by the group of that log number, where its own number is below. It is dirty then.
+    pub fn patch(&mut self, group: &Group, number: Lsn)
+        ensures block { self.new.block ≡ self.old.block }
+        ensures bytes { self.new.bytes ≡ step number group.now self.old.block self.old.bytes }
+        ensures clean { self.new.dirty ≡ false → self.new ≡ self.old }
+    {
+        if u64_at(&self.bytes, 0) >= number {
+            return;
+        }
+        if write_patches(&mut self.bytes, self.block, group) {
+            put_u64(&mut self.bytes, 0, number);
+            self.dirty = true;
+        }
+    }
+
+    /// Puts the block into a batch that goes home next. It counts as clean from here on.
+    pub fn put_home(&mut self, twin: &mut Twin)
+        requires room { length twin.old.batch < TWIN_IMAGES }
+        requires differs { IsNoneOf self.old.block twin.old.batch }
+        requires within { self.old.block < block_count twin.old.layout }
+        ensures clean { self.new ≡ record self.old { dirty = false } }
+        ensures batch { twin.new ≡ record twin.old
+            { batch = twin.old.batch ++ record { no = self.old.block; unit = self.old.bytes } ∷ [] } }
+    {
+        twin.put(self.block, &self.bytes);
+        self.dirty = false;
+    }
+}
