@@ -1,5 +1,7 @@
 //! `Frame`: one block in memory, and what a group makes of it. `Frames` has as many as its cache was made with.
-ghost use Rattle.std.specs.Prelude.{◌≡◌, ◌++◌, ◌∷◌, [], ◌<◌, false, length};
+ghost use Rattle.std.specs.Prelude.{◌≡◌, ◌+◌, ◌++◌, ◌∷◌, [], ◌<◌, ◌≤◌, false, length, slice_index_or};
+ghost use Rattle.rb_base.specs.Fields.{overwritten};
+ghost use Rattle.rb_base.specs.Groups.{IsGroup, Patch};
 ghost use Rattle.rb_layout.specs.Regions.{block_count};
 ghost use Rattle.rb_base.specs.Blocks.{written_to};
 ghost use Rattle.rb_roll.specs.Rolled.{has_block, step};
@@ -26,6 +28,31 @@ pub struct Frame {
     pub dirty: bool,
 }
 
+/// Writes bytes over those from a place on.
+fn overwrite(bytes: &mut [u8], at: usize, patch: &[u8])
+    requires within { at + length patch.now ≤ length bytes.old }
+    ensures { bytes.new ≡ overwritten bytes.old at patch.now }
+{
+    bytes[at..at + patch.len()].copy_from_slice(patch);
+}
+
+/// Writes the patch at a place of a group over a block, where it is of it. Answers whether it is.
+fn write_patch(bytes: &mut [u8], no: BlockNo, group: &Group, place: u32) -> bool
+    requires unit { length bytes.old ≡ UNIT }
+    requires place { place < length group.now }
+    requires valid { IsGroup group.now }
+    ensures written { (d : Patch) → bytes.new ≡ written_to no (slice_index_or group.now place d ∷ []) bytes.old }
+    ensures own { (d : Patch) → result ≡ has_block no (slice_index_or group.now place d ∷ []) }
+    ensures unit { length bytes.new ≡ UNIT }
+{
+    if group.patch_block(place) != no {
+        return false;
+    }
+    let at = usize::from(group.patch_at(place));
+    overwrite(bytes, at, group.patch_bytes(place));
+    true
+}
+
 /// Writes those patches of a group over a block that are of it. Answers whether there is one.
 fn write_patches(bytes: &mut [u8], no: BlockNo, group: &Group) -> bool
     requires unit { length bytes.old ≡ UNIT }
@@ -34,13 +61,8 @@ fn write_patches(bytes: &mut [u8], no: BlockNo, group: &Group) -> bool
     ensures unit { length bytes.new ≡ UNIT }
 {
     let mut any = false;
-    for i in 0..group.patches() {
-        if group.patch_block(i) == no {
-            let at = usize::from(group.patch_at(i));
-            let patch = group.patch_bytes(i);
-            bytes[at..at + patch.len()].copy_from_slice(patch);
-            any = true;
-        }
+    for place in 0..group.patches() {
+        any = write_patch(bytes, no, group, place) || any;
     }
     any
 }

@@ -1,5 +1,5 @@
 //! `Frames`: the blocks that a cache holds, and in which order they were used. `Cache` asks it which block gives way.
-ghost use Rattle.std.specs.Prelude.{◌≡◌, ◌≢◌, ◌-◌, ◌<◌, ◌≤◌, ◌∷◌, [], ℕ, List, true, false, length, drop, IfOk};
+ghost use Rattle.std.specs.Prelude.{◌≡◌, ◌≢◌, ◌-◌, ◌<◌, ◌≤◌, ◌∷◌, [], ℕ, List, true, false, length, IfOk};
 ghost use Rattle.std.specs.Prelude.{OnOk, OnErr, slice_index_or};
 ghost use Rattle.rb_base.specs.Counts.{IsCounted};
 ghost use Rattle.rb_disk.specs.Moments.{Rests};
@@ -95,7 +95,7 @@ impl Frames {
 
     /// The frame that was used last.
     fn front_number(&self) -> u16
-        ensures { self.now.order ≡ result ∷ drop 1 self.now.order }
+        ensures { result ≡ slice_index_or self.now.order 0 0 }
     {
         let Some((&frame, _)) = self.order.peek_mru() else {
             unreachable!()

@@ -41,9 +41,9 @@ pub fn all_numbers(alloc: Global, count: u16) -> Result<LruCache<u16, ()>, NoMem
         return Err(NoMemory);
     };
     for number in 0..count {
-        if order.put(number, ()).is_err() {
+        let Ok(_) = order.put(number, ()) else {
             return Err(NoMemory);
-        }
+        };
     }
     Ok(order)
 }

@@ -1,0 +1,19 @@
+use Rattle.std.proofs.Common.{◌≡◌, ◌-◌, ◌<◌, ◌≤◌, ◌⊎◌, length}
+use Rattle.std.specs.Map.{keys_of}
+use Rattle.rb_cache.specs.Slots.{AreCleanFrom, held_of}
+use Rattle.rb_cache.proofs.GatherLemmas.{GatheredSoFar}
+use Rattle.rb_cache.proofs.frames.Frames.gather_from.Given as goal
+
+abbrev pub invariant-loop-next : goal.invariant-loop-next
+invariant-loop-next l = record {
+  from : l.from ≤ l.next;
+  end : l.next ≤ length l.self-inside.slots.items;
+  order : keys_of l.self-inside.order.entries ≡ l.fn.self.order;
+  so_far : GatheredSoFar l.fn.self.slots l.self-inside.slots.items (keys_of l.self-inside.order.entries) l.self-inside.places.items l.twin.batch;
+  clean : AreCleanFrom l.from l.next l.self-inside.slots.items;
+  layout : l.twin.layout ≡ l.fn.twin.layout;
+  on : (l.from < l.next) ⊎ (length l.twin.batch ≡ 0);
+}
+
+abbrev pub decreases-loop-next : goal.decreases-loop-next
+decreases-loop-next l = length l.self-inside.slots.items - l.next
