@@ -1,127 +1,133 @@
 -- A flush of groups: what a crash in it may leave, and what it leaves at its end.
-use Rattle.std.proofs.Common.{◌≡◌, ◌≢◌, inl, inr, ℕ, zero, suc, ◌+◌, ◌*◌, ◌≤◌, ◌<◌, List, ◌∷◌, ◌++◌, length, take, drop, get_or, slice_index, sym, ◌∙◌, ap, subst, arith, refl}
+use Rattle.std.proofs.Common.{◌≡◌, ◌≢◌, ◌⊎◌, inl, inr, ⊎_elim, ℕ, zero, suc, ◌+◌, ◌-◌, ◌^◌, ◌%◌, ◌==◌, ◌≤◌, ◌<◌, nat_lt, Bool, true, false, List, ◌++◌, length, take, drop, get_or, sym, ◌∙◌, ap, subst, arith, refl}
 use Rattle.std.proofs.lemmas.Bool.{cases_eq, cases_lt}
-use Rattle.std.proofs.lemmas.List.{append-nil, take_all, length-take-le, get_or-take, drop_more}
+use Rattle.std.proofs.lemmas.Bool.Decides.{nat_tests}
+use Rattle.std.proofs.lemmas.List.{append-nil, take_all, length-take-le, get_or-take}
 use Rattle.std.specs.List.{AllByRecursion}
 use Rattle.rb_base.specs.Groups.{Patch}
 use Rattle.rb_base.proofs.Each.{all_take}
-use Rattle.rb_disk.specs.Ranges.{TornFrom}
-use Rattle.rb_layout.specs.Regions.{log_offset, file_length}
+use Rattle.rb_layout.specs.Regions.{file_length}
+use Rattle.rb_layout.specs.declared.layout.Head.{Head}
 use Rattle.rb_layout.specs.declared.layout.Layout.{Layout}
-use Rattle.rb_log.specs.GroupLaws.{same_group_log}
-use Rattle.rb_log.specs.GroupSlots.{IsLoggable, GroupsAre, FlushedSome, AreStaged, AreOpen, group_unit}
-use Rattle.rb_log.specs.Slots.{slot_at, SameSlots, SameOutside}
-use Rattle.rb_log.proofs.GroupRuns.{parted}
-use Rattle.rb_log.proofs.LogLemmas.{groups_on, groups_kept, groups_stand}
-use Rattle.rb_log.proofs.Writes.{gate_at, take_below, drop_beyond, part_below, torn_outside}
+use Rattle.rb_log.specs.GroupLaws.{slot_below, same_group_log, kept_log}
+use Rattle.rb_log.specs.GroupSlots.{IsLoggable, GroupsAre, FlushedSome, StagedFrom, AreStaged, AreOpen, begins_run, group_unit}
+use Rattle.rb_log.specs.Slots.{slot_of, log_unit, gate_of, SameSlots, SameOutside}
+use Rattle.rb_log.proofs.LogLemmas.{groups_on, groups_stand}
+use Rattle.rb_log.proofs.TornPlaces.{unit_parts, outside_all}
 
 -- an image whose log is that of before
-none_more : (image : List ℕ → Type 0) (l : Layout) (before pending : List (List Patch)) (c d : List ℕ) → image d → SameOutside l.log d c → GroupsAre l c 0 before → FlushedSome image l before pending c
-none_more image l before pending c d here outside log = record {
+none_more : (image : List ℕ → Type 0) (l : Layout) (head : Head) (before pending : List (List Patch)) (c d : List ℕ) → image d → SameOutside l.log d c → begins_run (l.log - slot_of l head (length before)) 0 ≡ true → GroupsAre l head c 0 before
+    → FlushedSome image l head before pending c
+none_more image l head before pending c d here outside first log = record {
   outside = (d, here, outside);
-  units = 0;
-  log = subst (λ (gs : List (List Patch)). GroupsAre l c 0 gs) (sym (append-nil before)) log;
+  count = 0;
+  few = omega arith;
+  whole = inr first;
+  log = subst (λ (gs : List (List Patch)). GroupsAre l head c 0 gs) (sym (append-nil before)) log;
 }
 
+-- a flush begins with a run
+pub first_run : (rest : ℕ) → begins_run rest 0 ≡ true
+unfolding begins_run
+first_run rest = elim (cases_lt 0 rest) [
+  | inl some ↦ let test : nat_lt 0 rest ≡ true = grind (arith, nat_tests) in rw test refl
+  | inr none ↦ let test : nat_lt 0 rest ≡ false = grind (arith, nat_tests) in let none : 0 - rest ≡ 0 = omega arith in rw test (ap (λ (k : ℕ). k % 32 == 0) none)
+]
+
 -- a crash where nothing is written
-pub nothing_flushed : (l : Layout) (f : List ℕ) (image : List ℕ → Type 0) (before pending : List (List Patch)) → ((c : List ℕ) → image c → SameSlots l.log f c) → GroupsAre l f 0 before → (c : List ℕ) → image c → FlushedSome image l before pending c
-nothing_flushed l f image before pending synced log c here =
-    let few = l.few_slots.0 in
-    none_more image l before pending c c here (record { long = refl; before = refl; behind = refl }) (same_group_log l f c 0 before (synced c here) (omega (arith, few)) log)
+pub nothing_flushed : (l : Layout) (head : Head) (f : List ℕ) (image : List ℕ → Type 0) (before pending : List (List Patch)) → head.slot < l.log → ((c : List ℕ) → image c → SameSlots l.log f c) → GroupsAre l head f 0 before
+    → (c : List ℕ) → image c → FlushedSome image l head before pending c
+nothing_flushed l head f image before pending slot synced log c here =
+    none_more image l head before pending c c here (outside_all l.log c) (first_run (l.log - slot_of l head (length before))) (same_group_log l head f c before slot (synced c here) log)
 
 -- where a flush writes
-pub record FlushPlan (l : Layout) (end : ℕ) (groups : List (List Patch)) (f : List ℕ) : Type 0 where
+pub record FlushPlan (l : Layout) (head : Head) (end : ℕ) (groups : List (List Patch)) (f : List ℕ) : Type 0 where
+  pub slot : head.slot < l.log
   pub room : end + length groups < l.log
+  pub small : head.number + (end + length groups) ≤ 2 ^ 63
   pub some : 0 < length groups
   pub each : AllByRecursion (IsLoggable l) groups
   pub whole : length f ≡ file_length l
 
-module _ (l : Layout) (end : ℕ) (groups : List (List Patch)) (f : List ℕ) (plan : FlushPlan l end groups f) where
-  pub flushed_outside : (c : List ℕ) → AreStaged end groups f c → SameOutside l.log f c
-  flushed_outside c was = record {
-    long = was.others.long;
-    before = take_below c f (log_offset end) (log_offset 0) was.others.before (omega arith);
-    behind = drop_beyond c f (log_offset (end + length groups) + 1) (log_offset l.log) was.others.behind (omega (arith, plan.room));
-  }
-
-  -- the units in front of them
-  earlier : (c : List ℕ) → AreStaged end groups f c → (k : ℕ) → k < end → slot_at c k ≡ slot_at f k
-  earlier c was k below = part_below c f (log_offset end) (log_offset k) 2048 was.others.before (omega (arith, below))
-
+module _ (l : Layout) (head : Head) (end : ℕ) (groups : List (List Patch)) (f : List ℕ) (plan : FlushPlan l head end groups f) where
   -- a unit whose gate is open
-  unit_at : (c : List ℕ) → AreStaged end groups f c → (k : ℕ) (d : List Patch) → k < length groups → slice_index c (log_offset (end + k)) ≡ 1 → slot_at c (end + k) ≡ group_unit 1 (end + k + 1) (get_or groups k d)
-  unit_at c was k d below gate =
-      let at = log_offset (end + k) in
-      ap (take 2048) (drop_more c at 0 (omega (arith, was.others.long, plan.room, plan.whole, below))) ∙ ap (λ (b : List ℕ). get_or c at 0 ∷ b) (was.bodies k d below) ∙ ap (λ (g : ℕ). g ∷ drop 1 (group_unit 0 (end + k + 1) (get_or groups k d))) gate
+  unit_is : (c : List ℕ) → AreStaged l head end groups f c → (k : ℕ) (d : List Patch) → k < length groups → gate_of l head c (end + k) ≡ 1 → log_unit l head c (end + k) ≡ group_unit 1 (head.number + (end + k)) (get_or groups k d)
+  unit_is c was k d below gate =
+      let line = slot_below l head (end + k) plan.slot (omega (arith, plan.room, below)) in
+      unit_parts c (slot_of l head (end + k)) (drop 1 (group_unit 0 (head.number + (end + k)) (get_or groups k d))) 1 (omega (arith, was.others.outside.long, plan.whole, line)) gate (was.bodies k d below)
 
-  -- the units of the first runs, once their first gates are open
-  units_open : (c : List ℕ) (runs : ℕ) → AreStaged end groups f c → ((j : ℕ) → j < runs → 32 * j < length groups → slice_index c (log_offset (end + 32 * j)) ≡ 1)
-      → (k : ℕ) (d : List Patch) → k < length groups → k < 32 * runs → slot_at c (end + k) ≡ group_unit 1 (end + k + 1) (get_or groups k d)
-  units_open c runs was opened k d below lt =
-      let p = parted k in
-      let gate : slice_index c (log_offset (end + k)) ≡ 1 =
-      elim (cases_lt 0 p.1) [
-        | inl more ↦ ap (λ (i : ℕ). slice_index c (log_offset (end + i))) (sym p.3) ∙ was.within p.0 p.1 more p.2 (omega (arith, below, p.3))
-        | inr none ↦ ap (λ (i : ℕ). slice_index c (log_offset (end + i))) (omega (arith, p.3, none)) ∙ opened p.0 (omega (arith, p.3, lt)) (omega (arith, p.3, below))
-      ] in
-      unit_at c was k d below gate
+  pub flushed_units : (c : List ℕ) → AreStaged l head end groups f c → AreOpen l head end (length groups) c → (k : ℕ) (d : List Patch) → k < length groups → log_unit l head c (end + k) ≡ group_unit 1 (head.number + (end + k)) (get_or groups k d)
+  flushed_units c was opened k d below = unit_is c was k d below (by (begins_run (l.log - slot_of l head end) k) refl)
+    where
+      by : (b : Bool) → begins_run (l.log - slot_of l head end) k ≡ b → gate_of l head c (end + k) ≡ 1
+      by true is = opened k below is
+      by false is = was.within k below is
 
-  pub flushed_units : (c : List ℕ) → AreStaged end groups f c → AreOpen end (length groups) c → (k : ℕ) (d : List Patch) → k < length groups → slot_at c (end + k) ≡ group_unit 1 (end + k + 1) (get_or groups k d)
-  flushed_units c was opened k d below = units_open c (k + 1) was (λ j lt within. opened j within) k d below (omega arith)
+  -- how many gates are open from the first group on
+  open_front : (c : List ℕ) (n : ℕ) → (m : ℕ) × (m ≤ n) × ((k : ℕ) → k < m → gate_of l head c (end + k) ≡ 1) × ((m ≡ n) ⊎ (gate_of l head c (end + m) ≢ 1))
+  open_front c zero = (0, omega arith, λ k lt. absurd (omega (arith, lt)), inl refl)
+  open_front c (suc n) =
+      let so_far = open_front c n in
+      ⊎_elim (λ all. elim (cases_eq (gate_of l head c (end + n)) 1) [
+        | inl gate ↦ (suc n, omega arith, λ k lt. one_more so_far all gate k lt, inl refl)
+        | inr shut ↦ (n, omega arith, λ k lt. so_far.2 k (omega (arith, all, lt)), inr shut)
+      ]) (λ shut. (so_far.0, omega (arith, so_far.1), so_far.2, inr shut)) so_far.3
+    where
+      one_more : (so_far : (m : ℕ) × (m ≤ n) × ((k : ℕ) → k < m → gate_of l head c (end + k) ≡ 1) × ((m ≡ n) ⊎ (gate_of l head c (end + m) ≢ 1))) → so_far.0 ≡ n → gate_of l head c (end + n) ≡ 1 → (k : ℕ) → k < suc n → gate_of l head c (end + k) ≡ 1
+      one_more so_far all gate k lt = elim (cases_lt k n) [
+        | inl before ↦ so_far.2 k (omega (arith, before, all))
+        | inr here ↦ ap (λ (i : ℕ). gate_of l head c (end + i)) (omega (arith, here, lt)) ∙ gate
+      ]
 
-  module _ (before : List (List Patch)) (counts : length before ≡ end) (log : GroupsAre l f 0 before) where
-    -- some of the groups, up to a slot whose gate is closed
-    cut_at : (c : List ℕ) (n : ℕ) → n ≤ length groups → AreStaged end groups f c → ((k : ℕ) (d : List Patch) → k < n → slot_at c (end + k) ≡ group_unit 1 (end + k + 1) (get_or groups k d)) → slice_index c (log_offset (end + n)) ≢ 1
-        → GroupsAre l c 0 (before ++ take n groups)
-    cut_at c n le was units shut =
+  module _ (before : List (List Patch)) (counts : length before ≡ end) (log : GroupsAre l head f 0 before) where
+    -- some of the groups, up to a place whose gate is closed
+    cut_at : (c : List ℕ) (n : ℕ) → n ≤ length groups → AreStaged l head end groups f c → ((k : ℕ) → k < n → gate_of l head c (end + k) ≡ 1) → gate_of l head c (end + n) ≢ 1 → GroupsAre l head c 0 (before ++ take n groups)
+    cut_at c n le was opened shut =
         let size : length (take n groups) ≡ n = length-take-le n groups le in
-        groups_on l f c 0 end before (take n groups) (omega (arith, counts)) (earlier c was) log
-        (groups_stand l c end (end + n) (take n groups) (omega (arith, size)) (omega (arith, plan.room, le)) (all_take (IsLoggable l) n groups plan.each)
-        (λ k d lt. units k d (omega (arith, lt, size)) ∙ ap (group_unit 1 (end + k + 1)) (sym (get_or-take n groups k d (omega (arith, lt, size))))) (λ is. shut (sym (gate_at c (end + n)) ∙ is)))
+        groups_on l head f c 0 end before (take n groups) (omega (arith, counts)) (λ k lt. was.others.units k (omega (arith, lt, plan.room)) (inl lt)) log
+        (groups_stand l head c end (end + n) (take n groups) (omega (arith, size)) (omega (arith, plan.room, le)) (omega (arith, plan.small, le)) (all_take (IsLoggable l) n groups plan.each)
+        (λ k d lt. unit_is c was k d (omega (arith, lt, size, le)) (opened k (omega (arith, lt, size))) ∙ ap (group_unit 1 (head.number + (end + k))) (sym (get_or-take n groups k d (omega (arith, lt, size))))) shut)
 
-    all_in : (c : List ℕ) → AreStaged end groups f c → ((k : ℕ) (d : List Patch) → k < length groups → slot_at c (end + k) ≡ group_unit 1 (end + k + 1) (get_or groups k d)) → (n : ℕ) → length groups ≤ n → GroupsAre l c 0 (before ++ take n groups)
-    all_in c was units n le =
-        let all : take (length groups) groups ≡ take n groups = take_all (length groups) groups (omega arith) ∙ sym (take_all n groups le) in
-        subst (λ (gs : List (List Patch)). GroupsAre l c 0 (before ++ gs)) all (cut_at c (length groups) (omega arith) was units (λ is. absurd (omega (arith, is, was.after))))
+    all_in : (c : List ℕ) → AreStaged l head end groups f c → ((k : ℕ) → k < length groups → gate_of l head c (end + k) ≡ 1) → GroupsAre l head c 0 (before ++ groups)
+    all_in c was opened = subst (λ (gs : List (List Patch)). GroupsAre l head c 0 (before ++ gs)) (take_all (length groups) groups (omega arith)) (cut_at c (length groups) (omega arith) was opened (λ is. absurd (omega (arith, is, was.after))))
 
     -- the log, once the first gates are open
-    pub flushed_log : (c : List ℕ) → AreStaged end groups f c → AreOpen end (length groups) c → GroupsAre l c 0 (before ++ groups)
-    flushed_log c was opened = subst (λ (gs : List (List Patch)). GroupsAre l c 0 (before ++ gs)) (take_all (length groups) groups (omega arith)) (all_in c was (flushed_units c was opened) (length groups) (omega arith))
-
-    -- The first gate that is closed ends the log, behind the runs before it.
-    some_runs : (c : List ℕ) → AreStaged end groups f c → (left runs : ℕ) → length groups ≤ 32 * (runs + left) → ((j : ℕ) → j < runs → 32 * j < length groups → slice_index c (log_offset (end + 32 * j)) ≡ 1)
-        → (units : ℕ) × GroupsAre l c 0 (before ++ take (32 * units) groups)
-    some_runs c was zero runs enough opened = (runs, all_in c was (λ k d lt. units_open c runs was opened k d lt (omega (arith, lt, enough))) (32 * runs) (omega (arith, enough)))
-    some_runs c was (suc left) runs enough opened =
-        elim (cases_lt (32 * runs) (length groups)) [
-          | inr all ↦ (runs, all_in c was (λ k d lt. units_open c runs was opened k d lt (omega (arith, lt, all))) (32 * runs) all)
-          | inl lt ↦
-              elim (cases_eq (slice_index c (log_offset (end + 32 * runs))) 1) [
-                | inl gate ↦ some_runs c was left (runs + 1) (omega (arith, enough)) (next gate)
-                | inr shut ↦ (runs, cut_at c (32 * runs) (omega (arith, lt)) was (λ k d below. units_open c runs was opened k d (omega (arith, below, lt)) below) shut)
-              ]
-        ]
+    pub flushed_log : (c : List ℕ) → AreStaged l head end groups f c → AreOpen l head end (length groups) c → GroupsAre l head c 0 (before ++ groups)
+    flushed_log c was opened = all_in c was gates
       where
-        next : slice_index c (log_offset (end + 32 * runs)) ≡ 1 → (j : ℕ) → j < runs + 1 → 32 * j < length groups → slice_index c (log_offset (end + 32 * j)) ≡ 1
-        next gate j below within =
-            elim (cases_lt j runs) [
-              | inl before ↦ opened j before within
-              | inr here ↦ ap (λ (i : ℕ). slice_index c (log_offset (end + 32 * i))) (omega (arith, below, here)) ∙ gate
-            ]
+        gates : (k : ℕ) → k < length groups → gate_of l head c (end + k) ≡ 1
+        gates k below = by (begins_run (l.log - slot_of l head end) k) refl
+          where
+            by : (b : Bool) → begins_run (l.log - slot_of l head end) k ≡ b → gate_of l head c (end + k) ≡ 1
+            by true is = opened k below is
+            by false is = was.within k below is
 
     -- a crash in step one
-    pub one_interrupted : (image : List ℕ → Type 0) → ((c : List ℕ) → image c → SameSlots l.log f c) → (c : List ℕ) → TornFrom (log_offset end + 1) (2048 * length groups) image c → FlushedSome image l before groups c
+    pub one_interrupted : (image : List ℕ → Type 0) → ((c : List ℕ) → image c → SameSlots l.log f c) → (c : List ℕ) → StagedFrom l head end (length groups) image c → FlushedSome image l head before groups c
     one_interrupted image synced c from =
-        let same = synced from.0 from.1 in
-        none_more image l before groups c from.0 from.1
-        (torn_outside l.log from.0 c (log_offset end + 1) (2048 * length groups) (omega arith) (omega (arith, plan.room)) (omega (arith, plan.whole, same.long)) from.2)
-        (groups_kept l f from.0 c end (2048 * length groups) before (omega (arith, plan.room, plan.some)) counts log same from.2)
+        let same = from.2 in
+        let was = same_group_log l head f from.0 before plan.slot (synced from.0 from.1) log in
+        none_more image l head before groups c from.0 from.1 same.outside (first_run (l.log - slot_of l head (length before)))
+        (kept_log l head from.0 c 0 end before (omega (arith, counts)) (λ k lt. same.units k (omega (arith, lt, plan.room)) (inl lt)) (λ shut is. shut (sym same.gate ∙ is)) was)
 
-    -- a crash in step two
-    pub two_interrupted : (image : List ℕ → Type 0) → image f → (c : List ℕ) → AreStaged end groups f c → FlushedSome image l before groups c
+    -- A crash in step two: the first gate that is closed ends the log, and it is that of a run.
+    pub two_interrupted : (image : List ℕ → Type 0) → image f → (c : List ℕ) → AreStaged l head end groups f c → FlushedSome image l head before groups c
     two_interrupted image here c was =
-        let some = some_runs c was (length groups) 0 (omega arith) (λ j below lt. absurd (omega (arith, below))) in record {
-          outside = (f, here, flushed_outside c was);
-          units = some.0;
-          log = some.1;
+        let some = open_front c (length groups) in
+        record {
+          outside = (f, here, was.others.outside);
+          count = some.0;
+          few = some.1;
+          whole = ⊎_elim (λ all. inl all) (λ shut. first_of some.0 some.1 shut) some.3;
+          log = ⊎_elim (λ all. cut_at c some.0 some.1 was some.2 (λ is. absurd (omega (arith, is, was.after, ap (λ (k : ℕ). gate_of l head c (end + k)) all)))) (λ shut. cut_at c some.0 some.1 was some.2 shut) some.3;
         }
+      where
+        first_of : (m : ℕ) → m ≤ length groups → gate_of l head c (end + m) ≢ 1 → (m ≡ length groups) ⊎ (begins_run (l.log - slot_of l head (length before)) m ≡ true)
+        first_of m le shut = elim (cases_lt m (length groups)) [
+          | inr all ↦ inl (omega (arith, all, le))
+          | inl lt ↦ inr (by lt (begins_run (l.log - slot_of l head end) m) refl)
+        ]
+          where
+            by : m < length groups → (b : Bool) → begins_run (l.log - slot_of l head end) m ≡ b → begins_run (l.log - slot_of l head (length before)) m ≡ true
+            by lt true is = ap (λ (e : ℕ). begins_run (l.log - slot_of l head e) m) counts ∙ is
+            by lt false is = absurd (shut (was.within m lt is))

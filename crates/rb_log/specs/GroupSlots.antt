@@ -1,5 +1,6 @@
 -- What the log slots of a file hold where groups of patches are logged. A slot has a unit as in `Slots`.
-use Rattle.std.specs.Prelude.{◌≡◌, ◌≢◌, ◌⊎◌, ℕ, ◌+◌, ◌-◌, ◌*◌, ◌<◌, ◌≤◌, List}
+use Rattle.std.specs.Prelude.{◌≡◌, ◌≢◌, ◌⊎◌, ℕ, ◌+◌, ◌-◌, ◌%◌}
+use Rattle.std.specs.Prelude.{◌^◌, ◌<◌, ◌≤◌, ◌==◌, nat_lt, if◌then◌else◌, List}
 use Rattle.std.specs.Prelude.{[], ◌∷◌, ◌++◌, length, take, drop, replicate, get_or, slice_index, Bool, true}
 use Rattle.std.specs.Prelude.{false}
 use Rattle.std.specs.List.{AllByRecursion}
@@ -9,10 +10,10 @@ use Rattle.rb_base.specs.Fields.{part, number_at}
 use Rattle.rb_base.specs.Groups.{Patch, group_length, IsGroup}
 use Rattle.rb_base.specs.declared.sizes.TheConstants.{UNIT}
 use Rattle.rb_group.specs.Spelling.{group_bytes, SpellsGroup}
-use Rattle.rb_disk.specs.Ranges.{SameBut}
 use Rattle.rb_layout.specs.Regions.{log_offset, shape_of}
+use Rattle.rb_layout.specs.declared.layout.Head.{Head}
 use Rattle.rb_layout.specs.declared.layout.Layout.{Layout}
-use Rattle.rb_log.specs.Slots.{slot_at, SameOutside}
+use Rattle.rb_log.specs.Slots.{slot_of, log_unit, gate_of, SameOutside}
 use Rattle.rb_log.specs.declared.sizes.TheConstants.{FLUSH_BYTES, FLUSH_SLOTS}
 
 -- The log takes this group: it has a patch, and its blocks are those of the file.
@@ -33,24 +34,26 @@ pub record HoldsGroup (l : Layout) (unit : List ℕ) (number : ℕ) (group : Lis
   pub opened : slice_index unit 0 ≡ 1
   pub body : HasGroup l unit number group
 
--- The log of a file from a slot on: these groups in order, with consecutive numbers, up to a closed gate or
--- the last slot.
-abbrev pub GroupsAre : Layout → List ℕ → ℕ → List (List Patch) → Type 0
-GroupsAre l file slot [] = (slot + 1 ≡ l.log) ⊎ (slice_index (slot_at file slot) 0 ≢ 1)
-GroupsAre l file slot (group ∷ groups) =
-    (slot + 1 < l.log) × HoldsGroup l (slot_at file slot) (slot + 1) group × GroupsAre l file (slot + 1) groups
+-- The log of a file from a place on: these groups in order, with consecutive numbers, up to a closed gate or the last
+-- place, which stays free.
+abbrev pub GroupsAre : Layout → Head → List ℕ → ℕ → List (List Patch) → Type 0
+GroupsAre l head file place [] = (place + 1 ≡ l.log) ⊎ (gate_of l head file place ≢ 1)
+GroupsAre l head file place (group ∷ groups) =
+    (place + 1 < l.log) × HoldsGroup l (log_unit l head file place) (head.number + place) group
+    × GroupsAre l head file (place + 1) groups
 
--- the log begins with these groups from a slot on, whatever follows
-abbrev pub BeginsWithGroups : Layout → List ℕ → ℕ → List (List Patch) → Type 0
-BeginsWithGroups l file slot [] = Unit {0}
-BeginsWithGroups l file slot (group ∷ groups) =
-    (slot + 1 < l.log) × HoldsGroup l (slot_at file slot) (slot + 1) group × BeginsWithGroups l file (slot + 1) groups
+-- the log begins with these groups from a place on, whatever follows
+abbrev pub BeginsWithGroups : Layout → Head → List ℕ → ℕ → List (List Patch) → Type 0
+BeginsWithGroups l head file place [] = Unit {0}
+BeginsWithGroups l head file place (group ∷ groups) =
+    (place + 1 < l.log) × HoldsGroup l (log_unit l head file place) (head.number + place) group
+    × BeginsWithGroups l head file (place + 1) groups
 
--- a slot that the log reaches is open and holds no group of its number
-pub record IsFaultyGroup (l : Layout) (file : List ℕ) (slot : ℕ) : Type 0 where
-  pub reached : slot + 1 < l.log
-  pub opened : slice_index (slot_at file slot) 0 ≡ 1
-  pub none : (group : List Patch) → HasGroup l (slot_at file slot) (slot + 1) group → ⊥
+-- a place that the log reaches is open and holds no group of its number
+pub record IsFaultyGroup (l : Layout) (head : Head) (file : List ℕ) (place : ℕ) : Type 0 where
+  pub reached : place + 1 < l.log
+  pub opened : gate_of l head file place ≡ 1
+  pub none : (group : List Patch) → HasGroup l (log_unit l head file place) (head.number + place) group → ⊥
 
 -- a unit as it is written: what isn't named is 0
 abbrev pub group_unit : ℕ → ℕ → List Patch → List ℕ
@@ -58,27 +61,70 @@ group_unit gate number group =
     gate ∷ 0 ∷ big_bytes 2 (group_length group) ++ 0 ∷ 0 ∷ 0 ∷ 0 ∷ big_bytes 8 number ++ group_bytes group
     ++ replicate (UNIT - 16 - group_length group) 0
 
--- Groups are written to the slots of a file from `end` on, in runs of 32. Each body is there, each gate within a run is
--- open, and the gate after the last group is closed. The first gate of each run has any byte, all else stays.
-pub record AreStaged (end : ℕ) (groups : List (List Patch)) (file c : List ℕ) : Type 0 where
-  pub others : SameBut (log_offset end) (log_offset (end + length groups) + 1) file c
-  pub bodies : (k : ℕ) (d : List Patch) → k < length groups
-      → part c (log_offset (end + k) + 1) (UNIT - 1) ≡ drop 1 (group_unit 0 (end + k + 1) (get_or groups k d))
-  pub within : (j i : ℕ) → 0 < i → i < FLUSH_SLOTS → FLUSH_SLOTS * j + i < length groups
-      → slice_index c (log_offset (end + (FLUSH_SLOTS * j + i))) ≡ 1
-  pub after : slice_index c (log_offset (end + length groups)) ≡ 0
+-- Whether the group at this place of a flush is the first of a run, where so many slots stand from the flush's first
+-- one to the last of the file. A run has up to 32 slots, and doesn't pass the last of the file.
+unfoldable pub begins_run : ℕ → ℕ → Bool
+begins_run rest k = if nat_lt k rest then k % FLUSH_SLOTS == 0 else (k - rest) % FLUSH_SLOTS == 0
+
+-- Two files of one length are the same but for `count` groups from place `end` on: the body of that place, the units of
+-- the others, and the gate behind these.
+pub record SameButGroups (l : Layout) (head : Head) (end count : ℕ) (file c : List ℕ) : Type 0 where
+  pub outside : SameOutside l.log file c
+  pub units : (k : ℕ) → k < l.log → (k < end) ⊎ (end + count < k)
+      → log_unit l head c k ≡ log_unit l head file k
+  pub behind : drop 1 (log_unit l head c (end + count)) ≡ drop 1 (log_unit l head file (end + count))
+  pub gate : gate_of l head c end ≡ gate_of l head file end
+
+-- An image of step one of a flush: one of before, but for what is written of so many groups from a place on.
+abbrev pub StagedFrom : Layout → Head → ℕ → ℕ → (List ℕ → Type 0) → List ℕ → Type 0
+StagedFrom l head end count image c = (d : List ℕ) × image d × SameButGroups l head end count d c
+
+-- The same, but the gate of place `end` may be another one too.
+pub record SameButUnits (l : Layout) (head : Head) (end count : ℕ) (file c : List ℕ) : Type 0 where
+  pub outside : SameOutside l.log file c
+  pub units : (k : ℕ) → k < l.log → (k < end) ⊎ (end + count < k)
+      → log_unit l head c k ≡ log_unit l head file k
+  pub behind : drop 1 (log_unit l head c (end + count)) ≡ drop 1 (log_unit l head file (end + count))
+
+-- What a run leaves in a file from a place on: each body, the gates between them open, and the gate behind them closed.
+pub record RunWritten (l : Layout) (head : Head) (at : ℕ) (run : List (List Patch)) (file c : List ℕ) : Type 0 where
+  pub others : SameButGroups l head at (length run) file c
+  pub bodies : (k : ℕ) (d : List Patch) → k < length run → drop 1 (log_unit l head c (at + k))
+      ≡ drop 1 (group_unit 0 (head.number + (at + k)) (get_or run k d))
+  pub gates : (k : ℕ) → 0 < k → k < length run → gate_of l head c (at + k) ≡ 1
+  pub after : gate_of l head c (at + length run) ≡ 0
+
+-- Groups are written to the places of a file from `end` on, in runs. Each body is there, each gate within a run is
+-- open, and the gate behind the last group is closed. The first gate of each run has any byte, all else stays.
+pub record AreStaged (l : Layout) (head : Head) (end : ℕ) (groups : List (List Patch)) (file c : List ℕ) :
+    Type 0 where
+  pub others : SameButUnits l head end (length groups) file c
+  pub bodies : (k : ℕ) (d : List Patch) → k < length groups → drop 1 (log_unit l head c (end + k))
+      ≡ drop 1 (group_unit 0 (head.number + (end + k)) (get_or groups k d))
+  pub within : (k : ℕ) → k < length groups → begins_run (l.log - slot_of l head end) k ≡ false
+      → gate_of l head c (end + k) ≡ 1
+  pub after : gate_of l head c (end + length groups) ≡ 0
 
 -- the first gate of each run of so many groups from `end` on is open
-abbrev pub AreOpen : ℕ → ℕ → List ℕ → Type 0
-AreOpen end count c = (j : ℕ) → FLUSH_SLOTS * j < count → slice_index c (log_offset (end + FLUSH_SLOTS * j)) ≡ 1
+abbrev pub AreOpen : Layout → Head → ℕ → ℕ → List ℕ → Type 0
+AreOpen l head end count c = (k : ℕ) → k < count → begins_run (l.log - slot_of l head end) k ≡ true
+    → gate_of l head c (end + k) ≡ 1
 
--- An image of a flush: its log has the groups of before and those of some number of its first units, 32 to a unit and
--- the last with fewer. Outside the log it is as an image of before.
-pub record FlushedSome (image : List ℕ → Type 0) (l : Layout) (groups pending : List (List Patch)) (c : List ℕ) :
-    Type 0 where
+-- An image of a flush: its log has the groups of before and the first of those that wait, whole runs of them. Outside
+-- the log it is as an image of before.
+pub record FlushedSome (image : List ℕ → Type 0) (l : Layout) (head : Head) (groups pending : List (List Patch))
+    (c : List ℕ) : Type 0 where
   pub outside : (d : List ℕ) × image d × SameOutside l.log d c
-  pub units : ℕ
-  pub log : GroupsAre l c 0 (groups ++ take (FLUSH_SLOTS * units) pending)
+  pub count : ℕ
+  pub few : count ≤ length pending
+  pub whole : (count ≡ length pending) ⊎ (begins_run (l.log - slot_of l head (length groups)) count ≡ true)
+  pub log : GroupsAre l head c 0 (groups ++ take count pending)
+
+-- An image with the same groups. Outside the log it is as an image of before.
+pub record KeptLog (image : List ℕ → Type 0) (l : Layout) (head : Head) (groups : List (List Patch))
+    (c : List ℕ) : Type 0 where
+  pub outside : (d : List ℕ) × image d × SameOutside l.log d c
+  pub log : GroupsAre l head c 0 groups
 
 -- bytes are those of a file from a slot on
 abbrev pub AreFrom : List ℕ → ℕ → List ℕ → Type 0
@@ -87,19 +133,24 @@ AreFrom file slot bytes = bytes ≡ part file (log_offset slot) (length bytes)
 -- what a log of groups is at a moment
 pub record LogState : Type 0 where
   pub layout : Layout
+  -- where its first group stands, and that group's number
+  pub head : Head
   -- how many slots hold groups that were scanned or flushed
   pub used : ℕ
   -- what the next flush writes
   pub pending : List (List Patch)
   -- whether a scan has found the end
   pub scanned : Bool
-  -- what a scan has read ahead: bytes of the units from slot `used` on
+  -- what a scan has read ahead: bytes of the units from place `used` on
   pub ahead : List ℕ
 
 -- What the log has in memory: room for as many groups as there are slots, of which one stays free, and 32 units. Before
--- the end is found the last of them are read ahead.
-pub record IsLogMemory (l : Layout) (used : ℕ) (pending : List (List Patch)) (scanned : Bool) (buffer : List ℕ)
-    (ahead room : ℕ) : Type 0 where
+-- the end is found the last of them are read ahead, up to the last slot of the file. No group's number is near the end
+-- of its type.
+pub record IsLogMemory (l : Layout) (head : Head) (used : ℕ) (pending : List (List Patch)) (scanned : Bool)
+    (buffer : List ℕ) (ahead room : ℕ) : Type 0 where
+  pub slot : head.slot < l.log
+  pub small : head.number + (used + length pending) ≤ 2 ^ 63
   pub below : used + length pending < l.log
   pub enough : l.log ≤ room
   pub each : AllByRecursion (IsLoggable l) pending
@@ -107,4 +158,5 @@ pub record IsLogMemory (l : Layout) (used : ℕ) (pending : List (List Patch)) (
   pub units : length buffer ≡ FLUSH_BYTES
   pub few : ahead ≤ FLUSH_SLOTS
   pub within : used + ahead < l.log
+  pub in_line : slot_of l head used + ahead ≤ l.log
   pub ended : scanned ≡ true → ahead ≡ 0

@@ -1,9 +1,11 @@
-//! The redo log of one lap: groups of patches in the log slots of a file, each there whole or not at all after a crash.
+//! The redo log, which goes round: groups of patches in the log slots of a file, each there whole or not at all after
+//! a crash.
 #![tactic(auto)]
 
 mod flush;
 mod laws;
 mod log;
+mod places;
 mod sizes;
 mod unit;
 

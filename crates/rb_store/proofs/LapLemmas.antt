@@ -1,6 +1,5 @@
 -- What a crash leaves of a file of groups, and what it opens to, over a flush, and over calls that leave the disk.
-use Rattle.std.proofs.Common.{◌≤◌, inl, inr, [], ◌∷◌, ◌≡◌, ℕ, ◌+◌, ◌*◌, List, ◌++◌, length, take, drop, refl, arith, ap, sym, ◌∙◌, subst, Some}
-use Rattle.std.proofs.lemmas.Bool.{cases_lt}
+use Rattle.std.proofs.Common.{◌≤◌, [], ◌∷◌, ◌≡◌, ℕ, ◌+◌, List, ◌++◌, length, take, drop, refl, arith, ap, sym, ◌∙◌, subst, Some}
 use Rattle.std.proofs.lemmas.List.{take-take, take_all, length-append, length-take-le}
 use Rattle.rb_base.specs.Blocks.{after_group, after_groups, fresh_blocks}
 use Rattle.rb_base.specs.Groups.{Patch}
@@ -16,6 +15,7 @@ use Rattle.rb_log.specs.GroupSlots.{GroupsAre, FlushedSome}
 use Rattle.rb_log.specs.GroupLaws.{same_group_log}
 use Rattle.rb_store.specs.Laps.{IsLap, OpensAt, Opens, LapState, IsStable}
 use Rattle.rb_store.specs.LapLaws.{stable_left}
+use Rattle.rb_store.specs.declared.head.TheConstants.{FIRST_HEAD}
 
 -- a file that differs in its log slots alone has the same identity
 same_identity : (l : Layout) (d c : List ℕ) → SameOutside l.log d c → HasIdentity file_version l d → HasIdentity file_version l c
@@ -35,35 +35,28 @@ opens_behind l file c b n more at lap = record {
   last = omega (arith, length-append at.groups more, at.last);
 }
 
--- the first of them, however many are asked for
-first_ones : (count : ℕ) (gs : List (List Patch)) → (k : ℕ) × (k ≤ length gs) × (take count gs ≡ take k gs) × (length (take k gs) ≡ k)
-first_ones count gs = elim (cases_lt (length gs) count) [
-  | inl lt ↦ (length gs, omega arith, take_all count gs (omega (arith, lt)) ∙ sym (take_all (length gs) gs (omega arith)), ap length (take_all (length gs) gs (omega arith)))
-  | inr le ↦ (count, le, refl, length-take-le count gs le)
-]
-
 drop_all : (gs : List (List Patch)) → drop (length gs) gs ≡ []
 drop_all [] = refl
 drop_all (g ∷ gs) = drop_all gs
 
 module _ {D : Type 0} (d : Ghosts D) where
   -- what a flush leaves at any moment
-  flush_leaves : (s : LapState D) (b : List (List ℕ)) (n : ℕ) (c : List ℕ) → (st : IsStable d s b n) → FlushedSome (d.image s.disk) s.layout st.file.groups s.pending c
+  flush_leaves : (s : LapState D) (b : List (List ℕ)) (n : ℕ) (c : List ℕ) → (st : IsStable d s b n) → FlushedSome (d.image s.disk) s.layout FIRST_HEAD st.file.groups s.pending c
       → OpensToSome (Opens (shape_of s.layout) (Some s.layout.log)) n s.pending b c
   flush_leaves s b n c st some =
       let l = s.layout in
-      let firsts = first_ones (32 * some.units) s.pending in
-      let lap : IsLap l (st.file.groups ++ take firsts.0 s.pending) c = record {
+      let first = take some.count s.pending in
+      let lap : IsLap l (st.file.groups ++ first) c = record {
         identity = same_identity l some.outside.0 c some.outside.2 (st.images some.outside.0 some.outside.1).lap.identity;
-        log = subst (λ (gs : List (List Patch)). GroupsAre l c 0 (st.file.groups ++ gs)) firsts.2 some.log;
+        log = some.log;
       } in record {
-        count = firsts.0;
-        few = firsts.1;
+        count = some.count;
+        few = some.few;
         opening = record {
           layout = l;
           shape_is = refl;
           slots_are = refl;
-          opens = subst (OpensAt l c (after_groups (n + 1) (take firsts.0 s.pending) b)) (ap (λ (k : ℕ). n + k) firsts.3) (opens_behind l (d.content s.disk) c b n (take firsts.0 s.pending) st.file lap);
+          opens = subst (OpensAt l c (after_groups (n + 1) first b)) (ap (λ (k : ℕ). n + k) (length-take-le some.count s.pending some.few)) (opens_behind l (d.content s.disk) c b n first st.file lap);
         };
       }
 
@@ -110,10 +103,10 @@ module _ {D : Type 0} (d : Ghosts D) where
   abbrev pub StoreLeaves : LapState D → LapState D → (List ℕ → Type 0) → Type 0
   StoreLeaves s new P = LeavesOnly (λ (x : LapState D). d.moment x.disk) (λ (x : LapState D) t c. d.image_since x.disk t c) s new P
 
-  pub flush_moments : (s new : LapState D) (b : List (List ℕ)) (n : ℕ) → (st : IsStable d s b n) → Leaves d s.disk new.disk (FlushedSome (d.image s.disk) s.layout st.file.groups s.pending)
+  pub flush_moments : (s new : LapState D) (b : List (List ℕ)) (n : ℕ) → (st : IsStable d s b n) → Leaves d s.disk new.disk (FlushedSome (d.image s.disk) s.layout FIRST_HEAD st.file.groups s.pending)
       → StoreLeaves s new (OpensToSome (Opens (shape_of s.layout) (Some s.layout.log)) n s.pending b)
   flush_moments s new b n st leaves =
-      let w = weaker d.moment d.image_since s.disk new.disk (FlushedSome (d.image s.disk) s.layout st.file.groups s.pending) (OpensToSome (Opens (shape_of s.layout) (Some s.layout.log)) n s.pending b)
+      let w = weaker d.moment d.image_since s.disk new.disk (FlushedSome (d.image s.disk) s.layout FIRST_HEAD st.file.groups s.pending) (OpensToSome (Opens (shape_of s.layout) (Some s.layout.log)) n s.pending b)
       (λ c some. flush_leaves s b n c st some) leaves in
       record { later = w.later; each = w.each; earlier = w.earlier }
 
@@ -130,10 +123,10 @@ module _ {D : Type 0} (d : Ghosts D) where
       subst (λ (x : D). StoreLeaves s (record new { disk = x }) P) (sym disk) (record { later = w.later; each = w.each; earlier = w.earlier })
 
   -- each image of a flush that is done has all groups
-  pub flush_images : (s : LapState D) (b : List (List ℕ)) (n : ℕ) (new : D) → (st : IsStable d s b n) → Leaves d s.disk new (FlushedSome (d.image s.disk) s.layout st.file.groups s.pending) → ((c : List ℕ) → d.moment s.disk ≤ d.moment new → d.image new c → d.image_since new (d.moment s.disk) c)
-      → GroupsAre s.layout (d.content new) 0 (st.file.groups ++ s.pending) → ((c : List ℕ) → d.image new c → SameSlots s.layout.log (d.content new) c) → (c : List ℕ) → d.image new c → IsLap s.layout (st.file.groups ++ s.pending) c
+  pub flush_images : (s : LapState D) (b : List (List ℕ)) (n : ℕ) (new : D) → (st : IsStable d s b n) → Leaves d s.disk new (FlushedSome (d.image s.disk) s.layout FIRST_HEAD st.file.groups s.pending) → ((c : List ℕ) → d.moment s.disk ≤ d.moment new → d.image new c → d.image_since new (d.moment s.disk) c)
+      → GroupsAre s.layout FIRST_HEAD (d.content new) 0 (st.file.groups ++ s.pending) → ((c : List ℕ) → d.image new c → SameSlots s.layout.log (d.content new) c) → (c : List ℕ) → d.image new c → IsLap s.layout (st.file.groups ++ s.pending) c
   flush_images s b n new st leaves counts written durable c here =
       let some = leaves.each c (counts c leaves.later here) in record {
         identity = same_identity s.layout some.outside.0 c some.outside.2 (st.images some.outside.0 some.outside.1).lap.identity;
-        log = same_group_log s.layout (d.content new) c 0 (st.file.groups ++ s.pending) (durable c here) (omega (arith, s.layout.few_slots.0)) written;
+        log = same_group_log s.layout FIRST_HEAD (d.content new) c (st.file.groups ++ s.pending) (omega (arith, s.layout.few_slots.0)) (durable c here) written;
       }

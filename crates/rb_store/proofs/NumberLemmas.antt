@@ -8,9 +8,10 @@ use Rattle.rb_base.specs.declared.shape.Shape.{Shape}
 use Rattle.rb_base.proofs.Blocks.{patch_count, patch_own, patch_others, group_count, fresh_count, fresh_at}
 use Rattle.rb_layout.specs.Regions.{shape_of}
 use Rattle.rb_layout.specs.declared.layout.Layout.{Layout}
-use Rattle.rb_log.specs.GroupLaws.{patched_number}
+use Rattle.rb_log.specs.GroupLaws.{few_groups, patched_number}
 use Rattle.rb_log.specs.GroupSlots.{GroupsAre}
 use Rattle.rb_store.specs.Laps.{OpensAt}
+use Rattle.rb_store.specs.declared.head.TheConstants.{FIRST_HEAD}
 
 -- a number that none passes is no less than the greatest
 greatest_least : (f : ℕ → ℕ) (n most : ℕ) → ((i : ℕ) → i < n → f i ≤ most) → greatest f n ≤ most
@@ -38,7 +39,7 @@ front_of blocks which = number_at (block_of blocks which) 0 8
 
 module _ (number : ℕ) (fits : number ≤ 4096) where
   own_front : (p : Patch) (blocks : List (List ℕ)) → p.block < length blocks → front_of (after_patch number p blocks) p.block ≡ number
-  own_front p blocks there = ap (λ (block : List ℕ). number_at block 0 8) (patch_own number p blocks there) ∙ patched_number number p (block_of blocks p.block) fits
+  own_front p blocks there = ap (λ (block : List ℕ). number_at block 0 8) (patch_own number p blocks there) ∙ patched_number number p (block_of blocks p.block) (omega (arith, fits))
 
   patch_front : (p : Patch) (blocks : List (List ℕ)) (which : ℕ) → which < length blocks → (front_of (after_patch number p blocks) which ≡ number) ⊎ (front_of (after_patch number p blocks) which ≡ front_of blocks which)
   patch_front p blocks which lt = elim (cases_eq which p.block) [
@@ -63,11 +64,6 @@ module _ (number : ℕ) (fits : number ≤ 4096) where
   some_front shape [] blocks count some within = absurd (omega (arith, some))
   some_front shape (p ∷ patches) blocks count some within = let there : p.block < length blocks = omega (arith, within.0, count) in (p.block, there, first_front p patches blocks there)
 
--- there are fewer groups than slots
-log_count : (l : Layout) (file : List ℕ) (slot : ℕ) (groups : List (List Patch)) → slot < l.log → GroupsAre l file slot groups → slot + length groups < l.log
-log_count l file slot [] lt log = omega (arith, lt)
-log_count l file slot (group ∷ groups) lt log = let more = log_count l file (slot + 1) groups log.0 log.2 in omega (arith, more)
-
 -- no block has a greater number in front than the last group
 fronts_below : (first : ℕ) (groups : List (List Patch)) (blocks : List (List ℕ)) (which : ℕ) → first + length groups ≤ 4097 → which < length blocks → front_of blocks which < first → front_of (after_groups first groups blocks) which < first + length groups
 fronts_below first [] blocks which few lt below = omega (arith, below)
@@ -77,16 +73,16 @@ fronts_below first (group ∷ groups) blocks which few lt below =
     let more = fronts_below (first + 1) groups (after_group first group blocks) which (omega (arith, few)) (omega (arith, lt, group_count first group blocks)) now in omega (arith, more)
 
 -- and some block has that
-last_front : (l : Layout) (file : List ℕ) (slot : ℕ) (group : List Patch) (groups : List (List Patch)) (blocks : List (List ℕ)) → slot + 1 + length groups ≤ 4096 → length blocks ≡ shape_blocks (shape_of l) → GroupsAre l file slot (group ∷ groups)
-    → (which : ℕ) × (which < length blocks) × (front_of (after_groups (slot + 1) (group ∷ groups) blocks) which ≡ slot + 1 + length groups)
-last_front l file slot group [] blocks few count log =
+last_front : (l : Layout) (file : List ℕ) (place : ℕ) (group : List Patch) (groups : List (List Patch)) (blocks : List (List ℕ)) → place + 1 + length groups ≤ 4096 → length blocks ≡ shape_blocks (shape_of l) → GroupsAre l FIRST_HEAD file place (group ∷ groups)
+    → (which : ℕ) × (which < length blocks) × (front_of (after_groups (place + 1) (group ∷ groups) blocks) which ≡ place + 1 + length groups)
+last_front l file place group [] blocks few count log =
     let body = log.1.body in
-    let some = some_front (slot + 1) (omega (arith, few)) (shape_of l) group blocks count body.spelled.some body.within in
+    let some = some_front (place + 1) (omega (arith, few)) (shape_of l) group blocks count body.spelled.some body.within in
     (some.0, some.1, some.2 ∙ omega arith)
-last_front l file slot group (next ∷ groups) blocks few count log =
-    let now = after_group (slot + 1) group blocks in
-    let same = group_count (slot + 1) group blocks in
-    let more = last_front l file (slot + 1) next groups now (omega (arith, few)) (same ∙ count) log.2 in
+last_front l file place group (next ∷ groups) blocks few count log =
+    let now = after_group (place + 1) group blocks in
+    let same = group_count (place + 1) group blocks in
+    let more = last_front l file (place + 1) next groups now (omega (arith, few)) (same ∙ count) log.2 in
     (more.0, omega (arith, more.1, same), more.2 ∙ omega arith)
 
 -- no block of a new file has a number
@@ -94,22 +90,22 @@ fresh_front : (shape : Shape) (which : ℕ) → which < shape_blocks shape → f
 fresh_front shape which lt = ap (λ (block : List ℕ). number_at block 0 8) (fresh_at shape 0 (shape_blocks shape) which lt)
 
 -- of a new file after groups of a log
-opened_number : (l : Layout) (file : List ℕ) (groups : List (List Patch)) → GroupsAre l file 0 groups → greatest (front_of (after_groups 1 groups (fresh_blocks (shape_of l)))) (shape_blocks (shape_of l)) ≡ length groups
+opened_number : (l : Layout) (file : List ℕ) (groups : List (List Patch)) → GroupsAre l FIRST_HEAD file 0 groups → greatest (front_of (after_groups 1 groups (fresh_blocks (shape_of l)))) (shape_blocks (shape_of l)) ≡ length groups
 opened_number l file groups log = by groups log
   where
     shape : Shape
     shape = shape_of l
 
-    few : (groups : List (List Patch)) → GroupsAre l file 0 groups → 1 + length groups ≤ 4096
-    few groups log = let slots = l.few_slots in let count = log_count l file 0 groups (omega (arith, slots.0)) log in omega (arith, count, slots.1)
+    few : (groups : List (List Patch)) → GroupsAre l FIRST_HEAD file 0 groups → 1 + length groups ≤ 4096
+    few groups log = let slots = l.few_slots in let count = few_groups l FIRST_HEAD file 0 groups (omega (arith, slots.0)) log in omega (arith, count, slots.1)
 
-    below : (groups : List (List Patch)) → GroupsAre l file 0 groups → (which : ℕ) → which < shape_blocks shape → front_of (after_groups 1 groups (fresh_blocks shape)) which ≤ length groups
+    below : (groups : List (List Patch)) → GroupsAre l FIRST_HEAD file 0 groups → (which : ℕ) → which < shape_blocks shape → front_of (after_groups 1 groups (fresh_blocks shape)) which ≤ length groups
     below groups log which lt =
         let most = few groups log in
         let fresh = fresh_front shape which lt in
         let low = fronts_below 1 groups (fresh_blocks shape) which (omega (arith, most)) (omega (arith, lt, fresh_count shape 0 (shape_blocks shape))) (omega (arith, fresh)) in omega (arith, low)
 
-    by : (groups : List (List Patch)) → GroupsAre l file 0 groups → greatest (front_of (after_groups 1 groups (fresh_blocks shape))) (shape_blocks shape) ≡ length groups
+    by : (groups : List (List Patch)) → GroupsAre l FIRST_HEAD file 0 groups → greatest (front_of (after_groups 1 groups (fresh_blocks shape))) (shape_blocks shape) ≡ length groups
     by [] log =
         let some = l.few_segments.0 in
         let first : 0 < shape_blocks shape = omega (arith, some) in

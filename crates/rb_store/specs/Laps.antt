@@ -7,11 +7,12 @@ use Rattle.rb_disk.specs.declared.disk.Disk.{Ghosts}
 use Rattle.rb_layout.specs.Regions.{file_version, HasIdentity, shape_of}
 use Rattle.rb_layout.specs.declared.layout.Layout.{Layout}
 use Rattle.rb_log.specs.GroupSlots.{GroupsAre}
+use Rattle.rb_store.specs.declared.head.TheConstants.{FIRST_HEAD}
 
--- the file has this layout, and its log has these groups
+-- the file has this layout, and its log has these groups, the first of them in its first slot
 pub record IsLap (l : Layout) (groups : List (List Patch)) (file : List ℕ) : Type 0 where
   pub identity : HasIdentity file_version l file
-  pub log : GroupsAre l file 0 groups
+  pub log : GroupsAre l FIRST_HEAD file 0 groups
 
 -- The blocks that a file of a layout opens to, and their last log number: those of a new file after the groups of its
 -- log.

@@ -1,15 +1,18 @@
 -- A file of groups opens to one list of blocks and one last log number, for the crates above.
 use Rattle.std.proofs.Common.{◌≡◌, inl, inr, ⊎_elim, ℕ, ◌+◌, List, [], ◌∷◌, length, arith, ap, sym}
-use Rattle.std.proofs.Common.{◌∙◌, subst}
+use Rattle.std.proofs.Common.{◌∙◌, subst, slice_index}
 use Rattle.rb_base.specs.Blocks.{AreWithin, after_groups, fresh_blocks}
 use Rattle.rb_base.specs.Groups.{Patch}
 use Rattle.rb_base.specs.declared.shape.Shape.{Shape}
 use Rattle.rb_layout.specs.OneLayout.{SameNumbers, one_layout}
 use Rattle.rb_layout.specs.Regions.{file_version, identity, file_length, shape_of}
+use Rattle.rb_layout.specs.declared.layout.Head.{Head}
 use Rattle.rb_layout.specs.declared.layout.Layout.{Layout}
-use Rattle.rb_log.specs.GroupLaws.{one_group_log}
+use Rattle.rb_log.specs.GroupLaws.{one_group_log, slot_alike}
 use Rattle.rb_log.specs.GroupSlots.{GroupsAre, HoldsGroup}
+use Rattle.rb_log.specs.Slots.{slot_at}
 use Rattle.rb_store.specs.Laps.{IsLap, OpensAt}
+use Rattle.rb_store.specs.declared.head.TheConstants.{FIRST_HEAD}
 
 same_shape : (l m : Layout) → SameNumbers l m → shape_of l ≡ shape_of m
 same_shape l m s = let t = s.tables in let b = s.blocks in let g = s.segments in cc
@@ -29,15 +32,19 @@ group_moves l m unit lsn group same h = record {
   };
 }
 
-log_moves : (l m : Layout) (file : List ℕ) (slot : ℕ) (groups : List (List Patch)) → shape_of l ≡ shape_of m
-    → l.log ≡ m.log → GroupsAre l file slot groups → GroupsAre m file slot groups
-log_moves l m file slot [] same slots log = ⊎_elim (λ last. inl (last ∙ slots)) (λ shut. inr shut) log
-log_moves l m file slot (g ∷ groups) same slots log =
+log_moves : (l m : Layout) (head : Head) (file : List ℕ) (place : ℕ) (groups : List (List Patch))
+    → shape_of l ≡ shape_of m → l.log ≡ m.log → GroupsAre l head file place groups
+    → GroupsAre m head file place groups
+log_moves l m head file place [] same slots log = ⊎_elim (λ last. inl (last ∙ slots))
+    (λ shut. inr (λ is. shut
+    (ap (λ (s : ℕ). slice_index (slot_at file s) 0) (slot_alike l m head place slots) ∙ is))) log
+log_moves l m head file place (g ∷ groups) same slots log =
     let lt = log.0 in (
       omega (arith, lt, slots),
-      group_moves l m _ (slot + 1) g same log.1,
-      log_moves l m file (slot + 1) groups same
-          slots log.2,
+      group_moves l m _ (head.number + place) g same
+          (subst (λ (s : ℕ). HoldsGroup l (slot_at file s) (head.number + place) g)
+          (slot_alike l m head place slots) log.1),
+      log_moves l m head file (place + 1) groups same slots log.2,
     )
 
 lap_moves : (l m : Layout) (groups : List (List Patch)) (file : List ℕ) → SameNumbers l m → IsLap l groups file
@@ -48,7 +55,7 @@ lap_moves l m groups file same lap =
     let lengths : file_length l ≡ file_length m = cc in
     record {
       identity = record { front = lap.identity.front ∙ ids; whole = lap.identity.whole ∙ lengths };
-      log = log_moves l m file 0 groups (same_shape l m same) same.log lap.log;
+      log = log_moves l m FIRST_HEAD file 0 groups (same_shape l m same) same.log lap.log;
     }
 
 -- a file opens as well by a layout of the same numbers
@@ -73,7 +80,7 @@ pub one_opening : (l m : Layout) (file : List ℕ) (first second : List (List �
 one_opening l m file first second n k one two =
     let same = one_layout file_version l m file one.lap.identity two.lap.identity in
     let moved = (lap_moves l m one.groups file same one.lap).log in
-    let groups = one_group_log m file 0 one.groups two.groups moved two.lap.log in record {
+    let groups = one_group_log m FIRST_HEAD file 0 one.groups two.groups moved two.lap.log in record {
       numbers = same;
       shape = same_shape l m same;
       blocks = one.made ∙ ap (λ (s : Shape). after_groups 1 one.groups (fresh_blocks s)) (same_shape l m same)

@@ -5,7 +5,9 @@ use Rattle.rb_base.specs.Groups.{Patch}
 use Rattle.rb_layout.specs.Regions.{shape_of}
 use Rattle.rb_layout.specs.declared.layout.Layout.{Layout}
 use Rattle.rb_log.specs.GroupSlots.{LogState, AreFrom, GroupsAre, BeginsWithGroups}
+use Rattle.rb_log.specs.Slots.{slot_of}
 use Rattle.rb_plainstore.specs.Plain.{PlainState}
+use Rattle.rb_store.specs.declared.head.TheConstants.{FIRST_HEAD}
 
 -- The log is scanned up to some slot. The blocks are those after the groups so far, with which the file begins, where
 -- it is told.
@@ -14,6 +16,7 @@ pub record HasScanned (told : Type 0) (l : Layout) (file : List ℕ) (plain : Pl
   pub groups : List (List Patch)
   pub log_is : log ≡ record {
     layout = l;
+    head = FIRST_HEAD;
     used = length groups;
     pending = [];
     scanned = false;
@@ -23,16 +26,23 @@ pub record HasScanned (told : Type 0) (l : Layout) (file : List ℕ) (plain : Pl
   pub lsn : plain.lsn ≡ length groups
   pub blocks : plain.blocks ≡ after_groups 1 groups (fresh_blocks (shape_of l))
   pub few : length groups < l.log
-  pub begins : told → BeginsWithGroups l file 0 groups
-  pub ahead : told → AreFrom file log.used log.ahead
+  pub begins : told → BeginsWithGroups l FIRST_HEAD file 0 groups
+  pub ahead : told → AreFrom file (slot_of log.layout log.head log.used) log.ahead
 
 -- The log is scanned to its end: the file has these groups and no more.
 pub record HasScannedAll (told : Type 0) (l : Layout) (file : List ℕ) (plain : PlainState)
     (log : LogState) : Type 0 where
   pub groups : List (List Patch)
-  pub log_is : log ≡ record { layout = l; used = length groups; pending = []; scanned = true; ahead = [] }
+  pub log_is : log ≡ record {
+    layout = l;
+    head = FIRST_HEAD;
+    used = length groups;
+    pending = [];
+    scanned = true;
+    ahead = [];
+  }
   pub shape_is : plain.shape ≡ shape_of l
   pub lsn : plain.lsn ≡ length groups
   pub blocks : plain.blocks ≡ after_groups 1 groups (fresh_blocks (shape_of l))
   pub few : length groups < l.log
-  pub ends : told → GroupsAre l file 0 groups
+  pub ends : told → GroupsAre l FIRST_HEAD file 0 groups

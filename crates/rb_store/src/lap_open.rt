@@ -11,10 +11,11 @@ ghost use Rattle.rb_log.specs.GroupSlots.{GroupsAre};
 ghost use Rattle.rb_store.specs.Laps.{LapState, OpensAt, IsStable};
 ghost use Rattle.rb_store.specs.Scanned.{HasScanned, HasScannedAll};
 
+use crate::head::FIRST_HEAD;
 use crate::lap::LapStore;
 use rb_base::{OpenFault, Store};
 use rb_disk::Disk;
-use rb_layout::{Head, Layout, VERSION};
+use rb_layout::{Layout, VERSION};
 use rb_log::Log;
 use rb_plainstore::PlainStore;
 use std::alloc::Global;
@@ -34,8 +35,7 @@ fn fresh_scan<D: Disk>(alloc: Global, disk: &mut D, layout: Layout) -> Result<Sc
     ensures memory { IfErr result (λ fault. fault ≡ OpenFault.NoMemory) }
     ensures untouched { disk.new ≡ disk.old }
 {
-    let head = Head { slot: 0, number: 1 };
-    let log = Log::open(alloc, disk, &layout, head)?;
+    let log = Log::open(alloc, disk, &layout, FIRST_HEAD)?;
     let Ok(plain) = PlainStore::new(alloc, layout.shape()) else {
         return Err(OpenFault::NoMemory);
     };
@@ -53,12 +53,12 @@ fn scan_one<D: Disk>(scan: &mut Scan, disk: &mut D) -> Result<bool, OpenFault>
     ensures end { result ≡ Ok false → HasScannedAll D.tells scan.old.layout (D.content disk.old) scan.new.plain
         scan.new.log }
     ensures none { D.tells → IsErrOf result OpenFault.NotAStore → (groups : List (List Patch))
-        → ¬ GroupsAre scan.old.layout (D.content disk.old) 0 groups }
+        → ¬ GroupsAre scan.old.layout FIRST_HEAD (D.content disk.old) 0 groups }
     ensures no_memory { ¬ IsErrOf result OpenFault.NoMemory }
     ensures counted { IsCountedAs (D.faults disk.old) (D.faults disk.new) (err_is is_failed result) }
     ensures same { D.tells → Rests D.Disk disk.old disk.new }
 {
-    let next = u64::from(scan.log.used()) + 1;
+    let next = FIRST_HEAD.number + u64::from(scan.log.used());
     let Some(group) = scan.log.scan(disk, next)? else {
         return Ok(false);
     };
@@ -76,7 +76,7 @@ fn scan_all<D: Disk>(scan: &mut Scan, disk: &mut D) -> Result<(), OpenFault>
     ensures found { OnOk result (HasScannedAll D.tells scan.old.layout (D.content disk.old) scan.new.plain
         scan.new.log) }
     ensures none { D.tells → IsErrOf result OpenFault.NotAStore → (groups : List (List Patch))
-        → ¬ GroupsAre scan.old.layout (D.content disk.old) 0 groups }
+        → ¬ GroupsAre scan.old.layout FIRST_HEAD (D.content disk.old) 0 groups }
     ensures no_memory { ¬ IsErrOf result OpenFault.NoMemory }
     ensures counted { IsCountedAs (D.faults disk.old) (D.faults disk.new) (err_is is_failed result) }
     ensures same { D.tells → Rests D.Disk disk.old disk.new }

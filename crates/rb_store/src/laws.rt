@@ -1,10 +1,18 @@
-//! What a file of groups opens to, as clauses for proofs to cite. Nothing calls them.
+//! Where the log of a file begins and what the file opens to, as clauses for proofs to cite. Nothing calls them.
 ghost use Rattle.std.specs.Prelude.{◌≡◌, ℕ, List};
 ghost use Rattle.rb_base.specs.Blocks.{block_of, fresh_blocks, greatest, shape_blocks};
 ghost use Rattle.rb_base.specs.Fields.{number_at};
 ghost use Rattle.rb_layout.specs.declared.layout.Layout.{Layout};
 ghost use Rattle.rb_layout.specs.Regions.{file_version, fresh_file, shape_of};
 ghost use Rattle.rb_store.specs.Laps.{OpensAt};
+
+use crate::head::FIRST_HEAD;
+
+/// The log of a file begins in its first slot, with number 1.
+pub fn first_head()
+    ensures slot { FIRST_HEAD.slot ≡ 0 }
+    ensures number { FIRST_HEAD.number ≡ 1 }
+{}
 
 /// A new file of groups opens to the blocks of a new file, and has no log number yet.
 pub fn fresh_lap()

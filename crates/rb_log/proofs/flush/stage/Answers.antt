@@ -1,66 +1,91 @@
-use Rattle.std.proofs.Common.{◌+◌, ◌-◌, ◌*◌, ◌∙◌, ℕ, List, take, drop, slice_index, refl, sym, ap, arith, subst}
+use Rattle.std.proofs.Common.{◌≡◌, ◌+◌, ◌-◌, ◌∙◌, ⊎_elim, inl, min, ℕ, List, length, take, drop, true, refl, ap, sym, arith, subst}
 use Rattle.std.proofs.lemmas.Result.{on_ok_weaker}
-use Rattle.rb_log.specs.GroupSlots.{AreStaged}
-use Rattle.rb_log.specs.Slots.{slot_at}
-use Rattle.rb_log.proofs.GroupRuns.{NextRun, none_staged, more_moment, more_staged, all_staged, all_closed}
-use Rattle.rb_log.proofs.Writes.{gate_at}
+use Rattle.rb_base.specs.Moments.{goes_on}
+use Rattle.rb_log.specs.GroupSlots.{AreStaged, StagedFrom, begins_run}
+use Rattle.rb_log.specs.Slots.{slot_of, gate_of}
+use Rattle.rb_log.proofs.GroupFlush.{first_run}
+use Rattle.rb_log.proofs.GroupRuns.{none_staged, more_moment, more_staged, all_staged, all_closed, RunsStaged}
+use Rattle.rb_log.proofs.Runs.{Run, run_here}
 use Rattle.rb_log.proofs.flush.stage.Given.{Over}
-use Rattle.rb_log.proofs.flush.stage.Goals.{After-write_run}
+use Rattle.rb_log.proofs.flush.stage.Goals.{After-run_length-count}
 use Rattle.rb_log.proofs.flush.stage.Goals as goal
 
 pub loop-done-init : goal.loop-done-init
 loop-done-init g c = record {
-  runs = (0, omega arith);
-  so_far = λ told. none_staged g.D.Disk c.args.layout.now c.args.used c.args.groups.now c.args.disk.now (λ f left. g.met.D.Disk.only_now c.args.disk.now f told left) (c.requires.whole told);
+  within = omega arith;
+  begins = inl (first_run (c.args.layout.now.log - slot_of c.args.layout.now c.args.head c.args.used));
+  so_far = λ slot room told. none_staged c.args.layout.now c.args.head slot c.args.used c.args.groups.now room g.D.Disk c.args.disk.now (λ f left. g.met.D.Disk.only_now c.args.disk.now f told left) (c.requires.whole told);
   still = refl;
 }
 
--- the run that is written
-next : (g : Over) (c : After-write_run g) → NextRun c.args.groups.now (take (c.min-end.result - c.loop-done.done) (drop c.loop-done.done c.args.groups.now)) c.loop-done.done c.min-end.result c.loop-done.invariant.runs.0
-next g c = record {
-  behind = c.loop-done-test.true;
-  whole = c.loop-done.invariant.runs.1;
-  stop = omega (arith, c.min-end.ensures);
-  run_is = refl;
-}
+-- where the next run begins, and how long it is
+begins : (g : Over) (c : After-run_length-count g) → begins_run (c.args.layout.now.log - slot_of c.args.layout.now c.args.head c.args.used) c.loop-done.done ≡ true
+begins g c = ⊎_elim (λ is. is) (λ all. absurd (omega (arith, all, c.loop-done-test.true))) c.loop-done.invariant.begins
+
+next : (g : Over) (c : After-run_length-count g) → Run (c.args.layout.now.log - slot_of c.args.layout.now c.args.head c.args.used) c.loop-done.done c.run_length-count.result (length c.args.groups.now)
+next g c =
+    run_here c.args.layout.now c.args.head c.args.used c.loop-done.done (length c.args.groups.now) c.requires.slot c.requires.room c.loop-done-test.true c.run_length-count.result (begins g c)
+    (c.run_length-count.ensures ∙ ap (λ (s : ℕ). min (min (length c.args.groups.now - c.loop-done.done) 32) (c.args.layout.now.log - s)) c.slot_behind-slot.ensures.slot)
+
+pub write_run-requires-clause-whole : goal.write_run-requires-clause-whole
+write_run-requires-clause-whole g c told = (c.loop-done.invariant.so_far c.requires.slot c.requires.room told).whole
+
+pub write_run-requires-clause-sized : goal.write_run-requires-clause-sized
+write_run-requires-clause-sized g c told k left =
+    let from = (c.loop-done.invariant.so_far c.requires.slot c.requires.room told).images k left in
+    from.2.outside.long ∙ c.requires.sized told from.0 from.1
+
+run_is : (g : Over) (c : After-run_length-count g) (end : ℕ) → end ≡ c.loop-done.done + c.run_length-count.result → take (end - c.loop-done.done) (drop c.loop-done.done c.args.groups.now) ≡ take c.run_length-count.result (drop c.loop-done.done c.args.groups.now)
+run_is g c end is = ap (λ (n : ℕ). take n (drop c.loop-done.done c.args.groups.now)) (omega (arith, is))
 
 pub returns-in_err-write_run-clause-any_moment : goal.returns-in_err-write_run-clause-any_moment
 returns-in_err-write_run-clause-any_moment g c told =
-    let here = next g (goal.at.returns-in_err-write_run-clause-any_moment g c).After-write_run in
-    more_moment g.D.Disk c.args.layout.now c.args.used c.args.groups.now _ c.loop-done.done c.min-end.result c.loop-done.invariant.runs.0 here c.args.disk.now c.loop-done.disk c.write_run.new.disk
-    (c.loop-done.invariant.so_far told) (c.write_run.ensures.images told) (c.write_run.ensures.time told)
+    let here = (goal.at.returns-in_err-write_run-clause-any_moment g c).After-run_length-count in
+    let r = c.requires in
+    more_moment c.args.layout.now c.args.head r.slot c.args.used c.args.groups.now r.room g.D.Disk _ c.loop-done.done c.run_length-count.result (next g here) (begins g here) (run_is g here _ refl) c.args.disk.now c.loop-done.disk c.write_run.new.disk
+    (c.loop-done.invariant.so_far r.slot r.room told) (c.write_run.ensures.any_moment told)
 
 pub loop-done-preserved : goal.loop-done-preserved
 loop-done-preserved g c =
-    let here = next g (goal.at.loop-done-preserved g c).After-write_run in
+    let here = (goal.at.loop-done-preserved g c).After-run_length-count in
+    let run = next g here in
     let did = c.in_ok-write_run.ensures in record {
-      runs = (c.loop-done.invariant.runs.0 + 1, omega (arith, c.loop-done.invariant.runs.1));
-      so_far = λ told.
-          more_staged g.D.Disk c.args.layout.now c.args.used c.args.groups.now _ c.loop-done.done c.min-end.result c.loop-done.invariant.runs.0 here c.args.disk.now c.loop-done.disk c.write_run.new.disk
-          (c.loop-done.invariant.so_far told) (did.images told) (did.time told) (did.written told) (did.others told) (did.whole told);
+      within = run.within;
+      begins = run.next;
+      so_far = λ slot room told.
+          more_staged c.args.layout.now c.args.head slot c.args.used c.args.groups.now room g.D.Disk _ c.loop-done.done c.run_length-count.result run (begins g here) (run_is g here _ refl) c.args.disk.now c.loop-done.disk c.write_run.new.disk
+          (c.loop-done.invariant.so_far slot room told) (did.written told) (did.any_moment told) (did.images told) (did.whole told);
       still = did.counted.still ∙ c.loop-done.invariant.still;
     }
+
+-- all runs are written
+all_in : (g : Over) (c : goal.After-sync g) → g.D.Disk.tells → RunsStaged c.args.layout.now c.args.head c.args.used c.args.groups.now (length c.args.groups.now) (g.D.Disk.content c.args.disk.now) (g.D.Disk.content c.loop-done.disk)
+all_in g c told =
+    subst (λ (n : ℕ). RunsStaged c.args.layout.now c.args.head c.args.used c.args.groups.now n (g.D.Disk.content c.args.disk.now) (g.D.Disk.content c.loop-done.disk)) (omega (arith, c.loop-done.invariant.within, c.loop-done-test.false)) (c.loop-done.invariant.so_far c.requires.slot c.requires.room told).file
 
 pub returns-clause-staged : goal.returns-clause-staged
 returns-clause-staged g c told =
     let r = c.requires in
-    let inv = c.loop-done.invariant in
-    let was = inv.so_far told in
     let file = g.D.Disk.content c.args.disk.now in
-    let groups = c.args.groups.now in
     on_ok_weaker c.sync.result (λ only.
-    subst (λ (now : List ℕ). AreStaged c.args.used groups file now) (sym (c.sync.ensures.content told))
-    (all_staged c.args.layout.now c.args.used groups inv.runs.0 file (g.D.Disk.content c.loop-done.disk) (omega (arith, inv.runs.1, c.loop-done-test.false)) r.some r.each was.file))
+    subst (λ (now : List ℕ). AreStaged c.args.layout.now c.args.head c.args.used c.args.groups.now file now) (sym (c.sync.ensures.content told))
+    (all_staged c.args.layout.now c.args.head r.slot c.args.used c.args.groups.now r.room file (g.D.Disk.content c.loop-done.disk) r.some (all_in g c told)))
     (c.sync.ensures.durable told)
 
 pub returns-clause-closed : goal.returns-clause-closed
 returns-clause-closed g c told =
     let r = c.requires in
-    let inv = c.loop-done.invariant in
-    let was = inv.so_far told in
     let file = g.D.Disk.content c.args.disk.now in
-    let groups = c.args.groups.now in
-    on_ok_weaker c.sync.result (λ only j more lt.
-    ap (λ (now : List ℕ). slice_index (slot_at now (c.args.used + 32 * j)) 0) (c.sync.ensures.content told) ∙ gate_at (g.D.Disk.content c.loop-done.disk) (c.args.used + 32 * j)
-    ∙ all_closed c.args.layout.now c.args.used groups inv.runs.0 file (g.D.Disk.content c.loop-done.disk) (omega (arith, inv.runs.1, c.loop-done-test.false)) r.some r.each was.file j more lt)
+    on_ok_weaker c.sync.result (λ only k more lt first.
+    ap (λ (now : List ℕ). gate_of c.args.layout.now c.args.head now (c.args.used + k)) (c.sync.ensures.content told)
+    ∙ all_closed c.args.layout.now c.args.head r.slot c.args.used c.args.groups.now r.room file (g.D.Disk.content c.loop-done.disk) (all_in g c told) k more lt first)
     (c.sync.ensures.durable told)
+
+pub returns-clause-whole : goal.returns-clause-whole
+returns-clause-whole g c told = ap length (c.sync.ensures.content told) ∙ (c.loop-done.invariant.so_far c.requires.slot c.requires.room told).whole
+
+pub returns-clause-any_moment : goal.returns-clause-any_moment
+returns-clause-any_moment g c told =
+    let so_far = c.loop-done.invariant.so_far c.requires.slot c.requires.room told in
+    goes_on g.D.Disk.moment g.D.Disk.image_since c.args.disk.now c.loop-done.disk c.sync.new.self (StagedFrom c.args.layout.now c.args.head c.args.used (length c.args.groups.now) (g.D.Disk.image c.args.disk.now)) _ so_far.any_moment (c.sync.ensures.time told)
+    (λ d left. so_far.images d (c.sync.ensures.images told d left))

@@ -1,11 +1,14 @@
-use Rattle.std.proofs.Common.{◌≡◌, ◌-◌, ◌*◌, ℕ, length}
+use Rattle.std.proofs.Common.{◌≡◌, ◌⊎◌, ◌≤◌, ◌<◌, ◌+◌, ◌-◌, true, length}
+use Rattle.rb_log.specs.GroupSlots.{begins_run}
+use Rattle.rb_log.specs.Slots.{slot_of}
 use Rattle.rb_log.proofs.GroupRuns.{StagedSome}
 use Rattle.rb_log.proofs.flush.stage.Given as goal
 
 abbrev pub invariant-loop-done : goal.invariant-loop-done
 invariant-loop-done g l = record {
-  runs : (i : ℕ) × (l.done ≡ 32 * i);
-  so_far : g.D.Disk.tells → StagedSome g.D.Disk l.layout l.used l.groups runs.0 l.fn.disk l.disk;
+  within : l.done ≤ length l.groups;
+  begins : (begins_run (l.layout.log - slot_of l.layout l.head l.used) l.done ≡ true) ⊎ (l.done ≡ length l.groups);
+  so_far : (slot : l.head.slot < l.layout.log) → (room : l.used + length l.groups < l.layout.log) → g.D.Disk.tells → StagedSome l.layout l.head slot l.used l.groups room g.D.Disk l.done l.fn.disk l.disk;
   still : g.D.Disk.faults l.disk ≡ g.D.Disk.faults l.fn.disk;
 }
 

@@ -1,11 +1,10 @@
-use Rattle.std.proofs.Common.{Result, Ok, Err, ◌+◌, ◌∙◌, length, arith}
+use Rattle.std.proofs.Common.{ℕ, List, Result, Ok, Err, OnOk, length, sym, arith, refl, subst}
 use Rattle.std.proofs.lemmas.Bool.Decides.{nat_tests}
 use Rattle.std.proofs.lemmas.Result.{on_ok_weaker}
-use Rattle.std.specs.Result.{OnOk}
 use Rattle.rb_base.specs.Moments.{begun, weaker, joined}
 use Rattle.rb_log.specs.GroupSlots.{AreStaged, AreOpen}
-use Rattle.rb_log.proofs.GroupFlush.{FlushPlan, nothing_flushed, flushed_outside, flushed_units, flushed_log, one_interrupted, two_interrupted}
-use Rattle.rb_log.proofs.Writes.{gate_at}
+use Rattle.rb_log.specs.Slots.{SameSlots}
+use Rattle.rb_log.proofs.GroupFlush.{FlushPlan, nothing_flushed, flushed_units, flushed_log, one_interrupted, two_interrupted}
 use Rattle.rb_log.proofs.flush.write_groups.Given.{Over}
 use Rattle.rb_log.proofs.flush.write_groups.Goals.{After-stage}
 use Rattle.rb_log.proofs.flush.write_groups.Goals as goal
@@ -14,12 +13,14 @@ pub returns-then-is_empty-clause-any_moment : goal.returns-then-is_empty-clause-
 returns-then-is_empty-clause-any_moment g c told before counts log =
     let disk = c.args.disk.now in
     begun g.D.Disk.moment g.D.Disk.image_since disk _
-    (λ d left. nothing_flushed c.args.layout.now (g.D.Disk.content disk) (g.D.Disk.image disk) before c.args.groups.now (c.requires.synced told) log d (g.met.D.Disk.only_now disk d told left))
+    (λ d left. nothing_flushed c.args.layout.now c.args.head (g.D.Disk.content disk) (g.D.Disk.image disk) before c.args.groups.now c.requires.slot (c.requires.synced told) log d (g.met.D.Disk.only_now disk d told left))
 
 -- what is written where
-planned : (g : Over) (c : After-stage g) → g.D.Disk.tells → FlushPlan c.args.layout.now c.args.used c.args.groups.now (g.D.Disk.content c.args.disk.now)
+planned : (g : Over) (c : After-stage g) → g.D.Disk.tells → FlushPlan c.args.layout.now c.args.head c.args.used c.args.groups.now (g.D.Disk.content c.args.disk.now)
 planned g c told = record {
+  slot = c.requires.slot;
   room = c.requires.room;
+  small = c.requires.small;
   some = grind (arith, nat_tests, c.is_empty.ensures, c.if-is_empty.false);
   each = c.requires.each;
   whole = c.requires.whole told;
@@ -29,7 +30,7 @@ pub returns-in_err-stage-clause-any_moment : goal.returns-in_err-stage-clause-an
 returns-in_err-stage-clause-any_moment g c told before counts log =
     let disk = c.args.disk.now in
     let plan = planned g (goal.at.returns-in_err-stage-clause-any_moment g c).After-stage told in
-    let one = one_interrupted _ _ _ _ plan before counts log (g.D.Disk.image disk) (c.requires.synced told) in
+    let one = one_interrupted _ _ _ _ _ plan before counts log (g.D.Disk.image disk) (c.requires.synced told) in
     weaker g.D.Disk.moment g.D.Disk.image_since disk c.stage.new.disk _ _ one (c.stage.ensures.any_moment told)
 
 -- step two opens each first gate or doesn't
@@ -41,8 +42,8 @@ returns-clause-any_moment g c told before counts log =
     let image = g.D.Disk.image disk in
     let file = g.D.Disk.content disk in
     let plan = planned g (goal.at.returns-clause-any_moment g c).After-stage told in
-    let one = one_interrupted _ _ _ _ plan before counts log image (c.requires.synced told) in
-    let two = two_interrupted _ _ _ _ plan before counts log image (g.met.D.Disk.reads_an_image disk told) in
+    let one = one_interrupted _ _ _ _ _ plan before counts log image (c.requires.synced told) in
+    let two = two_interrupted _ _ _ _ _ plan before counts log image (g.met.D.Disk.reads_an_image disk told) in
     let first = weaker g.D.Disk.moment g.D.Disk.image_since disk mid _ _ one (c.stage.ensures.any_moment told) in
     let second = weaker g.D.Disk.moment g.D.Disk.image_since mid new _ _ two (c.open_gates.ensures.any_moment told file (c.in_ok-stage.ensures.staged told)) in
     joined g.D.Disk.moment g.D.Disk.image_since disk mid new _ first second
@@ -53,25 +54,32 @@ on_ok_both (Err e) both p q = tt
 
 -- after both all gates are open
 ended : (g : Over) (c : goal.After-open_gates g) → g.D.Disk.tells
-    → OnOk c.open_gates.result (AreStaged c.args.used c.args.groups.now (g.D.Disk.content c.args.disk.now) (g.D.Disk.content c.open_gates.new.disk) × AreOpen c.args.used (length c.args.groups.now) (g.D.Disk.content c.open_gates.new.disk))
+    → OnOk c.open_gates.result (AreStaged c.args.layout.now c.args.head c.args.used c.args.groups.now (g.D.Disk.content c.args.disk.now) (g.D.Disk.content c.open_gates.new.disk) × AreOpen c.args.layout.now c.args.head c.args.used (length c.args.groups.now) (g.D.Disk.content c.open_gates.new.disk))
 ended g c told = on_ok_both c.open_gates.result (λ staged opened. (staged (g.D.Disk.content c.args.disk.now) (c.in_ok-stage.ensures.staged told), opened)) (c.open_gates.ensures.staged told) (c.open_gates.ensures.opened told)
 
 pub returns-clause-written : goal.returns-clause-written
 returns-clause-written g c told =
     let plan = planned g (goal.at.returns-clause-written g c).After-stage told in
-    on_ok_weaker c.open_gates.result (λ now before counts log. flushed_log _ _ _ _ plan before counts log (g.D.Disk.content c.open_gates.new.disk) now.0 now.1) (ended g c told)
+    on_ok_weaker c.open_gates.result (λ now before counts log. flushed_log _ _ _ _ _ plan before counts log (g.D.Disk.content c.open_gates.new.disk) now.0 now.1) (ended g c told)
 
 pub returns-clause-units : goal.returns-clause-units
 returns-clause-units g c told =
     let plan = planned g (goal.at.returns-clause-units g c).After-stage told in
-    on_ok_weaker c.open_gates.result (λ now. flushed_units _ _ _ _ plan (g.D.Disk.content c.open_gates.new.disk) now.0 now.1) (ended g c told)
+    on_ok_weaker c.open_gates.result (λ now. flushed_units _ _ _ _ _ plan (g.D.Disk.content c.open_gates.new.disk) now.0 now.1) (ended g c told)
 
 pub returns-clause-closed : goal.returns-clause-closed
-returns-clause-closed g c told =
-    let new = g.D.Disk.content c.open_gates.new.disk in
-    on_ok_weaker c.open_gates.result (λ now some. gate_at new (c.args.used + length c.args.groups.now) ∙ now.0.after) (ended g c told)
+returns-clause-closed g c told = on_ok_weaker c.open_gates.result (λ now some. now.0.after) (ended g c told)
+
+pub returns-clause-others : goal.returns-clause-others
+returns-clause-others g c told = on_ok_weaker c.open_gates.result (λ now some. now.0.others) (ended g c told)
 
 pub returns-clause-outside : goal.returns-clause-outside
-returns-clause-outside g c told =
-    let plan = planned g (goal.at.returns-clause-outside g c).After-stage told in
-    on_ok_weaker c.open_gates.result (λ now. flushed_outside _ _ _ _ plan (g.D.Disk.content c.open_gates.new.disk) now.0) (ended g c told)
+returns-clause-outside g c told = on_ok_weaker c.open_gates.result (λ now. now.0.others.outside) (ended g c told)
+
+pub returns-clause-durable : goal.returns-clause-durable
+returns-clause-durable g c told =
+    let new = g.D.Disk.content c.open_gates.new.disk in
+    on_ok_weaker c.open_gates.result (λ only k left. subst (λ (h : List ℕ). SameSlots c.args.layout.now.log new h) (sym (only k left)) (record { long = refl; same = refl })) (c.open_gates.ensures.durable told)
+
+pub returns-clause-only : goal.returns-clause-only
+returns-clause-only g c told = on_ok_weaker c.open_gates.result (λ only before. only) (c.open_gates.ensures.durable told)

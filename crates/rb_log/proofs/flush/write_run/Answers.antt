@@ -1,22 +1,137 @@
-use Rattle.std.proofs.Common.{◌≡◌, ◌*◌, ◌+◌, ◌≤◌, length, take, ℕ, refl, arith, ap, sym, ◌∙◌}
+use Rattle.std.proofs.Common.{◌≡◌, ◌<◌, ◌≤◌, ◌+◌, ◌-◌, ◌*◌, ◌∙◌, List, [], ◌∷◌, ℕ, length, take, ap, sym, arith, refl, subst, Result, Ok, Err, OnOk, OnErr}
 use Rattle.std.proofs.lemmas.List.{length-take-le}
 use Rattle.std.proofs.lemmas.Result.{on_ok_weaker}
 use Rattle.rb_base.specs.Fields.{overwritten}
-use Rattle.rb_layout.specs.Regions.{log_offset}
-use Rattle.rb_log.proofs.GroupRuns.{run_written}
+use Rattle.rb_base.specs.Moments.{LeavesOnly, Passes}
+use Rattle.rb_base.proofs.Overwriting.{length-overwritten}
+use Rattle.rb_disk.specs.DiskModel.{Torn, Follows}
+use Rattle.rb_disk.specs.Writes.{none_is_torn}
+use Rattle.rb_layout.specs.Regions.{log_offset, file_length}
+use Rattle.rb_log.specs.GroupSlots.{StagedFrom}
+use Rattle.rb_log.specs.Slots.{slot_of}
+use Rattle.rb_log.proofs.GroupUnits.{AreSideBySide}
+use Rattle.rb_log.proofs.RunWrites.{line_written, round_written, line_images, round_images, start, one_write}
+use Rattle.rb_log.proofs.flush.write_run.Given.{Over}
+use Rattle.rb_log.proofs.flush.write_run.Goals.{After-log_at-at}
 use Rattle.rb_log.proofs.flush.write_run.Goals as goal
 
+-- where the run is written, and what
+at : (g : Over) (c : After-log_at-at g) → c.log_at-at.result + 1 ≡ log_offset (slot_of c.args.layout.now c.args.head c.args.place) + 1
+at g c = ap (λ (n : ℕ). n + 1) (c.log_at-at.ensures ∙ ap log_offset c.slot_behind-slot.ensures.slot)
+
+filled : (g : Over) (c : After-log_at-at g) → AreSideBySide (c.args.head.number + c.args.place) c.args.groups.now c.fill_run.new.buffer (length c.args.groups.now)
+filled g c k d lt = rw (sym c.from.ensures) (c.fill_run.ensures k d lt)
+
+line : (g : Over) (c : After-log_at-at g) → c.slot_behind-slot.result + length c.args.groups.now < c.args.layout.now.log → slot_of c.args.layout.now c.args.head c.args.place + length c.args.groups.now < c.args.layout.now.log
+line g c lt = omega (arith, lt, c.slot_behind-slot.ensures.slot)
+
+full : (g : Over) (c : After-log_at-at g) → c.args.layout.now.log ≤ c.slot_behind-slot.result + length c.args.groups.now → slot_of c.args.layout.now c.args.head c.args.place + length c.args.groups.now ≡ c.args.layout.now.log
+full g c ge = omega (arith, ge, c.requires.line, c.slot_behind-slot.ensures.slot)
+
+cut : (g : Over) (c : After-log_at-at g) (n : ℕ) → n ≤ 2048 * length c.args.groups.now → length (take n c.fill_run.new.buffer) ≡ n
+cut g c n le = length-take-le n c.fill_run.new.buffer (omega (arith, c.fill_run.auto.buffer, c.requires.buffer, c.requires.few, le))
+
+pub returns-then-slot-groups-clause-written : goal.returns-then-slot-groups-clause-written
+returns-then-slot-groups-clause-written g c told =
+    let r = c.requires in
+    let here = (goal.at.returns-then-slot-groups-clause-written g c).After-log_at-at in
+    let n = length c.args.groups.now in
+    let file = g.D.Disk.content c.args.disk.now in
+    let buffer = c.fill_run.new.buffer in
+    let bytes = take (2048 * n) buffer in
+    on_ok_weaker c.write_at.result
+    (λ is. line_written c.args.layout.now c.args.head r.slot c.args.place c.args.groups.now r.room r.line r.some file (g.D.Disk.content c.write_at.new.self) buffer bytes (line g here (omega (arith, c.if-slot-groups.true))) (r.whole told) r.each (filled g here) refl
+    (cut g here (2048 * n) (omega arith)) (is ∙ ap (λ (i : ℕ). overwritten file i bytes) (at g here)))
+    (c.write_at.ensures.written told)
+
+pub returns-then-slot-groups-clause-images : goal.returns-then-slot-groups-clause-images
+returns-then-slot-groups-clause-images g c told =
+    let r = c.requires in
+    let here = (goal.at.returns-then-slot-groups-clause-images g c).After-log_at-at in
+    let n = length c.args.groups.now in
+    line_images c.args.layout.now c.args.head r.slot c.args.place c.args.groups.now r.room r.line r.some g.D.Disk c.args.disk.now c.write_at.new.self _ _ (at g here) (cut g here (2048 * n) (omega arith)) (line g here (omega (arith, c.if-slot-groups.true))) (r.sized told) (c.write_at.ensures.images told)
+
+pub returns-then-slot-groups-clause-any_moment : goal.returns-then-slot-groups-clause-any_moment
+returns-then-slot-groups-clause-any_moment g c told =
+    let r = c.requires in
+    let here = (goal.at.returns-then-slot-groups-clause-any_moment g c).After-log_at-at in
+    let n = length c.args.groups.now in
+    let disk = c.args.disk.now in
+    let first = start c.args.layout.now c.args.head r.slot c.args.place c.args.groups.now r.room r.line r.some g.D.Disk disk (λ f left. g.met.D.Disk.only_now disk f told left) in
+    one_write c.args.layout.now c.args.head r.slot c.args.place c.args.groups.now r.room r.line r.some g.D.Disk disk disk c.write_at.new.self first (c.write_at.ensures.time told)
+    (line_images c.args.layout.now c.args.head r.slot c.args.place c.args.groups.now r.room r.line r.some g.D.Disk disk c.write_at.new.self _ _ (at g here) (cut g here (2048 * n) (omega arith)) (line g here (omega (arith, c.if-slot-groups.true))) (r.sized told) (c.write_at.ensures.images told))
+
+-- the images behind the first write of two, which leaves any gate of the first slot
+one : (g : Over) (c : After-log_at-at g) → g.D.Disk.tells → c.args.layout.now.log ≤ c.slot_behind-slot.result + length c.args.groups.now → (mid : g.row.D.Denot) → Follows (Torn (c.log_at-at.result + 1) (length (take (2048 * length c.args.groups.now - 1) c.fill_run.new.buffer))) (g.D.Disk.image c.args.disk.now) (g.D.Disk.image mid)
+    → (e k : List ℕ) → g.D.Disk.image mid e → Torn (log_offset 0) 1 e k → StagedFrom c.args.layout.now c.args.head c.args.place (length c.args.groups.now) (g.D.Disk.image c.args.disk.now) k
+one g c told ge mid images =
+    let r = c.requires in
+    let n = length c.args.groups.now in
+    round_images c.args.layout.now c.args.head r.slot c.args.place c.args.groups.now r.room r.line r.some g.D.Disk c.args.disk.now mid _ _ (at g c) (cut g c (2048 * n - 1) (omega arith)) (full g c ge) (r.sized told) images
+
+-- what a crash leaves behind it
+first_moment : (g : Over) (c : After-log_at-at g) → g.D.Disk.tells → c.args.layout.now.log ≤ c.slot_behind-slot.result + length c.args.groups.now → (mid : g.row.D.Denot) → Follows (Torn (c.log_at-at.result + 1) (length (take (2048 * length c.args.groups.now - 1) c.fill_run.new.buffer))) (g.D.Disk.image c.args.disk.now) (g.D.Disk.image mid)
+    → Passes (g.D.Disk.moment c.args.disk.now) (g.D.Disk.moment mid) (g.D.Disk.image_since c.args.disk.now) (g.D.Disk.image_since mid) (g.D.Disk.image mid)
+    → LeavesOnly g.D.Disk.moment g.D.Disk.image_since c.args.disk.now mid (StagedFrom c.args.layout.now c.args.head c.args.place (length c.args.groups.now) (g.D.Disk.image c.args.disk.now))
+first_moment g c told ge mid images time =
+    let r = c.requires in
+    let disk = c.args.disk.now in
+    let first = start c.args.layout.now c.args.head r.slot c.args.place c.args.groups.now r.room r.line r.some g.D.Disk disk (λ f left. g.met.D.Disk.only_now disk f told left) in
+    one_write c.args.layout.now c.args.head r.slot c.args.place c.args.groups.now r.room r.line r.some g.D.Disk disk disk mid first time (λ k left. one g c told ge mid images k k left (none_is_torn (log_offset 0) 1 k))
+
+pub returns-in_err-write_at-clause-images : goal.returns-in_err-write_at-clause-images
+returns-in_err-write_at-clause-images g c told k left = one g (goal.at.returns-in_err-write_at-clause-images g c).After-log_at-at told (omega (arith, c.if-slot-groups.false)) c.write_at-2.new.self (c.write_at-2.ensures.images told) k k left (none_is_torn (log_offset 0) 1 k)
+
+pub returns-in_err-write_at-clause-any_moment : goal.returns-in_err-write_at-clause-any_moment
+returns-in_err-write_at-clause-any_moment g c told = first_moment g (goal.at.returns-in_err-write_at-clause-any_moment g c).After-log_at-at told (omega (arith, c.if-slot-groups.false)) c.write_at-2.new.self (c.write_at-2.ensures.images told) (c.write_at-2.ensures.time told)
+
+-- both writes
 pub returns-clause-written : goal.returns-clause-written
 returns-clause-written g c told =
     let r = c.requires in
+    let here = (goal.at.returns-clause-written g c).After-log_at-at in
     let n = length c.args.groups.now in
-    let slot = c.args.slot in
-    let buffer = c.fill_run.new.buffer in
-    let bytes = take (2048 * n) buffer in
     let file = g.D.Disk.content c.args.disk.now in
-    let long : length bytes ≡ 2048 * n = length-take-le (2048 * n) buffer (omega (arith, c.fill_run.auto.buffer, r.buffer, r.few)) in
-    let fits : log_offset (slot + n) + 1 ≤ length file = omega (arith, r.whole told, r.room) in
-    on_ok_weaker c.write_at.result
-    (λ is. run_written slot c.args.groups.now file buffer bytes (g.D.Disk.content c.write_at.new.self) refl long fits
-    (λ k d lt. rw (sym c.from.ensures) (c.fill_run.ensures k d lt)) (is ∙ ap (λ (at : ℕ). overwritten file (at + 1) bytes) c.log_at.ensures))
-    (c.write_at.ensures.written told)
+    let mid = g.D.Disk.content c.write_at-2.new.self in
+    let buffer = c.fill_run.new.buffer in
+    let own = take (2048 * n - 1) buffer in
+    on_ok_weaker c.write_at-3.result
+    (λ is. round_written c.args.layout.now c.args.head r.slot c.args.place c.args.groups.now r.room r.line r.some file mid (g.D.Disk.content c.write_at-3.new.self) buffer own (0 ∷ []) (full g here (omega (arith, c.if-slot-groups.false))) (r.whole told) r.each (filled g here) refl
+    (cut g here (2048 * n - 1) (omega arith)) (c.in_ok-write_at.ensures.written told ∙ ap (λ (i : ℕ). overwritten file i own) (at g here)) refl (is ∙ ap (λ (i : ℕ). overwritten mid i (0 ∷ [])) c.log_at.ensures))
+    (c.write_at-3.ensures.written told)
+
+pub returns-clause-images : goal.returns-clause-images
+returns-clause-images g c told k left =
+    let from = c.write_at-3.ensures.images told k left in
+    one g (goal.at.returns-clause-images g c).After-log_at-at told (omega (arith, c.if-slot-groups.false)) c.write_at-2.new.self (c.write_at-2.ensures.images told) from.0 k from.1 (subst (λ (i : ℕ). Torn i 1 from.0 k) c.log_at.ensures from.2)
+
+pub returns-clause-any_moment : goal.returns-clause-any_moment
+returns-clause-any_moment g c told =
+    let r = c.requires in
+    let disk = c.args.disk.now in
+    let here = (goal.at.returns-clause-any_moment g c).After-log_at-at in
+    let ge : c.args.layout.now.log ≤ c.slot_behind-slot.result + length c.args.groups.now = omega (arith, c.if-slot-groups.false) in
+    let mid = c.write_at-2.new.self in
+    one_write c.args.layout.now c.args.head r.slot c.args.place c.args.groups.now r.room r.line r.some g.D.Disk disk mid c.write_at-3.new.self (first_moment g here told ge mid (c.write_at-2.ensures.images told) (c.write_at-2.ensures.time told)) (c.write_at-3.ensures.time told)
+    (λ k left. let from = c.write_at-3.ensures.images told k left in one g here told ge mid (c.write_at-2.ensures.images told) from.0 k from.1 (subst (λ (i : ℕ). Torn i 1 from.0 k) c.log_at.ensures from.2))
+
+-- each write lies within the file
+within : (at count : ℕ) (f h : List ℕ) (n : ℕ) → at + count ≤ n → length f ≡ n → Torn at count f h → length h ≡ n
+within at count f h n le long torn = omega (arith, le, long, torn.no_shorter, torn.no_longer)
+
+pub returns-clause-whole : goal.returns-clause-whole
+returns-clause-whole g c told =
+    let r = c.requires in
+    let here = (goal.at.returns-clause-whole g c).After-log_at-at in
+    let n = length c.args.groups.now in
+    let file = g.D.Disk.content c.args.disk.now in
+    let mid = g.D.Disk.content c.write_at-2.new.self in
+    let new = g.D.Disk.content c.write_at-3.new.self in
+    let long = cut g here (2048 * n - 1) (omega arith) in
+    let first : length mid ≡ file_length c.args.layout.now =
+    ap length (c.in_ok-write_at.ensures.written told) ∙ length-overwritten file (c.log_at-at.result + 1) (take (2048 * n - 1) c.fill_run.new.buffer) (omega (arith, r.whole told, long, at g here, r.line, r.some)) ∙ r.whole told in
+    ends c.write_at-3.result (λ is. ap length is ∙ length-overwritten mid c.log_at.result (0 ∷ []) (omega (arith, first, c.log_at.ensures)) ∙ first) (λ torn. within c.log_at.result 1 mid new (file_length c.args.layout.now) (omega (arith, c.log_at.ensures)) first torn) (c.write_at-3.ensures.written told) (c.write_at-3.ensures.torn told)
+  where
+    ends : {T E P Q R : Type 0} (r : Result T E) → (P → R) → (Q → R) → OnOk r P → OnErr r Q → R
+    ends (Ok x) one two ok err = one ok
+    ends (Err e) one two ok err = two err

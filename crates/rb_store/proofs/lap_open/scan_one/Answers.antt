@@ -1,10 +1,10 @@
-use Rattle.std.proofs.Common.{◌≡◌, ◌+◌, ◌<◌, ℕ, [], length, arith, ap, subst, IfNone}
+use Rattle.std.proofs.Common.{◌+◌, ◌<◌, ℕ, [], length, arith, subst, IfNone}
 use Rattle.std.proofs.lemmas.Result.{err_from_is_err_and}
-use Rattle.rb_layout.specs.declared.layout.Layout.{Layout}
 use Rattle.rb_log.specs.GroupSlots.{LogState, GroupsAre, HoldsGroup, IsFaultyGroup}
 use Rattle.rb_log.specs.GroupLaws.{faulty_none_group}
-use Rattle.rb_log.specs.Slots.{slot_at}
+use Rattle.rb_log.specs.Slots.{log_unit}
 use Rattle.rb_store.proofs.ScanLemmas.{scan_more, scan_end}
+use Rattle.rb_store.specs.declared.head.TheConstants.{FIRST_HEAD}
 use Rattle.rb_store.proofs.lap_open.scan_one.Goals as goal
 
 pub returns-in_err-group-clause-none : goal.returns-in_err-group-clause-none
@@ -13,8 +13,8 @@ returns-in_err-group-clause-none g c told is others log =
     let l = c.args.scan.now.layout in
     let file = g.D.Disk.content c.args.disk.now in
     let p = err_from_is_err_and c.from_residual.result c.from_residual.ensures.1 in
-    let faulty = subst (λ (x : LogState). IsFaultyGroup x.layout file x.used) h.log_is (c.in_err-group.ensures.faulty told (cc (p.1, p.2, is))) in
-    faulty_none_group l file 0 (length h.groups) h.groups (omega arith) (h.begins told) faulty others log
+    let faulty = subst (λ (x : LogState). IsFaultyGroup x.layout x.head file x.used) h.log_is (c.in_err-group.ensures.faulty told (cc (p.1, p.2, is))) in
+    faulty_none_group l FIRST_HEAD file 0 (length h.groups) h.groups (omega arith) (h.begins told) faulty others log
 
 pub returns-in_default-clause-end : goal.returns-in_default-clause-end
 returns-in_default-clause-end g c _ =
@@ -22,8 +22,8 @@ returns-in_default-clause-end g c _ =
     let old = c.args.scan.now.log in
     let file = g.D.Disk.content c.args.disk.now in
     let ended = rw c.in_default.is at c.in_ok-group.ensures.ended in
-    let end = λ (t : g.D.Disk.tells). subst (λ o. IfNone o (GroupsAre old.layout file old.used [])) c.in_default.is (c.in_ok-group.ensures.end t) in
-    scan_end g.D.Disk.tells c.args.scan.now.layout file c.args.scan.now.plain old c.scan.new.self h ended (λ t. subst (λ (m : Layout). GroupsAre m file old.used []) (ap (λ (x : LogState). x.layout) h.log_is) (end t))
+    let end = λ (t : g.D.Disk.tells). subst (λ o. IfNone o (GroupsAre old.layout old.head file old.used [])) c.in_default.is (c.in_ok-group.ensures.end t) in
+    scan_end g.D.Disk.tells c.args.scan.now.layout file c.args.scan.now.plain old c.scan.new.self h ended (λ t. subst (λ (x : LogState). GroupsAre x.layout x.head file old.used []) h.log_is (end t))
 
 pub returns-clause-more : goal.returns-clause-more
 returns-clause-more g c _ =
@@ -31,12 +31,11 @@ returns-clause-more g c _ =
     let l = c.args.scan.now.layout in
     let old = c.args.scan.now.log in
     let file = g.D.Disk.content c.args.disk.now in
-    let same : old.layout ≡ l = ap (λ (x : LogState). x.layout) h.log_is in
     let more = rw c.in-Some.is at c.in_ok-group.ensures.more in
     let one_more = rw c.in-Some.is at c.in_ok-group.ensures.one_more in
-    let lt : old.used + 1 < l.log = subst (λ (m : Layout). old.used + 1 < m.log) same more in
+    let lt : old.used + 1 < l.log = subst (λ (x : LogState). old.used + 1 < x.layout.log) h.log_is more in
     let holds = λ (t : g.D.Disk.tells).
     let found = rw c.in-Some.is at (c.in_ok-group.ensures.found t) in
-    subst (λ (m : Layout). HoldsGroup m (slot_at file old.used) (old.used + 1) c.in-Some.group) same (subst (λ (n : ℕ). HoldsGroup old.layout (slot_at file old.used) n c.in-Some.group) (omega (arith, c.used.ensures.used)) found) in
+    subst (λ (x : LogState). HoldsGroup x.layout (log_unit x.layout x.head file old.used) (FIRST_HEAD.number + old.used) c.in-Some.group) h.log_is (subst (λ (n : ℕ). HoldsGroup old.layout (log_unit old.layout old.head file old.used) n c.in-Some.group) (omega (arith, c.used.ensures.used)) found) in
     scan_more g.D.Disk.tells l file c.args.scan.now.plain c.apply.new.self old c.scan.new.self c.in-Some.group h one_more (λ t. c.in_ok-group.ensures.ahead t) lt holds
     c.in-Ok.ensures.shape c.in-Ok.ensures.lsn (c.in-Ok.ensures.blocks tt)

@@ -1,8 +1,11 @@
-use Rattle.std.proofs.Common.{◌≡◌, ◌-◌, [], length, drop, replicate, get_or, refl, arith, ◌∙◌, inr}
+use Rattle.std.proofs.Common.{◌≡◌, ℕ, ◌-◌, [], length, drop, replicate, get_or, slice_index, refl, arith, ap, ◌∙◌, inr}
 use Rattle.std.proofs.lemmas.List.{get_or-take, get_or-drop, get_or-append_right, get_or-replicate}
 use Rattle.rb_layout.specs.Fresh.{fresh_has_identity}
 use Rattle.rb_layout.specs.Regions.{file_version, identity, fresh_file, file_length}
 use Rattle.rb_layout.specs.declared.layout.Layout.{Layout}
+use Rattle.rb_log.specs.GroupLaws.{slot_low}
+use Rattle.rb_log.specs.Slots.{slot_at}
+use Rattle.rb_store.specs.declared.head.TheConstants.{FIRST_HEAD}
 use Rattle.rb_store.proofs.laws.fresh_lap.Goals as goal
 
 -- the first gate of a new file is closed
@@ -16,7 +19,7 @@ returns c = λ l. record {
   groups = [];
   lap = record {
     identity = fresh_has_identity file_version l;
-    log = inr (λ is. let gate = get_or-take 2048 (drop 8192 (fresh_file file_version l)) 0 0 (omega arith) ∙ get_or-drop 8192 (fresh_file file_version l) 0 0 ∙ first_gate l in omega (arith, gate, is));
+    log = inr (λ is. let gate = ap (λ (s : ℕ). slice_index (slot_at (fresh_file file_version l) s) 0) (slot_low l FIRST_HEAD 0 (omega (arith, l.few_slots.0))) ∙ get_or-take 2048 (drop 8192 (fresh_file file_version l)) 0 0 (omega arith) ∙ get_or-drop 8192 (fresh_file file_version l) 0 0 ∙ first_gate l in omega (arith, gate, is));
   };
   made = refl;
   last = refl;

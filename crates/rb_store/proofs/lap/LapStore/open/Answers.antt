@@ -14,6 +14,7 @@ invariant_of-result g c =
     let waiting = ap length (ap (λ (x : LogState). x.pending) h.log_is) in (
       record {
         same_layout = ap (λ (x : LogState). x.layout) h.log_is;
+        same_head = ap (λ (x : LogState). x.head) h.log_is;
         same_shape = h.shape_is;
         ended = ap (λ (x : LogState). x.scanned) h.log_is;
         numbers = omega (arith, h.lsn, ap (λ (x : LogState). x.used) h.log_is, waiting);

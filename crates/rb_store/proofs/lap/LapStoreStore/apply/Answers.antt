@@ -1,4 +1,4 @@
-use Rattle.std.proofs.Common.{◌∙◌, ◌++◌, [], ◌∷◌, List, refl, ap}
+use Rattle.std.proofs.Common.{◌∙◌, ◌++◌, [], ◌∷◌, refl, ap}
 use Rattle.rb_log.specs.GroupSlots.{LogState}
 use Rattle.rb_store.specs.Laps.{LapState}
 use Rattle.rb_store.proofs.LapLemmas.{still_moments, apply_settles}
