@@ -1,0 +1,3 @@
+pub mod Rolling
+pub mod OneAfter
+pub mod Heads
