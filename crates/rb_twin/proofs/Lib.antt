@@ -1,0 +1,5 @@
+pub mod BatchSteps
+pub mod HomeSteps
+pub mod ImagePut
+pub mod Images
+pub mod KeptBlocks
