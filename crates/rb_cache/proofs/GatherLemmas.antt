@@ -1,13 +1,14 @@
 -- Frames are put into a batch one by one.
 use Rattle.std.proofs.Common.{◌≡◌, ◌≢◌, ◌⊎◌, inl, inr, ℕ, ◌+◌, ◌<◌, ◌≤◌, ◌==◌, Bool, true, false, if◌then◌else◌, List, [], ◌∷◌, ◌++◌, length, map, get_or, set, arith, ap, sym, ◌∙◌, subst, refl, length-append}
 use Rattle.std.proofs.lemmas.Bool.{cases_eq, eqb-false, eq-eqb, ne_eqb}
-use Rattle.std.proofs.lemmas.List.{length-set, map-append}
+use Rattle.std.proofs.lemmas.List.{length-set, map-append, set-get_or}
 use Rattle.std.specs.List.{AllByRecursion}
+use Rattle.std.specs.Map.{keys_of}
 use Rattle.rb_base.proofs.Each.{all_at, all_push, all_so}
 use Rattle.rb_layout.specs.declared.layout.Layout.{Layout}
 use Rattle.rb_twin.specs.Batches.{Image, IsNoneOf}
 use Rattle.rb_cache.specs.Frames.{AreBelow, AreSeen, Gathered, NoneDirty, blocks_of, cleaned, has_number, seen}
-use Rattle.rb_cache.specs.Slots.{AreCleanFrom, AreFrames, AreOnce, IsPlaced, frame_at, held_of, no_frame}
+use Rattle.rb_cache.specs.Slots.{AreCleanFrom, AreFrames, AreOnce, GatheredSoFar, IsPlaced, frame_at, held_of, no_frame}
 use Rattle.rb_cache.specs.declared.frame.Frame.{Frame}
 use Rattle.rb_cache.specs.declared.frame.TheConstants.{NO_BLOCK}
 use Rattle.rb_cache.proofs.FrameLemmas.{below_cleaned, cleaned_more, dirty_apart, own_seen, seen_cleaned}
@@ -21,13 +22,6 @@ put f = record f { dirty = false }
 
 abbrev pub image_of : Frame → Image
 image_of f = record { no = f.block; unit = f.bytes }
-
--- After some frames: the others are as they were.
-pub record GatheredSoFar (before slots : List Frame) (order places : List ℕ) (batch : List Image) : Type 0 where
-  pub frames : AreFrames slots order places
-  pub gathered : Gathered (held_of before order) (held_of slots order) batch
-  pub long : length slots ≡ length before
-  pub cleaner : (k : ℕ) → (frame_at before k).dirty ≡ false → (frame_at slots k).dirty ≡ false
 
 pub gathered_none : (slots : List Frame) (order places : List ℕ) → AreFrames slots order places → GatheredSoFar slots slots order places []
 gathered_none slots order places are = record {
@@ -131,6 +125,43 @@ module _ (before slots : List Frame) (order places : List ℕ) (batch : List Ima
     ];
   }
 
+-- the same of a frame that may be clean
+pub gathered_maybe : (before slots : List Frame) (order places : List ℕ) (batch more : List Image) → GatheredSoFar before slots order places batch → (k : ℕ) → k < length slots → length batch < 8
+    → ((frame_at slots k).dirty ≡ false → more ≡ batch) → ((frame_at slots k).dirty ≡ true → more ≡ batch ++ image_of (frame_at slots k) ∷ []) → GatheredSoFar before (set slots k (put (frame_at slots k))) order places more
+gathered_maybe before slots order places batch more so_far k lt room stays puts = by (frame_at slots k).dirty refl
+  where
+    same : (f : Frame) → f.dirty ≡ false → f ≡ put f
+    same f clean = ap (λ (d : Bool). record f { dirty = d }) clean
+
+    by : (b : Bool) → (frame_at slots k).dirty ≡ b → GatheredSoFar before (set slots k (put (frame_at slots k))) order places more
+    by true dirty = subst (GatheredSoFar before (set slots k (put (frame_at slots k))) order places) (sym (puts dirty)) (gathered_more before slots order places batch so_far k lt dirty room)
+    by false clean = subst (GatheredSoFar before (set slots k (put (frame_at slots k))) order places) (sym (stays clean))
+        (subst (λ (ss : List Frame). GatheredSoFar before ss order places batch) (sym (set-get_or slots k no_frame) ∙ ap (set slots k) (same (frame_at slots k) clean)) so_far)
+
 -- where all frames are clean, those that hold a block are
 pub none_dirty : (slots : List Frame) (order places : List ℕ) → AreFrames slots order places → AreCleanFrom 0 (length slots) slots → NoneDirty (held_of slots order)
 none_dirty slots order places are clean = all_held slots (λ f. f.dirty ≡ false) order (all_so (λ k. k < length slots) (λ k. (frame_at slots k).dirty ≡ false) order (λ k lt. clean k (omega arith) lt) are.below)
+
+-- a frame that is clean afterwards, among others
+pub cleaner_set : (slots : List Frame) (k : ℕ) (f : Frame) → k < length slots → f.dirty ≡ false → (j : ℕ) → (frame_at slots j).dirty ≡ false → (frame_at (set slots k f) j).dirty ≡ false
+cleaner_set slots k f lt clean j is = elim (cases_eq j k) [
+  | inl here ↦ ap (λ (i : ℕ). (frame_at (set slots k f) i).dirty) here ∙ ap (λ (g : Frame). g.dirty) (at_set_same slots k f lt) ∙ clean
+  | inr differ ↦ ap (λ (g : Frame). g.dirty) (at_set_other slots k j f differ) ∙ is
+]
+
+-- a batch grows by one image at most
+pub grows : (f : Frame) (batch more : List Image) → (f.dirty ≡ false → more ≡ batch) → (f.dirty ≡ true → more ≡ batch ++ image_of f ∷ []) → length batch ≤ length more
+grows f batch more stays puts = by f.dirty refl
+  where
+    by : (b : Bool) → f.dirty ≡ b → length batch ≤ length more
+    by true dirty = omega (arith, ap length (puts dirty), length-append batch (image_of f ∷ []))
+    by false clean = omega (arith, ap length (stays clean))
+
+-- what all have in front of the last, and the last
+pub all_split : {X : Type 0} (P : X → Type 0) (xs : List X) (x : X) → AllByRecursion P (xs ++ x ∷ []) → AllByRecursion P xs × P x
+all_split P [] x all = (tt, all.0)
+all_split P (y ∷ xs) x all = let rest = all_split P xs x all.1 in ((all.0, rest.0), rest.1)
+
+pub entries_below : {V : Type 0} (n : ℕ) (es : List (ℕ × V)) → AllByRecursion (λ k. k < n) (keys_of es) → AllByRecursion (λ e. e.0 < n) es
+entries_below n [] all = tt
+entries_below n (e ∷ es) all = (all.0, entries_below n es all.1)

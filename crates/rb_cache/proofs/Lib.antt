@@ -1,7 +1,10 @@
+pub mod Evicting
 pub mod FrameLemmas
 pub mod GatherLemmas
 pub mod MemoryLemmas
 pub mod NumberLemmas
 pub mod OrderLemmas
+pub mod Parts
 pub mod SlotLemmas
+pub mod Steps
 pub mod UseLemmas

@@ -9,6 +9,10 @@ use Rattle.rb_cache.specs.Frames.{has_number, without}
 use Rattle.rb_cache.specs.Slots.{AreOnce, numbers_below}
 
 module _ {V : Type 0} where
+  pub length-keys : (es : List (ℕ × V)) → length (keys_of es) ≡ length es
+  length-keys [] = refl
+  length-keys (e ∷ es) = let rest = length-keys es in omega (arith, rest)
+
   pub keys-remove : (p : ℕ) (es : List (ℕ × V)) → keys_of (remove_entry (λ k. p == k) es) ≡ without p (keys_of es)
   keys-remove p [] = refl
   keys-remove p (e ∷ es) = elim (cases_eq e.0 p) [

@@ -1,16 +1,20 @@
 -- A block that is looked for among the frames, the first frame and the last one.
-use Rattle.std.proofs.Common.{◌≡◌, ◌≢◌, ◌⊎◌, inl, inr, ℕ, ◌+◌, ◌-◌, ◌<◌, ◌≤◌, Bool, true, false, List, [], ◌∷◌, ◌++◌, length, take, get_or, set, arith, ap, sym, ◌∙◌, subst, refl, length-append}
+use Rattle.std.proofs.Common.{◌≡◌, ◌≢◌, ◌⊎◌, inl, inr, ℕ, ◌+◌, ◌-◌, ◌*◌, ◌<◌, ◌≤◌, Result, Ok, Err, Bool, true, false, List, [], ◌∷◌, ◌++◌, length, take, get_or, set, arith, ap, sym, ◌∙◌, subst, refl, length-append}
 use Rattle.std.proofs.lemmas.Bool.{cases_eq}
 use Rattle.std.proofs.lemmas.List.{get_or_default}
+use Rattle.std.proofs.Math.Nat.{mul-le-mul_right}
 use Rattle.std.specs.List.{AllByRecursion}
+use Rattle.std.specs.Result.{OnErr}
 use Rattle.rb_base.proofs.Each.{all_at}
+use Rattle.rb_layout.specs.Regions.{block_count}
+use Rattle.rb_layout.specs.declared.layout.Layout.{Layout}
 use Rattle.rb_cache.specs.Frames.{IsLastClean, frame_in, has_number, numbers_of, others_of, without}
 use Rattle.rb_cache.specs.Slots.{AreFrames, FramesState, IsPlaced, IsUnused, UnusedLast, frame_at, held_of, no_frame}
 use Rattle.rb_cache.specs.declared.frame.Frame.{Frame}
 use Rattle.rb_cache.specs.declared.frame.TheConstants.{BLOCKS, NO_BLOCK}
-use Rattle.rb_cache.proofs.MemoryLemmas.{moved_frames}
-use Rattle.rb_cache.proofs.NumberLemmas.{all_has, first_split, last_split, without_first}
-use Rattle.rb_cache.proofs.SlotLemmas.{held_has, held_lacks, held_unused, held_used, last_clean, moved_front, moved_others, one_of_all}
+use Rattle.rb_cache.proofs.MemoryLemmas.{changed_frames, moved_frames}
+use Rattle.rb_cache.proofs.NumberLemmas.{all_has, first_split, gone, last_split, without_first}
+use Rattle.rb_cache.proofs.SlotLemmas.{at_set_same, held_has, held_lacks, held_set_out, held_unused, held_used, last_clean, moved_front, moved_others, one_of_all}
 
 -- a frame that was read at a number
 pub at_is : (slots : List Frame) (k : ℕ) (f : Frame) → k < length slots → f ≡ get_or slots k f → frame_at slots k ≡ f
@@ -105,3 +109,32 @@ module _ (slots : List Frame) (order places : List ℕ) (are : AreFrames slots o
       let split = last_is v is in let whole = are.whole in
       subst (λ (ks : List ℕ). IsLastClean (length slots) (held_of slots ks)) (sym split)
       (last_clean slots (take (length order - 1) order) v (length slots) (omega (arith, whole, ap length split, length-append (take (length order - 1) order) (v ∷ []))) clean)
+
+  -- the unit of a frame
+  pub unit_at : (k : ℕ) (f : Frame) → k < length slots → f ≡ get_or slots k f → length f.bytes ≡ 2048
+  unit_at k f lt is = ap (λ (g : Frame). length g.bytes) (sym (at_is slots k f lt is)) ∙ all_at (λ (g : Frame). length g.bytes ≡ 2048) slots k no_frame are.units lt
+
+  -- the first frame is another one, of the same block
+  module _ (k : ℕ) (found : k ≡ get_or order 0 0) (some : held_of slots order ≢ []) (f : Frame) (same : f.block ≡ (frame_at slots k).block) (unit : length f.bytes ≡ 2048) where
+    pub front_changed : AreFrames (set slots k f) order places
+    front_changed = changed_frames slots order places k f are (first_below k found) unit same (λ none. absurd (first_used k found some (sym same ∙ none)))
+
+    pub front_held : held_of (set slots k f) order ≡ f ∷ held_of slots (without k order)
+    front_held =
+        let own = at_set_same slots k f (first_below k found) in
+        ap (held_of (set slots k f)) (first_is k found)
+        ∙ held_used (set slots k f) k (without k order) (λ none. first_used k found some (sym same ∙ ap (λ (g : Frame). g.block) (sym own) ∙ none))
+        ∙ ap (λ (g : Frame). g ∷ held_of (set slots k f) (without k order)) own
+        ∙ ap (λ (h : List Frame). f ∷ h) (held_set_out slots k f (without k order) (gone k order are.once))
+
+-- where an outcome is an error, or not
+pub on_error : {T E P : Type 0} (r : Result T E) → P → OnErr r P
+on_error (Ok x) p = tt
+on_error (Err e) p = p
+
+-- a file has no more blocks than there are places
+pub few_blocks : (l : Layout) → block_count l ≤ 66064
+few_blocks l =
+    let tables = l.few_tables.1 in let blocks = l.few_blocks.1 in let segments = l.few_segments.1 in
+    let one : l.tables * l.blocks ≤ 16 * l.blocks = mul-le-mul_right l.blocks tables in
+    omega (arith, one, blocks, segments)

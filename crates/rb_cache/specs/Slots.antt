@@ -5,7 +5,10 @@ use Rattle.std.specs.List.{AllByRecursion}
 use Rattle.rb_base.specs.Groups.{Patch}
 use Rattle.rb_base.specs.declared.sizes.TheConstants.{UNIT}
 use Rattle.rb_roll.specs.Rolled.{step}
-use Rattle.rb_cache.specs.Frames.{CacheState, has_number}
+use Rattle.rb_layout.specs.Regions.{block_count}
+use Rattle.rb_twin.specs.Batches.{Image}
+use Rattle.rb_twin.specs.Twins.{TwinState}
+use Rattle.rb_cache.specs.Frames.{AreBelow, CacheState, Gathered, has_number}
 use Rattle.rb_cache.specs.declared.frame.Frame.{Frame}
 use Rattle.rb_cache.specs.declared.frame.TheConstants.{BLOCKS, NO_BLOCK}
 
@@ -90,3 +93,17 @@ pub record IsPatched (number : ℕ) (group : List Patch) (first : Frame) (others
   pub block : frame.block ≡ first.block
   pub bytes : frame.bytes ≡ step number group first.block first.bytes
   pub clean : frame.dirty ≡ false → frame ≡ first
+
+-- After some of the frames were put into a batch: those count as clean, and the others are as they were.
+pub record GatheredSoFar (before slots : List Frame) (order places : List ℕ) (batch : List Image) : Type 0 where
+  pub frames : AreFrames slots order places
+  pub gathered : Gathered (held_of before order) (held_of slots order) batch
+  pub long : length slots ≡ length before
+  pub cleaner : (k : ℕ) → (frame_at before k).dirty ≡ false → (frame_at slots k).dirty ≡ false
+
+-- Frames are put into a batch one by one. Their blocks are those of the file.
+pub record IsGathering (slots : List Frame) (order : List ℕ) (twin : TwinState) : Type 0 where
+  pub before : List Frame
+  pub places : List ℕ
+  pub so_far : GatheredSoFar before slots order places twin.batch
+  pub within : AreBelow (block_count twin.layout) (held_of before order)

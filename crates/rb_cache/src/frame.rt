@@ -1,5 +1,5 @@
 //! `Frame`: one block in memory, and what a group makes of it. `Frames` has as many as its cache was made with.
-ghost use Rattle.std.specs.Prelude.{◌≡◌, ◌+◌, ◌++◌, ◌∷◌, [], ◌<◌, ◌≤◌, false, length, slice_index_or};
+ghost use Rattle.std.specs.Prelude.{◌≡◌, ◌+◌, ◌++◌, ◌∷◌, [], ◌<◌, ◌≤◌, true, false, length, slice_index_or};
 ghost use Rattle.rb_base.specs.Fields.{overwritten};
 ghost use Rattle.rb_base.specs.Groups.{IsGroup, Patch};
 ghost use Rattle.rb_layout.specs.Regions.{block_count};
@@ -73,6 +73,7 @@ impl Frame {
         ensures block { self.new.block ≡ self.old.block }
         ensures bytes { self.new.bytes ≡ step number group.now self.old.block self.old.bytes }
         ensures clean { self.new.dirty ≡ false → self.new ≡ self.old }
+        ensures unit { length self.new.bytes ≡ UNIT }
     {
         if u64_at(&self.bytes, 0) >= number {
             return;
@@ -83,16 +84,20 @@ impl Frame {
         }
     }
 
-    /// Puts the block into a batch that goes home next. It counts as clean from here on.
+    /// Puts the block into a batch that goes home next, where it is dirty. It counts as clean from here on.
     pub fn put_home(&mut self, twin: &mut Twin)
         requires room { length twin.old.batch < TWIN_IMAGES }
-        requires differs { IsNoneOf self.old.block twin.old.batch }
-        requires within { self.old.block < block_count twin.old.layout }
+        requires differs { self.old.dirty ≡ true → IsNoneOf self.old.block twin.old.batch }
+        requires within { self.old.dirty ≡ true → self.old.block < block_count twin.old.layout }
         ensures clean { self.new ≡ record self.old { dirty = false } }
-        ensures batch { twin.new ≡ record twin.old
+        ensures stays { self.old.dirty ≡ false → twin.new ≡ twin.old }
+        ensures put { self.old.dirty ≡ true → twin.new ≡ record twin.old
             { batch = twin.old.batch ++ record { no = self.old.block; unit = self.old.bytes } ∷ [] } }
+        ensures layout { twin.new.layout ≡ twin.old.layout }
     {
-        twin.put(self.block, &self.bytes);
-        self.dirty = false;
+        if self.dirty {
+            twin.put(self.block, &self.bytes);
+            self.dirty = false;
+        }
     }
 }

@@ -1,13 +1,15 @@
 //! `Frames`: the blocks that a cache holds, and in which order they were used. `Cache` asks it which block gives way.
 ghost use Rattle.std.specs.Prelude.{◌≡◌, ◌≢◌, ◌-◌, ◌<◌, ◌≤◌, ◌∷◌, [], ℕ, List, true, false, length, IfOk};
 ghost use Rattle.std.specs.Prelude.{OnOk, OnErr, slice_index_or};
+ghost use Rattle.std.specs.Map.{keys_of};
 ghost use Rattle.rb_base.specs.Counts.{IsCounted};
 ghost use Rattle.rb_disk.specs.Moments.{Rests};
 ghost use Rattle.rb_layout.specs.Regions.{block_count, file_length};
 ghost use Rattle.rb_twin.specs.Twins.{home};
 ghost use Rattle.rb_cache.specs.Frames.{AreBelow, Gathered, IsBrought, IsCacheMemory, IsLastClean, NoneDirty};
 ghost use Rattle.rb_cache.specs.Frames.{frame_in, has_number, numbers_of, others_of, room_made};
-ghost use Rattle.rb_cache.specs.Slots.{AreCleanFrom, IsPatched, cache_of, held_in, last_of, no_frame};
+ghost use Rattle.rb_cache.specs.Slots.{AreCleanFrom, GatheredSoFar, IsGathering, IsPatched, cache_of, frame_at};
+ghost use Rattle.rb_cache.specs.Slots.{held_in, last_of, no_frame};
 ghost use Rattle.rb_cache.specs.declared.frame.Frame.{Frame};
 
 use crate::frame::{BLOCKS, Frame, NO_BLOCK};
@@ -43,6 +45,25 @@ impl Model for Frames {
     ghost view = { λ a. record { slots = a.slots.items; order = keys_of a.order.entries } };
 
     ghost invariant = { λ a. AreFrames a.slots.items (keys_of a.order.entries) a.places.items };
+}
+
+/// Puts dirty frames from the old end on into a batch, up to eight. They count as clean from here on.
+fn gather_more(slots: &mut [Frame], order: &LruCache<u16, ()>, twin: &mut Twin)
+    requires begun { IsGathering slots.old (keys_of order.now.entries) twin.old }
+    ensures gathered { (before : List Frame) (places : List ℕ)
+        → GatheredSoFar before slots.old (keys_of order.now.entries) places twin.old.batch
+        → GatheredSoFar before slots.new (keys_of order.now.entries) places twin.new.batch }
+    ensures cleaner { (k : ℕ) → (frame_at slots.old k).dirty ≡ false → (frame_at slots.new k).dirty ≡ false }
+    ensures more { length twin.old.batch ≤ length twin.new.batch }
+    ensures layout { twin.new.layout ≡ twin.old.layout }
+    ensures count { length slots.new ≡ length slots.old }
+{
+    for (&frame, _) in order.iter().rev().take(LOOKS) {
+        if twin.len() == TWIN_IMAGES {
+            break;
+        }
+        slots[usize::from(frame)].put_home(twin);
+    }
 }
 
 impl Frames {
@@ -158,15 +179,7 @@ impl Frames {
     {
         let last = self.last_number();
         self.slots[usize::from(last)].put_home(twin);
-        for (&frame, _) in self.order.iter().rev().take(LOOKS) {
-            if twin.len() == TWIN_IMAGES {
-                break;
-            }
-            let slot = &mut self.slots[usize::from(frame)];
-            if slot.dirty {
-                slot.put_home(twin);
-            }
-        }
+        gather_more(self.slots.as_mut_slice(), &self.order, twin);
     }
 
     /// Puts the dirty frames from a number on into an empty batch, up to eight. They count as clean from here on.
@@ -186,10 +199,7 @@ impl Frames {
     {
         let mut next = from;
         while next < self.slots.len() && twin.len() < TWIN_IMAGES {
-            let slot = &mut self.slots[next];
-            if slot.dirty {
-                slot.put_home(twin);
-            }
+            self.slots[next].put_home(twin);
             next += 1;
         }
         next
