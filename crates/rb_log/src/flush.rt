@@ -10,7 +10,7 @@ ghost use Rattle.rb_base.specs.Groups.{Patch, IsGroup};
 ghost use Rattle.rb_disk.specs.DiskModel.{Follows, Only};
 ghost use Rattle.rb_disk.specs.Moments.{Leaves};
 ghost use Rattle.rb_layout.specs.Regions.{file_length};
-ghost use Rattle.rb_log.specs.Slots.{slot_of, log_unit, gate_of, SameSlots, SameOutside};
+ghost use Rattle.rb_log.specs.Slots.{slot_of, log_unit, gate_of, OutsideFrom, SameSlots, SameOutside};
 ghost use Rattle.rb_log.specs.GroupSlots.{GroupsAre, IsLoggable, group_unit, FlushedSome, AreStaged, AreOpen};
 ghost use Rattle.rb_log.specs.GroupSlots.{begins_run, RunWritten, SameButGroups, SameButUnits, StagedFrom};
 
@@ -224,6 +224,7 @@ pub(crate) fn write_groups<D: Disk>(
     ensures only { D.tells → OnOk result (Only (D.content disk.old) (D.image disk.old)
         → Only (D.content disk.new) (D.image disk.new)) }
     ensures whole { D.tells → length (D.content disk.new) ≡ file_length layout.now }
+    ensures images { D.tells → Leaves D.Disk disk.old disk.new (OutsideFrom layout.now.log (D.image disk.old)) }
     ensures any_moment { D.tells → (before : List (List Patch)) → length before ≡ used
         → GroupsAre layout.now head (D.content disk.old) 0 before
         → Leaves D.Disk disk.old disk.new

@@ -11,7 +11,7 @@ ghost use Rattle.rb_disk.specs.Moments.{Leaves, Rests};
 ghost use Rattle.rb_layout.specs.Regions.{file_length, shape_of};
 ghost use Rattle.rb_log.specs.GroupSlots.{AreFrom, HoldsGroup, GroupsAre, IsFaultyGroup, FlushedSome, KeptLog};
 ghost use Rattle.rb_log.specs.GroupSlots.{IsLoggable, group_unit, SameButUnits};
-ghost use Rattle.rb_log.specs.Slots.{slot_of, log_unit, gate_of, head_at, SameSlots, SameOutside};
+ghost use Rattle.rb_log.specs.Slots.{slot_of, log_unit, gate_of, head_at, OutsideFrom, SameSlots, SameOutside};
 
 use crate::flush::write_groups;
 use crate::places::slot_behind;
@@ -211,6 +211,8 @@ impl Log {
         ensures only { D.tells → OnOk result (Only (D.content disk.old) (D.image disk.old)
             → Only (D.content disk.new) (D.image disk.new)) }
         ensures whole { D.tells → length (D.content disk.new) ≡ file_length self.old.layout }
+        ensures images { D.tells → Leaves D.Disk disk.old disk.new
+            (OutsideFrom self.old.layout.log (D.image disk.old)) }
         ensures any_moment { D.tells → (groups : List (List Patch)) → length groups ≡ self.old.used
             → GroupsAre self.old.layout self.old.head (D.content disk.old) 0 groups
             → Leaves D.Disk disk.old disk.new

@@ -83,3 +83,25 @@ returns-clause-durable g c told =
 
 pub returns-clause-only : goal.returns-clause-only
 returns-clause-only g c told = on_ok_weaker c.open_gates.result (λ only before. only) (c.open_gates.ensures.durable told)
+
+-- outside the log an image is one of before, whatever the log has
+pub returns-then-is_empty-clause-images : goal.returns-then-is_empty-clause-images
+returns-then-is_empty-clause-images g c told =
+    let disk = c.args.disk.now in
+    begun g.D.Disk.moment g.D.Disk.image_since disk _
+    (λ d left. (d, g.met.D.Disk.only_now disk d told left, record { long = refl; before = refl; behind = refl }))
+
+pub returns-in_err-stage-clause-images : goal.returns-in_err-stage-clause-images
+returns-in_err-stage-clause-images g c told =
+    weaker g.D.Disk.moment g.D.Disk.image_since c.args.disk.now c.stage.new.disk _ _ (λ d some. (some.0, some.1, some.2.outside)) (c.stage.ensures.any_moment told)
+
+pub returns-clause-images : goal.returns-clause-images
+returns-clause-images g c told =
+    let disk = c.args.disk.now in
+    let mid = c.stage.new.disk in
+    let new = c.open_gates.new.disk in
+    let file = g.D.Disk.content disk in
+    let first = weaker g.D.Disk.moment g.D.Disk.image_since disk mid _ _ (λ d some. (some.0, some.1, some.2.outside)) (c.stage.ensures.any_moment told) in
+    let second = weaker g.D.Disk.moment g.D.Disk.image_since mid new _ _ (λ d was. (file, g.met.D.Disk.reads_an_image disk told, was.others.outside))
+    (c.open_gates.ensures.any_moment told file (c.in_ok-stage.ensures.staged told)) in
+    joined g.D.Disk.moment g.D.Disk.image_since disk mid new _ first second
