@@ -1,19 +1,20 @@
 -- A block that is looked for among the frames, the first frame and the last one.
-use Rattle.std.proofs.Common.{◌≡◌, ◌≢◌, ◌⊎◌, inl, inr, ℕ, ◌+◌, ◌-◌, ◌*◌, ◌<◌, ◌≤◌, Result, Ok, Err, Bool, true, false, List, [], ◌∷◌, ◌++◌, length, take, get_or, set, arith, ap, sym, ◌∙◌, subst, refl, length-append}
+use Rattle.std.proofs.Common.{◌≡◌, ◌≢◌, ◌⊎◌, inl, inr, ℕ, zero, suc, replicate, ◌+◌, ◌-◌, ◌*◌, ◌<◌, ◌≤◌, Result, Ok, Err, Bool, true, false, List, [], ◌∷◌, ◌++◌, length, take, get_or, set, arith, ap, sym, ◌∙◌, subst, refl, length-append}
 use Rattle.std.proofs.lemmas.Bool.{cases_eq}
 use Rattle.std.proofs.lemmas.List.{get_or_default}
 use Rattle.std.proofs.Math.Nat.{mul-le-mul_right}
 use Rattle.std.specs.List.{AllByRecursion}
 use Rattle.std.specs.Result.{OnErr}
-use Rattle.rb_base.proofs.Each.{all_at}
+use Rattle.rb_base.proofs.Each.{all_at, all_so}
 use Rattle.rb_layout.specs.Regions.{block_count}
 use Rattle.rb_layout.specs.declared.layout.Layout.{Layout}
 use Rattle.rb_cache.specs.Frames.{IsLastClean, frame_in, has_number, numbers_of, others_of, without}
-use Rattle.rb_cache.specs.Slots.{AreFrames, FramesState, IsPlaced, IsUnused, UnusedLast, frame_at, held_of, no_frame}
+use Rattle.rb_cache.specs.Slots.{AreFrames, FramesState, IsEmptyFrame, IsPlaced, numbers_below, IsUnused, UnusedLast, frame_at, held_of, no_frame}
 use Rattle.rb_cache.specs.declared.frame.Frame.{Frame}
 use Rattle.rb_cache.specs.declared.frame.TheConstants.{BLOCKS, NO_BLOCK}
 use Rattle.rb_cache.proofs.MemoryLemmas.{changed_frames, moved_frames}
 use Rattle.rb_cache.proofs.NumberLemmas.{all_has, first_split, gone, last_split, without_first}
+use Rattle.rb_cache.proofs.OrderLemmas.{below_all, below_has, below_once, length-below}
 use Rattle.rb_cache.proofs.SlotLemmas.{at_set_same, held_has, held_lacks, held_set_out, held_unused, held_used, last_clean, moved_front, moved_others, one_of_all}
 
 -- a frame that was read at a number
@@ -138,3 +139,48 @@ few_blocks l =
     let tables = l.few_tables.1 in let blocks = l.few_blocks.1 in let segments = l.few_segments.1 in
     let one : l.tables * l.blocks ≤ 16 * l.blocks = mul-le-mul_right l.blocks tables in
     omega (arith, one, blocks, segments)
+
+-- frames that hold nothing
+module _ (slots : List Frame) (count : ℕ) (long : length slots ≡ count) (empty : AllByRecursion IsEmptyFrame slots) where
+  unused : (ks : List ℕ) → AllByRecursion (λ k. k < count) ks → AllByRecursion (IsUnused slots) ks
+  unused [] below = tt
+  unused (k ∷ ks) below =
+      let lt = below.0 in
+      let here = all_at IsEmptyFrame slots k no_frame empty (omega (arith, lt, long)) in (here.block, unused ks below.1)
+
+  new_placed : (places ks : List ℕ) → AllByRecursion (λ k. k < count) ks → AllByRecursion (IsPlaced slots places) ks
+  new_placed places [] below = tt
+  new_placed places (k ∷ ks) below =
+      let lt = below.0 in
+      let here = all_at IsEmptyFrame slots k no_frame empty (omega (arith, lt, long)) in (inl (here.block, here.clean), new_placed places ks below.1)
+
+  new_behind : (ks : List ℕ) → AllByRecursion (λ k. k < count) ks → UnusedLast slots ks
+  new_behind [] below = tt
+  new_behind (k ∷ ks) below = (λ none. unused ks below.1, new_behind ks below.1)
+
+  pub new_frames : (places : List ℕ) → 1 ≤ count → count ≤ 4096 → length places ≡ 66064 → AllByRecursion (λ k. k < length slots) places → AreFrames slots (numbers_below count) places
+  new_frames places some few table leads = record {
+    some = omega (arith, some, long);
+    few = omega (arith, few, long);
+    whole = length-below count ∙ sym long;
+    once = below_once count;
+    all = λ k lt. below_has count k (omega (arith, lt, long));
+    below = below_all count (length slots) (omega (arith, long));
+    units = all_so IsEmptyFrame (λ f. length f.bytes ≡ 2048) slots (λ f is. is.unit) empty;
+    placed = new_placed places (numbers_below count) (below_all count count (omega arith));
+    behind = new_behind (numbers_below count) (below_all count count (omega arith));
+    table = table;
+    leads = leads;
+  }
+
+  pub new_held : held_of slots (numbers_below count) ≡ []
+  new_held = nothing (numbers_below count) (unused (numbers_below count) (below_all count count (omega arith)))
+    where
+      nothing : (ks : List ℕ) → AllByRecursion (IsUnused slots) ks → held_of slots ks ≡ []
+      nothing [] all = refl
+      nothing (k ∷ ks) all = held_unused slots k ks all.0 ∙ nothing ks all.1
+
+-- places that are all 0
+pub all_zero : (m n : ℕ) → 1 ≤ m → AllByRecursion (λ k. k < m) (replicate n 0)
+all_zero m zero some = tt
+all_zero m (suc n) some = (omega (arith, some), all_zero m n some)

@@ -1,7 +1,6 @@
 use Rattle.std.proofs.Common.{◌≡◌, ◌-◌, ◌<◌, ◌≤◌, ◌⊎◌, length}
 use Rattle.std.specs.Map.{keys_of}
-use Rattle.rb_cache.specs.Slots.{AreCleanFrom, held_of}
-use Rattle.rb_cache.proofs.GatherLemmas.{GatheredSoFar}
+use Rattle.rb_cache.specs.Slots.{AreCleanFrom, GatheredSoFar}
 use Rattle.rb_cache.proofs.frames.Frames.gather_from.Given as goal
 
 abbrev pub invariant-loop-next : goal.invariant-loop-next
