@@ -5,6 +5,7 @@ pub mod MemoryLemmas
 pub mod NumberLemmas
 pub mod OrderLemmas
 pub mod Parts
+pub mod RoomLemmas
 pub mod SlotLemmas
 pub mod Steps
 pub mod UseLemmas

@@ -1,9 +1,11 @@
-use Rattle.std.proofs.Common.{◌≡◌, ◌<◌, ◌≤◌, ℕ, List, [], length, replicate, arith, ap, sym, ◌∙◌, subst, refl}
-use Rattle.std.proofs.lemmas.List.{length-replicate}
+use Rattle.std.proofs.Common.{◌≡◌, ◌⊎◌, ⊎_elim, ◌<◌, ◌≤◌, ℕ, List, [], length, arith, ap, sym, ◌∙◌, subst}
 use Rattle.std.specs.List.{AllByRecursion}
 use Rattle.std.specs.Map.{keys_of}
-use Rattle.rb_cache.specs.Slots.{AreFrames, numbers_below}
-use Rattle.rb_cache.proofs.UseLemmas.{all_zero, new_frames, new_held}
+use Rattle.rb_base.proofs.Each.{all_so}
+use Rattle.rb_cache.specs.Frames.{CacheState}
+use Rattle.rb_cache.specs.Slots.{AreFrames, cache_of, held_of, numbers_below}
+use Rattle.rb_cache.specs.declared.frame.Frame.{Frame}
+use Rattle.rb_cache.proofs.UseLemmas.{new_frames, new_held}
 use Rattle.rb_cache.proofs.frames.Frames.new.Goals as goal
 
 pub invariant_of-result : goal.invariant_of-result
@@ -11,10 +13,14 @@ invariant_of-result c =
     let slots = c.in_ok-slots.slots.items in
     let long = c.in_ok-slots.ensures.count in
     let places = c.in-Ok.places.items in
-    let made : places ≡ replicate 66064 0 = c.in-Ok.ensures.items in
+    let some : 1 ≤ length slots = omega (arith, long, c.requires.some) in
     subst (λ (ks : List ℕ). AreFrames slots ks places) (sym c.in_ok-order.ensures.numbers)
-    (new_frames slots c.args.count long c.in_ok-slots.ensures.empty places c.requires.some c.requires.few (ap length made ∙ length-replicate 66064 0)
-    (subst (AllByRecursion (λ k. k < length slots)) (sym made) (all_zero (length slots) 66064 (omega (arith, long, c.requires.some)))))
+    (new_frames slots c.args.count long c.in_ok-slots.ensures.empty places c.requires.some c.requires.few (omega (arith, c.in-Ok.ensures.len, c.in-Ok.places.ok.0))
+    (all_so _ (λ k. k < length slots) places (λ k is. ⊎_elim (λ e. omega (arith, e, some)) (λ e. omega (arith, e, some)) is) c.in-Ok.ensures.items))
 
 pub returns : goal.returns
-returns c = ?
+returns c =
+    let slots = c.in_ok-slots.slots.items in
+    subst (λ (ks : List ℕ). cache_of (record { slots = slots; order = ks }) ≡ record { frames = c.args.count; held = [] }) (sym c.in_ok-order.ensures.numbers)
+    (ap (λ (h : List Frame). record { frames = length slots; held = h }) (new_held slots c.args.count c.in_ok-slots.ensures.count c.in_ok-slots.ensures.empty)
+    ∙ ap (λ (n : ℕ). record { frames = n; held = [] }) c.in_ok-slots.ensures.count)
