@@ -1,3 +1,4 @@
+pub mod CallLemmas
 pub mod Evicting
 pub mod FrameLemmas
 pub mod GatherLemmas
