@@ -15,6 +15,8 @@ use Rattle.rb_twin.specs.Twins.{home}
 use Rattle.rb_cache.specs.Calls.{IsDone, Leaving, LogHas}
 use Rattle.rb_cache.specs.Frames.{AreBelow, AreClean, IsLastClean, brought, frame_in, has_number, numbers_of, others_of, room_made, seen, without}
 use Rattle.rb_cache.specs.OnDisk.{IsCalm, Later, OnDisk}
+use Rattle.rb_cache.specs.Slots.{IsPatched}
+use Rattle.rb_roll.specs.Rolled.{step}
 use Rattle.rb_cache.specs.declared.frame.Frame.{Frame}
 use Rattle.rb_cache.proofs.FrameLemmas.{seen_brought, seen_dropped}
 
@@ -172,3 +174,37 @@ below_by n (f ∷ held) (g ∷ other) same below = (subst (λ (b : ℕ). b < n) 
 pub either_way : {T E A B X : Type 0} (r : Result T E) → (A → X) → (B → X) → OnOk r A → OnErr r B → X
 either_way (Ok x) so or a b = so a
 either_way (Err e) so or a b = or b
+
+-- the first of frames of which the first number is known
+pub first_frame : (which : ℕ) (ns : List ℕ) (held : List Frame) → numbers_of held ≡ which ∷ ns → (f : Frame) × (rest : List Frame) × (held ≡ f ∷ rest) × (f.block ≡ which)
+first_frame which ns [] same = cc
+first_frame which ns (f ∷ rest) same = (f, rest, refl, head same)
+  where
+    head : f.block ∷ numbers_of rest ≡ which ∷ ns → f.block ≡ which
+    head e = cc
+
+-- what is seen once the first block was patched
+module _ (n : ℕ) (g : List Patch) (first : Frame) (others held : List Frame) (patched : IsPatched n g first others held) where
+  pub patched_order : numbers_of held ≡ numbers_of (first ∷ others)
+  patched_order = ap numbers_of patched.held_is ∙ ap (λ (b : ℕ). b ∷ numbers_of others) patched.block
+
+  pub patched_own : (l : Layout) (file : List ℕ) (which : ℕ) → first.block ≡ which → seen l file held which ≡ step n g which (seen l file (first ∷ others) which)
+  patched_own l file which is =
+      let now : (patched.frame.block == which) ≡ true = eq-eqb _ _ (patched.block ∙ is) in
+      let was : (first.block == which) ≡ true = eq-eqb _ _ is in
+      ap (λ (h : List Frame). seen l file h which) patched.held_is
+      ∙ ap (λ (b : Bool). if b then patched.frame.bytes else seen l file others which) now
+      ∙ patched.bytes ∙ ap (λ (w : ℕ). step n g w first.bytes) is
+      ∙ sym (ap (λ (b : Bool). step n g which (if b then first.bytes else seen l file others which)) was)
+
+  pub patched_others : (l : Layout) (file : List ℕ) (which k : ℕ) → first.block ≡ which → k ≢ which → seen l file held k ≡ seen l file (first ∷ others) k
+  patched_others l file which k is differ =
+      let now : (patched.frame.block == k) ≡ false = ne_eqb _ _ (λ e. differ (sym e ∙ patched.block ∙ is)) in
+      let was : (first.block == k) ≡ false = ne_eqb _ _ (λ e. differ (sym e ∙ is)) in
+      ap (λ (h : List Frame). seen l file h k) patched.held_is
+      ∙ ap (λ (b : Bool). if b then patched.frame.bytes else seen l file others k) now
+      ∙ sym (ap (λ (b : Bool). if b then first.bytes else seen l file others k) was)
+
+  pub patched_clean : (l : Layout) (file : List ℕ) → AreClean l file (first ∷ others) → AreClean l file held
+  patched_clean l file clean = subst (AreClean l file) (sym patched.held_is)
+      ((λ is. let same = patched.clean is in ap (λ (f : Frame). f.bytes) same ∙ clean.0 (ap (λ (f : Frame). f.dirty) (sym same) ∙ is) ∙ ap (λ (f : Frame). home l file f.block) (sym same)), clean.1)

@@ -93,10 +93,14 @@ module _ {D : Type 0} (d : Ghosts D)
       front = λ c here.
           let o = (w.any_moment.each c (counts new (d.moment mid) c w.any_moment.later here)).outside in
           let e = mid_later.front o.0 o.1 in (e.0, e.1, front_less l c o.0 o.2.before ∙ e.2);
-      log = inr (refl, refl, λ which lt.
-          let is : home l (d.content new) which ≡ with_batch batch which (home l (d.content old) which) =
-          w.written which ∙ ap (with_batch batch which) (homes_mid which) in
-          ⊎_elim (λ same. inl (is ∙ same)) (λ m. inr (subst (may which) (sym is) m)) (comes which lt));
+      log = inr (
+        refl,
+        refl,
+        λ which lt.
+            let is : home l (d.content new) which ≡ with_batch batch which (home l (d.content old) which) =
+            w.written which ∙ ap (with_batch batch which) (homes_mid which) in
+            ⊎_elim (λ same. inl (is ∙ same)) (λ m. inr (subst (may which) (sym is) m)) (comes which lt),
+      );
     }
 
     pub batch_calm : IsCalm (d.image new) l (d.content new)
@@ -145,8 +149,12 @@ module _ {D : Type 0} (d : Ghosts D)
           front = λ c here.
               let o = (w.any_moment.each c (counts new (d.moment mid) c w.any_moment.later here)).outside in
               (o.0, o.1, front_less l c o.0 o.2.before);
-          log = inr (sym (append-nil all), refl, λ which lt. ⊎_elim (λ same. inl (w.written which ∙ same))
-              (λ m. inr (subst (may which) (sym (w.written which)) m)) (comes which lt));
+          log = inr (
+            sym (append-nil all),
+            refl,
+            λ which lt. ⊎_elim (λ same. inl (w.written which ∙ same))
+                (λ m. inr (subst (may which) (sym (w.written which)) m)) (comes which lt),
+          );
         } in record {
           leaves = joined d.moment d.image_since old mid new mine so_far.leaves
               (weaker d.moment d.image_since mid new (TwinSome (d.image mid) l batch (d.content mid)) mine

@@ -1,7 +1,6 @@
 -- What is seen through frames stays as they move, come and go, and as some come home.
 use Rattle.std.proofs.Common.{◌≡◌, ◌≢◌, ◌⊎◌, inl, inr, ⊎_elim, ℕ, ◌+◌, ◌-◌, ◌<◌, ◌≤◌, ◌==◌, Bool, true, false, if◌then◌else◌, List, [], ◌∷◌, ◌++◌, length, map, take, arith, ap, sym, ◌∙◌, subst, refl, length-append}
 use Rattle.std.proofs.lemmas.Bool.{cases_eq, eqb-true, eqb-false, eq-eqb, ne_eqb}
-
 use Rattle.std.specs.List.{AllByRecursion}
 use Rattle.rb_layout.specs.declared.layout.Layout.{Layout}
 use Rattle.rb_twin.specs.Batches.{Image, IsNoneOf, with_batch}

@@ -156,9 +156,10 @@ module _ (slots : List Frame) (order places : List ℕ) (k : ℕ) (f : Frame) (a
       freed_behind : (js : List ℕ) → has_number k js ≡ false → UnusedLast slots (js ++ k ∷ []) → UnusedLast (set slots k f) (js ++ k ∷ [])
       freed_behind [] lacking behind = (λ is. tt, tt)
       freed_behind (j ∷ js) lacking behind =
-          let differ = eqb-false j k (front_of (j == k) (has_number k js) lacking) in
-          (λ is. all_so (IsUnused slots) (IsUnused (set slots k f)) (js ++ k ∷ []) unused_still (behind.0 (ap (λ (g : Frame). g.block) (sym (at_set_other slots k j f differ)) ∙ is)),
-          freed_behind js (behind_of (j == k) (has_number k js) lacking) behind.1)
+          let differ = eqb-false j k (front_of (j == k) (has_number k js) lacking) in (
+            λ is. all_so (IsUnused slots) (IsUnused (set slots k f)) (js ++ k ∷ []) unused_still (behind.0 (ap (λ (g : Frame). g.block) (sym (at_set_other slots k j f differ)) ∙ is)),
+            freed_behind js (behind_of (j == k) (has_number k js) lacking) behind.1,
+          )
 
       pub freed_frames : AreFrames (set slots k f) order places
       freed_frames = record {
@@ -212,12 +213,17 @@ module _ (slots : List Frame) (order places : List ℕ) (k : ℕ) (f : Frame) (a
         whole = let less = length-without k order (are.all k lt) in let whole = are.whole in omega (arith, less, whole, long);
         once = (gone k order are.once, once_without k order are.once);
         all = λ j there. has_moved k j order (are.all j (omega (arith, there, long)));
-        below = (omega (arith, lt, long), all_without (λ j. j < length (set slots k f)) k order
-            (all_so (λ j. j < length slots) (λ j. j < length (set slots k f)) order (λ j there. omega (arith, there, long)) are.below));
+        below = (
+          omega (arith, lt, long),
+          all_without (λ j. j < length (set slots k f)) k order
+              (all_so (λ j. j < length slots) (λ j. j < length (set slots k f)) order (λ j there. omega (arith, there, long)) are.below),
+        );
         units = all_set (λ (g : Frame). length g.bytes ≡ 2048) slots k f are.units unit;
         placed = (
-          inr (subst (λ (g : Frame). g.block < BLOCKS) (sym own) below,
-          ap (λ (g : Frame). get_or (set places f.block k) g.block 0) own ∙ get_or-set_at places f.block f.block k 0 refl (let table = are.table in omega (arith, table, below))),
+          inr (
+            subst (λ (g : Frame). g.block < BLOCKS) (sym own) below,
+            ap (λ (g : Frame). get_or (set places f.block k) g.block 0) own ∙ get_or-set_at places f.block f.block k 0 refl (let table = are.table in omega (arith, table, below)),
+          ),
           taken_placed (without k order) (gone k order are.once) (all_without (IsPlaced slots places) k order are.placed)
               (all_without (λ j. (frame_at slots j).block ≢ f.block) k order (lacks_held slots order f.block used absent)),
         );

@@ -57,9 +57,10 @@ returns-clause-settled g c = λ told. on_ok_weaker c.bring.result (λ b.
     record {
       calm = calm_on g.D.Disk (λ disk t im le here. g.met.D.Disk.now_counts disk t im told le here) (λ disk im left. g.met.D.Disk.only_now disk im told left) c.args.layout.now c.args.log.now c.make_room.new.log c.args.disk.now c.make_room.new.disk c.bring.new.disk (SeenAt c.args.layout.now (g.D.Disk.content c.args.disk.now) c.args.self.now.held) (c.bring.ensures.same told) settled.calm;
       clean = subst (AreClean c.args.layout.now (g.D.Disk.content c.bring.new.disk)) (sym b.held_is)
-          (subst (λ (file : List ℕ). AreClean c.args.layout.now file (b.frame ∷ room_made (length c.make_room.new.frames.slots) (held_in c.make_room.new.frames))) (sym still.same)
-          ((λ is. b.bytes told ∙ ap (home c.args.layout.now (g.D.Disk.content c.make_room.new.disk)) (sym b.block)),
-          all_room (λ f. f.dirty ≡ false → f.bytes ≡ home c.args.layout.now (g.D.Disk.content c.make_room.new.disk) f.block) (length c.make_room.new.frames.slots) (held_in c.make_room.new.frames) settled.clean));
+          (subst (λ (file : List ℕ). AreClean c.args.layout.now file (b.frame ∷ room_made (length c.make_room.new.frames.slots) (held_in c.make_room.new.frames))) (sym still.same) (
+            (λ is. b.bytes told ∙ ap (home c.args.layout.now (g.D.Disk.content c.make_room.new.disk)) (sym b.block)),
+            all_room (λ f. f.dirty ≡ false → f.bytes ≡ home c.args.layout.now (g.D.Disk.content c.make_room.new.disk) f.block) (length c.make_room.new.frames.slots) (held_in c.make_room.new.frames) settled.clean,
+          ));
       only = λ was. only_on g.D.Disk (λ disk t im le here. g.met.D.Disk.now_counts disk t im told le here) (λ disk im left. g.met.D.Disk.only_now disk im told left) c.args.layout.now c.args.log.now c.make_room.new.log c.args.disk.now c.make_room.new.disk c.bring.new.disk (SeenAt c.args.layout.now (g.D.Disk.content c.args.disk.now) c.args.self.now.held) (c.bring.ensures.same told) (settled.only was);
     }) c.bring.ensures.brought
 

@@ -42,7 +42,6 @@ module _ (slots : List Frame) (order places : List ℕ) (are : AreFrames slots o
       (λ clean. cc (clean, ap (λ (f : Frame). f.dirty) own, dirty))
       (λ also. ap (λ (t : TwinState). t.batch) (puts dirty) ∙ ap (λ (f : Frame). before.batch ++ image_of f ∷ []) (sym own)))
 
-
 -- the facts of the frame that gives way
 dirty_last : (s : FramesState) (slots : List Frame) (order : List ℕ) (k : ℕ) → record { slots = slots; order = order } ≡ s → k ≡ get_or order (length order - 1) 0 → (last_of s).dirty ≡ true → (frame_at slots k).dirty ≡ true
 dirty_last s slots order k view found dirty =
@@ -55,14 +54,16 @@ gather_more-requires c =
     let lt = last_below i.slots.items order i.places.items c.self.invariant c.from.result found in
     let own = at_is i.slots.items c.from.result c.index_mut.result.now lt c.index_mut.ensures.value in
     let dirty = sym (ap (λ (f : Frame). f.dirty) own) ∙ dirty_last c.args.self.now i.slots.items order c.from.result c.self.view_is found c.requires.dirty in
-    record { begun = record {
-      before = i.slots.items;
-      places = i.places.items;
-      so_far = subst (λ (ss : List Frame). GatheredSoFar i.slots.items ss order i.places.items c.put_home.new.twin.batch) (sym c.as_mut_slice.ensures.value)
-          (first_put i.slots.items order i.places.items c.self.invariant c.from.result lt c.index_mut.result.now c.put_home.new.self own dirty c.put_home.ensures.clean c.args.twin.now c.put_home.new.twin c.requires.empty c.put_home.ensures.put);
-      within = subst (λ (l : Layout). AreBelow (block_count l) (held_of i.slots.items order)) (sym c.put_home.ensures.layout)
-          (subst (λ (s : FramesState). AreBelow (block_count c.args.twin.now.layout) (held_in s)) (sym c.self.view_is) c.requires.within);
-    } }
+    record {
+      begun = record {
+        before = i.slots.items;
+        places = i.places.items;
+        so_far = subst (λ (ss : List Frame). GatheredSoFar i.slots.items ss order i.places.items c.put_home.new.twin.batch) (sym c.as_mut_slice.ensures.value)
+            (first_put i.slots.items order i.places.items c.self.invariant c.from.result lt c.index_mut.result.now c.put_home.new.self own dirty c.put_home.ensures.clean c.args.twin.now c.put_home.new.twin c.requires.empty c.put_home.ensures.put);
+        within = subst (λ (l : Layout). AreBelow (block_count l) (held_of i.slots.items order)) (sym c.put_home.ensures.layout)
+            (subst (λ (s : FramesState). AreBelow (block_count c.args.twin.now.layout) (held_in s)) (sym c.self.view_is) c.requires.within);
+      };
+    }
 
 -- what is left at the end, and that the last frame is clean then
 final : (c : goal.After-self-2-1) → GatheredSoFar c.self.inside.slots.items c.gather_more.new.slots (keys_of c.self.inside.order.entries) c.self.inside.places.items c.gather_more.new.twin.batch
