@@ -1,4 +1,5 @@
 pub mod CallLemmas
+pub mod CleanLemmas
 pub mod Evicting
 pub mod FrameLemmas
 pub mod GatherLemmas

@@ -219,14 +219,13 @@ impl Cache {
         ensures memory { IsCacheMemory self.new }
         ensures counted { IsCounted (D.faults disk.old) (D.faults disk.new) result }
     {
-        let count = self.frames.count();
+        // For the proof: the count's contract tells what always holds of frames.
+        let _ = self.frames.count();
         log.flush(disk)?;
         let mut next = 0;
-        while next < count {
-            next = self.frames.gather_from(next, twin);
-            if twin.len() > 0 {
-                twin.write(disk)?;
-            }
+        while let Some(dirty) = self.frames.dirty_from(next) {
+            next = self.frames.gather_from(dirty, twin);
+            twin.write(disk)?;
         }
         Ok(())
     }

@@ -1,5 +1,5 @@
 //! `Frames`: the blocks that a cache holds, and in which order they were used. `Cache` asks it which block gives way.
-ghost use Rattle.std.specs.Prelude.{◌≡◌, ◌≢◌, ◌-◌, ◌<◌, ◌≤◌, ◌∷◌, [], ℕ, List, true, false, length, IfOk};
+ghost use Rattle.std.specs.Prelude.{◌≡◌, ◌≢◌, ◌-◌, ◌<◌, ◌≤◌, ◌∷◌, [], ℕ, List, true, false, length, IfOk, IfSome, IfNone};
 ghost use Rattle.std.specs.Prelude.{OnOk, OnErr, slice_index_or};
 ghost use Rattle.std.specs.Map.{keys_of};
 ghost use Rattle.rb_base.specs.Counts.{IsCounted};
@@ -182,6 +182,22 @@ impl Frames {
         gather_more(self.slots.as_mut_slice(), &self.order, twin);
     }
 
+    /// The first dirty frame from a number on.
+    pub fn dirty_from(&self, from: usize) -> Option<usize>
+        ensures found { IfSome result (λ k. (frame_at self.now.slots k).dirty ≡ true) }
+        ensures after { IfSome result (λ k. from ≤ k) }
+        ensures below { IfSome result (λ k. k < length self.now.slots) }
+        ensures clean { IfSome result (λ k. AreCleanFrom from k self.now.slots) }
+        ensures none { IfNone result (AreCleanFrom 0 from self.now.slots → NoneDirty (held_in self.now)) }
+    {
+        for number in from..self.slots.len() {
+            if self.slots[number].dirty {
+                return Some(number);
+            }
+        }
+        None
+    }
+
     /// Puts the dirty frames from a number on into an empty batch, up to eight. They count as clean from here on.
     /// Answers the number behind the last one that it saw.
     pub fn gather_from(&mut self, from: usize, twin: &mut Twin) -> usize
@@ -192,7 +208,7 @@ impl Frames {
         ensures end { result ≤ length self.new.slots }
         ensures gathered { Gathered (held_in self.old) (held_in self.new) twin.new.batch }
         ensures clean { AreCleanFrom 0 from self.old.slots → AreCleanFrom 0 result self.new.slots }
-        ensures all { AreCleanFrom 0 (length self.new.slots) self.new.slots → NoneDirty (held_in self.new) }
+        ensures some { (frame_at self.old.slots from).dirty ≡ true → 0 < length twin.new.batch }
         ensures layout { twin.new.layout ≡ twin.old.layout }
         ensures count { length self.new.slots ≡ length self.old.slots }
         ensures memory { IsCacheMemory (cache_of self.new) }

@@ -1,4 +1,4 @@
-use Rattle.std.proofs.Common.{◌≡◌, ◌⊎◌, inl, inr, ◌+◌, ◌<◌, ◌≤◌, ℕ, Bool, true, false, List, [], ◌∷◌, ◌++◌, length, get_or, set, arith, ap, sym, ◌∙◌, subst, refl}
+use Rattle.std.proofs.Common.{◌≡◌, ◌⊎◌, inl, inr, ◌+◌, ◌<◌, ◌≤◌, ℕ, Bool, true, false, List, [], ◌∷◌, ◌++◌, length, get_or, set, arith, ap, sym, ◌∙◌, subst, refl, length-append}
 use Rattle.std.proofs.lemmas.Bool.{cases_eq}
 use Rattle.std.proofs.lemmas.List.{length-set}
 use Rattle.std.specs.Map.{keys_of}
@@ -9,7 +9,7 @@ use Rattle.rb_twin.specs.Twins.{TwinState}
 use Rattle.rb_cache.specs.Frames.{AreBelow}
 use Rattle.rb_cache.specs.Slots.{AreCleanFrom, FramesState, GatheredSoFar, frame_at, held_of, held_in}
 use Rattle.rb_cache.specs.declared.frame.Frame.{Frame}
-use Rattle.rb_cache.proofs.GatherLemmas.{cleaner_set, gathered_maybe, gathered_none, image_of, none_dirty, put, put_below, put_differs}
+use Rattle.rb_cache.proofs.GatherLemmas.{cleaner_set, gathered_maybe, gathered_none, grows, image_of, put, put_below, put_differs}
 use Rattle.rb_cache.proofs.MemoryLemmas.{memory_of}
 use Rattle.rb_cache.proofs.SlotLemmas.{at_set_same}
 use Rattle.rb_cache.proofs.UseLemmas.{at_is}
@@ -26,6 +26,8 @@ loop-next-init c =
           (subst (λ (s : FramesState). GatheredSoFar s.slots i.slots.items (keys_of i.order.entries) i.places.items []) c.self.view_is (gathered_none i.slots.items (keys_of i.order.entries) i.places.items c.self.invariant));
       clean = λ k le lt. absurd (omega (arith, le, lt));
       layout = refl;
+      same = λ is. ap (λ (s : FramesState). s.slots) c.self.view_is;
+      some = λ dirty lt. absurd (omega (arith, lt));
       on = inr (ap length c.requires.empty);
     }
 
@@ -76,17 +78,18 @@ loop-next-preserved c =
         | inr differ ↦ cleaner_set slots k c.put_home.new.self lt (ap (λ (f : Frame). f.dirty) (sym now)) j (i.clean j le (omega (arith, below, differ)))
       ];
       layout = c.put_home.ensures.layout ∙ i.layout;
+      same = λ is. absurd (omega (arith, is, i.from));
+      some = λ dirty lt. elim (cases_eq c.args.from k) [
+        | inl here ↦
+            let is : (frame_at slots k).dirty ≡ true = ap (λ (ss : List Frame). (frame_at ss k).dirty) (i.same (sym here)) ∙ subst (λ (j : ℕ). (frame_at c.args.self.now.slots j).dirty ≡ true) here dirty in
+            omega (arith, ap length (puts is), length-append c.loop-next.twin.batch (image_of (frame_at slots k) ∷ []))
+        | inr differ ↦ let was = i.some dirty (omega (arith, i.from, differ)) in let more = grows (frame_at slots k) c.loop-next.twin.batch c.put_home.new.twin.batch stays puts in omega (arith, was, more)
+      ];
       on = inl (omega arith);
     }
 
-pub returns-else-len-lt-TWIN_IMAGES-clause-all : goal.returns-else-len-lt-TWIN_IMAGES-clause-all
-returns-else-len-lt-TWIN_IMAGES-clause-all c = λ clean. none_dirty c.loop-next.self-inside.slots.items (keys_of c.loop-next.self-inside.order.entries) c.loop-next.self-inside.places.items c.loop-next.invariant.so_far.frames clean
-
 pub returns-else-len-lt-TWIN_IMAGES-clause-memory : goal.returns-else-len-lt-TWIN_IMAGES-clause-memory
 returns-else-len-lt-TWIN_IMAGES-clause-memory c = memory_of c.loop-next.self-inside.slots.items (keys_of c.loop-next.self-inside.order.entries) c.loop-next.self-inside.places.items c.loop-next.invariant.so_far.frames
-
-pub returns-after-loop-next-clause-all : goal.returns-after-loop-next-clause-all
-returns-after-loop-next-clause-all c = λ clean. none_dirty c.loop-next.self-inside.slots.items (keys_of c.loop-next.self-inside.order.entries) c.loop-next.self-inside.places.items c.loop-next.invariant.so_far.frames clean
 
 pub returns-after-loop-next-clause-memory : goal.returns-after-loop-next-clause-memory
 returns-after-loop-next-clause-memory c = memory_of c.loop-next.self-inside.slots.items (keys_of c.loop-next.self-inside.order.entries) c.loop-next.self-inside.places.items c.loop-next.invariant.so_far.frames

@@ -1,6 +1,6 @@
-use Rattle.std.proofs.Common.{◌≡◌, ◌-◌, ◌<◌, ◌≤◌, ◌⊎◌, length}
+use Rattle.std.proofs.Common.{◌≡◌, ◌-◌, ◌<◌, ◌≤◌, ◌⊎◌, true, length}
 use Rattle.std.specs.Map.{keys_of}
-use Rattle.rb_cache.specs.Slots.{AreCleanFrom, GatheredSoFar}
+use Rattle.rb_cache.specs.Slots.{AreCleanFrom, GatheredSoFar, frame_at}
 use Rattle.rb_cache.proofs.frames.Frames.gather_from.Given as goal
 
 abbrev pub invariant-loop-next : goal.invariant-loop-next
@@ -11,6 +11,8 @@ invariant-loop-next l = record {
   so_far : GatheredSoFar l.fn.self.slots l.self-inside.slots.items (keys_of l.self-inside.order.entries) l.self-inside.places.items l.twin.batch;
   clean : AreCleanFrom l.from l.next l.self-inside.slots.items;
   layout : l.twin.layout ≡ l.fn.twin.layout;
+  same : l.next ≡ l.from → l.self-inside.slots.items ≡ l.fn.self.slots;
+  some : (frame_at l.fn.self.slots l.from).dirty ≡ true → l.from < l.next → 0 < length l.twin.batch;
   on : (l.from < l.next) ⊎ (length l.twin.batch ≡ 0);
 }
 
