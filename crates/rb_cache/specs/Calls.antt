@@ -28,7 +28,8 @@ abbrev pub SeenAt : Layout → List ℕ → List Frame → ℕ → List ℕ → 
 SeenAt l file held which x = x ≡ seen l file held which
 
 -- what each image has at any moment of a call
-abbrev pub Leaving : {D : Type 0} → Ghosts D → Layout → LogState → D → D → (ℕ → List ℕ → Type 0) → Type 0
+abbrev pub Leaving : {D : Type 0} → Ghosts D → Layout → LogState → D → D → (ℕ → List ℕ → Type 0)
+    → Type 0
 Leaving d l s old new may = (groups : List (List Patch)) → LogHas l s (d.content old) groups
     → Leaves d old new (OnDisk (d.image old) l s.head groups s.pending (d.content old) may)
 
@@ -40,8 +41,10 @@ pub record Done {D : Type 0} (d : Ghosts D) (l : Layout) (s t : LogState) (old n
   pub later : Later (d.image old) (d.image new) l groups s.pending (d.content old) groups1 t.pending (d.content new) may
 
 -- and over each
-abbrev pub IsDone : {D : Type 0} → Ghosts D → Layout → LogState → LogState → D → D → (ℕ → List ℕ → Type 0) → Type 0
-IsDone d l s t old new may = (groups : List (List Patch)) → LogHas l s (d.content old) groups → Done d l s t old new groups may
+abbrev pub IsDone : {D : Type 0} → Ghosts D → Layout → LogState → LogState → D → D
+    → (ℕ → List ℕ → Type 0) → Type 0
+IsDone d l s t old new may = (groups : List (List Patch)) → LogHas l s (d.content old) groups
+    → Done d l s t old new groups may
 
 -- Then all is calm again, clean frames are their homes, and where the content was the only image it is.
 pub record Settled {D : Type 0} (d : Ghosts D) (l : Layout) (held : List Frame) (old new : D) : Type 0 where

@@ -1,5 +1,6 @@
 -- Blocks that are held in frames, the most recently used first, and what is read through them.
-use Rattle.std.specs.Prelude.{◌≡◌, ℕ, ◌-◌, ◌<◌, ◌≤◌, ◌==◌, Bool, true, false, if◌then◌else◌, List, [], ◌∷◌, length}
+use Rattle.std.specs.Prelude.{◌≡◌, ℕ, ◌-◌, ◌<◌, ◌≤◌, ◌==◌, Bool, true, false}
+use Rattle.std.specs.Prelude.{if◌then◌else◌, List, [], ◌∷◌, length}
 use Rattle.std.specs.Prelude.{◌++◌, take, map}
 use Rattle.std.specs.List.{AllByRecursion}
 use Rattle.rb_base.specs.declared.sizes.TheConstants.{UNIT}
@@ -34,7 +35,8 @@ without which (n ∷ ns) = if n == which then ns else n ∷ without which ns
 -- one, the last gives way.
 abbrev pub brought : ℕ → ℕ → List ℕ → List ℕ
 brought frames which ns =
-    which ∷ (if has_number which ns then without which ns else if length ns == frames then take (frames - 1) ns else ns)
+    which ∷ (if has_number which ns then without which ns
+    else if length ns == frames then take (frames - 1) ns else ns)
 
 -- the frames once one of them is free
 abbrev pub room_made : ℕ → List Frame → List Frame
@@ -82,7 +84,8 @@ cleaned names (f ∷ held) = (if has_number f.block names then record f { dirty 
 
 -- a batch has blocks as they are seen, whatever is at home
 abbrev pub AreSeen : List Frame → List Image → Type 0
-AreSeen held batch = AllByRecursion (λ image. (l : Layout) (file : List ℕ) → image.unit ≡ seen l file held image.no) batch
+AreSeen held batch = AllByRecursion
+    (λ image. (l : Layout) (file : List ℕ) → image.unit ≡ seen l file held image.no) batch
 
 -- Up to eight frames were put into a batch, and count as clean since.
 pub record Gathered (before held : List Frame) (batch : List Image) : Type 0 where
@@ -101,4 +104,5 @@ pub record IsBrought (tells : Type 0) (no : ℕ) (unit : List ℕ) (others held 
 -- where all frames hold a block, the last one is clean
 abbrev pub IsLastClean : ℕ → List Frame → Type 0
 IsLastClean frames held =
-    (front : List Frame) (last : Frame) → held ≡ front ++ last ∷ [] → length held ≡ frames → last.dirty ≡ false
+    (front : List Frame) (last : Frame) → held ≡ front ++ last ∷ [] → length held ≡ frames
+    → last.dirty ≡ false

@@ -1,5 +1,6 @@
 -- The frames of a cache by their numbers, and the order in which they were used.
-use Rattle.std.specs.Prelude.{◌≡◌, ◌⊎◌, ℕ, zero, suc, ◌-◌, ◌<◌, ◌≤◌, ◌==◌, true, false, if◌then◌else◌, List, [], ◌∷◌, length}
+use Rattle.std.specs.Prelude.{◌≡◌, ◌⊎◌, ℕ, zero, suc, ◌-◌, ◌<◌, ◌≤◌, ◌==◌, true}
+use Rattle.std.specs.Prelude.{false, if◌then◌else◌, List, [], ◌∷◌, length}
 use Rattle.std.specs.Prelude.{slice_index_or}
 use Rattle.std.specs.List.{AllByRecursion}
 use Rattle.rb_base.specs.Groups.{Patch}
@@ -29,7 +30,8 @@ IsUnused slots k = (frame_at slots k).block ≡ NO_BLOCK
 -- the frames of these numbers that hold a block
 abbrev pub held_of : List Frame → List ℕ → List Frame
 held_of slots [] = []
-held_of slots (k ∷ ks) = if (frame_at slots k).block == NO_BLOCK then held_of slots ks else frame_at slots k ∷ held_of slots ks
+held_of slots (k ∷ ks) =
+    if (frame_at slots k).block == NO_BLOCK then held_of slots ks else frame_at slots k ∷ held_of slots ks
 
 abbrev pub held_in : FramesState → List Frame
 held_in s = held_of s.slots s.order

@@ -1,6 +1,7 @@
 //! `Cache`: the blocks of a file that were used last. A store reads and patches blocks through it, and it makes their
 //! groups last before a block goes home.
-ghost use Rattle.std.specs.Prelude.{◌≡◌, ◌≢◌, ◌<◌, ◌≤◌, ◌∷◌, [], ℕ, List, length, IfOk, OnOk};
+ghost use Rattle.std.specs.Prelude.{◌≡◌, ◌≢◌, ◌<◌, ◌≤◌, ◌∷◌, [], ℕ, List, length};
+ghost use Rattle.std.specs.Prelude.{IfOk, OnOk};
 ghost use Rattle.rb_base.specs.Counts.{IsCounted};
 ghost use Rattle.rb_base.specs.Groups.{Patch};
 ghost use Rattle.rb_layout.specs.Regions.{block_count};
@@ -37,8 +38,8 @@ impl Model for Cache {
     ghost view = { λ a. cache_of a.frames };
 }
 
-/// Sees to it that the block which gives way next is at home: else its groups are made to last, and it goes home with up
-/// to seven others.
+/// Sees to it that the block which gives way next is at home: else its groups are made to last, and it goes home with
+/// up to seven others.
 fn make_room<D: Disk>(
     frames: &mut Frames,
     disk: &mut D,

@@ -1,5 +1,6 @@
 //! `Frame`: one block in memory, and what a group makes of it. `Frames` has as many as its cache was made with.
-ghost use Rattle.std.specs.Prelude.{◌≡◌, ◌+◌, ◌++◌, ◌∷◌, [], ◌<◌, ◌≤◌, true, false, length, slice_index_or};
+ghost use Rattle.std.specs.Prelude.{◌≡◌, ◌+◌, ◌++◌, ◌∷◌, [], ◌<◌, ◌≤◌, true};
+ghost use Rattle.std.specs.Prelude.{false, length, slice_index_or};
 ghost use Rattle.rb_base.specs.Fields.{overwritten};
 ghost use Rattle.rb_base.specs.Groups.{IsGroup, Patch};
 ghost use Rattle.rb_layout.specs.Regions.{block_count};

@@ -1,5 +1,6 @@
 //! `Frames`: the blocks that a cache holds, and in which order they were used. `Cache` asks it which block gives way.
-ghost use Rattle.std.specs.Prelude.{◌≡◌, ◌≢◌, ◌-◌, ◌<◌, ◌≤◌, ◌∷◌, [], ℕ, List, true, false, length, IfOk, IfSome, IfNone};
+ghost use Rattle.std.specs.Prelude.{◌≡◌, ◌≢◌, ◌-◌, ◌<◌, ◌≤◌, ◌∷◌, [], ℕ};
+ghost use Rattle.std.specs.Prelude.{List, true, false, length, IfOk, IfSome, IfNone};
 ghost use Rattle.std.specs.Prelude.{OnOk, OnErr, slice_index_or};
 ghost use Rattle.std.specs.Map.{keys_of};
 ghost use Rattle.rb_base.specs.Counts.{IsCounted};
