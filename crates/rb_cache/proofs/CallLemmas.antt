@@ -1,13 +1,13 @@
 -- The frames of a call: a block that is held goes to the front, and one that isn't is read into the last frame's place.
-use Rattle.std.proofs.Common.{Result, Ok, Err, OnOk, OnErr, ◌≡◌, ◌≢◌, ◌⊎◌, inl, inr, ⊎_elim, ℕ, zero, suc, ◌+◌, ◌-◌, ◌<◌, ◌≤◌, ◌==◌, Bool, true, false, if◌then◌else◌, List, [], ◌∷◌, ◌++◌, length, map, take, arith, ap, sym, ◌∙◌, subst, refl, length-append}
+use Rattle.std.proofs.Common.{Result, Ok, Err, OnOk, OnErr, ◌≡◌, ◌≢◌, ℕ, zero, suc, ◌-◌, ◌<◌, ◌≤◌, ◌==◌, Bool, true, false, if◌then◌else◌, List, [], ◌∷◌, ◌++◌, length, take, arith, ap, sym, ◌∙◌, subst, refl, length-append}
 use Rattle.std.proofs.Math.Seq.{take-append_seam}
-use Rattle.std.proofs.lemmas.Bool.{cases_eq, eqb-true, eqb-false, eq-eqb, ne_eqb}
+use Rattle.std.proofs.lemmas.Bool.{eqb-true, eq-eqb, ne_eqb}
 use Rattle.std.specs.List.{AllByRecursion}
 use Rattle.rb_base.proofs.Each.{all_take}
 use Rattle.rb_base.specs.Groups.{Patch}
 use Rattle.rb_base.specs.Moments.{joined}
 use Rattle.rb_disk.specs.DiskModel.{Only}
-use Rattle.rb_disk.specs.Moments.{Leaves, Rests, rests_leave}
+use Rattle.rb_disk.specs.Moments.{Rests, rests_leave}
 use Rattle.rb_disk.specs.declared.disk.Disk.{Ghosts}
 use Rattle.rb_layout.specs.declared.layout.Layout.{Layout}
 use Rattle.rb_log.specs.GroupSlots.{LogState}
@@ -18,7 +18,7 @@ use Rattle.rb_cache.specs.OnDisk.{IsCalm, Later, OnDisk}
 use Rattle.rb_cache.specs.Slots.{IsPatched}
 use Rattle.rb_roll.specs.Rolled.{step}
 use Rattle.rb_cache.specs.declared.frame.Frame.{Frame}
-use Rattle.rb_cache.proofs.FrameLemmas.{seen_brought, seen_dropped}
+use Rattle.rb_cache.proofs.FrameLemmas.{seen_dropped}
 
 -- what all frames have as one goes to the front
 pub all_moved : (P : Frame → Type 0) (which : ℕ) (f : Frame) (held : List Frame) → AllByRecursion P held → has_number which (numbers_of held) ≡ true → AllByRecursion P (frame_in which f held ∷ others_of which held)

@@ -1,5 +1,5 @@
 -- The loop that brings each dirty frame home: what holds behind the flush, and behind each batch more.
-use Rattle.std.proofs.Common.{◌≡◌, ◌⊎◌, inl, inr, ⊎_elim, false, ℕ, ◌+◌, ◌<◌, ◌≤◌, List, [], ◌++◌, length, arith, ap, sym, ◌∙◌, subst, refl, length-append}
+use Rattle.std.proofs.Common.{◌≡◌, ◌⊎◌, inl, inr, ⊎_elim, false, ℕ, ◌<◌, ◌≤◌, List, [], ◌++◌, arith, ap, sym, ◌∙◌, subst, length-append}
 use Rattle.rb_base.specs.Groups.{Patch}
 use Rattle.rb_disk.specs.DiskModel.{Only}
 use Rattle.rb_disk.specs.Moments.{Leaves}
@@ -12,7 +12,7 @@ use Rattle.rb_log.specs.Slots.{SameOutside, SameSlots}
 use Rattle.rb_twin.specs.Batches.{Image, with_batch}
 use Rattle.rb_twin.specs.Twins.{home, TwinSome}
 use Rattle.rb_cache.specs.Calls.{IsDone, Leaving, LogHas, SeenAt, Settled, flushed}
-use Rattle.rb_cache.specs.Evictions.{Flushed, TwinWrote}
+use Rattle.rb_cache.specs.Evictions.{TwinWrote}
 use Rattle.rb_cache.specs.Frames.{AreClean, AreDifferent, AreSeen, Gathered, seen}
 use Rattle.rb_cache.specs.OnDisk.{IsCalm, Later, OnDisk}
 use Rattle.rb_cache.specs.declared.frame.Frame.{Frame}

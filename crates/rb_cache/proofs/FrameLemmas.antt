@@ -1,11 +1,11 @@
 -- What is seen through frames stays as they move, come and go, and as some come home.
-use Rattle.std.proofs.Common.{◌≡◌, ◌≢◌, ◌⊎◌, inl, inr, ⊎_elim, ℕ, ◌+◌, ◌-◌, ◌<◌, ◌≤◌, ◌==◌, Bool, true, false, if◌then◌else◌, List, [], ◌∷◌, ◌++◌, length, map, take, arith, ap, sym, ◌∙◌, subst, refl, length-append}
-use Rattle.std.proofs.lemmas.Bool.{cases_eq, eqb-true, eqb-false, eq-eqb, ne_eqb}
+use Rattle.std.proofs.Common.{◌≡◌, ◌⊎◌, inl, inr, ⊎_elim, ℕ, ◌==◌, Bool, true, false, if◌then◌else◌, List, [], ◌∷◌, ◌++◌, ap, sym, ◌∙◌, refl}
+use Rattle.std.proofs.lemmas.Bool.{eqb-true, eqb-false, eq-eqb, ne_eqb}
 use Rattle.std.specs.List.{AllByRecursion}
 use Rattle.rb_layout.specs.declared.layout.Layout.{Layout}
-use Rattle.rb_twin.specs.Batches.{Image, IsNoneOf, with_batch}
+use Rattle.rb_twin.specs.Batches.{Image, with_batch}
 use Rattle.rb_twin.specs.Twins.{home}
-use Rattle.rb_cache.specs.Frames.{seen, numbers_of, has_number, without, frame_in, others_of, cleaned, blocks_of, AreBelow, AreClean, AreDifferent, AreSeen}
+use Rattle.rb_cache.specs.Frames.{seen, numbers_of, has_number, frame_in, others_of, cleaned, blocks_of, AreBelow, AreClean, AreDifferent, AreSeen}
 use Rattle.rb_cache.specs.declared.frame.Frame.{Frame}
 use Rattle.rb_cache.proofs.NumberLemmas.{behind_of, front_of}
 

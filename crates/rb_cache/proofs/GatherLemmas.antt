@@ -1,5 +1,5 @@
 -- Frames are put into a batch one by one.
-use Rattle.std.proofs.Common.{◌≡◌, ◌≢◌, ◌⊎◌, inl, inr, ℕ, ◌+◌, ◌<◌, ◌≤◌, ◌==◌, Bool, true, false, if◌then◌else◌, List, [], ◌∷◌, ◌++◌, length, map, get_or, set, arith, ap, sym, ◌∙◌, subst, refl, length-append}
+use Rattle.std.proofs.Common.{◌≡◌, ◌≢◌, inl, inr, ℕ, ◌<◌, ◌≤◌, ◌==◌, Bool, true, false, List, [], ◌∷◌, ◌++◌, length, set, arith, ap, sym, ◌∙◌, subst, refl, length-append}
 use Rattle.std.proofs.lemmas.Bool.{cases_eq, eqb-false, eq-eqb, ne_eqb}
 use Rattle.std.proofs.lemmas.List.{length-set, map-append, set-get_or}
 use Rattle.std.specs.List.{AllByRecursion}
@@ -7,14 +7,14 @@ use Rattle.std.specs.Map.{keys_of}
 use Rattle.rb_base.proofs.Each.{all_at, all_push, all_so}
 use Rattle.rb_layout.specs.declared.layout.Layout.{Layout}
 use Rattle.rb_twin.specs.Batches.{Image, IsNoneOf}
-use Rattle.rb_cache.specs.Frames.{AreBelow, AreSeen, Gathered, NoneDirty, blocks_of, cleaned, has_number, seen}
-use Rattle.rb_cache.specs.Slots.{AreCleanFrom, AreFrames, AreOnce, GatheredSoFar, IsPlaced, frame_at, held_of, no_frame}
+use Rattle.rb_cache.specs.Frames.{AreBelow, NoneDirty, blocks_of, cleaned, has_number, seen}
+use Rattle.rb_cache.specs.Slots.{AreCleanFrom, AreFrames, GatheredSoFar, IsPlaced, frame_at, held_of, no_frame}
 use Rattle.rb_cache.specs.declared.frame.Frame.{Frame}
 use Rattle.rb_cache.specs.declared.frame.TheConstants.{NO_BLOCK}
 use Rattle.rb_cache.proofs.FrameLemmas.{below_cleaned, cleaned_more, dirty_apart, own_seen, seen_cleaned}
 use Rattle.rb_cache.proofs.MemoryLemmas.{changed_frames}
 use Rattle.rb_cache.proofs.NumberLemmas.{all_has, behind_of, front_of}
-use Rattle.rb_cache.proofs.SlotLemmas.{all_held, at_set_other, at_set_same, held_all, held_differ, held_set_out, held_unused, held_used, one_frame}
+use Rattle.rb_cache.proofs.SlotLemmas.{all_held, at_set_other, at_set_same, held_all, held_differ, held_unused, held_used, one_frame}
 
 -- a frame as it was put into a batch, and its image
 abbrev pub put : Frame → Frame

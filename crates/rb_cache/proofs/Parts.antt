@@ -1,10 +1,10 @@
 -- Parts of two files that are the same in front of a place, or behind it, or everywhere.
 use Rattle.std.proofs.Common.{◌≡◌, ℕ, ◌+◌, ◌-◌, ◌*◌, ◌<◌, ◌≤◌, List, length, take, drop, arith, ap, sym, ◌∙◌}
-use Rattle.std.proofs.Common.{slice_index, refl}
+use Rattle.std.proofs.Common.{slice_index}
 use Rattle.std.proofs.lemmas.List.{drop-take, take-take, drop-drop}
 use Rattle.rb_base.specs.Fields.{part}
 use Rattle.rb_base.proofs.Fronts.{byte_of_part}
-use Rattle.rb_disk.specs.Ranges.{SameBut, SamePart}
+use Rattle.rb_disk.specs.Ranges.{SamePart}
 use Rattle.rb_layout.specs.Regions.{block_count, block_offset, file_length, log_offset, twin_offset}
 use Rattle.rb_layout.specs.declared.layout.Layout.{Layout}
 use Rattle.rb_log.specs.Slots.{SameSlots}

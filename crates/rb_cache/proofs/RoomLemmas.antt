@@ -1,12 +1,12 @@
 -- What a call leaves that flushes and writes a batch: of the log, of the disk and of what is seen.
-use Rattle.std.proofs.Common.{Result, Ok, Err, OnOk, ◌≡◌, ◌≢◌, ◌⊎◌, inl, inr, ⊎_elim, ℕ, ◌+◌, ◌<◌, ◌≤◌, List, [], ◌∷◌, ◌++◌, length, take, arith, ap, sym, ◌∙◌, subst, refl, append-nil, length-append}
+use Rattle.std.proofs.Common.{Result, Ok, Err, OnOk, ◌≡◌, ◌⊎◌, inl, inr, ⊎_elim, ℕ, ◌<◌, ◌≤◌, List, [], ◌++◌, length, arith, ap, sym, ◌∙◌, subst, refl, append-nil, length-append}
 use Rattle.rb_base.specs.Groups.{Patch}
 use Rattle.rb_base.specs.Moments.{begun, joined, weaker}
 use Rattle.rb_disk.specs.DiskModel.{Only}
 use Rattle.rb_disk.specs.Moments.{Leaves}
 use Rattle.rb_disk.specs.Ranges.{SameBut}
 use Rattle.rb_disk.specs.declared.disk.Disk.{Ghosts}
-use Rattle.rb_layout.specs.Regions.{block_count, block_offset, file_length, log_offset, twin_offset}
+use Rattle.rb_layout.specs.Regions.{block_offset, file_length, log_offset, twin_offset}
 use Rattle.rb_layout.specs.declared.layout.Layout.{Layout}
 use Rattle.rb_log.specs.GroupLaws.{same_group_log}
 use Rattle.rb_log.specs.GroupSlots.{FlushedSome, GroupsAre, LogState}
@@ -14,7 +14,7 @@ use Rattle.rb_log.specs.Slots.{OutsideFrom, SameOutside, SameSlots}
 use Rattle.rb_twin.specs.Batches.{Image, with_batch}
 use Rattle.rb_twin.specs.TwinLaws.{kept_shut}
 use Rattle.rb_twin.specs.Twins.{home, twin_gate, TwinSome}
-use Rattle.rb_cache.specs.Calls.{Done, IsDone, Leaving, LogHas, SeenAt, Settled, flushed}
+use Rattle.rb_cache.specs.Calls.{IsDone, Leaving, LogHas, SeenAt, flushed}
 use Rattle.rb_cache.specs.Frames.{AreClean, AreDifferent, AreSeen, Gathered, seen}
 use Rattle.rb_cache.specs.OnDisk.{IsCalm, Later, OnDisk}
 use Rattle.rb_cache.specs.declared.frame.Frame.{Frame}

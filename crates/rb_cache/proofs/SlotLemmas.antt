@@ -1,16 +1,15 @@
 -- The frames that hold a block, as numbers move and frames change.
-use Rattle.std.proofs.Common.{◌≡◌, ◌≢◌, ◌⊎◌, inl, inr, ⊎_elim, ℕ, suc, ◌+◌, ◌-◌, ◌<◌, ◌≤◌, ◌==◌, Bool, true, false, if◌then◌else◌, List, [], ◌∷◌, ◌++◌, length, take, get_or, set, arith, ap, sym, ◌∙◌, subst, refl, append-nil, length-append}
-use Rattle.std.proofs.lemmas.Bool.{cases_eq, eqb-true, eqb-false, eq-eqb, ne_eqb}
-use Rattle.std.proofs.lemmas.List.{take_all, take-append-le, get_or-set_other, length-set}
+use Rattle.std.proofs.Common.{◌≡◌, ◌≢◌, inl, inr, ℕ, ◌+◌, ◌-◌, ◌<◌, ◌≤◌, ◌==◌, Bool, true, false, if◌then◌else◌, List, [], ◌∷◌, ◌++◌, length, take, get_or, set, arith, ap, sym, ◌∙◌, subst, refl, append-nil, length-append}
+use Rattle.std.proofs.lemmas.Bool.{cases_eq, eqb-false, eq-eqb, ne_eqb}
+use Rattle.std.proofs.lemmas.List.{get_or-set_other}
 use Rattle.std.proofs.lemmas.Grind.{get_or-set_at}
 use Rattle.std.proofs.Math.Seq.{take-append_seam}
 use Rattle.std.specs.List.{AllByRecursion}
-use Rattle.rb_base.proofs.Each.{all_at}
 use Rattle.rb_cache.specs.Frames.{IsLastClean, frame_in, has_number, numbers_of, others_of, room_made, without, AreDifferent}
 use Rattle.rb_cache.specs.Slots.{AreOnce, IsPlaced, IsUnused, UnusedLast, frame_at, held_of, no_frame}
 use Rattle.rb_cache.specs.declared.frame.Frame.{Frame}
-use Rattle.rb_cache.specs.declared.frame.TheConstants.{BLOCKS, NO_BLOCK}
-use Rattle.rb_cache.proofs.NumberLemmas.{all_has, behind_of, front_of}
+use Rattle.rb_cache.specs.declared.frame.TheConstants.{NO_BLOCK}
+use Rattle.rb_cache.proofs.NumberLemmas.{behind_of, front_of}
 
 -- a frame among others that one changes
 pub at_set_same : (slots : List Frame) (k : ℕ) (f : Frame) → k < length slots → frame_at (set slots k f) k ≡ f

@@ -1,9 +1,9 @@
 -- What each step of an eviction leaves is on the disk as `OnDisk` says, also when it is seen from an earlier moment.
-use Rattle.std.proofs.Common.{◌≡◌, ◌≢◌, ◌⊎◌, inl, inr, ⊎_elim, ℕ, ◌+◌, ◌<◌, ◌≤◌, List, [], ◌++◌, length, take, arith}
-use Rattle.std.proofs.Common.{ap, sym, ◌∙◌, subst, refl, append_assoc, append-nil}
+use Rattle.std.proofs.Common.{◌≡◌, ◌≢◌, ◌⊎◌, inl, inr, ⊎_elim, ℕ, ◌<◌, ◌≤◌, List, [], ◌++◌, length, take, arith}
+use Rattle.std.proofs.Common.{ap, sym, ◌∙◌, subst, refl, append-nil}
 use Rattle.std.proofs.lemmas.List.{take_all}
 use Rattle.rb_base.specs.Groups.{Patch}
-use Rattle.rb_layout.specs.Regions.{block_count, block_offset, file_length, log_offset}
+use Rattle.rb_layout.specs.Regions.{block_count, log_offset}
 use Rattle.rb_layout.specs.declared.layout.Head.{Head}
 use Rattle.rb_layout.specs.declared.layout.Layout.{Layout}
 use Rattle.rb_log.specs.GroupLaws.{same_group_log}

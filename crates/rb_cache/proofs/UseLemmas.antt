@@ -1,6 +1,5 @@
 -- A block that is looked for among the frames, the first frame and the last one.
-use Rattle.std.proofs.Common.{◌≡◌, ◌≢◌, ◌⊎◌, inl, inr, ℕ, zero, suc, replicate, ◌+◌, ◌-◌, ◌*◌, ◌<◌, ◌≤◌, Result, Ok, Err, Bool, true, false, List, [], ◌∷◌, ◌++◌, length, take, get_or, set, arith, ap, sym, ◌∙◌, subst, refl, length-append}
-use Rattle.std.proofs.lemmas.Bool.{cases_eq}
+use Rattle.std.proofs.Common.{◌≡◌, ◌≢◌, inl, inr, ℕ, zero, suc, replicate, ◌-◌, ◌*◌, ◌<◌, ◌≤◌, Result, Ok, Err, true, false, List, [], ◌∷◌, ◌++◌, length, take, get_or, set, arith, ap, sym, ◌∙◌, subst, refl, length-append}
 use Rattle.std.proofs.lemmas.List.{get_or_default}
 use Rattle.std.proofs.Math.Nat.{mul-le-mul_right}
 use Rattle.std.specs.List.{AllByRecursion}
@@ -9,7 +8,7 @@ use Rattle.rb_base.proofs.Each.{all_at, all_so}
 use Rattle.rb_layout.specs.Regions.{block_count}
 use Rattle.rb_layout.specs.declared.layout.Layout.{Layout}
 use Rattle.rb_cache.specs.Frames.{IsLastClean, frame_in, has_number, numbers_of, others_of, without}
-use Rattle.rb_cache.specs.Slots.{AreFrames, FramesState, IsEmptyFrame, IsPlaced, numbers_below, IsUnused, UnusedLast, frame_at, held_of, no_frame}
+use Rattle.rb_cache.specs.Slots.{AreFrames, IsEmptyFrame, IsPlaced, numbers_below, IsUnused, UnusedLast, frame_at, held_of, no_frame}
 use Rattle.rb_cache.specs.declared.frame.Frame.{Frame}
 use Rattle.rb_cache.specs.declared.frame.TheConstants.{BLOCKS, NO_BLOCK}
 use Rattle.rb_cache.proofs.MemoryLemmas.{changed_frames, moved_frames}

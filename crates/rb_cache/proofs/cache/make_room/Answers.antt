@@ -1,4 +1,4 @@
-use Rattle.std.proofs.Common.{◌≡◌, ◌≢◌, ℕ, List, ap, sym, ◌∙◌, subst}
+use Rattle.std.proofs.Common.{◌≡◌, ◌≢◌, ap, sym, ◌∙◌, subst}
 use Rattle.rb_disk.specs.Moments.{Leaves}
 use Rattle.rb_disk.specs.Ranges.{SameBut, SamePart}
 use Rattle.rb_layout.specs.Regions.{block_offset, file_length, twin_offset}
@@ -9,7 +9,6 @@ use Rattle.rb_twin.specs.Twins.{home, twin_gate, TwinSome}
 use Rattle.rb_cache.specs.Calls.{IsDone, SeenAt}
 use Rattle.rb_cache.specs.Frames.{blocks_of, numbers_of}
 use Rattle.rb_cache.specs.Slots.{held_in}
-use Rattle.rb_cache.specs.declared.frame.Frame.{Frame}
 use Rattle.rb_cache.proofs.FrameLemmas.{numbers-cleaned}
 use Rattle.rb_cache.proofs.RoomLemmas.{durable_at, flush_leaves, images_at, logged_at, mid_calm, moments_at, on_ok_three, outside_at, stays_leaves, write_calm, write_clean, write_done, write_leaves, write_seen}
 use Rattle.rb_cache.proofs.cache.make_room.Goals as goal

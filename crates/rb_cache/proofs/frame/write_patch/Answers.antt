@@ -1,5 +1,5 @@
-use Rattle.std.proofs.Common.{◌≡◌, ℕ, List, length, arith, ap}
-use Rattle.rb_base.specs.Groups.{Patch, patch, IsPatch}
+use Rattle.std.proofs.Common.{length, arith, ap}
+use Rattle.rb_base.specs.Groups.{patch, IsPatch}
 use Rattle.rb_base.proofs.Each.{all_at}
 use Rattle.rb_cache.proofs.frame.write_patch.Goals as goal
 

@@ -1,13 +1,13 @@
-use Rattle.std.proofs.Common.{◌≡◌, ◌≢◌, ℕ, ◌+◌, ◌<◌, ◌≤◌, Bool, true, false, List, [], ◌∷◌, ◌++◌, length, get_or, set, arith, ap, sym, ◌∙◌, subst, refl}
+use Rattle.std.proofs.Common.{◌≡◌, ℕ, ◌<◌, true, false, List, [], ◌∷◌, ◌++◌, length, get_or, set, arith, ap, sym, ◌∙◌, subst, refl}
 use Rattle.std.proofs.lemmas.List.{get_or_default, length-set}
 use Rattle.std.specs.List.{AllByRecursion}
 use Rattle.std.specs.Map.{keys_of}
 use Rattle.rb_layout.specs.Regions.{block_count}
 use Rattle.rb_layout.specs.declared.layout.Layout.{Layout}
-use Rattle.rb_twin.specs.Batches.{Image, IsNoneOf}
+use Rattle.rb_twin.specs.Batches.{IsNoneOf}
 use Rattle.rb_twin.specs.Twins.{TwinState}
 use Rattle.rb_cache.specs.Frames.{AreBelow}
-use Rattle.rb_cache.specs.Slots.{GatheredSoFar, IsGathering, frame_at, held_of, no_frame}
+use Rattle.rb_cache.specs.Slots.{GatheredSoFar, frame_at, held_of, no_frame}
 use Rattle.rb_cache.specs.declared.frame.Frame.{Frame}
 use Rattle.rb_cache.proofs.GatherLemmas.{all_split, cleaner_set, entries_below, gathered_maybe, grows, image_of, put, put_below, put_differs}
 use Rattle.rb_cache.proofs.frames.gather_more.Goals as goal

@@ -1,9 +1,7 @@
 use Rattle.std.proofs.Common.{◌≡◌, ◌<◌, ◌≤◌, ℕ, List, length, false}
 use Rattle.std.specs.List.{AllByRecursion}
 use Rattle.std.specs.Map.{keys_of}
-use Rattle.rb_layout.specs.Regions.{block_count}
-use Rattle.rb_cache.specs.Frames.{AreBelow}
-use Rattle.rb_cache.specs.Slots.{GatheredSoFar, IsGathering, frame_at, held_of}
+use Rattle.rb_cache.specs.Slots.{GatheredSoFar, IsGathering, frame_at}
 use Rattle.rb_cache.specs.declared.frame.Frame.{Frame}
 use Rattle.rb_cache.proofs.frames.gather_more.Given as goal
 

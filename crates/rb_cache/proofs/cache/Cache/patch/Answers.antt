@@ -1,8 +1,8 @@
-use Rattle.std.proofs.Common.{◌≡◌, ◌≢◌, ◌-◌, ◌==◌, ℕ, if◌then◌else◌, List, ◌∷◌, length, take, ap, sym, ◌∙◌, subst}
+use Rattle.std.proofs.Common.{◌-◌, ◌==◌, if◌then◌else◌, List, ◌∷◌, length, take, ap, sym, ◌∙◌, subst}
 use Rattle.rb_layout.specs.Regions.{block_count}
 use Rattle.rb_roll.specs.Rolled.{step}
 use Rattle.rb_cache.specs.Frames.{AreBelow, AreClean, CacheState, has_number, numbers_of, seen, without}
-use Rattle.rb_cache.specs.Slots.{IsPatched, held_in}
+use Rattle.rb_cache.specs.Slots.{held_in}
 use Rattle.rb_cache.specs.declared.frame.Frame.{Frame}
 use Rattle.rb_cache.proofs.CallLemmas.{below_by, first_frame, patched_clean, patched_order, patched_others, patched_own}
 use Rattle.rb_cache.proofs.cache.Cache.patch.Goals as goal

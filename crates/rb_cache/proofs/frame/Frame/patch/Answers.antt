@@ -3,7 +3,6 @@ use Rattle.rb_base.specs.Blocks.{written_to}
 use Rattle.rb_base.specs.Fields.{number_at}
 use Rattle.rb_base.specs.Groups.{Patch}
 use Rattle.rb_roll.specs.Rolled.{after_block, has_block, step}
-use Rattle.rb_cache.specs.declared.frame.Frame.{Frame}
 use Rattle.rb_cache.proofs.NumberLemmas.{behind_of, front_of}
 use Rattle.rb_cache.proofs.frame.Frame.patch.Goals as goal
 

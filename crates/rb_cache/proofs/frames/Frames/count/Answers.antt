@@ -1,7 +1,5 @@
 use Rattle.std.specs.Map.{keys_of}
 use Rattle.rb_cache.proofs.MemoryLemmas.{memory_in}
-use Rattle.rb_cache.proofs.GatherLemmas.{gathered_none}
-use Rattle.rb_cache.proofs.OrderLemmas.{length-below}
 use Rattle.rb_cache.proofs.frames.Frames.count.Goals as goal
 
 pub returns-clause-memory : goal.returns-clause-memory

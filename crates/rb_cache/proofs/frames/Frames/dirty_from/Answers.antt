@@ -1,8 +1,8 @@
-use Rattle.std.proofs.Common.{◌≡◌, ◌<◌, ◌≤◌, ◌⊎◌, inl, inr, ℕ, false, List, length, arith, ap, sym, ◌∙◌, subst}
+use Rattle.std.proofs.Common.{◌≡◌, inl, inr, length, arith, ap, ◌∙◌, subst}
 use Rattle.std.proofs.lemmas.Bool.{cases_lt}
 use Rattle.std.specs.Map.{keys_of}
 use Rattle.rb_cache.specs.Frames.{NoneDirty}
-use Rattle.rb_cache.specs.Slots.{AreCleanFrom, FramesState, frame_at, held_in}
+use Rattle.rb_cache.specs.Slots.{FramesState, frame_at, held_in}
 use Rattle.rb_cache.proofs.GatherLemmas.{none_dirty}
 use Rattle.rb_cache.proofs.frames.Frames.dirty_from.Goals as goal
 

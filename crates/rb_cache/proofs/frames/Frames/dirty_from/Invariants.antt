@@ -1,4 +1,3 @@
-use Rattle.std.proofs.Common.{◌≤◌}
 use Rattle.rb_cache.specs.Slots.{AreCleanFrom}
 use Rattle.rb_cache.proofs.frames.Frames.dirty_from.Given as goal
 

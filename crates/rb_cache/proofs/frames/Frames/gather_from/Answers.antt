@@ -1,4 +1,4 @@
-use Rattle.std.proofs.Common.{◌≡◌, ◌⊎◌, inl, inr, ◌+◌, ◌<◌, ◌≤◌, ℕ, Bool, true, false, List, [], ◌∷◌, ◌++◌, length, get_or, set, arith, ap, sym, ◌∙◌, subst, refl, length-append}
+use Rattle.std.proofs.Common.{◌≡◌, inl, inr, ◌<◌, ℕ, true, false, List, [], ◌∷◌, ◌++◌, length, get_or, set, arith, ap, sym, ◌∙◌, subst, refl, length-append}
 use Rattle.std.proofs.lemmas.Bool.{cases_eq}
 use Rattle.std.proofs.lemmas.List.{length-set}
 use Rattle.std.specs.Map.{keys_of}
@@ -7,7 +7,7 @@ use Rattle.rb_layout.specs.declared.layout.Layout.{Layout}
 use Rattle.rb_twin.specs.Batches.{Image, IsNoneOf}
 use Rattle.rb_twin.specs.Twins.{TwinState}
 use Rattle.rb_cache.specs.Frames.{AreBelow}
-use Rattle.rb_cache.specs.Slots.{AreCleanFrom, FramesState, GatheredSoFar, frame_at, held_of, held_in}
+use Rattle.rb_cache.specs.Slots.{FramesState, GatheredSoFar, frame_at, held_of}
 use Rattle.rb_cache.specs.declared.frame.Frame.{Frame}
 use Rattle.rb_cache.proofs.GatherLemmas.{cleaner_set, gathered_maybe, gathered_none, grows, image_of, put, put_below, put_differs}
 use Rattle.rb_cache.proofs.MemoryLemmas.{memory_of}

@@ -1,9 +1,6 @@
-use Rattle.std.proofs.Common.{◌≡◌, ◌⊎◌, ⊎_elim, ◌<◌, ◌≤◌, ℕ, List, [], length, arith, ap, sym, ◌∙◌, subst}
-use Rattle.std.specs.List.{AllByRecursion}
-use Rattle.std.specs.Map.{keys_of}
+use Rattle.std.proofs.Common.{◌≡◌, ⊎_elim, ◌<◌, ◌≤◌, ℕ, List, [], length, arith, ap, sym, ◌∙◌, subst}
 use Rattle.rb_base.proofs.Each.{all_so}
-use Rattle.rb_cache.specs.Frames.{CacheState}
-use Rattle.rb_cache.specs.Slots.{AreFrames, cache_of, held_of, numbers_below}
+use Rattle.rb_cache.specs.Slots.{AreFrames, cache_of}
 use Rattle.rb_cache.specs.declared.frame.Frame.{Frame}
 use Rattle.rb_cache.proofs.UseLemmas.{new_frames, new_held}
 use Rattle.rb_cache.proofs.frames.Frames.new.Goals as goal

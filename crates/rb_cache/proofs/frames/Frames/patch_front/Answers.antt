@@ -1,8 +1,8 @@
-use Rattle.std.proofs.Common.{◌≡◌, ◌≢◌, ◌<◌, ℕ, false, List, [], ◌∷◌, length, get_or, set, ap, sym, ◌∙◌, subst}
+use Rattle.std.proofs.Common.{◌≡◌, ◌≢◌, ℕ, List, [], ◌∷◌, get_or, set, ap, sym, ◌∙◌, subst}
 use Rattle.std.specs.Map.{keys_of}
 use Rattle.rb_roll.specs.Rolled.{step}
 use Rattle.rb_cache.specs.Frames.{without}
-use Rattle.rb_cache.specs.Slots.{AreFrames, FramesState, frame_at, held_in, held_of}
+use Rattle.rb_cache.specs.Slots.{FramesState, frame_at, held_in, held_of}
 use Rattle.rb_cache.specs.declared.frame.Frame.{Frame}
 use Rattle.rb_cache.proofs.MemoryLemmas.{memory_of}
 use Rattle.rb_cache.proofs.UseLemmas.{at_is, first_below, first_held, front_changed, front_held}

@@ -1,4 +1,4 @@
-use Rattle.std.proofs.Common.{◌≡◌, ℕ, true, false, List, ◌∷◌, length, get_or, sym, ap, ◌∙◌, subst, refl}
+use Rattle.std.proofs.Common.{◌≡◌, ℕ, true, false, List, ◌∷◌, get_or, sym, ap, ◌∙◌, subst}
 use Rattle.std.specs.Map.{keys_of}
 use Rattle.rb_cache.specs.Frames.{frame_in, has_number, numbers_of, others_of, without}
 use Rattle.rb_cache.specs.Slots.{AreFrames, FramesState, held_in, held_of, no_frame}
