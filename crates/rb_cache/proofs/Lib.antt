@@ -1,0 +1,13 @@
+pub mod CallLemmas
+pub mod CleanLemmas
+pub mod Evicting
+pub mod FrameLemmas
+pub mod GatherLemmas
+pub mod MemoryLemmas
+pub mod NumberLemmas
+pub mod OrderLemmas
+pub mod Parts
+pub mod RoomLemmas
+pub mod SlotLemmas
+pub mod Steps
+pub mod UseLemmas

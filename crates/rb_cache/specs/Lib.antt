@@ -1,0 +1,5 @@
+pub mod Calls
+pub mod Evictions
+pub mod Frames
+pub mod OnDisk
+pub mod Slots
