@@ -2,14 +2,13 @@
 use Rattle.std.proofs.Common.{◌≡◌, ◌<◌, ◌-◌, ◌*◌, ◌/◌, ◌%◌, ◌==◌, ℕ, zero, suc, Bool, nat_lt, false, if◌then◌else◌, List, [], ◌++◌, length, drop, replicate, get_or, refl, sym, ◌∙◌, ap, subst, arith, inr}
 use Rattle.std.proofs.Math.Nat.{div-add-mod, mul-mod_right}
 use Rattle.std.proofs.lemmas.Bool.{le-ltb}
-use Rattle.std.proofs.lemmas.List.{length-replicate, get_or-take, get_or-drop, get_or-append_right, get_or-replicate}
+use Rattle.std.proofs.lemmas.List.{length-replicate}
 use Rattle.std.proofs.lemmas.List.FromFn.{length-map-range_with_len}
 use Rattle.rb_base.specs.Blocks.{block_of, block_kind, fresh_head, fresh_rest, fresh_segment, fresh_blocks, header_block, table_blocks}
 use Rattle.rb_base.specs.declared.shape.Shape.{Shape}
 use Rattle.rb_heap.proofs.Fresh.{new_block, new_empty}
 use Rattle.rb_heap.specs.Homes as heap
-use Rattle.rb_layout.specs.Fresh.{fresh_has_identity}
-use Rattle.rb_layout.specs.Regions.{file_version, identity, fresh_file, file_length, shape_of}
+use Rattle.rb_layout.specs.Regions.{file_version, fresh_file, shape_of}
 use Rattle.rb_layout.specs.declared.layout.Layout.{Layout}
 use Rattle.rb_model.specs.State.{opened}
 use Rattle.rb_opening.proofs.Sound.{sound_as}
@@ -29,8 +28,8 @@ use Rattle.rb_standing.specs.Fresh.{IsFresh, no_past}
 use Rattle.rb_standing.specs.Says.{walk_home}
 use Rattle.rb_standing.specs.Standing.{SoundAs, homes_of, logged_of, segments_of}
 use Rattle.rb_standing.specs.Values.{StandingAs, slot_of, wraps_of}
+use Rattle.rb_store.proofs.FreshLap.{fresh_opens}
 use Rattle.rb_store.proofs.NumberLemmas.{last_number}
-use Rattle.rb_store.specs.Laps.{OpensAt}
 use Rattle.rb_txntable.specs.Slots.{slot_state, slot_touched, slot_live, slot_wrap, slot_newest, slot_before, slot_record, slot_first, slot_start}
 use Rattle.rb_txntable.specs.declared.slots.TableSlot.{TableSlot}
 use Rattle.rb_undoblock.specs.Undo.{undo_at}
@@ -119,23 +118,6 @@ module _ (shape : Shape) where
           (subst (λ (logged : ℕ). StandingAs shape 0 logged (segments_of shape Blocks) (homes_of shape Blocks) no_past Lives) (sym unlogged) stands);
     };
   }
-
--- the first gate of a new file is closed
-first_gate : (l : Layout) → get_or (fresh_file file_version l) 8192 0 ≡ 0
-first_gate l =
-    let long : length (identity file_version l) ≡ 24 = omega arith in
-    get_or-append_right (identity file_version l) (replicate (file_length l - 24) 0) 24 8192 0 long (omega arith) ∙ get_or-replicate (file_length l - 24) (8192 - 24) 0 0 (omega arith)
-
-fresh_opens : (l : Layout) → OpensAt l (fresh_file file_version l) (fresh_blocks (shape_of l)) 0
-fresh_opens l = record {
-  groups = [];
-  lap = record {
-    identity = fresh_has_identity file_version l;
-    log = inr (λ is. let gate = get_or-take 2048 (drop 8192 (fresh_file file_version l)) 0 0 (omega arith) ∙ get_or-drop 8192 (fresh_file file_version l) 0 0 ∙ first_gate l in omega (arith, gate, is));
-  };
-  made = refl;
-  last = refl;
-}
 
 pub new_file : (l : Layout) → (sound : IsSound (fresh_file file_version l)) × (sound.state ≡ opened (shape_of l) 0 [] (books_of (shape_of l) (fresh_blocks (shape_of l))))
 new_file l =

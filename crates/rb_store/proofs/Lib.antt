@@ -1,3 +1,4 @@
+pub mod FreshLap
 mod LapLemmas
 pub mod NumberLemmas
 mod ScanLemmas

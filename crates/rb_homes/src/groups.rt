@@ -1,0 +1,111 @@
+//! Groups for the tests of stores: the bytes of a new file, a list of groups, and whether two stores read the same.
+ghost use Rattle.std.specs.Prelude.{◌≡◌, ◌<◌, ◌≤◌, false, OnOk};
+
+use rb_base::{Failed, Group, NoMemory, Shape, Store, UNIT};
+use rb_layout::{Layout, VERSION};
+use rb_plainstore::PlainStore;
+use std::alloc::Global;
+
+/// One table of one block, and one segment: 34 blocks, more than sixteen frames hold.
+pub const SHAPE: Shape = Shape {
+    tables: 1,
+    blocks: 1,
+    segments: 1,
+};
+
+/// The log slots of the file.
+pub const SLOTS: u32 = 64;
+
+/// How many groups the list has.
+pub const GROUPS: u32 = 24;
+
+/// The bytes of the file.
+const FILE: usize = 227_328;
+
+/// Copies a block into a file, where it has the room.
+fn put_block(file: &mut [u8], at: usize, block: &[u8]) {
+    if at <= file.len() && block.len() <= file.len() - at {
+        file[at..at + block.len()].copy_from_slice(block);
+    }
+}
+
+/// A file whose blocks are those of a new one, each at its place.
+pub fn new_file(alloc: Global, layout: &Layout) -> Result<Vec<u8>, NoMemory> {
+    let mut file = vec![in alloc; 0; FILE].map_err(|_| NoMemory)?;
+    let mut identity = [0; UNIT];
+    layout.put_identity(&mut identity);
+    put_block(&mut file, 0, &identity);
+    let mut plain = PlainStore::new(alloc, SHAPE)?;
+    for no in 0..34 {
+        if no < plain.shape().block_count() && plain.load(no).is_ok() {
+            put_block(&mut file, UNIT * (4 + 64 + 9 + no as usize), plain.block());
+        }
+    }
+    Ok(file)
+}
+
+/// Gives a store the group of a step: a byte in each of two blocks. Failed where it has no room.
+fn give<S: Store>(store: &mut S, step: u32) -> Result<(), Failed>
+    requires going { S.failed store.old ≡ false }
+    requires few { step ≤ 1000 }
+    ensures going { OnOk result (S.failed store.new ≡ false) }
+{
+    let count = store.shape().block_count();
+    if count == 0 || store.room() < 1 || store.logged() > 1_000_000 {
+        return Err(Failed);
+    }
+    let mut group = Group::new();
+    group.push(step * 7 % count, 32 + step as u16, &[step as u8]);
+    group.push(step * 11 % count, 1040, &[1, step as u8]);
+    store.apply(&group)
+}
+
+/// Gives it the groups from one step to before another, with a flush behind each eighth and a checkpoint behind the
+/// twentieth.
+pub fn give_all<S: Store>(store: &mut S, first: u32, end: u32) -> Result<(), Failed>
+    requires going { S.failed store.old ≡ false }
+    requires few { end ≤ 1000 }
+    ensures going { OnOk result (S.failed store.new ≡ false) }
+{
+    for step in first..end {
+        give(store, step)?;
+        if step % 8 == 7 {
+            store.flush()?;
+        }
+        if step == 20 {
+            store.checkpoint()?;
+        }
+    }
+    Ok(())
+}
+
+/// Whether two stores read the same in each block, and have the same last log number.
+pub fn read_the_same<S: Store, T: Store>(one: &mut S, other: &mut T) -> bool
+    requires one { S.failed one.old ≡ false }
+    requires other { T.failed other.old ≡ false }
+{
+    if one.logged() != other.logged() {
+        return false;
+    }
+    for no in 0..34 {
+        if no >= one.shape().block_count() || no >= other.shape().block_count() {
+            return false;
+        }
+        if one.load(no).is_err() || other.load(no).is_err() {
+            return false;
+        }
+        if one.block() != other.block() {
+            return false;
+        }
+    }
+    true
+}
+
+/// A store in memory with the first so many groups.
+pub fn in_memory(alloc: Global, groups: u32) -> Result<PlainStore, NoMemory>
+    requires { groups ≤ 1000 }
+{
+    let mut plain = PlainStore::new(alloc, SHAPE)?;
+    let _ = give_all(&mut plain, 0, groups);
+    Ok(plain)
+}

@@ -1,0 +1,13 @@
+pub mod Between
+pub mod OneMeaning
+pub mod MeaningLemmas
+pub mod GroupSteps
+pub mod PatchLemmas
+pub mod RollLemmas
+pub mod Settled
+pub mod StoreLemmas
+pub mod ScanLemmas
+pub mod HeaderLemmas
+pub mod CachedLemmas
+pub mod SameLayout
+pub mod OpeningLemmas
