@@ -109,7 +109,8 @@ impl Twin {
         ensures none { D.tells → IsErrOf result OpenFault.NotAStore
             → ¬ IsTwin self.old.layout (D.content disk.old) }
         ensures refused { D.tells → IsErrOf result OpenFault.NotAStore → Rests D.Disk disk.old disk.new }
-        ensures foreign { D.tells → ¬ IsTwin self.old.layout (D.content disk.old) → Rests D.Disk disk.old disk.new }
+        ensures foreign { D.tells → ¬ IsTwin self.old.layout (D.content disk.old)
+            → Rests D.Disk disk.old disk.new }
         ensures untouched { D.tells → twin_gate self.old.layout (D.content disk.old) ≢ 1
             → Rests D.Disk disk.old disk.new }
         ensures twin { D.tells → OnOk result (IsTwin self.old.layout (D.content disk.old)) }
