@@ -7,14 +7,15 @@ use Rattle.std.specs.Result.{OnErr}
 use Rattle.rb_base.proofs.Each.{all_at, all_so}
 use Rattle.rb_layout.specs.Regions.{block_count}
 use Rattle.rb_layout.specs.declared.layout.Layout.{Layout}
-use Rattle.rb_cache.specs.Frames.{IsLastClean, frame_in, has_number, numbers_of, others_of, without}
+use Rattle.rb_cache.specs.Frames.{IsLastClean, NoneDirty, frame_in, has_number, numbers_of, others_of, without}
 use Rattle.rb_cache.specs.Slots.{AreFrames, IsEmptyFrame, IsPlaced, numbers_below, IsUnused, UnusedLast, frame_at, held_of, no_frame}
 use Rattle.rb_cache.specs.declared.frame.Frame.{Frame}
 use Rattle.rb_cache.specs.declared.frame.TheConstants.{BLOCKS, NO_BLOCK}
+use Rattle.rb_cache.proofs.GatherLemmas.{dirty_used, gathered_none}
 use Rattle.rb_cache.proofs.MemoryLemmas.{changed_frames, moved_frames}
 use Rattle.rb_cache.proofs.NumberLemmas.{all_has, first_split, gone, last_split, without_first}
 use Rattle.rb_cache.proofs.OrderLemmas.{below_all, below_has, below_once, length-below}
-use Rattle.rb_cache.proofs.SlotLemmas.{at_set_same, held_has, held_lacks, held_set_out, held_unused, held_used, last_clean, moved_front, moved_others, one_of_all}
+use Rattle.rb_cache.proofs.SlotLemmas.{all_used, at_set_same, held_all, held_has, held_lacks, held_set_out, held_unused, held_used, last_clean, moved_front, moved_others, one_of_all}
 
 -- a frame that was read at a number
 pub at_is : (slots : List Frame) (k : ℕ) (f : Frame) → k < length slots → f ≡ get_or slots k f → frame_at slots k ≡ f
@@ -109,6 +110,21 @@ module _ (slots : List Frame) (order places : List ℕ) (are : AreFrames slots o
       let split = last_is v is in let whole = are.whole in
       subst (λ (ks : List ℕ). IsLastClean (length slots) (held_of slots ks)) (sym split)
       (last_clean slots (take (length order - 1) order) v (length slots) (omega (arith, whole, ap length split, length-append (take (length order - 1) order) (v ∷ []))) clean)
+
+  -- a last frame that is dirty holds a block, and so all do
+  last_used : (v : ℕ) → v ≡ get_or order (length order - 1) 0 → (frame_at slots v).dirty ≡ true → (frame_at slots v).block ≢ NO_BLOCK
+  last_used v is dirty = dirty_used slots slots order places [] (gathered_none slots order places are) v (last_below v is) dirty
+
+  pub last_full : (v : ℕ) → v ≡ get_or order (length order - 1) 0 → (frame_at slots v).dirty ≡ true → length (held_of slots order) ≡ length slots
+  last_full v is dirty =
+      let split = last_is v is in let whole = are.whole in
+      let full = all_used slots (take (length order - 1) order) v (subst (UnusedLast slots) split are.behind) (last_used v is dirty) in
+      omega (arith, ap (λ (ks : List ℕ). length (held_of slots ks)) split, full, whole, ap length split, length-append (take (length order - 1) order) (v ∷ []))
+
+  pub last_some : (v : ℕ) → v ≡ get_or order (length order - 1) 0 → (frame_at slots v).dirty ≡ true → ¬ NoneDirty (held_of slots order)
+  last_some v is dirty none =
+      let clean : (frame_at slots v).dirty ≡ false = held_all slots (λ (f : Frame). f.dirty ≡ false) order v none (are.all v (last_below v is)) (last_used v is dirty) in
+      cc (clean, dirty)
 
   -- the unit of a frame
   pub unit_at : (k : ℕ) (f : Frame) → k < length slots → f ≡ get_or slots k f → length f.bytes ≡ 2048

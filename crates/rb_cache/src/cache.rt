@@ -1,14 +1,14 @@
 //! `Cache`: the blocks of a file that were used last. A store reads and patches blocks through it, and it makes their
 //! groups last before a block goes home.
 ghost use Rattle.std.specs.Prelude.{◌≡◌, ◌≢◌, ◌<◌, ◌≤◌, ◌∷◌, [], ℕ, List, length};
-ghost use Rattle.std.specs.Prelude.{IfOk, OnOk};
+ghost use Rattle.std.specs.Prelude.{IfOk, OnOk, true};
 ghost use Rattle.rb_base.specs.Counts.{IsCounted};
 ghost use Rattle.rb_base.specs.Groups.{Patch};
 ghost use Rattle.rb_layout.specs.Regions.{block_count};
 ghost use Rattle.rb_roll.specs.Rolled.{step};
 ghost use Rattle.rb_cache.specs.Calls.{IsDone, Leaving, SeenAt, Settled, StaysOrFlushes, flushed};
 ghost use Rattle.rb_cache.specs.Frames.{AreBelow, AreClean, IsCacheMemory, IsLastClean, NoneDirty};
-ghost use Rattle.rb_cache.specs.Frames.{brought, numbers_of, seen};
+ghost use Rattle.rb_cache.specs.Frames.{brought, has_number, numbers_of, seen};
 ghost use Rattle.rb_cache.specs.OnDisk.{IsCalm};
 ghost use Rattle.rb_cache.specs.Slots.{cache_of, held_in};
 ghost use Rattle.rb_cache.specs.declared.frame.Frame.{Frame};
@@ -39,7 +39,7 @@ impl Model for Cache {
 }
 
 /// Sees to it that the block which gives way next is at home: else its groups are made to last, and it goes home with
-/// up to seven others.
+/// up to seven others. With a frame free or none dirty it leaves the log alone.
 fn make_room<D: Disk>(
     frames: &mut Frames,
     disk: &mut D,
@@ -64,6 +64,8 @@ fn make_room<D: Disk>(
     ensures any_moment { D.tells → Leaving D.Disk layout.now log.old disk.old disk.new
         (SeenAt layout.now (D.content disk.old) (held_in frames.old)) }
     ensures log { StaysOrFlushes log.old log.new }
+    ensures room { length (held_in frames.old) < length frames.old.slots → log.new ≡ log.old }
+    ensures quiet { NoneDirty (held_in frames.old) → log.new ≡ log.old }
     ensures twin { twin.new.layout ≡ twin.old.layout }
     ensures batch { OnOk result (twin.new.batch ≡ []) }
     ensures count { length frames.new.slots ≡ length frames.old.slots }
@@ -92,7 +94,8 @@ impl Cache {
     }
 
     /// Brings a block into a frame, so that `front` gives it. A crash meanwhile leaves each block as it was at home or,
-    /// all groups that waited being in the log, as it was seen.
+    /// all groups that waited being in the log, as it was seen. The log is flushed at most where the block isn't held,
+    /// all frames hold one, and some of them are dirty.
     pub fn get<D: Disk>(
         &mut self,
         disk: &mut D,
@@ -119,6 +122,9 @@ impl Cache {
         ensures any_moment { D.tells → Leaving D.Disk layout.now log.old disk.old disk.new
             (SeenAt layout.now (D.content disk.old) self.old.held) }
         ensures log { StaysOrFlushes log.old log.new }
+        ensures room { length self.old.held < self.old.frames → log.new ≡ log.old }
+        ensures quiet { NoneDirty self.old.held → log.new ≡ log.old }
+        ensures held { has_number no (numbers_of self.old.held) ≡ true → log.new ≡ log.old }
         ensures twin { twin.new.layout ≡ twin.old.layout }
         ensures batch { OnOk result (twin.new.batch ≡ []) }
         ensures within { AreBelow (block_count layout.now) self.new.held }
@@ -143,7 +149,8 @@ impl Cache {
     }
 
     /// Brings a block into a frame, and patches it by the group of this log number where its own number is below. The
-    /// block is dirty then. The group need not be in the log yet, but a flush of the log has to write it.
+    /// block is dirty then. The group need not be in the log yet, but a flush of the log has to write it. The log is
+    /// flushed at most where `get` says.
     pub fn patch<D: Disk>(
         &mut self,
         disk: &mut D,
@@ -175,6 +182,9 @@ impl Cache {
         ensures any_moment { D.tells → Leaving D.Disk layout.now log.old disk.old disk.new
             (SeenAt layout.now (D.content disk.old) self.old.held) }
         ensures log { StaysOrFlushes log.old log.new }
+        ensures room { length self.old.held < self.old.frames → log.new ≡ log.old }
+        ensures quiet { NoneDirty self.old.held → log.new ≡ log.old }
+        ensures held { has_number no (numbers_of self.old.held) ≡ true → log.new ≡ log.old }
         ensures twin { twin.new.layout ≡ twin.old.layout }
         ensures batch { OnOk result (twin.new.batch ≡ []) }
         ensures within { AreBelow (block_count layout.now) self.new.held }

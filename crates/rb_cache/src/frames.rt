@@ -160,6 +160,8 @@ impl Frames {
     pub fn last_is_dirty(&self) -> bool
         ensures dirty { result ≡ (last_of self.now).dirty }
         ensures clean { result ≡ false → IsLastClean (length self.now.slots) (held_in self.now) }
+        ensures full { result ≡ true → length (held_in self.now) ≡ length self.now.slots }
+        ensures some { result ≡ true → ¬ NoneDirty (held_in self.now) }
         ensures memory { IsCacheMemory (cache_of self.now) }
     {
         self.slots[usize::from(self.last_number())].dirty

@@ -1,4 +1,4 @@
-use Rattle.std.proofs.Common.{◌≡◌, ◌≢◌, ap, sym, ◌∙◌, subst}
+use Rattle.std.proofs.Common.{◌≡◌, ◌≢◌, arith, ap, sym, ◌∙◌, subst}
 use Rattle.rb_disk.specs.Moments.{Leaves}
 use Rattle.rb_disk.specs.Ranges.{SameBut, SamePart}
 use Rattle.rb_layout.specs.Regions.{block_offset, file_length, twin_offset}
@@ -49,3 +49,15 @@ pub returns-clause-done : goal.returns-clause-done
 returns-clause-done g c = λ told. on_ok_three c.write.result
     (λ only_new shut written. subst (λ (t : LogState). IsDone g.D.Disk c.args.layout.now c.args.log.now t c.args.disk.now c.write.new.disk (SeenAt c.args.layout.now (g.D.Disk.content c.args.disk.now) (held_in c.args.frames.now)))
     (sym c.in_ok-flush.ensures.flushed) (write_done g.D.Disk (λ disk t im le here. g.met.D.Disk.now_counts disk t im told le here) (λ disk im left. g.met.D.Disk.only_now disk im told left) c.args.layout.now c.args.log.now c.requires.head c.args.disk.now (c.requires.calm told) (held_in c.args.frames.now) c.flush.new.disk (images_at g.D.Disk c.args.log.now c.args.layout.now c.requires.log c.args.disk.now c.flush.new.disk (c.flush.ensures.images told)) (outside_at g.D.Disk c.args.log.now c.args.layout.now c.requires.log c.args.disk.now c.flush.new.disk (c.in_ok-flush.ensures.outside told)) (durable_at g.D.Disk c.args.log.now c.args.layout.now c.requires.log c.args.disk.now c.flush.new.disk (c.in_ok-flush.ensures.durable told)) (moments_at g.D.Disk c.args.log.now c.args.layout.now c.requires.log c.args.disk.now c.flush.new.disk (c.flush.ensures.any_moment told)) (logged_at g.D.Disk c.args.log.now c.args.layout.now c.requires.log c.args.disk.now c.flush.new.disk (c.in_ok-flush.ensures.written told)) c.gather_old.new.twin.batch c.gather_old.ensures.gathered.seen_are c.write.new.disk (subst (λ (m : Layout). SameBut (twin_offset m 0) (file_length m) (g.D.Disk.content c.flush.new.disk) (g.D.Disk.content c.write.new.disk)) (c.gather_old.ensures.layout ∙ c.requires.twin) (c.write.ensures.outside told)) only_new (subst (λ (m : Layout). twin_gate m (g.D.Disk.content c.write.new.disk) ≡ 0) (c.gather_old.ensures.layout ∙ c.requires.twin) shut) (λ which. subst (λ (m : Layout). home m (g.D.Disk.content c.write.new.disk) which ≡ with_batch c.gather_old.new.twin.batch which (home m (g.D.Disk.content c.flush.new.disk) which)) (c.gather_old.ensures.layout ∙ c.requires.twin) (written which)) (subst (λ (m : Layout). Leaves g.D.Disk c.flush.new.disk c.write.new.disk (TwinSome (g.D.Disk.image c.flush.new.disk) m c.gather_old.new.twin.batch (g.D.Disk.content c.flush.new.disk))) (c.gather_old.ensures.layout ∙ c.requires.twin) (c.write.ensures.any_moment told)))) (c.write.ensures.durable told) (c.write.ensures.shut told) (c.write.ensures.written told)
+
+pub returns-in_err-flush-clause-room : goal.returns-in_err-flush-clause-room
+returns-in_err-flush-clause-room g c = λ less. let full = c.last_is_dirty.ensures.full c.if-not-last_is_dirty.false in absurd (omega (arith, full, less))
+
+pub returns-in_err-flush-clause-quiet : goal.returns-in_err-flush-clause-quiet
+returns-in_err-flush-clause-quiet g c = λ none. absurd (c.last_is_dirty.ensures.some c.if-not-last_is_dirty.false none)
+
+pub returns-clause-room : goal.returns-clause-room
+returns-clause-room g c = λ less. let full = c.last_is_dirty.ensures.full c.if-not-last_is_dirty.false in absurd (omega (arith, full, less))
+
+pub returns-clause-quiet : goal.returns-clause-quiet
+returns-clause-quiet g c = λ none. absurd (c.last_is_dirty.ensures.some c.if-not-last_is_dirty.false none)

@@ -1,9 +1,9 @@
-use Rattle.std.proofs.Common.{◌≡◌, ◌<◌, ℕ, true, false, List, ◌∷◌, length, ap, sym, ◌∙◌, subst}
+use Rattle.std.proofs.Common.{◌≡◌, ◌<◌, ℕ, true, false, List, ◌∷◌, length, arith, ap, sym, ◌∙◌, subst}
 use Rattle.std.proofs.lemmas.Result.{on_ok_weaker}
 use Rattle.rb_layout.specs.Regions.{block_count}
 use Rattle.rb_twin.specs.Twins.{home}
 use Rattle.rb_cache.specs.Calls.{IsDone, Leaving, SeenAt}
-use Rattle.rb_cache.specs.Frames.{AreBelow, AreClean, CacheState, brought, frame_in, has_number, numbers_of, others_of, room_made, seen}
+use Rattle.rb_cache.specs.Frames.{AreBelow, AreClean, CacheState, NoneDirty, brought, frame_in, has_number, numbers_of, others_of, room_made, seen}
 use Rattle.rb_cache.specs.Slots.{held_in, no_frame}
 use Rattle.rb_cache.specs.declared.frame.Frame.{Frame}
 use Rattle.rb_cache.proofs.CallLemmas.{all_moved, all_room, below_by, brought_order, calm_on, done_on, either_way, leaves_on, moved_order, only_on, room_lacks, seen_room}
@@ -81,3 +81,27 @@ returns-clause-within g c =
     either_way c.bring.result
     (λ b. subst (AreBelow (block_count c.args.layout.now)) (sym b.held_is) (subst (λ (w : ℕ). w < block_count c.args.layout.now) (sym b.block) c.requires.there, room))
     (λ same. subst (AreBelow (block_count c.args.layout.now)) (sym same) room) c.bring.ensures.brought c.bring.ensures.failed
+
+pub returns-in_err-make_room-clause-room : goal.returns-in_err-make_room-clause-room
+returns-in_err-make_room-clause-room g c = λ less. c.make_room.ensures.room (omega (arith, less, ap length (ap held_in (c.touch.ensures.stays c.if-touch.false) ∙ ap (λ (s : CacheState). s.held) c.self.view_is), ap length c.touch.ensures.slots ∙ ap (λ (s : CacheState). s.frames) c.self.view_is))
+
+pub returns-in_err-make_room-clause-quiet : goal.returns-in_err-make_room-clause-quiet
+returns-in_err-make_room-clause-quiet g c = λ none. c.make_room.ensures.quiet (subst NoneDirty (sym (ap held_in (c.touch.ensures.stays c.if-touch.false) ∙ ap (λ (s : CacheState). s.held) c.self.view_is)) none)
+
+pub returns-in_err-make_room-clause-held : goal.returns-in_err-make_room-clause-held
+returns-in_err-make_room-clause-held g c = λ has. cc (
+  has,
+  subst (λ (h : List Frame). has_number c.args.no (numbers_of h) ≡ false) (ap (λ (s : CacheState). s.held) c.self.view_is) (sym c.touch.ensures.held ∙ c.if-touch.false),
+)
+
+pub returns-clause-room : goal.returns-clause-room
+returns-clause-room g c = λ less. c.make_room.ensures.room (omega (arith, less, ap length (ap held_in (c.touch.ensures.stays c.if-touch.false) ∙ ap (λ (s : CacheState). s.held) c.self.view_is), ap length c.touch.ensures.slots ∙ ap (λ (s : CacheState). s.frames) c.self.view_is))
+
+pub returns-clause-quiet : goal.returns-clause-quiet
+returns-clause-quiet g c = λ none. c.make_room.ensures.quiet (subst NoneDirty (sym (ap held_in (c.touch.ensures.stays c.if-touch.false) ∙ ap (λ (s : CacheState). s.held) c.self.view_is)) none)
+
+pub returns-clause-held : goal.returns-clause-held
+returns-clause-held g c = λ has. cc (
+  has,
+  subst (λ (h : List Frame). has_number c.args.no (numbers_of h) ≡ false) (ap (λ (s : CacheState). s.held) c.self.view_is) (sym c.touch.ensures.held ∙ c.if-touch.false),
+)
