@@ -54,9 +54,10 @@ fn give<S: Store>(store: &mut S, step: u32) -> Result<(), Failed>
     if count == 0 || store.room() < 1 || store.logged() > 1_000_000 {
         return Err(Failed);
     }
+    let byte = (step % 256) as u8;
     let mut group = Group::new();
-    group.push(step * 7 % count, 32 + step as u16, &[step as u8]);
-    group.push(step * 11 % count, 1040, &[1, step as u8]);
+    group.push(step * 7 % count, 32 + step as u16, &[byte]);
+    group.push(step * 11 % count, 1040, &[1, byte]);
     store.apply(&group)
 }
 

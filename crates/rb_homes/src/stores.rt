@@ -26,6 +26,9 @@ fn open_file(
     requires few { frames ≤ 4096 }
     ensures { IfOk result (λ opened. IfOk opened (λ store. store.failed ≡ false)) }
 {
+    if file.len() as u64 > WRITTEN {
+        return Err(NoMemory);
+    }
     let disk = MemDisk::new(alloc, file, WRITTEN, calls, &[])?;
     Ok(LogStore::open(alloc, disk, frames))
 }
@@ -108,7 +111,7 @@ fn behind_stops(rt: HostRuntime) -> Result<(), Fail> {
     let whole = stop_after(rt.alloc(), &file, CALLS)?;
     assert!(rt; whole.last == u64::from(GROUPS));
     for stop in 0..STOPS {
-        let calls = whole.disk.calls() / STOPS * stop;
+        let calls = (whole.disk.calls() / STOPS).saturating_mul(stop);
         let stopped = stop_after(rt.alloc(), &file, calls as usize)?;
         let pick = match stop % 3 {
             0 => Pick::Old,
@@ -136,7 +139,7 @@ fn files_that_open_to_nothing(rt: HostRuntime) -> Result<(), Fail> {
     for at in [0, 8_192, 139_264, 157_704] {
         let mut other = file.as_slice().to_vec(rt.alloc())?;
         if let Some(byte) = other.get_mut(at) {
-            *byte = 1 + *byte;
+            *byte = byte.wrapping_add(1);
         }
         let opened = open_file(rt.alloc(), &other, 16, CALLS)?;
         let is_refused = matches!(&opened, Err((OpenFault::NotAStore, _)));
