@@ -57,7 +57,8 @@ def add(path):
         wanted = hub.ask("lock 1 1") == ["ok"] and hub.ask(f"update 1 1 {hub.counter() + 1}") == ["ok"]
         if not wanted or not hub.ask("commit")[0].startswith("committed "):
             raise SystemExit("refused")
-    print(f"  {EACH} additions, waited {hub.waited} times", flush=True)
+    # A line in one write, as all processes write to one output.
+    print(f"  {EACH} additions, waited {hub.waited} times\n", end="", flush=True)
 
 
 def give_up(path):
