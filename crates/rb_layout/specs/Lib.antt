@@ -1,4 +1,5 @@
 pub mod Fresh
+pub mod Kinds
 pub mod OneLayout
 pub mod Ranges
 pub mod Regions

@@ -1,14 +1,15 @@
 -- Where the parts of a file lie, and what its first bytes say. All parts are units.
 use Rattle.std.specs.Prelude.{◌≡◌, ℕ, ◌+◌, ◌-◌, ◌*◌, List, ◌++◌, length, take, replicate, codes}
+use Rattle.std.specs.List.{concat}
 use Rattle.byteorder.specs.Endian.{big_bytes}
-use Rattle.rb_base.specs.Blocks.{shape_blocks}
+use Rattle.rb_base.specs.Blocks.{fresh_blocks, shape_blocks}
 use Rattle.rb_base.specs.declared.shape.Shape.{Shape}
 use Rattle.rb_base.specs.declared.sizes.TheConstants.{UNIT}
 use Rattle.rb_layout.specs.declared.layout.Layout.{Layout}
 
 -- the version of this form of file
 abbrev pub file_version : ℕ
-file_version = 103
+file_version = 104
 
 abbrev pub shape_of : Layout → Shape
 shape_of l = record { tables = l.tables; blocks = l.blocks; segments = l.segments }
@@ -44,6 +45,10 @@ pub record HasIdentity (version : ℕ) (l : Layout) (file : List ℕ) : Type 0 w
   pub front : take 24 file ≡ identity version l
   pub whole : length file ≡ file_length l
 
--- a new file: what it is, and zeros
+-- all that is in front of the blocks of a new file: what it is, and zeros
+abbrev pub fresh_front : ℕ → Layout → List ℕ
+fresh_front version l = identity version l ++ replicate (block_offset l 0 - 24) 0
+
+-- a new file: that, and its blocks at home
 abbrev pub fresh_file : ℕ → Layout → List ℕ
-fresh_file version l = identity version l ++ replicate (file_length l - 24) 0
+fresh_file version l = fresh_front version l ++ concat (fresh_blocks (shape_of l))

@@ -4,8 +4,8 @@ ghost use Rattle.std.specs.Prelude.{IsSome, IfSome};
 
 use rb_base::{Shape, UNIT, put_u16, put_u32};
 
-/// The version of the files: 103. Their log has groups of patches, and an opening takes all of them.
-pub const VERSION: u32 = 103;
+/// The version of the files: 104. Their blocks stand at home, and their log has the groups that may not have come there.
+pub const VERSION: u32 = 104;
 
 /// How many bytes of the first unit say what file it is.
 pub const IDENTITY: usize = 24;

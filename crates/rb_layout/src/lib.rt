@@ -1,8 +1,11 @@
-//! Where the parts of a file lie: the numbers that its first unit keeps, and the offset of each part.
+//! Where the parts of a file lie: the numbers that its first unit keeps, the offset of each part, and the blocks of a
+//! new file.
 #![tactic(auto)]
 
+mod fresh;
 mod layout;
 mod read;
 
+pub use fresh::fresh_block;
 pub use layout::{Head, IDENTITY, Layout, VERSION};
 pub use read::one_layout;

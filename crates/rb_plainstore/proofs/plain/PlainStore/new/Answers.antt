@@ -1,6 +1,6 @@
 use Rattle.std.proofs.Common.{sym, subst}
 use Rattle.rb_base.specs.Blocks.{AreBlocks}
-use Rattle.rb_plainstore.proofs.NewFile.{fresh_are_blocks}
+use Rattle.rb_layout.specs.Fresh.{fresh_are_blocks}
 use Rattle.rb_plainstore.proofs.plain.PlainStore.new.Goals as goal
 
 pub invariant_of-result : goal.invariant_of-result

@@ -1,9 +1,9 @@
 use Rattle.std.proofs.Common.{ap, ◌∙◌, sym, List, ℕ, inl, inr}
 use Rattle.rb_base.specs.Blocks.{fresh_rest}
 use Rattle.rb_base.specs.Fields.{with_number}
-use Rattle.rb_plainstore.specs.Kinds.{kind_number}
-use Rattle.rb_plainstore.proofs.NewFile.{turns_put}
-use Rattle.rb_plainstore.proofs.fresh.put_rest.Goals as goal
+use Rattle.rb_layout.specs.Kinds.{kind_number}
+use Rattle.rb_layout.proofs.Turns.{turns_put}
+use Rattle.rb_layout.proofs.fresh.put_rest.Goals as goal
 
 pub returns-in-Segment : goal.returns-in-Segment
 returns-in-Segment c =
