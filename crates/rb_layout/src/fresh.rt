@@ -1,4 +1,4 @@
-//! The blocks of a new file, one by one. What makes a new file calls it, and a store in memory.
+//! What each block is for, and what it is in a new file. `format` and stores call it.
 ghost use Rattle.std.specs.Prelude.{◌≡◌, ◌-◌, replicate};
 ghost use Rattle.rb_base.specs.Blocks.{IsShape, block_kind, fresh_rest, fresh_block as fresh_block_of};
 ghost use Rattle.rb_base.specs.Blocks.{fresh_head as fresh_head_of};
@@ -16,15 +16,27 @@ const NUMBER_AT: usize = 12;
 const EXTENTS_AT: [usize; 2] = [1024, 1056];
 
 /// What a block is for.
-#[derive(Clone, Copy)]
-enum BlockKind {
+#[derive(Clone, Copy, Debug, PartialEq, Eq)]
+pub enum BlockKind {
+    /// Rows of a table.
     Rows = 1,
+    /// The header of a rollback segment.
     Segment = 2,
+    /// Undo records of a segment.
     Undo = 3,
 }
 
+impl BlockKind {
+    /// The number by which a block names its kind.
+    pub fn number(self) -> u8
+        ensures { result ≡ kind_number self }
+    {
+        self as u8
+    }
+}
+
 /// What block `no` is for.
-fn kind_of(shape: Shape, no: BlockNo) -> BlockKind
+pub fn kind_of(shape: Shape, no: BlockNo) -> BlockKind
     requires { IsShape shape }
     ensures { kind_number result ≡ block_kind shape no }
 {
@@ -43,7 +55,7 @@ fn fresh_head(kind: BlockKind, no: BlockNo) -> [u8; BLOCK_HEAD]
     ensures { result ≡ fresh_head_of (kind_number kind) no }
 {
     let mut head = [0; BLOCK_HEAD];
-    head[KIND_AT] = kind as u8;
+    head[KIND_AT] = kind.number();
     put_u32(&mut head, NUMBER_AT, no);
     head
 }

@@ -6,6 +6,6 @@ mod fresh;
 mod layout;
 mod read;
 
-pub use fresh::fresh_block;
+pub use fresh::{BlockKind, fresh_block, kind_of};
 pub use layout::{Head, IDENTITY, Layout, VERSION};
 pub use read::one_layout;
