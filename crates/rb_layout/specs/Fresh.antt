@@ -6,6 +6,7 @@ use Rattle.std.proofs.Common.{arith, ap, ◌∙◌, sym, refl, inl, inr, length-
 use Rattle.std.proofs.lemmas.Bool.{cases_Bool}
 use Rattle.std.proofs.lemmas.List.{take_at, take-append-le, drop_at, length-replicate, drop-drop, get_or_append_left}
 use Rattle.std.proofs.lemmas.List.{get_or-append_right, get_or-replicate}
+use Rattle.std.proofs.lemmas.List.Folds.{concat-append}
 use Rattle.rb_base.specs.Blocks.{AreBlocks, block_kind, block_of, fresh_block, fresh_blocks, fresh_from, fresh_head}
 use Rattle.rb_base.specs.Blocks.{fresh_rest, fresh_segment, shape_blocks}
 use Rattle.rb_base.specs.Fields.{part}
@@ -41,13 +42,32 @@ fresh_are_blocks shape = record {
   each = from_units shape 0 (shape_blocks shape);
 }
 
-units_long : (shape : Shape) (first count : ℕ) → length (concat (fresh_from shape first count)) ≡ 2048 * count
+pub units_long : (shape : Shape) (first count : ℕ) → length (concat (fresh_from shape first count)) ≡ 2048 * count
 units_long shape first zero = refl
 units_long shape first (suc count) =
     let one = fresh_unit shape first in
     let more = units_long shape (first + 1) count in
     let both = length-append (fresh_block shape first) (concat (fresh_from shape (first + 1) count)) in
     omega (arith, one, more, both)
+
+-- the blocks of a new file, and more behind them
+pub from_split : (shape : Shape) (first n m : ℕ)
+    → fresh_from shape first (n + m) ≡ fresh_from shape first n ++ fresh_from shape (first + n) m
+from_split shape first zero m =
+    let none : first ≡ first + 0 = omega arith in
+    ap (fresh_from shape first) {x = 0 + m} {y = m} (omega arith) ∙ ap (λ (k : ℕ). fresh_from shape k m) none
+from_split shape first (suc n) m =
+    let next : first + 1 + n ≡ first + suc n = omega arith in
+    let more : suc n + m ≡ suc (n + m) = omega arith in
+    ap (fresh_from shape first) more
+    ∙ ap (λ (l : List (List ℕ)). fresh_block shape first ∷ l) (from_split shape (first + 1) n m)
+    ∙ ap (λ (k : ℕ). fresh_block shape first ∷ (fresh_from shape (first + 1) n ++ fresh_from shape k m)) next
+
+pub units_split : (shape : Shape) (first n m : ℕ)
+    → concat (fresh_from shape first n) ++ concat (fresh_from shape (first + n) m)
+    ≡ concat (fresh_from shape first (n + m))
+units_split shape first n m = sym (ap concat (from_split shape first n m)
+    ∙ concat-append (fresh_from shape first n) (fresh_from shape (first + n) m))
 
 unit_at : (shape : Shape) (first count which : ℕ) → which < count
     → part (concat (fresh_from shape first count)) (2048 * which) 2048 ≡ fresh_block shape (first + which)
@@ -69,7 +89,7 @@ unit_at shape first (suc count) (suc which) lt =
     ∙ unit_at shape (first + 1) count which (omega (arith, lt))
     ∙ ap (fresh_block shape) own
 
-front_long : (version : ℕ) (l : Layout) → length (fresh_front version l) ≡ block_offset l 0
+pub front_long : (version : ℕ) (l : Layout) → length (fresh_front version l) ≡ block_offset l 0
 front_long version l =
     let long : length (identity version l) ≡ 24 = omega arith in
     omega (

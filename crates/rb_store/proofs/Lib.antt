@@ -1,5 +1,17 @@
-pub mod FreshLap
-mod LapLemmas
+pub mod Between
+pub mod CachedLemmas
+pub mod FreshOpening
+pub mod GroupSteps
+pub mod HeaderLemmas
+pub mod MeaningLemmas
 pub mod NumberLemmas
-mod ScanLemmas
-mod Units
+pub mod OneMeaning
+pub mod OneOpening
+pub mod OpeningLemmas
+pub mod PatchLemmas
+pub mod RollLemmas
+pub mod SameLayout
+pub mod ScanLemmas
+pub mod Settled
+pub mod StoreLemmas
+pub mod Units

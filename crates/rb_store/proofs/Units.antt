@@ -1,12 +1,16 @@
--- A file that grows by writes at its end.
-use Rattle.std.proofs.Common.{◌≡◌, ℕ, ◌+◌, List, [], ◌++◌, length, take, drop, replicate, ◌∙◌, ap, sym, arith, append_assoc, length-append}
+-- A file that grows by writes at its end, and bytes that are filled from their front on.
+use Rattle.std.proofs.Common.{◌≡◌, ◌≤◌, ℕ, ◌+◌, ◌*◌, List, [], ◌++◌, length, take, drop, replicate, ◌∙◌, ap, sym, arith, append_assoc, length-append}
+use Rattle.std.specs.List.{concat}
 use Rattle.std.proofs.Math.Seq.{take-length}
-use Rattle.std.proofs.lemmas.List.{drop_all, nil_from_length, append-nil, length-replicate, replicate-append-replicate}
+use Rattle.std.proofs.lemmas.List.{drop_all, nil_from_length, append-nil, length-replicate, replicate-append-replicate, take_at, length-take-le}
+use Rattle.rb_base.specs.Blocks.{fresh_block, fresh_from}
+use Rattle.rb_base.specs.declared.shape.Shape.{Shape}
 use Rattle.rb_base.specs.Fields.{overwritten}
 use Rattle.rb_layout.specs.declared.layout.Layout.{Layout}
-use Rattle.rb_layout.specs.Regions.{identity}
+use Rattle.rb_layout.specs.Fresh.{fresh_unit, front_long, units_long, units_split}
+use Rattle.rb_layout.specs.Regions.{block_offset, fresh_front, identity, shape_of}
 
-written_at_end : (old bytes : List ℕ) (at : ℕ) → at ≡ length old → overwritten old at bytes ≡ old ++ bytes
+pub written_at_end : (old bytes : List ℕ) (at : ℕ) → at ≡ length old → overwritten old at bytes ≡ old ++ bytes
 written_at_end old bytes at e =
     let front : take at old ≡ old = ap (λ (n : ℕ). take n old) e ∙ take-length old in
     let behind : drop (at + length bytes) old ≡ [] = drop_all (at + length bytes) old (omega arith) in
@@ -28,3 +32,43 @@ zeros_written version old new zeros l at n count more is place zero now total =
     now ∙ written_at_end old zeros at (place ∙ sym (length_so_far version old l n is)) ∙ ap (λ (f : List ℕ). f ++ zeros) is
     ∙ append_assoc (identity version l) (replicate n 0) zeros ∙ ap (λ (f : List ℕ). identity version l ++ (replicate n 0 ++ f)) zero
     ∙ ap (λ (f : List ℕ). identity version l ++ f) (replicate-append-replicate n count 0 ∙ ap (λ (k : ℕ). replicate k 0) total)
+
+-- a piece of blocks more
+pub blocks_written : (version : ℕ) (old new piece : List ℕ) (l : Layout) (first count : ℕ) → old ≡ fresh_front version l ++ concat (fresh_from (shape_of l) 0 first)
+    → piece ≡ concat (fresh_from (shape_of l) first count) → new ≡ overwritten old (block_offset l first) piece → new ≡ fresh_front version l ++ concat (fresh_from (shape_of l) 0 (first + count))
+blocks_written version old new piece l first count is bytes now =
+    let shape = shape_of l in
+    let front = fresh_front version l in
+    let units = concat (fresh_from shape 0 first) in
+    let long : block_offset l first ≡ length old = let whole = ap length is in let f = front_long version l in let u = units_long shape 0 first in omega (arith, whole, f, u, length-append front units) in
+    let own : first ≡ 0 + first = omega arith in
+    now ∙ written_at_end old piece (block_offset l first) long ∙ ap (λ (f : List ℕ). f ++ piece) is ∙ append_assoc front units piece
+    ∙ ap (λ (f : List ℕ). front ++ (units ++ f)) (bytes ∙ ap (λ (k : ℕ). concat (fresh_from shape k count)) own)
+    ∙ ap (λ (f : List ℕ). front ++ f) (units_split shape 0 first count)
+
+-- where such a piece begins
+pub blocks_end : (version : ℕ) (file : List ℕ) (l : Layout) (first : ℕ) → file ≡ fresh_front version l ++ concat (fresh_from (shape_of l) 0 first) → length file ≡ block_offset l first
+blocks_end version file l first is =
+    let whole = ap length is in
+    let f = front_long version l in
+    let u = units_long (shape_of l) 0 first in omega (arith, whole, f, u, length-append (fresh_front version l) (concat (fresh_from (shape_of l) 0 first)))
+
+-- one block more
+filled_more : (old new bytes front : List ℕ) (at : ℕ) → at ≤ length old → length bytes ≡ 2048 → new ≡ overwritten old at bytes → take at old ≡ front → take (at + 2048) new ≡ front ++ bytes
+filled_more old new bytes front at within long now before =
+    let rest = drop (at + length bytes) old in
+    let size = length-take-le at old within in
+    ap (take (at + 2048)) (now ∙ sym (append_assoc (take at old) bytes rest))
+    ∙ take_at (take at old ++ bytes) rest (at + 2048) (omega (arith, size, long, length-append (take at old) bytes))
+    ∙ ap (λ (f : List ℕ). f ++ bytes) before
+
+pub block_put : (shape : Shape) (old new : List ℕ) (first k : ℕ) → 2048 * (k + 1) ≤ length old → new ≡ overwritten old (2048 * k) (fresh_block shape (first + k))
+    → take (2048 * k) old ≡ concat (fresh_from shape first k) → take (2048 * (k + 1)) new ≡ concat (fresh_from shape first (k + 1))
+block_put shape old new first k room now before =
+    let block = fresh_block shape (first + k) in
+    let one : concat (fresh_from shape (first + k) 1) ≡ block = append-nil block in
+    let place : 2048 * k + 2048 ≡ 2048 * (k + 1) = omega arith in
+    ap (λ (n : ℕ). take n new) (sym place)
+    ∙ filled_more old new block (concat (fresh_from shape first k)) (2048 * k) (omega (arith, room)) (fresh_unit shape (first + k)) now before
+    ∙ ap (λ (f : List ℕ). concat (fresh_from shape first k) ++ f) (sym one)
+    ∙ units_split shape first k 1

@@ -1,6 +1,8 @@
+pub mod CachedFiles
 pub mod Formats
-pub mod Lap
-pub mod LapLaws
-pub mod Laps
-pub mod OneOpening
+pub mod Meaning
+pub mod Openings
+pub mod Patched
 pub mod Scanned
+pub mod StoreLaws
+pub mod StoreStates

@@ -1,48 +1,41 @@
--- What an opening has scanned of a log of groups.
-use Rattle.std.specs.Prelude.{◌≡◌, ℕ, ◌<◌, true, false, List, [], length}
-use Rattle.rb_base.specs.Blocks.{after_groups, fresh_blocks}
+-- What an opening has scanned of a log, and the groups that it keeps.
+use Rattle.std.specs.Prelude.{◌≡◌, ℕ, ◌<◌, ◌≤◌, true, false, List, [], length}
+use Rattle.std.specs.List.{AllByRecursion}
 use Rattle.rb_base.specs.Groups.{Patch}
-use Rattle.rb_layout.specs.Regions.{shape_of}
+use Rattle.rb_layout.specs.declared.layout.Head.{Head}
 use Rattle.rb_layout.specs.declared.layout.Layout.{Layout}
-use Rattle.rb_log.specs.GroupSlots.{LogState, AreFrom, GroupsAre, BeginsWithGroups}
+use Rattle.rb_log.specs.GroupSlots.{LogState, AreFrom, GroupsAre, BeginsWithGroups, IsLoggable}
 use Rattle.rb_log.specs.Slots.{slot_of}
-use Rattle.rb_plainstore.specs.Plain.{PlainState}
-use Rattle.rb_store.specs.declared.head.TheConstants.{FIRST_HEAD}
 
--- The log is scanned up to some slot. The blocks are those after the groups so far, with which the file begins, where
--- it is told.
-pub record HasScanned (told : Type 0) (l : Layout) (file : List ℕ) (plain : PlainState)
-    (log : LogState) : Type 0 where
-  pub groups : List (List Patch)
+-- The log is scanned up to some place. It begins with these groups, where it is told, and there is room for all that it
+-- may have.
+pub record HasScanned (told : Type 0) (l : Layout) (head : Head) (file : List ℕ) (log : LogState)
+    (groups : List (List Patch)) (room : ℕ) : Type 0 where
   pub log_is : log ≡ record {
     layout = l;
-    head = FIRST_HEAD;
+    head = head;
     used = length groups;
     pending = [];
     scanned = false;
     ahead = log.ahead;
   }
-  pub shape_is : plain.shape ≡ shape_of l
-  pub lsn : plain.lsn ≡ length groups
-  pub blocks : plain.blocks ≡ after_groups 1 groups (fresh_blocks (shape_of l))
   pub few : length groups < l.log
-  pub begins : told → BeginsWithGroups l FIRST_HEAD file 0 groups
+  pub enough : l.log ≤ room
+  pub valid : AllByRecursion (IsLoggable l) groups
+  pub begins : told → BeginsWithGroups l head file 0 groups
   pub ahead : told → AreFrom file (slot_of log.layout log.head log.used) log.ahead
 
--- The log is scanned to its end: the file has these groups and no more.
-pub record HasScannedAll (told : Type 0) (l : Layout) (file : List ℕ) (plain : PlainState)
-    (log : LogState) : Type 0 where
-  pub groups : List (List Patch)
+-- The log is scanned to its end: it has these groups and no more.
+pub record HasScannedAll (told : Type 0) (l : Layout) (head : Head) (file : List ℕ) (log : LogState)
+    (groups : List (List Patch)) : Type 0 where
   pub log_is : log ≡ record {
     layout = l;
-    head = FIRST_HEAD;
+    head = head;
     used = length groups;
     pending = [];
     scanned = true;
     ahead = [];
   }
-  pub shape_is : plain.shape ≡ shape_of l
-  pub lsn : plain.lsn ≡ length groups
-  pub blocks : plain.blocks ≡ after_groups 1 groups (fresh_blocks (shape_of l))
   pub few : length groups < l.log
-  pub ends : told → GroupsAre l FIRST_HEAD file 0 groups
+  pub valid : AllByRecursion (IsLoggable l) groups
+  pub ends : told → GroupsAre l head file 0 groups

@@ -4,7 +4,7 @@ ghost use Rattle.rb_base.specs.Blocks.{block_of, fresh_blocks, greatest, shape_b
 ghost use Rattle.rb_base.specs.Fields.{number_at};
 ghost use Rattle.rb_layout.specs.declared.layout.Layout.{Layout};
 ghost use Rattle.rb_layout.specs.Regions.{file_version, fresh_file, shape_of};
-ghost use Rattle.rb_store.specs.Laps.{OpensAt};
+ghost use Rattle.rb_store.specs.Meaning.{Means, OpensAt};
 
 use crate::head::FIRST_HEAD;
 
@@ -14,21 +14,23 @@ pub fn first_head()
     ensures number { FIRST_HEAD.number ≡ 1 }
 {}
 
-/// A new file of groups opens to the blocks of a new file, and has no log number yet.
-pub fn fresh_lap()
+/// A new file opens to the blocks of a new file, and has no log number yet.
+pub fn fresh_opening()
     ensures { (l : Layout) → OpensAt l (fresh_file file_version l) (fresh_blocks (shape_of l)) 0 }
 {}
 
-/// The last log number of what a file opens to is the greatest in front of a block.
+/// The last log number of what a file opens to is the greatest in front of a block, until the log goes round.
 pub fn last_number()
     ensures { (l : Layout) (file : List ℕ) (blocks : List (List ℕ)) (lsn : ℕ) → OpensAt l file blocks lsn
         → greatest (λ no. number_at (block_of blocks no) 0 8) (shape_blocks (shape_of l)) ≡ lsn }
 {}
 
-/// A file of a layout opens to one list of blocks, with one last log number.
+/// A file means one list of blocks, with one last log number, by one layout.
 pub fn one_opening()
-    ensures blocks { (l : Layout) (file : List ℕ) (first second : List (List ℕ)) (n k : ℕ)
-        → OpensAt l file first n → OpensAt l file second k → first ≡ second }
-    ensures lsn { (l : Layout) (file : List ℕ) (first second : List (List ℕ)) (n k : ℕ)
-        → OpensAt l file first n → OpensAt l file second k → n ≡ k }
+    ensures layout { (l m : Layout) (file : List ℕ) (first second : List (List ℕ)) (n k : ℕ)
+        → Means l file first n → Means m file second k → l ≡ m }
+    ensures blocks { (l m : Layout) (file : List ℕ) (first second : List (List ℕ)) (n k : ℕ)
+        → Means l file first n → Means m file second k → first ≡ second }
+    ensures lsn { (l m : Layout) (file : List ℕ) (first second : List (List ℕ)) (n k : ℕ)
+        → Means l file first n → Means m file second k → n ≡ k }
 {}

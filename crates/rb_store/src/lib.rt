@@ -1,12 +1,20 @@
-//! Makes the file of a store, and opens the store of one lap over it.
+//! Makes the file of a store, and opens `LogStore` over it: a store whose blocks stand at home in the file, and are read
+//! and written through a cache.
 #![tactic(auto)]
 
+mod cached_file;
 mod head;
-mod lap;
-mod lap_open;
+mod headers;
 mod laws;
 mod new_file;
+mod opening;
+mod patching;
+mod pieces;
+mod rolling;
+mod scanning;
+mod store;
+mod store_open;
 
-pub use lap::LapStore;
-pub use laws::{first_head, fresh_lap, last_number, one_opening};
+pub use laws::{first_head, fresh_opening, last_number, one_opening};
 pub use new_file::{FormatFault, format};
+pub use store::LogStore;

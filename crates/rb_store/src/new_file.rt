@@ -1,15 +1,17 @@
 //! `format`: writes a new file of a layout. The shell calls it for the command of that name.
-ghost use Rattle.std.specs.Prelude.{◌≡◌, ◌+◌, ◌-◌, ◌<◌, ◌++◌, length, replicate, OnOk, IsErrOf};
+ghost use Rattle.std.specs.Prelude.{◌≡◌, ◌+◌, ◌-◌, ◌*◌, ◌<◌, ◌≤◌, ◌++◌, length, replicate, OnOk, IsErrOf};
+ghost use Rattle.std.specs.List.{concat};
+ghost use Rattle.rb_base.specs.Blocks.{IsShape, fresh_from, shape_blocks};
 ghost use Rattle.rb_base.specs.Counts.{IsCounted, IsCountedAs, err_is};
 ghost use Rattle.rb_disk.specs.DiskModel.{Only};
 ghost use Rattle.rb_disk.specs.Moments.{Rests};
-ghost use Rattle.rb_layout.specs.Regions.{identity, fresh_file};
+ghost use Rattle.rb_layout.specs.Regions.{identity, fresh_file, fresh_front};
 ghost use Rattle.rb_store.specs.Formats.{is_format_failed};
 
-use rb_base::{Failed, UNIT};
+use crate::pieces::{PIECE, PIECE_BYTES};
+use rb_base::{BlockNo, Failed, Shape, UNIT};
 use rb_disk::Disk;
-use rb_layout::{IDENTITY, Layout, VERSION};
-use rb_log::FLUSH_BYTES;
+use rb_layout::{IDENTITY, Layout, VERSION, fresh_block};
 use thiserror::Error;
 
 /// Why a file wasn't made.
@@ -49,27 +51,61 @@ pub fn format<D: Disk>(disk: &mut D, layout: &Layout) -> Result<(), FormatFault>
     if length > 0 {
         return Err(FormatFault::NotEmpty);
     }
-    write_units(disk, layout)?;
+    write_front(disk, layout)?;
+    write_blocks(disk, layout)?;
     disk.sync()?;
     Ok(())
 }
 
-// Writes all units of a new file into an empty one, in order: the first, and then zeros in pieces.
-fn write_units<D: Disk>(disk: &mut D, layout: &Layout) -> Result<(), Failed>
+// Writes all that is in front of the blocks into an empty file, in order: the first unit, and then zeros in pieces.
+fn write_front<D: Disk>(disk: &mut D, layout: &Layout) -> Result<(), Failed>
     requires { D.tells → length (D.content disk.old) ≡ 0 }
-    ensures written { D.tells → OnOk result (D.content disk.new ≡ fresh_file VERSION layout.now) }
+    ensures written { D.tells → OnOk result (D.content disk.new ≡ fresh_front VERSION layout.now) }
     ensures counted { IsCounted (D.faults disk.old) (D.faults disk.new) result }
 {
     disk.write_at(0, &first_unit(layout))?;
-    let empty = [0; FLUSH_BYTES];
-    let end = layout.length();
+    let empty = [0; PIECE_BYTES];
+    let end = layout.block_at(0);
     let mut at = UNIT as u64;
     while at < end {
-        let count = (end - at).min(FLUSH_BYTES as u64);
+        let count = (end - at).min(PIECE_BYTES as u64);
         disk.write_at(at, &empty[..count as usize])?;
         at += count;
     }
     Ok(())
+}
+
+// Writes the blocks of a new file behind that, in pieces.
+fn write_blocks<D: Disk>(disk: &mut D, layout: &Layout) -> Result<(), Failed>
+    requires { D.tells → D.content disk.old ≡ fresh_front VERSION layout.now }
+    ensures written { D.tells → OnOk result (D.content disk.new ≡ fresh_file VERSION layout.now) }
+    ensures counted { IsCounted (D.faults disk.old) (D.faults disk.new) result }
+{
+    let shape = layout.shape();
+    let end = shape.block_count();
+    let mut piece = [0; PIECE_BYTES];
+    let mut first = 0;
+    while first < end {
+        let count = (end - first).min(PIECE);
+        let blocks = &mut piece[..UNIT * count as usize];
+        put_blocks(blocks, shape, first, count);
+        disk.write_at(layout.block_at(first), blocks)?;
+        first += count;
+    }
+    Ok(())
+}
+
+// Puts so many blocks of a new file from one on where they have room, one behind the other.
+fn put_blocks(into: &mut [u8], shape: Shape, first: BlockNo, count: u32)
+    requires room { length into.old ≡ UNIT * count }
+    requires shape { IsShape shape }
+    requires there { first + count ≤ shape_blocks shape }
+    ensures { into.new ≡ concat (fresh_from shape first count) }
+{
+    for k in 0..count {
+        let at = UNIT * k as usize;
+        into[at..at + UNIT].copy_from_slice(&fresh_block(shape, first + k));
+    }
 }
 
 // The unit that says what the file is.

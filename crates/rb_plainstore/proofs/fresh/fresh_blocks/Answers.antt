@@ -1,7 +1,7 @@
 use Rattle.std.proofs.Common.{◌≡◌, ◌+◌, arith, ap, sym, ◌∙◌, List, ℕ, ◌++◌, ◌∷◌, [], length}
 use Rattle.rb_base.specs.Blocks.{fresh_block, fresh_from}
 use Rattle.rb_base.proofs.Blocks.{fresh_count}
-use Rattle.rb_plainstore.proofs.NewFile.{from_more}
+use Rattle.rb_layout.specs.Fresh.{from_split}
 use Rattle.rb_plainstore.proofs.fresh.fresh_blocks.Goals as goal
 
 pub push_reserved-requires : goal.push_reserved-requires
@@ -20,6 +20,6 @@ loop-no-preserved c =
           ∙ ap (λ (blocks : List (List ℕ)). blocks ++ c.fresh_block.result ∷ []) c.loop-no.invariant.made
           ∙ ap (λ (block : List ℕ). fresh_from shape 0 no ++ block ∷ []) c.fresh_block.ensures
           ∙ ap (λ (n : ℕ). fresh_from shape 0 no ++ fresh_block shape n ∷ []) behind
-          ∙ sym (from_more shape 0 no);
+          ∙ sym (from_split shape 0 no 1);
       room = omega (arith, c.push_reserved.ensures.capacity, c.loop-no.invariant.room);
     }

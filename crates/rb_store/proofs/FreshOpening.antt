@@ -1,0 +1,66 @@
+-- What a new file opens to.
+use Rattle.std.proofs.Common.{◌≡◌, ◌≢◌, ℕ, ◌<◌, ◌+◌, ◌^◌, ◌++◌, [], length, drop, get_or, slice_index, refl, arith, ap, sym, subst, ◌∙◌, inr}
+use Rattle.std.proofs.lemmas.List.{get_or-take, get_or-drop}
+use Rattle.rb_base.specs.Blocks.{block_kind, block_of, fresh_block, fresh_blocks, fresh_head, fresh_rest, shape_blocks}
+use Rattle.rb_base.specs.Fields.{number_at}
+use Rattle.rb_base.specs.declared.shape.Shape.{Shape}
+use Rattle.rb_base.proofs.Blocks.{fresh_at}
+use Rattle.rb_layout.specs.Fresh.{fresh_are_blocks, fresh_has_identity, fresh_home, fresh_zero}
+use Rattle.rb_layout.specs.Regions.{file_version, fresh_file, shape_of, twin_offset}
+use Rattle.rb_layout.specs.declared.layout.Layout.{Layout}
+use Rattle.rb_cache.proofs.UseLemmas.{few_blocks}
+use Rattle.rb_log.specs.GroupLaws.{slot_low}
+use Rattle.rb_log.specs.Slots.{slot_at}
+use Rattle.rb_twin.specs.Twins.{kept, twin_gate}
+use Rattle.rb_twin.specs.TwinLaws.{kept_shut}
+use Rattle.rb_store.specs.Meaning.{IsHeaded, OpensAt, place_of}
+use Rattle.rb_store.specs.declared.head.TheConstants.{FIRST_HEAD}
+
+-- the first gate of a new file is closed
+first_gate : (l : Layout) → slice_index (slot_at (fresh_file file_version l) 0) 0 ≡ 0
+first_gate l =
+    let file = fresh_file file_version l in
+    get_or-take 2048 (drop 8192 file) 0 0 (omega arith) ∙ get_or-drop 8192 file 0 0 ∙ fresh_zero file_version l 8192 (omega arith) (omega arith)
+
+-- and so is that of its twin area
+gate_shut : (l : Layout) → twin_gate l (fresh_file file_version l) ≢ 1
+gate_shut l = λ is. let zero = fresh_zero file_version l (twin_offset l 0) (omega arith) (omega arith) in omega (arith, zero, is)
+
+-- each block of a new file is one of its place
+fresh_kind : (kind which : ℕ) → slice_index (place_of (fresh_head kind which ++ fresh_rest kind)) 0 ≡ kind
+fresh_kind kind which = refl
+
+fresh_own : (kind which : ℕ) → which < 2 ^ 32 → number_at (place_of (fresh_head kind which ++ fresh_rest kind)) 4 4 ≡ which
+fresh_own kind which fits = omega (arith, fits)
+
+fresh_number : (kind which : ℕ) → number_at (fresh_head kind which ++ fresh_rest kind) 0 8 ≡ 0
+fresh_number kind which = refl
+
+fresh_headed : (l : Layout) (which : ℕ) → which < shape_blocks (shape_of l) → IsHeaded (shape_of l) 0 which (fresh_block (shape_of l) which)
+fresh_headed l which lt =
+    let kind = block_kind (shape_of l) which in
+    let few = few_blocks l in
+    let zero = fresh_number kind which in record {
+      kind = fresh_kind kind which;
+      own = fresh_own kind which (omega (arith, lt, few));
+      low = omega (arith, zero);
+    }
+
+own_block : (shape : Shape) (which : ℕ) → which < shape_blocks shape → block_of (fresh_blocks shape) which ≡ fresh_block shape which
+own_block shape which lt = fresh_at shape 0 (shape_blocks shape) which lt ∙ ap (fresh_block shape) {x = 0 + which} (omega arith)
+
+pub fresh_opens : (l : Layout) → OpensAt l (fresh_file file_version l) (fresh_blocks (shape_of l)) 0
+fresh_opens l = record {
+  means = record {
+    identity = fresh_has_identity file_version l;
+    head = FIRST_HEAD;
+    head_is = refl;
+    groups = [];
+    log = inr (λ is. let gate = ap (λ (s : ℕ). slice_index (slot_at (fresh_file file_version l) s) 0) (slot_low l FIRST_HEAD 0 (omega (arith, l.few_slots.0))) ∙ first_gate l in omega (arith, gate, is));
+    twin = λ is. absurd (gate_shut l is);
+    last = refl;
+    whole = fresh_are_blocks (shape_of l);
+    made = λ which lt. own_block (shape_of l) which lt ∙ sym (kept_shut l (fresh_file file_version l) which (gate_shut l) ∙ fresh_home file_version l which lt);
+  };
+  headed = λ which lt. subst (IsHeaded (shape_of l) 0 which) (sym (own_block (shape_of l) which lt)) (fresh_headed l which lt);
+}
