@@ -25,7 +25,7 @@ use Rattle.rb_shell.specs.Statuses.{IsDoneOrNoMemory}
 use Rattle.rb_shell.specs.declared.status.Status.{Status}
 use Rattle.rb_shell.specs.declared.status.Status.TheVariants.{Done, Usage, SourceFault, DiskFault, SinkFault, NotAStore, NoMemory, NotEmpty, TooLong}
 use Rattle.rb_shell.specs.Statuses.{by_source, status_of_opening}
-use Rattle.rb_store.specs.Laps.{LapState}
+use Rattle.rb_store.specs.StoreStates.{StoreState}
 
 -- an opening that was refused makes no line
 pub no_counts : (fault : OpenFault) (status : Status) → status ≡ status_of_opening fault → TellsCounts status → ⊥
@@ -72,7 +72,7 @@ module _ {S : Type 0} (s : Ghosts S) (m : Logged) (n : ℕ) (old mid : EngineVie
     cut = cut;
   }
 
-module _ {D : Type 0} (d : DiskGhosts D) (old : D) (g : Ghosts (LapState D)) (e : EngineView (LapState D)) (sound : IsSound (d.content old)) (o : HasOpened d g old e sound) where
+module _ {D : Type 0} (d : DiskGhosts D) (old : D) (g : Ghosts (StoreState D)) (e : EngineView (StoreState D)) (sound : IsSound (d.content old)) (o : HasOpened d g old e sound) where
   -- the same commands over the file
   abbrev pub same_made : (n : ℕ) (had fault : Bool) → had ≡ fault → HasMade (outside_of (Some e.store.layout.log)) (first_of sound o.first) n had → HasMade (outside_in sound) (first_of sound o.first) n fault
   same_made n had fault is made = record {

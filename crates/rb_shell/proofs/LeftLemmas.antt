@@ -32,7 +32,7 @@ use Rattle.rb_shell.specs.Over.{HasRows, IsCutOver, LeavesFiles, LeavesSame, Lea
 use Rattle.rb_shell.specs.Runs.{Endures, FirstBlocks, IsSound, LeftBehind, OpensSame, first_of, outside_in}
 use Rattle.rb_shell.specs.declared.script.TheConstants.{SCRIPT_BYTES}
 use Rattle.rb_standing.specs.Standing.{SoundAs}
-use Rattle.rb_store.specs.Laps.{Opens}
+use Rattle.rb_store.specs.Meaning.{Opens}
 
 -- ---- it is sound, and opens with that state
 

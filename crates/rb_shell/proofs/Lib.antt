@@ -9,3 +9,4 @@ pub mod Returns
 pub mod RunLemmas
 pub mod SaidLemmas
 pub mod StatusLemmas
+pub mod Restarting

@@ -8,12 +8,12 @@ use Rattle.rb_base.specs.Blocks.{block_of, block_kind, fresh_head, fresh_rest, f
 use Rattle.rb_base.specs.declared.shape.Shape.{Shape}
 use Rattle.rb_heap.proofs.Fresh.{new_block, new_empty}
 use Rattle.rb_heap.specs.Homes as heap
+use Rattle.rb_layout.specs.Fresh.{fresh_are_blocks}
 use Rattle.rb_layout.specs.Regions.{file_version, fresh_file, shape_of}
 use Rattle.rb_layout.specs.declared.layout.Layout.{Layout}
 use Rattle.rb_model.specs.State.{opened}
 use Rattle.rb_opening.proofs.Sound.{sound_as}
 use Rattle.rb_opening.specs.Opens.{books_of}
-use Rattle.rb_plainstore.proofs.NewFile.{fresh_are_blocks}
 use Rattle.rb_restart.proofs.Slots.{owed_is, owed_none}
 use Rattle.rb_ring.specs.Ring.{extent_ord, extent_newest, head_extent, head_records, record_count, lost_number}
 use Rattle.rb_segment.proofs.Fresh.{all_same, fresh_slot}
@@ -28,7 +28,7 @@ use Rattle.rb_standing.specs.Fresh.{IsFresh, no_past}
 use Rattle.rb_standing.specs.Says.{walk_home}
 use Rattle.rb_standing.specs.Standing.{SoundAs, homes_of, logged_of, segments_of}
 use Rattle.rb_standing.specs.Values.{StandingAs, slot_of, wraps_of}
-use Rattle.rb_store.proofs.FreshLap.{fresh_opens}
+use Rattle.rb_store.proofs.FreshOpening.{fresh_opens}
 use Rattle.rb_store.proofs.NumberLemmas.{last_number}
 use Rattle.rb_txntable.specs.Slots.{slot_state, slot_touched, slot_live, slot_wrap, slot_newest, slot_before, slot_record, slot_first, slot_start}
 use Rattle.rb_txntable.specs.declared.slots.TableSlot.{TableSlot}

@@ -26,7 +26,8 @@ use Rattle.rb_model.specs.State.{State}
 use Rattle.rb_opening.specs.Opens.{CanOpen, OpensAs}
 use Rattle.rb_restart.specs.Rollback.{BackBy}
 use Rattle.rb_segment.specs.Segments.{owed_in}
-use Rattle.rb_shell.specs.Runs.{IsSound, IsStore, HasHalted, HasOpened, HasRun, WasCutOff, Endures, LeftAlone, OpensSame, OpensToNone, first_of, outside_in}
+use Rattle.rb_shell.proofs.Restarting.{restarts_found}
+use Rattle.rb_shell.specs.Runs.{IsSound, IsStore, HasHalted, HasOpened, HasRun, WasCutOff, Endures, OpensSame, first_of, outside_in}
 use Rattle.rb_shell.specs.Statuses.{EndsRun, IsDoneOrNoMemory}
 use Rattle.rb_shell.specs.declared.script.TheConstants.{SCRIPT_BYTES}
 use Rattle.rb_calls.specs.Since.{outside_of, slots_of}
@@ -35,8 +36,10 @@ use Rattle.rb_shell.specs.declared.status.Status.{Status}
 use Rattle.rb_shell.specs.declared.status.Status.TheVariants.{Done, Usage, SourceFault, DiskFault, SinkFault, NotAStore, NoMemory, NotEmpty, TooLong}
 use Rattle.rb_standing.specs.Standing.{logged_of}
 use Rattle.rb_store.proofs.NumberLemmas.{last_number}
-use Rattle.rb_store.specs.OneOpening.{Agree, one_opening, opens_alike}
-use Rattle.rb_store.specs.Laps.{LapState, IsStable, Opens, OpensAt}
+use Rattle.rb_store.proofs.OneOpening.{Agree, means_alike, one_opening}
+use Rattle.rb_store.specs.Meaning.{Means, Opens, OpensAt}
+use Rattle.rb_store.specs.Openings.{LeftAlone, MeansNothing}
+use Rattle.rb_store.specs.StoreStates.{StoreState, IsStable, blocks_in}
 
 -- the lines before a fault of the disk, and the one in which it came
 all_ran : (outside : Outside) (most : ℕ) (m now : Logged) (left left2 : List ℕ) (tells : Type 0) (before held : List ℕ) → Halted outside most m now left left2 tells before held → Ran outside m now (lines_of left) tells before held
@@ -53,12 +56,11 @@ pub in_range : (l : Layout) → IsShape (shape_of l)
 in_range l = record { few_tables = l.few_tables; few_blocks = l.few_blocks; few_segments = l.few_segments }
 
 -- what the opening of a store gave
-pub record Found {D : Type 0} (d : DiskGhosts D) (old : D) (s : LapState D) : Type 0 where
-  pub opens : OpensAt s.layout (d.content old) s.blocks s.lsn
-  pub stable : IsStable d s s.blocks s.lsn
+pub record Found {D : Type 0} (d : DiskGhosts D) (old : D) (s : StoreState D) : Type 0 where
+  pub opens : OpensAt s.layout (d.content old) (blocks_in d s) s.number
+  pub stable : IsStable d s (blocks_in d s) s.number
   pub none_waits : s.pending ≡ []
-  pub rests : Rests d old s.disk
-  pub only_old : (c : List ℕ) → d.image_since old (d.moment old) c → d.image old c
+  pub kept : LeftAlone d old s.disk
 
 -- Blocks are only one list with one number: what a sound file opens to is what was found in it.
 pub record Same {file : List ℕ} (sound : IsSound file) (l : Layout) (blocks : List (List ℕ)) (lsn : ℕ) : Type 0 where
@@ -72,49 +74,59 @@ pub record Same {file : List ℕ} (sound : IsSound file) (l : Layout) (blocks : 
 
 can_move : (l m : Layout) (first second : List (List ℕ)) (n k : ℕ) → Agree l m first second n k → CanOpen (shape_of l) first (room_of (Some l.log) n) → CanOpen (shape_of m) second (room_of (Some m.log) k)
 can_move l m first second n k agree can =
-    subst (λ (slots : ℕ). CanOpen (shape_of m) second (room_of (Some slots) k)) agree.numbers.log
-    (subst (λ (number : ℕ). CanOpen (shape_of m) second (room_of (Some l.log) number)) agree.lsn
-    (subst (λ (b : List (List ℕ)). CanOpen (shape_of m) b (room_of (Some l.log) n)) agree.blocks
-    (subst (λ (shape : Shape). CanOpen shape first (room_of (Some l.log) n)) agree.shape can)))
+    subst (λ (number : ℕ). CanOpen (shape_of m) second (room_of (Some m.log) number)) agree.lsn
+    (subst (λ (b : List (List ℕ)). CanOpen (shape_of m) b (room_of (Some m.log) n)) agree.blocks
+    (subst (λ (x : Layout). CanOpen (shape_of x) first (room_of (Some x.log) n)) agree.layout can))
 
 pub same_of : {file : List ℕ} (sound : IsSound file) (l : Layout) (blocks : List (List ℕ)) (lsn : ℕ) → OpensAt l file blocks lsn → Same sound l blocks lsn
 same_of {file} sound l blocks lsn opens =
     let st = sound.store in
-    let agree = one_opening st.layout l file st.blocks blocks st.lsn lsn st.opens opens in
+    let agree = one_opening st.layout l file st.blocks blocks st.lsn lsn st.opens.means opens.means in
+    let shape : shape_of st.layout ≡ shape_of l = ap shape_of agree.layout in
     record {
-      log = sym agree.numbers.log;
-      shape = sym agree.shape;
+      log = ap (λ (x : Layout). x.log) (sym agree.layout);
+      shape = sym shape;
       there = sym agree.blocks;
-      opening = subst (λ (b : List (List ℕ)). OpensAs (shape_of l) b sound.state) agree.blocks (subst (λ (shape : Shape). OpensAs shape st.blocks sound.state) agree.shape sound.opening);
+      opening = subst (λ (b : List (List ℕ)). OpensAs (shape_of l) b sound.state) agree.blocks (subst (λ (s : Shape). OpensAs s st.blocks sound.state) shape sound.opening);
       logged = sym (last_number l file blocks lsn opens);
       fits = (can_move st.layout l st.blocks blocks st.lsn lsn agree st.can_open).fits;
       next = ap (λ (n : ℕ). n + owed_in (shape_of st.layout) st.blocks) agree.lsn
-          ∙ ap (λ (shape : Shape). lsn + owed_in shape st.blocks) agree.shape
+          ∙ ap (λ (s : Shape). lsn + owed_in s st.blocks) shape
           ∙ ap (λ (b : List (List ℕ)). lsn + owed_in (shape_of l) b) agree.blocks;
     }
 
 -- moments of a store over a disk are those of the disk
-pub disk_leaves : {D : Type 0} (d : DiskGhosts D) (s : Ghosts (LapState D)) (old new : LapState D) (P : List ℕ → Type 0)
-    → LeavesOnly (λ (t : LapState D). d.moment t.disk) (λ (t : LapState D). d.image_since t.disk) old new P → Leaves d old.disk new.disk P
+pub disk_leaves : {D : Type 0} (d : DiskGhosts D) (s : Ghosts (StoreState D)) (old new : StoreState D) (P : List ℕ → Type 0)
+    → LeavesOnly (λ (t : StoreState D). d.moment t.disk) (λ (t : StoreState D). d.image_since t.disk) old new P → Leaves d old.disk new.disk P
 disk_leaves d s old new P x = record { later = x.later; each = x.each; earlier = x.earlier }
 
 module _ {D : Type 0} (d : DiskGhosts D) (old : D) where
   -- the store that was found is one
-  pub is_store : (s : LapState D) → Found d old s → CanOpen (shape_of s.layout) s.blocks (room_of (Some s.layout.log) s.lsn) → IsStore (d.content old)
-  is_store s found can = record { layout = s.layout; blocks = s.blocks; lsn = s.lsn; opens = found.opens; can_open = can }
+  pub is_store : (s : StoreState D) → Found d old s → CanOpen (shape_of s.layout) (blocks_in d s) (room_of (Some s.layout.log) s.number) → IsStore (d.content old)
+  is_store s found can = record { layout = s.layout; blocks = blocks_in d s; lsn = s.number; opens = found.opens; can_open = can }
 
   -- where it was refused, the file is none
-  pub not_store : (s : LapState D) → Found d old s → (CanOpen (shape_of s.layout) s.blocks (room_of (Some s.layout.log) s.lsn) → ⊥) → IsStore (d.content old) → ⊥
+  pub not_store : (s : StoreState D) → Found d old s → (CanOpen (shape_of s.layout) (blocks_in d s) (room_of (Some s.layout.log) s.number) → ⊥) → IsStore (d.content old) → ⊥
   not_store s found refused st =
-      refused (can_move st.layout s.layout st.blocks s.blocks st.lsn s.lsn (one_opening st.layout s.layout (d.content old) st.blocks s.blocks st.lsn s.lsn st.opens found.opens) st.can_open)
+      refused (can_move st.layout s.layout st.blocks (blocks_in d s) st.lsn s.number (one_opening st.layout s.layout (d.content old) st.blocks (blocks_in d s) st.lsn s.number st.opens.means found.opens.means) st.can_open)
+
+  -- what leaves the meaning of a sound file leaves the state that it opens to
+  pub alone_same : (new : D) (sound : IsSound (d.content old)) → LeftAlone d old new → OpensSame d old new sound
+  alone_same new sound alone =
+      let st = sound.store in
+      let same = same_of sound st.layout st.blocks st.lsn st.opens in
+      let P : List ℕ → Type 0 = λ c. d.image old c ⊎ Restarts Opens (Some st.layout.log) sound.state c in
+      weaker d.moment d.image_since old new (λ c. d.image old c ⊎ Means st.layout c st.blocks st.lsn) P
+      (λ c p. ⊎_elim (λ was. inl was) (λ means. inr (restarts_found sound.state st.layout st.blocks st.lsn c sound.opening same.logged same.fits (record { means = means; headed = st.opens.headed }))) p)
+      (alone.images st.layout st.blocks st.lsn st.opens.means)
 
   -- what an opening left, of the store that was found
-  pub opens_same : (s : LapState D) (new : D) (sound : IsSound (d.content old)) → Found d old s → Leaves d s.disk new (Restarts Opens (Some s.layout.log) sound.state) → OpensSame d old new sound
+  pub opens_same : (s : StoreState D) (new : D) (sound : IsSound (d.content old)) → Found d old s → Leaves d s.disk new (Restarts Opens (Some s.layout.log) sound.state) → OpensSame d old new sound
   opens_same s new sound found stays =
       let P : List ℕ → Type 0 = λ c. d.image old c ⊎ Restarts Opens (Some sound.store.layout.log) sound.state c in
-      let same = same_of sound s.layout s.blocks s.lsn found.opens in
+      let same = same_of sound s.layout (blocks_in d s) s.number found.opens in
       joined d.moment d.image_since old s.disk new P
-      (rests_leave d old s.disk P found.only_old (λ c here. inl here) found.rests)
+      (alone_same s.disk sound found.kept)
       (weaker d.moment d.image_since s.disk new (Restarts Opens (Some s.layout.log) sound.state) P
       (λ c r. inr (subst (λ (k : ℕ). Restarts Opens (Some k) sound.state c) same.log r)) stays)
 
@@ -123,46 +135,39 @@ module _ {D : Type 0} (d : DiskGhosts D) (old : D) where
   rests_itself = record { same = refl; crashes = no_call d.image d.moment d.image_since old }
 
   -- calls that change nothing leave it alone
-  pub rests_same : (new : D) (sound : IsSound (d.content old)) → ((c : List ℕ) → d.image_since old (d.moment old) c → d.image old c) → Rests d old new → OpensSame d old new sound
-  rests_same new sound only_now still = rests_leave d old new (λ c. d.image old c ⊎ Restarts Opens (Some sound.store.layout.log) sound.state c) only_now (λ c here. inl here) still
-
   pub rests_alone : (new : D) → ((c : List ℕ) → d.image_since old (d.moment old) c → d.image old c) → Rests d old new → LeftAlone d old new
   rests_alone new only_now still = record {
-    file = λ l blocks lsn opens. subst (λ (c : List ℕ). OpensAt l c blocks lsn) (sym still.same) opens;
-    images = λ l blocks lsn opens. rests_leave d old new (λ c. d.image old c ⊎ OpensAt l c blocks lsn) only_now (λ c here. inl here) still;
+    file = λ l blocks lsn means. subst (λ (c : List ℕ). Means l c blocks lsn) (sym still.same) means;
+    images = λ l blocks lsn means. rests_leave d old new (λ c. d.image old c ⊎ Means l c blocks lsn) only_now (λ c here. inl here) still;
     none = λ nothing. still;
   }
 
   -- of a file whose blocks don't pass the tests
-  pub rests_damaged : (new : D) → ((c : List ℕ) → d.image_since old (d.moment old) c → d.image old c) → Rests d old new
-      → (l : Layout) (blocks : List (List ℕ)) (lsn : ℕ) → OpensAt l (d.content old) blocks lsn → Leaves d old new (λ c. d.image old c ⊎ OpensAt l c blocks lsn)
-  rests_damaged new only_now still l blocks lsn opens = (rests_alone new only_now still).images l blocks lsn opens
-
-  pub stays_damaged : (s : LapState D) (new : LapState D) → Found d old s → Leaves d s.disk new.disk (λ c. OpensAt s.layout c s.blocks s.lsn)
-      → (l : Layout) (blocks : List (List ℕ)) (lsn : ℕ) → OpensAt l (d.content old) blocks lsn → Leaves d old new.disk (λ c. d.image old c ⊎ OpensAt l c blocks lsn)
-  stays_damaged s new found leaves l blocks lsn opens =
-      let P : List ℕ → Type 0 = λ c. d.image old c ⊎ OpensAt l c blocks lsn in
+  pub stays_damaged : (s : StoreState D) (new : StoreState D) → Found d old s → Leaves d s.disk new.disk (λ c. Means s.layout c (blocks_in d s) s.number)
+      → (l : Layout) (blocks : List (List ℕ)) (lsn : ℕ) → Means l (d.content old) blocks lsn → Leaves d old new.disk (λ c. d.image old c ⊎ Means l c blocks lsn)
+  stays_damaged s new found leaves l blocks lsn means =
+      let P : List ℕ → Type 0 = λ c. d.image old c ⊎ Means l c blocks lsn in
       joined d.moment d.image_since old s.disk new.disk P
-      (rests_leave d old s.disk P found.only_old (λ c here. inl here) found.rests)
-      (weaker d.moment d.image_since s.disk new.disk (λ c. OpensAt s.layout c s.blocks s.lsn) P
-      (λ c at. inr (opens_alike s.layout l (d.content old) c s.blocks blocks s.lsn lsn found.opens opens at)) leaves)
+      (found.kept.images l blocks lsn means)
+      (weaker d.moment d.image_since s.disk new.disk (λ c. Means s.layout c (blocks_in d s) s.number) P
+      (λ c at. inr (means_alike s.layout l (d.content old) c (blocks_in d s) blocks s.number lsn found.opens.means means at)) leaves)
 
-  -- and so do calls of the store that was found
-  pub stays_alone : (s : LapState D) (new : LapState D) → Found d old s → OpensAt s.layout (d.content new.disk) s.blocks s.lsn
-      → Leaves d s.disk new.disk (λ c. OpensAt s.layout c s.blocks s.lsn) → LeftAlone d old new.disk
+  -- calls that leave what was found leave all that the file means
+  pub stays_alone : (s : StoreState D) (new : StoreState D) → Found d old s → Means s.layout (d.content new.disk) (blocks_in d s) s.number
+      → Leaves d s.disk new.disk (λ c. Means s.layout c (blocks_in d s) s.number) → LeftAlone d old new.disk
   stays_alone s new found file leaves = record {
-    file = λ l blocks lsn opens. opens_alike s.layout l (d.content old) (d.content new.disk) s.blocks blocks s.lsn lsn found.opens opens file;
+    file = λ l blocks lsn means. means_alike s.layout l (d.content old) (d.content new.disk) (blocks_in d s) blocks s.number lsn found.opens.means means file;
     images = stays_damaged s new found leaves;
-    none = λ nothing. absurd (nothing s.layout s.blocks s.lsn found.opens);
+    none = λ nothing. absurd (nothing s.layout (blocks_in d s) s.number found.opens.means);
   }
 
   -- an engine over it
-  pub has_opened : (g : Ghosts (LapState D)) (s : LapState D) (e : EngineView (LapState D)) (sound : IsSound (d.content old)) → Found d old s → e.store.layout.log ≡ s.layout.log
-      → g.slots e.store ≡ Some e.store.layout.log → Stands g sound.state e → g.lsn e.store ≡ s.lsn + owed_in (shape_of s.layout) s.blocks
-      → BackBy (shape_of s.layout) (owed_in (shape_of s.layout) s.blocks) s.blocks (g.blocks e.store)
+  pub has_opened : (g : Ghosts (StoreState D)) (s : StoreState D) (e : EngineView (StoreState D)) (sound : IsSound (d.content old)) → Found d old s → e.store.layout.log ≡ s.layout.log
+      → g.slots e.store ≡ Some e.store.layout.log → Stands g sound.state e → g.lsn e.store ≡ s.number + owed_in (shape_of s.layout) (blocks_in d s)
+      → BackBy (shape_of s.layout) (owed_in (shape_of s.layout) (blocks_in d s)) (blocks_in d s) (g.blocks e.store)
       → Leaves d s.disk e.store.disk (Restarts Opens (Some s.layout.log) sound.state) → ((c : List ℕ) → d.image e.store.disk c → Restarts Opens (Some e.store.layout.log) sound.state c) → HasOpened d g old e sound
   has_opened g s e sound found slots ended stands lsn back stays only =
-      let same = same_of sound s.layout s.blocks s.lsn found.opens in
+      let same = same_of sound s.layout (blocks_in d s) s.number found.opens in
       record {
         slots = slots ∙ same.log;
         first = record {
@@ -176,7 +181,7 @@ module _ {D : Type 0} (d : DiskGhosts D) (old : D) where
       }
 
   -- an opening, and the lines after it
-  pub endures : (g : Ghosts (LapState D)) (e : EngineView (LapState D)) (m : Logged) (new : D) (sound : IsSound (d.content old)) → HasOpened d g old e sound → Extends sound.state m.state
+  pub endures : (g : Ghosts (StoreState D)) (e : EngineView (StoreState D)) (m : Logged) (new : D) (sound : IsSound (d.content old)) → HasOpened d g old e sound → Extends sound.state m.state
       → Leaves d e.store.disk new (OnTheWay Opens (Some e.store.layout.log) m.fault sound.state m.state) → ((c : List ℕ) → d.image new c → AtEnd Opens (Some e.store.layout.log) m.fault m.state c)
       → Endures d old new sound.store.layout sound.state m
   endures g e m new sound o extends any end =
@@ -194,7 +199,7 @@ module _ {D : Type 0} (d : DiskGhosts D) (old : D) where
       }
 
   -- what was done over the engine was done over the file
-  module _ (g : Ghosts (LapState D)) (e : EngineView (LapState D)) (sound : IsSound (d.content old)) (o : HasOpened d g old e sound) where
+  module _ (g : Ghosts (StoreState D)) (e : EngineView (StoreState D)) (sound : IsSound (d.content old)) (o : HasOpened d g old e sound) where
     pub has_run : (now : Logged) (lines : List (List ℕ)) (tells : Type 0) (before held : List ℕ) (endures : Layout → State → Logged → Type 0)
         → Ran (outside_of (Some e.store.layout.log)) (first_of sound o.first) now lines tells before held → now.state.stopped ≡ false → endures sound.store.layout sound.state now → HasRun sound lines tells before held endures
     has_run now lines tells before held endures ran going endured = record {
@@ -223,7 +228,7 @@ module _ {D : Type 0} (d : DiskGhosts D) (old : D) where
     }
 
 -- a file that opens to nothing is no store
-pub no_opening : (file : List ℕ) → OpensToNone file → IsStore file → ⊥
+pub no_opening : (file : List ℕ) → ((l : Layout) (blocks : List (List ℕ)) (lsn : ℕ) → OpensAt l file blocks lsn → ⊥) → IsStore file → ⊥
 no_opening file none st = none st.layout st.blocks st.lsn st.opens
 
 -- what is left where nothing failed

@@ -26,10 +26,12 @@ use Rattle.rb_shell.specs.Statuses.{status_of}
 use Rattle.rb_shell.specs.declared.script.TheConstants.{SCRIPT_BYTES}
 use Rattle.rb_shell.specs.declared.status.Status.{Status}
 use Rattle.rb_shell.specs.declared.status.Status.TheVariants.{Done, DiskFault, SinkFault}
-use Rattle.rb_store.specs.Laps.{LapState, Opens, OpensAt}
+use Rattle.rb_store.specs.Meaning.{Means, Opens, OpensAt}
+use Rattle.rb_store.specs.Openings.{MeansNothing}
+use Rattle.rb_store.specs.StoreStates.{StoreState}
 
--- The file is a store of some layout: its log gives these blocks and that last log number, they are in order, and the
--- log has room for the groups that put back what is under way.
+-- The file is a store of some layout: it opens to these blocks with that last log number, they are in order, and the log
+-- has room for the groups that put back what is under way.
 pub record IsStore (file : List ℕ) : Type 0 where
   pub layout : Layout
   pub blocks : List (List ℕ)
@@ -149,8 +151,8 @@ pub record LeftBehind {D : Type 0} (d : DiskGhosts D) (old new : D) (sound : IsS
 -- An engine was opened over the file of a disk, whose log it goes on with, and stands for the state to which the file
 -- opens, with what was under way put back in its blocks. A crash from then on leaves no image of before: each that it
 -- may leave now restarts to that state.
-pub record HasOpened {D : Type 0} (d : DiskGhosts D) (s : Ghosts (LapState D)) (old : D) (e : EngineView (LapState D))
-    (sound : IsSound (d.content old)) : Type 0 where
+pub record HasOpened {D : Type 0} (d : DiskGhosts D) (s : Ghosts (StoreState D)) (old : D)
+    (e : EngineView (StoreState D)) (sound : IsSound (d.content old)) : Type 0 where
   pub slots : e.store.layout.log ≡ sound.store.layout.log
   pub first : FirstBlocks sound
   pub stands : StandsAs s e (first_of sound first)
@@ -190,26 +192,13 @@ pub record RanOn {S : Type 0} (s : Ghosts S) (old new : S) (outside : Outside) (
     pub all_taken : end ≡ ends.Done → left_now ≡ []
     pub ends : EndsAs outside most before now left_before left_now tells held_before held_now end
 
--- a file opens to no blocks
-abbrev pub OpensToNone : List ℕ → Type 0
-OpensToNone file = (l : Layout) (blocks : List (List ℕ)) (lsn : ℕ) → OpensAt l file blocks lsn → ⊥
-
--- An opening was stopped: the images are as `OpensSame` says. Where the blocks to which the file opens don't pass the
--- tests, each image is one of before or opens to them, and a file that opens to no blocks is as it was.
+-- An opening was stopped: the images are as `OpensSame` says. Where the file is no store, each image is one of before or
+-- means what the file meant, and a file that means nothing is as it was.
 pub record WasStopped {D : Type 0} (d : DiskGhosts D) (old new : D) : Type 0 where
   pub images : (sound : IsSound (d.content old)) → OpensSame d old new sound
   pub damaged : (IsStore (d.content old) → ⊥) → (l : Layout) (blocks : List (List ℕ)) (lsn : ℕ)
-      → OpensAt l (d.content old) blocks lsn → Leaves d old new (λ c. d.image old c ⊎ OpensAt l c blocks lsn)
-  pub none : OpensToNone (d.content old) → Rests d old new
-
--- Nothing was done but that the file was read: the file and each image open to the same blocks as before, with the same
--- last log number. A file that opens to no blocks is as it was.
-pub record LeftAlone {D : Type 0} (d : DiskGhosts D) (old new : D) : Type 0 where
-  pub file : (l : Layout) (blocks : List (List ℕ)) (lsn : ℕ) → OpensAt l (d.content old) blocks lsn
-      → OpensAt l (d.content new) blocks lsn
-  pub images : (l : Layout) (blocks : List (List ℕ)) (lsn : ℕ) → OpensAt l (d.content old) blocks lsn
-      → Leaves d old new (λ c. d.image old c ⊎ OpensAt l c blocks lsn)
-  pub none : OpensToNone (d.content old) → Rests d old new
+      → Means l (d.content old) blocks lsn → Leaves d old new (λ c. d.image old c ⊎ Means l c blocks lsn)
+  pub none : MeansNothing (d.content old) → Rests d old new
 
 -- these bytes were taken from what was left, and nothing else
 abbrev pub WasTaken : List ℕ → List ℕ → List ℕ → Type 0

@@ -11,7 +11,8 @@ ghost use Rattle.rb_lines.specs.Whole.{whole_lines};
 ghost use Rattle.rb_model.specs.Lines.{lines_of};
 ghost use Rattle.rb_shell.specs.Generation.{HasTold, MadeOver, WasNotTold};
 ghost use Rattle.rb_shell.specs.Statuses.{EndsGenerator, TellsCounts};
-ghost use Rattle.rb_shell.specs.Runs.{IsSound, IsStore, HasHalted, HasRun, WasCutOff, Endures, LeftAlone};
+ghost use Rattle.rb_shell.specs.Runs.{IsSound, IsStore, HasHalted, HasRun, WasCutOff, Endures};
+ghost use Rattle.rb_store.specs.Openings.{LeftAlone};
 ghost use Rattle.rb_shell.specs.Runs.{EnduresCounted, HasRunOut, Lasts, LeftBehind, OpensSame, WasStopped, WasTaken};
 ghost use Rattle.rb_shell.specs.Statuses.{EndsRun, AsksScript, AsksNothing, IsDoneOrNoMemory};
 ghost use Rattle.rb_shell.specs.Statuses.{EndsFormat, by_disk, by_sink, by_source};
@@ -34,9 +35,9 @@ use rb_words::{Request, parse_words};
 use std::alloc::Global;
 
 /// Does what the words after the program's name ask for, and hands the disk back: `FILE format ...` makes a new
-/// file on the disk; `FILE run frames=N` does the source's lines over the store of the disk, and puts each
-/// reply as soon as its line is done; `FILE gen N` makes N drawn commands over the store of the disk, and puts one line
-/// that tells of them.
+/// file on the disk; `FILE run frames=N` does the source's lines over the store of the disk, of which N blocks are in
+/// memory at a time, and puts each reply as soon as its line is done; `FILE gen N` makes N drawn commands over the store
+/// of the disk, and puts one line that tells of them.
 pub fn run<S: Source, K: Sink, D: Disk>(
     alloc: Global,
     words: &[String],
@@ -193,7 +194,7 @@ pub fn run<S: Source, K: Sink, D: Disk>(
 {
     match parse_words(alloc, words) {
         Ok(Some(Request::Format(layout))) => run_format(&layout, disk),
-        Ok(Some(Request::Run { frames: _ })) => run_script(alloc, source, sink, disk),
+        Ok(Some(Request::Run { frames })) => run_script(alloc, frames, source, sink, disk),
         Ok(Some(Request::Gen { commands })) => run_generator(alloc, commands, sink, disk),
         Ok(None) => (Status::Usage, disk),
         Err(NoMemory) => (Status::NoMemory, disk),

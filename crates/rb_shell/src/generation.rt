@@ -8,7 +8,8 @@ ghost use Rattle.rb_model.specs.Out.{Logged};
 ghost use Rattle.rb_shell.specs.Generation.{HasTold, MadeOn, MadeOver};
 ghost use Rattle.rb_shell.specs.Statuses.{EndsCommands, EndsGenerator, TellsCounts};
 ghost use Rattle.rb_shell.specs.Generation.{WasNotTold};
-ghost use Rattle.rb_shell.specs.Runs.{Endures, IsSound, IsStore, Lasts, LeftAlone};
+ghost use Rattle.rb_shell.specs.Runs.{Endures, IsSound, IsStore, Lasts};
+ghost use Rattle.rb_store.specs.Openings.{LeftAlone};
 ghost use Rattle.rb_shell.specs.Statuses.{AsksNothing};
 ghost use Rattle.rb_shell.specs.Runs.{LeftBehind, OpensSame, WasStopped};
 ghost use Rattle.rb_shell.specs.Statuses.{by_disk, by_sink};
@@ -23,6 +24,9 @@ use rb_engine::Engine;
 use rb_generator::{Counts, generate, print_summary};
 use rb_stream::Sink;
 use std::alloc::Global;
+
+/// Through how many frames the generator has its blocks.
+const FRAMES: u32 = 64;
 
 /// Puts the line that tells of a run of so many commands.
 fn put_summary<K: Sink>(
@@ -108,7 +112,7 @@ pub fn run_generator<K: Sink, D: Disk>(
     ensures disk { IsCountedAs (D.faults disk) (D.faults result.1) (by_disk result.0) }
     ensures sink { IsCountedAs (K.faults sink.old) (K.faults sink.new) (by_sink result.0) }
 {
-    match open_engine(alloc, disk) {
+    match open_engine(alloc, disk, FRAMES) {
         Ok(engine) => {
             let (status, store) = make_commands(engine, commands, sink);
             (status, store.close())

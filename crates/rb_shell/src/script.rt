@@ -8,7 +8,8 @@ ghost use Rattle.rb_lines.specs.Whole.{whole_lines};
 ghost use Rattle.rb_model.specs.Lines.{lines_of};
 ghost use Rattle.rb_model.specs.Out.{Logged};
 ghost use Rattle.rb_shell.specs.Runs.{IsSound, IsStore, HasHalted, HasOpened, HasRun, HasRunOut, RanOn, WasCutOff};
-ghost use Rattle.rb_shell.specs.Runs.{LeftAlone, WasStopped, WasTaken};
+ghost use Rattle.rb_shell.specs.Runs.{WasStopped, WasTaken};
+ghost use Rattle.rb_store.specs.Openings.{LeftAlone};
 ghost use Rattle.rb_shell.specs.Statuses.{EndsRun, AsksScript, AsksNothing};
 ghost use Rattle.rb_shell.specs.Runs.{Endures, EnduresCounted, EndsBy, Lasts, LeftBehind, MadeLast};
 ghost use Rattle.rb_shell.specs.Runs.{OpensSame, PassedOn};
@@ -23,7 +24,7 @@ use rb_disk::Disk;
 use rb_engine::Engine;
 use rb_lines::{LineRunner, LinesEnd, StepFault, run_lines};
 use rb_model::Refusal;
-use rb_store::LapStore;
+use rb_store::LogStore;
 use rb_stream::{Sink, Source};
 use std::alloc::Global;
 
@@ -159,10 +160,16 @@ fn run_engine<S: Source, K: Sink, T: Store>(
     (status, engine.close())
 }
 
-/// Opens the engine over the store of a disk. An Err gives the disk back.
-pub fn open_engine<D: Disk>(alloc: Global, disk: D) -> Result<Engine<LapStore<D>>, (OpenFault, D)>
+/// Opens the engine over the store of a disk, through 16 to 4,096 frames. An Err gives the disk back.
+pub fn open_engine<D: Disk>(
+    alloc: Global,
+    disk: D,
+    frames: u32,
+) -> Result<Engine<LogStore<D>>, (OpenFault, D)>
+    requires some { 16 ≤ frames }
+    requires few { frames ≤ 4096 }
     ensures opened { D.tells → (sound : IsSound (D.content disk)) → IfOk result
-        (λ e. HasOpened D.Disk ⟦<LapStore<D> as Store>⟧ disk e sound) }
+        (λ e. HasOpened D.Disk ⟦<LogStore<D> as Store>⟧ disk e sound) }
     ensures store { D.tells → OnOk result (IsStore (D.content disk)) }
     ensures none { D.tells → IfErr result (λ r. r.0 ≡ OpenFault.NotAStore → ¬ IsStore (D.content disk)) }
     ensures images { D.tells → IfErr result (λ r. WasStopped D.Disk disk r.1) }
@@ -171,21 +178,24 @@ pub fn open_engine<D: Disk>(alloc: Global, disk: D) -> Result<Engine<LapStore<D>
     ensures counted_ok { IfOk result (λ e. D.faults e.store.disk ≡ D.faults disk) }
     ensures counted_err { IfErr result (λ r. IsCountedAs (D.faults disk) (D.faults r.1) (is_failed r.0)) }
 {
-    let store = LapStore::open(alloc, disk)?;
+    let store = LogStore::open(alloc, disk, frames)?;
     match Engine::open(alloc, store) {
         Ok(engine) => Ok(engine),
         Err((fault, store)) => Err((fault, store.close())),
     }
 }
 
-/// Opens the store of a disk and does the lines of a script, each as soon as it is whole. All memory is taken
-/// before the script is asked for.
+/// Opens the store of a disk through 16 to 4,096 frames and does the lines of a script, each as soon as it is whole. All
+/// memory is taken before the script is asked for.
 pub fn run_script<S: Source, K: Sink, D: Disk>(
     alloc: Global,
+    frames: u32,
     source: &mut S,
     sink: &mut K,
     disk: D,
 ) -> (Status, D)
+    requires some { 16 ≤ frames }
+    requires few { frames ≤ 4096 }
     ensures ends { EndsRun result.0 }
 
     // The script was done to its end, to a fault, or as far as it may be long.
@@ -237,7 +247,7 @@ pub fn run_script<S: Source, K: Sink, D: Disk>(
     let Ok(mut buffer) = vec![in alloc; 0; SCRIPT_BYTES] else {
         return (Status::NoMemory, disk);
     };
-    match open_engine(alloc, disk) {
+    match open_engine(alloc, disk, frames) {
         Ok(engine) => {
             let (status, store) = run_engine(engine, source, sink, &mut buffer);
             (status, store.close())
