@@ -58,7 +58,7 @@ filled_more : (old new bytes front : List ℕ) (at : ℕ) → at ≤ length old 
 filled_more old new bytes front at within long now before =
     let rest = drop (at + length bytes) old in
     let size = length-take-le at old within in
-    ap (take (at + 2048)) (now ∙ sym (append_assoc (take at old) bytes rest))
+    ap (take (at + 2048)) now
     ∙ take_at (take at old ++ bytes) rest (at + 2048) (omega (arith, size, long, length-append (take at old) bytes))
     ∙ ap (λ (f : List ℕ). f ++ bytes) before
 
