@@ -1,6 +1,7 @@
 -- A file that opens to a state restarts to it.
 use Rattle.std.proofs.Common.{◌≡◌, ◌+◌, ◌-◌, ◌<◌, ◌≤◌, ℕ, List, Option, Some, refl, sym, ◌∙◌, ap, subst, arith}
-use Rattle.std.proofs.lemmas.List.{take-nil}
+use Rattle.std.proofs.Math.Seq.{take-nil}
+use Rattle.std.specs.List.{flat_map}
 use Rattle.std.proofs.lemmas.List.FromFn.{get_or-map-range_with_len}
 use Rattle.rb_base.specs.Stores.{room_of}
 use Rattle.rb_base.specs.declared.shape.Shape.{Shape}
@@ -16,7 +17,6 @@ use Rattle.rb_opening.specs.Opens.{OpensAs, books_of}
 use Rattle.rb_restart.specs.Rollback.{found_book}
 use Rattle.rb_segment.specs.Header.{segment_of}
 use Rattle.rb_segment.specs.Segments.{owed_in}
-use Rattle.rb_standing.proofs.SegmentRead.{header_is}
 use Rattle.rb_standing.specs.Standing.{SoundAs, logged_of, segments_of}
 use Rattle.rb_store.specs.Meaning.{Opens, OpensAt}
 
@@ -41,9 +41,7 @@ module _ (shape : Shape) (blocks : List (List ℕ)) (number : ℕ) (rows : List 
   }
     where
       book_is : (g : ℕ) → g < shape.segments → found_book (segments_of shape blocks g).header ≡ book_at (books_of shape blocks) g
-      book_is g there =
-          ap found_book (header_is shape blocks g)
-          ∙ sym (get_or-map-range_with_len (λ (k : ℕ). found_book (segment_of shape blocks k).header) 0 shape.segments g g fresh_book there (omega arith))
+      book_is g there = sym (get_or-map-range_with_len (λ (k : ℕ). found_book (segment_of shape blocks k).header) 0 shape.segments g g fresh_book there (omega arith))
 
 pub restarts_found : (h : State) (l : Layout) (blocks : List (List ℕ)) (lsn : ℕ) (file : List ℕ) → OpensAs (shape_of l) blocks h → lsn ≡ logged_of (shape_of l) blocks
     → owed_in (shape_of l) blocks ≤ room_of (Some l.log) lsn → OpensAt l file blocks lsn → Restarts Opens (Some l.log) h file

@@ -23,7 +23,7 @@ asks_format g c =
     let request = rw c.in-Ok-Some-Format.field-0-is at c.in-Ok-Some-Format.ensures.found in
     rw c.in-Ok-Some-Format.field-0-0-is at request
 
-asks_run : (g : Over) (c : After-run_script g) → AsksRun c.args.words.now c.in-Ok-Some-Run.field-0-0-0
+asks_run : (g : Over) (c : After-run_script g) → AsksRun c.args.words.now c.in-Ok-Some-Run.frames
 asks_run g c =
     let request = rw c.in-Ok-Some-Run.field-0-is at c.in-Ok-Some-Run.ensures.found in
     rw c.in-Ok-Some-Run.field-0-0-is at request
@@ -34,14 +34,14 @@ no_run g c n asked = not_both c.args.words.now c.in-Ok-Some-Format.layout n (ask
 
 -- nor the other way round
 no_format : (g : Over) (c : After-run_script g) (l : Layout) → AsksFormat c.args.words.now l → ⊥
-no_format g c l asked = not_both c.args.words.now l c.in-Ok-Some-Run.field-0-0-0 asked (asks_run g c)
+no_format g c l asked = not_both c.args.words.now l c.in-Ok-Some-Run.frames asked (asks_run g c)
 
 -- nor do they ask for a run of the generator
 no_gen : (g : Over) (c : After-run_format g) (n : ℕ) → AsksGen c.args.words.now n → ⊥
 no_gen g c n asked = not_format_and_gen c.args.words.now c.in-Ok-Some-Format.layout n (asks_format g c) asked
 
 gen_no : (g : Over) (c : After-run_script g) (n : ℕ) → AsksGen c.args.words.now n → ⊥
-gen_no g c n asked = not_run_and_gen c.args.words.now c.in-Ok-Some-Run.field-0-0-0 n (asks_run g c) asked
+gen_no g c n asked = not_run_and_gen c.args.words.now c.in-Ok-Some-Run.frames n (asks_run g c) asked
 
 pub returns-in-Ok-Some-Format-clause-usage : goal.returns-in-Ok-Some-Format-clause-usage
 returns-in-Ok-Some-Format-clause-usage g c = λ is. absurd (rw is at c.run_format.ensures.ends)
@@ -177,10 +177,10 @@ pub returns-in-Ok-Some-Run-clause-usage : goal.returns-in-Ok-Some-Run-clause-usa
 returns-in-Ok-Some-Run-clause-usage g c = λ is. absurd (rw is at c.run_script.ensures.ends)
 
 pub returns-in-Ok-Some-Run-clause-other_words : goal.returns-in-Ok-Some-Run-clause-other_words
-returns-in-Ok-Some-Run-clause-other_words g c = λ none. absurd (none.1 c.in-Ok-Some-Run.field-0-0-0 (asks_run g c))
+returns-in-Ok-Some-Run-clause-other_words g c = λ none. absurd (none.1 c.in-Ok-Some-Run.frames (asks_run g c))
 
 pub returns-in-Ok-Some-Run-clause-usage_disk : goal.returns-in-Ok-Some-Run-clause-usage_disk
-returns-in-Ok-Some-Run-clause-usage_disk g c = λ none. absurd (none.1 c.in-Ok-Some-Run.field-0-0-0 (asks_run g c))
+returns-in-Ok-Some-Run-clause-usage_disk g c = λ none. absurd (none.1 c.in-Ok-Some-Run.frames (asks_run g c))
 
 pub returns-in-Ok-Some-Run-clause-format_memory : goal.returns-in-Ok-Some-Run-clause-format_memory
 returns-in-Ok-Some-Run-clause-format_memory g c = λ l asked is. absurd (no_format g c l asked)
@@ -231,10 +231,10 @@ pub returns-in-Ok-Some-Run-clause-format_unchanged : goal.returns-in-Ok-Some-Run
 returns-in-Ok-Some-Run-clause-format_unchanged g c = λ told l asked some. absurd (no_format g c l asked)
 
 pub returns-in-Ok-Some-Run-clause-format_source : goal.returns-in-Ok-Some-Run-clause-format_source
-returns-in-Ok-Some-Run-clause-format_source g c = λ none. absurd (none c.in-Ok-Some-Run.field-0-0-0 (asks_run g c))
+returns-in-Ok-Some-Run-clause-format_source g c = λ none. absurd (none c.in-Ok-Some-Run.frames (asks_run g c))
 
 pub returns-in-Ok-Some-Run-clause-format_sink : goal.returns-in-Ok-Some-Run-clause-format_sink
-returns-in-Ok-Some-Run-clause-format_sink g c = λ none gens. absurd (none c.in-Ok-Some-Run.field-0-0-0 (asks_run g c))
+returns-in-Ok-Some-Run-clause-format_sink g c = λ none gens. absurd (none c.in-Ok-Some-Run.frames (asks_run g c))
 
 pub returns-in-Ok-Some-Run-clause-replies : goal.returns-in-Ok-Some-Run-clause-replies
 returns-in-Ok-Some-Run-clause-replies g c = λ disk told n asked is sound. c.run_script.ensures.done disk told is sound
