@@ -1,9 +1,11 @@
 //! Groups for the tests of stores: the bytes of a new file, a list of groups, and whether two stores read the same.
 ghost use Rattle.std.specs.Prelude.{◌≡◌, ◌<◌, ◌≤◌, false, OnOk};
 
-use rb_base::{Failed, Group, NoMemory, Shape, Store, UNIT};
-use rb_layout::{Layout, VERSION};
+use rb_base::{Failed, Group, NoMemory, Shape, Store};
+use rb_layout::Layout;
+use rb_memdisk::MemDisk;
 use rb_plainstore::PlainStore;
+use rb_store::format;
 use std::alloc::Global;
 
 /// One table of one block, and one segment: 34 blocks, more than sixteen frames hold.
@@ -20,28 +22,13 @@ pub const SLOTS: u32 = 64;
 pub const GROUPS: u32 = 24;
 
 /// The bytes of the file.
-const FILE: usize = 227_328;
+const FILE: u64 = 227_328;
 
-/// Copies a block into a file, where it has the room.
-fn put_block(file: &mut [u8], at: usize, block: &[u8]) {
-    if at <= file.len() && block.len() <= file.len() - at {
-        file[at..at + block.len()].copy_from_slice(block);
-    }
-}
-
-/// A file whose blocks are those of a new one, each at its place.
+/// A new file of a layout.
 pub fn new_file(alloc: Global, layout: &Layout) -> Result<Vec<u8>, NoMemory> {
-    let mut file = vec![in alloc; 0; FILE].map_err(|_| NoMemory)?;
-    let mut identity = [0; UNIT];
-    layout.put_identity(&mut identity);
-    put_block(&mut file, 0, &identity);
-    let mut plain = PlainStore::new(alloc, SHAPE)?;
-    for no in 0..34 {
-        if no < plain.shape().block_count() && plain.load(no).is_ok() {
-            put_block(&mut file, UNIT * (4 + 64 + 9 + no as usize), plain.block());
-        }
-    }
-    Ok(file)
+    let mut disk = MemDisk::new(alloc, b"", FILE, 20, &[])?;
+    let _ = format(&mut disk, layout);
+    disk.bytes().to_vec(alloc).map_err(|_| NoMemory)
 }
 
 /// Gives a store the group of a step: a byte in each of two blocks. Failed where it has no room.

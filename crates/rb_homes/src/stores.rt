@@ -4,8 +4,8 @@ ghost use Rattle.std.specs.Prelude.{◌≡◌, ◌≤◌, false, IfOk};
 use crate::groups::{GROUPS, SHAPE, SLOTS, give_all, in_memory, new_file, read_the_same};
 use rb_base::{NoMemory, OpenFault, Store};
 use rb_layout::Layout;
-use rb_store::LogStore;
 use rb_memdisk::{MemDisk, Pick};
+use rb_store::LogStore;
 use std::alloc::Global;
 use std::test::Fail;
 

@@ -1,5 +1,5 @@
 //! Each call that may answer that memory ran out, where there is enough of it: it answers Ok, and what it made is used.
-use crate::doubles::{FORMAT_SMALL, formatted};
+use crate::doubles::{FORMAT_SMALL, FRAMES, formatted};
 use crate::stories::image;
 use rb_base::{Shape, Store};
 use rb_engine::Engine;
@@ -8,7 +8,7 @@ use rb_log::Log;
 use rb_memdisk::{MemDisk, Pick};
 use rb_model::{Op, Wrote};
 use rb_plainstore::PlainStore;
-use rb_store::LapStore;
+use rb_store::LogStore;
 use rb_stream::{MemSink, MemSource, Sink, Source};
 use std::alloc::Global;
 use std::test::Fail;
@@ -68,7 +68,7 @@ fn files_are_made(rt: HostRuntime) -> Result<(), Fail> {
     let same = image(rt.alloc(), &disk, 0, Pick::New)?;
     assert!(rt; same.as_slice() == file.as_slice());
     assert!(rt; opens_a_log(rt.alloc(), &mut disk));
-    let Ok(store) = LapStore::open(rt.alloc(), disk) else {
+    let Ok(store) = LogStore::open(rt.alloc(), disk, FRAMES) else {
         return Err(Fail::new("no store"));
     };
     assert!(rt; store.room() == 63);

@@ -2,7 +2,6 @@
 use rb_base::NoMemory;
 use rb_memdisk::MemDisk;
 use rb_shell::{Status, run};
-use rb_store::LapStore;
 use rb_stream::{MemSink, MemSource};
 use std::alloc::{AllocError, Global};
 
@@ -17,6 +16,9 @@ pub const FORMAT_TWO_BLOCKS: &str = "f format tables=1 blocks=2 segments=1 log=6
 
 /// Makes a file of 292,864 bytes, whose log has room for a transaction of more groups than one run.
 pub const FORMAT_STOPS: &str = "f format tables=1 blocks=1 segments=1 log=96";
+
+/// Through how few frames a store may have its blocks, and those of the rows have them.
+pub const FRAMES: u32 = 16;
 
 /// Runs a script.
 pub const RUN: &str = "f run frames=16";
@@ -102,15 +104,6 @@ pub fn run_stopped(
     let room = file.len() as u64 + SCRIPT_ROOM;
     let disk = MemDisk::new(alloc, file, room, call as usize, &[])?;
     run_on(alloc, RUN, script, NONE, disk)
-}
-
-/// The disk of a file whose store was opened, which writes nothing.
-pub fn opened(alloc: Global, file: &[u8]) -> Result<MemDisk, NoMemory> {
-    let disk = MemDisk::new(alloc, file, file.len() as u64, CALLS, &[])?;
-    match LapStore::open(alloc, disk) {
-        Ok(store) => Ok(store.close()),
-        Err((_fault, disk)) => Ok(disk),
-    }
 }
 
 /// The file that a `format` line makes.

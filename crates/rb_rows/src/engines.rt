@@ -2,7 +2,7 @@
 //! a script is. A line is one call, so that `fetch` gives one row; `resume` has the first session that is ready try its
 //! write again, and is answered `0 end` where none is; the value `-` has no bytes.
 use crate::dialogues::replies_of;
-use crate::doubles::{CALLS, SCRIPT_ROOM};
+use crate::doubles::{CALLS, FRAMES, SCRIPT_ROOM};
 use arrayvec::ArrayVec;
 use rb_base::{NoMemory, Shape, Store};
 use rb_engine::Engine;
@@ -11,7 +11,7 @@ use rb_memdisk::MemDisk;
 use rb_model::{Fetched, Marks, Op, Refusal, Row, Wrote};
 use rb_plainstore::PlainStore;
 use rb_script::{Command, Reply, parse, print};
-use rb_store::{LapStore, format};
+use rb_store::{LogStore, format};
 use std::alloc::Global;
 use std::test::Fail;
 
@@ -171,7 +171,7 @@ fn plain_engine(alloc: Global) -> Result<Engine<PlainStore>, Fail> {
 }
 
 // The engine over the store of a new file.
-fn lap_engine(alloc: Global) -> Result<Engine<LapStore<MemDisk>>, Fail> {
+fn log_engine(alloc: Global) -> Result<Engine<LogStore<MemDisk>>, Fail> {
     let Some(layout) = Layout::new(SHAPE.tables, SHAPE.blocks, SHAPE.segments, SLOTS) else {
         return Err(Fail::new("no layout"));
     };
@@ -179,7 +179,7 @@ fn lap_engine(alloc: Global) -> Result<Engine<LapStore<MemDisk>>, Fail> {
     if format(&mut disk, &layout).is_err() {
         return Err(Fail::new("no file"));
     }
-    let Ok(store) = LapStore::open(alloc, disk) else {
+    let Ok(store) = LogStore::open(alloc, disk, FRAMES) else {
         return Err(Fail::new("no store"));
     };
     match Engine::open(alloc, store) {
@@ -205,7 +205,7 @@ fn one_list_of_calls(rt: HostRuntime) -> Result<(), Fail> {
         let expected = replies_of(rt.alloc(), dialogue)?;
         let plain = answered(rt.alloc(), &mut plain_engine(rt.alloc())?, dialogue)?;
         assert!(rt; plain.as_slice() == expected.as_slice(), "{name}");
-        let lap = answered(rt.alloc(), &mut lap_engine(rt.alloc())?, dialogue)?;
+        let lap = answered(rt.alloc(), &mut log_engine(rt.alloc())?, dialogue)?;
         assert!(rt; lap.as_slice() == expected.as_slice(), "{name}");
     }
     Ok(())

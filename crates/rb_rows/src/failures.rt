@@ -2,9 +2,7 @@
 //! each call of the disk in a run in which a transaction is under way at nearly each, in one of two transactions
 //! beside a cursor, in one of rollbacks to savepoints, and in one of sessions that wait in a queue.
 use crate::commits::five_commits;
-use crate::doubles::{
-    Ended, FORMAT_SMALL, FORMAT_STOPS, Failing, NONE, RUN, formatted, opened, run_over,
-};
+use crate::doubles::{Ended, FORMAT_SMALL, FORMAT_STOPS, Failing, NONE, RUN, formatted, run_over};
 use crate::stories::{Story, answered, check_left};
 use crate::under_way::{four_transactions, queues, savepoints, two_sessions};
 use rb_base::NoMemory;
@@ -80,8 +78,8 @@ fn check_disk_calls(
     let file = &formatted(alloc, format)?;
     let script = story.script.as_bytes();
     let calls = run_over(alloc, RUN, file, script, NONE)?.disk.calls();
-    let opened = opened(alloc, file)?;
-    assert!(rt; 0 < opened.calls() && opened.calls() < calls);
+    let opening = run_over(alloc, RUN, file, b"", NONE)?.disk.calls();
+    assert!(rt; 0 < opening && opening < calls);
     let mut syncs = 0;
     for call in 1..=calls {
         let failing = Failing {
@@ -89,7 +87,7 @@ fn check_disk_calls(
             ..NONE
         };
         let end = run_over(alloc, RUN, file, script, failing)?;
-        let is_opening = call <= opened.calls();
+        let is_opening = call <= opening;
         check_fault(rt, story, &end, call, is_opening);
         let writes = !is_opening && end.disk.syncs() == syncs;
         check_left(

@@ -1,7 +1,7 @@
 //! The tables of openings behind a stop, which put back what was under way and make that last at the end of an empty
 //! script: a stop after any call of one, and of one behind that, and each call failing alone.
 use crate::doubles::{
-    FORMAT_SMALL, FORMAT_STOPS, Failing, NONE, RUN, formatted, opened, run_over, run_stopped,
+    FORMAT_SMALL, FORMAT_STOPS, Failing, NONE, RUN, formatted, run_over, run_stopped,
 };
 use crate::stories::{Story, image_now, shown};
 use crate::under_way::{four_transactions, long_transaction};
@@ -15,15 +15,17 @@ use std::test::Fail;
 // What a stop may leave of an opening: all that was written, or bytes of which each is 1.
 const PICKS: [Pick; 2] = [Pick::New, Pick::Fill(1)];
 
-// Adds what a stop after the last call of a disk may leave, by these picks.
+// Adds what a stop after the last call of a disk may leave of a file, by these picks, but for the file itself.
 fn add_left(
     alloc: Global,
+    file: &[u8],
     disk: &MemDisk,
     picks: &[Pick],
     images: &mut Vec<Vec<u8>>,
 ) -> Result<(), NoMemory> {
     for pick in picks {
-        if let Some(left) = image_now(alloc, disk, *pick)? {
+        let left = image_now(alloc, disk, *pick)?;
+        if let Some(left) = left.filter(|left| left.as_slice() != file) {
             images.push(left).map_err(|_| NoMemory)?;
         }
     }
@@ -38,18 +40,15 @@ fn left_by(
     script: &[u8],
     picks: &[Pick],
 ) -> Result<Vec<Vec<u8>>, NoMemory> {
-    let opened = opened(alloc, file)?;
     let good = run_over(alloc, RUN, file, script, NONE)?;
     let mut images = Vec::new(alloc);
-    let mut syncs = opened.syncs();
+    let mut syncs = 0;
     for call in 1..=good.disk.calls() {
-        if call > opened.calls() {
-            let stopped = run_stopped(alloc, file, script, call)?;
-            if stopped.disk.syncs() == syncs {
-                add_left(alloc, &stopped.disk, picks, &mut images)?;
-            }
-            syncs = stopped.disk.syncs();
+        let stopped = run_stopped(alloc, file, script, call)?;
+        if stopped.disk.syncs() == syncs {
+            add_left(alloc, file, &stopped.disk, picks, &mut images)?;
         }
+        syncs = stopped.disk.syncs();
     }
     Ok(images)
 }

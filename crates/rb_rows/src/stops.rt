@@ -2,9 +2,7 @@
 //! under way at nearly each call, in one of two transactions beside a cursor, in one of rollbacks to savepoints, and in
 //! one of sessions that wait in a queue.
 use crate::commits::five_commits;
-use crate::doubles::{
-    FORMAT_SMALL, FORMAT_STOPS, NONE, RUN, formatted, opened, run_over, run_stopped,
-};
+use crate::doubles::{FORMAT_SMALL, FORMAT_STOPS, NONE, RUN, formatted, run_over, run_stopped};
 use crate::stories::{PICKS, Story, check_left};
 use crate::under_way::{four_transactions, queues, savepoints, two_sessions};
 use rb_base::NoMemory;
@@ -26,13 +24,12 @@ fn check_stops(
     let good = run_over(alloc, RUN, file, script, NONE)?;
     assert!(rt; good.status == Status::Done);
     assert!(rt; good.sink.bytes() == story.replies.as_slice());
-    let opened = opened(alloc, file)?;
     let mut syncs = 0;
     for call in 1..=good.disk.calls() {
         let stopped = run_stopped(alloc, file, script, call)?;
         assert!(rt; stopped.disk.calls() == call);
         // Before a write, and after a sync, each pick leaves what the disk reads as.
-        let writes = call > opened.calls() && stopped.disk.syncs() == syncs;
+        let writes = stopped.disk.syncs() == syncs;
         check_left(
             rt,
             alloc,

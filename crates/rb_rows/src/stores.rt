@@ -1,13 +1,13 @@
-//! Both stores under one list of calls, and the store of one lap over the files that a crash leaves of three commits.
+//! Both stores under one list of calls, and the store of a file over what a crash leaves of three commits.
 ghost use Rattle.std.specs.Prelude.{◌≡◌, ◌≤◌, ◌<◌, false, IfOk, OnOk};
 
-use crate::doubles::{CALLS, SCRIPT_ROOM};
+use crate::doubles::{CALLS, FRAMES, SCRIPT_ROOM};
 use crate::stories::{PICKS, image_now};
 use rb_base::{BlockNo, Failed, Group, NoMemory, Shape, Store};
 use rb_layout::Layout;
 use rb_memdisk::MemDisk;
 use rb_plainstore::PlainStore;
-use rb_store::{LapStore, format};
+use rb_store::{LogStore, format};
 use std::alloc::Global;
 use std::process::Abort;
 use std::test::Fail;
@@ -185,12 +185,12 @@ fn open_file(
     alloc: Global,
     file: &[u8],
     calls: usize,
-) -> Result<Result<LapStore<MemDisk>, MemDisk>, NoMemory>
+) -> Result<Result<LogStore<MemDisk>, MemDisk>, NoMemory>
     ensures { IfOk result (λ opened. IfOk opened (λ store. store.failed ≡ false)) }
 {
     let room = file.len() as u64 + SCRIPT_ROOM;
     let disk = MemDisk::new(alloc, file, room, calls, &[])?;
-    match LapStore::open(alloc, disk) {
+    match LogStore::open(alloc, disk, FRAMES) {
         Ok(store) => Ok(Ok(store)),
         Err((_, disk)) => Ok(Err(disk)),
     }
@@ -231,10 +231,10 @@ fn one_list_of_calls(rt: HostRuntime) -> Result<(), Fail> {
     let mut plain = PlainStore::new(rt.alloc(), SHAPE)?;
     let expected = [1, 35, 7, 0, 2, 36];
     assert!(rt; answers(&mut plain) == Ok(expected));
-    let Ok(mut lap) = open_file(rt.alloc(), &file, CALLS)? else {
+    let Ok(mut logged) = open_file(rt.alloc(), &file, CALLS)? else {
         return Err(Fail::from(Failed));
     };
-    assert!(rt; answers(&mut lap) == Ok(expected));
+    assert!(rt; answers(&mut logged) == Ok(expected));
     Ok(())
 }
 
@@ -267,7 +267,7 @@ fn check_stop(rt: &impl Abort, alloc: Global, file: &[u8], calls: usize) -> Resu
 }
 
 #[test]
-fn stops_of_a_lap(rt: HostRuntime) -> Result<(), Fail> {
+fn stops_of_a_store(rt: HostRuntime) -> Result<(), Fail> {
     let file = new_file(rt.alloc())?;
     let good = stop_after(rt.alloc(), &file, CALLS)?;
     assert!(rt; good.commits == 3);

@@ -2,14 +2,14 @@
 //! output of the program.
 use crate::dialogues::{check, check_each, repeated, replies_of};
 use crate::doubles::{
-    FORMAT_LARGE, FORMAT_SMALL, FORMAT_TWO_BLOCKS, Failing, NONE, RUN, formatted, run_over,
+    FORMAT_LARGE, FORMAT_SMALL, FORMAT_TWO_BLOCKS, FRAMES, Failing, NONE, RUN, formatted, run_over,
 };
 use crate::stories::{PICKS, image};
 use rb_base::NoMemory;
 use rb_engine::Engine;
 use rb_memdisk::{MemDisk, Pick};
 use rb_model::{Op, Refusal, Wrote};
-use rb_store::LapStore;
+use rb_store::LogStore;
 use std::alloc::Global;
 use std::test::Fail;
 
@@ -1720,8 +1720,8 @@ commit 1
 ";
 
 // The engine over the store of a disk.
-fn opened(alloc: Global, disk: MemDisk) -> Result<Engine<LapStore<MemDisk>>, Fail> {
-    let Ok(store) = LapStore::open(alloc, disk) else {
+fn opened(alloc: Global, disk: MemDisk) -> Result<Engine<LogStore<MemDisk>>, Fail> {
+    let Ok(store) = LogStore::open(alloc, disk, FRAMES) else {
         return Err(Fail::new("no store"));
     };
     let Ok(engine) = Engine::open(alloc, store) else {
