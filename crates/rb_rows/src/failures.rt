@@ -3,7 +3,7 @@
 //! beside a cursor, in one of rollbacks to savepoints, and in one of sessions that wait in a queue.
 use crate::commits::five_commits;
 use crate::doubles::{Ended, FORMAT_SMALL, FORMAT_STOPS, Failing, NONE, RUN, formatted, run_over};
-use crate::stories::{Story, answered, check_left};
+use crate::stories::{Story, answered, are_faulty, check_left};
 use crate::under_way::{four_transactions, queues, savepoints, two_sessions};
 use rb_base::NoMemory;
 use rb_memdisk::Pick;
@@ -34,25 +34,6 @@ fn first_lines(text: &[u8], count: usize) -> &[u8] {
 
 fn count_lines(text: &[u8]) -> usize {
     text.iter().filter(|byte| **byte == b'\n').count()
-}
-
-// Whether the replies are those of the good run up to one like this, and a fault in its place.
-fn ends_with(replies: &[u8], good: &[u8], fault: &[u8], reply: &[u8]) -> bool {
-    let Some(done) = replies.strip_suffix(fault) else {
-        return false;
-    };
-    let Some(left) = good.strip_prefix(done) else {
-        return false;
-    };
-    (done.is_empty() || done.ends_with(b"\n")) && left.starts_with(reply)
-}
-
-// Whether the replies are right where the disk failed behind the opening: a fault in the place of a commit's number or
-// of a checkpoint's reply; or those of all lines, where that was at the end of the script.
-fn are_faulty(replies: &[u8], good: &[u8]) -> bool {
-    ends_with(replies, good, b"1 disk fault\n", b"1 committed ")
-        || ends_with(replies, good, b"disk fault\n", b"ok\n")
-        || replies == good
 }
 
 // Checks how a run ended whose last call of the disk failed: one of the opening, where nothing is answered, or another.

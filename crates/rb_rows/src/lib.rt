@@ -27,6 +27,8 @@ mod restarts;
 #[cfg(test)]
 mod savepoints;
 #[cfg(test)]
+mod stealing;
+#[cfg(test)]
 mod stops;
 #[cfg(test)]
 mod stores;

@@ -107,9 +107,9 @@ fn check_failures(
     Ok(())
 }
 
-// The stops of the opening behind a stop that left this file, and of the opening behind each of those. Answers whether
-// the first opening wrote anything.
-fn check_stops_behind(
+/// The stops of the opening behind a stop that left this file, and of the opening behind each of those. Answers whether
+/// the first opening wrote anything.
+pub fn check_stops_behind(
     rt: &impl Abort,
     alloc: Global,
     story: &Story,
@@ -124,8 +124,8 @@ fn check_stops_behind(
     Ok(!images.is_empty())
 }
 
-// Each call failing of the opening behind a stop that left this file.
-fn check_failures_behind(
+/// Each call failing of the opening behind a stop that left this file.
+pub fn check_failures_behind(
     rt: &impl Abort,
     alloc: Global,
     story: &Story,

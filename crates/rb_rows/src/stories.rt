@@ -58,6 +58,27 @@ fn is_kept(shown: Option<usize>, owed: usize) -> bool {
     }
 }
 
+// Whether a text ends where a reply begins, or behind the number of its session.
+fn ends_before_reply(text: &[u8]) -> bool {
+    let fronts = [b"1 ", b"2 ", b"3 ", b"4 "];
+    let mut front = text;
+    for session in fronts {
+        front = front.strip_suffix(session.as_slice()).unwrap_or(front);
+    }
+    front.is_empty() || front.ends_with(b"\n")
+}
+
+/// Whether the replies are right where the disk failed behind the opening: those of the good run up to one, and a fault in
+/// its place; or those of all lines, where that was at the end of the script.
+pub fn are_faulty(replies: &[u8], good: &[u8]) -> bool {
+    match replies.strip_suffix(b"disk fault\n") {
+        Some(done) => {
+            ends_before_reply(done) && done.len() < good.len() && good.starts_with(done)
+        }
+        None => replies == good,
+    }
+}
+
 /// An image after a call that the disk made, picked so.
 pub fn image(alloc: Global, disk: &MemDisk, k: u64, pick: Pick) -> Result<Vec<u8>, NoMemory> {
     if k > disk.calls() {
