@@ -68,8 +68,8 @@ fn ends_before_reply(text: &[u8]) -> bool {
     front.is_empty() || front.ends_with(b"\n")
 }
 
-/// Whether the replies are right where the disk failed behind the opening: those of the good run up to one, and a fault in
-/// its place; or those of all lines, where that was at the end of the script.
+/// Whether the replies are right where the disk failed behind the opening: those of the good run up to one, and a fault
+/// in its place; or those of all lines, where that was at the end of the script.
 pub fn are_faulty(replies: &[u8], good: &[u8]) -> bool {
     match replies.strip_suffix(b"disk fault\n") {
         Some(done) => {
