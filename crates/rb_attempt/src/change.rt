@@ -24,8 +24,8 @@ use crate::undo::put_change;
 use rb_base::{Group, SLOTS, Store, UNIT, WORN, Xid};
 use rb_heap::choose;
 
-/// Puts the write that is asked for into the group, or refuses to. The store is as before but for the block that is
-/// loaded.
+/// Puts the write that is asked for into the group, or refuses to. The store is given no group by it, and only loads
+/// blocks.
 fn prepare<S: Store>(store: &mut S, ask: &Ask<'_>, group: &mut Group) -> Result<Xid, AttemptFault>
     requires going { S.failed store.old ≡ false }
     requires table { (1 ≤ ask.now.table) × (ask.now.table ≤ (S.shape_of store.old).tables) }

@@ -71,7 +71,7 @@ fn has_open(block: &[u8]) -> bool
 }
 
 /// The group of patches that cleans block `no` of the store, which is one of rows; None where there is nothing to
-/// clean. The store is only loaded from. `Failed` only where a call of the store failed.
+/// clean. The store is given no group. `Failed` only where a call of the store failed.
 pub fn plan_clean<S: Store>(store: &mut S, no: BlockNo) -> Result<Option<Group>, Failed>
     requires going { S.failed store.old ≡ false }
     requires there { no < table_blocks (S.shape_of store.old) }

@@ -23,7 +23,7 @@ use std::sync::ledger::Ledger;
 /// for, the rows are those at the snapshot with these changes over them. Each record that is taken back is counted: as
 /// many as changes stand above the snapshot; or, where one of them is gone, those that were taken back before it and no
 /// more. `TooOld` only where what that needs was given up by a segment, above the
-/// snapshot; `Failed` only where a call failed. The store is only loaded from. (Oracle7 Server Concepts, *Multiversion
+/// snapshot; `Failed` only where a call failed. The store is given no group. (Oracle7 Server Concepts, *Multiversion
 /// Consistency Model*.)
 pub fn build<S: Store, L: Ledger>(
     store: &mut S,

@@ -200,7 +200,7 @@ fn first_rebuilt<S: Store, L: Ledger>(
 /// sees, doesn't. Where no change of the key's block is above the snapshot the answer is read from the entries of the
 /// block; else the home is taken back in the scratch, as for a read. What this has afterwards is open. `TooOld` only
 /// where what that needs was given up by a segment, above the snapshot; `Failed` only where a call failed. The store is
-/// only loaded from. (Oracle7 Server Concepts, *Data Concurrency*: a serializable transaction may not write a row that
+/// given no group. (Oracle7 Server Concepts, *Data Concurrency*: a serializable transaction may not write a row that
 /// another one changed and committed since it began, ORA-08177. `scn` is when it began.)
 pub fn changed_after<S: Store>(
     store: &mut S,

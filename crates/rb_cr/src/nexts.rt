@@ -134,7 +134,7 @@ fn next_rebuilt<S: Store, L: Ledger>(
 /// showed none, and the row stays as it was. Where no change of the block is above the snapshot its row is read as it
 /// stands, and no other is copied; else the home is rebuilt in the scratch. What this has afterwards is open.
 /// `TooOld` only where what the rebuild needs was given up by a segment, above the snapshot; `Failed` only where a call
-/// failed. The store is only loaded from.
+/// failed. The store is given no group.
 pub fn next_at<S: Store>(
     store: &mut S,
     block: BlockNo,
@@ -172,7 +172,8 @@ pub fn next_at<S: Store>(
         }
         Ok(true) => {}
     }
-    // A look at a transaction may have loaded another block. The one that is read again is in memory still.
+    // A look at a transaction may have loaded another block. The one that is read may have given way to it, and is
+    // loaded once more.
     match store.load(block) {
         Err(_) => Err(CrFault::Failed),
         Ok(()) => Ok(next_plain(store.block(), wanted, row)),

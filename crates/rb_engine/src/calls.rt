@@ -210,7 +210,7 @@ impl<T: Store> Engine<T> {
     /// Gives the next row of a cursor into `row`, or the end. It takes no lock and waits for nobody. Where what its
     /// snapshot needs was given up, it may be refused as `TooOld`, and may be tried again: the first home that may have
     /// the next row can't be read then. Each home that it reads is cleaned of transactions that have ended, by a group
-    /// that isn't flushed, while the log has more room than rollbacks need: later readers and writers find the numbers
+    /// that waits, while the log has more room than rollbacks need: later readers and writers find the numbers
     /// of these in the block, also where the segments have forgotten them. No row changes by it. (The delayed cleanout
     /// of Oracle7.)
     pub fn fetch(&mut self, s: u16, name: &Name, row: &mut Row) -> Result<Fetched, Refusal>

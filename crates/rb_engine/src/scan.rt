@@ -146,7 +146,7 @@ fn next_in<S: Store>(
 }
 
 /// Puts the cursor's next row into `row`, where there is one. The homes are read from that of the last row on, up to
-/// the one that has the next row, and no other. Each that is read is cleaned, by a group that isn't flushed, as long as
+/// the one that has the next row, and no other. Each that is read is cleaned, by a group that waits, as long as
 /// the log isn't worn out and has more room than what puts back all that is under way.
 pub fn next_row<S: Store>(
     store: &mut S,

@@ -1,5 +1,5 @@
-//! A store that keeps all blocks of a file in memory, and nothing behind it. The store over a disk has its blocks in
-//! one, and tests run the engine over it.
+//! A store that keeps all blocks of a file in memory, and nothing behind it. Tests run the engine over it, and compare
+//! the store over a file with it.
 #![tactic(auto)]
 
 mod fresh;

@@ -1,5 +1,5 @@
-//! `PlainStore`: all blocks of a file in memory. `LapStore` of rb_store has one, and tests of the crates
-//! above a store make one.
+//! `PlainStore`: all blocks of a file in memory. Tests of the crates above a store make one, and compare the store over
+//! a file with it.
 ghost use Rattle.std.specs.Prelude.{◌≡◌, IfOk};
 ghost use Rattle.rb_base.specs.Blocks.{IsShape, fresh_blocks as fresh_blocks_of};
 

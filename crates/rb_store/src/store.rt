@@ -1,5 +1,5 @@
-//! `LogStore`: the blocks of a file, which stand at home there, through a cache of some frames. An engine can run over
-//! it; tests open it.
+//! `LogStore`: the blocks of a file, which stand at home there, through a cache of some frames. The shell opens it, and
+//! the engine runs over it.
 ghost use Rattle.std.specs.Prelude.{◌≡◌, ◌≢◌, ◌≤◌, ◌<◌, ◌-◌, ◌^◌, ℕ, List, false, []};
 ghost use Rattle.std.specs.Prelude.{IfOk, IfErr};
 ghost use Rattle.rb_base.specs.Counts.{IsCountedAs, is_failed};

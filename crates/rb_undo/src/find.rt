@@ -52,7 +52,7 @@ fn has_home(shape: &Shape, undo: &UndoRecord) -> bool
 
 /// The record of the newest live change of a transaction, whose segment has that header, where it is found: the
 /// transaction runs and has a live record, the address is of a place in the file, and the record there names a block of
-/// rows, an entry and a cell that there are. The store is as before but for the block that is loaded. `Failed` where it
+/// rows, an entry and a cell that there are. The store is given no group, and its block is loaded. `Failed` where it
 /// can't be loaded.
 pub fn newest<S: Store>(
     store: &mut S,

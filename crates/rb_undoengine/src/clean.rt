@@ -26,7 +26,7 @@ fn can_log<S: Store>(store: &S) -> bool
     store.logged() < WORN && store.room() >= 1
 }
 
-/// Cleans block `no`, which is one of rows, of the transactions that have ended: by one group, which isn't flushed, or
+/// Cleans block `no`, which is one of rows, of the transactions that have ended: by one group, which waits, or
 /// by none where there is nothing to clean, where the log is worn out, or where it has no more room than what puts back
 /// all that is under way. `Failed` only where a call of the store failed.
 pub fn clean_step<S: Store>(store: &mut S, no: BlockNo) -> Result<(), Failed>

@@ -32,7 +32,7 @@ fn has_live(header: &[u8], xid: Xid) -> bool
     slot.state == ACTIVE && slot.wrap == xid.wrap && slot.live != 0
 }
 
-/// Commits the transaction at `scn` by one group, which isn't flushed. What `group` held is dropped. Nothing is done
+/// Commits the transaction at `scn` by one group, which waits. What `group` held is dropped. Nothing is done
 /// where the transaction doesn't run or has no live change. `Failed` only where a call of the store failed.
 pub fn commit_step<S: Store>(
     store: &mut S,
