@@ -1,19 +1,20 @@
 -- A new file is one of its layout, and has the blocks of a new file at home.
-use Rattle.std.specs.Prelude.{◌≡◌, ◌≤◌, ◌<◌, ◌+◌, ◌*◌, ℕ, zero, suc, ◌-◌, ◌++◌, ◌==◌, if◌then◌else◌}
-use Rattle.std.specs.Prelude.{Bool, List, [], ◌∷◌, length, replicate, take, drop, get_or}
+use Rattle.std.specs.Prelude.{◌≡◌, ◌≤◌, ◌<◌, ◌+◌, ◌*◌, ℕ, zero, suc, ◌-◌}
+use Rattle.std.specs.Prelude.{◌++◌, ◌==◌, if◌then◌else◌}
+use Rattle.std.specs.Prelude.{Bool, List, ◌∷◌, length, replicate, take, drop, get_or}
 use Rattle.std.specs.List.{AllByRecursion, concat}
 use Rattle.std.proofs.Common.{arith, ap, ◌∙◌, sym, refl, inl, inr, length-append}
 use Rattle.std.proofs.lemmas.Bool.{cases_Bool}
 use Rattle.std.proofs.lemmas.List.{take_at, take-append-le, drop_at, length-replicate, drop-drop, get_or_append_left}
 use Rattle.std.proofs.lemmas.List.{get_or-append_right, get_or-replicate}
 use Rattle.std.proofs.lemmas.List.Folds.{concat-append}
-use Rattle.rb_base.specs.Blocks.{AreBlocks, block_kind, block_of, fresh_block, fresh_blocks, fresh_from, fresh_head}
+use Rattle.rb_base.specs.Blocks.{AreBlocks, block_kind, fresh_block, fresh_blocks, fresh_from, fresh_head}
 use Rattle.rb_base.specs.Blocks.{fresh_rest, fresh_segment, shape_blocks}
 use Rattle.rb_base.specs.Fields.{part}
 use Rattle.rb_base.specs.declared.shape.Shape.{Shape}
-use Rattle.rb_base.proofs.Blocks.{fresh_at, fresh_count}
+use Rattle.rb_base.proofs.Blocks.{fresh_count}
 use Rattle.rb_layout.specs.declared.layout.Layout.{Layout}
-use Rattle.rb_layout.specs.Regions.{identity, block_offset, file_length, fresh_file, fresh_front, shape_of, HasIdentity}
+use Rattle.rb_layout.specs.Regions.{identity, block_offset, fresh_file, fresh_front, shape_of, HasIdentity}
 
 length-segment : length fresh_segment ≡ 2016
 length-segment = refl

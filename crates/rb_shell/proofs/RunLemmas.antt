@@ -38,7 +38,7 @@ use Rattle.rb_standing.specs.Standing.{logged_of}
 use Rattle.rb_store.proofs.NumberLemmas.{last_number}
 use Rattle.rb_store.proofs.OneOpening.{Agree, means_alike, one_opening}
 use Rattle.rb_store.specs.Meaning.{Means, Opens, OpensAt}
-use Rattle.rb_store.specs.Openings.{LeftAlone, MeansNothing}
+use Rattle.rb_store.specs.Openings.{LeftAlone}
 use Rattle.rb_store.specs.StoreStates.{StoreState, IsStable, blocks_in}
 
 -- the lines before a fault of the disk, and the one in which it came

@@ -30,8 +30,8 @@ use Rattle.rb_store.specs.Meaning.{Means, Opens, OpensAt}
 use Rattle.rb_store.specs.Openings.{MeansNothing}
 use Rattle.rb_store.specs.StoreStates.{StoreState}
 
--- The file is a store of some layout: it opens to these blocks with that last log number, they are in order, and the log
--- has room for the groups that put back what is under way.
+-- The file is a store of some layout: it opens to these blocks with that last log number, they are in order, and the
+-- log has room for the groups that put back what is under way.
 pub record IsStore (file : List ℕ) : Type 0 where
   pub layout : Layout
   pub blocks : List (List ℕ)
@@ -192,8 +192,8 @@ pub record RanOn {S : Type 0} (s : Ghosts S) (old new : S) (outside : Outside) (
     pub all_taken : end ≡ ends.Done → left_now ≡ []
     pub ends : EndsAs outside most before now left_before left_now tells held_before held_now end
 
--- An opening was stopped: the images are as `OpensSame` says. Where the file is no store, each image is one of before or
--- means what the file meant, and a file that means nothing is as it was.
+-- An opening was stopped: the images are as `OpensSame` says. Where the file is no store, each image is one of before
+-- or means what the file meant, and a file that means nothing is as it was.
 pub record WasStopped {D : Type 0} (d : DiskGhosts D) (old new : D) : Type 0 where
   pub images : (sound : IsSound (d.content old)) → OpensSame d old new sound
   pub damaged : (IsStore (d.content old) → ⊥) → (l : Layout) (blocks : List (List ℕ)) (lsn : ℕ)

@@ -36,8 +36,8 @@ use std::alloc::Global;
 
 /// Does what the words after the program's name ask for, and hands the disk back: `FILE format ...` makes a new
 /// file on the disk; `FILE run frames=N` does the source's lines over the store of the disk, of which N blocks are in
-/// memory at a time, and puts each reply as soon as its line is done; `FILE gen N` makes N drawn commands over the store
-/// of the disk, and puts one line that tells of them.
+/// memory at a time, and puts each reply as soon as its line is done; `FILE gen N` makes N drawn commands over the
+/// store of the disk, and puts one line that tells of them.
 pub fn run<S: Source, K: Sink, D: Disk>(
     alloc: Global,
     words: &[String],

@@ -185,8 +185,8 @@ pub fn open_engine<D: Disk>(
     }
 }
 
-/// Opens the store of a disk through 16 to 4,096 frames and does the lines of a script, each as soon as it is whole. All
-/// memory is taken before the script is asked for.
+/// Opens the store of a disk through 16 to 4,096 frames and does the lines of a script, each as soon as it is whole.
+/// All memory is taken before the script is asked for.
 pub fn run_script<S: Source, K: Sink, D: Disk>(
     alloc: Global,
     frames: u32,

@@ -1,8 +1,8 @@
 -- An image of the cache's calls opens to the blocks after some of the groups that waited.
-use Rattle.std.proofs.Common.{◌≡◌, ◌≢◌, ◌⊎◌, inl, inr, ⊎_elim, ℕ, ◌+◌, ◌^◌, ◌<◌, ◌≤◌, List, [], ◌∷◌, ◌++◌, length, take, arith, ap, sym, ◌∙◌, subst, refl, slice_index}
+use Rattle.std.proofs.Common.{◌≡◌, ◌≢◌, ⊎_elim, ℕ, ◌+◌, ◌^◌, ◌<◌, List, ◌++◌, length, take, arith, ap, sym, ◌∙◌, subst, refl, slice_index}
 use Rattle.std.proofs.lemmas.List.{take_all, take-take, length-take-le, length-append}
 use Rattle.std.specs.List.{AllByRecursion}
-use Rattle.rb_base.specs.Blocks.{block_of, block_kind, shape_blocks, after_groups, AreBlocks}
+use Rattle.rb_base.specs.Blocks.{block_of, after_groups}
 use Rattle.rb_base.specs.Fields.{number_at}
 use Rattle.rb_base.specs.Groups.{Patch, IsGroup}
 use Rattle.rb_base.proofs.Blocks.{block_long}
@@ -11,14 +11,14 @@ use Rattle.rb_layout.specs.Regions.{HasIdentity, block_count, file_length, file_
 use Rattle.rb_layout.specs.declared.layout.Head.{Head}
 use Rattle.rb_layout.specs.declared.layout.Layout.{Layout}
 use Rattle.rb_log.specs.GroupSlots.{IsLoggable}
-use Rattle.rb_roll.specs.Rolled.{after_blocks, rolled}
+use Rattle.rb_roll.specs.Rolled.{rolled}
 use Rattle.rb_roll.proofs.Heads.{after_head}
 use Rattle.rb_roll.proofs.OneAfter.{blocks_after, groups_keep}
 use Rattle.rb_roll.proofs.Rolling.{after_high, rolled_above, rolled_again, rolled_joined}
 use Rattle.rb_cache.specs.OnDisk.{OnDisk}
 use Rattle.rb_twin.specs.Twins.{home, kept, twin_gate}
 use Rattle.rb_twin.specs.TwinLaws.{kept_shut}
-use Rattle.rb_store.specs.Meaning.{AreHeaded, Means, OpensAt, place_of}
+use Rattle.rb_store.specs.Meaning.{AreHeaded, OpensAt, place_of}
 
 -- groups that wait are groups
 pub are_groups : (l : Layout) (gs : List (List Patch)) → AllByRecursion (IsLoggable l) gs → AllByRecursion IsGroup gs

@@ -1,27 +1,18 @@
 -- What the calls of a file's cache, log and twin area leave, where the log alone is called.
-use Rattle.std.proofs.Common.{◌≡◌, ◌≢◌, ⊎_elim, inr, refl, ℕ, ◌+◌, ◌<◌, ◌==◌, Bool, true, false, if◌then◌else◌, List, [], ◌∷◌, ◌++◌, length, arith, ap, sym, ◌∙◌}
+use Rattle.std.proofs.Common.{◌≡◌, ◌≢◌, refl, ℕ, ◌+◌, ◌<◌, ◌==◌, Bool, true, false, if◌then◌else◌, List, [], ◌∷◌, ◌++◌, length, arith, ap, sym, ◌∙◌}
 use Rattle.std.proofs.lemmas.List.{length-append}
-use Rattle.std.specs.List.{AllByRecursion}
 use Rattle.rb_base.specs.Groups.{Patch}
-use Rattle.rb_base.specs.Moments.{weaker}
 use Rattle.rb_disk.specs.DiskModel.{Only}
-use Rattle.rb_disk.specs.Moments.{Leaves}
-use Rattle.rb_disk.specs.declared.disk.Disk.{Ghosts}
 use Rattle.rb_layout.specs.Regions.{block_offset, file_length, log_offset}
-use Rattle.rb_layout.specs.declared.layout.Head.{Head}
 use Rattle.rb_layout.specs.declared.layout.Layout.{Layout}
 use Rattle.rb_base.proofs.Each.{all_push}
-use Rattle.rb_log.specs.GroupSlots.{FlushedSome, GroupsAre, IsLoggable}
-use Rattle.rb_log.specs.Slots.{SameOutside, SameSlots}
+use Rattle.rb_log.specs.GroupSlots.{IsLoggable}
 use Rattle.rb_twin.specs.Twins.{home, twin_gate}
 use Rattle.rb_cache.specs.declared.frame.Frame.{Frame}
-use Rattle.rb_cache.specs.Evictions.{Flushed}
 use Rattle.rb_cache.specs.Frames.{seen, AreClean}
-use Rattle.rb_cache.specs.OnDisk.{IsCalm, Later, OnDisk}
+use Rattle.rb_cache.specs.OnDisk.{IsCalm}
 use Rattle.rb_store.specs.CachedFiles.{CachedState, IsCachedMemory}
-use Rattle.rb_cache.proofs.Evicting.{Cleaning, clean_begun}
-use Rattle.rb_cache.proofs.Parts.{gate_behind, home_behind, same_part}
-use Rattle.rb_cache.proofs.Steps.{flush_on_disk}
+use Rattle.rb_cache.proofs.Parts.{same_part}
 
 -- what is seen where a block at home is the same
 pub seen_same : (l : Layout) (old new : List ℕ) (held : List Frame) (k : ℕ) → home l new k ≡ home l old k → seen l new held k ≡ seen l old held k

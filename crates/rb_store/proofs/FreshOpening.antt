@@ -1,5 +1,5 @@
 -- What a new file opens to.
-use Rattle.std.proofs.Common.{◌≡◌, ◌≢◌, ℕ, ◌<◌, ◌+◌, ◌^◌, ◌++◌, [], length, drop, get_or, slice_index, refl, arith, ap, sym, subst, ◌∙◌, inr}
+use Rattle.std.proofs.Common.{◌≡◌, ◌≢◌, ℕ, ◌<◌, ◌+◌, ◌^◌, ◌++◌, [], drop, slice_index, refl, arith, ap, sym, subst, ◌∙◌, inr}
 use Rattle.std.proofs.lemmas.List.{get_or-take, get_or-drop}
 use Rattle.rb_base.specs.Blocks.{block_kind, block_of, fresh_block, fresh_blocks, fresh_head, fresh_rest, shape_blocks}
 use Rattle.rb_base.specs.Fields.{number_at}
@@ -11,7 +11,7 @@ use Rattle.rb_layout.specs.declared.layout.Layout.{Layout}
 use Rattle.rb_cache.proofs.UseLemmas.{few_blocks}
 use Rattle.rb_log.specs.GroupLaws.{slot_low}
 use Rattle.rb_log.specs.Slots.{slot_at}
-use Rattle.rb_twin.specs.Twins.{kept, twin_gate}
+use Rattle.rb_twin.specs.Twins.{twin_gate}
 use Rattle.rb_twin.specs.TwinLaws.{kept_shut}
 use Rattle.rb_store.specs.Meaning.{IsHeaded, OpensAt, place_of}
 use Rattle.rb_store.specs.declared.head.TheConstants.{FIRST_HEAD}

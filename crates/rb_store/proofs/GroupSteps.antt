@@ -1,10 +1,10 @@
 -- The frames of a store while a group is patched into them, block by block, with evictions in between; and while the groups of a
 -- log are rolled forward.
-use Rattle.std.proofs.Common.{◌≡◌, ◌≢◌, ◌⊎◌, inl, inr, ⊎_elim, ℕ, ◌+◌, ◌^◌, ◌<◌, ◌≤◌, Bool, true, false, nat_lt, if◌then◌else◌, List, [], ◌∷◌, ◌++◌, length, take, drop, arith, ap, sym, ◌∙◌, subst, refl, append_assoc}
+use Rattle.std.proofs.Common.{◌≡◌, ◌≢◌, ℕ, ◌+◌, ◌^◌, ◌<◌, ◌≤◌, true, nat_lt, List, [], ◌∷◌, ◌++◌, length, take, drop, arith, ap, sym, ◌∙◌, refl, append_assoc}
 use Rattle.std.proofs.lemmas.Bool.Decides.{nat_tests}
 use Rattle.std.proofs.lemmas.List.{length-append, length-take-le, take-append-drop}
 use Rattle.std.specs.List.{AllByRecursion}
-use Rattle.rb_base.specs.Blocks.{block_of, after_group, after_groups, shape_blocks}
+use Rattle.rb_base.specs.Blocks.{block_of, after_group, after_groups}
 use Rattle.rb_base.specs.Fields.{number_at}
 use Rattle.rb_base.specs.Groups.{Patch, IsGroup}
 use Rattle.rb_base.specs.Moments.{weaker, joined}
@@ -15,11 +15,9 @@ use Rattle.rb_disk.specs.declared.disk.Disk.{Ghosts}
 use Rattle.rb_layout.specs.Regions.{block_count, shape_of}
 use Rattle.rb_layout.specs.declared.layout.Head.{Head}
 use Rattle.rb_layout.specs.declared.layout.Layout.{Layout}
-use Rattle.rb_roll.specs.Rolled.{after_block, has_block, rolled, step}
+use Rattle.rb_roll.specs.Rolled.{rolled, step}
 use Rattle.rb_roll.proofs.OneAfter.{block_after, groups_keep, stays}
 use Rattle.rb_roll.proofs.Rolling.{rolled_prefix}
-use Rattle.rb_cache.specs.declared.frame.Frame.{Frame}
-use Rattle.rb_cache.specs.Frames.{seen}
 use Rattle.rb_cache.specs.OnDisk.{Later, OnDisk}
 use Rattle.rb_twin.specs.Twins.{home, twin_gate}
 use Rattle.rb_cache.proofs.Steps.{later_joined, on_disk_later}

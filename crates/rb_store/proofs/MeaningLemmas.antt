@@ -1,17 +1,16 @@
 -- What an opening needs: which files have the right heads, that a repair leaves the meaning, and the last log number.
-use Rattle.std.proofs.Common.{◌≡◌, ◌≢◌, ℕ, zero, suc, ◌+◌, ◌-◌, ◌^◌, ◌<◌, ◌≤◌, ◌==◌, Bool, true, false, nat_lt, if◌then◌else◌, List, [], ◌∷◌, ◌++◌, length, take, arith, ap, sym, ◌∙◌, subst, refl, inl, inr, slice_index}
+use Rattle.std.proofs.Common.{◌≡◌, ℕ, ◌+◌, ◌^◌, ◌<◌, ◌≤◌, ◌==◌, true, false, nat_lt, List, [], ◌∷◌, length, take, arith, ap, sym, ◌∙◌, subst, refl, inl, inr, slice_index}
 use Rattle.std.proofs.lemmas.Bool.{cases_lt, eq-eqb}
 use Rattle.std.proofs.lemmas.Bool.Decides.{nat_tests}
-use Rattle.std.proofs.lemmas.List.{take-take}
 use Rattle.std.specs.List.{AllByRecursion}
-use Rattle.rb_base.specs.Blocks.{block_of, block_kind, shape_blocks, written_to, AreWithin}
+use Rattle.rb_base.specs.Blocks.{block_of, written_to, AreWithin}
 use Rattle.rb_base.specs.Fields.{number_at}
 use Rattle.rb_base.specs.Groups.{Patch, IsGroup}
-use Rattle.rb_layout.specs.Regions.{HasIdentity, block_count, file_length, log_offset, shape_of}
+use Rattle.rb_layout.specs.Regions.{block_count, file_length, log_offset, shape_of}
 use Rattle.rb_layout.specs.declared.layout.Head.{Head}
 use Rattle.rb_layout.specs.declared.layout.Layout.{Layout}
 use Rattle.rb_log.specs.Slots.{SameSlots}
-use Rattle.rb_roll.specs.Rolled.{after_block, has_block, numbered_by, rolled, step}
+use Rattle.rb_roll.specs.Rolled.{has_block, numbered_by, rolled, step}
 use Rattle.rb_roll.proofs.Heads.{rolled_head}
 use Rattle.rb_roll.proofs.Rolling.{front_is, no_lower, rolled_high}
 use Rattle.rb_log.specs.GroupSlots.{GroupsAre}

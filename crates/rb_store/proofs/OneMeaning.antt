@@ -1,7 +1,6 @@
 -- A file has one meaning.
-use Rattle.std.proofs.Common.{◌≡◌, ℕ, ◌+◌, ◌<◌, List, [], length, arith, ap, sym, ◌∙◌, subst, get_or}
+use Rattle.std.proofs.Common.{◌≡◌, ℕ, ◌<◌, List, [], length, arith, ap, sym, ◌∙◌, subst}
 use Rattle.std.proofs.lemmas.List.{same_lists, get_or_default}
-use Rattle.rb_base.specs.Blocks.{block_of}
 use Rattle.rb_base.specs.Groups.{Patch}
 use Rattle.rb_layout.specs.Regions.{block_count}
 use Rattle.rb_layout.specs.declared.layout.Head.{Head}
@@ -10,7 +9,6 @@ use Rattle.rb_roll.specs.Rolled.{rolled}
 use Rattle.rb_log.specs.GroupSlots.{GroupsAre}
 use Rattle.rb_twin.specs.Twins.{kept}
 use Rattle.rb_log.specs.GroupLaws.{one_group_log}
-use Rattle.rb_store.specs.declared.head.TheConstants.{FIRST_HEAD}
 use Rattle.rb_store.specs.Meaning.{Means}
 
 pub one_meaning : (l : Layout) (file : List ℕ) (first second : List (List ℕ)) (n k : ℕ) → Means l file first n → Means l file second k → (first ≡ second) × (n ≡ k)

@@ -1,19 +1,18 @@
 -- What an opening makes of a file whose log was scanned: it means blocks where its twin area is one, and a repair and
 -- rolling forward leave that.
-use Rattle.std.proofs.Common.{◌≡◌, ◌≢◌, ◌⊎◌, inl, inr, ⊎_elim, ℕ, zero, suc, ◌+◌, ◌*◌, ◌^◌, ◌<◌, ◌≤◌, ◌==◌, Bool, true, false, if◌then◌else◌, List, [], ◌∷◌, ◌++◌, length, take, drop, map, arith, ap, sym, ◌∙◌, subst, refl, slice_index}
-use Rattle.std.proofs.lemmas.List.{length-take-le, length-drop, take_all, append-nil}
+use Rattle.std.proofs.Common.{◌≡◌, ◌≢◌, ◌⊎◌, inl, inr, ⊎_elim, ℕ, ◌+◌, ◌*◌, ◌^◌, ◌<◌, ◌≤◌, ◌==◌, Bool, true, false, if◌then◌else◌, List, [], ◌∷◌, ◌++◌, length, take, drop, map, arith, ap, sym, ◌∙◌, subst, refl, slice_index}
+use Rattle.std.proofs.lemmas.List.{length-take-le, length-drop, append-nil}
 use Rattle.std.proofs.lemmas.List.FromFn.{get_or-map-range_with_len, length-map-range_with_len}
 use Rattle.std.specs.List.{AllByRecursion, range_with_len}
 use Rattle.rb_base.specs.Blocks.{block_of, after_groups}
-use Rattle.rb_base.specs.Fields.{part}
-use Rattle.rb_base.specs.Groups.{Patch, IsGroup}
+use Rattle.rb_base.specs.Groups.{Patch}
 use Rattle.rb_base.specs.Moments.{joined, weaker}
 use Rattle.rb_disk.specs.DiskModel.{Only}
 use Rattle.rb_disk.specs.Ranges.{SameBut}
 use Rattle.std.proofs.lemmas.Bool.{eqb-true}
 use Rattle.rb_disk.specs.Moments.{Leaves, Rests, rests_leave, rests_on}
 use Rattle.rb_disk.specs.declared.disk.Disk.{Ghosts}
-use Rattle.rb_layout.specs.Regions.{HasIdentity, block_count, block_offset, file_length, file_version, log_offset, shape_of, twin_offset}
+use Rattle.rb_layout.specs.Regions.{HasIdentity, block_count, block_offset, file_length, file_version, shape_of, twin_offset}
 use Rattle.rb_layout.specs.declared.layout.Head.{Head}
 use Rattle.rb_layout.specs.declared.layout.Layout.{Layout}
 use Rattle.rb_log.specs.GroupSlots.{GroupsAre}
@@ -25,7 +24,7 @@ use Rattle.rb_twin.specs.Twins.{home, kept, twin_area, twin_gate, IsTwin, Repair
 use Rattle.rb_twin.proofs.Images.{all_by, counted}
 use Rattle.rb_cache.proofs.Parts.{front_less, slots_front}
 use Rattle.rb_store.specs.declared.head.TheConstants.{FIRST_HEAD}
-use Rattle.rb_store.specs.Meaning.{AreHeaded, AreHomesHeaded, IsHeaded, KeepsHeads, Means, OpensAt}
+use Rattle.rb_store.specs.Meaning.{AreHeaded, IsHeaded, KeepsHeads, Means, OpensAt}
 use Rattle.rb_base.specs.Fields.{number_at}
 use Rattle.rb_cache.specs.Frames.{seen, AreClean}
 use Rattle.rb_cache.specs.OnDisk.{IsCalm, Later, OnDisk}

@@ -1,13 +1,12 @@
 -- The loop over the patches of a group, over any cache.
-use Rattle.std.proofs.Common.{◌≡◌, ◌≢◌, ◌⊎◌, inl, inr, ⊎_elim, ℕ, ◌+◌, ◌^◌, ◌<◌, ◌≤◌, ◌==◌, Bool, true, false, if◌then◌else◌, nat_lt, List, [], ◌∷◌, ◌++◌, length, take, get_or, arith, ap, sym, ◌∙◌, subst, refl, append-nil}
+use Rattle.std.proofs.Common.{◌≡◌, ◌≢◌, ◌⊎◌, inl, inr, ⊎_elim, ℕ, ◌+◌, ◌^◌, ◌<◌, ◌==◌, Bool, true, false, if◌then◌else◌, nat_lt, List, [], ◌∷◌, ◌++◌, length, take, get_or, arith, ap, sym, ◌∙◌, subst, refl, append-nil}
 use Rattle.std.proofs.lemmas.Bool.{cases_eq, eq-eqb, ne_eqb}
 use Rattle.std.proofs.lemmas.List.{take_all, take_more}
 use Rattle.rb_base.specs.Groups.{Patch}
 use Rattle.rb_base.specs.Moments.{begun, joined, weaker}
-use Rattle.rb_disk.specs.DiskModel.{Only}
 use Rattle.rb_disk.specs.Moments.{Leaves}
 use Rattle.rb_disk.specs.declared.disk.Disk.{Ghosts}
-use Rattle.rb_layout.specs.Regions.{block_count, log_offset}
+use Rattle.rb_layout.specs.Regions.{block_count}
 use Rattle.rb_layout.specs.declared.layout.Head.{Head}
 use Rattle.rb_layout.specs.declared.layout.Layout.{Layout}
 use Rattle.rb_roll.specs.Rolled.{after_block, has_block, step}
@@ -19,7 +18,7 @@ use Rattle.rb_twin.specs.TwinLaws.{kept_shut}
 use Rattle.rb_log.specs.GroupLaws.{same_group_log}
 use Rattle.rb_cache.proofs.Parts.{home_part}
 use Rattle.rb_cache.proofs.Steps.{later_joined, on_disk_later}
-use Rattle.rb_store.specs.CachedFiles.{CachedState, IsCachedMemory, Done, Keeps, Leaving, SameNumbers, SeenAt, SeenOrPatched, Settled, StaysOrNone}
+use Rattle.rb_store.specs.CachedFiles.{CachedState, IsCachedMemory, Done, Keeps, Leaving, SeenAt, SeenOrPatched, Settled, StaysOrNone}
 use Rattle.rb_store.specs.Patched.{HasPatched, PatchedSoFar}
 
 -- a group that isn't of a block leaves it, and one that is there already too

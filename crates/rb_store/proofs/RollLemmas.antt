@@ -1,24 +1,18 @@
 -- The loop over the groups of a log, over any cache.
-use Rattle.std.proofs.Common.{◌≡◌, ◌≢◌, ◌⊎◌, inl, inr, ⊎_elim, ℕ, ◌+◌, ◌^◌, ◌<◌, ◌≤◌, ◌==◌, Bool, true, false, if◌then◌else◌, nat_lt, List, [], ◌∷◌, ◌++◌, length, take, get_or, arith, ap, sym, ◌∙◌, subst, refl, append-nil}
-use Rattle.std.proofs.lemmas.Bool.{cases_eq, eq-eqb, ne_eqb}
-use Rattle.std.proofs.lemmas.List.{length-take-le, take_all, take_more}
+use Rattle.std.proofs.Common.{◌≡◌, inl, ⊎_elim, ℕ, ◌+◌, ◌^◌, ◌<◌, List, [], ◌∷◌, ◌++◌, length, take, get_or, arith, ap, sym, ◌∙◌, subst, refl}
+use Rattle.std.proofs.lemmas.List.{length-take-le, take_more}
 use Rattle.rb_base.specs.Groups.{Patch}
 use Rattle.rb_base.specs.Moments.{begun, joined, weaker}
-use Rattle.rb_disk.specs.DiskModel.{Only}
-use Rattle.rb_disk.specs.Moments.{Leaves}
 use Rattle.rb_disk.specs.declared.disk.Disk.{Ghosts}
-use Rattle.rb_layout.specs.Regions.{block_count, log_offset}
-use Rattle.rb_layout.specs.declared.layout.Head.{Head}
+use Rattle.rb_layout.specs.Regions.{block_count}
 use Rattle.rb_layout.specs.declared.layout.Layout.{Layout}
-use Rattle.rb_roll.specs.Rolled.{after_block, has_block, rolled, step}
-use Rattle.rb_roll.proofs.Rolling.{rolled_again, rolled_joined}
+use Rattle.rb_roll.specs.Rolled.{rolled, step}
+use Rattle.rb_roll.proofs.Rolling.{rolled_joined}
 use Rattle.rb_cache.specs.Frames.{seen, AreClean}
 use Rattle.rb_cache.specs.OnDisk.{IsCalm, Later, OnDisk}
 use Rattle.rb_log.specs.GroupSlots.{GroupsAre}
-use Rattle.rb_twin.specs.TwinLaws.{kept_shut}
-use Rattle.rb_log.specs.GroupLaws.{same_group_log}
 use Rattle.rb_cache.proofs.Steps.{later_joined, on_disk_later}
-use Rattle.rb_store.specs.CachedFiles.{CachedState, IsCachedMemory, Done, Keeps, Leaving, RollsTo, SameNumbers, SeenAt, SeenOrPatched, Settled}
+use Rattle.rb_store.specs.CachedFiles.{CachedState, IsCachedMemory, Done, Keeps, Leaving, RollsTo, SeenOrPatched, Settled}
 use Rattle.rb_store.proofs.GroupSteps.{comes_part}
 use Rattle.rb_store.specs.Patched.{HasRolled, RolledSoFar}
 use Rattle.rb_store.proofs.PatchLemmas.{first_on_disk, leaving_at, log_at, log_back}

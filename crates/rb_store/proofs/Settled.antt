@@ -1,8 +1,8 @@
 -- The clauses of a store's calls, from those of the cache's.
-use Rattle.std.proofs.Common.{◌≡◌, ◌≢◌, ◌⊎◌, inl, inr, ⊎_elim, ℕ, ◌+◌, ◌^◌, ◌<◌, ◌≤◌, List, [], ◌∷◌, ◌++◌, length, take, drop, arith, ap, sym, ◌∙◌, subst, refl, append-nil, Some}
+use Rattle.std.proofs.Common.{◌≡◌, ◌≢◌, inl, inr, ⊎_elim, ℕ, ◌+◌, ◌^◌, ◌<◌, List, ◌++◌, length, take, drop, arith, ap, sym, ◌∙◌, subst, refl, append-nil, Some}
 use Rattle.std.proofs.lemmas.List.{take_all, drop_all, length-append, length-drop, length-take-le, take-append-drop}
 use Rattle.std.specs.List.{AllByRecursion}
-use Rattle.rb_base.specs.Blocks.{block_of, after_group, after_groups}
+use Rattle.rb_base.specs.Blocks.{block_of, after_groups}
 use Rattle.rb_base.specs.Groups.{Patch, IsGroup}
 use Rattle.rb_base.specs.Moments.{LeavesOnly, weaker}
 use Rattle.rb_base.specs.Settling.{after_joined}
@@ -10,15 +10,15 @@ use Rattle.rb_base.specs.Stores.{OpensToSome, Settles}
 use Rattle.rb_disk.specs.DiskModel.{Only}
 use Rattle.rb_disk.specs.Moments.{Leaves}
 use Rattle.rb_disk.specs.declared.disk.Disk.{Ghosts}
-use Rattle.rb_layout.specs.Regions.{block_count, file_length, log_offset, shape_of}
+use Rattle.rb_layout.specs.Regions.{block_count, file_length, shape_of}
 use Rattle.rb_layout.specs.declared.layout.Head.{Head}
 use Rattle.rb_layout.specs.declared.layout.Layout.{Layout}
 use Rattle.rb_roll.specs.Rolled.{rolled}
 use Rattle.rb_cache.specs.OnDisk.{Later, OnDisk}
 use Rattle.rb_log.specs.GroupSlots.{GroupsAre}
-use Rattle.rb_twin.specs.Twins.{home, kept, twin_gate}
+use Rattle.rb_twin.specs.Twins.{twin_gate}
 use Rattle.rb_twin.specs.TwinLaws.{kept_shut}
-use Rattle.rb_store.specs.Meaning.{Opens, OpensAt}
+use Rattle.rb_store.specs.Meaning.{Opens}
 use Rattle.rb_store.specs.StoreStates.{StoreState, IsStable, IsStableAt, blocks_in}
 use Rattle.rb_store.proofs.Between.{between}
 

@@ -1,33 +1,32 @@
 -- The clauses of a store's calls over any cache, from those of the cache's calls.
-use Rattle.std.proofs.Common.{◌≡◌, ◌≢◌, ◌⊎◌, inl, inr, ⊎_elim, ℕ, zero, suc, drop, ◌+◌, ◌-◌, ◌*◌, ◌^◌, ◌<◌, ◌≤◌, ◌==◌, Bool, true, false, if◌then◌else◌, nat_lt, List, [], ◌∷◌, ◌++◌, length, map, arith, ap, sym, ◌∙◌, subst, refl, Some, Option}
+use Rattle.std.proofs.Common.{◌≡◌, ⊎_elim, ℕ, zero, suc, drop, ◌+◌, ◌-◌, ◌^◌, ◌<◌, ◌≤◌, ◌==◌, Bool, true, false, if◌then◌else◌, nat_lt, List, [], ◌∷◌, ◌++◌, length, map, arith, ap, sym, ◌∙◌, subst, refl, Some, Option}
 use Rattle.std.proofs.lemmas.Bool.{eq-eqb}
 use Rattle.std.proofs.lemmas.Bool.Decides.{nat_tests}
 use Rattle.std.proofs.lemmas.List.{same_lists, get_or_default, length-append, length-take-le, length-drop}
 use Rattle.std.proofs.lemmas.List.FromFn.{get_or-map-range_with_len, length-map-range_with_len}
 use Rattle.std.specs.List.{AllByRecursion, range_with_len}
-use Rattle.rb_base.specs.Blocks.{block_of, after_group, after_groups, shape_blocks, AreBlocks}
+use Rattle.rb_base.specs.Blocks.{block_of, after_group, after_groups, AreBlocks}
 use Rattle.rb_base.specs.Fields.{number_at, part}
 use Rattle.rb_base.specs.Groups.{Patch, IsGroup}
 use Rattle.rb_base.specs.Settling.{after_joined}
 use Rattle.rb_base.specs.Stores.{OpensToSome, Settles}
 use Rattle.rb_base.proofs.Blocks.{group_count}
 use Rattle.rb_base.proofs.Each.{all_push}
-use Rattle.rb_disk.specs.DiskModel.{Only}
 use Rattle.rb_disk.specs.declared.disk.Disk.{Ghosts}
 use Rattle.rb_disk.specs.Ranges.{SamePart}
 use Rattle.rb_layout.specs.Regions.{block_count, block_offset, file_length, log_offset, shape_of}
 use Rattle.rb_layout.specs.declared.layout.Head.{Head}
 use Rattle.rb_layout.specs.declared.layout.Layout.{Layout}
 use Rattle.rb_roll.specs.Rolled.{after_block, rolled, step}
-use Rattle.rb_roll.proofs.OneAfter.{block_after, groups_keep, stays}
+use Rattle.rb_roll.proofs.OneAfter.{block_after, stays}
 use Rattle.rb_roll.proofs.Rolling.{rolled_high}
 use Rattle.rb_cache.specs.declared.frame.Frame.{Frame}
-use Rattle.rb_cache.specs.Frames.{seen, AreClean}
-use Rattle.rb_cache.specs.OnDisk.{IsCalm, Later, OnDisk}
+use Rattle.rb_cache.specs.Frames.{seen}
+use Rattle.rb_cache.specs.OnDisk.{IsCalm}
 use Rattle.rb_log.specs.GroupSlots.{GroupsAre}
-use Rattle.rb_twin.specs.Twins.{home, twin_gate}
-use Rattle.rb_store.specs.Meaning.{Opens, OpensAt}
-use Rattle.rb_store.specs.StoreStates.{StoreState, IsStable, IsQuietAt, blocks_by, blocks_in}
+use Rattle.rb_twin.specs.Twins.{twin_gate}
+use Rattle.rb_store.specs.Meaning.{Opens}
+use Rattle.rb_store.specs.StoreStates.{StoreState, IsStable, IsQuietAt, blocks_by}
 use Rattle.rb_store.proofs.Between.{are_groups, comes_again}
 use Rattle.rb_store.proofs.GroupSteps.{comes_after, comes_before, group_makes}
 use Rattle.rb_store.proofs.Settled.{StoreLeaves, store_moments, store_settles}

@@ -1,11 +1,10 @@
 -- What a store's frames have after the first patches of a group.
-use Rattle.std.specs.Prelude.{◌≡◌, ℕ, ◌<◌, Bool, if◌then◌else◌, List, [], length, take}
+use Rattle.std.specs.Prelude.{◌≡◌, ℕ, ◌<◌, if◌then◌else◌, List, [], length, take}
 use Rattle.rb_base.specs.Groups.{Patch}
 use Rattle.rb_disk.specs.declared.disk.Disk.{Ghosts}
 use Rattle.rb_layout.specs.Regions.{block_count}
 use Rattle.rb_roll.specs.Rolled.{has_block, rolled, step}
-use Rattle.rb_cache.specs.Frames.{seen, AreClean}
-use Rattle.rb_cache.specs.OnDisk.{IsCalm}
+use Rattle.rb_cache.specs.Frames.{seen}
 use Rattle.rb_log.specs.GroupSlots.{GroupsAre}
 use Rattle.rb_store.specs.CachedFiles.{CachedState, IsCachedMemory, Done, Keeps, Leaving, RollsTo, SameNumbers}
 use Rattle.rb_store.specs.CachedFiles.{SeenOrPatched, Settled, StaysOrNone}

@@ -1,20 +1,17 @@
 -- A store over a cache, and what is stable in it.
 use Rattle.std.specs.Prelude.{◌≡◌, ◌≢◌, ℕ, ◌+◌, ◌-◌, ◌^◌, ◌++◌, ◌<◌, ◌≤◌}
-use Rattle.std.specs.Prelude.{Bool, false, List, [], length, Option, map}
-use Rattle.std.specs.List.{AllByRecursion, range_with_len}
+use Rattle.std.specs.Prelude.{Bool, List, length, Option, map}
+use Rattle.std.specs.List.{range_with_len}
 use Rattle.rb_base.specs.Blocks.{after_groups}
 use Rattle.rb_base.specs.Groups.{Patch}
 use Rattle.rb_base.specs.Fields.{number_at}
 use Rattle.rb_disk.specs.DiskModel.{Only}
-use Rattle.rb_disk.specs.Moments.{Leaves}
 use Rattle.rb_disk.specs.declared.disk.Disk.{Ghosts}
 use Rattle.rb_layout.specs.Regions.{block_count, file_length}
 use Rattle.rb_layout.specs.declared.layout.Head.{Head}
 use Rattle.rb_layout.specs.declared.layout.Layout.{Layout}
-use Rattle.rb_log.specs.GroupSlots.{IsLoggable}
 use Rattle.rb_cache.specs.declared.frame.Frame.{Frame}
 use Rattle.rb_cache.specs.Frames.{seen, AreClean}
-use Rattle.rb_cache.specs.OnDisk.{OnDisk}
 use Rattle.rb_twin.specs.Twins.{twin_gate}
 use Rattle.rb_store.specs.Meaning.{OpensAt}
 

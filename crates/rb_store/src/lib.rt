@@ -1,5 +1,5 @@
-//! Makes the file of a store, and opens `LogStore` over it: a store whose blocks stand at home in the file, and are read
-//! and written through a cache.
+//! Makes the file of a store, and opens `LogStore` over it: a store whose blocks stand at home in the file, and are
+//! read and written through a cache.
 #![tactic(auto)]
 
 mod cached_file;

@@ -1,5 +1,6 @@
 //! `format`: writes a new file of a layout. The shell calls it for the command of that name.
-ghost use Rattle.std.specs.Prelude.{◌≡◌, ◌+◌, ◌-◌, ◌*◌, ◌<◌, ◌≤◌, ◌++◌, length, replicate, OnOk, IsErrOf};
+ghost use Rattle.std.specs.Prelude.{◌≡◌, ◌+◌, ◌-◌, ◌*◌, ◌<◌, ◌≤◌, ◌++◌};
+ghost use Rattle.std.specs.Prelude.{length, replicate, OnOk, IsErrOf};
 ghost use Rattle.std.specs.List.{concat};
 ghost use Rattle.rb_base.specs.Blocks.{IsShape, fresh_from, shape_blocks};
 ghost use Rattle.rb_base.specs.Counts.{IsCounted, IsCountedAs, err_is};

@@ -1,4 +1,4 @@
-use Rattle.std.proofs.Common.{rules, ◌+◌, ◌-◌, ◌*◌, ◌<◌, ℕ, IsTrue, take, drop, inl, inr, arith, subst, sym}
+use Rattle.std.proofs.Common.{rules, ◌+◌, ◌-◌, ◌*◌, ℕ, take, drop, inl, inr, arith, subst}
 use Rattle.std.proofs.lemmas.Bool.{cases_lt}
 use Rattle.rb_base.specs.Fields.{part}
 use Rattle.rb_store.specs.Meaning.{IsHeaded}

@@ -1,6 +1,5 @@
-use Rattle.std.proofs.Common.{◌≡◌, ◌+◌, ◌<◌, ◌∙◌, ℕ, List, arith, refl, subst, sym, ap}
+use Rattle.std.proofs.Common.{◌≡◌, ◌+◌, ◌<◌, ◌∙◌, ℕ, List, arith, refl, subst, ap}
 use Rattle.rb_disk.specs.Moments.{rests_on}
-use Rattle.rb_base.specs.declared.shape.Shape.{Shape}
 use Rattle.rb_base.specs.Blocks.{shape_blocks}
 use Rattle.rb_layout.specs.Regions.{block_count, shape_of}
 use Rattle.rb_twin.specs.Twins.{home}

@@ -1,4 +1,4 @@
-use Rattle.std.proofs.Common.{◌≡◌, ◌≤◌, ◌+◌, ◌++◌, ◌∙◌, ℕ, List, arith, ap}
+use Rattle.std.proofs.Common.{◌≡◌, ◌+◌, ◌++◌, ◌∙◌, ℕ, List, arith, ap}
 use Rattle.rb_base.specs.Blocks.{fresh_from, shape_blocks}
 use Rattle.std.specs.List.{concat}
 use Rattle.rb_base.specs.Fields.{overwritten}

@@ -1,4 +1,4 @@
-use Rattle.std.proofs.Common.{◌≡◌, ◌-◌, ◌≤◌, ◌++◌, length}
+use Rattle.std.proofs.Common.{◌≡◌, ◌-◌, ◌≤◌, ◌++◌}
 use Rattle.std.specs.List.{concat}
 use Rattle.rb_base.specs.Blocks.{fresh_from}
 use Rattle.rb_layout.specs.Regions.{block_count, file_version, fresh_front, shape_of}

@@ -1,15 +1,12 @@
-use Rattle.rb_store.proofs.OpeningLemmas.{means_any, means_made, repaired_means}
-use Rattle.std.proofs.Common.{◌≡◌, ◌≢◌, ◌<◌, ℕ, List, length, inl, inr, ap, subst, sym, ◌∙◌}
+use Rattle.std.proofs.Common.{◌≡◌, ◌≢◌, ℕ, List, length, ap, subst, sym, ◌∙◌}
 use Rattle.std.proofs.lemmas.Result.{on_ok_weaker}
 use Rattle.rb_base.specs.Moments.{joined}
-use Rattle.rb_disk.specs.Moments.{Leaves, Rests, rests_leave, rests_on}
-use Rattle.rb_disk.specs.DiskModel.{Only}
+use Rattle.rb_disk.specs.Moments.{Leaves, Rests, rests_leave}
 use Rattle.rb_disk.specs.Ranges.{SameBut}
 use Rattle.rb_layout.specs.Regions.{block_count, file_length, shape_of, twin_offset}
 use Rattle.rb_layout.specs.declared.layout.Layout.{Layout}
-use Rattle.rb_twin.specs.TwinLaws.{kept_shut}
 use Rattle.rb_twin.specs.Twins.{home, kept, twin_gate, IsTwin, Repaired}
-use Rattle.rb_store.specs.Meaning.{AreHomesHeaded, IsHeaded, KeepsHeads}
+use Rattle.rb_store.specs.Meaning.{AreHomesHeaded, IsHeaded}
 use Rattle.rb_store.proofs.opening.repair_homes.Given.{Over}
 use Rattle.rb_store.proofs.opening.repair_homes.Goals.{After-repair, In_ok-repair}
 use Rattle.rb_store.proofs.opening.repair_homes.Goals as goal

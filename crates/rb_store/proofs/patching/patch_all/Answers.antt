@@ -1,11 +1,10 @@
-use Rattle.std.proofs.Common.{[], ◌≡◌, ◌<◌, ◌^◌, ℕ, List, length, get_or, subst, sym, ap, arith, refl, ◌∙◌}
+use Rattle.std.proofs.Common.{[], ◌≡◌, ◌<◌, ℕ, length, get_or, subst, sym, arith, ◌∙◌}
 use Rattle.std.proofs.lemmas.List.{get_or_default}
 use Rattle.rb_base.specs.Groups.{Patch, patch}
 use Rattle.rb_base.proofs.Each.{all_at}
-use Rattle.rb_layout.specs.Regions.{block_count, shape_of}
+use Rattle.rb_layout.specs.Regions.{block_count}
 use Rattle.rb_layout.specs.declared.layout.Layout.{Layout}
 use Rattle.rb_store.proofs.PatchLemmas.{all_patched, first_patched, more_leaves, more_patched, waits_joined}
-use Rattle.rb_store.proofs.patching.patch_all.Given.{Over}
 use Rattle.rb_store.proofs.patching.patch_all.Goals as goal
 
 pub loop-i-init : goal.loop-i-init

@@ -1,4 +1,4 @@
-use Rattle.std.proofs.Common.{◌≡◌, ◌+◌, ◌<◌, ◌^◌, ℕ, List, length, subst, sym, ap, arith, refl, ◌∙◌}
+use Rattle.std.proofs.Common.{arith, ◌∙◌}
 use Rattle.rb_store.proofs.PatchLemmas.{waits_joined}
 use Rattle.rb_store.proofs.RollLemmas.{first_rolled, more_rolled, roll_leaves}
 use Rattle.rb_store.proofs.rolling.roll_forward.Goals as goal

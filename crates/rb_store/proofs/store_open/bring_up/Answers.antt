@@ -1,4 +1,4 @@
-use Rattle.std.proofs.Common.{◌≡◌, ◌≢◌, ◌<◌, ◌+◌, ℕ, List, [], length, IfOk, arith, refl, ⊎_elim, ap, subst, sym, ◌∙◌}
+use Rattle.std.proofs.Common.{◌≡◌, ◌<◌, ℕ, List, [], length, ⊎_elim, ap, subst, sym, ◌∙◌}
 use Rattle.std.proofs.lemmas.Result.{err_from_is_err_and}
 use Rattle.std.specs.List.{AllByRecursion}
 use Rattle.rb_base.specs.Blocks.{AreWithin}
@@ -15,7 +15,7 @@ use Rattle.rb_cache.specs.Frames.{seen}
 use Rattle.rb_cache.specs.declared.frame.Frame.{Frame}
 use Rattle.rb_store.specs.Openings.{LeavesMeaning}
 use Rattle.rb_store.specs.declared.head.TheConstants.{FIRST_HEAD}
-use Rattle.rb_store.proofs.OpeningLemmas.{as_rolled, has_opened, keeps_of, later_rolled, log_mid, made_blocks, repair_failed, rolled_leaves}
+use Rattle.rb_store.proofs.OpeningLemmas.{as_rolled, has_opened, keeps_of, later_rolled, log_mid, repair_failed, rolled_leaves}
 use Rattle.rb_store.proofs.store_open.bring_up.Given.{Over}
 use Rattle.rb_store.proofs.store_open.bring_up.Goals.{After-repair_homes, After-roll_forward}
 use Rattle.rb_store.proofs.store_open.bring_up.Goals as goal

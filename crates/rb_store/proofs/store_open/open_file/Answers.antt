@@ -1,13 +1,11 @@
-use Rattle.std.proofs.Common.{◌≡◌, ℕ, List, IfOk, ap, subst, sym, ◌∙◌}
+use Rattle.std.proofs.Common.{◌≡◌, ℕ, List, ap, subst, sym, ◌∙◌}
 use Rattle.std.proofs.lemmas.Result.{err_from_is_err_and, IfOk-weaker}
-use Rattle.rb_base.specs.Groups.{Patch}
 use Rattle.rb_disk.specs.Moments.{Rests, rests_on}
 use Rattle.rb_layout.specs.OneLayout.{one_layout}
 use Rattle.rb_layout.specs.Regions.{file_version}
 use Rattle.rb_layout.specs.declared.layout.Head.{Head}
 use Rattle.rb_layout.specs.declared.layout.Layout.{Layout}
 use Rattle.rb_log.specs.GroupSlots.{GroupsAre}
-use Rattle.rb_store.specs.declared.head.TheConstants.{FIRST_HEAD}
 use Rattle.rb_store.specs.Meaning.{OpensAt}
 use Rattle.rb_store.specs.Openings.{HasOpened}
 use Rattle.rb_store.specs.StoreStates.{blocks_by}

@@ -1,4 +1,4 @@
-use Rattle.std.proofs.Common.{◌+◌, ◌<◌, ◌++◌, ◌∷◌, [], length, subst, sym}
+use Rattle.std.proofs.Common.{◌+◌, ◌<◌, length, subst, sym}
 use Rattle.rb_base.specs.Blocks.{AreWithin}
 use Rattle.rb_layout.specs.Regions.{shape_of}
 use Rattle.rb_log.specs.GroupSlots.{IsLoggable, LogState}

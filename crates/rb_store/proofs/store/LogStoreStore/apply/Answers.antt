@@ -1,4 +1,4 @@
-use Rattle.std.proofs.Common.{◌≡◌, ◌+◌, ◌++◌, ◌∷◌, [], true, None, ℕ, List, length, refl, sym, ap, ◌∙◌, subst, arith, length-append, ◌<◌, ◌^◌, inl, inr}
+use Rattle.std.proofs.Common.{◌≡◌, ◌+◌, ◌++◌, ◌∷◌, [], true, None, ℕ, List, length, sym, ap, ◌∙◌, subst, arith, length-append, ◌<◌, ◌^◌, inl, inr}
 use Rattle.std.proofs.lemmas.Bool.{cases_eq}
 use Rattle.rb_base.specs.Groups.{Patch}
 use Rattle.rb_layout.specs.Regions.{block_count}
@@ -6,7 +6,6 @@ use Rattle.rb_layout.specs.declared.layout.Head.{Head}
 use Rattle.rb_roll.specs.Rolled.{step}
 use Rattle.rb_cache.specs.Frames.{seen}
 use Rattle.rb_log.specs.GroupSlots.{GroupsAre}
-use Rattle.rb_store.specs.StoreStates.{IsQuietAt}
 use Rattle.rb_store.specs.CachedFiles.{CachedState, Done, Keeps, Leaving, SameNumbers, SeenOrPatched, Settled, StaysOrNone}
 use Rattle.rb_store.proofs.StoreLemmas.{apply_moments, apply_settles, patched_blocks, patched_low, quiet_again, waits_on}
 use Rattle.rb_store.proofs.store.LogStoreStore.apply.Given.{Over}

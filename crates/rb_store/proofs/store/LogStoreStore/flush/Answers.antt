@@ -1,6 +1,6 @@
-use Rattle.std.proofs.Common.{◌≡◌, true, None, Some, refl, sym, ap, ◌∙◌}
+use Rattle.std.proofs.Common.{true, None, ap, ◌∙◌}
 use Rattle.rb_store.specs.CachedFiles.{first_of}
-use Rattle.rb_store.proofs.StoreLemmas.{are_blocks, call_moments, call_settles, memory_again, quiet_same, same_by}
+use Rattle.rb_store.proofs.StoreLemmas.{call_moments, call_settles, memory_again, quiet_same, same_by}
 use Rattle.rb_store.proofs.store.LogStoreStore.flush.Goals as goal
 
 pub invariant_of-self : goal.invariant_of-self

@@ -1,4 +1,4 @@
-use Rattle.std.proofs.Common.{◌≡◌, true, None, Some, refl, sym, ap, ◌∙◌}
+use Rattle.std.proofs.Common.{true, None, Some, ap, ◌∙◌}
 use Rattle.rb_store.proofs.StoreLemmas.{are_blocks, call_moments, call_settles, memory_again, quiet_same, same_by}
 use Rattle.rb_store.proofs.store.LogStoreStore.load.Goals as goal
 
