@@ -1,6 +1,8 @@
 //! A run in which three sessions have changes in more blocks than there are frames, so that blocks go home with changes
 //! that aren't committed: a stop after each call of the disk, each of these calls failing, and stops of the openings
 //! behind stops.
+ghost use Rattle.std.specs.Prelude.{◌≤◌};
+
 use crate::doubles::{Failing, NONE, RUN, formatted, run_over, run_stopped};
 use crate::restarts::{check_failures_behind, check_stops_behind};
 use crate::stories::{PICKS, Story, are_faulty, check_left, image_now};
