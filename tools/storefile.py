@@ -492,13 +492,13 @@ class Store:
             self.blocks[number] = self.rolled(number)
         return self.blocks[number]
 
-    def rolled(self, number):
-        """What the file keeps of a block, with the groups of the log that aren't in it."""
+    def rolled(self, number, last=None):
+        """What the file keeps of a block, with the groups of the log that aren't in it, or with the first ones alone."""
         at = self.kept_at(number)
         block = bytearray(self.content[at : at + UNIT])
         log_number, _, _ = HEAD_OF.unpack_from(block)
         for group, patch in self.patches.get(number, []):
-            if group > log_number:
+            if log_number < group <= (len(self.groups) if last is None else last):
                 write(block, patch.offset, patch.bytes)
                 write(block, 0, struct.pack(">Q", group))
         return block
