@@ -1,5 +1,5 @@
-"""Gives the file of a store an empty log, with its blocks at home as they are. bench/run measures over such files: a log
-has room for more rows then, and for commits behind them.
+"""Gives the file of a store an empty log, with its blocks at home as they are. bench/run measures over such files: a
+log has room for more rows then, and for commits behind them.
 
 No run leaves such a file, so what is promised of files isn't promised of it. Its blocks are those that runs left, byte
 by byte but for their log numbers."""

@@ -493,7 +493,7 @@ class Store:
         return self.blocks[number]
 
     def rolled(self, number, last=None):
-        """What the file keeps of a block, with the groups of the log that aren't in it, or with the first ones alone."""
+        """What the file keeps of a block, with the groups of the log that aren't in it; or only the first of these."""
         at = self.kept_at(number)
         block = bytearray(self.content[at : at + UNIT])
         log_number, _, _ = HEAD_OF.unpack_from(block)
