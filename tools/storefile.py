@@ -492,13 +492,13 @@ class Store:
             self.blocks[number] = self.rolled(number)
         return self.blocks[number]
 
-    def rolled(self, number, last=None):
+    def rolled(self, number, last=2**64 - 1):
         """What the file keeps of a block, with the groups of the log that aren't in it; or only the first of these."""
         at = self.kept_at(number)
         block = bytearray(self.content[at : at + UNIT])
         log_number, _, _ = HEAD_OF.unpack_from(block)
         for group, patch in self.patches.get(number, []):
-            if log_number < group <= (len(self.groups) if last is None else last):
+            if log_number < group <= last:
                 write(block, patch.offset, patch.bytes)
                 write(block, 0, struct.pack(">Q", group))
         return block
