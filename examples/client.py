@@ -33,10 +33,11 @@ def create(file, tables=1, blocks=256, segments=4, log=4096):
 
 
 class Store:
-    """A run of the program over a file. Its end commits nothing."""
+    """A run of the program over a file, with so many of its blocks in memory. Its end commits nothing."""
 
-    def __init__(self, file):
-        self.run = subprocess.Popen([PROGRAM, str(file), "run", "frames=16"], stdin=subprocess.PIPE, stdout=subprocess.PIPE)
+    def __init__(self, file, frames=1024):
+        words = [PROGRAM, str(file), "run", f"frames={frames}"]
+        self.run = subprocess.Popen(words, stdin=subprocess.PIPE, stdout=subprocess.PIPE)
         self.sessions = {number: Session(self, number) for number in range(1, 17)}
         self.session = self.sessions.get
 

@@ -73,7 +73,7 @@ class Hub:
 
 async def main(file, socket):
     # Ctrl-C goes to the hub alone: it ends the program by the end of its input.
-    run = await asyncio.create_subprocess_exec(PROGRAM, file, "run", "frames=16", stdin=PIPE, stdout=PIPE,
+    run = await asyncio.create_subprocess_exec(PROGRAM, file, "run", "frames=1024", stdin=PIPE, stdout=PIPE,
                                                start_new_session=True)
     for end in (signal.SIGINT, signal.SIGTERM):
         asyncio.get_running_loop().add_signal_handler(end, run.stdin.close)

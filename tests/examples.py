@@ -224,7 +224,7 @@ def hub_routes(place):
     hub = subprocess.Popen(words, env=environment(place), stderr=subprocess.PIPE)
     try:
         until = time.monotonic() + DEADLINE
-        while not os.path.exists(path):
+        while not is_served(path):
             if hub.poll() is not None or time.monotonic() > until:
                 raise Wrong(f"no hub: {hub.communicate()[1]!r}")
             time.sleep(0.01)
@@ -236,6 +236,12 @@ def hub_routes(place):
     equal("rows", rows(place, file, 1), {1: "b", 2: "n" * 80, 3: "f"})
     equal("a file that is missing", said_status(place, place.folder / "none" / "x.rb", path), 3)
     return told
+
+
+def is_served(path):
+    """Whether a server listens at a socket, which is there a moment before. The system has the list, so nobody connects."""
+    listening = r"(?m)^\S+ \S+ \S+ 00010000 .* " + re.escape(path) + "$"
+    return bool(re.search(listening, pathlib.Path("/proc/net/unix").read_text()))
 
 
 def said_status(place, file, path):

@@ -19,6 +19,9 @@ DEADLINE = 60
 UNIT = 2048
 LAST_KEY = 2**64 - 1
 
+# How many blocks a run has in memory: as many as `gen` has, and at most.
+FRAMES, MOST_FRAMES = 64, 4096
+
 STATUSES = ["Done", "Usage", "SourceFault", "DiskFault", "SinkFault", "NotAStore", "NoMemory", "NotEmpty", "TooLong"]
 
 
@@ -60,8 +63,8 @@ def format_words(file, log=64, tables=1, blocks=1, segments=1):
     return [str(file), "format", f"tables={tables}", f"blocks={blocks}", f"segments={segments}", f"log={log}"]
 
 
-def run_words(file):
-    return [str(file), "run", "frames=16"]
+def run_words(file, frames=FRAMES):
+    return [str(file), "run", f"frames={frames}"]
 
 
 def gen_words(file, count):

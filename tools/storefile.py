@@ -5,7 +5,7 @@ import os
 import struct
 
 UNIT = 2048
-VERSION = 103
+VERSION = 104
 MAGIC = b"RBS7FILE"
 RANGES = {"tables": (1, 16), "blocks": (1, 4096), "segments": (1, 16), "log": (64, 4096)}
 
@@ -25,6 +25,12 @@ STATES = ["never taken", "active", "committed", "ended"]
 KINDS = {1: "put", 2: "gone", 3: "held"}
 
 PATCHES, GROUP_BYTES, BLOCK_HEAD = 40, 2000, 32
+
+# The units of a file: four in front of the log, then its slots, the twin area with a header and its images, and the
+# homes of the blocks. A block's head has its log number, its kind and its own number.
+FIRST_SLOT_UNIT, TWIN_IMAGES, FIRST_NAME = 4, 8, 8
+HEAD_OF = struct.Struct(">QBxxxI")
+ZEROS = bytes(UNIT - BLOCK_HEAD)
 
 
 class NotAStore(Exception):
@@ -80,7 +86,27 @@ class Identity:
 
     @property
     def bytes(self):
-        return (4 + self.log + 9 + self.all_blocks) * UNIT
+        return self.home_at(self.all_blocks)
+
+    def slot_at(self, slot):
+        """Where a log slot begins in the file."""
+        return (FIRST_SLOT_UNIT + slot) * UNIT
+
+    def twin_at(self, part):
+        """Where a part of the twin area begins: 0 is its header, 1 to 8 are its images."""
+        return self.slot_at(self.log + part)
+
+    def home_at(self, block):
+        """Where the home of a block begins."""
+        return self.twin_at(1 + TWIN_IMAGES + block)
+
+    def name(self, block):
+        """What a block is, in words."""
+        if block < self.table_blocks:
+            table, home = divmod(block, self.blocks)
+            return f"table {table + 1} block {home}"
+        segment, place = divmod(block - self.table_blocks, SEGMENT_BLOCKS)
+        return f"segment {segment} undo block {place - 1}" if place else f"segment {segment}"
 
     def words(self):
         return [f"{name}={getattr(self, name)}" for name in RANGES]
@@ -108,8 +134,7 @@ class Patch:
         return words or f"block {self.block} offset {self.offset}: {len(self.bytes)} bytes"
 
     def of_rows(self, identity):
-        table, home = divmod(self.block, identity.blocks)
-        where, cell = f"table {table + 1} block {home}", self.part(FIRST_CELL, CELL_BYTES, CELLS)
+        where, cell = identity.name(self.block), self.part(FIRST_CELL, CELL_BYTES, CELLS)
         if cell is not None:
             return f"{where} cell {cell}: {Cell(self.bytes)}"
         entry, (at, within) = self.part(FIRST_ENTRY, ENTRY_BYTES, ENTRIES), divmod(self.offset - FIRST_CELL, CELL_BYTES)
@@ -118,7 +143,7 @@ class Patch:
         return f"{where} cell {at}: lock {self.bytes[0]}" if (within, len(self.bytes)) == (1, 1) else None
 
     def of_header(self, identity):
-        where, slot = f"segment {(self.block - identity.table_blocks) // SEGMENT_BLOCKS}", self.slot(identity)
+        where, slot = identity.name(self.block), self.slot(identity)
         if slot:
             return f"{where} slot {slot[0]}: {slot[1]}"
         extent, within = divmod(self.offset - FIRST_EXTENT, EXTENT_BYTES)
@@ -130,11 +155,8 @@ class Patch:
         return f"{where} {name}: {int.from_bytes(self.bytes, 'big')}" if name and len(self.bytes) == 8 else None
 
     def of_undo(self, identity):
-        segment, block = divmod(self.block - identity.table_blocks, SEGMENT_BLOCKS)
         record = self.part(FIRST_RECORD, RECORD_BYTES, RECORDS)
-        if record is None:
-            return None
-        return f"segment {segment} undo block {block - 1} record {record}: {Undo(self.bytes)}"
+        return None if record is None else f"{identity.name(self.block)} record {record}: {Undo(self.bytes)}"
 
 
 class Address:
@@ -302,21 +324,21 @@ def places(first, size, count):
     return range(first, first + size * count, size)
 
 
-def gate_of(content, slot):
+def gate_of(content, identity, slot):
     """The gate of a log slot: open exactly where it is 1."""
-    return content[(4 + slot) * UNIT]
+    return content[identity.slot_at(slot)]
 
 
 def group_at(content, identity, slot):
     """The patches of the group in a log slot; None where its gate isn't open, or where it is the last slot."""
-    if gate_of(content, slot) != 1 or slot == identity.log - 1:
+    if gate_of(content, identity, slot) != 1 or slot == identity.log - 1:
         return None
     return group_in(content, identity, slot)
 
 
 def group_in(content, identity, slot):
     """The patches of the group in a log slot, whatever its gate is."""
-    at = (4 + slot) * UNIT
+    at = identity.slot_at(slot)
     length, number = struct.unpack_from(">xxHxxxxQ", content, at)
     if number != slot + 1:
         raise NotAStore(f"log slot {slot} is open with the log number {number}, and {slot + 1} belongs there")
@@ -359,15 +381,65 @@ class LogEnd:
     the slot after it on. A run doesn't read them."""
 
     def __init__(self, content, identity, slot):
-        self.slot, self.at, self.gate = slot, (4 + slot) * UNIT, gate_of(content, slot)
+        self.slot, self.at, self.gate = slot, identity.slot_at(slot), gate_of(content, identity, slot)
         self.unread = groups_from(content, identity, slot) or groups_from(content, identity, slot + 1)
 
 
+class Twin:
+    """The twin area: its gate, and where that is open the numbers of the blocks that its images are of, in order."""
+
+    def __init__(self, content, identity):
+        at = identity.twin_at(0)
+        self.gate, count = content[at], content[at + 1]
+        self.batch = []
+        if not self.is_open:
+            return
+        if not 1 <= count <= TWIN_IMAGES:
+            raise NotAStore(f"the gate of the twin area is open with a count of {count}, and a batch has 1 to "
+                            f"{TWIN_IMAGES} images")
+        self.batch = list(struct.unpack_from(f">{count}I", content, at + FIRST_NAME))
+        if max(self.batch) >= identity.all_blocks or len(set(self.batch)) < count:
+            raise NotAStore(f"the gate of the twin area is open with images of the blocks {self.batch}, of "
+                            f"{identity.all_blocks} that there are")
+
+    @property
+    def is_open(self):
+        return self.gate == 1
+
+
+class Version:
+    """Where the newest version of a block is: its number, the image of the twin area that the file keeps of it (None
+    where it keeps the home), the log number of what it keeps, and the groups of the log that aren't in that."""
+
+    def __init__(self, block, image, log_number, groups):
+        self.block, self.image, self.log_number, self.groups = block, image, log_number, groups
+
+    @property
+    def is_home(self):
+        """Whether it stands whole at home."""
+        return self.image is None and not self.groups
+
+    def __str__(self):
+        where = "at home" if self.image is None else f"in image {self.image} of the twin area"
+        if not self.groups:
+            return f"whole {where}"
+        return f"{where} as of group {self.log_number}, and then by {listed('group', self.groups)} of the log"
+
+
+def listed(one, numbers):
+    """Numbers in words, of many of them the first and the last."""
+    if len(numbers) == 1:
+        return f"{one} {numbers[0]}"
+    few = numbers if len(numbers) <= 8 else [*numbers[:3], "..", *numbers[-1:]]
+    return f"{one}s {', '.join(map(str, few))}"
+
+
 class Store:
-    """What a file says: its identity, the groups of its log, and the blocks after them."""
+    """What a file says: its identity, the groups of its log, its twin area, and the blocks as they are after these."""
 
     def __init__(self, content):
-        self.identity = identity = Identity.of(content[:UNIT])
+        self.content, self.identity = content, Identity.of(content[:UNIT])
+        identity = self.identity
         if len(content) != identity.bytes:
             raise NotAStore(f"it has {len(content):,} bytes, and a file with {' '.join(identity.words())} has "
                             f"{identity.bytes:,}")
@@ -375,11 +447,13 @@ class Store:
         while (patches := group_at(content, identity, len(self.groups))) is not None:
             self.groups.append(patches)
         self.log_end = LogEnd(content, identity, len(self.groups))
-        self.blocks = {}
-        for patches in self.groups:
+        self.twin = Twin(content, identity)
+        # Of each block the patches of it, with the numbers of their groups; and the blocks that were asked for.
+        self.patches = {}
+        for number, patches in enumerate(self.groups, 1):
             for patch in patches:
-                block = self.block(patch.block)
-                block[patch.offset : patch.offset + len(patch.bytes)] = patch.bytes
+                self.patches.setdefault(patch.block, []).append((number, patch))
+        self.blocks = {}
         self.segments = [Segment(self, number) for number in range(identity.segments)]
 
     @classmethod
@@ -413,15 +487,56 @@ class Store:
         return sum(segment.slots[at].live + 1 for segment in self.segments for at in segment.active())
 
     def block(self, number):
-        """The bytes of a block, of which those in front aren't kept here."""
+        """The bytes of a block, with the groups of the log rolled forward."""
         if number not in self.blocks:
-            self.blocks[number] = self.new_block(number)
+            self.blocks[number] = self.rolled(number)
         return self.blocks[number]
 
+    def rolled(self, number, last=2**64 - 1):
+        """What the file keeps of a block, with the groups of the log that aren't in it; or only the first of these."""
+        at = self.kept_at(number)
+        block = bytearray(self.content[at : at + UNIT])
+        log_number, _, _ = HEAD_OF.unpack_from(block)
+        for group, patch in self.patches.get(number, []):
+            if log_number < group <= last:
+                write(block, patch.offset, patch.bytes)
+                write(block, 0, struct.pack(">Q", group))
+        return block
+
+    def kept_at(self, number):
+        """Where in the file what it keeps of a block begins: an image behind an open gate of the twin area, or else its
+        home."""
+        if number in self.twin.batch:
+            return self.identity.twin_at(1 + self.twin.batch.index(number))
+        return self.identity.home_at(number)
+
+    def version(self, number):
+        """Where the newest version of a block is."""
+        log_number, _, _ = HEAD_OF.unpack_from(self.content, self.kept_at(number))
+        groups = sorted({group for group, _ in self.patches.get(number, []) if group > log_number})
+        image = self.twin.batch.index(number) if number in self.twin.batch else None
+        return Version(number, image, log_number, groups)
+
+    def versions(self):
+        """Where the newest version of each block is that doesn't stand whole at home."""
+        found = (self.version(number) for number in sorted({*self.twin.batch, *self.patches}))
+        return [version for version in found if not version.is_home]
+
+    def is_written(self, number):
+        """Whether a block of rows was written: a new one has no log number, and zeros behind its head."""
+        at = self.kept_at(number)
+        log_number, _, _ = HEAD_OF.unpack_from(self.content, at)
+        return log_number > 0 or number in self.patches or self.content[at + BLOCK_HEAD : at + UNIT] != ZEROS
+
+    def written(self):
+        """The blocks of rows that were written, by their numbers."""
+        return {number: self.block(number) for number in range(self.identity.table_blocks) if self.is_written(number)}
+
     def new_block(self, number):
-        """The bytes of a block of a new file, of which those in front aren't kept here."""
-        block = bytearray(UNIT)
-        if self.identity.kind(number) == 2:
+        """The bytes of a block of a new file."""
+        block, kind = bytearray(UNIT), self.identity.kind(number)
+        HEAD_OF.pack_into(block, 0, 0, kind, number)
+        if kind == 2:
             # A new segment has turn 2 in extent 0, the head, and turn 1 in extent 1.
             for extent, turn in enumerate([2, 1]):
                 struct.pack_into(">Q", block, FIRST_EXTENT + EXTENT_BYTES * extent, turn)
@@ -435,20 +550,20 @@ class Store:
     def put_back(self):
         """The blocks of rows as they are once what is under way is put back, each transaction's newest change first.
         This changes a copy alone."""
-        blocks = {number: bytearray(block) for number, block in self.blocks.items()
-                  if number < self.identity.table_blocks}
+        blocks = {number: bytearray(block) for number, block in self.written().items()}
         for segment in self.segments:
             for at in segment.active():
                 for undo in segment.live(at):
-                    block = blocks.setdefault(undo.home, bytearray(UNIT))
+                    block = blocks.setdefault(undo.home, bytearray(self.block(undo.home)))
                     write(block, FIRST_ENTRY + ENTRY_BYTES * undo.entry, undo.entry_before)
                     write(block, FIRST_CELL + CELL_BYTES * undo.cell, undo.cell_before)
         return blocks
 
     def homes(self, blocks=None):
-        """Each block of rows that was written: its table, its number in the table, its entries and its cells."""
+        """Each block of rows that was written: its table, its number in the table, its entries and its cells. They are
+        those once what is under way is put back, where no others are named."""
         blocks = self.put_back() if blocks is None else blocks
-        for number in sorted(number for number in blocks if number < self.identity.table_blocks):
+        for number in sorted(blocks):
             table, home = divmod(number, self.identity.blocks)
             content = bytes(blocks[number])
             entries = [Entry(content[at : at + ENTRY_BYTES]) for at in places(FIRST_ENTRY, ENTRY_BYTES, ENTRIES)]
@@ -468,15 +583,38 @@ class Store:
 
     def faults(self):
         """What an opening refuses the blocks for, in words (docs/FORMAT.md, Opening)."""
+        yield from self.head_faults()
         number = self.commit_number
         for segment in self.segments:
             yield from (f"segment {segment.number}: {fault}" for fault in segment.faults(number))
-        for table, home, entries, cells in self.homes(self.blocks):
+        for table, home, entries, cells in self.homes(self.written()):
             where = f"table {table} block {home}"
             yield from (f"{where} {fault}" for fault in self.entry_faults(entries, number))
             yield from (f"{where} {fault}" for fault in self.cell_faults(home, entries, cells))
         if self.owed > self.room:
             yield f"{self.owed} groups put back what is under way, and the log has room for {self.room}"
+
+    def heads(self):
+        """The head of each block that the file keeps: its log number, its kind and its own number."""
+        return (HEAD_OF.unpack_from(self.content, self.kept_at(number)) for number in range(self.identity.all_blocks))
+
+    @property
+    def newest(self):
+        """The greatest log number that the head of a block has."""
+        return max(log_number for log_number, _, _ in self.heads())
+
+    def head_faults(self):
+        """What is wrong with the heads of the blocks, in words."""
+        last, later = len(self.groups), []
+        for number, (log_number, kind, told) in enumerate(self.heads()):
+            name, wanted = self.identity.name(number), self.identity.kind(number)
+            if (kind, told) != (wanted, number):
+                yield f"{name}: its head has kind {kind} and number {told}, in place of {wanted} and {number}"
+            if log_number > last:
+                later.append(f"{name}: it is as of group {log_number}, and the log ends with group {last}")
+        yield from later[:1]
+        if later[1:]:
+            yield f"of such blocks there are {len(later)}"
 
     def is_entry(self, entry, commit_number):
         """Whether a slot entry is free, or names what there is by numbers that were given."""
