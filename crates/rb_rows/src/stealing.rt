@@ -228,8 +228,8 @@ fn stops_behind(rt: HostRuntime) -> Result<(), Fail> {
     let story = three_sessions(rt.alloc())?;
     let file = formatted(rt.alloc(), FORMAT)?;
     let mut wrote = false;
-    for image in &images_left(rt.alloc(), &story, &file, 53, &[Pick::New, Pick::Fill(1)])? {
-        wrote |= check_stops_behind(&rt, rt.alloc(), &story, image)?;
+    for image in &images_left(rt.alloc(), &story, &file, 61, &[Pick::New, Pick::Fill(1)])? {
+        wrote |= check_stops_behind(&rt, rt.alloc(), &story, image, 50)?;
     }
     assert!(rt; wrote);
     Ok(())
