@@ -503,6 +503,15 @@ class Store:
                 write(block, 0, struct.pack(">Q", group))
         return block
 
+    def replayed(self, number):
+        """The bytes of a block of a new file after all groups of the log. A log of one lap has each group of the file,
+        so they are those that the file means."""
+        block = self.new_block(number)
+        for group, patch in self.patches.get(number, []):
+            write(block, patch.offset, patch.bytes)
+            write(block, 0, struct.pack(">Q", group))
+        return block
+
     def kept_at(self, number):
         """Where in the file what it keeps of a block begins: an image behind an open gate of the twin area, or else its
         home."""
