@@ -1700,7 +1700,7 @@ fetch 1 c 5
 ";
 
 // One commit over a small file. Its last three calls are a sync of the groups, the gate that makes them count, and a
-// sync.
+// sync. Behind them its blocks go home at the end of the run.
 const ONE_COMMIT: &[u8] = b"\
 insert 1 1 1 a
 #> 1 ok
@@ -1709,6 +1709,10 @@ commit 1
 commit 1
 #> 1 ok
 ";
+
+// How many calls bring the three blocks of one row home: the images, the gate, each block, the gate, and a sync behind
+// each of these four.
+const HOME_CALLS: u64 = 10;
 
 // The same lines, where the disk fails in the commit.
 const FAULTY_COMMIT: &[u8] = b"\
@@ -1746,7 +1750,7 @@ fn answers_behind_a_fault(alloc: Global, disk: MemDisk) -> Result<bool, Fail> {
 fn failed_sync(rt: HostRuntime) -> Result<(), Fail> {
     let file = formatted(rt.alloc(), FORMAT_SMALL)?;
     let good = check(&rt, rt.alloc(), "no fault", &file, ONE_COMMIT)?;
-    let sync = [good.calls().saturating_sub(2)];
+    let sync = [good.calls().saturating_sub(HOME_CALLS + 2)];
     let failing = Failing {
         disk: &sync,
         ..NONE
@@ -1769,8 +1773,8 @@ fn failed_end(rt: HostRuntime) -> Result<(), Fail> {
     let file = formatted(rt.alloc(), FORMAT_SMALL)?;
     let good = check(&rt, rt.alloc(), "no fault", &file, INSERT_ONE)?;
     let replies = replies_of(rt.alloc(), INSERT_ONE)?;
-    // The groups, a sync, the gate and a sync.
-    for behind in 0..4 {
+    // The groups, a sync, the gate and a sync; and what brings the blocks home.
+    for behind in 0..HOME_CALLS + 4 {
         let call = [good.calls().saturating_sub(behind)];
         let failing = Failing {
             disk: &call,
@@ -1789,7 +1793,7 @@ fn failed_end(rt: HostRuntime) -> Result<(), Fail> {
 fn gate_images(rt: HostRuntime) -> Result<(), Fail> {
     let file = formatted(rt.alloc(), FORMAT_SMALL)?;
     let good = check(&rt, rt.alloc(), "one commit", &file, ONE_COMMIT)?;
-    let before_sync = good.calls().saturating_sub(1);
+    let before_sync = good.calls().saturating_sub(HOME_CALLS + 1);
     let rows: [(&str, Pick, &[u8]); 4] = [
         ("the new gate", Pick::New, ONE_ROW),
         ("an open gate", Pick::Fill(1), ONE_ROW),
