@@ -1,6 +1,7 @@
 -- What the calls of a file's cache, log and twin area leave, where the log alone is called.
-use Rattle.std.proofs.Common.{◌≡◌, ◌≢◌, refl, ℕ, ◌+◌, ◌<◌, ◌==◌, Bool, true, false, if◌then◌else◌, List, [], ◌∷◌, ◌++◌, length, arith, ap, sym, ◌∙◌}
-use Rattle.std.proofs.lemmas.List.{length-append}
+use Rattle.std.proofs.Common.{◌≡◌, ◌≢◌, refl, inl, inr, take, ℕ, suc, ◌+◌, ◌-◌, ◌<◌, ◌≤◌, ◌==◌, Bool, true, false, if◌then◌else◌, List, [], ◌∷◌, ◌++◌, length, arith, ap, sym, ◌∙◌}
+use Rattle.std.proofs.lemmas.Bool.{cases_lt, eqb-true}
+use Rattle.std.proofs.lemmas.List.{length-append, length-map, length-take-le}
 use Rattle.rb_base.specs.Groups.{Patch}
 use Rattle.rb_disk.specs.DiskModel.{Only}
 use Rattle.rb_layout.specs.Regions.{block_offset, file_length, log_offset}
@@ -9,9 +10,9 @@ use Rattle.rb_base.proofs.Each.{all_push}
 use Rattle.rb_log.specs.GroupSlots.{IsLoggable}
 use Rattle.rb_twin.specs.Twins.{home, twin_gate}
 use Rattle.rb_cache.specs.declared.frame.Frame.{Frame}
-use Rattle.rb_cache.specs.Frames.{seen, AreClean}
+use Rattle.rb_cache.specs.Frames.{seen, AreClean, brought, has_number, numbers_of, without}
 use Rattle.rb_cache.specs.OnDisk.{IsCalm}
-use Rattle.rb_store.specs.CachedFiles.{CachedState, IsCachedMemory}
+use Rattle.rb_store.specs.CachedFiles.{CachedState, FlushesFull, IsCachedMemory}
 use Rattle.rb_cache.proofs.Parts.{same_part}
 
 -- what is seen where a block at home is the same
@@ -46,3 +47,32 @@ append_memory s g m valid room = record {
   units = m.units;
   there = m.there;
 }
+
+-- the numbers of others are fewer by one where the number comes
+without_one : (which : ℕ) (ns : List ℕ) → has_number which ns ≡ true → length ns ≡ suc (length (without which ns))
+without_one which [] has = cc
+without_one which (n ∷ ns) has = by (n == which) has (without_one which ns)
+  where
+    by : (a : Bool) → (if a then true else has_number which ns) ≡ true → (has_number which ns ≡ true → length ns ≡ suc (length (without which ns))) → suc (length ns) ≡ suc (length (if a then ns else n ∷ without which ns))
+    by true has rest = refl
+    by false has rest = ap suc (rest has)
+
+-- where a block is brought to the front, no fewer are held than before
+pub brought_no_fewer : (frames which : ℕ) (ns : List ℕ) → length ns ≤ length (brought frames which ns)
+brought_no_fewer frames which ns = by (has_number which ns) refl (length ns == frames) refl
+  where
+    by : (a : Bool) → has_number which ns ≡ a → (b : Bool) → (length ns == frames) ≡ b → length ns ≤ suc (length (if a then without which ns else if b then take (frames - 1) ns else ns))
+    by true has b full = omega (arith, without_one which ns has)
+    by false has true full = let is : length ns ≡ frames = eqb-true (length ns) frames full in omega (arith, is, length-take-le (frames - 1) ns (omega (arith, is)))
+    by false has false full = omega arith
+
+-- a call that brought a block to the front, and flushed at most where no frame was free
+pub fills_by : (s t : CachedState) (which : ℕ) → t.frames ≡ s.frames → (length s.held < s.frames → t.used ≡ s.used) → numbers_of t.held ≡ brought s.frames which (numbers_of s.held) → FlushesFull s t
+fills_by s t which same room order =
+    let more : length s.held ≤ length t.held = omega (arith, length-map s.held (λ (f : Frame). f.block), ap length order, length-map t.held (λ (f : Frame). f.block), brought_no_fewer s.frames which (numbers_of s.held)) in record {
+      cause = λ differ. elim (cases_lt (length s.held) s.frames) [
+        | inl free ↦ absurd (differ (room free))
+        | inr taken ↦ omega (arith, taken, more, same)
+      ];
+      full = λ taken. omega (arith, taken, more, same);
+    }

@@ -18,7 +18,7 @@ use Rattle.rb_twin.specs.TwinLaws.{kept_shut}
 use Rattle.rb_log.specs.GroupLaws.{same_group_log}
 use Rattle.rb_cache.proofs.Parts.{home_part}
 use Rattle.rb_cache.proofs.Steps.{later_joined, on_disk_later}
-use Rattle.rb_store.specs.CachedFiles.{CachedState, IsCachedMemory, Done, Keeps, Leaving, SeenAt, SeenOrPatched, Settled, StaysOrNone}
+use Rattle.rb_store.specs.CachedFiles.{CachedState, IsCachedMemory, Done, FlushesFull, Keeps, Leaving, SeenAt, SeenOrPatched, Settled, StaysOrNone}
 use Rattle.rb_store.specs.Patched.{HasPatched, PatchedSoFar}
 
 -- a group that isn't of a block leaves it, and one that is there already too
@@ -35,6 +35,16 @@ step_twice n k g x few = rolled_again k n (g ∷ []) x (omega (arith, few))
 -- what waited after two calls, one after the other
 pub waits_joined : (s t u : CachedState) → StaysOrNone s t → StaysOrNone t u → StaysOrNone s u
 waits_joined s t u first second = ⊎_elim (λ same. ⊎_elim (λ was. inl (same ∙ was)) (λ none. inr (same ∙ none)) first) (λ none. inr none) second
+
+-- a flush of one of two calls
+pub fills_joined : (s t u : CachedState) → FlushesFull s t → FlushesFull t u → FlushesFull s u
+fills_joined s t u first second = record {
+  cause = λ differ. elim (cases_eq t.used s.used) [
+    | inl still ↦ second.cause (λ is. differ (is ∙ still))
+    | inr early ↦ second.full (first.cause early)
+  ];
+  full = λ is. second.full (first.full is);
+}
 
 -- one patch more
 has_more : (k : ℕ) (ps : List Patch) (p : Patch) → has_block k (ps ++ p ∷ []) ≡ (if p.block == k then true else has_block k ps)
@@ -68,6 +78,7 @@ module _ {D : Type 0} (d : Ghosts D) where
     keeps = record { layout = refl; head = refl };
     numbers = refl;
     waits = inl refl;
+    fills = record { cause = λ differ. absurd (differ refl); full = λ is. is };
     still = refl;
     told = λ told. record {
       seen = λ k lt. refl;

@@ -4,8 +4,8 @@ use Rattle.std.proofs.lemmas.List.{take_all, drop_all, length-append, length-dro
 use Rattle.std.specs.List.{AllByRecursion}
 use Rattle.rb_base.specs.Blocks.{block_of, after_groups}
 use Rattle.rb_base.specs.Groups.{Patch, IsGroup}
-use Rattle.rb_base.specs.Moments.{LeavesOnly, weaker}
-use Rattle.rb_base.specs.Settling.{after_joined}
+use Rattle.rb_base.specs.Moments.{LeavesOnly, begun, weaker}
+use Rattle.rb_base.specs.Settling.{after_joined, told_same}
 use Rattle.rb_base.specs.Stores.{OpensToSome, Settles}
 use Rattle.rb_disk.specs.DiskModel.{Only}
 use Rattle.rb_disk.specs.Moments.{Leaves}
@@ -20,6 +20,7 @@ use Rattle.rb_twin.specs.Twins.{twin_gate}
 use Rattle.rb_twin.specs.TwinLaws.{kept_shut}
 use Rattle.rb_store.specs.Meaning.{Opens}
 use Rattle.rb_store.specs.StoreStates.{StoreState, IsStable, IsStableAt, blocks_in}
+use Rattle.rb_store.specs.StoreLaws.{stable_left}
 use Rattle.rb_store.proofs.Between.{between}
 
 -- What a later moment has on the disk, by what is read there.
@@ -59,6 +60,20 @@ module _ (image image1 : List ℕ → Type 0) (l : Layout) (head : Head) (groups
 module _ {D : Type 0} (d : Ghosts D) where
   abbrev pub StoreLeaves : StoreState D → StoreState D → (List ℕ → Type 0) → Type 0
   StoreLeaves s new P = LeavesOnly (λ (x : StoreState D). d.moment x.disk) (λ (x : StoreState D) t c. d.image_since x.disk t c) s new P
+
+  -- a store in which blocks are stable, where no call is made
+  module _ (s : StoreState D) (b : List (List ℕ)) (n : ℕ) (st : IsStable d s b n) where
+    pub still_settles : Settles n s.pending b (IsStable d s) s.pending
+    still_settles = record { count = 0; few = omega arith; settled = told_same (IsStable d s) _ _ _ _ refl (omega arith) st; waits = refl }
+
+    pub still_moments : ((c : List ℕ) → d.image_since s.disk (d.moment s.disk) c → d.image s.disk c)
+        → StoreLeaves s s (OpensToSome (Opens (shape_of s.layout) (Some s.layout.log)) n s.pending b)
+    still_moments only_now = begun (λ (x : StoreState D). d.moment x.disk) (λ (x : StoreState D) t c. d.image_since x.disk t c) s (OpensToSome (Opens (shape_of s.layout) (Some s.layout.log)) n s.pending b)
+        (λ c left. record {
+          count = 0;
+          few = omega arith;
+          opening = told_same (Opens (shape_of s.layout) (Some s.layout.log) c) _ _ _ _ refl (omega arith) (stable_left c st (only_now c left));
+        })
 
   -- A store in which blocks are stable, and calls that give it these groups, those that waited first.
   module _ (s : StoreState D) (b : List (List ℕ)) (n : ℕ) (st : IsStable d s b n) (shut : twin_gate s.layout (d.content s.disk) ≢ 1) (given : List (List Patch)) (valid : AllByRecursion IsGroup given) (fits : n + length given < 2 ^ 63)

@@ -1,5 +1,5 @@
 -- The clauses of a store's calls over any cache, from those of the cache's calls.
-use Rattle.std.proofs.Common.{◌≡◌, ⊎_elim, ℕ, zero, suc, drop, ◌+◌, ◌-◌, ◌^◌, ◌<◌, ◌≤◌, ◌==◌, Bool, true, false, if◌then◌else◌, nat_lt, List, [], ◌∷◌, ◌++◌, length, map, arith, ap, sym, ◌∙◌, subst, refl, Some, Option}
+use Rattle.std.proofs.Common.{◌≡◌, ⊎_elim, ℕ, zero, suc, drop, ◌+◌, ◌-◌, ◌^◌, ◌<◌, ◌≤◌, ◌==◌, Bool, true, false, if◌then◌else◌, nat_lt, List, [], ◌∷◌, ◌++◌, length, map, arith, ap, sym, ◌∙◌, subst, refl, Some, Option, append-nil}
 use Rattle.std.proofs.lemmas.Bool.{eq-eqb}
 use Rattle.std.proofs.lemmas.Bool.Decides.{nat_tests}
 use Rattle.std.proofs.lemmas.List.{same_lists, get_or_default, length-append, length-take-le, length-drop}
@@ -72,7 +72,7 @@ first_there l (f ∷ rest) k is there = let same : f.block ≡ k = cc in subst (
 
 -- the state of a store
 abbrev pub store_of : {D : Type 0} → CachedState → ℕ → Option ℕ → Bool → ℕ → D → StoreState D
-store_of t lsn loaded failed forced disk = record { layout = t.layout; head = t.head; used = t.used; pending = t.pending; held = t.held; number = lsn; loaded = loaded; failed = failed; forced = forced; disk = disk }
+store_of t lsn loaded failed forced disk = record { layout = t.layout; head = t.head; used = t.used; pending = t.pending; frames = t.frames; held = t.held; number = lsn; loaded = loaded; failed = failed; forced = forced; disk = disk }
 
 same_part : (first last : ℕ) (file c : List ℕ) → c ≡ file → SamePart first last file c
 same_part first last file c is = record {
@@ -240,6 +240,14 @@ memory_again s t lsn loaded loaded2 failed m cached batch k numbers front = reco
   few = m.few;
   front = front;
 }
+
+-- what waited goes on to wait where as many groups are in the log as before
+pub waits_same : (s t : CachedState) → SameNumbers s t → StaysOrNone s t → t.used ≡ s.used → (more : List (List Patch)) × (t.pending ≡ s.pending ++ more)
+waits_same s t numbers waits same = ([], ⊎_elim (λ is. is) (λ none. none ∙ sym (empty s.pending (omega (arith, numbers, ap length none, same)))) waits ∙ sym (append-nil s.pending))
+  where
+    empty : (gs : List (List Patch)) → length gs ≡ 0 → gs ≡ []
+    empty [] is = refl
+    empty (g ∷ gs) is = absurd (omega (arith, is))
 
 -- a group waits behind the others where as many groups are in the log as before
 pub waits_on : (s t : CachedState) (g : List Patch) → SameNumbers (record s { pending = s.pending ++ g ∷ [] }) t → StaysOrNone (record s { pending = s.pending ++ g ∷ [] }) t

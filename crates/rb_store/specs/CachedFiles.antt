@@ -1,5 +1,5 @@
 -- What a contract sees of a cache with its log and its twin area, and what its calls leave.
-use Rattle.std.specs.Prelude.{◌≡◌, ◌⊎◌, ℕ, ◌+◌, ◌^◌, ◌<◌, ◌≤◌, Bool, true}
+use Rattle.std.specs.Prelude.{◌≡◌, ◌≢◌, ◌⊎◌, ℕ, ◌+◌, ◌^◌, ◌<◌, ◌≤◌, Bool, true}
 use Rattle.std.specs.Prelude.{false, List, [], ◌∷◌, length, Option, None, Some}
 use Rattle.std.specs.List.{AllByRecursion}
 use Rattle.rb_base.specs.Groups.{Patch}
@@ -93,6 +93,15 @@ SameNumbers s t = t.used + length t.pending ≡ s.used + length s.pending
 -- what waited goes on to wait, or nothing waits any more
 abbrev pub StaysOrNone : CachedState → CachedState → Type 0
 StaysOrNone s t = (t.pending ≡ s.pending) ⊎ (t.pending ≡ [])
+
+-- the log has what it had, and so much waits
+abbrev pub LeavesLog : CachedState → CachedState → Type 0
+LeavesLog s t = (t.used ≡ s.used) × (t.pending ≡ s.pending)
+
+-- A call that flushed its log of itself had no free frame, and none comes free.
+pub record FlushesFull (s t : CachedState) : Type 0 where
+  pub cause : t.used ≢ s.used → t.frames ≤ length t.held
+  pub full : s.frames ≤ length s.held → t.frames ≤ length t.held
 
 -- The memory of a store over a cache. Once a call has failed its numbers don't go together any more.
 pub record IsStoreMemory (s : CachedState) (lsn : ℕ) (loaded : Option ℕ) (failed : Bool) : Type 0 where

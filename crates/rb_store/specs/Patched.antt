@@ -6,7 +6,7 @@ use Rattle.rb_layout.specs.Regions.{block_count}
 use Rattle.rb_roll.specs.Rolled.{has_block, rolled, step}
 use Rattle.rb_cache.specs.Frames.{seen}
 use Rattle.rb_log.specs.GroupSlots.{GroupsAre}
-use Rattle.rb_store.specs.CachedFiles.{CachedState, IsCachedMemory, Done, Keeps, Leaving, RollsTo, SameNumbers}
+use Rattle.rb_store.specs.CachedFiles.{CachedState, IsCachedMemory, Done, FlushesFull, Keeps, Leaving, RollsTo, SameNumbers}
 use Rattle.rb_store.specs.CachedFiles.{SeenOrPatched, Settled, StaysOrNone}
 
 -- After so many patches the blocks that these are of have the group.
@@ -31,6 +31,7 @@ pub record PatchedSoFar {D : Type 0} (d : Ghosts D) (tells : Type 0) (s t : Cach
   pub keeps : Keeps s t
   pub numbers : SameNumbers s t
   pub waits : StaysOrNone s t
+  pub fills : FlushesFull s t
   pub still : d.faults new ≡ d.faults old
   pub told : tells → HasPatched d s t old new n g i
 

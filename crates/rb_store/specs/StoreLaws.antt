@@ -1,6 +1,7 @@
 -- What is stable in a store over a cache is what its images open to.
 use Rattle.std.proofs.Common.{◌≡◌, ℕ, List, [], ◌++◌, refl, Some, subst, sym, ap, arith, ◌∙◌}
-use Rattle.std.proofs.Common.{append-nil, append_assoc}
+use Rattle.std.proofs.Common.{append-nil, append_assoc, inl, inr}
+use Rattle.std.proofs.lemmas.Bool.{cases_lt}
 use Rattle.rb_base.specs.Groups.{Patch}
 use Rattle.rb_layout.specs.Regions.{shape_of}
 use Rattle.rb_layout.specs.declared.layout.Head.{Head}
@@ -20,7 +21,12 @@ stable_left {l = l} {b = b} {n = n} c stable here = record {
 }
 
 pub held_back_same : {D : Type 0} (s : StoreState D) → HeldBack s s
-held_back_same s = record { no_fewer = omega arith; waits = λ same few. ([], sym (append-nil s.pending)) }
+held_back_same s = record {
+  no_fewer = omega arith;
+  waits = λ same few. ([], sym (append-nil s.pending));
+  cause = λ more. absurd (omega (arith, more));
+  full = λ is. is;
+}
 
 pub held_back_joined : {D : Type 0} (a b c : StoreState D) → HeldBack a b → HeldBack b c → HeldBack a c
 held_back_joined a b c first second = record {
@@ -34,4 +40,9 @@ held_back_joined a b c first second = record {
         more.0 ++ rest.0,
         rest.1 ∙ ap (λ (p : List (List Patch)). p ++ rest.0) more.1 ∙ append_assoc a.pending more.0 rest.0,
       );
+  cause = λ more. elim (cases_lt a.forced b.forced) [
+    | inl early ↦ second.full (first.cause early)
+    | inr still ↦ second.cause (omega (arith, still, more))
+  ];
+  full = λ is. second.full (first.full is);
 }

@@ -21,7 +21,8 @@ pub record StoreState (D : Type 0) : Type 0 where
   pub head : Head
   pub used : ℕ
   pub pending : List (List Patch)
-  -- the blocks that are held
+  -- how many frames there are, and those that hold a block
+  pub frames : ℕ
   pub held : List Frame
   -- the last log number given
   pub number : ℕ
@@ -66,8 +67,10 @@ IsStable d s blocks n =
     IsStableAt s.layout s.head s.used s.pending s.number (blocks_in d s) (d.content s.disk) (d.image s.disk) blocks n
 
 -- What waited goes on to wait, and perhaps more behind it: but where the store itself had to make it last, to bring a
--- block home and another into its frame.
+-- block home and another into its frame. It never has to while a frame is free, and none comes free.
 pub record HeldBack {D : Type 0} (old new : StoreState D) : Type 0 where
   pub no_fewer : old.forced ≤ new.forced
   pub waits : (new.forced ≡ old.forced) → old.forced < 2 ^ 64 - 1
       → (more : List (List Patch)) × (new.pending ≡ old.pending ++ more)
+  pub cause : old.forced < new.forced → new.frames ≤ length new.held
+  pub full : old.frames ≤ length old.held → new.frames ≤ length new.held

@@ -1,7 +1,7 @@
 //! `CachedFile`: the cache, the log and the twin area of a file, whose calls take all three. The store has one, and
 //! its opening.
 ghost use Rattle.std.specs.Prelude.{◌≡◌, ◌≢◌, ◌<◌, ◌≤◌, ◌+◌, ◌^◌, ◌++◌, ◌∷◌};
-ghost use Rattle.std.specs.Prelude.{[], ℕ, List, length, Some, OnOk};
+ghost use Rattle.std.specs.Prelude.{[], ℕ, List, length, Some, OnOk, true};
 ghost use Rattle.rb_base.specs.Blocks.{AreWithin};
 ghost use Rattle.rb_base.specs.Counts.{IsCounted};
 ghost use Rattle.rb_base.specs.Groups.{Patch};
@@ -9,11 +9,11 @@ ghost use Rattle.rb_disk.specs.DiskModel.{Only};
 ghost use Rattle.rb_layout.specs.Regions.{block_count, shape_of};
 ghost use Rattle.rb_roll.specs.Rolled.{step};
 ghost use Rattle.rb_cache.specs.declared.frame.Frame.{Frame};
-ghost use Rattle.rb_cache.specs.Frames.{seen, AreClean};
+ghost use Rattle.rb_cache.specs.Frames.{seen, AreClean, NoneDirty, has_number, numbers_of};
 ghost use Rattle.rb_cache.specs.OnDisk.{IsCalm};
 ghost use Rattle.rb_log.specs.GroupSlots.{GroupsAre};
 ghost use Rattle.rb_store.specs.CachedFiles.{IsCachedMemory, Done, Keeps, Leaving, SameNumbers, SeenAt, Settled};
-ghost use Rattle.rb_store.specs.CachedFiles.{first_of, StaysOrNone};
+ghost use Rattle.rb_store.specs.CachedFiles.{first_of, FlushesFull, LeavesLog, StaysOrNone};
 
 use rb_base::{BlockNo, Failed, Group, Lsn, UNIT};
 use rb_cache::Cache;
@@ -73,7 +73,8 @@ impl CachedFile {
         self.log.used()
     }
 
-    /// Brings a block into a frame, so that `front` gives it. Failed where a call of the disk failed.
+    /// Brings a block into a frame, so that `front` gives it. It flushes the log at most where no frame holds the
+    /// block, none is free, and some are dirty. Failed where a call of the disk failed.
     pub fn get<D: Disk>(&mut self, disk: &mut D, no: BlockNo) -> Result<(), Failed>
         requires there { no < block_count self.old.layout }
         requires batch { self.old.batch ≡ [] }
@@ -88,6 +89,9 @@ impl CachedFile {
         ensures batch { OnOk result (self.new.batch ≡ []) }
         ensures numbers { OnOk result (SameNumbers self.old self.new) }
         ensures waits { OnOk result (StaysOrNone self.old self.new) }
+        ensures fills { OnOk result (FlushesFull self.old self.new) }
+        ensures held { has_number no (numbers_of self.old.held) ≡ true → LeavesLog self.old self.new }
+        ensures quiet { NoneDirty self.old.held → LeavesLog self.old self.new }
         ensures done { D.tells → OnOk result ((groups : List (List Patch)) → length groups ≡ self.old.used
             → GroupsAre self.old.layout self.old.head (D.content disk.old) 0 groups
             → Done D.Disk self.old self.new disk.old disk.new groups
@@ -125,7 +129,8 @@ impl CachedFile {
         self.log.append(group);
     }
 
-    /// Patches a block by those of the group that are of it, where its log number is below the group's.
+    /// Patches a block by those of the group that are of it, where its log number is below the group's. It flushes the
+    /// log at most where `get` does.
     pub fn patch<D: Disk>(
         &mut self,
         disk: &mut D,
@@ -147,6 +152,9 @@ impl CachedFile {
         ensures batch { OnOk result (self.new.batch ≡ []) }
         ensures numbers { OnOk result (SameNumbers self.old self.new) }
         ensures waits { OnOk result (StaysOrNone self.old self.new) }
+        ensures fills { OnOk result (FlushesFull self.old self.new) }
+        ensures held { has_number no (numbers_of self.old.held) ≡ true → LeavesLog self.old self.new }
+        ensures quiet { NoneDirty self.old.held → LeavesLog self.old self.new }
         ensures done { D.tells → OnOk result ((groups : List (List Patch)) → length groups ≡ self.old.used
             → GroupsAre self.old.layout self.old.head (D.content disk.old) 0 groups
             → Done D.Disk self.old self.new disk.old disk.new groups
@@ -203,6 +211,7 @@ impl CachedFile {
         requires calm { D.tells → IsCalm (D.image disk.old) self.old.layout (D.content disk.old) }
         requires clean { D.tells → AreClean self.old.layout (D.content disk.old) self.old.held }
         ensures flushed { OnOk result (self.new.pending ≡ []) }
+        ensures all_clean { OnOk result (NoneDirty self.new.held) }
         ensures seen { D.tells → OnOk result ((k : ℕ) → k < block_count self.old.layout
             → seen self.old.layout (D.content disk.new) self.new.held k
             ≡ seen self.old.layout (D.content disk.old) self.old.held k) }

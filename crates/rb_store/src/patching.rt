@@ -9,7 +9,7 @@ ghost use Rattle.rb_cache.specs.Frames.{seen, AreClean};
 ghost use Rattle.rb_cache.specs.OnDisk.{IsCalm};
 ghost use Rattle.rb_log.specs.GroupSlots.{GroupsAre};
 ghost use Rattle.rb_store.specs.CachedFiles.{IsCachedMemory, Done, Keeps, Leaving, SameNumbers, SeenOrPatched};
-ghost use Rattle.rb_store.specs.CachedFiles.{Settled, StaysOrNone};
+ghost use Rattle.rb_store.specs.CachedFiles.{FlushesFull, Settled, StaysOrNone};
 
 use crate::cached_file::CachedFile;
 use rb_base::{Failed, Group, Lsn};
@@ -34,6 +34,7 @@ pub fn patch_all<D: Disk>(
     ensures keeps { Keeps cache.old cache.new }
     ensures numbers { OnOk result (SameNumbers cache.old cache.new) }
     ensures waits { OnOk result (StaysOrNone cache.old cache.new) }
+    ensures fills { OnOk result (FlushesFull cache.old cache.new) }
     ensures seen { D.tells → OnOk result ((k : ℕ) → k < block_count cache.old.layout
         → seen cache.old.layout (D.content disk.new) cache.new.held k
         ≡ step number group.now k (seen cache.old.layout (D.content disk.old) cache.old.held k)) }

@@ -56,6 +56,7 @@ impl<D: Disk> Model for LogStore<D> {
       head = s.cache.head;
       used = s.cache.used;
       pending = s.cache.pending;
+      frames = s.cache.frames;
       held = s.cache.held;
       number = s.lsn;
       loaded = s.loaded;
@@ -184,6 +185,9 @@ impl<D: Disk> Store for LogStore<D> {
     }
 
     fn load(&mut self, no: BlockNo) -> Result<(), Failed> {
+        if self.loaded == Some(no) {
+            return Ok(());
+        }
         self.loaded = None;
         let used = self.cache.used();
         match self.cache.get(&mut self.disk, no) {

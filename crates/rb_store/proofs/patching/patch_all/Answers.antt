@@ -4,7 +4,7 @@ use Rattle.rb_base.specs.Groups.{Patch, patch}
 use Rattle.rb_base.proofs.Each.{all_at}
 use Rattle.rb_layout.specs.Regions.{block_count}
 use Rattle.rb_layout.specs.declared.layout.Layout.{Layout}
-use Rattle.rb_store.proofs.PatchLemmas.{all_patched, first_patched, more_leaves, more_patched, waits_joined}
+use Rattle.rb_store.proofs.PatchLemmas.{all_patched, fills_joined, first_patched, more_leaves, more_patched, waits_joined}
 use Rattle.rb_store.proofs.patching.patch_all.Goals as goal
 
 pub loop-i-init : goal.loop-i-init
@@ -34,6 +34,7 @@ loop-i-preserved g c =
       keeps = record { layout = e.keeps.layout ∙ i.keeps.layout; head = e.keeps.head ∙ i.keeps.head };
       numbers = e.numbers ∙ i.numbers;
       waits = waits_joined c.args.cache.now c.loop-i.cache c.patch.new.self i.waits e.waits;
+      fills = fills_joined c.args.cache.now c.loop-i.cache c.patch.new.self i.fills e.fills;
       still = e.counted.still ∙ i.still;
       told = λ told.
           let q = patch c.patch_block.result 0 [] in

@@ -1,4 +1,12 @@
+use Rattle.std.proofs.Common.{ap}
+use Rattle.std.proofs.lemmas.Result.{on_ok_weaker}
+use Rattle.rb_log.specs.GroupSlots.{LogState}
+use Rattle.rb_store.proofs.CachedLemmas.{fills_by}
 use Rattle.rb_store.proofs.cached_file.CachedFile.get.Goals as goal
 
 pub returns-clause-any_moment : goal.returns-clause-any_moment
 returns-clause-any_moment g c told groups = rw (← c.self.view_is) (λ count log. c.get.ensures.any_moment told groups (record { count = count; log = log }))
+
+pub returns-clause-fills : goal.returns-clause-fills
+returns-clause-fills g c = rw (← c.self.view_is) (on_ok_weaker c.get.result (λ order.
+    fills_by _ _ c.args.no c.get.ensures.frames (λ free. ap (λ (s : LogState). s.used) (c.get.ensures.room free)) order) c.get.ensures.order)

@@ -2,6 +2,7 @@ use Rattle.std.proofs.Common.{◌≡◌, ap, subst, ⊎_elim}
 use Rattle.std.proofs.lemmas.Result.{on_ok_weaker}
 use Rattle.rb_layout.specs.declared.layout.Head.{Head}
 use Rattle.rb_log.specs.GroupSlots.{GroupsAre, LogState}
+use Rattle.rb_store.proofs.CachedLemmas.{fills_by}
 use Rattle.rb_store.proofs.cached_file.CachedFile.patch.Goals as goal
 
 pub returns-clause-any_moment : goal.returns-clause-any_moment
@@ -17,3 +18,7 @@ returns-clause-done g c told = rw (← c.self.view_is) (on_ok_weaker c.patch.res
       log = subst (λ (h : Head). GroupsAre c.self.inside.layout h (g.D.Disk.content c.patch.new.disk) 0 x.groups1) head x.has.log;
       later = x.later;
     }) (c.patch.ensures.done told))
+
+pub returns-clause-fills : goal.returns-clause-fills
+returns-clause-fills g c = rw (← c.self.view_is) (on_ok_weaker c.patch.result (λ order.
+    fills_by _ _ c.args.no c.patch.ensures.frames (λ free. ap (λ (s : LogState). s.used) (c.patch.ensures.room free)) order) c.patch.ensures.order)

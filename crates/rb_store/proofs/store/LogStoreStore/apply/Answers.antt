@@ -6,7 +6,7 @@ use Rattle.rb_layout.specs.declared.layout.Head.{Head}
 use Rattle.rb_roll.specs.Rolled.{step}
 use Rattle.rb_cache.specs.Frames.{seen}
 use Rattle.rb_log.specs.GroupSlots.{GroupsAre}
-use Rattle.rb_store.specs.CachedFiles.{CachedState, Done, Keeps, Leaving, SameNumbers, SeenOrPatched, Settled, StaysOrNone}
+use Rattle.rb_store.specs.CachedFiles.{CachedState, Done, FlushesFull, Keeps, Leaving, SameNumbers, SeenOrPatched, Settled, StaysOrNone}
 use Rattle.rb_store.proofs.StoreLemmas.{apply_moments, apply_settles, patched_blocks, patched_low, quiet_again, waits_on}
 use Rattle.rb_store.proofs.store.LogStoreStore.apply.Given.{Over}
 use Rattle.rb_store.proofs.store.LogStoreStore.apply.Goals.{After-patch_all, In-Ok}
@@ -122,6 +122,7 @@ returns-in-Ok-clause-holds_back g c =
     let forced = c.more_forced-self-inside.ensures in
     let now : (after g at).used ≡ c.used-used_now.result = sym c.used-used_now.ensures in
     let was : c.used-used.result ≡ (before g at).used = c.used-used.ensures in
+    let fills : FlushesFull (given g at) (after g at) = subst (λ (x : CachedState). FlushesFull x (after g at)) c.append.ensures.after c.in-Ok.ensures.fills in
     let waits : StaysOrNone (given g at) (after g at) = subst (λ (x : CachedState). StaysOrNone x (after g at)) c.append.ensures.after c.in-Ok.ensures.waits in
     rw (← c.self.view_is) (record {
       no_fewer = forced.no_less;
@@ -129,4 +130,9 @@ returns-in-Ok-clause-holds_back g c =
         | inl is ↦ waits_on (before g at) (after g at) c.args.group.now (numbers g ok) waits (now ∙ sym is ∙ was)
         | inr differ ↦ let up = forced.more differ few in absurd (omega (arith, up, same))
       ];
+      cause = λ more. elim (cases_eq c.used-used.result c.used-used_now.result) [
+        | inl is ↦ let same = forced.same is in absurd (omega (arith, more, same))
+        | inr differ ↦ fills.cause (λ is. differ (was ∙ sym is ∙ now))
+      ];
+      full = fills.full;
     })

@@ -1,5 +1,7 @@
-use Rattle.std.proofs.Common.{true, None, Some, ap, ◌∙◌}
-use Rattle.rb_store.proofs.StoreLemmas.{are_blocks, call_moments, call_settles, memory_again, quiet_same, same_by}
+use Rattle.std.proofs.Common.{◌≡◌, true, None, Some, ap, arith, inl, inr, sym, ◌∙◌}
+use Rattle.std.proofs.lemmas.Bool.{cases_eq}
+use Rattle.rb_store.proofs.Settled.{still_moments, still_settles}
+use Rattle.rb_store.proofs.StoreLemmas.{are_blocks, call_moments, call_settles, memory_again, quiet_same, same_by, waits_same}
 use Rattle.rb_store.proofs.store.LogStoreStore.load.Goals as goal
 
 pub invariant_of-self : goal.invariant_of-self
@@ -49,3 +51,36 @@ returns-in-Ok-clause-whole g c told =
     let t = c.get.new.self in
     let q = quiet_same g.D.Disk s t a.lsn a.disk c.get.new.disk (g.met.D.Disk.reads_an_image c.get.new.disk told) e.keeps (c.self.invariant.1 told going) (e.settled told) (e.seen told) in
     are_blocks t.layout (g.D.Disk.content c.get.new.disk) t.held q.whole c.in-Ok.ensures.memory.units
+
+pub returns-in-Ok-clause-holds_back : goal.returns-in-Ok-clause-holds_back
+returns-in-Ok-clause-holds_back g c =
+    let e = c.in-Ok.ensures in
+    let s = c.self.inside.cache in
+    let t = c.get.new.self in
+    let forced = c.more_forced-self-inside.ensures in
+    let now : t.used ≡ c.used-used_now.result = sym c.used-used_now.ensures in
+    let was : c.used-used.result ≡ s.used = c.used-used.ensures in
+    rw (← c.self.view_is) (record {
+      no_fewer = forced.no_less;
+      waits = λ same few. elim (cases_eq c.used-used.result c.used-used_now.result) [
+        | inl is ↦ waits_same s t e.numbers e.waits (now ∙ sym is ∙ was)
+        | inr differ ↦ let up = forced.more differ few in absurd (omega (arith, up, same))
+      ];
+      cause = λ more. elim (cases_eq c.used-used.result c.used-used_now.result) [
+        | inl is ↦ let same = forced.same is in absurd (omega (arith, more, same))
+        | inr differ ↦ e.fills.cause (λ is. differ (was ∙ sym is ∙ now))
+      ];
+      full = e.fills.full;
+    })
+
+pub returns-then-eq-clause-whole : goal.returns-then-eq-clause-whole
+returns-then-eq-clause-whole g c told =
+    let going = ap (λ v. v.failed) c.self.view_is ∙ c.requires.going in
+    let a = c.self.inside in
+    rw (← c.self.view_is) (are_blocks a.cache.layout (g.D.Disk.content a.disk) a.cache.held (c.self.invariant.1 told going).whole c.self.invariant.0.cached.units)
+
+pub returns-then-eq-clause-settles : goal.returns-then-eq-clause-settles
+returns-then-eq-clause-settles g c told b n st = still_settles g.D.Disk c.args.self.now b n st
+
+pub returns-then-eq-clause-any_moment : goal.returns-then-eq-clause-any_moment
+returns-then-eq-clause-any_moment g c told b n st = still_moments g.D.Disk c.args.self.now b n st (λ image left. g.met.D.Disk.only_now c.args.self.now.disk image told left)
