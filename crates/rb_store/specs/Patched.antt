@@ -6,8 +6,8 @@ use Rattle.rb_layout.specs.Regions.{block_count}
 use Rattle.rb_roll.specs.Rolled.{has_block, rolled, step}
 use Rattle.rb_cache.specs.Frames.{seen}
 use Rattle.rb_log.specs.GroupSlots.{GroupsAre}
-use Rattle.rb_store.specs.CachedFiles.{CachedState, IsCachedMemory, Done, FlushesFull, Keeps, Leaving, RollsTo, SameNumbers}
-use Rattle.rb_store.specs.CachedFiles.{SeenOrPatched, Settled, StaysOrNone}
+use Rattle.rb_store.specs.CachedFiles.{CachedState, IsCachedMemory, Done, FlushesFull, Keeps, Leaving, RollsTo}
+use Rattle.rb_store.specs.CachedFiles.{SameNumbers, SeenOrPatched, Settled, StaysOrNone}
 
 -- After so many patches the blocks that these are of have the group.
 pub record HasPatched {D : Type 0} (d : Ghosts D) (s t : CachedState) (old new : D) (n : ℕ) (g : List Patch)
