@@ -1,0 +1,8 @@
+//! The control copies of a file: where its log begins, and how that moves. Today tests alone call it.
+#![tactic(auto)]
+
+mod control;
+mod laws;
+
+pub use control::{advance, read};
+pub use laws::move_steps;
