@@ -110,6 +110,7 @@ pub fn advance<D: Disk>(disk: &mut D, layout: &Layout, head: Head) -> Result<(),
     ensures counted { IsCounted (D.faults disk.old) (D.faults disk.new) result }
 {
     let other = 1 - chosen_copy(disk)?;
-    write_synced(disk, copy_start(other), &unit_of(head))?;
+    let unit = unit_of(head);
+    write_synced(disk, copy_start(other), &unit)?;
     write_synced(disk, CHOOSER, &[other])
 }

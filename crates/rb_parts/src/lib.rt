@@ -9,6 +9,8 @@ mod base;
 #[cfg(test)]
 mod cell;
 #[cfg(test)]
+mod control;
+#[cfg(test)]
 mod cr;
 #[cfg(test)]
 mod filedisk;
@@ -52,6 +54,8 @@ mod txntable;
 mod undo;
 #[cfg(test)]
 mod undoblock;
+#[cfg(test)]
+mod untold;
 #[cfg(test)]
 mod waits;
 #[cfg(test)]

@@ -1,9 +1,8 @@
 //! The bytes of a twin area, and what a stop at each call of a batch's write leaves.
 ghost use Rattle.std.specs.Prelude.{◌≡◌, ◌<◌, [], length, IfOk};
-ghost use Rattle.rb_base.specs.Counts.{IsCounted};
 
+use crate::untold::{Untold, disk_of};
 use rb_base::{Failed, OpenFault, UNIT};
-use rb_disk::Disk;
 use rb_layout::Layout;
 use rb_memdisk::{MemDisk, Pick};
 use rb_twin::Twin;
@@ -21,78 +20,6 @@ const FIRST: usize = 77;
 
 /// A batch of blocks 33 and 5 in the header: the gate, the count, and from byte 8 on the numbers.
 const HEADER: &[u8; 16] = b"\x01\x02\0\0\0\0\0\0\0\0\0\x21\0\0\0\x05";
-
-/// A disk in memory of which a caller has nothing to prove.
-#[derive(Drop)]
-struct Untold {
-    disk: MemDisk,
-    faults: u64,
-}
-
-impl Untold {
-    fn counted(&mut self, answer: Result<(), Failed>) -> Result<(), Failed>
-        ensures { IsCounted self.old.faults self.new.faults result }
-    {
-        if answer.is_err() {
-            self.faults = self.faults.saturating_add(1);
-            return Err(Failed);
-        }
-        Ok(())
-    }
-}
-
-impl Disk for Untold {
-    ghost tells = { ⊥ };
-
-    ghost content = { λ disk. [] };
-
-    ghost image = { λ disk c. ⊥ };
-
-    ghost moment = { λ disk. 0 };
-
-    ghost image_since = { λ disk t c. ⊥ };
-
-    ghost faults = { λ disk. disk.faults };
-
-    ghost reads_an_image = { λ disk told. absurd told };
-
-    ghost now_counts = { λ disk t c told le here. absurd told };
-
-    ghost only_now = { λ disk c told since. absurd told };
-
-    fn len(&mut self) -> Result<u64, Failed> {
-        Ok(FILE as u64)
-    }
-
-    fn read_at(&mut self, at: u64, into: &mut [u8]) -> Result<(), Failed> {
-        let length = self.disk.bytes().len() as u64;
-        if at > length || into.len() as u64 > length - at {
-            return self.counted(Err(Failed));
-        }
-        let answer = self.disk.read_at(at, into);
-        self.counted(answer)
-    }
-
-    fn write_at(&mut self, at: u64, bytes: &[u8]) -> Result<(), Failed> {
-        if at > self.disk.bytes().len() as u64 {
-            return self.counted(Err(Failed));
-        }
-        let answer = self.disk.write_at(at, bytes);
-        self.counted(answer)
-    }
-
-    fn sync(&mut self) -> Result<(), Failed> {
-        let answer = self.disk.sync();
-        self.counted(answer)
-    }
-}
-
-/// A disk of these bytes that fails at those calls.
-fn disk_of(alloc: Global, bytes: &[u8], failing: &[u64]) -> Result<Untold, Fail> {
-    let room = (bytes.len() as u64).saturating_add(65_536);
-    let disk = MemDisk::new(alloc, bytes, room, 40, failing)?;
-    Ok(Untold { disk, faults: 0 })
-}
 
 /// An empty batch.
 fn new_twin(alloc: Global) -> Result<Twin, Fail>

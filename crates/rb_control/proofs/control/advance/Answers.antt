@@ -27,11 +27,11 @@ other g c told = ap (λ (copy : ℕ). 1 - copy) (c.in_ok-other.ensures.copy told
 fits : (g : Over) (c : After-write_synced g) → g.D.Disk.tells → log_offset 0 ≤ length (g.D.Disk.content c.args.disk.now)
 fits g c told = omega (arith, c.requires.whole told)
 
-unit : (g : Over) (c : After-write_synced g) → length c.unit_of.result ≡ 2048
-unit g c = ap length c.unit_of.ensures ∙ length-copy c.args.head
+unit : (g : Over) (c : After-write_synced g) → length c.unit_of-unit.result ≡ 2048
+unit g c = ap length c.unit_of-unit.ensures ∙ length-copy c.args.head
 
 -- where it is written, and what that leaves of a file
-wrote_from : (g : Over) (c : After-write_synced g) (f h : List ℕ) → Torn c.copy_start.result (length c.unit_of.result) f h
+wrote_from : (g : Over) (c : After-write_synced g) (f h : List ℕ) → Torn c.copy_start.result (length c.unit_of-unit.result) f h
     → Torn (copy_offset (1 - c.in_ok-other.field-0)) 2048 f h
 wrote_from g c f h torn =
     subst (λ (at : ℕ). Torn at 2048 f h) c.copy_start.ensures (subst (λ (n : ℕ). Torn c.copy_start.result n f h) (unit g c) torn)
@@ -41,7 +41,7 @@ outside : (g : Over) (c : After-write_synced g) → g.D.Disk.tells
 outside g c told =
     let file = g.D.Disk.content c.args.disk.now in
     let new = g.D.Disk.content c.write_synced.new.disk in
-    let torn = subst (λ (f : List ℕ). Torn c.copy_start.result (length c.unit_of.result) f new)
+    let torn = subst (λ (f : List ℕ). Torn c.copy_start.result (length c.unit_of-unit.result) f new)
     ((c.chosen_copy.ensures.same told).same) (c.write_synced.ensures.torn told) in
     control_torn file new _ _ (omega arith) (omega arith) (fits g c told) (wrote_from g c file new torn)
 
@@ -88,9 +88,9 @@ wrote : (g : Over) (c : goal.After-write_synced-2 g) → g.D.Disk.tells → g.D.
 wrote g c told =
     let file = g.D.Disk.content c.args.disk.now in
     c.in_ok-write_synced.ensures.written told
-    ∙ ap (λ (f : List ℕ). overwritten f c.copy_start.result c.unit_of.result) (c.chosen_copy.ensures.same told).same
-    ∙ ap (λ (at : ℕ). overwritten file at c.unit_of.result) c.copy_start.ensures
-    ∙ ap (overwritten file (copy_offset (1 - c.in_ok-other.field-0))) c.unit_of.ensures
+    ∙ ap (λ (f : List ℕ). overwritten f c.copy_start.result c.unit_of-unit.result) (c.chosen_copy.ensures.same told).same
+    ∙ ap (λ (at : ℕ). overwritten file at c.unit_of-unit.result) c.copy_start.ensures
+    ∙ ap (overwritten file (copy_offset (1 - c.in_ok-other.field-0))) c.unit_of-unit.ensures
 
 pub returns-clause-any_moment : goal.returns-clause-any_moment
 returns-clause-any_moment g c told =
