@@ -5,6 +5,7 @@ ghost use Rattle.std.specs.Prelude.{◌≤◌};
 use crate::doubles::{
     FORMAT_SMALL, FORMAT_STOPS, Failing, NONE, RUN, formatted, run_over, run_stopped,
 };
+use crate::mixtures::add_mixed;
 use crate::stories::{Story, image_now, shown};
 use crate::under_way::{four_transactions, long_transaction};
 use rb_base::NoMemory;
@@ -37,37 +38,45 @@ fn add_left(
     Ok(())
 }
 
-// What a stop after any call of a run may leave of a file, by these picks, but for the file itself. A call that doesn't
-// write leaves nothing more; nor does the pick Old, as what was synced last is what the disk read as then.
+// What a stop after any call of a run may leave of a file, by these picks, but for the file itself; and behind these
+// images mixtures, where they are wanted. A call that doesn't write leaves nothing more; nor does the pick Old, as what
+// was synced last is what the disk read as then.
 fn left_by(
     alloc: Global,
     file: &[u8],
     script: &[u8],
     picks: &[Pick],
+    mixed: bool,
 ) -> Result<Vec<Vec<u8>>, NoMemory> {
     let good = run_over(alloc, RUN, file, script, NONE)?;
     let mut images = Vec::new(alloc);
+    let mut mixtures = Vec::new(alloc);
     let mut syncs = 0;
     for call in 1..=good.disk.calls() {
         let stopped = run_stopped(alloc, file, script, call)?;
         if stopped.disk.syncs() == syncs {
             add_left(alloc, file, &stopped.disk, picks, &mut images)?;
+            if mixed {
+                add_mixed(alloc, &stopped.disk, &mut mixtures)?;
+            }
         }
         syncs = stopped.disk.syncs();
     }
+    images.append(&mut mixtures).map_err(|_| NoMemory)?;
     Ok(images)
 }
 
-// Checks that a stop after any call of an opening of a file leaves what shows so many flushes, and answers what it may
-// leave.
+// Checks that a stop after any call of an opening of a file leaves what shows so many flushes, also mixed where that is
+// wanted, and answers what it may leave.
 fn check_stops(
     rt: &impl Abort,
     alloc: Global,
     story: &Story,
     file: &[u8],
     flushes: Option<usize>,
+    mixed: bool,
 ) -> Result<Vec<Vec<u8>>, NoMemory> {
-    let images = left_by(alloc, file, b"", &PICKS)?;
+    let images = left_by(alloc, file, b"", &PICKS, mixed)?;
     for image in &images {
         assert!(rt; shown(alloc, story, image)? == flushes);
     }
@@ -112,8 +121,8 @@ fn check_failures(
     Ok(())
 }
 
-/// The stops of the opening behind a stop that left this file, and of the openings behind each so manieth of those.
-/// Answers whether the first opening wrote anything.
+/// The stops of the opening behind a stop that left this file, also mixed, and of the openings behind each so manieth
+/// of those. Answers whether the first opening wrote anything.
 pub fn check_stops_behind(
     rt: &impl Abort,
     alloc: Global,
@@ -125,10 +134,10 @@ pub fn check_stops_behind(
 {
     let flushes = shown(alloc, story, file)?;
     assert!(rt; flushes.is_some());
-    let images = check_stops(rt, alloc, story, file, flushes)?;
+    let images = check_stops(rt, alloc, story, file, flushes, true)?;
     for (at, image) in images.iter().enumerate() {
         if at % every == 0 {
-            let _ = check_stops(rt, alloc, story, image, flushes)?;
+            let _ = check_stops(rt, alloc, story, image, flushes, false)?;
         }
     }
     Ok(!images.is_empty())
@@ -154,7 +163,7 @@ fn check_failures_later(
     file: &[u8],
 ) -> Result<bool, NoMemory> {
     let flushes = shown(alloc, story, file)?;
-    let images = left_by(alloc, file, b"", &PICKS)?;
+    let images = left_by(alloc, file, b"", &PICKS, false)?;
     for (at, image) in images.iter().enumerate() {
         if at % EVERY == 0 {
             check_failures(rt, alloc, story, image, flushes)?;
@@ -171,7 +180,7 @@ fn first_left(
     picks: &[Pick],
 ) -> Result<Vec<Vec<u8>>, NoMemory> {
     let file = formatted(alloc, line)?;
-    left_by(alloc, &file, story.script.as_bytes(), picks)
+    left_by(alloc, &file, story.script.as_bytes(), picks, false)
 }
 
 // Of the images that stops of the four transactions leave, by a pick: the stops of the openings behind them.

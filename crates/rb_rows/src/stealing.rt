@@ -1,9 +1,10 @@
 //! A run in which three sessions have changes in more blocks than there are frames, so that blocks go home with changes
 //! that aren't committed: a stop after each call of the disk, each of these calls failing, and stops of the openings
-//! behind stops.
+//! behind stops. What a stop leaves is also mixed of what the picks leave.
 ghost use Rattle.std.specs.Prelude.{◌≤◌};
 
 use crate::doubles::{Failing, NONE, RUN, formatted, run_over, run_stopped};
+use crate::mixtures::{add_mixed, check_mixed, seeds_behind};
 use crate::restarts::{check_failures_behind, check_stops_behind};
 use crate::stories::{PICKS, Story, are_faulty, check_left, image_now};
 use rb_base::NoMemory;
@@ -21,6 +22,9 @@ const KEYS: u64 = 20;
 
 // Where the blocks begin in the file.
 const HOMES: usize = 2_048 * (4 + 96 + 9);
+
+// A write that was cut short, and one that was not.
+const TORN: [Pick; 2] = [Pick::New, Pick::Fill(1)];
 
 // Shows the rows, and goes on with one more commit.
 const SECOND: &[u8] = b"\
@@ -125,13 +129,14 @@ fn three_sessions(alloc: Global) -> Result<Story, NoMemory> {
     })
 }
 
-// What stops after each so many calls of the run leave, by these picks.
+// What stops after each so many calls of the run leave, by these picks and, where that is wanted, mixed.
 fn images_left(
     alloc: Global,
     story: &Story,
     file: &[u8],
     step: u64,
     picks: &[Pick],
+    mixed: bool,
 ) -> Result<Vec<Vec<u8>>, NoMemory>
     requires { 1 ≤ step }
 {
@@ -145,6 +150,9 @@ fn images_left(
                 if let Some(left) = image_now(alloc, &stopped.disk, *pick)? {
                     images.push(left).map_err(|_| NoMemory)?;
                 }
+            }
+            if mixed {
+                add_mixed(alloc, &stopped.disk, &mut images)?;
             }
         }
     }
@@ -189,12 +197,15 @@ fn stops(rt: HostRuntime) -> Result<(), Fail> {
     let script = story.script.as_bytes();
     let good = run_over(rt.alloc(), RUN, &file, script, NONE)?;
     let mut stolen = false;
+    let mut mixed = false;
     for call in 1..=good.disk.calls() {
         let stopped = run_stopped(rt.alloc(), &file, script, call)?;
         check_left(&rt, rt.alloc(), &story, &stopped, &PICKS)?;
+        mixed |= check_mixed(&rt, rt.alloc(), &story, &stopped, seeds_behind(call))?;
         stolen |= has_stolen(stopped.disk.bytes());
     }
     assert!(rt; stolen);
+    assert!(rt; mixed);
     Ok(())
 }
 
@@ -205,6 +216,7 @@ fn failures(rt: HostRuntime) -> Result<(), Fail> {
     let file = formatted(rt.alloc(), FORMAT)?;
     let script = story.script.as_bytes();
     let good = run_over(rt.alloc(), RUN, &file, script, NONE)?;
+    let mut mixed = false;
     for call in 1..=good.disk.calls() {
         let failing = Failing {
             disk: &[call],
@@ -217,8 +229,10 @@ fn failures(rt: HostRuntime) -> Result<(), Fail> {
             held.is_empty() || are_faulty(held, &story.replies),
             "call {call}"
         );
-        check_left(&rt, rt.alloc(), &story, &end, &[Pick::New, Pick::Fill(1)])?;
+        check_left(&rt, rt.alloc(), &story, &end, &TORN)?;
+        mixed |= check_mixed(&rt, rt.alloc(), &story, &end, seeds_behind(call))?;
     }
+    assert!(rt; mixed);
     Ok(())
 }
 
@@ -228,7 +242,20 @@ fn stops_behind(rt: HostRuntime) -> Result<(), Fail> {
     let story = three_sessions(rt.alloc())?;
     let file = formatted(rt.alloc(), FORMAT)?;
     let mut wrote = false;
-    for image in &images_left(rt.alloc(), &story, &file, 61, &[Pick::New, Pick::Fill(1)])? {
+    for image in &images_left(rt.alloc(), &story, &file, 61, &TORN, false)? {
+        wrote |= check_stops_behind(&rt, rt.alloc(), &story, image, 50)?;
+    }
+    assert!(rt; wrote);
+    Ok(())
+}
+
+// The same behind stops that left mixtures.
+#[test]
+fn stops_behind_mixtures(rt: HostRuntime) -> Result<(), Fail> {
+    let story = three_sessions(rt.alloc())?;
+    let file = formatted(rt.alloc(), FORMAT)?;
+    let mut wrote = false;
+    for image in &images_left(rt.alloc(), &story, &file, 20, &[], true)? {
         wrote |= check_stops_behind(&rt, rt.alloc(), &story, image, 50)?;
     }
     assert!(rt; wrote);
@@ -240,7 +267,7 @@ fn stops_behind(rt: HostRuntime) -> Result<(), Fail> {
 fn failures_behind(rt: HostRuntime) -> Result<(), Fail> {
     let story = three_sessions(rt.alloc())?;
     let file = formatted(rt.alloc(), FORMAT)?;
-    for image in &images_left(rt.alloc(), &story, &file, 17, &[Pick::New])? {
+    for image in &images_left(rt.alloc(), &story, &file, 17, &[Pick::New], false)? {
         check_failures_behind(&rt, rt.alloc(), &story, image)?;
     }
     Ok(())

@@ -50,8 +50,8 @@ pub fn shown(alloc: Global, story: &Story, file: &[u8]) -> Result<Option<usize>,
     Ok(None)
 }
 
-// Whether a file shows each flush that it must have, and at most the one under way besides.
-fn is_kept(shown: Option<usize>, owed: usize) -> bool {
+/// Whether a file shows each flush that it must have, and at most the one under way besides.
+pub fn is_kept(shown: Option<usize>, owed: usize) -> bool {
     match shown {
         Some(flushes) => owed <= flushes && flushes - owed <= 1,
         None => false,
