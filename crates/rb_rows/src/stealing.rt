@@ -236,30 +236,35 @@ fn failures(rt: HostRuntime) -> Result<(), Fail> {
     Ok(())
 }
 
-// Stops of the openings behind stops, and of the openings behind those.
-#[test]
-fn stops_behind(rt: HostRuntime) -> Result<(), Fail> {
-    let story = three_sessions(rt.alloc())?;
-    let file = formatted(rt.alloc(), FORMAT)?;
+// Stops of the openings behind stops after each so many calls, by these picks or mixed, and of the openings behind
+// those.
+fn check_behind(
+    rt: &impl Abort,
+    alloc: Global,
+    step: u64,
+    picks: &[Pick],
+    mixed: bool,
+) -> Result<(), NoMemory>
+    requires { 1 ≤ step }
+{
+    let story = three_sessions(alloc)?;
+    let file = formatted(alloc, FORMAT)?;
     let mut wrote = false;
-    for image in &images_left(rt.alloc(), &story, &file, 61, &TORN, false)? {
-        wrote |= check_stops_behind(&rt, rt.alloc(), &story, image, 50)?;
+    for image in &images_left(alloc, &story, &file, step, picks, mixed)? {
+        wrote |= check_stops_behind(rt, alloc, &story, image, 50)?;
     }
     assert!(rt; wrote);
     Ok(())
 }
 
-// The same behind stops that left mixtures.
 #[test]
-fn stops_behind_mixtures(rt: HostRuntime) -> Result<(), Fail> {
-    let story = three_sessions(rt.alloc())?;
-    let file = formatted(rt.alloc(), FORMAT)?;
-    let mut wrote = false;
-    for image in &images_left(rt.alloc(), &story, &file, 20, &[], true)? {
-        wrote |= check_stops_behind(&rt, rt.alloc(), &story, image, 50)?;
-    }
-    assert!(rt; wrote);
-    Ok(())
+fn stops_behind(rt: HostRuntime) -> Result<(), NoMemory> {
+    check_behind(&rt, rt.alloc(), 61, &TORN, false)
+}
+
+#[test]
+fn stops_behind_mixtures(rt: HostRuntime) -> Result<(), NoMemory> {
+    check_behind(&rt, rt.alloc(), 20, &[], true)
 }
 
 // Each call failing of the openings behind stops.
