@@ -14,7 +14,8 @@ use Rattle.rb_base.specs.Fields.{part}
 use Rattle.rb_base.specs.declared.shape.Shape.{Shape}
 use Rattle.rb_base.proofs.Blocks.{fresh_count}
 use Rattle.rb_layout.specs.declared.layout.Layout.{Layout}
-use Rattle.rb_layout.specs.Regions.{identity, block_offset, fresh_file, fresh_front, shape_of, HasIdentity}
+use Rattle.rb_layout.specs.Regions.{identity, block_offset, fresh_copy, fresh_file, fresh_first, fresh_front, shape_of}
+use Rattle.rb_layout.specs.Regions.{HasIdentity}
 
 length-segment : length fresh_segment ≡ 2016
 length-segment = refl
@@ -90,23 +91,39 @@ unit_at shape first (suc count) (suc which) lt =
     ∙ unit_at shape (first + 1) count which (omega (arith, lt))
     ∙ ap (fresh_block shape) own
 
-pub front_long : (version : ℕ) (l : Layout) → length (fresh_front version l) ≡ block_offset l 0
-front_long version l =
-    let long : length (identity version l) ≡ 24 = omega arith in
+pub first_long : (version : ℕ) (l : Layout) → length (fresh_first version l) ≡ 6144
+first_long version l =
+    let zeros : List ℕ = replicate 2024 0 in
+    let own : length (identity version l) ≡ 24 = omega arith in
+    let copy : length fresh_copy ≡ 2048 = refl in
     omega (
       arith,
-      long,
-      length-append (identity version l) (replicate (block_offset l 0 - 24) 0),
-      length-replicate {A = ℕ} (block_offset l 0 - 24) 0,
+      own,
+      copy,
+      length-append (identity version l) (zeros ++ fresh_copy ++ fresh_copy),
+      length-append zeros (fresh_copy ++ fresh_copy),
+      length-append fresh_copy fresh_copy,
+      length-replicate {A = ℕ} 2024 0,
     )
+
+pub front_long : (version : ℕ) (l : Layout) → length (fresh_front version l) ≡ block_offset l 0
+front_long version l = omega (
+  arith,
+  first_long version l,
+  length-append (fresh_first version l) (replicate (block_offset l 0 - 6144) 0),
+  length-replicate {A = ℕ} (block_offset l 0 - 6144) 0,
+)
 
 pub fresh_has_identity : (version : ℕ) (l : Layout) → HasIdentity version l (fresh_file version l)
 fresh_has_identity version l =
-    let rest : List ℕ = replicate (block_offset l 0 - 24) 0 in
+    let rest : List ℕ = replicate 2024 0 ++ fresh_copy ++ fresh_copy in
+    let zeros : List ℕ = replicate (block_offset l 0 - 6144) 0 in
     let units = concat (fresh_blocks (shape_of l)) in
     let long : length (identity version l) ≡ 24 = omega arith in
+    let first = first_long version l in
     let front = front_long version l in record {
       front = take-append-le 24 (fresh_front version l) units (omega (arith, front))
+          ∙ take-append-le 24 (fresh_first version l) zeros (omega (arith, first))
           ∙ take_at (identity version l) rest 24 long;
       whole = omega (
         arith,
@@ -130,13 +147,12 @@ fresh_home version l which lt =
     ap (take 2048) behind ∙ unit_at (shape_of l) 0 (shape_blocks (shape_of l)) which lt
     ∙ ap (fresh_block (shape_of l)) {x = 0 + which} (omega arith)
 
--- All between what it is and its blocks is zeros.
-pub fresh_zero : (version : ℕ) (l : Layout) (at : ℕ) → 24 ≤ at → at < block_offset l 0
+-- All between its control copies and its blocks is zeros.
+pub fresh_zero : (version : ℕ) (l : Layout) (at : ℕ) → 6144 ≤ at → at < block_offset l 0
     → get_or (fresh_file version l) at 0 ≡ 0
 fresh_zero version l at behind before =
-    let zeros : List ℕ = replicate (block_offset l 0 - 24) 0 in
-    let long : length (identity version l) ≡ 24 = omega arith in
+    let zeros : List ℕ = replicate (block_offset l 0 - 6144) 0 in
     let front = front_long version l in
     get_or_append_left (fresh_front version l) (concat (fresh_blocks (shape_of l))) 0 at (omega (arith, front, before))
-    ∙ get_or-append_right (identity version l) zeros 24 at 0 long behind
-    ∙ get_or-replicate (block_offset l 0 - 24) (at - 24) 0 0 (omega (arith, behind, before))
+    ∙ get_or-append_right (fresh_first version l) zeros 6144 at 0 (first_long version l) behind
+    ∙ get_or-replicate (block_offset l 0 - 6144) (at - 6144) 0 0 (omega (arith, behind, before))

@@ -1,5 +1,6 @@
 -- Where the parts of a file lie, and what its first bytes say. All parts are units.
-use Rattle.std.specs.Prelude.{◌≡◌, ℕ, ◌+◌, ◌-◌, ◌*◌, List, ◌++◌, length, take, replicate, codes}
+use Rattle.std.specs.Prelude.{◌≡◌, ℕ, ◌+◌, ◌-◌, ◌*◌}
+use Rattle.std.specs.Prelude.{List, ◌∷◌, ◌++◌, length, take, replicate, codes}
 use Rattle.std.specs.List.{concat}
 use Rattle.byteorder.specs.Endian.{big_bytes}
 use Rattle.rb_base.specs.Blocks.{fresh_blocks, shape_blocks}
@@ -45,9 +46,17 @@ pub record HasIdentity (version : ℕ) (l : Layout) (file : List ℕ) : Type 0 w
   pub front : take 24 file ≡ identity version l
   pub whole : length file ≡ file_length l
 
--- all that is in front of the blocks of a new file: what it is, and zeros
+-- a control copy of a new file: its log begins in slot 0, with number 1
+abbrev pub fresh_copy : List ℕ
+fresh_copy = big_bytes 4 0 ++ 0 ∷ 0 ∷ 0 ∷ 0 ∷ big_bytes 8 1 ++ replicate (UNIT - 16) 0
+
+-- the first three units of a new file: what it is, and the control copies
+abbrev pub fresh_first : ℕ → Layout → List ℕ
+fresh_first version l = identity version l ++ replicate (UNIT - 24) 0 ++ fresh_copy ++ fresh_copy
+
+-- all that is in front of the blocks of a new file: these, and zeros
 abbrev pub fresh_front : ℕ → Layout → List ℕ
-fresh_front version l = identity version l ++ replicate (block_offset l 0 - 24) 0
+fresh_front version l = fresh_first version l ++ replicate (block_offset l 0 - UNIT * 3) 0
 
 -- a new file: that, and its blocks at home
 abbrev pub fresh_file : ℕ → Layout → List ℕ

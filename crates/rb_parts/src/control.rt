@@ -14,7 +14,7 @@ const FRONT: usize = 8_192;
 /// Where the chooser stands.
 const CHOOSER: usize = 6_144;
 
-/// The head of a new file whose log goes round, as a copy says it.
+/// The head of a new file, as a copy says it.
 const FIRST_COPY: &[u8; 16] = b"\0\0\0\0\0\0\0\0\0\0\0\0\0\0\0\x01";
 
 /// A copy that says slot 63 and number 258.

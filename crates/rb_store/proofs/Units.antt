@@ -7,8 +7,8 @@ use Rattle.rb_base.specs.Blocks.{fresh_block, fresh_from}
 use Rattle.rb_base.specs.declared.shape.Shape.{Shape}
 use Rattle.rb_base.specs.Fields.{overwritten}
 use Rattle.rb_layout.specs.declared.layout.Layout.{Layout}
-use Rattle.rb_layout.specs.Fresh.{fresh_unit, front_long, units_long, units_split}
-use Rattle.rb_layout.specs.Regions.{block_offset, fresh_front, identity, shape_of}
+use Rattle.rb_layout.specs.Fresh.{first_long, fresh_unit, front_long, units_long, units_split}
+use Rattle.rb_layout.specs.Regions.{block_offset, fresh_first, fresh_front, shape_of}
 
 pub written_at_end : (old bytes : List ℕ) (at : ℕ) → at ≡ length old → overwritten old at bytes ≡ old ++ bytes
 written_at_end old bytes at e =
@@ -20,18 +20,17 @@ written_at_end old bytes at e =
 pub first_written : (old new bytes : List ℕ) → length old ≡ 0 → new ≡ overwritten old 0 bytes → new ≡ bytes
 first_written old new bytes empty now = now ∙ written_at_end old bytes 0 (sym empty) ∙ ap (λ (l : List ℕ). l ++ bytes) (nil_from_length old empty)
 
-pub length_so_far : (version : ℕ) (file : List ℕ) (l : Layout) (n : ℕ) → file ≡ identity version l ++ replicate n 0 → length file ≡ 24 + n
+pub length_so_far : (version : ℕ) (file : List ℕ) (l : Layout) (n : ℕ) → file ≡ fresh_first version l ++ replicate n 0 → length file ≡ 6144 + n
 length_so_far version file l n is =
-    let front : length (identity version l) ≡ 24 = omega arith in
-    ap length is ∙ length-append (identity version l) (replicate n 0) ∙ ap (λ (k : ℕ). k + length (replicate {A = ℕ} n 0)) front ∙ ap (λ (k : ℕ). 24 + k) (length-replicate n 0)
+    ap length is ∙ length-append (fresh_first version l) (replicate n 0) ∙ ap (λ (k : ℕ). k + length (replicate {A = ℕ} n 0)) (first_long version l) ∙ ap (λ (k : ℕ). 6144 + k) (length-replicate n 0)
 
 -- `count` zeros more
-pub zeros_written : (version : ℕ) (old new zeros : List ℕ) (l : Layout) (at n count more : ℕ) → old ≡ identity version l ++ replicate n 0 → at ≡ 24 + n
-    → zeros ≡ replicate count 0 → new ≡ overwritten old at zeros → n + count ≡ more → new ≡ identity version l ++ replicate more 0
+pub zeros_written : (version : ℕ) (old new zeros : List ℕ) (l : Layout) (at n count more : ℕ) → old ≡ fresh_first version l ++ replicate n 0 → at ≡ 6144 + n
+    → zeros ≡ replicate count 0 → new ≡ overwritten old at zeros → n + count ≡ more → new ≡ fresh_first version l ++ replicate more 0
 zeros_written version old new zeros l at n count more is place zero now total =
     now ∙ written_at_end old zeros at (place ∙ sym (length_so_far version old l n is)) ∙ ap (λ (f : List ℕ). f ++ zeros) is
-    ∙ append_assoc (identity version l) (replicate n 0) zeros ∙ ap (λ (f : List ℕ). identity version l ++ (replicate n 0 ++ f)) zero
-    ∙ ap (λ (f : List ℕ). identity version l ++ f) (replicate-append-replicate n count 0 ∙ ap (λ (k : ℕ). replicate k 0) total)
+    ∙ append_assoc (fresh_first version l) (replicate n 0) zeros ∙ ap (λ (f : List ℕ). fresh_first version l ++ (replicate n 0 ++ f)) zero
+    ∙ ap (λ (f : List ℕ). fresh_first version l ++ f) (replicate-append-replicate n count 0 ∙ ap (λ (k : ℕ). replicate k 0) total)
 
 -- a piece of blocks more
 pub blocks_written : (version : ℕ) (old new piece : List ℕ) (l : Layout) (first count : ℕ) → old ≡ fresh_front version l ++ concat (fresh_from (shape_of l) 0 first)

@@ -6,14 +6,20 @@ ghost use Rattle.rb_base.specs.Blocks.{IsShape, fresh_from, shape_blocks};
 ghost use Rattle.rb_base.specs.Counts.{IsCounted, IsCountedAs, err_is};
 ghost use Rattle.rb_disk.specs.DiskModel.{Only};
 ghost use Rattle.rb_disk.specs.Moments.{Rests};
-ghost use Rattle.rb_layout.specs.Regions.{identity, fresh_file, fresh_front};
+ghost use Rattle.rb_layout.specs.Regions.{fresh_file, fresh_first, fresh_front};
 ghost use Rattle.rb_store.specs.Formats.{is_format_failed};
 
 use crate::pieces::{PIECE, PIECE_BYTES};
-use rb_base::{BlockNo, Failed, Shape, UNIT};
+use rb_base::{BlockNo, Failed, Shape, UNIT, put_u64};
 use rb_disk::Disk;
-use rb_layout::{IDENTITY, Layout, VERSION, fresh_block};
+use rb_layout::{Layout, VERSION, fresh_block};
 use thiserror::Error;
+
+/// How many bytes say what the file is and where its log begins: its identity and two control copies, each a unit.
+const FIRST_BYTES: usize = 3 * UNIT;
+
+/// Where the log number of the first group stands in a control copy.
+const NUMBER_AT: usize = 8;
 
 /// Why a file wasn't made.
 #[derive(Clone, Copy, Debug, PartialEq, Eq, Error)]
@@ -58,16 +64,16 @@ pub fn format<D: Disk>(disk: &mut D, layout: &Layout) -> Result<(), FormatFault>
     Ok(())
 }
 
-// Writes all that is in front of the blocks into an empty file, in order: the first unit, and then zeros in pieces.
+// Writes all that is in front of the blocks into an empty file, in order: the first units, and then zeros in pieces.
 fn write_front<D: Disk>(disk: &mut D, layout: &Layout) -> Result<(), Failed>
     requires { D.tells → length (D.content disk.old) ≡ 0 }
     ensures written { D.tells → OnOk result (D.content disk.new ≡ fresh_front VERSION layout.now) }
     ensures counted { IsCounted (D.faults disk.old) (D.faults disk.new) result }
 {
-    disk.write_at(0, &first_unit(layout))?;
+    disk.write_at(0, &first_units(layout))?;
     let empty = [0; PIECE_BYTES];
     let end = layout.block_at(0);
-    let mut at = UNIT as u64;
+    let mut at = FIRST_BYTES as u64;
     while at < end {
         let count = (end - at).min(PIECE_BYTES as u64);
         disk.write_at(at, &empty[..count as usize])?;
@@ -109,17 +115,19 @@ fn put_blocks(into: &mut [u8], shape: Shape, first: BlockNo, count: u32)
     }
 }
 
-// The unit that says what the file is.
-fn first_unit(layout: &Layout) -> [u8; UNIT]
-    ensures { result ≡ identity VERSION layout.now ++ replicate (UNIT - IDENTITY) 0 }
+// The units that say what the file is, and where its log begins.
+fn first_units(layout: &Layout) -> [u8; FIRST_BYTES]
+    ensures { result ≡ fresh_first VERSION layout.now }
 {
-    let mut unit = empty_unit();
-    layout.put_identity(&mut unit);
-    unit
+    let mut units = empty_units();
+    layout.put_identity(&mut units);
+    put_u64(&mut units, UNIT + NUMBER_AT, 1);
+    put_u64(&mut units, 2 * UNIT + NUMBER_AT, 1);
+    units
 }
 
-fn empty_unit() -> [u8; UNIT]
-    ensures { result ≡ replicate UNIT 0 }
+fn empty_units() -> [u8; FIRST_BYTES]
+    ensures { result ≡ replicate FIRST_BYTES 0 }
 {
-    [0; UNIT]
+    [0; FIRST_BYTES]
 }

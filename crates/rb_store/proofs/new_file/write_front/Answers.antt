@@ -7,14 +7,14 @@ use Rattle.rb_store.proofs.new_file.write_front.Goals as goal
 few_taken : (left most count : ℕ) → count ≡ min left most → count ≤ most
 few_taken left most count is = omega (arith, is)
 
-at_end : (at long : ℕ) → 2048 ≤ at → long ≡ 24 + (at - 24) → at ≤ long
+at_end : (at long : ℕ) → 6144 ≤ at → long ≡ 6144 + (at - 6144) → at ≤ long
 at_end at long begun is = omega (arith, begun, is)
 
 pub loop-at-init : goal.loop-at-init
 loop-at-init g c = record {
   begun = omega arith;
   within = omega arith;
-  written = λ told. first_written (g.D.Disk.content c.args.disk.now) (g.D.Disk.content c.write_at.new.self) c.first_unit.result (c.requires told) (c.in_ok-write_at.ensures.written told) ∙ c.first_unit.ensures;
+  written = λ told. first_written (g.D.Disk.content c.args.disk.now) (g.D.Disk.content c.write_at.new.self) c.first_units.result (c.requires told) (c.in_ok-write_at.ensures.written told) ∙ c.first_units.ensures;
   still = c.in_ok-write_at.ensures.counted.still;
 }
 
@@ -25,7 +25,7 @@ loop-at-preserved g c =
     let inv = c.loop-at.invariant in record {
       begun = omega (arith, inv.begun);
       within = omega (arith, c.min-count.ensures, c.block_at-end.ensures, inv.within);
-      written = λ told. zeros_written file_version (g.D.Disk.content c.loop-at.disk) (g.D.Disk.content c.write_at-in-loop-at.new.self) (take count (replicate 65536 0)) c.args.layout.now at (at - 24) count (at + count - 24)
+      written = λ told. zeros_written file_version (g.D.Disk.content c.loop-at.disk) (g.D.Disk.content c.write_at-in-loop-at.new.self) (take count (replicate 65536 0)) c.args.layout.now at (at - 6144) count (at + count - 6144)
           (inv.written told) (omega (arith, inv.begun)) (take-replicate count 65536 0 (omega (arith, c.min-count.ensures))) (c.in_ok-write_at-2.ensures.written told) (omega (arith, inv.begun));
       still = c.in_ok-write_at-2.ensures.counted.still ∙ inv.still;
     }
@@ -36,4 +36,4 @@ slice_bounds-empty-end g c = few_taken (c.block_at-end.result - c.loop-at.at) 65
 pub write_at-requires-in-loop-at : goal.write_at-requires-in-loop-at
 write_at-requires-in-loop-at g c told =
     let inv = c.loop-at.invariant in
-    at_end c.loop-at.at _ inv.begun (length_so_far file_version (g.D.Disk.content c.loop-at.disk) c.args.layout.now (c.loop-at.at - 24) (inv.written told))
+    at_end c.loop-at.at _ inv.begun (length_so_far file_version (g.D.Disk.content c.loop-at.disk) c.args.layout.now (c.loop-at.at - 6144) (inv.written told))
