@@ -1,4 +1,4 @@
-use Rattle.std.proofs.Common.{◌≡◌, ◌+◌, ◌++◌, ◌∙◌, ℕ, List, arith, ap}
+use Rattle.std.proofs.Common.{◌≡◌, ◌+◌, ◌++◌, ◌∙◌, ℕ, List, arith, ap, sym, refl, append-nil}
 use Rattle.rb_base.specs.Blocks.{fresh_from, shape_blocks}
 use Rattle.std.specs.List.{concat}
 use Rattle.rb_base.specs.Fields.{overwritten}
@@ -33,3 +33,17 @@ loop-first-preserved g c =
           (inv.written told) (c.put_blocks.ensures ∙ ap (λ (s : Shape). concat (fresh_from s first count)) c.shape-shape.ensures.shape) c.block_at.ensures (c.in_ok-write_at.ensures.written told);
       still = c.in_ok-write_at.ensures.counted.still ∙ inv.still;
     }
+
+pub loop-first-init : goal.loop-first-init
+loop-first-init g c = record {
+  within = omega arith;
+  written = λ told. c.requires told ∙ sym (append-nil (fresh_front file_version c.args.layout.now));
+  still = refl;
+}
+
+pub returns-clause-written : goal.returns-clause-written
+returns-clause-written g c told =
+    let l = c.args.layout.now in
+    let inv = c.loop-first.invariant in
+    let end : c.block_count-end.result ≡ block_count l = c.block_count-end.ensures.blocks ∙ ap shape_blocks c.shape-shape.ensures.shape in
+    inv.written told ∙ ap (λ (k : ℕ). fresh_front file_version l ++ concat (fresh_from (shape_of l) 0 k)) (omega (arith, inv.within, c.loop-first-test.false, end))

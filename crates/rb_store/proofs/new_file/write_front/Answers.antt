@@ -1,5 +1,5 @@
-use Rattle.rb_layout.specs.Regions.{file_version}
-use Rattle.std.proofs.Common.{◌≡◌, ◌≤◌, ◌+◌, ◌-◌, ◌∙◌, ℕ, min, take, replicate, arith}
+use Rattle.rb_layout.specs.Regions.{file_version, fresh_first}
+use Rattle.std.proofs.Common.{◌≡◌, ◌≤◌, ◌+◌, ◌-◌, ◌++◌, ◌∙◌, ℕ, ap, min, take, replicate, arith}
 use Rattle.std.proofs.lemmas.List.{take-replicate}
 use Rattle.rb_store.proofs.Units.{first_written, length_so_far, zeros_written}
 use Rattle.rb_store.proofs.new_file.write_front.Goals as goal
@@ -37,3 +37,8 @@ pub write_at-requires-in-loop-at : goal.write_at-requires-in-loop-at
 write_at-requires-in-loop-at g c told =
     let inv = c.loop-at.invariant in
     at_end c.loop-at.at _ inv.begun (length_so_far file_version (g.D.Disk.content c.loop-at.disk) c.args.layout.now (c.loop-at.at - 6144) (inv.written told))
+
+pub returns-clause-written : goal.returns-clause-written
+returns-clause-written g c told =
+    let inv = c.loop-at.invariant in
+    inv.written told ∙ ap (λ (k : ℕ). fresh_first file_version c.args.layout.now ++ replicate k 0) (omega (arith, inv.within, c.loop-at-test.false, c.block_at-end.ensures))
