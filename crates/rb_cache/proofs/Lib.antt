@@ -8,6 +8,7 @@ pub mod NumberLemmas
 pub mod OrderLemmas
 pub mod Parts
 pub mod RoomLemmas
+pub mod ShutLemmas
 pub mod SlotLemmas
 pub mod Steps
 pub mod UseLemmas

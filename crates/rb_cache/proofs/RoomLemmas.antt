@@ -1,5 +1,5 @@
 -- What a call leaves that flushes and writes a batch: of the log, of the disk and of what is seen.
-use Rattle.std.proofs.Common.{Result, Ok, Err, OnOk, ◌≡◌, ◌⊎◌, inl, inr, ⊎_elim, ℕ, ◌<◌, ◌≤◌, List, [], ◌++◌, length, arith, ap, sym, ◌∙◌, subst, refl, append-nil, length-append}
+use Rattle.std.proofs.Common.{Result, Ok, Err, OnOk, ◌≡◌, ◌⊎◌, inl, inr, ⊎_elim, ℕ, ◌+◌, ◌<◌, ◌≤◌, List, [], ◌++◌, length, arith, ap, sym, ◌∙◌, subst, refl, append-nil, length-append}
 use Rattle.rb_base.specs.Groups.{Patch}
 use Rattle.rb_base.specs.Moments.{begun, joined, weaker}
 use Rattle.rb_disk.specs.DiskModel.{Only}
@@ -10,16 +10,17 @@ use Rattle.rb_layout.specs.Regions.{block_offset, file_length, log_offset, twin_
 use Rattle.rb_layout.specs.declared.layout.Layout.{Layout}
 use Rattle.rb_log.specs.GroupLaws.{same_group_log}
 use Rattle.rb_log.specs.GroupSlots.{FlushedSome, GroupsAre, LogState}
-use Rattle.rb_log.specs.Slots.{OutsideFrom, SameOutside, SameSlots}
+use Rattle.rb_log.specs.Slots.{gate_of, OutsideFrom, SameOutside, SameSlots}
 use Rattle.rb_twin.specs.Batches.{Image, with_batch}
 use Rattle.rb_twin.specs.TwinLaws.{kept_shut}
 use Rattle.rb_twin.specs.Twins.{home, twin_gate, TwinSome}
-use Rattle.rb_cache.specs.Calls.{IsDone, Leaving, LogHas, SeenAt, flushed}
+use Rattle.rb_cache.specs.Calls.{IsDone, IsShutBehind, Leaving, LogHas, SeenAt, flushed}
 use Rattle.rb_cache.specs.Frames.{AreClean, AreDifferent, AreSeen, Gathered, seen}
 use Rattle.rb_cache.specs.OnDisk.{IsCalm, Later, OnDisk}
 use Rattle.rb_cache.specs.declared.frame.Frame.{Frame}
 use Rattle.rb_cache.proofs.FrameLemmas.{batch_seen, clean_after_batch, seen_after_batch}
 use Rattle.rb_cache.proofs.Parts.{blocks_behind, front_less, gate_behind, home_behind, home_part, part_back, part_on, same_part, slots_front}
+use Rattle.rb_cache.proofs.ShutLemmas.{flush_shut}
 use Rattle.rb_cache.proofs.Steps.{flush_on_disk, on_disk_later, twin_on_disk}
 
 module _ {D : Type 0} (d : Ghosts D)
@@ -151,6 +152,10 @@ module _ {D : Type 0} (d : Ghosts D) (s : LogState) (l : Layout) (same : s.layou
 
   pub durable_at : ((c : List ℕ) → d.image mid c → SameSlots s.layout.log (d.content mid) c) → (c : List ℕ) → d.image mid c → SameSlots l.log (d.content mid) c
   durable_at durable c here = subst (λ (m : Layout). SameSlots m.log (d.content mid) c) same (durable c here)
+
+  pub shut_at : (0 < length s.pending → gate_of s.layout s.head (d.content mid) (s.used + length s.pending) ≡ 0) → (s.pending ≡ [] → mid ≡ old) → IsShutBehind l s (d.content old) → IsShutBehind l (flushed s) (d.content mid)
+  shut_at closed none = flush_shut l s (d.content old) (d.content mid)
+      (λ some. subst (λ (m : Layout). gate_of m s.head (d.content mid) (s.used + length s.pending) ≡ 0) same (closed some)) (λ is. ap d.content (none is))
 
 -- what holds at an Ok by facts that hold at it
 pub on_ok_three : {T E P Q R S : Type 0} (r : Result T E) → (P → Q → R → S) → OnOk r P → OnOk r Q → OnOk r R → OnOk r S

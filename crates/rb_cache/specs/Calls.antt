@@ -1,11 +1,12 @@
 -- What a call of the cache leaves of its log and its disk, over a log that had these groups.
-use Rattle.std.specs.Prelude.{◌≡◌, ◌⊎◌, ℕ, ◌+◌, List, [], length}
+use Rattle.std.specs.Prelude.{◌≡◌, ◌≢◌, ◌⊎◌, ℕ, ◌+◌, List, [], length}
 use Rattle.rb_base.specs.Groups.{Patch}
 use Rattle.rb_disk.specs.DiskModel.{Only}
 use Rattle.rb_disk.specs.Moments.{Leaves}
 use Rattle.rb_disk.specs.declared.disk.Disk.{Ghosts}
 use Rattle.rb_layout.specs.declared.layout.Layout.{Layout}
 use Rattle.rb_log.specs.GroupSlots.{GroupsAre, LogState}
+use Rattle.rb_log.specs.Slots.{gate_of}
 use Rattle.rb_cache.specs.Frames.{seen, AreClean}
 use Rattle.rb_cache.specs.OnDisk.{IsCalm, Later, OnDisk}
 use Rattle.rb_cache.specs.declared.frame.Frame.{Frame}
@@ -46,8 +47,15 @@ abbrev pub IsDone : {D : Type 0} → Ghosts D → Layout → LogState → LogSta
 IsDone d l s t old new may = (groups : List (List Patch)) → LogHas l s (d.content old) groups
     → Done d l s t old new groups may
 
--- Then all is calm again, clean frames are their homes, and where the content was the only image it is.
-pub record Settled {D : Type 0} (d : Ghosts D) (l : Layout) (held : List Frame) (old new : D) : Type 0 where
+-- the gate behind the groups of a log is shut
+abbrev pub IsShutBehind : Layout → LogState → List ℕ → Type 0
+IsShutBehind l s file = gate_of l s.head file s.used ≢ 1
+
+-- Then all is calm again, clean frames are their homes, and where the content was the only image it is. The gate behind
+-- the groups of the log is shut, where it was.
+pub record Settled {D : Type 0} (d : Ghosts D) (l : Layout) (s t : LogState) (held : List Frame) (old new : D) :
+    Type 0 where
   pub calm : IsCalm (d.image new) l (d.content new)
   pub clean : AreClean l (d.content new) held
   pub only : Only (d.content old) (d.image old) → Only (d.content new) (d.image new)
+  pub shut : IsShutBehind l s (d.content old) → IsShutBehind l t (d.content new)

@@ -60,7 +60,8 @@ fn make_room<D: Disk>(
         ≡ seen layout.now (D.content disk.old) (held_in frames.old) k) }
     ensures done { D.tells → OnOk result (IsDone D.Disk layout.now log.old log.new disk.old disk.new
         (SeenAt layout.now (D.content disk.old) (held_in frames.old))) }
-    ensures settled { D.tells → OnOk result (Settled D.Disk layout.now (held_in frames.new) disk.old disk.new) }
+    ensures settled { D.tells → OnOk result (Settled D.Disk layout.now log.old log.new (held_in frames.new) disk.old
+        disk.new) }
     ensures any_moment { D.tells → Leaving D.Disk layout.now log.old disk.old disk.new
         (SeenAt layout.now (D.content disk.old) (held_in frames.old)) }
     ensures log { StaysOrFlushes log.old log.new }
@@ -75,6 +76,8 @@ fn make_room<D: Disk>(
     if !frames.last_is_dirty() {
         return Ok(());
     }
+    // For the proof: the contract tells that the log has a place behind all its groups.
+    let _ = log.used();
     log.flush(disk)?;
     frames.gather_old(twin);
     twin.write(disk)
@@ -118,7 +121,8 @@ impl Cache {
             ≡ seen layout.now (D.content disk.old) self.old.held k) }
         ensures done { D.tells → OnOk result (IsDone D.Disk layout.now log.old log.new disk.old disk.new
             (SeenAt layout.now (D.content disk.old) self.old.held)) }
-        ensures settled { D.tells → OnOk result (Settled D.Disk layout.now self.new.held disk.old disk.new) }
+        ensures settled { D.tells → OnOk result (Settled D.Disk layout.now log.old log.new self.new.held disk.old
+            disk.new) }
         ensures any_moment { D.tells → Leaving D.Disk layout.now log.old disk.old disk.new
             (SeenAt layout.now (D.content disk.old) self.old.held) }
         ensures log { StaysOrFlushes log.old log.new }
@@ -178,7 +182,8 @@ impl Cache {
             ≡ seen layout.now (D.content disk.old) self.old.held k) }
         ensures done { D.tells → OnOk result (IsDone D.Disk layout.now log.old log.new disk.old disk.new
             (SeenAt layout.now (D.content disk.old) self.old.held)) }
-        ensures settled { D.tells → OnOk result (Settled D.Disk layout.now self.new.held disk.old disk.new) }
+        ensures settled { D.tells → OnOk result (Settled D.Disk layout.now log.old log.new self.new.held disk.old
+            disk.new) }
         ensures any_moment { D.tells → Leaving D.Disk layout.now log.old disk.old disk.new
             (SeenAt layout.now (D.content disk.old) self.old.held) }
         ensures log { StaysOrFlushes log.old log.new }
@@ -219,7 +224,8 @@ impl Cache {
             ≡ seen layout.now (D.content disk.old) self.old.held k) }
         ensures done { D.tells → OnOk result (IsDone D.Disk layout.now log.old log.new disk.old disk.new
             (SeenAt layout.now (D.content disk.old) self.old.held)) }
-        ensures settled { D.tells → OnOk result (Settled D.Disk layout.now self.new.held disk.old disk.new) }
+        ensures settled { D.tells → OnOk result (Settled D.Disk layout.now log.old log.new self.new.held disk.old
+            disk.new) }
         ensures any_moment { D.tells → Leaving D.Disk layout.now log.old disk.old disk.new
             (SeenAt layout.now (D.content disk.old) self.old.held) }
         ensures log { StaysOrFlushes log.old log.new }
@@ -232,6 +238,8 @@ impl Cache {
     {
         // For the proof: the count's contract tells what always holds of frames.
         let _ = self.frames.count();
+        // And the log's that there is a place behind all its groups.
+        let _ = log.used();
         log.flush(disk)?;
         let mut next = 0;
         while let Some(dirty) = self.frames.dirty_from(next) {

@@ -2,7 +2,7 @@ use Rattle.std.proofs.Common.{◌≡◌, ◌<◌, ℕ, true, false, List, ◌∷
 use Rattle.std.proofs.lemmas.Result.{on_ok_weaker}
 use Rattle.rb_layout.specs.Regions.{block_count}
 use Rattle.rb_twin.specs.Twins.{home}
-use Rattle.rb_cache.specs.Calls.{IsDone, Leaving, SeenAt}
+use Rattle.rb_cache.specs.Calls.{IsDone, IsShutBehind, Leaving, SeenAt}
 use Rattle.rb_cache.specs.Frames.{AreBelow, AreClean, CacheState, NoneDirty, brought, frame_in, has_number, numbers_of, others_of, room_made, seen}
 use Rattle.rb_cache.specs.Slots.{held_in, no_frame}
 use Rattle.rb_cache.specs.declared.frame.Frame.{Frame}
@@ -24,6 +24,7 @@ returns-then-touch-clause-settled g c = λ told. record {
   clean = subst (AreClean c.args.layout.now (g.D.Disk.content c.args.disk.now)) (sym (subst (λ (h : List Frame). held_in c.touch.new.self ≡ frame_in c.args.no no_frame h ∷ others_of c.args.no h) (ap (λ (s : CacheState). s.held) c.self.view_is) (c.touch.ensures.moved c.if-touch.true)))
       (all_moved (λ f. f.dirty ≡ false → f.bytes ≡ home c.args.layout.now (g.D.Disk.content c.args.disk.now) f.block) c.args.no no_frame c.args.self.now.held (c.requires.clean told) (subst (λ (h : List Frame). has_number c.args.no (numbers_of h) ≡ true) (ap (λ (s : CacheState). s.held) c.self.view_is) (sym c.touch.ensures.held ∙ c.if-touch.true)));
   only = λ was. was;
+  shut = λ was. was;
 }
 
 pub returns-then-touch-clause-any_moment : goal.returns-then-touch-clause-any_moment
@@ -62,6 +63,7 @@ returns-clause-settled g c = λ told. on_ok_weaker c.bring.result (λ b.
             all_room (λ f. f.dirty ≡ false → f.bytes ≡ home c.args.layout.now (g.D.Disk.content c.make_room.new.disk) f.block) (length c.make_room.new.frames.slots) (held_in c.make_room.new.frames) settled.clean,
           ));
       only = λ was. only_on g.D.Disk (λ disk t im le here. g.met.D.Disk.now_counts disk t im told le here) (λ disk im left. g.met.D.Disk.only_now disk im told left) c.args.layout.now c.args.log.now c.make_room.new.log c.args.disk.now c.make_room.new.disk c.bring.new.disk (SeenAt c.args.layout.now (g.D.Disk.content c.args.disk.now) c.args.self.now.held) (c.bring.ensures.same told) (settled.only was);
+      shut = λ was. subst (IsShutBehind c.args.layout.now c.make_room.new.log) (sym still.same) (settled.shut was);
     }) c.bring.ensures.brought
 
 pub returns-clause-done : goal.returns-clause-done

@@ -36,6 +36,7 @@ returns-clause-settled g c = λ told.
       calm = settled.calm;
       clean = patched_clean c.args.number c.args.group.now f.0 f.1 (held_in c.patch_front.new.self) p c.args.layout.now (g.D.Disk.content c.get.new.disk) (subst (AreClean c.args.layout.now (g.D.Disk.content c.get.new.disk)) (sym (sym f.2 ∙ (ap (λ (s : CacheState). s.held) c.self.view_is))) settled.clean);
       only = settled.only;
+      shut = settled.shut;
     }
 
 pub returns-clause-within : goal.returns-clause-within
