@@ -15,7 +15,10 @@ use Rattle.rb_roll.specs.Rolled.{rolled}
 use Rattle.rb_roll.proofs.Heads.{after_head}
 use Rattle.rb_roll.proofs.OneAfter.{blocks_after, groups_keep}
 use Rattle.rb_roll.proofs.Rolling.{after_high, rolled_above, rolled_again, rolled_joined}
+use Rattle.rb_cache.proofs.Parts.{part_front}
 use Rattle.rb_cache.specs.OnDisk.{OnDisk}
+use Rattle.rb_control.specs.HeadLaws.{same_head}
+use Rattle.rb_control.specs.Heads.{head_of}
 use Rattle.rb_twin.specs.Twins.{home, kept, twin_gate}
 use Rattle.rb_twin.specs.TwinLaws.{kept_shut}
 use Rattle.rb_store.specs.Meaning.{AreHeaded, OpensAt, place_of}
@@ -30,6 +33,10 @@ same_identity l c d whole front id = record {
   front = sym (take-take 24 (log_offset 0) c (omega arith)) ∙ ap (take 24) front ∙ take-take 24 (log_offset 0) d (omega arith) ∙ id.front;
   whole = whole;
 }
+
+-- and where they are of one length, its head
+pub front_head : (c d : List ℕ) → length c ≡ length d → take (log_offset 0) c ≡ take (log_offset 0) d → head_of c ≡ head_of d
+front_head c d long front = same_head d c (record { long = long; same = part_front 8192 2048 6144 c d front (omega arith) })
 
 -- More groups behind those of a file that opens.
 module _ (l : Layout) (file : List ℕ) (b : List (List ℕ)) (n : ℕ) (at : OpensAt l file b n) (shut : twin_gate l file ≢ 1) (more : List (List Patch)) (valid : AllByRecursion IsGroup more) (fits : n + length more < 2 ^ 63) where
@@ -100,7 +107,9 @@ module _ (image : List ℕ → Type 0) (l : Layout) (file : List ℕ) (b : List 
           means = record {
             identity = same_identity l c some.front.0 some.whole some.front.2 (subst (HasIdentity file_version l) (sym (only some.front.0 some.front.1)) m.identity);
             head = m.head;
-            head_is = m.head_is;
+            head_is = m.head_is ∙ ap head_of (sym (only some.front.0 some.front.1)) ∙ sym (front_head c some.front.0 (some.whole ∙ sym m.identity.whole ∙ ap length (sym (only some.front.0 some.front.1))) some.front.2);
+            in_log = m.in_log;
+            first = m.first;
             groups = m.groups ++ firsts;
             log = some.log;
             twin = some.twin;

@@ -1,12 +1,17 @@
 -- What a new file opens to.
-use Rattle.std.proofs.Common.{◌≡◌, ◌≢◌, ℕ, ◌<◌, ◌+◌, ◌^◌, ◌++◌, [], drop, slice_index, refl, arith, ap, sym, subst, ◌∙◌, inr}
-use Rattle.std.proofs.lemmas.List.{get_or-take, get_or-drop}
+use Rattle.std.proofs.Common.{◌≡◌, ◌≢◌, ℕ, ◌<◌, ◌+◌, ◌-◌, ◌%◌, ◌^◌, ◌++◌, List, [], length, replicate, drop, slice_index, refl, arith, ap, sym, subst, ◌∙◌, inr, append_assoc}
+use Rattle.std.proofs.lemmas.List.{get_or-take, get_or-drop, drop_at, drop-drop, length-append, length-replicate}
+use Rattle.std.specs.List.{concat}
+use Rattle.byteorder.specs.Endian.{big_number}
 use Rattle.rb_base.specs.Blocks.{block_kind, block_of, fresh_block, fresh_blocks, fresh_head, fresh_rest, shape_blocks}
 use Rattle.rb_base.specs.Fields.{number_at}
 use Rattle.rb_base.specs.declared.shape.Shape.{Shape}
 use Rattle.rb_base.proofs.Blocks.{fresh_at}
 use Rattle.rb_layout.specs.Fresh.{fresh_are_blocks, fresh_has_identity, fresh_home, fresh_zero}
-use Rattle.rb_layout.specs.Regions.{file_version, fresh_file, shape_of, twin_offset}
+use Rattle.rb_control.specs.HeadLaws.{head_by}
+use Rattle.rb_control.specs.Heads.{chosen, copy_at, head_of}
+use Rattle.rb_layout.specs.Regions.{block_offset, file_version, fresh_copy, fresh_file, identity, shape_of, twin_offset}
+use Rattle.rb_layout.specs.declared.layout.Head.{Head}
 use Rattle.rb_layout.specs.declared.layout.Layout.{Layout}
 use Rattle.rb_cache.proofs.UseLemmas.{few_blocks}
 use Rattle.rb_log.specs.GroupLaws.{slot_low}
@@ -14,7 +19,6 @@ use Rattle.rb_log.specs.Slots.{slot_at}
 use Rattle.rb_twin.specs.Twins.{twin_gate}
 use Rattle.rb_twin.specs.TwinLaws.{kept_shut}
 use Rattle.rb_store.specs.Meaning.{IsHeaded, OpensAt, place_of}
-use Rattle.rb_store.specs.declared.head.TheConstants.{FIRST_HEAD}
 
 -- the first gate of a new file is closed
 first_gate : (l : Layout) → slice_index (slot_at (fresh_file file_version l) 0) 0 ≡ 0
@@ -49,14 +53,52 @@ fresh_headed l which lt =
 own_block : (shape : Shape) (which : ℕ) → which < shape_blocks shape → block_of (fresh_blocks shape) which ≡ fresh_block shape which
 own_block shape which lt = fresh_at shape 0 (shape_blocks shape) which lt ∙ ap (fresh_block shape) {x = 0 + which} (omega arith)
 
+-- its log begins in the first slot, with number 1
+abbrev first_head : Head
+first_head = record { slot = 0; number = 1 }
+
+-- What a new file has behind its first unit: a control copy.
+behind_first : (l : Layout) → (rest : List ℕ) × (drop 2048 (fresh_file file_version l) ≡ fresh_copy ++ rest)
+behind_first l =
+    let own = identity file_version l in
+    let zeros : List ℕ = replicate 2024 0 in
+    let more : List ℕ = replicate (block_offset l 0 - 6144) 0 in
+    let units = concat (fresh_blocks (shape_of l)) in
+    let rest = fresh_copy ++ (more ++ units) in
+    let long : length own ≡ 24 = omega arith in
+    let split : fresh_file file_version l ≡ (own ++ zeros) ++ (fresh_copy ++ rest) =
+        append_assoc (own ++ (zeros ++ (fresh_copy ++ fresh_copy))) more units
+        ∙ append_assoc own (zeros ++ (fresh_copy ++ fresh_copy)) (more ++ units)
+        ∙ ap (λ (x : List ℕ). own ++ x) (append_assoc zeros (fresh_copy ++ fresh_copy) (more ++ units)
+        ∙ ap (λ (x : List ℕ). zeros ++ x) (append_assoc fresh_copy fresh_copy (more ++ units)))
+        ∙ sym (append_assoc own zeros (fresh_copy ++ rest)) in
+    (rest, ap (drop 2048) split ∙ drop_at (own ++ zeros) (fresh_copy ++ rest) 2048 (omega (arith, long, length-append own zeros, length-replicate {A = ℕ} 2024 0)))
+
+first_slot : (rest : List ℕ) → big_number 4 (fresh_copy ++ rest) ≡ 0
+first_slot rest = refl
+
+first_number : (rest : List ℕ) → big_number 8 (drop 8 (fresh_copy ++ rest)) ≡ 1
+first_number rest = refl
+
+head_is : (l : Layout) → head_of (fresh_file file_version l) ≡ first_head
+head_is l =
+    let file = fresh_file file_version l in
+    let behind = behind_first l in
+    let zero : chosen file ≡ 0 = ap (λ (b : ℕ). b % 2) (fresh_zero file_version l 6144 (omega arith) (omega arith)) in
+    let slot : number_at file 2048 4 ≡ 0 = ap (big_number 4) behind.1 ∙ first_slot behind.0 in
+    let number : number_at file 2056 8 ≡ 1 = ap (big_number 8) (sym (drop-drop 8 2048 file) ∙ ap (drop 8) behind.1) ∙ first_number behind.0 in
+    ap (copy_at file) zero ∙ ap (λ (n : ℕ). head_by n (number_at file 2056 8)) slot ∙ ap (head_by 0) number
+
 pub fresh_opens : (l : Layout) → OpensAt l (fresh_file file_version l) (fresh_blocks (shape_of l)) 0
 fresh_opens l = record {
   means = record {
     identity = fresh_has_identity file_version l;
-    head = FIRST_HEAD;
-    head_is = refl;
+    head = first_head;
+    head_is = sym (head_is l);
+    in_log = omega (arith, l.few_slots.0);
+    first = omega arith;
     groups = [];
-    log = inr (λ is. let gate = ap (λ (s : ℕ). slice_index (slot_at (fresh_file file_version l) s) 0) (slot_low l FIRST_HEAD 0 (omega (arith, l.few_slots.0))) ∙ first_gate l in omega (arith, gate, is));
+    log = inr (λ is. let gate = ap (λ (s : ℕ). slice_index (slot_at (fresh_file file_version l) s) 0) (slot_low l first_head 0 (omega (arith, l.few_slots.0))) ∙ first_gate l in omega (arith, gate, is));
     twin = λ is. absurd (gate_shut l is);
     last = refl;
     whole = fresh_are_blocks (shape_of l);

@@ -4,7 +4,7 @@ pub mod FreshOpening
 pub mod GroupSteps
 pub mod HeaderLemmas
 pub mod MeaningLemmas
-pub mod NumberLemmas
+pub mod MovedHead
 pub mod OneMeaning
 pub mod OneOpening
 pub mod OpeningLemmas

@@ -22,8 +22,10 @@ use Rattle.rb_twin.specs.Batches.{Image, batch_in, with_batch}
 use Rattle.rb_twin.specs.TwinLaws.{kept_shut}
 use Rattle.rb_twin.specs.Twins.{home, kept, twin_area, twin_gate, IsTwin, Repaired}
 use Rattle.rb_twin.proofs.Images.{all_by, counted}
-use Rattle.rb_cache.proofs.Parts.{front_less, slots_front}
-use Rattle.rb_store.specs.declared.head.TheConstants.{FIRST_HEAD}
+use Rattle.rb_cache.proofs.Parts.{front_less, gate_behind, home_behind, slots_front}
+use Rattle.rb_control.specs.Heads.{head_of, IsHead}
+use Rattle.rb_log.specs.GroupSlots.{KeptLog}
+use Rattle.rb_log.specs.Slots.{gate_of, SameOutside}
 use Rattle.rb_store.specs.Meaning.{AreHeaded, IsHeaded, KeepsHeads, Means, OpensAt}
 use Rattle.rb_base.specs.Fields.{number_at}
 use Rattle.rb_cache.specs.Frames.{seen, AreClean}
@@ -32,12 +34,13 @@ use Rattle.rb_store.specs.CachedFiles.{CachedState}
 use Rattle.rb_store.specs.StoreStates.{IsQuietAt, IsStableAt, blocks_by}
 use Rattle.rb_store.proofs.Settled.{later_on_disk}
 use Rattle.rb_log.specs.GroupLaws.{one_group_log, same_group_log}
-use Rattle.rb_store.proofs.Between.{between}
+use Rattle.rb_store.proofs.Between.{between, front_head}
 use Rattle.rb_cache.specs.declared.frame.Frame.{Frame}
 use Rattle.rb_layout.specs.OneLayout.{one_layout}
 use Rattle.rb_store.proofs.SameLayout.{same_layout}
 use Rattle.rb_store.specs.Openings.{HasOpened, IsRepaired, LeavesMeaning, LeftAlone}
-use Rattle.rb_store.proofs.MeaningLemmas.{heads_of_kept, kept_heads, logged_groups, means_kept}
+use Rattle.rb_store.proofs.CachedLemmas.{clean_same, seen_same}
+use Rattle.rb_store.proofs.MeaningLemmas.{heads_of_kept, kept_heads, logged_groups, means_kept, means_logged}
 use Rattle.rb_store.proofs.OneMeaning.{one_meaning}
 use Rattle.rb_store.proofs.StoreLemmas.{all_units, one_by, same_blocks}
 
@@ -75,22 +78,24 @@ unit_kept l file k whole twin lt = by (twin_gate l file == 1) refl
     by false is = unit_home l file k whole lt
 
 -- a file whose log was scanned means blocks, where its twin area is one
-pub means_made : (l : Layout) (file : List ℕ) (groups : List (List Patch)) (n : ℕ) → HasIdentity file_version l file → GroupsAre l FIRST_HEAD file 0 groups → IsTwin l file → n ≡ length groups
-    → Means l file (made_blocks l FIRST_HEAD groups file) n
-means_made l file groups n id log twin last = record {
+pub means_made : (l : Layout) (file : List ℕ) (head : Head) (groups : List (List Patch)) (n : ℕ) → HasIdentity file_version l file → IsHead l head → head ≡ head_of file → GroupsAre l head file 0 groups → IsTwin l file
+    → n + 1 ≡ head.number + length groups → Means l file (made_blocks l head groups file) n
+means_made l file head groups n id valid head_is log twin last = record {
   identity = id;
-  head = FIRST_HEAD;
-  head_is = refl;
+  head = head;
+  head_is = head_is;
+  in_log = valid.slot;
+  first = valid.first;
   groups = groups;
   log = log;
   twin = twin;
-  last = omega (arith, last);
+  last = last;
   whole = record {
-    count = length-map-range_with_len (λ k. rolled 1 groups k (kept l file k)) 0 (block_count l);
-    each = all_units (λ k. rolled 1 groups k (kept l file k)) 0 (block_count l)
-        (λ k le lt. (rolled_head k 1 groups (kept l file k) (unit_kept l file k id.whole twin (omega (arith, lt))) (logged_groups l FIRST_HEAD file 0 groups log)).long);
+    count = length-map-range_with_len (λ k. rolled head.number groups k (kept l file k)) 0 (block_count l);
+    each = all_units (λ k. rolled head.number groups k (kept l file k)) 0 (block_count l)
+        (λ k le lt. (rolled_head k head.number groups (kept l file k) (unit_kept l file k id.whole twin (omega (arith, lt))) (logged_groups l head file 0 groups log)).long);
   };
-  made = λ which lt. made_one l FIRST_HEAD groups file which lt;
+  made = λ which lt. made_one l head groups file which lt;
 }
 
 -- another meaning of the same file is the same
@@ -104,7 +109,6 @@ pub repaired_means : (image : List ℕ → Type 0) (l : Layout) (file c : List �
 repaired_means image l file c b n only m r =
     let same = subst (λ (d : List ℕ). SameBut (twin_offset l 0) (file_length l) d c) (only r.outside.0 r.outside.1) r.outside.2 in
     means_kept l file c b n (same.long ∙ m.identity.whole) (front_less l c file same.before) (slots_front l c file same.long same.before) r.twin (λ which lt. r.blocks which) m
-    (let slot = ap (λ (h : Head). h.slot) m.head_is in omega (arith, slot, l.few_slots.0))
 
 -- An image of calls that give nothing opens to what the file does, where all that may come home rolls to that.
 pub opens_still : (image : List ℕ → Type 0) (l : Layout) (file : List ℕ) (b : List (List ℕ)) (n : ℕ) (at : OpensAt l file b n) → twin_gate l file ≢ 1 → Only file image → (head : Head) (groups : List (List Patch))
@@ -125,14 +129,15 @@ opens_still image l file b n at shut only head groups head_is groups_are few may
 -- The disk of an opening, once its file was read: what is read is the only image, and its log was scanned.
 module _ {D : Type 0} (d : Ghosts D)
     (counts : (disk : D) (t : ℕ) (c : List ℕ) → t ≤ d.moment disk → d.image disk c → d.image_since disk t c)
-    (reads : (disk : D) → d.image disk (d.content disk)) (l : Layout) (old : D) (groups : List (List Patch)) (n : ℕ)
-    (id : HasIdentity file_version l (d.content old)) (log : GroupsAre l FIRST_HEAD (d.content old) 0 groups) (last : n ≡ length groups)
+    (reads : (disk : D) → d.image disk (d.content disk)) (l : Layout) (old : D) (head : Head) (groups : List (List Patch)) (n : ℕ)
+    (id : HasIdentity file_version l (d.content old)) (valid : IsHead l head) (head_is : head ≡ head_of (d.content old))
+    (log : GroupsAre l head (d.content old) 0 groups) (last : n + 1 ≡ head.number + length groups)
     (only : Only (d.content old) (d.image old)) where
   abbrev blocks : List (List ℕ)
-  blocks = made_blocks l FIRST_HEAD groups (d.content old)
+  blocks = made_blocks l head groups (d.content old)
 
   pub meaning : IsTwin l (d.content old) → Means l (d.content old) blocks n
-  meaning twin = means_made l (d.content old) groups n id log twin last
+  meaning twin = means_made l (d.content old) head groups n id valid head_is log twin last
 
   -- what each moment of a call leaves, where each image means what the file did
   pub leaves_meaning : (new : D) → IsTwin l (d.content old) → Leaves d old new (λ c. Means l c blocks n) → LeavesMeaning d l old new
@@ -163,7 +168,7 @@ module _ {D : Type 0} (d : Ghosts D)
   keeps_of b k few opens =
       let m = meaning opens.means.twin in
       let same = one_meaning l (d.content old) b blocks k n opens.means m in
-      let low : k < 2 ^ 62 = omega (arith, same.1, few, last, l.few_slots.1) in
+      let low : k < 2 ^ 62 = omega (arith, same.1, few, last, valid.last, l.few_slots.1) in
       subst (KeepsHeads l (d.content old)) same.1
       (kept_heads l (d.content old) b k opens.means low (λ i lt. unit_kept l (d.content old) i id.whole opens.means.twin lt) opens.headed)
 
@@ -173,12 +178,14 @@ module _ {D : Type 0} (d : Ghosts D)
     kept_mid k = kept_shut l (d.content mid) k r.shut ∙ r.homes k
 
     number_few : n < 2 ^ 62
-    number_few = omega (arith, few, last, l.few_slots.1)
+    number_few = omega (arith, few, last, valid.last, l.few_slots.1)
 
     means_mid : Means l (d.content mid) blocks n
     means_mid = means_kept l (d.content old) (d.content mid) blocks n r.whole (front_less l (d.content mid) (d.content old) r.outside.before) (slots_front l (d.content mid) (d.content old) r.outside.long r.outside.before)
         (λ gate. absurd (r.shut gate)) (λ k lt. kept_mid k) (meaning r.twin)
-        (let slot = ap (λ (h : Head). h.slot) (meaning r.twin).head_is in omega (arith, slot, l.few_slots.0))
+
+    head_mid : head_of (d.content mid) ≡ head
+    head_mid = front_head (d.content mid) (d.content old) r.outside.long (front_less l (d.content mid) (d.content old) r.outside.before) ∙ sym head_is
 
     headed : AreHeaded (shape_of l) blocks n
     headed = heads_of_kept l (d.content mid) blocks n means_mid number_few (λ k lt. unit_kept l (d.content mid) k r.whole (λ gate. absurd (r.shut gate)) lt)
@@ -187,95 +194,145 @@ module _ {D : Type 0} (d : Ghosts D)
     abbrev opens_mid : OpensAt l (d.content mid) blocks n
     opens_mid = record { means = means_mid; headed = headed }
 
-    pub log_mid : GroupsAre l FIRST_HEAD (d.content mid) 0 groups
-    log_mid = same_group_log l FIRST_HEAD (d.content old) (d.content mid) groups (omega (arith, l.few_slots.0)) (slots_front l (d.content mid) (d.content old) r.outside.long r.outside.before) log
+    pub log_mid : GroupsAre l head (d.content mid) 0 groups
+    log_mid = same_group_log l head (d.content old) (d.content mid) groups valid.slot (slots_front l (d.content mid) (d.content old) r.outside.long r.outside.before) log
 
     groups_mid : means_mid.groups ≡ groups
-    groups_mid = one_group_log l FIRST_HEAD (d.content mid) 0 means_mid.groups groups
-        (subst (λ (h : Head). GroupsAre l h (d.content mid) 0 means_mid.groups) means_mid.head_is means_mid.log)
-        (same_group_log l FIRST_HEAD (d.content old) (d.content mid) groups (omega (arith, l.few_slots.0)) (slots_front l (d.content mid) (d.content old) r.outside.long r.outside.before) log)
+    groups_mid = one_group_log l head (d.content mid) 0 means_mid.groups groups
+        (subst (λ (h : Head). GroupsAre l h (d.content mid) 0 means_mid.groups) (means_mid.head_is ∙ head_mid) means_mid.log)
+        (same_group_log l head (d.content old) (d.content mid) groups valid.slot (slots_front l (d.content mid) (d.content old) r.outside.long r.outside.before) log)
 
     -- what may come home while they are
     abbrev pub MayRoll : ℕ → List ℕ → Type 0
-    MayRoll k x = rolled 1 groups k x ≡ rolled 1 groups k (home l (d.content mid) k)
+    MayRoll k x = rolled head.number groups k x ≡ rolled head.number groups k (home l (d.content mid) k)
 
-    rolls : (k : ℕ) (x : List ℕ) → k < block_count l → MayRoll k x → rolled 1 groups k x ≡ block_of blocks k
-    rolls k x lt may = may ∙ ap (rolled 1 groups k) (r.homes k) ∙ sym (made_one l FIRST_HEAD groups (d.content old) k lt)
+    rolls : (k : ℕ) (x : List ℕ) → k < block_count l → MayRoll k x → rolled head.number groups k x ≡ block_of blocks k
+    rolls k x lt may = may ∙ ap (rolled head.number groups k) (r.homes k) ∙ sym (made_one l head groups (d.content old) k lt)
 
-    pub still_opens : (c : List ℕ) → OnDisk (d.image mid) l FIRST_HEAD groups [] (d.content mid) MayRoll c → OpensAt l c blocks n
-    still_opens c some = opens_still (d.image mid) l (d.content mid) blocks n opens_mid r.shut r.only FIRST_HEAD groups means_mid.head_is groups_mid number_few MayRoll rolls c some
+    pub still_opens : (c : List ℕ) → OnDisk (d.image mid) l head groups [] (d.content mid) MayRoll c → OpensAt l c blocks n
+    still_opens c some = opens_still (d.image mid) l (d.content mid) blocks n opens_mid r.shut r.only head groups (means_mid.head_is ∙ head_mid) groups_mid number_few MayRoll rolls c some
 
     -- each moment of both
-    pub rolled_leaves : (new : D) → Leaves d old mid (Repaired (d.image old) l (d.content old)) → Leaves d mid new (OnDisk (d.image mid) l FIRST_HEAD groups [] (d.content mid) MayRoll) → LeavesMeaning d l old new
-    rolled_leaves new first second = leaves_meaning new r.twin (joined d.moment d.image_since old mid new (λ c. Means l c blocks n)
+    both_leave : (new : D) → Leaves d old mid (Repaired (d.image old) l (d.content old)) → Leaves d mid new (OnDisk (d.image mid) l head groups [] (d.content mid) MayRoll) → Leaves d old new (λ c. Means l c blocks n)
+    both_leave new first second = joined d.moment d.image_since old mid new (λ c. Means l c blocks n)
         (weaker d.moment d.image_since old mid (Repaired (d.image old) l (d.content old)) (λ c. Means l c blocks n)
         (λ c x. repaired_means (d.image old) l (d.content old) c blocks n only (meaning r.twin) x) first)
-        (weaker d.moment d.image_since mid new (OnDisk (d.image mid) l FIRST_HEAD groups [] (d.content mid) MayRoll) (λ c. Means l c blocks n) (λ c some. (still_opens c some).means) second))
+        (weaker d.moment d.image_since mid new (OnDisk (d.image mid) l head groups [] (d.content mid) MayRoll) (λ c. Means l c blocks n) (λ c some. (still_opens c some).means) second)
+
+    pub rolled_leaves : (new : D) → Leaves d old mid (Repaired (d.image old) l (d.content old)) → Leaves d mid new (OnDisk (d.image mid) l head groups [] (d.content mid) MayRoll) → LeavesMeaning d l old new
+    rolled_leaves new first second = leaves_meaning new r.twin (both_leave new first second)
 
     -- and behind it, where it answered Ok
-    module _ (new : D) (t : CachedState) (groups1 : List (List Patch)) (layout_is : t.layout ≡ l) (head_is : t.head ≡ FIRST_HEAD) (waits : t.pending ≡ []) (used_is : length groups1 ≡ t.used)
-        (later : Later (d.image mid) (d.image new) l groups [] (d.content mid) groups1 t.pending (d.content new) MayRoll) (there : GroupsAre l FIRST_HEAD (d.content new) 0 groups1)
+    module _ (new : D) (t : CachedState) (groups1 : List (List Patch)) (layout_is : t.layout ≡ l) (head_t : t.head ≡ head) (waits : t.pending ≡ []) (used_is : length groups1 ≡ t.used)
+        (later : Later (d.image mid) (d.image new) l groups [] (d.content mid) groups1 t.pending (d.content new) MayRoll) (there : GroupsAre l head (d.content new) 0 groups1)
         (calm : IsCalm (d.image new) l (d.content new)) (clean : AreClean l (d.content new) t.held) (only_new : Only (d.content new) (d.image new))
-        (seen_is : (k : ℕ) → k < block_count l → seen l (d.content new) t.held k ≡ rolled 1 groups k (home l (d.content mid) k)) where
-      reads_blocks : blocks_by l (d.content new) t.held ≡ blocks
-      reads_blocks = same_blocks (block_count l) (blocks_by l (d.content new) t.held) blocks
-          (length-map-range_with_len (seen l (d.content new) t.held) 0 (block_count l)) (length-map-range_with_len (λ k. rolled 1 groups k (kept l (d.content old) k)) 0 (block_count l))
-          (λ k lt. one_by l (d.content new) t.held k lt ∙ seen_is k lt ∙ ap (rolled 1 groups k) (r.homes k) ∙ sym (made_one l FIRST_HEAD groups (d.content old) k lt))
-
+        (seen_is : (k : ℕ) → k < block_count l → seen l (d.content new) t.held k ≡ rolled head.number groups k (home l (d.content mid) k)) where
       shut_new : twin_gate l (d.content new) ≢ 1
       shut_new = calm.shut (d.content new) (reads new)
 
+      head_new : head_of (d.content new) ≡ head
+      head_new =
+          let front = later.front (d.content new) (reads new) in
+          let same = r.only front.0 front.1 in
+          front_head (d.content new) front.0 (calm.whole ∙ sym r.whole ∙ ap length (sym same)) front.2 ∙ ap head_of same ∙ head_mid
+
       opens_new : OpensAt l (d.content new) blocks n
       opens_new = still_opens (d.content new)
-          (later_on_disk (d.image mid) (d.image new) l FIRST_HEAD groups [] (d.content mid) groups1 t.pending (d.content new) MayRoll later (reads new) calm.whole there shut_new).0
+          (later_on_disk (d.image mid) (d.image new) l head groups [] (d.content mid) groups1 t.pending (d.content new) MayRoll later (reads new) calm.whole there shut_new).0
 
       groups_new : opens_new.means.groups ≡ groups1
-      groups_new = one_group_log l FIRST_HEAD (d.content new) 0 opens_new.means.groups groups1
-          (subst (λ (h : Head). GroupsAre l h (d.content new) 0 opens_new.means.groups) opens_new.means.head_is opens_new.means.log) there
+      groups_new = one_group_log l head (d.content new) 0 opens_new.means.groups groups1
+          (subst (λ (h : Head). GroupsAre l h (d.content new) 0 opens_new.means.groups) (opens_new.means.head_is ∙ head_new) opens_new.means.log) there
 
-      low : (k : ℕ) → k < block_count l → number_at (seen l (d.content new) t.held k) 0 8 ≤ n
-      low k lt =
-          let is = ap (λ (b : List (List ℕ)). number_at (block_of b k) 0 8) reads_blocks in
-          let one = ap (λ (x : List ℕ). number_at x 0 8) (one_by l (d.content new) t.held k lt) in
-          let few = (headed k lt).low in omega (arith, is, one, few)
+      -- The gate behind the groups is shut then: each moment of that leaves what the file means.
+      module _ (end : D) (shuts : Leaves d new end (KeptLog (d.image new) l head groups1)) where
+        logged : (c : List ℕ) → KeptLog (d.image new) l head groups1 c → Means l c blocks n
+        logged c some =
+            let outside = subst (λ (f : List ℕ). SameOutside l.log f c) (only_new some.outside.0 some.outside.1) some.outside.2 in
+            means_logged l (d.content new) c blocks n outside opens_new.means shut_new
+            (subst (λ (h : Head). GroupsAre l h c 0 opens_new.means.groups) (sym (opens_new.means.head_is ∙ head_new)) (subst (GroupsAre l head c 0) (sym groups_new) some.log))
 
-      pub has_opened : HasOpened d t n old new
-      has_opened = record {
-        quiet = subst (λ (m : Layout). IsQuietAt m n t.held (d.content new) (d.image new)) (sym layout_is) (record { whole = calm.whole; only = only_new; shut = shut_new; clean = clean; low = low });
-        found = subst (λ (m : Layout). OpensAt m (d.content old) (blocks_by m (d.content new) t.held) n) (sym layout_is)
-            (subst (λ (b : List (List ℕ)). OpensAt l (d.content old) b n) (sym reads_blocks) (record { means = meaning r.twin; headed = headed }));
-        stable = subst (λ (m : Layout). IsStableAt m t.head t.used t.pending n (blocks_by m (d.content new) t.held) (d.content new) (d.image new) (blocks_by m (d.content new) t.held) n) (sym layout_is)
-            (subst (λ (b : List (List ℕ)). IsStableAt l t.head t.used t.pending n b (d.content new) (d.image new) b n) (sym reads_blocks) (record {
-              only = only_new;
-              opens = opens_new;
-              head_is = opens_new.means.head_is ∙ sym head_is;
-              used_is = ap length groups_new ∙ used_is;
-              numbered = omega (arith, ap length waits);
-              reads = ap (λ (p : List (List Patch)). after_groups (n + 1) p blocks) (sym waits);
-            }));
-      }
+        pub shut_leaves : Leaves d old mid (Repaired (d.image old) l (d.content old)) → Leaves d mid new (OnDisk (d.image mid) l head groups [] (d.content mid) MayRoll) → LeavesMeaning d l old end
+        shut_leaves first second = leaves_meaning end r.twin (joined d.moment d.image_since old new end (λ c. Means l c blocks n)
+            (both_leave new first second)
+            (weaker d.moment d.image_since new end (KeptLog (d.image new) l head groups1) (λ c. Means l c blocks n) logged shuts))
+
+        module _ (only_end : Only (d.content end) (d.image end)) (next : gate_of l head (d.content end) t.used ≢ 1) where
+          kept_end : KeptLog (d.image new) l head groups1 (d.content end)
+          kept_end = shuts.each (d.content end) (counts end (d.moment new) (d.content end) shuts.later (reads end))
+
+          outside : SameOutside l.log (d.content new) (d.content end)
+          outside = subst (λ (f : List ℕ). SameOutside l.log f (d.content end)) (only_new kept_end.outside.0 kept_end.outside.1) kept_end.outside.2
+
+          seen_end : (k : ℕ) → seen l (d.content end) t.held k ≡ seen l (d.content new) t.held k
+          seen_end k = seen_same l (d.content new) (d.content end) t.held k (home_behind l (d.content end) (d.content new) k outside.behind)
+
+          reads_blocks : blocks_by l (d.content end) t.held ≡ blocks
+          reads_blocks = same_blocks (block_count l) (blocks_by l (d.content end) t.held) blocks
+              (length-map-range_with_len (seen l (d.content end) t.held) 0 (block_count l)) (length-map-range_with_len (λ k. rolled head.number groups k (kept l (d.content old) k)) 0 (block_count l))
+              (λ k lt. one_by l (d.content end) t.held k lt ∙ seen_end k ∙ seen_is k lt ∙ ap (rolled head.number groups k) (r.homes k) ∙ sym (made_one l head groups (d.content old) k lt))
+
+          opens_end : OpensAt l (d.content end) blocks n
+          opens_end = record { means = logged (d.content end) kept_end; headed = headed }
+
+          head_end : head_of (d.content end) ≡ head
+          head_end = front_head (d.content end) (d.content new) outside.long outside.before ∙ head_new
+
+          groups_end : opens_end.means.groups ≡ groups1
+          groups_end = one_group_log l head (d.content end) 0 opens_end.means.groups groups1
+              (subst (λ (h : Head). GroupsAre l h (d.content end) 0 opens_end.means.groups) (opens_end.means.head_is ∙ head_end) opens_end.means.log) kept_end.log
+
+          low : (k : ℕ) → k < block_count l → number_at (seen l (d.content end) t.held k) 0 8 ≤ n
+          low k lt =
+              let is = ap (λ (b : List (List ℕ)). number_at (block_of b k) 0 8) reads_blocks in
+              let one = ap (λ (x : List ℕ). number_at x 0 8) (one_by l (d.content end) t.held k lt) in
+              let few = (headed k lt).low in omega (arith, is, one, few)
+
+          pub has_opened : HasOpened d t n old end
+          has_opened = record {
+            quiet = subst (λ (m : Layout). IsQuietAt m t.head t.used n t.held (d.content end) (d.image end)) (sym layout_is) (record {
+              whole = outside.long ∙ calm.whole;
+              only = only_end;
+              shut = λ gate. shut_new (sym (gate_behind l (d.content end) (d.content new) outside.behind) ∙ gate);
+              next = subst (λ (h : Head). gate_of l h (d.content end) t.used ≢ 1) (sym head_t) next;
+              clean = clean_same l (d.content new) (d.content end) t.held (λ k. home_behind l (d.content end) (d.content new) k outside.behind) clean;
+              low = low;
+            });
+            found = subst (λ (m : Layout). OpensAt m (d.content old) (blocks_by m (d.content end) t.held) n) (sym layout_is)
+                (subst (λ (b : List (List ℕ)). OpensAt l (d.content old) b n) (sym reads_blocks) (record { means = meaning r.twin; headed = headed }));
+            stable = subst (λ (m : Layout). IsStableAt m t.head t.used t.pending n (blocks_by m (d.content end) t.held) (d.content end) (d.image end) (blocks_by m (d.content end) t.held) n) (sym layout_is)
+                (subst (λ (b : List (List ℕ)). IsStableAt l t.head t.used t.pending n b (d.content end) (d.image end) b n) (sym reads_blocks) (record {
+                  only = only_end;
+                  opens = opens_end;
+                  head_is = opens_end.means.head_is ∙ head_end ∙ sym head_t;
+                  used_is = ap length groups_end ∙ used_is;
+                  numbered = omega (arith, ap length waits);
+                  reads = ap (λ (p : List (List Patch)). after_groups (n + 1) p blocks) (sym waits);
+                }));
+          }
 
 -- What rolling forward says over frames that held nothing, and a log where nothing waited.
-pub as_rolled : {D : Type 0} (d : Ghosts D) (l : Layout) (mid new : D) (head : Head) (pending : List (List Patch)) (held : List Frame) (gs groups : List (List Patch))
-    → head ≡ FIRST_HEAD → pending ≡ [] → held ≡ [] → gs ≡ groups
-    → Leaves d mid new (OnDisk (d.image mid) l head groups pending (d.content mid) (λ k x. rolled 1 gs k x ≡ rolled 1 gs k (seen l (d.content mid) held k)))
-    → Leaves d mid new (OnDisk (d.image mid) l FIRST_HEAD groups [] (d.content mid) (λ k x. rolled 1 groups k x ≡ rolled 1 groups k (home l (d.content mid) k)))
-as_rolled d l mid new head pending held gs groups head_is none empty same leaves =
+pub as_rolled : {D : Type 0} (d : Ghosts D) (l : Layout) (mid new : D) (head to : Head) (pending : List (List Patch)) (held : List Frame) (gs groups : List (List Patch))
+    → head ≡ to → pending ≡ [] → held ≡ [] → gs ≡ groups
+    → Leaves d mid new (OnDisk (d.image mid) l head groups pending (d.content mid) (λ k x. rolled to.number gs k x ≡ rolled to.number gs k (seen l (d.content mid) held k)))
+    → Leaves d mid new (OnDisk (d.image mid) l to groups [] (d.content mid) (λ k x. rolled to.number groups k x ≡ rolled to.number groups k (home l (d.content mid) k)))
+as_rolled d l mid new head to pending held gs groups head_is none empty same leaves =
     let image = d.image mid in
     let file = d.content mid in
-    let one = subst (λ (h : Head). Leaves d mid new (OnDisk image l h groups pending file (λ k x. rolled 1 gs k x ≡ rolled 1 gs k (seen l file held k)))) head_is leaves in
-    let two = subst (λ (p : List (List Patch)). Leaves d mid new (OnDisk image l FIRST_HEAD groups p file (λ k x. rolled 1 gs k x ≡ rolled 1 gs k (seen l file held k)))) none one in
-    let three = subst (λ (fs : List Frame). Leaves d mid new (OnDisk image l FIRST_HEAD groups [] file (λ k x. rolled 1 gs k x ≡ rolled 1 gs k (seen l file fs k)))) empty two in
-    subst (λ (g : List (List Patch)). Leaves d mid new (OnDisk image l FIRST_HEAD groups [] file (λ k x. rolled 1 g k x ≡ rolled 1 g k (home l file k)))) same three
+    let n = to.number in
+    let one = subst (λ (h : Head). Leaves d mid new (OnDisk image l h groups pending file (λ k x. rolled n gs k x ≡ rolled n gs k (seen l file held k)))) head_is leaves in
+    let two = subst (λ (p : List (List Patch)). Leaves d mid new (OnDisk image l to groups p file (λ k x. rolled n gs k x ≡ rolled n gs k (seen l file held k)))) none one in
+    let three = subst (λ (fs : List Frame). Leaves d mid new (OnDisk image l to groups [] file (λ k x. rolled n gs k x ≡ rolled n gs k (seen l file fs k)))) empty two in
+    subst (λ (g : List (List Patch)). Leaves d mid new (OnDisk image l to groups [] file (λ k x. rolled n g k x ≡ rolled n g k (home l file k)))) same three
 
-pub later_rolled : (image image1 : List ℕ → Type 0) (l : Layout) (file file1 : List ℕ) (pending : List (List Patch)) (held : List Frame) (gs groups groups1 pending1 : List (List Patch))
+pub later_rolled : (image image1 : List ℕ → Type 0) (l : Layout) (n : ℕ) (file file1 : List ℕ) (pending : List (List Patch)) (held : List Frame) (gs groups groups1 pending1 : List (List Patch))
     → pending ≡ [] → held ≡ [] → gs ≡ groups
-    → Later image image1 l groups pending file groups1 pending1 file1 (λ k x. rolled 1 gs k x ≡ rolled 1 gs k (seen l file held k))
-    → Later image image1 l groups [] file groups1 pending1 file1 (λ k x. rolled 1 groups k x ≡ rolled 1 groups k (home l file k))
-later_rolled image image1 l file file1 pending held gs groups groups1 pending1 none empty same later =
-    let one = subst (λ (p : List (List Patch)). Later image image1 l groups p file groups1 pending1 file1 (λ k x. rolled 1 gs k x ≡ rolled 1 gs k (seen l file held k))) none later in
-    let two = subst (λ (fs : List Frame). Later image image1 l groups [] file groups1 pending1 file1 (λ k x. rolled 1 gs k x ≡ rolled 1 gs k (seen l file fs k))) empty one in
-    subst (λ (g : List (List Patch)). Later image image1 l groups [] file groups1 pending1 file1 (λ k x. rolled 1 g k x ≡ rolled 1 g k (home l file k))) same two
+    → Later image image1 l groups pending file groups1 pending1 file1 (λ k x. rolled n gs k x ≡ rolled n gs k (seen l file held k))
+    → Later image image1 l groups [] file groups1 pending1 file1 (λ k x. rolled n groups k x ≡ rolled n groups k (home l file k))
+later_rolled image image1 l n file file1 pending held gs groups groups1 pending1 none empty same later =
+    let one = subst (λ (p : List (List Patch)). Later image image1 l groups p file groups1 pending1 file1 (λ k x. rolled n gs k x ≡ rolled n gs k (seen l file held k))) none later in
+    let two = subst (λ (fs : List Frame). Later image image1 l groups [] file groups1 pending1 file1 (λ k x. rolled n gs k x ≡ rolled n gs k (seen l file fs k))) empty one in
+    subst (λ (g : List (List Patch)). Later image image1 l groups [] file groups1 pending1 file1 (λ k x. rolled n g k x ≡ rolled n g k (home l file k))) same two
 
 -- What calls that left the disk, and then the opening of its file by its layout, leave of it.
 pub left_alone : {D : Type 0} (d : Ghosts D) (only_now : (disk : D) (c : List ℕ) → d.image_since disk (d.moment disk) c → d.image disk c) (l : Layout) (old mid new : D)

@@ -29,7 +29,7 @@ module _ {D : Type 0} (d : Ghosts D) where
     still = refl;
     told = λ told. record {
       seen = λ k lt. refl;
-      settled = record { calm = calm told; clean = clean told; only = λ o. o };
+      settled = record { calm = calm told; clean = clean told; only = λ o. o; shut = λ o. o };
       done = λ groups long log. record {
         groups1 = groups;
         used_is = long;
@@ -85,6 +85,7 @@ module _ {D : Type 0} (d : Ghosts D) where
         calm = subst (λ (l : Layout). IsCalm (d.image new) l (d.content new)) k.layout settled.calm;
         clean = subst (λ (l : Layout). AreClean l (d.content new) u.held) k.layout settled.clean;
         only = λ was. settled.only (so_far.settled.only was);
+        shut = λ was. settled.shut (so_far.settled.shut was);
       };
       done = λ groups long log.
           let dn = so_far.done groups long log in

@@ -1,5 +1,5 @@
 -- The clauses of a store's calls over any cache, from those of the cache's calls.
-use Rattle.std.proofs.Common.{◌≡◌, ⊎_elim, ℕ, zero, suc, drop, ◌+◌, ◌-◌, ◌^◌, ◌<◌, ◌≤◌, ◌==◌, Bool, true, false, if◌then◌else◌, nat_lt, List, [], ◌∷◌, ◌++◌, length, map, arith, ap, sym, ◌∙◌, subst, refl, Some, Option, append-nil}
+use Rattle.std.proofs.Common.{◌≡◌, ◌≢◌, ⊎_elim, ℕ, zero, suc, drop, ◌+◌, ◌-◌, ◌^◌, ◌<◌, ◌≤◌, ◌==◌, Bool, true, false, if◌then◌else◌, nat_lt, List, [], ◌∷◌, ◌++◌, length, map, arith, ap, sym, ◌∙◌, subst, refl, Some, Option, append-nil}
 use Rattle.std.proofs.lemmas.Bool.{eq-eqb}
 use Rattle.std.proofs.lemmas.Bool.Decides.{nat_tests}
 use Rattle.std.proofs.lemmas.List.{same_lists, get_or_default, length-append, length-take-le, length-drop}
@@ -24,12 +24,13 @@ use Rattle.rb_cache.specs.declared.frame.Frame.{Frame}
 use Rattle.rb_cache.specs.Frames.{seen}
 use Rattle.rb_cache.specs.OnDisk.{IsCalm}
 use Rattle.rb_log.specs.GroupSlots.{GroupsAre}
+use Rattle.rb_log.specs.Slots.{gate_of}
 use Rattle.rb_twin.specs.Twins.{twin_gate}
-use Rattle.rb_store.specs.Meaning.{Opens}
-use Rattle.rb_store.specs.StoreStates.{StoreState, IsStable, IsQuietAt, blocks_by}
+use Rattle.rb_store.specs.Meaning.{ENDLESS, Opens}
+use Rattle.rb_store.specs.StoreStates.{StoreState, StoreLeaves, IsStable, IsQuietAt, blocks_by}
 use Rattle.rb_store.proofs.Between.{are_groups, comes_again}
 use Rattle.rb_store.proofs.GroupSteps.{comes_after, comes_before, group_makes}
-use Rattle.rb_store.proofs.Settled.{StoreLeaves, store_moments, store_settles}
+use Rattle.rb_store.proofs.Settled.{store_moments, store_settles}
 use Rattle.rb_store.specs.CachedFiles.{CachedState, Done, IsCachedMemory, IsStoreMemory, Keeps, Leaving, SameNumbers, SeenAt, SeenOrPatched, Settled, StaysOrNone, first_of}
 
 pub one_by : (l : Layout) (file : List ℕ) (held : List Frame) (k : ℕ) → k < block_count l → block_of (blocks_by l file held) k ≡ seen l file held k
@@ -82,8 +83,8 @@ same_part first last file c is = record {
 
 module _ {D : Type 0} (d : Ghosts D) where
   -- the conditions of the cache's calls
-  pub calm_of : (l : Layout) (lsn : ℕ) (held : List Frame) (disk : D) → IsQuietAt l lsn held (d.content disk) (d.image disk) → IsCalm (d.image disk) l (d.content disk)
-  calm_of l lsn held disk q = record {
+  pub calm_of : (l : Layout) (head : Head) (used lsn : ℕ) (held : List Frame) (disk : D) → IsQuietAt l head used lsn held (d.content disk) (d.image disk) → IsCalm (d.image disk) l (d.content disk)
+  calm_of l head used lsn held disk q = record {
     whole = q.whole;
     slots = λ c here. same_part (log_offset 0) (log_offset l.log) (d.content disk) c (q.only c here);
     blocks = λ c here. same_part (block_offset l 0) (file_length l) (d.content disk) c (q.only c here);
@@ -91,19 +92,20 @@ module _ {D : Type 0} (d : Ghosts D) where
   }
 
   -- and quiet again behind one, where no block that is seen has a greater number
-  pub quiet_again : (s t : CachedState) (lsn lsn2 : ℕ) (old new : D) → d.image new (d.content new) → Keeps s t → IsQuietAt s.layout lsn s.held (d.content old) (d.image old) → Settled d s t old new
-      → ((k : ℕ) → k < block_count s.layout → number_at (seen s.layout (d.content new) t.held k) 0 8 ≤ lsn2) → IsQuietAt t.layout lsn2 t.held (d.content new) (d.image new)
+  pub quiet_again : (s t : CachedState) (lsn lsn2 : ℕ) (old new : D) → d.image new (d.content new) → Keeps s t → IsQuietAt s.layout s.head s.used lsn s.held (d.content old) (d.image old) → Settled d s t old new
+      → ((k : ℕ) → k < block_count s.layout → number_at (seen s.layout (d.content new) t.held k) 0 8 ≤ lsn2) → IsQuietAt t.layout t.head t.used lsn2 t.held (d.content new) (d.image new)
   quiet_again s t lsn lsn2 old new here k q settled low =
-      subst (λ (l : Layout). IsQuietAt l lsn2 t.held (d.content new) (d.image new)) (sym k.layout) (record {
+      subst (λ (l : Layout). IsQuietAt l t.head t.used lsn2 t.held (d.content new) (d.image new)) (sym k.layout) (record {
         whole = settled.calm.whole;
         only = settled.only q.only;
         shut = settled.calm.shut (d.content new) here;
+        next = subst (λ (l : Layout). gate_of l t.head (d.content new) t.used ≢ 1) k.layout (settled.shut q.next);
         clean = settled.clean;
         low = low;
       })
 
   -- a store in which blocks are stable, before a call
-  module _ (s : CachedState) (lsn : ℕ) (loaded : Option ℕ) (failed : Bool) (forced : ℕ) (old : D) (memory : IsCachedMemory s) (b : List (List ℕ)) (n : ℕ) (st : IsStable d (store_of s lsn loaded failed forced old) b n) (q : IsQuietAt s.layout lsn s.held (d.content old) (d.image old)) (few : lsn ≤ 2 ^ 62) where
+  module _ (s : CachedState) (lsn : ℕ) (loaded : Option ℕ) (failed : Bool) (forced : ℕ) (old : D) (memory : IsCachedMemory s) (b : List (List ℕ)) (n : ℕ) (st : IsStable d (store_of s lsn loaded failed forced old) b n) (q : IsQuietAt s.layout s.head s.used lsn s.held (d.content old) (d.image old)) (few : lsn ≤ 2 ^ 62) where
     groups_valid : AllByRecursion IsGroup s.pending
     groups_valid = are_groups s.layout s.pending memory.each
 
@@ -124,7 +126,7 @@ module _ {D : Type 0} (d : Ghosts D) where
           ∙ comes_again s.layout (d.content old) b n st.opens q.shut s.pending groups_valid fits k lt
 
       pub call_moments : ((groups : List (List Patch)) → length groups ≡ s.used → GroupsAre s.layout s.head (d.content old) 0 groups → Leaving d s old new groups (SeenAt s (d.content old)))
-          → StoreLeaves d (store_of s lsn loaded failed forced old) (store_of t lsn loaded2 failed2 forced2 new) (OpensToSome (Opens (shape_of s.layout) (Some s.layout.log)) n s.pending b)
+          → StoreLeaves d (store_of s lsn loaded failed forced old) (store_of t lsn loaded2 failed2 forced2 new) (OpensToSome (Opens (shape_of s.layout) (Some ENDLESS)) n s.pending b)
       call_moments leaves = store_moments d (store_of s lsn loaded failed forced old) b n st q.shut s.pending groups_valid fits (SeenAt s (d.content old)) comes (store_of t lsn loaded2 failed2 forced2 new)
           (subst (λ (h : Head). Leaving d (record s { head = h }) old new st.opens.means.groups (SeenAt s (d.content old))) (sym st.head_is) (leaves st.opens.means.groups st.used_is log_is))
 
@@ -148,13 +150,13 @@ module _ {D : Type 0} (d : Ghosts D) where
       (λ k lt. one_by s.layout (d.content new) t.held k lt ∙ same k lt ∙ sym (one_by s.layout (d.content old) s.held k lt))
 
   -- a call that leaves what is seen of each block
-  pub quiet_same : (s t : CachedState) (lsn : ℕ) (old new : D) → d.image new (d.content new) → Keeps s t → IsQuietAt s.layout lsn s.held (d.content old) (d.image old) → Settled d s t old new
-      → ((k : ℕ) → k < block_count s.layout → seen s.layout (d.content new) t.held k ≡ seen s.layout (d.content old) s.held k) → IsQuietAt t.layout lsn t.held (d.content new) (d.image new)
+  pub quiet_same : (s t : CachedState) (lsn : ℕ) (old new : D) → d.image new (d.content new) → Keeps s t → IsQuietAt s.layout s.head s.used lsn s.held (d.content old) (d.image old) → Settled d s t old new
+      → ((k : ℕ) → k < block_count s.layout → seen s.layout (d.content new) t.held k ≡ seen s.layout (d.content old) s.held k) → IsQuietAt t.layout t.head t.used lsn t.held (d.content new) (d.image new)
   quiet_same s t lsn old new here k q settled same = quiet_again s t lsn lsn old new here k q settled
       (λ i lt. let low = q.low i lt in let is = ap (λ (x : List ℕ). number_at x 0 8) (same i lt) in omega (arith, low, is))
 
   -- a call that gives a group, which was taken into the log before
-  module _ (s : CachedState) (lsn : ℕ) (loaded : Option ℕ) (failed : Bool) (forced : ℕ) (old : D) (memory : IsCachedMemory s) (g : List Patch) (group : IsGroup g) (q : IsQuietAt s.layout lsn s.held (d.content old) (d.image old)) (few : lsn < 2 ^ 62)
+  module _ (s : CachedState) (lsn : ℕ) (loaded : Option ℕ) (failed : Bool) (forced : ℕ) (old : D) (memory : IsCachedMemory s) (g : List Patch) (group : IsGroup g) (q : IsQuietAt s.layout s.head s.used lsn s.held (d.content old) (d.image old)) (few : lsn < 2 ^ 62)
       (t : CachedState) (new : D) (loaded2 : Option ℕ) (failed2 : Bool) (forced2 : ℕ) (k : Keeps s t) where
     -- over a store in which blocks are stable
     module _ (b : List (List ℕ)) (n : ℕ) (st : IsStable d (store_of s lsn loaded failed forced old) b n) where
@@ -191,7 +193,7 @@ module _ {D : Type 0} (d : Ghosts D) where
       log_there = subst (λ (h : Head). GroupsAre s.layout h (d.content old) 0 st.opens.means.groups) st.head_is st.opens.means.log
 
       pub apply_moments : ((groups : List (List Patch)) → length groups ≡ s.used → GroupsAre s.layout s.head (d.content old) 0 groups → Leaving d (record s { pending = s.pending ++ g ∷ [] }) old new groups (SeenOrPatched s (d.content old) (lsn + 1) g))
-          → StoreLeaves d (store_of s lsn loaded failed forced old) (store_of t (lsn + 1) loaded2 failed2 forced2 new) (OpensToSome (Opens (shape_of s.layout) (Some s.layout.log)) n (s.pending ++ g ∷ []) b)
+          → StoreLeaves d (store_of s lsn loaded failed forced old) (store_of t (lsn + 1) loaded2 failed2 forced2 new) (OpensToSome (Opens (shape_of s.layout) (Some ENDLESS)) n (s.pending ++ g ∷ []) b)
       apply_moments leaves = store_moments d (store_of s lsn loaded failed forced old) b n st q.shut (s.pending ++ g ∷ []) valid_all fit_all (SeenOrPatched s (d.content old) (lsn + 1) g) comes_all (store_of t (lsn + 1) loaded2 failed2 forced2 new)
           (subst (λ (h : Head). Leaving d (record s { head = h; pending = s.pending ++ g ∷ [] }) old new st.opens.means.groups (SeenOrPatched s (d.content old) (lsn + 1) g)) (sym st.head_is) (leaves st.opens.means.groups st.used_is log_there))
 

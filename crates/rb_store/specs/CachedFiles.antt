@@ -10,6 +10,7 @@ use Rattle.rb_layout.specs.Regions.{block_count}
 use Rattle.rb_layout.specs.declared.layout.Head.{Head}
 use Rattle.rb_layout.specs.declared.layout.Layout.{Layout}
 use Rattle.rb_log.specs.GroupSlots.{IsLoggable, LogState}
+use Rattle.rb_log.specs.Slots.{gate_of}
 use Rattle.rb_twin.specs.Batches.{Image}
 use Rattle.rb_twin.specs.Twins.{TwinState}
 use Rattle.rb_roll.specs.Rolled.{rolled, step}
@@ -75,11 +76,17 @@ pub record Done {D : Type 0} (d : Ghosts D) (s t : CachedState) (old new : D) (g
   pub later : Later (d.image old) (d.image new) s.layout groups s.pending (d.content old) groups1 t.pending
       (d.content new) may
 
--- Then all is calm again, clean frames are their homes, and where the content was the only image it is.
+-- the gate behind the groups of the log is shut
+abbrev pub IsShutBehind : CachedState → List ℕ → Type 0
+IsShutBehind s file = gate_of s.layout s.head file s.used ≢ 1
+
+-- Then all is calm again, clean frames are their homes, and where the content was the only image it is. The gate behind
+-- the groups is shut, where it was.
 pub record Settled {D : Type 0} (d : Ghosts D) (s t : CachedState) (old new : D) : Type 0 where
   pub calm : IsCalm (d.image new) s.layout (d.content new)
   pub clean : AreClean s.layout (d.content new) t.held
   pub only : Only (d.content old) (d.image old) → Only (d.content new) (d.image new)
+  pub shut : IsShutBehind s (d.content old) → IsShutBehind t (d.content new)
 
 -- the same layout and head
 pub record Keeps (s t : CachedState) : Type 0 where

@@ -1,23 +1,25 @@
 -- What a file with blocks at home means.
-use Rattle.std.specs.Prelude.{◌≡◌, ℕ, ◌+◌, ◌<◌, ◌≤◌, List, length, Option, Some, slice_index}
+use Rattle.std.specs.Prelude.{◌≡◌, ℕ, ◌+◌, ◌^◌, ◌<◌, ◌≤◌, List, length, Option, Some, slice_index}
 use Rattle.rb_base.specs.Blocks.{block_of, block_kind, shape_blocks, AreBlocks}
 use Rattle.rb_base.specs.Fields.{number_at, part}
 use Rattle.rb_base.specs.Groups.{Patch}
 use Rattle.rb_base.specs.declared.shape.Shape.{Shape}
+use Rattle.rb_control.specs.Heads.{head_of}
 use Rattle.rb_layout.specs.Regions.{HasIdentity, block_count, file_version, shape_of}
 use Rattle.rb_layout.specs.declared.layout.Head.{Head}
 use Rattle.rb_layout.specs.declared.layout.Layout.{Layout}
 use Rattle.rb_roll.specs.Rolled.{rolled}
 use Rattle.rb_log.specs.GroupSlots.{GroupsAre}
 use Rattle.rb_twin.specs.Twins.{home, kept, IsTwin}
-use Rattle.rb_store.specs.declared.head.TheConstants.{FIRST_HEAD}
 
 -- A file of a layout means these blocks, with this last log number: what it keeps of each, with the groups of its log
 -- rolled forward.
 pub record Means (l : Layout) (file : List ℕ) (blocks : List (List ℕ)) (n : ℕ) : Type 0 where
   pub identity : HasIdentity file_version l file
   pub head : Head
-  pub head_is : head ≡ FIRST_HEAD
+  pub head_is : head ≡ head_of file
+  pub in_log : head.slot < l.log
+  pub first : 1 ≤ head.number
   pub groups : List (List Patch)
   pub log : GroupsAre l head file 0 groups
   pub twin : IsTwin l file
@@ -54,10 +56,14 @@ pub record OpensAt (l : Layout) (file : List ℕ) (blocks : List (List ℕ)) (n 
   pub means : Means l file blocks n
   pub headed : AreHeaded (shape_of l) blocks n
 
--- what a file opens to, by the shape and the slots of the layout
+-- The log goes round: there is no end of it but that of its numbers, as if it had so many slots.
+abbrev pub ENDLESS : ℕ
+ENDLESS = 2 ^ 63
+
+-- what a file opens to, by the shape of its layout
 pub record Opens (shape : Shape) (slots : Option ℕ) (file : List ℕ) (blocks : List (List ℕ)) (lsn : ℕ) :
     Type 0 where
   pub layout : Layout
   pub shape_is : shape_of layout ≡ shape
-  pub slots_are : Some layout.log ≡ slots
+  pub slots_are : Some ENDLESS ≡ slots
   pub opens : OpensAt layout file blocks lsn

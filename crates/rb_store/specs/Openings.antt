@@ -23,7 +23,7 @@ pub record IsRepaired {D : Type 0} (d : Ghosts D) (l : Layout) (last : ℕ) (old
 
 -- A file that is opened. It is quiet, what it reads is stable, and the file found opens to it.
 pub record HasOpened {D : Type 0} (d : Ghosts D) (s : CachedState) (last : ℕ) (old new : D) : Type 0 where
-  pub quiet : IsQuietAt s.layout last s.held (d.content new) (d.image new)
+  pub quiet : IsQuietAt s.layout s.head s.used last s.held (d.content new) (d.image new)
   pub found : OpensAt s.layout (d.content old) (blocks_by s.layout (d.content new) s.held) last
   pub stable : IsStableAt s.layout s.head s.used s.pending last (blocks_by s.layout (d.content new) s.held)
       (d.content new) (d.image new) (blocks_by s.layout (d.content new) s.held) last

@@ -1,22 +1,28 @@
 //! `CachedFile`: the cache, the log and the twin area of a file, whose calls take all three. The store has one, and
 //! its opening.
-ghost use Rattle.std.specs.Prelude.{◌≡◌, ◌≢◌, ◌<◌, ◌≤◌, ◌+◌, ◌^◌, ◌++◌, ◌∷◌};
-ghost use Rattle.std.specs.Prelude.{[], ℕ, List, length, Some, OnOk, true};
+ghost use Rattle.std.specs.Prelude.{◌≡◌, ◌≢◌, ◌<◌, ◌≤◌, ◌+◌, ◌^◌, ◌++◌, ◌∷◌, ◌↔◌};
+ghost use Rattle.std.specs.Prelude.{[], ℕ, List, length, Some, OnOk, OnErr, IsTrue, true};
 ghost use Rattle.rb_base.specs.Blocks.{AreWithin};
 ghost use Rattle.rb_base.specs.Counts.{IsCounted};
 ghost use Rattle.rb_base.specs.Groups.{Patch};
+ghost use Rattle.rb_base.specs.declared.sizes.TheConstants.{UNIT};
+ghost use Rattle.rb_control.specs.Heads.{head_of, Advanced};
 ghost use Rattle.rb_disk.specs.DiskModel.{Only};
-ghost use Rattle.rb_layout.specs.Regions.{block_count, shape_of};
+ghost use Rattle.rb_disk.specs.Moments.{Leaves};
+ghost use Rattle.rb_disk.specs.Ranges.{SameBut};
+ghost use Rattle.rb_layout.specs.Regions.{block_count, file_length, log_offset, shape_of};
 ghost use Rattle.rb_roll.specs.Rolled.{step};
 ghost use Rattle.rb_cache.specs.declared.frame.Frame.{Frame};
 ghost use Rattle.rb_cache.specs.Frames.{seen, AreClean, NoneDirty, has_number, numbers_of};
 ghost use Rattle.rb_cache.specs.OnDisk.{IsCalm};
-ghost use Rattle.rb_log.specs.GroupSlots.{GroupsAre};
+ghost use Rattle.rb_log.specs.GroupSlots.{GroupsAre, KeptLog};
+ghost use Rattle.rb_log.specs.Slots.{head_at};
 ghost use Rattle.rb_store.specs.CachedFiles.{IsCachedMemory, Done, Keeps, Leaving, SameNumbers, SeenAt, Settled};
-ghost use Rattle.rb_store.specs.CachedFiles.{first_of, FlushesFull, LeavesLog, StaysOrNone};
+ghost use Rattle.rb_store.specs.CachedFiles.{first_of, FlushesFull, IsShutBehind, LeavesLog, StaysOrNone};
 
 use rb_base::{BlockNo, Failed, Group, Lsn, UNIT};
 use rb_cache::Cache;
+use rb_control::advance;
 use rb_disk::Disk;
 use rb_layout::Layout;
 use rb_log::Log;
@@ -71,6 +77,13 @@ impl CachedFile {
         ensures { result ≡ self.now.used }
     {
         self.log.used()
+    }
+
+    /// Whether its log has room for one more group.
+    pub fn room(&self) -> bool
+        ensures { IsTrue result ↔ (self.now.used + length self.now.pending + 1 < self.now.layout.log) }
+    {
+        self.log.room()
     }
 
     /// Brings a block into a frame, so that `front` gives it. It flushes the log at most where no frame holds the
@@ -212,6 +225,8 @@ impl CachedFile {
         requires clean { D.tells → AreClean self.old.layout (D.content disk.old) self.old.held }
         ensures flushed { OnOk result (self.new.pending ≡ []) }
         ensures all_clean { OnOk result (NoneDirty self.new.held) }
+        ensures count { length self.new.held ≡ length self.old.held }
+        ensures frames { self.new.frames ≡ self.old.frames }
         ensures seen { D.tells → OnOk result ((k : ℕ) → k < block_count self.old.layout
             → seen self.old.layout (D.content disk.new) self.new.held k
             ≡ seen self.old.layout (D.content disk.old) self.old.held k) }
@@ -231,5 +246,50 @@ impl CachedFile {
     {
         self.cache
             .clean_all(disk, &self.layout, &mut self.log, &mut self.twin)
+    }
+
+    /// Moves the head of the log behind its groups, so that their slots are free. A crash leaves the old head or the
+    /// new one.
+    pub fn move_head<D: Disk>(&mut self, disk: &mut D) -> Result<(), Failed>
+        requires whole { D.tells → length (D.content disk.old) ≡ file_length self.old.layout }
+        requires only { D.tells → Only (D.content disk.old) (D.image disk.old) }
+        ensures moved { OnOk result (self.new ≡ record self.old
+            { head = head_at self.old.layout self.old.head self.old.used; used = 0 }) }
+        ensures stays { OnErr result (self.new ≡ self.old) }
+        ensures memory { IsCachedMemory self.new }
+        ensures head { D.tells → OnOk result (head_of (D.content disk.new)
+            ≡ head_at self.old.layout self.old.head self.old.used) }
+        ensures outside { D.tells → SameBut UNIT (log_offset 0) (D.content disk.old) (D.content disk.new) }
+        ensures only { D.tells → OnOk result (Only (D.content disk.new) (D.image disk.new)) }
+        ensures any_moment { D.tells → Leaves D.Disk disk.old disk.new (Advanced (D.image disk.old)
+            (head_of (D.content disk.old)) (head_at self.old.layout self.old.head self.old.used)) }
+        ensures counted { IsCounted (D.faults disk.old) (D.faults disk.new) result }
+    {
+        let head = self.log.next();
+        advance(disk, &self.layout, head)?;
+        self.log.release(head);
+        Ok(())
+    }
+
+    /// Sees to it that the gate behind the groups of the log is shut, as the next ones ask for: where the log is full,
+    /// its scan ended by their count, and the gate is closed now. A crash leaves the same groups.
+    pub fn shut_behind<D: Disk>(&mut self, disk: &mut D) -> Result<(), Failed>
+        requires whole { D.tells → length (D.content disk.old) ≡ file_length self.old.layout }
+        requires only { D.tells → Only (D.content disk.old) (D.image disk.old) }
+        ensures shut { D.tells → OnOk result ((groups : List (List Patch)) → length groups ≡ self.old.used
+            → GroupsAre self.old.layout self.old.head (D.content disk.old) 0 groups
+            → IsShutBehind self.old (D.content disk.new)) }
+        ensures only { D.tells → OnOk result (Only (D.content disk.new) (D.image disk.new)) }
+        ensures any_moment { D.tells → (groups : List (List Patch)) → length groups ≡ self.old.used
+            → GroupsAre self.old.layout self.old.head (D.content disk.old) 0 groups
+            → Leaves D.Disk disk.old disk.new
+            (KeptLog (D.image disk.old) self.old.layout self.old.head groups) }
+        ensures stays { self.new ≡ self.old }
+        ensures counted { IsCounted (D.faults disk.old) (D.faults disk.new) result }
+    {
+        if self.log.used() + 1 < self.layout.log {
+            return Ok(());
+        }
+        self.log.shut(disk)
     }
 }

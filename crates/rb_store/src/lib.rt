@@ -3,7 +3,7 @@
 #![tactic(auto)]
 
 mod cached_file;
-mod head;
+mod freeing;
 mod headers;
 mod laws;
 mod new_file;
@@ -15,6 +15,6 @@ mod scanning;
 mod store;
 mod store_open;
 
-pub use laws::{first_head, fresh_opening, last_number, one_opening};
+pub use laws::{fresh_opening, one_opening};
 pub use new_file::{FormatFault, format};
 pub use store::LogStore;

@@ -1,13 +1,16 @@
 //! `LogStore`: the blocks of a file, which stand at home there, through a cache of some frames. The shell opens it, and
 //! the engine runs over it.
-ghost use Rattle.std.specs.Prelude.{◌≡◌, ◌≢◌, ◌≤◌, ◌<◌, ◌-◌, ◌^◌, ℕ, List, false, []};
-ghost use Rattle.std.specs.Prelude.{IfOk, IfErr};
-ghost use Rattle.rb_base.specs.Counts.{IsCountedAs, is_failed};
+ghost use Rattle.std.specs.Prelude.{◌≡◌, ◌≢◌, ◌≤◌, ◌<◌, ◌+◌, ◌-◌, ◌^◌, ◌++◌, ◌∷◌, ℕ, List, length, false, []};
+ghost use Rattle.std.specs.Prelude.{IfOk, IfErr, OnOk, is_err};
+ghost use Rattle.rb_base.specs.Blocks.{after_group, AreWithin};
+ghost use Rattle.rb_base.specs.Counts.{IsCounted, IsCountedAs, is_failed};
+ghost use Rattle.rb_control.specs.Heads.{head_of};
 ghost use Rattle.rb_disk.specs.DiskModel.{Only};
+ghost use Rattle.rb_layout.specs.Regions.{shape_of};
 ghost use Rattle.rb_layout.specs.declared.layout.Layout.{Layout};
 ghost use Rattle.rb_store.specs.Meaning.{OpensAt};
 ghost use Rattle.rb_store.specs.Openings.{LeftAlone};
-ghost use Rattle.rb_store.specs.StoreStates.{IsStable, blocks_in};
+ghost use Rattle.rb_store.specs.StoreStates.{HeldBack, IsStable, LeavesGiven, SettlesGiven, blocks_in};
 
 use crate::cached_file::CachedFile;
 use crate::patching::patch_all;
@@ -29,6 +32,9 @@ pub struct LogStore<D: Disk> {
     pub(crate) forced: u64,
     pub(crate) disk: D,
 }
+
+/// The number of the last group that any log may have room for.
+const LAST_PLACE: u64 = (1 << 63) - 1;
 
 /// How often calls had to make what waited last, once the log had so many groups before one call more and so many
 /// behind it.
@@ -66,7 +72,7 @@ impl<D: Disk> Model for LogStore<D> {
     } };
 
     ghost invariant = { λ s. IsStoreMemory s.cache s.lsn s.loaded s.failed
-        × (D.tells → s.failed ≡ false → IsQuietAt s.cache.layout s.lsn s.cache.held
+        × (D.tells → s.failed ≡ false → IsQuietAt s.cache.layout s.cache.head s.cache.used s.lsn s.cache.held
         (D.content s.disk) (D.image s.disk)) };
 }
 
@@ -83,9 +89,11 @@ impl<D: Disk> LogStore<D> {
         ensures stable { D.tells → IfOk result (λ s. IsStable D.Disk s (blocks_in D.Disk s) s.number) }
         ensures pending { IfOk result (λ s. s.pending ≡ []) }
         ensures going { IfOk result (λ s. s.failed ≡ false) }
-        ensures few { IfOk result (λ s. s.number < s.layout.log) }
+        ensures few { IfOk result (λ s. s.number < 2 ^ 61 + 4096) }
+        ensures small { D.tells → IfOk result (λ s. (head_of (D.content disk)).number ≤ 2 ^ 61) }
         ensures none { D.tells → IfErr result (λ r. r.0 ≡ OpenFault.NotAStore
-            → (l : Layout) (b : List (List ℕ)) (n : ℕ) → ¬ OpensAt l (D.content disk) b n) }
+            → (l : Layout) (b : List (List ℕ)) (n : ℕ) → OpensAt l (D.content disk) b n
+            → 2 ^ 61 < (head_of (D.content disk)).number) }
         ensures counted_ok { IfOk result (λ s. D.faults s.disk ≡ D.faults disk) }
         ensures counted_err { IfErr result (λ r. IsCountedAs (D.faults disk) (D.faults r.1) (is_failed r.0)) }
         ensures kept_ok { D.tells → IfOk result (λ s. LeftAlone D.Disk disk s.disk) }
@@ -109,6 +117,43 @@ impl<D: Disk> LogStore<D> {
         }
     }
 
+    // Takes a group into the log, which has room for it, and patches its blocks.
+    fn take_group(&mut self, group: &Group) -> Result<(), Failed>
+        requires going { self.old.failed ≡ false }
+        requires some { 0 < length group.now }
+        requires within { AreWithin (shape_of self.old.layout) group.now }
+        requires room { self.old.used + length self.old.pending + 1 < self.old.layout.log }
+        requires few { self.old.number < 2 ^ 62 }
+        ensures layout { self.new.layout ≡ self.old.layout }
+        ensures lsn { OnOk result (self.new.number ≡ self.old.number + 1) }
+        ensures blocks { D.tells → OnOk result (blocks_in D.Disk self.new
+            ≡ after_group (self.old.number + 1) group.now (blocks_in D.Disk self.old)) }
+        ensures holds_back { OnOk result (HeldBack self.old self.new) }
+        ensures settles { D.tells → OnOk result (SettlesGiven D.Disk self.old self.new
+            (self.old.pending ++ group.now ∷ [])) }
+        ensures any_moment { D.tells → LeavesGiven D.Disk self.old self.new (self.old.pending ++ group.now ∷ []) }
+        ensures failed { self.new.failed ≡ is_err result }
+        ensures counted { IsCounted (D.faults self.old.disk) (D.faults self.new.disk) result }
+    {
+        // For the proof: the count's contract says that it is a group.
+        let _count = group.patches();
+        self.loaded = None;
+        self.lsn += 1;
+        let used = self.cache.used();
+        self.cache.append(group);
+        match patch_all(&mut self.cache, &mut self.disk, group, self.lsn) {
+            Ok(()) => {
+                let used_now = self.cache.used();
+                self.forced = more_forced(self.forced, used, used_now);
+                Ok(())
+            }
+            Err(fault) => {
+                self.failed = true;
+                Err(fault)
+            }
+        }
+    }
+
     /// Gives the disk back as it is.
     pub fn close(self) -> D
         ensures { result ≡ self.disk }
@@ -129,8 +174,7 @@ impl<D: Disk> Store for LogStore<D> {
     ghost use Rattle.std.specs.Prelude.{Some, ℕ, List};
     ghost use Rattle.rb_layout.specs.Regions.{shape_of as layout_shape};
     ghost use Rattle.rb_store.specs.StoreLaws.{stable_left as left_opens, held_back_same, held_back_joined};
-    ghost use Rattle.rb_store.specs.Meaning.{Opens};
-    ghost use Rattle.rb_store.specs.StoreStates.{IsStable, HeldBack, blocks_in};
+    ghost use Rattle.rb_store.specs.Meaning.{ENDLESS, Opens};
 
     ghost tells = { D.tells };
 
@@ -138,7 +182,7 @@ impl<D: Disk> Store for LogStore<D> {
 
     ghost shape_of = { λ s. layout_shape s.layout };
 
-    ghost slots = { λ s. Some s.layout.log };
+    ghost slots = { λ s. Some ENDLESS };
 
     ghost blocks = { λ s. blocks_in D.Disk s };
 
@@ -209,23 +253,8 @@ impl<D: Disk> Store for LogStore<D> {
     }
 
     fn apply(&mut self, group: &Group) -> Result<(), Failed> {
-        // For the proof: the count's contract says that it is a group.
-        let _count = group.patches();
-        self.loaded = None;
-        self.lsn += 1;
-        let used = self.cache.used();
-        self.cache.append(group);
-        match patch_all(&mut self.cache, &mut self.disk, group, self.lsn) {
-            Ok(()) => {
-                let used_now = self.cache.used();
-                self.forced = more_forced(self.forced, used, used_now);
-                Ok(())
-            }
-            Err(fault) => {
-                self.failed = true;
-                Err(fault)
-            }
-        }
+        self.make_room()?;
+        self.take_group(group)
     }
 
     fn flush(&mut self) -> Result<(), Failed> {
@@ -239,15 +268,19 @@ impl<D: Disk> Store for LogStore<D> {
         }
     }
 
-    fn checkpoint(&mut self) -> Result<(), Failed> {
-        self.loaded = None;
-        match self.cache.clean_all(&mut self.disk) {
-            Ok(()) => Ok(()),
-            Err(fault) => {
-                self.failed = true;
-                Err(fault)
-            }
-        }
+    fn checkpoint(&mut self) -> Result<(), Failed>
+        requires going { self.old.failed ≡ false }
+        ensures flushed { D.tells → OnOk result (self.new.pending ≡ []) }
+        ensures no_groups { OnOk result (self.new.used ≡ 0) }
+        ensures settles { D.tells → OnOk result (SettlesGiven D.Disk self.old self.new self.old.pending) }
+        ensures any_moment { D.tells → LeavesGiven D.Disk self.old self.new self.old.pending }
+        ensures shape { layout_shape self.new.layout ≡ layout_shape self.old.layout }
+        ensures lsn { self.new.number ≡ self.old.number }
+        ensures blocks { D.tells → OnOk result (blocks_in D.Disk self.new ≡ blocks_in D.Disk self.old) }
+        ensures failed { self.new.failed ≡ is_err result }
+        ensures counted { IsCounted (D.faults self.old.disk) (D.faults self.new.disk) result }
+    {
+        self.clear_log()
     }
 
     fn logged(&self) -> Lsn {
@@ -255,6 +288,6 @@ impl<D: Disk> Store for LogStore<D> {
     }
 
     fn room(&self) -> u64 {
-        u64::from(self.cache.layout().log - 1).saturating_sub(self.lsn)
+        LAST_PLACE - self.lsn
     }
 }

@@ -1,8 +1,9 @@
-//! Opens a file: its log is scanned, its twin area repaired, and the groups of the log rolled forward in a cache.
-//! `LogStore::open` calls it.
-ghost use Rattle.std.specs.Prelude.{◌≡◌, ◌≤◌, ◌<◌, ℕ, List, [], length, None, false, IfOk, IfErr};
+//! Opens a file: its log is scanned from its head on, its twin area repaired, the groups of the log rolled forward in a
+//! cache, and the gate behind them shut. `LogStore::open` calls it.
+ghost use Rattle.std.specs.Prelude.{◌≡◌, ◌+◌, ◌^◌, ◌≤◌, ◌<◌, ℕ, List, [], length, None, false, IfOk, IfErr};
 ghost use Rattle.std.specs.Prelude.{IsErrOf, OnOk, vec_capacity};
 ghost use Rattle.rb_base.specs.Counts.{IsCountedAs, err_is, is_failed};
+ghost use Rattle.rb_control.specs.Heads.{head_of, IsHead};
 ghost use Rattle.rb_disk.specs.DiskModel.{Only};
 ghost use Rattle.rb_disk.specs.Moments.{Rests};
 ghost use Rattle.rb_layout.specs.declared.layout.Layout.{Layout};
@@ -13,14 +14,14 @@ ghost use Rattle.rb_store.specs.Openings.{HasOpened, LeavesMeaning, LeftAlone};
 ghost use Rattle.rb_store.specs.Scanned.{HasScanned, HasScannedAll};
 
 use crate::cached_file::CachedFile;
-use crate::head::FIRST_HEAD;
 use crate::opening::{repair_homes, synced_layout};
 use crate::rolling::roll_forward;
 use crate::scanning::{Scan, fresh_scan, scan_all};
 use rb_base::{Lsn, NoMemory, OpenFault};
 use rb_cache::Cache;
+use rb_control::read;
 use rb_disk::Disk;
-use rb_layout::{Layout, VERSION};
+use rb_layout::{Head, Layout, VERSION};
 use rb_twin::Twin;
 use std::alloc::Global;
 
@@ -54,30 +55,34 @@ fn take_memory<D: Disk>(
     alloc: Global,
     disk: &mut D,
     layout: &Layout,
+    head: Head,
     frames: u32,
 ) -> Result<Memory, OpenFault>
+    requires head { IsHead layout.now head }
     requires some { 16 ≤ frames }
     requires few { frames ≤ 4096 }
-    ensures scanned { IfOk result (λ m. (file : List ℕ) → HasScanned D.tells layout.now FIRST_HEAD file m.scan.log
+    ensures scanned { IfOk result (λ m. (file : List ℕ) → HasScanned D.tells layout.now head file m.scan.log
         m.scan.groups.items (vec_capacity m.scan.groups)) }
     ensures twin { IfOk result (λ m. m.twin ≡ record { layout = layout.now; batch = [] }) }
     ensures cache { IfOk result (λ m. m.cache ≡ record { frames = frames; held = [] }) }
     ensures memory { IfErr result (λ fault. fault ≡ OpenFault.NoMemory) }
     ensures untouched { disk.new ≡ disk.old }
 {
-    let scan = fresh_scan(alloc, disk, layout, FIRST_HEAD)?;
+    let scan = fresh_scan(alloc, disk, layout, head)?;
     let Ok((twin, cache)) = new_caches(alloc, layout, frames) else {
         return Err(OpenFault::NoMemory);
     };
     Ok(Memory { scan, twin, cache })
 }
 
-/// Repairs a file whose log was scanned, and rolls the groups of the log forward. NotAStore where the twin area or the
-/// head of a block is wrong, Failed where a call of the disk failed.
-fn bring_up<D: Disk>(disk: &mut D, memory: Memory, layout: Layout) -> Result<Opened, OpenFault>
+/// Repairs a file whose log was scanned, rolls the groups of the log forward, and shuts the gate behind them. NotAStore
+/// where the twin area or the head of a block is wrong, Failed where a call of the disk failed.
+fn bring_up<D: Disk>(disk: &mut D, memory: Memory, layout: Layout, head: Head) -> Result<Opened, OpenFault>
+    requires valid { IsHead layout head }
+    requires head { D.tells → head ≡ head_of (D.content disk.old) }
     requires identity { D.tells → HasIdentity VERSION layout (D.content disk.old) }
     requires only { D.tells → Only (D.content disk.old) (D.image disk.old) }
-    requires scanned { HasScannedAll D.tells layout FIRST_HEAD (D.content disk.old) memory.scan.log
+    requires scanned { HasScannedAll D.tells layout head (D.content disk.old) memory.scan.log
         memory.scan.groups.items }
     requires twin { memory.twin ≡ record { layout = layout; batch = [] } }
     requires cache { memory.cache.held ≡ [] }
@@ -85,7 +90,7 @@ fn bring_up<D: Disk>(disk: &mut D, memory: Memory, layout: Layout) -> Result<Ope
     ensures memory { IfOk result (λ o. IsStoreMemory o.file o.last None false) }
     ensures layout { IfOk result (λ o. o.file.layout ≡ layout) }
     ensures pending { IfOk result (λ o. o.file.pending ≡ []) }
-    ensures few { IfOk result (λ o. o.last < layout.log) }
+    ensures few { IfOk result (λ o. o.last < 2 ^ 61 + 4096) }
     ensures none { D.tells → IsErrOf result OpenFault.NotAStore → (b : List (List ℕ)) (n : ℕ)
         → ¬ OpensAt layout (D.content disk.old) b n }
     ensures left { D.tells → LeavesMeaning D.Disk layout disk.old disk.new }
@@ -97,7 +102,8 @@ fn bring_up<D: Disk>(disk: &mut D, memory: Memory, layout: Layout) -> Result<Ope
         mut twin,
         cache,
     } = memory;
-    let last = Lsn::from(log.used());
+    let used = Lsn::from(log.used());
+    let last = head.number - 1 + used;
     repair_homes(disk, &mut twin, &layout, last)?;
     let mut file = CachedFile {
         layout,
@@ -105,7 +111,8 @@ fn bring_up<D: Disk>(disk: &mut D, memory: Memory, layout: Layout) -> Result<Ope
         log,
         twin,
     };
-    roll_forward(&mut file, disk, &groups, FIRST_HEAD.number)?;
+    roll_forward(&mut file, disk, &groups, head.number)?;
+    file.shut_behind(disk)?;
     Ok(Opened { file, last })
 }
 
@@ -117,14 +124,16 @@ pub fn open_file<D: Disk>(alloc: Global, disk: &mut D, frames: u32) -> Result<Op
     ensures opened { D.tells → IfOk result (λ o. HasOpened D.Disk o.file o.last disk.old disk.new) }
     ensures memory { IfOk result (λ o. IsStoreMemory o.file o.last None false) }
     ensures pending { IfOk result (λ o. o.file.pending ≡ []) }
-    ensures few { IfOk result (λ o. o.last < o.file.layout.log) }
+    ensures few { IfOk result (λ o. o.last < 2 ^ 61 + 4096) }
+    ensures small { D.tells → OnOk result ((head_of (D.content disk.old)).number ≤ 2 ^ 61) }
     ensures none { D.tells → IsErrOf result OpenFault.NotAStore → (l : Layout) (b : List (List ℕ)) (n : ℕ)
-        → ¬ OpensAt l (D.content disk.old) b n }
+        → OpensAt l (D.content disk.old) b n → 2 ^ 61 < (head_of (D.content disk.old)).number }
     ensures left { D.tells → LeftAlone D.Disk disk.old disk.new }
     ensures counted { IsCountedAs (D.faults disk.old) (D.faults disk.new) (err_is is_failed result) }
 {
     let layout = synced_layout(disk)?;
-    let mut memory = take_memory(alloc, disk, &layout, frames)?;
-    scan_all(&mut memory.scan, disk, &layout, FIRST_HEAD)?;
-    bring_up(disk, memory, layout)
+    let head = read(disk, &layout)?;
+    let mut memory = take_memory(alloc, disk, &layout, head, frames)?;
+    scan_all(&mut memory.scan, disk, &layout, head)?;
+    bring_up(disk, memory, layout, head)
 }

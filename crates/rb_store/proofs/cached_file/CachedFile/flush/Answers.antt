@@ -1,17 +1,18 @@
-use Rattle.std.proofs.Common.{◌≡◌, ◌≢◌, ◌+◌, ◌++◌, ◌∙◌, List, [], length, arith, ap, subst, sym, length-append}
+use Rattle.std.proofs.Common.{◌≡◌, ◌≢◌, ◌+◌, ◌<◌, ◌++◌, ◌∙◌, List, [], length, arith, ap, subst, sym, length-append}
 use Rattle.rb_base.specs.Groups.{Patch}
 use Rattle.rb_base.specs.Moments.{weaker}
 use Rattle.rb_disk.specs.Moments.{Leaves}
 use Rattle.rb_layout.specs.Regions.{file_length}
 use Rattle.rb_layout.specs.declared.layout.Layout.{Layout}
 use Rattle.rb_log.specs.GroupSlots.{FlushedSome, GroupsAre, LogState}
-use Rattle.rb_log.specs.Slots.{SameOutside, SameSlots}
+use Rattle.rb_log.specs.Slots.{SameOutside, SameSlots, gate_of}
 use Rattle.rb_twin.specs.Twins.{twin_gate}
 use Rattle.rb_cache.specs.Evictions.{Flushed}
 use Rattle.rb_cache.specs.Frames.{AreClean}
 use Rattle.rb_cache.specs.OnDisk.{IsCalm, Later, OnDisk}
 use Rattle.rb_cache.proofs.Evicting.{clean_begun}
 use Rattle.rb_cache.proofs.Parts.{gate_behind, home_behind}
+use Rattle.rb_cache.proofs.ShutLemmas.{flush_shut}
 use Rattle.rb_cache.proofs.Steps.{flush_on_disk}
 use Rattle.rb_store.specs.CachedFiles.{CachedState, SeenAt}
 use Rattle.rb_store.proofs.CachedLemmas.{clean_same, only_calm, seen_same}
@@ -88,6 +89,10 @@ returns-clause-settled g c told =
       calm = only_calm (g.D.Disk.image c.flush.new.disk) l new whole (c.in_ok-flush.ensures.only told (c.requires.only told)) shut;
       clean = clean_same l old new c.self.inside.cache.held (λ k. home_behind l new old k out.behind) clean;
       only = c.in_ok-flush.ensures.only told;
+      shut = λ was. subst (λ (x : LogState). gate_of l x.head new x.used ≢ 1) (sym c.in_ok-flush.ensures.flushed)
+          (flush_shut l c.self.inside.log old new
+          (λ some. subst (λ (m : Layout). gate_of m c.self.inside.log.head new (c.self.inside.log.used + length c.self.inside.log.pending) ≡ 0) c.self.invariant.log_layout (c.in_ok-flush.ensures.closed told some))
+          (λ none. ap g.D.Disk.content (c.in_ok-flush.ensures.none told none)) was);
     })
 
 pub returns-clause-done : goal.returns-clause-done

@@ -10,3 +10,6 @@ returns-clause-any_moment g c told groups = rw (← c.self.view_is) (λ count lo
 pub returns-clause-fills : goal.returns-clause-fills
 returns-clause-fills g c = rw (← c.self.view_is) (on_ok_weaker c.get.result (λ order.
     fills_by _ _ c.args.no c.get.ensures.frames (λ free. ap (λ (s : LogState). s.used) (c.get.ensures.room free)) order) c.get.ensures.order)
+
+pub returns-clause-settled : goal.returns-clause-settled
+returns-clause-settled g c told = rw (← c.self.view_is) (on_ok_weaker c.get.result (λ s. record { calm = s.calm; clean = s.clean; only = s.only; shut = s.shut }) (c.get.ensures.settled told))

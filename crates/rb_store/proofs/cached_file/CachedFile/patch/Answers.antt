@@ -22,3 +22,6 @@ returns-clause-done g c told = rw (← c.self.view_is) (on_ok_weaker c.patch.res
 pub returns-clause-fills : goal.returns-clause-fills
 returns-clause-fills g c = rw (← c.self.view_is) (on_ok_weaker c.patch.result (λ order.
     fills_by _ _ c.args.no c.patch.ensures.frames (λ free. ap (λ (s : LogState). s.used) (c.patch.ensures.room free)) order) c.patch.ensures.order)
+
+pub returns-clause-settled : goal.returns-clause-settled
+returns-clause-settled g c told = rw (← c.self.view_is) (on_ok_weaker c.patch.result (λ s. record { calm = s.calm; clean = s.clean; only = s.only; shut = s.shut }) (c.patch.ensures.settled told))

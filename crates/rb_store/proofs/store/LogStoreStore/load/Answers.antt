@@ -1,5 +1,6 @@
 use Rattle.std.proofs.Common.{◌≡◌, true, None, Some, ap, arith, inl, inr, sym, ◌∙◌}
 use Rattle.std.proofs.lemmas.Bool.{cases_eq}
+use Rattle.rb_layout.specs.declared.layout.Head.{Head}
 use Rattle.rb_store.proofs.Settled.{still_moments, still_settles}
 use Rattle.rb_store.proofs.StoreLemmas.{are_blocks, call_moments, call_settles, memory_again, quiet_same, same_by, waits_same}
 use Rattle.rb_store.proofs.store.LogStoreStore.load.Goals as goal
@@ -68,9 +69,12 @@ returns-in-Ok-clause-holds_back g c =
       ];
       cause = λ more. elim (cases_eq c.used-used.result c.used-used_now.result) [
         | inl is ↦ let same = forced.same is in absurd (omega (arith, more, same))
-        | inr differ ↦ e.fills.cause (λ is. differ (was ∙ sym is ∙ now))
+        | inr differ ↦ inl (e.fills.cause (λ is. differ (was ∙ sym is ∙ now)))
       ];
       full = e.fills.full;
+      no_back = let head = ap (λ (h : Head). h.number) e.keeps.head in omega (arith, head);
+      moves = λ more. let head = ap (λ (h : Head). h.number) e.keeps.head in absurd (omega (arith, more, head));
+      layout = e.keeps.layout;
     })
 
 pub returns-then-eq-clause-whole : goal.returns-then-eq-clause-whole

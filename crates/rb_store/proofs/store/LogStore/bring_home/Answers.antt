@@ -1,6 +1,6 @@
 use Rattle.std.proofs.Common.{true, None, ap, ◌∙◌}
 use Rattle.rb_store.proofs.StoreLemmas.{call_moments, call_settles, memory_again, quiet_same, same_by}
-use Rattle.rb_store.proofs.store.LogStoreStore.checkpoint.Goals as goal
+use Rattle.rb_store.proofs.store.LogStore.bring_home.Goals as goal
 
 pub invariant_of-self : goal.invariant_of-self
 invariant_of-self g c =
