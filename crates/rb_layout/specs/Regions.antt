@@ -10,7 +10,7 @@ use Rattle.rb_layout.specs.declared.layout.Layout.{Layout}
 
 -- the version of this form of file
 abbrev pub file_version : ℕ
-file_version = 104
+file_version = 1
 
 abbrev pub shape_of : Layout → Shape
 shape_of l = record { tables = l.tables; blocks = l.blocks; segments = l.segments }
