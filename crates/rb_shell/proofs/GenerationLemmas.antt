@@ -18,6 +18,7 @@ use Rattle.rb_model.specs.Out.{Logged}
 use Rattle.rb_model.specs.Rows.{last_scn}
 use Rattle.rb_base.specs.declared.faults.OpenFault.{OpenFault}
 use Rattle.rb_base.specs.declared.faults.OpenFault.TheVariants as faults
+use Rattle.rb_store.specs.Meaning.{endless}
 use Rattle.rb_shell.specs.Generation.{HasMade, MadeOn, line_of}
 use Rattle.rb_shell.specs.Statuses.{EndsGenerator, TellsCounts}
 use Rattle.rb_shell.specs.Runs.{HasOpened, IsSound, MadeLast, first_of, outside_in}
@@ -74,11 +75,11 @@ module _ {S : Type 0} (s : Ghosts S) (m : Logged) (n : ℕ) (old mid : EngineVie
 
 module _ {D : Type 0} (d : DiskGhosts D) (old : D) (g : Ghosts (StoreState D)) (e : EngineView (StoreState D)) (sound : IsSound (d.content old)) (o : HasOpened d g old e sound) where
   -- the same commands over the file
-  abbrev pub same_made : (n : ℕ) (had fault : Bool) → had ≡ fault → HasMade (outside_of (Some e.store.layout.log)) (first_of sound o.first) n had → HasMade (outside_in sound) (first_of sound o.first) n fault
+  abbrev pub same_made : (n : ℕ) (had fault : Bool) → had ≡ fault → HasMade (outside_of (Some (endless e.store.layout.log))) (first_of sound o.first) n had → HasMade (outside_in sound) (first_of sound o.first) n fault
   same_made n had fault is made = record {
     answers = made.answers;
     now = made.now;
-    answered = subst (λ (k : ℕ). CommandsAnswered (first_of sound o.first) (outside_of (Some k)) (commands_of sound.state.shape n) made.answers made.now) o.slots made.answered;
+    answered = subst (λ (k : ℕ). CommandsAnswered (first_of sound o.first) (outside_of (Some (endless k))) (commands_of sound.state.shape n) made.answers made.now) o.slots made.answered;
     stops = subst (λ (v : Bool). StopsBy v made.answers made.now) is made.stops;
   }
 

@@ -4,7 +4,7 @@ use Rattle.std.proofs.Math.Nat.{div-add-mod, mul-mod_right}
 use Rattle.std.proofs.lemmas.Bool.{le-ltb}
 use Rattle.std.proofs.lemmas.List.{length-replicate}
 use Rattle.std.proofs.lemmas.List.FromFn.{length-map-range_with_len}
-use Rattle.rb_base.specs.Blocks.{block_of, block_kind, fresh_head, fresh_rest, fresh_segment, fresh_blocks, header_block, table_blocks}
+use Rattle.rb_base.specs.Blocks.{block_of, block_kind, fresh_head, fresh_rest, fresh_segment, fresh_blocks, greatest, header_block, shape_blocks, table_blocks}
 use Rattle.rb_base.specs.declared.shape.Shape.{Shape}
 use Rattle.rb_heap.proofs.Fresh.{new_block, new_empty}
 use Rattle.rb_heap.specs.Homes as heap
@@ -20,6 +20,7 @@ use Rattle.rb_segment.proofs.Fresh.{all_same, fresh_slot}
 use Rattle.rb_segment.specs.Books.{fresh_header}
 use Rattle.rb_segment.specs.Header.{Header, header_of, segment_of, slot_in, undo_block}
 use Rattle.rb_segment.specs.Segments.{commit_scn, owed_in}
+use Rattle.rb_shell.proofs.Restarting.{head_small}
 use Rattle.rb_shell.specs.Runs.{IsSound}
 use Rattle.rb_sound.proofs.Fresh.{homes_fresh}
 use Rattle.rb_standing.proofs.Fresh.{fresh_stands}
@@ -29,7 +30,6 @@ use Rattle.rb_standing.specs.Says.{walk_home}
 use Rattle.rb_standing.specs.Standing.{SoundAs, homes_of, logged_of, segments_of}
 use Rattle.rb_standing.specs.Values.{StandingAs, slot_of, wraps_of}
 use Rattle.rb_store.proofs.FreshOpening.{fresh_opens}
-use Rattle.rb_store.proofs.NumberLemmas.{last_number}
 use Rattle.rb_txntable.specs.Slots.{slot_state, slot_touched, slot_live, slot_wrap, slot_newest, slot_before, slot_record, slot_first, slot_start}
 use Rattle.rb_txntable.specs.declared.slots.TableSlot.{TableSlot}
 use Rattle.rb_undoblock.specs.Undo.{undo_at}
@@ -119,11 +119,23 @@ module _ (shape : Shape) where
     };
   }
 
+-- no block of a new file has a log number
+greatest_none : (f : ℕ → ℕ) (n : ℕ) → ((i : ℕ) → i < n → f i ≤ 0) → greatest f n ≡ 0
+unfolding greatest
+greatest_none f zero none = refl
+greatest_none f (suc n) none =
+    let before = greatest_none f n (λ i lt. none i (omega (arith, lt))) in
+    let last = none n (omega arith) in omega (arith, before, last)
+
+fresh_logged : (l : Layout) → logged_of (shape_of l) (fresh_blocks (shape_of l)) ≡ 0
+fresh_logged l = greatest_none _ (shape_blocks (shape_of l)) (λ which lt. ((fresh_opens l).headed which lt).low)
+
 pub new_file : (l : Layout) → (sound : IsSound (fresh_file file_version l)) × (sound.state ≡ opened (shape_of l) 0 [] (books_of (shape_of l) (fresh_blocks (shape_of l))))
 new_file l =
     let shape = shape_of l in
     let blocks = fresh_blocks shape in
-    let sound = sound_fresh shape (last_number l (fresh_file file_version l) blocks 0 (fresh_opens l)) in
+    let unlogged = fresh_logged l in
+    let sound = sound_fresh shape unlogged in
     let owes = none_owed shape in (
       record {
         store = record {
@@ -131,10 +143,12 @@ new_file l =
           blocks = blocks;
           lsn = 0;
           opens = fresh_opens l;
+          small = head_small l (fresh_file file_version l) blocks 0 (fresh_opens l).means (omega arith);
           can_open = record { sound = sound_as shape blocks 0 [] sound; fits = omega (arith, owes) };
         };
         state = opened shape 0 [] (books_of shape blocks);
         opening = record { number = 0; rows = []; sound = sound; state = refl };
+        logged = sym unlogged;
       },
       refl,
     )

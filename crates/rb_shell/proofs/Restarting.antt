@@ -1,5 +1,5 @@
 -- A file that opens to a state restarts to it.
-use Rattle.std.proofs.Common.{◌≡◌, ◌+◌, ◌-◌, ◌<◌, ◌≤◌, ℕ, List, Option, Some, refl, sym, ap, subst, arith}
+use Rattle.std.proofs.Common.{◌≡◌, ◌+◌, ◌-◌, ◌^◌, ◌<◌, ◌≤◌, ℕ, List, Option, Some, refl, sym, ap, subst, arith}
 use Rattle.std.proofs.Math.Seq.{take-nil}
 use Rattle.std.specs.List.{flat_map}
 use Rattle.std.proofs.lemmas.List.FromFn.{get_or-map-range_with_len}
@@ -8,6 +8,8 @@ use Rattle.rb_base.specs.declared.shape.Shape.{Shape}
 use Rattle.rb_image.specs.Crash.{Restarts}
 use Rattle.rb_image.specs.Images.{HasState}
 use Rattle.rb_layout.specs.Regions.{shape_of}
+use Rattle.rb_control.specs.Heads.{head_of}
+use Rattle.rb_layout.specs.declared.layout.Head.{Head}
 use Rattle.rb_layout.specs.declared.layout.Layout.{Layout}
 use Rattle.rb_model.specs.Book.{Book, book_at, fresh_book}
 use Rattle.rb_model.specs.Change.{Change}
@@ -18,7 +20,11 @@ use Rattle.rb_restart.specs.Rollback.{found_book}
 use Rattle.rb_segment.specs.Header.{segment_of}
 use Rattle.rb_segment.specs.Segments.{owed_in}
 use Rattle.rb_standing.specs.Standing.{SoundAs, logged_of, segments_of}
-use Rattle.rb_store.specs.Meaning.{Opens, OpensAt}
+use Rattle.rb_store.specs.Meaning.{endless, Means, Opens, OpensAt}
+
+-- the number that a log begins with is small where that of its last group is
+pub head_small : (l : Layout) (file : List ℕ) (blocks : List (List ℕ)) (n : ℕ) → Means l file blocks n → n < 2 ^ 61 → (head_of file).number ≤ 2 ^ 61
+head_small l file blocks n m few = let same = ap (λ (h : Head). h.number) m.head_is in let last = m.last in omega (arith, same, last, few)
 
 -- the rows of an opened state at its last commit are its base
 opened_rows : (shape : Shape) (number : ℕ) (rows : List TableRow) (books : List Book) → rows_at shape.blocks (opened shape number rows books).commits (last_scn (opened shape number rows books).commits) ≡ rows
@@ -44,10 +50,10 @@ module _ (shape : Shape) (blocks : List (List ℕ)) (number : ℕ) (rows : List 
       book_is g there = sym (get_or-map-range_with_len (λ (k : ℕ). found_book (segment_of shape blocks k).header) 0 shape.segments g g fresh_book there (omega arith))
 
 pub restarts_found : (h : State) (l : Layout) (blocks : List (List ℕ)) (lsn : ℕ) (file : List ℕ) → OpensAs (shape_of l) blocks h → lsn ≡ logged_of (shape_of l) blocks
-    → owed_in (shape_of l) blocks ≤ room_of (Some l.log) lsn → OpensAt l file blocks lsn → Restarts Opens (Some l.log) h file
-restarts_found h l blocks lsn file opening logged fits opens = subst (λ (x : State). Restarts Opens (Some l.log) x file) (sym opening.state) (record {
+    → owed_in (shape_of l) blocks ≤ room_of (Some (endless l.log)) lsn → OpensAt l file blocks lsn → Restarts Opens (Some (endless l.log)) h file
+restarts_found h l blocks lsn file opening logged fits opens = subst (λ (x : State). Restarts Opens (Some (endless l.log)) x file) (sym opening.state) (record {
   blocks = blocks;
   lsn = lsn;
   opening = record { layout = l; shape_is = refl; slots_are = refl; opens = opens };
-  has = first_has (shape_of l) blocks opening.number opening.rows (Some l.log) lsn opening.sound logged fits;
+  has = first_has (shape_of l) blocks opening.number opening.rows (Some (endless l.log)) lsn opening.sound logged fits;
 })

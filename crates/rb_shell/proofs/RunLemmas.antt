@@ -35,9 +35,9 @@ use Rattle.rb_shell.specs.Statuses.{EndsFormat}
 use Rattle.rb_shell.specs.declared.status.Status.{Status}
 use Rattle.rb_shell.specs.declared.status.Status.TheVariants.{Done, Usage, SourceFault, DiskFault, SinkFault, NotAStore, NoMemory, NotEmpty, TooLong}
 use Rattle.rb_standing.specs.Standing.{logged_of}
-use Rattle.rb_store.proofs.NumberLemmas.{last_number}
 use Rattle.rb_store.proofs.OneOpening.{Agree, means_alike, one_opening}
-use Rattle.rb_store.specs.Meaning.{Means, Opens, OpensAt}
+use Rattle.rb_store.specs.Meaning.{endless, Means, Opens, OpensAt}
+use Rattle.rb_control.specs.Heads.{head_of}
 use Rattle.rb_store.specs.Openings.{LeftAlone}
 use Rattle.rb_store.specs.StoreStates.{StoreState, IsStable, blocks_in}
 
@@ -60,6 +60,7 @@ pub record Found {D : Type 0} (d : DiskGhosts D) (old : D) (s : StoreState D) : 
   pub opens : OpensAt s.layout (d.content old) (blocks_in d s) s.number
   pub stable : IsStable d s (blocks_in d s) s.number
   pub none_waits : s.pending ≡ []
+  pub small : (head_of (d.content old)).number ≤ 2 ^ 61
   pub kept : LeftAlone d old s.disk
 
 -- Blocks are only one list with one number: what a sound file opens to is what was found in it.
@@ -69,14 +70,14 @@ pub record Same {file : List ℕ} (sound : IsSound file) (l : Layout) (blocks : 
   pub there : blocks ≡ sound.store.blocks
   pub opening : OpensAs (shape_of l) blocks sound.state
   pub logged : lsn ≡ logged_of (shape_of l) blocks
-  pub fits : owed_in (shape_of l) blocks ≤ room_of (Some l.log) lsn
+  pub fits : owed_in (shape_of l) blocks ≤ room_of (Some (endless l.log)) lsn
   pub next : sound.store.lsn + owed_in (shape_of sound.store.layout) sound.store.blocks ≡ lsn + owed_in (shape_of l) blocks
 
-can_move : (l m : Layout) (first second : List (List ℕ)) (n k : ℕ) → Agree l m first second n k → CanOpen (shape_of l) first (room_of (Some l.log) n) → CanOpen (shape_of m) second (room_of (Some m.log) k)
+can_move : (l m : Layout) (first second : List (List ℕ)) (n k : ℕ) → Agree l m first second n k → CanOpen (shape_of l) first (room_of (Some (endless l.log)) n) → CanOpen (shape_of m) second (room_of (Some (endless m.log)) k)
 can_move l m first second n k agree can =
-    subst (λ (number : ℕ). CanOpen (shape_of m) second (room_of (Some m.log) number)) agree.lsn
-    (subst (λ (b : List (List ℕ)). CanOpen (shape_of m) b (room_of (Some m.log) n)) agree.blocks
-    (subst (λ (x : Layout). CanOpen (shape_of x) first (room_of (Some x.log) n)) agree.layout can))
+    subst (λ (number : ℕ). CanOpen (shape_of m) second (room_of (Some (endless m.log)) number)) agree.lsn
+    (subst (λ (b : List (List ℕ)). CanOpen (shape_of m) b (room_of (Some (endless m.log)) n)) agree.blocks
+    (subst (λ (x : Layout). CanOpen (shape_of x) first (room_of (Some (endless x.log)) n)) agree.layout can))
 
 pub same_of : {file : List ℕ} (sound : IsSound file) (l : Layout) (blocks : List (List ℕ)) (lsn : ℕ) → OpensAt l file blocks lsn → Same sound l blocks lsn
 same_of {file} sound l blocks lsn opens =
@@ -88,7 +89,7 @@ same_of {file} sound l blocks lsn opens =
       shape = sym shape;
       there = sym agree.blocks;
       opening = subst (λ (b : List (List ℕ)). OpensAs (shape_of l) b sound.state) agree.blocks (subst (λ (s : Shape). OpensAs s st.blocks sound.state) shape sound.opening);
-      logged = sym (last_number l file blocks lsn opens);
+      logged = sym agree.lsn ∙ sound.logged ∙ ap (λ (s : Shape). logged_of s st.blocks) shape ∙ ap (logged_of (shape_of l)) agree.blocks;
       fits = (can_move st.layout l st.blocks blocks st.lsn lsn agree st.can_open).fits;
       next = ap (λ (n : ℕ). n + owed_in (shape_of st.layout) st.blocks) agree.lsn
           ∙ ap (λ (s : Shape). lsn + owed_in s st.blocks) shape
@@ -102,11 +103,11 @@ disk_leaves d s old new P x = record { later = x.later; each = x.each; earlier =
 
 module _ {D : Type 0} (d : DiskGhosts D) (old : D) where
   -- the store that was found is one
-  pub is_store : (s : StoreState D) → Found d old s → CanOpen (shape_of s.layout) (blocks_in d s) (room_of (Some s.layout.log) s.number) → IsStore (d.content old)
-  is_store s found can = record { layout = s.layout; blocks = blocks_in d s; lsn = s.number; opens = found.opens; can_open = can }
+  pub is_store : (s : StoreState D) → Found d old s → CanOpen (shape_of s.layout) (blocks_in d s) (room_of (Some (endless s.layout.log)) s.number) → IsStore (d.content old)
+  is_store s found can = record { layout = s.layout; blocks = blocks_in d s; lsn = s.number; opens = found.opens; small = found.small; can_open = can }
 
   -- where it was refused, the file is none
-  pub not_store : (s : StoreState D) → Found d old s → (CanOpen (shape_of s.layout) (blocks_in d s) (room_of (Some s.layout.log) s.number) → ⊥) → IsStore (d.content old) → ⊥
+  pub not_store : (s : StoreState D) → Found d old s → (CanOpen (shape_of s.layout) (blocks_in d s) (room_of (Some (endless s.layout.log)) s.number) → ⊥) → IsStore (d.content old) → ⊥
   not_store s found refused st =
       refused (can_move st.layout s.layout st.blocks (blocks_in d s) st.lsn s.number (one_opening st.layout s.layout (d.content old) st.blocks (blocks_in d s) st.lsn s.number st.opens.means found.opens.means) st.can_open)
 
@@ -115,20 +116,20 @@ module _ {D : Type 0} (d : DiskGhosts D) (old : D) where
   alone_same new sound alone =
       let st = sound.store in
       let same = same_of sound st.layout st.blocks st.lsn st.opens in
-      let P : List ℕ → Type 0 = λ c. d.image old c ⊎ Restarts Opens (Some st.layout.log) sound.state c in
+      let P : List ℕ → Type 0 = λ c. d.image old c ⊎ Restarts Opens (Some (endless st.layout.log)) sound.state c in
       weaker d.moment d.image_since old new (λ c. d.image old c ⊎ Means st.layout c st.blocks st.lsn) P
       (λ c p. ⊎_elim (λ was. inl was) (λ means. inr (restarts_found sound.state st.layout st.blocks st.lsn c sound.opening same.logged same.fits (record { means = means; headed = st.opens.headed }))) p)
       (alone.images st.layout st.blocks st.lsn st.opens.means)
 
   -- what an opening left, of the store that was found
-  pub opens_same : (s : StoreState D) (new : D) (sound : IsSound (d.content old)) → Found d old s → Leaves d s.disk new (Restarts Opens (Some s.layout.log) sound.state) → OpensSame d old new sound
+  pub opens_same : (s : StoreState D) (new : D) (sound : IsSound (d.content old)) → Found d old s → Leaves d s.disk new (Restarts Opens (Some (endless s.layout.log)) sound.state) → OpensSame d old new sound
   opens_same s new sound found stays =
-      let P : List ℕ → Type 0 = λ c. d.image old c ⊎ Restarts Opens (Some sound.store.layout.log) sound.state c in
+      let P : List ℕ → Type 0 = λ c. d.image old c ⊎ Restarts Opens (Some (endless sound.store.layout.log)) sound.state c in
       let same = same_of sound s.layout (blocks_in d s) s.number found.opens in
       joined d.moment d.image_since old s.disk new P
       (alone_same s.disk sound found.kept)
-      (weaker d.moment d.image_since s.disk new (Restarts Opens (Some s.layout.log) sound.state) P
-      (λ c r. inr (subst (λ (k : ℕ). Restarts Opens (Some k) sound.state c) same.log r)) stays)
+      (weaker d.moment d.image_since s.disk new (Restarts Opens (Some (endless s.layout.log)) sound.state) P
+      (λ c r. inr (subst (λ (k : ℕ). Restarts Opens (Some (endless k)) sound.state c) same.log r)) stays)
 
   -- no call at all
   pub rests_itself : Rests d old old
@@ -165,7 +166,7 @@ module _ {D : Type 0} (d : DiskGhosts D) (old : D) where
   pub has_opened : (g : Ghosts (StoreState D)) (s : StoreState D) (e : EngineView (StoreState D)) (sound : IsSound (d.content old)) → Found d old s → e.store.layout.log ≡ s.layout.log
       → g.slots e.store ≡ Some e.store.layout.log → Stands g sound.state e → g.lsn e.store ≡ s.number + owed_in (shape_of s.layout) (blocks_in d s)
       → BackBy (shape_of s.layout) (owed_in (shape_of s.layout) (blocks_in d s)) (blocks_in d s) (g.blocks e.store)
-      → Leaves d s.disk e.store.disk (Restarts Opens (Some s.layout.log) sound.state) → ((c : List ℕ) → d.image e.store.disk c → Restarts Opens (Some e.store.layout.log) sound.state c) → HasOpened d g old e sound
+      → Leaves d s.disk e.store.disk (Restarts Opens (Some (endless s.layout.log)) sound.state) → ((c : List ℕ) → d.image e.store.disk c → Restarts Opens (Some (endless e.store.layout.log)) sound.state c) → HasOpened d g old e sound
   has_opened g s e sound found slots ended stands lsn back stays only =
       let same = same_of sound s.layout (blocks_in d s) s.number found.opens in
       record {
@@ -177,41 +178,41 @@ module _ {D : Type 0} (d : DiskGhosts D) (old : D) where
         };
         stands = record { engine = stands; lsn = same.next ∙ sym lsn; blocks = refl; ended = subst (λ (o : Option ℕ). o ≡ Some (slots_of o)) (sym ended) refl };
         any_moment = opens_same s e.store.disk sound found stays;
-        now_only = λ c here. subst (λ (k : ℕ). Restarts Opens (Some k) sound.state c) (slots ∙ same.log) (only c here);
+        now_only = λ c here. subst (λ (k : ℕ). Restarts Opens (Some (endless k)) sound.state c) (slots ∙ same.log) (only c here);
       }
 
   -- an opening, and the lines after it
   pub endures : (g : Ghosts (StoreState D)) (e : EngineView (StoreState D)) (m : Logged) (new : D) (sound : IsSound (d.content old)) → HasOpened d g old e sound → Extends sound.state m.state
-      → Leaves d e.store.disk new (OnTheWay Opens (Some e.store.layout.log) m.fault sound.state m.state) → ((c : List ℕ) → d.image new c → AtEnd Opens (Some e.store.layout.log) m.fault m.state c)
+      → Leaves d e.store.disk new (OnTheWay Opens (Some (endless e.store.layout.log)) m.fault sound.state m.state) → ((c : List ℕ) → d.image new c → AtEnd Opens (Some (endless e.store.layout.log)) m.fault m.state c)
       → Endures d old new sound.store.layout sound.state m
   endures g e m new sound o extends any end =
       let l = sound.store.layout in
       let h = sound.state in
-      let P : List ℕ → Type 0 = λ c. d.image old c ⊎ OnTheWay Opens (Some l.log) m.fault h m.state c in
+      let P : List ℕ → Type 0 = λ c. d.image old c ⊎ OnTheWay Opens (Some (endless l.log)) m.fault h m.state c in
       record {
         extends = extends;
         any_moment = joined d.moment d.image_since old e.store.disk new P
-            (weaker d.moment d.image_since old e.store.disk (λ c. d.image old c ⊎ Restarts Opens (Some l.log) h c) P
-            (λ c p. ⊎_elim (λ was. inl was) (λ r. inr (restarts_on_the_way (Some l.log) m.fault h m.state c extends r)) p) o.any_moment)
-            (weaker d.moment d.image_since e.store.disk new (OnTheWay Opens (Some e.store.layout.log) m.fault h m.state) P
-            (λ c way. inr (subst (λ (k : ℕ). OnTheWay Opens (Some k) m.fault h m.state c) o.slots way)) any);
-        now_only = λ c here. subst (λ (k : ℕ). AtEnd Opens (Some k) m.fault m.state c) o.slots (end c here);
+            (weaker d.moment d.image_since old e.store.disk (λ c. d.image old c ⊎ Restarts Opens (Some (endless l.log)) h c) P
+            (λ c p. ⊎_elim (λ was. inl was) (λ r. inr (restarts_on_the_way (Some (endless l.log)) m.fault h m.state c extends r)) p) o.any_moment)
+            (weaker d.moment d.image_since e.store.disk new (OnTheWay Opens (Some (endless e.store.layout.log)) m.fault h m.state) P
+            (λ c way. inr (subst (λ (k : ℕ). OnTheWay Opens (Some (endless k)) m.fault h m.state c) o.slots way)) any);
+        now_only = λ c here. subst (λ (k : ℕ). AtEnd Opens (Some (endless k)) m.fault m.state c) o.slots (end c here);
       }
 
   -- what was done over the engine was done over the file
   module _ (g : Ghosts (StoreState D)) (e : EngineView (StoreState D)) (sound : IsSound (d.content old)) (o : HasOpened d g old e sound) where
     pub has_run : (now : Logged) (lines : List (List ℕ)) (tells : Type 0) (before held : List ℕ) (endures : Layout → State → Logged → Type 0)
-        → Ran (outside_of (Some e.store.layout.log)) (first_of sound o.first) now lines tells before held → now.state.stopped ≡ false → endures sound.store.layout sound.state now → HasRun sound lines tells before held endures
+        → Ran (outside_of (Some (endless e.store.layout.log))) (first_of sound o.first) now lines tells before held → now.state.stopped ≡ false → endures sound.store.layout sound.state now → HasRun sound lines tells before held endures
     has_run now lines tells before held endures ran going endured = record {
       first = o.first;
-      run = record { now = now; ran = subst (λ (k : ℕ). Ran (outside_of (Some k)) (first_of sound o.first) now lines tells before held) o.slots ran; endured = endured };
+      run = record { now = now; ran = subst (λ (k : ℕ). Ran (outside_of (Some (endless k))) (first_of sound o.first) now lines tells before held) o.slots ran; endured = endured };
       going = going;
     }
 
     pub has_halted : (now : Logged) (left left2 : List ℕ) (tells : Type 0) (before held : List ℕ) (endures : Layout → State → Logged → Type 0)
-        → Halted (outside_of (Some e.store.layout.log)) SCRIPT_BYTES (first_of sound o.first) now left left2 tells before held → endures sound.store.layout sound.state now → HasHalted sound left left2 tells before held endures
+        → Halted (outside_of (Some (endless e.store.layout.log))) SCRIPT_BYTES (first_of sound o.first) now left left2 tells before held → endures sound.store.layout sound.state now → HasHalted sound left left2 tells before held endures
     has_halted now left left2 tells before held endures halted endured =
-        let here = subst (λ (k : ℕ). Halted (outside_of (Some k)) SCRIPT_BYTES (first_of sound o.first) now left left2 tells before held) o.slots halted in
+        let here = subst (λ (k : ℕ). Halted (outside_of (Some (endless k))) SCRIPT_BYTES (first_of sound o.first) now left left2 tells before held) o.slots halted in
         record {
           first = o.first;
           run = record { now = now; ran = all_ran (outside_in sound) SCRIPT_BYTES (first_of sound o.first) now left left2 tells before held here; endured = endured };
@@ -219,17 +220,17 @@ module _ {D : Type 0} (d : DiskGhosts D) (old : D) where
         }
 
     pub was_cut_off : (now : Logged) (left left2 before held : List ℕ) (endures : Layout → State → Logged → Type 0)
-        → CutOff (outside_of (Some e.store.layout.log)) SCRIPT_BYTES (first_of sound o.first) now left left2 before held → endures sound.store.layout sound.state now → WasCutOff sound left left2 before held endures
+        → CutOff (outside_of (Some (endless e.store.layout.log))) SCRIPT_BYTES (first_of sound o.first) now left left2 before held → endures sound.store.layout sound.state now → WasCutOff sound left left2 before held endures
     was_cut_off now left left2 before held endures cut endured = record {
       first = o.first;
       now = now;
-      cut = subst (λ (k : ℕ). CutOff (outside_of (Some k)) SCRIPT_BYTES (first_of sound o.first) now left left2 before held) o.slots cut;
+      cut = subst (λ (k : ℕ). CutOff (outside_of (Some (endless k))) SCRIPT_BYTES (first_of sound o.first) now left left2 before held) o.slots cut;
       endured = endured;
     }
 
 -- a file that opens to nothing is no store
-pub no_opening : (file : List ℕ) → ((l : Layout) (blocks : List (List ℕ)) (lsn : ℕ) → OpensAt l file blocks lsn → ⊥) → IsStore file → ⊥
-no_opening file none st = none st.layout st.blocks st.lsn st.opens
+pub no_opening : (file : List ℕ) → ((l : Layout) (blocks : List (List ℕ)) (lsn : ℕ) → OpensAt l file blocks lsn → 2 ^ 61 < (head_of file).number) → IsStore file → ⊥
+no_opening file none st = let great = none st.layout st.blocks st.lsn st.opens in let small = st.small in omega (arith, great, small)
 
 -- what is left where nothing failed
 pub complete_format : (status : Status) → EndsFormat status → (status ≡ DiskFault → ⊥) → (status ≡ NotEmpty → ⊥) → IsDoneOrNoMemory status

@@ -10,6 +10,7 @@ use Rattle.rb_model.specs.Out.{Logged, Outside, outside_by}
 use Rattle.rb_model.specs.Rows.{last_scn, rows_at}
 use Rattle.rb_model.specs.State.{State, opened}
 use Rattle.rb_shell.specs.Left.{Left}
+use Rattle.rb_store.specs.Meaning.{endless}
 use Rattle.rb_shell.specs.declared.script.TheConstants.{SCRIPT_BYTES}
 
 -- The file opens with the rows after a state's commits up to n, and with marks that are no more than these books say.
@@ -39,7 +40,7 @@ pub record RunsOver {D : Type 0} (d : DiskGhosts D) (old new : D) (slots : ℕ) 
   -- nothing is said of them
   pub blocks : List (List ℕ)
   pub now : Logged
-  pub ran : Ran (plain slots) (record { state = h; lsn = lsn; fault = None; blocks = blocks }) now lines tells
+  pub ran : Ran (plain (endless slots)) (record { state = h; lsn = lsn; fault = None; blocks = blocks }) now lines tells
       held_before held_now
   pub leaves : LeavesFiles d old new slots h now
 
@@ -51,7 +52,7 @@ pub record IsCutOver {D : Type 0} (d : DiskGhosts D) (old new : D) (slots : ℕ)
   -- nothing is said of them
   pub blocks : List (List ℕ)
   pub now : Logged
-  pub cut : CutOff (plain slots) SCRIPT_BYTES (record { state = h; lsn = lsn; fault = None; blocks = blocks }) now
+  pub cut : CutOff (plain (endless slots)) SCRIPT_BYTES (record { state = h; lsn = lsn; fault = None; blocks = blocks }) now
       left_before left_now held_before held_now
   pub leaves : LeavesFiles d old new slots h now
 

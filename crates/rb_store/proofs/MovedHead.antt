@@ -26,7 +26,7 @@ use Rattle.rb_cache.specs.declared.frame.Frame.{Frame}
 use Rattle.rb_cache.specs.Frames.{seen, AreClean, NoneDirty}
 use Rattle.rb_twin.specs.TwinLaws.{kept_shut}
 use Rattle.rb_twin.specs.Twins.{home, kept, twin_gate, IsTwin}
-use Rattle.rb_store.specs.Meaning.{ENDLESS, Means, Opens, OpensAt}
+use Rattle.rb_store.specs.Meaning.{endless, Means, Opens, OpensAt}
 use Rattle.rb_store.specs.StoreStates.{StoreState, StoreLeaves, IsQuietAt, IsStable, IsStableAt, blocks_by, blocks_in}
 use Rattle.rb_store.proofs.CachedLemmas.{clean_same, seen_same}
 use Rattle.rb_store.proofs.StoreLemmas.{one_by, same_blocks}
@@ -152,9 +152,9 @@ module _ {D : Type 0} (d : Ghosts D) (s : StoreState D) (q : IsQuietAt s.layout 
     behind : gate_of l st.opens.means.head f (length st.opens.means.groups) ≢ 1
     behind = subst (λ (h : Head). gate_of l h f (length st.opens.means.groups) ≢ 1) (sym st.head_is) (subst (λ (k : ℕ). gate_of l s.head f k ≢ 1) (sym st.used_is) q.next)
 
-    pub move_moments : (t : StoreState D) → Leaves d s.disk t.disk (Advanced (d.image s.disk) (head_of f) to) → StoreLeaves d s t (λ c. Opens (shape_of l) (Some ENDLESS) c b n)
+    pub move_moments : (t : StoreState D) → Leaves d s.disk t.disk (Advanced (d.image s.disk) (head_of f) to) → StoreLeaves d s t (λ c. Opens (shape_of l) (Some (endless l.log)) c b n)
     move_moments t leaves =
-        let P : List ℕ → Type 0 = λ c. Opens (shape_of l) (Some ENDLESS) c b n in
+        let P : List ℕ → Type 0 = λ c. Opens (shape_of l) (Some (endless l.log)) c b n in
         let w = weaker d.moment d.image_since s.disk t.disk (Advanced (d.image s.disk) (head_of f) to) P (λ c some. record {
           layout = l;
           shape_is = refl;

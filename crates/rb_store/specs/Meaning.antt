@@ -56,14 +56,14 @@ pub record OpensAt (l : Layout) (file : List ℕ) (blocks : List (List ℕ)) (n 
   pub means : Means l file blocks n
   pub headed : AreHeaded (shape_of l) blocks n
 
--- The log goes round: there is no end of it but that of its numbers, as if it had so many slots.
-abbrev pub ENDLESS : ℕ
-ENDLESS = 2 ^ 63
+-- A log of so many slots goes round: it has room as if it had that many.
+abbrev pub endless : ℕ → ℕ
+endless slots = 2 ^ 63 + slots
 
--- what a file opens to, by the shape of its layout
+-- what a file opens to, by the shape and the slots of its layout
 pub record Opens (shape : Shape) (slots : Option ℕ) (file : List ℕ) (blocks : List (List ℕ)) (lsn : ℕ) :
     Type 0 where
   pub layout : Layout
   pub shape_is : shape_of layout ≡ shape
-  pub slots_are : Some ENDLESS ≡ slots
+  pub slots_are : Some (endless layout.log) ≡ slots
   pub opens : OpensAt layout file blocks lsn

@@ -33,8 +33,8 @@ pub struct LogStore<D: Disk> {
     pub(crate) disk: D,
 }
 
-/// The number of the last group that any log may have room for.
-const LAST_PLACE: u64 = (1 << 63) - 1;
+/// How many groups any log has room for, besides as many as it has slots: it goes round.
+const ENDLESS: u64 = 1 << 63;
 
 /// How often calls had to make what waited last, once the log had so many groups before one call more and so many
 /// behind it.
@@ -174,7 +174,7 @@ impl<D: Disk> Store for LogStore<D> {
     ghost use Rattle.std.specs.Prelude.{Some, ℕ, List};
     ghost use Rattle.rb_layout.specs.Regions.{shape_of as layout_shape};
     ghost use Rattle.rb_store.specs.StoreLaws.{stable_left as left_opens, held_back_same, held_back_joined};
-    ghost use Rattle.rb_store.specs.Meaning.{ENDLESS, Opens};
+    ghost use Rattle.rb_store.specs.Meaning.{endless, Opens};
 
     ghost tells = { D.tells };
 
@@ -182,7 +182,7 @@ impl<D: Disk> Store for LogStore<D> {
 
     ghost shape_of = { λ s. layout_shape s.layout };
 
-    ghost slots = { λ s. Some ENDLESS };
+    ghost slots = { λ s. Some (endless s.layout.log) };
 
     ghost blocks = { λ s. blocks_in D.Disk s };
 
@@ -275,6 +275,7 @@ impl<D: Disk> Store for LogStore<D> {
         ensures settles { D.tells → OnOk result (SettlesGiven D.Disk self.old self.new self.old.pending) }
         ensures any_moment { D.tells → LeavesGiven D.Disk self.old self.new self.old.pending }
         ensures shape { layout_shape self.new.layout ≡ layout_shape self.old.layout }
+        ensures slots { Some (endless self.new.layout.log) ≡ Some (endless self.old.layout.log) }
         ensures lsn { self.new.number ≡ self.old.number }
         ensures blocks { D.tells → OnOk result (blocks_in D.Disk self.new ≡ blocks_in D.Disk self.old) }
         ensures failed { self.new.failed ≡ is_err result }
@@ -288,6 +289,6 @@ impl<D: Disk> Store for LogStore<D> {
     }
 
     fn room(&self) -> u64 {
-        LAST_PLACE - self.lsn
+        ENDLESS + u64::from(self.cache.layout().log) - 1 - self.lsn
     }
 }
