@@ -1,5 +1,5 @@
 -- From the engine that an opening made to the run over the file that it opened.
-use Rattle.std.proofs.Common.{◌≡◌, ◌∙◌, ◌⊎◌, inl, inr, ⊎_elim, ap, sym, subst, refl, arith, ℕ, false, ◌+◌, ◌<◌, ◌≤◌, List, [], ◌++◌, length, Option, Some}
+use Rattle.std.proofs.Common.{◌≡◌, ◌^◌, ◌∙◌, ◌⊎◌, inl, inr, ⊎_elim, ap, sym, subst, refl, arith, ℕ, false, ◌+◌, ◌<◌, ◌≤◌, List, [], ◌++◌, length, Option, Some}
 use Rattle.std.proofs.lemmas.List.{length-append}
 use Rattle.rb_base.specs.Blocks.{IsShape}
 use Rattle.rb_base.specs.Moments.{LeavesOnly, joined, no_call, weaker}
@@ -164,7 +164,7 @@ module _ {D : Type 0} (d : DiskGhosts D) (old : D) where
 
   -- an engine over it
   pub has_opened : (g : Ghosts (StoreState D)) (s : StoreState D) (e : EngineView (StoreState D)) (sound : IsSound (d.content old)) → Found d old s → e.store.layout.log ≡ s.layout.log
-      → g.slots e.store ≡ Some e.store.layout.log → Stands g sound.state e → g.lsn e.store ≡ s.number + owed_in (shape_of s.layout) (blocks_in d s)
+      → g.slots e.store ≡ Some (endless e.store.layout.log) → Stands g sound.state e → g.lsn e.store ≡ s.number + owed_in (shape_of s.layout) (blocks_in d s)
       → BackBy (shape_of s.layout) (owed_in (shape_of s.layout) (blocks_in d s)) (blocks_in d s) (g.blocks e.store)
       → Leaves d s.disk e.store.disk (Restarts Opens (Some (endless s.layout.log)) sound.state) → ((c : List ℕ) → d.image e.store.disk c → Restarts Opens (Some (endless e.store.layout.log)) sound.state c) → HasOpened d g old e sound
   has_opened g s e sound found slots ended stands lsn back stays only =

@@ -1,6 +1,7 @@
 use Rattle.std.proofs.Common.{◌≡◌, ◌≢◌, ◌∙◌, refl, ℕ, Bool, false, Some, inl, inr, sym, ap, subst}
 use Rattle.rb_model.specs.State.{State}
 use Rattle.rb_calls.specs.Since.{outside_of}
+use Rattle.rb_shell.specs.Statuses.{AsksScript}
 use Rattle.rb_shell.proofs.GenerationLemmas.{no_counts, same_made}
 use Rattle.rb_shell.proofs.RunLemmas.{endures}
 use Rattle.rb_shell.specs.Generation.{HasMade, MadeOn}
@@ -75,3 +76,9 @@ returns-in-Ok-clause-disk_done g c = λ disk is. inr (λ sound.
     let a = (goal.at.returns-in-Ok-clause-disk_done g c).After-close in
     let d = did g a disk sound in
     (d.fault, record { first = (opened g a disk sound).first; made = made g a disk sound d.fault refl; endured = endured g a disk sound }))
+
+pub returns-in-Err-clause-done : goal.returns-in-Err-clause-done
+returns-in-Err-clause-done g c = λ told is. absurd (c.status_of_fault.ensures.no_script (subst AsksScript (sym is) tt))
+
+pub returns-in-Err-clause-not_a_store : goal.returns-in-Err-clause-not_a_store
+returns-in-Err-clause-not_a_store g c = λ told is. c.in-Err.ensures.none told (c.status_of_fault.ensures.none is)

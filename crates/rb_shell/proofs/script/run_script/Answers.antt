@@ -12,9 +12,9 @@ use Rattle.rb_shell.specs.Runs.{IsSound, first_of}
 use Rattle.rb_store.specs.Meaning.{endless, Opens}
 use Rattle.rb_store.specs.contracts.store.LogStoreStore.TheImpl.{ghosts}
 use Rattle.rb_shell.specs.Runs.{Endures, HasOpened, HasRun, Lasts, LeftBehind, PassedOn, RanOn}
-use Rattle.rb_shell.specs.Statuses.{by_disk, by_sink}
+use Rattle.rb_shell.specs.Statuses.{AsksNothing, by_disk, by_sink}
 use Rattle.rb_shell.specs.declared.status.Status.TheVariants.{Done}
-use Rattle.rb_shell.proofs.RunLemmas.{endures, has_halted, has_run, was_cut_off}
+use Rattle.rb_shell.proofs.RunLemmas.{endures, has_halted, has_run, rests_alone, rests_itself, was_cut_off}
 use Rattle.rb_calls.proofs.CallLemmas.{counted_as}
 use Rattle.rb_shell.proofs.StatusLemmas.{beside, disk_by, done_by, long_by, sink_by, source_by, uncounted}
 use Rattle.rb_shell.proofs.script.run_script.Given.{Over}
@@ -178,3 +178,9 @@ returns-clause-sink g c = uncounted _ _ _ c.status_of_fault.ensures.by_sink refl
 
 pub returns-clause-disk : goal.returns-clause-disk
 returns-clause-disk g c = beside _ _ _ _ (counted_as _ _ _ _ (sym c.status_of_fault.ensures.by_disk) c.in-Err.ensures.counted_err)
+
+pub returns-in_default-clause-untouched : goal.returns-in_default-clause-untouched
+returns-in_default-clause-untouched g c = λ told asks. rests_alone g.D.Disk c.args.disk c.args.disk (λ image left. g.met.D.Disk.only_now c.args.disk image told left) (rests_itself g.D.Disk c.args.disk)
+
+pub returns-in-Ok-open_engine-clause-not_a_store : goal.returns-in-Ok-open_engine-clause-not_a_store
+returns-in-Ok-open_engine-clause-not_a_store g c = λ told is. absurd (c.run_engine-status.ensures.asks (subst AsksNothing (sym is) tt))
