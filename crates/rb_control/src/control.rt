@@ -1,5 +1,5 @@
 //! Where the log of a file begins, by two copies of its head and the byte that chooses one of them; and how that moves.
-//! Tests alone call it: it stands ready for the log that goes round.
+//! The store reads it as it opens a file, and moves it behind the groups of a log that it has brought home.
 ghost use Rattle.std.specs.Prelude.{◌≡◌, ◌<◌, ◌≤◌, ◌↔◌, ℕ, List, length};
 ghost use Rattle.std.specs.Prelude.{IfOk, OnOk, IsErrOf, IsTrue};
 ghost use Rattle.rb_base.specs.Counts.{IsCounted, IsCountedAs, err_is, is_failed};

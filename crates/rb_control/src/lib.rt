@@ -1,4 +1,4 @@
-//! The control copies of a file: where its log begins, and how that moves. Today tests alone call it.
+//! The control copies of a file: where its log begins, and how that moves. The store asks them.
 #![tactic(auto)]
 
 mod control;

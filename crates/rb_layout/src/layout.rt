@@ -4,8 +4,8 @@ ghost use Rattle.std.specs.Prelude.{IsSome, IfSome};
 
 use rb_base::{Shape, UNIT, put_u16, put_u32};
 
-/// The version of the files: 1. Their blocks stand at home, and their log, which goes round, has the groups that may not
-/// be in these.
+/// The version of the files: 1. Their blocks stand at home, and their log, which goes round, has the groups that may
+/// not be in these.
 pub const VERSION: u32 = 1;
 
 /// How many bytes of the first unit say what file it is.

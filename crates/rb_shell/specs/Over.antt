@@ -52,8 +52,8 @@ pub record IsCutOver {D : Type 0} (d : DiskGhosts D) (old new : D) (slots : ℕ)
   -- nothing is said of them
   pub blocks : List (List ℕ)
   pub now : Logged
-  pub cut : CutOff (plain (endless slots)) SCRIPT_BYTES (record { state = h; lsn = lsn; fault = None; blocks = blocks }) now
-      left_before left_now held_before held_now
+  pub cut : CutOff (plain (endless slots)) SCRIPT_BYTES
+      (record { state = h; lsn = lsn; fault = None; blocks = blocks }) now left_before left_now held_before held_now
   pub leaves : LeavesFiles d old new slots h now
 
 -- whatever it did, it came to some state

@@ -1,5 +1,6 @@
 -- What a run of a script over a file does.
-use Rattle.std.specs.Prelude.{◌≡◌, ◌≤◌, ◌⊎◌, ℕ, ◌+◌, ◌^◌, false, List, [], ◌++◌, Option, None, Some}
+use Rattle.std.specs.Prelude.{◌≡◌, ◌≤◌, ◌⊎◌, ℕ, ◌+◌, ◌^◌, false, List, []}
+use Rattle.std.specs.Prelude.{◌++◌, Option, None, Some}
 use Rattle.rb_base.specs.Stores.{room_of}
 use Rattle.rb_base.specs.declared.store.Store.{Ghosts}
 use Rattle.rb_disk.specs.Moments.{Leaves, Rests}
@@ -32,8 +33,8 @@ use Rattle.rb_store.specs.Meaning.{endless, Means, Opens, OpensAt}
 use Rattle.rb_store.specs.Openings.{MeansNothing}
 use Rattle.rb_store.specs.StoreStates.{StoreState}
 
--- The file is a store of some layout: it opens to these blocks with that last log number, the number that its log begins
--- with is in range, the blocks are in order, and the log has room for the groups that put back what is under way.
+-- The file is a store of some layout: it opens to these blocks with that last log number, its log begins with a number
+-- in range, the blocks are in order, and the log has room for the groups that put back what is under way.
 pub record IsStore (file : List ℕ) : Type 0 where
   pub layout : Layout
   pub blocks : List (List ℕ)
@@ -125,7 +126,8 @@ pub record HasRunOut {file : List ℕ} (sound : IsSound file) (left_before left_
 pub record Endures {D : Type 0} (d : DiskGhosts D) (old new : D) (l : Layout) (before : State) (now : Logged) : Type 0
   where
     pub extends : Extends before now.state
-    pub any_moment : Leaves d old new (λ c. d.image old c ⊎ OnTheWay Opens (Some (endless l.log)) now.fault before now.state c)
+    pub any_moment : Leaves d old new
+        (λ c. d.image old c ⊎ OnTheWay Opens (Some (endless l.log)) now.fault before now.state c)
     pub now_only : (c : List ℕ) → d.image new c → AtEnd Opens (Some (endless l.log)) now.fault now.state c
 
 -- The same, and where no call of the disk failed its count of faults is as before.

@@ -67,11 +67,11 @@ behind_first l =
     let rest = fresh_copy ++ (more ++ units) in
     let long : length own ≡ 24 = omega arith in
     let split : fresh_file file_version l ≡ (own ++ zeros) ++ (fresh_copy ++ rest) =
-        append_assoc (own ++ (zeros ++ (fresh_copy ++ fresh_copy))) more units
-        ∙ append_assoc own (zeros ++ (fresh_copy ++ fresh_copy)) (more ++ units)
-        ∙ ap (λ (x : List ℕ). own ++ x) (append_assoc zeros (fresh_copy ++ fresh_copy) (more ++ units)
-        ∙ ap (λ (x : List ℕ). zeros ++ x) (append_assoc fresh_copy fresh_copy (more ++ units)))
-        ∙ sym (append_assoc own zeros (fresh_copy ++ rest)) in
+    append_assoc (own ++ (zeros ++ (fresh_copy ++ fresh_copy))) more units
+    ∙ append_assoc own (zeros ++ (fresh_copy ++ fresh_copy)) (more ++ units)
+    ∙ ap (λ (x : List ℕ). own ++ x) (append_assoc zeros (fresh_copy ++ fresh_copy) (more ++ units)
+    ∙ ap (λ (x : List ℕ). zeros ++ x) (append_assoc fresh_copy fresh_copy (more ++ units)))
+    ∙ sym (append_assoc own zeros (fresh_copy ++ rest)) in
     (rest, ap (drop 2048) split ∙ drop_at (own ++ zeros) (fresh_copy ++ rest) 2048 (omega (arith, long, length-append own zeros, length-replicate {A = ℕ} 2024 0)))
 
 first_slot : (rest : List ℕ) → big_number 4 (fresh_copy ++ rest) ≡ 0

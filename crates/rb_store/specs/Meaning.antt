@@ -1,5 +1,6 @@
 -- What a file with blocks at home means.
-use Rattle.std.specs.Prelude.{◌≡◌, ℕ, ◌+◌, ◌^◌, ◌<◌, ◌≤◌, List, length, Option, Some, slice_index}
+use Rattle.std.specs.Prelude.{◌≡◌, ℕ, ◌+◌, ◌^◌, ◌<◌, ◌≤◌, List, length, slice_index}
+use Rattle.std.specs.Prelude.{Option, Some}
 use Rattle.rb_base.specs.Blocks.{block_of, block_kind, shape_blocks, AreBlocks}
 use Rattle.rb_base.specs.Fields.{number_at, part}
 use Rattle.rb_base.specs.Groups.{Patch}

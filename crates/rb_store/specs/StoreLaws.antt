@@ -12,7 +12,8 @@ use Rattle.rb_store.specs.StoreStates.{HeldBack, IsStableAt, StoreState}
 pub stable_left : {l : Layout} {head : Head} {used : ℕ} {pending : List (List Patch)} {number : ℕ}
     {read : List (List ℕ)} {file : List ℕ} {image : List ℕ → Type 0} {b : List (List ℕ)} {n : ℕ}
     (c : List ℕ)
-    → IsStableAt l head used pending number read file image b n → image c → Opens (shape_of l) (Some (endless l.log)) c b n
+    → IsStableAt l head used pending number read file image b n → image c
+    → Opens (shape_of l) (Some (endless l.log)) c b n
 stable_left {l = l} {b = b} {n = n} c stable here = record {
   layout = l;
   shape_is = refl;

@@ -1,6 +1,6 @@
 -- A store over a cache, and what is stable in it.
-use Rattle.std.specs.Prelude.{◌≡◌, ◌≢◌, ◌⊎◌, ℕ, ◌+◌, ◌-◌, ◌^◌, ◌++◌, ◌<◌, ◌≤◌}
-use Rattle.std.specs.Prelude.{Bool, List, length, Option, Some, map}
+use Rattle.std.specs.Prelude.{◌≡◌, ◌≢◌, ◌⊎◌, ℕ, ◌+◌, ◌-◌, ◌^◌, ◌++◌, ◌<◌}
+use Rattle.std.specs.Prelude.{◌≤◌, Bool, List, length, Option, Some, map}
 use Rattle.std.specs.List.{range_with_len}
 use Rattle.rb_base.specs.Blocks.{after_groups}
 use Rattle.rb_base.specs.Groups.{Patch}
@@ -72,7 +72,8 @@ IsStable d s blocks n =
     IsStableAt s.layout s.head s.used s.pending s.number (blocks_in d s) (d.content s.disk) (d.image s.disk) blocks n
 
 -- moments of a store are those of its disk
-abbrev pub StoreLeaves : {D : Type 0} → Ghosts D → StoreState D → StoreState D → (List ℕ → Type 0) → Type 0
+abbrev pub StoreLeaves : {D : Type 0} → Ghosts D → StoreState D → StoreState D → (List ℕ → Type 0)
+    → Type 0
 StoreLeaves {D} d old new P =
     LeavesOnly (λ (s : StoreState D). d.moment s.disk) (λ (s : StoreState D) t c. d.image_since s.disk t c) old new P
 

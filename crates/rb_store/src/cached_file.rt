@@ -1,7 +1,7 @@
 //! `CachedFile`: the cache, the log and the twin area of a file, whose calls take all three. The store has one, and
 //! its opening.
-ghost use Rattle.std.specs.Prelude.{◌≡◌, ◌≢◌, ◌<◌, ◌≤◌, ◌+◌, ◌^◌, ◌++◌, ◌∷◌, ◌↔◌};
-ghost use Rattle.std.specs.Prelude.{[], ℕ, List, length, Some, OnOk, OnErr, IsTrue, true};
+ghost use Rattle.std.specs.Prelude.{◌≡◌, ◌≢◌, ◌<◌, ◌≤◌, ◌+◌, ◌^◌, ◌++◌, ◌∷◌};
+ghost use Rattle.std.specs.Prelude.{◌↔◌, [], ℕ, List, length, Some, OnOk, OnErr, IsTrue, true};
 ghost use Rattle.rb_base.specs.Blocks.{AreWithin};
 ghost use Rattle.rb_base.specs.Counts.{IsCounted};
 ghost use Rattle.rb_base.specs.Groups.{Patch};

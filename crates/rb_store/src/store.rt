@@ -1,7 +1,7 @@
 //! `LogStore`: the blocks of a file, which stand at home there, through a cache of some frames. The shell opens it, and
 //! the engine runs over it.
-ghost use Rattle.std.specs.Prelude.{◌≡◌, ◌≢◌, ◌≤◌, ◌<◌, ◌+◌, ◌-◌, ◌^◌, ◌++◌, ◌∷◌, ℕ, List, length, false, []};
-ghost use Rattle.std.specs.Prelude.{IfOk, IfErr, OnOk, is_err};
+ghost use Rattle.std.specs.Prelude.{◌≡◌, ◌≢◌, ◌≤◌, ◌<◌, ◌+◌, ◌-◌, ◌^◌, ◌++◌};
+ghost use Rattle.std.specs.Prelude.{◌∷◌, ℕ, List, length, false, [], IfOk, IfErr, OnOk, is_err};
 ghost use Rattle.rb_base.specs.Blocks.{after_group, AreWithin};
 ghost use Rattle.rb_base.specs.Counts.{IsCounted, IsCountedAs, is_failed};
 ghost use Rattle.rb_control.specs.Heads.{head_of};
@@ -33,7 +33,7 @@ pub struct LogStore<D: Disk> {
     pub(crate) disk: D,
 }
 
-/// How many groups any log has room for, besides as many as it has slots: it goes round.
+/// How many groups a log has room for, beyond one less than it has slots: it goes round, and only its numbers end.
 const ENDLESS: u64 = 1 << 63;
 
 /// How often calls had to make what waited last, once the log had so many groups before one call more and so many
@@ -77,10 +77,10 @@ impl<D: Disk> Model for LogStore<D> {
 }
 
 impl<D: Disk> LogStore<D> {
-    /// Opens the store of a disk through so many frames, 16 to 4,096. It begins with a sync, brings a batch home that a
-    /// crash left, and rolls the groups of the log forward. Whatever it answers, the file means what it did, at each
-    /// moment. An Err gives the disk back: NotAStore where the file opens to nothing, Failed where a call of the disk
-    /// failed.
+    /// Opens the store of a disk through so many frames, 16 to 4,096. It begins with a sync, reads where the log
+    /// begins, brings a batch home that a crash left, and rolls the groups of the log forward. Whatever it answers,
+    /// the file means what it did, at each moment. An Err gives the disk back: NotAStore where the file opens to
+    /// nothing, or its log begins with a number above 2^61, and Failed where a call of the disk failed.
     pub fn open(alloc: Global, disk: D, frames: u32) -> Result<LogStore<D>, (OpenFault, D)>
         requires some { 16 ≤ frames }
         requires few { frames ≤ 4096 }

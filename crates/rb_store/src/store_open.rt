@@ -1,7 +1,7 @@
 //! Opens a file: its log is scanned from its head on, its twin area repaired, the groups of the log rolled forward in a
 //! cache, and the gate behind them shut. `LogStore::open` calls it.
-ghost use Rattle.std.specs.Prelude.{◌≡◌, ◌+◌, ◌^◌, ◌≤◌, ◌<◌, ℕ, List, [], length, None, false, IfOk, IfErr};
-ghost use Rattle.std.specs.Prelude.{IsErrOf, OnOk, vec_capacity};
+ghost use Rattle.std.specs.Prelude.{◌≡◌, ◌+◌, ◌^◌, ◌≤◌, ◌<◌, ℕ, List, [], length, None};
+ghost use Rattle.std.specs.Prelude.{false, IfOk, IfErr, IsErrOf, OnOk, vec_capacity};
 ghost use Rattle.rb_base.specs.Counts.{IsCountedAs, err_is, is_failed};
 ghost use Rattle.rb_control.specs.Heads.{head_of, IsHead};
 ghost use Rattle.rb_disk.specs.DiskModel.{Only};
@@ -77,7 +77,12 @@ fn take_memory<D: Disk>(
 
 /// Repairs a file whose log was scanned, rolls the groups of the log forward, and shuts the gate behind them. NotAStore
 /// where the twin area or the head of a block is wrong, Failed where a call of the disk failed.
-fn bring_up<D: Disk>(disk: &mut D, memory: Memory, layout: Layout, head: Head) -> Result<Opened, OpenFault>
+fn bring_up<D: Disk>(
+    disk: &mut D,
+    memory: Memory,
+    layout: Layout,
+    head: Head,
+) -> Result<Opened, OpenFault>
     requires valid { IsHead layout head }
     requires head { D.tells → head ≡ head_of (D.content disk.old) }
     requires identity { D.tells → HasIdentity VERSION layout (D.content disk.old) }
