@@ -18,7 +18,7 @@ use Rattle.rb_model.specs.Out.{Logged}
 use Rattle.rb_model.specs.Rows.{last_scn}
 use Rattle.rb_base.specs.declared.faults.OpenFault.{OpenFault}
 use Rattle.rb_base.specs.declared.faults.OpenFault.TheVariants as faults
-use Rattle.rb_store.specs.Meaning.{endless}
+use Rattle.rb_store.specs.Endless.{endless}
 use Rattle.rb_shell.specs.Generation.{HasMade, MadeOn, line_of}
 use Rattle.rb_shell.specs.Statuses.{EndsGenerator, TellsCounts}
 use Rattle.rb_shell.specs.Runs.{HasOpened, IsSound, MadeLast, first_of, outside_in}

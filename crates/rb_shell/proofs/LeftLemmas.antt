@@ -35,7 +35,8 @@ use Rattle.rb_shell.specs.declared.script.TheConstants.{SCRIPT_BYTES}
 use Rattle.rb_standing.specs.Standing.{SoundAs, logged_of}
 use Rattle.rb_calls.specs.Since.{slots_of}
 use Rattle.rb_control.specs.Heads.{head_of}
-use Rattle.rb_store.specs.Meaning.{endless, Opens}
+use Rattle.rb_store.specs.Endless.{endless}
+use Rattle.rb_store.specs.Meaning.{Opens}
 
 -- ---- it is sound, and opens with that state
 

@@ -20,7 +20,8 @@ use Rattle.rb_restart.specs.Rollback.{found_book}
 use Rattle.rb_segment.specs.Header.{segment_of}
 use Rattle.rb_segment.specs.Segments.{owed_in}
 use Rattle.rb_standing.specs.Standing.{SoundAs, logged_of, segments_of}
-use Rattle.rb_store.specs.Meaning.{endless, Means, Opens, OpensAt}
+use Rattle.rb_store.specs.Endless.{endless}
+use Rattle.rb_store.specs.Meaning.{Means, Opens, OpensAt}
 
 -- the number that a log begins with is small where that of its last group is
 pub head_small : (l : Layout) (file : List ℕ) (blocks : List (List ℕ)) (n : ℕ) → Means l file blocks n → n < 2 ^ 61 → (head_of file).number ≤ 2 ^ 61

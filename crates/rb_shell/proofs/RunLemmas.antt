@@ -36,7 +36,8 @@ use Rattle.rb_shell.specs.declared.status.Status.{Status}
 use Rattle.rb_shell.specs.declared.status.Status.TheVariants.{Done, Usage, SourceFault, DiskFault, SinkFault, NotAStore, NoMemory, NotEmpty, TooLong}
 use Rattle.rb_standing.specs.Standing.{logged_of}
 use Rattle.rb_store.proofs.OneOpening.{Agree, means_alike, one_opening}
-use Rattle.rb_store.specs.Meaning.{endless, Means, Opens, OpensAt}
+use Rattle.rb_store.specs.Endless.{endless}
+use Rattle.rb_store.specs.Meaning.{Means, Opens, OpensAt}
 use Rattle.rb_control.specs.Heads.{head_of}
 use Rattle.rb_store.specs.Openings.{LeftAlone}
 use Rattle.rb_store.specs.StoreStates.{StoreState, IsStable, blocks_in}

@@ -11,7 +11,8 @@ use Rattle.rb_model.specs.Rows.{last_scn, rows_at}
 use Rattle.rb_model.specs.State.{State, opened}
 use Rattle.rb_opening.specs.Opens.{books_of}
 use Rattle.rb_shell.specs.NewBooks.{new_books}
-use Rattle.rb_store.specs.Meaning.{endless, Opens}
+use Rattle.rb_store.specs.Endless.{endless}
+use Rattle.rb_store.specs.Meaning.{Opens}
 
 -- The log has so many slots. A new file opens with no commit. What a run left, which opened with one state and came to
 -- a later one, opens with the rows after the commits up to some number in between.

@@ -10,7 +10,7 @@ use Rattle.rb_model.specs.Out.{Logged, Outside, outside_by}
 use Rattle.rb_model.specs.Rows.{last_scn, rows_at}
 use Rattle.rb_model.specs.State.{State, opened}
 use Rattle.rb_shell.specs.Left.{Left}
-use Rattle.rb_store.specs.Meaning.{endless}
+use Rattle.rb_store.specs.Endless.{endless}
 use Rattle.rb_shell.specs.declared.script.TheConstants.{SCRIPT_BYTES}
 
 -- The file opens with the rows after a state's commits up to n, and with marks that are no more than these books say.

@@ -29,7 +29,8 @@ use Rattle.rb_shell.specs.Statuses.{status_of}
 use Rattle.rb_shell.specs.declared.script.TheConstants.{SCRIPT_BYTES}
 use Rattle.rb_shell.specs.declared.status.Status.{Status}
 use Rattle.rb_shell.specs.declared.status.Status.TheVariants.{Done, DiskFault, SinkFault}
-use Rattle.rb_store.specs.Meaning.{endless, Means, Opens, OpensAt}
+use Rattle.rb_store.specs.Endless.{endless}
+use Rattle.rb_store.specs.Meaning.{Means, Opens, OpensAt}
 use Rattle.rb_store.specs.Openings.{MeansNothing}
 use Rattle.rb_store.specs.StoreStates.{StoreState}
 

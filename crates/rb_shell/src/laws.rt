@@ -11,7 +11,8 @@ ghost use Rattle.rb_model.specs.Rows.{rows_at};
 ghost use Rattle.rb_model.specs.State.{State, opened};
 ghost use Rattle.rb_opening.specs.Opens.{books_of};
 ghost use Rattle.rb_shell.specs.Runs.{IsSound};
-ghost use Rattle.rb_store.specs.Meaning.{endless, Opens};
+ghost use Rattle.rb_store.specs.Endless.{endless};
+ghost use Rattle.rb_store.specs.Meaning.{Opens};
 
 use crate::script::SCRIPT_BYTES;
 use rb_layout::VERSION;

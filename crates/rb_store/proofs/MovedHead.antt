@@ -26,7 +26,8 @@ use Rattle.rb_cache.specs.declared.frame.Frame.{Frame}
 use Rattle.rb_cache.specs.Frames.{seen, AreClean, NoneDirty}
 use Rattle.rb_twin.specs.TwinLaws.{kept_shut}
 use Rattle.rb_twin.specs.Twins.{home, kept, twin_gate, IsTwin}
-use Rattle.rb_store.specs.Meaning.{endless, Means, Opens, OpensAt}
+use Rattle.rb_store.specs.Endless.{endless}
+use Rattle.rb_store.specs.Meaning.{Means, Opens, OpensAt}
 use Rattle.rb_store.specs.StoreStates.{StoreState, StoreLeaves, IsQuietAt, IsStable, IsStableAt, blocks_by, blocks_in}
 use Rattle.rb_store.proofs.CachedLemmas.{clean_same, seen_same}
 use Rattle.rb_store.proofs.StoreLemmas.{one_by, same_blocks}

@@ -18,7 +18,8 @@ use Rattle.rb_cache.specs.OnDisk.{Later, OnDisk}
 use Rattle.rb_log.specs.GroupSlots.{GroupsAre}
 use Rattle.rb_twin.specs.Twins.{twin_gate}
 use Rattle.rb_twin.specs.TwinLaws.{kept_shut}
-use Rattle.rb_store.specs.Meaning.{endless, Opens}
+use Rattle.rb_store.specs.Endless.{endless}
+use Rattle.rb_store.specs.Meaning.{Opens}
 use Rattle.rb_store.specs.StoreStates.{StoreState, StoreLeaves, IsStable, IsStableAt, blocks_in}
 use Rattle.rb_store.specs.StoreLaws.{stable_left}
 use Rattle.rb_store.proofs.Between.{between}

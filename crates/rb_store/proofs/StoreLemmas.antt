@@ -26,7 +26,8 @@ use Rattle.rb_cache.specs.OnDisk.{IsCalm}
 use Rattle.rb_log.specs.GroupSlots.{GroupsAre}
 use Rattle.rb_log.specs.Slots.{gate_of}
 use Rattle.rb_twin.specs.Twins.{twin_gate}
-use Rattle.rb_store.specs.Meaning.{endless, Opens}
+use Rattle.rb_store.specs.Endless.{endless}
+use Rattle.rb_store.specs.Meaning.{Opens}
 use Rattle.rb_store.specs.StoreStates.{StoreState, StoreLeaves, IsStable, IsQuietAt, blocks_by}
 use Rattle.rb_store.proofs.Between.{are_groups, comes_again}
 use Rattle.rb_store.proofs.GroupSteps.{comes_after, comes_before, group_makes}

@@ -1,4 +1,5 @@
 pub mod CachedFiles
+pub mod Endless
 pub mod Formats
 pub mod Meaning
 pub mod Openings

@@ -1,6 +1,5 @@
 -- What a file with blocks at home means.
-use Rattle.std.specs.Prelude.{◌≡◌, ℕ, ◌+◌, ◌^◌, ◌<◌, ◌≤◌, List, length, slice_index}
-use Rattle.std.specs.Prelude.{Option, Some}
+use Rattle.std.specs.Prelude.{◌≡◌, ℕ, ◌+◌, ◌<◌, ◌≤◌, List, length, Option, Some, slice_index}
 use Rattle.rb_base.specs.Blocks.{block_of, block_kind, shape_blocks, AreBlocks}
 use Rattle.rb_base.specs.Fields.{number_at, part}
 use Rattle.rb_base.specs.Groups.{Patch}
@@ -12,6 +11,7 @@ use Rattle.rb_layout.specs.declared.layout.Layout.{Layout}
 use Rattle.rb_roll.specs.Rolled.{rolled}
 use Rattle.rb_log.specs.GroupSlots.{GroupsAre}
 use Rattle.rb_twin.specs.Twins.{home, kept, IsTwin}
+use Rattle.rb_store.specs.Endless.{endless}
 
 -- A file of a layout means these blocks, with this last log number: what it keeps of each, with the groups of its log
 -- rolled forward.
@@ -56,10 +56,6 @@ KeepsHeads l file n = (which : ℕ) → which < block_count l → IsHeaded (shap
 pub record OpensAt (l : Layout) (file : List ℕ) (blocks : List (List ℕ)) (n : ℕ) : Type 0 where
   pub means : Means l file blocks n
   pub headed : AreHeaded (shape_of l) blocks n
-
--- A log of so many slots goes round: it has room as if it had that many.
-abbrev pub endless : ℕ → ℕ
-endless slots = 2 ^ 63 + slots
 
 -- what a file opens to, by the shape and the slots of its layout
 pub record Opens (shape : Shape) (slots : Option ℕ) (file : List ℕ) (blocks : List (List ℕ)) (lsn : ℕ) :

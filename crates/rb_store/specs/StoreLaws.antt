@@ -6,7 +6,8 @@ use Rattle.rb_base.specs.Groups.{Patch}
 use Rattle.rb_layout.specs.Regions.{shape_of}
 use Rattle.rb_layout.specs.declared.layout.Head.{Head}
 use Rattle.rb_layout.specs.declared.layout.Layout.{Layout}
-use Rattle.rb_store.specs.Meaning.{endless, Opens, OpensAt}
+use Rattle.rb_store.specs.Endless.{endless}
+use Rattle.rb_store.specs.Meaning.{Opens, OpensAt}
 use Rattle.rb_store.specs.StoreStates.{HeldBack, IsStableAt, StoreState}
 
 pub stable_left : {l : Layout} {head : Head} {used : ℕ} {pending : List (List Patch)} {number : ℕ}

@@ -16,7 +16,8 @@ use Rattle.rb_cache.specs.declared.frame.Frame.{Frame}
 use Rattle.rb_cache.specs.Frames.{seen, AreClean}
 use Rattle.rb_log.specs.Slots.{gate_of}
 use Rattle.rb_twin.specs.Twins.{twin_gate}
-use Rattle.rb_store.specs.Meaning.{endless, Opens, OpensAt}
+use Rattle.rb_store.specs.Endless.{endless}
+use Rattle.rb_store.specs.Meaning.{Opens, OpensAt}
 
 pub record StoreState (D : Type 0) : Type 0 where
   pub layout : Layout

@@ -4,7 +4,8 @@ ghost use Rattle.std.specs.Prelude.{◌≡◌, ◌+◌, ◌<◌, [], List, ℕ, 
 ghost use Rattle.rb_base.specs.Counts.{IsCounted};
 ghost use Rattle.rb_cache.specs.Frames.{NoneDirty};
 ghost use Rattle.rb_layout.specs.Regions.{shape_of};
-ghost use Rattle.rb_store.specs.Meaning.{endless, Opens};
+ghost use Rattle.rb_store.specs.Endless.{endless};
+ghost use Rattle.rb_store.specs.Meaning.{Opens};
 ghost use Rattle.rb_store.specs.StoreStates.{HeldBack, IsStable, LeavesGiven, SettlesGiven, StoreLeaves, blocks_in};
 
 use crate::store::LogStore;

@@ -174,7 +174,8 @@ impl<D: Disk> Store for LogStore<D> {
     ghost use Rattle.std.specs.Prelude.{Some, ℕ, List};
     ghost use Rattle.rb_layout.specs.Regions.{shape_of as layout_shape};
     ghost use Rattle.rb_store.specs.StoreLaws.{stable_left as left_opens, held_back_same, held_back_joined};
-    ghost use Rattle.rb_store.specs.Meaning.{endless, Opens};
+    ghost use Rattle.rb_store.specs.Endless.{endless};
+    ghost use Rattle.rb_store.specs.Meaning.{Opens};
 
     ghost tells = { D.tells };
 

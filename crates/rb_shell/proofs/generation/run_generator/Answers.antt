@@ -7,7 +7,8 @@ use Rattle.rb_shell.proofs.RunLemmas.{endures}
 use Rattle.rb_shell.specs.Generation.{HasMade, MadeOn}
 use Rattle.rb_shell.specs.Runs.{Endures, HasOpened, IsSound, Lasts, first_of, outside_in}
 use Rattle.rb_shell.specs.declared.status.Status.TheVariants.{Done, DiskFault, SinkFault}
-use Rattle.rb_store.specs.Meaning.{endless, Opens}
+use Rattle.rb_store.specs.Endless.{endless}
+use Rattle.rb_store.specs.Meaning.{Opens}
 use Rattle.rb_store.specs.contracts.store.LogStoreStore.TheImpl.{ghosts}
 use Rattle.rb_shell.proofs.generation.run_generator.Given.{Over}
 use Rattle.rb_shell.proofs.generation.run_generator.Goals.{After-close}

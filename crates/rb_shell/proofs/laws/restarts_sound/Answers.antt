@@ -9,7 +9,7 @@ use Rattle.rb_opening.specs.Opens.{books_of}
 use Rattle.rb_segment.specs.Segments.{owed_in}
 use Rattle.rb_shell.proofs.LeftLemmas.{restart_small}
 use Rattle.rb_standing.specs.Standing.{SoundAs, logged_of}
-use Rattle.rb_store.specs.Meaning.{endless}
+use Rattle.rb_store.specs.Endless.{endless}
 use Rattle.rb_shell.proofs.laws.restarts_sound.Goals as goal
 
 pub returns : goal.returns

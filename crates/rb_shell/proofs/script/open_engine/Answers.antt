@@ -11,7 +11,8 @@ use Rattle.rb_layout.specs.Regions.{shape_of}
 use Rattle.rb_layout.specs.declared.layout.Layout.{Layout}
 use Rattle.rb_model.specs.State.{State}
 use Rattle.rb_store.proofs.SameLayout.{same_layout}
-use Rattle.rb_store.specs.Meaning.{endless, Means, Opens, OpensAt}
+use Rattle.rb_store.specs.Endless.{endless}
+use Rattle.rb_store.specs.Meaning.{Means, Opens, OpensAt}
 use Rattle.rb_store.specs.Openings.{LeftAlone}
 use Rattle.rb_store.specs.StoreLaws.{held_back_joined, held_back_same, stable_left}
 use Rattle.rb_store.specs.StoreStates.{IsStable, blocks_in}

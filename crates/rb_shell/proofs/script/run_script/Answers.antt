@@ -9,7 +9,8 @@ use Rattle.rb_model.specs.Out.{Logged}
 use Rattle.rb_model.specs.State.{State}
 use Rattle.rb_calls.specs.Since.{outside_of}
 use Rattle.rb_shell.specs.Runs.{IsSound, first_of}
-use Rattle.rb_store.specs.Meaning.{endless, Opens}
+use Rattle.rb_store.specs.Endless.{endless}
+use Rattle.rb_store.specs.Meaning.{Opens}
 use Rattle.rb_store.specs.contracts.store.LogStoreStore.TheImpl.{ghosts}
 use Rattle.rb_shell.specs.Runs.{Endures, HasOpened, HasRun, Lasts, LeftBehind, PassedOn, RanOn}
 use Rattle.rb_shell.specs.Statuses.{AsksNothing, by_disk, by_sink}

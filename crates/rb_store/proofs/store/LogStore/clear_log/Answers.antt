@@ -5,7 +5,8 @@ use Rattle.rb_base.specs.Moments.{joined, weaker}
 use Rattle.rb_base.specs.Stores.{OpensToSome}
 use Rattle.rb_layout.specs.Regions.{shape_of}
 use Rattle.rb_layout.specs.declared.layout.Layout.{Layout}
-use Rattle.rb_store.specs.Meaning.{endless, Opens}
+use Rattle.rb_store.specs.Endless.{endless}
+use Rattle.rb_store.specs.Meaning.{Opens}
 use Rattle.rb_store.specs.StoreStates.{StoreState}
 use Rattle.rb_store.proofs.store.LogStore.clear_log.Goals as goal
 

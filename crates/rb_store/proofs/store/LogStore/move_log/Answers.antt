@@ -6,7 +6,8 @@ use Rattle.rb_layout.specs.Regions.{shape_of}
 use Rattle.rb_layout.specs.declared.layout.Head.{Head}
 use Rattle.rb_log.specs.Slots.{head_at}
 use Rattle.rb_store.specs.CachedFiles.{CachedState, IsCachedMemory, IsStoreMemory}
-use Rattle.rb_store.specs.Meaning.{endless, Opens}
+use Rattle.rb_store.specs.Endless.{endless}
+use Rattle.rb_store.specs.Meaning.{Opens}
 use Rattle.rb_store.specs.StoreLaws.{stable_left}
 use Rattle.rb_store.specs.StoreStates.{StoreState, IsQuietAt, IsStableAt, StoreLeaves, blocks_by}
 use Rattle.rb_store.proofs.MovedHead.{blocks_moved, move_moments, move_quiet, move_stable}

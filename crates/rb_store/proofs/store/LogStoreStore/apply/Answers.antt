@@ -7,7 +7,8 @@ use Rattle.rb_base.specs.Settling.{settles_joined, some_front, some_later}
 use Rattle.rb_base.specs.Stores.{OpensToSome}
 use Rattle.rb_layout.specs.Regions.{shape_of}
 use Rattle.rb_layout.specs.declared.layout.Layout.{Layout}
-use Rattle.rb_store.specs.Meaning.{endless, Opens}
+use Rattle.rb_store.specs.Endless.{endless}
+use Rattle.rb_store.specs.Meaning.{Opens}
 use Rattle.rb_store.specs.StoreLaws.{held_back_joined}
 use Rattle.rb_store.specs.StoreStates.{StoreState, IsStable}
 use Rattle.rb_store.proofs.store.LogStoreStore.apply.Goals as goal
