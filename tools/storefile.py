@@ -1,11 +1,12 @@
 """Reads a file of the store by docs/FORMAT.md, and never writes. tools/inspect, tools/copy and the tests use it.
 
 It is a second reading of the format: nothing of it is shared with the program."""
+import contextlib
 import os
 import struct
 
 UNIT = 2048
-VERSION = 104
+VERSION = 1
 MAGIC = b"RBS7FILE"
 RANGES = {"tables": (1, 16), "blocks": (1, 4096), "segments": (1, 16), "log": (64, 4096)}
 
@@ -26,9 +27,10 @@ KINDS = {1: "put", 2: "gone", 3: "held"}
 
 PATCHES, GROUP_BYTES, BLOCK_HEAD = 40, 2000, 32
 
-# The units of a file: four in front of the log, then its slots, the twin area with a header and its images, and the
-# homes of the blocks. A block's head has its log number, its kind and its own number.
-FIRST_SLOT_UNIT, TWIN_IMAGES, FIRST_NAME = 4, 8, 8
+# The units of a file: the identity, two control copies and the chooser, then the log slots, the twin area with a header
+# and its images, and the homes of the blocks. A block's head has its log number, its kind and its own number.
+FIRST_COPY_UNIT, CHOOSER_UNIT, FIRST_SLOT_UNIT, TWIN_IMAGES, FIRST_NAME = 1, 3, 4, 8, 8
+COPY, LAST_HEAD = struct.Struct(">IxxxxQ"), 2**61
 HEAD_OF = struct.Struct(">QBxxxI")
 ZEROS = bytes(UNIT - BLOCK_HEAD)
 
@@ -91,6 +93,15 @@ class Identity:
     def slot_at(self, slot):
         """Where a log slot begins in the file."""
         return (FIRST_SLOT_UNIT + slot) * UNIT
+
+    def copy_at(self, copy):
+        """Where a control copy begins."""
+        return (FIRST_COPY_UNIT + copy) * UNIT
+
+    @property
+    def chooser_at(self):
+        """Where the byte stands that chooses a control copy."""
+        return CHOOSER_UNIT * UNIT
 
     def twin_at(self, part):
         """Where a part of the twin area begins: 0 is its header, 1 to 8 are its images."""
@@ -324,41 +335,76 @@ def places(first, size, count):
     return range(first, first + size * count, size)
 
 
-def gate_of(content, identity, slot):
-    """The gate of a log slot: open exactly where it is 1."""
-    return content[identity.slot_at(slot)]
+class Head:
+    """Where the log of a file begins, as the chosen control copy says it: a slot, and the number of the group that stands
+    there or will. The log goes round: behind the last slot of the file comes slot 0."""
+
+    def __init__(self, content, identity):
+        self.content, self.identity = content, identity
+        self.chooser = content[identity.chooser_at]
+        self.copy = self.chooser % 2
+        self.slot, self.number = self.in_copy(self.copy)
+        if self.slot >= identity.log:
+            raise NotAStore(f"control copy {self.copy}, which is chosen, has the head of the log in slot {self.slot}, of "
+                            f"{identity.log} that there are")
+        if not 1 <= self.number <= LAST_HEAD:
+            raise NotAStore(f"control copy {self.copy}, which is chosen, has the head of the log at number {self.number}, "
+                            f"and a head has 1 to {LAST_HEAD}")
+
+    def in_copy(self, copy):
+        """The slot and the number that a control copy has, whatever they are."""
+        return COPY.unpack_from(self.content, self.identity.copy_at(copy))
+
+    def slot_of(self, place):
+        """The slot of a place of the log: place 0 is that of the head."""
+        return (self.slot + place) % self.identity.log
+
+    def gate(self, place):
+        """The gate of the slot of a place: open exactly where it is 1."""
+        return self.content[self.identity.slot_at(self.slot_of(place))]
+
+    def group_at(self, place):
+        """The group of a place; None where its gate isn't open, or where it is the last place, which stays free."""
+        if place == self.identity.log - 1 or self.gate(place) != 1:
+            return None
+        return self.group_in(place)
+
+    def group_in(self, place):
+        """The group of a place, whatever its gate is."""
+        slot, wanted = self.slot_of(place), self.number + place
+        at = self.identity.slot_at(slot)
+        length, number = struct.unpack_from(">xxHxxxxQ", self.content, at)
+        if number != wanted:
+            raise NotAStore(f"log slot {slot} is open with the log number {number}, and {wanted} belongs there")
+        if not 11 <= length <= GROUP_BYTES:
+            raise NotAStore(f"log slot {slot} has a group of {length} bytes, and a group has 11 to {GROUP_BYTES}")
+        try:
+            return Group(number, slot, patches_of(self.content[at + 16 : at + 16 + length], self.identity))
+        except (NotAStore, struct.error) as why:
+            raise NotAStore(f"log slot {slot} is open without a whole group: {why}")
+
+    def groups_from(self, place):
+        """The whole groups that stand from a place on with the numbers of their places, whatever their gates are. Those of
+        earlier laps have lower numbers."""
+        found = []
+        with contextlib.suppress(NotAStore):
+            while place + len(found) < self.identity.log - 1:
+                found.append(self.group_in(place + len(found)))
+        return found
+
+    def groups(self):
+        """The groups of the log, in order."""
+        found = []
+        while (group := self.group_at(len(found))) is not None:
+            found.append(group)
+        return found
 
 
-def group_at(content, identity, slot):
-    """The patches of the group in a log slot; None where its gate isn't open, or where it is the last slot."""
-    if gate_of(content, identity, slot) != 1 or slot == identity.log - 1:
-        return None
-    return group_in(content, identity, slot)
+class Group:
+    """A group of the log: its number, the slot where it stands, and its patches."""
 
-
-def group_in(content, identity, slot):
-    """The patches of the group in a log slot, whatever its gate is."""
-    at = identity.slot_at(slot)
-    length, number = struct.unpack_from(">xxHxxxxQ", content, at)
-    if number != slot + 1:
-        raise NotAStore(f"log slot {slot} is open with the log number {number}, and {slot + 1} belongs there")
-    if not 11 <= length <= GROUP_BYTES:
-        raise NotAStore(f"log slot {slot} has a group of {length} bytes, and a group has 11 to {GROUP_BYTES}")
-    try:
-        return patches_of(content[at + 16 : at + 16 + length], identity)
-    except (NotAStore, struct.error) as why:
-        raise NotAStore(f"log slot {slot} is open without a whole group: {why}")
-
-
-def groups_from(content, identity, slot):
-    """The whole groups that stand from a log slot on with the numbers of their places, whatever their gates are."""
-    found = []
-    try:
-        while slot + len(found) < identity.log - 1:
-            found.append(group_in(content, identity, slot + len(found)))
-    except NotAStore:
-        pass
-    return found
+    def __init__(self, number, slot, patches):
+        self.number, self.slot, self.patches = number, slot, patches
 
 
 def patches_of(group, identity):
@@ -380,9 +426,10 @@ class LogEnd:
     """The slot where the log ends: its gate, and the whole groups with the next numbers that stand from it on, or from
     the slot after it on. A run doesn't read them."""
 
-    def __init__(self, content, identity, slot):
-        self.slot, self.at, self.gate = slot, identity.slot_at(slot), gate_of(content, identity, slot)
-        self.unread = groups_from(content, identity, slot) or groups_from(content, identity, slot + 1)
+    def __init__(self, head, place):
+        self.slot, self.gate = head.slot_of(place), head.gate(place)
+        self.at = head.identity.slot_at(self.slot)
+        self.unread = head.groups_from(place) or head.groups_from(place + 1)
 
 
 class Twin:
@@ -435,7 +482,8 @@ def listed(one, numbers):
 
 
 class Store:
-    """What a file says: its identity, the groups of its log, its twin area, and the blocks as they are after these."""
+    """What a file says: its identity, the head of its log and the groups from there on, its twin area, and the blocks as
+    they are after these."""
 
     def __init__(self, content):
         self.content, self.identity = content, Identity.of(content[:UNIT])
@@ -443,16 +491,15 @@ class Store:
         if len(content) != identity.bytes:
             raise NotAStore(f"it has {len(content):,} bytes, and a file with {' '.join(identity.words())} has "
                             f"{identity.bytes:,}")
-        self.groups = []
-        while (patches := group_at(content, identity, len(self.groups))) is not None:
-            self.groups.append(patches)
-        self.log_end = LogEnd(content, identity, len(self.groups))
+        self.head = Head(content, identity)
+        self.groups = self.head.groups()
+        self.log_end = LogEnd(self.head, len(self.groups))
         self.twin = Twin(content, identity)
         # Of each block the patches of it, with the numbers of their groups; and the blocks that were asked for.
         self.patches = {}
-        for number, patches in enumerate(self.groups, 1):
-            for patch in patches:
-                self.patches.setdefault(patch.block, []).append((number, patch))
+        for group in self.groups:
+            for patch in group.patches:
+                self.patches.setdefault(patch.block, []).append((group.number, patch))
         self.blocks = {}
         self.segments = [Segment(self, number) for number in range(identity.segments)]
 
@@ -465,21 +512,26 @@ class Store:
         """How many groups of the log are commits: they alone write a table slot as committed."""
         return sum(map(self.is_commit, self.groups))
 
-    def is_commit(self, patches):
-        return any(slot[1].state == COMMITTED for slot in (patch.slot(self.identity) for patch in patches) if slot)
+    def is_commit(self, group):
+        return any(slot[1].state == COMMITTED for slot in (patch.slot(self.identity) for patch in group.patches) if slot)
 
-    def is_cleaning(self, patches):
+    def is_cleaning(self, group):
         """Whether a group is one by which a reader cleaned a block: it alone changes nothing of a segment."""
-        return all(self.identity.kind(patch.block) == 1 for patch in patches)
+        return all(self.identity.kind(patch.block) == 1 for patch in group.patches)
 
     @property
     def cleanings(self):
         return sum(map(self.is_cleaning, self.groups))
 
     @property
-    def room(self):
-        """For how many more groups the log has room."""
-        return self.identity.log - 1 - len(self.groups)
+    def last(self):
+        """The number of the last group that was made: the one in front of the head's, where the log has none."""
+        return self.head.number - 1 + len(self.groups)
+
+    @property
+    def free(self):
+        """How many slots have no group of the log. One of them stays so."""
+        return self.identity.log - len(self.groups)
 
     @property
     def owed(self):
@@ -501,15 +553,6 @@ class Store:
             if log_number < group <= last:
                 write(block, patch.offset, patch.bytes)
                 write(block, 0, struct.pack(">Q", group))
-        return block
-
-    def replayed(self, number):
-        """The bytes of a block of a new file after all groups of the log. A log of one lap has each group of the file,
-        so they are those that the file means."""
-        block = self.new_block(number)
-        for group, patch in self.patches.get(number, []):
-            write(block, patch.offset, patch.bytes)
-            write(block, 0, struct.pack(">Q", group))
         return block
 
     def kept_at(self, number):
@@ -600,8 +643,6 @@ class Store:
             where = f"table {table} block {home}"
             yield from (f"{where} {fault}" for fault in self.entry_faults(entries, number))
             yield from (f"{where} {fault}" for fault in self.cell_faults(home, entries, cells))
-        if self.owed > self.room:
-            yield f"{self.owed} groups put back what is under way, and the log has room for {self.room}"
 
     def heads(self):
         """The head of each block that the file keeps: its log number, its kind and its own number."""
@@ -614,13 +655,13 @@ class Store:
 
     def head_faults(self):
         """What is wrong with the heads of the blocks, in words."""
-        last, later = len(self.groups), []
+        last, later = self.last, []
         for number, (log_number, kind, told) in enumerate(self.heads()):
             name, wanted = self.identity.name(number), self.identity.kind(number)
             if (kind, told) != (wanted, number):
                 yield f"{name}: its head has kind {kind} and number {told}, in place of {wanted} and {number}"
             if log_number > last:
-                later.append(f"{name}: it is as of group {log_number}, and the log ends with group {last}")
+                later.append(f"{name}: it is as of group {log_number}, and the last one is group {last}")
         yield from later[:1]
         if later[1:]:
             yield f"of such blocks there are {len(later)}"
