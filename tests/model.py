@@ -249,7 +249,8 @@ def changed(rows, changes):
 
 
 class Model:
-    """A run over a file that has a moment, in front of which its log has so many groups."""
+    """A run over a file. Of each group that was made in it there is a moment; the first one is that of a new file. The log
+    goes round: where all slots but one have groups, all that was made so far comes home, and the head moves behind it."""
 
     def __init__(self, tables, blocks, segments, log):
         self.tables, self.blocks, self.log = tables, blocks, log
@@ -261,18 +262,23 @@ class Model:
         self.numbers = {}
         # Of each row, the numbers of this run's commits that changed it, in order. (A lock changes nothing.)
         self.changers = {}
-        # The groups by which readers have cleaned a home, and how often one found a home unclean and the log without
-        # the room.
-        self.cleanings, self.held_back = set(), 0
-        self.restart(0)
+        # The groups by which readers have cleaned a home.
+        self.cleanings = set()
+        # How many groups there were each time the head moved behind them; 0 is the head of a new file.
+        self.moves = [0]
+        self.restart(0, 0)
 
-    def restart(self, groups):
-        """Opens the file as it is after so many groups: what was under way then is put back."""
+    def restart(self, groups, front):
+        """Opens the file as it is after so many groups, of which so many stand in front of its head: what was under way
+        then is put back."""
         for moment in reversed(self.moments[groups + 1 :]):
             self.homes.update(moment.before)
         del self.moments[groups + 1 :]
         left = self.moments[groups]
         self.rows, self.number, self.durable = left.rows, left.number, groups
+        # What the file has as it is opened; what puts back may move the head once more.
+        self.opened, self.opened_front = groups, front
+        self.moves = [move for move in self.moves if move <= front]
         self.sessions = {number: Session(number) for number in range(1, SESSIONS + 1)}
         # In order of arrival.
         self.queue = []
@@ -289,18 +295,27 @@ class Model:
         for home, entries in self.before.items():
             self.homes[home] = tuple(entry.below if self.runs(entry) else entry for entry in entries)
         for owed in range(left.owed - 1, -1, -1):
+            self.make_room()
             self.moments.append(Moment(self.rows, self.number, self.books, owed, self.before))
             self.before = {}
 
     def begun(self):
-        """A model of such a file, with the same rows and as much room in its log, with which a run begins."""
-        other = Model(self.tables, self.blocks, len(self.books), self.log - self.logged)
+        """A model of such a file, with the same rows, with which a run begins."""
+        other = Model(self.tables, self.blocks, len(self.books), self.log)
         other.rows = self.rows
         return other
 
-    def end(self):
-        """The end of the script: what isn't durable yet is made so, what was put back among it."""
+    def checkpoint(self):
+        """What isn't durable yet is made so, what was put back among it, and the head moves. The end of the script does the
+        same."""
         self.durable = self.logged
+        if self.front < self.logged:
+            self.moves.append(self.logged)
+
+    @property
+    def front(self):
+        """How many groups stand in front of the head."""
+        return self.moves[-1]
 
     @property
     def logged(self):
@@ -310,12 +325,14 @@ class Model:
         """How many groups put back what is under way: one for each live change, and one for each slot that is taken."""
         return sum(len(session.changes) + (session.place is not None) for session in self.sessions.values())
 
-    def room(self):
-        """For how many groups more the log has room. One slot stays free."""
-        return self.log - 1 - self.logged
+    def make_room(self):
+        """Sees to it that the log has room for one more group. One slot stays free."""
+        if self.logged - self.front == self.log - 1:
+            self.checkpoint()
 
     def grow(self):
         """One group more."""
+        self.make_room()
         self.moments.append(Moment(self.rows, self.number, self.books, self.owed(), self.before))
         self.before = {}
 
@@ -358,7 +375,7 @@ class Model:
             marks = [(at, book.writes, book.lost) for at, book in enumerate(self.books)]
             return [b"segment %d writes %d lost %d" % told for told in marks]
         if word == "checkpoint":
-            self.durable = self.logged
+            self.checkpoint()
             return [b"ok"]
         number, *parts = parts
         return self.replies(word, number, parts, said)
@@ -463,8 +480,6 @@ class Model:
         book = self.books[segment]
         if book.is_full():
             raise Refused(f"rollback full {segment} {book.writes - min(owner.start for owner in book.running())}")
-        if self.room() < 1 + self.owed() + (1 if session.place else 2):
-            raise Refused("log full")
         # How transactions stand as the call begins decides, so that comes before a slot is taken.
         self.clean(home)
         book = self.book(segment)
@@ -622,12 +637,8 @@ class Model:
             self.set_entry(home, place, entry._replace(told=self.look(entry.transaction)))
 
     def clean_for_reader(self, home):
-        """A fetch reads the home. It cleans it by one group, where the log has room for that and for what puts back all
-        that is under way."""
+        """A fetch reads the home, and cleans it by one group where that is to be done."""
         if not self.unclean(home):
-            return
-        if self.room() < 1 + self.owed():
-            self.held_back += 1
             return
         self.clean(home)
         self.grow()
