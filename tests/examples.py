@@ -92,7 +92,8 @@ with Store("store.rb") as store:
     print([s[7].ask("rollback"), s[6].wait(), s[6].ask("rollback"), s[6].rows(1, 0, 9)])
     print([s[8].ask("set serializable"), s[9].ask("lock 1 2"), s[8].ask("update 1 2 x"), s[9].ask("update 1 2 y"),
            s[9].ask("commit"), refused(lambda _: s[8].wait(), "")])
-    print([s[8].ask("rollback"), [refused(s[10].ask, "update 1 2 z%d" % n) for n in range(99)][-1]])
+    # More writes than the log has slots.
+    print([s[8].ask("rollback"), [s[10].ask("update 1 2 z%d" % n) for n in range(150)][-1]])
     s[10].ask("rollback")
 try:
     with Store("missing/store.rb") as store:
@@ -119,7 +120,7 @@ def client_answers(place):
         [["ok"], ["ok"], ["waits 7"], ["deadlock 6", []]],
         [["ok"], "ok", ["ok"], [(2, "row")]],
         [["ok"], ["ok"], ["waits 9"], ["ok"], ["committed 4"], ["cannot serialize 3 4", []]],
-        [["ok"], ["log full", []]],
+        [["ok"], ["ok"]],
     ]
     for found, right in zip(told, wanted):
         equal("replies", ast.literal_eval(found), right)
