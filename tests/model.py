@@ -249,8 +249,8 @@ def changed(rows, changes):
 
 
 class Model:
-    """A run over a file. Of each group that was made in it there is a moment; the first one is that of a new file. The log
-    goes round: where all slots but one have groups, all that was made so far comes home, and the head moves behind it."""
+    """A run over a file. Of each group that was made in it there is a moment; the first one is that of a new file. The
+    log goes round: where all slots but one have groups, all that was made so far comes home, and the head moves."""
 
     def __init__(self, tables, blocks, segments, log):
         self.tables, self.blocks, self.log = tables, blocks, log
@@ -306,8 +306,8 @@ class Model:
         return other
 
     def checkpoint(self):
-        """What isn't durable yet is made so, what was put back among it, and the head moves. The end of the script does the
-        same."""
+        """What isn't durable yet is made so, what was put back among it, and the head moves. The end of the script does
+        the same."""
         self.durable = self.logged
         if self.front < self.logged:
             self.moves.append(self.logged)
