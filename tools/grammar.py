@@ -43,7 +43,7 @@ DOES = {
     b"fetch": "gives the next rows of a cursor",
     b"close": "closes a cursor",
     b"marks": "shows how much undo each rollback segment has made and given up",
-    b"checkpoint": "makes all durable, also changes that the next run undoes, brings all blocks home, and empties the log",
+    b"checkpoint": "makes all durable, also what the next run undoes, brings all blocks home, and empties the log",
 }
 PARTS = {
     "S": f"the session, 1 to {SESSIONS}",
