@@ -132,18 +132,39 @@ fn behind_stops(rt: HostRuntime) -> Result<(), Fail> {
     Ok(())
 }
 
+/// A file with another byte at a place.
+fn with_byte(alloc: Global, file: &[u8], at: usize, byte: u8) -> Result<Vec<u8>, NoMemory> {
+    let mut other = file.to_vec(alloc).map_err(|_| NoMemory)?;
+    if let Some(place) = other.get_mut(at) {
+        *place = byte;
+    }
+    Ok(other)
+}
+
+/// Whether a file is refused as no store, and left as it is.
+fn is_refused(alloc: Global, file: &[u8]) -> Result<bool, NoMemory> {
+    match open_file(alloc, file, 16, CALLS)? {
+        Err((OpenFault::NotAStore, disk)) => Ok(disk.bytes() == file),
+        _ => Ok(false),
+    }
+}
+
 #[test]
 fn files_that_open_to_nothing(rt: HostRuntime) -> Result<(), Fail> {
     let file = fresh(rt.alloc())?;
-    // The identity's mark, a gate of the log with no group, one of the twin area with no batch, and a block's kind.
-    for at in [0, 8_192, 139_264, 157_704] {
-        let mut other = file.as_slice().to_vec(rt.alloc())?;
-        if let Some(byte) = other.get_mut(at) {
-            *byte = byte.wrapping_add(1);
-        }
-        let opened = open_file(rt.alloc(), &other, 16, CALLS)?;
-        let is_refused = matches!(&opened, Err((OpenFault::NotAStore, _)));
-        assert!(rt; is_refused, "byte {at}");
+    // The identity's mark, its version, which was 104 before the log went round, the slot of the head in the chosen copy,
+    // a gate of the log with no group, one of the twin area with no batch, and a block's kind.
+    let rows = [
+        (0, b'S'),
+        (11, 104),
+        (2_048, 1),
+        (8_192, 1),
+        (139_264, 1),
+        (157_704, 1),
+    ];
+    for (at, byte) in rows {
+        let other = with_byte(rt.alloc(), &file, at, byte)?;
+        assert!(rt; is_refused(rt.alloc(), &other)?, "byte {at}");
     }
     Ok(())
 }
