@@ -12,7 +12,7 @@ fn makes_a_file(rt: HostRuntime) -> Result<(), Fail> {
     let made = end.disk;
     assert!(rt; end.status.code() == 0);
     assert!(rt; made.bytes().len() == 227_328);
-    let front = b"RBS7FILE\0\0\0\x68\0\x01\0\x01\0\0\0\x01\0\0\0\x40\0";
+    let front = b"RBS7FILE\0\0\0\x01\0\x01\0\x01\0\0\0\x01\0\0\0\x40\0";
     assert!(rt; made.bytes().starts_with(front));
     assert!(rt; made.syncs() == 1);
     assert!(rt; end.sink.bytes() == b"".as_slice());

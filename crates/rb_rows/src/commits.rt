@@ -127,5 +127,6 @@ pub fn five_commits(alloc: Global) -> Result<Story, NoMemory> {
         replies: replies.as_bytes().to_vec(alloc).map_err(|_| NoMemory)?,
         second: SECOND,
         told,
+        tells_checkpoints: true,
     })
 }

@@ -49,8 +49,8 @@ fn check_fault(rt: &impl Abort, story: &Story, end: &Ended, call: u64, is_openin
     assert!(rt; end.disk.calls() == call);
 }
 
-// Each call of the disk fails in a run over a new file.
-fn check_disk_calls(
+/// Each call of the disk fails in a run over a new file.
+pub fn check_disk_calls(
     rt: &impl Abort,
     alloc: Global,
     story: &Story,
@@ -180,7 +180,7 @@ fn each_put_fails(rt: HostRuntime) -> Result<(), Fail> {
         let held = first_lines(&story.replies, before);
         assert!(rt; end.status == Status::SinkFault, "put behind {before}");
         assert!(rt; end.sink.bytes() == held, "put behind {before}");
-        let left = (end.disk.calls(), answered(held));
+        let left = (end.disk.calls(), answered(&story, held));
         if left != checked {
             check_left(&rt, rt.alloc(), &story, &end, &[Pick::New])?;
             checked = left;

@@ -21,6 +21,8 @@ mod generated;
 #[cfg(test)]
 mod isolation;
 #[cfg(test)]
+mod laps;
+#[cfg(test)]
 mod mixtures;
 #[cfg(test)]
 mod queues;

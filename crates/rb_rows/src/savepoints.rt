@@ -719,34 +719,35 @@ marks
 #> segment 0 writes 81 lost 2
 ";
 
-// A rollback to a savepoint takes a slot of the log for each change that it puts back, and there is room for it: of
-// 63 slots 31 have changes, and 32 are kept for the put backs and the end. Behind it two are kept, for one change and
-// the end.
+// A log of 64 slots goes round twice behind a savepoint, and twice again as all is put back to it. The log has none of
+// the changes then that the transaction keeps.
 #[test]
-fn log_full_keeps_savepoint_room(rt: HostRuntime) -> Result<(), Fail> {
+fn log_goes_round_behind_a_savepoint(rt: HostRuntime) -> Result<(), Fail> {
     let file = formatted(rt.alloc(), FORMAT_SMALL)?;
-    let rows: [(&str, &[u8]); 1] = [("log full keeps savepoint room", SAVEPOINT_ROOM)];
+    let rows: [(&str, &[u8]); 1] = [("log goes round behind a savepoint", SAVEPOINT_BEHIND_A_LAP)];
     check_each(&rt, rt.alloc(), &file, &rows)?;
     Ok(())
 }
 
-const SAVEPOINT_ROOM: &[u8] = b"\
+const SAVEPOINT_BEHIND_A_LAP: &[u8] = b"\
 insert 1 1 1 a
 #> 1 ok
 savepoint 1 p
 #> 1 ok
-#* 1 30
-update 1 1 1 b
+#* 1 150
+update 1 1 1 @
 #> 1 ok
 #.
-lock 1 1 1
-#> 1 log full
+insert 1 1 2 b
+#> 1 ok
 savepoint 1 q
 #> 1 ok
 rollback 1 p
 #> 1 ok
+rollback 1 q
+#> 1 no savepoint
 lock 1 1 1
-#> 1 log full
+#> 1 ok
 commit 1
 #> 1 committed 1
 #--

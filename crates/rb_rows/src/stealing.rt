@@ -26,8 +26,8 @@ const HOMES: usize = 2_048 * (4 + 96 + 9);
 // A write that was cut short, and one that was not.
 const TORN: [Pick; 2] = [Pick::New, Pick::Fill(1)];
 
-// Shows the rows, and goes on with one more commit.
-const SECOND: &[u8] = b"\
+/// Shows the rows, and goes on with one more commit.
+pub const SECOND: &[u8] = b"\
 open 1 c 1 0 98
 fetch 1 c 99
 insert 1 1 99 z
@@ -61,11 +61,11 @@ fn second_replies(alloc: Global, commits: u64) -> Result<String, NoMemory> {
     Ok(replies)
 }
 
-// A script with its replies.
+/// A script with its replies.
 #[derive(Drop)]
-struct Lines {
-    script: String,
-    replies: String,
+pub struct Lines {
+    pub script: String,
+    pub replies: String,
 }
 
 // The lines by which the first session makes all rows.
@@ -89,8 +89,8 @@ fn add_updates(lines: &mut Lines, first: u64, last: u64, value: &str) -> Result<
     Ok(())
 }
 
-// A line, and its reply.
-fn add_line(lines: &mut Lines, line: &str, reply: &str) -> Result<(), NoMemory> {
+/// A line, and its reply.
+pub fn add_line(lines: &mut Lines, line: &str, reply: &str) -> Result<(), NoMemory> {
     lines.script.push_str(line).map_err(|_| NoMemory)?;
     lines.replies.push_str(reply).map_err(|_| NoMemory)
 }
@@ -126,6 +126,7 @@ fn three_sessions(alloc: Global) -> Result<Story, NoMemory> {
         replies: replies.as_bytes().to_vec(alloc).map_err(|_| NoMemory)?,
         second: SECOND,
         told,
+        tells_checkpoints: false,
     })
 }
 
@@ -169,11 +170,14 @@ fn has_stolen(file: &[u8]) -> bool {
     false
 }
 
-// The replies are the same whatever the frames, and so are the rows that are left.
-#[test]
-fn whatever_the_frames(rt: HostRuntime) -> Result<(), Fail> {
-    let story = three_sessions(rt.alloc())?;
-    let file = formatted(rt.alloc(), FORMAT)?;
+/// Over a new file the replies are the same whatever the frames, and so are the rows that are left.
+pub fn check_frames(
+    rt: &impl Abort,
+    alloc: Global,
+    story: &Story,
+    format: &str,
+) -> Result<(), NoMemory> {
+    let file = formatted(alloc, format)?;
     let lines = [
         "f run frames=16",
         "f run frames=17",
@@ -181,12 +185,18 @@ fn whatever_the_frames(rt: HostRuntime) -> Result<(), Fail> {
         "f run frames=4096",
     ];
     for line in lines {
-        let end = run_over(rt.alloc(), line, &file, story.script.as_bytes(), NONE)?;
+        let end = run_over(alloc, line, &file, story.script.as_bytes(), NONE)?;
         assert!(rt; end.status == Status::Done, "{line}");
         assert!(rt; end.sink.bytes() == story.replies.as_slice(), "{line}");
-        check_left(&rt, rt.alloc(), &story, &end, &PICKS)?;
+        check_left(rt, alloc, story, &end, &PICKS)?;
     }
     Ok(())
+}
+
+#[test]
+fn whatever_the_frames(rt: HostRuntime) -> Result<(), NoMemory> {
+    let story = three_sessions(rt.alloc())?;
+    check_frames(&rt, rt.alloc(), &story, FORMAT)
 }
 
 // After each call of the disk.
@@ -236,22 +246,23 @@ fn failures(rt: HostRuntime) -> Result<(), Fail> {
     Ok(())
 }
 
-// Stops of the openings behind stops after each so many calls, by these picks or mixed, and of the openings behind
-// those.
-fn check_behind(
+/// Stops of the openings behind stops of a run over a new file after each so many calls, by these picks or mixed, and of
+/// the openings behind those.
+pub fn check_behind(
     rt: &impl Abort,
     alloc: Global,
+    story: &Story,
+    format: &str,
     step: u64,
     picks: &[Pick],
     mixed: bool,
 ) -> Result<(), NoMemory>
     requires { 1 ≤ step }
 {
-    let story = three_sessions(alloc)?;
-    let file = formatted(alloc, FORMAT)?;
+    let file = formatted(alloc, format)?;
     let mut wrote = false;
-    for image in &images_left(alloc, &story, &file, step, picks, mixed)? {
-        wrote |= check_stops_behind(rt, alloc, &story, image, 50)?;
+    for image in &images_left(alloc, story, &file, step, picks, mixed)? {
+        wrote |= check_stops_behind(rt, alloc, story, image, 50)?;
     }
     assert!(rt; wrote);
     Ok(())
@@ -259,21 +270,35 @@ fn check_behind(
 
 #[test]
 fn stops_behind(rt: HostRuntime) -> Result<(), NoMemory> {
-    check_behind(&rt, rt.alloc(), 61, &TORN, false)
+    let story = three_sessions(rt.alloc())?;
+    check_behind(&rt, rt.alloc(), &story, FORMAT, 61, &TORN, false)
 }
 
 #[test]
 fn stops_behind_mixtures(rt: HostRuntime) -> Result<(), NoMemory> {
-    check_behind(&rt, rt.alloc(), 20, &[], true)
+    let story = three_sessions(rt.alloc())?;
+    check_behind(&rt, rt.alloc(), &story, FORMAT, 20, &[], true)
 }
 
-// Each call failing of the openings behind stops.
-#[test]
-fn failures_behind(rt: HostRuntime) -> Result<(), Fail> {
-    let story = three_sessions(rt.alloc())?;
-    let file = formatted(rt.alloc(), FORMAT)?;
-    for image in &images_left(rt.alloc(), &story, &file, 17, &[Pick::New], false)? {
-        check_failures_behind(&rt, rt.alloc(), &story, image)?;
+/// Each call failing of the openings behind stops of a run over a new file after each so many calls.
+pub fn check_failing_behind(
+    rt: &impl Abort,
+    alloc: Global,
+    story: &Story,
+    format: &str,
+    step: u64,
+) -> Result<(), NoMemory>
+    requires { 1 ≤ step }
+{
+    let file = formatted(alloc, format)?;
+    for image in &images_left(alloc, story, &file, step, &[Pick::New], false)? {
+        check_failures_behind(rt, alloc, story, image)?;
     }
     Ok(())
+}
+
+#[test]
+fn failures_behind(rt: HostRuntime) -> Result<(), NoMemory> {
+    let story = three_sessions(rt.alloc())?;
+    check_failing_behind(&rt, rt.alloc(), &story, FORMAT, 17)
 }

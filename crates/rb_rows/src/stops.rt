@@ -42,8 +42,13 @@ fn check_stops(
     Ok(())
 }
 
-// All stops of a script over a new file.
-fn check_new(rt: &impl Abort, alloc: Global, story: &Story, format: &str) -> Result<(), NoMemory> {
+/// All stops of a script over a new file.
+pub fn check_new(
+    rt: &impl Abort,
+    alloc: Global,
+    story: &Story,
+    format: &str,
+) -> Result<(), NoMemory> {
     check_stops(rt, alloc, story, &formatted(alloc, format)?, &PICKS)
 }
 

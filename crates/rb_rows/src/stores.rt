@@ -181,7 +181,7 @@ fn answers<S: Store>(store: &mut S) -> Result<[u64; 6], Failed>
 }
 
 /// The store of a file's bytes, on a disk that fails behind so many calls; or the disk, where it isn't opened.
-fn open_file(
+pub fn open_file(
     alloc: Global,
     file: &[u8],
     calls: usize,

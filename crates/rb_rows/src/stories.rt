@@ -15,17 +15,35 @@ pub struct Story {
     pub second: &'static [u8],
     /// Of a file without any of the flushes first, then of one with the first, and so on to the last.
     pub told: Vec<String>,
+    /// Whether `told` has those of checkpoints too. Else the second script shows nothing that they make last, and it has
+    /// those of commits alone.
+    pub tells_checkpoints: bool,
 }
 
 /// What a crash may leave, as it is picked in the tables: 1 is the byte that opens a gate.
 pub const PICKS: [Pick; 4] = [Pick::New, Pick::Old, Pick::Fill(1), Pick::Fill(0x7f)];
 
-/// How many flushes the replies tell of: those of commits and of checkpoints.
-pub fn answered(replies: &[u8]) -> usize {
-    replies
+// Whether a reply tells of a commit that has a number.
+fn is_committed(reply: &[u8]) -> bool {
+    let mut words = reply.split(|byte| *byte == b' ');
+    let _session = words.next();
+    words.next() == Some(b"committed".as_slice())
+}
+
+/// How many flushes the replies tell of: those of commits, and of checkpoints if `told` has these.
+pub fn answered(story: &Story, replies: &[u8]) -> usize {
+    let commits = replies
         .split(|byte| *byte == b'\n')
-        .filter(|line| line.starts_with(b"1 committed ") || *line == b"ok".as_slice())
-        .count()
+        .filter(|reply| is_committed(reply))
+        .count();
+    if !story.tells_checkpoints {
+        return commits;
+    }
+    let checkpoints = replies
+        .split(|byte| *byte == b'\n')
+        .filter(|reply| *reply == b"ok".as_slice())
+        .count();
+    commits.saturating_add(checkpoints)
 }
 
 /// How many flushes the file of a run must have: all where the run was done, as what waits is made last at its end.
@@ -33,7 +51,7 @@ pub fn owed(story: &Story, end: &Ended) -> usize {
     if end.status == Status::Done {
         return story.told.len().saturating_sub(1);
     }
-    answered(end.sink.bytes())
+    answered(story, end.sink.bytes())
 }
 
 /// How many of the flushes a file shows to a second run. None where that answers otherwise than after one of them.

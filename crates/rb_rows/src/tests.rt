@@ -849,115 +849,181 @@ commit 1
     Ok(())
 }
 
-// A log that is full.
+// A log of 64 slots that goes round.
 #[test]
-fn full_logs(rt: HostRuntime) -> Result<(), Fail> {
-    let rows: [(&str, &[u8]); 4] = [
-        ("log full by room", LOG_FULL),
-        ("log full keeps rollback room", ROLLBACK_ROOM),
+fn logs_go_round(rt: HostRuntime) -> Result<(), Fail> {
+    let rows: [(&str, &[u8]); 5] = [
+        ("log goes round by commits", LAPS_OF_COMMITS),
+        ("log goes round by one transaction", LAPS_OF_CHANGES),
+        ("rollback behind a lap", ROLLBACK_BEHIND_A_LAP),
         (
-            "log full keeps rollback room, second run",
-            ROLLBACK_ROOM_LATER,
+            "rollback behind a lap, second run",
+            ROLLBACK_BEHIND_A_LAP_LATER,
         ),
-        ("log full keeps commit room", COMMIT_ROOM),
+        ("log goes round from run to run", LAPS_OF_RUNS),
     ];
     let file = formatted(rt.alloc(), FORMAT_SMALL)?;
     check_each(&rt, rt.alloc(), &file, &rows)?;
     Ok(())
 }
 
-// Commits of two groups each: with 31 of them 62 slots of a small file are used. One slot has room still, and a write
-// asks for three: its own, its put back and the end of its transaction. What asks for none goes on. The file is
-// readable still.
-const LOG_FULL: &[u8] = b"\
-insert 1 1 1 a
+// Commits of two groups each: 500 of them are nearly sixteen laps. The next run has the last of them, and goes on.
+const LAPS_OF_COMMITS: &[u8] = b"\
+insert 1 1 1 1
 #> 1 ok
 commit 1
 #> 1 committed 1
-#* 2 31
-update 1 1 1 a
+#* 2 500
+update 1 1 1 @
 #> 1 ok
 commit 1
 #> 1 committed @
 #.
-update 1 1 1 a
-#> 1 log full
-delete 1 1 1
-#> 1 log full
-insert 1 1 2 a
-#> 1 log full
-update 1 1 2 a
-#> 1 not found
+marks
+#> segment 0 writes 500 lost 484
+#--
+open 1 c 1 0 9
+#> 1 ok
+fetch 1 c 5
+#> 1 row 1 500
+#> 1 end
+marks
+#> segment 0 writes 500 lost 484
+update 1 1 1 b
+#> 1 ok
 commit 1
-#> 1 ok
-#--
-update 1 1 1 a
-#> 1 log full
+#> 1 committed 501
 #--
 open 1 c 1 0 9
 #> 1 ok
 fetch 1 c 5
-#> 1 row 1 a
+#> 1 row 1 b
 #> 1 end
 ";
 
-// Each change keeps room for its own put back, and the transaction for its end: 31 changes with both fill 63 slots. A
-// transaction is put back in a log that is full for it. It leaves no room for another write.
-const ROLLBACK_ROOM: &[u8] = b"\
+// The changes of one transaction are more than three laps. The log has none of its first ones as it commits.
+const LAPS_OF_CHANGES: &[u8] = b"\
 insert 1 1 1 a
 #> 1 ok
-#* 1 30
-update 1 1 1 a
+#* 1 200
+update 1 1 1 @
 #> 1 ok
 #.
-update 1 1 1 a
-#> 1 log full
-rollback 1
-#> 1 ok
-insert 1 1 1 a
-#> 1 log full
-#--
-open 1 c 1 0 9
-#> 1 ok
-fetch 1 c 5
-#> 1 end
-";
-
-// All of it is made last at the end of the script. So the next opening puts it back, and there is no room.
-const ROLLBACK_ROOM_LATER: &[u8] = b"\
-insert 1 1 1 a
-#> 1 ok
-#* 1 30
-update 1 1 1 a
-#> 1 ok
-#.
-#--
-insert 1 1 1 a
-#> 1 log full
-#--
-open 1 c 1 0 9
-#> 1 ok
-fetch 1 c 5
-#> 1 end
-";
-
-// A full transaction is committed too.
-const COMMIT_ROOM: &[u8] = b"\
-insert 1 1 1 a
-#> 1 ok
-#* 1 30
-update 1 1 1 a
-#> 1 ok
-#.
-update 1 1 1 c
-#> 1 log full
 commit 1
 #> 1 committed 1
 #--
 open 1 c 1 0 9
 #> 1 ok
 fetch 1 c 5
+#> 1 row 1 200
+#> 1 end
+";
+
+// What a transaction did over more than two laps is put back over two more: a row that is changed, one that is deleted
+// and one that is made. Behind it there is room for another transaction.
+const ROLLBACK_BEHIND_A_LAP: &[u8] = b"\
+insert 1 1 1 a
+#> 1 ok
+insert 1 1 2 b
+#> 1 ok
+commit 1
+#> 1 committed 1
+delete 1 1 2
+#> 1 ok
+insert 1 1 3 c
+#> 1 ok
+#* 1 150
+update 1 1 1 @
+#> 1 ok
+#.
+rollback 1
+#> 1 ok
+open 1 c 1 0 9
+#> 1 ok
+fetch 1 c 5
 #> 1 row 1 a
+#> 1 row 2 b
+#> 1 end
+insert 1 1 3 d
+#> 1 ok
+commit 1
+#> 1 committed 2
+#--
+open 1 c 1 0 9
+#> 1 ok
+fetch 1 c 5
+#> 1 row 1 a
+#> 1 row 2 b
+#> 1 row 3 d
+#> 1 end
+";
+
+// The next opening puts the same back, where the script ends before that. Its log goes round too.
+const ROLLBACK_BEHIND_A_LAP_LATER: &[u8] = b"\
+insert 1 1 1 a
+#> 1 ok
+insert 1 1 2 b
+#> 1 ok
+commit 1
+#> 1 committed 1
+delete 1 1 2
+#> 1 ok
+insert 1 1 3 c
+#> 1 ok
+#* 1 150
+update 1 1 1 @
+#> 1 ok
+#.
+#--
+open 1 c 1 0 9
+#> 1 ok
+fetch 1 c 5
+#> 1 row 1 a
+#> 1 row 2 b
+#> 1 end
+insert 1 1 3 d
+#> 1 ok
+commit 1
+#> 1 committed 2
+#--
+open 1 c 1 0 9
+#> 1 ok
+fetch 1 c 5
+#> 1 row 1 a
+#> 1 row 2 b
+#> 1 row 3 d
+#> 1 end
+";
+
+// Runs of 45 groups each: the second begins in the middle of the log and goes on at its front.
+const LAPS_OF_RUNS: &[u8] = b"\
+insert 1 1 1 a
+#> 1 ok
+#* 1 43
+update 1 1 1 @
+#> 1 ok
+#.
+commit 1
+#> 1 committed 1
+#--
+#* 44 87
+update 1 1 1 @
+#> 1 ok
+#.
+commit 1
+#> 1 committed 2
+#--
+#* 88 131
+update 1 1 1 @
+#> 1 ok
+#.
+commit 1
+#> 1 committed 3
+#--
+open 1 c 1 0 9
+#> 1 ok
+fetch 1 c 5
+#> 1 row 1 131
 #> 1 end
 ";
 
@@ -1548,28 +1614,12 @@ marks
 #> segment 0 writes 17 lost 1
 ";
 
-// A reader comes while 46 changes of a transaction that runs want 47 groups to be put back, behind 48 groups of the
-// log. In a log of 97 slots that and its own group have just room; in one of 96 it leaves the home as it is.
+// A reader comes as the log is full: 63 of its 64 slots have groups. It cleans the home all the same, by one group more.
 #[test]
 fn reader_has_room(rt: HostRuntime) -> Result<(), Fail> {
-    let rows: [(&str, &str, &[u8]); 2] = [
-        (
-            "reader has room",
-            "f format tables=1 blocks=2 segments=1 log=97",
-            b"#> 2 end\n",
-        ),
-        (
-            "reader is held back",
-            "f format tables=1 blocks=2 segments=1 log=96",
-            b"#> 2 too old 0 1\n",
-        ),
-    ];
-    for (name, format, told) in rows {
-        let file = formatted(rt.alloc(), format)?;
-        let mut dialogue = READER_BESIDE_CHANGES.to_vec(rt.alloc())?;
-        dialogue.extend_from_slice(told)?;
-        check_each(&rt, rt.alloc(), &file, &[(name, dialogue.as_slice())])?;
-    }
+    let file = formatted(rt.alloc(), FORMAT_TWO_BLOCKS)?;
+    let rows: [(&str, &[u8]); 1] = [("reader has room", READER_BESIDE_CHANGES)];
+    check_each(&rt, rt.alloc(), &file, &rows)?;
     Ok(())
 }
 
@@ -1582,7 +1632,7 @@ commit 1
 #> 1 committed 1
 insert 4 1 1 b
 #> 4 ok
-#* 1 45
+#* 1 60
 update 4 1 1 b
 #> 4 ok
 #.
@@ -1599,6 +1649,7 @@ commit 1
 #> 1 committed @
 #.
 fetch 2 c 1
+#> 2 end
 ";
 
 // A commit, and an update without one that a checkpoint writes.
@@ -1652,13 +1703,15 @@ fn bad_files_and_words(rt: HostRuntime) -> Result<(), Fail> {
         return Err(Fail::new("no file"));
     };
     let records = of_version(rt.alloc(), &file, 101)?;
+    let one_lap = of_version(rt.alloc(), &file, 104)?;
     let open_gate = with_byte(rt.alloc(), &file, 8_192, 1)?;
     let format_none = "f format tables=0 blocks=1 segments=1 log=64";
-    let rows: [(&str, &[u8], u8); 17] = [
+    let rows: [(&str, &[u8], u8); 18] = [
         (RUN, b"", 5),
         (RUN, b"x", 5),
         (RUN, cut, 5),
         (RUN, &records, 5),
+        (RUN, &one_lap, 5),
         (RUN, &open_gate, 5),
         (FORMAT_LARGE, &file, 7),
         ("run", &file, 1),
@@ -1700,7 +1753,7 @@ fetch 1 c 5
 ";
 
 // One commit over a small file. Its last three calls are a sync of the groups, the gate that makes them count, and a
-// sync. Behind them its blocks go home at the end of the run.
+// sync. Behind them its blocks go home and the head of the log moves, at the end of the run.
 const ONE_COMMIT: &[u8] = b"\
 insert 1 1 1 a
 #> 1 ok
@@ -1711,8 +1764,9 @@ commit 1
 ";
 
 // How many calls bring the three blocks of one row home: the images, the gate, each block, the gate, and a sync behind
-// each of these four.
-const HOME_CALLS: u64 = 10;
+// each of these four. And so many move the head of the log behind its groups: which copy is chosen is read, and then the
+// other copy and what chooses it are written, with a sync behind each.
+const HOME_CALLS: u64 = 10 + 5;
 
 // The same lines, where the disk fails in the commit.
 const FAULTY_COMMIT: &[u8] = b"\
@@ -1773,7 +1827,7 @@ fn failed_end(rt: HostRuntime) -> Result<(), Fail> {
     let file = formatted(rt.alloc(), FORMAT_SMALL)?;
     let good = check(&rt, rt.alloc(), "no fault", &file, INSERT_ONE)?;
     let replies = replies_of(rt.alloc(), INSERT_ONE)?;
-    // The groups, a sync, the gate and a sync; and what brings the blocks home.
+    // The groups, a sync, the gate and a sync; and what brings the blocks home and moves the head.
     for behind in 0..HOME_CALLS + 4 {
         let call = [good.calls().saturating_sub(behind)];
         let failing = Failing {

@@ -271,6 +271,7 @@ fn story_of(alloc: Global, script: String, left: &[(&str, u64, u64)]) -> Result<
         replies,
         second: SECOND,
         told,
+        tells_checkpoints: true,
     })
 }
 
