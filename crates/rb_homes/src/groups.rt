@@ -48,8 +48,8 @@ fn give<S: Store>(store: &mut S, step: u32) -> Result<(), Failed>
     store.apply(&group)
 }
 
-/// Gives it the groups from one step to before another, with a flush behind each eighth and a checkpoint behind step 20.
-/// That frees all slots of a log, as the store itself does at the steps 84 and 147, which find it full.
+/// Gives it the groups from one step to before another, with a flush behind each eighth and a checkpoint behind step
+/// 20. That frees all slots of a log, as the store itself does at the steps 84 and 147, which find it full.
 pub fn give_all<S: Store>(store: &mut S, first: u32, end: u32) -> Result<(), Failed>
     requires going { S.failed store.old ≡ false }
     requires few { end ≤ 1000 }

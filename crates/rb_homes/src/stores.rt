@@ -152,8 +152,8 @@ fn is_refused(alloc: Global, file: &[u8]) -> Result<bool, NoMemory> {
 #[test]
 fn files_that_open_to_nothing(rt: HostRuntime) -> Result<(), Fail> {
     let file = fresh(rt.alloc())?;
-    // The identity's mark, its version, which was 104 before the log went round, the slot of the head in the chosen copy,
-    // a gate of the log with no group, one of the twin area with no batch, and a block's kind.
+    // The identity's mark, its version, which was 104 before the log went round, the slot of the head in the copy that
+    // is chosen, a gate of the log with no group, one of the twin area with no batch, and a block's kind.
     let rows = [
         (0, b'S'),
         (11, 104),

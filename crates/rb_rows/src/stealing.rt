@@ -246,8 +246,8 @@ fn failures(rt: HostRuntime) -> Result<(), Fail> {
     Ok(())
 }
 
-/// Stops of the openings behind stops of a run over a new file after each so many calls, by these picks or mixed, and of
-/// the openings behind those.
+/// Stops of the openings behind stops of a run over a new file after each so many calls, by these picks or mixed, and
+/// of the openings behind those.
 pub fn check_behind(
     rt: &impl Abort,
     alloc: Global,

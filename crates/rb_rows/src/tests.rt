@@ -1614,7 +1614,7 @@ marks
 #> segment 0 writes 17 lost 1
 ";
 
-// A reader comes as the log is full: 63 of its 64 slots have groups. It cleans the home all the same, by one group more.
+// A reader comes as the log is full: 63 of its 64 slots have groups. It cleans the home all the same, by one more.
 #[test]
 fn reader_has_room(rt: HostRuntime) -> Result<(), Fail> {
     let file = formatted(rt.alloc(), FORMAT_TWO_BLOCKS)?;
@@ -1764,8 +1764,8 @@ commit 1
 ";
 
 // How many calls bring the three blocks of one row home: the images, the gate, each block, the gate, and a sync behind
-// each of these four. And so many move the head of the log behind its groups: which copy is chosen is read, and then the
-// other copy and what chooses it are written, with a sync behind each.
+// each of these four. And so many move the head of the log behind its groups: which copy is chosen is read, and then
+// the other copy and what chooses it are written, with a sync behind each.
 const HOME_CALLS: u64 = 10 + 5;
 
 // The same lines, where the disk fails in the commit.
