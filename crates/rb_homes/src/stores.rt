@@ -160,7 +160,7 @@ fn files_that_open_to_nothing(rt: HostRuntime) -> Result<(), Fail> {
         (2_048, 1),
         (8_192, 1),
         (139_264, 1),
-        (157_704, 1),
+        (157_704, 9),
     ];
     for (at, byte) in rows {
         let other = with_byte(rt.alloc(), &file, at, byte)?;

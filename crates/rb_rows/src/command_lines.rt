@@ -1,6 +1,6 @@
 //! Command lines over a disk in memory, without a script: one that makes a file, some that make commands, and those
 //! that end otherwise.
-use crate::doubles::{FORMAT_LARGE, Failing, NONE, formatted, run_on, run_over};
+use crate::doubles::{FORMAT_LARGE, FORMAT_SMALL, Failing, NONE, formatted, run_on, run_over};
 use rb_memdisk::MemDisk;
 use std::test::Fail;
 
@@ -45,15 +45,16 @@ fn makes_commands(rt: HostRuntime) -> Result<(), Fail> {
     Ok(())
 }
 
-// One line over two new files, which have the same bytes then. Where the disk fails there is no line.
+// One line over two new files, whose logs go round, and which have the same bytes then. Where the disk fails there is
+// no line.
 #[test]
 fn makes_the_same_commands(rt: HostRuntime) -> Result<(), Fail> {
-    let line = "f gen 20000";
-    let file = formatted(rt.alloc(), FORMAT_LARGE)?;
+    let line = "f gen 3000";
+    let file = formatted(rt.alloc(), FORMAT_SMALL)?;
     let first = run_over(rt.alloc(), line, &file, b"", NONE)?;
     let second = run_over(rt.alloc(), line, &file, b"", NONE)?;
     assert!(rt; first.status.code() == 0);
-    assert!(rt; first.sink.bytes().starts_with(b"commands 20000 committed "));
+    assert!(rt; first.sink.bytes().starts_with(b"commands 3000 committed "));
     assert!(rt; first.sink.bytes() == second.sink.bytes());
     assert!(rt; first.disk.bytes() == second.disk.bytes());
     let last = [first.disk.calls()];

@@ -26,8 +26,8 @@ pub const RUN: &str = "f run frames=16";
 // More than the largest file of the rows.
 const FORMAT_ROOM: u64 = 2_500_000;
 
-// More bytes than any script of the rows writes: a log of 1,024 slots is filled once.
-pub const SCRIPT_ROOM: u64 = 2_200_000;
+// More bytes than any script of the rows writes: none makes more than 1,100 groups, and their laps.
+pub const SCRIPT_ROOM: u64 = 4_000_000;
 
 // More calls than any line of the rows makes.
 pub const CALLS: usize = 5_000;

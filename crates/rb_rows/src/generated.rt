@@ -44,9 +44,9 @@ fn tells_its_answers(rt: HostRuntime) -> Result<(), Fail> {
 
 #[test]
 fn says_the_same_again(rt: HostRuntime) -> Result<(), Fail> {
-    let first = run_new(rt.alloc(), "f gen 20000")?;
-    let again = run_new(rt.alloc(), "f gen 20000")?;
-    assert!(rt; first.sink.bytes().starts_with(b"commands 20000 committed "));
+    let first = run_new(rt.alloc(), "f gen 3000")?;
+    let again = run_new(rt.alloc(), "f gen 3000")?;
+    assert!(rt; first.sink.bytes().starts_with(b"commands 3000 committed "));
     assert!(rt; first.sink.bytes() == again.sink.bytes());
     Ok(())
 }

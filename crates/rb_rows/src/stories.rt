@@ -15,8 +15,8 @@ pub struct Story {
     pub second: &'static [u8],
     /// Of a file without any of the flushes first, then of one with the first, and so on to the last.
     pub told: Vec<String>,
-    /// Whether `told` has those of checkpoints too. Else the second script shows nothing that they make last, and it
-    /// has those of commits alone.
+    /// Whether `told` has the flushes of checkpoints too. Else the second script shows nothing of these, and `told` has
+    /// those of commits alone.
     pub tells_checkpoints: bool,
 }
 
