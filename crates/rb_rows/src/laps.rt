@@ -162,7 +162,7 @@ fn stops_behind(rt: HostRuntime) -> Result<(), NoMemory> {
 #[test]
 fn stops_behind_mixtures(rt: HostRuntime) -> Result<(), NoMemory> {
     let story = laps(rt.alloc())?;
-    check_behind(&rt, rt.alloc(), &story, FORMAT_SMALL, 29, &[], true)
+    check_behind(&rt, rt.alloc(), &story, FORMAT_SMALL, 5, &[], true)
 }
 
 // Each call failing of the openings behind stops.
