@@ -26,7 +26,7 @@ class Refused(Exception):
         self.reply, self.before = replies[-1], replies[:-1]
 
 
-def create(file, tables=1, blocks=256, segments=4, log=4096):
+def create(file, tables=1, blocks=256, segments=4, log=1024):
     """Makes a new file."""
     sizes = [f"tables={tables}", f"blocks={blocks}", f"segments={segments}", f"log={log}"]
     subprocess.run([PROGRAM, str(file), "format", *sizes], check=True)
