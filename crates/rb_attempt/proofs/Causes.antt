@@ -6,12 +6,10 @@ use Rattle.rb_base.specs.declared.shape.Shape.{Shape}
 use Rattle.rb_base.specs.declared.store.Store.{Ghosts}
 use Rattle.rb_heap.specs.Choices.{IsEntryChoice}
 use Rattle.rb_heap.specs.Homes.{Home, home_entry}
-use Rattle.rb_segment.specs.Header.{Header}
 use Rattle.rb_attempt.proofs.Choices.{chosen_not_none}
-use Rattle.rb_attempt.specs.Refusals.{has_failed, LogRefuses, Refuses, TakesWrite, TakesWriter}
+use Rattle.rb_attempt.specs.Refusals.{has_failed, TakesWrite, TakesWriter}
 use Rattle.rb_attempt.specs.declared.ask.AttemptFault.{AttemptFault}
-use Rattle.rb_attempt.specs.declared.ask.AttemptFault.TheVariants.{Failed, Duplicate, NotFound, BlockFull, SlotsFull, RollbackFull, WornOut, LogFull}
-use Rattle.rb_segment.specs.Moves.{NoneMayTurn}
+use Rattle.rb_attempt.specs.declared.ask.AttemptFault.TheVariants.{Failed, Duplicate, NotFound, BlockFull, SlotsFull, RollbackFull, WornOut}
 
 -- a fact on a store's shape and blocks, where both are the same
 pub both_ways : (P : Shape → List (List ℕ) → Type 0) (a b : Shape) (l k : List (List ℕ)) → a ≡ b → l ≡ k → P a l → P b k
@@ -19,18 +17,6 @@ both_ways P a b l k shapes blocks is = subst (λ (x : Shape). P x k) shapes (sub
 
 pub takes_writer : (home : Home) (adds : Bool) (key : ℕ) (x : Xid) (i : ℕ) → TakesWrite home adds key → IsEntryChoice (home_entry home) x i → TakesWriter home adds key x
 takes_writer home adds key x i takes choice = record { takes = takes; entry = chosen_not_none (home_entry home) x i choice }
-
--- where the log alone refuses, all before it doesn't
-pub log_refuses : (fault : AttemptFault) (home : Home) (adds : Bool) (key : ℕ) (x : Xid) (ready : Header) (logged room kept : ℕ) → TakesWriter home adds key x → (NoneMayTurn ready → ⊥) → LogRefuses fault logged room kept
-    → Refuses fault home adds key x ready logged room kept
-log_refuses Failed home adds key x ready logged room kept takes turns log = log
-log_refuses Duplicate home adds key x ready logged room kept takes turns log = absurd log
-log_refuses NotFound home adds key x ready logged room kept takes turns log = absurd log
-log_refuses BlockFull home adds key x ready logged room kept takes turns log = absurd log
-log_refuses SlotsFull home adds key x ready logged room kept takes turns log = absurd log
-log_refuses (RollbackFull seg since) home adds key x ready logged room kept takes turns log = absurd log
-log_refuses WornOut home adds key x ready logged room kept takes turns log = (takes, turns, log)
-log_refuses LogFull home adds key x ready logged room kept takes turns log = (takes, turns, log.0, log.1)
 
 -- whatever the call would have answered
 pub fails_same : (T U : Type 0) (fault : AttemptFault) → has_failed {T = T} (Err fault) ≡ has_failed {T = U} (Err fault)
@@ -41,7 +27,6 @@ fails_same T U BlockFull = refl
 fails_same T U SlotsFull = refl
 fails_same T U (RollbackFull seg since) = refl
 fails_same T U WornOut = refl
-fails_same T U LogFull = refl
 
 -- where a fault of a call goes on, the same groups were logged
 pub logs_on : {S : Type 0} (s : Ghosts S) (old new : S) (T U : Type 0) (result : Result T AttemptFault) (fault : AttemptFault) → result ≡ Err fault → Logs s old new [] (not (has_failed {T = U} (Err fault))) → Logs s old new [] (not (has_failed result))

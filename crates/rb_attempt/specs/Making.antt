@@ -1,6 +1,5 @@
 -- What a write makes: the undo record of its change, and what the change adds to its group.
 use Rattle.std.specs.Prelude.{◌≡◌, ◌<◌, ◌≤◌, ◌+◌, ◌*◌, ◌^◌, ℕ, List, ◌++◌, length}
-use Rattle.std.specs.Prelude.{if◌then◌else◌, is_some}
 use Rattle.rb_attempt.specs.Asks.{adds_row, home_for, kind_of, IsWriterOf}
 use Rattle.rb_attempt.specs.Refusals.{TakesWrite}
 use Rattle.rb_attempt.specs.declared.ask.Ask.{Ask}
@@ -21,7 +20,6 @@ use Rattle.rb_itl.specs.declared.slots.Entry.{Entry}
 use Rattle.rb_itl.specs.declared.slots.TheConstants.{ENTRY_BYTES}
 use Rattle.rb_segment.specs.Calls.{Recorded}
 use Rattle.rb_segment.specs.Header.{Header, header_of, slot_in}
-use Rattle.rb_segment.specs.Segments.{owed_in}
 use Rattle.rb_standing.specs.Says.{sort_by}
 use Rattle.rb_standing.specs.Writing.{cell_after, entry_after, IsWritten}
 use Rattle.rb_undoblock.specs.Undo.{IsUndoRecord}
@@ -71,15 +69,13 @@ IsMade shape before now ask x = (address : Uba) × (u : UndoRecord) × (ready : 
     × (u.home ≡ home_block shape ask.table ask.key)
     × IsWritten shape (16 * x.seg + x.slot) (adds_row ask.op) (kind_of ask.op) address u before now
 
--- No test stands in its way: of the row and its home, of the log's numbers, and of the room for what puts back all live
--- changes.
-pub record MayMake (shape : Shape) (blocks : List (List ℕ)) (ask : Ask) (logged room : ℕ) : Type 0 where
+-- No test stands in its way: of the row and its home, and of the log's numbers.
+pub record MayMake (shape : Shape) (blocks : List (List ℕ)) (ask : Ask) (logged : ℕ) : Type 0 where
   pub takes : TakesWrite (home_for shape blocks ask) (adds_row ask.op) ask.key
   pub numbers : logged < WORN
-  pub fits : 1 + (owed_in shape blocks + (if is_some ask.own then 1 else 2)) ≤ room
 
 -- The group of these patches, where there are any, makes the write.
-abbrev pub MakesIfAny : Shape → List (List ℕ) → Ask → ℕ → ℕ → List Patch → Type 0
-MakesIfAny shape blocks ask logged room patches = 0 < length patches
-    → MayMake shape blocks ask logged room
+abbrev pub MakesIfAny : Shape → List (List ℕ) → Ask → ℕ → List Patch → Type 0
+MakesIfAny shape blocks ask logged patches = 0 < length patches
+    → MayMake shape blocks ask logged
     × ((x : Xid) × IsMade shape blocks (after_group (logged + 1) patches blocks) ask x)

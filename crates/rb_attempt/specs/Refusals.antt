@@ -1,7 +1,6 @@
 -- Why a write isn't made. Each cause stands with those that are asked for before it, which don't hold.
-use Rattle.std.specs.Prelude.{◌≡◌, ◌≢◌, ◌<◌, ◌≤◌, ◌+◌, ℕ, Bool, true, false, List, Result}
+use Rattle.std.specs.Prelude.{◌≡◌, ◌≢◌, ◌≤◌, ℕ, Bool, true, false, List, Result}
 use Rattle.std.specs.Prelude.{Ok, Err}
-use Rattle.std.specs.Prelude.{is_some, if◌then◌else◌}
 use Rattle.rb_base.specs.declared.ids.Xid.{Xid}
 use Rattle.rb_base.specs.declared.shape.Shape.{Shape}
 use Rattle.rb_base.specs.declared.sizes.TheConstants.{WORN}
@@ -9,14 +8,13 @@ use Rattle.rb_attempt.specs.Asks.{adds_row, home_for, IsWriterOf}
 use Rattle.rb_attempt.specs.declared.ask.Ask.{Ask}
 use Rattle.rb_attempt.specs.declared.ask.AttemptFault.{AttemptFault}
 use Rattle.rb_attempt.specs.declared.ask.AttemptFault.TheVariants.{Failed, Duplicate, NotFound, BlockFull, SlotsFull}
-use Rattle.rb_attempt.specs.declared.ask.AttemptFault.TheVariants.{RollbackFull, WornOut, LogFull}
+use Rattle.rb_attempt.specs.declared.ask.AttemptFault.TheVariants.{RollbackFull, WornOut}
 use Rattle.rb_cell.specs.declared.cell.TheConstants.{ROW}
 use Rattle.rb_heap.specs.Choices.{HasNoChoice}
 use Rattle.rb_heap.specs.Homes.{Home, home_cell, home_entry, is_free, is_keyed, IsFirst, IsNowhere}
 use Rattle.rb_segment.specs.Calls.{IsSince}
 use Rattle.rb_segment.specs.Header.{Header}
 use Rattle.rb_segment.specs.Moves.{NoneMayTurn}
-use Rattle.rb_segment.specs.Segments.{owed_in}
 
 -- the cell that is found by the key holds a row, or there is none that does
 abbrev pub HasRow : Home → ℕ → Type 0
@@ -41,37 +39,23 @@ pub record TakesWriter (home : Home) (adds : Bool) (key : ℕ) (x : Xid) : Type 
   pub takes : TakesWrite home adds key
   pub entry : ¬ HasNoChoice (home_entry home) x
 
--- why a write is refused, by its cleaned home, its transaction with the segment's header, the last log number, and the
--- log's room beside what must be kept
-abbrev pub Refuses : AttemptFault → Home → Bool → ℕ → Xid → Header → ℕ → ℕ → ℕ → Type 0
-Refuses Duplicate home adds key x ready logged room kept = (adds ≡ true) × HasRow home key
-Refuses NotFound home adds key x ready logged room kept = (adds ≡ false) × HasNoRow home key
-Refuses BlockFull home adds key x ready logged room kept = (adds ≡ true) × HasNoRow home key × HasNoCell home key
-Refuses SlotsFull home adds key x ready logged room kept =
+-- why a write is refused, by its cleaned home, its transaction with the segment's header, and the last log number
+abbrev pub Refuses : AttemptFault → Home → Bool → ℕ → Xid → Header → ℕ → Type 0
+Refuses Duplicate home adds key x ready logged = (adds ≡ true) × HasRow home key
+Refuses NotFound home adds key x ready logged = (adds ≡ false) × HasNoRow home key
+Refuses BlockFull home adds key x ready logged = (adds ≡ true) × HasNoRow home key × HasNoCell home key
+Refuses SlotsFull home adds key x ready logged =
     TakesWrite home adds key × HasNoChoice (home_entry home) x
-Refuses (RollbackFull seg since) home adds key x ready logged room kept =
+Refuses (RollbackFull seg since) home adds key x ready logged =
     TakesWriter home adds key x × NoneMayTurn ready × (seg ≡ x.seg) × IsSince ready since
-Refuses WornOut home adds key x ready logged room kept =
+Refuses WornOut home adds key x ready logged =
     TakesWriter home adds key x × (¬ NoneMayTurn ready) × (WORN ≤ logged)
-Refuses LogFull home adds key x ready logged room kept =
-    TakesWriter home adds key x × (¬ NoneMayTurn ready) × (logged < WORN) × (room < 1 + kept)
-Refuses Failed home adds key x ready logged room kept = ⊥
+Refuses Failed home adds key x ready logged = ⊥
 
 -- the cleaned home alone refuses the write, whoever writes and whatever the log has
 abbrev pub HomeRefuses : AttemptFault → Home → Bool → ℕ → Type 0
-HomeRefuses fault home adds key = (x : Xid) (ready : Header) (logged room kept : ℕ)
-    → Refuses fault home adds key x ready logged room kept
-
--- the log's numbers or the room alone refuse it
-abbrev pub LogRefuses : AttemptFault → ℕ → ℕ → ℕ → Type 0
-LogRefuses WornOut logged room kept = WORN ≤ logged
-LogRefuses LogFull logged room kept = (logged < WORN) × (room < 1 + kept)
-LogRefuses Failed logged room kept = ⊥
-LogRefuses Duplicate logged room kept = ⊥
-LogRefuses NotFound logged room kept = ⊥
-LogRefuses BlockFull logged room kept = ⊥
-LogRefuses SlotsFull logged room kept = ⊥
-LogRefuses (RollbackFull seg since) logged room kept = ⊥
+HomeRefuses fault home adds key = (x : Xid) (ready : Header) (logged : ℕ)
+    → Refuses fault home adds key x ready logged
 
 -- a call of the store has failed
 abbrev pub has_failed : {T : Type 0} → Result T AttemptFault → Bool
@@ -83,10 +67,8 @@ has_failed (Err BlockFull) = false
 has_failed (Err SlotsFull) = false
 has_failed (Err (RollbackFull seg since)) = false
 has_failed (Err WornOut) = false
-has_failed (Err LogFull) = false
 
 -- why the write that is asked for isn't made, by whatever transaction
-abbrev pub HasCause : Shape → List (List ℕ) → Ask → ℕ → ℕ → AttemptFault → Type 0
-HasCause shape blocks ask logged room fault = (x : Xid) × (ready : Header) × IsWriterOf shape blocks ask.own x ready
-    × Refuses fault (home_for shape blocks ask) (adds_row ask.op) ask.key x ready logged room
-    (owed_in shape blocks + (if is_some ask.own then 1 else 2))
+abbrev pub HasCause : Shape → List (List ℕ) → Ask → ℕ → AttemptFault → Type 0
+HasCause shape blocks ask logged fault = (x : Xid) × (ready : Header) × IsWriterOf shape blocks ask.own x ready
+    × Refuses fault (home_for shape blocks ask) (adds_row ask.op) ask.key x ready logged

@@ -46,7 +46,4 @@ pub enum AttemptFault {
     /// 2^60 groups or more are logged.
     #[error("the log numbers are used up")]
     WornOut,
-    /// The log wouldn't have room for what puts all live changes back.
-    #[error("the log has no room")]
-    LogFull,
 }

@@ -1,24 +1,21 @@
 //! One attempt of a write: what stands in its way, and the group that makes it. rb_undoengine calls it.
 ghost use Rattle.std.specs.Prelude.{◌≡◌, ◌*◌, ◌+◌, ◌<◌, ◌≤◌, List, [], true, false, not};
-ghost use Rattle.std.specs.Prelude.{if◌then◌else◌, is_some, length, Some, IfOk, IfErr, OnErr, OnOk};
+ghost use Rattle.std.specs.Prelude.{length, Some, IfOk, IfErr, OnErr, OnOk};
 ghost use Rattle.rb_attempt.specs.Asks.{adds_row, home_for, kind_of, AreYoung, IsShort, IsWriterOf, MayWrite};
 ghost use Rattle.rb_attempt.specs.Making.{IsMade, MakesIfAny};
 ghost use Rattle.rb_attempt.specs.Refusals.{has_failed, HasCause, Refuses, TakesWrite};
 ghost use Rattle.rb_base.specs.Blocks.{after_group, home_block, AreWithin};
 ghost use Rattle.rb_base.specs.Groups.{Patch};
 ghost use Rattle.rb_base.specs.Logs.{Logs, group_of};
-ghost use Rattle.rb_base.specs.Stores.{room_of};
 ghost use Rattle.rb_base.specs.declared.ids.Uba.{Uba};
 ghost use Rattle.rb_base.specs.declared.ids.Xid.{Xid};
 ghost use Rattle.rb_segment.specs.Header.{Header};
-ghost use Rattle.rb_segment.specs.Segments.{owed_in};
 ghost use Rattle.rb_standing.specs.Standing.{logged_of};
 ghost use Rattle.rb_standing.specs.Writing.{IsWritten};
 ghost use Rattle.rb_undoblock.specs.declared.record.UndoRecord.{UndoRecord};
 
 use crate::ask::{Ask, AttemptFault};
 use crate::home::{Place, cell_for, clean_home};
-use crate::room::check_room;
 use crate::segment::writer;
 use crate::undo::put_change;
 use rb_base::{Group, SLOTS, Store, UNIT, WORN, Xid};
@@ -45,12 +42,8 @@ fn prepare<S: Store>(store: &mut S, ask: &Ask<'_>, group: &mut Group) -> Result<
         (adds_row ask.now.op) ask.now.key) }
     ensures cause { S.tells → AreYoung (S.shape_of store.old) (S.blocks store.old)
         → MayWrite (S.shape_of store.old) (S.blocks store.old) ask.now.own → has_failed result ≡ false
-        → IfErr result (HasCause (S.shape_of store.old) (S.blocks store.old) ask.now (S.lsn store.old)
-        (room_of (S.slots store.old) (S.lsn store.old))) }
-    ensures room { OnOk result ((S.lsn store.old < WORN) × (1 ≤ room_of (S.slots store.old) (S.lsn store.old))) }
-    ensures kept { S.tells → OnOk result (1 + (owed_in (S.shape_of store.old) (S.blocks store.old)
-        + (if is_some ask.now.own then 1 else 2))
-        ≤ room_of (S.slots store.old) (S.lsn store.old)) }
+        → IfErr result (HasCause (S.shape_of store.old) (S.blocks store.old) ask.now (S.lsn store.old)) }
+    ensures numbers { OnOk result (S.lsn store.old < WORN) }
 {
     let shape = store.shape();
     let block = shape.home_block(ask.table, ask.key);
@@ -65,17 +58,18 @@ fn prepare<S: Store>(store: &mut S, ask: &Ask<'_>, group: &mut Group) -> Result<
     };
     let place = Place { block, entry, cell };
     put_change(&home, &mut header, &shape, ask, xid, place, group)?;
-    check_room(store, ask.own.is_some())?;
+    if store.logged() >= WORN {
+        return Err(AttemptFault::WornOut);
+    }
     Ok(xid)
 }
 
 /// Writes a key of a table by one group, or refuses to and logs none. The transaction runs, or takes a table slot of
 /// the segment with the fewest that run. Its block is cleaned; the change takes a slot entry and a cell of it, and what
 /// they were is kept in an undo record. The tests come in this order: whether the key has a row, a cell for an insert,
-/// an entry, room for the record, the log's numbers, and the room of the log, which must hold what puts back all live
-/// changes. `Failed` only where a call of the store failed. What `group` holds afterwards is open. In a damaged file,
-/// where the transaction doesn't run or no table slot is idle, it is `RollbackFull`. The key is no other transaction's.
-/// (Oracle7 Server Concepts, *Rollback Segments*.)
+/// an entry, room for the record, and the log's numbers. `Failed` only where a call of the store failed. What `group`
+/// holds afterwards is open. In a damaged file, where the transaction doesn't run or no table slot is idle, it is
+/// `RollbackFull`. The key is no other transaction's. (Oracle7 Server Concepts, *Rollback Segments*.)
 pub fn attempt<S: Store>(
     store: &mut S,
     ask: &Ask<'_>,
@@ -93,8 +87,7 @@ pub fn attempt<S: Store>(
     ensures group { S.tells → S.lsn store.old ≡ logged_of (S.shape_of store.old) (S.blocks store.old)
         → AreYoung (S.shape_of store.old) (S.blocks store.old)
         → (patches : List Patch) × Logs S.Store store.old store.new (group_of patches) (not (has_failed result))
-        × MakesIfAny (S.shape_of store.old) (S.blocks store.old) ask.now (S.lsn store.old)
-        (room_of (S.slots store.old) (S.lsn store.old)) patches }
+        × MakesIfAny (S.shape_of store.old) (S.blocks store.old) ask.now (S.lsn store.old) patches }
     ensures written { S.tells → S.lsn store.old ≡ logged_of (S.shape_of store.old) (S.blocks store.old)
         → AreYoung (S.shape_of store.old) (S.blocks store.old)
         → IfOk result (λ x. (address : Uba) × (u : UndoRecord) × (ready : Header)
@@ -111,12 +104,8 @@ pub fn attempt<S: Store>(
         → IfErr result (λ fault. (x : Xid) × (ready : Header)
         × IsWriterOf (S.shape_of store.old) (S.blocks store.old) ask.now.own x ready
         × Refuses fault (home_for (S.shape_of store.old) (S.blocks store.old) ask.now) (adds_row ask.now.op)
-        ask.now.key x ready (S.lsn store.old) (room_of (S.slots store.old) (S.lsn store.old))
-        (owed_in (S.shape_of store.old) (S.blocks store.old) + (if is_some ask.now.own then 1 else 2))) }
-    ensures room { OnOk result ((S.lsn store.old < WORN) × (1 ≤ room_of (S.slots store.old) (S.lsn store.old))) }
-    ensures kept { S.tells → OnOk result (1 + (owed_in (S.shape_of store.old) (S.blocks store.old)
-        + (if is_some ask.now.own then 1 else 2))
-        ≤ room_of (S.slots store.old) (S.lsn store.old)) }
+        ask.now.key x ready (S.lsn store.old)) }
+    ensures numbers { OnOk result (S.lsn store.old < WORN) }
 {
     let xid = prepare(store, ask, group)?;
     match store.apply(group) {

@@ -7,7 +7,6 @@ mod ask;
 mod change;
 mod holder;
 mod home;
-mod room;
 mod segment;
 mod undo;
 

@@ -8,7 +8,7 @@ ghost use Rattle.rb_base.specs.Blocks.{AreBlocks, AreWithin, IsShape};
 ghost use Rattle.rb_base.specs.Counts.{IsCounted};
 ghost use Rattle.rb_base.specs.Groups.{Patch};
 ghost use Rattle.rb_base.specs.Moments.{LeavesOnly};
-ghost use Rattle.rb_base.specs.Stores.{room_of, OpensToSome, Settles};
+ghost use Rattle.rb_base.specs.Stores.{OpensToSome, Settles};
 ghost use Rattle.rb_base.specs.declared.shape.Shape.{Shape};
 
 use crate::faults::Failed;
@@ -111,7 +111,6 @@ pub trait Store {
         requires going { failed self.old ≡ false }
         requires some { 0 < length group.now }
         requires within { AreWithin (shape_of self.old) group.now }
-        requires room { 1 ≤ room_of (slots self.old) (lsn self.old) }
         requires few { lsn self.old < 2 ^ 62 }
         ensures lsn { OnOk result (lsn self.new ≡ lsn self.old + 1) }
         ensures blocks { tells → OnOk result (blocks self.new
@@ -163,10 +162,6 @@ pub trait Store {
     /// The last log number given. Each `apply` that answers Ok adds 1, and no other call changes it.
     fn logged(&self) -> Lsn
         ensures { result ≡ lsn self.now };
-
-    /// How many more groups have room.
-    fn room(&self) -> u64
-        ensures { result ≡ room_of (slots self.now) (lsn self.now) };
 
     /// An image that a crash now may leave opens to what is stable.
     ghost stable_left: { (store : Self) (b : List (List ℕ)) (n : ℕ) (i : image) → keeps → stable store b n

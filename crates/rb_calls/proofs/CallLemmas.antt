@@ -3,9 +3,8 @@ use Rattle.std.proofs.Common.{◌≡◌, ◌∙◌, ◌⊎◌, ⊎_elim, refl, s
 use Rattle.std.proofs.lemmas.Bool.{cases_Bool, false≢true}
 use Rattle.std.specs.Bool.{MatchBool}
 use Rattle.rb_base.specs.Counts.{IsCountedAs}
-use Rattle.rb_base.specs.Stores.{room_of}
 use Rattle.rb_base.specs.declared.store.Store.{Ghosts}
-use Rattle.rb_calls.specs.Since.{IsSince, StandsAs, outside_of, slots_of}
+use Rattle.rb_calls.specs.Since.{IsSince, StandsAs, engine_outside}
 use Rattle.rb_engine.proofs.QueueLemmas.{survives_from, survives_queue}
 use Rattle.rb_engine.specs.Does.{Does, EngineView, Resumes, SameStore, Stands}
 use Rattle.rb_engine.specs.Lateness.{ResumeNeedsLost}
@@ -18,7 +17,7 @@ use Rattle.rb_model.specs.Calls.{Answer, Call, Done, End, Given, Marked, Numbere
 use Rattle.rb_model.specs.Calls.{Write, Commit, Rollback, SetMode, SetSavepoint, RollbackTo, OpenCursor, Fetch, CloseCursor, Cancel, Marks, Checkpoint}
 use Rattle.rb_model.specs.Change.{Asked}
 use Rattle.rb_model.specs.NextState.{After, unqueued}
-use Rattle.rb_model.specs.Out.{Logged, Outside, CallOut, Resumed, goes_on, room}
+use Rattle.rb_model.specs.Out.{Logged, Outside, CallOut, Resumed, goes_on}
 use Rattle.rb_model.specs.Queue.{first_ready, left_by}
 use Rattle.rb_model.specs.State.{State, asked_of}
 use Rattle.rb_model.specs.declared.answer.Answer as code
@@ -96,25 +95,19 @@ tried_old w outcome scn lost is = ap (λ (o : Result Wrote Refusal). let r : Opt
 -- one call, as the engine tells it
 
 module _ {S : Type 0} (s : Ghosts S) where
-  -- the room that the engine tells is that of its log
-  all_room : (e : EngineView S) (m : Logged) → StandsAs s e m → room_of (s.slots e.store) (s.lsn e.store) ≡ room (slots_of (s.slots e.store)) (s.lsn e.store)
-  all_room e m is = ap (λ (slots : Option ℕ). room_of slots (s.lsn e.store)) is.ended
-
   -- what a call makes of the store's blocks, it makes of the machine's
-  pub made_of : (m : Logged) (h : State) (c : Call) (r : Answer) (old new : EngineView S) → StandsAs s old m → Makes h c r (s.slots old.store) (s.lsn new.store) (s.blocks old.store) (s.blocks new.store)
-      → Makes h c r (Some (slots_of (s.slots old.store))) (s.lsn new.store) m.blocks (s.blocks new.store)
+  pub made_of : (m : Logged) (h : State) (c : Call) (r : Answer) (old new : EngineView S) → StandsAs s old m → Makes h c r (s.lsn new.store) (s.blocks old.store) (s.blocks new.store)
+      → Makes h c r (s.lsn new.store) m.blocks (s.blocks new.store)
   made_of m h c r old new is makes =
-      subst (λ (b : List (List ℕ)). Makes h c r (Some (slots_of (s.slots old.store))) (s.lsn new.store) b (s.blocks new.store)) (sym is.blocks)
-      (subst (λ (slots : Option ℕ). Makes h c r slots (s.lsn new.store) (s.blocks old.store) (s.blocks new.store)) is.ended makes)
+      subst (λ (b : List (List ℕ)). Makes h c r (s.lsn new.store) b (s.blocks new.store)) (sym is.blocks) makes
 
   -- from a state that the engine stood for, to the one that it stands for after the call
   pub did_call : (m : Logged) (c : Call) (r : Answer) (old new : EngineView S) (P : Logged → Type 0) → StandsAs s old m → m.state.stopped ≡ false → Does s m.state c r old new → SameStore s old.store new.store
       → ((scn lost : ℕ) → r ≡ Refused (TooOld scn lost) → CallNeedsLost s m.state old c scn lost)
-      → (is_fault r ≡ false → Makes m.state c r (s.slots old.store) (s.lsn new.store) (s.blocks old.store) (s.blocks new.store))
+      → (is_fault r ≡ false → Makes m.state c r (s.lsn new.store) (s.blocks old.store) (s.blocks new.store))
       → (is_fault r ≡ false → s.faults new.store ≡ s.faults old.store)
-      → ((now : Logged) → CallOut m (outside_of (s.slots old.store)) c r now → P now) → Did (StandsAs s) (IsSince s) old new m P
+      → ((now : Logged) → CallOut m engine_outside c r now → P now) → Did (StandsAs s) (IsSince s) old new m P
   did_call m c r old new P is going does same lost makes quiet so =
-      let slots = slots_of (s.slots old.store) in
       let no_fault : does.now.stopped ≡ false → is_fault r ≡ false = λ on. ⊎_elim
       (λ (e : is_fault r ≡ true). absurd (false≢true (sym on ∙ ap (λ (h : State). h.stopped) (after_stops m.state does.now c r e does.after))))
       (λ (e : is_fault r ≡ false). e)
@@ -122,11 +115,10 @@ module _ {S : Type 0} (s : Ghosts S) where
       let now : Logged = record { state = does.now; lsn = s.lsn new.store; fault = failed_in c r m.fault; blocks = s.blocks new.store } in
       record {
         now = now;
-        reached = record { engine = does.stands; lsn = refl; blocks = refl; ended = subst (λ (slots : Option ℕ). slots ≡ Some (slots_of slots)) (sym same.slots) is.ended };
+        reached = record { engine = does.stands; lsn = refl; blocks = refl };
         passed = record { same = same; crash = λ kept. does.survives m.fault going kept; still = λ on. quiet (no_fault on) };
         ran = so now (record {
-          reply = subst (λ (n : ℕ). Reply m.state n (room slots n) c r) (sym is.lsn)
-              (subst (λ (more : ℕ). Reply m.state (s.lsn old.store) more c r) (all_room old m is) does.reply);
+          reply = subst (λ (n : ℕ). Reply m.state n c r) (sym is.lsn) does.reply;
           worn = λ n gone old_one. subst (λ (b : List (List ℕ)). IsWorn m.state b c n gone) (sym is.blocks) (worn_by s m.state old c n gone (lost n gone old_one));
           state = does.after;
           fault = refl;
@@ -162,7 +154,7 @@ pub record TriedAgain (m : Logged) (outside : Outside) (w : ℕ) (r : Answer) (n
 
 module _ {S : Type 0} (s : Ghosts S) (m : Logged) (w : ℕ) (outcome : Result Wrote Refusal) (old new : EngineView S) (is : StandsAs s old m) (going : m.state.stopped ≡ false) (same : SameStore s old.store new.store)
     (lost : (scn gone : ℕ) → outcome ≡ Err (TooOld scn gone) → ResumeNeedsLost s m.state old w scn gone)
-    (makes : is_fault (write_answer outcome) ≡ false → ResumeMakes m.state (Some (w, outcome)) (s.slots old.store) (s.lsn new.store) (s.blocks old.store) (s.blocks new.store))
+    (makes : is_fault (write_answer outcome) ≡ false → ResumeMakes m.state (Some (w, outcome)) (s.lsn new.store) (s.blocks old.store) (s.blocks new.store))
     (quiet : is_fault (write_answer outcome) ≡ false → s.faults new.store ≡ s.faults old.store) where
   abbrev r : Answer
   r = write_answer outcome
@@ -173,11 +165,9 @@ module _ {S : Type 0} (s : Ghosts S) (m : Logged) (w : ℕ) (outcome : Result Wr
   abbrev Made : Asked → Type 0
   Made a = Does s (unqueued m.state w) (call a) r old new
 
-  -- the room that the engine tells is that of its log
-  told_reply : (a : Asked) → Made a → Reply (unqueued m.state w) m.lsn (room (slots_of (s.slots old.store)) m.lsn) (call a) r
-  told_reply a does =
-      subst (λ (n : ℕ). Reply (unqueued m.state w) n (room (slots_of (s.slots old.store)) n) (call a) r) (sym is.lsn)
-      (subst (λ (slots : Option ℕ). Reply (unqueued m.state w) (s.lsn old.store) (room_of slots (s.lsn old.store)) (call a) r) is.ended does.reply)
+  -- the engine's last log number is the machine's
+  told_reply : (a : Asked) → Made a → Reply (unqueued m.state w) m.lsn (call a) r
+  told_reply a does = subst (λ (n : ℕ). Reply (unqueued m.state w) n (call a) r) (sym is.lsn) does.reply
 
   -- the write with which the session waited
   asked_is : (a b : Asked) → asked_of m.state w ≡ Some a → asked_of m.state w ≡ Some b → b ≡ a
@@ -192,23 +182,20 @@ module _ {S : Type 0} (s : Ghosts S) (m : Logged) (w : ℕ) (outcome : Result Wr
       (worn_by s m.state old (call needs.0) scn gone needs.2))
 
   -- and what it makes of the machine's blocks
-  made : (a : Asked) → asked_of m.state w ≡ Some a → is_fault r ≡ false → Makes (unqueued m.state w) (call a) r (Some (slots_of (s.slots old.store))) (s.lsn new.store) m.blocks (s.blocks new.store)
+  made : (a : Asked) → asked_of m.state w ≡ Some a → is_fault r ≡ false → Makes (unqueued m.state w) (call a) r (s.lsn new.store) m.blocks (s.blocks new.store)
   made a known e =
       let all = makes e in
       made_of s m (unqueued m.state w) (call a) r old new is
-      (subst (λ (b : Asked). Makes (unqueued m.state w) (call b) r (s.slots old.store) (s.lsn new.store) (s.blocks old.store) (s.blocks new.store)) (asked_is a all.0 known all.1) all.2)
-
-  ends_as : s.slots new.store ≡ Some (slots_of (s.slots new.store))
-  ends_as = subst (λ (slots : Option ℕ). slots ≡ Some (slots_of slots)) (sym same.slots) is.ended
+      (subst (λ (b : Asked). Makes (unqueued m.state w) (call b) r (s.lsn new.store) (s.blocks old.store) (s.blocks new.store)) (asked_is a all.0 known all.1) all.2)
 
   -- no fault: the state after the write
   fine : (P : Logged → Type 0) (a : Asked) → asked_of m.state w ≡ Some a → first_ready m.state.queue ≡ Some w → Made a → is_fault r ≡ false
-      → ((now : Logged) → TriedAgain m (outside_of (s.slots old.store)) w r now → P now) → Did (StandsAs s) (IsSince s) old new m P
+      → ((now : Logged) → TriedAgain m engine_outside w r now → P now) → Did (StandsAs s) (IsSince s) old new m P
   fine P a known ready does e so =
       let now : Logged = record { state = does.now; lsn = s.lsn new.store; fault = failed_in (call a) r m.fault; blocks = s.blocks new.store } in
       record {
         now = now;
-        reached = record { engine = does.stands; lsn = refl; blocks = refl; ended = ends_as };
+        reached = record { engine = does.stands; lsn = refl; blocks = refl };
         passed = record {
           same = same;
           crash = λ kept. survives_from m.state (left_by w m.state.queue) m.state.asked s (s.slots old.store) now.fault does.now old.store new.store (does.survives m.fault going kept);
@@ -235,7 +222,7 @@ module _ {S : Type 0} (s : Ghosts S) (m : Logged) (w : ℕ) (outcome : Result Wr
 
   -- a fault: the session keeps its place
   failed : (P : Logged → Type 0) (a : Asked) → asked_of m.state w ≡ Some a → first_ready m.state.queue ≡ Some w → Made a → is_fault r ≡ true
-      → ((now : Logged) → TriedAgain m (outside_of (s.slots old.store)) w r now → P now) → Did (StandsAs s) (IsSince s) old new m P
+      → ((now : Logged) → TriedAgain m engine_outside w r now → P now) → Did (StandsAs s) (IsSince s) old new m P
   failed P a known ready does e so =
       let left : State = record (unqueued m.state w) { stopped = true } in
       let halted : State = record m.state { stopped = true } in
@@ -253,7 +240,6 @@ module _ {S : Type 0} (s : Ghosts S) (m : Logged) (w : ℕ) (outcome : Result Wr
           };
           lsn = refl;
           blocks = refl;
-          ended = ends_as;
         };
         passed = record {
           same = same;
@@ -282,7 +268,7 @@ module _ {S : Type 0} (s : Ghosts S) (m : Logged) (w : ℕ) (outcome : Result Wr
       }
 
   pub did_resume : (P : Logged → Type 0) → Resumes s m.state (Some (w, outcome)) old new
-      → ((now : Logged) → TriedAgain m (outside_of (s.slots old.store)) w r now → P now) → Did (StandsAs s) (IsSince s) old new m P
+      → ((now : Logged) → TriedAgain m engine_outside w r now → P now) → Did (StandsAs s) (IsSince s) old new m P
   did_resume P (on, ready, a, known, does) so = ⊎_elim
       (λ (e : is_fault r ≡ true). failed P a known ready does e so)
       (λ (e : is_fault r ≡ false). fine P a known ready does e so)

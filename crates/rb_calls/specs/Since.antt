@@ -1,5 +1,5 @@
 -- For which states the shell's engine stands, and what may have become of its store over lines of a script.
-use Rattle.std.proofs.Common.{◌≡◌, ◌∙◌, refl, subst, ℕ, false, Option, None, Some}
+use Rattle.std.proofs.Common.{◌≡◌, ◌∙◌, refl, subst, ℕ, false, Option}
 use Rattle.rb_base.specs.Logs.{Laws}
 use Rattle.rb_base.specs.Moments.{begun}
 use Rattle.rb_base.specs.declared.store.Store.{Ghosts}
@@ -16,27 +16,19 @@ use Rattle.rb_model.specs.Out.{Logged, Outside, outside_by}
 use Rattle.rb_model.specs.Rows.{last_scn}
 use Rattle.rb_model.specs.State.{State}
 
--- the slots of a log, where there is an end of it
-abbrev pub slots_of : Option ℕ → ℕ
-slots_of None = 0
-slots_of (Some slots) = slots
+-- What a call with that answer makes of the machine's blocks. They stand for its state then.
+abbrev pub MakesOf : Logged → Call → Answer → Logged → Type 0
+MakesOf m call answer m2 = Makes m.state call answer m2.lsn m.blocks m2.blocks × StandFor m2.state m2.blocks
 
--- What a call with that answer makes of the machine's blocks, over a log of so many slots. They stand for its state
--- then.
-abbrev pub MakesOf : (slots : ℕ) → Logged → Call → Answer → Logged → Type 0
-MakesOf slots m call answer m2 =
-    Makes m.state call answer (Some slots) m2.lsn m.blocks m2.blocks × StandFor m2.state m2.blocks
+-- what answers hang on besides the state
+abbrev pub engine_outside : Outside
+engine_outside = outside_by IsWorn MakesOf
 
--- what answers hang on besides the state, over a log of so many slots
-abbrev pub outside_of : Option ℕ → Outside
-outside_of slots = outside_by IsWorn MakesOf (slots_of slots)
-
--- An engine stands for a state, and the last log number and the blocks are those of its store, whose log has an end.
+-- An engine stands for a state, and the last log number and the blocks are those of its store.
 pub record StandsAs {S : Type 0} (s : Ghosts S) (e : EngineView S) (m : Logged) : Type 0 where
   pub engine : Stands s m.state e
   pub lsn : m.lsn ≡ s.lsn e.store
   pub blocks : m.blocks ≡ s.blocks e.store
-  pub ended : s.slots e.store ≡ Some (slots_of (s.slots e.store))
 
 -- The store has as many slots, and the same shape, and a crash may leave no more than `Survives` says. Unless it is
 -- stopped now, it has not failed.
@@ -51,7 +43,7 @@ module _ {S : Type 0} {s : Ghosts S} where
       → (i : s.image) → s.left e.store i → Restarts s.opens (s.slots e.store) h i
   image_has laws e h stands going kept i here =
       restarts s laws kept h h.books (last_scn h.commits) e.store i stands.shape
-      (left_with s laws kept (HasState h h.books (last_scn h.commits) (s.slots e.store)) e.store
+      (left_with s laws kept (HasState h h.books (last_scn h.commits)) e.store
       ((stands.goes going).holds.images kept) i here)
 
   pub since_same : (e : EngineView S) (m : Logged) → (s.keeps → Laws s) → StandsAs s e m

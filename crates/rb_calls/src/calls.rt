@@ -43,8 +43,7 @@ fn answer_of_segment<T: Store>(engine: &mut Engine<T>, k: u32) -> Answer
         (machine.Marks k) (answer_of result row) engine.old engine.new }
     ensures makes { (h : State) (row : Row) → Stands T.Store h engine.old
         → is_fault (answer_of result row) ≡ false → Makes h (machine.Marks k) (answer_of result row)
-        (T.slots engine.old.store) (T.lsn engine.new.store)
-        (T.blocks engine.old.store) (T.blocks engine.new.store) }
+        (T.lsn engine.new.store) (T.blocks engine.old.store) (T.blocks engine.new.store) }
     ensures fits { FitsCaller None result }
     ensures same { SameStore T.Store engine.old.store engine.new.store }
     ensures disk { (row : Row) → IsCountedAs (T.faults engine.old.store) (T.faults engine.new.store)
@@ -66,7 +65,7 @@ pub fn answer<T: Store>(
     ensures did { (h : State) → Stands T.Store h engine.old → Does T.Store h
         (call_of (command_of command.now) k) (answer_of result row.new) engine.old engine.new }
     ensures makes { (h : State) → Stands T.Store h engine.old → is_fault (answer_of result row.new) ≡ false
-        → Makes h (call_of (command_of command.now) k) (answer_of result row.new) (T.slots engine.old.store)
+        → Makes h (call_of (command_of command.now) k) (answer_of result row.new)
         (T.lsn engine.new.store) (T.blocks engine.old.store) (T.blocks engine.new.store) }
     ensures lost { (h : State) → Stands T.Store h engine.old → (scn lost : ℕ)
         → answer_of result row.new ≡ machine.Refused (TooOld scn lost)

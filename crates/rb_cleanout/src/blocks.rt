@@ -7,7 +7,6 @@ ghost use Rattle.rb_base.specs.Blocks.{block_of, table_blocks, AreBlocks};
 ghost use Rattle.rb_base.specs.Copies.{SamePatches};
 ghost use Rattle.rb_base.specs.Groups.{Patch, group_length};
 ghost use Rattle.rb_base.specs.Logs.{Logs, group_of};
-ghost use Rattle.rb_base.specs.Stores.{room_of};
 ghost use Rattle.rb_base.specs.declared.ids.Xid.{Xid};
 ghost use Rattle.rb_cleanout.specs.Cleaned.{HasOpen, IsPlan, PlansClean, look_of};
 ghost use Rattle.rb_heap.specs.Cleaning.{cleaned_home, IsCleanPatch};
@@ -105,7 +104,6 @@ pub fn plan_clean<S: Store>(store: &mut S, no: BlockNo) -> Result<Option<Group>,
 pub fn clean<S: Store>(store: &mut S, no: BlockNo, group: &mut Group) -> Result<(), Failed>
     requires going { S.failed store.old ≡ false }
     requires there { no < table_blocks (S.shape_of store.old) }
-    requires room { 1 ≤ room_of (S.slots store.old) (S.lsn store.old) }
     requires few { S.lsn store.old < 2 ^ 62 }
     ensures logs { (patches : List Patch) × AllByRecursion (IsCleanPatch no) patches
         × Logs S.Store store.old store.new (group_of patches) (not (is_err result)) }

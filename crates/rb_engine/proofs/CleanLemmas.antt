@@ -7,15 +7,15 @@ use Rattle.std.proofs.lemmas.Bool.{cases_eq, cases_lt}
 use Rattle.std.proofs.lemmas.List.{get_or-map, get_or_past, length-map}
 use Rattle.rb_base.specs.Blocks.{block_of, table_blocks}
 use Rattle.rb_base.specs.Logs.{Laws, Logs}
-use Rattle.rb_base.specs.Stores.{room_of}
 use Rattle.rb_base.specs.declared.faults.Failed.{Failed}
 use Rattle.rb_base.specs.declared.ids.Xid.{Xid}
 use Rattle.rb_base.specs.declared.shape.Shape.{Shape}
+use Rattle.rb_base.specs.declared.sizes.TheConstants.{WORN}
 use Rattle.rb_base.specs.declared.store.Store.{Ghosts}
 use Rattle.rb_cr.specs.Faults.{Because}
 use Rattle.rb_cr.specs.declared.faults.CrFault.{CrFault}
 use Rattle.rb_cr.specs.declared.faults.CrFault.TheVariants as faults
-use Rattle.rb_engine.specs.Cleaning.{Cleans, HasCleaned, HasSpare, IsBefore, IsClean, IsHere, IsOnTheWay, OnlyCleaned, ReadIn, Serves}
+use Rattle.rb_engine.specs.Cleaning.{Cleans, HasCleaned, IsBefore, IsClean, IsHere, IsOnTheWay, OnlyCleaned, ReadIn, Serves}
 use Rattle.rb_engine.specs.Finishing.{Fails}
 use Rattle.rb_engine.specs.Scanning.{HasKey, HasNext, HasNone, IsBehind, IsReader}
 use Rattle.rb_engine.proofs.DoesLemmas.{fault_survives, holds_logged, survives_same}
@@ -159,19 +159,7 @@ same_or_clean (inr b) = inr b.1
 one_home : (table blocks f g : ℕ) → (table - 1) * blocks + f ≡ (table - 1) * blocks + g → f ≡ g
 one_home table blocks f g same = omega (arith, same)
 
-room_back : (slots : Option ℕ) (low high n : ℕ) → low ≤ high → n < room_of slots high → n < room_of slots low
-room_back None low high n le less = omega (arith, le, less)
-room_back (Some k) low high n le less = omega (arith, le, less)
-
 module _ {S : Type 0} (s : Ghosts S) where
-  -- room that is left is room that there was
-  spare_back : (shape : Shape) (old new : S) → owed_in shape (s.blocks new) ≡ owed_in shape (s.blocks old) → s.slots new ≡ s.slots old → s.lsn old ≤ s.lsn new → HasSpare s shape new → HasSpare s shape old
-  spare_back shape old new owed slots le spare = record {
-    young = let y = spare.young in omega (arith, y, le);
-    room = room_back (s.slots old) (s.lsn old) (s.lsn new) (owed_in shape (s.blocks old)) le
-        (subst (λ (k : Option ℕ). owed_in shape (s.blocks old) < room_of k (s.lsn new)) slots (subst (λ (n : ℕ). n < room_of (s.slots new) (s.lsn new)) owed spare.room));
-  }
-
   module _ (told : s.tells) (laws : Laws s) (h : State) (xids : List Xid) (m : Cursor) where
     -- The cursor goes on over what is left.
     pub serves_on : {May Must : ℕ → Type 0} {most : ℕ} (old new : S) → s.shape_of new ≡ s.shape_of old → Serves s h xids m old → HasCleaned s h xids May Must most old new → Serves s h xids m new
@@ -184,7 +172,7 @@ module _ {S : Type 0} (s : Ghosts S) where
     }
 
     -- Nothing was cleaned.
-    pub none_cleaned : (May Must : ℕ → Type 0) (most : ℕ) (old new : S) → Serves s h xids m old → Logs s old new [] true → ((b : ℕ) → Must b → HasSpare s h.shape new → IsClean h.shape (s.blocks old) (s.blocks new) b) → HasCleaned s h xids May Must most old new
+    pub none_cleaned : (May Must : ℕ → Type 0) (most : ℕ) (old new : S) → Serves s h xids m old → Logs s old new [] true → ((b : ℕ) → Must b → s.lsn new < WORN → IsClean h.shape (s.blocks old) (s.blocks new) b) → HasCleaned s h xids May Must most old new
     none_cleaned May Must most old new serves logs all =
         let same : s.blocks new ≡ s.blocks old = logs.blocks told refl in record {
           holds = holds_logged s told laws h xids old new serves.holds logs;
@@ -201,10 +189,10 @@ module _ {S : Type 0} (s : Ghosts S) where
       Here = home_in h.shape m.table g
 
       abbrev Made : S → List (List ℕ) → Type 0
-      Made old now = CleanMade h xids Here (room_of (s.slots old) (s.lsn old)) (s.blocks old) now
+      Made old now = CleanMade h xids Here (s.blocks old) now
 
-      -- A home on the way was cleaned, or there was nothing to clean, or no room.
-      pub home_cleaned : (old mid : S) → Serves s h xids m old → (HasSpare s h.shape old → IsClean h.shape (s.blocks old) (s.blocks mid) Here) → GivesAny s old mid true (Made old) → HasCleaned s h xids (IsHere h.shape m g) (IsHere h.shape m g) 1 old mid
+      -- A home on the way was cleaned, or there was nothing to clean, or the log is worn out.
+      pub home_cleaned : (old mid : S) → Serves s h xids m old → (s.lsn old < WORN → IsClean h.shape (s.blocks old) (s.blocks mid) Here) → GivesAny s old mid true (Made old) → HasCleaned s h xids (IsHere h.shape m g) (IsHere h.shape m g) 1 old mid
       home_cleaned old mid serves clean (inl one) =
           let all : (before : Option Call) → Holds s h xids mid × (s.keeps → Survives s (s.slots old) before h h old mid) = λ before. holds_cleaned s told laws h xids old mid Here serves.shape serves.holds before one in
           let made : Made old (s.blocks mid) × (s.lsn mid ≡ s.lsn old + 1) =
@@ -218,7 +206,7 @@ module _ {S : Type 0} (s : Ghosts S) where
                 | inr ne ↦ inl (made.0.others b ne)
               ];
             };
-            all = λ b is spare. subst (IsClean h.shape (s.blocks old) (s.blocks mid)) (sym is.1) made.0.home;
+            all = λ b is young. subst (IsClean h.shape (s.blocks old) (s.blocks mid)) (sym is.1) made.0.home;
             count = 1;
             few = omega arith;
             lsn = made.1;
@@ -226,8 +214,8 @@ module _ {S : Type 0} (s : Ghosts S) where
           }
       home_cleaned old mid serves clean (inr logs) =
           none_cleaned (IsHere h.shape m g) (IsHere h.shape m g) 1 old mid serves logs
-          (λ b is spare. subst (IsClean h.shape (s.blocks old) (s.blocks mid)) (sym is.1)
-          (clean (spare_back h.shape old mid (ap (owed_in h.shape) (logs.blocks told refl)) logs.same_slots (let n = logs.number refl in omega (arith, n)) spare)))
+          (λ b is young. subst (IsClean h.shape (s.blocks old) (s.blocks mid)) (sym is.1)
+          (clean (let n = logs.number refl in omega (arith, n, young))))
 
       -- It couldn't be cleaned.
       pub home_fails : (old mid : S) → Serves s h xids m old → GivesAny s old mid false (Made old) → (fault : Option Call) → Fails s fault h old mid
@@ -236,28 +224,27 @@ module _ {S : Type 0} (s : Ghosts S) where
 
       -- What a step's result says.
       pub step_cleaned : (old mid : S) (block : ℕ) (r : Result (Unit {0}) Failed) → block ≡ Here → is_err r ≡ false → Serves s h xids m old
-          → GivesAny s old mid (not (is_err r)) (λ now. CleanMade h xids block (room_of (s.slots old) (s.lsn old)) (s.blocks old) now)
-          → (HasSpare s h.shape old → OnOk r (IsClean h.shape (s.blocks old) (s.blocks mid) block)) → HasCleaned s h xids (IsHere h.shape m g) (IsHere h.shape m g) 1 old mid
+          → GivesAny s old mid (not (is_err r)) (λ now. CleanMade h xids block (s.blocks old) now)
+          → (s.lsn old < WORN → OnOk r (IsClean h.shape (s.blocks old) (s.blocks mid) block)) → HasCleaned s h xids (IsHere h.shape m g) (IsHere h.shape m g) 1 old mid
       step_cleaned old mid block (Ok done) at fine serves gives clean =
-          home_cleaned old mid serves (λ spare. subst (IsClean h.shape (s.blocks old) (s.blocks mid)) at (clean spare))
-          (subst (λ (b : ℕ). GivesAny s old mid true (λ now. CleanMade h xids b (room_of (s.slots old) (s.lsn old)) (s.blocks old) now)) at gives)
+          home_cleaned old mid serves (λ young. subst (IsClean h.shape (s.blocks old) (s.blocks mid)) at (clean young))
+          (subst (λ (b : ℕ). GivesAny s old mid true (λ now. CleanMade h xids b (s.blocks old) now)) at gives)
       step_cleaned old mid block (Err fault) at fine serves gives clean = (let clash : true ≡ false = fine in absurd cc)
 
       pub step_fails : (old mid : S) (block : ℕ) (r : Result (Unit {0}) Failed) → block ≡ Here → is_err r ≡ true → Serves s h xids m old
-          → GivesAny s old mid (not (is_err r)) (λ now. CleanMade h xids block (room_of (s.slots old) (s.lsn old)) (s.blocks old) now) → (fault : Option Call) → Fails s fault h old mid
+          → GivesAny s old mid (not (is_err r)) (λ now. CleanMade h xids block (s.blocks old) now) → (fault : Option Call) → Fails s fault h old mid
       step_fails old mid block (Ok done) at fails serves gives = (let clash : false ≡ true = fails in absurd cc)
-      step_fails old mid block (Err error) at fails serves gives = home_fails old mid serves (subst (λ (b : ℕ). GivesAny s old mid false (λ now. CleanMade h xids b (room_of (s.slots old) (s.lsn old)) (s.blocks old) now)) at gives)
+      step_fails old mid block (Err error) at fails serves gives = home_fails old mid serves (subst (λ (b : ℕ). GivesAny s old mid false (λ now. CleanMade h xids b (s.blocks old) now)) at gives)
 
     -- Homes before were cleaned, and then this one.
-    pub more_cleaned : (g a : ℕ) (old mid new : S) → s.slots mid ≡ s.slots old → s.slots new ≡ s.slots mid → Serves s h xids m old → HasCleaned s h xids (IsBefore h.shape m g) (IsBefore h.shape m g) a old mid → HasCleaned s h xids (IsHere h.shape m g) (IsHere h.shape m g) 1 mid new
+    pub more_cleaned : (g a : ℕ) (old mid new : S) → s.slots mid ≡ s.slots old → Serves s h xids m old → HasCleaned s h xids (IsBefore h.shape m g) (IsBefore h.shape m g) a old mid → HasCleaned s h xids (IsHere h.shape m g) (IsHere h.shape m g) 1 mid new
         → HasCleaned s h xids (IsBefore h.shape m (g + 1)) (IsBefore h.shape m (g + 1)) (a + 1) old new
-    more_cleaned g a old mid new slots_mid slots_new serves one two =
+    more_cleaned g a old mid new slots_mid serves one two =
         let env : env_of h.shape (s.blocks mid) ≡ env_of h.shape (s.blocks old) = env_same h.shape (s.blocks old) (s.blocks mid) one.only.segments in
-        let owed : owed_in h.shape (s.blocks new) ≡ owed_in h.shape (s.blocks mid) = owed_same h.shape (s.blocks mid) (s.blocks new) two.only.segments in
         record {
           holds = two.holds;
           only = record { segments = two.only.segments ∙ one.only.segments; each = λ b. both env b (one.only.each b) (two.only.each b) };
-          all = λ b is spare. whole env b is (spare_back h.shape mid new owed slots_new (let n = two.lsn in omega (arith, n)) spare) (two.all b) spare (one.only.each b) (two.only.each b);
+          all = λ b is young. whole env b is (let n = two.lsn in omega (arith, n, young)) (two.all b) young (one.only.each b) (two.only.each b);
           count = one.count + two.count;
           few = let x = one.few in let y = two.few in omega (arith, x, y);
           lsn = let x = one.lsn in let y = two.lsn in omega (arith, x, y);
@@ -283,7 +270,7 @@ module _ {S : Type 0} (s : Ghosts S) where
         both env b (inl x) (inr y) = inr ((g, omega arith, y.0), as_before env b x y.1)
         both env b (inr x) (inr y) = absurd (apart b x.0 y.0)
 
-        whole : env_of h.shape (s.blocks mid) ≡ env_of h.shape (s.blocks old) → (b : ℕ) → IsBefore h.shape m (g + 1) b → HasSpare s h.shape mid → (IsHere h.shape m g b → HasSpare s h.shape new → IsClean h.shape (s.blocks mid) (s.blocks new) b) → HasSpare s h.shape new
+        whole : env_of h.shape (s.blocks mid) ≡ env_of h.shape (s.blocks old) → (b : ℕ) → IsBefore h.shape m (g + 1) b → s.lsn mid < WORN → (IsHere h.shape m g b → s.lsn new < WORN → IsClean h.shape (s.blocks mid) (s.blocks new) b) → s.lsn new < WORN
             → (block_of (s.blocks mid) b ≡ block_of (s.blocks old) b) ⊎ (IsBefore h.shape m g b × IsClean h.shape (s.blocks old) (s.blocks mid) b)
             → (block_of (s.blocks new) b ≡ block_of (s.blocks mid) b) ⊎ (IsHere h.shape m g b × IsClean h.shape (s.blocks mid) (s.blocks new) b)
             → IsClean h.shape (s.blocks old) (s.blocks new) b
@@ -308,8 +295,8 @@ module _ {S : Type 0} (s : Ghosts S) where
         let same : s.blocks new ≡ s.blocks mid = logs.blocks told refl in record {
           holds = holds_logged s told laws h xids mid new clean.holds logs;
           only = subst (λ (l : List (List ℕ)). OnlyCleaned h.shape May (s.blocks old) l) (sym same) clean.only;
-          all = λ b is spare. subst (λ (l : List (List ℕ)). IsClean h.shape (s.blocks old) l b) (sym same)
-              (clean.all b is (spare_back h.shape mid new (ap (owed_in h.shape) same) logs.same_slots (let n = logs.number refl in omega (arith, n)) spare));
+          all = λ b is young. subst (λ (l : List (List ℕ)). IsClean h.shape (s.blocks old) l b) (sym same)
+              (clean.all b is (let n = logs.number refl in omega (arith, n, young)));
           count = clean.count;
           few = clean.few;
           lsn = let n = logs.number refl in let k = clean.lsn in omega (arith, n, k);
@@ -332,7 +319,7 @@ module _ {S : Type 0} (s : Ghosts S) where
     cleaned_as May More Must Less few most old new more less le clean = record {
       holds = clean.holds;
       only = record { segments = clean.only.segments; each = λ b. by b (clean.only.each b) };
-      all = λ b is spare. clean.all b (less b is) spare;
+      all = λ b is young. clean.all b (less b is) young;
       count = clean.count;
       few = let k = clean.few in omega (arith, k, le);
       lsn = clean.lsn;
@@ -344,7 +331,7 @@ module _ {S : Type 0} (s : Ghosts S) where
         by b (inr is) = inr (more b is.0, is.1)
 
     -- A search has come to home g, and cleaned the homes before.
-    module _ (g : ℕ) (old mid new : S) (shape : s.shape_of mid ≡ s.shape_of old) (slots : s.slots mid ≡ s.slots old) (slots_new : s.slots new ≡ s.slots mid) (serves : Serves s h xids m old) (before : HasCleaned s h xids (IsBefore h.shape m g) (IsBefore h.shape m g) g old mid) where
+    module _ (g : ℕ) (old mid new : S) (shape : s.shape_of mid ≡ s.shape_of old) (slots : s.slots mid ≡ s.slots old) (serves : Serves s h xids m old) (before : HasCleaned s h xids (IsBefore h.shape m g) (IsBefore h.shape m g) g old mid) where
       abbrev pub env_mid : env_of h.shape (s.blocks mid) ≡ env_of h.shape (s.blocks old)
       env_mid = env_same h.shape (s.blocks old) (s.blocks mid) before.only.segments
 
@@ -352,7 +339,7 @@ module _ {S : Type 0} (s : Ghosts S) where
       serves_mid = serves_on old mid shape serves before
 
       pub turned : (Serves s h xids m mid → HasCleaned s h xids (IsHere h.shape m g) (IsHere h.shape m g) 1 mid new) → HasCleaned s h xids (IsBefore h.shape m (g + 1)) (IsBefore h.shape m (g + 1)) (g + 1) old new
-      turned here = more_cleaned g g old mid new slots slots_new serves before (here serves_mid)
+      turned here = more_cleaned g g old mid new slots serves before (here serves_mid)
 
       pub turn_fails : (Serves s h xids m mid → (fault : Option Call) → Fails s fault h mid new) → (fault : Option Call) → Fails s fault h old new
       turn_fails fails = cleaned_fails old mid new serves slots before (fails serves_mid)

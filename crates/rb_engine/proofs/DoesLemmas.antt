@@ -6,7 +6,6 @@ use Rattle.rb_base.specs.Blocks.{block_of, header_block}
 use Rattle.rb_base.specs.Counts.{err_is}
 use Rattle.rb_base.specs.Keeps.{Keeps}
 use Rattle.rb_base.specs.Logs.{Laws, Logs, LogsBy, no_logs}
-use Rattle.rb_base.specs.Stores.{room_of}
 use Rattle.rb_base.specs.declared.ids.Xid.{Xid}
 use Rattle.rb_base.specs.declared.store.Store.{Ghosts}
 use Rattle.rb_engine.specs.Checks.{Refuses}
@@ -70,7 +69,7 @@ with_session h who session = record h { sessions = set h.sessions (who - 1) sess
 module _ {S : Type 0} (s : Ghosts S) where
   -- from the state after the call, and what the store and the table have of it unless it is stopped
   pub does_by : (h now : State) (call : Call) (answer : Answer) (old new : EngineView S) (n : ℕ) → Stands s h old
-      → Reply h (s.lsn old.store) (room_of (s.slots old.store) (s.lsn old.store)) call answer → After h call answer now → (h.stopped ≡ false → Retained h call answer now)
+      → Reply h (s.lsn old.store) call answer → After h call answer now → (h.stopped ≡ false → Retained h call answer now)
       → Knows now new.memory → SameStore s old.store new.store
       → (now.stopped ≡ false → Grows h call answer n × (s.lsn new.store ≡ s.lsn old.store + n) × Goes s now new)
       → ((before : Option Call) → h.stopped ≡ false → s.keeps → Survives s (s.slots old.store) (failed_in call answer before) h now old.store new.store)
@@ -98,12 +97,12 @@ module _ {S : Type 0} (s : Ghosts S) where
     pub survives_same : {Between : S → S → Type 0} {fault : Option Call} → (h h2 : State) (xids : List Xid) (old new : S) (going : Bool) → s.shape_of old ≡ h.shape → h2.shape ≡ h.shape → h2.commits ≡ h.commits → h2.books ≡ h.books → Holds s h xids old → LogsBy s Between old new [] going
         → s.keeps → Survives s (s.slots old) fault h h2 old new
     survives_same h h2 xids old new going shape shapes commits books holds logs keeps =
-        let P : List (List ℕ) → ℕ → Type 0 = HasState h h.books (last_scn h.commits) (s.slots old) in
-        let Q : List (List ℕ) → ℕ → Type 0 = HasState h2 h2.books (last_scn h2.commits) (s.slots old) in
+        let P : List (List ℕ) → ℕ → Type 0 = HasState h h.books (last_scn h.commits) in
+        let Q : List (List ℕ) → ℕ → Type 0 = HasState h2 h2.books (last_scn h2.commits) in
         let grow = subst (λ l. MarksGrow h.shape h.books l) (sym books) (grow_same h.shape h.books) in
         let so : (b : List (List ℕ)) (n : ℕ) → P b n → Q b n = λ b n has.
-        subst (λ (m : ℕ). HasState h2 h2.books m (s.slots old) b n) (ap last_scn (sym commits))
-        (has_later h h2 h.books h2.books (last_scn h.commits) (s.slots old) b n shapes (ap (λ c. rows_at h.shape.blocks c (last_scn h.commits)) commits) grow has) in
+        subst (λ (m : ℕ). HasState h2 h2.books m b n) (ap last_scn (sym commits))
+        (has_later h h2 h.books h2.books (last_scn h.commits) b n shapes (ap (λ c. rows_at h.shape.blocks c (last_scn h.commits)) commits) grow has) in
         survives_going s laws keeps h h2 old new [] shape shapes commits grow (holds.images keeps) going logs
         (none_each s laws keeps Q (s.blocks old) (s.lsn old) (so (s.blocks old) (s.lsn old) (read_has s laws keeps P old (holds.images keeps))))
 
@@ -111,30 +110,25 @@ module _ {S : Type 0} (s : Ghosts S) where
     pub holds_session : (h : State) (who : ℕ) (xids : List Xid) (store : S) (session : Session) → (1 ≤ who) × (who ≤ length h.sessions) → session.own ≡ session_own h who → Holds s h xids store → Holds s (with_session h who session) xids store
     holds_session h who xids store session there own holds =
         let h2 = with_session h who session in
-        let P : List (List ℕ) → ℕ → Type 0 = HasState h h.books (last_scn h.commits) (s.slots store) in
-        let Q : List (List ℕ) → ℕ → Type 0 = HasState h2 h2.books (last_scn h2.commits) (s.slots store) in
-        let so : (b : List (List ℕ)) (n : ℕ) → P b n → Q b n = λ b n has. has_later h h2 h.books h2.books (last_scn h.commits) (s.slots store) b n refl refl (grow_same h.shape h.books) has in
+        let P : List (List ℕ) → ℕ → Type 0 = HasState h h.books (last_scn h.commits) in
+        let Q : List (List ℕ) → ℕ → Type 0 = HasState h2 h2.books (last_scn h2.commits) in
+        let so : (b : List (List ℕ)) (n : ℕ) → P b n → Q b n = λ b n has. has_later h h2 h.books h2.books (last_scn h.commits) b n refl refl (grow_same h.shape h.books) has in
         record {
           blocks = cursors_free h who session there own xids (s.blocks store) holds.blocks;
           logged = holds.logged;
-          fits = holds.fits;
           images = λ keeps. let k = holds.images keeps in record { base = k.base; first = k.first; stable = k.stable; each = λ count few. so _ _ (k.each count few) };
         }
 
     -- Calls that gave no group and went well leave what the store has.
     pub holds_logged : {Between : S → S → Type 0} (h : State) (xids : List Xid) (old new : S) → Holds s h xids old → LogsBy s Between old new [] true → Holds s h xids new
     holds_logged h xids old new holds logs =
-        let P : List (List ℕ) → ℕ → Type 0 = HasState h h.books (last_scn h.commits) (s.slots old) in
+        let P : List (List ℕ) → ℕ → Type 0 = HasState h h.books (last_scn h.commits) in
         let same : s.blocks new ≡ s.blocks old = logs.blocks told refl in
         let number : s.lsn new ≡ s.lsn old = omega (arith, logs.number refl) in record {
           blocks = subst (BlocksStand h xids) (sym same) holds.blocks;
           logged = number ∙ holds.logged ∙ ap (logged_of h.shape) (sym same);
-          fits = subst (λ b. owed_in h.shape b ≤ room_of (s.slots new) (s.lsn new)) (sym same)
-              (subst (λ (k : Option ℕ). owed_in h.shape (s.blocks old) ≤ room_of k (s.lsn new)) (sym logs.same_slots)
-              (subst (λ (n : ℕ). owed_in h.shape (s.blocks old) ≤ room_of (s.slots old) n) (sym number) holds.fits));
-          images = λ keeps. subst (λ (k : Option ℕ). Keeps s (HasState h h.books (last_scn h.commits) k) new) (sym logs.same_slots)
-              (keeps_on s laws keeps P P (λ b n has. has) old new [] (holds.images keeps) logs
-              (none_each s laws keeps P (s.blocks old) (s.lsn old) (read_has s laws keeps P old (holds.images keeps))));
+          images = λ keeps. keeps_on s laws keeps P P (λ b n has. has) old new [] (holds.images keeps) logs
+              (none_each s laws keeps P (s.blocks old) (s.lsn old) (read_has s laws keeps P old (holds.images keeps)));
         }
 
     -- A table remembers the state over calls that gave no group and went well.
@@ -150,7 +144,7 @@ module _ {S : Type 0} (s : Ghosts S) where
 
     -- A call that does nothing but load or make groups last, with an answer that leaves the state.
     pub does_loaded : {Between : S → S → Type 0} (h : State) (call : Call) (answer : Answer) (old new : EngineView S) → Stands s h old
-        → Reply h (s.lsn old.store) (room_of (s.slots old.store) (s.lsn old.store)) call answer → After h call answer h → Grows h call answer 0 → Retained h call answer h
+        → Reply h (s.lsn old.store) call answer → After h call answer h → Grows h call answer 0 → Retained h call answer h
         → new.memory ≡ old.memory → (h.stopped ≡ false → LogsBy s Between old.store new.store [] true) → SameStore s old.store new.store → Does s h call answer old new
     does_loaded h call answer old new st reply after grows retains memory logs same =
         does_by h h call answer old new 0 st reply after (λ _. retains) (subst (Knows h) (sym memory) st.knows) same
@@ -173,7 +167,7 @@ module _ {S : Type 0} (s : Ghosts S) where
     -- A call that changed what one session has beside its changes, and perhaps loaded blocks.
     pub does_session : (h : State) (call : Call) (answer : Answer) (who : ℕ) (session : Session) (old new : EngineView S) → Stands s h old → h.stopped ≡ false
         → (1 ≤ who) × (who ≤ length h.sessions) → session.own ≡ session_own h who
-        → Reply h (s.lsn old.store) (room_of (s.slots old.store) (s.lsn old.store)) call answer → After h call answer (with_session h who session) → Grows h call answer 0
+        → Reply h (s.lsn old.store) call answer → After h call answer (with_session h who session) → Grows h call answer 0
         → Retained h call answer (with_session h who session) → is_fault answer ≡ false
         → new.memory.stopped ≡ old.memory.stopped → new.memory.scn ≡ old.memory.scn → new.memory.waits ≡ old.memory.waits → map (λ k. k.asked) new.memory.sessions ≡ map (λ k. k.asked) old.memory.sessions
         → ((xids : List Xid) → BlocksStand h xids (s.blocks old.store) → Remembers h xids (env_of h.shape (s.blocks old.store)) old.memory.sessions → Remembers (with_session h who session) xids (env_of h.shape (s.blocks old.store)) new.memory.sessions)
@@ -197,7 +191,7 @@ module _ {S : Type 0} (s : Ghosts S) where
     -- One that changed its cursors alone.
     pub does_cursors : (h : State) (call : Call) (answer : Answer) (who : ℕ) (cursors : List Cursor) (old new : EngineView S) → Stands s h old → h.stopped ≡ false
         → (1 ≤ who) × (who ≤ length h.sessions)
-        → Reply h (s.lsn old.store) (room_of (s.slots old.store) (s.lsn old.store)) call answer → After h call answer (with_cursors h who cursors) → Grows h call answer 0
+        → Reply h (s.lsn old.store) call answer → After h call answer (with_cursors h who cursors) → Grows h call answer 0
         → Retained h call answer (with_cursors h who cursors) → is_fault answer ≡ false
         → new.memory.stopped ≡ old.memory.stopped → new.memory.scn ≡ old.memory.scn → new.memory.waits ≡ old.memory.waits → map (λ k. k.asked) new.memory.sessions ≡ map (λ k. k.asked) old.memory.sessions
         → ((xids : List Xid) → BlocksStand h xids (s.blocks old.store) → Remembers h xids (env_of h.shape (s.blocks old.store)) old.memory.sessions → Remembers (with_cursors h who cursors) xids (env_of h.shape (s.blocks old.store)) new.memory.sessions)
@@ -241,7 +235,7 @@ does_refused s laws h call why old st runs refuses other =
 
 -- A later test refuses it.
 pub does_refused_late : {S : Type 0} (s : Ghosts S) (laws : Laws s) (h : State) (call : Call) (why : Refusal) (old : EngineView S) → Stands s h old
-    → (old.memory.stopped ≡ false → s.failed old.store ≡ false) → Reply h (s.lsn old.store) (room_of (s.slots old.store) (s.lsn old.store)) call (Refused why) → why ≢ DiskFault → Does s h call (Refused why) old old
+    → (old.memory.stopped ≡ false → s.failed old.store ≡ false) → Reply h (s.lsn old.store) call (Refused why) → why ≢ DiskFault → Does s h call (Refused why) old old
 does_refused_late s laws h call why old st runs reply other =
     does_loaded s st.told laws h call (Refused why) old old st reply (rw (other_refusal why other) refl) (refused_none h call why) (λ s t k a is done. cc) refl
     (λ going. no_logs s old.store (runs (st.knows.stopped ∙ going))) (record { shape = refl; slots = refl })

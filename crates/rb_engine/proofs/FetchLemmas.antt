@@ -4,7 +4,6 @@ use Rattle.std.proofs.lemmas.Bool.{cases_Bool, cond_both}
 use Rattle.std.proofs.lemmas.Bool.Decides.{nat_tests}
 use Rattle.std.proofs.lemmas.Result.{IfErr-weaker}
 use Rattle.rb_base.specs.Logs.{Laws, no_logs}
-use Rattle.rb_base.specs.Stores.{room_of}
 use Rattle.rb_base.specs.declared.ids.Xid.{Xid}
 use Rattle.rb_base.specs.declared.shape.Shape.{Shape}
 use Rattle.rb_base.specs.declared.store.Store.{Ghosts}
@@ -161,8 +160,8 @@ module _ {S : Type 0} (s : Ghosts S) (laws : Laws s) (h : State) (old : EngineVi
   one : (c : state.Cursor) × (cursor_of h who name ≡ Some c) × IsCursor h goes.xids (env_of h.shape blocks) who (record { name = name; cursor = m }) c
   one = cursor_for goes.xids goes.remembers
 
-  answers : (logged room : ℕ) (r : Answer) → next_row h (Some one.0) ≡ r → Reply h logged room (machine.Fetch who name) r
-  answers logged room r is = Reply.later (machine.name_tests h (machine.Fetch who name)) early refl (answer_by h who name (Some one.0) r one.1 (sym is))
+  answers : (logged : ℕ) (r : Answer) → next_row h (Some one.0) ≡ r → Reply h logged (machine.Fetch who name) r
+  answers logged r is = Reply.later (machine.name_tests h (machine.Fetch who name)) early refl (answer_by h who name (Some one.0) r one.1 (sym is))
 
   -- what the search couldn't read
   pub needs_lost : (fault : CrFault) (scn lost : ℕ) → fault ≡ faults.TooOld scn lost → ((xids : List Xid) → Serves s h xids m old.store → CannotRead h xids blocks m fault) → NeedsLost s h old who name scn lost
@@ -189,13 +188,13 @@ module _ {S : Type 0} (s : Ghosts S) (laws : Laws s) (h : State) (old : EngineVi
         cursor = m;
         is = is_named;
         only = clean.only;
-        all = λ yes b read spare. clean.all b (subst (λ (r : Result Fetched CrFault). MustIn h goes.xids blocks m r b) (sym (fine yes).1) read) spare;
+        all = λ yes b read young. clean.all b (subst (λ (r : Result Fetched CrFault). MustIn h goes.xids blocks m r b) (sym (fine yes).1) read) young;
       }
 
   -- and so of the machine's cursor
-  pub read_by : (well : Type 0) (new : S) (result : Result Fetched CrFault) → (well → (f : Fetched) × (result ≡ Ok f)) → s.slots new ≡ s.slots old.store
-      → ((xids : List Xid) → Serves s h xids m old.store → HasCleaned s h xids (ReadIn h xids blocks m) (MustIn h xids blocks m result) h.shape.blocks old.store new) → ReadBy h who name well (s.slots old.store) (s.lsn new) blocks (s.blocks new)
-  read_by well new result fine slots cleaned =
+  pub read_by : (well : Type 0) (new : S) (result : Result Fetched CrFault) → (well → (f : Fetched) × (result ≡ Ok f))
+      → ((xids : List Xid) → Serves s h xids m old.store → HasCleaned s h xids (ReadIn h xids blocks m) (MustIn h xids blocks m result) h.shape.blocks old.store new) → ReadBy h who name well (s.lsn new) blocks (s.blocks new)
+  read_by well new result fine cleaned =
       let clean = cleaned goes.xids serves in
       let one = cursor_for goes.xids goes.remembers in record {
         xids = goes.xids;
@@ -204,7 +203,7 @@ module _ {S : Type 0} (s : Ghosts S) (laws : Laws s) (h : State) (old : EngineVi
         kept = m;
         is = one.2;
         only = clean.only;
-        all = λ yes b read young room. clean.all b (subst (λ (r : Result Fetched CrFault). MustIn h goes.xids blocks m r b) (sym (fine yes).1) read) (record { young = young; room = subst (λ (k : Option ℕ). owed_in h.shape (s.blocks new) < room_of k (s.lsn new)) (sym slots) room });
+        all = λ yes b read young. clean.all b (subst (λ (r : Result Fetched CrFault). MustIn h goes.xids blocks m r b) (sym (fine yes).1) read) young;
       }
 
   -- what the search found, and what that makes of the call
@@ -221,7 +220,7 @@ module _ {S : Type 0} (s : Ghosts S) (laws : Laws s) (h : State) (old : EngineVi
     env = env_same h.shape blocks (s.blocks new.store) clean.only.segments
 
     -- an answer that leaves the state
-    stays : (answer : Answer) → is_fault answer ≡ false → Reply h (s.lsn old.store) (room_of (s.slots old.store) (s.lsn old.store)) (machine.Fetch who name) answer → After h (machine.Fetch who name) answer h
+    stays : (answer : Answer) → is_fault answer ≡ false → Reply h (s.lsn old.store) (machine.Fetch who name) answer → After h (machine.Fetch who name) answer h
         → Grows h (machine.Fetch who name) answer clean.count → new.memory ≡ old.memory → Does s h (machine.Fetch who name) answer old new
     stays answer fine reply after grows memory =
         does_by s h h (machine.Fetch who name) answer old new clean.count st reply after (λ _ s t k a is done. cc) (subst (Knows h) (sym memory) st.knows) same
@@ -249,7 +248,7 @@ module _ {S : Type 0} (s : Ghosts S) (laws : Laws s) (h : State) (old : EngineVi
         let remembers : Remembers h2 goes.xids (env_of h.shape blocks) new.memory.sessions =
         subst (Remembers h2 goes.xids (env_of h.shape blocks)) (sym moved) (taken h goes.xids blocks goes.holds.blocks who name m f.0 row.key row.value.items f.2 f.3 old.memory.sessions goes.remembers there.0 there.1 is_named) in
         does_by s h h2 (machine.Fetch who name) (machine.Given row.key row.value.items) old new clean.count st
-        (answers _ _ (machine.Given row.key row.value.items) gives) refl (λ _ s t k a is done. cc)
+        (answers _ (machine.Given row.key row.value.items) gives) refl (λ _ s t k a is done. cc)
         (knows_on h h2 old.memory new.memory st.knows (after_sessions h h2 (machine.Fetch who name) (machine.Given row.key row.value.items) refl) refl refl stopped scn (λ on. knows_same h h2 old.memory new.memory refl refl waits asked (st.knows.queue on))) same
         (λ _. (
           clean.few,
@@ -265,13 +264,13 @@ module _ {S : Type 0} (s : Ghosts S) (laws : Laws s) (h : State) (old : EngineVi
 
     pub does_end : result ≡ Ok fetched.End → new.memory ≡ old.memory → Does s h (machine.Fetch who name) machine.End old new
     does_end is memory =
-        stays machine.End refl (answers _ _ machine.End (views.ends h goes.xids blocks goes.holds.blocks who (record { name = name; cursor = m }) one.0 one.2 (finds (Ok fetched.End) is))) refl clean.few memory
+        stays machine.End refl (answers _ machine.End (views.ends h goes.xids blocks goes.holds.blocks who (record { name = name; cursor = m }) one.0 one.2 (finds (Ok fetched.End) is))) refl clean.few memory
 
     pub does_old : (scn lost : ℕ) → result ≡ Err (faults.TooOld scn lost) → new.memory ≡ old.memory → Does s h (machine.Fetch who name) (Refused (TooOld scn lost)) old new
     does_old scn lost is memory =
         let behind = finds (Err (faults.TooOld scn lost)) is in
         stays (Refused (TooOld scn lost)) refl
-        (old_reply h goes.xids blocks goes.holds.blocks (s.lsn old.store) (room_of (s.slots old.store) (s.lsn old.store)) (machine.Fetch who name) _ m.scn scn lost early (one.0, one.1, sym one.2.number) behind.5)
+        (old_reply h goes.xids blocks goes.holds.blocks (s.lsn old.store) (machine.Fetch who name) _ m.scn scn lost early (one.0, one.1, sym one.2.number) behind.5)
         refl clean.few memory
 
 -- no early test answers that it is too old

@@ -77,7 +77,6 @@ module _ (h : State) (xids : List Xid) (blocks : List (List ℕ)) (stand : Block
   refused_few call why.NotWaiting n is = omega (arith, is)
   refused_few call why.DiskFault n is = omega (arith, is)
   refused_few call why.Stopped n is = omega (arith, is)
-  refused_few call why.LogFull n is = omega (arith, is)
 
   pub grows_few : (call : Call) (r : Answer) (n : ℕ) → Grows h call r n → n ≤ 2 ^ 14
   grows_few call Done n grows = granted_few call n grows

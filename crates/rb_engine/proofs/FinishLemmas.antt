@@ -7,7 +7,6 @@ use Rattle.rb_attempt.specs.Asks.{header_in}
 use Rattle.rb_base.specs.Blocks.{after_groups}
 use Rattle.rb_base.specs.Groups.{Patch}
 use Rattle.rb_base.specs.Logs.{Flushes, Laws, Logs, LogsBy, more_flushes, no_logs}
-use Rattle.rb_base.specs.Stores.{room_of}
 use Rattle.rb_base.specs.declared.ids.Xid.{Xid}
 use Rattle.rb_base.specs.declared.store.Store.{Ghosts}
 use Rattle.rb_engine.specs.Does.{Does, EngineView, Goes, Keeps, Kept, Knows, SameStore, Stands}
@@ -26,7 +25,6 @@ use Rattle.rb_model.specs.Queue.{freed_by, is_queued}
 use Rattle.rb_model.specs.Rows.{last_scn}
 use Rattle.rb_model.specs.State.{Cursor, State, is_session, no_session, session_own}
 use Rattle.rb_model.specs.declared.refusal.Refusal.TheVariants.{DiskFault}
-use Rattle.rb_restart.proofs.Slots.{owed_for}
 use Rattle.rb_segment.specs.Calls.{Runs}
 use Rattle.rb_sessions.specs.Kept.{KeptSession, kept_at, with_kept}
 use Rattle.rb_sessions.specs.Kept as table
@@ -100,12 +98,6 @@ module _ {S : Type 0} (s : Ghosts S) (told : s.tells) (laws : Laws s) (h : State
   pub count_is : (kept_at old.memory.sessions who).count ≡ length (session_own h who)
   count_is = (goes.remembers.each who there.0 there.1).count
 
-  -- the log has room for one group
-  pub room_one : 1 ≤ room_of (s.slots old.store) (s.lsn old.store)
-  room_one =
-      let some = owed_for h.shape (s.blocks old.store) x own_by.there (runs_in h (s.blocks old.store) x own_by.runs) in
-      omega (arith, some, goes.holds.fits)
-
   -- the next commit's number
   pub next_known : (n : ℕ) → s.lsn old.store ≤ 2 ^ 62 → n ≡ min (old.memory.scn + 1) (2 ^ 64 - 1) → n ≡ last_scn h.commits + 1
   next_known n few is =
@@ -149,7 +141,7 @@ module _ {S : Type 0} (s : Ghosts S) (told : s.tells) (laws : Laws s) (h : State
 -- A transaction without a table slot ends in memory alone.
 pub does_ended : {S : Type 0} (s : Ghosts S) (laws : Laws s) (h : State) (call : Call) (who : ℕ) (cursors : List Cursor) (old new : EngineView S) → (st : Stands s h old) → (going : h.stopped ≡ false)
     → (1 ≤ who) × (who ≤ 16) → (s.failed old.store ≡ false) → ((now : State) → Keeps h call Done now) → (kept_at old.memory.sessions who).own ≡ None → (kept_at old.memory.sessions who).count ≡ 0 → none_applies (early_tests h call) ≡ true
-    → (HasNoSlot h who → is_empty (session_own h who) ≡ true → Reply h (s.lsn old.store) (room_of (s.slots old.store) (s.lsn old.store)) call Done)
+    → (HasNoSlot h who → is_empty (session_own h who) ≡ true → Reply h (s.lsn old.store) call Done)
     → (HasNoSlot h who → is_empty (session_own h who) ≡ true → After h call Done (freeing (ended h who cursors) who)) → (HasNoSlot h who → is_empty (session_own h who) ≡ true → GrowsBy h call 0)
     → (HasNoSlot h who → session_own h who ≡ [] → (xids : List Xid) → BlocksStand h xids (s.blocks old.store) → Remembers h xids (env_of h.shape (s.blocks old.store)) old.memory.sessions → Remembers (freeing (ended h who cursors) who) xids (env_of h.shape (s.blocks old.store)) new.memory.sessions)
     → map (λ k. k.asked) new.memory.sessions ≡ map (λ k. k.asked) old.memory.sessions → new.memory.waits ≡ freed_by who old.memory.waits

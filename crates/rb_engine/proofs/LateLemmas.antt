@@ -5,7 +5,6 @@ use Rattle.rb_attempt.specs.declared.ask.AttemptFault.{AttemptFault}
 use Rattle.rb_attempt.specs.declared.ask.AttemptFault.TheVariants as attempts
 use Rattle.rb_base.specs.Blocks.{home_block}
 use Rattle.rb_base.specs.Logs.{Laws, Logs}
-use Rattle.rb_base.specs.Stores.{room_of}
 use Rattle.rb_base.specs.declared.ids.Xid.{Xid}
 use Rattle.rb_base.specs.declared.store.Store.{Ghosts}
 use Rattle.rb_cr.specs.Builds.{IsHomeOld, IsHomeRead}
@@ -43,9 +42,9 @@ use Rattle.rb_views.proofs.Readable.{write_read}
 use Rattle.rb_views.proofs.Lost.{lost_is}
 
 -- A call that reads at a snapshot may be too old where a segment lost something above it.
-pub old_reply : (h : State) (xids : List Xid) (blocks : List (List ℕ)) → BlocksStand h xids blocks → (logged room : ℕ) (call : Call) (why : ℕ → Type 0) (n scn lost : ℕ) → none_applies (early_tests h call) ≡ true → ReadsAt h call n
-    → Because (env_of h.shape blocks) n why (faults.TooOld scn lost) → Reply h logged room call (Refused (refusals.TooOld scn lost))
-old_reply h xids blocks stand logged room call why n scn lost early reads because =
+pub old_reply : (h : State) (xids : List Xid) (blocks : List (List ℕ)) → BlocksStand h xids blocks → (logged : ℕ) (call : Call) (why : ℕ → Type 0) (n scn lost : ℕ) → none_applies (early_tests h call) ≡ true → ReadsAt h call n
+    → Because (env_of h.shape blocks) n why (faults.TooOld scn lost) → Reply h logged call (Refused (refusals.TooOld scn lost))
+old_reply h xids blocks stand logged call why n scn lost early reads because =
     let seg = because.2.0 in
     let book = lost_is h xids blocks seg n stand (let b = because.1 in let d = because.2.1 in omega (arith, b, d)) in
     let given_up : (book_at h.books seg).lost ≡ lost = book.1 ∙ sym because.2.1 in
@@ -131,10 +130,10 @@ module _ {S : Type 0} (s : Ghosts S) (told : s.tells) (laws : Laws s) (h : State
   goes = st.goes going
 
   first_late : (n by : ℕ) → isolation_of h who ≡ isolation.Serializable n → late h.commits n table key ≡ Some by
-      → first_of (write_tests h (s.lsn old.store) (room_of (s.slots old.store) (s.lsn old.store)) place.0 place.1 who table key action) Done ≡ Refused (refusals.CantSerialize n by)
+      → first_of (write_tests h (s.lsn old.store) place.0 place.1 who table key action) Done ≡ Refused (refusals.CantSerialize n by)
   first_late n by serial is =
-      first_serial h (s.lsn old.store) (room_of (s.slots old.store) (s.lsn old.store)) place.0 place.1 who table key action others
-      ∙ ap (λ (l : List (Bool × Answer)). first_of (l ++ row_tests h (s.lsn old.store) (room_of (s.slots old.store) (s.lsn old.store)) place.0 place.1 who table key action) Done) (ap (λ (i : Isolation). serial_tests h.commits i table key) serial ∙ ap (refused_by n) is)
+      first_serial h (s.lsn old.store) place.0 place.1 who table key action others
+      ∙ ap (λ (l : List (Bool × Answer)). first_of (l ++ row_tests h (s.lsn old.store) place.0 place.1 who table key action) Done) (ap (λ (i : Isolation). serial_tests h.commits i table key) serial ∙ ap (refused_by n) is)
 
   step_serial : (why : Refusal) → is_disk_fault why ≡ false → IsRefusedLate h goes.xids (s.blocks old.store) who table key why → new.memory ≡ old.memory → Logs s old.store new.store [] true → Does s h (Write who table key action) (Refused why) old new
   step_serial (refusals.CantSerialize n by) other late memory logs =
@@ -142,7 +141,7 @@ module _ {S : Type 0} (s : Ghosts S) (told : s.tells) (laws : Laws s) (h : State
       (answered s told laws h old st going who table key action there early place.0 place.1 place.2 (Refused (refusals.CantSerialize n by)) (first_late n by late.0 late.1)) refl refl (λ s t k a is done. cc) memory (λ _. logs) same
   step_serial (refusals.TooOld n lost) other late memory logs =
       does_loaded s told laws h (Write who table key action) (Refused (refusals.TooOld n lost)) old new st
-      (old_reply h goes.xids (s.blocks old.store) goes.holds.blocks (s.lsn old.store) (room_of (s.slots old.store) (s.lsn old.store)) (Write who table key action) _ n n lost early (late.0, none_waited h.queue who (holder h table key) others) late.1)
+      (old_reply h goes.xids (s.blocks old.store) goes.holds.blocks (s.lsn old.store) (Write who table key action) _ n n lost early (late.0, none_waited h.queue who (holder h table key) others) late.1)
       refl refl (λ s t k a is done. cc) memory (λ _. logs) same
   step_serial refusals.DiskFault other late memory logs = (let clash : true ≡ false = other in absurd cc)
   step_serial _ other late memory logs = absurd late
@@ -171,7 +170,6 @@ attempt_not_old attempts.BlockFull scn lost is = cc
 attempt_not_old attempts.SlotsFull scn lost is = cc
 attempt_not_old (attempts.RollbackFull seg since) scn lost is = cc
 attempt_not_old attempts.WornOut scn lost is = cc
-attempt_not_old attempts.LogFull scn lost is = cc
 
 pub young_not_old : (r : Result Wrote Refusal) → IfErr r NotOld → (scn lost : ℕ) → r ≡ Err (refusals.TooOld scn lost) → ⊥
 young_not_old (Ok w) young scn lost is = (let clash : Ok w ≡ Err (refusals.TooOld scn lost) = is in cc)

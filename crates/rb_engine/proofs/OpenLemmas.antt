@@ -11,7 +11,6 @@ use Rattle.rb_base.specs.Groups.{Patch}
 use Rattle.rb_base.specs.Keeps.{AfterEach, Keeps}
 use Rattle.rb_base.specs.Logs.{Laws, Logs, more_logs}
 use Rattle.rb_base.specs.Moments.{weaker}
-use Rattle.rb_base.specs.Stores.{room_of}
 use Rattle.rb_base.specs.declared.faults.OpenFault.{OpenFault}
 use Rattle.rb_base.specs.declared.faults.OpenFault.TheVariants.{Failed, NoMemory, NotAStore}
 use Rattle.rb_base.specs.declared.shape.Shape.{Shape}
@@ -33,7 +32,6 @@ use Rattle.rb_opening.specs.Opens.{books_of}
 use Rattle.rb_opening.proofs.Opened.{books_same, unowned}
 use Rattle.rb_opening.proofs.Rolled.{none_sound, opened_by}
 use Rattle.rb_restart.specs.Rollback.{BackBy, IsPartlyBack, RolledBack, StaySound, found_book}
-use Rattle.rb_restart.proofs.Joined.{room_on}
 use Rattle.rb_restart.proofs.Slots.{owed_none}
 use Rattle.rb_segment.specs.Header.{segment_of}
 use Rattle.rb_segment.specs.Segments.{commit_scn, owed_in}
@@ -46,12 +44,11 @@ use Rattle.rb_views.specs.Views.{Remembers}
 use Rattle.rb_views.proofs.Opened.{first_remembered}
 
 -- what holds of the store behind loads holds of the one before them
-pub moved : {S : Type 0} (s : Ghosts S) (old mid : S) (F : Shape → Option ℕ → ℕ → List (List ℕ) → Type 0) → Logs s old mid [] true → s.tells → F (s.shape_of mid) (s.slots mid) (s.lsn mid) (s.blocks mid) → F (s.shape_of old) (s.slots old) (s.lsn old) (s.blocks old)
+pub moved : {S : Type 0} (s : Ghosts S) (old mid : S) (F : Shape → ℕ → List (List ℕ) → Type 0) → Logs s old mid [] true → s.tells → F (s.shape_of mid) (s.lsn mid) (s.blocks mid) → F (s.shape_of old) (s.lsn old) (s.blocks old)
 moved s old mid F loads told here =
-    let by_shape = subst (λ (shape : Shape). F shape (s.slots mid) (s.lsn mid) (s.blocks mid)) loads.same_shape here in
-    let by_slots = subst (λ (slots : Option ℕ). F (s.shape_of old) slots (s.lsn mid) (s.blocks mid)) loads.same_slots by_shape in
-    let by_lsn = subst (λ (lsn : ℕ). F (s.shape_of old) (s.slots old) lsn (s.blocks mid)) (omega (arith, loads.number refl)) by_slots in
-    subst (F (s.shape_of old) (s.slots old) (s.lsn old)) (loads.blocks told refl) by_lsn
+    let by_shape = subst (λ (shape : Shape). F shape (s.lsn mid) (s.blocks mid)) loads.same_shape here in
+    let by_lsn = subst (λ (lsn : ℕ). F (s.shape_of old) lsn (s.blocks mid)) (omega (arith, loads.number refl)) by_shape in
+    subst (F (s.shape_of old) (s.lsn old)) (loads.blocks told refl) by_lsn
 
 -- a refusal but for a fault leaves no group
 pub refused : {S : Type 0} (s : Ghosts S) (old mid new : S) (result : Result (Unit {0}) OpenFault) (groups : List (List Patch)) → Logs s old mid [] true → Logs s mid new groups (not (err_is is_failed result)) → (IsErrOf result NotAStore → groups ≡ []) → (IsErrOf result NoMemory → ⊥)
@@ -106,12 +103,11 @@ module _ (shape : Shape) (blocks : List (List ℕ)) (number : ℕ) (rows : List 
   First = opened shape number rows (books_of shape blocks)
 
   -- blocks that are partly put back have the state that they open to
-  has_partly : (slots : Option ℕ) (lsn count : ℕ) (at : List (List ℕ)) → lsn ≡ logged_of shape blocks → owed_in shape blocks ≤ room_of slots lsn → IsPartlyBack shape number rows count blocks at
-      → HasState First First.books (last_scn First.commits) slots at (lsn + count)
-  has_partly slots lsn count at logged fits is = record {
+  has_partly : (lsn count : ℕ) (at : List (List ℕ)) → lsn ≡ logged_of shape blocks → IsPartlyBack shape number rows count blocks at
+      → HasState First First.books (last_scn First.commits) at (lsn + count)
+  has_partly lsn count at logged is = record {
     logged = omega (arith, logged, is.logged);
     sound = subst (SoundAs shape at (last_scn First.commits)) (sym (opened_rows shape number rows (books_of shape blocks))) (subst (λ (n : ℕ). SoundAs shape at n rows) (omega arith) is.sound);
-    fits = room_on slots lsn (lsn + count) (owed_in shape blocks) (owed_in shape at) count refl is.owed fits;
     marks = record {
       writes = λ g there. let same = ap (λ (b : Book). b.writes) (book_is g there) in omega (arith, same);
       lost = λ g there. let same = ap (λ (b : Book). b.lost) (book_is g there) in omega (arith, same);
@@ -125,9 +121,9 @@ module _ (shape : Shape) (blocks : List (List ℕ)) (number : ℕ) (rows : List 
           ∙ ap found_book (sym (header_is shape blocks g))
           ∙ sym (get_or-map-range_with_len (λ (k : ℕ). found_book (segment_of shape blocks k).header) 0 shape.segments g g fresh_book there (omega arith))
 
-  each_partly : (slots : Option ℕ) (lsn : ℕ) (groups : List (List Patch)) → lsn ≡ logged_of shape blocks → owed_in shape blocks ≤ room_of slots lsn → StaySound shape number rows lsn groups blocks
-      → AfterEach (HasState First First.books (last_scn First.commits) slots) lsn groups blocks
-  each_partly slots lsn groups logged fits stay count few = has_partly slots lsn count (after_groups (lsn + 1) (take count groups) blocks) logged fits (stay count few)
+  each_partly : (lsn : ℕ) (groups : List (List Patch)) → lsn ≡ logged_of shape blocks → StaySound shape number rows lsn groups blocks
+      → AfterEach (HasState First First.books (last_scn First.commits)) lsn groups blocks
+  each_partly lsn groups logged stay count few = has_partly lsn count (after_groups (lsn + 1) (take count groups) blocks) logged (stay count few)
 
 module _ {S : Type 0} (s : Ghosts S) (laws : Laws s) (told : s.tells) (h : State) (old : S) (opens : OpensTo s h old) where
   abbrev Sh : Shape
@@ -140,15 +136,15 @@ module _ {S : Type 0} (s : Ghosts S) (laws : Laws s) (told : s.tells) (h : State
   Rows = opens.opening.rows
 
   abbrev Has : Property
-  Has = HasState h h.books (last_scn h.commits) (s.slots old)
+  Has = HasState h h.books (last_scn h.commits)
 
   shape_is : Sh ≡ h.shape
   shape_is = sym (ap (λ (x : State). x.shape) opens.opening.state)
 
   each : (groups : List (List Patch)) → StaySound Sh Number Rows (s.lsn old) groups (s.blocks old) → AfterEach Has (s.lsn old) groups (s.blocks old)
   each groups stay =
-      subst (λ (x : State). AfterEach (HasState x x.books (last_scn x.commits) (s.slots old)) (s.lsn old) groups (s.blocks old)) (sym opens.opening.state)
-      (each_partly Sh (s.blocks old) Number Rows (s.slots old) (s.lsn old) groups opens.logged opens.fits stay)
+      subst (λ (x : State). AfterEach (HasState x x.books (last_scn x.commits)) (s.lsn old) groups (s.blocks old)) (sym opens.opening.state)
+      (each_partly Sh (s.blocks old) Number Rows (s.lsn old) groups opens.logged stay)
 
   none_stays : StaySound Sh Number Rows (s.lsn old) [] (s.blocks old)
   none_stays = none_sound Sh Number Rows (s.lsn old) (s.blocks old) opens.opening.sound
@@ -187,21 +183,19 @@ module _ {S : Type 0} (s : Ghosts S) (laws : Laws s) (told : s.tells) (h : State
         let clash : None ≡ Some o = sym none ∙ (same ∙ at) in
         cc
 
-    holds_first : (s.keeps → Keeps s (HasState (First Sh (s.blocks old) Number Rows) (First Sh (s.blocks old) Number Rows).books (last_scn (First Sh (s.blocks old) Number Rows).commits) (s.slots new)) new) → Holds s (First Sh (s.blocks old) Number Rows) [] new
+    holds_first : (s.keeps → Keeps s (HasState (First Sh (s.blocks old) Number Rows) (First Sh (s.blocks old) Number Rows).books (last_scn (First Sh (s.blocks old) Number Rows).commits)) new) → Holds s (First Sh (s.blocks old) Number Rows) [] new
     holds_first images = record {
       blocks = stand.0;
       logged = stand.1;
-      fits = let none = owed_none Sh (s.blocks new) back.idle in omega (arith, none);
       images = images;
     }
 
-    images_new : s.keeps → Keeps s (HasState h h.books (last_scn h.commits) (s.slots new)) new
-    images_new keeps = subst (λ (slots : Option ℕ). Keeps s (HasState h h.books (last_scn h.commits) slots) new) (sym logs.same_slots)
-        (keeps_on s laws keeps Has Has (λ b n has. has) old new groups (kept keeps) logs (each groups stay))
+    images_new : s.keeps → Keeps s (HasState h h.books (last_scn h.commits)) new
+    images_new keeps = keeps_on s laws keeps Has Has (λ b n has. has) old new groups (kept keeps) logs (each groups stay)
 
     holds : Holds s h [] new
     holds =
-        subst (λ (x : State). (s.keeps → Keeps s (HasState x x.books (last_scn x.commits) (s.slots new)) new) → Holds s x [] new) (sym opens.opening.state) holds_first images_new
+        subst (λ (x : State). (s.keeps → Keeps s (HasState x x.books (last_scn x.commits)) new) → Holds s x [] new) (sym opens.opening.state) holds_first images_new
 
     -- an engine with such a memory
     pub opened_engine : (memory : Kept) → memory.sessions ≡ replicate SESSIONS fresh → memory.waits ≡ [] → memory.scn ≡ commit_scn Sh (s.blocks old) → memory.stopped ≡ false → Opened s h old (record { memory = memory; store = new })

@@ -146,16 +146,15 @@ module _ (h : State) (queue : List Waiter) (asked : List (Option Asked)) where
     standing = subst (λ (l : List (List walk.Change)). Standing h.shape blocks (past_of h xids) l) (sym (lives_same (env_of h.shape blocks))) stand.standing;
   }
 
-  has_state : (books : List Book) (n : ℕ) (slots : Option ℕ) (blocks : List (List ℕ)) (lsn : ℕ) → HasState h books n slots blocks lsn → HasState Next books n slots blocks lsn
-  has_state books n slots blocks lsn has = record { logged = has.logged; sound = has.sound; fits = has.fits; marks = has.marks }
+  has_state : (books : List Book) (n : ℕ) (blocks : List (List ℕ)) (lsn : ℕ) → HasState h books n blocks lsn → HasState Next books n blocks lsn
+  has_state books n blocks lsn has = record { logged = has.logged; sound = has.sound; marks = has.marks }
 
   module _ {S : Type 0} (s : Ghosts S) where
     pub holds_queue : (xids : List Xid) (store : S) → Holds s h xids store → Holds s Next xids store
     holds_queue xids store holds = record {
       blocks = blocks_stand xids (s.blocks store) holds.blocks;
       logged = holds.logged;
-      fits = holds.fits;
-      images = λ keeps. let k = holds.images keeps in record { base = k.base; first = k.first; stable = k.stable; each = λ count few. has_state h.books (last_scn h.commits) (s.slots store) _ _ (k.each count few) };
+      images = λ keeps. let k = holds.images keeps in record { base = k.base; first = k.first; stable = k.stable; each = λ count few. has_state h.books (last_scn h.commits) _ _ (k.each count few) };
     }
 
     pub goes_queue : (e : EngineView S) (memory : Kept) → memory.sessions ≡ e.memory.sessions → Goes s h e → Goes s Next (record { memory = memory; store = e.store })
@@ -168,11 +167,11 @@ module _ (h : State) (queue : List Waiter) (asked : List (Option Asked)) where
     -- The images that a crash leaves.
     module _ (slots : Option ℕ) (fault : Option Call) where
       restarts_at : (books : List Book) (n : ℕ) (i : s.image) → RestartsAt s.opens slots books h n i → RestartsAt s.opens slots books Next n i
-      restarts_at books n i is = record { blocks = is.blocks; lsn = is.lsn; opening = is.opening; has = has_state books n slots is.blocks is.lsn is.has }
+      restarts_at books n i is = record { blocks = is.blocks; lsn = is.lsn; opening = is.opening; has = has_state books n is.blocks is.lsn is.has }
 
       ends : (i : s.image) → AtEnd s.opens slots fault h i → AtEnd s.opens slots fault Next i
       ends i (whole is) = whole (restarts_at h.books (last_scn h.commits) i is)
-      ends i (one_commit who call stopped some is) = one_commit who call stopped some (record { blocks = is.blocks; lsn = is.lsn; opening = is.opening; has = record { logged = is.has.logged; sound = is.has.sound; fits = is.has.fits; marks = is.has.marks } })
+      ends i (one_commit who call stopped some is) = one_commit who call stopped some (record { blocks = is.blocks; lsn = is.lsn; opening = is.opening; has = record { logged = is.has.logged; sound = is.has.sound; marks = is.has.marks } })
       ends i (one_write who table key action g k call stopped within is) = one_write who table key action g k call stopped within (restarts_at _ (last_scn h.commits) i is)
 
       on_the_way : (before : State) (i : s.image) → OnTheWay s.opens slots fault before h i → OnTheWay s.opens slots fault before Next i

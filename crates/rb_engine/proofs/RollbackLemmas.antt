@@ -9,7 +9,6 @@ use Rattle.rb_base.specs.Blocks.{after_groups}
 use Rattle.rb_base.specs.Counts.{IsCounted}
 use Rattle.rb_base.specs.Groups.{Patch}
 use Rattle.rb_base.specs.Logs.{Laws, Logs, more_logs, no_logs}
-use Rattle.rb_base.specs.Stores.{room_of}
 use Rattle.rb_base.specs.declared.ids.Xid.{Xid}
 use Rattle.rb_base.specs.declared.shape.Shape.{Shape}
 use Rattle.rb_base.specs.declared.store.Store.{Ghosts}
@@ -26,7 +25,7 @@ use Rattle.rb_image.proofs.Crashes.{grow_same, has_later, has_state, survives_on
 use Rattle.rb_image.proofs.Marks.{shrinks_left}
 use Rattle.rb_image.proofs.Owners.{OwnedBy, owned_by, same_owners}
 use Rattle.rb_image.proofs.Steps.{read_has, survives_going}
-use Rattle.rb_image.proofs.StepsHeld.{few_each, holds_back, holds_ended, room_less}
+use Rattle.rb_image.proofs.StepsHeld.{few_each, holds_back, holds_ended}
 use Rattle.rb_model.specs.Book.{Book}
 use Rattle.rb_model.specs.Calls.{Call, Commit, Done, Owned, Reply, Rollback, RollbackTo, is_empty, name_tests}
 use Rattle.rb_model.specs.Change.{Change}
@@ -35,7 +34,6 @@ use Rattle.rb_model.specs.Queue.{freed_by, is_queued}
 use Rattle.rb_model.specs.NextState.{EndsAs, cursors_of, ended, freeing, left_open, not_present, rolled_to, up_to, without_owner}
 use Rattle.rb_model.specs.Rows.{last_scn}
 use Rattle.rb_model.specs.State.{Savepoint, Session, State, no_session, savepoint_of, session_of, session_own, with_changes}
-use Rattle.rb_restart.proofs.Joined.{room_on}
 use Rattle.rb_restart.proofs.Slots.{owed_is, slot_for}
 use Rattle.rb_segment.specs.Calls.{Runs}
 use Rattle.rb_segment.specs.Segments.{commit_scn, owed_in}
@@ -130,19 +128,19 @@ module _ {S : Type 0} (s : Ghosts S) where
   module _ (told : s.tells) (laws : Laws s) where
     -- A step that failed, whose group leaves the commits and no more marks: whatever changes the sessions have left.
     step_fails : {fault : Option Call} → (m : State) (xids : List Xid) (old new : S) (all left : List Session) (books : List Book) (Is : List (List ℕ) → Type 0) → s.shape_of old ≡ m.shape → Holds s m xids old → MarksGrow m.shape books m.books
-        → ((now : List (List ℕ)) → Is now → BlocksStand (record m { sessions = left; books = books }) xids now × (logged_of m.shape now ≡ logged_of m.shape (s.blocks old) + 1) × (owed_in m.shape now + 1 ≤ owed_in m.shape (s.blocks old)))
+        → ((now : List (List ℕ)) → Is now → BlocksStand (record m { sessions = left; books = books }) xids now × (logged_of m.shape now ≡ logged_of m.shape (s.blocks old) + 1))
         → GivesOne s old new false Is → s.keeps → Survives s (s.slots old) fault m (record m { sessions = all; stopped = true }) old new
     step_fails m xids old new all left books Is shape holds marks is one keeps =
-        let P : List (List ℕ) → ℕ → Type 0 = HasState m m.books (last_scn m.commits) (s.slots old) in
+        let P : List (List ℕ) → ℕ → Type 0 = HasState m m.books (last_scn m.commits) in
         let h2 : State = record m { sessions = all; stopped = true } in
         let h3 : State = record m { sessions = left; books = books } in
-        let Q : List (List ℕ) → ℕ → Type 0 = HasState h2 h2.books (last_scn h2.commits) (s.slots old) in
-        let so : (b : List (List ℕ)) (n : ℕ) → P b n → Q b n = λ b n has. has_later m h2 m.books m.books (last_scn m.commits) (s.slots old) b n refl refl (grow_same m.shape m.books) has in
+        let Q : List (List ℕ) → ℕ → Type 0 = HasState h2 h2.books (last_scn h2.commits) in
+        let so : (b : List (List ℕ)) (n : ℕ) → P b n → Q b n = λ b n has. has_later m h2 m.books m.books (last_scn m.commits) b n refl refl (grow_same m.shape m.books) has in
         let now = after_groups (s.lsn old + 1) one.groups (s.blocks old) in
         let after : 1 ≤ length one.groups → Q now (s.lsn old + 1) = λ some.
         let k = is now (one.made some) in
-        has_later h3 h2 books m.books (last_scn m.commits) (s.slots old) now (s.lsn old + 1) refl refl marks
-        (has_state h3 xids now (s.slots old) (s.lsn old + 1) k.0 (ap (λ (n : ℕ). n + 1) holds.logged ∙ sym k.1) (room_less (s.slots old) (s.lsn old) (owed_in m.shape now) (omega (arith, k.2, holds.fits)))) in
+        has_later h3 h2 books m.books (last_scn m.commits) now (s.lsn old + 1) refl refl marks
+        (has_state h3 xids now (s.lsn old + 1) k.0 (ap (λ (n : ℕ). n + 1) holds.logged ∙ sym k.1)) in
         survives_going s laws keeps m h2 old new one.groups shape refl refl (grow_same m.shape m.books) (holds.images keeps) false one.logs
         (few_each s told laws Q one.groups (s.blocks old) (s.lsn old) keeps one.few (so _ _ (read_has s laws keeps P old (holds.images keeps))) after)
 
@@ -161,7 +159,7 @@ module _ {S : Type 0} (s : Ghosts S) where
         back_fails one fault =
             let m : State = with_own h who a in
             fails_on fault a turn left (step_fails m xids mid new h.sessions (set m.sessions (who - 1) (with_changes m who front)) m.books (λ now. BackMade m xids who front (s.blocks mid) now) (same.shape ∙ st.shape) left.holds (grow_same m.shape m.books)
-            (λ now made. (made.stand, made.last, made.owed)) one)
+            (λ now made. (made.stand, made.last)) one)
 
         pub back_done : GivesOne s mid new true (λ now. BackMade (with_own h who a) xids who front (s.blocks mid) now) → IsLeft h xids who x front (turn + 1) old new
         back_done one =
@@ -208,7 +206,7 @@ module _ {S : Type 0} (s : Ghosts S) where
           let id = id_left h xids who x [] count old mid left in
           let ends : State = without_owner x.seg x.slot (ended m who []) in
           fails_on fault [] count left (step_fails m xids mid new h.sessions ends.sessions ends.books (λ now. EndMade m xids who x (s.blocks mid) now) (same.shape ∙ st.shape) left.holds (shrinks_left m.shape m.books x.seg x.slot left.holds.blocks.tell.books_counted)
-          (λ now made. (made.stand [], made.last, made.owed)) one)
+          (λ now made. (made.stand [], made.last)) one)
 
   -- Before the first.
   pub none_back : (laws : Laws s) (x : Xid) (count : ℕ) (old : S) → s.failed old ≡ false → PutBacks x count 0 old old
@@ -248,12 +246,6 @@ module _ {S : Type 0} (s : Ghosts S) where
 
     pub there : x.seg < (s.shape_of old).segments → x.seg < (s.shape_of mid).segments
     there is = subst (λ (z : Shape). x.seg < z.segments) (sym first.logs.same_shape) is
-
-    pub room_left : (most : ℕ) → turn < most → most ≤ room_of (s.slots old) (s.lsn old) → 1 ≤ room_of (s.slots mid) (s.lsn mid)
-    room_left most turns room =
-        let f = first.few in
-        let rest = room_on (s.slots old) (s.lsn old) (s.lsn mid) most (most - length first.groups) (length first.groups) (first.logs.number refl) (omega (arith, f, turns)) room in
-        rw first.logs.same_slots (omega (arith, f, turns, rest))
 
     pub few_left : turn ≤ count → s.lsn old + count < 2 ^ 62 → s.lsn mid < 2 ^ 62
     few_left turns is = let n = first.logs.number refl in let f = first.few in omega (arith, is, n, f, turns)
@@ -335,7 +327,7 @@ module _ {S : Type 0} (s : Ghosts S) where
         };
   }
 
--- The log has room for the put backs of all changes of a transaction, and for its end.
+-- The put backs of changes of a transaction, and its end.
 module _ {S : Type 0} (s : Ghosts S) (told : s.tells) (laws : Laws s) (h : State) (old : EngineView S) (who : ℕ) (x : Xid) (st : Stands s h old) (going : h.stopped ≡ false)
     (there : (1 ≤ who) × (who ≤ 16)) (own_is : (kept_at old.memory.sessions who).own ≡ Some x) where
   abbrev pub held : Goes s h old
@@ -354,17 +346,6 @@ module _ {S : Type 0} (s : Ghosts S) (told : s.tells) (laws : Laws s) (h : State
     going = going;
     own = omega arith;
   }
-
-  pub room_back : length (session_own h who) + 1 ≤ room_of (s.slots old.store) (s.lsn old.store)
-  room_back =
-      let blocks = s.blocks old.store in
-      let env = env_of h.shape blocks in
-      let t = 16 * x.seg + x.slot in
-      let t_in : t < 16 * h.shape.segments = omega (arith, id.there, id.few) in
-      let active : (slot_of (segments_of h.shape blocks) t).state ≡ 1 = ap (λ (z : TableSlot). z.state) (slot_for h.shape blocks x id.few) ∙ (runs_in h blocks x id.runs).active in
-      let less = owed_committed h.shape (commit_scn h.shape blocks) (logged_of h.shape blocks) (segments_of h.shape blocks) (homes_of h.shape blocks) (past_of h held.xids) (lives_of h env) held.holds.blocks.standing.stands t t_in active 0 in
-      let all : length (own (lives_of h env) t) ≡ length (session_own h who) + 0 = ap (λ (l : List walk.Change). length l) (lives_owned h env who t t_in (record { owner = id.owned.1; at = id.owned.2; session = id.owned.3 })) ∙ length_newest h.shape (env.xid t) 1 (session_own h who) [] in
-      omega (arith, less, all, owed_is h.shape blocks, held.holds.fits)
 
   module _ (new : EngineView S) (same : SameStore s old.store new.store) where
     -- a rollback that went well

@@ -21,9 +21,9 @@ module _ {S : Type 0} (s : Ghosts S) (told : s.tells) where
   tells_logged shape old new logs = tells_same shape (s.blocks old) (s.blocks new) (logs.blocks told refl)
 
   -- a write that is done
-  pub tells_written : (h : State) (xids : List Xid) (who table key : ℕ) (action : Action) (room : ℕ) (x : Xid) (old new : S) → GivesOne s old new true (λ now. WriteMade h xids who table key action room x (s.blocks old) now)
+  pub tells_written : (h : State) (xids : List Xid) (who table key : ℕ) (action : Action) (x : Xid) (old new : S) → GivesOne s old new true (λ now. WriteMade h xids who table key action x (s.blocks old) now)
       → TellsLooks h.shape (s.blocks old) (s.blocks new)
-  tells_written h xids who table key action room x old new one =
+  tells_written h xids who table key action x old new one =
       let single = one.one refl in
       subst (TellsLooks h.shape (s.blocks old)) (sym (one.logs.blocks told refl)) (one.made (omega (arith, single))).tells
 

@@ -7,7 +7,6 @@ use Rattle.rb_attempt.specs.declared.ask.AttemptFault.{AttemptFault}
 use Rattle.rb_attempt.specs.declared.ask.AttemptFault.TheVariants as faults
 use Rattle.rb_base.specs.Groups.{Patch}
 use Rattle.rb_base.specs.Logs.{Laws, Logs, group_of}
-use Rattle.rb_base.specs.Stores.{room_of}
 use Rattle.rb_base.specs.declared.ids.Xid.{Xid}
 use Rattle.rb_base.specs.declared.store.Store.{Ghosts}
 use Rattle.rb_engine.specs.Does.{Does, EngineView, Goes, IsInStep, Kept, Keeps, Knows, SameStore, Stands}
@@ -55,7 +54,6 @@ failed_is faults.BlockFull = refl
 failed_is faults.SlotsFull = refl
 failed_is (faults.RollbackFull seg since) = refl
 failed_is faults.WornOut = refl
-failed_is faults.LogFull = refl
 
 pub the_failure : (fault : AttemptFault) → is_disk_fault (refusal_of fault) ≡ true → refusal_of fault ≡ DiskFault
 the_failure fault is = the_fault (refusal_of fault) is
@@ -73,39 +71,36 @@ module _ {S : Type 0} (s : Ghosts S) (told : s.tells) (laws : Laws s) (h : State
   abbrev pub goes : Goes s h old
   goes = st.goes going
 
-  abbrev pub Room : ℕ
-  Room = room_of (s.slots old.store) (s.lsn old.store)
-
   pub about : IsAbout h goes.xids who (kept_at old.memory.sessions who).own (s.blocks old.store)
   about = record { stand = goes.holds.blocks; session = there.0; id = own_id s h old goes who there }
 
   -- what it gives up is old enough
-  kept_undo : {blocks now : List (List ℕ)} (room : ℕ) (x : Xid) → WriteMade h goes.xids who table key action room x blocks now → Keeps h (Write who table key action) Done (written h who x.seg x.slot (change_in h x.seg table key action))
-  kept_undo {now = now} room x made u t k a is done =
+  kept_undo : {blocks now : List (List ℕ)} (x : Xid) → WriteMade h goes.xids who table key action x blocks now → Keeps h (Write who table key action) Done (written h who x.seg x.slot (change_in h x.seg table key action))
+  kept_undo {now = now} x made u t k a is done =
       let after : State = written h who x.seg x.slot (change_in h x.seg table key action) in
       let id : OwnedBy after now who x = owned_by after goes.xids now who x made.stand made.id in
       let one : who ≡ u = cc in
       subst (λ (n : ℕ). Retains h n after) one (retains h goes.xids (s.blocks old.store) goes.holds.blocks who x.seg x.slot made.in_slot id.there id.few after (change_in h x.seg table key action) refl)
 
   -- by that log number
-  pub answered : (g i : ℕ) → (a : WritesIn h who g i) → (r : Answer) → first_of (write_tests h (s.lsn old.store) Room g i who table key action) Done ≡ r
-      → Reply h (s.lsn old.store) Room (Write who table key action) r
-  answered g i within r is = Reply.later (write_tests h (s.lsn old.store) Room g i who table key action) early (g, i, within, refl) (sym is)
+  pub answered : (g i : ℕ) → (a : WritesIn h who g i) → (r : Answer) → first_of (write_tests h (s.lsn old.store) g i who table key action) Done ≡ r
+      → Reply h (s.lsn old.store) (Write who table key action) r
+  answered g i within r is = Reply.later (write_tests h (s.lsn old.store) g i who table key action) early (g, i, within, refl) (sym is)
 
   module _ (new : EngineView S) (same : SameStore s old.store new.store) where
-    pub step_done : (x : Xid) → GivesOne s old.store new.store true (λ now. WriteMade h goes.xids who table key action Room x (s.blocks old.store) now)
+    pub step_done : (x : Xid) → GivesOne s old.store new.store true (λ now. WriteMade h goes.xids who table key action x (s.blocks old.store) now)
         → new.memory.sessions ≡ with_kept old.memory.sessions who (wrote x (kept_at old.memory.sessions who)) → new.memory.waits ≡ old.memory.waits → new.memory.scn ≡ old.memory.scn → new.memory.stopped ≡ old.memory.stopped → Does s h (Write who table key action) Done old new
     step_done x one table_is waits scn stopped =
         let after : State = written h who x.seg x.slot (change_in h x.seg table key action) in
         let high : who ≤ length h.sessions = let n = st.knows.sixteen in omega (arith, n, there.1) in
         let single = one.one refl in
         let blocks : s.blocks new.store ≡ _ = one.logs.blocks told refl in
-        let made : WriteMade h goes.xids who table key action Room x (s.blocks old.store) (s.blocks new.store) = subst (λ b. WriteMade h goes.xids who table key action Room x (s.blocks old.store) b) (sym blocks) (one.made (omega (arith, single))) in
-        let all : (fault : _) → _ = λ fault. holds_written s told laws h goes.xids who old.store new.store table key action Room x st.shape goes.holds (omega arith) fault one in
-        let granted : first_of (write_tests h (s.lsn old.store) Room x.seg x.slot who table key action) Done ≡ Done = subst (λ (n : ℕ). first_of (write_tests h n Room x.seg x.slot who table key action) Done ≡ Done) (sym goes.holds.logged) made.granted in
+        let made : WriteMade h goes.xids who table key action x (s.blocks old.store) (s.blocks new.store) = subst (λ b. WriteMade h goes.xids who table key action x (s.blocks old.store) b) (sym blocks) (one.made (omega (arith, single))) in
+        let all : (fault : _) → _ = λ fault. holds_written s told laws h goes.xids who old.store new.store table key action x st.shape goes.holds fault one in
+        let granted : first_of (write_tests h (s.lsn old.store) x.seg x.slot who table key action) Done ≡ Done = subst (λ (n : ℕ). first_of (write_tests h n x.seg x.slot who table key action) Done ≡ Done) (sym goes.holds.logged) made.granted in
         let knows = written_remembered h goes.xids (s.blocks old.store) (s.blocks new.store) who x.seg x.slot (change_in h x.seg table key action) x goes.holds.blocks there.0 high made.in_slot made.stand made.id made.ids old.memory.sessions there.1 goes.remembers in
         does_by s h after (Write who table key action) Done old new 1 st
-        (answered x.seg x.slot made.in_slot Done granted) (x.seg, x.slot, made.in_slot, refl) (λ _. kept_undo Room x made)
+        (answered x.seg x.slot made.in_slot Done granted) (x.seg, x.slot, made.in_slot, refl) (λ _. kept_undo x made)
         (knows_on h after old.memory new.memory st.knows (length-set h.sessions _ _) refl refl stopped scn (λ on. knows_same h after old.memory new.memory refl refl waits (ap (λ (l : List KeptSession). map (λ k. k.asked) l) table_is ∙ all_asked old.memory.sessions (who - 1) (wrote x (kept_at old.memory.sessions who)) refl) (st.knows.queue on))) same
         (λ _. (
           refl,
@@ -119,13 +114,13 @@ module _ {S : Type 0} (s : Ghosts S) (told : s.tells) (laws : Laws s) (h : State
         (λ before _ keeps. (all before).1 keeps)
 
     -- a call of the store failed
-    pub step_failed : (x : Xid) → GivesOne s old.store new.store false (λ now. WriteMade h goes.xids who table key action Room x (s.blocks old.store) now)
+    pub step_failed : (x : Xid) → GivesOne s old.store new.store false (λ now. WriteMade h goes.xids who table key action x (s.blocks old.store) now)
         → new.memory ≡ record old.memory { stopped = true } → Does s h (Write who table key action) (Refused DiskFault) old new
     step_failed x one stops = does_fault s told laws h (Write who table key action) old new st going early stops same
-        (λ keeps. write_fault s told laws h goes.xids who old.store new.store table key action Room x st.shape goes.holds (omega arith) one keeps)
+        (λ keeps. write_fault s told laws h goes.xids who old.store new.store table key action x st.shape goes.holds one keeps)
 
     -- or the write was refused
-    pub step_refused : (why : Refusal) → is_disk_fault why ≡ false → (x : Xid) → WritesIn h who x.seg x.slot → first_of (write_tests h (s.lsn old.store) Room x.seg x.slot who table key action) Done ≡ Refused why
+    pub step_refused : (why : Refusal) → is_disk_fault why ≡ false → (x : Xid) → WritesIn h who x.seg x.slot → first_of (write_tests h (s.lsn old.store) x.seg x.slot who table key action) Done ≡ Refused why
         → new.memory ≡ old.memory → Logs s old.store new.store [] true → Does s h (Write who table key action) (Refused why) old new
     step_refused why other x within is memory logs =
         does_loaded s told laws h (Write who table key action) (Refused why) old new st (answered x.seg x.slot within (Refused why) is) (rw other refl) (refused_none h (Write who table key action) why) (λ s t k a is done. cc) memory (λ _. logs) same
@@ -134,10 +129,10 @@ module _ {S : Type 0} (s : Ghosts S) (told : s.tells) (laws : Laws s) (h : State
       queue_is : mid.waits ≡ h.queue
       queue_is = ap (λ (k : Kept). k.waits) before ∙ (st.knows.queue going).waits
 
-      first_waited : (b : Bool) → closes mid.waits who u ≡ b → (r : Answer) → (if b then Refused (Deadlock u) else Waits u) ≡ r → first_of (write_tests h (s.lsn old.store) Room place.0 place.1 who table key action) Done ≡ r
+      first_waited : (b : Bool) → closes mid.waits who u ≡ b → (r : Answer) → (if b then Refused (Deadlock u) else Waits u) ≡ r → first_of (write_tests h (s.lsn old.store) place.0 place.1 who table key action) Done ≡ r
       first_waited b ring r is =
-          ap (λ (l : List (Bool × Answer)). first_of l Done) (split_tests h (s.lsn old.store) Room place.0 place.1 who table key action)
-          ∙ of_holder (holder h table key) held.0 (serial_tests h.commits (isolation_of h who) table key ++ row_tests h (s.lsn old.store) Room place.0 place.1 who table key action)
+          ap (λ (l : List (Bool × Answer)). first_of l Done) (split_tests h (s.lsn old.store) place.0 place.1 who table key action)
+          ∙ of_holder (holder h table key) held.0 (serial_tests h.commits (isolation_of h who) table key ++ row_tests h (s.lsn old.store) place.0 place.1 who table key action)
         where
           differ : not (nat_le u who && nat_le who u) ≡ true
           differ = let ne = held.1 in grind (arith, nat_tests)
@@ -246,8 +241,7 @@ module _ {S : Type 0} (s : Ghosts S) (told : s.tells) (laws : Laws s) (h : State
   pub does_after : (call : Call) (answer : Answer) (new : EngineView S) → Does s h call answer mid new → Does s h call answer old new
   does_after call answer new does =
       let number : s.lsn mid.store ≡ s.lsn old.store = let n = logs.number refl in omega (arith, n) in record {
-        reply = subst (λ (k : Option ℕ). Reply h (s.lsn old.store) (room_of k (s.lsn old.store)) call answer) logs.same_slots
-            (subst (λ (n : ℕ). Reply h n (room_of (s.slots mid.store) n) call answer) number does.reply);
+        reply = subst (λ (n : ℕ). Reply h n call answer) number does.reply;
         now = does.now;
         after = does.after;
         keeps = does.keeps;

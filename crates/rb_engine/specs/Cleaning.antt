@@ -2,7 +2,6 @@
 use Rattle.std.specs.Prelude.{◌≡◌, ◌⊎◌, ◌<◌, ◌≤◌, ◌+◌, ℕ, Bool, true, false}
 use Rattle.std.specs.Prelude.{List, length, Option, Some, Result, Ok, Err}
 use Rattle.rb_base.specs.Blocks.{block_of}
-use Rattle.rb_base.specs.Stores.{room_of}
 use Rattle.rb_base.specs.declared.ids.Xid.{Xid}
 use Rattle.rb_base.specs.declared.shape.Shape.{Shape}
 use Rattle.rb_base.specs.declared.sizes.TheConstants.{WORN}
@@ -20,7 +19,6 @@ use Rattle.rb_model.specs.State.{State}
 use Rattle.rb_model.specs.declared.refusal.Refusal.{Refusal}
 use Rattle.rb_model.specs.declared.refusal.Refusal.TheVariants.{TooOld}
 use Rattle.rb_model.specs.declared.row.Fetched.{Fetched}
-use Rattle.rb_segment.specs.Segments.{owed_in}
 use Rattle.rb_sessions.specs.Kept.{kept_at, named}
 use Rattle.rb_sessions.specs.declared.cursor.Cursor.{Cursor}
 use Rattle.rb_standing.specs.Standing.{env_of, segments_of}
@@ -37,19 +35,14 @@ pub record OnlyCleaned (shape : Shape) (Is : ℕ → Type 0) (before now : List 
   pub segments : segments_of shape now ≡ segments_of shape before
   pub each : (b : ℕ) → (block_of now b ≡ block_of before b) ⊎ (Is b × IsClean shape before now b)
 
--- The log isn't worn out, and has room for one group beside those that put back all that is under way.
-pub record HasSpare {S : Type 0} (s : Ghosts S) (shape : Shape) (store : S) : Type 0 where
-  pub young : s.lsn store < WORN
-  pub room : owed_in shape (s.blocks store) < room_of (s.slots store) (s.lsn store)
-
 -- A reader cleaned blocks in a store that stood for a state, each by one group, and at most so many: none but those of
--- which `May` holds, and each of which `Must` holds, where there is room for it. The store stands for the state, and a
--- crash leaves no less.
+-- which `May` holds, and each of which `Must` holds, unless the log is worn out then. The store stands for the state,
+-- and a crash leaves no less.
 pub record HasCleaned {S : Type 0} (s : Ghosts S) (h : State) (xids : List Xid) (May Must : ℕ → Type 0) (most : ℕ)
     (old new : S) : Type 0 where
   pub holds : Holds s h xids new
   pub only : OnlyCleaned h.shape May (s.blocks old) (s.blocks new)
-  pub all : (b : ℕ) → Must b → HasSpare s h.shape new → IsClean h.shape (s.blocks old) (s.blocks new) b
+  pub all : (b : ℕ) → Must b → s.lsn new < WORN → IsClean h.shape (s.blocks old) (s.blocks new) b
   pub count : ℕ
   pub few : count ≤ most
   pub lsn : s.lsn new ≡ s.lsn old + count
@@ -103,12 +96,12 @@ HasLooked (Err (TooOld scn lost)) = Unit {0}
 HasLooked (Err _) = ⊥
 
 -- A fetch of a session cleans no block but those that it reads for its cursor of that name. Where it answers a row, or
--- the end, each of these is clean, unless the log is worn out then or has no more room than rollbacks need.
+-- the end, each of these is clean, unless the log is worn out then.
 pub record CleansRead {S : Type 0} (s : Ghosts S) (h : State) (e : EngineView S) (who : ℕ) (name : List ℕ)
     (well : Type 0) (new : S) : Type 0 where
   pub xids : List Xid
   pub cursor : Cursor
   pub is : named name (kept_at e.memory.sessions who).cursors ≡ Some cursor
   pub only : OnlyCleaned h.shape (ReadIn h xids (s.blocks e.store) cursor) (s.blocks e.store) (s.blocks new)
-  pub all : well → (b : ℕ) → ReadIn h xids (s.blocks e.store) cursor b → HasSpare s h.shape new
+  pub all : well → (b : ℕ) → ReadIn h xids (s.blocks e.store) cursor b → s.lsn new < WORN
       → IsClean h.shape (s.blocks e.store) (s.blocks new) b

@@ -3,7 +3,6 @@ use Rattle.std.specs.Prelude.{◌≡◌, ◌<◌, ◌≤◌, ◌+◌, ◌^◌, �
 use Rattle.std.specs.Prelude.{length, map, Option, None, Some, Result}
 use Rattle.std.specs.List.{AllByRecursion, sum_by}
 use Rattle.rb_base.specs.Counts.{err_is}
-use Rattle.rb_base.specs.Stores.{room_of}
 use Rattle.rb_base.specs.declared.ids.Xid.{Xid}
 use Rattle.rb_base.specs.declared.shape.Shape.{Shape}
 use Rattle.rb_base.specs.declared.sizes.TheConstants.{SLOTS}
@@ -118,7 +117,7 @@ Keeps h call answer now = (s table key : ℕ) (action : Action)
 -- besides.
 pub record Does {S : Type 0} (s : Ghosts S) (h : State) (call : Call) (answer : Answer) (old new : EngineView S) : Type
     0 where
-  pub reply : Reply h (s.lsn old.store) (room_of (s.slots old.store) (s.lsn old.store)) call answer
+  pub reply : Reply h (s.lsn old.store) call answer
   pub now : State
   pub after : After h call answer now
   pub keeps : h.stopped ≡ false → Keeps h call answer now

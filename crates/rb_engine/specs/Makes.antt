@@ -2,7 +2,6 @@
 use Rattle.std.specs.Prelude.{◌≡◌, ◌⊎◌, ◌<◌, ◌+◌, ◌-◌, ◌*◌, ℕ}
 use Rattle.std.specs.Prelude.{true, false, List, length, Option, None, Some, Result}
 use Rattle.rb_base.specs.Blocks.{home_block}
-use Rattle.rb_base.specs.Stores.{room_of}
 use Rattle.rb_base.specs.declared.ids.Uba.{Uba}
 use Rattle.rb_base.specs.declared.ids.Xid.{Xid}
 use Rattle.rb_base.specs.declared.sizes.TheConstants.{WORN}
@@ -19,7 +18,6 @@ use Rattle.rb_model.specs.State.{Savepoint, State, asked_of, savepoint_of, sessi
 use Rattle.rb_model.specs.declared.refusal.Refusal.{Refusal}
 use Rattle.rb_model.specs.declared.refusal.Refusal.TheVariants.{TooOld}
 use Rattle.rb_model.specs.declared.wrote.Wrote.{Wrote}
-use Rattle.rb_segment.specs.Segments.{owed_in}
 use Rattle.rb_sessions.specs.declared.cursor.Cursor.{Cursor}
 use Rattle.rb_standing.specs.Groups.{IsCommitted, IsEnded}
 use Rattle.rb_standing.specs.Standing.{env_of}
@@ -61,8 +59,8 @@ MadeBy h (RollbackTo s name) before now = (p : Savepoint) × (savepoint_of h s n
 MadeBy h call before now = now ≡ before
 
 -- A fetch cleans no block but those that it reads, and all of them where it went well and the log, which has come to
--- that number, isn't worn out and has room.
-pub record ReadBy (h : State) (who : ℕ) (name : List ℕ) (well : Type 0) (slots : Option ℕ) (lsn : ℕ)
+-- that number, isn't worn out.
+pub record ReadBy (h : State) (who : ℕ) (name : List ℕ) (well : Type 0) (lsn : ℕ)
     (before now : List (List ℕ)) : Type 0 where
   pub xids : List Xid
   pub cursor : machine.Cursor
@@ -70,36 +68,35 @@ pub record ReadBy (h : State) (who : ℕ) (name : List ℕ) (well : Type 0) (slo
   pub kept : Cursor
   pub is : IsCursor h xids (env_of h.shape before) who (record { name = name; cursor = kept }) cursor
   pub only : OnlyCleaned h.shape (ReadIn h xids before kept) before now
-  pub all : well → (b : ℕ) → ReadIn h xids before kept b → lsn < WORN
-      → owed_in h.shape now < room_of slots lsn → IsClean h.shape before now b
+  pub all : well → (b : ℕ) → ReadIn h xids before kept b → lsn < WORN → IsClean h.shape before now b
 
-abbrev pub MadeReading : State → Call → Type 0 → Option ℕ → ℕ → (before now : List (List ℕ)) → Type 0
-MadeReading h (Fetch who name) well slots lsn before now = ReadBy h who name well slots lsn before now
-MadeReading h call well slots lsn before now = now ≡ before
+abbrev pub MadeReading : State → Call → Type 0 → ℕ → (before now : List (List ℕ)) → Type 0
+MadeReading h (Fetch who name) well lsn before now = ReadBy h who name well lsn before now
+MadeReading h call well lsn before now = now ≡ before
 
 -- a refused call changes no block, but a fetch that is too old may have cleaned some
-abbrev pub MadeRefused : State → Call → Refusal → Option ℕ → ℕ → (before now : List (List ℕ)) → Type 0
-MadeRefused h call (TooOld scn lost) slots lsn before now = MadeReading h call ⊥ slots lsn before now
-MadeRefused h call why slots lsn before now = now ≡ before
+abbrev pub MadeRefused : State → Call → Refusal → ℕ → (before now : List (List ℕ)) → Type 0
+MadeRefused h call (TooOld scn lost) lsn before now = MadeReading h call ⊥ lsn before now
+MadeRefused h call why lsn before now = now ≡ before
 
--- A call in a state with that answer, other than a fault of the disk, makes these blocks of those before, over a log of
--- so many slots, which has come to that number.
-abbrev pub Makes : State → Call → Answer → Option ℕ → ℕ → (before now : List (List ℕ)) → Type 0
-Makes h call Done slots lsn before now = MadeBy h call before now
-Makes h call (Numbered n) slots lsn before now = MadeBy h call before now
-Makes h call (Waits on) slots lsn before now = now ≡ before
-Makes h call (Given key value) slots lsn before now = MadeReading h call (Unit {0}) slots lsn before now
-Makes h call End slots lsn before now = MadeReading h call (Unit {0}) slots lsn before now
-Makes h call (Marked seg writes lost) slots lsn before now = now ≡ before
-Makes h call (Refused why) slots lsn before now = MadeRefused h call why slots lsn before now
+-- A call in a state with that answer, other than a fault of the disk, makes these blocks of those before, over a log
+-- that has come to that number.
+abbrev pub Makes : State → Call → Answer → ℕ → (before now : List (List ℕ)) → Type 0
+Makes h call Done lsn before now = MadeBy h call before now
+Makes h call (Numbered n) lsn before now = MadeBy h call before now
+Makes h call (Waits on) lsn before now = now ≡ before
+Makes h call (Given key value) lsn before now = MadeReading h call (Unit {0}) lsn before now
+Makes h call End lsn before now = MadeReading h call (Unit {0}) lsn before now
+Makes h call (Marked seg writes lost) lsn before now = now ≡ before
+Makes h call (Refused why) lsn before now = MadeRefused h call why lsn before now
 
 -- A resumed write makes what the write makes that its session waited with, as if the session had never been in the
 -- queue. Where none was tried, no block changed.
-abbrev pub ResumeMakes : State → Option (ℕ × Result Wrote Refusal) → Option ℕ → ℕ
+abbrev pub ResumeMakes : State → Option (ℕ × Result Wrote Refusal) → ℕ
     → (before now : List (List ℕ)) → Type 0
-ResumeMakes h None slots lsn before now = now ≡ before
-ResumeMakes h (Some (w, outcome)) slots lsn before now = (a : Asked) × (asked_of h w ≡ Some a)
-    × Makes (unqueued h w) (Write w a.table a.key a.action) (write_answer outcome) slots lsn before now
+ResumeMakes h None lsn before now = now ≡ before
+ResumeMakes h (Some (w, outcome)) lsn before now = (a : Asked) × (asked_of h w ≡ Some a)
+    × Makes (unqueued h w) (Write w a.table a.key a.action) (write_answer outcome) lsn before now
 
 -- blocks stand for a state
 abbrev pub StandFor : State → List (List ℕ) → Type 0

@@ -1,8 +1,7 @@
 -- What an opening makes of a store.
-use Rattle.std.specs.Prelude.{◌≡◌, ◌≤◌, ◌+◌, []}
+use Rattle.std.specs.Prelude.{◌≡◌, ◌+◌, []}
 use Rattle.rb_base.specs.Blocks.{IsShape}
 use Rattle.rb_base.specs.Moments.{LeavesOnly}
-use Rattle.rb_base.specs.Stores.{room_of}
 use Rattle.rb_base.specs.declared.store.Store.{Ghosts}
 use Rattle.rb_engine.specs.Does.{EngineView, Stands}
 use Rattle.rb_image.specs.Crash.{Restarts}
@@ -12,13 +11,12 @@ use Rattle.rb_restart.specs.Rollback.{BackBy}
 use Rattle.rb_segment.specs.Segments.{owed_in}
 use Rattle.rb_standing.specs.Standing.{logged_of}
 
--- The blocks of a store open to a state. The last log number is that of the last group that patched a block, the log
--- has room for the groups that put back what is under way, and nothing waits to be made last.
+-- The blocks of a store open to a state. The last log number is that of the last group that patched a block, and
+-- nothing waits to be made last.
 pub record OpensTo {S : Type 0} (s : Ghosts S) (h : State) (store : S) : Type 0 where
   pub in_range : IsShape (s.shape_of store)
   pub opening : OpensAs (s.shape_of store) (s.blocks store) h
   pub logged : s.lsn store ≡ logged_of (s.shape_of store) (s.blocks store)
-  pub fits : owed_in (s.shape_of store) (s.blocks store) ≤ room_of (s.slots store) (s.lsn store)
   pub none_waits : s.keeps → s.pending store ≡ []
   pub stable : s.keeps → s.stable store (s.blocks store) (s.lsn store)
 

@@ -45,7 +45,7 @@ impl<T: Store> Engine<T> {
             (machine.Write s table key (action_of op.entry)) (write_answer result) self.old self.new }
         ensures makes { (h : State) → Stands T.Store h self.old → err_is is_disk_fault result ≡ false
             → Makes h (machine.Write s table key (action_of op.entry)) (write_answer result)
-            (T.slots self.old.store) (T.lsn self.new.store) (T.blocks self.old.store) (T.blocks self.new.store) }
+            (T.lsn self.new.store) (T.blocks self.old.store) (T.blocks self.new.store) }
         ensures lost { (h : State) → Stands T.Store h self.old → (scn lost : ℕ)
             → result ≡ Err (Refusal.TooOld scn lost) → WriteNeedsLost T.Store h self.old s table key scn lost }
         ensures tells { (h : State) → Stands T.Store h self.old → err_is is_disk_fault result ≡ false
@@ -74,7 +74,7 @@ impl<T: Store> Engine<T> {
             (machine.Write s table key machine.Lock) (write_answer result) self.old self.new }
         ensures makes { (h : State) → Stands T.Store h self.old → err_is is_disk_fault result ≡ false
             → Makes h (machine.Write s table key machine.Lock) (write_answer result)
-            (T.slots self.old.store) (T.lsn self.new.store) (T.blocks self.old.store) (T.blocks self.new.store) }
+            (T.lsn self.new.store) (T.blocks self.old.store) (T.blocks self.new.store) }
         ensures lost { (h : State) → Stands T.Store h self.old → (scn lost : ℕ)
             → result ≡ Err (Refusal.TooOld scn lost) → WriteNeedsLost T.Store h self.old s table key scn lost }
         ensures tells { (h : State) → Stands T.Store h self.old → err_is is_disk_fault result ≡ false
@@ -108,7 +108,7 @@ impl<T: Store> Engine<T> {
             → T.holds_back self.old.store self.new.store }
         ensures makes { (h : State) → Stands T.Store h self.old → err_is is_disk_fault result ≡ false
             → Makes h (machine.SetMode s mode) (plain_answer result)
-            (T.slots self.old.store) (T.lsn self.new.store) (T.blocks self.old.store) (T.blocks self.new.store) }
+            (T.lsn self.new.store) (T.blocks self.old.store) (T.blocks self.new.store) }
         ensures same { SameStore T.Store self.old.store self.new.store }
         ensures disk { IsCountedAs (T.faults self.old.store) (T.faults self.new.store)
             (err_is is_disk_fault result) }
@@ -123,7 +123,7 @@ impl<T: Store> Engine<T> {
             (machine.Commit s) (commit_answer result) self.old self.new }
         ensures makes { (h : State) → Stands T.Store h self.old → err_is is_disk_fault result ≡ false
             → Makes h (machine.Commit s) (commit_answer result)
-            (T.slots self.old.store) (T.lsn self.new.store) (T.blocks self.old.store) (T.blocks self.new.store) }
+            (T.lsn self.new.store) (T.blocks self.old.store) (T.blocks self.new.store) }
         ensures rows { (h : State) → Stands T.Store h self.old
             → OnOk result (KeepsRows h.shape (T.blocks self.old.store) (T.blocks self.new.store)) }
         ensures holds_back { HasNoNumber result → T.holds_back self.old.store self.new.store }
@@ -142,7 +142,7 @@ impl<T: Store> Engine<T> {
             → T.holds_back self.old.store self.new.store }
         ensures makes { (h : State) → Stands T.Store h self.old → err_is is_disk_fault result ≡ false
             → Makes h (machine.Rollback s) (plain_answer result)
-            (T.slots self.old.store) (T.lsn self.new.store) (T.blocks self.old.store) (T.blocks self.new.store) }
+            (T.lsn self.new.store) (T.blocks self.old.store) (T.blocks self.new.store) }
         ensures same { SameStore T.Store self.old.store self.new.store }
         ensures disk { IsCountedAs (T.faults self.old.store) (T.faults self.new.store)
             (err_is is_disk_fault result) }
@@ -159,7 +159,7 @@ impl<T: Store> Engine<T> {
             → T.holds_back self.old.store self.new.store }
         ensures makes { (h : State) → Stands T.Store h self.old → err_is is_disk_fault result ≡ false
             → Makes h (machine.SetSavepoint s (name_text name.now)) (plain_answer result)
-            (T.slots self.old.store) (T.lsn self.new.store) (T.blocks self.old.store) (T.blocks self.new.store) }
+            (T.lsn self.new.store) (T.blocks self.old.store) (T.blocks self.new.store) }
         ensures same { SameStore T.Store self.old.store self.new.store }
         ensures disk { IsCountedAs (T.faults self.old.store) (T.faults self.new.store)
             (err_is is_disk_fault result) }
@@ -176,7 +176,7 @@ impl<T: Store> Engine<T> {
             → T.holds_back self.old.store self.new.store }
         ensures makes { (h : State) → Stands T.Store h self.old → err_is is_disk_fault result ≡ false
             → Makes h (machine.RollbackTo s (name_text name.now)) (plain_answer result)
-            (T.slots self.old.store) (T.lsn self.new.store) (T.blocks self.old.store) (T.blocks self.new.store) }
+            (T.lsn self.new.store) (T.blocks self.old.store) (T.blocks self.new.store) }
         ensures same { SameStore T.Store self.old.store self.new.store }
         ensures disk { IsCountedAs (T.faults self.old.store) (T.faults self.new.store)
             (err_is is_disk_fault result) }
@@ -199,7 +199,7 @@ impl<T: Store> Engine<T> {
             → T.holds_back self.old.store self.new.store }
         ensures makes { (h : State) → Stands T.Store h self.old → err_is is_disk_fault result ≡ false
             → Makes h (machine.OpenCursor s (name_text name.now) table lo hi) (plain_answer result)
-            (T.slots self.old.store) (T.lsn self.new.store) (T.blocks self.old.store) (T.blocks self.new.store) }
+            (T.lsn self.new.store) (T.blocks self.old.store) (T.blocks self.new.store) }
         ensures same { SameStore T.Store self.old.store self.new.store }
         ensures disk { IsCountedAs (T.faults self.old.store) (T.faults self.new.store)
             (err_is is_disk_fault result) }
@@ -210,15 +210,14 @@ impl<T: Store> Engine<T> {
     /// Gives the next row of a cursor into `row`, or the end. It takes no lock and waits for nobody. Where what its
     /// snapshot needs was given up, it may be refused as `TooOld`, and may be tried again: the first home that may have
     /// the next row can't be read then. Each home that it reads is cleaned of transactions that have ended, by a group
-    /// that waits, while the log has more room than rollbacks need: later readers and writers find the numbers
-    /// of these in the block, also where the segments have forgotten them. No row changes by it. (The delayed cleanout
-    /// of Oracle7.)
+    /// that waits, unless the log is worn out: later readers and writers find the numbers of these in the block, also
+    /// where the segments have forgotten them. No row changes by it. (The delayed cleanout of Oracle7.)
     pub fn fetch(&mut self, s: u16, name: &Name, row: &mut Row) -> Result<Fetched, Refusal>
         ensures did { (h : State) → Stands T.Store h self.old → Does T.Store h
             (machine.Fetch s (name_text name.now)) (fetch_answer result row.new) self.old self.new }
         ensures makes { (h : State) → Stands T.Store h self.old → err_is is_disk_fault result ≡ false
             → Makes h (machine.Fetch s (name_text name.now)) (fetch_answer result row.new)
-            (T.slots self.old.store) (T.lsn self.new.store) (T.blocks self.old.store) (T.blocks self.new.store) }
+            (T.lsn self.new.store) (T.blocks self.old.store) (T.blocks self.new.store) }
         ensures lost { (h : State) → Stands T.Store h self.old → (scn lost : ℕ)
             → result ≡ Err (Refusal.TooOld scn lost)
             → NeedsLost T.Store h self.old s (name_text name.now) scn lost }
@@ -253,7 +252,7 @@ impl<T: Store> Engine<T> {
             → T.holds_back self.old.store self.new.store }
         ensures makes { (h : State) → Stands T.Store h self.old → err_is is_disk_fault result ≡ false
             → Makes h (machine.CloseCursor s (name_text name.now)) (plain_answer result)
-            (T.slots self.old.store) (T.lsn self.new.store) (T.blocks self.old.store) (T.blocks self.new.store) }
+            (T.lsn self.new.store) (T.blocks self.old.store) (T.blocks self.new.store) }
         ensures same { SameStore T.Store self.old.store self.new.store }
         ensures disk { IsCountedAs (T.faults self.old.store) (T.faults self.new.store)
             (err_is is_disk_fault result) }
@@ -269,7 +268,7 @@ impl<T: Store> Engine<T> {
             → T.holds_back self.old.store self.new.store }
         ensures makes { (h : State) → Stands T.Store h self.old → err_is is_disk_fault result ≡ false
             → Makes h (machine.Cancel s) (plain_answer result)
-            (T.slots self.old.store) (T.lsn self.new.store) (T.blocks self.old.store) (T.blocks self.new.store) }
+            (T.lsn self.new.store) (T.blocks self.old.store) (T.blocks self.new.store) }
         ensures same { SameStore T.Store self.old.store self.new.store }
         ensures disk { IsCountedAs (T.faults self.old.store) (T.faults self.new.store)
             (err_is is_disk_fault result) }
@@ -283,7 +282,7 @@ impl<T: Store> Engine<T> {
     pub fn resume(&mut self) -> Option<(u16, Result<Wrote, Refusal>)>
         ensures did { (h : State) → Stands T.Store h self.old → Resumes T.Store h result self.old self.new }
         ensures makes { (h : State) → Stands T.Store h self.old → resume_fault result ≡ false
-            → ResumeMakes h result (T.slots self.old.store) (T.lsn self.new.store)
+            → ResumeMakes h result (T.lsn self.new.store)
             (T.blocks self.old.store) (T.blocks self.new.store) }
         ensures lost { (h : State) → Stands T.Store h self.old → (s scn lost : ℕ)
             → result ≡ Some (s, Err (Refusal.TooOld scn lost)) → ResumeNeedsLost T.Store h self.old s scn lost }
@@ -308,7 +307,7 @@ impl<T: Store> Engine<T> {
             → T.holds_back self.old.store self.new.store }
         ensures makes { (h : State) → Stands T.Store h self.old → err_is is_disk_fault result ≡ false
             → Makes h (machine.Marks seg) (marks_answer seg result)
-            (T.slots self.old.store) (T.lsn self.new.store) (T.blocks self.old.store) (T.blocks self.new.store) }
+            (T.lsn self.new.store) (T.blocks self.old.store) (T.blocks self.new.store) }
         ensures same { SameStore T.Store self.old.store self.new.store }
         ensures disk { IsCountedAs (T.faults self.old.store) (T.faults self.new.store)
             (err_is is_disk_fault result) }
@@ -323,7 +322,7 @@ impl<T: Store> Engine<T> {
             machine.Checkpoint (plain_answer result) self.old self.new }
         ensures makes { (h : State) → Stands T.Store h self.old → err_is is_disk_fault result ≡ false
             → Makes h machine.Checkpoint (plain_answer result)
-            (T.slots self.old.store) (T.lsn self.new.store) (T.blocks self.old.store) (T.blocks self.new.store) }
+            (T.lsn self.new.store) (T.blocks self.old.store) (T.blocks self.new.store) }
         ensures leaves { (h : State) → Stands T.Store h self.old → h.stopped ≡ false
             → LeavesState T.Store h self.old.store self.new.store }
         ensures nothing_waits { T.keeps → OnOk result (T.pending self.new.store ≡ []) }

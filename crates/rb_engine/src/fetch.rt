@@ -38,7 +38,7 @@ pub fn do_fetch<T: Store>(
     ensures makes { (h : State) → Stands T.Store h (record { memory = memory.old; store = store.old })
         → err_is is_disk_fault result ≡ false
         → Makes h (machine.Fetch s (name_text name.now)) (fetch_answer result row.new)
-        (T.slots store.old) (T.lsn store.new) (T.blocks store.old) (T.blocks store.new) }
+        (T.lsn store.new) (T.blocks store.old) (T.blocks store.new) }
     ensures lost { (h : State) → Stands T.Store h (record { memory = memory.old; store = store.old })
         → (scn lost : ℕ) → result ≡ Err (Refusal.TooOld scn lost) → NeedsLost T.Store h
         (record { memory = memory.old; store = store.old }) s (name_text name.now) scn lost }

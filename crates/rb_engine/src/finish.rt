@@ -6,7 +6,6 @@ ghost use Rattle.std.specs.Result.{is_err};
 ghost use Rattle.rb_base.specs.Counts.{IsCounted, IsCountedAs, err_is};
 ghost use Rattle.rb_base.specs.Groups.{Patch};
 ghost use Rattle.rb_base.specs.Logs.{Logs};
-ghost use Rattle.rb_base.specs.Stores.{room_of};
 ghost use Rattle.rb_engine.specs.Does.{Does, IsInStep, SameStore, Stands};
 ghost use Rattle.rb_engine.specs.Finishing.{Commits, HasNoNumber, PutsAllBack, PutsBack};
 ghost use Rattle.rb_engine.specs.Makes.{Makes};
@@ -34,7 +33,6 @@ fn commit_and_flush<T: Store>(store: &mut T, xid: Xid, scn: Scn) -> Result<(), F
     requires going { T.failed store.old ≡ false }
     requires there { xid.seg < (T.shape_of store.old).segments }
     requires slot { xid.slot < SLOTS }
-    requires room { 1 ≤ room_of (T.slots store.old) (T.lsn store.old) }
     requires few { T.lsn store.old < 2 ^ 62 }
     ensures commits { T.tells → (h : State) (xids : List Xid) (who : ℕ) → T.shape_of store.old ≡ h.shape
         → Holds T.Store h xids store.old → 1 ≤ who → who ≤ length h.sessions
@@ -61,7 +59,6 @@ pub fn put_back<T: Store>(
     requires going { T.failed store.old ≡ false }
     requires there { xid.seg < (T.shape_of store.old).segments }
     requires slot { xid.slot < SLOTS }
-    requires room { count ≤ room_of (T.slots store.old) (T.lsn store.old) }
     requires few { T.lsn store.old + count < 2 ^ 62 }
     ensures puts_back { T.tells → (h : State) (xids : List Xid) (who kept : ℕ) → T.shape_of store.old ≡ h.shape
         → Holds T.Store h xids store.old → 1 ≤ who → who ≤ length h.sessions
@@ -86,7 +83,6 @@ fn put_all_back<T: Store>(store: &mut T, xid: Xid, count: u32) -> Result<(), Fai
     requires going { T.failed store.old ≡ false }
     requires there { xid.seg < (T.shape_of store.old).segments }
     requires slot { xid.slot < SLOTS }
-    requires room { count < room_of (T.slots store.old) (T.lsn store.old) }
     requires few { T.lsn store.old + count < 2 ^ 62 - 1 }
     ensures puts_back { T.tells → (h : State) (xids : List Xid) (who : ℕ) → T.shape_of store.old ≡ h.shape
         → Holds T.Store h xids store.old → 1 ≤ who → who ≤ length h.sessions
@@ -123,17 +119,13 @@ fn commit_changes<T: Store>(
         (record { memory = memory.old; store = store.old }) (record { memory = memory.new; store = store.new }) }
     ensures makes { (h : State) → Stands T.Store h (record { memory = memory.old; store = store.old })
         → err_is is_disk_fault result ≡ false → Makes h (machine.Commit s) (commit_answer result)
-        (T.slots store.old) (T.lsn store.new) (T.blocks store.old) (T.blocks store.new) }
+        (T.lsn store.new) (T.blocks store.old) (T.blocks store.new) }
     ensures rows { (h : State) → Stands T.Store h (record { memory = memory.old; store = store.old })
         → OnOk result (KeepsRows h.shape (T.blocks store.old) (T.blocks store.new)) }
     ensures holds_back { HasNoNumber result → T.holds_back store.old store.new }
     ensures same { SameStore T.Store store.old store.new }
     ensures disk { IsCountedAs (T.faults store.old) (T.faults store.new) (err_is is_disk_fault result) }
 {
-    // Room is kept for it; a damaged file alone may have none.
-    if store.room() == 0 {
-        return Err(Refusal::LogFull);
-    }
     let scn = memory.scn.saturating_add(1);
     match commit_and_flush(store, xid, scn) {
         Ok(()) => {
@@ -168,16 +160,13 @@ fn end_without_changes<T: Store>(
         (record { memory = memory.old; store = store.old }) (record { memory = memory.new; store = store.new }) }
     ensures makes { (h : State) → Stands T.Store h (record { memory = memory.old; store = store.old })
         → err_is is_disk_fault result ≡ false → Makes h (machine.Commit s) (commit_answer result)
-        (T.slots store.old) (T.lsn store.new) (T.blocks store.old) (T.blocks store.new) }
+        (T.lsn store.new) (T.blocks store.old) (T.blocks store.new) }
     ensures rows { (h : State) → Stands T.Store h (record { memory = memory.old; store = store.old })
         → OnOk result (KeepsRows h.shape (T.blocks store.old) (T.blocks store.new)) }
     ensures holds_back { HasNoNumber result → T.holds_back store.old store.new }
     ensures same { SameStore T.Store store.old store.new }
     ensures disk { IsCountedAs (T.faults store.old) (T.faults store.new) (err_is is_disk_fault result) }
 {
-    if store.room() == 0 {
-        return Err(Refusal::LogFull);
-    }
     match put_all_back(store, xid, 0) {
         Ok(()) => {}
         Err(_) => {
@@ -209,14 +198,11 @@ fn roll_back_changes<T: Store>(
     ensures holds_back { err_is is_disk_fault result ≡ false → T.holds_back store.old store.new }
     ensures makes { (h : State) → Stands T.Store h (record { memory = memory.old; store = store.old })
         → err_is is_disk_fault result ≡ false → Makes h (machine.Rollback s) (plain_answer result)
-        (T.slots store.old) (T.lsn store.new) (T.blocks store.old) (T.blocks store.new) }
+        (T.lsn store.new) (T.blocks store.old) (T.blocks store.new) }
     ensures same { SameStore T.Store store.old store.new }
     ensures disk { IsCountedAs (T.faults store.old) (T.faults store.new) (err_is is_disk_fault result) }
 {
     let count = memory.sessions.session(s).length;
-    if store.room() <= u64::from(count) {
-        return Err(Refusal::LogFull);
-    }
     match put_all_back(store, xid, count) {
         Ok(()) => {
             memory.sessions.rollback(s);
@@ -243,7 +229,7 @@ pub fn do_commit<T: Store>(
         (record { memory = memory.old; store = store.old }) (record { memory = memory.new; store = store.new }) }
     ensures makes { (h : State) → Stands T.Store h (record { memory = memory.old; store = store.old })
         → err_is is_disk_fault result ≡ false → Makes h (machine.Commit s) (commit_answer result)
-        (T.slots store.old) (T.lsn store.new) (T.blocks store.old) (T.blocks store.new) }
+        (T.lsn store.new) (T.blocks store.old) (T.blocks store.new) }
     ensures rows { (h : State) → Stands T.Store h (record { memory = memory.old; store = store.old })
         → OnOk result (KeepsRows h.shape (T.blocks store.old) (T.blocks store.new)) }
     ensures holds_back { HasNoNumber result → T.holds_back store.old store.new }
@@ -276,7 +262,7 @@ pub fn do_rollback<T: Store>(memory: &mut Memory, store: &mut T, s: u16) -> Resu
     ensures holds_back { err_is is_disk_fault result ≡ false → T.holds_back store.old store.new }
     ensures makes { (h : State) → Stands T.Store h (record { memory = memory.old; store = store.old })
         → err_is is_disk_fault result ≡ false → Makes h (machine.Rollback s) (plain_answer result)
-        (T.slots store.old) (T.lsn store.new) (T.blocks store.old) (T.blocks store.new) }
+        (T.lsn store.new) (T.blocks store.old) (T.blocks store.new) }
     ensures same { SameStore T.Store store.old store.new }
     ensures disk { IsCountedAs (T.faults store.old) (T.faults store.new) (err_is is_disk_fault result) }
 {

@@ -4,14 +4,13 @@ ghost use Rattle.std.specs.Prelude.{IfOk, IfErr, OnOk, not, true, false};
 ghost use Rattle.std.specs.Result.{is_err};
 ghost use Rattle.rb_base.specs.Counts.{IsCountedAs, err_is, is_failed};
 ghost use Rattle.rb_base.specs.Logs.{Logs};
-ghost use Rattle.rb_base.specs.Stores.{room_of};
 ghost use Rattle.rb_engine.specs.Does.{IsInStep, SameStore};
 ghost use Rattle.rb_engine.specs.Opened.{Opened, OpensTo, StaysOpen};
 ghost use Rattle.rb_model.specs.State.{State};
-ghost use Rattle.rb_opening.specs.Opens.{CanOpen};
 ghost use Rattle.rb_segment.specs.Segments.{commit_scn};
 ghost use Rattle.rb_sessions.specs.Kept.{fresh};
 ghost use Rattle.rb_sessions.specs.declared.sessions.TheConstants.{SESSIONS};
+ghost use Rattle.rb_sound.specs.Sound.{AreSound};
 
 use crate::engine::Engine;
 use crate::memory::Memory;
@@ -54,12 +53,12 @@ fn open_memory<T: Store>(store: &mut T) -> Result<Memory, OpenFault>
     ensures unchanged { IfErr result (λ fault. fault ≢ OpenFault.Failed
         → Logs T.Store store.old store.new [] true) }
     ensures untouched { T.tells
-        → ¬ CanOpen (T.shape_of store.old) (T.blocks store.old) (room_of (T.slots store.old) (T.lsn store.old))
+        → ¬ AreSound (T.shape_of store.old) (T.blocks store.old)
         → IfErr result (λ fault. (going : Bool) × Logs T.Store store.old store.new [] going) }
     ensures sound { T.tells → OnOk result
-        (CanOpen (T.shape_of store.old) (T.blocks store.old) (room_of (T.slots store.old) (T.lsn store.old))) }
+        (AreSound (T.shape_of store.old) (T.blocks store.old)) }
     ensures none { T.tells → IfErr result (λ fault. fault ≡ OpenFault.NotAStore
-        → ¬ CanOpen (T.shape_of store.old) (T.blocks store.old) (room_of (T.slots store.old) (T.lsn store.old))) }
+        → ¬ AreSound (T.shape_of store.old) (T.blocks store.old)) }
     ensures same { SameStore T.Store store.old store.new }
     ensures counted { IsCountedAs (T.faults store.old) (T.faults store.new) (err_is is_failed result) }
 {
@@ -78,12 +77,12 @@ fn open_with<T: Store>(scratch: Scratch, store: T) -> Result<Engine<T>, (OpenFau
         → IfErr result (λ r. StaysOpen T.Store h store r.1) }
     ensures unchanged { IfErr result (λ r. r.0 ≢ OpenFault.Failed → Logs T.Store store r.1 [] true) }
     ensures untouched { T.tells
-        → ¬ CanOpen (T.shape_of store) (T.blocks store) (room_of (T.slots store) (T.lsn store))
+        → ¬ AreSound (T.shape_of store) (T.blocks store)
         → IfErr result (λ r. (going : Bool) × Logs T.Store store r.1 [] going) }
     ensures sound { T.tells → OnOk result
-        (CanOpen (T.shape_of store) (T.blocks store) (room_of (T.slots store) (T.lsn store))) }
+        (AreSound (T.shape_of store) (T.blocks store)) }
     ensures none { T.tells → IfErr result (λ r. r.0 ≡ OpenFault.NotAStore
-        → ¬ CanOpen (T.shape_of store) (T.blocks store) (room_of (T.slots store) (T.lsn store))) }
+        → ¬ AreSound (T.shape_of store) (T.blocks store)) }
     ensures same_ok { IfOk result (λ e. SameStore T.Store store e.store) }
     ensures same_err { IfErr result (λ r. SameStore T.Store store r.1) }
     ensures counted_ok { IfOk result (λ e. T.faults e.store ≡ T.faults store) }
@@ -103,7 +102,7 @@ fn open_with<T: Store>(scratch: Scratch, store: T) -> Result<Engine<T>, (OpenFau
 impl<T: Store> Engine<T> {
     /// Opens a store: puts back what was under way in its blocks, which then have the last commit's rows. It may be
     /// stopped at any moment and begun again. A refusal gives the store back: NotAStore where the blocks aren't in
-    /// order or the log has no room for what is to be put back, NoMemory, or Failed where a call of the store failed.
+    /// order, NoMemory, or Failed where a call of the store failed.
     pub fn open(alloc: Global, store: T) -> Result<Engine<T>, (OpenFault, T)>
         requires going { T.failed store ≡ false }
         requires few { T.lsn store ≤ 2 ^ 61 + 4096 }
@@ -113,12 +112,12 @@ impl<T: Store> Engine<T> {
             → IfErr result (λ r. StaysOpen T.Store h store r.1) }
         ensures unchanged { IfErr result (λ r. r.0 ≢ OpenFault.Failed → Logs T.Store store r.1 [] true) }
         ensures untouched { T.tells
-            → ¬ CanOpen (T.shape_of store) (T.blocks store) (room_of (T.slots store) (T.lsn store))
+            → ¬ AreSound (T.shape_of store) (T.blocks store)
             → IfErr result (λ r. (going : Bool) × Logs T.Store store r.1 [] going) }
         ensures sound { T.tells → OnOk result
-            (CanOpen (T.shape_of store) (T.blocks store) (room_of (T.slots store) (T.lsn store))) }
+            (AreSound (T.shape_of store) (T.blocks store)) }
         ensures none { T.tells → IfErr result (λ r. r.0 ≡ OpenFault.NotAStore
-            → ¬ CanOpen (T.shape_of store) (T.blocks store) (room_of (T.slots store) (T.lsn store))) }
+            → ¬ AreSound (T.shape_of store) (T.blocks store)) }
         ensures same_ok { IfOk result (λ e. SameStore T.Store store e.store) }
         ensures same_err { IfErr result (λ r. SameStore T.Store store r.1) }
         ensures counted_ok { IfOk result (λ e. T.faults e.store ≡ T.faults store) }

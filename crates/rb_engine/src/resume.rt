@@ -28,7 +28,7 @@ pub fn do_resume<T: Store>(
         → Resumes T.Store h result (record { memory = memory.old; store = store.old })
         (record { memory = memory.new; store = store.new }) }
     ensures makes { (h : State) → Stands T.Store h (record { memory = memory.old; store = store.old })
-        → resume_fault result ≡ false → ResumeMakes h result (T.slots store.old)
+        → resume_fault result ≡ false → ResumeMakes h result
         (T.lsn store.new) (T.blocks store.old) (T.blocks store.new) }
     ensures lost { (h : State) → Stands T.Store h (record { memory = memory.old; store = store.old })
         → (s scn lost : ℕ) → result ≡ Some (s, Err (Refusal.TooOld scn lost)) → ResumeNeedsLost T.Store h

@@ -67,15 +67,11 @@ fn roll_back_later<T: Store>(
     ensures makes { (h : State) → Stands T.Store h (record { memory = memory.old; store = store.old })
         → err_is is_disk_fault result ≡ false
         → Makes h (machine.RollbackTo s (name_text name.now)) (plain_answer result)
-        (T.slots store.old) (T.lsn store.new) (T.blocks store.old) (T.blocks store.new) }
+        (T.lsn store.new) (T.blocks store.old) (T.blocks store.new) }
     ensures same { SameStore T.Store store.old store.new }
     ensures disk { IsCountedAs (T.faults store.old) (T.faults store.new) (err_is is_disk_fault result) }
 {
     let count = memory.sessions.session(s).length.saturating_sub(kept);
-    // Room is kept for it; a damaged file alone may have none.
-    if store.room() < u64::from(count) {
-        return Err(Refusal::LogFull);
-    }
     match put_back(store, xid, count, &mut Group::new()) {
         Ok(()) => {
             memory.sessions.rollback_to(s, name);
@@ -105,7 +101,7 @@ pub fn do_rollback_to<T: Store>(
     ensures makes { (h : State) → Stands T.Store h (record { memory = memory.old; store = store.old })
         → err_is is_disk_fault result ≡ false
         → Makes h (machine.RollbackTo s (name_text name.now)) (plain_answer result)
-        (T.slots store.old) (T.lsn store.new) (T.blocks store.old) (T.blocks store.new) }
+        (T.lsn store.new) (T.blocks store.old) (T.blocks store.new) }
     ensures same { SameStore T.Store store.old store.new }
     ensures disk { IsCountedAs (T.faults store.old) (T.faults store.new) (err_is is_disk_fault result) }
 {

@@ -93,8 +93,8 @@ fn is_asked(cursor: &Cursor, blocks: u32, g: u32) -> bool
     ahead <= cursor.hi - cursor.lo
 }
 
-/// Puts the next row of home `g` into `row`, where it has one. The home is cleaned first, where the log has room for
-/// it, so that what is known of its transactions now is still known when their undo is gone.
+/// Puts the next row of home `g` into `row`, where it has one. The home is cleaned first, unless the log is worn out,
+/// so that what is known of its transactions now is still known when their undo is gone.
 fn next_in<S: Store>(
     store: &mut S,
     scratch: &mut Scratch,
@@ -147,7 +147,7 @@ fn next_in<S: Store>(
 
 /// Puts the cursor's next row into `row`, where there is one. The homes are read from that of the last row on, up to
 /// the one that has the next row, and no other. Each that is read is cleaned, by a group that waits, as long as
-/// the log isn't worn out and has more room than what puts back all that is under way.
+/// the log isn't worn out.
 pub fn next_row<S: Store>(
     store: &mut S,
     scratch: &mut Scratch,

@@ -43,7 +43,6 @@ fn refusal(fault: AttemptFault) -> Refusal
         AttemptFault::SlotsFull => Refusal::SlotsFull,
         AttemptFault::RollbackFull { seg, since } => Refusal::RollbackFull { seg, since },
         AttemptFault::WornOut => Refusal::WornOut,
-        AttemptFault::LogFull => Refusal::LogFull,
     }
 }
 
@@ -110,7 +109,7 @@ fn make_write<T: Store>(
         → MayWrite h s table key
         → err_is is_disk_fault result ≡ false
         → Makes h (machine.Write s table key (action_by op.entry)) (write_answer result)
-        (T.slots store.old) (T.lsn store.new) (T.blocks store.old) (T.blocks store.new) }
+        (T.lsn store.new) (T.blocks store.old) (T.blocks store.new) }
     ensures tells { (h : State) → Stands T.Store h (record { memory = memory.old; store = store.old })
         → machine.none_applies (machine.early_tests h (machine.Write s table key (action_by op.entry))) ≡ true
         → MayWrite h s table key
@@ -159,7 +158,7 @@ fn write_free<T: Store>(
         → NotOthers h s table key
         → err_is is_disk_fault result ≡ false
         → Makes h (machine.Write s table key (action_by op.entry)) (write_answer result)
-        (T.slots store.old) (T.lsn store.new) (T.blocks store.old) (T.blocks store.new) }
+        (T.lsn store.new) (T.blocks store.old) (T.blocks store.new) }
     ensures lost { (h : State) → Stands T.Store h (record { memory = memory.old; store = store.old })
         → (scn lost : ℕ) → result ≡ Err (Refusal.TooOld scn lost) → WriteNeedsLost T.Store h
         (record { memory = memory.old; store = store.old }) s table key scn lost }
@@ -203,7 +202,7 @@ fn try_write<T: Store>(
         → machine.none_applies (machine.early_tests h (machine.Write s table key (action_by op.entry))) ≡ true
         → err_is is_disk_fault result ≡ false
         → Makes h (machine.Write s table key (action_by op.entry)) (write_answer result)
-        (T.slots store.old) (T.lsn store.new) (T.blocks store.old) (T.blocks store.new) }
+        (T.lsn store.new) (T.blocks store.old) (T.blocks store.new) }
     ensures lost { (h : State) → Stands T.Store h (record { memory = memory.old; store = store.old })
         → (scn lost : ℕ) → result ≡ Err (Refusal.TooOld scn lost) → WriteNeedsLost T.Store h
         (record { memory = memory.old; store = store.old }) s table key scn lost }
@@ -244,7 +243,7 @@ pub fn do_write<T: Store>(
     ensures makes { (h : State) → Stands T.Store h (record { memory = memory.old; store = store.old })
         → err_is is_disk_fault result ≡ false
         → Makes h (machine.Write s table key (action_by op.entry)) (write_answer result)
-        (T.slots store.old) (T.lsn store.new) (T.blocks store.old) (T.blocks store.new) }
+        (T.lsn store.new) (T.blocks store.old) (T.blocks store.new) }
     ensures lost { (h : State) → Stands T.Store h (record { memory = memory.old; store = store.old })
         → (scn lost : ℕ) → result ≡ Err (Refusal.TooOld scn lost) → WriteNeedsLost T.Store h
         (record { memory = memory.old; store = store.old }) s table key scn lost }

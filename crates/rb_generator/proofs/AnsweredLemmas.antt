@@ -17,7 +17,7 @@ use Rattle.rb_generator.specs.declared.counts.Counts.{Counts}
 use Rattle.rb_model.proofs.Stops.{after_stops, fine_stays, the_fault}
 use Rattle.rb_model.specs.Calls.{Answer, Done, Waits, Numbered, Given, End, Marked, Refused, is_fault}
 use Rattle.rb_model.specs.Lines.{Command, call_of, most_calls}
-use Rattle.rb_model.specs.Out.{Logged, CallOut, Resumed, goes_on, Outside}
+use Rattle.rb_model.specs.Out.{Logged, CallOut, goes_on, Outside}
 use Rattle.rb_model.specs.Queue.{first_ready}
 use Rattle.rb_model.specs.State.{State}
 use Rattle.rb_model.specs.declared.refusal.Refusal.TheVariants.{DiskFault}
@@ -51,15 +51,12 @@ pub record CallsSoFar (start : Logged) (outside : Outside) (c : Command) (most k
 pub calls_none : (m : Logged) (outside : Outside) (c : Command) (most : ℕ) (before : Counts) → m.state.stopped ≡ false → CallsSoFar m outside c most 0 m before before
 calls_none m outside c most before going = record { answers = []; goes_on = λ rest end f. f; counted = sym (plus_none before); going = going }
 
-module _ (start m mid : Logged) (outside outside1 : Outside) (c : Command) (most k : ℕ) (r : Answer) (before counts counts2 : Counts)
-    (so : CallsSoFar start outside c most k m before counts) (same : outside1 ≡ outside) (lt : k < most) (made : CallOut m outside1 (call_of c k) r mid) (counted : counts2 ≡ plus counts (counts_of (r ∷ []))) where
-  once : CallOut m outside (call_of c k) r mid
-  once = subst (λ (n : Outside). CallOut m n (call_of c k) r mid) same made
-
+module _ (start m mid : Logged) (outside : Outside) (c : Command) (most k : ℕ) (r : Answer) (before counts counts2 : Counts)
+    (so : CallsSoFar start outside c most k m before counts) (lt : k < most) (made : CallOut m outside (call_of c k) r mid) (counted : counts2 ≡ plus counts (counts_of (r ∷ []))) where
   stopped : mid.state.stopped ≡ is_fault r
   stopped = ⊎_elim
-      (λ (e : is_fault r ≡ true). ap (λ (x : State). x.stopped) (after_stops m.state mid.state (call_of c k) r e once.state) ∙ sym e)
-      (λ (e : is_fault r ≡ false). (fine_stays m.state mid.state (call_of c k) r e once.state).stopped ∙ so.going ∙ sym e)
+      (λ (e : is_fault r ≡ true). ap (λ (x : State). x.stopped) (after_stops m.state mid.state (call_of c k) r e made.state) ∙ sym e)
+      (λ (e : is_fault r ≡ false). (fine_stays m.state mid.state (call_of c k) r e made.state).stopped ∙ so.going ∙ sym e)
       (cases_Bool (is_fault r))
 
   pub calls_more : goes_on r ≡ true → CallsSoFar start outside c most (k + 1) mid before counts2
@@ -67,7 +64,7 @@ module _ (start m mid : Logged) (outside outside1 : Outside) (c : Command) (most
     answers = so.answers ++ r ∷ [];
     goes_on = λ rest end f.
         subst (λ (xs : List Answer). CallsAnswered start outside c most 0 xs end) (sym (append_assoc so.answers (r ∷ []) rest))
-        (so.goes_on (r ∷ rest) end (lt, mid, once, subst (λ (b : Bool). MatchBool b (CallsAnswered mid outside c most (k + 1) rest end) ((rest ≡ []) × (end ≡ mid))) (sym gives) f));
+        (so.goes_on (r ∷ rest) end (lt, mid, made, subst (λ (b : Bool). MatchBool b (CallsAnswered mid outside c most (k + 1) rest end) ((rest ≡ []) × (end ≡ mid))) (sym gives) f));
     counted = counted_on before counts counts2 so.answers (r ∷ []) so.counted counted;
     going = stopped ∙ on_no_fault r gives;
   }
@@ -78,7 +75,7 @@ module _ (start m mid : Logged) (outside outside1 : Outside) (c : Command) (most
       let none : ◌≡◌ {A = List Answer} [] [] = refl in
       record {
         answers = so.answers ++ r ∷ [];
-        allowed = so.goes_on (r ∷ []) mid (lt, mid, once, subst (λ (b : Bool). MatchBool b (CallsAnswered mid outside c most (k + 1) [] mid) (◌≡◌ {A = List Answer} [] [] × (mid ≡ mid))) (sym gives) (none, refl));
+        allowed = so.goes_on (r ∷ []) mid (lt, mid, made, subst (λ (b : Bool). MatchBool b (CallsAnswered mid outside c most (k + 1) [] mid) (◌≡◌ {A = List Answer} [] [] × (mid ≡ mid))) (sym gives) (none, refl));
         counted = counted_on before counts counts2 so.answers (r ∷ []) so.counted counted;
         stops = stops_by so.answers r mid stopped;
       }
@@ -110,11 +107,11 @@ pub record ResumesSoFar (start : Logged) (outside : Outside) (now : Logged) (bef
 pub resumes_none : (m : Logged) (outside : Outside) (before : Counts) → m.state.stopped ≡ false → ResumesSoFar m outside m before before
 resumes_none m outside before going = record { answers = []; goes_on = λ rest end f. f; counted = sym (plus_none before); going = going }
 
-module _ (start m now : Logged) (outside outside1 : Outside) (w : ℕ) (r : Answer) (before counts counts2 : Counts)
-    (so : ResumesSoFar start outside m before counts) (same : outside1 ≡ outside) (counted : counts2 ≡ plus counts (counts_of (r ∷ []))) (again : TriedAgain m outside1 w r now) where
+module _ (start m now : Logged) (outside : Outside) (w : ℕ) (r : Answer) (before counts counts2 : Counts)
+    (so : ResumesSoFar start outside m before counts) (counted : counts2 ≡ plus counts (counts_of (r ∷ []))) (again : TriedAgain m outside w r now) where
   -- it and what follows it
   step_on : (rest : List Answer) (end : Logged) → ResumesAnswered now outside rest end → ResumesAnswered m outside (r ∷ rest) end
-  step_on rest end f = (w, again.asked, now, so.going, again.ready, again.known, subst (λ (k : Outside). Resumed m k w again.asked r now) same again.resumed, f)
+  step_on rest end f = (w, again.asked, now, so.going, again.ready, again.known, again.resumed, f)
 
   pub resumes_more : is_fault r ≡ false → ResumesSoFar start outside now before counts2
   resumes_more e = record {
@@ -160,11 +157,11 @@ command_fails m now outside c before counts has = record {
   stops = has.stops;
 }
 
-pub command_ends : (m mid now : Logged) (outside outside1 : Outside) (c : Command) (before counts counts2 : Counts) (fault : Bool) → HasCounted (CallsAnswered m outside c (most_calls m.state.shape c) 0) mid before counts false → outside1 ≡ outside
-    → HasCounted (ResumesAnswered mid outside1) now counts counts2 fault → HasCounted (CommandAnswered m outside c) now before counts2 fault
-command_ends m mid now outside outside1 c before counts counts2 fault own same resumed = record {
+pub command_ends : (m mid now : Logged) (outside : Outside) (c : Command) (before counts counts2 : Counts) (fault : Bool) → HasCounted (CallsAnswered m outside c (most_calls m.state.shape c) 0) mid before counts false
+    → HasCounted (ResumesAnswered mid outside) now counts counts2 fault → HasCounted (CommandAnswered m outside c) now before counts2 fault
+command_ends m mid now outside c before counts counts2 fault own resumed = record {
   answers = own.answers ++ resumed.answers;
-  allowed = (own.answers, resumed.answers, mid, own.allowed, refl, subst (λ (n : Outside). ResumesAnswered mid n resumed.answers now) same resumed.allowed);
+  allowed = (own.answers, resumed.answers, mid, own.allowed, refl, resumed.allowed);
   counted = counted_on before counts counts2 own.answers resumed.answers own.counted resumed.counted;
   stops = stops_on fault own.answers resumed.answers now resumed.stops;
 }
@@ -201,16 +198,15 @@ commands_none m outside n going =
       going = going;
     }
 
-module _ (start m mid : Logged) (outside outside1 : Outside) (n i : ℕ) (counts counts2 : Counts) (so : CommandsSoFar start outside n i m counts) (same : outside1 ≡ outside) (lt : i < n) where
+module _ (start m mid : Logged) (outside : Outside) (n i : ℕ) (counts counts2 : Counts) (so : CommandsSoFar start outside n i m counts) (lt : i < n) where
   abbrev Here : Bool → Type 0
-  Here fault = HasCounted (CommandAnswered m outside1 (command_at start.state.shape n i)) mid counts counts2 fault
+  Here fault = HasCounted (CommandAnswered m outside (command_at start.state.shape n i)) mid counts counts2 fault
 
   -- it and what follows it
   turn_on : (fault : Bool) (has : Here fault) (rest : List Answer) (end : Logged) → MatchBool mid.state.stopped ((rest ≡ []) × (end ≡ mid)) (CommandsAnswered mid outside (commands_from start.state.shape n (i + 1)) rest end)
       → CommandsAnswered start outside (commands_of start.state.shape n) (so.answers ++ (has.answers ++ rest)) end
   turn_on fault has rest end f =
-      let first : CommandAnswered m outside (command_at start.state.shape n i) has.answers mid = subst (λ (k : Outside). CommandAnswered m k (command_at start.state.shape n i) has.answers mid) same has.allowed in
-      so.goes_on (has.answers ++ rest) end (subst (λ (cs : List Command). CommandsAnswered m outside cs (has.answers ++ rest) end) (sym (one_from start.state.shape n i lt)) (has.answers, rest, mid, first, refl, f))
+      so.goes_on (has.answers ++ rest) end (subst (λ (cs : List Command). CommandsAnswered m outside cs (has.answers ++ rest) end) (sym (one_from start.state.shape n i lt)) (has.answers, rest, mid, has.allowed, refl, f))
 
   counts_on : (fault : Bool) (has : Here fault) → counts2 ≡ counts_of (so.answers ++ has.answers)
   counts_on fault has = counted_on no_counts counts counts2 so.answers has.answers (so.counted ∙ sym (none_plus (counts_of so.answers))) has.counted ∙ none_plus (counts_of (so.answers ++ has.answers))

@@ -3,7 +3,7 @@
 ghost use Rattle.std.specs.Prelude.{◌≡◌, ◌+◌, ◌≤◌, ◌^◌, false};
 ghost use Rattle.std.specs.Result.{is_err};
 ghost use Rattle.rb_base.specs.Counts.{IsCounted};
-ghost use Rattle.rb_calls.specs.Since.{IsSince, StandsAs, outside_of};
+ghost use Rattle.rb_calls.specs.Since.{IsSince, StandsAs, engine_outside};
 ghost use Rattle.rb_engine.specs.Does.{SameStore};
 ghost use Rattle.rb_generator.specs.Answered.{CallsAnswered, CommandAnswered, ResumesAnswered};
 ghost use Rattle.rb_generator.specs.Counted.{told};
@@ -30,8 +30,8 @@ fn make_calls<T: Store>(
     requires { told counts.old + most_calls (T.shape_of engine.old.store) (command_of command.now) ≤ 2 ^ 62 }
     ensures did { (m : Logged) → StandsAs T.Store engine.old m → m.state.stopped ≡ false
         → Did (StandsAs T.Store) (IsSince T.Store) engine.old engine.new m (λ now. HasCounted (CallsAnswered m
-        (outside_of (T.slots engine.old.store)) (command_of command.now)
-        (most_calls m.state.shape (command_of command.now)) 0) now counts.old counts.new (is_err result)) }
+        engine_outside (command_of command.now) (most_calls m.state.shape (command_of command.now)) 0) now
+        counts.old counts.new (is_err result)) }
     ensures few { told counts.new
         ≤ told counts.old + most_calls (T.shape_of engine.old.store) (command_of command.now) }
     ensures same { SameStore T.Store engine.old.store engine.new.store }
@@ -58,7 +58,7 @@ fn resume_ready<T: Store>(engine: &mut Engine<T>, counts: &mut Counts) -> Result
     requires { told counts.old + MOST_READY ≤ 2 ^ 62 }
     ensures did { (m : Logged) → StandsAs T.Store engine.old m → m.state.stopped ≡ false
         → Did (StandsAs T.Store) (IsSince T.Store) engine.old engine.new m (λ now. HasCounted (ResumesAnswered m
-        (outside_of (T.slots engine.old.store))) now counts.old counts.new (is_err result)) }
+        engine_outside) now counts.old counts.new (is_err result)) }
     ensures few { told counts.new ≤ told counts.old + MOST_READY }
     ensures same { SameStore T.Store engine.old.store engine.new.store }
     ensures disk { IsCounted (T.faults engine.old.store) (T.faults engine.new.store) result }
@@ -84,8 +84,7 @@ pub fn run_command<T: Store>(
         ≤ 2 ^ 62 }
     ensures did { (m : Logged) → StandsAs T.Store engine.old m → m.state.stopped ≡ false
         → Did (StandsAs T.Store) (IsSince T.Store) engine.old engine.new m (λ now. HasCounted (CommandAnswered m
-        (outside_of (T.slots engine.old.store)) (command_of command.now)) now counts.old counts.new
-        (is_err result)) }
+        engine_outside (command_of command.now)) now counts.old counts.new (is_err result)) }
     ensures few { told counts.new
         ≤ told counts.old + most_calls (T.shape_of engine.old.store) (command_of command.now) + MOST_READY }
     ensures same { SameStore T.Store engine.old.store engine.new.store }

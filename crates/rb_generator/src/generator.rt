@@ -1,9 +1,9 @@
 //! `generate`: a number of drawn commands, one after another, on the engine. The shell calls it.
-ghost use Rattle.std.specs.Prelude.{◌≡◌, ◌+◌, ◌*◌, ◌<◌, ◌≤◌, ◌^◌, false};
+ghost use Rattle.std.specs.Prelude.{◌≡◌, ◌+◌, ◌<◌, ◌≤◌, ◌^◌, false};
 ghost use Rattle.std.specs.Fmt.{decimal};
 ghost use Rattle.std.specs.Result.{is_err};
 ghost use Rattle.rb_base.specs.Counts.{IsCounted};
-ghost use Rattle.rb_calls.specs.Since.{IsSince, StandsAs, outside_of};
+ghost use Rattle.rb_calls.specs.Since.{IsSince, StandsAs, engine_outside};
 ghost use Rattle.rb_engine.specs.Does.{SameStore};
 ghost use Rattle.rb_generator.specs.Answered.{CommandAnswered};
 ghost use Rattle.rb_generator.specs.Counted.{told};
@@ -36,8 +36,7 @@ fn turn<T: Store>(
     ensures drawn { draws.new.state ≡ next (next (next (next draws.old.state))) }
     ensures did { (m : Logged) → StandsAs T.Store engine.old m → m.state.stopped ≡ false
         → Did (StandsAs T.Store) (IsSince T.Store) engine.old engine.new m (λ now. HasCounted (CommandAnswered m
-        (outside_of (T.slots engine.old.store))
-        (drawn (T.shape_of engine.old.store) draws.old.state (decimal (i + 1)))) now
+        engine_outside (drawn (T.shape_of engine.old.store) draws.old.state (decimal (i + 1)))) now
         counts.old counts.new (is_err result)) }
     ensures few { told counts.new ≤ told counts.old + 20 }
     ensures same { SameStore T.Store engine.old.store engine.new.store }
@@ -69,7 +68,7 @@ pub fn generate<T: Store, K: Sink>(
     // and the state after them. A crash may leave no more than these states.
     ensures did { (m : Logged) → StandsAs T.Store engine.old m → m.state.stopped ≡ false
         → Did (StandsAs T.Store) (IsSince T.Store) engine.old engine.new m (λ now. HasGenerated m
-        (outside_of (T.slots engine.old.store)) commands now result) }
+        engine_outside commands now result) }
     ensures same { SameStore T.Store engine.old.store engine.new.store }
     ensures disk { IsCounted (T.faults engine.old.store) (T.faults engine.new.store) result }
 {

@@ -31,14 +31,14 @@ pub fn new_file(alloc: Global, layout: &Layout) -> Result<Vec<u8>, NoMemory> {
     disk.bytes().to_vec(alloc).map_err(|_| NoMemory)
 }
 
-/// Gives a store the group of a step: a byte in each of two blocks. Failed where it has no room.
+/// Gives a store the group of a step: a byte in each of two blocks.
 fn give<S: Store>(store: &mut S, step: u32) -> Result<(), Failed>
     requires going { S.failed store.old ≡ false }
     requires few { step ≤ 1000 }
     ensures going { OnOk result (S.failed store.new ≡ false) }
 {
     let count = store.shape().block_count();
-    if count == 0 || store.room() < 1 || store.logged() > 1_000_000 {
+    if count == 0 || store.logged() > 1_000_000 {
         return Err(Failed);
     }
     let byte = (step % 256) as u8;

@@ -3,7 +3,6 @@ use Rattle.std.proofs.Common.{◌≡◌, ◌⊎◌, inl, inr, ◌≤◌, ◌+◌
 use Rattle.rb_base.specs.Blocks.{after_group, after_groups}
 use Rattle.rb_base.specs.Groups.{Patch}
 use Rattle.rb_base.specs.Logs.{Flushes, Laws, Logs, LogsBy, more_flushes}
-use Rattle.rb_base.specs.Stores.{room_of}
 use Rattle.rb_base.specs.declared.ids.Xid.{Xid}
 use Rattle.rb_base.specs.declared.store.Store.{Ghosts}
 use Rattle.rb_image.specs.Between.{Extends, with_commit}
@@ -14,12 +13,11 @@ use Rattle.rb_image.specs.Made.{CommitMade, GivesOne}
 use Rattle.rb_image.proofs.Crashes.{has_later, has_state}
 use Rattle.rb_image.proofs.Marks.{grows_finished, shrinks_finished}
 use Rattle.rb_image.proofs.Steps.{commit_failed, read_has, survives_commit}
-use Rattle.rb_image.proofs.StepsHeld.{few_each, room_less}
+use Rattle.rb_image.proofs.StepsHeld.{few_each}
 use Rattle.rb_model.specs.Calls.{Call, Commit, is_empty}
 use Rattle.rb_model.specs.NextState.{committed}
 use Rattle.rb_model.specs.Rows.{last_scn}
 use Rattle.rb_model.specs.State.{State, session_own}
-use Rattle.rb_segment.specs.Segments.{owed_in}
 
 module _ {S : Type 0} (s : Ghosts S) (told : s.tells) (laws : Laws s) (h : State) (xids : List Xid) (who : ℕ) (x : Xid) (old : S) (shape : s.shape_of old ≡ h.shape) (holds : Holds s h xids old) where
   abbrev pub next : State
@@ -35,8 +33,8 @@ module _ {S : Type 0} (s : Ghosts S) (told : s.tells) (laws : Laws s) (h : State
   extends = record { shape = refl; base = refl; rows = refl; more = session_own h who ∷ []; list = refl; marks = grows_finished h.shape h.books (last_scn h.commits + 1) x.seg x.slot holds.blocks.tell.books_counted }
 
   -- the blocks that the group makes have the next state
-  made_has : (now : List (List ℕ)) → CommitMade h xids who x (s.blocks old) now → HasState next next.books (last_scn next.commits) (s.slots old) now (s.lsn old + 1)
-  made_has now m = has_state next (xids ++ x ∷ []) now (s.slots old) (s.lsn old + 1) m.stand (ap (λ (n : ℕ). n + 1) holds.logged ∙ sym m.last) (room_less (s.slots old) (s.lsn old) (owed_in h.shape now) (omega (arith, m.owed, holds.fits)))
+  made_has : (now : List (List ℕ)) → CommitMade h xids who x (s.blocks old) now → HasState next next.books (last_scn next.commits) now (s.lsn old + 1)
+  made_has now m = has_state next (xids ++ x ∷ []) now (s.lsn old + 1) m.stand (ap (λ (n : ℕ). n + 1) holds.logged ∙ sym m.last)
 
   one_group : (groups : List (List Patch)) → length groups ≡ 1 → (g : List Patch) × (groups ≡ g ∷ [])
   one_group [] e = absurd (omega (arith, e))
@@ -55,14 +53,13 @@ module _ {S : Type 0} (s : Ghosts S) (told : s.tells) (laws : Laws s) (h : State
       let read : s.blocks new ≡ after_group (s.lsn old + 1) g (s.blocks old) = both.blocks told refl in
       let is : CommitMade h xids who x (s.blocks old) (s.blocks new) = subst Is (ap (λ (l : List (List Patch)). after_groups (s.lsn old + 1) l (s.blocks old)) single.1 ∙ sym read) made in
       let number : s.lsn new ≡ s.lsn old + 1 = both.number refl in
-      let has : HasState next next.books (last_scn next.commits) (s.slots old) (s.blocks new) (s.lsn new) = subst (λ (n : ℕ). HasState next next.books (last_scn next.commits) (s.slots old) (s.blocks new) n) (sym number) (made_has (s.blocks new) is) in
-      let crash : (keeps : s.keeps) → Survives s (s.slots old) fault h next old new × Rattle.rb_base.specs.Keeps.Keeps s (HasState next next.books (last_scn next.commits) (s.slots old)) new = λ keeps.
+      let has : HasState next next.books (last_scn next.commits) (s.blocks new) (s.lsn new) = subst (λ (n : ℕ). HasState next next.books (last_scn next.commits) (s.blocks new) n) (sym number) (made_has (s.blocks new) is) in
+      let crash : (keeps : s.keeps) → Survives s (s.slots old) fault h next old new × Rattle.rb_base.specs.Keeps.Keeps s (HasState next next.books (last_scn next.commits)) new = λ keeps.
       survives_commit s laws keeps h next old mid new g shape extends (holds.images keeps) logs flush both (none keeps) has read number in (
         record {
           blocks = is.stand;
           logged = has.logged;
-          fits = subst (λ (k : Option ℕ). owed_in h.shape (s.blocks new) ≤ room_of k (s.lsn new)) (sym both.same_slots) has.fits;
-          images = λ keeps. subst (λ (k : Option ℕ). Rattle.rb_base.specs.Keeps.Keeps s (HasState next next.books (last_scn next.commits) k) new) (sym both.same_slots) (crash keeps).1;
+          images = λ keeps. (crash keeps).1;
         },
         λ keeps. (crash keeps).0,
       )
@@ -71,11 +68,11 @@ module _ {S : Type 0} (s : Ghosts S) (told : s.tells) (laws : Laws s) (h : State
   pub commit_fault : {Between : S → S → Type 0} (new : S) (groups : List (List Patch)) → length groups ≤ 1 → LogsBy s Between old new groups false → (1 ≤ length groups → CommitMade h xids who x (s.blocks old) (after_groups (s.lsn old + 1) groups (s.blocks old)))
       → is_empty (session_own h who) ≡ false → s.keeps → Survives s (s.slots old) (Some (Commit who)) h (record h { stopped = true }) old new
   commit_fault new groups few logs made some keeps =
-      let P : List (List ℕ) → ℕ → Type 0 = HasState h h.books (last_scn h.commits) (s.slots old) in
-      let Q : List (List ℕ) → ℕ → Type 0 = λ b n. HasState h h.books (last_scn h.commits) (s.slots old) b n ⊎ HasState (with_commit h who) h.books (last_scn h.commits + 1) (s.slots old) b n in
+      let P : List (List ℕ) → ℕ → Type 0 = HasState h h.books (last_scn h.commits) in
+      let Q : List (List ℕ) → ℕ → Type 0 = λ b n. HasState h h.books (last_scn h.commits) b n ⊎ HasState (with_commit h who) h.books (last_scn h.commits + 1) b n in
       commit_failed s laws keeps h who old new groups shape some (holds.images keeps) logs
       (few_each s told laws Q groups (s.blocks old) (s.lsn old) keeps few (inl (read_has s laws keeps P old (holds.images keeps)))
       (λ one. inr (
       let now = after_groups (s.lsn old + 1) groups (s.blocks old) in
-      has_later next (with_commit h who) next.books h.books (last_scn h.commits + 1) (s.slots old) now (s.lsn old + 1) refl refl (shrinks_finished h.shape h.books (last_scn h.commits + 1) x.seg x.slot holds.blocks.tell.books_counted)
-      (subst (λ (n : ℕ). HasState next next.books n (s.slots old) now (s.lsn old + 1)) next_number (made_has now (made one))))))
+      has_later next (with_commit h who) next.books h.books (last_scn h.commits + 1) now (s.lsn old + 1) refl refl (shrinks_finished h.shape h.books (last_scn h.commits + 1) x.seg x.slot holds.blocks.tell.books_counted)
+      (subst (λ (n : ℕ). HasState next next.books n now (s.lsn old + 1)) next_number (made_has now (made one))))))

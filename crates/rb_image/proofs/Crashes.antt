@@ -4,7 +4,6 @@ use Rattle.std.proofs.lemmas.Bool.{false≢true}
 use Rattle.std.proofs.lemmas.List.{take-append-le}
 use Rattle.std.specs.List.{flat_map}
 use Rattle.rb_base.specs.Moments.{joined, weaker}
-use Rattle.rb_base.specs.Stores.{room_of}
 use Rattle.rb_base.specs.declared.ids.Xid.{Xid}
 use Rattle.rb_base.specs.declared.shape.Shape.{Shape}
 use Rattle.rb_base.specs.declared.store.Store.{Ghosts}
@@ -16,7 +15,6 @@ use Rattle.rb_model.specs.Book.{Book}
 use Rattle.rb_model.specs.Calls.{Action, Call, Commit, Write}
 use Rattle.rb_model.specs.Rows.{Commits, last_scn, over, rows_at}
 use Rattle.rb_model.specs.State.{State}
-use Rattle.rb_segment.specs.Segments.{owed_in}
 use Rattle.rb_standing.specs.Standing.{SoundAs, logged_of}
 use Rattle.rb_standing.specs.States.{BlocksStand}
 use Rattle.rb_standing.proofs.MachineDone.{last_commits}
@@ -39,12 +37,11 @@ within_grown shape a b blocks grow within = record {
 }
 
 -- Blocks that stand for a state have it.
-pub has_state : (h : State) (xids : List Xid) (blocks : List (List ℕ)) (slots : Option ℕ) (lsn : ℕ) → BlocksStand h xids blocks → lsn ≡ logged_of h.shape blocks → owed_in h.shape blocks ≤ room_of slots lsn
-    → HasState h h.books (last_scn h.commits) slots blocks lsn
-has_state h xids blocks slots lsn stand logged fits = record {
+pub has_state : (h : State) (xids : List Xid) (blocks : List (List ℕ)) (lsn : ℕ) → BlocksStand h xids blocks → lsn ≡ logged_of h.shape blocks
+    → HasState h h.books (last_scn h.commits) blocks lsn
+has_state h xids blocks lsn stand logged = record {
   logged = logged;
   sound = sound_as h xids blocks stand (stand.standing.stands.number ∙ last_commits h.shape h.commits.base h.commits.list xids [] stand.tell.counted refl);
-  fits = fits;
   marks = record {
     writes = λ g lt. let e = (stand.tell.books g lt).writes in omega (arith, e);
     lost = λ g lt. let e = (stand.tell.books g lt).lost in omega (arith, e);
@@ -87,12 +84,11 @@ rows_stay blocks h h2 n e le =
     (ap (λ i. take (n - i) h2.commits.list) e.base ∙ ap (take (n - h.commits.base)) e.list ∙ take-append-le (n - h.commits.base) h.commits.list e.more (omega (arith, le)))
 
 -- blocks have the same of a later state
-pub has_later : (h h2 : State) (books books2 : List Book) (n : ℕ) (slots : Option ℕ) (blocks : List (List ℕ)) (lsn : ℕ) → h2.shape ≡ h.shape → rows_at h.shape.blocks h2.commits n ≡ rows_at h.shape.blocks h.commits n
-    → MarksGrow h.shape books books2 → HasState h books n slots blocks lsn → HasState h2 books2 n slots blocks lsn
-has_later h h2 books books2 n slots blocks lsn shape rows grow has = record {
+pub has_later : (h h2 : State) (books books2 : List Book) (n : ℕ) (blocks : List (List ℕ)) (lsn : ℕ) → h2.shape ≡ h.shape → rows_at h.shape.blocks h2.commits n ≡ rows_at h.shape.blocks h.commits n
+    → MarksGrow h.shape books books2 → HasState h books n blocks lsn → HasState h2 books2 n blocks lsn
+has_later h h2 books books2 n blocks lsn shape rows grow has = record {
   logged = has.logged ∙ ap (λ (x : Shape). logged_of x blocks) (sym shape);
   sound = subst (λ (x : Shape). SoundAs x blocks n (rows_at x.blocks h2.commits n)) (sym shape) (subst (SoundAs h.shape blocks n) (sym rows) has.sound);
-  fits = subst (λ (x : Shape). owed_in x blocks ≤ room_of slots lsn) (sym shape) has.fits;
   marks = subst (λ (x : Shape). MarksWithin x books2 blocks) (sym shape) (within_grown h.shape books books2 blocks grow has.marks);
 }
 
@@ -102,7 +98,7 @@ module _ {I : Type 0} (opens : Shape → Option ℕ → I → List (List ℕ) �
     blocks = r.blocks;
     lsn = r.lsn;
     opening = subst (λ (x : Shape). opens x slots i r.blocks r.lsn) (sym e.shape) r.opening;
-    has = has_later h h2 books books2 n slots r.blocks r.lsn e.shape (rows_stay h.shape.blocks h h2 n e le) grow r.has;
+    has = has_later h h2 books books2 n r.blocks r.lsn e.shape (rows_stay h.shape.blocks h h2 n e le) grow r.has;
   }
 
   -- an engine that goes on stands for its state

@@ -40,8 +40,8 @@ cleaned_at shape before b i few =
     let eight = entries_counted (block_of before b) in
     get_or-map (cleaned_entry (env_of shape before).look) (home_of (block_of before b)).entries i free_entry free_entry (omega (arith, few, eight))
 
-pub clean_kept : (h : State) (xids : List Xid) (block room : ℕ) (before now : List (List ℕ)) → CleanMade h xids block room before now → (b i : ℕ) → i < 8 → TellsNoLess h.shape before now b i
-clean_kept h xids block room before now made b i few = elim (cases_eq b block) [
+pub clean_kept : (h : State) (xids : List Xid) (block : ℕ) (before now : List (List ℕ)) → CleanMade h xids block before now → (b i : ℕ) → i < 8 → TellsNoLess h.shape before now b i
+clean_kept h xids block before now made b i few = elim (cases_eq b block) [
   | inl at ↦ here b at
   | inr off ↦ same_block h.shape before now b i (made.others b off)
 ]
@@ -82,7 +82,7 @@ module _ (h : State) (xids : List Xid) (s : ℕ) (front : List Change) (before n
       here b at i off = rw at (ap (λ (home : Home). home_entry home i) made.group.home ∙ get_or-set_other Was.entries U.entry i (entry_of U.entry_before) free_entry off)
 
 -- a write
-module _ (h : State) (xids : List Xid) (s table key room : ℕ) (action : Action) (x : Xid) (before now : List (List ℕ)) (stand : BlocksStand h xids before) (t_in : 16 * x.seg + x.slot < 16 * h.shape.segments) (made : WriteMade h xids s table key action room x before now) where
+module _ (h : State) (xids : List Xid) (s table key : ℕ) (action : Action) (x : Xid) (before now : List (List ℕ)) (stand : BlocksStand h xids before) (t_in : 16 * x.seg + x.slot < 16 * h.shape.segments) (made : WriteMade h xids s table key action x before now) where
   abbrev V : UndoRecord
   V = made.undo
 

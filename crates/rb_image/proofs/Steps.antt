@@ -111,7 +111,7 @@ module _ {S : Type 0} (s : Ghosts S) (laws : Laws s) (keeps : s.keeps) where
       (subst (λ (b : List (List ℕ)). s.opens (s.shape_of store) (s.slots store) i b kept.first) (sym read) (laws.stable_left store kept.base kept.first i keeps kept.stable here))
 
   -- An image opens to what has a state: it restarts there.
-  pub restarts : (h : State) (books : List Book) (n : ℕ) (store : S) (i : s.image) → s.shape_of store ≡ h.shape → OpensWith s (HasState h books n (s.slots store)) store i → RestartsAt s.opens (s.slots store) books h n i
+  pub restarts : (h : State) (books : List Book) (n : ℕ) (store : S) (i : s.image) → s.shape_of store ≡ h.shape → OpensWith s (HasState h books n) store i → RestartsAt s.opens (s.slots store) books h n i
   restarts h books n store i shape (b, m, opening, has) = record {
     blocks = b;
     lsn = m;
@@ -121,16 +121,16 @@ module _ {S : Type 0} (s : Ghosts S) (laws : Laws s) (keeps : s.keeps) where
 
   -- Calls that went well, or gave no group: the state then has the same commits, and no less marks.
   pub survives_going : {Between : S → S → Type 0} {fault : Option Call} → (h h2 : State) (old new : S) (groups : List (List Patch)) → s.shape_of old ≡ h.shape → h2.shape ≡ h.shape → h2.commits ≡ h.commits → MarksGrow h.shape h.books h2.books
-      → Keeps s (HasState h h.books (last_scn h.commits) (s.slots old)) old → (going : Bool) → LogsBy s Between old new groups going
-      → AfterEach (HasState h2 h2.books (last_scn h2.commits) (s.slots old)) (s.lsn old) groups (s.blocks old)
+      → Keeps s (HasState h h.books (last_scn h.commits)) old → (going : Bool) → LogsBy s Between old new groups going
+      → AfterEach (HasState h2 h2.books (last_scn h2.commits)) (s.lsn old) groups (s.blocks old)
       → Survives s (s.slots old) fault h h2 old new
   survives_going {fault = fault} h h2 old new groups shape shapes commits grow kept going logs each =
-      let Q : Property = HasState h2 h2.books (last_scn h2.commits) (s.slots old) in
-      let P : Property = HasState h h.books (last_scn h.commits) (s.slots old) in
+      let Q : Property = HasState h2 h2.books (last_scn h2.commits) in
+      let P : Property = HasState h h.books (last_scn h.commits) in
       let number : last_scn h.commits ≡ last_scn h2.commits = ap last_scn (sym commits) in
       let so : (b : List (List ℕ)) (n : ℕ) → P b n → Q b n = λ b n has.
-      subst (λ (m : ℕ). HasState h2 h2.books m (s.slots old) b n) number
-      (has_later h h2 h.books h2.books (last_scn h.commits) (s.slots old) b n shapes (ap (λ (c : Commits). rows_at h.shape.blocks c (last_scn h.commits)) commits) grow has) in
+      subst (λ (m : ℕ). HasState h2 h2.books m b n) number
+      (has_later h h2 h.books h2.books (last_scn h.commits) b n shapes (ap (λ (c : Commits). rows_at h.shape.blocks c (last_scn h.commits)) commits) grow has) in
       let leaves = leaves_on P Q so old new groups going kept logs each in
       let at : s.shape_of old ≡ h2.shape = shape ∙ sym shapes in record {
         extends = extends_same h h2 shapes commits grow;
@@ -140,15 +140,15 @@ module _ {S : Type 0} (s : Ghosts S) (laws : Laws s) (keeps : s.keeps) where
 
   -- A write that answered a fault: its group may be there.
   pub survives_write : (h : State) (t table key : ℕ) (action : Action) (g k : ℕ) (old new : S) (groups : List (List Patch)) → s.shape_of old ≡ h.shape → WritesIn h t g k
-      → MarksGrow h.shape h.books (books_written t g k (has_slot h t g k) h.books) → Keeps s (HasState h h.books (last_scn h.commits) (s.slots old)) old → Logs s old new groups false
-      → AfterEach (HasState h (books_written t g k (has_slot h t g k) h.books) (last_scn h.commits) (s.slots old)) (s.lsn old) groups (s.blocks old)
+      → MarksGrow h.shape h.books (books_written t g k (has_slot h t g k) h.books) → Keeps s (HasState h h.books (last_scn h.commits)) old → Logs s old new groups false
+      → AfterEach (HasState h (books_written t g k (has_slot h t g k) h.books) (last_scn h.commits)) (s.lsn old) groups (s.blocks old)
       → Survives s (s.slots old) (Some (Write t table key action)) h (record h { stopped = true }) old new
   survives_write h t table key action g k old new groups shape writes grow kept logs each =
       let books = books_written t g k (has_slot h t g k) h.books in
       let h2 : State = record h { stopped = true } in
-      let Q : Property = HasState h books (last_scn h.commits) (s.slots old) in
-      let P : Property = HasState h h.books (last_scn h.commits) (s.slots old) in
-      let so : (b : List (List ℕ)) (n : ℕ) → P b n → Q b n = λ b n has. has_later h h h.books books (last_scn h.commits) (s.slots old) b n refl refl grow has in
+      let Q : Property = HasState h books (last_scn h.commits) in
+      let P : Property = HasState h h.books (last_scn h.commits) in
+      let so : (b : List (List ℕ)) (n : ℕ) → P b n → Q b n = λ b n has. has_later h h h.books books (last_scn h.commits) b n refl refl grow has in
       let leaves = leaves_on P Q so old new groups false kept logs each in
       let end : (i : s.image) → OpensWith s Q old i → AtEnd s.opens (s.slots old) (Some (Write t table key action)) h2 i = λ i opens.
       one_write t table key action g k refl refl writes (restarts_later s.opens (s.slots old) h h2 books books (last_scn h.commits) i (extends_same h h2 refl refl (grow_same h.shape h.books)) (omega arith) (grow_same h.shape books) (restarts h books (last_scn h.commits) old i shape opens)) in record {
@@ -158,17 +158,17 @@ module _ {S : Type 0} (s : Ghosts S) (laws : Laws s) (keeps : s.keeps) where
       }
 
   -- What a commit's group may make of an image: the state without it, or with it.
-  abbrev pub BeforeOrAfter : (h h2 : State) (slots : Option ℕ) → Property
-  BeforeOrAfter h h2 slots b n = HasState h h.books (last_scn h.commits) slots b n ⊎ HasState h2 h2.books (last_scn h2.commits) slots b n
+  abbrev pub BeforeOrAfter : (h h2 : State) → Property
+  BeforeOrAfter h h2 b n = HasState h h.books (last_scn h.commits) b n ⊎ HasState h2 h2.books (last_scn h2.commits) b n
 
   -- A commit that answered its number: the group was given, and then all were made last.
-  pub survives_commit : {fault : Option Call} → (h h2 : State) (old mid new : S) (g : List Patch) → s.shape_of old ≡ h.shape → Extends h h2 → Keeps s (HasState h h.books (last_scn h.commits) (s.slots old)) old
-      → Logs s old mid (g ∷ []) true → Flushes s mid new [] true → Flushes s old new (g ∷ []) true → s.pending new ≡ [] → HasState h2 h2.books (last_scn h2.commits) (s.slots old) (s.blocks new) (s.lsn new) → s.blocks new ≡ after_group (s.lsn old + 1) g (s.blocks old) → s.lsn new ≡ s.lsn old + 1
-      → Survives s (s.slots old) fault h h2 old new × Keeps s (HasState h2 h2.books (last_scn h2.commits) (s.slots old)) new
+  pub survives_commit : {fault : Option Call} → (h h2 : State) (old mid new : S) (g : List Patch) → s.shape_of old ≡ h.shape → Extends h h2 → Keeps s (HasState h h.books (last_scn h.commits)) old
+      → Logs s old mid (g ∷ []) true → Flushes s mid new [] true → Flushes s old new (g ∷ []) true → s.pending new ≡ [] → HasState h2 h2.books (last_scn h2.commits) (s.blocks new) (s.lsn new) → s.blocks new ≡ after_group (s.lsn old + 1) g (s.blocks old) → s.lsn new ≡ s.lsn old + 1
+      → Survives s (s.slots old) fault h h2 old new × Keeps s (HasState h2 h2.books (last_scn h2.commits)) new
   survives_commit {fault = fault} h h2 old mid new g shape extends kept one two both none has made number =
-      let P : Property = HasState h h.books (last_scn h.commits) (s.slots old) in
-      let Q : Property = BeforeOrAfter h h2 (s.slots old) in
-      let R : Property = HasState h2 h2.books (last_scn h2.commits) (s.slots old) in
+      let P : Property = HasState h h.books (last_scn h.commits) in
+      let Q : Property = BeforeOrAfter h h2 in
+      let R : Property = HasState h2 h2.books (last_scn h2.commits) in
       let after : R (after_group (s.lsn old + 1) g (s.blocks old)) (s.lsn old + 1) = told_same R _ _ _ _ made number has in
       let each : AfterEach Q (s.lsn old) (g ∷ []) (s.blocks old) = one_each Q g (s.blocks old) (s.lsn old) (inl (read_has P old kept)) (inr after) in
       let leaves = leaves_on P Q (λ b n has. inl has) old new (g ∷ []) true kept both each in
@@ -183,13 +183,13 @@ module _ {S : Type 0} (s : Ghosts S) (laws : Laws s) (keeps : s.keeps) where
       let at : s.shape_of old ≡ h2.shape = shape ∙ sym extends.shape in
       let back : (i : s.image) → OpensWith s R new i → Restarts s.opens (s.slots old) h2 i = λ i opens.
       subst (λ (slots : Option ℕ). RestartsAt s.opens slots h2.books h2 (last_scn h2.commits) i) both.same_slots
-      (restarts h2 h2.books (last_scn h2.commits) new i (both.same_shape ∙ at) (opens.0, opens.1, opens.2, subst (λ (slots : Option ℕ). HasState h2 h2.books (last_scn h2.commits) slots opens.0 opens.1) (sym both.same_slots) opens.3)) in (
+      (restarts h2 h2.books (last_scn h2.commits) new i (both.same_shape ∙ at) opens) in (
         record {
           extends = extends;
           any_moment = weaker s.moment s.left_since old new (OpensWith s Q old) (OnTheWay s.opens (s.slots old) fault h h2) (λ i opens. ⊎_elim
-              (λ (was : HasState h h.books (last_scn h.commits) (s.slots old) opens.0 opens.1). reached (last_scn h.commits) (omega arith) (extends_later h h2 extends)
+              (λ (was : HasState h h.books (last_scn h.commits) opens.0 opens.1). reached (last_scn h.commits) (omega arith) (extends_later h h2 extends)
               (restarts_later s.opens (s.slots old) h h2 h.books h2.books (last_scn h.commits) i extends (omega arith) extends.marks (restarts h h.books (last_scn h.commits) old i shape (opens.0, opens.1, opens.2, was))))
-              (λ (is : HasState h2 h2.books (last_scn h2.commits) (s.slots old) opens.0 opens.1). at_end (whole (restarts h2 h2.books (last_scn h2.commits) old i at (opens.0, opens.1, opens.2, is))))
+              (λ (is : HasState h2 h2.books (last_scn h2.commits) opens.0 opens.1). at_end (whole (restarts h2 h2.books (last_scn h2.commits) old i at (opens.0, opens.1, opens.2, is))))
               opens.3) leaves;
           now_only = λ i here. whole (back i (left_with R new now i here));
         },
@@ -197,19 +197,19 @@ module _ {S : Type 0} (s : Ghosts S) (laws : Laws s) (keeps : s.keeps) where
       )
 
   -- A commit that answered a fault: its group may be there.
-  pub commit_failed : {Between : S → S → Type 0} (h : State) (t : ℕ) (old new : S) (groups : List (List Patch)) → s.shape_of old ≡ h.shape → is_empty (session_own h t) ≡ false → Keeps s (HasState h h.books (last_scn h.commits) (s.slots old)) old → LogsBy s Between old new groups false
-      → AfterEach (λ b n. HasState h h.books (last_scn h.commits) (s.slots old) b n ⊎ HasState (with_commit h t) h.books (last_scn h.commits + 1) (s.slots old) b n) (s.lsn old) groups (s.blocks old)
+  pub commit_failed : {Between : S → S → Type 0} (h : State) (t : ℕ) (old new : S) (groups : List (List Patch)) → s.shape_of old ≡ h.shape → is_empty (session_own h t) ≡ false → Keeps s (HasState h h.books (last_scn h.commits)) old → LogsBy s Between old new groups false
+      → AfterEach (λ b n. HasState h h.books (last_scn h.commits) b n ⊎ HasState (with_commit h t) h.books (last_scn h.commits + 1) b n) (s.lsn old) groups (s.blocks old)
       → Survives s (s.slots old) (Some (Commit t)) h (record h { stopped = true }) old new
   commit_failed h t old new groups shape some kept logs each =
       let h2 : State = record h { stopped = true } in
-      let P : Property = HasState h h.books (last_scn h.commits) (s.slots old) in
-      let Q : Property = λ b n. HasState h h.books (last_scn h.commits) (s.slots old) b n ⊎ HasState (with_commit h t) h.books (last_scn h.commits + 1) (s.slots old) b n in
+      let P : Property = HasState h h.books (last_scn h.commits) in
+      let Q : Property = λ b n. HasState h h.books (last_scn h.commits) b n ⊎ HasState (with_commit h t) h.books (last_scn h.commits + 1) b n in
       let leaves = leaves_on P Q (λ b n has. inl has) old new groups false kept logs each in
       let end : (i : s.image) → OpensWith s Q old i → AtEnd s.opens (s.slots old) (Some (Commit t)) h2 i = λ i opens. ⊎_elim
-      (λ (was : HasState h h.books (last_scn h.commits) (s.slots old) opens.0 opens.1). whole (restarts_later s.opens (s.slots old) h h2 h.books h.books (last_scn h.commits) i (extends_same h h2 refl refl (grow_same h.shape h.books)) (omega arith) (grow_same h.shape h.books) (restarts h h.books (last_scn h.commits) old i shape (opens.0, opens.1, opens.2, was))))
-      (λ (is : HasState (with_commit h t) h.books (last_scn h.commits + 1) (s.slots old) opens.0 opens.1).
+      (λ (was : HasState h h.books (last_scn h.commits) opens.0 opens.1). whole (restarts_later s.opens (s.slots old) h h2 h.books h.books (last_scn h.commits) i (extends_same h h2 refl refl (grow_same h.shape h.books)) (omega arith) (grow_same h.shape h.books) (restarts h h.books (last_scn h.commits) old i shape (opens.0, opens.1, opens.2, was))))
+      (λ (is : HasState (with_commit h t) h.books (last_scn h.commits + 1) opens.0 opens.1).
       let r : RestartsAt s.opens (s.slots old) h.books (with_commit h t) (last_scn h.commits + 1) i = restarts (with_commit h t) h.books (last_scn h.commits + 1) old i shape (opens.0, opens.1, opens.2, is) in
-      one_commit t refl refl some (record { blocks = r.blocks; lsn = r.lsn; opening = r.opening; has = record { logged = r.has.logged; sound = r.has.sound; fits = r.has.fits; marks = r.has.marks } }))
+      one_commit t refl refl some (record { blocks = r.blocks; lsn = r.lsn; opening = r.opening; has = record { logged = r.has.logged; sound = r.has.sound; marks = r.has.marks } }))
       opens.3 in record {
         extends = extends_same h h2 refl refl (grow_same h.shape h.books);
         any_moment = weaker s.moment s.left_since old new (OpensWith s Q old) (OnTheWay s.opens (s.slots old) (Some (Commit t)) h h2) (λ i opens. at_end (end i opens)) leaves;

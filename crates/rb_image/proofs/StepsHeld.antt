@@ -1,10 +1,9 @@
 -- What each step of a session leaves of a store that has a state: the next state, and of a crash no more than the two.
-use Rattle.std.proofs.Common.{◌≡◌, ◌≤◌, ◌+◌, ℕ, true, false, List, [], ◌∷◌, length, Option, Some, None, refl, sym, ◌∙◌, ap, subst, arith}
+use Rattle.std.proofs.Common.{◌≡◌, ◌≤◌, ◌+◌, ℕ, true, false, List, [], ◌∷◌, length, Option, Some, refl, sym, ◌∙◌, ap, subst, arith}
 use Rattle.rb_base.specs.Blocks.{after_groups}
 use Rattle.rb_base.specs.Groups.{Patch}
-use Rattle.rb_base.specs.Keeps.{AfterEach, Keeps}
+use Rattle.rb_base.specs.Keeps.{AfterEach}
 use Rattle.rb_base.specs.Logs.{Laws}
-use Rattle.rb_base.specs.Stores.{room_of}
 use Rattle.rb_base.specs.declared.ids.Xid.{Xid}
 use Rattle.rb_base.specs.declared.store.Store.{Ghosts}
 use Rattle.rb_image.specs.Between.{MarksGrow}
@@ -20,15 +19,9 @@ use Rattle.rb_model.specs.Change.{Change}
 use Rattle.rb_model.specs.NextState.{books_written, change_in, ended, without_owner, written}
 use Rattle.rb_model.specs.Rows.{last_scn}
 use Rattle.rb_model.specs.State.{Cursor, State}
-use Rattle.rb_segment.specs.Segments.{owed_in}
 use Rattle.rb_standing.specs.NextStates.{with_own}
 use Rattle.rb_standing.specs.Standing.{logged_of}
 use Rattle.rb_standing.specs.States.{BlocksStand}
-
--- room for one group less
-pub room_less : (slots : Option ℕ) (lsn n : ℕ) → n + 1 ≤ room_of slots lsn → n ≤ room_of slots (lsn + 1)
-room_less None lsn n le = omega (arith, le)
-room_less (Some k) lsn n le = omega (arith, le)
 
 module _ {S : Type 0} (s : Ghosts S) (told : s.tells) (laws : Laws s) where
   -- at most one group
@@ -46,64 +39,59 @@ module _ {S : Type 0} (s : Ghosts S) (told : s.tells) (laws : Laws s) where
   -- A step that leaves the commits: the state is the next one, and each image has that or the one before.
   module _ (h h2 : State) (xids : List Xid) (old new : S) (shape : s.shape_of old ≡ h.shape) (shapes : h2.shape ≡ h.shape) (commits : h2.commits ≡ h.commits)
       (grow : MarksGrow h.shape h.books h2.books) (holds : Holds s h xids old) where
-    step_holds : (fault : Option Call) (one : GivesOne s old new true (λ now. BlocksStand h2 xids now × (logged_of h.shape now ≡ logged_of h.shape (s.blocks old) + 1) × (owed_in h.shape now + 1 ≤ room_of (s.slots old) (s.lsn old))))
+    step_holds : (fault : Option Call) (one : GivesOne s old new true (λ now. BlocksStand h2 xids now × (logged_of h.shape now ≡ logged_of h.shape (s.blocks old) + 1)))
         → Holds s h2 xids new × (s.keeps → Survives s (s.slots old) fault h h2 old new)
     step_holds fault one =
-        let made = made_now (λ now. BlocksStand h2 xids now × (logged_of h.shape now ≡ logged_of h.shape (s.blocks old) + 1) × (owed_in h.shape now + 1 ≤ room_of (s.slots old) (s.lsn old))) old new one in
+        let made = made_now (λ now. BlocksStand h2 xids now × (logged_of h.shape now ≡ logged_of h.shape (s.blocks old) + 1)) old new one in
         let number : s.lsn new ≡ logged_of h2.shape (s.blocks new) = made.1 ∙ (ap (λ (n : ℕ). n + 1) holds.logged ∙ (sym made.0.1 ∙ ap (λ x. logged_of x (s.blocks new)) (sym shapes))) in
-        let P : List (List ℕ) → ℕ → Type 0 = HasState h h.books (last_scn h.commits) (s.slots old) in
-        let Q : List (List ℕ) → ℕ → Type 0 = HasState h2 h2.books (last_scn h2.commits) (s.slots old) in
+        let P : List (List ℕ) → ℕ → Type 0 = HasState h h.books (last_scn h.commits) in
+        let Q : List (List ℕ) → ℕ → Type 0 = HasState h2 h2.books (last_scn h2.commits) in
         let so : (b : List (List ℕ)) (n : ℕ) → P b n → Q b n = λ b n has.
-        subst (λ (m : ℕ). HasState h2 h2.books m (s.slots old) b n) (ap last_scn (sym commits))
-        (has_later h h2 h.books h2.books (last_scn h.commits) (s.slots old) b n shapes (ap (λ c. Rattle.rb_model.specs.Rows.rows_at h.shape.blocks c (last_scn h.commits)) commits) grow has) in
+        subst (λ (m : ℕ). HasState h2 h2.books m b n) (ap last_scn (sym commits))
+        (has_later h h2 h.books h2.books (last_scn h.commits) b n shapes (ap (λ c. Rattle.rb_model.specs.Rows.rows_at h.shape.blocks c (last_scn h.commits)) commits) grow has) in
         let after : (keeps : s.keeps) → 1 ≤ length one.groups → Q (after_groups (s.lsn old + 1) one.groups (s.blocks old)) (s.lsn old + 1) = λ keeps some.
         let m = one.made some in
-        has_state h2 xids (after_groups (s.lsn old + 1) one.groups (s.blocks old)) (s.slots old) (s.lsn old + 1) m.0
-        (ap (λ (n : ℕ). n + 1) holds.logged ∙ (sym m.1 ∙ ap (λ x. logged_of x (after_groups (s.lsn old + 1) one.groups (s.blocks old))) (sym shapes)))
-        (subst (λ x. owed_in x (after_groups (s.lsn old + 1) one.groups (s.blocks old)) ≤ room_of (s.slots old) (s.lsn old + 1)) (sym shapes) (room_less (s.slots old) (s.lsn old) (owed_in h.shape (after_groups (s.lsn old + 1) one.groups (s.blocks old))) m.2)) in
+        has_state h2 xids (after_groups (s.lsn old + 1) one.groups (s.blocks old)) (s.lsn old + 1) m.0
+        (ap (λ (n : ℕ). n + 1) holds.logged ∙ (sym m.1 ∙ ap (λ x. logged_of x (after_groups (s.lsn old + 1) one.groups (s.blocks old))) (sym shapes))) in
         let each : (keeps : s.keeps) → AfterEach Q (s.lsn old) one.groups (s.blocks old) = λ keeps.
         few_each Q one.groups (s.blocks old) (s.lsn old) keeps one.few (so _ _ (read_has s laws keeps P old (holds.images keeps))) (after keeps) in (
           record {
             blocks = made.0.0;
             logged = number;
-            fits = subst (λ x. owed_in x (s.blocks new) ≤ room_of (s.slots new) (s.lsn new)) (sym shapes)
-                (subst (λ (k : Option ℕ). owed_in h.shape (s.blocks new) ≤ room_of k (s.lsn new)) (sym one.logs.same_slots)
-                (subst (λ (n : ℕ). owed_in h.shape (s.blocks new) ≤ room_of (s.slots old) n) (sym made.1) (room_less (s.slots old) (s.lsn old) (owed_in h.shape (s.blocks new)) made.0.2)));
-            images = λ keeps. subst (λ (k : Option ℕ). Keeps s (HasState h2 h2.books (last_scn h2.commits) k) new) (sym one.logs.same_slots) (keeps_on s laws keeps P Q so old new one.groups (holds.images keeps) one.logs (each keeps));
+            images = λ keeps. keeps_on s laws keeps P Q so old new one.groups (holds.images keeps) one.logs (each keeps);
           },
           λ keeps. survives_going s laws keeps h h2 old new one.groups shape shapes commits grow (holds.images keeps) true one.logs (each keeps),
         )
 
   -- What calls that gave at most one group leave where a call failed, if the group changes neither commits nor marks.
   step_fault : {fault : Option Call} → (h : State) (xids : List Xid) (old new : S) → s.shape_of old ≡ h.shape → Holds s h xids old
-      → (one : GivesOne s old new false (λ now. HasState h h.books (last_scn h.commits) (s.slots old) now (s.lsn old + 1))) → s.keeps → Survives s (s.slots old) fault h (record h { stopped = true }) old new
+      → (one : GivesOne s old new false (λ now. HasState h h.books (last_scn h.commits) now (s.lsn old + 1))) → s.keeps → Survives s (s.slots old) fault h (record h { stopped = true }) old new
   step_fault h xids old new shape holds one keeps =
-      let P : List (List ℕ) → ℕ → Type 0 = HasState h h.books (last_scn h.commits) (s.slots old) in
+      let P : List (List ℕ) → ℕ → Type 0 = HasState h h.books (last_scn h.commits) in
       let h2 : State = record h { stopped = true } in
-      let Q : List (List ℕ) → ℕ → Type 0 = HasState h2 h2.books (last_scn h2.commits) (s.slots old) in
-      let so : (b : List (List ℕ)) (n : ℕ) → P b n → Q b n = λ b n has. has_later h h2 h.books h.books (last_scn h.commits) (s.slots old) b n refl refl (grow_same h.shape h.books) has in
+      let Q : List (List ℕ) → ℕ → Type 0 = HasState h2 h2.books (last_scn h2.commits) in
+      let so : (b : List (List ℕ)) (n : ℕ) → P b n → Q b n = λ b n has. has_later h h2 h.books h.books (last_scn h.commits) b n refl refl (grow_same h.shape h.books) has in
       survives_going s laws keeps h h2 old new one.groups shape refl refl (grow_same h.shape h.books) (holds.images keeps) false one.logs
       (few_each Q one.groups (s.blocks old) (s.lsn old) keeps one.few (so _ _ (read_has s laws keeps P old (holds.images keeps))) (λ some. so _ _ (one.made some)))
 
   -- A write.
-  module _ (h : State) (xids : List Xid) (who : ℕ) (old new : S) (table key : ℕ) (action : Action) (room : ℕ) (x : Xid) (shape : s.shape_of old ≡ h.shape) (holds : Holds s h xids old)
-      (less : room ≤ room_of (s.slots old) (s.lsn old)) where
+  module _ (h : State) (xids : List Xid) (who : ℕ) (old new : S) (table key : ℕ) (action : Action) (x : Xid) (shape : s.shape_of old ≡ h.shape) (holds : Holds s h xids old) where
     abbrev pub after_it : State
     after_it = written h who x.seg x.slot (change_in h x.seg table key action)
 
     abbrev Is : List (List ℕ) → Type 0
-    Is now = WriteMade h xids who table key action room x (s.blocks old) now
+    Is now = WriteMade h xids who table key action x (s.blocks old) now
 
-    pub holds_written : (fault : Option Call) → GivesOne s old new true (λ now. WriteMade h xids who table key action room x (s.blocks old) now) → Holds s after_it xids new × (s.keeps → Survives s (s.slots old) fault h after_it old new)
+    pub holds_written : (fault : Option Call) → GivesOne s old new true (λ now. WriteMade h xids who table key action x (s.blocks old) now) → Holds s after_it xids new × (s.keeps → Survives s (s.slots old) fault h after_it old new)
     holds_written fault one =
         step_holds h after_it xids old new shape refl refl (grows_written h.shape h.books who x.seg x.slot (has_slot h who x.seg x.slot) holds.blocks.tell.books_counted) holds fault
-        (record { groups = one.groups; logs = one.logs; few = one.few; one = one.one; made = λ some. let m = one.made some in (m.stand, m.last, omega (arith, m.fits, less)) })
+        (record { groups = one.groups; logs = one.logs; few = one.few; one = one.one; made = λ some. let m = one.made some in (m.stand, m.last) })
 
-    pub write_fault : GivesOne s old new false (λ now. WriteMade h xids who table key action room x (s.blocks old) now) → s.keeps → Survives s (s.slots old) (Some (Write who table key action)) h (record h { stopped = true }) old new
+    pub write_fault : GivesOne s old new false (λ now. WriteMade h xids who table key action x (s.blocks old) now) → s.keeps → Survives s (s.slots old) (Some (Write who table key action)) h (record h { stopped = true }) old new
     write_fault one keeps = by one.groups refl
       where
         P : List (List ℕ) → ℕ → Type 0
-        P = HasState h h.books (last_scn h.commits) (s.slots old)
+        P = HasState h h.books (last_scn h.commits)
 
         by : (groups : List (List Patch)) → one.groups ≡ groups → Survives s (s.slots old) (Some (Write who table key action)) h (record h { stopped = true }) old new
         by [] e = step_fault h xids old new shape holds (record { groups = one.groups; logs = one.logs; few = one.few; one = one.one; made = λ some. absurd (omega (arith, some, ap length e)) }) keeps
@@ -112,21 +100,20 @@ module _ {S : Type 0} (s : Ghosts S) (told : s.tells) (laws : Laws s) where
             let m = one.made some in
             let books = books_written who x.seg x.slot (has_slot h who x.seg x.slot) h.books in
             let grow = grows_written h.shape h.books who x.seg x.slot (has_slot h who x.seg x.slot) holds.blocks.tell.books_counted in
-            let Q : List (List ℕ) → ℕ → Type 0 = HasState h books (last_scn h.commits) (s.slots old) in
-            let so : (b : List (List ℕ)) (n : ℕ) → P b n → Q b n = λ b n has. has_later h h h.books books (last_scn h.commits) (s.slots old) b n refl refl grow has in
+            let Q : List (List ℕ) → ℕ → Type 0 = HasState h books (last_scn h.commits) in
+            let so : (b : List (List ℕ)) (n : ℕ) → P b n → Q b n = λ b n has. has_later h h h.books books (last_scn h.commits) b n refl refl grow has in
             let now = after_groups (s.lsn old + 1) one.groups (s.blocks old) in
-            let has : HasState after_it after_it.books (last_scn after_it.commits) (s.slots old) now (s.lsn old + 1) = has_state after_it xids now (s.slots old) (s.lsn old + 1) m.stand (ap (λ (n : ℕ). n + 1) holds.logged ∙ sym m.last)
-            (room_less (s.slots old) (s.lsn old) (owed_in h.shape now) (omega (arith, m.fits, less))) in
+            let has : HasState after_it after_it.books (last_scn after_it.commits) now (s.lsn old + 1) = has_state after_it xids now (s.lsn old + 1) m.stand (ap (λ (n : ℕ). n + 1) holds.logged ∙ sym m.last) in
             survives_write s laws keeps h who table key action x.seg x.slot old new one.groups shape m.in_slot grow (holds.images keeps) one.logs
             (few_each Q one.groups (s.blocks old) (s.lsn old) keeps one.few (so _ _ (read_has s laws keeps P old (holds.images keeps)))
-            (λ _. has_later after_it h after_it.books books (last_scn h.commits) (s.slots old) now (s.lsn old + 1) refl refl (grow_same h.shape books) has))
+            (λ _. has_later after_it h after_it.books books (last_scn h.commits) now (s.lsn old + 1) refl refl (grow_same h.shape books) has))
 
   -- The put back of the session's last change.
   module _ (h : State) (xids : List Xid) (who : ℕ) (old new : S) (front : List Change) (shape : s.shape_of old ≡ h.shape) (holds : Holds s h xids old) where
     pub holds_back : (fault : Option Call) → GivesOne s old new true (λ now. BackMade h xids who front (s.blocks old) now) → Holds s (with_own h who front) xids new × (s.keeps → Survives s (s.slots old) fault h (with_own h who front) old new)
     holds_back fault one =
         step_holds h (with_own h who front) xids old new shape refl refl (grow_same h.shape h.books) holds fault
-        (record { groups = one.groups; logs = one.logs; few = one.few; one = one.one; made = λ some. let m = one.made some in (m.stand, m.last, omega (arith, m.owed, holds.fits)) })
+        (record { groups = one.groups; logs = one.logs; few = one.few; one = one.one; made = λ some. let m = one.made some in (m.stand, m.last) })
 
   -- The end of the session's transaction without a change.
   module _ (h : State) (xids : List Xid) (who : ℕ) (x : Xid) (old new : S) (shape : s.shape_of old ≡ h.shape) (holds : Holds s h xids old) where
@@ -135,19 +122,16 @@ module _ {S : Type 0} (s : Ghosts S) (told : s.tells) (laws : Laws s) where
     holds_ended fault cursors one =
         let h2 : State = without_owner x.seg x.slot (ended h who cursors) in
         step_holds h h2 xids old new shape refl refl (grows_left h.shape h.books x.seg x.slot holds.blocks.tell.books_counted) holds fault
-        (record { groups = one.groups; logs = one.logs; few = one.few; one = one.one; made = λ some. let m = one.made some in (m.stand cursors, m.last, omega (arith, m.owed, holds.fits)) })
+        (record { groups = one.groups; logs = one.logs; few = one.few; one = one.one; made = λ some. let m = one.made some in (m.stand cursors, m.last) })
 
   -- The cleaning of a block that is read.
   module _ (h : State) (xids : List Xid) (old new : S) (b : ℕ) (shape : s.shape_of old ≡ h.shape) (holds : Holds s h xids old) where
-    abbrev Room : ℕ
-    Room = room_of (s.slots old) (s.lsn old)
-
-    pub holds_cleaned : (fault : Option Call) → GivesOne s old new true (λ now. CleanMade h xids b Room (s.blocks old) now) → Holds s h xids new × (s.keeps → Survives s (s.slots old) fault h h old new)
+    pub holds_cleaned : (fault : Option Call) → GivesOne s old new true (λ now. CleanMade h xids b (s.blocks old) now) → Holds s h xids new × (s.keeps → Survives s (s.slots old) fault h h old new)
     holds_cleaned fault one =
         step_holds h h xids old new shape refl refl (grow_same h.shape h.books) holds fault
-        (record { groups = one.groups; logs = one.logs; few = one.few; one = one.one; made = λ some. let m = one.made some in (m.stand, m.last, (let f = m.fits in omega (arith, f))) })
+        (record { groups = one.groups; logs = one.logs; few = one.few; one = one.one; made = λ some. let m = one.made some in (m.stand, m.last) })
 
-    pub clean_fault : {fault : Option Call} → GivesOne s old new false (λ now. CleanMade h xids b Room (s.blocks old) now) → s.keeps → Survives s (s.slots old) fault h (record h { stopped = true }) old new
+    pub clean_fault : {fault : Option Call} → GivesOne s old new false (λ now. CleanMade h xids b (s.blocks old) now) → s.keeps → Survives s (s.slots old) fault h (record h { stopped = true }) old new
     clean_fault one keeps =
         step_fault h xids old new shape holds (record {
           groups = one.groups;
@@ -157,5 +141,5 @@ module _ {S : Type 0} (s : Ghosts S) (told : s.tells) (laws : Laws s) where
           made = λ some.
               let m = one.made some in
               let now = after_groups (s.lsn old + 1) one.groups (s.blocks old) in
-              has_state h xids now (s.slots old) (s.lsn old + 1) m.stand (ap (λ (n : ℕ). n + 1) holds.logged ∙ sym m.last) (room_less (s.slots old) (s.lsn old) (owed_in h.shape now) (let f = m.fits in omega (arith, f)));
+              has_state h xids now (s.lsn old + 1) m.stand (ap (λ (n : ℕ). n + 1) holds.logged ∙ sym m.last);
         }) keeps

@@ -17,7 +17,7 @@ pub record RestartsAt {I : Type 0} (opens : Shape → Option ℕ → I → List 
   pub blocks : List (List ℕ)
   pub lsn : ℕ
   pub opening : opens h.shape slots i blocks lsn
-  pub has : HasState h books n slots blocks lsn
+  pub has : HasState h books n blocks lsn
 
 -- it has the whole state
 abbrev pub Restarts : {I : Type 0} → (Shape → Option ℕ → I → List (List ℕ) → ℕ → Type 0)

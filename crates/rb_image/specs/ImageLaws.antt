@@ -1,27 +1,25 @@
 -- What holds of the definitions of this crate: blocks that stand for a state have it, a later state keeps what an
 -- earlier one had, and what blocks have bounds what an opening finds in them.
-use Rattle.std.specs.Prelude.{◌≡◌, ◌≤◌, ◌<◌, ℕ, List, Option}
-use Rattle.rb_base.specs.Stores.{room_of}
+use Rattle.std.specs.Prelude.{◌≡◌, ◌≤◌, ◌<◌, ℕ, List}
 use Rattle.rb_base.specs.declared.ids.Xid.{Xid}
 use Rattle.rb_image.specs.Between.{Extends}
 use Rattle.rb_image.specs.Images.{HasState}
 use Rattle.rb_model.specs.Book.{Book, book_at}
 use Rattle.rb_model.specs.Rows.{last_scn, rows_at}
 use Rattle.rb_model.specs.State.{State}
-use Rattle.rb_segment.specs.Segments.{owed_in}
 use Rattle.rb_standing.specs.Standing.{SoundAs, logged_of, segments_of}
 use Rattle.rb_standing.specs.States.{BlocksStand}
 
 -- Blocks that stand for a state have all its commits, and its marks.
 abbrev pub StandingHasState : Type 0
-StandingHasState = (h : State) (xids : List Xid) (blocks : List (List ℕ)) (slots : Option ℕ) (lsn : ℕ)
-    → BlocksStand h xids blocks → lsn ≡ logged_of h.shape blocks → owed_in h.shape blocks ≤ room_of slots lsn
-    → HasState h h.books (last_scn h.commits) slots blocks lsn
+StandingHasState = (h : State) (xids : List Xid) (blocks : List (List ℕ)) (lsn : ℕ)
+    → BlocksStand h xids blocks → lsn ≡ logged_of h.shape blocks
+    → HasState h h.books (last_scn h.commits) blocks lsn
 
 -- What blocks have of a state at a number, they have of each later one.
 abbrev pub LaterHasState : Type 0
-LaterHasState = (h h2 : State) (n : ℕ) (slots : Option ℕ) (blocks : List (List ℕ)) (lsn : ℕ) → Extends h h2
-    → n ≤ last_scn h.commits → HasState h h.books n slots blocks lsn → HasState h2 h2.books n slots blocks lsn
+LaterHasState = (h h2 : State) (n : ℕ) (blocks : List (List ℕ)) (lsn : ℕ) → Extends h h2
+    → n ≤ last_scn h.commits → HasState h h.books n blocks lsn → HasState h2 h2.books n blocks lsn
 
 -- A later state has all commits of the earlier one, with their numbers, and no mark that is less.
 abbrev pub LaterHasCommits : Type 0
@@ -34,8 +32,8 @@ LaterHasCommits = (h h2 : State) → Extends h h2 → (last_scn h.commits ≤ la
 -- Blocks that have a state at a number lead to its rows there, and in no segment were more records made, or was a
 -- greater number given up, than the books say.
 abbrev pub StateIsSeen : Type 0
-StateIsSeen = (h : State) (books : List Book) (n : ℕ) (slots : Option ℕ) (blocks : List (List ℕ)) (lsn : ℕ)
-    → HasState h books n slots blocks lsn
+StateIsSeen = (h : State) (books : List Book) (n : ℕ) (blocks : List (List ℕ)) (lsn : ℕ)
+    → HasState h books n blocks lsn
     → SoundAs h.shape blocks n (rows_at h.shape.blocks h.commits n)
     × ((g : ℕ) → g < h.shape.segments
     → ((segments_of h.shape blocks g).header.writes ≤ (book_at books g).writes)

@@ -20,7 +20,6 @@ use Rattle.rb_model.specs.NextState.{change_in, committed, ended, kind_by, witho
 use Rattle.rb_model.specs.Rows.{last_scn}
 use Rattle.rb_model.specs.State.{Cursor, State, session_own}
 use Rattle.rb_segment.specs.Header.{record_in}
-use Rattle.rb_segment.specs.Segments.{owed_in}
 use Rattle.rb_standing.specs.Groups.{IsCleaned, IsCommitted, IsEnded, IsPutBack, last_record}
 use Rattle.rb_standing.specs.NextStates.{with_own}
 use Rattle.rb_standing.specs.Standing.{env_of, logged_of, segments_of}
@@ -66,17 +65,16 @@ pub record TellsLooks (shape : Shape) (before now : List (List ℕ)) : Type 0 wh
   pub same : (b i : ℕ) → b < table_blocks shape → (entry_in before b i).kind ≡ OPEN
       → (entry_in now b i).kind ≢ OPEN → (entry_in now b i).xid ≡ (entry_in before b i).xid
 
--- A write of session s, in a log with so much room: its transaction has that id then, no test of the machine refuses
--- it, and there is room for what puts all live changes back. What it cleans on its way tells the looks.
-pub record WriteMade (h : State) (xids : List Xid) (s table key : ℕ) (action : Action) (room : ℕ) (x : Xid)
+-- A write of session s: its transaction has that id then, and no test of the machine refuses it. What it cleans on its
+-- way tells the looks.
+pub record WriteMade (h : State) (xids : List Xid) (s table key : ℕ) (action : Action) (x : Xid)
     (before now : List (List ℕ)) : Type 0 where
   pub in_slot : WritesIn h s x.seg x.slot
-  pub granted : first_of (write_tests h (logged_of h.shape before) room x.seg x.slot s table key action) Done ≡ Done
+  pub granted : first_of (write_tests h (logged_of h.shape before) x.seg x.slot s table key action) Done ≡ Done
   pub stand : BlocksStand (written h s x.seg x.slot (change_in h x.seg table key action)) xids now
   pub last : logged_of h.shape now ≡ logged_of h.shape before + 1
   pub id : IsOwnId (written h s x.seg x.slot (change_in h x.seg table key action)) (env_of h.shape now) s (Some x)
   pub ids : KeepsIds h (env_of h.shape before) (env_of h.shape now)
-  pub fits : owed_in h.shape now + 1 ≤ room
   pub tells : TellsLooks h.shape before now
   -- the record of its change, and where it is, which says all that the group changes
   pub address : Uba
@@ -98,7 +96,6 @@ pub record BackMade (h : State) (xids : List Xid) (s : ℕ) (front : List Change
   pub stand : BlocksStand (with_own h s front) xids now
   pub last : logged_of h.shape now ≡ logged_of h.shape before + 1
   pub ids : KeepsIds h (env_of h.shape before) (env_of h.shape now)
-  pub owed : owed_in h.shape now + 1 ≤ owed_in h.shape before
   -- its slot, the change, and the record of it, which says all that the group changes
   pub slot : ℕ
   pub owns : Owns h s slot
@@ -114,7 +111,6 @@ pub record CommitMade (h : State) (xids : List Xid) (s : ℕ) (x : Xid) (before 
   pub stand : BlocksStand (committed h s x.seg x.slot) (xids ++ x ∷ []) now
   pub ids : KeepsIds h (env_of h.shape before) (env_of h.shape now)
   pub last : logged_of h.shape now ≡ logged_of h.shape before + 1
-  pub owed : owed_in h.shape now + 1 ≤ owed_in h.shape before
   -- the group changes its header alone, and that so
   pub group : IsCommitted h.shape (16 * x.seg + x.slot) (last_scn h.commits + 1) before now
 
@@ -123,18 +119,14 @@ pub record EndMade (h : State) (xids : List Xid) (s : ℕ) (x : Xid) (before now
   pub stand : (cursors : List Cursor) → BlocksStand (without_owner x.seg x.slot (ended h s cursors)) xids now
   pub ids : KeepsIds h (env_of h.shape before) (env_of h.shape now)
   pub last : logged_of h.shape now ≡ logged_of h.shape before + 1
-  pub owed : owed_in h.shape now + 1 ≤ owed_in h.shape before
   -- the group changes its header alone, and that so
   pub group : IsEnded h.shape (16 * x.seg + x.slot) before now
 
--- Block b of rows is cleaned of the transactions that have ended, in a log with so much room; no other block changes.
--- There is room for what puts all live changes back.
-pub record CleanMade (h : State) (xids : List Xid) (b room : ℕ) (before now : List (List ℕ)) : Type 0 where
+-- Block b of rows is cleaned of the transactions that have ended; no other block changes.
+pub record CleanMade (h : State) (xids : List Xid) (b : ℕ) (before now : List (List ℕ)) : Type 0 where
   pub stand : BlocksStand h xids now
   pub segments : segments_of h.shape now ≡ segments_of h.shape before
   pub group : IsCleaned h.shape b before now
   pub home : home_of (block_of now b) ≡ cleaned_home (env_of h.shape before).look (home_of (block_of before b))
   pub others : (k : ℕ) → k ≢ b → block_of now k ≡ block_of before k
   pub last : logged_of h.shape now ≡ logged_of h.shape before + 1
-  pub owed : owed_in h.shape now ≡ owed_in h.shape before
-  pub fits : owed_in h.shape now < room

@@ -76,50 +76,46 @@ module _ {M : Type 0} (stands : M → Logged → Type 0) (since : M → M → Lo
   }
 
   -- one more piece of n bytes
-  pub part_more : (old mid new : M) (outside outside1 : Outside) (tells : Type 0) (held held1 held2 left left1 left2 kept kept2 : List ℕ) (room n : ℕ) (piece : List ℕ)
+  pub part_more : (old mid new : M) (outside : Outside) (tells : Type 0) (held held1 held2 left left1 left2 kept kept2 : List ℕ) (room n : ℕ) (piece : List ℕ)
       → ((a b c : M) (h n k : Logged) → n.state.stopped ≡ false → since a b h n → since b c n k → since a c h k)
-      → (p : Part old mid outside tells held held1 left left1 kept room) → outside1 ≡ outside
+      → (p : Part old mid outside tells held held1 left left1 kept room)
       → n ≤ room → length piece ≡ n → left1 ≡ piece ++ left2
       → ((m : Logged) → stands mid m → m.state.stopped ≡ false
-      → Did stands since mid new m (λ now. RanAs outside1 m now (lines_from (rest_from [] p.taken) piece) tells held1 held2 (Ok tt)))
+      → Did stands since mid new m (λ now. RanAs outside m now (lines_from (rest_from [] p.taken) piece) tells held1 held2 (Ok tt)))
       → kept2 ≡ take 513 (rest_from (rest_from [] p.taken) piece)
       → Part old new outside tells held held2 left left2 kept2 (room - n)
-  part_more old mid new outside outside1 tells held held1 held2 left left1 left2 kept kept2 room n piece joined p same le size split more rest = record {
+  part_more old mid new outside tells held held1 held2 left left1 left2 kept kept2 room n piece joined p le size split more rest = record {
     taken = p.taken ++ piece;
     size = omega (arith, p.size, length-append p.taken piece);
     split = p.split ∙ ap (λ (l : List ℕ). p.taken ++ l) split ∙ sym (append_assoc p.taken piece left2);
     rest = rest ∙ ap (λ (l : List ℕ). take 513 l) (sym (rest-append [] p.taken piece));
     did = λ m is going. did_on old mid new m _ _ _ joined (p.did m is going) (λ k so_far. so_far.1) more
         (λ k h2 so_far next. subst (λ (ls : List (List ℕ)). RanAs outside m h2 ls tells held held2 (Ok tt)) (sym (lines-append [] p.taken piece))
-        (as-append outside m k h2 _ _ tells held held1 held2 (Ok tt) so_far.0 so_far.1
-        (subst (λ (s : Outside). RanAs s k h2 (lines_from (rest_from [] p.taken) piece) tells held1 held2 (Ok tt)) same next)));
+        (as-append outside m k h2 _ _ tells held held1 held2 (Ok tt) so_far.0 so_far.1 next));
   }
 
   -- the end of the input, with its last line
-  pub part_end : (old mid new : M) (m : Logged) (outside outside1 : Outside) (tells : Type 0) (held held1 held2 left left1 kept : List ℕ) (room : ℕ) (r : Result (Unit {0}) StepFault)
+  pub part_end : (old mid new : M) (m : Logged) (outside : Outside) (tells : Type 0) (held held1 held2 left left1 kept : List ℕ) (room : ℕ) (r : Result (Unit {0}) StepFault)
       → ((a b c : M) (h n k : Logged) → n.state.stopped ≡ false → since a b h n → since b c n k → since a c h k)
-      → (p : Part old mid outside tells held held1 left left1 kept room) → outside1 ≡ outside → left1 ≡ [] → stands old m → m.state.stopped ≡ false
-      → ((k : Logged) → stands mid k → k.state.stopped ≡ false → Did stands since mid new k (λ now. RanAs outside1 k now (last_of (rest_from [] p.taken)) tells held1 held2 r))
+      → (p : Part old mid outside tells held held1 left left1 kept room) → left1 ≡ [] → stands old m → m.state.stopped ≡ false
+      → ((k : Logged) → stands mid k → k.state.stopped ≡ false → Did stands since mid new k (λ now. RanAs outside k now (last_of (rest_from [] p.taken)) tells held1 held2 r))
       → Did stands since old new m (λ now. RanAs outside m now (lines_of left) tells held held2 r)
-  part_end old mid new m outside outside1 tells held held1 held2 left left1 kept room r joined p same none is going more =
+  part_end old mid new m outside tells held held1 held2 left left1 kept room r joined p none is going more =
       let whole : left ≡ p.taken = p.split ∙ ap (λ (l : List ℕ). p.taken ++ l) none ∙ append-nil p.taken in
       did_on old mid new m _ _ _ joined (p.did m is going) (λ k so_far. so_far.1) more
       (λ k h2 so_far next. subst (λ (ls : List (List ℕ)). RanAs outside m h2 ls tells held held2 r) (sym (ap lines_of whole ∙ lines_of-parts p.taken))
-      (as-append outside m k h2 _ _ tells held held1 held2 r so_far.0 so_far.1
-      (subst (λ (s : Outside). RanAs s k h2 (last_of (rest_from [] p.taken)) tells held1 held2 r) same next)))
+      (as-append outside m k h2 _ _ tells held held1 held2 r so_far.0 so_far.1 next))
 
   -- with a fault of the disk in its last line
-  part_halts : (old mid new : M) (m : Logged) (outside outside1 : Outside) (most : ℕ) (tells : Type 0) (held held1 held2 left left1 left2 kept : List ℕ) (room : ℕ)
+  part_halts : (old mid new : M) (m : Logged) (outside : Outside) (most : ℕ) (tells : Type 0) (held held1 held2 left left1 left2 kept : List ℕ) (room : ℕ)
       → ((a b c : M) (h n k : Logged) → n.state.stopped ≡ false → since a b h n → since b c n k → since a c h k)
-      → (p : Part old mid outside tells held held1 left left1 kept room) → outside1 ≡ outside → left1 ≡ [] → left1 ≡ left2 → stands old m → m.state.stopped ≡ false
-      → ((k : Logged) → stands mid k → k.state.stopped ≡ false → Did stands since mid new k (λ now. RanAs outside1 k now (last_of (rest_from [] p.taken)) tells held1 held2 (Err Disk)))
+      → (p : Part old mid outside tells held held1 left left1 kept room) → left1 ≡ [] → left1 ≡ left2 → stands old m → m.state.stopped ≡ false
+      → ((k : Logged) → stands mid k → k.state.stopped ≡ false → Did stands since mid new k (λ now. RanAs outside k now (last_of (rest_from [] p.taken)) tells held1 held2 (Err Disk)))
       → Did stands since old new m (λ now. Halted outside most m now left left2 tells held held2)
-  part_halts old mid new m outside outside1 most tells held held1 held2 left left1 left2 kept room joined p same none stays is going more =
+  part_halts old mid new m outside most tells held held1 held2 left left1 left2 kept room joined p none stays is going more =
       let whole : left ≡ p.taken = p.split ∙ ap (λ (l : List ℕ). p.taken ++ l) none ∙ append-nil p.taken in
       did_on old mid new m _ _ _ joined (p.did m is going) (λ k so_far. so_far.1) more
-      (λ k h2 so_far next.
-      let last = subst (λ (s : Outside). RanAs s k h2 (last_of (rest_from [] p.taken)) tells held1 held2 (Err Disk)) same next in
-      record {
+      (λ k h2 so_far next. record {
         taken = p.taken;
         piece = [];
         few = omega arith;
@@ -130,22 +126,22 @@ module _ {M : Type 0} (stands : M → Logged → Type 0) (since : M → M → Lo
         going = so_far.1;
         rest = last_of (rest_from [] p.taken);
         lines = ap lines_of whole ∙ lines_of-parts p.taken ∙ ap (λ (ls : List (List ℕ)). ls ++ last_of (rest_from [] p.taken)) (whole_lines-pieces p.taken);
-        fault = last.0;
-        stopped = last.1;
+        fault = next.0;
+        stopped = next.1;
       })
 
   -- with one of the sink in it
-  part_last_cut : (old mid new : M) (m : Logged) (outside outside1 : Outside) (most : ℕ) (tells : Type 0) (held held1 held2 left left1 left2 kept : List ℕ) (room : ℕ)
+  part_last_cut : (old mid new : M) (m : Logged) (outside : Outside) (most : ℕ) (tells : Type 0) (held held1 held2 left left1 left2 kept : List ℕ) (room : ℕ)
       → ((a b c : M) (h n k : Logged) → n.state.stopped ≡ false → since a b h n → since b c n k → since a c h k)
-      → (p : Part old mid outside tells held held1 left left1 kept room) → outside1 ≡ outside → left1 ≡ [] → left1 ≡ left2 → stands old m → m.state.stopped ≡ false
-      → ((k : Logged) → stands mid k → k.state.stopped ≡ false → Did stands since mid new k (λ now. RanAs outside1 k now (last_of (rest_from [] p.taken)) tells held1 held2 (Err Sink)))
+      → (p : Part old mid outside tells held held1 left left1 kept room) → left1 ≡ [] → left1 ≡ left2 → stands old m → m.state.stopped ≡ false
+      → ((k : Logged) → stands mid k → k.state.stopped ≡ false → Did stands since mid new k (λ now. RanAs outside k now (last_of (rest_from [] p.taken)) tells held1 held2 (Err Sink)))
       → Did stands since old new m (λ now. tells → CutOff outside most m now left left2 held held2)
-  part_last_cut old mid new m outside outside1 most tells held held1 held2 left left1 left2 kept room joined p same none stays is going more =
+  part_last_cut old mid new m outside most tells held held1 held2 left left1 left2 kept room joined p none stays is going more =
       let whole : left ≡ p.taken = p.split ∙ ap (λ (l : List ℕ). p.taken ++ l) none ∙ append-nil p.taken in
       let last : List (List ℕ) = last_of (rest_from [] p.taken) in
       did_on old mid new m _ _ _ joined (p.did m is going) (λ k so_far. so_far.1) more
       (λ k h2 so_far next t.
-      let q : CutIn outside k h2 last held1 held2 = subst (λ (s : Outside). CutIn s k h2 last held1 held2) same (next t) in
+      let q : CutIn outside k h2 last held1 held2 = next t in
       record {
         taken = p.taken;
         piece = [];
@@ -165,12 +161,12 @@ module _ {M : Type 0} (stands : M → Logged → Type 0) (since : M → M → Lo
       })
 
   -- and in a piece
-  part_cut : (old mid new : M) (m : Logged) (outside outside1 : Outside) (most : ℕ) (tells : Type 0) (held held1 held2 left left1 left2 kept : List ℕ) (room : ℕ) (piece : List ℕ)
+  part_cut : (old mid new : M) (m : Logged) (outside : Outside) (most : ℕ) (tells : Type 0) (held held1 held2 left left1 left2 kept : List ℕ) (room : ℕ) (piece : List ℕ)
       → ((a b c : M) (h n k : Logged) → n.state.stopped ≡ false → since a b h n → since b c n k → since a c h k)
-      → (p : Part old mid outside tells held held1 left left1 kept room) → outside1 ≡ outside → length piece ≤ most → left1 ≡ piece ++ left2 → stands old m → m.state.stopped ≡ false
-      → ((k : Logged) → stands mid k → k.state.stopped ≡ false → Did stands since mid new k (λ now. RanAs outside1 k now (lines_from (rest_from [] p.taken) piece) tells held1 held2 (Err Sink)))
+      → (p : Part old mid outside tells held held1 left left1 kept room) → length piece ≤ most → left1 ≡ piece ++ left2 → stands old m → m.state.stopped ≡ false
+      → ((k : Logged) → stands mid k → k.state.stopped ≡ false → Did stands since mid new k (λ now. RanAs outside k now (lines_from (rest_from [] p.taken) piece) tells held1 held2 (Err Sink)))
       → Did stands since old new m (λ now. tells → CutOff outside most m now left left2 held held2)
-  part_cut old mid new m outside outside1 most tells held held1 held2 left left1 left2 kept room piece joined p same few split is going more =
+  part_cut old mid new m outside most tells held held1 held2 left left1 left2 kept room piece joined p few split is going more =
       let bytes : left ≡ p.taken ++ (piece ++ left2) = p.split ∙ ap (λ (l : List ℕ). p.taken ++ l) split in
       let here : List (List ℕ) = lines_from (rest_from [] p.taken) piece in
       let later : List (List ℕ) = lines_from (rest_from (rest_from [] p.taken) piece) left2 ++ last_of (rest_from (rest_from (rest_from [] p.taken) piece) left2) in
@@ -179,7 +175,7 @@ module _ {M : Type 0} (stands : M → Logged → Type 0) (since : M → M → Lo
       sym (whole_lines-pieces (p.taken ++ piece)) ∙ lines-append [] p.taken piece ∙ ap (λ (ls : List (List ℕ)). ls ++ here) (whole_lines-pieces p.taken) in
       did_on old mid new m _ _ _ joined (p.did m is going) (λ k so_far. so_far.1) more
       (λ k h2 so_far next t.
-      let q : CutIn outside k h2 here held1 held2 = subst (λ (s : Outside). CutIn s k h2 here held1 held2) same (next t) in
+      let q : CutIn outside k h2 here held1 held2 = next t in
       record {
         taken = p.taken;
         piece = piece;
@@ -202,18 +198,18 @@ module _ {M : Type 0} (stands : M → Logged → Type 0) (since : M → M → Lo
       })
 
   -- a fault of the disk in a piece
-  part_fault : (old mid new : M) (m : Logged) (outside outside1 : Outside) (most : ℕ) (tells : Type 0) (held held1 held2 left left1 left2 kept : List ℕ) (room : ℕ) (piece : List ℕ)
+  part_fault : (old mid new : M) (m : Logged) (outside : Outside) (most : ℕ) (tells : Type 0) (held held1 held2 left left1 left2 kept : List ℕ) (room : ℕ) (piece : List ℕ)
       → ((a b c : M) (h n k : Logged) → n.state.stopped ≡ false → since a b h n → since b c n k → since a c h k)
-      → (p : Part old mid outside tells held held1 left left1 kept room) → outside1 ≡ outside → length piece ≤ most → left1 ≡ piece ++ left2 → stands old m → m.state.stopped ≡ false
-      → ((k : Logged) → stands mid k → k.state.stopped ≡ false → Did stands since mid new k (λ now. RanAs outside1 k now (lines_from (rest_from [] p.taken) piece) tells held1 held2 (Err Disk)))
+      → (p : Part old mid outside tells held held1 left left1 kept room) → length piece ≤ most → left1 ≡ piece ++ left2 → stands old m → m.state.stopped ≡ false
+      → ((k : Logged) → stands mid k → k.state.stopped ≡ false → Did stands since mid new k (λ now. RanAs outside k now (lines_from (rest_from [] p.taken) piece) tells held1 held2 (Err Disk)))
       → Did stands since old new m (λ now. Halted outside most m now left left2 tells held held2)
-  part_fault old mid new m outside outside1 most tells held held1 held2 left left1 left2 kept room piece joined p same few split is going more =
+  part_fault old mid new m outside most tells held held1 held2 left left1 left2 kept room piece joined p few split is going more =
       let bytes : left ≡ p.taken ++ (piece ++ left2) = p.split ∙ ap (λ (l : List ℕ). p.taken ++ l) split in
       let here : List (List ℕ) = lines_from (rest_from [] p.taken) piece in
       let later : List (List ℕ) = lines_from (rest_from (rest_from [] p.taken) piece) left2 ++ last_of (rest_from (rest_from (rest_from [] p.taken) piece) left2) in
       did_on old mid new m _ _ _ joined (p.did m is going) (λ k so_far. so_far.1) more
       (λ k h2 so_far next.
-      let last = as_more outside k h2 here later tells held1 held2 Disk so_far.1 (subst (λ (s : Outside). RanAs s k h2 here tells held1 held2 (Err Disk)) same next) in
+      let last = as_more outside k h2 here later tells held1 held2 Disk so_far.1 next in
       record {
         taken = p.taken;
         piece = piece;
@@ -231,26 +227,26 @@ module _ {M : Type 0} (stands : M → Logged → Type 0) (since : M → M → Lo
       })
 
   -- how a fault in the last line ends the lines
-  pub last_fails : (old mid new : M) (m : Logged) (outside outside1 : Outside) (most : ℕ) (tells : Type 0) (held held1 held2 left left1 left2 kept : List ℕ) (room : ℕ) (fault : StepFault)
+  pub last_fails : (old mid new : M) (m : Logged) (outside : Outside) (most : ℕ) (tells : Type 0) (held held1 held2 left left1 left2 kept : List ℕ) (room : ℕ) (fault : StepFault)
       → ((a b c : M) (h n k : Logged) → n.state.stopped ≡ false → since a b h n → since b c n k → since a c h k)
-      → (p : Part old mid outside tells held held1 left left1 kept room) → outside1 ≡ outside → left1 ≡ [] → left1 ≡ left2 → stands old m → m.state.stopped ≡ false
-      → ((k : Logged) → stands mid k → k.state.stopped ≡ false → Did stands since mid new k (λ now. RanAs outside1 k now (last_of (rest_from [] p.taken)) tells held1 held2 (Err fault)))
+      → (p : Part old mid outside tells held held1 left left1 kept room) → left1 ≡ [] → left1 ≡ left2 → stands old m → m.state.stopped ≡ false
+      → ((k : Logged) → stands mid k → k.state.stopped ≡ false → Did stands since mid new k (λ now. RanAs outside k now (last_of (rest_from [] p.taken)) tells held1 held2 (Err fault)))
       → Did stands since old new m (λ now. EndsAs outside most m now left left2 tells held held2 (end_of fault))
-  last_fails old mid new m outside outside1 most tells held held1 held2 left left1 left2 kept room Disk joined p same none stays is going more =
-      part_halts old mid new m outside outside1 most tells held held1 held2 left left1 left2 kept room joined p same none stays is going more
-  last_fails old mid new m outside outside1 most tells held held1 held2 left left1 left2 kept room Sink joined p same none stays is going more =
-      part_last_cut old mid new m outside outside1 most tells held held1 held2 left left1 left2 kept room joined p same none stays is going more
+  last_fails old mid new m outside most tells held held1 held2 left left1 left2 kept room Disk joined p none stays is going more =
+      part_halts old mid new m outside most tells held held1 held2 left left1 left2 kept room joined p none stays is going more
+  last_fails old mid new m outside most tells held held1 held2 left left1 left2 kept room Sink joined p none stays is going more =
+      part_last_cut old mid new m outside most tells held held1 held2 left left1 left2 kept room joined p none stays is going more
 
   -- and how one in a piece does
-  pub piece_fails : (old mid new : M) (m : Logged) (outside outside1 : Outside) (most : ℕ) (tells : Type 0) (held held1 held2 left left1 left2 kept : List ℕ) (room : ℕ) (piece : List ℕ) (fault : StepFault)
+  pub piece_fails : (old mid new : M) (m : Logged) (outside : Outside) (most : ℕ) (tells : Type 0) (held held1 held2 left left1 left2 kept : List ℕ) (room : ℕ) (piece : List ℕ) (fault : StepFault)
       → ((a b c : M) (h n k : Logged) → n.state.stopped ≡ false → since a b h n → since b c n k → since a c h k)
-      → (p : Part old mid outside tells held held1 left left1 kept room) → outside1 ≡ outside → length piece ≤ most → left1 ≡ piece ++ left2 → stands old m → m.state.stopped ≡ false
-      → ((k : Logged) → stands mid k → k.state.stopped ≡ false → Did stands since mid new k (λ now. RanAs outside1 k now (lines_from (rest_from [] p.taken) piece) tells held1 held2 (Err fault)))
+      → (p : Part old mid outside tells held held1 left left1 kept room) → length piece ≤ most → left1 ≡ piece ++ left2 → stands old m → m.state.stopped ≡ false
+      → ((k : Logged) → stands mid k → k.state.stopped ≡ false → Did stands since mid new k (λ now. RanAs outside k now (lines_from (rest_from [] p.taken) piece) tells held1 held2 (Err fault)))
       → Did stands since old new m (λ now. EndsAs outside most m now left left2 tells held held2 (end_of fault))
-  piece_fails old mid new m outside outside1 most tells held held1 held2 left left1 left2 kept room piece Disk joined p same few split is going more =
-      part_fault old mid new m outside outside1 most tells held held1 held2 left left1 left2 kept room piece joined p same few split is going more
-  piece_fails old mid new m outside outside1 most tells held held1 held2 left left1 left2 kept room piece Sink joined p same few split is going more =
-      part_cut old mid new m outside outside1 most tells held held1 held2 left left1 left2 kept room piece joined p same few split is going more
+  piece_fails old mid new m outside most tells held held1 held2 left left1 left2 kept room piece Disk joined p few split is going more =
+      part_fault old mid new m outside most tells held held1 held2 left left1 left2 kept room piece joined p few split is going more
+  piece_fails old mid new m outside most tells held held1 held2 left left1 left2 kept room piece Sink joined p few split is going more =
+      part_cut old mid new m outside most tells held held1 held2 left left1 left2 kept room piece joined p few split is going more
 
   -- the whole lines among the bytes taken
   pub part_whole : (old mid : M) (m : Logged) (outside : Outside) (tells : Type 0) (held held1 left left1 left2 kept : List ℕ) (room : ℕ)

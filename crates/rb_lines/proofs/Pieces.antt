@@ -14,18 +14,17 @@ rest_more line bytes i within =
     sym (ap (λ (b : List ℕ). rest_from line b) (take_more bytes i 0 within) ∙ rest-append line (take i bytes) (get_or bytes i 0 ∷ []))
 
 -- the bytes up to one, and that one
-pub as_byte : (outside outside1 : Outside) (h m h2 : Logged) (line bytes : List ℕ) (i : ℕ) (tells : Type 0) (held held1 held2 : List ℕ) (r : Result (Unit {0}) StepFault)
-    → i < length bytes → outside1 ≡ outside
+pub as_byte : (outside : Outside) (h m h2 : Logged) (line bytes : List ℕ) (i : ℕ) (tells : Type 0) (held held1 held2 : List ℕ) (r : Result (Unit {0}) StepFault)
+    → i < length bytes
     → Ran outside h m (lines_from line (take i bytes)) tells held held1 → m.state.stopped ≡ false
-    → RanAs outside1 m h2 (lines_from (rest_from line (take i bytes)) (get_or bytes i 0 ∷ [])) tells held1 held2 r
+    → RanAs outside m h2 (lines_from (rest_from line (take i bytes)) (get_or bytes i 0 ∷ [])) tells held1 held2 r
     → RanAs outside h h2 (lines_from line (take (i + 1) bytes)) tells held held2 r
-as_byte outside outside1 h m h2 line bytes i tells held held1 held2 r within same ran going q =
+as_byte outside h m h2 line bytes i tells held held1 held2 r within ran going q =
     let next : List ℕ = get_or bytes i 0 ∷ [] in
     let cut : lines_from line (take (i + 1) bytes) ≡ lines_from line (take i bytes) ++ lines_from (rest_from line (take i bytes)) next =
     ap (λ (b : List ℕ). lines_from line b) (take_more bytes i 0 within) ∙ lines-append line (take i bytes) next in
-    let here = subst (λ (s : Outside). RanAs s m h2 (lines_from (rest_from line (take i bytes)) next) tells held1 held2 r) same q in
     subst (λ (ls : List (List ℕ)). RanAs outside h h2 ls tells held held2 r) (sym cut)
-    (as-append outside h m h2 _ _ tells held held1 held2 r ran going here)
+    (as-append outside h m h2 _ _ tells held held1 held2 r ran going q)
 
 -- a fault in a piece, and the bytes behind it
 pub as_piece : (outside : Outside) (h h2 : Logged) (line bytes : List ℕ) (n : ℕ) (tells : Type 0) (held held2 : List ℕ) (fault : StepFault)

@@ -69,7 +69,7 @@ pub fn run_lines<M: LineRunner, S: Source, K: Sink>(
     // Which lines were done, and what became of the runner's file.
     ensures did { S.tells → (m : Logged) → M.stands runner.old m → m.state.stopped ≡ false
         → Did M.stands M.since runner.old runner.new m
-        (λ now. EndsAs (outside_by M.worn M.makes (M.slots runner.old)) (length buffer.old) m now
+        (λ now. EndsAs (outside_by M.worn M.makes) (length buffer.old) m now
         (S.left source.old) (S.left source.new) K.tells (K.held sink.old) (K.held sink.new) result) }
 
     // What became of its file, also where the source doesn't tell.
@@ -83,7 +83,6 @@ pub fn run_lines<M: LineRunner, S: Source, K: Sink>(
     ensures took { S.tells
         → ((taken : List ℕ) × (length taken ≤ 1000000000)
         × (S.left source.old ≡ taken ++ S.left source.new)) }
-    ensures slots { M.slots runner.new ≡ M.slots runner.old }
 
     // It ends by a fault only where that count rose, and else the count is as before.
     ensures source { IsCountedAs (S.faults source.old) (S.faults source.new) (ends_by_source result) }

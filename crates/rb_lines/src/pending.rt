@@ -1,5 +1,5 @@
 //! The line under way: the bytes that came for it, fed to a line runner where it ends. `run_lines` calls it.
-ghost use Rattle.std.specs.Prelude.{ℕ, ◌≡◌, ◌≤◌, false, List, [], ◌∷◌, ◌++◌, take, OnOk};
+ghost use Rattle.std.specs.Prelude.{ℕ, ◌≡◌, false, List, [], ◌∷◌, ◌++◌, take, OnOk};
 ghost use Rattle.rb_base.specs.Counts.{IsCountedAs, err_is};
 ghost use Rattle.rb_model.specs.Out.{Logged, outside_by};
 ghost use Rattle.rb_lines.specs.Faults.{IsCountedBeside, is_disk, is_sink};
@@ -31,11 +31,10 @@ fn feed_byte<M: LineRunner, K: Sink>(
 ) -> Result<(), StepFault>
     ensures did { (m : Logged) (line : List ℕ) → M.stands runner.old m → m.state.stopped ≡ false
         → pending.old.items ≡ take 513 line → Did M.stands M.since runner.old runner.new m
-        (λ now. RanAs (outside_by M.worn M.makes (M.slots runner.old)) m now (lines_from line (byte ∷ [])) K.tells
-        (K.held sink.old) (K.held sink.new) result) }
+        (λ now. RanAs (outside_by M.worn M.makes) m now (lines_from line (byte ∷ [])) K.tells (K.held sink.old)
+        (K.held sink.new) result) }
     ensures kept { OnOk result ((line : List ℕ) → pending.old.items ≡ take 513 line
         → pending.new.items ≡ take 513 (rest_from line (byte ∷ []))) }
-    ensures slots { M.slots runner.new ≡ M.slots runner.old }
     ensures disk { IsCountedBeside (M.faults runner.old) (M.faults runner.new) (err_is is_disk result)
         (err_is is_sink result) }
     ensures sink { IsCountedAs (K.faults sink.old) (K.faults sink.new) (err_is is_sink result) }
@@ -58,11 +57,10 @@ pub fn feed<M: LineRunner, K: Sink>(
 ) -> Result<(), StepFault>
     ensures did { (m : Logged) (line : List ℕ) → M.stands runner.old m → m.state.stopped ≡ false
         → pending.old.items ≡ take 513 line → Did M.stands M.since runner.old runner.new m
-        (λ now. RanAs (outside_by M.worn M.makes (M.slots runner.old)) m now (lines_from line bytes.now) K.tells
-        (K.held sink.old) (K.held sink.new) result) }
+        (λ now. RanAs (outside_by M.worn M.makes) m now (lines_from line bytes.now) K.tells (K.held sink.old)
+        (K.held sink.new) result) }
     ensures kept { OnOk result ((line : List ℕ) → pending.old.items ≡ take 513 line
         → pending.new.items ≡ take 513 (rest_from line bytes.now)) }
-    ensures slots { M.slots runner.new ≡ M.slots runner.old }
     ensures disk { IsCountedBeside (M.faults runner.old) (M.faults runner.new) (err_is is_disk result)
         (err_is is_sink result) }
     ensures sink { IsCountedAs (K.faults sink.old) (K.faults sink.new) (err_is is_sink result) }
@@ -81,9 +79,8 @@ pub fn finish<M: LineRunner, K: Sink>(
 ) -> Result<(), StepFault>
     ensures did { (m : Logged) (line : List ℕ) → M.stands runner.old m → m.state.stopped ≡ false
         → pending.now.items ≡ take 513 line → Did M.stands M.since runner.old runner.new m
-        (λ now. RanAs (outside_by M.worn M.makes (M.slots runner.old)) m now (last_of line) K.tells
-        (K.held sink.old) (K.held sink.new) result) }
-    ensures slots { M.slots runner.new ≡ M.slots runner.old }
+        (λ now. RanAs (outside_by M.worn M.makes) m now (last_of line) K.tells (K.held sink.old)
+        (K.held sink.new) result) }
     ensures disk { IsCountedBeside (M.faults runner.old) (M.faults runner.new) (err_is is_disk result)
         (err_is is_sink result) }
     ensures sink { IsCountedAs (K.faults sink.old) (K.faults sink.new) (err_is is_sink result) }

@@ -1,5 +1,5 @@
 //! `LineRunner`: what does a line. The shell implements it over an engine, and `run_lines` calls it.
-ghost use Rattle.std.specs.Prelude.{ℕ, ◌≡◌, ◌≤◌, false, true, List};
+ghost use Rattle.std.specs.Prelude.{ℕ, ◌≡◌, false, List};
 ghost use Rattle.rb_base.specs.Counts.{IsCountedAs, err_is};
 ghost use Rattle.rb_model.specs.Calls.{Answer, Call};
 ghost use Rattle.rb_model.specs.Out.{Logged, outside_by};
@@ -28,15 +28,12 @@ pub trait LineRunner {
     /// It stands for this state, with its last log number and its blocks.
     ghost stands: { Self → Logged → Type 0 };
 
-    /// How many slots its log has.
-    ghost slots: { Self → ℕ };
-
     /// Whether what a call in a state reads at a snapshot is worn in these blocks, by a number of which something was
     /// given up.
     ghost worn: { State → List (List ℕ) → Call → ℕ → ℕ → Type 0 };
 
-    /// What a call in a state with an answer makes of the machine's blocks, over a log of so many slots.
-    ghost makes: { ℕ → Logged → Call → Answer → Logged → Type 0 };
+    /// What a call in a state with an answer makes of the machine's blocks.
+    ghost makes: { Logged → Call → Answer → Logged → Type 0 };
 
     /// How often its disk has failed, up to 2^64 - 1.
     ghost faults: { Self → ℕ };
@@ -49,9 +46,8 @@ pub trait LineRunner {
     fn step<K: Sink>(&mut self, line: &[u8], sink: &mut K) -> Result<(), StepFault>
         ensures did { (m : Logged) → stands self.old m → m.state.stopped ≡ false
             → Did stands since self.old self.new m
-            (λ now. LineRanAs (outside_by worn makes (slots self.old)) m now line.now K.tells (K.held sink.old)
+            (λ now. LineRanAs (outside_by worn makes) m now line.now K.tells (K.held sink.old)
             (K.held sink.new) result) }
-        ensures slots { slots self.new ≡ slots self.old }
         ensures disk { IsCountedBeside (faults self.old) (faults self.new) (err_is is_disk result)
             (err_is is_sink result) }
         ensures sink { IsCountedAs (K.faults sink.old) (K.faults sink.new) (err_is is_sink result) };

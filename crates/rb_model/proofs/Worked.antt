@@ -30,9 +30,9 @@ open_c h = with_cursors h 1 (cursors_of h 1 ++ opened_cursor h 1 (99 ∷ []) 1 0
 abbrev fetch_c : State → State
 fetch_c h = with_cursors h 1 (with_taken (99 ∷ []) (cursors_of h 1))
 
--- what a write of a key answers, in a log with much room
+-- what a write of a key answers
 abbrev answer_to : State → ℕ → Action → Answer
-answer_to h key action = first_of (write_tests h 2 99 0 0 1 1 key action) Done
+answer_to h key action = first_of (write_tests h 2 0 0 1 1 key action) Done
 
 abbrev a : List ℕ
 a = 97 ∷ []

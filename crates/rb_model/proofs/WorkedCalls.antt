@@ -1,11 +1,11 @@
 -- The calls of the machine, computed on worked rows.
-use Rattle.std.proofs.Common.{◌≡◌, ◌-◌, ℕ, zero, suc, false, List, [], ◌∷◌, length, get_or, None, Some, refl, arith}
+use Rattle.std.proofs.Common.{◌≡◌, ℕ, false, List, [], ◌∷◌, length, get_or, None, Some, refl, arith}
 use Rattle.rb_model.specs.Book.{book_at, book_slot, fresh_book}
-use Rattle.rb_model.specs.Calls.{Action, Insert, Update, Delete, Lock, Owned, rows_now, Answer, Done, Refused, first_of, needed_room, write_tests}
+use Rattle.rb_model.specs.Calls.{Action, Insert, Update, Delete, Lock, Owned, rows_now, Answer, Done, Refused, first_of, write_tests}
 use Rattle.rb_model.specs.State.{State, Cursor, Savepoint, no_session, savepoint_of, session_of, session_own}
 use Rattle.rb_model.specs.NextState.{change_in, committed, ended, left_open, opened_cursor, rolled_to, with_cursors, with_savepoint, with_savepoints, without_owner, written}
 use Rattle.rb_model.specs.Rows.{last_scn}
-use Rattle.rb_model.specs.declared.refusal.Refusal.TheVariants.{Duplicate, NotFound, LogFull}
+use Rattle.rb_model.specs.declared.refusal.Refusal.TheVariants.{Duplicate, NotFound}
 
 -- a new file of one table, one block and one segment, and its one session
 abbrev fresh : State
@@ -22,9 +22,9 @@ fresh = record {
 abbrev a : List ℕ
 a = 97 ∷ []
 
--- what a write of a key answers, behind so many groups of a log of 64 slots
+-- what a write of a key answers, behind so many groups
 abbrev answer : State → ℕ → ℕ → Action → Answer
-answer h logged key action = first_of (write_tests h logged (63 - logged) 0 0 1 1 key action) Done
+answer h logged key action = first_of (write_tests h logged 0 0 1 1 key action) Done
 
 abbrev write : State → ℕ → Action → State
 write h key action = written h 1 0 0 (change_in h 0 1 key action)
@@ -48,25 +48,6 @@ first_place = refl
 
 one_record : (book_at one.books 0).writes ≡ 1
 one_record = refl
-
--- Before the first write the log must have room for it, its put back and the end of its slot; then for one change more.
-room_for_first : needed_room fresh 1 0 0 ≡ 3
-room_for_first = refl
-
-room_for_second : needed_room one 1 0 0 ≡ 4
-room_for_second = refl
-
--- A transaction writes a key again and again, in a log of 64 slots: the write behind 31 others finds the log full, and 32
--- groups are left, which are those that put the 31 back and end the slot.
-abbrev updates : ℕ → State → State
-updates zero h = h
-updates (suc n) h = updates n (write h 1 (Update a))
-
-thirty_first : answer (updates 29 one) 30 1 (Update a) ≡ Done
-thirty_first = refl
-
-log_full : answer (updates 30 one) 31 1 (Update a) ≡ Refused LogFull
-log_full = refl
 
 -- A commit takes the next number, which its slot and its turn have then, and no one owns the slot.
 abbrev done : State

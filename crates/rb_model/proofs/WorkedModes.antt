@@ -70,7 +70,7 @@ abbrev rows_of : ℕ → State → List ℕ
 rows_of s h = map (λ row. row.key) (cursor_rows h (opened_cursor h s a 1 0 9))
 
 abbrev answer : ℕ → State → ℕ → Action → Answer
-answer s h key action = first_of (write_tests h 1 50 0 0 s 1 key action) Done
+answer s h key action = first_of (write_tests h 1 0 0 s 1 key action) Done
 
 -- *changed-back*: session 2 is serializable at 3; 4 and 5 change the row and change it back.
 abbrev back_again : State

@@ -70,7 +70,7 @@ holding =
     let h2 = written h1 2 0 1 (change_in h1 0 1 2 (Insert a)) in written h2 3 0 2 (change_in h2 0 1 3 (Insert a))
 
 abbrev answer : State → ℕ → ℕ → Action → Answer
-answer h s key action = first_of (write_tests h 3 60 0 (s - 1) s 1 key action) Done
+answer h s key action = first_of (write_tests h 3 0 (s - 1) s 1 key action) Done
 
 -- the write of a key by a session that has to wait for another one
 abbrev waits : State → ℕ → ℕ → ℕ → State

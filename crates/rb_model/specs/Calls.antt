@@ -18,7 +18,7 @@ use Rattle.rb_model.specs.Rows.{Commits, TableRow, has_row, last_scn, over, rows
 use Rattle.rb_model.specs.State.{State, Session, Cursor, Savepoint, session_of, session_own, isolation_of, owner_at}
 use Rattle.rb_model.specs.State.{is_session, is_table}
 use Rattle.rb_model.specs.State.{is_waiting, savepoint_of, cursor_of, cursor_rows}
-use Rattle.rb_model.specs.Tests.{holder, full_slots, live_changes, made_since, owners_counted}
+use Rattle.rb_model.specs.Tests.{holder, full_slots, made_since}
 use Rattle.rb_model.specs.declared.mode.Isolation.{Isolation}
 use Rattle.rb_model.specs.declared.mode.Isolation.TheVariants as isolation
 use Rattle.rb_model.specs.declared.mode.Mode.{Mode}
@@ -28,7 +28,7 @@ use Rattle.rb_model.specs.declared.refusal.Refusal.TheVariants.{ValueTooLong, De
 use Rattle.rb_model.specs.declared.refusal.Refusal.TheVariants.{Duplicate, NotFound, BlockFull, SlotsFull}
 use Rattle.rb_model.specs.declared.refusal.Refusal.TheVariants.{RollbackFull, NotWaiting}
 use Rattle.rb_model.specs.declared.refusal.Refusal.TheVariants.{NoSavepoint, TooManySavepoints, NoCursor, CursorThere}
-use Rattle.rb_model.specs.declared.refusal.Refusal.TheVariants.{TooManyCursors, WornOut, DiskFault, Stopped, LogFull}
+use Rattle.rb_model.specs.declared.refusal.Refusal.TheVariants.{TooManyCursors, WornOut, DiskFault, Stopped}
 
 -- a call of one session, or of none
 pub data Call : Type 0 where
@@ -112,7 +112,6 @@ refusal_words WornOut = codes "worn out"
 refusal_words NotWaiting = codes "not waiting"
 refusal_words DiskFault = codes "disk fault"
 refusal_words Stopped = codes "stopped"
-refusal_words LogFull = codes "log full"
 
 -- a space and a number
 abbrev pub number_text : ℕ → List ℕ
@@ -162,10 +161,6 @@ is_owner s (Some o) = nat_le o.session s && nat_le s o.session
 abbrev pub has_slot : State → ℕ → ℕ → ℕ → Bool
 has_slot h s g i = is_owner s (owner_at h (16 * g + i))
 
--- what the log must have room for after a write: the write, what puts back all live changes, and the ends of slots
-abbrev pub needed_room : State → ℕ → ℕ → ℕ → ℕ
-needed_room h s g i = 1 + (live_changes h + 1) + (owners_counted h + (if has_slot h s g i then 0 else 1))
-
 -- The session that is to be waited for, where it is another. Where they would wait in a ring, the write is refused.
 abbrev pub waited : List Waiter → ℕ → Option ℕ → List (Bool × Answer)
 waited queue s None = []
@@ -214,9 +209,9 @@ early_tests h (Cancel s) = number_tests h s
 early_tests h (Marks seg) = (h.stopped, Refused Stopped) ∷ []
 early_tests h Checkpoint = (h.stopped, Refused Stopped) ∷ []
 
--- the tests of a write of a session that writes in slot i of segment g, behind that log number and with so much room
-abbrev pub write_tests : State → (logged room g i s table key : ℕ) → Action → List (Bool × Answer)
-write_tests h logged room g i s table key action =
+-- the tests of a write of a session that writes in slot i of segment g, behind that log number
+abbrev pub write_tests : State → (logged g i s table key : ℕ) → Action → List (Bool × Answer)
+write_tests h logged g i s table key action =
     waited h.queue s (holder h table key)
     ++ serial_tests h.commits (isolation_of h s) table key
     ++ (adds action && has_row table key (rows_now h s), Refused Duplicate)
@@ -224,8 +219,7 @@ write_tests h logged room g i s table key action =
     ∷ (adds action && full_block h table key, Refused BlockFull)
     ∷ (full_slots h s table key, Refused SlotsFull)
     ∷ (is_full (book_at h.books g), Refused (RollbackFull g (made_since (book_at h.books g))))
-    ∷ (nat_le WORN logged, Refused WornOut)
-    ∷ (nat_lt room (needed_room h s g i), Refused LogFull) ∷ []
+    ∷ (nat_le WORN logged, Refused WornOut) ∷ []
 
 -- the savepoints of other names
 abbrev pub without_savepoint : List ℕ → List Savepoint → List Savepoint
@@ -283,10 +277,10 @@ none_applies [] = true
 none_applies (test ∷ tests) = not test.0 && none_applies tests
 
 -- the later tests of a call; those of a write go by where it writes
-abbrev pub LaterTests : State → ℕ → ℕ → Call → List (Bool × Answer) → Type 0
-LaterTests h logged room (Write s table key action) tests =
-    (g : ℕ) × (i : ℕ) × WritesIn h s g i × (tests ≡ write_tests h logged room g i s table key action)
-LaterTests h logged room call tests = tests ≡ name_tests h call
+abbrev pub LaterTests : State → ℕ → Call → List (Bool × Answer) → Type 0
+LaterTests h logged (Write s table key action) tests =
+    (g : ℕ) × (i : ℕ) × WritesIn h s g i × (tests ≡ write_tests h logged g i s table key action)
+LaterTests h logged call tests = tests ≡ name_tests h call
 
 -- The call reads at that snapshot: a fetch at its cursor's, and a write of a serializable transaction, where no other
 -- session is waited for, at the transaction's.
@@ -308,10 +302,10 @@ pub record IsTooOld (h : State) (call : Call) (r : Answer) : Type 0 where
 
 -- The call may have this answer: that of the first test that applies, or else the good one; a fault of the disk in the
 -- place of any answer that comes after the early tests; or, where it reads at a snapshot, that this is too old.
-pub data Reply (h : State) (logged room : ℕ) (call : Call) (r : Answer) : Type 0 where
+pub data Reply (h : State) (logged : ℕ) (call : Call) (r : Answer) : Type 0 where
   early : none_applies (early_tests h call) ≡ false → r ≡ first_of (early_tests h call) Done
-      → Reply h logged room call r
+      → Reply h logged call r
   later : (tests : List (Bool × Answer)) → none_applies (early_tests h call) ≡ true
-      → LaterTests h logged room call tests → r ≡ first_of tests (granted h call) → Reply h logged room call r
-  fault : none_applies (early_tests h call) ≡ true → r ≡ Refused DiskFault → Reply h logged room call r
-  old : none_applies (early_tests h call) ≡ true → IsTooOld h call r → Reply h logged room call r
+      → LaterTests h logged call tests → r ≡ first_of tests (granted h call) → Reply h logged call r
+  fault : none_applies (early_tests h call) ≡ true → r ≡ Refused DiskFault → Reply h logged call r
+  old : none_applies (early_tests h call) ≡ true → IsTooOld h call r → Reply h logged call r

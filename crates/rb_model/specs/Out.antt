@@ -1,5 +1,5 @@
 -- What is written for a script, line by line.
-use Rattle.std.specs.Prelude.{◌≡◌, ◌⊎◌, ℕ, zero, suc, ◌+◌, ◌-◌, ◌^◌, ◌<◌, ◌≤◌}
+use Rattle.std.specs.Prelude.{◌≡◌, ◌⊎◌, ℕ, zero, suc, ◌+◌, ◌^◌, ◌<◌, ◌≤◌}
 use Rattle.std.specs.Prelude.{Bool, true, false}
 use Rattle.std.specs.Prelude.{MatchBool, List, [], ◌∷◌, ◌++◌, length, Option, None, Some}
 use Rattle.rb_model.specs.Change.{Asked}
@@ -19,28 +19,23 @@ pub record Logged : Type 0 where
   -- the blocks from which the state is read; of those of a stopped state nothing is said
   pub blocks : List (List ℕ)
 
--- What answers hang on besides the machine's state: how many slots the log has, and two relations.
+-- What answers hang on besides the machine's state: two relations.
 pub record Outside : Type 1 where
-  pub slots : ℕ
   -- what a call in a state reads at a snapshot is worn in these blocks, by a number above it of which something was
   -- given up
   pub worn : State → List (List ℕ) → Call → (snapshot lost : ℕ) → Type 0
-  -- what a call in a state with that answer makes of the machine's blocks, over a log of so many slots
-  pub makes : (slots : ℕ) → Logged → Call → Answer → Logged → Type 0
+  -- what a call in a state with that answer makes of the machine's blocks
+  pub makes : Logged → Call → Answer → Logged → Type 0
 
 abbrev pub outside_by : (State → List (List ℕ) → Call → (snapshot lost : ℕ) → Type 0)
-    → ((slots : ℕ) → Logged → Call → Answer → Logged → Type 0) → (slots : ℕ) → Outside
-outside_by worn makes slots = record { slots = slots; worn = worn; makes = makes }
-
--- How many more groups a log of so many slots has room for, behind that number. One slot stays free.
-abbrev pub room : ℕ → ℕ → ℕ
-room slots lsn = slots - 1 - lsn
+    → (Logged → Call → Answer → Logged → Type 0) → Outside
+outside_by worn makes = record { worn = worn; makes = makes }
 
 -- One call with that answer, which is too old only where what it reads is worn in the machine's blocks. Unless the
 -- disk has failed, the log number goes up by the groups of the call, 2^14 at most, and the call makes the blocks that
 -- follow.
 pub record CallOut (m : Logged) (outside : Outside) (call : Call) (answer : Answer) (m2 : Logged) : Type 0 where
-  pub reply : Reply m.state m.lsn (room outside.slots m.lsn) call answer
+  pub reply : Reply m.state m.lsn call answer
   pub worn : (snapshot lost : ℕ) → answer ≡ Refused (TooOld snapshot lost)
       → outside.worn m.state m.blocks call snapshot lost
   pub state : After m.state call answer m2.state
@@ -49,7 +44,7 @@ pub record CallOut (m : Logged) (outside : Outside) (call : Call) (answer : Answ
   pub grows : m2.state.stopped ≡ false → Grows m.state call answer groups
   pub few : m2.state.stopped ≡ false → groups ≤ 2 ^ 14
   pub lsn : m2.state.stopped ≡ false → m2.lsn ≡ m.lsn + groups
-  pub makes : m2.state.stopped ≡ false → outside.makes outside.slots m call answer m2
+  pub makes : m2.state.stopped ≡ false → outside.makes m call answer m2
 
 -- after this answer a command makes its next call
 abbrev pub goes_on : Answer → Bool
@@ -73,8 +68,7 @@ CommandOut m outside c out m2 = CallsOut m outside c 0 (most_calls m.state.shape
 -- keeps its place in the queue.
 pub record Resumed (m : Logged) (outside : Outside) (s : ℕ) (asked : Asked) (answer : Answer) (m2 : Logged) : Type
     0 where
-  pub reply : Reply (unqueued m.state s) m.lsn (room outside.slots m.lsn)
-      (Write s asked.table asked.key asked.action) answer
+  pub reply : Reply (unqueued m.state s) m.lsn (Write s asked.table asked.key asked.action) answer
   pub worn : (snapshot lost : ℕ) → answer ≡ Refused (TooOld snapshot lost)
       → outside.worn m.state m.blocks (Write s asked.table asked.key asked.action) snapshot lost
   pub state : MatchBool (is_fault answer) (m2.state ≡ record m.state { stopped = true })
@@ -85,7 +79,7 @@ pub record Resumed (m : Logged) (outside : Outside) (s : ℕ) (asked : Asked) (a
       → Grows (unqueued m.state s) (Write s asked.table asked.key asked.action) answer groups
   pub few : m2.state.stopped ≡ false → groups ≤ 2 ^ 14
   pub lsn : m2.state.stopped ≡ false → m2.lsn ≡ m.lsn + groups
-  pub makes : m2.state.stopped ≡ false → outside.makes outside.slots (record m { state = unqueued m.state s })
+  pub makes : m2.state.stopped ≡ false → outside.makes (record m { state = unqueued m.state s })
       (Write s asked.table asked.key asked.action) answer m2
 
 -- the disk has failed, or no session is ready

@@ -72,8 +72,6 @@ pub enum Refusal {
     DiskFault,
     /// An earlier call answered `DiskFault`.
     Stopped,
-    /// The log has no room for it.
-    LogFull,
 }
 
 impl Refusal {
@@ -106,7 +104,6 @@ impl Refusal {
             Refusal::NotWaiting => b"not waiting",
             Refusal::DiskFault => b"disk fault",
             Refusal::Stopped => b"stopped",
-            Refusal::LogFull => b"log full",
         }
     }
 }

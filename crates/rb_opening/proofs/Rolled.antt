@@ -1,5 +1,5 @@
 -- What a rollback says of the store behind the tests, it says of the store before them; and what an opening says by it.
-use Rattle.std.proofs.Common.{◌≡◌, ◌≤◌, ◌+◌, ◌^◌, ℕ, zero, suc, true, false, not, List, [], length, Option, Result, Err, IsErrOf, OnOk, refl, sym, ◌∙◌, ap, subst, arith}
+use Rattle.std.proofs.Common.{◌≡◌, ◌≤◌, ◌+◌, ◌^◌, ℕ, zero, suc, true, false, not, List, [], length, Result, Err, IsErrOf, OnOk, refl, sym, ◌∙◌, ap, subst, arith}
 use Rattle.std.proofs.lemmas.List.{take_all}
 use Rattle.std.proofs.lemmas.Result.{err_from_is_err_and}
 use Rattle.std.specs.Result.{IsErrAnd}
@@ -7,7 +7,6 @@ use Rattle.rb_base.specs.Blocks.{after_groups, IsShape}
 use Rattle.rb_base.specs.Counts.{err_is, is_failed}
 use Rattle.rb_base.specs.Groups.{Patch}
 use Rattle.rb_base.specs.Logs.{Logs}
-use Rattle.rb_base.specs.Stores.{room_of}
 use Rattle.rb_base.specs.declared.faults.Failed as calls
 use Rattle.rb_base.specs.declared.faults.OpenFault.{OpenFault}
 use Rattle.rb_base.specs.declared.faults.OpenFault.TheVariants.{Failed, NotAStore}
@@ -19,23 +18,21 @@ use Rattle.rb_model.specs.Rows.{TableRow}
 use Rattle.rb_opening.proofs.Opened.{books_same, opens_to}
 use Rattle.rb_opening.specs.Opens.{books_of}
 use Rattle.rb_restart.specs.Rollback.{RolledBack, StaySound}
-use Rattle.rb_segment.specs.Segments.{owed_in}
 use Rattle.rb_standing.specs.Standing.{SoundAs, logged_of}
 use Rattle.rb_standing.specs.States.{BlocksStand}
 
 -- the groups of a rollback, and what they leave
-abbrev pub Rolled : Shape → Option ℕ → ℕ → List (List ℕ) → List (List Patch) → Result (Unit {0}) calls.Failed → List (List ℕ) → Type 0
-Rolled shape slots lsn blocks groups result now =
-    (number : ℕ) (rows : List TableRow) → lsn ≡ logged_of shape blocks → SoundAs shape blocks number rows → owed_in shape blocks ≤ room_of slots lsn
+abbrev pub Rolled : Shape → ℕ → List (List ℕ) → List (List Patch) → Result (Unit {0}) calls.Failed → List (List ℕ) → Type 0
+Rolled shape lsn blocks groups result now =
+    (number : ℕ) (rows : List TableRow) → lsn ≡ logged_of shape blocks → SoundAs shape blocks number rows
     → StaySound shape number rows lsn groups blocks × OnOk result (RolledBack shape groups blocks now)
 
 pub moved : {S : Type 0} (s : Ghosts S) (old mid : S) (groups : List (List Patch)) (result : Result (Unit {0}) calls.Failed) (now : List (List ℕ)) → Logs s old mid [] true → s.tells
-    → Rolled (s.shape_of mid) (s.slots mid) (s.lsn mid) (s.blocks mid) groups result now → Rolled (s.shape_of old) (s.slots old) (s.lsn old) (s.blocks old) groups result now
+    → Rolled (s.shape_of mid) (s.lsn mid) (s.blocks mid) groups result now → Rolled (s.shape_of old) (s.lsn old) (s.blocks old) groups result now
 moved s old mid groups result now loads told rolled =
-    let by_shape = subst (λ (shape : Shape). Rolled shape (s.slots mid) (s.lsn mid) (s.blocks mid) groups result now) loads.same_shape rolled in
-    let by_slots = subst (λ (slots : Option ℕ). Rolled (s.shape_of old) slots (s.lsn mid) (s.blocks mid) groups result now) loads.same_slots by_shape in
-    let by_lsn = subst (λ (lsn : ℕ). Rolled (s.shape_of old) (s.slots old) lsn (s.blocks mid) groups result now) (omega (arith, loads.number refl)) by_slots in
-    subst (λ (blocks : List (List ℕ)). Rolled (s.shape_of old) (s.slots old) (s.lsn old) blocks groups result now) (loads.blocks told refl) by_lsn
+    let by_shape = subst (λ (shape : Shape). Rolled shape (s.lsn mid) (s.blocks mid) groups result now) loads.same_shape rolled in
+    let by_lsn = subst (λ (lsn : ℕ). Rolled (s.shape_of old) lsn (s.blocks mid) groups result now) (omega (arith, loads.number refl)) by_shape in
+    subst (λ (blocks : List (List ℕ)). Rolled (s.shape_of old) (s.lsn old) blocks groups result now) (loads.blocks told refl) by_lsn
 
 -- no group leaves the blocks as they were
 pub none_sound : (shape : Shape) (number : ℕ) (rows : List TableRow) (lsn : ℕ) (blocks : List (List ℕ)) → SoundAs shape blocks number rows → StaySound shape number rows lsn [] blocks

@@ -1,5 +1,5 @@
--- What an opening tests of the blocks of a file, and the books that it finds.
-use Rattle.std.specs.Prelude.{◌≡◌, ◌≤◌, ℕ, List, map}
+-- The books that an opening finds in the blocks of a file, and the state that they open to.
+use Rattle.std.specs.Prelude.{◌≡◌, ℕ, List, map}
 use Rattle.std.specs.List.{range_with_len}
 use Rattle.rb_base.specs.declared.shape.Shape.{Shape}
 use Rattle.rb_model.specs.Book.{Book}
@@ -7,14 +7,7 @@ use Rattle.rb_model.specs.Rows.{TableRow}
 use Rattle.rb_model.specs.State.{State, opened}
 use Rattle.rb_restart.specs.Rollback.{found_book}
 use Rattle.rb_segment.specs.Header.{segment_of}
-use Rattle.rb_segment.specs.Segments.{owed_in}
-use Rattle.rb_sound.specs.Sound.{AreSound}
 use Rattle.rb_standing.specs.Standing.{SoundAs}
-
--- The blocks are in order, and the log has room for the groups that put back what is under way.
-pub record CanOpen (shape : Shape) (blocks : List (List ℕ)) (room : ℕ) : Type 0 where
-  pub sound : AreSound shape blocks
-  pub fits : owed_in shape blocks ≤ room
 
 -- the book of each segment, as its header tells it where no transaction runs
 abbrev pub books_of : Shape → List (List ℕ) → List Book

@@ -146,7 +146,7 @@ fn state_of(store: &mut PlainStore) -> Result<(bool, u64), Failed> {
 pub(crate) fn patch(store: &mut PlainStore, no: BlockNo, at: u16, byte: u8) -> Result<(), Failed> {
     let count = store.shape().block_count();
     let within = no < count && at >= 32 && at < 2048;
-    if !within || store.room() < 1 || store.logged() > 1_000_000 {
+    if !within || store.logged() > 1_000_000 {
         return Err(Failed);
     }
     let mut group = Group::new();

@@ -20,7 +20,7 @@ fn put_back(writers: &mut Writers, s: u16) -> Result<Option<u32>, Failed> {
     };
     let store = &mut writers.store;
     let header = store.shape().header_block(0);
-    if store.room() == 0 || store.logged() > 1_000_000 {
+    if store.logged() > 1_000_000 {
         return Err(Failed);
     }
     store.load(header)?;
@@ -34,7 +34,7 @@ fn put_back(writers: &mut Writers, s: u16) -> Result<Option<u32>, Failed> {
 /// Cleans block 0 of rows, and answers the last log number.
 fn cleaned(store: &mut PlainStore) -> Result<Lsn, Failed> {
     let there = 0 < store.shape().table_blocks();
-    if !there || store.room() == 0 || store.logged() > 1_000_000 {
+    if !there || store.logged() > 1_000_000 {
         return Err(Failed);
     }
     clean(store, 0, &mut Group::new())?;

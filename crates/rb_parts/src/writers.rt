@@ -53,7 +53,7 @@ pub(crate) fn apply<S: Store>(store: &mut S, group: &Group) -> Result<(), Failed
     requires { S.failed store.old ≡ false }
 {
     let within = are_below(group, store.shape().block_count());
-    if !within || group.patches() == 0 || store.room() == 0 || store.logged() > 1_000_000 {
+    if !within || group.patches() == 0 || store.logged() > 1_000_000 {
         return Err(Failed);
     }
     store.apply(group)

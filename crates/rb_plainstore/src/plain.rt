@@ -9,9 +9,6 @@ use rb_base::{BlockNo, Failed, Group, Lsn, NoMemory, Shape, Store, UNIT};
 use std::alloc::Global;
 use std::marker::Model;
 
-/// How many more groups a store without an end has room for.
-const ROOM: u64 = 1 << 63;
-
 /// The blocks of a file in memory, which nothing keeps. All its memory is taken when it is made, and no call of it
 /// fails.
 #[derive(Drop)]
@@ -135,9 +132,5 @@ impl Store for PlainStore {
 
     fn logged(&self) -> Lsn {
         self.lsn
-    }
-
-    fn room(&self) -> u64 {
-        ROOM
     }
 }

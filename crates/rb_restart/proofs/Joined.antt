@@ -7,7 +7,6 @@ use Rattle.rb_base.specs.Blocks.{after_group, after_groups}
 use Rattle.rb_base.specs.Groups.{Patch}
 use Rattle.rb_base.specs.Logs.{Logs, more_logs}
 use Rattle.rb_base.specs.Settling.{after_joined}
-use Rattle.rb_base.specs.Stores.{room_of}
 use Rattle.rb_base.specs.declared.shape.Shape.{Shape}
 use Rattle.rb_base.specs.declared.store.Store.{Ghosts}
 use Rattle.rb_model.specs.Rows.{TableRow}
@@ -100,14 +99,9 @@ module _ (shape : Shape) (number : ℕ) (rows : List TableRow) where
           let whole = partly_on (length first) rest before mid (after_groups (logged_of shape mid + 1) (take rest second) mid) a.logged a.owed a.back a.books (b.sound rest (omega (arith, few, le, length-append first second))) in
           subst (IsPartlyBack shape number rows count before) (sym blocks) (subst (λ (n : ℕ). IsPartlyBack shape number rows n before (after_groups (logged_of shape mid + 1) (take rest second) mid)) number_is whole)
 
--- a log has room still for what is owed, as groups fall off both
-pub room_on : (slots : Option ℕ) (lsn lsn2 owed owed2 count : ℕ) → lsn2 ≡ lsn + count → owed2 + count ≡ owed → owed ≤ room_of slots lsn → owed2 ≤ room_of slots lsn2
-room_on None lsn lsn2 owed owed2 count logged falls fits = omega (arith, falls, fits)
-room_on (Some slots) lsn lsn2 owed owed2 count logged falls fits = omega (arith, logged, falls, fits)
-
 module _ {S : Type 0} (s : Ghosts S) (shape : Shape) where
   -- calls that logged nothing
-  pub none_rolls : (old new : S) (most : ℕ) (going : Bool) (Done : List (List ℕ) → Type 0) → Logs s old new [] going → (s.tells → going ≡ true → (number : ℕ) (rows : List TableRow) → MayRoll shape number rows (s.lsn old) (room_of (s.slots old) (s.lsn old)) (s.blocks old) → s.blocks new ≡ s.blocks old → Done (s.blocks old)) → Rolls s shape old new most going Done
+  pub none_rolls : (old new : S) (most : ℕ) (going : Bool) (Done : List (List ℕ) → Type 0) → Logs s old new [] going → (s.tells → going ≡ true → (number : ℕ) (rows : List TableRow) → MayRoll shape number rows (s.lsn old) (s.blocks old) → s.blocks new ≡ s.blocks old → Done (s.blocks old)) → Rolls s shape old new most going Done
   none_rolls old new most going Done logs done = record {
     groups = [];
     logs = logs;
@@ -123,11 +117,11 @@ module _ {S : Type 0} (s : Ghosts S) (shape : Shape) where
   fault_rolls old new most Done logs = none_rolls old new most false Done logs (λ told goes number rows may same. let clash : false ≡ true = goes in absurd cc)
 
   -- the groups of calls that went well make the blocks that there are
-  now_puts : (old new : S) (most : ℕ) (going : Bool) (Done : List (List ℕ) → Type 0) (number : ℕ) (rows : List TableRow) → s.tells → going ≡ true → (a : Rolls s shape old new most going Done) → MayRoll shape number rows (s.lsn old) (room_of (s.slots old) (s.lsn old)) (s.blocks old) → PutsBack shape number rows a.groups (s.blocks old) (s.blocks new)
+  now_puts : (old new : S) (most : ℕ) (going : Bool) (Done : List (List ℕ) → Type 0) (number : ℕ) (rows : List TableRow) → s.tells → going ≡ true → (a : Rolls s shape old new most going Done) → MayRoll shape number rows (s.lsn old) (s.blocks old) → PutsBack shape number rows a.groups (s.blocks old) (s.blocks new)
   now_puts old new most going Done number rows told goes a may = subst (PutsBack shape number rows a.groups (s.blocks old)) (sym (a.logs.blocks told goes)) (a.puts_back number rows told may)
 
   -- the blocks behind them may be rolled back too
-  pub may_on : (old mid : S) (most : ℕ) (Done : List (List ℕ) → Type 0) (number : ℕ) (rows : List TableRow) → s.tells → Rolls s shape old mid most true Done → MayRoll shape number rows (s.lsn old) (room_of (s.slots old) (s.lsn old)) (s.blocks old) → MayRoll shape number rows (s.lsn mid) (room_of (s.slots mid) (s.lsn mid)) (s.blocks mid)
+  pub may_on : (old mid : S) (most : ℕ) (Done : List (List ℕ) → Type 0) (number : ℕ) (rows : List TableRow) → s.tells → Rolls s shape old mid most true Done → MayRoll shape number rows (s.lsn old) (s.blocks old) → MayRoll shape number rows (s.lsn mid) (s.blocks mid)
   may_on old mid most Done number rows told a may =
       let puts = now_puts old mid most true Done number rows told refl a may in
       let n = a.logs.number refl in
@@ -135,7 +129,6 @@ module _ {S : Type 0} (s : Ghosts S) (shape : Shape) where
       record {
         sound = subst (λ (l : List (List ℕ)). SoundAs shape l number rows) (ap (λ (l : List (List Patch)). after_groups (logged_of shape (s.blocks old) + 1) l (s.blocks old)) (take_all a.groups) ∙ sym puts.made) end.sound;
         logged = omega (arith, n, may.logged, puts.logged);
-        fits = subst (λ (o : Option ℕ). owed_in shape (s.blocks mid) ≤ room_of o (s.lsn mid)) (sym a.logs.same_slots) (room_on (s.slots old) (s.lsn old) (s.lsn mid) (owed_in shape (s.blocks old)) (owed_in shape (s.blocks mid)) (length a.groups) n puts.owed may.fits);
       }
     where
       take_all : (groups : List (List Patch)) → take (length groups) groups ≡ groups
@@ -143,7 +136,7 @@ module _ {S : Type 0} (s : Ghosts S) (shape : Shape) where
       take_all (g ∷ groups) = ap (λ (l : List (List Patch)). g ∷ l) (take_all groups)
 
   -- one call after another
-  pub rolls_joined : (old mid new : S) (most more all : ℕ) (going : Bool) (First Second Both : List (List ℕ) → Type 0) → most + more ≤ all → Rolls s shape old mid most true First → Rolls s shape mid new more going Second → (s.tells → going ≡ true → (number : ℕ) (rows : List TableRow) → MayRoll shape number rows (s.lsn mid) (room_of (s.slots mid) (s.lsn mid)) (s.blocks mid) → ((t : ℕ) → t < 16 * shape.segments → IsIdle shape (s.blocks mid) t → IsIdle shape (s.blocks new) t) → First (s.blocks mid) → Second (s.blocks new) → Both (s.blocks new)) → Rolls s shape old new all going Both
+  pub rolls_joined : (old mid new : S) (most more all : ℕ) (going : Bool) (First Second Both : List (List ℕ) → Type 0) → most + more ≤ all → Rolls s shape old mid most true First → Rolls s shape mid new more going Second → (s.tells → going ≡ true → (number : ℕ) (rows : List TableRow) → MayRoll shape number rows (s.lsn mid) (s.blocks mid) → ((t : ℕ) → t < 16 * shape.segments → IsIdle shape (s.blocks mid) t → IsIdle shape (s.blocks new) t) → First (s.blocks mid) → Second (s.blocks new) → Both (s.blocks new)) → Rolls s shape old new all going Both
   rolls_joined old mid new most more all going First Second Both le a b both = record {
     groups = a.groups ++ b.groups;
     logs = more_logs s old mid new a.groups b.groups going a.logs b.logs;

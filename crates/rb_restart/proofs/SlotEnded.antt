@@ -3,14 +3,12 @@ use Rattle.std.proofs.Common.{◌≡◌, ◌<◌, ◌≤◌, ◌+◌, ◌*◌, �
 use Rattle.rb_base.specs.Blocks.{after_group, block_of, header_block, written_to, AreBlocks, IsShape}
 use Rattle.rb_base.specs.Groups.{Patch}
 use Rattle.rb_base.specs.Logs.{Logs}
-use Rattle.rb_base.specs.Stores.{room_of}
 use Rattle.rb_base.specs.declared.ids.Xid.{Xid}
 use Rattle.rb_base.specs.declared.shape.Shape.{Shape}
 use Rattle.rb_base.specs.declared.store.Store.{Ghosts}
 use Rattle.rb_model.specs.Rows.{TableRow}
 use Rattle.rb_restart.specs.Steps.{HasLive, IsIdle, MayRoll, PutsBack, Rolls}
 use Rattle.rb_restart.proofs.Ends.{end_group, end_puts, header_ended}
-use Rattle.rb_restart.proofs.Slots.{owed_for}
 use Rattle.rb_segment.specs.Calls.{slot_patches, Runs}
 use Rattle.rb_segment.specs.Header.{header_of}
 use Rattle.rb_segment.specs.Moves.{ended}
@@ -29,7 +27,7 @@ module _ {S : Type 0} (s : Ghosts S) (shape : Shape) (x : Xid) (old new : S) whe
     ended_group told = group_is ∙ ap (slot_patches (header_block shape x.seg) x.slot) (moved told)
 
     -- it ends the slot
-    ends_slot : (number : ℕ) (rows : List TableRow) → s.tells → MayRoll shape number rows (s.lsn old) (room_of (s.slots old) (s.lsn old)) (s.blocks old) → PutsBack shape number rows (group ∷ []) (s.blocks old) (after_group (s.lsn old + 1) group (s.blocks old)) × Ends (after_group (s.lsn old + 1) group (s.blocks old))
+    ends_slot : (number : ℕ) (rows : List TableRow) → s.tells → MayRoll shape number rows (s.lsn old) (s.blocks old) → PutsBack shape number rows (group ∷ []) (s.blocks old) (after_group (s.lsn old + 1) group (s.blocks old)) × Ends (after_group (s.lsn old + 1) group (s.blocks old))
     ends_slot number rows told may =
         let group_end = end_group shape (s.blocks old) x in
         let header_now = header_ended shape (s.blocks old) (s.lsn old + 1) x header (whole told) there few (copied told) (moved told) in
@@ -48,10 +46,3 @@ module _ {S : Type 0} (s : Ghosts S) (shape : Shape) (x : Xid) (old new : S) whe
 -- a block that was loaded is as the store tells it
 pub block_read : {S : Type 0} (s : Ghosts S) (old mid : S) (from which : ℕ) (block : List ℕ) → s.tells → s.blocks mid ≡ s.blocks old → (s.tells → (n : ℕ) → s.loaded mid ≡ Some n → block ≡ block_of (s.blocks mid) n) → s.loaded mid ≡ Some from → from ≡ which → block ≡ block_of (s.blocks old) which
 block_read s old mid from which block told same read loaded at = read told from loaded ∙ (ap (λ (l : List (List ℕ)). block_of l from) same ∙ ap (block_of (s.blocks old)) at)
-
--- where the log has no room, a transaction that runs can't be in blocks that may be rolled back
-pub room_some : (shape : Shape) (number : ℕ) (rows : List TableRow) (slots slots2 : Option ℕ) (lsn lsn2 room : ℕ) (blocks : List (List ℕ)) (x : Xid) → x.seg < shape.segments → Runs (header_for shape blocks x) x → MayRoll shape number rows lsn (room_of slots lsn) blocks → slots2 ≡ slots → lsn2 ≡ lsn → room ≡ room_of slots2 lsn2 → 1 ≤ room
-room_some shape number rows slots slots2 lsn lsn2 room blocks x there runs may same_slots same_lsn is =
-    let some = owed_for shape blocks x there runs in
-    let at : room ≡ room_of slots lsn = is ∙ (ap (λ (o : Option ℕ). room_of o lsn2) same_slots ∙ ap (room_of slots) same_lsn) in
-    omega (arith, some, may.fits, at)

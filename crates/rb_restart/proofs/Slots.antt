@@ -47,26 +47,6 @@ pub owed_is : (shape : Shape) (blocks : List (List ℕ)) → owed_in shape block
 unfolding owed_in
 owed_is shape blocks = sum_same (λ t. slot_owed (slot_of (segments_of shape blocks) t)) (λ t. slot_owed (slot_in (header_of (block_of blocks (header_block shape (t / 16)))) (t % 16))) 0 (16 * shape.segments) (λ t. ap slot_owed (sym (slot_is shape blocks t 0)))
 
--- a slot that runs is owed for
-sum_some : (f : ℕ → ℕ) (a n t : ℕ) → a ≤ t → t < a + n → f t ≤ sum_by f (range_with_len a n)
-sum_some f a zero t le lt = absurd (omega (arith, le, lt))
-sum_some f a (suc n) t le lt =
-    let x : sum_by f (a ∷ range_with_len (a + 1) n) ≡ f a + sum_by f (range_with_len (a + 1) n) = sum_by-cons f a (range_with_len (a + 1) n) in
-    elim (cases_eq a t) [
-      | inl at ↦ let ft : f a ≡ f t = ap f at in omega (arith, x, ft)
-      | inr ne ↦ let rest : f t ≤ sum_by f (range_with_len (a + 1) n) = sum_some f (a + 1) n t (omega (arith, le, ne)) (omega (arith, lt)) in omega (arith, x, rest)
-    ]
-
-pub active_owes : (slot : TableSlot) → slot.state ≡ ACTIVE → slot_owed slot ≡ slot.live + 1
-active_owes slot is = let test : (slot.state == 1) ≡ true = grind (arith, nat_tests) in rw test refl
-
-pub owed_some : (shape : Shape) (blocks : List (List ℕ)) (t : ℕ) → t < 16 * shape.segments → (slot_of (segments_of shape blocks) t).state ≡ ACTIVE → 1 ≤ owed_in shape blocks
-owed_some shape blocks t t_in active =
-    let a = sum_some (λ t. slot_owed (slot_of (segments_of shape blocks) t)) 0 (16 * shape.segments) t (omega arith) (omega (arith, t_in)) in
-    let b = active_owes (slot_of (segments_of shape blocks) t) active in
-    let c = owed_is shape blocks in
-    omega (arith, a, b, c)
-
 -- where none runs nothing is owed
 sum_none : (f : ℕ → ℕ) (a n : ℕ) → ((k : ℕ) → k < a + n → f k ≡ 0) → sum_by f (range_with_len a n) ≡ 0
 sum_none f a zero none = refl
@@ -87,10 +67,6 @@ pub slot_for : (shape : Shape) (blocks : List (List ℕ)) (x : Xid) → x.slot <
 slot_for shape blocks x few =
     let t = 16 * x.seg + x.slot in
     subst (λ (z : Xid). slot_of (segments_of shape blocks) t ≡ slot_in (header_for shape blocks z) z.slot) (sym (xid_is x few)) (slot_is shape blocks t x.wrap)
-
-pub owed_for : (shape : Shape) (blocks : List (List ℕ)) (x : Xid) → x.seg < shape.segments → Runs (header_for shape blocks x) x → 1 ≤ owed_in shape blocks
-owed_for shape blocks x there runs =
-    owed_some shape blocks (16 * x.seg + x.slot) (omega (arith, there, runs.slot)) (ap (λ (s : TableSlot). s.state) (slot_for shape blocks x runs.slot) ∙ runs.active)
 
 -- what a slot's bytes say of it
 module _ (shape : Shape) (blocks : List (List ℕ)) (x : Xid) (slot : TableSlot) (block : List ℕ) (few : x.slot < 16) (told : block ≡ block_of blocks (header_block shape x.seg)) (is : slot ≡ slot_at block x.slot) where

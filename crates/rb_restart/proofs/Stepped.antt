@@ -4,7 +4,6 @@ use Rattle.std.specs.Result.{is_err}
 use Rattle.rb_base.specs.Blocks.{after_groups, IsShape}
 use Rattle.rb_base.specs.Groups.{Patch}
 use Rattle.rb_base.specs.Logs.{Logs}
-use Rattle.rb_base.specs.Stores.{room_of}
 use Rattle.rb_base.specs.declared.ids.Xid.{Xid}
 use Rattle.rb_base.specs.declared.shape.Shape.{Shape}
 use Rattle.rb_base.specs.declared.store.Store.{Ghosts}
@@ -51,7 +50,7 @@ module _ {S : Type 0} (s : Ghosts S) (shape : Shape) (x : Xid) (old new : S) (th
   ]
 
   -- In blocks that may be rolled back one is.
-  pub done : (says : Says s shape x old new true) (n number : ℕ) (rows : List TableRow) → s.tells → HasLive shape (s.blocks old) x (n + 1) → MayRoll shape number rows (s.lsn old) (room_of (s.slots old) (s.lsn old)) (s.blocks old) → s.lsn old < s.lsn new
+  pub done : (says : Says s shape x old new true) (n number : ℕ) (rows : List TableRow) → s.tells → HasLive shape (s.blocks old) x (n + 1) → MayRoll shape number rows (s.lsn old) (s.blocks old) → s.lsn old < s.lsn new
   done says n number rows told live may = let up = says.rose told refl (can_be_back shape number rows (s.blocks old) may.sound x there few n live) in omega (arith, up)
 
   pub rolls : (going : Bool) → Says s shape x old new going → IsShape shape → Rolls s shape old new 1 going (λ now. Unit {0})
@@ -66,7 +65,7 @@ module _ {S : Type 0} (s : Ghosts S) (shape : Shape) (x : Xid) (old new : S) (th
     done = λ number rows told goes may. tt;
   }
     where
-      one : (number : ℕ) (rows : List TableRow) → MayRoll shape number rows (s.lsn old) (room_of (s.slots old) (s.lsn old)) (s.blocks old) → (groups : List (List Patch)) → ArePutBack shape x (s.lsn old) (s.blocks old) groups → PutsBack shape number rows groups (s.blocks old) (after_groups (s.lsn old + 1) groups (s.blocks old))
+      one : (number : ℕ) (rows : List TableRow) → MayRoll shape number rows (s.lsn old) (s.blocks old) → (groups : List (List Patch)) → ArePutBack shape x (s.lsn old) (s.blocks old) groups → PutsBack shape number rows groups (s.blocks old) (after_groups (s.lsn old + 1) groups (s.blocks old))
       one number rows may groups back =
           let group = back_group shape (s.blocks old) x in
           let n = (slot_in (header_for shape (s.blocks old) x) x.slot).live - 1 in

@@ -3,7 +3,6 @@ use Rattle.std.specs.Prelude.{◌≡◌, ◌≢◌, ◌<◌, ◌≤◌, ◌+◌,
 use Rattle.rb_base.specs.Blocks.{after_groups}
 use Rattle.rb_base.specs.Groups.{Patch}
 use Rattle.rb_base.specs.Logs.{Logs}
-use Rattle.rb_base.specs.Stores.{room_of}
 use Rattle.rb_base.specs.declared.ids.Xid.{Xid}
 use Rattle.rb_base.specs.declared.shape.Shape.{Shape}
 use Rattle.rb_base.specs.declared.sizes.TheConstants.{ACTIVE}
@@ -26,13 +25,12 @@ pub record HasLive (shape : Shape) (blocks : List (List ℕ)) (x : Xid) (n : ℕ
   pub runs : Runs (header_for shape blocks x) x
   pub live : (slot_in (header_for shape blocks x) x.slot).live ≡ n
 
--- The blocks have that number and those rows, once what is under way is put back, the last group was their last one,
--- and the log has room for those that are owed.
-pub record MayRoll (shape : Shape) (number : ℕ) (rows : List TableRow) (lsn room : ℕ)
+-- The blocks have that number and those rows, once what is under way is put back, and the last group was their last
+-- one.
+pub record MayRoll (shape : Shape) (number : ℕ) (rows : List TableRow) (lsn : ℕ)
     (blocks : List (List ℕ)) : Type 0 where
   pub sound : SoundAs shape blocks number rows
   pub logged : lsn ≡ logged_of shape blocks
-  pub fits : owed_in shape blocks ≤ room
 
 -- Groups that put back what is under way, each a change or a slot: a stop behind any of them leaves nothing else to
 -- find, each is one of those that are owed, and no slot is taken.
@@ -54,8 +52,8 @@ pub record Rolls {S : Type 0} (s : Ghosts S) (shape : Shape) (old new : S) (most
   pub logs : Logs s old new groups going
   pub few : length groups ≤ most
   pub puts_back : (number : ℕ) (rows : List TableRow) → s.tells
-      → MayRoll shape number rows (s.lsn old) (room_of (s.slots old) (s.lsn old)) (s.blocks old)
+      → MayRoll shape number rows (s.lsn old) (s.blocks old)
       → PutsBack shape number rows groups (s.blocks old) (after_groups (s.lsn old + 1) groups (s.blocks old))
   pub done : (number : ℕ) (rows : List TableRow) → s.tells → going ≡ true
-      → MayRoll shape number rows (s.lsn old) (room_of (s.slots old) (s.lsn old)) (s.blocks old)
+      → MayRoll shape number rows (s.lsn old) (s.blocks old)
       → Done (s.blocks new)

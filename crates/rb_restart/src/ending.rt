@@ -23,7 +23,7 @@ pub fn is_rolled_back(header: &[u8], xid: Xid) -> bool
 }
 
 /// Ends the slot of a transaction that runs and has no live change, by one group. What `group` held is dropped. Nothing
-/// is done where that isn't so, or where the log has no room, both in a damaged file alone.
+/// is done where that isn't so, in a damaged file alone.
 pub fn end_slot<S: Store>(
     store: &mut S,
     shape: Shape,
@@ -42,7 +42,7 @@ pub fn end_slot<S: Store>(
     store.load(shape.header_block(xid.seg))?;
     let mut header = [0; UNIT];
     header.copy_from_slice(store.block());
-    if !is_rolled_back(&header, xid) || store.room() == 0 {
+    if !is_rolled_back(&header, xid) {
         return Ok(());
     }
     *group = Group::new();

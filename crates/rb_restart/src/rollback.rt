@@ -5,11 +5,9 @@ ghost use Rattle.std.specs.Result.{is_err};
 ghost use Rattle.rb_base.specs.Blocks.{IsShape};
 ghost use Rattle.rb_base.specs.Groups.{Patch};
 ghost use Rattle.rb_base.specs.Logs.{Logs};
-ghost use Rattle.rb_base.specs.Stores.{room_of};
 ghost use Rattle.rb_model.specs.Rows.{TableRow};
 ghost use Rattle.rb_restart.specs.Rollback.{RolledBack, StaySound};
 ghost use Rattle.rb_restart.specs.Steps.{IsIdle, Rolls};
-ghost use Rattle.rb_segment.specs.Segments.{owed_in};
 ghost use Rattle.rb_standing.specs.Standing.{SoundAs, logged_of};
 
 use crate::ending::end_slot;
@@ -70,9 +68,9 @@ fn roll_back_segment<S: Store>(
 }
 
 /// Puts back every live change of every transaction that runs, each transaction's newest first, and ends its table
-/// slot: one group for each change and one for each slot. It may be stopped at any moment and begun again. Where the
-/// log has no room for all of it, as in a damaged file, it does what it can. `Failed` only where a call of the store
-/// failed. (Oracle7 Server Concepts, *Database Recovery*: rolling back after rolling forward.)
+/// slot: one group for each change and one for each slot. It may be stopped at any moment and begun again. In a damaged
+/// file it does what it can. `Failed` only where a call of the store failed. (Oracle7 Server Concepts, *Database
+/// Recovery*: rolling back after rolling forward.)
 pub fn roll_back_all<S: Store>(store: &mut S) -> Result<(), Failed>
     requires going { S.failed store.old ≡ false }
     requires few { S.lsn store.old ≤ 2 ^ 61 + 2 ^ 60 }
@@ -82,7 +80,6 @@ pub fn roll_back_all<S: Store>(store: &mut S) -> Result<(), Failed>
         × ((number : ℕ) (rows : List TableRow) → S.tells
         → S.lsn store.old ≡ logged_of (S.shape_of store.old) (S.blocks store.old)
         → SoundAs (S.shape_of store.old) (S.blocks store.old) number rows
-        → owed_in (S.shape_of store.old) (S.blocks store.old) ≤ room_of (S.slots store.old) (S.lsn store.old)
         → StaySound (S.shape_of store.old) number rows (S.lsn store.old) groups (S.blocks store.old)
         × OnOk result (RolledBack (S.shape_of store.old) groups (S.blocks store.old) (S.blocks store.new))) }
 {

@@ -3,7 +3,6 @@ ghost use Rattle.std.specs.Prelude.{◌≡◌, ◌+◌, ◌^◌, ◌<◌, ◌≤
 ghost use Rattle.std.specs.Prelude.{false, true, not, IfOk};
 ghost use Rattle.std.specs.Result.{is_err};
 ghost use Rattle.rb_base.specs.Blocks.{IsShape};
-ghost use Rattle.rb_base.specs.Stores.{room_of};
 ghost use Rattle.rb_model.specs.Rows.{TableRow};
 ghost use Rattle.rb_restart.specs.Steps.{HasLive, MayRoll, Rolls};
 
@@ -11,7 +10,7 @@ use rb_base::{Failed, Group, SLOTS, Shape, Store, Xid};
 use rb_undo::back;
 
 /// Puts back the newest live change of a transaction, and answers whether it did. It does where the transaction runs
-/// and has one, but for a damaged file, in which the log may have no room or no record is found.
+/// and has one, but for a damaged file, in which no record is found.
 fn put_back<S: Store>(
     store: &mut S,
     shape: Shape,
@@ -29,12 +28,8 @@ fn put_back<S: Store>(
         → HasLive shape (S.blocks store.old) xid (n + 1) → HasLive shape (S.blocks store.new) xid n) }
     ensures done { S.tells → (n number : ℕ) (rows : List TableRow)
         → HasLive shape (S.blocks store.old) xid (n + 1)
-        → MayRoll shape number rows (S.lsn store.old) (room_of (S.slots store.old) (S.lsn store.old))
-        (S.blocks store.old) → IfOk result (λ done. done ≡ true) }
+        → MayRoll shape number rows (S.lsn store.old) (S.blocks store.old) → IfOk result (λ done. done ≡ true) }
 {
-    if store.room() == 0 {
-        return Ok(false);
-    }
     let logged = store.logged();
     back(store, xid, group)?;
     Ok(store.logged() > logged)

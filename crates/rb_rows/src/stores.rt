@@ -50,7 +50,7 @@ fn patch_byte<S: Store>(store: &mut S, block: BlockNo, at: u16, byte: u8) -> Res
     ensures going { OnOk result (S.failed store.new ≡ false) }
 {
     let shape = store.shape();
-    if block >= shape.block_count() || store.room() < 1 || store.logged() > 1_000_000 {
+    if block >= shape.block_count() || store.logged() > 1_000_000 {
         return Err(Failed);
     }
     let mut group = Group::new();

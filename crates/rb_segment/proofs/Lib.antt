@@ -30,4 +30,3 @@ pub mod Oldest
 pub mod Stamps
 pub mod TurnRead
 pub mod HeaderAfter
-pub mod SlotSums

@@ -9,7 +9,6 @@ mod copy;
 mod finish;
 mod headers;
 mod laws;
-mod owing;
 mod record;
 mod stamp;
 mod take;
@@ -22,7 +21,6 @@ pub use laws::{
     ages_told, books_told, commit_greatest, first_books, group_sizes, header_changed,
     most_segments, records_told, scn_written,
 };
-pub use owing::owed;
 pub use record::{RECORD_BYTES, TURN_BYTES, add_record};
 pub use take::claim;
 pub use turn::RollbackFull;

@@ -15,10 +15,7 @@ either true P Q P2 Q2 f g p = f p
 either false P Q P2 Q2 f g q = g q
 
 module _ (o : Outside) where
-  abbrev O : Outside
-  O = plain o.slots
-
-  call : (m : Logged) (c : Call) (r : Answer) (m2 : Logged) → CallOut m o c r m2 → CallOut m O c r m2
+  call : (m : Logged) (c : Call) (r : Answer) (m2 : Logged) → CallOut m o c r m2 → CallOut m plain c r m2
   call m c r m2 x = record {
     reply = x.reply;
     worn = λ snapshot lost is. tt;
@@ -31,12 +28,12 @@ module _ (o : Outside) where
     makes = λ on. tt;
   }
 
-  calls : (count k : ℕ) (m : Logged) (c : Command) (out : List ℕ) (m2 : Logged) → CallsOut m o c k count out m2 → CallsOut m O c k count out m2
+  calls : (count k : ℕ) (m : Logged) (c : Command) (out : List ℕ) (m2 : Logged) → CallsOut m o c k count out m2 → CallsOut m plain c k count out m2
   calls zero k m c out m2 x = x
   calls (suc count) k m c out m2 (r, rest, middle, one, is, more) =
       (r, rest, middle, call m _ r middle one, is, either (goes_on r) _ _ _ _ (λ p. calls count (suc k) middle c rest m2 p) (λ q. q) more)
 
-  resumed : (m : Logged) (s : ℕ) (a : Asked) (r : Answer) (m2 : Logged) → Resumed m o s a r m2 → Resumed m O s a r m2
+  resumed : (m : Logged) (s : ℕ) (a : Asked) (r : Answer) (m2 : Logged) → Resumed m o s a r m2 → Resumed m plain s a r m2
   resumed m s a r m2 x = record {
     reply = x.reply;
     worn = λ snapshot lost is. tt;
@@ -49,22 +46,22 @@ module _ (o : Outside) where
     makes = λ on. tt;
   }
 
-  resumes : (count : ℕ) (m : Logged) (out : List ℕ) (m2 : Logged) → ResumesOut m o count out m2 → ResumesOut m O count out m2
+  resumes : (count : ℕ) (m : Logged) (out : List ℕ) (m2 : Logged) → ResumesOut m o count out m2 → ResumesOut m plain count out m2
   resumes zero m out m2 x = x
   resumes (suc count) m out m2 (s, a, r, rest, middle, going, ready, known, one, is, more) =
       (s, a, r, rest, middle, going, ready, known, resumed m s a r middle one, is, resumes count middle rest m2 more)
 
-  said : (m : Logged) (line out : List ℕ) (m2 : Logged) → LineSaid m o line out m2 → LineSaid m O line out m2
+  said : (m : Logged) (line out : List ℕ) (m2 : Logged) → LineSaid m o line out m2 → LineSaid m plain line out m2
   said m line out m2 (too_long long is same) = too_long long is same
   said m line out m2 (skipped short r is same) = skipped short r is same
   said m line out m2 (bad short r none is same) = bad short r none is same
   said m line out m2 (command short c spells does) = command short c spells (calls _ 0 m c out m2 does)
 
-  whole_line : (m : Logged) (line out : List ℕ) (m2 : Logged) → LineOut m o line out m2 → LineOut m O line out m2
+  whole_line : (m : Logged) (line out : List ℕ) (m2 : Logged) → LineOut m o line out m2 → LineOut m plain line out m2
   whole_line m line out m2 (itself, again, between, count, says, joined, tried) =
       (itself, again, between, count, said m line itself between says, joined, resumes count between again m2 tried)
 
-  lines : (ls : List (List ℕ)) (m : Logged) (out : List ℕ) (m2 : Logged) → Out m o ls out m2 → Out m O ls out m2
+  lines : (ls : List (List ℕ)) (m : Logged) (out : List ℕ) (m2 : Logged) → Out m o ls out m2 → Out m plain ls out m2
   lines [] m out m2 x = x
   lines (line ∷ ls) m out m2 (first, rest, middle, does, is, more) = (
     first,
@@ -75,16 +72,16 @@ module _ (o : Outside) where
     either middle.state.stopped _ _ _ _ (λ p. p) (λ q. lines ls middle rest m2 q) more,
   )
 
-  pub ran_plain : (m m2 : Logged) (ls : List (List ℕ)) (tells : Type 0) (before held : List ℕ) → Ran o m m2 ls tells before held → Ran O m m2 ls tells before held
+  pub ran_plain : (m m2 : Logged) (ls : List (List ℕ)) (tells : Type 0) (before held : List ℕ) → Ran o m m2 ls tells before held → Ran plain m m2 ls tells before held
   ran_plain m m2 ls tells before held x = record { out = x.out; replies = lines ls m x.out m2 x.replies; written = x.written }
 
-  begun : (m : Logged) (line out : List ℕ) (m2 : Logged) → LineBegun m o line out m2 → LineBegun m O line out m2
+  begun : (m : Logged) (line out : List ℕ) (m2 : Logged) → LineBegun m o line out m2 → LineBegun m plain line out m2
   begun m line out m2 x = ⊎_elim
       (λ whole. inl (whole_line m line out m2 whole))
       (λ first. inr (first.0, first.1, first.2, (first.3.0, first.3.1, first.3.2, calls first.3.0 0 m first.1 out m2 first.3.3)))
       x
 
-  pub cut_plain : (m m2 : Logged) (most : ℕ) (left left2 before held : List ℕ) → CutOff o most m m2 left left2 before held → CutOff O most m m2 left left2 before held
+  pub cut_plain : (m m2 : Logged) (most : ℕ) (left left2 before held : List ℕ) → CutOff o most m m2 left left2 before held → CutOff plain most m m2 left left2 before held
   cut_plain m m2 most left left2 before held x = record {
     taken = x.taken;
     piece = x.piece;

@@ -1,13 +1,11 @@
 -- A run of the generator over an engine, and over the file that the engine was opened with.
-use Rattle.std.proofs.Common.{◌≡◌, ◌≢◌, ◌∙◌, refl, ap, subst, ℕ, Bool, true, false, List, ◌++◌, take, Option, Result, Ok, Err, Some}
+use Rattle.std.proofs.Common.{◌≡◌, ◌≢◌, ◌∙◌, refl, ap, subst, ℕ, Bool, true, false, List, ◌++◌, take, Option, Result, Ok, Err}
 use Rattle.rb_base.specs.declared.faults.Failed.{Failed}
 use Rattle.rb_base.specs.declared.store.Store.{Ghosts}
-use Rattle.rb_calls.specs.Since.{IsSince, StandsAs, outside_of}
+use Rattle.rb_calls.specs.Since.{IsSince, StandsAs, engine_outside}
 use Rattle.rb_disk.specs.declared.disk.Disk.{Ghosts as DiskGhosts}
 use Rattle.rb_engine.specs.Does.{EngineView}
-use Rattle.rb_generator.specs.Answered.{CommandsAnswered}
 use Rattle.rb_generator.specs.Counted.{counts_of}
-use Rattle.rb_generator.specs.Draws.{commands_of}
 use Rattle.rb_generator.specs.Ends.{HasGenerated, StopsBy}
 use Rattle.rb_generator.specs.Summary.{summary_text}
 use Rattle.rb_generator.specs.declared.counts.Counts.{Counts}
@@ -18,10 +16,9 @@ use Rattle.rb_model.specs.Out.{Logged}
 use Rattle.rb_model.specs.Rows.{last_scn}
 use Rattle.rb_base.specs.declared.faults.OpenFault.{OpenFault}
 use Rattle.rb_base.specs.declared.faults.OpenFault.TheVariants as faults
-use Rattle.rb_store.specs.Endless.{endless}
 use Rattle.rb_shell.specs.Generation.{HasMade, MadeOn, line_of}
 use Rattle.rb_shell.specs.Statuses.{EndsGenerator, TellsCounts}
-use Rattle.rb_shell.specs.Runs.{HasOpened, IsSound, MadeLast, first_of, outside_in}
+use Rattle.rb_shell.specs.Runs.{HasOpened, IsSound, MadeLast, first_of}
 use Rattle.rb_shell.specs.Statuses.{IsDoneOrNoMemory}
 use Rattle.rb_shell.specs.declared.status.Status.{Status}
 use Rattle.rb_shell.specs.declared.status.Status.TheVariants.{Done, Usage, SourceFault, DiskFault, SinkFault, NotAStore, NoMemory, NotEmpty, TooLong}
@@ -36,10 +33,10 @@ no_counts faults.NoMemory status is tells = subst TellsCounts is tells
 
 module _ {S : Type 0} (s : Ghosts S) (m : Logged) (n : ℕ) (old mid : EngineView S) (tells : Type 0) (before held : List ℕ) where
   abbrev Made : Result Counts Failed → Type 0
-  Made result = Did (StandsAs s) (IsSince s) old mid m (λ now. HasGenerated m (outside_of (s.slots old.store)) n now result)
+  Made result = Did (StandsAs s) (IsSince s) old mid m (λ now. HasGenerated m engine_outside n now result)
 
   -- a fault of the disk in a command
-  pub made_not : (failed : Failed) → Made (Err failed) → MadeOn s old.store mid.store (outside_of (s.slots old.store)) n m tells before held DiskFault
+  pub made_not : (failed : Failed) → Made (Err failed) → MadeOn s old.store mid.store engine_outside n m tells before held DiskFault
   made_not failed d = record {
     fault = true;
     made = record { answers = d.ran.answers; now = d.now; answered = d.ran.answered; stops = d.ran.ends };
@@ -50,7 +47,7 @@ module _ {S : Type 0} (s : Ghosts S) (m : Logged) (n : ℕ) (old mid : EngineVie
     cut = λ is. cc;
   }
 
-  pub made_failed : (r : Result Counts Failed) → ((counts : Counts) → r ≡ Ok counts → ⊥) → Made r → MadeOn s old.store mid.store (outside_of (s.slots old.store)) n m tells before held DiskFault
+  pub made_failed : (r : Result Counts Failed) → ((counts : Counts) → r ≡ Ok counts → ⊥) → Made r → MadeOn s old.store mid.store engine_outside n m tells before held DiskFault
   made_failed (Ok counts) none d = absurd (none counts refl)
   made_failed (Err failed) none d = made_not failed d
 
@@ -61,7 +58,7 @@ module _ {S : Type 0} (s : Ghosts S) (m : Logged) (n : ℕ) (old mid : EngineVie
   -- all were made, and then what waited was made last
   pub made_all : (counts : Counts) (d : Made (Ok counts)) (new : S) (last status : Status) → MadeLast s mid.store new d.now last → (status ≢ DiskFault → last ≡ Done)
       → (status ≡ Done → tells → held ≡ before ++ line_of n d.ran.answers d.now) → (status ≡ SinkFault → tells → (size : ℕ) × (held ≡ before ++ take size (line_of n d.ran.answers d.now)))
-      → MadeOn s old.store new (outside_of (s.slots old.store)) n m tells before held status
+      → MadeOn s old.store new engine_outside n m tells before held status
   made_all counts d new last status made fine told cut = record {
     fault = false;
     made = record { answers = d.ran.answers; now = d.now; answered = d.ran.answered; stops = d.ran.ends.1 };
@@ -75,11 +72,11 @@ module _ {S : Type 0} (s : Ghosts S) (m : Logged) (n : ℕ) (old mid : EngineVie
 
 module _ {D : Type 0} (d : DiskGhosts D) (old : D) (g : Ghosts (StoreState D)) (e : EngineView (StoreState D)) (sound : IsSound (d.content old)) (o : HasOpened d g old e sound) where
   -- the same commands over the file
-  abbrev pub same_made : (n : ℕ) (had fault : Bool) → had ≡ fault → HasMade (outside_of (Some (endless e.store.layout.log))) (first_of sound o.first) n had → HasMade (outside_in sound) (first_of sound o.first) n fault
+  abbrev pub same_made : (n : ℕ) (had fault : Bool) → had ≡ fault → HasMade engine_outside (first_of sound o.first) n had → HasMade engine_outside (first_of sound o.first) n fault
   same_made n had fault is made = record {
     answers = made.answers;
     now = made.now;
-    answered = subst (λ (k : ℕ). CommandsAnswered (first_of sound o.first) (outside_of (Some (endless k))) (commands_of sound.state.shape n) made.answers made.now) o.slots made.answered;
+    answered = made.answered;
     stops = subst (λ (v : Bool). StopsBy v made.answers made.now) is made.stops;
   }
 

@@ -20,11 +20,11 @@ use Rattle.rb_shell.specs.declared.status.Status.{Status}
 use Rattle.rb_shell.specs.declared.status.Status.TheVariants as ends
 
 -- a checkpoint of an engine that goes on is refused for a fault of the disk alone
-pub only_fault : (h : State) (n more : ℕ) (why : Refusal) → h.stopped ≡ false → Reply h n more Checkpoint (Refused why) → why ≡ DiskFault
-only_fault h n more why going (early some is) = absurd (false≢true (sym some ∙ rw going refl))
-only_fault h n more why going (later tests none which is) = let clash : Refused why ≡ Done = is ∙ ap (λ ts. first_of ts Done) which in absurd cc
-only_fault h n more why going (calls.fault none is) = cc
-only_fault h n more why going (calls.old none late) = absurd late.reads
+pub only_fault : (h : State) (n : ℕ) (why : Refusal) → h.stopped ≡ false → Reply h n Checkpoint (Refused why) → why ≡ DiskFault
+only_fault h n why going (early some is) = absurd (false≢true (sym some ∙ rw going refl))
+only_fault h n why going (later tests none which is) = let clash : Refused why ≡ Done = is ∙ ap (λ ts. first_of ts Done) which in absurd cc
+only_fault h n why going (calls.fault none is) = cc
+only_fault h n why going (calls.old none late) = absurd late.reads
 
 module _ {S : Type 0} (s : Ghosts S) (laws : Laws s) (m : Logged) (old new : EngineView S) (is : StandsAs s old m) (going : m.state.stopped ≡ false) where
   -- an image has all to the last group, in the machine's blocks
@@ -37,7 +37,7 @@ module _ {S : Type 0} (s : Ghosts S) (laws : Laws s) (m : Logged) (old new : Eng
       let groups : does.groups ≡ 0 = does.grows on in
       let number : s.lsn new.store ≡ m.lsn = does.lsn on ∙ omega (arith, groups, is.lsn) in
       let shape : s.shape_of new.store ≡ m.state.shape = does.stands.shape ∙ ap (λ (h : State). h.shape) state in
-      let opens = opens_last s laws kept (HasState does.now does.now.books (last_scn does.now.commits) (s.slots new.store)) new.store (holds.images kept) none i here in
+      let opens = opens_last s laws kept (HasState does.now does.now.books (last_scn does.now.commits)) new.store (holds.images kept) none i here in
       subst (λ (n : ℕ). s.opens m.state.shape (s.slots old.store) i m.blocks n) number
       (subst (λ (b : List (List ℕ)). s.opens m.state.shape (s.slots old.store) i b (s.lsn new.store)) (read ∙ sym is.blocks)
       (subst (λ (x : Shape). s.opens x (s.slots old.store) i (s.blocks new.store) (s.lsn new.store)) shape

@@ -1,8 +1,8 @@
 -- Files that a person may have are sound, and what a run over one leaves is one.
 use Rattle.std.proofs.Common.{◌≡◌, ◌⊎◌, inr, inl, ⊎_elim, ◌+◌, ◌^◌, ◌<◌, ◌≤◌, ◌++◌, ℕ, List, [], ◌∷◌, Option, Some, None, refl, sym, ◌∙◌, ap, subst, arith, append_assoc}
 use Rattle.std.proofs.lemmas.List.FromFn.{get_or-map-range_with_len}
+use Rattle.std.proofs.lemmas.Option.{same_Some}
 use Rattle.rb_base.specs.Moments.{weaker}
-use Rattle.rb_base.specs.Stores.{room_of}
 use Rattle.rb_base.specs.declared.shape.Shape.{Shape}
 use Rattle.rb_disk.specs.Moments.{Leaves}
 use Rattle.rb_disk.specs.declared.disk.Disk.{Ghosts as DiskGhosts}
@@ -23,19 +23,17 @@ use Rattle.rb_opening.proofs.Sound.{sound_as}
 use Rattle.rb_opening.specs.Opens.{books_of}
 use Rattle.rb_restart.specs.Rollback.{found_book}
 use Rattle.rb_segment.specs.Header.{segment_of}
-use Rattle.rb_segment.specs.Segments.{owed_in}
 use Rattle.rb_shell.proofs.BooksNew.{books_new}
 use Rattle.rb_shell.proofs.Forgets.{cut_plain, ran_plain}
 use Rattle.rb_shell.proofs.NewFile.{new_file, new_log}
 use Rattle.rb_shell.proofs.Restarting.{head_small}
 use Rattle.rb_shell.specs.Left.{Left, fresh, later}
 use Rattle.rb_shell.specs.Over.{HasRows, IsCutOver, LeavesFiles, LeavesSame, LeavesSome, RunsOver, plain}
-use Rattle.rb_shell.specs.Runs.{Endures, FirstBlocks, IsSound, LeftBehind, OpensSame, first_of, outside_in}
+use Rattle.rb_shell.specs.Runs.{Endures, FirstBlocks, IsSound, LeftBehind, OpensSame, first_of}
 use Rattle.rb_shell.specs.declared.script.TheConstants.{SCRIPT_BYTES}
 use Rattle.rb_standing.specs.Standing.{SoundAs, logged_of}
-use Rattle.rb_calls.specs.Since.{slots_of}
+use Rattle.rb_calls.specs.Since.{engine_outside}
 use Rattle.rb_control.specs.Heads.{head_of}
-use Rattle.rb_store.specs.Endless.{endless}
 use Rattle.rb_store.specs.Meaning.{Opens}
 
 -- ---- it is sound, and opens with that state
@@ -45,22 +43,17 @@ pub record OpensWith (slots : ℕ) (file : List ℕ) (h : State) : Type 0 where
   pub state : sound.state ≡ h
   pub log : sound.store.layout.log ≡ slots
 
-log_is : (a b : ℕ) → ◌≡◌ {A = Option ℕ} (Some (endless a)) (Some (endless b)) → a ≡ b
-log_is a b is = let same : endless a ≡ endless b = ap slots_of is in omega (arith, same)
-
 pub restart_small : (slots : Option ℕ) (n : ℕ) (books : List Book) (h : State) (file : List ℕ) → RestartsAt Opens slots books h n file → (head_of file).number ≤ 2 ^ 61
 restart_small slots n books h file r =
     let logged = r.has.logged in
     let ahead = r.has.sound.standing.ahead in
     head_small r.opening.layout file r.blocks r.lsn r.opening.opens.means (omega (arith, logged, ahead))
 
-restarted : (slots n : ℕ) (books : List Book) (now : State) (file : List ℕ) (r : RestartsAt Opens (Some (endless slots)) books now n file) → OpensWith slots file (opened now.shape n (rows_at now.shape.blocks now.commits n) (books_of now.shape r.blocks))
+restarted : (slots n : ℕ) (books : List Book) (now : State) (file : List ℕ) (r : RestartsAt Opens (Some slots) books now n file) → OpensWith slots file (opened now.shape n (rows_at now.shape.blocks now.commits n) (books_of now.shape r.blocks))
 restarted slots n books h file r =
     let m = r.opening.layout in
     let rows = rows_at h.shape.blocks h.commits n in
     let sound : SoundAs (shape_of m) r.blocks n rows = subst (λ (s : Shape). SoundAs s r.blocks n rows) (sym r.opening.shape_is) r.has.sound in
-    let fits : owed_in (shape_of m) r.blocks ≤ room_of (Some (endless m.log)) r.lsn =
-    subst (λ (o : Option ℕ). owed_in (shape_of m) r.blocks ≤ room_of o r.lsn) (sym r.opening.slots_are) (subst (λ (s : Shape). owed_in s r.blocks ≤ room_of (Some (endless slots)) r.lsn) (sym r.opening.shape_is) r.has.fits) in
     record {
       sound = record {
         store = record {
@@ -68,15 +61,15 @@ restarted slots n books h file r =
           blocks = r.blocks;
           lsn = r.lsn;
           opens = r.opening.opens;
-          small = restart_small (Some (endless slots)) n books h file r;
-          can_open = record { sound = sound_as (shape_of m) r.blocks n rows sound; fits = fits };
+          small = restart_small (Some slots) n books h file r;
+          sound = sound_as (shape_of m) r.blocks n rows sound;
         };
         state = opened (shape_of m) n rows (books_of (shape_of m) r.blocks);
         opening = record { number = n; rows = rows; sound = sound; state = refl };
         logged = subst (λ (s : Shape). r.lsn ≡ logged_of s r.blocks) (sym r.opening.shape_is) r.has.logged;
       };
       state = ap (λ (s : Shape). opened s n rows (books_of s r.blocks)) r.opening.shape_is;
-      log = log_is m.log slots r.opening.slots_are;
+      log = same_Some m.log slots r.opening.slots_are;
     }
 
 pub opens_with : (slots : ℕ) (file : List ℕ) (h : State) → Left slots file h → OpensWith slots file h
@@ -90,7 +83,7 @@ opens_with slots _ _ (later before first was now extends books n low file r h op
 -- ---- what a run over it leaves is one
 
 -- the books that a file opens with say no more than those of which it has the marks
-marks_found : (slots n : ℕ) (books : List Book) (h : State) (file : List ℕ) (r : RestartsAt Opens (Some (endless slots)) books h n file) → MarksGrow h.shape (books_of h.shape r.blocks) books
+marks_found : (slots n : ℕ) (books : List Book) (h : State) (file : List ℕ) (r : RestartsAt Opens (Some slots) books h n file) → MarksGrow h.shape (books_of h.shape r.blocks) books
 marks_found slots n books h file r = record {
   writes = λ g there. let has = r.has.marks.writes g there in let same = ap (λ (b : Book). b.writes) (at g there) in omega (arith, has, same);
   lost = λ g there. let has = r.has.marks.lost g there in let same = ap (λ (b : Book). b.lost) (at g there) in omega (arith, has, same);
@@ -100,7 +93,7 @@ marks_found slots n books h file r = record {
     at g there = get_or-map-range_with_len (λ (k : ℕ). found_book (segment_of h.shape r.blocks k).header) 0 h.shape.segments g g fresh_book there (omega arith)
 
 module _ (slots : ℕ) (before : List ℕ) (h : State) (is : Left slots before h) where
-  has_rows : (now : State) → Extends h now → (books : List Book) (n : ℕ) → last_scn h.commits ≤ n → (file : List ℕ) → RestartsAt Opens (Some (endless slots)) books now n file → HasRows slots books now n file
+  has_rows : (now : State) → Extends h now → (books : List Book) (n : ℕ) → last_scn h.commits ≤ n → (file : List ℕ) → RestartsAt Opens (Some slots) books now n file → HasRows slots books now n file
   has_rows now extends books n low file r = record {
     found = books_of now.shape r.blocks;
     marks = marks_found slots n books now file r;
@@ -118,21 +111,21 @@ module _ (slots : ℕ) (before : List ℕ) (h : State) (is : Left slots before h
     marks = e.marks;
   }
 
-  ends : (fault : Option Call) (now : State) → Extends h now → (file : List ℕ) → AtEnd Opens (Some (endless slots)) fault now file → FoundAtEnd (HasRows slots) fault now file
+  ends : (fault : Option Call) (now : State) → Extends h now → (file : List ℕ) → AtEnd Opens (Some slots) fault now file → FoundAtEnd (HasRows slots) fault now file
   ends fault now e file (whole r) = whole (has_rows now e now.books (last_scn now.commits) (extends_later h now e) file r)
   ends fault now e file (one_commit s by stopped some r) =
       one_commit s by stopped some (has_rows (with_commit now s) (more now s e) now.books (last_scn now.commits + 1) (let le = extends_later h now e in omega (arith, le)) file r)
   ends fault now e file (one_write s table key action g k by stopped within r) =
       one_write s table key action g k by stopped within (has_rows now e _ (last_scn now.commits) (extends_later h now e) file r)
 
-  between : (fault : Option Call) (now : State) → Extends h now → (file : List ℕ) → OnTheWay Opens (Some (endless slots)) fault h now file → FoundBetween (HasRows slots) fault h now file
+  between : (fault : Option Call) (now : State) → Extends h now → (file : List ℕ) → OnTheWay Opens (Some slots) fault h now file → FoundBetween (HasRows slots) fault h now file
   between fault now e file (reached n low high r) = reached n low high (has_rows now e now.books n low file r)
   between fault now e file (at_end r) = at_end (ends fault now e file r)
 
   module _ {D : Type 0} (d : DiskGhosts D) (old new : D) where
-    leaves : (now : Logged) → Extends h now.state → Leaves d old new (λ c. d.image old c ⊎ OnTheWay Opens (Some (endless slots)) now.fault h now.state c) → ((c : List ℕ) → d.image new c → AtEnd Opens (Some (endless slots)) now.fault now.state c) → LeavesFiles d old new slots h now
+    leaves : (now : Logged) → Extends h now.state → Leaves d old new (λ c. d.image old c ⊎ OnTheWay Opens (Some slots) now.fault h now.state c) → ((c : List ℕ) → d.image new c → AtEnd Opens (Some slots) now.fault now.state c) → LeavesFiles d old new slots h now
     leaves now e any end = record {
-      any_moment = weaker d.moment d.image_since old new (λ c. d.image old c ⊎ OnTheWay Opens (Some (endless slots)) now.fault h now.state c) (λ c. d.image old c ⊎ FoundBetween (HasRows slots) now.fault h now.state c)
+      any_moment = weaker d.moment d.image_since old new (λ c. d.image old c ⊎ OnTheWay Opens (Some slots) now.fault h now.state c) (λ c. d.image old c ⊎ FoundBetween (HasRows slots) now.fault h now.state c)
           (λ c p. ⊎_elim (λ was. inl was) (λ way. inr (between now.fault now.state e c way)) p) any;
       now_only = λ c here. ends now.fault now.state e c (end c here);
     }
@@ -140,49 +133,47 @@ module _ (slots : ℕ) (before : List ℕ) (h : State) (is : Left slots before h
     pub leaves_by : (now : Logged) (l : Layout) (first : State) → first ≡ h → l.log ≡ slots → Endures d old new l first now → LeavesFiles d old new slots h now
     leaves_by now l first state log e =
         let extends = subst (λ (z : State). Extends z now.state) state e.extends in
-        let any = subst (λ (z : State). Leaves d old new (λ c. d.image old c ⊎ OnTheWay Opens (Some (endless slots)) now.fault z now.state c)) state
-        (subst (λ (k : ℕ). Leaves d old new (λ c. d.image old c ⊎ OnTheWay Opens (Some (endless k)) now.fault first now.state c)) log e.any_moment) in
-        let end : (c : List ℕ) → d.image new c → AtEnd Opens (Some (endless slots)) now.fault now.state c = λ c here. subst (λ (k : ℕ). AtEnd Opens (Some (endless k)) now.fault now.state c) log (e.now_only c here) in
+        let any = subst (λ (z : State). Leaves d old new (λ c. d.image old c ⊎ OnTheWay Opens (Some slots) now.fault z now.state c)) state
+        (subst (λ (k : ℕ). Leaves d old new (λ c. d.image old c ⊎ OnTheWay Opens (Some k) now.fault first now.state c)) log e.any_moment) in
+        let end : (c : List ℕ) → d.image new c → AtEnd Opens (Some slots) now.fault now.state c = λ c here. subst (λ (k : ℕ). AtEnd Opens (Some k) now.fault now.state c) log (e.now_only c here) in
         leaves now extends any end
 
     -- an opening that was stopped
     pub leaves_same : (w : OpensWith slots (d.content old) h) → OpensSame d old new w.sound → LeavesSame d old new slots h
     leaves_same w same =
-        let P : List ℕ → Type 0 = λ c. d.image old c ⊎ RestartsAt Opens (Some (endless slots)) h.books h (last_scn h.commits) c in
-        let moved : Leaves d old new P = subst (λ (z : State). Leaves d old new (λ c. d.image old c ⊎ RestartsAt Opens (Some (endless slots)) z.books z (last_scn z.commits) c)) w.state
-        (subst (λ (k : ℕ). Leaves d old new (λ c. d.image old c ⊎ RestartsAt Opens (Some (endless k)) w.sound.state.books w.sound.state (last_scn w.sound.state.commits) c)) w.log same) in
+        let P : List ℕ → Type 0 = λ c. d.image old c ⊎ RestartsAt Opens (Some slots) h.books h (last_scn h.commits) c in
+        let moved : Leaves d old new P = subst (λ (z : State). Leaves d old new (λ c. d.image old c ⊎ RestartsAt Opens (Some slots) z.books z (last_scn z.commits) c)) w.state
+        (subst (λ (k : ℕ). Leaves d old new (λ c. d.image old c ⊎ RestartsAt Opens (Some k) w.sound.state.books w.sound.state (last_scn w.sound.state.commits) c)) w.log same) in
         let itself = extends_same h h refl refl (grow_same h.shape h.books) in
         weaker d.moment d.image_since old new P (λ c. d.image old c ⊎ HasRows slots h.books h (last_scn h.commits) c)
         (λ c p. ⊎_elim (λ was. inl was) (λ r. inr (has_rows h itself h.books (last_scn h.commits) (omega arith) c r)) p) moved
 
     -- lines that were done over it
     pub runs_over : (w : OpensWith slots (d.content old) h) (first : FirstBlocks w.sound) (lines : List (List ℕ)) (tells : Type 0) (held_before held_now : List ℕ) (now : Logged)
-        → Ran (outside_in w.sound) (first_of w.sound first) now lines tells held_before held_now → Endures d old new w.sound.store.layout w.sound.state now
+        → Ran engine_outside (first_of w.sound first) now lines tells held_before held_now → Endures d old new w.sound.store.layout w.sound.state now
         → RunsOver d old new slots h lines tells held_before held_now
     runs_over w blocks lines tells held_before held_now now ran e =
         let first = first_of w.sound blocks in
-        let forgot : Ran (plain (endless w.sound.store.layout.log)) first now lines tells held_before held_now = ran_plain (outside_in w.sound) first now lines tells held_before held_now ran in
         record {
           lsn = first.lsn;
           blocks = first.blocks;
           now = now;
-          ran = subst (λ (z : State). Ran (plain (endless slots)) (record { state = z; lsn = first.lsn; fault = None; blocks = first.blocks }) now lines tells held_before held_now) w.state
-              (subst (λ (k : ℕ). Ran (plain (endless k)) first now lines tells held_before held_now) w.log forgot);
+          ran = subst (λ (z : State). Ran plain (record { state = z; lsn = first.lsn; fault = None; blocks = first.blocks }) now lines tells held_before held_now) w.state
+              (ran_plain engine_outside first now lines tells held_before held_now ran);
           leaves = leaves_by now w.sound.store.layout w.sound.state w.state w.log e;
         }
 
     pub is_cut_over : (w : OpensWith slots (d.content old) h) (first : FirstBlocks w.sound) (left left2 held_before held_now : List ℕ) (now : Logged)
-        → CutOff (outside_in w.sound) SCRIPT_BYTES (first_of w.sound first) now left left2 held_before held_now → Endures d old new w.sound.store.layout w.sound.state now
+        → CutOff engine_outside SCRIPT_BYTES (first_of w.sound first) now left left2 held_before held_now → Endures d old new w.sound.store.layout w.sound.state now
         → IsCutOver d old new slots h left left2 held_before held_now
     is_cut_over w blocks left left2 held_before held_now now cut e =
         let first = first_of w.sound blocks in
-        let forgot : CutOff (plain (endless w.sound.store.layout.log)) SCRIPT_BYTES first now left left2 held_before held_now = cut_plain (outside_in w.sound) first now SCRIPT_BYTES left left2 held_before held_now cut in
         record {
           lsn = first.lsn;
           blocks = first.blocks;
           now = now;
-          cut = subst (λ (z : State). CutOff (plain (endless slots)) SCRIPT_BYTES (record { state = z; lsn = first.lsn; fault = None; blocks = first.blocks }) now left left2 held_before held_now) w.state
-              (subst (λ (k : ℕ). CutOff (plain (endless k)) SCRIPT_BYTES first now left left2 held_before held_now) w.log forgot);
+          cut = subst (λ (z : State). CutOff plain SCRIPT_BYTES (record { state = z; lsn = first.lsn; fault = None; blocks = first.blocks }) now left left2 held_before held_now) w.state
+              (cut_plain engine_outside first now SCRIPT_BYTES left left2 held_before held_now cut);
           leaves = leaves_by now w.sound.store.layout w.sound.state w.state w.log e;
         }
 

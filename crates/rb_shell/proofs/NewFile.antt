@@ -135,8 +135,7 @@ new_file l =
     let shape = shape_of l in
     let blocks = fresh_blocks shape in
     let unlogged = fresh_logged l in
-    let sound = sound_fresh shape unlogged in
-    let owes = none_owed shape in (
+    let sound = sound_fresh shape unlogged in (
       record {
         store = record {
           layout = l;
@@ -144,7 +143,7 @@ new_file l =
           lsn = 0;
           opens = fresh_opens l;
           small = head_small l (fresh_file file_version l) blocks 0 (fresh_opens l).means (omega arith);
-          can_open = record { sound = sound_as shape blocks 0 [] sound; fits = omega (arith, owes) };
+          sound = sound_as shape blocks 0 [] sound;
         };
         state = opened shape 0 [] (books_of shape blocks);
         opening = record { number = 0; rows = []; sound = sound; state = refl };

@@ -1,9 +1,8 @@
 -- A file that opens to a state restarts to it.
-use Rattle.std.proofs.Common.{◌≡◌, ◌+◌, ◌-◌, ◌^◌, ◌<◌, ◌≤◌, ℕ, List, Option, Some, refl, sym, ap, subst, arith}
+use Rattle.std.proofs.Common.{◌≡◌, ◌+◌, ◌-◌, ◌^◌, ◌<◌, ◌≤◌, ℕ, List, Some, refl, sym, ap, subst, arith}
 use Rattle.std.proofs.Math.Seq.{take-nil}
 use Rattle.std.specs.List.{flat_map}
 use Rattle.std.proofs.lemmas.List.FromFn.{get_or-map-range_with_len}
-use Rattle.rb_base.specs.Stores.{room_of}
 use Rattle.rb_base.specs.declared.shape.Shape.{Shape}
 use Rattle.rb_image.specs.Crash.{Restarts}
 use Rattle.rb_image.specs.Images.{HasState}
@@ -18,9 +17,7 @@ use Rattle.rb_model.specs.State.{State, opened}
 use Rattle.rb_opening.specs.Opens.{OpensAs, books_of}
 use Rattle.rb_restart.specs.Rollback.{found_book}
 use Rattle.rb_segment.specs.Header.{segment_of}
-use Rattle.rb_segment.specs.Segments.{owed_in}
 use Rattle.rb_standing.specs.Standing.{SoundAs, logged_of, segments_of}
-use Rattle.rb_store.specs.Endless.{endless}
 use Rattle.rb_store.specs.Meaning.{Means, Opens, OpensAt}
 
 -- the number that a log begins with is small where that of its last group is
@@ -35,12 +32,10 @@ module _ (shape : Shape) (blocks : List (List ℕ)) (number : ℕ) (rows : List 
   abbrev First : State
   First = opened shape number rows (books_of shape blocks)
 
-  first_has : (slots : Option ℕ) (lsn : ℕ) → SoundAs shape blocks number rows → lsn ≡ logged_of shape blocks → owed_in shape blocks ≤ room_of slots lsn
-      → HasState First First.books (last_scn First.commits) slots blocks lsn
-  first_has slots lsn sound logged fits = record {
+  first_has : (lsn : ℕ) → SoundAs shape blocks number rows → lsn ≡ logged_of shape blocks → HasState First First.books (last_scn First.commits) blocks lsn
+  first_has lsn sound logged = record {
     logged = logged;
     sound = subst (SoundAs shape blocks (last_scn First.commits)) (sym (opened_rows shape number rows (books_of shape blocks))) (subst (λ (n : ℕ). SoundAs shape blocks n rows) (omega arith) sound);
-    fits = fits;
     marks = record {
       writes = λ g there. let same = ap (λ (b : Book). b.writes) (book_is g there) in omega (arith, same);
       lost = λ g there. let same = ap (λ (b : Book). b.lost) (book_is g there) in omega (arith, same);
@@ -51,10 +46,10 @@ module _ (shape : Shape) (blocks : List (List ℕ)) (number : ℕ) (rows : List 
       book_is g there = sym (get_or-map-range_with_len (λ (k : ℕ). found_book (segment_of shape blocks k).header) 0 shape.segments g g fresh_book there (omega arith))
 
 pub restarts_found : (h : State) (l : Layout) (blocks : List (List ℕ)) (lsn : ℕ) (file : List ℕ) → OpensAs (shape_of l) blocks h → lsn ≡ logged_of (shape_of l) blocks
-    → owed_in (shape_of l) blocks ≤ room_of (Some (endless l.log)) lsn → OpensAt l file blocks lsn → Restarts Opens (Some (endless l.log)) h file
-restarts_found h l blocks lsn file opening logged fits opens = subst (λ (x : State). Restarts Opens (Some (endless l.log)) x file) (sym opening.state) (record {
+    → OpensAt l file blocks lsn → Restarts Opens (Some l.log) h file
+restarts_found h l blocks lsn file opening logged opens = subst (λ (x : State). Restarts Opens (Some l.log) x file) (sym opening.state) (record {
   blocks = blocks;
   lsn = lsn;
   opening = record { layout = l; shape_is = refl; slots_are = refl; opens = opens };
-  has = first_has (shape_of l) blocks opening.number opening.rows (Some (endless l.log)) lsn opening.sound logged fits;
+  has = first_has (shape_of l) blocks opening.number opening.rows lsn opening.sound logged;
 })

@@ -9,7 +9,7 @@ use Rattle.rb_lines.specs.declared.runner.StepFault.{StepFault}
 use Rattle.rb_lines.specs.declared.runner.StepFault.TheVariants.{Disk, Sink}
 use Rattle.rb_model.specs.Calls.{Answer, is_fault}
 use Rattle.rb_model.specs.Lines.{reply_text}
-use Rattle.rb_model.specs.Out.{Logged, LineOut, LineSaid, Resumed, ResumesOut, Outside}
+use Rattle.rb_model.specs.Out.{Logged, LineOut, LineSaid, ResumesOut, Outside}
 use Rattle.rb_model.specs.Queue.{first_ready}
 use Rattle.rb_shell.specs.Steps.{HasResumed, ResumedSoFar, Said, SaidAs}
 
@@ -18,11 +18,11 @@ use Rattle.rb_shell.specs.Steps.{HasResumed, ResumedSoFar, Said, SaidAs}
 pub resumed_none : (m : Logged) (outside : Outside) (waiting : List ℕ) → m.state.stopped ≡ false → ResumedSoFar m outside m waiting waiting
 resumed_none m outside waiting going = record { count = 0; rest = []; goes_on = λ more out end f. subst (λ (n : ℕ). ResumesOut m outside n out end) (omega arith) f; waits = sym (append-nil waiting); going = going }
 
-module _ (start m now : Logged) (outside outside1 : Outside) (w : ℕ) (r : Answer) (waiting0 waiting waiting2 : List ℕ)
-    (so : ResumedSoFar start outside m waiting0 waiting) (same : outside1 ≡ outside) (told : waiting2 ≡ waiting ++ reply_text (Some w) r) (again : TriedAgain m outside1 w r now) where
+module _ (start m now : Logged) (outside : Outside) (w : ℕ) (r : Answer) (waiting0 waiting waiting2 : List ℕ)
+    (so : ResumedSoFar start outside m waiting0 waiting) (told : waiting2 ≡ waiting ++ reply_text (Some w) r) (again : TriedAgain m outside w r now) where
   -- it and what follows it
   step_on : (more : ℕ) (out : List ℕ) (end : Logged) → ResumesOut now outside more out end → ResumesOut m outside (suc more) (reply_text (Some w) r ++ out) end
-  step_on more out end f = (w, again.asked, r, out, now, so.going, again.ready, again.known, subst (λ (k : Outside). Resumed m k w again.asked r now) same again.resumed, refl, f)
+  step_on more out end f = (w, again.asked, r, out, now, so.going, again.ready, again.known, again.resumed, refl, f)
 
   all_wait : waiting2 ≡ waiting0 ++ (so.rest ++ reply_text (Some w) r)
   all_wait = told ∙ ap (λ (xs : List ℕ). xs ++ reply_text (Some w) r) so.waits ∙ append_assoc waiting0 so.rest (reply_text (Some w) r)
@@ -75,14 +75,14 @@ resumed_said m mid now outside count line rest tells before held waiting waiting
   waits = waits ∙ ap (λ (xs : List ℕ). xs ++ rest) said.waits ∙ sym (drop-append-le said.sent said.out rest said.few);
 }
 
-pub line_ends : (m mid now : Logged) (outside outside1 : Outside) (line : List ℕ) (tells : Type 0) (before held waiting waiting2 : List ℕ) (result : Result (Unit {0}) StepFault)
-    → SaidAs (LineSaid m outside line) (LineBegun m outside line) mid tells before held waiting (Ok tt) → outside1 ≡ outside → HasResumed mid outside1 now waiting waiting2 (is_err result) → IfErr result (λ fault. fault ≡ Disk)
+pub line_ends : (m mid now : Logged) (outside : Outside) (line : List ℕ) (tells : Type 0) (before held waiting waiting2 : List ℕ) (result : Result (Unit {0}) StepFault)
+    → SaidAs (LineSaid m outside line) (LineBegun m outside line) mid tells before held waiting (Ok tt) → HasResumed mid outside now waiting waiting2 (is_err result) → IfErr result (λ fault. fault ≡ Disk)
     → SaidAs (LineOut m outside line) (LineBegun m outside line) now tells before held waiting2 result
-line_ends m mid now outside outside1 line tells before held waiting waiting2 (Ok done) (said, going) same has by =
-    (resumed_said m mid now outside has.count line has.rest tells before held waiting waiting2 said (subst (λ (k : Outside). ResumesOut mid k has.count has.rest now) same has.resumed) has.waits, has.stopped)
-line_ends m mid now outside outside1 line tells before held waiting waiting2 (Err Disk) (said, going) same has by =
-    (resumed_said m mid now outside has.count line has.rest tells before held waiting waiting2 said (subst (λ (k : Outside). ResumesOut mid k has.count has.rest now) same has.resumed) has.waits, has.stopped)
-line_ends m mid now outside outside1 line tells before held waiting waiting2 (Err Sink) (said, going) same has by = cc
+line_ends m mid now outside line tells before held waiting waiting2 (Ok done) (said, going) has by =
+    (resumed_said m mid now outside has.count line has.rest tells before held waiting waiting2 said has.resumed has.waits, has.stopped)
+line_ends m mid now outside line tells before held waiting waiting2 (Err Disk) (said, going) has by =
+    (resumed_said m mid now outside has.count line has.rest tells before held waiting waiting2 said has.resumed has.waits, has.stopped)
+line_ends m mid now outside line tells before held waiting waiting2 (Err Sink) (said, going) has by = cc
 
 -- a fault in the line itself, behind which none is tried
 pub line_fails : (m now : Logged) (outside : Outside) (line : List ℕ) (tells : Type 0) (before held waiting : List ℕ) (fault : StepFault)

@@ -3,7 +3,6 @@ use Rattle.std.proofs.Common.{◌≡◌, ◌^◌, ◌∙◌, ◌⊎◌, inl, inr
 use Rattle.std.proofs.lemmas.List.{length-append}
 use Rattle.rb_base.specs.Blocks.{IsShape}
 use Rattle.rb_base.specs.Moments.{LeavesOnly, joined, no_call, weaker}
-use Rattle.rb_base.specs.Stores.{room_of}
 use Rattle.rb_base.specs.declared.shape.Shape.{Shape}
 use Rattle.rb_base.specs.declared.store.Store.{Ghosts}
 use Rattle.rb_disk.specs.Moments.{Leaves, Rests, rests_leave}
@@ -23,20 +22,20 @@ use Rattle.rb_model.specs.Lines.{lines_of}
 use Rattle.rb_model.specs.Out.{Logged, Outside}
 use Rattle.rb_model.specs.Rows.{last_scn}
 use Rattle.rb_model.specs.State.{State}
-use Rattle.rb_opening.specs.Opens.{CanOpen, OpensAs}
+use Rattle.rb_opening.specs.Opens.{OpensAs}
 use Rattle.rb_restart.specs.Rollback.{BackBy}
 use Rattle.rb_segment.specs.Segments.{owed_in}
 use Rattle.rb_shell.proofs.Restarting.{restarts_found}
-use Rattle.rb_shell.specs.Runs.{IsSound, IsStore, HasHalted, HasOpened, HasRun, WasCutOff, Endures, OpensSame, first_of, outside_in}
+use Rattle.rb_shell.specs.Runs.{IsSound, IsStore, HasHalted, HasOpened, HasRun, WasCutOff, Endures, OpensSame, first_of}
 use Rattle.rb_shell.specs.Statuses.{EndsRun, IsDoneOrNoMemory}
 use Rattle.rb_shell.specs.declared.script.TheConstants.{SCRIPT_BYTES}
-use Rattle.rb_calls.specs.Since.{outside_of, slots_of}
+use Rattle.rb_calls.specs.Since.{engine_outside}
 use Rattle.rb_shell.specs.Statuses.{EndsFormat}
 use Rattle.rb_shell.specs.declared.status.Status.{Status}
 use Rattle.rb_shell.specs.declared.status.Status.TheVariants.{Done, Usage, SourceFault, DiskFault, SinkFault, NotAStore, NoMemory, NotEmpty, TooLong}
+use Rattle.rb_sound.specs.Sound.{AreSound}
 use Rattle.rb_standing.specs.Standing.{logged_of}
 use Rattle.rb_store.proofs.OneOpening.{Agree, means_alike, one_opening}
-use Rattle.rb_store.specs.Endless.{endless}
 use Rattle.rb_store.specs.Meaning.{Means, Opens, OpensAt}
 use Rattle.rb_control.specs.Heads.{head_of}
 use Rattle.rb_store.specs.Openings.{LeftAlone}
@@ -71,14 +70,12 @@ pub record Same {file : List ℕ} (sound : IsSound file) (l : Layout) (blocks : 
   pub there : blocks ≡ sound.store.blocks
   pub opening : OpensAs (shape_of l) blocks sound.state
   pub logged : lsn ≡ logged_of (shape_of l) blocks
-  pub fits : owed_in (shape_of l) blocks ≤ room_of (Some (endless l.log)) lsn
   pub next : sound.store.lsn + owed_in (shape_of sound.store.layout) sound.store.blocks ≡ lsn + owed_in (shape_of l) blocks
 
-can_move : (l m : Layout) (first second : List (List ℕ)) (n k : ℕ) → Agree l m first second n k → CanOpen (shape_of l) first (room_of (Some (endless l.log)) n) → CanOpen (shape_of m) second (room_of (Some (endless m.log)) k)
-can_move l m first second n k agree can =
-    subst (λ (number : ℕ). CanOpen (shape_of m) second (room_of (Some (endless m.log)) number)) agree.lsn
-    (subst (λ (b : List (List ℕ)). CanOpen (shape_of m) b (room_of (Some (endless m.log)) n)) agree.blocks
-    (subst (λ (x : Layout). CanOpen (shape_of x) first (room_of (Some (endless x.log)) n)) agree.layout can))
+sound_move : (l m : Layout) (first second : List (List ℕ)) (n k : ℕ) → Agree l m first second n k → AreSound (shape_of l) first → AreSound (shape_of m) second
+sound_move l m first second n k agree sound =
+    subst (λ (b : List (List ℕ)). AreSound (shape_of m) b) agree.blocks
+    (subst (λ (x : Layout). AreSound (shape_of x) first) agree.layout sound)
 
 pub same_of : {file : List ℕ} (sound : IsSound file) (l : Layout) (blocks : List (List ℕ)) (lsn : ℕ) → OpensAt l file blocks lsn → Same sound l blocks lsn
 same_of {file} sound l blocks lsn opens =
@@ -91,7 +88,6 @@ same_of {file} sound l blocks lsn opens =
       there = sym agree.blocks;
       opening = subst (λ (b : List (List ℕ)). OpensAs (shape_of l) b sound.state) agree.blocks (subst (λ (s : Shape). OpensAs s st.blocks sound.state) shape sound.opening);
       logged = sym agree.lsn ∙ sound.logged ∙ ap (λ (s : Shape). logged_of s st.blocks) shape ∙ ap (logged_of (shape_of l)) agree.blocks;
-      fits = (can_move st.layout l st.blocks blocks st.lsn lsn agree st.can_open).fits;
       next = ap (λ (n : ℕ). n + owed_in (shape_of st.layout) st.blocks) agree.lsn
           ∙ ap (λ (s : Shape). lsn + owed_in s st.blocks) shape
           ∙ ap (λ (b : List (List ℕ)). lsn + owed_in (shape_of l) b) agree.blocks;
@@ -104,33 +100,33 @@ disk_leaves d s old new P x = record { later = x.later; each = x.each; earlier =
 
 module _ {D : Type 0} (d : DiskGhosts D) (old : D) where
   -- the store that was found is one
-  pub is_store : (s : StoreState D) → Found d old s → CanOpen (shape_of s.layout) (blocks_in d s) (room_of (Some (endless s.layout.log)) s.number) → IsStore (d.content old)
-  is_store s found can = record { layout = s.layout; blocks = blocks_in d s; lsn = s.number; opens = found.opens; small = found.small; can_open = can }
+  pub is_store : (s : StoreState D) → Found d old s → AreSound (shape_of s.layout) (blocks_in d s) → IsStore (d.content old)
+  is_store s found sound = record { layout = s.layout; blocks = blocks_in d s; lsn = s.number; opens = found.opens; small = found.small; sound = sound }
 
   -- where it was refused, the file is none
-  pub not_store : (s : StoreState D) → Found d old s → (CanOpen (shape_of s.layout) (blocks_in d s) (room_of (Some (endless s.layout.log)) s.number) → ⊥) → IsStore (d.content old) → ⊥
+  pub not_store : (s : StoreState D) → Found d old s → (AreSound (shape_of s.layout) (blocks_in d s) → ⊥) → IsStore (d.content old) → ⊥
   not_store s found refused st =
-      refused (can_move st.layout s.layout st.blocks (blocks_in d s) st.lsn s.number (one_opening st.layout s.layout (d.content old) st.blocks (blocks_in d s) st.lsn s.number st.opens.means found.opens.means) st.can_open)
+      refused (sound_move st.layout s.layout st.blocks (blocks_in d s) st.lsn s.number (one_opening st.layout s.layout (d.content old) st.blocks (blocks_in d s) st.lsn s.number st.opens.means found.opens.means) st.sound)
 
   -- what leaves the meaning of a sound file leaves the state that it opens to
   pub alone_same : (new : D) (sound : IsSound (d.content old)) → LeftAlone d old new → OpensSame d old new sound
   alone_same new sound alone =
       let st = sound.store in
       let same = same_of sound st.layout st.blocks st.lsn st.opens in
-      let P : List ℕ → Type 0 = λ c. d.image old c ⊎ Restarts Opens (Some (endless st.layout.log)) sound.state c in
+      let P : List ℕ → Type 0 = λ c. d.image old c ⊎ Restarts Opens (Some st.layout.log) sound.state c in
       weaker d.moment d.image_since old new (λ c. d.image old c ⊎ Means st.layout c st.blocks st.lsn) P
-      (λ c p. ⊎_elim (λ was. inl was) (λ means. inr (restarts_found sound.state st.layout st.blocks st.lsn c sound.opening same.logged same.fits (record { means = means; headed = st.opens.headed }))) p)
+      (λ c p. ⊎_elim (λ was. inl was) (λ means. inr (restarts_found sound.state st.layout st.blocks st.lsn c sound.opening same.logged (record { means = means; headed = st.opens.headed }))) p)
       (alone.images st.layout st.blocks st.lsn st.opens.means)
 
   -- what an opening left, of the store that was found
-  pub opens_same : (s : StoreState D) (new : D) (sound : IsSound (d.content old)) → Found d old s → Leaves d s.disk new (Restarts Opens (Some (endless s.layout.log)) sound.state) → OpensSame d old new sound
+  pub opens_same : (s : StoreState D) (new : D) (sound : IsSound (d.content old)) → Found d old s → Leaves d s.disk new (Restarts Opens (Some s.layout.log) sound.state) → OpensSame d old new sound
   opens_same s new sound found stays =
-      let P : List ℕ → Type 0 = λ c. d.image old c ⊎ Restarts Opens (Some (endless sound.store.layout.log)) sound.state c in
+      let P : List ℕ → Type 0 = λ c. d.image old c ⊎ Restarts Opens (Some sound.store.layout.log) sound.state c in
       let same = same_of sound s.layout (blocks_in d s) s.number found.opens in
       joined d.moment d.image_since old s.disk new P
       (alone_same s.disk sound found.kept)
-      (weaker d.moment d.image_since s.disk new (Restarts Opens (Some (endless s.layout.log)) sound.state) P
-      (λ c r. inr (subst (λ (k : ℕ). Restarts Opens (Some (endless k)) sound.state c) same.log r)) stays)
+      (weaker d.moment d.image_since s.disk new (Restarts Opens (Some s.layout.log) sound.state) P
+      (λ c r. inr (subst (λ (k : ℕ). Restarts Opens (Some k) sound.state c) same.log r)) stays)
 
   -- no call at all
   pub rests_itself : Rests d old old
@@ -165,10 +161,10 @@ module _ {D : Type 0} (d : DiskGhosts D) (old : D) where
 
   -- an engine over it
   pub has_opened : (g : Ghosts (StoreState D)) (s : StoreState D) (e : EngineView (StoreState D)) (sound : IsSound (d.content old)) → Found d old s → e.store.layout.log ≡ s.layout.log
-      → g.slots e.store ≡ Some (endless e.store.layout.log) → Stands g sound.state e → g.lsn e.store ≡ s.number + owed_in (shape_of s.layout) (blocks_in d s)
+      → Stands g sound.state e → g.lsn e.store ≡ s.number + owed_in (shape_of s.layout) (blocks_in d s)
       → BackBy (shape_of s.layout) (owed_in (shape_of s.layout) (blocks_in d s)) (blocks_in d s) (g.blocks e.store)
-      → Leaves d s.disk e.store.disk (Restarts Opens (Some (endless s.layout.log)) sound.state) → ((c : List ℕ) → d.image e.store.disk c → Restarts Opens (Some (endless e.store.layout.log)) sound.state c) → HasOpened d g old e sound
-  has_opened g s e sound found slots ended stands lsn back stays only =
+      → Leaves d s.disk e.store.disk (Restarts Opens (Some s.layout.log) sound.state) → ((c : List ℕ) → d.image e.store.disk c → Restarts Opens (Some e.store.layout.log) sound.state c) → HasOpened d g old e sound
+  has_opened g s e sound found slots stands lsn back stays only =
       let same = same_of sound s.layout (blocks_in d s) s.number found.opens in
       record {
         slots = slots ∙ same.log;
@@ -177,55 +173,53 @@ module _ {D : Type 0} (d : DiskGhosts D) (old : D) where
           back = subst (λ (shape : Shape). BackBy shape (owed_in shape sound.store.blocks) sound.store.blocks (g.blocks e.store)) same.shape
               (subst (λ (b : List (List ℕ)). BackBy (shape_of s.layout) (owed_in (shape_of s.layout) b) b (g.blocks e.store)) same.there back);
         };
-        stands = record { engine = stands; lsn = same.next ∙ sym lsn; blocks = refl; ended = subst (λ (o : Option ℕ). o ≡ Some (slots_of o)) (sym ended) refl };
+        stands = record { engine = stands; lsn = same.next ∙ sym lsn; blocks = refl };
         any_moment = opens_same s e.store.disk sound found stays;
-        now_only = λ c here. subst (λ (k : ℕ). Restarts Opens (Some (endless k)) sound.state c) (slots ∙ same.log) (only c here);
+        now_only = λ c here. subst (λ (k : ℕ). Restarts Opens (Some k) sound.state c) (slots ∙ same.log) (only c here);
       }
 
   -- an opening, and the lines after it
   pub endures : (g : Ghosts (StoreState D)) (e : EngineView (StoreState D)) (m : Logged) (new : D) (sound : IsSound (d.content old)) → HasOpened d g old e sound → Extends sound.state m.state
-      → Leaves d e.store.disk new (OnTheWay Opens (Some (endless e.store.layout.log)) m.fault sound.state m.state) → ((c : List ℕ) → d.image new c → AtEnd Opens (Some (endless e.store.layout.log)) m.fault m.state c)
+      → Leaves d e.store.disk new (OnTheWay Opens (Some e.store.layout.log) m.fault sound.state m.state) → ((c : List ℕ) → d.image new c → AtEnd Opens (Some e.store.layout.log) m.fault m.state c)
       → Endures d old new sound.store.layout sound.state m
   endures g e m new sound o extends any end =
       let l = sound.store.layout in
       let h = sound.state in
-      let P : List ℕ → Type 0 = λ c. d.image old c ⊎ OnTheWay Opens (Some (endless l.log)) m.fault h m.state c in
+      let P : List ℕ → Type 0 = λ c. d.image old c ⊎ OnTheWay Opens (Some l.log) m.fault h m.state c in
       record {
         extends = extends;
         any_moment = joined d.moment d.image_since old e.store.disk new P
-            (weaker d.moment d.image_since old e.store.disk (λ c. d.image old c ⊎ Restarts Opens (Some (endless l.log)) h c) P
-            (λ c p. ⊎_elim (λ was. inl was) (λ r. inr (restarts_on_the_way (Some (endless l.log)) m.fault h m.state c extends r)) p) o.any_moment)
-            (weaker d.moment d.image_since e.store.disk new (OnTheWay Opens (Some (endless e.store.layout.log)) m.fault h m.state) P
-            (λ c way. inr (subst (λ (k : ℕ). OnTheWay Opens (Some (endless k)) m.fault h m.state c) o.slots way)) any);
-        now_only = λ c here. subst (λ (k : ℕ). AtEnd Opens (Some (endless k)) m.fault m.state c) o.slots (end c here);
+            (weaker d.moment d.image_since old e.store.disk (λ c. d.image old c ⊎ Restarts Opens (Some l.log) h c) P
+            (λ c p. ⊎_elim (λ was. inl was) (λ r. inr (restarts_on_the_way (Some l.log) m.fault h m.state c extends r)) p) o.any_moment)
+            (weaker d.moment d.image_since e.store.disk new (OnTheWay Opens (Some e.store.layout.log) m.fault h m.state) P
+            (λ c way. inr (subst (λ (k : ℕ). OnTheWay Opens (Some k) m.fault h m.state c) o.slots way)) any);
+        now_only = λ c here. subst (λ (k : ℕ). AtEnd Opens (Some k) m.fault m.state c) o.slots (end c here);
       }
 
   -- what was done over the engine was done over the file
   module _ (g : Ghosts (StoreState D)) (e : EngineView (StoreState D)) (sound : IsSound (d.content old)) (o : HasOpened d g old e sound) where
     pub has_run : (now : Logged) (lines : List (List ℕ)) (tells : Type 0) (before held : List ℕ) (endures : Layout → State → Logged → Type 0)
-        → Ran (outside_of (Some (endless e.store.layout.log))) (first_of sound o.first) now lines tells before held → now.state.stopped ≡ false → endures sound.store.layout sound.state now → HasRun sound lines tells before held endures
+        → Ran engine_outside (first_of sound o.first) now lines tells before held → now.state.stopped ≡ false → endures sound.store.layout sound.state now → HasRun sound lines tells before held endures
     has_run now lines tells before held endures ran going endured = record {
       first = o.first;
-      run = record { now = now; ran = subst (λ (k : ℕ). Ran (outside_of (Some (endless k))) (first_of sound o.first) now lines tells before held) o.slots ran; endured = endured };
+      run = record { now = now; ran = ran; endured = endured };
       going = going;
     }
 
     pub has_halted : (now : Logged) (left left2 : List ℕ) (tells : Type 0) (before held : List ℕ) (endures : Layout → State → Logged → Type 0)
-        → Halted (outside_of (Some (endless e.store.layout.log))) SCRIPT_BYTES (first_of sound o.first) now left left2 tells before held → endures sound.store.layout sound.state now → HasHalted sound left left2 tells before held endures
-    has_halted now left left2 tells before held endures halted endured =
-        let here = subst (λ (k : ℕ). Halted (outside_of (Some (endless k))) SCRIPT_BYTES (first_of sound o.first) now left left2 tells before held) o.slots halted in
-        record {
-          first = o.first;
-          run = record { now = now; ran = all_ran (outside_in sound) SCRIPT_BYTES (first_of sound o.first) now left left2 tells before held here; endured = endured };
-          halted = here;
-        }
+        → Halted engine_outside SCRIPT_BYTES (first_of sound o.first) now left left2 tells before held → endures sound.store.layout sound.state now → HasHalted sound left left2 tells before held endures
+    has_halted now left left2 tells before held endures halted endured = record {
+      first = o.first;
+      run = record { now = now; ran = all_ran engine_outside SCRIPT_BYTES (first_of sound o.first) now left left2 tells before held halted; endured = endured };
+      halted = halted;
+    }
 
     pub was_cut_off : (now : Logged) (left left2 before held : List ℕ) (endures : Layout → State → Logged → Type 0)
-        → CutOff (outside_of (Some (endless e.store.layout.log))) SCRIPT_BYTES (first_of sound o.first) now left left2 before held → endures sound.store.layout sound.state now → WasCutOff sound left left2 before held endures
+        → CutOff engine_outside SCRIPT_BYTES (first_of sound o.first) now left left2 before held → endures sound.store.layout sound.state now → WasCutOff sound left left2 before held endures
     was_cut_off now left left2 before held endures cut endured = record {
       first = o.first;
       now = now;
-      cut = subst (λ (k : ℕ). CutOff (outside_of (Some (endless k))) SCRIPT_BYTES (first_of sound o.first) now left left2 before held) o.slots cut;
+      cut = cut;
       endured = endured;
     }
 

@@ -230,33 +230,28 @@ calls_as m now outside t c answer row text fault tells held waiting held2 waitin
 
 -- calls as they end
 
-module _ (start m now : Logged) (outside outside1 : Outside) (c : Command) (count : ℕ) (row : Row) (tells : Type 0) (before held waiting held2 waiting2 : List ℕ)
-    (so : SaidSoFar start outside c count m tells before held waiting) (same : outside1 ≡ outside) where
-  abbrev Here : Result code.Answer StepFault → Outside → Type 0
-  Here result k = Calls m k (caller c) (call_of c count) row now tells held waiting held2 waiting2 result
+module _ (start m now : Logged) (outside : Outside) (c : Command) (count : ℕ) (row : Row) (tells : Type 0) (before held waiting held2 waiting2 : List ℕ)
+    (so : SaidSoFar start outside c count m tells before held waiting) where
+  abbrev Here : Result code.Answer StepFault → Type 0
+  Here result = Calls m outside (caller c) (call_of c count) row now tells held waiting held2 waiting2 result
 
-  pub calls_more : (answer : code.Answer) → goes_on (answer_of answer row) ≡ true → Here (Ok answer) outside1 → SaidSoFar start outside c (count + 1) now tells before held2 waiting2
-  calls_more answer gives calls =
-      let here = subst (Here (Ok answer)) same calls in
-      so_far_more start m now outside c count (answer_of answer row) tells before held waiting held2 waiting2 so here.0 gives here.1
+  pub calls_more : (answer : code.Answer) → goes_on (answer_of answer row) ≡ true → Here (Ok answer) → SaidSoFar start outside c (count + 1) now tells before held2 waiting2
+  calls_more answer gives here = so_far_more start m now outside c count (answer_of answer row) tells before held waiting held2 waiting2 so here.0 gives here.1
 
-  pub calls_stop : (answer : code.Answer) → count < most_calls start.state.shape c → goes_on (answer_of answer row) ≡ false → Here (Ok answer) outside1
+  pub calls_stop : (answer : code.Answer) → count < most_calls start.state.shape c → goes_on (answer_of answer row) ≡ false → Here (Ok answer)
       → SaidAs (CommandOut start outside c) (CallsBegun start outside c) now tells before held2 waiting2 (Ok tt)
-  calls_stop answer lt other calls =
-      let here = subst (Here (Ok answer)) same calls in
+  calls_stop answer lt other here =
       (so_far_stop start m now outside c count (most_calls start.state.shape c) (answer_of answer row) tells before held waiting held2 waiting2 so lt here.0 other, here.1)
 
-  pub calls_fault : (fault : StepFault) → (count ≡ 0 → is_sink fault ≡ false) → count < most_calls start.state.shape c → Here (Err fault) outside1
+  pub calls_fault : (fault : StepFault) → (count ≡ 0 → is_sink fault ≡ false) → count < most_calls start.state.shape c → Here (Err fault)
       → SaidAs (CommandOut start outside c) (CallsBegun start outside c) now tells before held2 waiting2 (Err fault)
-  calls_fault Disk first lt calls =
-      let here = subst (Here (Err Disk)) same calls in
+  calls_fault Disk first lt here =
       let r = here.0 in
       ⊎_elim
       (λ (gives : goes_on r ≡ true). absurd (false≢true (sym ((fine_stays m.state now.state (call_of c count) r (on_no_fault r gives) here.1.made.state).stopped ∙ so.going) ∙ here.2)))
       (λ (gives : goes_on r ≡ false). (so_far_stop start m now outside c count (most_calls start.state.shape c) r tells before held waiting held2 waiting2 so lt here.1 gives, here.2))
       (cases_Bool (goes_on r))
-  calls_fault Sink first lt calls = λ t.
-      let here = subst (Here (Err Sink)) same calls in
+  calls_fault Sink first lt here = λ t.
       so_far_cut start m now outside c count here.0 tells before held waiting held2 so (λ zero. false≢true (sym (first zero))) lt here.1 here.2 t
 
 pub calls_end : (start m : Logged) (outside : Outside) (c : Command) (count : ℕ) (tells : Type 0) (before held waiting : List ℕ) → count ≡ most_calls start.state.shape c → SaidSoFar start outside c count m tells before held waiting

@@ -1,6 +1,7 @@
 -- What a run of the generator over a file does.
 use Rattle.std.specs.Prelude.{◌≡◌, ◌≢◌, ℕ, Bool, false, List, ◌++◌, take}
 use Rattle.rb_base.specs.declared.store.Store.{Ghosts}
+use Rattle.rb_calls.specs.Since.{engine_outside}
 use Rattle.rb_generator.specs.Answered.{CommandsAnswered}
 use Rattle.rb_generator.specs.Counted.{counts_of}
 use Rattle.rb_generator.specs.Draws.{commands_of}
@@ -12,7 +13,7 @@ use Rattle.rb_model.specs.Calls.{Answer}
 use Rattle.rb_model.specs.Out.{Logged, Outside}
 use Rattle.rb_model.specs.Rows.{last_scn}
 use Rattle.rb_model.specs.State.{State}
-use Rattle.rb_shell.specs.Runs.{FirstBlocks, IsSound, first_of, outside_in}
+use Rattle.rb_shell.specs.Runs.{FirstBlocks, IsSound, first_of}
 use Rattle.rb_shell.specs.declared.status.Status.{Status}
 use Rattle.rb_shell.specs.declared.status.Status.TheVariants.{Done, DiskFault, SinkFault}
 
@@ -32,7 +33,7 @@ line_of n answers now = summary_text n (counts_of answers) (last_scn now.state.c
 pub record MadeOver {file : List ℕ} (sound : IsSound file) (n : ℕ) (fault : Bool)
     (endures : Layout → State → Logged → Type 0) : Type 0 where
   pub first : FirstBlocks sound
-  pub made : HasMade (outside_in sound) (first_of sound first) n fault
+  pub made : HasMade engine_outside (first_of sound first) n fault
   pub endured : endures sound.store.layout sound.state made.now
 
 -- It made them all, and the sink holds the line that tells of them, where it tells.

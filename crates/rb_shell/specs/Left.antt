@@ -11,7 +11,6 @@ use Rattle.rb_model.specs.Rows.{last_scn, rows_at}
 use Rattle.rb_model.specs.State.{State, opened}
 use Rattle.rb_opening.specs.Opens.{books_of}
 use Rattle.rb_shell.specs.NewBooks.{new_books}
-use Rattle.rb_store.specs.Endless.{endless}
 use Rattle.rb_store.specs.Meaning.{Opens}
 
 -- The log has so many slots. A new file opens with no commit. What a run left, which opened with one state and came to
@@ -21,6 +20,6 @@ pub data Left (slots : ℕ) : List ℕ → State → Type 0 where
       → h ≡ opened (shape_of l) 0 [] (new_books (shape_of l)) → Left slots file h
   later : (before : List ℕ) (first : State) → Left slots before first → (now : State) → Extends first now
       → (books : List Book) (n : ℕ) → last_scn first.commits ≤ n → (file : List ℕ)
-      → (r : RestartsAt Opens (Some (endless slots)) books now n file) → (h : State)
+      → (r : RestartsAt Opens (Some slots) books now n file) → (h : State)
       → h ≡ opened now.shape n (rows_at now.shape.blocks now.commits n) (books_of now.shape r.blocks)
       → Left slots file h

@@ -10,7 +10,6 @@ use Rattle.rb_model.specs.Out.{Logged, Outside, outside_by}
 use Rattle.rb_model.specs.Rows.{last_scn, rows_at}
 use Rattle.rb_model.specs.State.{State, opened}
 use Rattle.rb_shell.specs.Left.{Left}
-use Rattle.rb_store.specs.Endless.{endless}
 use Rattle.rb_shell.specs.declared.script.TheConstants.{SCRIPT_BYTES}
 
 -- The file opens with the rows after a state's commits up to n, and with marks that are no more than these books say.
@@ -29,8 +28,8 @@ pub record LeavesFiles {D : Type 0} (d : DiskGhosts D) (old new : D) (slots : �
 
 -- what answers hang on besides the machine's state, where a snapshot may be too old whenever something above it was
 -- given up, and nothing is said of blocks
-abbrev pub plain : ℕ → Outside
-plain slots = outside_by (λ h blocks call snapshot lost. Unit {0}) (λ slots m call answer m2. Unit {0}) slots
+abbrev pub plain : Outside
+plain = outside_by (λ h blocks call snapshot lost. Unit {0}) (λ m call answer m2. Unit {0})
 
 -- The machine that opens with that state did these lines, and the sink holds the replies then, where it tells; and the
 -- files that are left have what the machine has.
@@ -40,8 +39,8 @@ pub record RunsOver {D : Type 0} (d : DiskGhosts D) (old new : D) (slots : ℕ) 
   -- nothing is said of them
   pub blocks : List (List ℕ)
   pub now : Logged
-  pub ran : Ran (plain (endless slots)) (record { state = h; lsn = lsn; fault = None; blocks = blocks }) now lines tells
-      held_before held_now
+  pub ran : Ran plain (record { state = h; lsn = lsn; fault = None; blocks = blocks }) now lines tells held_before
+      held_now
   pub leaves : LeavesFiles d old new slots h now
 
 -- It was cut off in one of its lines: the sink holds all replies of those before it, and a front of its own. Nothing
@@ -52,8 +51,8 @@ pub record IsCutOver {D : Type 0} (d : DiskGhosts D) (old new : D) (slots : ℕ)
   -- nothing is said of them
   pub blocks : List (List ℕ)
   pub now : Logged
-  pub cut : CutOff (plain (endless slots)) SCRIPT_BYTES
-      (record { state = h; lsn = lsn; fault = None; blocks = blocks }) now left_before left_now held_before held_now
+  pub cut : CutOff plain SCRIPT_BYTES (record { state = h; lsn = lsn; fault = None; blocks = blocks }) now left_before
+      left_now held_before held_now
   pub leaves : LeavesFiles d old new slots h now
 
 -- whatever it did, it came to some state

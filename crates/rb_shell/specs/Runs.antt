@@ -1,7 +1,6 @@
 -- What a run of a script over a file does.
 use Rattle.std.specs.Prelude.{◌≡◌, ◌≤◌, ◌⊎◌, ℕ, ◌+◌, ◌^◌, false, List, []}
 use Rattle.std.specs.Prelude.{◌++◌, Option, None, Some}
-use Rattle.rb_base.specs.Stores.{room_of}
 use Rattle.rb_base.specs.declared.store.Store.{Ghosts}
 use Rattle.rb_disk.specs.Moments.{Leaves, Rests}
 use Rattle.rb_disk.specs.declared.disk.Disk.{Ghosts as DiskGhosts}
@@ -19,30 +18,30 @@ use Rattle.rb_model.specs.Calls.{Call}
 use Rattle.rb_model.specs.Lines.{lines_of}
 use Rattle.rb_model.specs.Out.{Logged, Outside}
 use Rattle.rb_model.specs.State.{State}
-use Rattle.rb_opening.specs.Opens.{CanOpen, OpensAs}
+use Rattle.rb_opening.specs.Opens.{OpensAs}
 use Rattle.rb_restart.specs.Rollback.{BackBy}
 use Rattle.rb_segment.specs.Segments.{owed_in}
+use Rattle.rb_sound.specs.Sound.{AreSound}
 use Rattle.rb_standing.specs.Standing.{logged_of}
 use Rattle.rb_control.specs.Heads.{head_of}
-use Rattle.rb_calls.specs.Since.{StandsAs, outside_of}
+use Rattle.rb_calls.specs.Since.{StandsAs, engine_outside}
 use Rattle.rb_shell.specs.Statuses.{status_of}
 use Rattle.rb_shell.specs.declared.script.TheConstants.{SCRIPT_BYTES}
 use Rattle.rb_shell.specs.declared.status.Status.{Status}
 use Rattle.rb_shell.specs.declared.status.Status.TheVariants.{Done, DiskFault, SinkFault}
-use Rattle.rb_store.specs.Endless.{endless}
 use Rattle.rb_store.specs.Meaning.{Means, Opens, OpensAt}
 use Rattle.rb_store.specs.Openings.{MeansNothing}
 use Rattle.rb_store.specs.StoreStates.{StoreState}
 
 -- The file is a store of some layout: it opens to these blocks with that last log number, its log begins with a number
--- in range, the blocks are in order, and the log has room for the groups that put back what is under way.
+-- in range, and the blocks are in order.
 pub record IsStore (file : List ℕ) : Type 0 where
   pub layout : Layout
   pub blocks : List (List ℕ)
   pub lsn : ℕ
   pub opens : OpensAt layout file blocks lsn
   pub small : (head_of file).number ≤ 2 ^ 61
-  pub can_open : CanOpen (shape_of layout) blocks (room_of (Some (endless layout.log)) lsn)
+  pub sound : AreSound (shape_of layout) blocks
 
 -- A store whose blocks open to a state: the rows after some commits once what is under way is put back. A new file is
 -- one, and so is each that the program leaves, at any moment.
@@ -69,11 +68,6 @@ first_of sound first = record {
   blocks = first.blocks;
 }
 
--- What answers over a file hang on besides the machine's state: the slots of its log, what is worn in blocks, and what
--- calls make of them.
-abbrev pub outside_in : {file : List ℕ} → IsSound file → Outside
-outside_in sound = outside_of (Some (endless sound.store.layout.log))
-
 -- From a state and log number it did these lines, and came to others. A crash may leave no more than `endures` says of
 -- the state that it came to.
 pub record HasDone (outside : Outside) (before : Logged) (lines : List (List ℕ)) (tells : Type 0)
@@ -87,7 +81,7 @@ pub record HasDone (outside : Outside) (before : Logged) (lines : List (List ℕ
 abbrev pub RanOver : {file : List ℕ} → (sound : IsSound file) → FirstBlocks sound → List (List ℕ) → Type 0
     → List ℕ → List ℕ → (Layout → State → Logged → Type 0) → Type 0
 RanOver sound first lines tells before now endures =
-    HasDone (outside_in sound) (first_of sound first) lines tells before now (endures sound.store.layout sound.state)
+    HasDone engine_outside (first_of sound first) lines tells before now (endures sound.store.layout sound.state)
 
 -- It did them all, and the disk never failed.
 pub record HasRun {file : List ℕ} (sound : IsSound file) (lines : List (List ℕ)) (tells : Type 0)
@@ -102,7 +96,7 @@ pub record WasCutOff {file : List ℕ} (sound : IsSound file) (left_before left_
     (before now_held : List ℕ) (endures : Layout → State → Logged → Type 0) : Type 0 where
   pub first : FirstBlocks sound
   pub now : Logged
-  pub cut : CutOff (outside_in sound) SCRIPT_BYTES (first_of sound first) now left_before left_now before now_held
+  pub cut : CutOff engine_outside SCRIPT_BYTES (first_of sound first) now left_before left_now before now_held
   pub endured : endures sound.store.layout sound.state now
 
 -- A fault of the disk ended the lines: its reply is the last, and nothing was asked for after it. The script was asked
@@ -111,8 +105,7 @@ pub record HasHalted {file : List ℕ} (sound : IsSound file) (left_before left_
     (before now : List ℕ) (endures : Layout → State → Logged → Type 0) : Type 0 where
   pub first : FirstBlocks sound
   pub run : RanOver sound first (lines_of left_before) tells before now endures
-  pub halted : Halted (outside_in sound) SCRIPT_BYTES (first_of sound first) run.now left_before left_now tells before
-      now
+  pub halted : Halted engine_outside SCRIPT_BYTES (first_of sound first) run.now left_before left_now tells before now
 
 -- All lines were done, and then the disk failed as what waited was made last. No reply tells of it, as nothing is lost
 -- but what isn't committed.
@@ -128,8 +121,8 @@ pub record Endures {D : Type 0} (d : DiskGhosts D) (old new : D) (l : Layout) (b
   where
     pub extends : Extends before now.state
     pub any_moment : Leaves d old new
-        (λ c. d.image old c ⊎ OnTheWay Opens (Some (endless l.log)) now.fault before now.state c)
-    pub now_only : (c : List ℕ) → d.image new c → AtEnd Opens (Some (endless l.log)) now.fault now.state c
+        (λ c. d.image old c ⊎ OnTheWay Opens (Some l.log) now.fault before now.state c)
+    pub now_only : (c : List ℕ) → d.image new c → AtEnd Opens (Some l.log) now.fault now.state c
 
 -- The same, and where no call of the disk failed its count of faults is as before.
 pub record EnduresCounted {D : Type 0} (d : DiskGhosts D) (old new : D) (l : Layout) (before : State) (now : Logged)
@@ -142,13 +135,13 @@ pub record EnduresCounted {D : Type 0} (d : DiskGhosts D) (old new : D) (l : Lay
 pub record Lasts {D : Type 0} (d : DiskGhosts D) (old new : D) (l : Layout) (before : State) (now : Logged) : Type 0
   where
     pub endured : Endures d old new l before now
-    pub last : (c : List ℕ) → d.image new c → Opens now.state.shape (Some (endless l.log)) c now.blocks now.lsn
+    pub last : (c : List ℕ) → d.image new c → Opens now.state.shape (Some l.log) c now.blocks now.lsn
 
 -- At any moment since the start of an opening a crash leaves an image that the disk had at the start, or one that
 -- restarts to the state to which the file opens.
 abbrev pub OpensSame : {D : Type 0} (d : DiskGhosts D) (old : D) → D → IsSound (d.content old) → Type 0
 OpensSame d old new sound = Leaves d old new
-    (λ c. d.image old c ⊎ Restarts Opens (Some (endless sound.store.layout.log)) sound.state c)
+    (λ c. d.image old c ⊎ Restarts Opens (Some sound.store.layout.log) sound.state c)
 
 -- A run over a sound file, whatever lines it took and whatever became of its replies: the machine came to some state
 -- from that to which the file opens, and a crash may leave no more than what it did.
@@ -166,7 +159,7 @@ pub record HasOpened {D : Type 0} (d : DiskGhosts D) (s : Ghosts (StoreState D))
   pub stands : StandsAs s e (first_of sound first)
   pub any_moment : OpensSame d old e.store.disk sound
   pub now_only : (c : List ℕ) → d.image e.store.disk c
-      → Restarts Opens (Some (endless sound.store.layout.log)) sound.state c
+      → Restarts Opens (Some sound.store.layout.log) sound.state c
 
 -- The status of lines that ended so. At their own end what waits is made last, and the disk may fail in that.
 pub data EndsBy (end : LinesEnd) (status : Status) : Type 0 where

@@ -2,7 +2,7 @@
 //! calls it.
 ghost use Rattle.std.specs.Prelude.{◌≡◌, ◌≢◌, ◌⊎◌, ℕ, ◌≤◌, Bool, false};
 ghost use Rattle.rb_base.specs.Counts.{IsCounted, IsCountedAs};
-ghost use Rattle.rb_calls.specs.Since.{StandsAs, outside_of};
+ghost use Rattle.rb_calls.specs.Since.{StandsAs, engine_outside};
 ghost use Rattle.rb_generator.specs.Summary.{summary_text};
 ghost use Rattle.rb_model.specs.Out.{Logged};
 ghost use Rattle.rb_shell.specs.Generation.{HasTold, MadeOn, MadeOver};
@@ -52,8 +52,8 @@ fn make_commands<K: Sink, T: Store>(
 ) -> (Status, T)
     requires { commands ≤ 1000000 }
     ensures did { (m : Logged) → StandsAs T.Store engine m → m.state.stopped ≡ false
-        → MadeOn T.Store engine.store result.1 (outside_of (T.slots engine.store)) commands m K.tells
-        (K.held sink.old) (K.held sink.new) result.0 }
+        → MadeOn T.Store engine.store result.1 engine_outside commands m K.tells (K.held sink.old)
+        (K.held sink.new) result.0 }
     ensures ends { EndsCommands result.0 }
     ensures no_line { result.0 ≡ Status.DiskFault → sink.new ≡ sink.old }
     ensures disk { IsCountedAs (T.faults engine.store) (T.faults result.1) (by_disk result.0) }

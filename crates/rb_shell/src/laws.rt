@@ -11,7 +11,6 @@ ghost use Rattle.rb_model.specs.Rows.{rows_at};
 ghost use Rattle.rb_model.specs.State.{State, opened};
 ghost use Rattle.rb_opening.specs.Opens.{books_of};
 ghost use Rattle.rb_shell.specs.Runs.{IsSound};
-ghost use Rattle.rb_store.specs.Endless.{endless};
 ghost use Rattle.rb_store.specs.Meaning.{Opens};
 
 use crate::script::SCRIPT_BYTES;
@@ -27,7 +26,7 @@ pub fn new_file_sound()
 /// with the rows after the commits up to it, and its segments have made and given up no more than those books say.
 pub fn restarts_sound()
     ensures { (l : Layout) (books : List Book) (h : State) (n : ℕ) (image : List ℕ)
-        → RestartsAt Opens (Some (endless l.log)) books h n image → (sound : IsSound image)
+        → RestartsAt Opens (Some l.log) books h n image → (sound : IsSound image)
         × (sound.state ≡ opened h.shape n (rows_at h.shape.blocks h.commits n) (books_of h.shape sound.store.blocks))
         × MarksWithin h.shape books sound.store.blocks }
 {}

@@ -4,7 +4,7 @@ ghost use Rattle.std.specs.Prelude.{◌≡◌, ◌++◌, ◌<◌, ◌≤◌, ℕ
 ghost use Rattle.std.specs.Result.{is_err};
 ghost use Rattle.arrayvec.specs.ArrayVec.{array_vec_len};
 ghost use Rattle.rb_base.specs.Counts.{IsCounted, IsCountedAs, err_is};
-ghost use Rattle.rb_calls.specs.Since.{IsSince, StandsAs, outside_of};
+ghost use Rattle.rb_calls.specs.Since.{IsSince, StandsAs, engine_outside};
 ghost use Rattle.rb_engine.specs.Does.{SameStore};
 ghost use Rattle.rb_lines.specs.Faults.{IsCountedBeside, is_disk, is_sink};
 ghost use Rattle.rb_lines.specs.Ran.{CallsBegun, Did, LineBegun, LineRanAs};
@@ -91,9 +91,9 @@ fn call_once<T: Store, K: Sink>(
 ) -> Result<Answer, StepFault>
     requires { k < most_calls (T.shape_of engine.old.store) (command_of command.now) }
     ensures did { (m : Logged) → StandsAs T.Store engine.old m → m.state.stopped ≡ false
-        → Did (StandsAs T.Store) (IsSince T.Store) engine.old engine.new m (λ now. Calls m
-        (outside_of (T.slots engine.old.store)) (caller (command_of command.now)) (call_of (command_of command.now) k)
-        row.new now K.tells (K.held sink.old) waiting.old.items (K.held sink.new) waiting.new.items result) }
+        → Did (StandsAs T.Store) (IsSince T.Store) engine.old engine.new m (λ now. Calls m engine_outside
+        (caller (command_of command.now)) (call_of (command_of command.now) k) row.new now K.tells (K.held sink.old)
+        waiting.old.items (K.held sink.new) waiting.new.items result) }
     ensures room { OnOk result (array_vec_len waiting.new ≤ OWN_BYTES) }
     ensures first { waiting.old.items ≡ [] → err_is is_sink result ≡ false }
     ensures same { SameStore T.Store engine.old.store engine.new.store }
@@ -117,9 +117,8 @@ fn run_command<T: Store, K: Sink>(
     requires { waiting.old.items ≡ [] }
     ensures did { (m : Logged) → StandsAs T.Store engine.old m → m.state.stopped ≡ false
         → Did (StandsAs T.Store) (IsSince T.Store) engine.old engine.new m (λ now. SaidAs
-        (CommandOut m (outside_of (T.slots engine.old.store)) (command_of command.now))
-        (CallsBegun m (outside_of (T.slots engine.old.store)) (command_of command.now)) now K.tells
-        (K.held sink.old) (K.held sink.new) waiting.new.items result) }
+        (CommandOut m engine_outside (command_of command.now)) (CallsBegun m engine_outside (command_of command.now))
+        now K.tells (K.held sink.old) (K.held sink.new) waiting.new.items result) }
     ensures room { OnOk result (array_vec_len waiting.new ≤ OWN_BYTES) }
     ensures same { SameStore T.Store engine.old.store engine.new.store }
     ensures disk { IsCountedBeside (T.faults engine.old.store) (T.faults engine.new.store) (err_is is_disk result)
@@ -149,8 +148,7 @@ fn say_itself<T: Store, K: Sink>(
     requires { waiting.old.items ≡ [] }
     ensures did { (m : Logged) → StandsAs T.Store engine.old m → m.state.stopped ≡ false
         → Did (StandsAs T.Store) (IsSince T.Store) engine.old engine.new m (λ now. SaidAs
-        (LineSaid m (outside_of (T.slots engine.old.store)) line.now)
-        (LineBegun m (outside_of (T.slots engine.old.store)) line.now) now K.tells (K.held sink.old)
+        (LineSaid m engine_outside line.now) (LineBegun m engine_outside line.now) now K.tells (K.held sink.old)
         (K.held sink.new) waiting.new.items result) }
     ensures room { OnOk result (array_vec_len waiting.new ≤ OWN_BYTES) }
     ensures skipped { IsSkipped line.now → (engine.new ≡ engine.old) × (sink.new ≡ sink.old)
@@ -178,8 +176,8 @@ fn say_itself<T: Store, K: Sink>(
 fn resume_ready<T: Store>(engine: &mut Engine<T>, waiting: &mut Waiting) -> Result<(), StepFault>
     requires { array_vec_len waiting.old ≤ OWN_BYTES }
     ensures did { (m : Logged) → StandsAs T.Store engine.old m → m.state.stopped ≡ false
-        → Did (StandsAs T.Store) (IsSince T.Store) engine.old engine.new m (λ now. HasResumed m
-        (outside_of (T.slots engine.old.store)) now waiting.old.items waiting.new.items (is_err result)) }
+        → Did (StandsAs T.Store) (IsSince T.Store) engine.old engine.new m (λ now. HasResumed m engine_outside now
+        waiting.old.items waiting.new.items (is_err result)) }
     ensures idle { first_ready engine.old.memory.waits ≡ None
         → (engine.new ≡ engine.old) × (waiting.new ≡ waiting.old) × (is_err result ≡ false) }
     ensures same { SameStore T.Store engine.old.store engine.new.store }
@@ -206,8 +204,7 @@ fn say_line<T: Store, K: Sink>(
     requires { waiting.old.items ≡ [] }
     ensures did { (m : Logged) → StandsAs T.Store engine.old m → m.state.stopped ≡ false
         → Did (StandsAs T.Store) (IsSince T.Store) engine.old engine.new m (λ now. SaidAs
-        (LineOut m (outside_of (T.slots engine.old.store)) line.now)
-        (LineBegun m (outside_of (T.slots engine.old.store)) line.now) now K.tells (K.held sink.old)
+        (LineOut m engine_outside line.now) (LineBegun m engine_outside line.now) now K.tells (K.held sink.old)
         (K.held sink.new) waiting.new.items result) }
     ensures skipped { IsSkipped line.now → first_ready engine.old.memory.waits ≡ None
         → (engine.new ≡ engine.old) × (sink.new ≡ sink.old)
@@ -244,8 +241,8 @@ pub fn do_line<T: Store, K: Sink>(
     sink: &mut K,
 ) -> Result<(), StepFault>
     ensures did { (m : Logged) → StandsAs T.Store engine.old m → m.state.stopped ≡ false
-        → Did (StandsAs T.Store) (IsSince T.Store) engine.old engine.new m (λ now. LineRanAs
-        (outside_of (T.slots engine.old.store)) m now line.now K.tells (K.held sink.old) (K.held sink.new) result) }
+        → Did (StandsAs T.Store) (IsSince T.Store) engine.old engine.new m (λ now. LineRanAs engine_outside
+        m now line.now K.tells (K.held sink.old) (K.held sink.new) result) }
     ensures skipped { IsSkipped line.now → first_ready engine.old.memory.waits ≡ None
         → (engine.new ≡ engine.old) × (sink.new ≡ sink.old) × (is_err result ≡ false) }
     ensures same { SameStore T.Store engine.old.store engine.new.store }
@@ -274,8 +271,8 @@ pub fn step<T: Store, K: Sink>(
     // For every state that the engine stands for: the replies to the line and to the writes that were tried again, and
     // the state after them. At a fault of the disk they end with it. A crash may leave no more than these states.
     ensures did { (m : Logged) → StandsAs T.Store engine.old m → m.state.stopped ≡ false
-        → Did (StandsAs T.Store) (IsSince T.Store) engine.old engine.new m (λ now. LineRanAs
-        (outside_of (T.slots engine.old.store)) m now line.now K.tells (K.held sink.old) (K.held sink.new) result) }
+        → Did (StandsAs T.Store) (IsSince T.Store) engine.old engine.new m (λ now. LineRanAs engine_outside
+        m now line.now K.tells (K.held sink.old) (K.held sink.new) result) }
     // A line that is empty or a remark leaves all as it is where no session is ready, and the sink isn't called.
     ensures skipped { IsSkipped line.now → first_ready engine.old.memory.waits ≡ None
         → (engine.new ≡ engine.old) × (sink.new ≡ sink.old) × (is_err result ≡ false) }

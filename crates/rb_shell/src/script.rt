@@ -2,7 +2,7 @@
 ghost use Rattle.std.specs.Prelude.{◌≡◌, ◌≢◌, ◌⊎◌, ℕ, ◌<◌, ◌≤◌, List, [], ◌++◌};
 ghost use Rattle.std.specs.Prelude.{length, false, true, IfErr, IfOk, OnOk};
 ghost use Rattle.rb_base.specs.Counts.{IsCountedAs, is_failed};
-ghost use Rattle.rb_calls.specs.Since.{IsSince, StandsAs, outside_of, slots_of};
+ghost use Rattle.rb_calls.specs.Since.{IsSince, StandsAs, engine_outside};
 ghost use Rattle.rb_lines.specs.Faults.{IsCountedBeside};
 ghost use Rattle.rb_lines.specs.Whole.{whole_lines};
 ghost use Rattle.rb_model.specs.Lines.{lines_of};
@@ -43,8 +43,6 @@ impl<T: Store> LineRunner for Interpreter<T> {
     ghost use Rattle.rb_engine.specs.Worn.{IsWorn};
 
     ghost stands = { λ r m. StandsAs T.Store r.engine m };
-
-    ghost slots = { λ r. slots_of (T.slots r.engine.store) };
 
     ghost worn = { IsWorn };
 
@@ -135,7 +133,7 @@ fn run_engine<S: Source, K: Sink, T: Store>(
 ) -> (Status, T)
     requires buffer { length buffer.old ≡ SCRIPT_BYTES }
     ensures did { S.tells → (m : Logged) → StandsAs T.Store engine m → m.state.stopped ≡ false
-        → RanOn T.Store engine.store result.1 (outside_of (T.slots engine.store)) SCRIPT_BYTES m (S.left source.old)
+        → RanOn T.Store engine.store result.1 engine_outside SCRIPT_BYTES m (S.left source.old)
         (S.left source.new) K.tells (K.held sink.old) (K.held sink.new) result.0 }
     ensures passed { (m : Logged) → StandsAs T.Store engine m → m.state.stopped ≡ false
         → PassedOn T.Store engine.store result.1 m }

@@ -1,9 +1,8 @@
 -- What a move of the head leaves of a file whose blocks are all at home: it opens to the same blocks.
-use Rattle.std.proofs.Common.{◌≡◌, ◌≢◌, inl, inr, ⊎_elim, ℕ, ◌+◌, ◌-◌, ◌*◌, ◌<◌, ◌≤◌, ◌==◌, Bool, true, false, if◌then◌else◌, List, [], ◌∷◌, length, take, drop, arith, ap, sym, ◌∙◌, subst, refl, slice_index, Some}
+use Rattle.std.proofs.Common.{◌≡◌, ◌≢◌, inr, ⊎_elim, ℕ, ◌+◌, ◌-◌, ◌<◌, ◌≤◌, ◌==◌, Bool, true, false, if◌then◌else◌, List, [], ◌∷◌, length, take, drop, arith, ap, sym, ◌∙◌, subst, refl, slice_index, Some}
 use Rattle.std.proofs.lemmas.Bool.{eqb-true}
 use Rattle.std.proofs.lemmas.List.{drop-drop, take-take}
 use Rattle.std.proofs.lemmas.List.FromFn.{length-map-range_with_len}
-use Rattle.std.specs.List.{range_with_len}
 use Rattle.rb_base.proofs.Fronts.{byte_of_part}
 use Rattle.rb_base.specs.Blocks.{block_of, after_groups}
 use Rattle.rb_base.specs.Fields.{number_at, part}
@@ -15,7 +14,7 @@ use Rattle.rb_disk.specs.DiskModel.{Only}
 use Rattle.rb_disk.specs.Moments.{Leaves}
 use Rattle.rb_disk.specs.Ranges.{SameBut}
 use Rattle.rb_disk.specs.declared.disk.Disk.{Ghosts}
-use Rattle.rb_layout.specs.Regions.{HasIdentity, block_count, block_offset, file_length, file_version, log_offset, shape_of, twin_offset}
+use Rattle.rb_layout.specs.Regions.{HasIdentity, block_count, block_offset, file_version, log_offset, shape_of, twin_offset}
 use Rattle.rb_layout.specs.declared.layout.Head.{Head}
 use Rattle.rb_layout.specs.declared.layout.Layout.{Layout}
 use Rattle.rb_log.specs.GroupLaws.{few_groups, same_units_log, slot_below, slot_moved}
@@ -25,10 +24,9 @@ use Rattle.rb_roll.specs.Rolled.{rolled}
 use Rattle.rb_cache.specs.declared.frame.Frame.{Frame}
 use Rattle.rb_cache.specs.Frames.{seen, AreClean, NoneDirty}
 use Rattle.rb_twin.specs.TwinLaws.{kept_shut}
-use Rattle.rb_twin.specs.Twins.{home, kept, twin_gate, IsTwin}
-use Rattle.rb_store.specs.Endless.{endless}
-use Rattle.rb_store.specs.Meaning.{Means, Opens, OpensAt}
-use Rattle.rb_store.specs.StoreStates.{StoreState, StoreLeaves, IsQuietAt, IsStable, IsStableAt, blocks_by, blocks_in}
+use Rattle.rb_twin.specs.Twins.{home, kept, twin_gate}
+use Rattle.rb_store.specs.Meaning.{Means, Opens}
+use Rattle.rb_store.specs.StoreStates.{StoreState, StoreLeaves, IsQuietAt, IsStable, IsStableAt, blocks_by}
 use Rattle.rb_store.proofs.CachedLemmas.{clean_same, seen_same}
 use Rattle.rb_store.proofs.StoreLemmas.{one_by, same_blocks}
 
@@ -153,9 +151,9 @@ module _ {D : Type 0} (d : Ghosts D) (s : StoreState D) (q : IsQuietAt s.layout 
     behind : gate_of l st.opens.means.head f (length st.opens.means.groups) ≢ 1
     behind = subst (λ (h : Head). gate_of l h f (length st.opens.means.groups) ≢ 1) (sym st.head_is) (subst (λ (k : ℕ). gate_of l s.head f k ≢ 1) (sym st.used_is) q.next)
 
-    pub move_moments : (t : StoreState D) → Leaves d s.disk t.disk (Advanced (d.image s.disk) (head_of f) to) → StoreLeaves d s t (λ c. Opens (shape_of l) (Some (endless l.log)) c b n)
+    pub move_moments : (t : StoreState D) → Leaves d s.disk t.disk (Advanced (d.image s.disk) (head_of f) to) → StoreLeaves d s t (λ c. Opens (shape_of l) (Some l.log) c b n)
     move_moments t leaves =
-        let P : List ℕ → Type 0 = λ c. Opens (shape_of l) (Some (endless l.log)) c b n in
+        let P : List ℕ → Type 0 = λ c. Opens (shape_of l) (Some l.log) c b n in
         let w = weaker d.moment d.image_since s.disk t.disk (Advanced (d.image s.disk) (head_of f) to) P (λ c some. record {
           layout = l;
           shape_is = refl;

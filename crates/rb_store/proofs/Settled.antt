@@ -4,7 +4,7 @@ use Rattle.std.proofs.lemmas.List.{take_all, drop_all, length-append, length-dro
 use Rattle.std.specs.List.{AllByRecursion}
 use Rattle.rb_base.specs.Blocks.{block_of, after_groups}
 use Rattle.rb_base.specs.Groups.{Patch, IsGroup}
-use Rattle.rb_base.specs.Moments.{LeavesOnly, begun, weaker}
+use Rattle.rb_base.specs.Moments.{begun, weaker}
 use Rattle.rb_base.specs.Settling.{after_joined, told_same}
 use Rattle.rb_base.specs.Stores.{OpensToSome, Settles}
 use Rattle.rb_disk.specs.DiskModel.{Only}
@@ -18,7 +18,6 @@ use Rattle.rb_cache.specs.OnDisk.{Later, OnDisk}
 use Rattle.rb_log.specs.GroupSlots.{GroupsAre}
 use Rattle.rb_twin.specs.Twins.{twin_gate}
 use Rattle.rb_twin.specs.TwinLaws.{kept_shut}
-use Rattle.rb_store.specs.Endless.{endless}
 use Rattle.rb_store.specs.Meaning.{Opens}
 use Rattle.rb_store.specs.StoreStates.{StoreState, StoreLeaves, IsStable, IsStableAt, blocks_in}
 use Rattle.rb_store.specs.StoreLaws.{stable_left}
@@ -65,20 +64,20 @@ module _ {D : Type 0} (d : Ghosts D) where
     still_settles = record { count = 0; few = omega arith; settled = told_same (IsStable d s) _ _ _ _ refl (omega arith) st; waits = refl }
 
     pub still_moments : ((c : List ℕ) → d.image_since s.disk (d.moment s.disk) c → d.image s.disk c)
-        → StoreLeaves d s s (OpensToSome (Opens (shape_of s.layout) (Some (endless s.layout.log))) n s.pending b)
-    still_moments only_now = begun (λ (x : StoreState D). d.moment x.disk) (λ (x : StoreState D) t c. d.image_since x.disk t c) s (OpensToSome (Opens (shape_of s.layout) (Some (endless s.layout.log))) n s.pending b)
+        → StoreLeaves d s s (OpensToSome (Opens (shape_of s.layout) (Some s.layout.log)) n s.pending b)
+    still_moments only_now = begun (λ (x : StoreState D). d.moment x.disk) (λ (x : StoreState D) t c. d.image_since x.disk t c) s (OpensToSome (Opens (shape_of s.layout) (Some s.layout.log)) n s.pending b)
         (λ c left. record {
           count = 0;
           few = omega arith;
-          opening = told_same (Opens (shape_of s.layout) (Some (endless s.layout.log)) c) _ _ _ _ refl (omega arith) (stable_left c st (only_now c left));
+          opening = told_same (Opens (shape_of s.layout) (Some s.layout.log) c) _ _ _ _ refl (omega arith) (stable_left c st (only_now c left));
         })
 
   -- A store in which blocks are stable, and calls that give it these groups, those that waited first.
   module _ (s : StoreState D) (b : List (List ℕ)) (n : ℕ) (st : IsStable d s b n) (shut : twin_gate s.layout (d.content s.disk) ≢ 1) (given : List (List Patch)) (valid : AllByRecursion IsGroup given) (fits : n + length given < 2 ^ 63)
       (may : ℕ → List ℕ → Type 0) (comes : (which : ℕ) (x : List ℕ) → which < block_count s.layout → may which x → rolled st.opens.means.head.number (st.opens.means.groups ++ given) which x ≡ block_of (after_groups (n + 1) given b) which) where
-    pub store_moments : (new : StoreState D) → Leaves d s.disk new.disk (OnDisk (d.image s.disk) s.layout st.opens.means.head st.opens.means.groups given (d.content s.disk) may) → StoreLeaves d s new (OpensToSome (Opens (shape_of s.layout) (Some (endless s.layout.log))) n given b)
+    pub store_moments : (new : StoreState D) → Leaves d s.disk new.disk (OnDisk (d.image s.disk) s.layout st.opens.means.head st.opens.means.groups given (d.content s.disk) may) → StoreLeaves d s new (OpensToSome (Opens (shape_of s.layout) (Some s.layout.log)) n given b)
     store_moments new leaves =
-        let P = OpensToSome (Opens (shape_of s.layout) (Some (endless s.layout.log))) n given b in
+        let P = OpensToSome (Opens (shape_of s.layout) (Some s.layout.log)) n given b in
         let w = weaker d.moment d.image_since s.disk new.disk (OnDisk (d.image s.disk) s.layout st.opens.means.head st.opens.means.groups given (d.content s.disk) may) P
         (λ c some. record {
           count = some.count;

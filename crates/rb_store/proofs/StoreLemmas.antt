@@ -26,7 +26,6 @@ use Rattle.rb_cache.specs.OnDisk.{IsCalm}
 use Rattle.rb_log.specs.GroupSlots.{GroupsAre}
 use Rattle.rb_log.specs.Slots.{gate_of}
 use Rattle.rb_twin.specs.Twins.{twin_gate}
-use Rattle.rb_store.specs.Endless.{endless}
 use Rattle.rb_store.specs.Meaning.{Opens}
 use Rattle.rb_store.specs.StoreStates.{StoreState, StoreLeaves, IsStable, IsQuietAt, blocks_by}
 use Rattle.rb_store.proofs.Between.{are_groups, comes_again}
@@ -127,7 +126,7 @@ module _ {D : Type 0} (d : Ghosts D) where
           ∙ comes_again s.layout (d.content old) b n st.opens q.shut s.pending groups_valid fits k lt
 
       pub call_moments : ((groups : List (List Patch)) → length groups ≡ s.used → GroupsAre s.layout s.head (d.content old) 0 groups → Leaving d s old new groups (SeenAt s (d.content old)))
-          → StoreLeaves d (store_of s lsn loaded failed forced old) (store_of t lsn loaded2 failed2 forced2 new) (OpensToSome (Opens (shape_of s.layout) (Some (endless s.layout.log))) n s.pending b)
+          → StoreLeaves d (store_of s lsn loaded failed forced old) (store_of t lsn loaded2 failed2 forced2 new) (OpensToSome (Opens (shape_of s.layout) (Some s.layout.log)) n s.pending b)
       call_moments leaves = store_moments d (store_of s lsn loaded failed forced old) b n st q.shut s.pending groups_valid fits (SeenAt s (d.content old)) comes (store_of t lsn loaded2 failed2 forced2 new)
           (subst (λ (h : Head). Leaving d (record s { head = h }) old new st.opens.means.groups (SeenAt s (d.content old))) (sym st.head_is) (leaves st.opens.means.groups st.used_is log_is))
 
@@ -194,7 +193,7 @@ module _ {D : Type 0} (d : Ghosts D) where
       log_there = subst (λ (h : Head). GroupsAre s.layout h (d.content old) 0 st.opens.means.groups) st.head_is st.opens.means.log
 
       pub apply_moments : ((groups : List (List Patch)) → length groups ≡ s.used → GroupsAre s.layout s.head (d.content old) 0 groups → Leaving d (record s { pending = s.pending ++ g ∷ [] }) old new groups (SeenOrPatched s (d.content old) (lsn + 1) g))
-          → StoreLeaves d (store_of s lsn loaded failed forced old) (store_of t (lsn + 1) loaded2 failed2 forced2 new) (OpensToSome (Opens (shape_of s.layout) (Some (endless s.layout.log))) n (s.pending ++ g ∷ []) b)
+          → StoreLeaves d (store_of s lsn loaded failed forced old) (store_of t (lsn + 1) loaded2 failed2 forced2 new) (OpensToSome (Opens (shape_of s.layout) (Some s.layout.log)) n (s.pending ++ g ∷ []) b)
       apply_moments leaves = store_moments d (store_of s lsn loaded failed forced old) b n st q.shut (s.pending ++ g ∷ []) valid_all fit_all (SeenOrPatched s (d.content old) (lsn + 1) g) comes_all (store_of t (lsn + 1) loaded2 failed2 forced2 new)
           (subst (λ (h : Head). Leaving d (record s { head = h; pending = s.pending ++ g ∷ [] }) old new st.opens.means.groups (SeenOrPatched s (d.content old) (lsn + 1) g)) (sym st.head_is) (leaves st.opens.means.groups st.used_is log_there))
 

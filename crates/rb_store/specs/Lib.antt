@@ -1,5 +1,4 @@
 pub mod CachedFiles
-pub mod Endless
 pub mod Formats
 pub mod Meaning
 pub mod Openings

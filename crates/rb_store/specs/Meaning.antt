@@ -11,7 +11,6 @@ use Rattle.rb_layout.specs.declared.layout.Layout.{Layout}
 use Rattle.rb_roll.specs.Rolled.{rolled}
 use Rattle.rb_log.specs.GroupSlots.{GroupsAre}
 use Rattle.rb_twin.specs.Twins.{home, kept, IsTwin}
-use Rattle.rb_store.specs.Endless.{endless}
 
 -- A file of a layout means these blocks, with this last log number: what it keeps of each, with the groups of its log
 -- rolled forward.
@@ -62,5 +61,5 @@ pub record Opens (shape : Shape) (slots : Option ℕ) (file : List ℕ) (blocks 
     Type 0 where
   pub layout : Layout
   pub shape_is : shape_of layout ≡ shape
-  pub slots_are : Some (endless layout.log) ≡ slots
+  pub slots_are : Some layout.log ≡ slots
   pub opens : OpensAt layout file blocks lsn

@@ -6,7 +6,6 @@ use Rattle.rb_base.specs.Groups.{Patch}
 use Rattle.rb_layout.specs.Regions.{shape_of}
 use Rattle.rb_layout.specs.declared.layout.Head.{Head}
 use Rattle.rb_layout.specs.declared.layout.Layout.{Layout}
-use Rattle.rb_store.specs.Endless.{endless}
 use Rattle.rb_store.specs.Meaning.{Opens, OpensAt}
 use Rattle.rb_store.specs.StoreStates.{HeldBack, IsStableAt, StoreState}
 
@@ -14,7 +13,7 @@ pub stable_left : {l : Layout} {head : Head} {used : ℕ} {pending : List (List 
     {read : List (List ℕ)} {file : List ℕ} {image : List ℕ → Type 0} {b : List (List ℕ)} {n : ℕ}
     (c : List ℕ)
     → IsStableAt l head used pending number read file image b n → image c
-    → Opens (shape_of l) (Some (endless l.log)) c b n
+    → Opens (shape_of l) (Some l.log) c b n
 stable_left {l = l} {b = b} {n = n} c stable here = record {
   layout = l;
   shape_is = refl;

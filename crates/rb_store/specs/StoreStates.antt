@@ -16,7 +16,6 @@ use Rattle.rb_cache.specs.declared.frame.Frame.{Frame}
 use Rattle.rb_cache.specs.Frames.{seen, AreClean}
 use Rattle.rb_log.specs.Slots.{gate_of}
 use Rattle.rb_twin.specs.Twins.{twin_gate}
-use Rattle.rb_store.specs.Endless.{endless}
 use Rattle.rb_store.specs.Meaning.{Opens, OpensAt}
 
 pub record StoreState (D : Type 0) : Type 0 where
@@ -82,7 +81,7 @@ StoreLeaves {D} d old new P =
 -- after some of them.
 abbrev pub LeavesGiven : {D : Type 0} → Ghosts D → StoreState D → StoreState D → List (List Patch) → Type 0
 LeavesGiven d old new given = (b : List (List ℕ)) (n : ℕ) → IsStable d old b n
-    → StoreLeaves d old new (OpensToSome (Opens (shape_of old.layout) (Some (endless old.layout.log))) n given b)
+    → StoreLeaves d old new (OpensToSome (Opens (shape_of old.layout) (Some old.layout.log)) n given b)
 
 -- and behind it, where it answered Ok
 abbrev pub SettlesGiven : {D : Type 0} → Ghosts D → StoreState D → StoreState D → List (List Patch) → Type 0

@@ -4,7 +4,6 @@ ghost use Rattle.std.specs.Prelude.{◌≡◌, ◌+◌, ◌<◌, [], List, ℕ, 
 ghost use Rattle.rb_base.specs.Counts.{IsCounted};
 ghost use Rattle.rb_cache.specs.Frames.{NoneDirty};
 ghost use Rattle.rb_layout.specs.Regions.{shape_of};
-ghost use Rattle.rb_store.specs.Endless.{endless};
 ghost use Rattle.rb_store.specs.Meaning.{Opens};
 ghost use Rattle.rb_store.specs.StoreStates.{HeldBack, IsStable, LeavesGiven, SettlesGiven, StoreLeaves, blocks_in};
 
@@ -59,7 +58,7 @@ impl<D: Disk> LogStore<D> {
             → IsStable D.Disk self.new b n) }
         ensures any_moment { D.tells → (b : List (List ℕ)) (n : ℕ) → IsStable D.Disk self.old b n
             → StoreLeaves D.Disk self.old self.new
-            (λ c. Opens (shape_of self.old.layout) (Some (endless self.old.layout.log)) c b n) }
+            (λ c. Opens (shape_of self.old.layout) (Some self.old.layout.log) c b n) }
         ensures failed { self.new.failed ≡ is_err result }
         ensures counted { IsCounted (D.faults self.old.disk) (D.faults self.new.disk) result }
     {

@@ -33,9 +33,6 @@ pub struct LogStore<D: Disk> {
     pub(crate) disk: D,
 }
 
-/// How many groups a log has room for, beyond one less than it has slots: it goes round, and only its numbers end.
-const ENDLESS: u64 = 1 << 63;
-
 /// How often calls had to make what waited last, once the log had so many groups before one call more and so many
 /// behind it.
 fn more_forced(forced: u64, before: u32, after: u32) -> u64
@@ -174,7 +171,6 @@ impl<D: Disk> Store for LogStore<D> {
     ghost use Rattle.std.specs.Prelude.{Some, ℕ, List};
     ghost use Rattle.rb_layout.specs.Regions.{shape_of as layout_shape};
     ghost use Rattle.rb_store.specs.StoreLaws.{stable_left as left_opens, held_back_same, held_back_joined};
-    ghost use Rattle.rb_store.specs.Endless.{endless};
     ghost use Rattle.rb_store.specs.Meaning.{Opens};
 
     ghost tells = { D.tells };
@@ -183,7 +179,7 @@ impl<D: Disk> Store for LogStore<D> {
 
     ghost shape_of = { λ s. layout_shape s.layout };
 
-    ghost slots = { λ s. Some (endless s.layout.log) };
+    ghost slots = { λ s. Some s.layout.log };
 
     ghost blocks = { λ s. blocks_in D.Disk s };
 
@@ -276,7 +272,7 @@ impl<D: Disk> Store for LogStore<D> {
         ensures settles { D.tells → OnOk result (SettlesGiven D.Disk self.old self.new self.old.pending) }
         ensures any_moment { D.tells → LeavesGiven D.Disk self.old self.new self.old.pending }
         ensures shape { layout_shape self.new.layout ≡ layout_shape self.old.layout }
-        ensures slots { Some (endless self.new.layout.log) ≡ Some (endless self.old.layout.log) }
+        ensures slots { Some self.new.layout.log ≡ Some self.old.layout.log }
         ensures lsn { self.new.number ≡ self.old.number }
         ensures blocks { D.tells → OnOk result (blocks_in D.Disk self.new ≡ blocks_in D.Disk self.old) }
         ensures failed { self.new.failed ≡ is_err result }
@@ -287,9 +283,5 @@ impl<D: Disk> Store for LogStore<D> {
 
     fn logged(&self) -> Lsn {
         self.lsn
-    }
-
-    fn room(&self) -> u64 {
-        ENDLESS + u64::from(self.cache.layout().log) - 1 - self.lsn
     }
 }

@@ -4,7 +4,6 @@ ghost use Rattle.std.specs.Prelude.{List, [], ◌∷◌, length, OnOk};
 ghost use Rattle.std.specs.Result.{is_err};
 ghost use Rattle.rb_base.specs.Groups.{Patch};
 ghost use Rattle.rb_base.specs.Logs.{Logs};
-ghost use Rattle.rb_base.specs.Stores.{room_of};
 ghost use Rattle.rb_undo.specs.Backs.{back_patches, header_for, newest_record, ArePutBack, CanBack, TakesBack};
 
 use crate::find::newest;
@@ -23,7 +22,6 @@ pub fn back<S: Store>(store: &mut S, xid: Xid, group: &mut Group) -> Result<(), 
     requires going { S.failed store.old ≡ false }
     requires there { xid.seg < (S.shape_of store.old).segments }
     requires slot { xid.slot < SLOTS }
-    requires room { 1 ≤ room_of (S.slots store.old) (S.lsn store.old) }
     requires few { S.lsn store.old < 2 ^ 62 }
     ensures logs { (groups : List (List Patch)) × Logs S.Store store.old store.new groups (not (is_err result))
         × (S.tells → (groups ≡ [])

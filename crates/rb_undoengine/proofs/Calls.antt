@@ -8,7 +8,6 @@ use Rattle.rb_attempt.specs.declared.ask.AttemptFault.{AttemptFault}
 use Rattle.rb_base.specs.Blocks.{after_group, home_block, table_blocks}
 use Rattle.rb_base.specs.Groups.{Patch}
 use Rattle.rb_base.specs.Logs.{Logs, group_of}
-use Rattle.rb_base.specs.Stores.{room_of}
 use Rattle.rb_base.specs.declared.ids.Uba.{Uba}
 use Rattle.rb_base.specs.declared.ids.Xid.{Xid}
 use Rattle.rb_base.specs.declared.shape.Shape.{Shape}
@@ -24,9 +23,9 @@ use Rattle.rb_standing.specs.Writing.{IsWritten}
 use Rattle.rb_undoblock.specs.declared.record.UndoRecord.{UndoRecord}
 use Rattle.rb_undoengine.specs.StepLaws.{IsAsked}
 use Rattle.rb_model.specs.Answers.{action_by}
-use Rattle.rb_undoengine.specs.Steps.{IsAbout, MayWrite, refusal_of, kept_room}
+use Rattle.rb_undoengine.specs.Steps.{IsAbout, MayWrite, refusal_of, owed_after}
 use Rattle.rb_undoengine.proofs.Firsts.{adds_is, kind_is}
-use Rattle.rb_undoengine.proofs.Done.{answered, fits_is, id_is, ids_are, stands}
+use Rattle.rb_undoengine.proofs.Done.{answered, id_is, ids_are, stands}
 use Rattle.rb_undoengine.proofs.HomeWords.{which_in}
 use Rattle.rb_undoengine.proofs.Logged.{write_logged}
 use Rattle.rb_undoengine.proofs.Refused.{refused}
@@ -43,9 +42,9 @@ IsAskMade shape before now ask x = (address : Uba) × (u : UndoRecord) × (ready
     × IsWritten shape (16 * x.seg + x.slot) (adds_row ask.op) (kind_of ask.op) address u before now
 
 -- or refused
-abbrev pub IsAskRefused : Shape → List (List ℕ) → Ask → ℕ → ℕ → AttemptFault → Type 0
-IsAskRefused shape before ask logged room fault = (x : Xid) × (ready : Header) × IsWriterOf shape before ask.own x ready
-    × Refuses fault (home_for shape before ask) (adds_row ask.op) ask.key x ready logged room (kept_room shape before ask.own)
+abbrev pub IsAskRefused : Shape → List (List ℕ) → Ask → ℕ → AttemptFault → Type 0
+IsAskRefused shape before ask logged fault = (x : Xid) × (ready : Header) × IsWriterOf shape before ask.own x ready
+    × Refuses fault (home_for shape before ask) (adds_row ask.op) ask.key x ready logged
 
 module _ {S : Type 0} (store : Ghosts S) (told : store.tells) (old new : S) (h : State) (xids : List Xid) (s : ℕ) (ask : Ask) (about : IsAbout h xids s ask.own (store.blocks old)) (same : store.shape_of old ≡ h.shape) (first : 1 ≤ ask.table) (last : ask.table ≤ h.shape.tables) (mine : MayWrite h s ask.table ask.key) where
   abbrev Before : List (List ℕ)
@@ -54,20 +53,17 @@ module _ {S : Type 0} (store : Ghosts S) (told : store.tells) (old new : S) (h :
   abbrev Now : List (List ℕ)
   Now = store.blocks new
 
-  abbrev Room : ℕ
-  Room = room_of (store.slots old) (store.lsn old)
-
   -- the machine's answer where the transaction writes
   abbrev pub Answered : ℕ → ℕ → ℕ → Answer
-  Answered logged g i = first_of (write_tests h logged Room g i s ask.table ask.key (action_by ask.op)) Done
+  Answered logged g i = first_of (write_tests h logged g i s ask.table ask.key (action_by ask.op)) Done
 
   abbrev pub IsRefused : AttemptFault → Type 0
   IsRefused fault = (x : Xid) × WritesIn h s x.seg x.slot
       × (Answered (store.lsn old) x.seg x.slot ≡ Refused (refusal_of fault))
 
   -- blocks in which the write that was asked for is made, and which no test of it refused
-  module _ (x : Xid) (now : List (List ℕ)) (s_in : s ≤ length h.sessions) (number : store.lsn old ≡ logged_of h.shape Before) (few : kept_room h.shape Before ask.own ≤ 2 ^ 13) (w : IsAskMade h.shape Before now ask x)
-      (takes : TakesWrite (home_for h.shape Before ask) (adds_row ask.op) ask.key) (young : store.lsn old < WORN) (enough : 1 + kept_room h.shape Before ask.own ≤ Room) where
+  module _ (x : Xid) (now : List (List ℕ)) (s_in : s ≤ length h.sessions) (number : store.lsn old ≡ logged_of h.shape Before) (few : owed_after h.shape Before ask.own ≤ 2 ^ 13) (w : IsAskMade h.shape Before now ask x)
+      (takes : TakesWrite (home_for h.shape Before ask) (adds_row ask.op) ask.key) (young : store.lsn old < WORN) where
     asked : IsAsked h ask x w.1
     asked = record { table = w.4; key = w.5; wrap = w.6; home = w.7 }
 
@@ -84,17 +80,16 @@ module _ {S : Type 0} (store : Ghosts S) (told : store.tells) (old new : S) (h :
         omega (arith, g, i)
 
     -- the write, as it is made
-    pub write_made : WriteMade h xids s ask.table ask.key (action_by ask.op) Room x Before now
+    pub write_made : WriteMade h xids s ask.table ask.key (action_by ask.op) x Before now
     write_made =
         let more = write_logged h xids Before now (16 * x.seg + x.slot) (adds_row ask.op) (kind_of ask.op) w.0 w.1 about.stand t_in home_in w.8 in
         record {
           in_slot = writers.writes_in h xids Before s ask.own about x w.2 w.3;
-          granted = answered h xids Before now s Room ask about s_in first last mine x w.2 w.3 w.0 w.1 asked takes w.8 early enough few;
-          stand = stands h xids Before now s Room ask about s_in first last mine x w.2 w.3 w.0 w.1 asked takes w.8 early enough few;
+          granted = answered h xids Before now s ask about s_in first last mine x w.2 w.3 w.0 w.1 asked takes w.8 early few;
+          stand = stands h xids Before now s ask about s_in first last mine x w.2 w.3 w.0 w.1 asked takes w.8 early few;
           last = more;
-          ids = λ r t owns. ids_are h xids Before now s Room ask about s_in first last mine x w.2 w.3 w.0 w.1 asked takes w.8 early enough few t owns.owner (owner_within h xids (segments_of h.shape Before) (homes_of h.shape Before) (stood_of h xids Before about.stand) t owns.owner owns.at) owns.at;
-          id = id_is h xids Before now s Room ask about s_in first last mine x w.2 w.3 w.0 w.1 asked takes w.8 early enough few;
-          fits = fits_is h xids Before now s Room ask about s_in first last mine x w.2 w.3 w.0 w.1 asked takes w.8 early enough few;
+          ids = λ r t owns. ids_are h xids Before now s ask about s_in first last mine x w.2 w.3 w.0 w.1 asked takes w.8 early few t owns.owner (owner_within h xids (segments_of h.shape Before) (homes_of h.shape Before) (stood_of h xids Before about.stand) t owns.owner owns.at) owns.at;
+          id = id_is h xids Before now s ask about s_in first last mine x w.2 w.3 w.0 w.1 asked takes w.8 early few;
           tells = write_tells h xids Before now (16 * x.seg + x.slot) (adds_row ask.op) (kind_of ask.op) w.0 w.1 about.stand t_in w.8;
           address = w.0;
           undo = w.1;
@@ -107,23 +102,23 @@ module _ {S : Type 0} (store : Ghosts S) (told : store.tells) (old new : S) (h :
         }
 
   -- what a group makes, where one is given
-  pub makes : (patches : List Patch) → s ≤ length h.sessions → store.lsn old ≡ logged_of h.shape Before → kept_room h.shape Before ask.own ≤ 2 ^ 13 → MakesIfAny (store.shape_of old) Before ask (store.lsn old) Room patches
-      → 0 < length patches → (x : Xid) × WriteMade h xids s ask.table ask.key (action_by ask.op) Room x Before (after_group (store.lsn old + 1) patches Before)
+  pub makes : (patches : List Patch) → s ≤ length h.sessions → store.lsn old ≡ logged_of h.shape Before → owed_after h.shape Before ask.own ≤ 2 ^ 13 → MakesIfAny (store.shape_of old) Before ask (store.lsn old) patches
+      → 0 < length patches → (x : Xid) × WriteMade h xids s ask.table ask.key (action_by ask.op) x Before (after_group (store.lsn old + 1) patches Before)
   makes patches s_in number few made some =
-      let m = subst (λ (k : Shape). MakesIfAny k Before ask (store.lsn old) Room patches) same made some in
+      let m = subst (λ (k : Shape). MakesIfAny k Before ask (store.lsn old) patches) same made some in
       let now = after_group (store.lsn old + 1) patches Before in
       let may = m.0 in
-      (m.1.0, write_made m.1.0 now s_in number few m.1.1 may.takes may.numbers may.fits)
+      (m.1.0, write_made m.1.0 now s_in number few m.1.1 may.takes may.numbers)
 
   -- a write that is done
-  done_one : (x : Xid) (patches : List Patch) → s ≤ length h.sessions → store.lsn old ≡ logged_of h.shape Before → kept_room h.shape Before ask.own ≤ 2 ^ 13 → Logs store old new (group_of patches) true
-      → IsAskMade h.shape Before Now ask x → TakesWrite (home_for h.shape Before ask) (adds_row ask.op) ask.key → store.lsn old < WORN → 1 + kept_room h.shape Before ask.own ≤ Room
-      → GivesOne store old new true (λ now. WriteMade h xids s ask.table ask.key (action_by ask.op) Room x Before now)
-  done_one x patches s_in number few logs w takes young enough =
-      let made = write_made x Now s_in number few w takes young enough in
+  done_one : (x : Xid) (patches : List Patch) → s ≤ length h.sessions → store.lsn old ≡ logged_of h.shape Before → owed_after h.shape Before ask.own ≤ 2 ^ 13 → Logs store old new (group_of patches) true
+      → IsAskMade h.shape Before Now ask x → TakesWrite (home_for h.shape Before ask) (adds_row ask.op) ask.key → store.lsn old < WORN
+      → GivesOne store old new true (λ now. WriteMade h xids s ask.table ask.key (action_by ask.op) x Before now)
+  done_one x patches s_in number few logs w takes young =
+      let made = write_made x Now s_in number few w takes young in
       by patches logs made
     where
-      by : (l : List Patch) → Logs store old new (group_of l) true → WriteMade h xids s ask.table ask.key (action_by ask.op) Room x Before Now → GivesOne store old new true (λ now. WriteMade h xids s ask.table ask.key (action_by ask.op) Room x Before now)
+      by : (l : List Patch) → Logs store old new (group_of l) true → WriteMade h xids s ask.table ask.key (action_by ask.op) x Before Now → GivesOne store old new true (λ now. WriteMade h xids s ask.table ask.key (action_by ask.op) x Before now)
       by [] logs made =
           let still : logged_of h.shape Now ≡ logged_of h.shape Before = ap (logged_of h.shape) (logs.blocks told refl) in
           absurd (let last = made.last in omega (arith, still, last))
@@ -132,23 +127,22 @@ module _ {S : Type 0} (store : Ghosts S) (told : store.tells) (old new : S) (h :
         logs = logs;
         few = omega arith;
         one = λ goes. refl;
-        made = λ some. subst (λ (b : List (List ℕ)). WriteMade h xids s ask.table ask.key (action_by ask.op) Room x Before b) (logs.blocks told refl) made;
+        made = λ some. subst (λ (b : List (List ℕ)). WriteMade h xids s ask.table ask.key (action_by ask.op) x Before b) (logs.blocks told refl) made;
       }
 
-  pub done : (r : Result Xid AttemptFault) (patches : List Patch) → s ≤ length h.sessions → store.lsn old ≡ logged_of h.shape Before → kept_room h.shape Before ask.own ≤ 2 ^ 13 → Logs store old new (group_of patches) (not (has_failed r))
-      → IfOk r (IsAskMade (store.shape_of old) Before Now ask) → OnOk r (TakesWrite (home_for (store.shape_of old) Before ask) (adds_row ask.op) ask.key) → OnOk r (store.lsn old < WORN) → OnOk r (1 + kept_room (store.shape_of old) Before ask.own ≤ Room)
-      → IfOk r (λ x. GivesOne store old new true (λ now. WriteMade h xids s ask.table ask.key (action_by ask.op) Room x Before now))
-  done (Ok x) patches s_in number few logs made takes young enough =
+  pub done : (r : Result Xid AttemptFault) (patches : List Patch) → s ≤ length h.sessions → store.lsn old ≡ logged_of h.shape Before → owed_after h.shape Before ask.own ≤ 2 ^ 13 → Logs store old new (group_of patches) (not (has_failed r))
+      → IfOk r (IsAskMade (store.shape_of old) Before Now ask) → OnOk r (TakesWrite (home_for (store.shape_of old) Before ask) (adds_row ask.op) ask.key) → OnOk r (store.lsn old < WORN)
+      → IfOk r (λ x. GivesOne store old new true (λ now. WriteMade h xids s ask.table ask.key (action_by ask.op) x Before now))
+  done (Ok x) patches s_in number few logs made takes young =
       done_one x patches s_in number few logs
       (subst (λ (k : Shape). IsAskMade k Before Now ask x) same made)
       (subst (λ (k : Shape). TakesWrite (home_for k Before ask) (adds_row ask.op) ask.key) same takes)
       young
-      (subst (λ (k : Shape). 1 + kept_room k Before ask.own ≤ Room) same enough)
-  done (Err fault) patches s_in number few logs made takes young enough = tt
+  done (Err fault) patches s_in number few logs made takes young = tt
 
   -- a call of the store failed, with the group or before it
-  pub failed_as : (patches : List Patch) → Logs store old new (group_of patches) false → (0 < length patches → (x : Xid) × WriteMade h xids s ask.table ask.key (action_by ask.op) Room x Before (after_group (store.lsn old + 1) patches Before))
-      → (x : Xid) × GivesOne store old new false (λ now. WriteMade h xids s ask.table ask.key (action_by ask.op) Room x Before now)
+  pub failed_as : (patches : List Patch) → Logs store old new (group_of patches) false → (0 < length patches → (x : Xid) × WriteMade h xids s ask.table ask.key (action_by ask.op) x Before (after_group (store.lsn old + 1) patches Before))
+      → (x : Xid) × GivesOne store old new false (λ now. WriteMade h xids s ask.table ask.key (action_by ask.op) x Before now)
   failed_as [] logs made = (
     record { seg = 0; slot = 0; wrap = 0 },
     record {
@@ -171,11 +165,11 @@ module _ {S : Type 0} (store : Ghosts S) (told : store.tells) (old new : S) (h :
         },
       )
 
-  pub refused_as : (r : Result Xid AttemptFault) → IfErr r (IsAskRefused (store.shape_of old) Before ask (store.lsn old) Room) → IfErr r IsRefused
+  pub refused_as : (r : Result Xid AttemptFault) → IfErr r (IsAskRefused (store.shape_of old) Before ask (store.lsn old)) → IfErr r IsRefused
   refused_as (Ok x) why = tt
   refused_as (Err fault) why =
-      let w = subst (λ (k : Shape). IsAskRefused k Before ask (store.lsn old) Room fault) same why in (
+      let w = subst (λ (k : Shape). IsAskRefused k Before ask (store.lsn old) fault) same why in (
         w.0,
         writers.writes_in h xids Before s ask.own about w.0 w.1 w.2,
-        refused h xids Before s (store.lsn old) Room ask about first last mine w.0 w.1 w.2 fault w.3,
+        refused h xids Before s (store.lsn old) ask about first last mine w.0 w.1 w.2 fault w.3,
       )

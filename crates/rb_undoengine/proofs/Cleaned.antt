@@ -1,5 +1,5 @@
 -- What the patches of a cleaning make of blocks that stand for the machine's state.
-use Rattle.std.proofs.Common.{◌≡◌, ◌<◌, ◌≤◌, ◌+◌, ◌^◌, ℕ, List, length, None, refl, sym, ◌∙◌, ap, arith}
+use Rattle.std.proofs.Common.{◌≡◌, ◌<◌, ◌≤◌, ◌+◌, ◌^◌, ℕ, List, length, None, refl, sym, ◌∙◌, arith}
 use Rattle.std.specs.List.{AllByRecursion}
 use Rattle.rb_base.proofs.Each.{all_so}
 use Rattle.rb_base.specs.Blocks.{after_group, block_of, table_blocks, written_to}
@@ -13,8 +13,6 @@ use Rattle.rb_heap.specs.Homes.{home_of}
 use Rattle.rb_image.specs.Made.{CleanMade}
 use Rattle.rb_model.specs.State.{State}
 use Rattle.rb_restart.proofs.Slots.{owed_is}
-use Rattle.rb_segment.specs.Header.{Segment}
-use Rattle.rb_segment.specs.Segments.{owed_in}
 use Rattle.rb_standing.proofs.BlocksCleaned.{segments_same}
 use Rattle.rb_standing.proofs.MachineBlocks.{machine_cleaned}
 use Rattle.rb_standing.proofs.Group.{logged_next}
@@ -22,8 +20,7 @@ use Rattle.rb_standing.specs.BlockLaws.{HasNext}
 use Rattle.rb_standing.specs.Groups.{IsCleaned}
 use Rattle.rb_standing.specs.Standing.{env_of, logged_of, segments_of}
 use Rattle.rb_standing.specs.States.{BlocksStand, lives_of, past_of}
-use Rattle.rb_standing.specs.Values.{owed}
-use Rattle.rb_undoengine.proofs.Kept.{kept_few}
+use Rattle.rb_undoengine.proofs.Owed.{after_few}
 use Rattle.rb_undoengine.proofs.Young.{young}
 
 module _ (h : State) (xids : List Xid) (before : List (List ℕ)) (stand : BlocksStand h xids before) (b : ℕ) (there : b < table_blocks h.shape) (patches : List Patch) (clean : AllByRecursion (IsCleanPatch b) patches)
@@ -32,13 +29,13 @@ module _ (h : State) (xids : List Xid) (before : List (List ℕ)) (stand : Block
   pub looks_same : cleaned_home (look_of h.shape before) (home_of (block_of before b)) ≡ cleaned_home (env_of h.shape before).look (home_of (block_of before b))
   looks_same = block_same h.shape before b there (young h xids before stand)
 
-  module _ (sixteen : length h.sessions ≤ 16) (valid : IsGroup patches) (some : 1 ≤ length patches) (worn : logged_of h.shape before < 2 ^ 60) where
+  module _ (valid : IsGroup patches) (some : 1 ≤ length patches) (worn : logged_of h.shape before < 2 ^ 60) where
     abbrev Now : List (List ℕ)
     Now = after_group (logged_of h.shape before + 1) patches before
 
     next : HasNext h.shape before
     next =
-        let few = kept_few h xids before None stand sixteen in
+        let few = after_few h xids before None stand in
         let same = owed_is h.shape before in
         omega (arith, few, same, worn)
 
@@ -59,19 +56,14 @@ module _ (h : State) (xids : List Xid) (before : List (List ℕ)) (stand : Block
     segments : segments_of h.shape Now ≡ segments_of h.shape before
     segments = segments_same h.shape before Now (past_of h xids) (lives_of h (env_of h.shape before)) b stand.tell.in_range there next stand.standing is_cleaned
 
-    owed_same : owed_in h.shape Now ≡ owed_in h.shape before
-    owed_same = owed_is h.shape Now ∙ (ap (λ (f : ℕ → Segment). owed h.shape f) segments ∙ sym (owed_is h.shape before))
-
-    pub clean_made : (room : ℕ) → owed_in h.shape before < room → CleanMade h xids b room before Now
-    clean_made room fits = record {
+    pub clean_made : CleanMade h xids b before Now
+    clean_made = record {
       stand = machine_cleaned h xids before Now b there next stand is_cleaned;
       segments = segments;
       group = is_cleaned;
       home = is_cleaned.home;
       others = λ k ne. others_stay (logged_of h.shape before + 1) b patches clean before k ne;
       last = logged_next h.shape (λ x. x ≡ b) before Now is_cleaned.group stand.standing.whole (λ x is. omega (arith, is, there)) (let a = next in omega (arith, a));
-      owed = owed_same;
-      fits = omega (arith, fits, owed_same);
     }
 
   -- The block so patched, by whatever group, is cleaned.

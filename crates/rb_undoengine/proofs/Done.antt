@@ -1,5 +1,5 @@
 -- A write that is done is one that no test refuses, and after it the blocks stand for the machine's next state.
-use Rattle.std.proofs.Common.{◌≡◌, inl, inr, ◌<◌, ◌≤◌, ◌+◌, ◌-◌, ◌*◌, ◌/◌, ◌%◌, ◌^◌, ◌==◌, ◌++◌, if◌then◌else◌, ℕ, Bool, true, false, List, [], ◌∷◌, length, set, Some, is_some, sym, ◌∙◌, ap, subst, arith, refl}
+use Rattle.std.proofs.Common.{◌≡◌, inl, inr, ◌<◌, ◌≤◌, ◌+◌, ◌-◌, ◌*◌, ◌/◌, ◌%◌, ◌^◌, ◌==◌, ◌++◌, if◌then◌else◌, ℕ, Bool, true, false, List, [], ◌∷◌, length, set, Some, is_some, sym, ◌∙◌, ap, subst, arith}
 use Rattle.rb_attempt.specs.Asks.{IsWriterOf, adds_row, home_for, kind_of}
 use Rattle.rb_attempt.specs.Refusals.{TakesWrite}
 use Rattle.rb_attempt.specs.declared.ask.Ask.{Ask}
@@ -24,18 +24,17 @@ use Rattle.rb_standing.specs.NextStates.{SameChange, after_write}
 use Rattle.rb_standing.specs.Says.{place_of}
 use Rattle.rb_standing.specs.Standing.{env_of, logged_of, segments_of}
 use Rattle.rb_standing.specs.States.{BlocksStand, Owns}
-use Rattle.rb_standing.specs.Values.{slot_of, owed}
+use Rattle.rb_standing.specs.Values.{slot_of}
 use Rattle.rb_standing.specs.Writing.{HasHeaderRoom, IsHeaderReady, IsNotHeld, IsWritten}
 use Rattle.rb_standing.proofs.Addresses.{next_place_is}
 use Rattle.rb_standing.proofs.Seen.{one_xid}
 use Rattle.rb_standing.proofs.SegmentRead.{header_is}
 use Rattle.rb_standing.proofs.SegmentRecorded as segment
-use Rattle.rb_standing.proofs.WriteMachine.{id_after, ids_after, owed_after, owns_after, write_keeps_machine}
-use Rattle.rb_restart.proofs.Slots.{owed_is}
+use Rattle.rb_standing.proofs.WriteMachine.{id_after, ids_after, owns_after, write_keeps_machine}
 use Rattle.rb_undoblock.specs.declared.record.UndoRecord.{UndoRecord}
 use Rattle.rb_undoengine.specs.StepLaws.{IsAsked}
 use Rattle.rb_model.specs.Answers.{action_by}
-use Rattle.rb_undoengine.specs.Steps.{IsAbout, MayWrite, kept_room}
+use Rattle.rb_undoengine.specs.Steps.{IsAbout, MayWrite, owed_after}
 use Rattle.rb_undoengine.proofs.Firsts.{kind_is}
 use Rattle.rb_undoengine.proofs.HomeWords as home
 use Rattle.rb_undoengine.proofs.Refused.{not_refused}
@@ -57,9 +56,9 @@ has_place ready room (inr (e, may, is)) none =
     let pinned = none.pinned e (may.oldest (λ out. omega (arith, out, kept))) in
     may.free (λ out. omega (arith, out, kept)) pinned.0 pinned.1 pinned.2
 
-module _ (h : State) (xids : List Xid) (before now : List (List ℕ)) (s room : ℕ) (ask : Ask) (about : IsAbout h xids s ask.own before) (s_in : s ≤ length h.sessions) (first : 1 ≤ ask.table) (last : ask.table ≤ h.shape.tables) (mine : MayWrite h s ask.table ask.key)
+module _ (h : State) (xids : List Xid) (before now : List (List ℕ)) (s : ℕ) (ask : Ask) (about : IsAbout h xids s ask.own before) (s_in : s ≤ length h.sessions) (first : 1 ≤ ask.table) (last : ask.table ≤ h.shape.tables) (mine : MayWrite h s ask.table ask.key)
     (x : Xid) (ready : Header) (writer : IsWriterOf h.shape before ask.own x ready) (address : Uba) (u : UndoRecord) (asked : IsAsked h ask x u) (takes : TakesWrite (home_for h.shape before ask) (adds_row ask.op) ask.key)
-    (is : IsWritten h.shape (16 * x.seg + x.slot) (adds_row ask.op) (kind_of ask.op) address u before now) (young : logged_of h.shape before < WORN) (enough : 1 + kept_room h.shape before ask.own ≤ room) (few : kept_room h.shape before ask.own ≤ 2 ^ 13) where
+    (is : IsWritten h.shape (16 * x.seg + x.slot) (adds_row ask.op) (kind_of ask.op) address u before now) (young : logged_of h.shape before < WORN) (few : owed_after h.shape before ask.own ≤ 2 ^ 13) where
   abbrev At : ℕ
   At = 16 * x.seg + x.slot
 
@@ -108,8 +107,8 @@ module _ (h : State) (xids : List Xid) (before now : List (List ℕ)) (s room : 
           (subst (λ (i : ℕ). IsHeaderReady (Segs (At / 16)).header i is.recorded.ready) slot_is
           (subst (λ (z : Header). IsHeaderReady z (At % 16) is.recorded.ready) (sym (header_is h.shape before (At / 16))) is.recorded.is_ready))
 
-  pub answered : first_of (write_tests h (logged_of h.shape before) room x.seg x.slot s ask.table ask.key (action_by ask.op)) Done ≡ Done
-  answered = not_refused h xids before s (logged_of h.shape before) room ask about first last mine x ready writer (record { takes = takes; entry = entry_there }) place_there young enough
+  pub answered : first_of (write_tests h (logged_of h.shape before) x.seg x.slot s ask.table ask.key (action_by ask.op)) Done ≡ Done
+  answered = not_refused h xids before s (logged_of h.shape before) ask about first last mine x ready writer (record { takes = takes; entry = entry_there }) place_there young
 
   -- the record is the next one of the segment
   place_is : Made.place ≡ place_of h.shape address
@@ -194,14 +193,3 @@ module _ (h : State) (xids : List Xid) (before now : List (List ℕ)) (s room : 
   pub ids_are : (v : ℕ) (o : Owner) → v < 16 * h.shape.segments → owner_at h v ≡ Some o → (env_of h.shape now).xid v ≡ (env_of h.shape before).xid v
   ids_are = ids_after h xids before now s At (adds_row ask.op) Made (kind_of ask.op) address u t_in (about.session, s_in) about.stand
       (writers.takes_at h xids before s ask.own about x ready writer) home_in not_held is same_change has_room
-
-  -- the room that was kept for the write is enough for all that is owed
-  pub fits_is : owed_in h.shape now + 1 ≤ room
-  fits_is =
-      let more = owed_after h xids before now s At (adds_row ask.op) Made (kind_of ask.op) address u t_in (about.session, s_in) about.stand
-      (writers.takes_at h xids before s ask.own about x ready writer) home_in not_held is same_change has_room in
-      by (is_some ask.own) (writers.active_is h xids before s ask.own about x ready writer) enough more
-    where
-      by : (b : Bool) → ((slot_of Segs At).state == 1) ≡ b → 1 + (owed_in h.shape before + (if b then 1 else 2)) ≤ room → owed h.shape (segments_of h.shape now) ≡ owed h.shape Segs + (if (slot_of Segs At).state == 1 then 1 else 2) → owed_in h.shape now + 1 ≤ room
-      by true test kept more = let a = owed_is h.shape before in let b = owed_is h.shape now in let m : owed h.shape (segments_of h.shape now) ≡ owed h.shape Segs + 1 = more ∙ rw test refl in omega (arith, kept, m, a, b)
-      by false test kept more = let a = owed_is h.shape before in let b = owed_is h.shape now in let m : owed h.shape (segments_of h.shape now) ≡ owed h.shape Segs + 2 = more ∙ rw test refl in omega (arith, kept, m, a, b)

@@ -16,7 +16,7 @@ use Rattle.rb_model.specs.NextState.{committed, cursors_of, ended, not_present, 
 use Rattle.rb_model.specs.Rows.{last_scn}
 use Rattle.rb_image.specs.Made.{CommitMade, EndMade}
 use Rattle.rb_image.proofs.Owners.{owns_of}
-use Rattle.rb_restart.proofs.Slots.{owed_is, slot_for}
+use Rattle.rb_restart.proofs.Slots.{slot_for}
 use Rattle.rb_segment.proofs.HeaderAfter.{header_after}
 use Rattle.rb_segment.specs.Calls.{commit_patches, slot_patches, stamp_patch, Runs}
 use Rattle.rb_segment.specs.Header.{Header, has_bit, header_of, slot_in}
@@ -25,15 +25,13 @@ use Rattle.rb_segment.specs.Segments.{commit_scn}
 use Rattle.rb_standing.proofs.BlocksMachine.{commit_keeps_machine, end_keeps_machine, ids_committed, ids_ended}
 use Rattle.rb_standing.proofs.Group.{logged_next}
 use Rattle.rb_standing.proofs.MachineDone.{last_commits}
-use Rattle.rb_standing.proofs.OwedMoves.{owed_committed, owed_ended}
-use Rattle.rb_standing.proofs.SegmentRead.{segments_committed, segments_ended}
 use Rattle.rb_standing.proofs.States.{lives_at, lives_owned, length_newest}
 use Rattle.rb_standing.specs.Groups.{GroupOn, IsCommitted, IsEnded, header_at}
 use Rattle.rb_standing.specs.NextStates.{after_commit, after_end}
 use Rattle.rb_standing.specs.Says.{xid_by}
-use Rattle.rb_standing.specs.Standing.{Standing, env_of, homes_of, logged_of, segments_of}
+use Rattle.rb_standing.specs.Standing.{Standing, env_of, logged_of, segments_of}
 use Rattle.rb_standing.specs.States.{BlocksStand, Owns, SegmentsTell, lives_of, newest_first, owned, past_of}
-use Rattle.rb_standing.specs.Values.{owed, slot_of}
+use Rattle.rb_standing.specs.Values.{slot_of}
 use Rattle.rb_txntable.specs.declared.slots.TableSlot.{TableSlot}
 use Rattle.rb_walk.specs.Walk.{own}
 
@@ -191,15 +189,10 @@ module _ (h : State) (xids : List Xid) (before now : List (List ℕ)) (s : ℕ) 
         let kept = commit_keeps_machine h xids before now stand s T t_in owns (map not_present (cursors_of h s)) is in
         let state : after_commit h s T (commit_scn h.shape before + 1) (map not_present (cursors_of h s)) ≡ committed h s x.seg x.slot = rw (seg_is, slot_is, scn) refl in
         let id : xid_by (segments_of h.shape before) T ≡ x = xid_is in
-        let less = owed_committed h.shape (commit_scn h.shape before) (logged_of h.shape before) (segments_of h.shape before) (homes_of h.shape before) (past_of h xids) (lives_of h (env_of h.shape before)) stand.standing.stands T t_in active (commit_scn h.shape before + 1) in
-        let moved_segments = ap (owed h.shape) (segments_committed h.shape T (commit_scn h.shape before + 1) before now is) in
-        let a = owed_is h.shape before in
-        let b = owed_is h.shape now in
         record {
           stand = subst (λ (z : State). BlocksStand z (xids ++ x ∷ []) now) state (subst (λ (z : Xid). BlocksStand (after_commit h s T (commit_scn h.shape before + 1) (map not_present (cursors_of h s))) (xids ++ z ∷ []) now) id kept);
           ids = λ r v mine. ids_committed h xids before now stand s T t_in owns is v;
           last = logged;
-          owed = omega (arith, less, moved_segments, a, b);
           group = subst (λ (k : ℕ). IsCommitted h.shape T k before now) (sym number ∙ next) is;
         }
       where
@@ -219,10 +212,6 @@ module _ (h : State) (xids : List Xid) (before now : List (List ℕ)) (s : ℕ) 
         let s_in = stand.tell.owner_there s T owns in
         let env = env_of h.shape before in
         let none : own (lives_of h env) T ≡ [] = lives_owned h env s T t_in owns ∙ ap (λ (z : List model.Change). newest_first h.shape (xid_by (segments_of h.shape before) T) 1 z []) empty in
-        let less = owed_ended h.shape (commit_scn h.shape before) (logged_of h.shape before) (segments_of h.shape before) (homes_of h.shape before) (past_of h xids) (lives_of h env) stand.standing.stands T t_in active none in
-        let moved_segments = ap (owed h.shape) (segments_ended h.shape T before now is) in
-        let a = owed_is h.shape before in
-        let b = owed_is h.shape now in
         let free : (cursors : List Cursor) → BlocksStand (record (after_end h T) { sessions = set h.sessions (s - 1) (record no_session { cursors = map not_present cursors }) }) xids now = λ cursors.
         cursors_free (after_end h T) s (record no_session { cursors = map not_present cursors }) s_in (sym empty) xids now kept in
         let state : (cursors : List Cursor) → record (after_end h T) { sessions = set h.sessions (s - 1) (record no_session { cursors = map not_present cursors }) } ≡ without_owner x.seg x.slot (ended h s cursors) = λ cursors. rw (seg_is, slot_is) refl in
@@ -230,6 +219,5 @@ module _ (h : State) (xids : List Xid) (before now : List (List ℕ)) (s : ℕ) 
           stand = λ cursors. subst (λ (z : State). BlocksStand z xids now) (state cursors) (free cursors);
           ids = λ r v mine. ids_ended h xids before now stand s T t_in owns empty is v;
           last = logged;
-          owed = omega (arith, less, moved_segments, a, b);
           group = is;
         }

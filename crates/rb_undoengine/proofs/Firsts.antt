@@ -1,5 +1,5 @@
--- The first of a write's tests that applies, by what the tests before the room are.
-use Rattle.std.proofs.Common.{◌≡◌, ◌++◌, ◌&&◌, ℕ, Bool, true, false, not, List, [], ◌∷◌, Option, Some, None, nat_le, nat_lt, refl, ◌∙◌, ap, arith}
+-- The first of a write's tests that applies, by what the tests before the log's are.
+use Rattle.std.proofs.Common.{◌≡◌, ◌++◌, ◌&&◌, ℕ, Bool, true, false, not, List, [], ◌∷◌, Option, Some, None, nat_le, refl, ◌∙◌, ap, arith}
 use Rattle.std.proofs.lemmas.Bool.{and_from, le-leb}
 use Rattle.std.proofs.lemmas.List.{append_assoc}
 use Rattle.rb_attempt.specs.Asks.{adds_row, kind_of}
@@ -7,7 +7,7 @@ use Rattle.rb_base.specs.declared.sizes.TheConstants.{WORN}
 use Rattle.rb_model.specs.Book.{book_at, is_full}
 use Rattle.rb_model.specs.Calls as calls
 use Rattle.rb_model.specs.declared.refusal.Refusal.TheVariants as refusals
-use Rattle.rb_model.specs.Calls.{Action, Answer, Done, Refused, first_of, needed_room, serial_tests, waited, write_tests}
+use Rattle.rb_model.specs.Calls.{Action, Answer, Done, Refused, first_of, serial_tests, waited, write_tests}
 use Rattle.rb_model.specs.Full.{full_block}
 use Rattle.rb_model.specs.Queue.{Waiter}
 use Rattle.rb_model.specs.State.{State, isolation_of}
@@ -66,40 +66,40 @@ first_tested false true f false false g since tests = refl
 first_tested false false f e r g since tests = refl
 
 -- the tests of the log
-abbrev pub log_tests : ℕ → ℕ → ℕ → List (Bool × Answer)
-log_tests logged room needed = (nat_le WORN logged, Refused refusals.WornOut) ∷ (nat_lt room needed, Refused refusals.LogFull) ∷ []
+abbrev pub log_tests : ℕ → List (Bool × Answer)
+log_tests logged = (nat_le WORN logged, Refused refusals.WornOut) ∷ []
 
 -- the tests of a write that waits for nobody and doesn't come too late
-abbrev pub row_tests : State → (logged room g i s table key : ℕ) → Action → List (Bool × Answer)
-row_tests h logged room g i s table key action =
+abbrev pub row_tests : State → (logged g i s table key : ℕ) → Action → List (Bool × Answer)
+row_tests h logged g i s table key action =
     (adds action && has_row table key (rows_now h s), Refused refusals.Duplicate)
     ∷ (not (adds action) && not (has_row table key (rows_now h s)), Refused refusals.NotFound)
     ∷ (adds action && full_block h table key, Refused refusals.BlockFull)
     ∷ (full_slots h s table key, Refused refusals.SlotsFull)
     ∷ (is_full (book_at h.books g), Refused (refusals.RollbackFull g (made_since (book_at h.books g))))
-    ∷ log_tests logged room (needed_room h s g i)
+    ∷ log_tests logged
 
-pub split_tests : (h : State) (logged room g i s table key : ℕ) (action : Action)
-    → write_tests h logged room g i s table key action ≡ waited h.queue s (holder h table key) ++ (serial_tests h.commits (isolation_of h s) table key ++ row_tests h logged room g i s table key action)
-split_tests h logged room g i s table key action = append_assoc (waited h.queue s (holder h table key)) (serial_tests h.commits (isolation_of h s) table key) (row_tests h logged room g i s table key action)
+pub split_tests : (h : State) (logged g i s table key : ℕ) (action : Action)
+    → write_tests h logged g i s table key action ≡ waited h.queue s (holder h table key) ++ (serial_tests h.commits (isolation_of h s) table key ++ row_tests h logged g i s table key action)
+split_tests h logged g i s table key action = append_assoc (waited h.queue s (holder h table key)) (serial_tests h.commits (isolation_of h s) table key) (row_tests h logged g i s table key action)
 
 -- where no other session holds the key, only a late commit comes before those
-pub first_serial : (h : State) (logged room g i s table key : ℕ) (action : Action) → ((u : ℕ) → holder h table key ≡ Some u → u ≡ s)
-    → first_of (write_tests h logged room g i s table key action) Done ≡ first_of (serial_tests h.commits (isolation_of h s) table key ++ row_tests h logged room g i s table key action) Done
-first_serial h logged room g i s table key action own =
-    ap (λ (l : List (Bool × Answer)). first_of l Done) (split_tests h logged room g i s table key action)
-    ∙ nobody_waits h.queue s (holder h table key) (serial_tests h.commits (isolation_of h s) table key ++ row_tests h logged room g i s table key action) own
+pub first_serial : (h : State) (logged g i s table key : ℕ) (action : Action) → ((u : ℕ) → holder h table key ≡ Some u → u ≡ s)
+    → first_of (write_tests h logged g i s table key action) Done ≡ first_of (serial_tests h.commits (isolation_of h s) table key ++ row_tests h logged g i s table key action) Done
+first_serial h logged g i s table key action own =
+    ap (λ (l : List (Bool × Answer)). first_of l Done) (split_tests h logged g i s table key action)
+    ∙ nobody_waits h.queue s (holder h table key) (serial_tests h.commits (isolation_of h s) table key ++ row_tests h logged g i s table key action) own
 
 module _ (h : State) (s table key g i : ℕ) (op : Option Op) where
   -- what the tests before the log find
   abbrev pub Found : Verdict
   Found = tested (adds_row op) (has_row table key (rows_now h s)) (full_block h table key) (full_slots h s table key) (is_full (book_at h.books g))
 
-  pub first_found : (logged room : ℕ) → ((u : ℕ) → holder h table key ≡ Some u → u ≡ s) → serial_tests h.commits (isolation_of h s) table key ≡ []
-      → first_of (write_tests h logged room g i s table key (action_by op)) Done
-      ≡ answer_of Found g (made_since (book_at h.books g)) (first_of (log_tests logged room (needed_room h s g i)) Done)
-  first_found logged room own timely =
-      first_serial h logged room g i s table key (action_by op) own
-      ∙ (ap (λ (l : List (Bool × Answer)). first_of (l ++ row_tests h logged room g i s table key (action_by op)) Done) timely
-      ∙ (first_tested (adds (action_by op)) (has_row table key (rows_now h s)) (full_block h table key) (full_slots h s table key) (is_full (book_at h.books g)) g (made_since (book_at h.books g)) (log_tests logged room (needed_room h s g i))
-      ∙ ap (λ a. answer_of (tested a (has_row table key (rows_now h s)) (full_block h table key) (full_slots h s table key) (is_full (book_at h.books g))) g (made_since (book_at h.books g)) (first_of (log_tests logged room (needed_room h s g i)) Done)) (adds_is op)))
+  pub first_found : (logged : ℕ) → ((u : ℕ) → holder h table key ≡ Some u → u ≡ s) → serial_tests h.commits (isolation_of h s) table key ≡ []
+      → first_of (write_tests h logged g i s table key (action_by op)) Done
+      ≡ answer_of Found g (made_since (book_at h.books g)) (first_of (log_tests logged) Done)
+  first_found logged own timely =
+      first_serial h logged g i s table key (action_by op) own
+      ∙ (ap (λ (l : List (Bool × Answer)). first_of (l ++ row_tests h logged g i s table key (action_by op)) Done) timely
+      ∙ (first_tested (adds (action_by op)) (has_row table key (rows_now h s)) (full_block h table key) (full_slots h s table key) (is_full (book_at h.books g)) g (made_since (book_at h.books g)) (log_tests logged)
+      ∙ ap (λ a. answer_of (tested a (has_row table key (rows_now h s)) (full_block h table key) (full_slots h s table key) (is_full (book_at h.books g))) g (made_since (book_at h.books g)) (first_of (log_tests logged) Done)) (adds_is op)))

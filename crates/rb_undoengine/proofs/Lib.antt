@@ -6,11 +6,11 @@ pub mod Firsts
 mod Found
 mod HolderWords
 mod HomeWords
-mod Kept
 pub mod LeftOwn
 mod Logged
 pub mod May
 mod OneBack
+mod Owed
 mod Refused
 pub mod Somewhere
 mod StepBack

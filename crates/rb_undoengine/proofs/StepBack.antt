@@ -13,12 +13,11 @@ use Rattle.rb_model.specs.Calls.{Owned}
 use Rattle.rb_model.specs.Change as model
 use Rattle.rb_model.specs.State.{State, session_own}
 use Rattle.rb_restart.proofs.Backs.{back_group, patches_back}
-use Rattle.rb_restart.proofs.Slots.{owed_is, slot_is, xid_is, xid_of}
+use Rattle.rb_restart.proofs.Slots.{slot_is, xid_is, xid_of}
 use Rattle.rb_segment.specs.Calls.{Runs}
 use Rattle.rb_segment.specs.Header.{Segment, record_in}
-use Rattle.rb_segment.specs.Segments.{commit_scn, owed_in}
+use Rattle.rb_segment.specs.Segments.{commit_scn}
 use Rattle.rb_standing.specs.Groups.{IsPutBack, last_record}
-use Rattle.rb_standing.proofs.OwedMoves.{owed_back}
 use Rattle.rb_standing.proofs.StandingBack.{xid_back}
 use Rattle.rb_image.specs.Made.{BackMade}
 use Rattle.rb_standing.specs.NextStates.{with_own}
@@ -126,13 +125,6 @@ module _ (h : State) (xids : List Xid) (before : List (List ℕ)) (stand : Block
     stands_at : BlocksStand (with_own h s front) xids now
     stands_at = machine_back h xids before now s t newest.u front c t_in stand owns own_is newest.there puts
 
-    owed_at : owed_in h.shape now + 1 ≤ owed_in h.shape before
-    owed_at =
-        let less = owed_back h.shape (commit_scn h.shape before) (logged_of h.shape before) Segs (homes_of h.shape before) (past_of h xids) Lives stand.standing.stands t t_in (segments_of h.shape now) (back.Homes2 h.shape before now (past_of h xids) Lives t newest.u Last More stand.tell.in_range t_in stand.standing has newest.there puts) newest.u (back.put_values h.shape before now (past_of h xids) Lives t newest.u Last More stand.tell.in_range t_in stand.standing has newest.there puts) Last More has in
-        let a = owed_is h.shape before in
-        let b = owed_is h.shape now in
-        omega (arith, less, a, b)
-
     ids_at : (v : ℕ) → (env_of h.shape now).xid v ≡ (env_of h.shape before).xid v
     ids_at v = xid_back h.shape (commit_scn h.shape before) (logged_of h.shape before) Segs (homes_of h.shape before) (past_of h xids) Lives stand.standing.stands (back.Homes2 h.shape before now (past_of h xids) Lives t newest.u Last More stand.tell.in_range t_in stand.standing has newest.there puts) t newest.u t_in (segments_of h.shape now) (back.put_values h.shape before now (past_of h xids) Lives t newest.u Last More stand.tell.in_range t_in stand.standing has newest.there puts) Last More has v
 
@@ -157,7 +149,6 @@ back_is h xids before stand s x there few owned runs front c own_is =
         stand = stands_at h xids before stand s t x.wrap t_in owns front c running own_is now valid made takes;
         last = logged_at h xids before stand s t x.wrap t_in owns front c running own_is now valid made takes;
         ids = λ r v mine. ids_at h xids before stand s t x.wrap t_in owns front c running own_is now valid made takes v;
-        owed = owed_at h xids before stand s t x.wrap t_in owns front c running own_is now valid made takes;
         slot = t;
         owns = owns;
         change = c;

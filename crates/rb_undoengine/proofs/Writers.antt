@@ -1,14 +1,13 @@
 -- The transaction that writes, by the headers, is that of the session in the machine: it has a slot there, or begins.
-use Rattle.std.proofs.Common.{◌≡◌, ◌⊎◌, inl, inr, ◌<◌, ◌+◌, ◌*◌, ◌/◌, ◌%◌, ◌==◌, ℕ, Bool, true, false, List, Option, Some, None, is_some, nat_le, if◌then◌else◌, refl, sym, ◌∙◌, ap, subst, arith}
+use Rattle.std.proofs.Common.{◌≡◌, ◌⊎◌, inl, inr, ◌<◌, ◌+◌, ◌*◌, ◌/◌, ◌%◌, ◌==◌, ℕ, true, false, List, Option, Some, None, is_some, nat_le, refl, sym, ◌∙◌, ap, subst, arith}
 use Rattle.std.proofs.Math.Nat.{div-add-mod, mod-lt}
 use Rattle.std.proofs.lemmas.Bool.{and_from, and_parts, cases_Bool, eq-eqb, le-leb, leb-true, ne_eqb}
 use Rattle.std.proofs.lemmas.List.{get_or-set_same}
 use Rattle.rb_attempt.specs.Asks.{IsFewest, IsWriterOf, header_in}
 use Rattle.rb_base.specs.declared.ids.Xid.{Xid}
 use Rattle.rb_model.specs.Book.{Owner, book_at, slot_owner}
-use Rattle.rb_model.specs.Calls.{WritesIn, has_slot, is_owner, needed_room}
+use Rattle.rb_model.specs.Calls.{WritesIn, has_slot, is_owner}
 use Rattle.rb_model.specs.State.{State, owner_at}
-use Rattle.rb_model.specs.Tests.{live_changes, owners_counted}
 use Rattle.rb_segment.specs.Header.{Header, Segment, segment_of, slot_in}
 use Rattle.rb_segment.specs.Moves.{MayClaim, claimed, claimed_slot}
 use Rattle.rb_segment.specs.Segments.{owed_in}
@@ -20,10 +19,9 @@ use Rattle.rb_standing.specs.Writing.{IsHeaderReady}
 use Rattle.rb_standing.proofs.SegmentRead.{header_is}
 use Rattle.rb_txntable.specs.Slots.{no_slot}
 use Rattle.rb_txntable.specs.declared.slots.TableSlot.{TableSlot}
-use Rattle.rb_undoengine.specs.Steps.{IsAbout, kept_room}
+use Rattle.rb_undoengine.specs.Steps.{IsAbout}
 use Rattle.rb_verdict.specs.Stood.{Stood}
 use Rattle.rb_verdict.proofs.Begun.{begins_there}
-use Rattle.rb_verdict.proofs.Owed.{owed_is}
 use Rattle.rb_verdict.proofs.Presence.{owner_within}
 use Rattle.rb_verdict.proofs.StoodBlocks.{stood_of}
 use Rattle.rb_verdict.proofs.Told as told
@@ -193,17 +191,6 @@ module _ (h : State) (xids : List Xid) (blocks : List (List ℕ)) (s : ℕ) (own
     | inl has ↦ eq-eqb (slot_of Segs At).state 1 (sym slot_at ∙ has.active) ∙ sym (ap is_some has.own_is)
     | inr takes ↦ ne_eqb (slot_of Segs At).state 1 (λ active. takes.may.idle (slot_at ∙ active)) ∙ sym (ap is_some takes.own_is)
   ]
-
-  -- and what the log must have room for is counted alike.
-  pub room_is : needed_room h s x.seg x.slot ≡ 1 + kept_room h.shape blocks own
-  room_is = by (is_some own) has_is
-    where
-      counted : owed_in h.shape blocks ≡ live_changes h + owners_counted h
-      counted = owed_same h blocks ∙ owed_is h xids Segs (homes_of h.shape blocks) stood
-
-      by : (b : Bool) → has_slot h s x.seg x.slot ≡ b → 1 + (live_changes h + 1) + (owners_counted h + (if has_slot h s x.seg x.slot then 0 else 1)) ≡ 1 + (owed_in h.shape blocks + (if b then 1 else 2))
-      by true is = let c = counted in rw is (omega (arith, c))
-      by false is = let c = counted in rw is (omega (arith, c))
 
   -- Without a slot its number is above that of each transaction that had the slot before.
   pub wrap_new : own ≡ None → (slot_in Head x.slot).wrap < x.wrap

@@ -20,7 +20,7 @@ use Rattle.rb_standing.specs.States.{BlocksStand}
 use Rattle.rb_standing.specs.Writing.{IsWritten}
 use Rattle.rb_undoblock.specs.declared.record.UndoRecord.{UndoRecord}
 use Rattle.rb_model.specs.Answers.{action_by}
-use Rattle.rb_undoengine.specs.Steps.{refusal_of, kept_room, IsAbout, IsHolder, MayWrite}
+use Rattle.rb_undoengine.specs.Steps.{refusal_of, owed_after, IsAbout, IsHolder, MayWrite}
 
 -- the record is that of the ask, by that transaction
 pub record IsAsked (h : State) (ask : Ask) (x : Xid) (u : UndoRecord) : Type 0 where
@@ -32,28 +32,26 @@ pub record IsAsked (h : State) (ask : Ask) (x : Xid) (u : UndoRecord) : Type 0 w
 -- The session writes where the machine says, and a refusal of its write is the answer of the machine's first test that
 -- applies.
 abbrev pub RefusedAsMachine : Type 0
-RefusedAsMachine = (h : State) (xids : List Xid) (blocks : List (List ℕ)) (s logged room : ℕ) (ask : Ask) (x : Xid)
+RefusedAsMachine = (h : State) (xids : List Xid) (blocks : List (List ℕ)) (s logged : ℕ) (ask : Ask) (x : Xid)
     (ready : Header) (fault : AttemptFault)
     → IsAbout h xids s ask.own blocks → 1 ≤ ask.table → ask.table ≤ h.shape.tables
     → MayWrite h s ask.table ask.key → IsWriterOf h.shape blocks ask.own x ready
-    → Refuses fault (home_for h.shape blocks ask) (adds_row ask.op) ask.key x ready logged room
-    (kept_room h.shape blocks ask.own)
+    → Refuses fault (home_for h.shape blocks ask) (adds_row ask.op) ask.key x ready logged
     → WritesIn h s x.seg x.slot
-    × (first_of (write_tests h logged room x.seg x.slot s ask.table ask.key (action_by ask.op)) Done
+    × (first_of (write_tests h logged x.seg x.slot s ask.table ask.key (action_by ask.op)) Done
     ≡ Refused (refusal_of fault))
 
 -- A write that is done is one that no test of the machine refuses, and the blocks stand for the state after it.
 abbrev pub DoneAsMachine : Type 0
-DoneAsMachine = (h : State) (xids : List Xid) (before now : List (List ℕ)) (s room : ℕ) (ask : Ask) (x : Xid)
+DoneAsMachine = (h : State) (xids : List Xid) (before now : List (List ℕ)) (s : ℕ) (ask : Ask) (x : Xid)
     (ready : Header) (address : Uba) (u : UndoRecord)
     → IsAbout h xids s ask.own before → s ≤ length h.sessions → 1 ≤ ask.table
     → ask.table ≤ h.shape.tables → MayWrite h s ask.table ask.key → IsWriterOf h.shape before ask.own x ready
     → IsAsked h ask x u → TakesWrite (home_for h.shape before ask) (adds_row ask.op) ask.key
     → IsWritten h.shape (16 * x.seg + x.slot) (adds_row ask.op) (kind_of ask.op) address u before now
-    → logged_of h.shape before < WORN → 1 + kept_room h.shape before ask.own ≤ room
-    → kept_room h.shape before ask.own ≤ 2 ^ 13
+    → logged_of h.shape before < WORN → owed_after h.shape before ask.own ≤ 2 ^ 13
     → WritesIn h s x.seg x.slot
-    × (first_of (write_tests h (logged_of h.shape before) room x.seg x.slot s ask.table ask.key (action_by ask.op))
+    × (first_of (write_tests h (logged_of h.shape before) x.seg x.slot s ask.table ask.key (action_by ask.op))
     Done ≡ Done)
     × BlocksStand (written h s x.seg x.slot (change_in h x.seg ask.table ask.key (action_by ask.op))) xids now
 

@@ -25,7 +25,6 @@ refusal_of faults.BlockFull = refusals.BlockFull
 refusal_of faults.SlotsFull = refusals.SlotsFull
 refusal_of (faults.RollbackFull seg since) = refusals.RollbackFull seg since
 refusal_of faults.WornOut = refusals.WornOut
-refusal_of faults.LogFull = refusals.LogFull
 
 -- another session than s doesn't hold the key
 abbrev pub NotOthers : State → ℕ → ℕ → ℕ → Type 0
@@ -45,9 +44,9 @@ IsHolder h env table key None = holder h table key ≡ None
 IsHolder h env table key (Some x) =
     (u : ℕ) × (t : ℕ) × (holder h table key ≡ Some u) × Owns h u t × (x ≡ env.xid t)
 
--- the room that the log must keep after a write of a transaction that has its slot, or takes one
-abbrev pub kept_room : Shape → List (List ℕ) → Option Xid → ℕ
-kept_room shape blocks own = owed_in shape blocks + (if is_some own then 1 else 2)
+-- how many groups put back what is under way after a write of a transaction that has its slot, or takes one
+abbrev pub owed_after : Shape → List (List ℕ) → Option Xid → ℕ
+owed_after shape blocks own = owed_in shape blocks + (if is_some own then 1 else 2)
 
 -- Session s is about to write in blocks that stand for the machine's state: the id that it keeps is that of its slot.
 pub record IsAbout (h : State) (xids : List Xid) (s : ℕ) (own : Option Xid) (blocks : List (List ℕ)) : Type 0 where

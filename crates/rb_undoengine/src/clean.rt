@@ -1,59 +1,43 @@
 //! The cleaning of a block by a reader. The engine's fetch calls it for each block that it reads.
-ghost use Rattle.std.specs.Prelude.{IsTrue, ◌↔◌, ◌≡◌, ◌⊎◌, ◌<◌, ◌≤◌};
+ghost use Rattle.std.specs.Prelude.{◌≡◌, ◌⊎◌, ◌<◌, ◌≤◌};
 ghost use Rattle.std.specs.Prelude.{ℕ, List, false, not, length, OnOk};
 ghost use Rattle.std.specs.Result.{is_err};
 ghost use Rattle.rb_base.specs.Blocks.{block_of, table_blocks};
 ghost use Rattle.rb_base.specs.Groups.{Patch};
 ghost use Rattle.rb_base.specs.Logs.{Logs};
-ghost use Rattle.rb_base.specs.Stores.{room_of};
 ghost use Rattle.rb_base.specs.declared.ids.Xid.{Xid};
 ghost use Rattle.rb_heap.specs.Cleaning.{cleaned_home};
 ghost use Rattle.rb_heap.specs.Homes.{home_of};
 ghost use Rattle.rb_image.specs.Holds.{Holds};
 ghost use Rattle.rb_image.specs.Made.{CleanMade, GivesAny};
 ghost use Rattle.rb_model.specs.State.{State};
-ghost use Rattle.rb_segment.specs.Segments.{owed_in};
 ghost use Rattle.rb_standing.specs.Standing.{env_of};
 
 use rb_base::{BlockNo, Failed, Store, WORN};
 use rb_cleanout::plan_clean;
-use rb_segment::owed;
-
-/// Whether the log takes a group at all. A log that is used up is asked first, as each block of its file is still read.
-fn can_log<S: Store>(store: &S) -> bool
-    ensures { IsTrue result ↔ ((S.lsn store.now < WORN) × (1 ≤ room_of (S.slots store.now) (S.lsn store.now))) }
-{
-    store.logged() < WORN && store.room() >= 1
-}
 
 /// Cleans block `no`, which is one of rows, of the transactions that have ended: by one group, which waits, or
-/// by none where there is nothing to clean, where the log is worn out, or where it has no more room than what puts back
-/// all that is under way. `Failed` only where a call of the store failed.
+/// by none where there is nothing to clean, or where the log is worn out. That is asked first, as each block of such a
+/// file is still read. `Failed` only where a call of the store failed.
 pub fn clean_step<S: Store>(store: &mut S, no: BlockNo) -> Result<(), Failed>
     requires going { S.failed store.old ≡ false }
     requires there { no < table_blocks (S.shape_of store.old) }
     ensures logs { (groups : List (List Patch))
         × Logs S.Store store.old store.new groups (not (is_err result)) × (length groups ≤ 1) }
     ensures gives { S.tells → (h : State) (xids : List Xid) → S.shape_of store.old ≡ h.shape
-        → Holds S.Store h xids store.old → length h.sessions ≤ 16
-        → GivesAny S.Store store.old store.new (not (is_err result))
-        (CleanMade h xids no (room_of (S.slots store.old) (S.lsn store.old)) (S.blocks store.old)) }
+        → Holds S.Store h xids store.old → GivesAny S.Store store.old store.new (not (is_err result))
+        (CleanMade h xids no (S.blocks store.old)) }
     ensures cleaned { S.tells → (h : State) (xids : List Xid) → S.shape_of store.old ≡ h.shape
         → Holds S.Store h xids store.old → S.lsn store.old < WORN
-        → owed_in h.shape (S.blocks store.old) < room_of (S.slots store.old) (S.lsn store.old)
         → OnOk result (home_of (block_of (S.blocks store.new) no)
         ≡ cleaned_home (env_of h.shape (S.blocks store.old)).look (home_of (block_of (S.blocks store.old) no))) }
     ensures young { OnOk result ((S.lsn store.new ≤ WORN) ⊎ (S.lsn store.new ≡ S.lsn store.old)) }
 {
-    if !can_log(store) {
+    if store.logged() >= WORN {
         return Ok(());
     }
     let Some(plan) = plan_clean(store, no)? else {
         return Ok(());
     };
-    let needed = owed(store)?;
-    if store.room() <= needed {
-        return Ok(());
-    }
     store.apply(&plan)
 }

@@ -5,7 +5,6 @@ ghost use Rattle.std.specs.Result.{is_err};
 ghost use Rattle.rb_attempt.specs.Asks.{header_in};
 ghost use Rattle.rb_base.specs.Groups.{Patch};
 ghost use Rattle.rb_base.specs.Logs.{Logs};
-ghost use Rattle.rb_base.specs.Stores.{room_of};
 ghost use Rattle.rb_base.specs.declared.ids.Xid.{Xid};
 ghost use Rattle.rb_image.specs.Made.{BackMade, GivesOne};
 ghost use Rattle.rb_model.specs.Calls.{Owned};
@@ -26,7 +25,6 @@ pub fn back_step<S: Store>(store: &mut S, xid: Xid, group: &mut Group) -> Result
     requires going { S.failed store.old ≡ false }
     requires there { xid.seg < (S.shape_of store.old).segments }
     requires slot { xid.slot < SLOTS }
-    requires room { 1 ≤ room_of (S.slots store.old) (S.lsn store.old) }
     requires few { S.lsn store.old < 2 ^ 62 }
     ensures logs { (groups : List (List Patch))
         × Logs S.Store store.old store.new groups (not (is_err result)) × (length groups ≤ 1) }

@@ -5,7 +5,6 @@ ghost use Rattle.rb_attempt.specs.Asks.{IsShort};
 ghost use Rattle.rb_attempt.specs.Refusals.{has_failed};
 ghost use Rattle.rb_base.specs.Groups.{Patch};
 ghost use Rattle.rb_base.specs.Logs.{Logs, group_of};
-ghost use Rattle.rb_base.specs.Stores.{room_of};
 ghost use Rattle.rb_base.specs.declared.ids.Xid.{Xid};
 ghost use Rattle.rb_image.specs.Made.{GivesOne, WriteMade};
 ghost use Rattle.rb_model.specs.Calls.{Done, Refused, first_of, write_tests, WritesIn};
@@ -41,21 +40,21 @@ pub fn write_step<S: Store>(
         → S.shape_of store.old ≡ h.shape → s ≤ length h.sessions → MayWrite h s table key
         → S.lsn store.old ≡ logged_of h.shape (S.blocks store.old) → length h.sessions ≤ 16
         → IfOk result (λ x. GivesOne S.Store store.old store.new true (WriteMade h xids s table key
-        (action_by op.entry) (room_of (S.slots store.old) (S.lsn store.old)) x (S.blocks store.old))) }
+        (action_by op.entry) x (S.blocks store.old))) }
     ensures failed { S.tells → has_failed result ≡ true → (h : State) (xids : List Xid) (s : ℕ)
         → IsAbout h xids s own (S.blocks store.old) → S.shape_of store.old ≡ h.shape → s ≤ length h.sessions
         → MayWrite h s table key → S.lsn store.old ≡ logged_of h.shape (S.blocks store.old)
         → length h.sessions ≤ 16
         → (x : Xid) × GivesOne S.Store store.old store.new false (WriteMade h xids s table key
-        (action_by op.entry) (room_of (S.slots store.old) (S.lsn store.old)) x (S.blocks store.old)) }
+        (action_by op.entry) x (S.blocks store.old)) }
     ensures refused { S.tells → has_failed result ≡ false → (h : State) (xids : List Xid) (s : ℕ)
         → IsAbout h xids s own (S.blocks store.old) → S.shape_of store.old ≡ h.shape → s ≤ length h.sessions
         → MayWrite h s table key → length h.sessions ≤ 16
         → IfErr result (λ fault. (x : Xid) × WritesIn h s x.seg x.slot
-        × (first_of (write_tests h (S.lsn store.old) (room_of (S.slots store.old) (S.lsn store.old))
-        x.seg x.slot s table key (action_by op.entry)) Done ≡ Refused (refusal_of fault))) }
+        × (first_of (write_tests h (S.lsn store.old) x.seg x.slot s table key (action_by op.entry)) Done
+        ≡ Refused (refusal_of fault))) }
     ensures unchanged { has_failed result ≡ false → OnErr result (Logs S.Store store.old store.new [] true) }
-    ensures room { OnOk result ((S.lsn store.old < WORN) × (1 ≤ room_of (S.slots store.old) (S.lsn store.old))) }
+    ensures numbers { OnOk result (S.lsn store.old < WORN) }
 {
     let ask = Ask {
         own,

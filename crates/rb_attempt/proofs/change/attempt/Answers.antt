@@ -76,7 +76,7 @@ returns-in-Ok-clause-group g c told number young =
       logs.0,
       logs.1,
       λ some. (
-        record { takes = made.takes told young; numbers = made.room.0; fits = made.kept told },
+        record { takes = made.takes told young; numbers = made.numbers },
         (c.in_ok-xid.xid, subst (λ (n : ℕ). IsMade shape blocks (after_group (n + 1) c.prepare.new.group blocks) c.args.ask.now c.in_ok-xid.xid) (sym number) (made.made told young)),
       ),
     )
@@ -93,7 +93,7 @@ returns-in-Err-clause-group g c told number young =
       logs.0,
       logs.1,
       λ some. (
-        record { takes = made.takes told young; numbers = made.room.0; fits = made.kept told },
+        record { takes = made.takes told young; numbers = made.numbers },
         (c.in_ok-xid.xid, subst (λ (n : ℕ). IsMade shape blocks (after_group (n + 1) c.prepare.new.group blocks) c.args.ask.now c.in_ok-xid.xid) (sym number) (made.made told young)),
       ),
     )

@@ -1,14 +1,13 @@
 use Rattle.std.proofs.Common.{◌≡◌, ◌+◌, ◌<◌, ◌≤◌, ◌^◌, ℕ, Bool, List, [], ◌++◌, true, not, if◌then◌else◌, Option, Result, Err, IfErr, refl, ap, sym, subst, ◌∙◌, arith}
-use Rattle.std.specs.Prelude.{is_some}
 use Rattle.std.proofs.lemmas.Result.{err_from_is_err_and, IfOk-from_err}
-use Rattle.rb_attempt.proofs.Causes.{both_ways, fails_same, log_refuses, logs_on, takes_writer}
+use Rattle.rb_attempt.proofs.Causes.{both_ways, logs_on, takes_writer}
 use Rattle.rb_attempt.proofs.Choices.{chain_short, choice_agrees, none_agrees}
 use Rattle.rb_attempt.proofs.Headers.{ready_is, turned_may, young_at}
 use Rattle.rb_attempt.proofs.Writers.{writer_there}
 use Rattle.rb_attempt.proofs.Written.{made_by, ready_blocks, Prepared}
 use Rattle.rb_attempt.specs.Asks.{adds_row, home_for, AreYoung, IsWriterOf}
 use Rattle.rb_attempt.specs.Making.{Changes}
-use Rattle.rb_attempt.specs.Refusals.{has_failed, HasCause, LogRefuses, Refuses, TakesWrite, TakesWriter}
+use Rattle.rb_attempt.specs.Refusals.{has_failed, HasCause, Refuses, TakesWrite, TakesWriter}
 use Rattle.rb_attempt.specs.declared.ask.AttemptFault.{AttemptFault}
 use Rattle.rb_attempt.specs.declared.ask.AttemptFault.TheVariants.{RollbackFull}
 use Rattle.rb_attempt.specs.declared.home.Place.{Place}
@@ -16,7 +15,6 @@ use Rattle.rb_base.proofs.Each.{all_so}
 use Rattle.rb_base.specs.Blocks.{block_of, header_block, home_block, shape_blocks, table_blocks, written_to, AreWithin}
 use Rattle.rb_base.specs.Groups.{Patch}
 use Rattle.rb_base.specs.Logs.{Logs, more_logs}
-use Rattle.rb_base.specs.Stores.{room_of}
 use Rattle.rb_base.specs.declared.ids.Xid.{Xid}
 use Rattle.rb_base.specs.declared.shape.Shape.{Shape}
 use Rattle.rb_cleanout.proofs.Copies.{all_joined}
@@ -27,7 +25,6 @@ use Rattle.rb_heap.specs.Cleaning.{cleaned_home, IsCleanPatch}
 use Rattle.rb_heap.specs.Homes.{Home, home_entry, home_of}
 use Rattle.rb_itl.specs.Entries.{entry_at, free_entry}
 use Rattle.rb_segment.specs.Header.{header_of}
-use Rattle.rb_segment.specs.Segments.{owed_in}
 use Rattle.rb_standing.specs.Standing.{env_of}
 use Rattle.rb_standing.specs.Writing.{AreOfReady}
 use Rattle.rb_attempt.proofs.change.prepare.Goals as goal
@@ -50,15 +47,13 @@ returns-in_err-cell-clause-cause g c told young may going =
     ∙ ap (λ (b : ℕ). cleaned_home (env_of shape blocks).look (home_of (block_of blocks b))) number in
     let writer = writer_there shape blocks ask.own some may in
     let logged = s.lsn old in
-    let room = room_of (s.slots old) logged in
-    let kept : ℕ = owed_in shape blocks + (if is_some ask.own then 1 else 2) in
     let p = err_from_is_err_and c.from_residual-in_err-cell.result c.from_residual-in_err-cell.ensures.1 in
     let is : c.from_residual-in_err-cell.result ≡ Err fault = p.1 ∙ ap (λ (f : AttemptFault). Err f) p.2 in
-    subst (λ (r : Result Xid AttemptFault). IfErr r (HasCause shape blocks ask logged room)) (sym is) (
+    subst (λ (r : Result Xid AttemptFault). IfErr r (HasCause shape blocks ask logged)) (sym is) (
       writer.0,
       writer.1,
       writer.2,
-      subst (λ (h : Home). Refuses fault h (adds_row ask.op) ask.key writer.0 writer.1 logged room kept) home (c.in_err-cell.ensures.refused writer.0 writer.1 logged room kept),
+      subst (λ (h : Home). Refuses fault h (adds_row ask.op) ask.key writer.0 writer.1 logged) home (c.in_err-cell.ensures.refused writer.0 writer.1 logged),
     )
 
 pub returns-in_default-clause-cause : goal.returns-in_default-clause-cause
@@ -108,19 +103,17 @@ returns-in_err-put_change-clause-cause g c told young may going =
     let fault = c.in_err-put_change.field-0.0 in
     let full = c.in_err-put_change.ensures.full in
     let logged = s.lsn old in
-    let room = room_of (s.slots old) logged in
-    let kept : ℕ = owed_in shape blocks + (if is_some ask.own then 1 else 2) in
     let p = err_from_is_err_and c.from_residual-in_err-put_change.result c.from_residual-in_err-put_change.ensures.1 in
     let is : c.from_residual-in_err-put_change.result ≡ Err fault = p.1 ∙ ap (λ (f : AttemptFault). Err f) p.2 in
-    subst (λ (r : Result Xid AttemptFault). IfErr r (HasCause shape blocks ask logged room)) (sym is) (
+    subst (λ (r : Result Xid AttemptFault). IfErr r (HasCause shape blocks ask logged)) (sym is) (
       x,
       ready,
       writer,
-      subst (λ (f : AttemptFault). Refuses f (home_for shape blocks ask) (adds_row ask.op) ask.key x ready logged room kept) (sym full.1) (takes, full.2, refl, full.3),
+      subst (λ (f : AttemptFault). Refuses f (home_for shape blocks ask) (adds_row ask.op) ask.key x ready logged) (sym full.1) (takes, full.2, refl, full.3),
     )
 
-pub returns-in_err-check_room-clause-cause : goal.returns-in_err-check_room-clause-cause
-returns-in_err-check_room-clause-cause g c told young may going =
+pub returns-then-logged-ge-WORN-clause-cause : goal.returns-then-logged-ge-WORN-clause-cause
+returns-then-logged-ge-WORN-clause-cause g c told young may going =
     let s = g.S.Store in
     let old = c.args.store.now in
     let mid = c.clean_home.new.store in
@@ -141,9 +134,6 @@ returns-in_err-check_room-clause-cause g c told young may going =
     let takes = subst (λ (h : Home). TakesWriter h (adds_row ask.op) ask.key x) home (takes_writer (home_of copy) (adds_row ask.op) ask.key x i c.in_ok-cell.ensures.takes choice) in
     let late = c.writer.new.store in
     let logs_late = more_logs s old mid late [] [] true logs c.in_ok-xid.ensures.logs in
-    let fault = c.in_err-check_room.field-0.0 in
-    let p = err_from_is_err_and c.from_residual-in_err-check_room.result c.from_residual-in_err-check_room.ensures.1 in
-    let is : c.from_residual-in_err-check_room.result ≡ Err fault = p.1 ∙ ap (λ (f : AttemptFault). Err f) p.2 in
     let seg : x.seg < shape.segments = omega (arith, c.in_ok-xid.ensures.there, ap (λ (k : Shape). k.segments) logs.same_shape) in
     let young_ready = young_at shape blocks x ready seg ask.own c.in_ok-xid.ensures.runs young writer in
     let look = (env_of shape blocks).look in
@@ -153,22 +143,12 @@ returns-in_err-check_room-clause-cause g c told young may going =
     let made = c.in_ok-put_change.ensures.made young_ready chain in
     let turns = turned_may (header_block c.shape-shape.result x.seg) ready made.recorded.room made.recorded.before made.recorded.has_turned in
     let logged = s.lsn old in
-    let room = room_of (s.slots old) logged in
-    let kept : ℕ = owed_in shape blocks + (if is_some ask.own then 1 else 2) in
     let same_lsn : s.lsn late ≡ logged = omega (arith, logs_late.number refl) in
-    let same_room : room_of (s.slots late) (s.lsn late) ≡ room = ap (λ (o : Option ℕ). room_of o (s.lsn late)) logs_late.same_slots ∙ ap (λ (n : ℕ). room_of (s.slots old) n) same_lsn in
-    let owed = ap (λ (k : Shape). owed_in k (s.blocks late)) logs_late.same_shape ∙ ap (owed_in shape) (logs_late.blocks told refl) in
-    let same_kept : owed_in (s.shape_of late) (s.blocks late) + (if c.is_some.result then 1 else 2) ≡ kept = ap (λ (n : ℕ). n + (if c.is_some.result then 1 else 2)) owed
-    ∙ ap (λ (b : Bool). owed_in shape blocks + (if b then 1 else 2)) c.is_some.ensures in
-    let log = subst (λ (n : ℕ). LogRefuses fault n room kept) same_lsn
-    (subst (λ (n : ℕ). LogRefuses fault (s.lsn late) n kept) same_room
-    (subst (LogRefuses fault (s.lsn late) (room_of (s.slots late) (s.lsn late))) same_kept
-    (c.in_err-check_room.ensures.refused told (fails_same (Unit {0}) Xid fault ∙ ap (λ (r : Result Xid AttemptFault). has_failed r) (sym is) ∙ going)))) in
-    subst (λ (r : Result Xid AttemptFault). IfErr r (HasCause shape blocks ask logged room)) (sym is) (
+    let number_late = c.logged.ensures in (
       x,
       ready,
       writer,
-      log_refuses fault (home_for shape blocks ask) (adds_row ask.op) ask.key x ready logged room kept takes turns log,
+      (takes, turns, omega (arith, same_lsn, number_late, c.if-logged-ge-WORN.true)),
     )
 
 pub returns-clause-within : goal.returns-clause-within
@@ -277,14 +257,8 @@ returns-in_err-xid-clause-logs g c =
     logs_on s old c.writer.new.store Xid Xid c.from_residual-in_err-xid.result fault (p.1 ∙ ap (λ (f : AttemptFault). Err f) p.2)
     (more_logs s old c.clean_home.new.store c.writer.new.store [] [] (not (has_failed {T = Xid} (Err fault))) c.in_ok-clean_home.ensures.logs c.in_err-xid.ensures.logs)
 
-pub returns-in_err-check_room-clause-logs : goal.returns-in_err-check_room-clause-logs
-returns-in_err-check_room-clause-logs g c =
-    let s = g.S.Store in
-    let old = c.args.store.now in
-    let fault = c.in_err-check_room.field-0.0 in
-    let p = err_from_is_err_and c.from_residual-in_err-check_room.result c.from_residual-in_err-check_room.ensures.1 in
-    logs_on s old c.check_room.new.store Xid (Unit {0}) c.from_residual-in_err-check_room.result fault (p.1 ∙ ap (λ (f : AttemptFault). Err f) p.2)
-    (more_logs s old c.writer.new.store c.check_room.new.store [] [] (not (has_failed {T = Unit {0}} (Err fault))) (more_logs s old c.clean_home.new.store c.writer.new.store [] [] true c.in_ok-clean_home.ensures.logs c.in_ok-xid.ensures.logs) c.in_err-check_room.ensures.logs)
+pub returns-then-logged-ge-WORN-clause-logs : goal.returns-then-logged-ge-WORN-clause-logs
+returns-then-logged-ge-WORN-clause-logs g c = more_logs g.S.Store c.args.store.now c.clean_home.new.store c.writer.new.store [] [] true c.in_ok-clean_home.ensures.logs c.in_ok-xid.ensures.logs
 
 -- the segment has no room
 pub returns-in_err-put_change-clause-logs : goal.returns-in_err-put_change-clause-logs
@@ -303,9 +277,7 @@ pub returns-clause-logs : goal.returns-clause-logs
 returns-clause-logs g c =
     let s = g.S.Store in
     let old = c.args.store.now in
-    more_logs s old c.writer.new.store c.check_room.new.store [] [] true
-    (more_logs s old c.clean_home.new.store c.writer.new.store [] [] true c.in_ok-clean_home.ensures.logs c.in_ok-xid.ensures.logs)
-    c.in_ok-check_room.ensures.logs
+    more_logs s old c.clean_home.new.store c.writer.new.store [] [] true c.in_ok-clean_home.ensures.logs c.in_ok-xid.ensures.logs
 
 pub returns-in_err-cell-clause-logs : goal.returns-in_err-cell-clause-logs
 returns-in_err-cell-clause-logs g c =
@@ -321,17 +293,11 @@ returns-in_err-cell-clause-made g c told young = IfOk-from_err c.from_residual-i
 pub returns-in_err-cell-clause-takes : goal.returns-in_err-cell-clause-takes
 returns-in_err-cell-clause-takes g c told young = IfOk-from_err c.from_residual-in_err-cell.result _ c.from_residual-in_err-cell.ensures.0
 
-pub returns-in_err-cell-clause-kept : goal.returns-in_err-cell-clause-kept
-returns-in_err-cell-clause-kept g c told = IfOk-from_err c.from_residual-in_err-cell.result _ c.from_residual-in_err-cell.ensures.0
-
 pub returns-in_err-xid-clause-made : goal.returns-in_err-xid-clause-made
 returns-in_err-xid-clause-made g c told young = IfOk-from_err c.from_residual-in_err-xid.result _ c.from_residual-in_err-xid.ensures.0
 
 pub returns-in_err-xid-clause-takes : goal.returns-in_err-xid-clause-takes
 returns-in_err-xid-clause-takes g c told young = IfOk-from_err c.from_residual-in_err-xid.result _ c.from_residual-in_err-xid.ensures.0
-
-pub returns-in_err-xid-clause-kept : goal.returns-in_err-xid-clause-kept
-returns-in_err-xid-clause-kept g c told = IfOk-from_err c.from_residual-in_err-xid.result _ c.from_residual-in_err-xid.ensures.0
 
 pub returns-in_err-put_change-clause-made : goal.returns-in_err-put_change-clause-made
 returns-in_err-put_change-clause-made g c told young = IfOk-from_err c.from_residual-in_err-put_change.result _ c.from_residual-in_err-put_change.ensures.0
@@ -339,28 +305,11 @@ returns-in_err-put_change-clause-made g c told young = IfOk-from_err c.from_resi
 pub returns-in_err-put_change-clause-takes : goal.returns-in_err-put_change-clause-takes
 returns-in_err-put_change-clause-takes g c told young = IfOk-from_err c.from_residual-in_err-put_change.result _ c.from_residual-in_err-put_change.ensures.0
 
-pub returns-in_err-put_change-clause-kept : goal.returns-in_err-put_change-clause-kept
-returns-in_err-put_change-clause-kept g c told = IfOk-from_err c.from_residual-in_err-put_change.result _ c.from_residual-in_err-put_change.ensures.0
-
-pub returns-in_err-check_room-clause-made : goal.returns-in_err-check_room-clause-made
-returns-in_err-check_room-clause-made g c told young = IfOk-from_err c.from_residual-in_err-check_room.result _ c.from_residual-in_err-check_room.ensures.0
-
-pub returns-in_err-check_room-clause-takes : goal.returns-in_err-check_room-clause-takes
-returns-in_err-check_room-clause-takes g c told young = IfOk-from_err c.from_residual-in_err-check_room.result _ c.from_residual-in_err-check_room.ensures.0
-
-pub returns-in_err-check_room-clause-kept : goal.returns-in_err-check_room-clause-kept
-returns-in_err-check_room-clause-kept g c told = IfOk-from_err c.from_residual-in_err-check_room.result _ c.from_residual-in_err-check_room.ensures.0
-
-pub returns-clause-kept : goal.returns-clause-kept
-returns-clause-kept g c told =
+pub returns-clause-numbers : goal.returns-clause-numbers
+returns-clause-numbers g c =
     let s = g.S.Store in
     let old = c.args.store.now in
     let late = c.writer.new.store in
-    let shape = s.shape_of old in
     let logs = more_logs s old c.clean_home.new.store late [] [] true c.in_ok-clean_home.ensures.logs c.in_ok-xid.ensures.logs in
     let number : s.lsn late ≡ s.lsn old = plus_none (s.lsn late) (s.lsn old) (logs.number refl) in
-    let room = ap (λ (o : Option ℕ). room_of o (s.lsn late)) logs.same_slots ∙ ap (room_of (s.slots old)) number in
-    let owed = ap (λ (k : Shape). owed_in k (s.blocks late)) logs.same_shape ∙ ap (owed_in shape) (logs.blocks told refl) in
-    subst (λ (n : ℕ). 1 + (owed_in shape (s.blocks old) + (if is_some c.args.ask.now.own then 1 else 2)) ≤ n) room
-    (subst (λ (n : ℕ). 1 + (n + (if is_some c.args.ask.now.own then 1 else 2)) ≤ room_of (s.slots late) (s.lsn late)) owed
-    (subst (λ (b : Bool). 1 + (owed_in (s.shape_of late) (s.blocks late) + (if b then 1 else 2)) ≤ room_of (s.slots late) (s.lsn late)) c.is_some.ensures (c.in_ok-check_room.ensures.kept told)))
+    omega (arith, number, c.logged.ensures, c.if-logged-ge-WORN.false)

@@ -6,12 +6,12 @@ use Rattle.rb_heap.specs.Homes.{empty_cell, home_of, is_keyed}
 use Rattle.rb_attempt.proofs.home.cell_for.Goals as goal
 
 pub returns-in-true-true-clause-refused : goal.returns-in-true-true-clause-refused
-returns-in-true-true-clause-refused c x ready logged room kept =
+returns-in-true-true-clause-refused c x ready logged =
     let read = cell_read c.args.home.now c.in-Some.c empty_cell c.in-Some.ensures.found.within in
     (sym c.in-true-true.ensures, (c.in-Some.c, c.in-Some.ensures.found, ap (λ (y : Cell). y.state) read ∙ sym c.front.ensures.state ∙ c.in-true-true.is-1))
 
 pub returns-in-false-false-clause-refused : goal.returns-in-false-false-clause-refused
-returns-in-false-false-clause-refused c x ready logged room kept =
+returns-in-false-false-clause-refused c x ready logged =
     let home = home_of c.args.home.now in
     let read = cell_read c.args.home.now c.in-Some.c empty_cell c.in-Some.ensures.found.within in (
       sym c.in-false-false.ensures,

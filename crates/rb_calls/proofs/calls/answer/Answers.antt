@@ -19,8 +19,8 @@ returns-in-Write-clause-did g c = λ h st.
 
 pub returns-in-Write-clause-makes : goal.returns-in-Write-clause-makes
 returns-in-Write-clause-makes g c = λ h st fine.
-    subst (λ (command : Command). Makes h (call_of (command_of command) c.args.k) (answer_of c.answer_to_write.result c.args.row.now) (g.T.Store.slots c.args.engine.now.store) (g.T.Store.lsn c.write.new.self.store) (g.T.Store.blocks c.args.engine.now.store) (g.T.Store.blocks c.write.new.self.store)) (sym c.in-Write.is)
-    (subst (λ (r : Answer). Makes h (call_of (command_of (commands.Write c.in-Write.s c.in-Write.t c.in-Write.k c.in-Write.op)) c.args.k) r (g.T.Store.slots c.args.engine.now.store) (g.T.Store.lsn c.write.new.self.store) (g.T.Store.blocks c.args.engine.now.store) (g.T.Store.blocks c.write.new.self.store)) (sym (c.answer_to_write.ensures.answer c.args.row.now)) (c.write.ensures.makes h st (sym (c.answer_to_write.ensures.fault c.args.row.now) ∙ fine)))
+    subst (λ (command : Command). Makes h (call_of (command_of command) c.args.k) (answer_of c.answer_to_write.result c.args.row.now) (g.T.Store.lsn c.write.new.self.store) (g.T.Store.blocks c.args.engine.now.store) (g.T.Store.blocks c.write.new.self.store)) (sym c.in-Write.is)
+    (subst (λ (r : Answer). Makes h (call_of (command_of (commands.Write c.in-Write.s c.in-Write.t c.in-Write.k c.in-Write.op)) c.args.k) r (g.T.Store.lsn c.write.new.self.store) (g.T.Store.blocks c.args.engine.now.store) (g.T.Store.blocks c.write.new.self.store)) (sym (c.answer_to_write.ensures.answer c.args.row.now)) (c.write.ensures.makes h st (sym (c.answer_to_write.ensures.fault c.args.row.now) ∙ fine)))
 
 pub returns-in-Write-clause-disk : goal.returns-in-Write-clause-disk
 returns-in-Write-clause-disk g c = counted_as _ _ _ _ (sym (c.answer_to_write.ensures.fault c.args.row.now)) c.write.ensures.disk
@@ -35,8 +35,8 @@ returns-in-Lock-clause-did g c = λ h st.
 
 pub returns-in-Lock-clause-makes : goal.returns-in-Lock-clause-makes
 returns-in-Lock-clause-makes g c = λ h st fine.
-    subst (λ (command : Command). Makes h (call_of (command_of command) c.args.k) (answer_of c.answer_to_write-in-Lock.result c.args.row.now) (g.T.Store.slots c.args.engine.now.store) (g.T.Store.lsn c.lock.new.self.store) (g.T.Store.blocks c.args.engine.now.store) (g.T.Store.blocks c.lock.new.self.store)) (sym c.in-Lock.is)
-    (subst (λ (r : Answer). Makes h (call_of (command_of (commands.Lock c.in-Lock.s c.in-Lock.t c.in-Lock.k)) c.args.k) r (g.T.Store.slots c.args.engine.now.store) (g.T.Store.lsn c.lock.new.self.store) (g.T.Store.blocks c.args.engine.now.store) (g.T.Store.blocks c.lock.new.self.store)) (sym (c.answer_to_write-in-Lock.ensures.answer c.args.row.now)) (c.lock.ensures.makes h st (sym (c.answer_to_write-in-Lock.ensures.fault c.args.row.now) ∙ fine)))
+    subst (λ (command : Command). Makes h (call_of (command_of command) c.args.k) (answer_of c.answer_to_write-in-Lock.result c.args.row.now) (g.T.Store.lsn c.lock.new.self.store) (g.T.Store.blocks c.args.engine.now.store) (g.T.Store.blocks c.lock.new.self.store)) (sym c.in-Lock.is)
+    (subst (λ (r : Answer). Makes h (call_of (command_of (commands.Lock c.in-Lock.s c.in-Lock.t c.in-Lock.k)) c.args.k) r (g.T.Store.lsn c.lock.new.self.store) (g.T.Store.blocks c.args.engine.now.store) (g.T.Store.blocks c.lock.new.self.store)) (sym (c.answer_to_write-in-Lock.ensures.answer c.args.row.now)) (c.lock.ensures.makes h st (sym (c.answer_to_write-in-Lock.ensures.fault c.args.row.now) ∙ fine)))
 
 pub returns-in-Lock-clause-disk : goal.returns-in-Lock-clause-disk
 returns-in-Lock-clause-disk g c = counted_as _ _ _ _ (sym (c.answer_to_write-in-Lock.ensures.fault c.args.row.now)) c.lock.ensures.disk
@@ -51,8 +51,8 @@ returns-in-Commit-clause-did g c = λ h st.
 
 pub returns-in-Commit-clause-makes : goal.returns-in-Commit-clause-makes
 returns-in-Commit-clause-makes g c = λ h st fine.
-    subst (λ (command : Command). Makes h (call_of (command_of command) c.args.k) (answer_of c.answer_to_commit.result c.args.row.now) (g.T.Store.slots c.args.engine.now.store) (g.T.Store.lsn c.commit.new.self.store) (g.T.Store.blocks c.args.engine.now.store) (g.T.Store.blocks c.commit.new.self.store)) (sym c.in-Commit.is)
-    (subst (λ (r : Answer). Makes h (call_of (command_of (commands.Commit c.in-Commit.s)) c.args.k) r (g.T.Store.slots c.args.engine.now.store) (g.T.Store.lsn c.commit.new.self.store) (g.T.Store.blocks c.args.engine.now.store) (g.T.Store.blocks c.commit.new.self.store)) (sym (c.answer_to_commit.ensures.answer c.args.row.now)) (c.commit.ensures.makes h st (sym (c.answer_to_commit.ensures.fault c.args.row.now) ∙ fine)))
+    subst (λ (command : Command). Makes h (call_of (command_of command) c.args.k) (answer_of c.answer_to_commit.result c.args.row.now) (g.T.Store.lsn c.commit.new.self.store) (g.T.Store.blocks c.args.engine.now.store) (g.T.Store.blocks c.commit.new.self.store)) (sym c.in-Commit.is)
+    (subst (λ (r : Answer). Makes h (call_of (command_of (commands.Commit c.in-Commit.s)) c.args.k) r (g.T.Store.lsn c.commit.new.self.store) (g.T.Store.blocks c.args.engine.now.store) (g.T.Store.blocks c.commit.new.self.store)) (sym (c.answer_to_commit.ensures.answer c.args.row.now)) (c.commit.ensures.makes h st (sym (c.answer_to_commit.ensures.fault c.args.row.now) ∙ fine)))
 
 pub returns-in-Commit-clause-disk : goal.returns-in-Commit-clause-disk
 returns-in-Commit-clause-disk g c = counted_as _ _ _ _ (sym (c.answer_to_commit.ensures.fault c.args.row.now)) c.commit.ensures.disk
@@ -67,8 +67,8 @@ returns-in-Rollback-clause-did g c = λ h st.
 
 pub returns-in-Rollback-clause-makes : goal.returns-in-Rollback-clause-makes
 returns-in-Rollback-clause-makes g c = λ h st fine.
-    subst (λ (command : Command). Makes h (call_of (command_of command) c.args.k) (answer_of c.answer_to_call.result c.args.row.now) (g.T.Store.slots c.args.engine.now.store) (g.T.Store.lsn c.rollback.new.self.store) (g.T.Store.blocks c.args.engine.now.store) (g.T.Store.blocks c.rollback.new.self.store)) (sym c.in-Rollback.is)
-    (subst (λ (r : Answer). Makes h (call_of (command_of (commands.Rollback c.in-Rollback.s)) c.args.k) r (g.T.Store.slots c.args.engine.now.store) (g.T.Store.lsn c.rollback.new.self.store) (g.T.Store.blocks c.args.engine.now.store) (g.T.Store.blocks c.rollback.new.self.store)) (sym (c.answer_to_call.ensures.answer c.args.row.now)) (c.rollback.ensures.makes h st (sym (c.answer_to_call.ensures.fault c.args.row.now) ∙ fine)))
+    subst (λ (command : Command). Makes h (call_of (command_of command) c.args.k) (answer_of c.answer_to_call.result c.args.row.now) (g.T.Store.lsn c.rollback.new.self.store) (g.T.Store.blocks c.args.engine.now.store) (g.T.Store.blocks c.rollback.new.self.store)) (sym c.in-Rollback.is)
+    (subst (λ (r : Answer). Makes h (call_of (command_of (commands.Rollback c.in-Rollback.s)) c.args.k) r (g.T.Store.lsn c.rollback.new.self.store) (g.T.Store.blocks c.args.engine.now.store) (g.T.Store.blocks c.rollback.new.self.store)) (sym (c.answer_to_call.ensures.answer c.args.row.now)) (c.rollback.ensures.makes h st (sym (c.answer_to_call.ensures.fault c.args.row.now) ∙ fine)))
 
 pub returns-in-Rollback-clause-disk : goal.returns-in-Rollback-clause-disk
 returns-in-Rollback-clause-disk g c = counted_as _ _ _ _ (sym (c.answer_to_call.ensures.fault c.args.row.now)) c.rollback.ensures.disk
@@ -83,8 +83,8 @@ returns-in-Set-clause-did g c = λ h st.
 
 pub returns-in-Set-clause-makes : goal.returns-in-Set-clause-makes
 returns-in-Set-clause-makes g c = λ h st fine.
-    subst (λ (command : Command). Makes h (call_of (command_of command) c.args.k) (answer_of c.answer_to_call-in-Set.result c.args.row.now) (g.T.Store.slots c.args.engine.now.store) (g.T.Store.lsn c.set.new.self.store) (g.T.Store.blocks c.args.engine.now.store) (g.T.Store.blocks c.set.new.self.store)) (sym c.in-Set.is)
-    (subst (λ (r : Answer). Makes h (call_of (command_of (commands.Set c.in-Set.s c.in-Set.mode)) c.args.k) r (g.T.Store.slots c.args.engine.now.store) (g.T.Store.lsn c.set.new.self.store) (g.T.Store.blocks c.args.engine.now.store) (g.T.Store.blocks c.set.new.self.store)) (sym (c.answer_to_call-in-Set.ensures.answer c.args.row.now)) (c.set.ensures.makes h st (sym (c.answer_to_call-in-Set.ensures.fault c.args.row.now) ∙ fine)))
+    subst (λ (command : Command). Makes h (call_of (command_of command) c.args.k) (answer_of c.answer_to_call-in-Set.result c.args.row.now) (g.T.Store.lsn c.set.new.self.store) (g.T.Store.blocks c.args.engine.now.store) (g.T.Store.blocks c.set.new.self.store)) (sym c.in-Set.is)
+    (subst (λ (r : Answer). Makes h (call_of (command_of (commands.Set c.in-Set.s c.in-Set.mode)) c.args.k) r (g.T.Store.lsn c.set.new.self.store) (g.T.Store.blocks c.args.engine.now.store) (g.T.Store.blocks c.set.new.self.store)) (sym (c.answer_to_call-in-Set.ensures.answer c.args.row.now)) (c.set.ensures.makes h st (sym (c.answer_to_call-in-Set.ensures.fault c.args.row.now) ∙ fine)))
 
 pub returns-in-Set-clause-disk : goal.returns-in-Set-clause-disk
 returns-in-Set-clause-disk g c = counted_as _ _ _ _ (sym (c.answer_to_call-in-Set.ensures.fault c.args.row.now)) c.set.ensures.disk
@@ -99,8 +99,8 @@ returns-in-Savepoint-clause-did g c = λ h st.
 
 pub returns-in-Savepoint-clause-makes : goal.returns-in-Savepoint-clause-makes
 returns-in-Savepoint-clause-makes g c = λ h st fine.
-    subst (λ (command : Command). Makes h (call_of (command_of command) c.args.k) (answer_of c.answer_to_call-in-Savepoint.result c.args.row.now) (g.T.Store.slots c.args.engine.now.store) (g.T.Store.lsn c.savepoint.new.self.store) (g.T.Store.blocks c.args.engine.now.store) (g.T.Store.blocks c.savepoint.new.self.store)) (sym c.in-Savepoint.is)
-    (subst (λ (r : Answer). Makes h (call_of (command_of (commands.Savepoint c.in-Savepoint.s c.in-Savepoint.name)) c.args.k) r (g.T.Store.slots c.args.engine.now.store) (g.T.Store.lsn c.savepoint.new.self.store) (g.T.Store.blocks c.args.engine.now.store) (g.T.Store.blocks c.savepoint.new.self.store)) (sym (c.answer_to_call-in-Savepoint.ensures.answer c.args.row.now)) (c.savepoint.ensures.makes h st (sym (c.answer_to_call-in-Savepoint.ensures.fault c.args.row.now) ∙ fine)))
+    subst (λ (command : Command). Makes h (call_of (command_of command) c.args.k) (answer_of c.answer_to_call-in-Savepoint.result c.args.row.now) (g.T.Store.lsn c.savepoint.new.self.store) (g.T.Store.blocks c.args.engine.now.store) (g.T.Store.blocks c.savepoint.new.self.store)) (sym c.in-Savepoint.is)
+    (subst (λ (r : Answer). Makes h (call_of (command_of (commands.Savepoint c.in-Savepoint.s c.in-Savepoint.name)) c.args.k) r (g.T.Store.lsn c.savepoint.new.self.store) (g.T.Store.blocks c.args.engine.now.store) (g.T.Store.blocks c.savepoint.new.self.store)) (sym (c.answer_to_call-in-Savepoint.ensures.answer c.args.row.now)) (c.savepoint.ensures.makes h st (sym (c.answer_to_call-in-Savepoint.ensures.fault c.args.row.now) ∙ fine)))
 
 pub returns-in-Savepoint-clause-disk : goal.returns-in-Savepoint-clause-disk
 returns-in-Savepoint-clause-disk g c = counted_as _ _ _ _ (sym (c.answer_to_call-in-Savepoint.ensures.fault c.args.row.now)) c.savepoint.ensures.disk
@@ -115,8 +115,8 @@ returns-in-RollbackTo-clause-did g c = λ h st.
 
 pub returns-in-RollbackTo-clause-makes : goal.returns-in-RollbackTo-clause-makes
 returns-in-RollbackTo-clause-makes g c = λ h st fine.
-    subst (λ (command : Command). Makes h (call_of (command_of command) c.args.k) (answer_of c.answer_to_call-in-RollbackTo.result c.args.row.now) (g.T.Store.slots c.args.engine.now.store) (g.T.Store.lsn c.rollback_to.new.self.store) (g.T.Store.blocks c.args.engine.now.store) (g.T.Store.blocks c.rollback_to.new.self.store)) (sym c.in-RollbackTo.is)
-    (subst (λ (r : Answer). Makes h (call_of (command_of (commands.RollbackTo c.in-RollbackTo.s c.in-RollbackTo.name)) c.args.k) r (g.T.Store.slots c.args.engine.now.store) (g.T.Store.lsn c.rollback_to.new.self.store) (g.T.Store.blocks c.args.engine.now.store) (g.T.Store.blocks c.rollback_to.new.self.store)) (sym (c.answer_to_call-in-RollbackTo.ensures.answer c.args.row.now)) (c.rollback_to.ensures.makes h st (sym (c.answer_to_call-in-RollbackTo.ensures.fault c.args.row.now) ∙ fine)))
+    subst (λ (command : Command). Makes h (call_of (command_of command) c.args.k) (answer_of c.answer_to_call-in-RollbackTo.result c.args.row.now) (g.T.Store.lsn c.rollback_to.new.self.store) (g.T.Store.blocks c.args.engine.now.store) (g.T.Store.blocks c.rollback_to.new.self.store)) (sym c.in-RollbackTo.is)
+    (subst (λ (r : Answer). Makes h (call_of (command_of (commands.RollbackTo c.in-RollbackTo.s c.in-RollbackTo.name)) c.args.k) r (g.T.Store.lsn c.rollback_to.new.self.store) (g.T.Store.blocks c.args.engine.now.store) (g.T.Store.blocks c.rollback_to.new.self.store)) (sym (c.answer_to_call-in-RollbackTo.ensures.answer c.args.row.now)) (c.rollback_to.ensures.makes h st (sym (c.answer_to_call-in-RollbackTo.ensures.fault c.args.row.now) ∙ fine)))
 
 pub returns-in-RollbackTo-clause-disk : goal.returns-in-RollbackTo-clause-disk
 returns-in-RollbackTo-clause-disk g c = counted_as _ _ _ _ (sym (c.answer_to_call-in-RollbackTo.ensures.fault c.args.row.now)) c.rollback_to.ensures.disk
@@ -131,8 +131,8 @@ returns-in-OpenCursor-clause-did g c = λ h st.
 
 pub returns-in-OpenCursor-clause-makes : goal.returns-in-OpenCursor-clause-makes
 returns-in-OpenCursor-clause-makes g c = λ h st fine.
-    subst (λ (command : Command). Makes h (call_of (command_of command) c.args.k) (answer_of c.answer_to_call-in-OpenCursor.result c.args.row.now) (g.T.Store.slots c.args.engine.now.store) (g.T.Store.lsn c.open_cursor.new.self.store) (g.T.Store.blocks c.args.engine.now.store) (g.T.Store.blocks c.open_cursor.new.self.store)) (sym c.in-OpenCursor.is)
-    (subst (λ (r : Answer). Makes h (call_of (command_of (commands.OpenCursor c.in-OpenCursor.s c.in-OpenCursor.name c.in-OpenCursor.t c.in-OpenCursor.lo c.in-OpenCursor.hi)) c.args.k) r (g.T.Store.slots c.args.engine.now.store) (g.T.Store.lsn c.open_cursor.new.self.store) (g.T.Store.blocks c.args.engine.now.store) (g.T.Store.blocks c.open_cursor.new.self.store)) (sym (c.answer_to_call-in-OpenCursor.ensures.answer c.args.row.now)) (c.open_cursor.ensures.makes h st (sym (c.answer_to_call-in-OpenCursor.ensures.fault c.args.row.now) ∙ fine)))
+    subst (λ (command : Command). Makes h (call_of (command_of command) c.args.k) (answer_of c.answer_to_call-in-OpenCursor.result c.args.row.now) (g.T.Store.lsn c.open_cursor.new.self.store) (g.T.Store.blocks c.args.engine.now.store) (g.T.Store.blocks c.open_cursor.new.self.store)) (sym c.in-OpenCursor.is)
+    (subst (λ (r : Answer). Makes h (call_of (command_of (commands.OpenCursor c.in-OpenCursor.s c.in-OpenCursor.name c.in-OpenCursor.t c.in-OpenCursor.lo c.in-OpenCursor.hi)) c.args.k) r (g.T.Store.lsn c.open_cursor.new.self.store) (g.T.Store.blocks c.args.engine.now.store) (g.T.Store.blocks c.open_cursor.new.self.store)) (sym (c.answer_to_call-in-OpenCursor.ensures.answer c.args.row.now)) (c.open_cursor.ensures.makes h st (sym (c.answer_to_call-in-OpenCursor.ensures.fault c.args.row.now) ∙ fine)))
 
 pub returns-in-OpenCursor-clause-disk : goal.returns-in-OpenCursor-clause-disk
 returns-in-OpenCursor-clause-disk g c = counted_as _ _ _ _ (sym (c.answer_to_call-in-OpenCursor.ensures.fault c.args.row.now)) c.open_cursor.ensures.disk
@@ -147,8 +147,8 @@ returns-in-Fetch-clause-did g c = λ h st.
 
 pub returns-in-Fetch-clause-makes : goal.returns-in-Fetch-clause-makes
 returns-in-Fetch-clause-makes g c = λ h st fine.
-    subst (λ (command : Command). Makes h (call_of (command_of command) c.args.k) (answer_of c.answer_to_fetch.result c.fetch.new.row) (g.T.Store.slots c.args.engine.now.store) (g.T.Store.lsn c.fetch.new.self.store) (g.T.Store.blocks c.args.engine.now.store) (g.T.Store.blocks c.fetch.new.self.store)) (sym c.in-Fetch.is)
-    (subst (λ (r : Answer). Makes h (call_of (command_of (commands.Fetch c.in-Fetch.s c.in-Fetch.name c.in-Fetch.n)) c.args.k) r (g.T.Store.slots c.args.engine.now.store) (g.T.Store.lsn c.fetch.new.self.store) (g.T.Store.blocks c.args.engine.now.store) (g.T.Store.blocks c.fetch.new.self.store)) (sym (c.answer_to_fetch.ensures.answer c.fetch.new.row)) (c.fetch.ensures.makes h st (sym (c.answer_to_fetch.ensures.fault c.fetch.new.row) ∙ fine)))
+    subst (λ (command : Command). Makes h (call_of (command_of command) c.args.k) (answer_of c.answer_to_fetch.result c.fetch.new.row) (g.T.Store.lsn c.fetch.new.self.store) (g.T.Store.blocks c.args.engine.now.store) (g.T.Store.blocks c.fetch.new.self.store)) (sym c.in-Fetch.is)
+    (subst (λ (r : Answer). Makes h (call_of (command_of (commands.Fetch c.in-Fetch.s c.in-Fetch.name c.in-Fetch.n)) c.args.k) r (g.T.Store.lsn c.fetch.new.self.store) (g.T.Store.blocks c.args.engine.now.store) (g.T.Store.blocks c.fetch.new.self.store)) (sym (c.answer_to_fetch.ensures.answer c.fetch.new.row)) (c.fetch.ensures.makes h st (sym (c.answer_to_fetch.ensures.fault c.fetch.new.row) ∙ fine)))
 
 pub returns-in-Fetch-clause-disk : goal.returns-in-Fetch-clause-disk
 returns-in-Fetch-clause-disk g c = counted_as _ _ _ _ (sym (c.answer_to_fetch.ensures.fault c.fetch.new.row)) c.fetch.ensures.disk
@@ -163,8 +163,8 @@ returns-in-CloseCursor-clause-did g c = λ h st.
 
 pub returns-in-CloseCursor-clause-makes : goal.returns-in-CloseCursor-clause-makes
 returns-in-CloseCursor-clause-makes g c = λ h st fine.
-    subst (λ (command : Command). Makes h (call_of (command_of command) c.args.k) (answer_of c.answer_to_call-in-CloseCursor.result c.args.row.now) (g.T.Store.slots c.args.engine.now.store) (g.T.Store.lsn c.close_cursor.new.self.store) (g.T.Store.blocks c.args.engine.now.store) (g.T.Store.blocks c.close_cursor.new.self.store)) (sym c.in-CloseCursor.is)
-    (subst (λ (r : Answer). Makes h (call_of (command_of (commands.CloseCursor c.in-CloseCursor.s c.in-CloseCursor.name)) c.args.k) r (g.T.Store.slots c.args.engine.now.store) (g.T.Store.lsn c.close_cursor.new.self.store) (g.T.Store.blocks c.args.engine.now.store) (g.T.Store.blocks c.close_cursor.new.self.store)) (sym (c.answer_to_call-in-CloseCursor.ensures.answer c.args.row.now)) (c.close_cursor.ensures.makes h st (sym (c.answer_to_call-in-CloseCursor.ensures.fault c.args.row.now) ∙ fine)))
+    subst (λ (command : Command). Makes h (call_of (command_of command) c.args.k) (answer_of c.answer_to_call-in-CloseCursor.result c.args.row.now) (g.T.Store.lsn c.close_cursor.new.self.store) (g.T.Store.blocks c.args.engine.now.store) (g.T.Store.blocks c.close_cursor.new.self.store)) (sym c.in-CloseCursor.is)
+    (subst (λ (r : Answer). Makes h (call_of (command_of (commands.CloseCursor c.in-CloseCursor.s c.in-CloseCursor.name)) c.args.k) r (g.T.Store.lsn c.close_cursor.new.self.store) (g.T.Store.blocks c.args.engine.now.store) (g.T.Store.blocks c.close_cursor.new.self.store)) (sym (c.answer_to_call-in-CloseCursor.ensures.answer c.args.row.now)) (c.close_cursor.ensures.makes h st (sym (c.answer_to_call-in-CloseCursor.ensures.fault c.args.row.now) ∙ fine)))
 
 pub returns-in-CloseCursor-clause-disk : goal.returns-in-CloseCursor-clause-disk
 returns-in-CloseCursor-clause-disk g c = counted_as _ _ _ _ (sym (c.answer_to_call-in-CloseCursor.ensures.fault c.args.row.now)) c.close_cursor.ensures.disk
@@ -179,8 +179,8 @@ returns-in-Cancel-clause-did g c = λ h st.
 
 pub returns-in-Cancel-clause-makes : goal.returns-in-Cancel-clause-makes
 returns-in-Cancel-clause-makes g c = λ h st fine.
-    subst (λ (command : Command). Makes h (call_of (command_of command) c.args.k) (answer_of c.answer_to_call-in-Cancel.result c.args.row.now) (g.T.Store.slots c.args.engine.now.store) (g.T.Store.lsn c.cancel.new.self.store) (g.T.Store.blocks c.args.engine.now.store) (g.T.Store.blocks c.cancel.new.self.store)) (sym c.in-Cancel.is)
-    (subst (λ (r : Answer). Makes h (call_of (command_of (commands.Cancel c.in-Cancel.s)) c.args.k) r (g.T.Store.slots c.args.engine.now.store) (g.T.Store.lsn c.cancel.new.self.store) (g.T.Store.blocks c.args.engine.now.store) (g.T.Store.blocks c.cancel.new.self.store)) (sym (c.answer_to_call-in-Cancel.ensures.answer c.args.row.now)) (c.cancel.ensures.makes h st (sym (c.answer_to_call-in-Cancel.ensures.fault c.args.row.now) ∙ fine)))
+    subst (λ (command : Command). Makes h (call_of (command_of command) c.args.k) (answer_of c.answer_to_call-in-Cancel.result c.args.row.now) (g.T.Store.lsn c.cancel.new.self.store) (g.T.Store.blocks c.args.engine.now.store) (g.T.Store.blocks c.cancel.new.self.store)) (sym c.in-Cancel.is)
+    (subst (λ (r : Answer). Makes h (call_of (command_of (commands.Cancel c.in-Cancel.s)) c.args.k) r (g.T.Store.lsn c.cancel.new.self.store) (g.T.Store.blocks c.args.engine.now.store) (g.T.Store.blocks c.cancel.new.self.store)) (sym (c.answer_to_call-in-Cancel.ensures.answer c.args.row.now)) (c.cancel.ensures.makes h st (sym (c.answer_to_call-in-Cancel.ensures.fault c.args.row.now) ∙ fine)))
 
 pub returns-in-Cancel-clause-disk : goal.returns-in-Cancel-clause-disk
 returns-in-Cancel-clause-disk g c = counted_as _ _ _ _ (sym (c.answer_to_call-in-Cancel.ensures.fault c.args.row.now)) c.cancel.ensures.disk
@@ -195,8 +195,8 @@ returns-in-Checkpoint-clause-did g c = λ h st.
 
 pub returns-in-Checkpoint-clause-makes : goal.returns-in-Checkpoint-clause-makes
 returns-in-Checkpoint-clause-makes g c = λ h st fine.
-    subst (λ (command : Command). Makes h (call_of (command_of command) c.args.k) (answer_of c.answer_to_call-in-Checkpoint.result c.args.row.now) (g.T.Store.slots c.args.engine.now.store) (g.T.Store.lsn c.checkpoint.new.self.store) (g.T.Store.blocks c.args.engine.now.store) (g.T.Store.blocks c.checkpoint.new.self.store)) (sym c.in-Checkpoint.is)
-    (subst (λ (r : Answer). Makes h (call_of (command_of (commands.Checkpoint)) c.args.k) r (g.T.Store.slots c.args.engine.now.store) (g.T.Store.lsn c.checkpoint.new.self.store) (g.T.Store.blocks c.args.engine.now.store) (g.T.Store.blocks c.checkpoint.new.self.store)) (sym (c.answer_to_call-in-Checkpoint.ensures.answer c.args.row.now)) (c.checkpoint.ensures.makes h st (sym (c.answer_to_call-in-Checkpoint.ensures.fault c.args.row.now) ∙ fine)))
+    subst (λ (command : Command). Makes h (call_of (command_of command) c.args.k) (answer_of c.answer_to_call-in-Checkpoint.result c.args.row.now) (g.T.Store.lsn c.checkpoint.new.self.store) (g.T.Store.blocks c.args.engine.now.store) (g.T.Store.blocks c.checkpoint.new.self.store)) (sym c.in-Checkpoint.is)
+    (subst (λ (r : Answer). Makes h (call_of (command_of (commands.Checkpoint)) c.args.k) r (g.T.Store.lsn c.checkpoint.new.self.store) (g.T.Store.blocks c.args.engine.now.store) (g.T.Store.blocks c.checkpoint.new.self.store)) (sym (c.answer_to_call-in-Checkpoint.ensures.answer c.args.row.now)) (c.checkpoint.ensures.makes h st (sym (c.answer_to_call-in-Checkpoint.ensures.fault c.args.row.now) ∙ fine)))
 
 pub returns-in-Checkpoint-clause-disk : goal.returns-in-Checkpoint-clause-disk
 returns-in-Checkpoint-clause-disk g c = counted_as _ _ _ _ (sym (c.answer_to_call-in-Checkpoint.ensures.fault c.args.row.now)) c.checkpoint.ensures.disk
@@ -210,7 +210,7 @@ returns-in-Marks-clause-did g c = λ h st.
 
 pub returns-in-Marks-clause-makes : goal.returns-in-Marks-clause-makes
 returns-in-Marks-clause-makes g c = λ h st fine.
-    subst (λ (command : Command). Makes h (call_of (command_of command) c.args.k) (answer_of c.answer_of_segment.result c.args.row.now) (g.T.Store.slots c.args.engine.now.store) (g.T.Store.lsn c.answer_of_segment.new.engine.store) (g.T.Store.blocks c.args.engine.now.store) (g.T.Store.blocks c.answer_of_segment.new.engine.store)) (sym c.in-Marks.is) (c.answer_of_segment.ensures.makes h c.args.row.now st fine)
+    subst (λ (command : Command). Makes h (call_of (command_of command) c.args.k) (answer_of c.answer_of_segment.result c.args.row.now) (g.T.Store.lsn c.answer_of_segment.new.engine.store) (g.T.Store.blocks c.args.engine.now.store) (g.T.Store.blocks c.answer_of_segment.new.engine.store)) (sym c.in-Marks.is) (c.answer_of_segment.ensures.makes h c.args.row.now st fine)
 
 pub returns-in-Marks-clause-fits : goal.returns-in-Marks-clause-fits
 returns-in-Marks-clause-fits g c = subst (λ (command : Command). FitsCaller (caller (command_of command)) c.answer_of_segment.result) (sym c.in-Marks.is) c.answer_of_segment.ensures.fits

@@ -11,7 +11,7 @@ returns-clause-did g c = λ h row st.
 
 pub returns-clause-makes : goal.returns-clause-makes
 returns-clause-makes g c = λ h row st fine.
-    subst (λ (r : Answer). Makes h (Marks c.args.k) r (g.T.Store.slots c.args.engine.now.store) (g.T.Store.lsn c.marks.new.self.store) (g.T.Store.blocks c.args.engine.now.store) (g.T.Store.blocks c.marks.new.self.store)) (sym (c.answer_to_marks.ensures.answer row))
+    subst (λ (r : Answer). Makes h (Marks c.args.k) r (g.T.Store.lsn c.marks.new.self.store) (g.T.Store.blocks c.args.engine.now.store) (g.T.Store.blocks c.marks.new.self.store)) (sym (c.answer_to_marks.ensures.answer row))
     (c.marks.ensures.makes h st (sym (c.answer_to_marks.ensures.fault row) ∙ fine))
 
 pub returns-clause-disk : goal.returns-clause-disk

@@ -231,7 +231,7 @@ pub returns-in-Err-clause-makes : goal.returns-in-Err-clause-makes
 returns-in-Err-clause-makes g c = λ h st fine.
     let s = g.T.Store in
     let store = c.args.store.now in
-    makes_refused h (machine.Fetch c.args.s (name_text c.args.name.now)) (s.slots store) (s.lsn store) (s.blocks store) (s.blocks store) refl c.in-Err.why
+    makes_refused h (machine.Fetch c.args.s (name_text c.args.name.now)) (s.lsn store) (s.blocks store) (s.blocks store) refl c.in-Err.why
     (λ scn lost is. absurd (not_old h c.args.s c.in-Err.why scn lost (c.in-Err.ensures.refused h st.knows) is))
 
 pub returns-in-Ok-Row-clause-makes : goal.returns-in-Ok-Row-clause-makes
@@ -243,7 +243,7 @@ returns-in-Ok-Row-clause-makes g c = λ h st fine.
     let table_is : c.memory.inside.sessions ≡ kept.sessions = ap (λ (k : Kept). k.sessions) c.memory.view_is in
     let is_named = ap (λ (l : List KeptSession). named name (kept_at l c.args.s).cursors) (sym table_is) ∙ (sym c.cursor.ensures ∙ c.in-Some.is) in
     read_by s (laws_of g) h (record { memory = kept; store = c.args.store.now }) st (sym st.knows.stopped ∙ e.going) c.args.s e.session name (e.granted h st.knows) c.in-Some.cursor is_named
-    (Unit {0}) c.next_row.new.store (Ok c.in-Ok-Row.field-0) (λ well. (c.in-Ok-Row.field-0, refl)) c.in-Ok-Row.ensures.logs.1.same_slots (λ xids serves. c.in-Ok-Row.ensures.cleans st.told h xids serves)
+    (Unit {0}) c.next_row.new.store (Ok c.in-Ok-Row.field-0) (λ well. (c.in-Ok-Row.field-0, refl)) (λ xids serves. c.in-Ok-Row.ensures.cleans st.told h xids serves)
 
 pub returns-in-Ok-End-clause-makes : goal.returns-in-Ok-End-clause-makes
 returns-in-Ok-End-clause-makes g c = λ h st fine.
@@ -254,7 +254,7 @@ returns-in-Ok-End-clause-makes g c = λ h st fine.
     let table_is : c.memory.inside.sessions ≡ kept.sessions = ap (λ (k : Kept). k.sessions) c.memory.view_is in
     let is_named = ap (λ (l : List KeptSession). named name (kept_at l c.args.s).cursors) (sym table_is) ∙ (sym c.cursor.ensures ∙ c.in-Some.is) in
     read_by s (laws_of g) h (record { memory = kept; store = c.args.store.now }) st (sym st.knows.stopped ∙ e.going) c.args.s e.session name (e.granted h st.knows) c.in-Some.cursor is_named
-    (Unit {0}) c.next_row.new.store (Ok c.in-Ok-End.field-0) (λ well. (c.in-Ok-End.field-0, refl)) c.in-Ok-End.ensures.logs.1.same_slots (λ xids serves. c.in-Ok-End.ensures.cleans st.told h xids serves)
+    (Unit {0}) c.next_row.new.store (Ok c.in-Ok-End.field-0) (λ well. (c.in-Ok-End.field-0, refl)) (λ xids serves. c.in-Ok-End.ensures.cleans st.told h xids serves)
 
 pub returns-in-Err-TooOld-clause-makes : goal.returns-in-Err-TooOld-clause-makes
 returns-in-Err-TooOld-clause-makes g c = λ h st fine.
@@ -266,7 +266,7 @@ returns-in-Err-TooOld-clause-makes g c = λ h st fine.
     let is_named = ap (λ (l : List KeptSession). named name (kept_at l c.args.s).cursors) (sym table_is) ∙ (sym c.cursor.ensures ∙ c.in-Some.is) in
     let m = c.in-Some.cursor in
     read_by s (laws_of g) h (record { memory = kept; store = c.args.store.now }) st (sym st.knows.stopped ∙ e.going) c.args.s e.session name (e.granted h st.knows) m is_named
-    ⊥ c.next_row.new.store (Err c.in-Err-TooOld.field-0) (λ clash. absurd clash) c.in-Err-TooOld.ensures.logs.1.same_slots
+    ⊥ c.next_row.new.store (Err c.in-Err-TooOld.field-0) (λ clash. absurd clash)
     (λ xids serves. by_fault s h xids (ReadIn h xids (s.blocks c.args.store.now) m) h.shape.blocks c.args.store.now c.next_row.new.store true c.in-Err-TooOld.field-0 (faults.TooOld c.in-Err-TooOld.scn c.in-Err-TooOld.lost) c.in-Err-TooOld.field-0-is refl (c.in-Err-TooOld.ensures.cleans st.told h xids serves))
 
 pub returns-in-Err-clause-holds_back : goal.returns-in-Err-clause-holds_back

@@ -9,7 +9,7 @@ use Rattle.rb_model.specs.State.{session_own}
 use Rattle.rb_model.specs.declared.refusal.Refusal.TheVariants.{DiskFault}
 use Rattle.rb_sessions.specs.Kept.{KeptSession, kept_at}
 use Rattle.rb_sessions.specs.Kept as table
-use Rattle.rb_engine.proofs.FinishLemmas.{count_is, does_committed, does_not, goes, next_known, no_early, own_id, room_one, who_in}
+use Rattle.rb_engine.proofs.FinishLemmas.{count_is, does_committed, does_not, goes, next_known, no_early, own_id, who_in}
 use Rattle.rb_engine.proofs.StepLemmas.{few_less, fit_at, fit_committed, in_step_moved, queue_moved}
 use Rattle.rb_engine.proofs.MakesLemmas.{makes_committed}
 use Rattle.rb_engine.proofs.finish.commit_changes.Given.{Over}
@@ -25,13 +25,6 @@ laws_of g = record {
   holds_back_same = λ store. g.met.T.Store.holds_back_same store;
   holds_back_joined = λ a b c first second. g.met.T.Store.holds_back_joined a b c first second;
 }
-
-pub returns-then-room-eq0-clause-did : goal.returns-then-room-eq0-clause-did
-returns-then-room-eq0-clause-did g c = λ h st.
-    let s = g.T.Store in
-    let old : EngineView _ = record { memory = c.args.memory.now; store = c.args.store.now } in
-    let room = room_one s st.told (laws_of g) h old c.args.s c.args.xid st (sym st.knows.stopped ∙ c.requires.going) c.requires.session c.requires.own in
-    absurd (omega (arith, room, c.room.ensures, c.if-room-eq0.true))
 
 pub returns-in-Ok-clause-step : goal.returns-in-Ok-clause-step
 returns-in-Ok-clause-step g c =
@@ -139,11 +132,8 @@ returns-in-Ok-clause-makes g c = λ h st fine.
     let scn = c.saturating_add-scn.result in
     let number = next_known s st.told (laws_of g) h old c.args.s c.args.xid here going there own scn (let few = low.few (ap (λ (k : Kept). k.stopped) c.memory.view_is ∙ c.requires.going) in omega (arith, few)) c.saturating_add-scn.ensures in
     let new = c.commit_and_flush.new.store in
-    makes_committed s st.told (laws_of g) h old c.args.s c.args.xid here going there own (s.slots store) (s.lsn new) new scn some
+    makes_committed s st.told (laws_of g) h old c.args.s c.args.xid here going there own (s.lsn new) new scn some
     (c.in-Ok.ensures.commits st.told h held.xids c.args.s st.shape held.holds who.0 who.1 id some number)
-
-pub returns-then-room-eq0-clause-holds_back : goal.returns-then-room-eq0-clause-holds_back
-returns-then-room-eq0-clause-holds_back g c = λ none. g.met.T.Store.holds_back_same c.args.store.now
 
 pub returns-in-Ok-clause-holds_back : goal.returns-in-Ok-clause-holds_back
 returns-in-Ok-clause-holds_back g c = λ none. absurd none

@@ -77,13 +77,13 @@ returns-in-None-clause-makes g c = λ h st fine.
     let here : Stands s h old = subst (λ (k : Kept). Stands s h (record { memory = k; store = store })) (sym c.memory.view_is) st in
     let going : h.stopped ≡ false = sym st.knows.stopped ∙ c.in_default.ensures.going in
     let own : (kept_at inside.sessions c.args.s).own ≡ None = sym c.session-session.ensures.own ∙ c.in-None.is in
-    makes_nothing s h old (here.goes going) c.args.s c.in_default.ensures.session own (s.slots store) (s.lsn store) (s.blocks store) (is.idle c.args.s own)
+    makes_nothing s h old (here.goes going) c.args.s c.in_default.ensures.session own (s.lsn store) (s.blocks store) (is.idle c.args.s own)
 
 pub returns-in-Err-clause-makes : goal.returns-in-Err-clause-makes
 returns-in-Err-clause-makes g c = λ h st fine.
     let s = g.T.Store in
     let store = c.args.store.now in
-    makes_refused h (machine.Commit c.args.s) (s.slots store) (s.lsn store) (s.blocks store) (s.blocks store) refl c.in-Err.why (λ scn lost is. refl)
+    makes_refused h (machine.Commit c.args.s) (s.lsn store) (s.blocks store) (s.blocks store) refl c.in-Err.why (λ scn lost is. refl)
 
 pub returns-in-Err-clause-holds_back : goal.returns-in-Err-clause-holds_back
 returns-in-Err-clause-holds_back g c = λ none. g.met.T.Store.holds_back_same c.args.store.now

@@ -10,7 +10,7 @@ use Rattle.rb_model.specs.State.{session_own}
 use Rattle.rb_sessions.specs.Kept.{KeptSession, kept_at}
 use Rattle.rb_sessions.specs.Kept as table
 use Rattle.rb_standing.specs.Groups.{IsEnded}
-use Rattle.rb_engine.proofs.FinishLemmas.{count_is, does_not, goes, no_early, no_items, own_id, room_one, who_in}
+use Rattle.rb_engine.proofs.FinishLemmas.{count_is, does_not, goes, no_early, no_items, own_id, who_in}
 use Rattle.rb_engine.proofs.RollbackLemmas.{does_left}
 use Rattle.rb_engine.proofs.StepLemmas.{few_less, fit_at, fit_committed, in_step_moved, queue_moved}
 use Rattle.rb_engine.proofs.MakesLemmas.{makes_left}
@@ -27,13 +27,6 @@ laws_of g = record {
   holds_back_same = λ store. g.met.T.Store.holds_back_same store;
   holds_back_joined = λ a b c first second. g.met.T.Store.holds_back_joined a b c first second;
 }
-
-pub returns-then-room-eq0-clause-did : goal.returns-then-room-eq0-clause-did
-returns-then-room-eq0-clause-did g c = λ h st.
-    let s = g.T.Store in
-    let old : EngineView _ = record { memory = c.args.memory.now; store = c.args.store.now } in
-    let room = room_one s st.told (laws_of g) h old c.args.s c.args.xid st (sym st.knows.stopped ∙ c.requires.going) c.requires.session c.requires.own in
-    absurd (omega (arith, room, c.room.ensures, c.if-room-eq0.true))
 
 pub returns-clause-step : goal.returns-clause-step
 returns-clause-step g c =
@@ -128,11 +121,8 @@ returns-clause-makes g c = λ h st fine.
     let id = own_id s st.told (laws_of g) h old c.args.s c.args.xid here going there own in
     let none : length (session_own h c.args.s) ≡ 0 = sym count ∙ (ap (λ (k : Kept). (kept_at k.sessions c.args.s).count) c.memory.view_is ∙ c.requires.none) in
     let new = c.put_all_back.new.store in
-    makes_left s st.told (laws_of g) h old c.args.s c.args.xid here going there own (s.slots store) (s.lsn new) new none
+    makes_left s st.told (laws_of g) h old c.args.s c.args.xid here going there own (s.lsn new) new none
     (c.in-Ok.ensures.puts_back st.told h held.xids c.args.s st.shape held.holds who.0 who.1 id going none)
-
-pub returns-then-room-eq0-clause-holds_back : goal.returns-then-room-eq0-clause-holds_back
-returns-then-room-eq0-clause-holds_back g c = λ none. g.met.T.Store.holds_back_same c.args.store.now
 
 pub returns-clause-holds_back : goal.returns-clause-holds_back
 returns-clause-holds_back g c = λ none. c.in-Ok.ensures.holds_back

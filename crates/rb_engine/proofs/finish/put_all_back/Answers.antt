@@ -2,7 +2,7 @@ use Rattle.std.proofs.Common.{◌+◌, not, Bool, refl, sym, subst, arith}
 use Rattle.std.specs.Result.{is_err}
 use Rattle.rb_base.specs.Logs.{Laws}
 use Rattle.rb_engine.specs.Finishing.{PutsAllBack}
-use Rattle.rb_engine.proofs.RollbackLemmas.{all_back, few_left, groups_more, logs_counted, logs_number, logs_same, ok_by, put_back_as, room_left, there}
+use Rattle.rb_engine.proofs.RollbackLemmas.{all_back, few_left, groups_more, logs_counted, logs_number, logs_same, ok_by, put_back_as, there}
 use Rattle.rb_engine.proofs.finish.put_all_back.Given.{Over}
 use Rattle.rb_engine.proofs.finish.put_all_back.Goals as goal
 
@@ -27,11 +27,6 @@ pub end_step-requires-clause-there : goal.end_step-requires-clause-there
 end_step-requires-clause-there g c =
     let first = put_back_as g.T.Store c.args.xid c.args.count c.args.store.now c.put_back.new.store c.in_ok-put_back.ensures.logs c.in_ok-put_back.ensures.puts_back in
     there g.T.Store c.args.xid c.args.count c.args.count c.args.store.now c.put_back.new.store first c.requires.there
-
-pub end_step-requires-clause-room : goal.end_step-requires-clause-room
-end_step-requires-clause-room g c =
-    let first = put_back_as g.T.Store c.args.xid c.args.count c.args.store.now c.put_back.new.store c.in_ok-put_back.ensures.logs c.in_ok-put_back.ensures.puts_back in
-    room_left g.T.Store c.args.xid c.args.count c.args.count c.args.store.now c.put_back.new.store first (c.args.count + 1) (omega arith) (let room = c.requires.room in omega (arith, room))
 
 pub end_step-requires-clause-few : goal.end_step-requires-clause-few
 end_step-requires-clause-few g c =

@@ -1,7 +1,7 @@
 use Rattle.std.proofs.Common.{◌≡◌, not, Bool, false, sym, subst, arith}
 use Rattle.rb_base.specs.Logs.{Laws}
 use Rattle.rb_engine.specs.Finishing.{PutsBack}
-use Rattle.rb_engine.proofs.RollbackLemmas.{Starts, few_left, groups_more, logs_counted, logs_same, none_back, one_fails, one_more, room_left, some_back, there}
+use Rattle.rb_engine.proofs.RollbackLemmas.{Starts, few_left, groups_more, logs_counted, logs_same, none_back, one_fails, one_more, some_back, there}
 use Rattle.rb_engine.proofs.finish.put_back.Given.{Over}
 use Rattle.rb_engine.proofs.finish.put_back.Goals as goal
 
@@ -24,9 +24,6 @@ back_step-requires-clause-going g c = c.loop-change.invariant.logs.failed
 
 pub back_step-requires-clause-there : goal.back_step-requires-clause-there
 back_step-requires-clause-there g c = there g.T.Store c.args.xid c.args.count c.loop-change._change c.args.store.now c.loop-change.store c.loop-change.invariant c.requires.there
-
-pub back_step-requires-clause-room : goal.back_step-requires-clause-room
-back_step-requires-clause-room g c = room_left g.T.Store c.args.xid c.args.count c.loop-change._change c.args.store.now c.loop-change.store c.loop-change.invariant c.args.count c.loop-change-test.true c.requires.room
 
 pub back_step-requires-clause-few : goal.back_step-requires-clause-few
 back_step-requires-clause-few g c = few_left g.T.Store c.args.xid c.args.count c.loop-change._change c.args.store.now c.loop-change.store c.loop-change.invariant c.loop-change.auto._change-end c.requires.few

@@ -8,7 +8,7 @@ use Rattle.rb_sessions.specs.Kept.{KeptSession, kept_at}
 use Rattle.rb_sessions.specs.Kept as table
 use Rattle.rb_model.specs.Queue.{is_queued}
 use Rattle.rb_engine.proofs.FinishLemmas.{count_is, does_not, goes, no_early, own_id, who_in}
-use Rattle.rb_engine.proofs.RollbackLemmas.{does_back, room_back}
+use Rattle.rb_engine.proofs.RollbackLemmas.{does_back}
 use Rattle.rb_engine.proofs.StepLemmas.{few_less, fit_at, fit_rolled_back, in_step_moved, queue_moved}
 use Rattle.rb_engine.proofs.MakesLemmas.{makes_back}
 use Rattle.rb_engine.proofs.finish.roll_back_changes.Given.{Over}
@@ -24,21 +24,6 @@ laws_of g = record {
   holds_back_same = λ store. g.met.T.Store.holds_back_same store;
   holds_back_joined = λ a b c first second. g.met.T.Store.holds_back_joined a b c first second;
 }
-
-pub returns-then-room-from-clause-did : goal.returns-then-room-from-clause-did
-returns-then-room-from-clause-did g c = λ h st.
-    let s = g.T.Store in
-    let store = c.args.store.now in
-    let inside : Kept = record { sessions = c.memory.inside.sessions; waits = c.memory.inside.waits; scn = c.memory.inside.scn; stopped = c.memory.inside.stopped } in
-    let old : EngineView _ = record { memory = inside; store = store } in
-    let here : Stands s h old = subst (λ (k : Kept). Stands s h (record { memory = k; store = store })) (sym c.memory.view_is) st in
-    let own : (kept_at inside.sessions c.args.s).own ≡ Some c.args.xid = ap (λ (k : Kept). (kept_at k.sessions c.args.s).own) c.memory.view_is ∙ c.requires.own in
-    let going : h.stopped ≡ false = sym st.knows.stopped ∙ c.requires.going in
-    let there = c.requires.session in
-    let low = (subst (λ (k : Kept). IsInStep s k store) (sym c.memory.view_is) c.requires.step) in
-    let count = count_is s st.told (laws_of g) h old c.args.s c.args.xid here going there own in
-    let room = room_back s st.told (laws_of g) h old c.args.s c.args.xid here going there own in
-    absurd (omega (arith, room, count, c.session-count.ensures.length, c.from.ensures, c.room.ensures, c.if-room-from.true))
 
 pub returns-in-Ok-clause-step : goal.returns-in-Ok-clause-step
 returns-in-Ok-clause-step g c =
@@ -116,11 +101,8 @@ returns-in-Ok-clause-makes g c = λ h st fine.
     let who = who_in s st.told (laws_of g) h old c.args.s c.args.xid here going there own in
     let id = own_id s st.told (laws_of g) h old c.args.s c.args.xid here going there own in
     let new = c.put_all_back.new.store in
-    makes_back s st.told (laws_of g) h old c.args.s c.args.xid here going there own (s.slots store) (s.lsn new) new
+    makes_back s st.told (laws_of g) h old c.args.s c.args.xid here going there own (s.lsn new) new
     (c.in-Ok.ensures.puts_back st.told h held.xids c.args.s st.shape held.holds who.0 who.1 id going (sym count ∙ sym c.session-count.ensures.length))
-
-pub returns-then-room-from-clause-holds_back : goal.returns-then-room-from-clause-holds_back
-returns-then-room-from-clause-holds_back g c = λ fine. g.met.T.Store.holds_back_same c.args.store.now
 
 pub returns-in-Ok-clause-holds_back : goal.returns-in-Ok-clause-holds_back
 returns-in-Ok-clause-holds_back g c = λ fine. c.in-Ok.ensures.holds_back

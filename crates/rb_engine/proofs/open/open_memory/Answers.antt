@@ -3,9 +3,8 @@ use Rattle.rb_base.specs.Logs.{Laws, Logs, more_logs}
 use Rattle.rb_base.specs.declared.faults.OpenFault.TheVariants.{Failed}
 use Rattle.rb_engine.proofs.OpenLemmas.{fails_with, in_step, moved, opened_engine, refused, stays, unchanged_stays}
 use Rattle.rb_base.specs.Counts.{is_failed}
-use Rattle.rb_base.specs.Stores.{room_of}
 use Rattle.rb_base.specs.declared.shape.Shape.{Shape}
-use Rattle.rb_opening.specs.Opens.{CanOpen}
+use Rattle.rb_sound.specs.Sound.{AreSound}
 use Rattle.rb_restart.specs.Rollback.{RolledBack, StaySound}
 use Rattle.rb_standing.specs.Standing.{SoundAs, logged_of}
 use Rattle.rb_engine.proofs.open.open_memory.Given.{Over}
@@ -34,7 +33,7 @@ returns-in_err-open_blocks-clause-stays g c = λ told h opens.
     let back = c.in_err-open_blocks.ensures.rolled_back in
     let first = c.in_ok-memory.ensures.logs in
     stays s (laws_of g) told h old opens new back.0 _ (more_logs s old mid new [] back.0 _ first back.1)
-    (moved s old mid (λ shape slots lsn blocks. lsn ≡ logged_of shape blocks → SoundAs shape blocks opens.opening.number opens.opening.rows → StaySound shape opens.opening.number opens.opening.rows lsn back.0 blocks) first told
+    (moved s old mid (λ shape lsn blocks. lsn ≡ logged_of shape blocks → SoundAs shape blocks opens.opening.number opens.opening.rows → StaySound shape opens.opening.number opens.opening.rows lsn back.0 blocks) first told
     (λ logged sound. (back.4 opens.opening.number opens.opening.rows told logged sound).0) opens.logged opens.opening.sound)
 
 pub returns-in_err-open_blocks-clause-unchanged : goal.returns-in_err-open_blocks-clause-unchanged
@@ -57,7 +56,7 @@ returns-clause-stays g c = λ told h opens.
     let back = c.in_ok-open_blocks.ensures.rolled_back in
     let first = c.in_ok-memory.ensures.logs in
     stays s (laws_of g) told h old opens new back.0 true (more_logs s old mid new [] back.0 true first back.1)
-    (moved s old mid (λ shape slots lsn blocks. lsn ≡ logged_of shape blocks → SoundAs shape blocks opens.opening.number opens.opening.rows → StaySound shape opens.opening.number opens.opening.rows lsn back.0 blocks) first told
+    (moved s old mid (λ shape lsn blocks. lsn ≡ logged_of shape blocks → SoundAs shape blocks opens.opening.number opens.opening.rows → StaySound shape opens.opening.number opens.opening.rows lsn back.0 blocks) first told
     (λ logged sound. (back.4 opens.opening.number opens.opening.rows told logged sound).0) opens.logged opens.opening.sound)
 
 pub returns-clause-step : goal.returns-clause-step
@@ -79,7 +78,7 @@ returns-clause-opened g c = λ told h opens.
     let back = c.in_ok-open_blocks.ensures.rolled_back in
     let first = c.in_ok-memory.ensures in
     let logs = more_logs s old mid new [] back.0 true first.logs back.1 in
-    let both = moved s old mid (λ shape slots lsn blocks. lsn ≡ logged_of shape blocks → SoundAs shape blocks opens.opening.number opens.opening.rows → StaySound shape opens.opening.number opens.opening.rows lsn back.0 blocks × RolledBack shape back.0 blocks (s.blocks new)) first.logs told
+    let both = moved s old mid (λ shape lsn blocks. lsn ≡ logged_of shape blocks → SoundAs shape blocks opens.opening.number opens.opening.rows → StaySound shape opens.opening.number opens.opening.rows lsn back.0 blocks × RolledBack shape back.0 blocks (s.blocks new)) first.logs told
     (λ logged sound. back.4 opens.opening.number opens.opening.rows told logged sound) opens.logged opens.opening.sound in
     opened_engine s (laws_of g) told h old opens new back.0 logs both.0 both.1 c.in_ok-memory.memory first.sessions first.waits (first.scn told) first.going
 
@@ -96,7 +95,7 @@ returns-in_err-open_blocks-clause-untouched g c = λ told cannot.
     let new = c.open_blocks.new.store in
     let going = not (is_failed c.in_err-open_blocks.field-0.0) in
     let first = c.in_ok-memory.ensures.logs in
-    let none = moved s old mid (λ (shape : Shape) (slots : Option ℕ) (lsn : ℕ) (blocks : List (List ℕ)). (CanOpen shape blocks (room_of slots lsn) → ⊥) → Logs s mid new [] going) first told
+    let none = moved s old mid (λ (shape : Shape) (lsn : ℕ) (blocks : List (List ℕ)). (AreSound shape blocks → ⊥) → Logs s mid new [] going) first told
     (c.in_err-open_blocks.ensures.untouched told) cannot in
     let some : (b : Bool) × Logs s old new [] b = (going, more_logs s old mid new [] [] going first none) in
     fails_with _ _ some

@@ -119,5 +119,5 @@ returns-clause-makes g c = λ h st fine.
     let made = c.do_write-outcome.ensures.makes (unqueued h w) (stands_left s h w inside now store here left) fine in (
       asked_of_pending p,
       asked_held h inside (here.knows.queue going) w c.held.result p c.held.ensures c.in_ok-pending.was,
-      subst (λ (a : Action). Makes (unqueued h w) (machine.Write w p.table p.key a) (write_answer c.do_write-outcome.result) (s.slots store) (s.lsn new) (s.blocks store) (s.blocks new)) c.op.ensures.op made,
+      subst (λ (a : Action). Makes (unqueued h w) (machine.Write w p.table p.key a) (write_answer c.do_write-outcome.result) (s.lsn new) (s.blocks store) (s.blocks new)) c.op.ensures.op made,
     )

@@ -8,7 +8,7 @@ use Rattle.rb_model.specs.State.{Savepoint, savepoint_named, savepoint_of, sessi
 use Rattle.rb_model.specs.declared.refusal.Refusal.TheVariants.{DiskFault}
 use Rattle.rb_sessions.specs.Kept.{back_at, kept_at, kept_by, rolled_to, with_kept}
 use Rattle.rb_engine.proofs.FinishLemmas.{count_is, does_not, goes, no_early, own_id, who_in}
-use Rattle.rb_engine.proofs.RollbackLemmas.{does_cut, room_back}
+use Rattle.rb_engine.proofs.RollbackLemmas.{does_cut}
 use Rattle.rb_engine.proofs.SavepointLemmas.{kept_some}
 use Rattle.rb_engine.proofs.StepLemmas.{few_less, fit_at, fit_rolled_to, in_step_moved, queue_moved}
 use Rattle.rb_engine.proofs.MakesLemmas.{makes_cut}
@@ -25,21 +25,6 @@ laws_of g = record {
   holds_back_same = λ store. g.met.T.Store.holds_back_same store;
   holds_back_joined = λ a b c first second. g.met.T.Store.holds_back_joined a b c first second;
 }
-
-pub returns-then-room-from-clause-did : goal.returns-then-room-from-clause-did
-returns-then-room-from-clause-did g c = λ h st.
-    let s = g.T.Store in
-    let store = c.args.store.now in
-    let inside : Kept = record { sessions = c.memory.inside.sessions; waits = c.memory.inside.waits; scn = c.memory.inside.scn; stopped = c.memory.inside.stopped } in
-    let old : EngineView _ = record { memory = inside; store = store } in
-    let here : Stands s h old = subst (λ (k : Kept). Stands s h (record { memory = k; store = store })) (sym c.memory.view_is) st in
-    let own : (kept_at inside.sessions c.args.s).own ≡ Some c.args.xid = ap (λ (k : Kept). (kept_at k.sessions c.args.s).own) c.memory.view_is ∙ c.requires.own in
-    let going : h.stopped ≡ false = sym st.knows.stopped ∙ c.requires.going in
-    let there = c.requires.session in
-    let count = count_is s st.told (laws_of g) h old c.args.s c.args.xid here going there own in
-    let room = room_back s st.told (laws_of g) h old c.args.s c.args.xid here going there own in
-    let length_is = c.session.ensures.length in
-    absurd (omega (arith, room, count, length_is, c.saturating_sub-count.ensures, c.from.ensures, c.room.ensures, c.if-room-from.true))
 
 pub returns-in-Ok-clause-step : goal.returns-in-Ok-clause-step
 returns-in-Ok-clause-step g c =
@@ -137,11 +122,8 @@ returns-in-Ok-clause-makes g c = λ h st fine.
     let back : c.saturating_sub-count.result ≡ length (session_own h c.args.s) - p.kept = (let a = c.saturating_sub-count.ensures in let b = c.session.ensures.length in let e = found.2 in omega (arith, a, b, e, count)) in
     let at : savepoint_of h c.args.s name ≡ Some p = ap (savepoint_named name) (sym (held.remembers.each c.args.s there.0 there.1).savepoints) ∙ found.1 in
     let new = c.put_back.new.store in
-    makes_cut s st.told (laws_of g) h old c.args.s c.args.xid here going there own (s.slots store) (s.lsn new) new name p at
+    makes_cut s st.told (laws_of g) h old c.args.s c.args.xid here going there own (s.lsn new) new name p at
     (c.in-Ok.ensures.puts_back st.told h held.xids c.args.s p.kept st.shape held.holds who.0 who.1 id going back)
-
-pub returns-then-room-from-clause-holds_back : goal.returns-then-room-from-clause-holds_back
-returns-then-room-from-clause-holds_back g c = λ fine. g.met.T.Store.holds_back_same c.args.store.now
 
 pub returns-in-Ok-clause-holds_back : goal.returns-in-Ok-clause-holds_back
 returns-in-Ok-clause-holds_back g c = λ fine. c.in-Ok.ensures.logs.1.between refl (laws_of g)

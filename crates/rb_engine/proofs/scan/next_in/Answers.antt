@@ -62,7 +62,7 @@ returns-then-is_err-clause-cleans g c = λ told h xids serves.
     let on = on_way (s.shape_of c.args.store.now) h.shape m c.shape-blocks.result.blocks c.args.first c.args.g serves.shape bs c.requires.there (c.is_asked.ensures.some c.if-not-is_asked.false) c.requires.begins in
     let at = block_at m.table c.from.result c.shape-blocks.result.blocks c.args.g h.shape c.from.ensures (bs ∙ ap (λ (k : Shape). k.blocks) serves.shape) in
     step_fails s told (laws_of g) h xids m c.args.g on c.args.store.now c.clean_step.new.store ((c.from.result - 1) * c.shape-blocks.result.blocks + c.args.g) c.clean_step.result at (sym c.is_err.ensures.value ∙ c.if-is_err.true) serves
-    (c.clean_step.ensures.gives told h xids serves.shape serves.holds serves.few)
+    (c.clean_step.ensures.gives told h xids serves.shape serves.holds)
 
 -- the home is cleaned, where it is to be
 module _ (g : Over) (c : goal.After-next_at g) (told : g.S.Store.tells) (h : State) (xids : List Xid) (serves : Serves g.S.Store h xids c.args.cursor.now c.args.store.now) where
@@ -81,7 +81,7 @@ module _ (g : Over) (c : goal.After-next_at g) (told : g.S.Store.tells) (h : Sta
   clean : HasCleaned g.S.Store h xids (IsHere h.shape c.args.cursor.now c.args.g) (IsHere h.shape c.args.cursor.now c.args.g) 1 c.args.store.now c.clean_step.new.store
   clean =
       step_cleaned g.S.Store told (laws_of g) h xids c.args.cursor.now c.args.g on c.args.store.now c.clean_step.new.store ((c.from.result - 1) * c.shape-blocks.result.blocks + c.args.g) c.clean_step.result at fine serves
-      (c.clean_step.ensures.gives told h xids serves.shape serves.holds serves.few) (λ spare. c.clean_step.ensures.cleaned told h xids serves.shape serves.holds spare.young spare.room)
+      (c.clean_step.ensures.gives told h xids serves.shape serves.holds) (λ young. c.clean_step.ensures.cleaned told h xids serves.shape serves.holds young)
 
   same_shape : g.S.Store.shape_of c.clean_step.new.store ≡ g.S.Store.shape_of c.args.store.now
   same_shape = c.clean_step.ensures.logs.1.same_shape

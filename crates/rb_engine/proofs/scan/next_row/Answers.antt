@@ -78,7 +78,7 @@ returns-in-Err-clause-found g c = λ told h xids serves.
     let mid = c.loop-g.store in
     let inv = c.loop-g.invariant in
     let before = inv.cleaned told h xids serves in
-    let served = serves_mid s told (laws_of g) h xids m c.loop-g.g old mid mid inv.logs.same_shape inv.logs.same_slots refl serves before in
+    let served = serves_mid s told (laws_of g) h xids m c.loop-g.g old mid mid inv.logs.same_shape inv.logs.same_slots serves before in
     let both = c.in-Err.ensures.old told h xids served in
     let there : c.loop-g.g < h.shape.blocks = subst (λ (z : Shape). c.loop-g.g < z.blocks) (c.shape-blocks.ensures.shape ∙ serves.shape) (below c.loop-g.g c.end_home-end.result c.shape-blocks.result.blocks c.loop-g-test.true c.end_home-end.ensures.within) in (
       c.loop-g.g,
@@ -91,7 +91,7 @@ returns-in-Err-clause-found g c = λ told h xids serves.
           let bs : l % c.shape-blocks.result.blocks ≡ l % h.shape.blocks = ap (λ (z : Shape). l % z.blocks) (c.shape-blocks.ensures.shape ∙ serves.shape) in
           omega (arith, first_is, le, bs),
       behind_same h xids (s.blocks old) (s.blocks mid) serves.holds.blocks m c.loop-g.g (in_table m.table c.loop-g.g h.shape there (subst (λ (k : Shape). (1 ≤ m.table) × (m.table ≤ k.tables)) serves.shape c.requires.table))
-          (env_mid s told (laws_of g) h xids m c.loop-g.g old mid mid inv.logs.same_shape inv.logs.same_slots refl serves before) (same_or_clean (before.only.each (Rattle.rb_views.specs.Views.home_in h.shape m.table c.loop-g.g))) c.in-Err.fault both.1,
+          (env_mid s told (laws_of g) h xids m c.loop-g.g old mid mid inv.logs.same_shape inv.logs.same_slots serves before) (same_or_clean (before.only.each (Rattle.rb_views.specs.Views.home_in h.shape m.table c.loop-g.g))) c.in-Err.fault both.1,
     )
 
 pub returns-in-Err-clause-cleans : goal.returns-in-Err-clause-cleans
@@ -104,20 +104,20 @@ returns-in-Err-clause-cleans g c = λ told h xids serves.
     let inv = c.loop-g.invariant in
     let here = c.in-Err.ensures.cleans told h xids in
     let there : c.loop-g.g < h.shape.blocks = subst (λ (z : Shape). c.loop-g.g < z.blocks) (c.shape-blocks.ensures.shape ∙ serves.shape) (below c.loop-g.g c.end_home-end.result c.shape-blocks.result.blocks c.loop-g-test.true c.end_home-end.ensures.within) in
-    by (not (is_fault c.in-Err.fault)) c.loop-g.g told h xids serves inv.logs.same_shape inv.logs.same_slots c.in-Err.ensures.logs.1.same_slots (inv.cleaned told h xids serves) (inv.none told h xids serves) there here
+    by (not (is_fault c.in-Err.fault)) c.loop-g.g told h xids serves inv.logs.same_shape inv.logs.same_slots (inv.cleaned told h xids serves) (inv.none told h xids serves) there here
   where
     by : (going : Bool) (n : ℕ) (told : g.S.Store.tells) (h : State) (xids : List Xid) → (serves : Serves g.S.Store h xids c.args.cursor.now c.args.store.now)
-        → g.S.Store.shape_of c.loop-g.store ≡ g.S.Store.shape_of c.args.store.now → g.S.Store.slots c.loop-g.store ≡ g.S.Store.slots c.args.store.now → g.S.Store.slots c.next_in.new.store ≡ g.S.Store.slots c.loop-g.store
+        → g.S.Store.shape_of c.loop-g.store ≡ g.S.Store.shape_of c.args.store.now → g.S.Store.slots c.loop-g.store ≡ g.S.Store.slots c.args.store.now
         → Rattle.rb_engine.specs.Cleaning.HasCleaned g.S.Store h xids (IsBefore h.shape c.args.cursor.now n) (IsBefore h.shape c.args.cursor.now n) n c.args.store.now c.loop-g.store
         → ((f : ℕ) → f < n → HasNone h xids (g.S.Store.blocks c.args.store.now) c.args.cursor.now f) → n < h.shape.blocks
         → (Serves g.S.Store h xids c.args.cursor.now c.loop-g.store → Cleans g.S.Store h xids (IsHere h.shape c.args.cursor.now n) (IsHere h.shape c.args.cursor.now n) 1 c.loop-g.store c.next_in.new.store going)
         → Cleans g.S.Store h xids (ReadIn h xids (g.S.Store.blocks c.args.store.now) c.args.cursor.now) (λ b. ⊥) h.shape.blocks c.args.store.now c.next_in.new.store going
-    by true n told h xids serves shape slots slots_new before none there here =
+    by true n told h xids serves shape slots before none there here =
         cleaned_as g.S.Store told (laws_of g) h xids c.args.cursor.now (IsBefore h.shape c.args.cursor.now (n + 1)) (ReadIn h xids (g.S.Store.blocks c.args.store.now) c.args.cursor.now) (IsBefore h.shape c.args.cursor.now (n + 1)) (λ b. ⊥) (n + 1) h.shape.blocks c.args.store.now c.next_in.new.store
         (read_up_to g.S.Store told (laws_of g) h xids c.args.cursor.now n c.args.store.now none) (λ b no. absurd no) (omega (arith, there))
-        (turned g.S.Store told (laws_of g) h xids c.args.cursor.now n c.args.store.now c.loop-g.store c.next_in.new.store shape slots slots_new serves before here)
-    by false n told h xids serves shape slots slots_new before none there here =
-        turn_fails g.S.Store told (laws_of g) h xids c.args.cursor.now n c.args.store.now c.loop-g.store c.next_in.new.store shape slots slots_new serves before here
+        (turned g.S.Store told (laws_of g) h xids c.args.cursor.now n c.args.store.now c.loop-g.store c.next_in.new.store shape slots serves before here)
+    by false n told h xids serves shape slots before none there here =
+        turn_fails g.S.Store told (laws_of g) h xids c.args.cursor.now n c.args.store.now c.loop-g.store c.next_in.new.store shape slots serves before here
 
 pub returns-in-Err-clause-same : goal.returns-in-Err-clause-same
 returns-in-Err-clause-same g c = c.in-Err.ensures.same ∙ c.loop-g.invariant.row
@@ -140,8 +140,8 @@ returns-in-Ok-true-clause-found g c = λ told h xids serves.
     let mid = c.loop-g.store in
     let inv = c.loop-g.invariant in
     let before = inv.cleaned told h xids serves in
-    let served = serves_mid s told (laws_of g) h xids m c.loop-g.g old mid mid inv.logs.same_shape inv.logs.same_slots refl serves before in
-    let env = env_mid s told (laws_of g) h xids m c.loop-g.g old mid mid inv.logs.same_shape inv.logs.same_slots refl serves before in
+    let served = serves_mid s told (laws_of g) h xids m c.loop-g.g old mid mid inv.logs.same_shape inv.logs.same_slots serves before in
+    let env = env_mid s told (laws_of g) h xids m c.loop-g.g old mid mid inv.logs.same_shape inv.logs.same_slots serves before in
     let next = (c.in-Ok-true.ensures.told told h xids served).0 c.in-Ok-true.field-0-test in (
       c.loop-g.g,
       subst (λ (z : Shape). c.loop-g.g < z.blocks) (c.shape-blocks.ensures.shape ∙ serves.shape) (below c.loop-g.g c.end_home-end.result c.shape-blocks.result.blocks c.loop-g-test.true c.end_home-end.ensures.within),
@@ -159,13 +159,13 @@ returns-in-Ok-true-clause-cleans g c = λ told h xids serves.
     let n = c.loop-g.g in
     let inv = c.loop-g.invariant in
     let before = inv.cleaned told h xids serves in
-    let served = serves_mid s told (laws_of g) h xids m n old mid mid inv.logs.same_shape inv.logs.same_slots refl serves before in
-    let env = env_mid s told (laws_of g) h xids m n old mid mid inv.logs.same_shape inv.logs.same_slots refl serves before in
+    let served = serves_mid s told (laws_of g) h xids m n old mid mid inv.logs.same_shape inv.logs.same_slots serves before in
+    let env = env_mid s told (laws_of g) h xids m n old mid mid inv.logs.same_shape inv.logs.same_slots serves before in
     let next : HasNext h xids (s.blocks old) m n c.next_in.new.row = next_same h xids (s.blocks old) (s.blocks mid) m env n c.next_in.new.row ((c.in-Ok-true.ensures.told told h xids served).0 c.in-Ok-true.field-0-test) in
     let there : n < h.shape.blocks = subst (λ (z : Shape). n < z.blocks) (c.shape-blocks.ensures.shape ∙ serves.shape) (below c.loop-g.g c.end_home-end.result c.shape-blocks.result.blocks c.loop-g-test.true c.end_home-end.ensures.within) in
     cleaned_as s told (laws_of g) h xids m (IsBefore h.shape m (n + 1)) (ReadIn h xids (s.blocks old) m) (IsBefore h.shape m (n + 1)) (ReadIn h xids (s.blocks old) m) (n + 1) h.shape.blocks old new
     (read_up_to s told (laws_of g) h xids m n old (inv.none told h xids serves)) (read_no_more s told (laws_of g) h xids m n old c.next_in.new.row next) (omega (arith, there))
-    (turned s told (laws_of g) h xids m n old mid new inv.logs.same_shape inv.logs.same_slots c.in-Ok-true.ensures.logs.1.same_slots serves before (c.in-Ok-true.ensures.cleans told h xids))
+    (turned s told (laws_of g) h xids m n old mid new inv.logs.same_shape inv.logs.same_slots serves before (c.in-Ok-true.ensures.cleans told h xids))
 
 pub returns-in-Ok-true-clause-logs : goal.returns-in-Ok-true-clause-logs
 returns-in-Ok-true-clause-logs g c =
@@ -194,13 +194,13 @@ loop-g-preserved g c =
       none = λ told h xids serves f up. elim (cases_eq f c.loop-g.g) [
         | inl this ↦
             let before = inv.cleaned told h xids serves in
-            let served = serves_mid s told (laws_of g) h xids m c.loop-g.g old mid mid inv.logs.same_shape inv.logs.same_slots refl serves before in
-            let env = env_mid s told (laws_of g) h xids m c.loop-g.g old mid mid inv.logs.same_shape inv.logs.same_slots refl serves before in
+            let served = serves_mid s told (laws_of g) h xids m c.loop-g.g old mid mid inv.logs.same_shape inv.logs.same_slots serves before in
+            let env = env_mid s told (laws_of g) h xids m c.loop-g.g old mid mid inv.logs.same_shape inv.logs.same_slots serves before in
             let nothing = (c.in-Ok-false.ensures.told told h xids served).1 c.in-Ok-false.field-0-test in
             subst (λ (n : ℕ). HasNone h xids (s.blocks old) m n) (sym this) (none_same h xids (s.blocks old) (s.blocks mid) m env c.loop-g.g nothing)
         | inr other ↦ inv.none told h xids serves f (omega (arith, up, other))
       ];
-      cleaned = λ told h xids serves. turned s told (laws_of g) h xids m c.loop-g.g old mid new inv.logs.same_shape inv.logs.same_slots step.1.same_slots serves (inv.cleaned told h xids serves) (c.in-Ok-false.ensures.cleans told h xids);
+      cleaned = λ told h xids serves. turned s told (laws_of g) h xids m c.loop-g.g old mid new inv.logs.same_shape inv.logs.same_slots serves (inv.cleaned told h xids serves) (c.in-Ok-false.ensures.cleans told h xids);
     }
 
 pub returns-clause-found : goal.returns-clause-found

@@ -42,7 +42,7 @@ pub returns-in-Err-clause-makes : goal.returns-in-Err-clause-makes
 returns-in-Err-clause-makes g c = λ h st fine.
     let s = g.T.Store in
     let store = c.args.store.now in
-    makes_refused h (machine.Write c.args.s c.args.table c.args.key (action_by c.args.op)) (s.slots store) (s.lsn store) (s.blocks store) (s.blocks store) refl c.in-Err.why (λ scn lost is. refl)
+    makes_refused h (machine.Write c.args.s c.args.table c.args.key (action_by c.args.op)) (s.lsn store) (s.blocks store) (s.blocks store) refl c.in-Err.why (λ scn lost is. refl)
 
 pub returns-clause-makes : goal.returns-clause-makes
 returns-clause-makes g c = λ h st fine. c.try_write.ensures.makes h st (c.in_default.ensures.granted h c.args.key st.knows (knows_modes g.T.Store h _ st) (c.shape.ensures.shape ∙ st.shape)) fine

@@ -15,7 +15,6 @@ use Rattle.rb_engine.proofs.WriteLemmas.{about, failed_is, few_group, step_done,
 use Rattle.rb_engine.proofs.MakesLemmas.{makes_refused, makes_written}
 use Rattle.rb_engine.proofs.write.make_write.Given.{Over}
 use Rattle.rb_engine.proofs.TellsLemmas.{tells_logged, tells_written}
-use Rattle.rb_base.specs.Stores.{room_of}
 use Rattle.rb_engine.proofs.write.make_write.Goals as goal
 
 laws_of : (g : Over) → Laws g.T.Store
@@ -40,7 +39,7 @@ returns-in-Ok-clause-step g c =
     let k : KeptSession = wrote c.in-Ok.xid (kept_at kept.sessions u) in
     let step = c.requires.step in
     let logs = c.in-Ok.ensures.logs in
-    let room = c.in-Ok.ensures.room in
+    let young = c.in-Ok.ensures.numbers in
     let table : c.memory.inside.sessions ≡ kept.sessions = ap (λ (m : Kept). m.sessions) c.memory.view_is in
     let moved : now.sessions ≡ with_kept kept.sessions u k = c.wrote.ensures ∙ ap (λ (l : List KeptSession). with_kept l u (wrote c.in-Ok.xid (kept_at l u))) table in
     let fit = fit_wrote (s.shape_of old) c.in-Ok.xid (kept_at kept.sessions u) (fit_at s kept old step u) c.in-Ok.ensures.there in
@@ -48,7 +47,7 @@ returns-in-Ok-clause-step g c =
     let one = few_group logs.0 in
     in_step_moved s kept now old new step logs.1.same_shape u c.requires.session k fit moved
     (queue_moved s kept now old new step logs.1.same_shape u c.requires.session k fit moved refl (inl (ap (λ (m : Kept). m.waits) c.memory.view_is)))
-    (λ _. (logs.1.failed, few_wrote s kept now old new step logs.1.same_shape u c.requires.session k fit moved (omega (arith, number, one, room.0)) fit.small))
+    (λ _. (logs.1.failed, few_wrote s kept now old new step logs.1.same_shape u c.requires.session k fit moved (omega (arith, number, one, young)) fit.small))
 
 pub returns-in-Ok-clause-did : goal.returns-in-Ok-clause-did
 returns-in-Ok-clause-did g c = λ h st early others.
@@ -144,7 +143,7 @@ returns-in-Ok-clause-tells g c = λ h st early others fine.
     let table : c.memory.inside.sessions ≡ kept.sessions = ap (λ (m : Kept). m.sessions) c.memory.view_is in
     let own : c.session-own.result.own ≡ (kept_at kept.sessions u).own = c.session-own.ensures.own ∙ ap (λ (l : List KeptSession). (kept_at l u).own) table in
     let is : IsAbout h goes.xids u c.session-own.result.own (s.blocks store) = subst (λ (o : Option Xid). IsAbout h goes.xids u o (s.blocks store)) (sym own) (about s st.told (laws_of g) h old st going u c.args.table c.args.key action c.requires.session early) in
-    tells_written s st.told h goes.xids u c.args.table c.args.key action (room_of (s.slots store) (s.lsn store)) c.in-Ok.xid store c.write_step.new.store
+    tells_written s st.told h goes.xids u c.args.table c.args.key action c.in-Ok.xid store c.write_step.new.store
     (c.in-Ok.ensures.gives st.told h goes.xids u is st.shape (omega (arith, sixteen, c.requires.session.1)) others goes.holds.logged (omega (arith, sixteen)))
 
 pub returns-in-Err-clause-tells : goal.returns-in-Err-clause-tells
@@ -167,7 +166,7 @@ returns-in-Ok-clause-makes g c = λ h st early others fine.
     let table : c.memory.inside.sessions ≡ kept.sessions = ap (λ (m : Kept). m.sessions) c.memory.view_is in
     let own : c.session-own.result.own ≡ (kept_at kept.sessions u).own = c.session-own.ensures.own ∙ ap (λ (l : List KeptSession). (kept_at l u).own) table in
     let is : IsAbout h goes.xids u c.session-own.result.own (s.blocks store) = subst (λ (o : Option Xid). IsAbout h goes.xids u o (s.blocks store)) (sym own) (about s st.told (laws_of g) h old st going u c.args.table c.args.key action c.requires.session early) in
-    makes_written s st.told h goes.xids u c.args.table c.args.key action (room_of (s.slots store) (s.lsn store)) c.in-Ok.xid (s.slots store) (s.lsn c.write_step.new.store) store c.write_step.new.store
+    makes_written s st.told h goes.xids u c.args.table c.args.key action c.in-Ok.xid (s.lsn c.write_step.new.store) store c.write_step.new.store
     (c.in-Ok.ensures.gives st.told h goes.xids u is st.shape (omega (arith, sixteen, c.requires.session.1)) others goes.holds.logged (omega (arith, sixteen)))
 
 pub returns-in-Err-clause-makes : goal.returns-in-Err-clause-makes
@@ -178,7 +177,7 @@ returns-in-Err-clause-makes g c = λ h st early others fine.
     let fault = c.in-Err.fault in
     let why : c.refuse.result ≡ refusal_of fault = c.refuse.ensures.why ∙ c.refusal.ensures in
     let same = (c.in-Err.ensures.unchanged (sym (failed_is fault) ∙ (ap is_disk_fault (sym why) ∙ fine))).blocks st.told refl in
-    makes_refused h (machine.Write c.args.s c.args.table c.args.key (action_by c.args.op)) (s.slots old) (s.lsn new) (s.blocks old) (s.blocks new) same c.refuse.result (λ scn lost is. same)
+    makes_refused h (machine.Write c.args.s c.args.table c.args.key (action_by c.args.op)) (s.lsn new) (s.blocks old) (s.blocks new) same c.refuse.result (λ scn lost is. same)
 
 pub returns-in-Ok-clause-holds_back : goal.returns-in-Ok-clause-holds_back
 returns-in-Ok-clause-holds_back g c = λ fine. c.in-Ok.ensures.logs.1.between refl (laws_of g)

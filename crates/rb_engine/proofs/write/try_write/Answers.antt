@@ -116,7 +116,7 @@ returns-in-Ok-Some-clause-makes g c = λ h st early fine.
     let new = c.other_holder.new.store in
     let logs : Logs s old new [] true = c.in-Ok-Some.ensures.logs in
     let same = logs.blocks st.told refl in
-    makes_waited h (machine.Write c.args.s c.args.table c.args.key (action_by c.args.op)) (s.slots old) (s.lsn new) (s.blocks old) (s.blocks new) same c.in-Ok-Some.on c.wait_for.result (λ w is. is.0) c.wait_for.ensures.waits same
+    makes_waited h (machine.Write c.args.s c.args.table c.args.key (action_by c.args.op)) (s.lsn new) (s.blocks old) (s.blocks new) same c.in-Ok-Some.on c.wait_for.result (λ w is. is.0) c.wait_for.ensures.waits same
 
 pub returns-in-Ok-None-clause-makes : goal.returns-in-Ok-None-clause-makes
 returns-in-Ok-None-clause-makes g c = λ h st early fine.

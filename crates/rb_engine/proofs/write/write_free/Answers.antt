@@ -132,7 +132,7 @@ returns-in-Err-clause-makes g c = λ h st early others fine.
     let logs : Logs s old new [] (not (is_disk_fault c.refuse.result)) = subst (λ w. Logs s old new [] (not (is_disk_fault w))) (sym c.refuse.ensures.why) c.in-Err.ensures.logs in
     let loaded : Logs s old new [] true = subst (λ b. Logs s old new [] (not b)) fine logs in
     let same = loaded.blocks st.told refl in
-    makes_refused h (machine.Write c.args.s c.args.table c.args.key (action_by c.args.op)) (s.slots old) (s.lsn new) (s.blocks old) (s.blocks new) same c.refuse.result (λ scn lost is. same)
+    makes_refused h (machine.Write c.args.s c.args.table c.args.key (action_by c.args.op)) (s.lsn new) (s.blocks old) (s.blocks new) same c.refuse.result (λ scn lost is. same)
 
 pub returns-in-Ok-clause-makes : goal.returns-in-Ok-clause-makes
 returns-in-Ok-clause-makes g c = λ h st early others fine.

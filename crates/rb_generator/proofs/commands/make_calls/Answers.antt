@@ -3,7 +3,7 @@ use Rattle.std.proofs.lemmas.Result.{err_from_is_err_and}
 use Rattle.std.specs.Result.{is_err}
 use Rattle.rb_base.specs.declared.shape.Shape.{Shape}
 use Rattle.rb_calls.proofs.CallLemmas.{did_call, ends_calls, on_calls}
-use Rattle.rb_calls.specs.Since.{IsSince, StandsAs, since_same, since_joined, outside_of}
+use Rattle.rb_calls.specs.Since.{IsSince, StandsAs, since_same, since_joined, engine_outside}
 use Rattle.rb_engine.specs.Does.{EngineView}
 use Rattle.rb_generator.specs.Answered.{CallsAnswered}
 use Rattle.rb_generator.specs.Ends.{HasCounted}
@@ -45,7 +45,7 @@ loop-k-preserved g c =
     record {
       so_far = λ m is going. did_on c.args.engine.now c.loop-k.engine c.answer-answer.new.engine m _ _ _ (λ a b d h n k. since_joined a b d h n k) (i.so_far m is going) (λ n so. so.going)
           (λ n reached on. did_call g.T.Store n _ _ c.loop-k.engine c.answer-answer.new.engine _ reached on (o.did n.state reached.engine) o.same (o.lost n.state reached.engine) (o.makes n.state reached.engine) o.disk.still (λ now once. once))
-          (λ n k so once. calls_more m n k _ _ _ _ c.loop-k.k (answer_of c.answer-answer.result c.answer-answer.new.row) _ _ _ so (ap outside_of i.same.slots)
+          (λ n k so once. calls_more m n k _ _ _ c.loop-k.k (answer_of c.answer-answer.result c.answer-answer.new.row) _ _ _ so
           (subst (λ (end : ℕ). c.loop-k.k < end) (c.calls_of-k-end.ensures ∙ ap (λ (x : Shape). most_calls x (command_of c.args.command.now)) (c.shape.ensures.shape ∙ is.engine.shape)) c.loop-k-test.true)
           once (t.counted c.answer-answer.new.row) (on_calls c.answer-answer.result c.answer-answer.new.row c.in-Row.is));
       few = omega (arith, i.few, t.few);
@@ -62,8 +62,8 @@ returns-in_err-note-clause-did g c = λ m is going.
     did_on c.args.engine.now c.loop-k.engine c.answer-answer.new.engine m _ _ _ (λ a b d h n k. since_joined a b d h n k) (i.so_far m is going) (λ n so. so.going)
     (λ n reached on. did_call g.T.Store n _ _ c.loop-k.engine c.answer-answer.new.engine _ reached on (o.did n.state reached.engine) o.same (o.lost n.state reached.engine) (o.makes n.state reached.engine) o.disk.still (λ now once. once))
     (λ n k so once.
-    subst (λ (fault : Bool). HasCounted (CallsAnswered m (outside_of (g.T.Store.slots c.args.engine.now.store)) (command_of c.args.command.now) (most_calls m.state.shape (command_of c.args.command.now)) 0) k c.args.counts.now c.note.new.self fault) (sym (ap is_err p.1))
-    (calls_fault m n k _ _ _ _ c.loop-k.k (answer_of c.answer-answer.result c.answer-answer.new.row) _ _ _ so (ap outside_of i.same.slots)
+    subst (λ (fault : Bool). HasCounted (CallsAnswered m engine_outside (command_of c.args.command.now) (most_calls m.state.shape (command_of c.args.command.now)) 0) k c.args.counts.now c.note.new.self fault) (sym (ap is_err p.1))
+    (calls_fault m n k _ _ _ c.loop-k.k (answer_of c.answer-answer.result c.answer-answer.new.row) _ _ _ so
     (subst (λ (end : ℕ). c.loop-k.k < end) (c.calls_of-k-end.ensures ∙ ap (λ (x : Shape). most_calls x (command_of c.args.command.now)) (c.shape.ensures.shape ∙ is.engine.shape)) c.loop-k-test.true)
     once (t.counted c.answer-answer.new.row) (sym (t.fault c.answer-answer.new.row) ∙ ap is_err c.in_err-note.was)))
 
@@ -78,8 +78,8 @@ returns-in_default g c =
       did = λ m is going. did_on c.args.engine.now c.loop-k.engine c.answer-answer.new.engine m _ _ _ (λ a b d h n k. since_joined a b d h n k) (i.so_far m is going) (λ n so. so.going)
           (λ n reached on. did_call g.T.Store n _ _ c.loop-k.engine c.answer-answer.new.engine _ reached on (o.did n.state reached.engine) o.same (o.lost n.state reached.engine) (o.makes n.state reached.engine) o.disk.still (λ now once. once))
           (λ n k so once.
-          subst (λ (fault : Bool). HasCounted (CallsAnswered m (outside_of (g.T.Store.slots c.args.engine.now.store)) (command_of c.args.command.now) (most_calls m.state.shape (command_of c.args.command.now)) 0) k c.args.counts.now c.note.new.self fault) fine
-          (calls_last m n k _ _ _ _ c.loop-k.k (answer_of c.answer-answer.result c.answer-answer.new.row) _ _ _ so (ap outside_of i.same.slots)
+          subst (λ (fault : Bool). HasCounted (CallsAnswered m engine_outside (command_of c.args.command.now) (most_calls m.state.shape (command_of c.args.command.now)) 0) k c.args.counts.now c.note.new.self fault) fine
+          (calls_last m n k _ _ _ c.loop-k.k (answer_of c.answer-answer.result c.answer-answer.new.row) _ _ _ so
           (subst (λ (x : Shape). c.loop-k.k < most_calls x (command_of c.args.command.now)) is.engine.shape here)
           once (t.counted c.answer-answer.new.row) (ends_calls _ _ c.in_default.not-Row c.in_default.not-Marked)));
       few = omega (arith, i.few, t.few, here);

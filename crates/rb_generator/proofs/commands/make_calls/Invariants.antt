@@ -1,5 +1,5 @@
 use Rattle.std.proofs.Common.{◌≡◌, ◌≤◌, ◌+◌, false}
-use Rattle.rb_calls.specs.Since.{IsSince, StandsAs, outside_of}
+use Rattle.rb_calls.specs.Since.{IsSince, StandsAs, engine_outside}
 use Rattle.rb_engine.specs.Does.{SameStore}
 use Rattle.rb_generator.specs.Counted.{told}
 use Rattle.rb_generator.proofs.AnsweredLemmas.{CallsSoFar}
@@ -13,7 +13,7 @@ abbrev pub invariant-loop-k : goal.invariant-loop-k
 invariant-loop-k g l = record {
   so_far : (m : Logged) → StandsAs g.T.Store l.initial.engine m → m.state.stopped ≡ false
       → Did (StandsAs g.T.Store) (IsSince g.T.Store) l.initial.engine l.engine m
-      (λ now. CallsSoFar m (outside_of (g.T.Store.slots l.initial.engine.store)) (command_of l.command) (most_calls m.state.shape (command_of l.command)) l.k now l.initial.counts l.counts);
+      (λ now. CallsSoFar m engine_outside (command_of l.command) (most_calls m.state.shape (command_of l.command)) l.k now l.initial.counts l.counts);
   few : told l.counts ≤ told l.initial.counts + l.k;
   same : SameStore g.T.Store l.initial.engine.store l.engine.store;
   disk : g.T.Store.faults l.engine.store ≡ g.T.Store.faults l.initial.engine.store;

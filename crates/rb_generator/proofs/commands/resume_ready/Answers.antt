@@ -3,7 +3,7 @@ use Rattle.std.proofs.lemmas.Result.{err_from_is_err_and}
 use Rattle.std.specs.Result.{is_err}
 use Rattle.rb_base.specs.Counts.{Rose}
 use Rattle.rb_calls.proofs.CallLemmas.{did_resume, did_still, fewer_on, tried_old}
-use Rattle.rb_calls.specs.Since.{IsSince, StandsAs, since_same, since_joined, outside_of}
+use Rattle.rb_calls.specs.Since.{IsSince, StandsAs, since_same, since_joined, engine_outside}
 use Rattle.rb_engine.specs.Does.{EngineView}
 use Rattle.rb_generator.specs.Answered.{ResumesAnswered}
 use Rattle.rb_generator.specs.Ends.{HasCounted}
@@ -54,8 +54,8 @@ returns-in_err-note-clause-did g c = λ m is going.
     let a = c.answer_to_write.ensures.answer some_row in
     did_on c.args.engine.now c.loop-turn.engine c.resume.new.self m _ _ _ (λ a b d h n k. since_joined a b d h n k) (i.so_far m is going) (λ n so. so.going)
     (λ n reached on. did_resume g.T.Store n c.in-Some._s c.in-Some.outcome c.loop-turn.engine c.resume.new.self reached on c.resume.ensures.same (λ scn lost is. c.in-Some.ensures.lost n.state reached.engine c.in-Some._s scn lost (tried_old c.in-Some._s c.in-Some.outcome scn lost is)) (λ fine. c.in-Some.ensures.makes n.state reached.engine (fault_of_write c.in-Some.outcome ∙ fine)) (λ fine. c.in-Some.ensures.disk.still (fault_of_write c.in-Some.outcome ∙ fine)) _ (c.in-Some.ensures.did n.state reached.engine) (λ now again. again))
-    (λ n k so again. subst (λ (failed : Bool). HasCounted (ResumesAnswered m (outside_of (g.T.Store.slots c.args.engine.now.store))) k c.args.counts.now c.note.new.self failed) (sym (ap is_err p.1))
-    (resumes_fail m n k _ _ c.in-Some._s _ _ _ _ so (ap outside_of i.same.slots) (counted_as_is _ _ _ _ (c.note.ensures.counted some_row) a) again (sym (ap is_fault a) ∙ sym (c.note.ensures.fault some_row) ∙ ap is_err c.in_err-note.was)))
+    (λ n k so again. subst (λ (failed : Bool). HasCounted (ResumesAnswered m engine_outside) k c.args.counts.now c.note.new.self failed) (sym (ap is_err p.1))
+    (resumes_fail m n k _ c.in-Some._s _ _ _ _ so (counted_as_is _ _ _ _ (c.note.ensures.counted some_row) a) again (sym (ap is_fault a) ∙ sym (c.note.ensures.fault some_row) ∙ ap is_err c.in_err-note.was)))
 
 pub returns-in_err-note-clause-disk : goal.returns-in_err-note-clause-disk
 returns-in_err-note-clause-disk g c =
@@ -72,7 +72,7 @@ loop-turn-preserved g c =
     record {
       so_far = λ m is going. did_on c.args.engine.now c.loop-turn.engine c.resume.new.self m _ _ _ (λ a b d h n k. since_joined a b d h n k) (i.so_far m is going) (λ n so. so.going)
           (λ n reached on. did_resume g.T.Store n c.in-Some._s c.in-Some.outcome c.loop-turn.engine c.resume.new.self reached on c.resume.ensures.same (λ scn lost is. c.in-Some.ensures.lost n.state reached.engine c.in-Some._s scn lost (tried_old c.in-Some._s c.in-Some.outcome scn lost is)) (λ fine. c.in-Some.ensures.makes n.state reached.engine (fault_of_write c.in-Some.outcome ∙ fine)) (λ fine. c.in-Some.ensures.disk.still (fault_of_write c.in-Some.outcome ∙ fine)) _ (c.in-Some.ensures.did n.state reached.engine) (λ now again. again))
-          (λ n k so again. resumes_more m n k _ _ c.in-Some._s _ _ _ _ so (ap outside_of i.same.slots) (counted_as_is _ _ _ _ (c.note.ensures.counted some_row) a) again fine);
+          (λ n k so again. resumes_more m n k _ c.in-Some._s _ _ _ _ so (counted_as_is _ _ _ _ (c.note.ensures.counted some_row) a) again fine);
       fewer = λ one. fewer_on _ _ c.loop-turn._turn c.in-Some.ensures.fewer c.resume.ensures.few i.fewer;
       few = omega (arith, i.few, c.note.ensures.few);
       same = record { shape = c.resume.ensures.same.shape ∙ i.same.shape; slots = c.resume.ensures.same.slots ∙ i.same.slots };

@@ -1,5 +1,5 @@
 use Rattle.std.proofs.Common.{◌≡◌, ◌≤◌, ◌+◌, false}
-use Rattle.rb_calls.specs.Since.{IsSince, StandsAs, outside_of}
+use Rattle.rb_calls.specs.Since.{IsSince, StandsAs, engine_outside}
 use Rattle.rb_engine.specs.Does.{SameStore}
 use Rattle.rb_generator.specs.Counted.{told}
 use Rattle.rb_generator.proofs.AnsweredLemmas.{ResumesSoFar}
@@ -12,7 +12,7 @@ abbrev pub invariant-loop-turn : goal.invariant-loop-turn
 invariant-loop-turn g l = record {
   so_far : (m : Logged) → StandsAs g.T.Store l.initial.engine m → m.state.stopped ≡ false
       → Did (StandsAs g.T.Store) (IsSince g.T.Store) l.initial.engine l.engine m
-      (λ now. ResumesSoFar m (outside_of (g.T.Store.slots l.initial.engine.store)) now l.initial.counts l.counts);
+      (λ now. ResumesSoFar m engine_outside now l.initial.counts l.counts);
   fewer : 1 ≤ l._turn → ready_count l.engine.memory.waits + l._turn ≤ 16;
   few : told l.counts ≤ told l.initial.counts + l._turn;
   same : SameStore g.T.Store l.initial.engine.store l.engine.store;

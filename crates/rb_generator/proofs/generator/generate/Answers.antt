@@ -4,7 +4,7 @@ use Rattle.std.specs.Fmt.{decimal}
 use Rattle.std.specs.Result.{is_err}
 use Rattle.rb_base.specs.declared.faults.Failed.{Failed}
 use Rattle.rb_base.specs.declared.shape.Shape.{Shape}
-use Rattle.rb_calls.specs.Since.{IsSince, StandsAs, since_same, since_joined, outside_of}
+use Rattle.rb_calls.specs.Since.{IsSince, StandsAs, since_same, since_joined, engine_outside}
 use Rattle.rb_engine.specs.Does.{EngineView}
 use Rattle.rb_generator.specs.Answered.{CommandAnswered}
 use Rattle.rb_generator.specs.Counted.{told}
@@ -40,7 +40,7 @@ turned m k outside n i x shape counts counts2 failed fault start same drawn_as i
 
 pub loop-i-init : goal.loop-i-init
 loop-i-init g c = record {
-  so_far = λ m is going. record { now = m; reached = is; passed = still g c.args.engine.now m is going; ran = subst (λ (counts : Counts). CommandsSoFar m (outside_of (g.T.Store.slots c.args.engine.now.store)) c.args.commands 0 m counts) (sym c.none-counts.ensures) (commands_none m _ _ going) };
+  so_far = λ m is going. record { now = m; reached = is; passed = still g c.args.engine.now m is going; ran = subst (λ (counts : Counts). CommandsSoFar m engine_outside c.args.commands 0 m counts) (sym c.none-counts.ensures) (commands_none m _ _ going) };
   drawn = c.from.ensures;
   few = subst (λ (counts : Counts). told counts ≤ 0) (sym c.none-counts.ensures) (omega arith);
   same = record { shape = refl; slots = refl };
@@ -54,7 +54,7 @@ loop-i-preserved g c =
     record {
       so_far = λ m is going. did_on c.args.engine.now c.loop-i.engine c.turn.new.engine m _ _ _ (λ a b d h n k. since_joined a b d h n k) (i.so_far m is going) (λ n so. so.going)
           (λ n reached on. t.did n reached on)
-          (λ n k so has. commands_more m n k _ _ c.args.commands c.loop-i.i _ _ so (ap outside_of i.same.slots) c.loop-i-test.true
+          (λ n k so has. commands_more m n k _ c.args.commands c.loop-i.i _ _ so c.loop-i-test.true
           (turned n k _ c.args.commands c.loop-i.i _ _ _ _ _ false m (i.same.shape ∙ is.engine.shape) i.drawn (ap is_err c.in_ok-turn.was) has));
       drawn = four_on c.args.commands c.loop-i.i _ _ i.drawn t.drawn;
       few = omega (arith, i.few, t.few);
@@ -70,8 +70,8 @@ returns-in_err-turn-clause-did g c = λ m is going.
     did_on c.args.engine.now c.loop-i.engine c.turn.new.engine m _ _ _ (λ a b d h n k. since_joined a b d h n k) (i.so_far m is going) (λ n so. so.going)
     (λ n reached on. t.did n reached on)
     (λ n k so has.
-    subst (λ (r : Result Counts Failed). HasGenerated m (outside_of (g.T.Store.slots c.args.engine.now.store)) c.args.commands k r) (sym p.1)
-    (commands_fail m n k _ _ c.args.commands c.loop-i.i _ _ so (ap outside_of i.same.slots) c.loop-i-test.true p.0
+    subst (λ (r : Result Counts Failed). HasGenerated m engine_outside c.args.commands k r) (sym p.1)
+    (commands_fail m n k _ c.args.commands c.loop-i.i _ _ so c.loop-i-test.true p.0
     (turned n k _ c.args.commands c.loop-i.i _ _ _ _ _ true m (i.same.shape ∙ is.engine.shape) i.drawn (ap is_err c.in_err-turn.was) has)))
 
 pub returns-clause-did : goal.returns-clause-did

@@ -1,5 +1,5 @@
 use Rattle.std.proofs.Common.{◌≡◌, ◌≤◌, ◌*◌, false}
-use Rattle.rb_calls.specs.Since.{IsSince, StandsAs, outside_of}
+use Rattle.rb_calls.specs.Since.{IsSince, StandsAs, engine_outside}
 use Rattle.rb_engine.specs.Does.{SameStore}
 use Rattle.rb_generator.specs.Counted.{told}
 use Rattle.rb_generator.specs.Draws.{state_after}
@@ -12,7 +12,7 @@ abbrev pub invariant-loop-i : goal.invariant-loop-i
 invariant-loop-i g l = record {
   so_far : (m : Logged) → StandsAs g.T.Store l.initial.engine m → m.state.stopped ≡ false
       → Did (StandsAs g.T.Store) (IsSince g.T.Store) l.initial.engine l.engine m
-      (λ now. CommandsSoFar m (outside_of (g.T.Store.slots l.initial.engine.store)) l.commands l.i now l.counts);
+      (λ now. CommandsSoFar m engine_outside l.commands l.i now l.counts);
   drawn : l.draws.state ≡ state_after l.commands (4 * l.i);
   few : told l.counts ≤ 20 * l.i;
   same : SameStore g.T.Store l.initial.engine.store l.engine.store;

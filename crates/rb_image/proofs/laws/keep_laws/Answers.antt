@@ -12,7 +12,7 @@ pub returns-clause-back : goal.returns-clause-back
 returns-clause-back c = λ h xids s front before now made few. (back_kept h xids s front before now made few, back_entry h xids s front before now made few)
 
 pub returns-clause-write : goal.returns-clause-write
-returns-clause-write c = λ h xids s table key room action x before now stand t_in made. write_kept h xids s table key room action x before now stand t_in made
+returns-clause-write c = λ h xids s table key action x before now stand t_in made. write_kept h xids s table key action x before now stand t_in made
 
 pub returns-clause-clean : goal.returns-clause-clean
 returns-clause-clean c = clean_kept

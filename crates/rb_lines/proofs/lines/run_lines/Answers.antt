@@ -26,7 +26,6 @@ loop-room-init g c = record {
   line = [];
   held = c.new-pending.ensures;
   passed = λ m is going. record { now = m; reached = is; passed = g.met.M.LineRunner.since_same c.args.runner.now m is going; ran = going };
-  slots = refl;
   source = refl;
   disk = refl;
   sink = refl;
@@ -42,7 +41,7 @@ pub returns-in-Ok-finish-clause-did : goal.returns-in-Ok-finish-clause-did
 returns-in-Ok-finish-clause-did g c = λ t m is going.
     let i = c.loop-room.invariant in
     let p = i.part t in
-    part_end _ _ _ _ _ m _ _ g.K.Sink.tells _ _ _ _ _ _ c.loop-room.room (Ok tt) g.met.M.LineRunner.since_joined p (ap (outside_by g.M.LineRunner.worn g.M.LineRunner.makes) i.slots) (c.in-Ok.ensures.end t c.if-count-eq0.true) is going
+    part_end _ _ _ _ _ m _ g.K.Sink.tells _ _ _ _ _ _ c.loop-room.room (Ok tt) g.met.M.LineRunner.since_joined p (c.in-Ok.ensures.end t c.if-count-eq0.true) is going
     (λ k reached on. c.in-Ok-finish.ensures.did k (rest_from [] p.taken) reached on p.rest)
 
 pub returns-in-Err-clause-did : goal.returns-in-Err-clause-did
@@ -50,8 +49,8 @@ returns-in-Err-clause-did g c = λ t m is going.
     let i = c.loop-room.invariant in
     let p = i.part t in
     let none = c.in-Ok.ensures.end t c.if-count-eq0.true in
-    subst (λ (end : LinesEnd). Did g.M.LineRunner.stands g.M.LineRunner.since c.args.runner.now c.finish.new.runner m (λ now. EndsAs (outside_by g.M.LineRunner.worn g.M.LineRunner.makes (g.M.LineRunner.slots c.args.runner.now)) (length c.args.buffer.now) m now (g.S.Source.left c.args.source.now) (g.S.Source.left c.take_bytes.new.source) g.K.Sink.tells (g.K.Sink.held c.args.sink.now) (g.K.Sink.held c.finish.new.sink) end)) (sym c.from.ensures)
-    (last_fails _ _ _ _ _ m _ _ _ g.K.Sink.tells _ _ _ _ _ _ _ c.loop-room.room c.in-Err.fault g.met.M.LineRunner.since_joined p (ap (outside_by g.M.LineRunner.worn g.M.LineRunner.makes) i.slots) none (c.in-Ok.ensures.taken t ∙ ap (λ (n : ℕ). take n c.take_bytes.new.buffer ++ g.S.Source.left c.take_bytes.new.source) c.if-count-eq0.true) is going
+    subst (λ (end : LinesEnd). Did g.M.LineRunner.stands g.M.LineRunner.since c.args.runner.now c.finish.new.runner m (λ now. EndsAs (outside_by g.M.LineRunner.worn g.M.LineRunner.makes) (length c.args.buffer.now) m now (g.S.Source.left c.args.source.now) (g.S.Source.left c.take_bytes.new.source) g.K.Sink.tells (g.K.Sink.held c.args.sink.now) (g.K.Sink.held c.finish.new.sink) end)) (sym c.from.ensures)
+    (last_fails _ _ _ _ _ m _ _ g.K.Sink.tells _ _ _ _ _ _ _ c.loop-room.room c.in-Err.fault g.met.M.LineRunner.since_joined p none (c.in-Ok.ensures.taken t ∙ ap (λ (n : ℕ). take n c.take_bytes.new.buffer ++ g.S.Source.left c.take_bytes.new.source) c.if-count-eq0.true) is going
     (λ k reached on. c.in-Err.ensures.did k (rest_from [] p.taken) reached on p.rest))
 
 pub loop-room-preserved : goal.loop-room-preserved
@@ -65,12 +64,11 @@ loop-room-preserved g c =
       some = omega (arith, c.take_bytes.auto.buffer, i.some);
       room = omega (arith, i.room);
       part = λ t. let p = i.part t in
-          part_more _ _ _ _ _ _ _ g.K.Sink.tells _ _ _ _ _ _ _ _ c.loop-room.room c.in-Ok.count (take c.in-Ok.count c.take_bytes.new.buffer) g.met.M.LineRunner.since_joined p (ap (outside_by g.M.LineRunner.worn g.M.LineRunner.makes) i.slots) o.room size (o.taken t)
+          part_more _ _ _ _ _ _ g.K.Sink.tells _ _ _ _ _ _ _ _ c.loop-room.room c.in-Ok.count (take c.in-Ok.count c.take_bytes.new.buffer) g.met.M.LineRunner.since_joined p o.room size (o.taken t)
           (λ k reached on. f.did k (rest_from [] p.taken) reached on p.rest) (f.kept (rest_from [] p.taken) p.rest);
       line = rest_from i.line (take c.in-Ok.count c.take_bytes.new.buffer);
       held = f.kept i.line i.held;
       passed = λ m is going. did_on _ _ _ m _ _ _ g.met.M.LineRunner.since_joined (i.passed m is going) (λ n on. on) (λ n reached on. f.did n i.line reached on i.held) (λ n k on so. so.1);
-      slots = f.slots ∙ i.slots;
       source = o.counted.still ∙ i.source;
       disk = f.disk.still refl refl ∙ i.disk;
       sink = f.sink.still refl ∙ i.sink;
@@ -82,8 +80,8 @@ returns-in-Err-feed-clause-did g c = λ t m is going.
     let o = c.in-Ok.ensures in
     let p = i.part t in
     let size : length (take c.in-Ok.count c.take_bytes.new.buffer) ≤ length c.args.buffer.now = omega (arith, length-take-le c.in-Ok.count c.take_bytes.new.buffer o.buffer, o.buffer, c.take_bytes.auto.buffer, i.buffer) in
-    subst (λ (end : LinesEnd). Did g.M.LineRunner.stands g.M.LineRunner.since c.args.runner.now c.feed.new.runner m (λ now. EndsAs (outside_by g.M.LineRunner.worn g.M.LineRunner.makes (g.M.LineRunner.slots c.args.runner.now)) (length c.args.buffer.now) m now (g.S.Source.left c.args.source.now) (g.S.Source.left c.take_bytes.new.source) g.K.Sink.tells (g.K.Sink.held c.args.sink.now) (g.K.Sink.held c.feed.new.sink) end)) (sym c.from-in-Err-feed.ensures)
-    (piece_fails _ _ _ _ _ m _ _ _ g.K.Sink.tells _ _ _ _ _ _ _ c.loop-room.room (take c.in-Ok.count c.take_bytes.new.buffer) c.in-Err-feed.fault g.met.M.LineRunner.since_joined p (ap (outside_by g.M.LineRunner.worn g.M.LineRunner.makes) i.slots) size (o.taken t) is going
+    subst (λ (end : LinesEnd). Did g.M.LineRunner.stands g.M.LineRunner.since c.args.runner.now c.feed.new.runner m (λ now. EndsAs (outside_by g.M.LineRunner.worn g.M.LineRunner.makes) (length c.args.buffer.now) m now (g.S.Source.left c.args.source.now) (g.S.Source.left c.take_bytes.new.source) g.K.Sink.tells (g.K.Sink.held c.args.sink.now) (g.K.Sink.held c.feed.new.sink) end)) (sym c.from-in-Err-feed.ensures)
+    (piece_fails _ _ _ _ _ m _ _ g.K.Sink.tells _ _ _ _ _ _ _ c.loop-room.room (take c.in-Ok.count c.take_bytes.new.buffer) c.in-Err-feed.fault g.met.M.LineRunner.since_joined p size (o.taken t) is going
     (λ k reached on. c.in-Err-feed.ensures.did k (rest_from [] p.taken) reached on p.rest))
 
 pub returns-in-Err-feed-clause-took : goal.returns-in-Err-feed-clause-took

@@ -14,7 +14,6 @@ pub loop-byte-init : goal.loop-byte-init
 loop-byte-init g c = record {
   so_far = λ m line is going e. record { now = m; reached = is; passed = g.met.M.LineRunner.since_same c.args.runner.now m is going; ran = (ran_none _ m g.K.Sink.tells _, going) };
   kept = λ line e. e;
-  slots = refl;
   disk = refl;
   sink = refl;
 }
@@ -28,10 +27,10 @@ returns-in_err-feed_byte-clause-did g c = λ m line is going e.
     (λ n reached on. c.feed_byte.ensures.did n (rest_from line (take c.loop-byte.byte-index c.args.bytes.now)) reached on (i.kept line e))
     (λ n k so_far next.
     let within : c.loop-byte.byte-index < length c.args.bytes.now = omega arith in
-    let here = as_byte (outside_by g.M.LineRunner.worn g.M.LineRunner.makes (g.M.LineRunner.slots c.args.runner.now)) _ m n k line c.args.bytes.now c.loop-byte.byte-index g.K.Sink.tells _ _ _ c.feed_byte.result within (ap (outside_by g.M.LineRunner.worn g.M.LineRunner.makes) i.slots) so_far.0 so_far.1 next in
-    let fault = subst (λ (r : Result (Unit {0}) StepFault). RanAs (outside_by g.M.LineRunner.worn g.M.LineRunner.makes (g.M.LineRunner.slots c.args.runner.now)) m k (lines_from line (take (c.loop-byte.byte-index + 1) c.args.bytes.now)) g.K.Sink.tells (g.K.Sink.held c.args.sink.now) (g.K.Sink.held c.feed_byte.new.sink) r)
+    let here = as_byte (outside_by g.M.LineRunner.worn g.M.LineRunner.makes) m n k line c.args.bytes.now c.loop-byte.byte-index g.K.Sink.tells _ _ _ c.feed_byte.result within so_far.0 so_far.1 next in
+    let fault = subst (λ (r : Result (Unit {0}) StepFault). RanAs (outside_by g.M.LineRunner.worn g.M.LineRunner.makes) m k (lines_from line (take (c.loop-byte.byte-index + 1) c.args.bytes.now)) g.K.Sink.tells (g.K.Sink.held c.args.sink.now) (g.K.Sink.held c.feed_byte.new.sink) r)
     (same ∙ p.1) here in
-    subst (λ (r : Result (Unit {0}) StepFault). RanAs (outside_by g.M.LineRunner.worn g.M.LineRunner.makes (g.M.LineRunner.slots c.args.runner.now)) m k (lines_from line c.args.bytes.now) g.K.Sink.tells (g.K.Sink.held c.args.sink.now) (g.K.Sink.held c.feed_byte.new.sink) r)
+    subst (λ (r : Result (Unit {0}) StepFault). RanAs (outside_by g.M.LineRunner.worn g.M.LineRunner.makes) m k (lines_from line c.args.bytes.now) g.K.Sink.tells (g.K.Sink.held c.args.sink.now) (g.K.Sink.held c.feed_byte.new.sink) r)
     (sym p.1) (as_piece _ _ _ line c.args.bytes.now (c.loop-byte.byte-index + 1) g.K.Sink.tells _ _ p.0 going fault))
 
 pub loop-byte-preserved : goal.loop-byte-preserved
@@ -42,9 +41,8 @@ loop-byte-preserved g c =
     record {
       so_far = λ m line is going e. did_on c.args.runner.now c.loop-byte.runner c.feed_byte.new.runner m _ _ _ g.met.M.LineRunner.since_joined (i.so_far m line is going e) (λ n so_far. so_far.1)
           (λ n reached on. o.did n (rest_from line (take c.loop-byte.byte-index c.args.bytes.now)) reached on (i.kept line e))
-          (λ n k so_far next. as_byte (outside_by g.M.LineRunner.worn g.M.LineRunner.makes (g.M.LineRunner.slots c.args.runner.now)) _ m n k line c.args.bytes.now c.loop-byte.byte-index g.K.Sink.tells _ _ _ (Ok tt) within (ap (outside_by g.M.LineRunner.worn g.M.LineRunner.makes) i.slots) so_far.0 so_far.1 next);
+          (λ n k so_far next. as_byte (outside_by g.M.LineRunner.worn g.M.LineRunner.makes) m n k line c.args.bytes.now c.loop-byte.byte-index g.K.Sink.tells _ _ _ (Ok tt) within so_far.0 so_far.1 next);
       kept = λ line e. o.kept _ (i.kept line e) ∙ ap (λ (b : List ℕ). take 513 b) (rest_more line c.args.bytes.now c.loop-byte.byte-index within);
-      slots = o.slots ∙ i.slots;
       disk = o.disk.still refl refl ∙ i.disk;
       sink = o.sink.still refl ∙ i.sink;
     }
@@ -52,5 +50,5 @@ loop-byte-preserved g c =
 pub returns-clause-did : goal.returns-clause-did
 returns-clause-did g c = λ m line is going e.
     let all : take c.loop-byte.byte-index c.args.bytes.now ≡ c.args.bytes.now = take_all c.loop-byte.byte-index c.args.bytes.now (omega arith) in
-    did_as _ _ m _ _ (λ n so_far. subst (λ (bytes : List ℕ). RanAs (outside_by g.M.LineRunner.worn g.M.LineRunner.makes (g.M.LineRunner.slots c.args.runner.now)) m n (lines_from line bytes) g.K.Sink.tells (g.K.Sink.held c.args.sink.now) (g.K.Sink.held c.loop-byte.sink) (Ok tt)) all so_far)
+    did_as _ _ m _ _ (λ n so_far. subst (λ (bytes : List ℕ). RanAs (outside_by g.M.LineRunner.worn g.M.LineRunner.makes) m n (lines_from line bytes) g.K.Sink.tells (g.K.Sink.held c.args.sink.now) (g.K.Sink.held c.loop-byte.sink) (Ok tt)) all so_far)
     (c.loop-byte.invariant.so_far m line is going e)

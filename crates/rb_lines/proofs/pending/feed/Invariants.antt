@@ -8,9 +8,8 @@ abbrev pub invariant-loop-byte : goal.invariant-loop-byte
 invariant-loop-byte g l = record {
   so_far : (m : Logged) (line : List ℕ) → g.M.LineRunner.stands l.initial.runner m → m.state.stopped ≡ false → l.initial.pending.items ≡ take 513 line
       → Did g.M.LineRunner.stands g.M.LineRunner.since l.initial.runner l.runner m
-      (λ now. RanAs (outside_by g.M.LineRunner.worn g.M.LineRunner.makes (g.M.LineRunner.slots l.initial.runner)) m now (lines_from line (take l.byte-index l.bytes)) g.K.Sink.tells (g.K.Sink.held l.initial.sink) (g.K.Sink.held l.sink) (Ok tt));
+      (λ now. RanAs (outside_by g.M.LineRunner.worn g.M.LineRunner.makes) m now (lines_from line (take l.byte-index l.bytes)) g.K.Sink.tells (g.K.Sink.held l.initial.sink) (g.K.Sink.held l.sink) (Ok tt));
   kept : (line : List ℕ) → l.initial.pending.items ≡ take 513 line → l.pending.items ≡ take 513 (rest_from line (take l.byte-index l.bytes));
-  slots : g.M.LineRunner.slots l.runner ≡ g.M.LineRunner.slots l.initial.runner;
   disk : g.M.LineRunner.faults l.runner ≡ g.M.LineRunner.faults l.initial.runner;
   sink : g.K.Sink.faults l.sink ≡ g.K.Sink.faults l.initial.sink;
 }

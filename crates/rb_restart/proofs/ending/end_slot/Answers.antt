@@ -4,12 +4,11 @@ use Rattle.rb_base.specs.Blocks.{header_block, written_to, AreBlocks}
 use Rattle.rb_base.specs.Groups.{Patch}
 use Rattle.rb_base.specs.Logs.{load_logs, more_logs, apply_logs}
 use Rattle.rb_base.specs.declared.shape.Shape.{Shape}
-use Rattle.rb_restart.proofs.SlotEnded.{Ends, block_read, end_rolls, room_some}
+use Rattle.rb_restart.proofs.SlotEnded.{Ends, block_read, end_rolls}
 use Rattle.rb_restart.proofs.Joined.{none_rolls, fault_rolls}
 use Rattle.rb_segment.specs.Calls.{slot_patches, Runs}
 use Rattle.rb_segment.specs.Header.{header_of, slot_in}
 use Rattle.rb_segment.specs.Moves.{ended}
-use Rattle.rb_restart.proofs.ending.end_slot.Goals.{then-not-is_rolled_back-via-then-not-is_rolled_back, then-not-is_rolled_back-via-else-not-is_rolled_back+then-room-eq0}
 use Rattle.rb_restart.proofs.ending.end_slot.Goals as goal
 
 pub returns-in_err-load : goal.returns-in_err-load
@@ -28,16 +27,11 @@ returns-then-not-is_rolled_back g c =
     let x = c.args.xid in
     let load = c.in_ok-load.ensures in
     none_rolls s shape old mid 1 true (Ends s shape x old mid) (load_logs s old mid (Ok c.in_ok-load.field-0) load.shape load.slots load.failed load.counted load.lsn load.blocks load.settles load.any_moment load.holds_back)
-    (λ told goes number rows may still live. elim c.then-not-is_rolled_back.branch [
-      | then-not-is_rolled_back-via-then-not-is_rolled_back w ↦
-          let read = c.copy_from_slice.ensures.after ∙ block_read s old mid c.header_block.result (header_block shape x.seg) c.block.result.now told (load.blocks told) c.block.ensures.block load.loaded c.header_block.ensures.number in
-          let is : c.is_rolled_back.result ≡ true = c.is_rolled_back.ensures.1 (subst (λ (l : List ℕ). Runs (header_of l) x × ((slot_in (header_of l) x.slot).live ≡ 0)) (sym read) (live.runs, live.live)) in
-          let clash : false ≡ true = sym w.if-not-is_rolled_back.true ∙ is in
-          absurd cc
-      | then-not-is_rolled_back-via-else-not-is_rolled_back+then-room-eq0 w ↦
-          let some = room_some shape number rows (s.slots old) (s.slots mid) (s.lsn old) (s.lsn mid) w.room.result _ x c.requires.there live.runs may load.slots load.lsn w.room.ensures in
-          absurd (omega (arith, some, w.if-room-eq0.true))
-    ])
+    (λ told goes number rows may still live.
+    let read = c.copy_from_slice.ensures.after ∙ block_read s old mid c.header_block.result (header_block shape x.seg) c.block.result.now told (load.blocks told) c.block.ensures.block load.loaded c.header_block.ensures.number in
+    let is : c.is_rolled_back.result ≡ true = c.is_rolled_back.ensures.1 (subst (λ (l : List ℕ). Runs (header_of l) x × ((slot_in (header_of l) x.slot).live ≡ 0)) (sym read) (live.runs, live.live)) in
+    let clash : false ≡ true = sym c.if-not-is_rolled_back.true ∙ is in
+    absurd cc)
 
 pub returns : goal.returns
 returns g c =

@@ -38,7 +38,7 @@ returns-in_err-roll_back_segment g c =
         same.groups,
         same.logs,
         omega (arith, same.few, c.loop-seg-test.true, c.shape-shape.ensures.in_range.few_segments.1),
-        λ number rows told logged sound fits. ((rolled_back s (s.shape_of old) old new ((seg + 1) * 2 ^ 36) false same number rows told logged sound fits).0, on_err _ c.from_residual.result c.from_residual.ensures.0),
+        λ number rows told logged sound. ((rolled_back s (s.shape_of old) old new ((seg + 1) * 2 ^ 36) false same number rows told logged sound).0, on_err _ c.from_residual.result c.from_residual.ensures.0),
       );
     })
 
@@ -72,8 +72,8 @@ returns g c =
         same.groups,
         same.logs,
         omega (arith, same.few, c.loop-seg.auto.seg-end, c.shape-shape.ensures.in_range.few_segments.1),
-        λ number rows told logged sound fits.
-            let is = rolled_back s (s.shape_of old) old new (seg * 2 ^ 36) true same number rows told logged sound fits in
+        λ number rows told logged sound.
+            let is = rolled_back s (s.shape_of old) old new (seg * 2 ^ 36) true same number rows told logged sound in
             (is.0, is.1 refl),
       );
     }

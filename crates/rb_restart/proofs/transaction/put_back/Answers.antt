@@ -1,22 +1,10 @@
 use Rattle.std.proofs.Common.{true, false, Ok, Err, sym, subst, arith}
 use Rattle.std.proofs.lemmas.Bool.{ltb-true, lt-ltb}
-use Rattle.rb_base.specs.Logs.{no_logs}
 use Rattle.rb_base.specs.declared.faults.Failed.{Failed}
 use Rattle.rb_base.specs.declared.shape.Shape.{Shape}
-use Rattle.rb_restart.proofs.Joined.{none_rolls}
-use Rattle.rb_restart.proofs.Slots.{owed_for}
 use Rattle.rb_restart.proofs.Stepped.{Says, less, done, rolls, says}
 use Rattle.rb_restart.proofs.transaction.put_back.Given.{Over}
 use Rattle.rb_restart.proofs.transaction.put_back.Goals as goal
-
--- a log that has no room: nothing is done
-pub returns-then-room-eq0-clause-rolls : goal.returns-then-room-eq0-clause-rolls
-returns-then-room-eq0-clause-rolls g c = none_rolls g.S.Store c.args.shape c.args.store.now c.args.store.now 1 true (λ now. Unit {0}) (no_logs g.S.Store c.args.store.now c.requires.going) (λ told goes number rows may same. tt)
-
-pub returns-then-room-eq0-clause-done : goal.returns-then-room-eq0-clause-done
-returns-then-room-eq0-clause-done g c = λ told n number rows live may.
-    let some = owed_for c.args.shape (g.S.Store.blocks c.args.store.now) c.args.xid c.requires.there live.runs in
-    absurd (omega (arith, some, may.fits, c.room.ensures, c.if-room-eq0.true))
 
 -- a call that failed
 pub returns-in_err-back-clause-rolls : goal.returns-in_err-back-clause-rolls

@@ -1,13 +1,12 @@
 use Rattle.std.proofs.Common.{◌≡◌, ◌≢◌, ◌∙◌, refl, ℕ, Bool, false, Some, inl, inr, sym, ap, subst}
 use Rattle.rb_model.specs.State.{State}
-use Rattle.rb_calls.specs.Since.{outside_of}
+use Rattle.rb_calls.specs.Since.{engine_outside}
 use Rattle.rb_shell.specs.Statuses.{AsksScript}
 use Rattle.rb_shell.proofs.GenerationLemmas.{no_counts, same_made}
 use Rattle.rb_shell.proofs.RunLemmas.{endures}
 use Rattle.rb_shell.specs.Generation.{HasMade, MadeOn}
-use Rattle.rb_shell.specs.Runs.{Endures, HasOpened, IsSound, Lasts, first_of, outside_in}
+use Rattle.rb_shell.specs.Runs.{Endures, HasOpened, IsSound, Lasts, first_of}
 use Rattle.rb_shell.specs.declared.status.Status.TheVariants.{Done, DiskFault, SinkFault}
-use Rattle.rb_store.specs.Endless.{endless}
 use Rattle.rb_store.specs.Meaning.{Opens}
 use Rattle.rb_store.specs.contracts.store.LogStoreStore.TheImpl.{ghosts}
 use Rattle.rb_shell.proofs.generation.run_generator.Given.{Over}
@@ -18,7 +17,7 @@ module _ (g : Over) (c : After-close g) (disk : g.D.Disk.tells) (sound : IsSound
   opened : HasOpened g.D.Disk (ghosts g.row.D g.D.Disk g.D.Disk-dict) c.args.disk c.in-Ok.engine sound
   opened = c.in-Ok.ensures.opened disk sound
 
-  did : MadeOn (ghosts g.row.D g.D.Disk g.D.Disk-dict) c.in-Ok.engine.store c.make_commands-status.result.1 (outside_of (Some (endless c.in-Ok.engine.store.layout.log))) c.args.commands (first_of sound opened.first)
+  did : MadeOn (ghosts g.row.D g.D.Disk g.D.Disk-dict) c.in-Ok.engine.store c.make_commands-status.result.1 engine_outside c.args.commands (first_of sound opened.first)
       g.K.Sink.tells (g.K.Sink.held c.args.sink.now) (g.K.Sink.held c.make_commands-status.new.sink) c.make_commands-status.result.0
   did = c.make_commands-status.ensures.did (first_of sound opened.first) opened.stands (ap (λ (h : State). h.stopped) sound.opening.state)
 
@@ -33,12 +32,12 @@ module _ (g : Over) (c : After-close g) (disk : g.D.Disk.tells) (sound : IsSound
   lasts : c.make_commands-status.result.0 ≢ DiskFault → Lasts g.D.Disk c.args.disk c.close.result sound.store.layout sound.state did.made.now
   lasts fine = record {
     endured = endured;
-    last = λ file here. subst (λ (k : ℕ). Opens did.made.now.state.shape (Some (endless k)) file did.made.now.blocks did.made.now.lsn) opened.slots
+    last = λ file here. subst (λ (k : ℕ). Opens did.made.now.state.shape (Some k) file did.made.now.blocks did.made.now.lsn) opened.slots
         (did.last disk fine file (subst (λ d. g.D.Disk.image d file) c.close.ensures here));
   }
 
   -- the commands over the file
-  abbrev made : (fault : Bool) → did.fault ≡ fault → HasMade (outside_in sound) (first_of sound opened.first) c.args.commands fault
+  abbrev made : (fault : Bool) → did.fault ≡ fault → HasMade engine_outside (first_of sound opened.first) c.args.commands fault
   made fault is = same_made g.D.Disk c.args.disk (ghosts g.row.D g.D.Disk g.D.Disk-dict) c.in-Ok.engine sound opened c.args.commands did.fault fault is did.made
 
 pub returns-in-Ok-clause-done : goal.returns-in-Ok-clause-done

@@ -1,32 +1,27 @@
-use Rattle.std.proofs.Common.{◌≡◌, ◌≤◌, ℕ, Option, Some, refl, ap, sym, subst}
-use Rattle.rb_base.specs.Stores.{room_of}
+use Rattle.std.proofs.Common.{◌≡◌, Some, refl, ap, sym, subst}
 use Rattle.rb_base.specs.declared.shape.Shape.{Shape}
 use Rattle.rb_layout.specs.Regions.{shape_of}
 use Rattle.rb_model.specs.Rows.{rows_at}
 use Rattle.rb_model.specs.State.{opened}
 use Rattle.rb_opening.proofs.Sound.{sound_as}
 use Rattle.rb_opening.specs.Opens.{books_of}
-use Rattle.rb_segment.specs.Segments.{owed_in}
 use Rattle.rb_shell.proofs.LeftLemmas.{restart_small}
 use Rattle.rb_standing.specs.Standing.{SoundAs, logged_of}
-use Rattle.rb_store.specs.Endless.{endless}
 use Rattle.rb_shell.proofs.laws.restarts_sound.Goals as goal
 
 pub returns : goal.returns
 returns c = λ l books h n image r.
     let m = r.opening.layout in
     let rows = rows_at h.shape.blocks h.commits n in
-    let sound : SoundAs (shape_of m) r.blocks n rows = subst (λ (s : Shape). SoundAs s r.blocks n rows) (sym r.opening.shape_is) r.has.sound in
-    let fits : owed_in (shape_of m) r.blocks ≤ room_of (Some (endless m.log)) r.lsn =
-    subst (λ (o : Option ℕ). owed_in (shape_of m) r.blocks ≤ room_of o r.lsn) (sym r.opening.slots_are) (subst (λ (s : Shape). owed_in s r.blocks ≤ room_of (Some (endless l.log)) r.lsn) (sym r.opening.shape_is) r.has.fits) in (
+    let sound : SoundAs (shape_of m) r.blocks n rows = subst (λ (s : Shape). SoundAs s r.blocks n rows) (sym r.opening.shape_is) r.has.sound in (
       record {
         store = record {
           layout = m;
           blocks = r.blocks;
           lsn = r.lsn;
           opens = r.opening.opens;
-          small = restart_small (Some (endless l.log)) n books h image r;
-          can_open = record { sound = sound_as (shape_of m) r.blocks n rows sound; fits = fits };
+          small = restart_small (Some l.log) n books h image r;
+          sound = sound_as (shape_of m) r.blocks n rows sound;
         };
         state = opened (shape_of m) n rows (books_of (shape_of m) r.blocks);
         opening = record { number = n; rows = rows; sound = sound; state = refl };

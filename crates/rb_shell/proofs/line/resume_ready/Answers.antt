@@ -6,7 +6,7 @@ use Rattle.rb_lines.proofs.Dids.{did_on}
 use Rattle.rb_model.proofs.Stops.{fault_of_write}
 use Rattle.rb_model.specs.Out.{Logged}
 use Rattle.rb_model.specs.Queue.{first_ready}
-use Rattle.rb_calls.specs.Since.{IsSince, StandsAs, since_same, since_joined, outside_of}
+use Rattle.rb_calls.specs.Since.{IsSince, StandsAs, since_same, since_joined, engine_outside}
 use Rattle.rb_shell.specs.Steps.{HasResumed}
 use Rattle.rb_calls.proofs.CallLemmas.{did_resume, did_still, fewer_on, none_some, tried_old}
 use Rattle.rb_shell.proofs.ResumeLemmas.{resumed_all, resumed_fails, resumed_more, resumed_none}
@@ -50,8 +50,8 @@ returns-in_err-tell_resumed-clause-did g c = λ m is going.
     let p = err_from_is_err_and c.from_residual.result c.from_residual.ensures.1 in
     did_on c.args.engine.now c.loop-turn.engine c.resume.new.self m _ _ _ (λ a b d h n k. since_joined a b d h n k) (i.so_far m is going) (λ n so. so.going)
     (λ n reached on. did_resume g.T.Store n c.in-Some.s c.in-Some.outcome c.loop-turn.engine c.resume.new.self reached on c.resume.ensures.same (λ scn lost is. c.in-Some.ensures.lost n.state reached.engine c.in-Some.s scn lost (tried_old c.in-Some.s c.in-Some.outcome scn lost is)) (λ fine. c.in-Some.ensures.makes n.state reached.engine (fault_of_write c.in-Some.outcome ∙ fine)) (λ fine. c.in-Some.ensures.disk.still (fault_of_write c.in-Some.outcome ∙ fine)) _ (c.in-Some.ensures.did n.state reached.engine) (λ now again. again))
-    (λ n k so again. subst (λ (failed : Bool). HasResumed m (outside_of (g.T.Store.slots c.args.engine.now.store)) k c.args.waiting.now.items c.tell_resumed.new.waiting.items failed) (sym (ap is_err p.1))
-    (resumed_fails m n k _ _ c.in-Some.s _ _ _ _ so (ap outside_of i.same.slots) t.told again (sym t.fault ∙ ap is_err c.in_err-tell_resumed.was)))
+    (λ n k so again. subst (λ (failed : Bool). HasResumed m engine_outside k c.args.waiting.now.items c.tell_resumed.new.waiting.items failed) (sym (ap is_err p.1))
+    (resumed_fails m n k _ c.in-Some.s _ _ _ _ so t.told again (sym t.fault ∙ ap is_err c.in_err-tell_resumed.was)))
 
 pub loop-turn-preserved : goal.loop-turn-preserved
 loop-turn-preserved g c =
@@ -61,7 +61,7 @@ loop-turn-preserved g c =
     record {
       so_far = λ m is going. did_on c.args.engine.now c.loop-turn.engine c.resume.new.self m _ _ _ (λ a b d h n k. since_joined a b d h n k) (i.so_far m is going) (λ n so. so.going)
           (λ n reached on. did_resume g.T.Store n c.in-Some.s c.in-Some.outcome c.loop-turn.engine c.resume.new.self reached on c.resume.ensures.same (λ scn lost is. c.in-Some.ensures.lost n.state reached.engine c.in-Some.s scn lost (tried_old c.in-Some.s c.in-Some.outcome scn lost is)) (λ fine. c.in-Some.ensures.makes n.state reached.engine (fault_of_write c.in-Some.outcome ∙ fine)) (λ fine. c.in-Some.ensures.disk.still (fault_of_write c.in-Some.outcome ∙ fine)) _ (c.in-Some.ensures.did n.state reached.engine) (λ now again. again))
-          (λ n k so again. resumed_more m n k _ _ c.in-Some.s _ _ _ _ so (ap outside_of i.same.slots) t.told again fine);
+          (λ n k so again. resumed_more m n k _ c.in-Some.s _ _ _ _ so t.told again fine);
       fewer = λ one. fewer_on _ _ c.loop-turn._turn c.in-Some.ensures.fewer c.resume.ensures.few i.fewer;
       room = omega (arith, i.room, t.len);
       idle = λ none. absurd (none_some (c.resume.ensures.idle (ap (λ (x : EngineView g.row.T.Denot). first_ready x.memory.waits) (i.idle none).0 ∙ none)).0 c.in-Some.is);

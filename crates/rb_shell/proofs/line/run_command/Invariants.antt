@@ -3,7 +3,7 @@ use Rattle.rb_engine.specs.Does.{SameStore}
 use Rattle.rb_lines.specs.Ran.{Did}
 use Rattle.rb_model.specs.Out.{Logged}
 use Rattle.rb_script.specs.Commands.{command_of}
-use Rattle.rb_calls.specs.Since.{IsSince, StandsAs, outside_of}
+use Rattle.rb_calls.specs.Since.{IsSince, StandsAs, engine_outside}
 use Rattle.rb_shell.specs.Steps.{SaidSoFar}
 use Rattle.rb_shell.specs.declared.replies.TheConstants.{OWN_BYTES}
 use Rattle.rb_shell.proofs.line.run_command.Given as goal
@@ -12,7 +12,7 @@ abbrev pub invariant-loop-k : goal.invariant-loop-k
 invariant-loop-k g l = record {
   so_far : (m : Logged) → StandsAs g.T.Store l.initial.engine m → m.state.stopped ≡ false
       → Did (StandsAs g.T.Store) (IsSince g.T.Store) l.initial.engine l.engine m
-      (λ now. SaidSoFar m (outside_of (g.T.Store.slots l.initial.engine.store)) (command_of l.command) l.k now g.K.Sink.tells (g.K.Sink.held l.initial.sink) (g.K.Sink.held l.sink) l.waiting.items);
+      (λ now. SaidSoFar m engine_outside (command_of l.command) l.k now g.K.Sink.tells (g.K.Sink.held l.initial.sink) (g.K.Sink.held l.sink) l.waiting.items);
   room : length l.waiting.items ≤ OWN_BYTES;
   first : l.k ≡ 0 → l.waiting.items ≡ [];
   same : SameStore g.T.Store l.initial.engine.store l.engine.store;

@@ -1,4 +1,5 @@
-use Rattle.std.proofs.Common.{◌≡◌, ◌≤◌, ◌+◌, ℕ, Bool, true, List, [], ◌++◌, length, take, Option, Some, arith, ap, sym, subst, refl, Result, Ok, Err, IsErrAnd, IfErr}
+use Rattle.std.proofs.Common.{◌≡◌, ◌≤◌, ◌+◌, ℕ, Bool, true, List, [], ◌++◌, length, take, Some, arith, ap, sym, subst, refl, Result, Ok, Err, IsErrAnd, IfErr}
+use Rattle.std.proofs.lemmas.Option.{same_Some}
 use Rattle.rb_base.specs.Logs.{Laws, Logs}
 use Rattle.rb_base.specs.Moments.{weaker}
 use Rattle.rb_base.specs.Settling.{told_same}
@@ -11,14 +12,13 @@ use Rattle.rb_layout.specs.Regions.{shape_of}
 use Rattle.rb_layout.specs.declared.layout.Layout.{Layout}
 use Rattle.rb_model.specs.State.{State}
 use Rattle.rb_store.proofs.SameLayout.{same_layout}
-use Rattle.rb_store.specs.Endless.{endless}
 use Rattle.rb_store.specs.Meaning.{Means, Opens, OpensAt}
 use Rattle.rb_store.specs.Openings.{LeftAlone}
 use Rattle.rb_store.specs.StoreLaws.{held_back_joined, held_back_same, stable_left}
 use Rattle.rb_store.specs.StoreStates.{IsStable, blocks_in}
 use Rattle.rb_store.specs.contracts.store.LogStoreStore.TheImpl.{ghosts}
 use Rattle.rb_shell.specs.Runs.{IsSound, WasStopped}
-use Rattle.rb_calls.specs.Since.{image_has, slots_of}
+use Rattle.rb_calls.specs.Since.{image_has}
 use Rattle.rb_disk.specs.Moments.{Leaves}
 use Rattle.rb_shell.proofs.RunLemmas.{Found, alone_same, disk_leaves, has_opened, in_range, is_store, no_opening, not_store, opens_same, same_of, stays_alone, stays_damaged}
 use Rattle.rb_shell.proofs.script.open_engine.Given.{Over}
@@ -60,15 +60,10 @@ opens_to g c told sound =
     record {
       in_range = in_range s.layout;
       opening = same.opening;
-      fits = same.fits;
       logged = same.logged;
       none_waits = λ kept. c.in_ok-store.ensures.pending;
       stable = λ kept. c.in_ok-store.ensures.stable told;
     }
-
--- as many slots are told of logs of as many
-same_log : (a b : ℕ) → ◌≡◌ {A = Option ℕ} (Some (endless a)) (Some (endless b)) → a ≡ b
-same_log a b is = let same : endless a ≡ endless b = ap slots_of is in omega (arith, same)
 
 -- an opening by a layout of the same numbers
 as_found : (l : Layout) (blocks : List (List ℕ)) (lsn : ℕ) (c : List ℕ) (m : Layout) → shape_of m ≡ shape_of l → m.log ≡ l.log → OpensAt m c blocks lsn → Means l c blocks lsn
@@ -87,15 +82,15 @@ images_alone g c going told logs =
     let stands = c.in_ok-store.ensures.stable told in
     let groups = s.pending ++ [] in
     let none : length groups ≡ 0 = ap (λ (l : List (List Patch)). length (l ++ [])) c.in_ok-store.ensures.pending in
-    let means : (c2 : List ℕ) → OpensToSome (Opens (shape_of l) (Some (endless l.log))) s.number groups read c2 → Means l c2 read s.number =
+    let means : (c2 : List ℕ) → OpensToSome (Opens (shape_of l) (Some l.log)) s.number groups read c2 → Means l c2 read s.number =
     λ c2 some.
     let o = some.opening in
     let few = some.few in
     let z : some.count ≡ 0 = omega (arith, few, none) in
-    as_found l read s.number c2 o.layout o.shape_is (same_log o.layout.log l.log o.slots_are)
+    as_found l read s.number c2 o.layout o.shape_is (same_Some o.layout.log l.log o.slots_are)
     (told_same (OpensAt o.layout c2) _ _ _ _ (ap (λ (j : ℕ). after_groups (s.number + 1) (take j groups) read) z) (omega (arith, z)) o.opens) in
     weaker g.D.Disk.moment g.D.Disk.image_since s.disk new.disk _ (λ c2. Means l c2 read s.number) means
-    (disk_leaves g.D.Disk (ghosts g.row.D g.D.Disk g.D.Disk-dict) s new (OpensToSome (Opens (shape_of l) (Some (endless l.log))) s.number groups read)
+    (disk_leaves g.D.Disk (ghosts g.row.D g.D.Disk g.D.Disk-dict) s new (OpensToSome (Opens (shape_of l) (Some l.log)) s.number groups read)
     (logs.any_moment told (laws g told) read s.number stands))
 
 -- and of the file too, where nothing failed
@@ -115,7 +110,7 @@ unchanged g c told logs =
     let zero_settled = back settled.count settled.few in
     let after : IsStable g.D.Disk new read s.number = told_same (IsStable g.D.Disk new) _ _ _ _ (made settled.count zero_settled) (number settled.count zero_settled) settled.settled in
     stays_alone g.D.Disk c.args.disk s new (found g (goal.at.returns-in-Err-clause-none g c).In_ok-store told)
-    (as_found l read s.number (g.D.Disk.content new.disk) new.layout logs.same_shape (same_log new.layout.log l.log logs.same_slots) after.opens)
+    (as_found l read s.number (g.D.Disk.content new.disk) new.layout logs.same_shape (same_Some new.layout.log l.log logs.same_slots) after.opens)
     (images_alone g c true told logs)
 
 pub returns-in-Ok-clause-opened : goal.returns-in-Ok-clause-opened
@@ -123,7 +118,7 @@ returns-in-Ok-clause-opened g c = λ told sound.
     let a = (goal.at.returns-in-Ok-clause-opened g c).In_ok-store in
     let o = c.in-Ok.ensures.opened told sound.state (opens_to g a told sound) in
     let stays = o.stays told in
-    has_opened g.D.Disk c.args.disk (ghosts g.row.D g.D.Disk g.D.Disk-dict) c.in_ok-store.store c.in-Ok.engine sound (found g a told) (same_log _ _ c.in-Ok.ensures.same_ok.slots) refl o.stands o.lsn o.back
+    has_opened g.D.Disk c.args.disk (ghosts g.row.D g.D.Disk g.D.Disk-dict) c.in_ok-store.store c.in-Ok.engine sound (found g a told) (same_Some _ _ c.in-Ok.ensures.same_ok.slots) o.stands o.lsn o.back
     (record { later = stays.later; each = stays.each; earlier = stays.earlier })
     (λ im here. image_has (laws g told) c.in-Ok.engine sound.state o.stands (ap (λ (h : State). h.stopped) sound.opening.state) told im here)
 

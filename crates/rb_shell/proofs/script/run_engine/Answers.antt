@@ -7,7 +7,7 @@ use Rattle.rb_lines.specs.declared.lines.LinesEnd.TheVariants as ends
 use Rattle.rb_image.proofs.Crashes.{survives_on}
 use Rattle.rb_image.specs.Crash.{Survives}
 use Rattle.rb_shell.specs.Runs.{MadeLast}
-use Rattle.rb_calls.specs.Since.{outside_of}
+use Rattle.rb_calls.specs.Since.{engine_outside}
 use Rattle.rb_shell.specs.Statuses.{by_disk, by_sink, by_source}
 use Rattle.rb_shell.specs.declared.status.Status.TheVariants as statuses
 use Rattle.rb_calls.proofs.CallLemmas.{counted_as}
@@ -24,8 +24,7 @@ returns-clause-did g c = λ t m is going.
     let status = c.end_script-status.result in
     let e = c.end_script-status.ensures in
     let d = c.run_lines-end.ensures.did t m is going in
-    let outside = outside_of (s.slots old) in
-    let ends_as : ℕ → LinesEnd → Type 0 = λ n x. EndsAs outside n m d.now (g.S.Source.left c.args.source.now) (g.S.Source.left c.run_lines-end.new.source) g.K.Sink.tells (g.K.Sink.held c.args.sink.now) (g.K.Sink.held c.run_lines-end.new.sink) x in
+    let ends_as : ℕ → LinesEnd → Type 0 = λ n x. EndsAs engine_outside n m d.now (g.S.Source.left c.args.source.now) (g.S.Source.left c.run_lines-end.new.source) g.K.Sink.tells (g.K.Sink.held c.args.sink.now) (g.K.Sink.held c.run_lines-end.new.sink) x in
     let ran = subst (λ (n : ℕ). ends_as n end) c.requires.buffer d.ran in
     let crash : (s.keeps → Survives s (s.slots old) d.now.fault m.state d.now.state old new) × (s.keeps → status ≡ statuses.Done → (i : s.image) → s.left new i → s.opens d.now.state.shape (s.slots old) i d.now.blocks d.now.lsn) = ⊎_elim
     (λ (done : end ≡ ends.Done).

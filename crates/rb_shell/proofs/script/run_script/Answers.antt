@@ -7,9 +7,8 @@ use Rattle.rb_lines.specs.declared.lines.LinesEnd.{LinesEnd}
 use Rattle.rb_lines.specs.declared.lines.LinesEnd.TheVariants as ends
 use Rattle.rb_model.specs.Out.{Logged}
 use Rattle.rb_model.specs.State.{State}
-use Rattle.rb_calls.specs.Since.{outside_of}
+use Rattle.rb_calls.specs.Since.{engine_outside}
 use Rattle.rb_shell.specs.Runs.{IsSound, first_of}
-use Rattle.rb_store.specs.Endless.{endless}
 use Rattle.rb_store.specs.Meaning.{Opens}
 use Rattle.rb_store.specs.contracts.store.LogStoreStore.TheImpl.{ghosts}
 use Rattle.rb_shell.specs.Runs.{Endures, HasOpened, HasRun, Lasts, LeftBehind, PassedOn, RanOn}
@@ -55,7 +54,7 @@ module _ (g : Over) (c : After-close g) (disk : g.D.Disk.tells) (told : g.S.Sour
   opened : HasOpened g.D.Disk (ghosts g.row.D g.D.Disk g.D.Disk-dict) c.args.disk c.in-Ok-open_engine.engine sound
   opened = c.in-Ok-open_engine.ensures.opened disk sound
 
-  did : RanOn (ghosts g.row.D g.D.Disk g.D.Disk-dict) c.in-Ok-open_engine.engine.store c.run_engine-status.result.1 (outside_of (Some (endless c.in-Ok-open_engine.engine.store.layout.log))) 65536 (first_of sound opened.first)
+  did : RanOn (ghosts g.row.D g.D.Disk g.D.Disk-dict) c.in-Ok-open_engine.engine.store c.run_engine-status.result.1 engine_outside 65536 (first_of sound opened.first)
       (g.S.Source.left c.args.source.now) (g.S.Source.left c.run_engine-status.new.source) g.K.Sink.tells (g.K.Sink.held c.args.sink.now) (g.K.Sink.held c.run_engine-status.new.sink) c.run_engine-status.result.0
   did = c.run_engine-status.ensures.did told (first_of sound opened.first) opened.stands (ap (λ (h : State). h.stopped) sound.opening.state)
 
@@ -70,17 +69,17 @@ module _ (g : Over) (c : After-close g) (disk : g.D.Disk.tells) (told : g.S.Sour
   lasts : c.run_engine-status.result.0 ≡ Done → Lasts g.D.Disk c.args.disk c.close.result sound.store.layout sound.state did.now
   lasts fine = record {
     endured = endured;
-    last = λ file here. subst (λ (k : ℕ). Opens did.now.state.shape (Some (endless k)) file did.now.blocks did.now.lsn) opened.slots
+    last = λ file here. subst (λ (k : ℕ). Opens did.now.state.shape (Some k) file did.now.blocks did.now.lsn) opened.slots
         (did.last disk fine file (subst (λ d. g.D.Disk.image d file) c.close.ensures here));
   }
 
   -- how the lines ended
   ended : (end : LinesEnd) → did.end ≡ end
-      → EndsAs (outside_of (Some (endless c.in-Ok-open_engine.engine.store.layout.log))) 65536 (first_of sound opened.first) did.now (g.S.Source.left c.args.source.now) (g.S.Source.left c.run_engine-status.new.source) g.K.Sink.tells (g.K.Sink.held c.args.sink.now) (g.K.Sink.held c.run_engine-status.new.sink) end
-  ended end is = subst (λ (e : LinesEnd). EndsAs (outside_of (Some (endless c.in-Ok-open_engine.engine.store.layout.log))) 65536 (first_of sound opened.first) did.now (g.S.Source.left c.args.source.now) (g.S.Source.left c.run_engine-status.new.source) g.K.Sink.tells (g.K.Sink.held c.args.sink.now) (g.K.Sink.held c.run_engine-status.new.sink) e) is did.ends
+      → EndsAs engine_outside 65536 (first_of sound opened.first) did.now (g.S.Source.left c.args.source.now) (g.S.Source.left c.run_engine-status.new.source) g.K.Sink.tells (g.K.Sink.held c.args.sink.now) (g.K.Sink.held c.run_engine-status.new.sink) end
+  ended end is = subst (λ (e : LinesEnd). EndsAs engine_outside 65536 (first_of sound opened.first) did.now (g.S.Source.left c.args.source.now) (g.S.Source.left c.run_engine-status.new.source) g.K.Sink.tells (g.K.Sink.held c.args.sink.now) (g.K.Sink.held c.run_engine-status.new.sink) e) is did.ends
 
   -- what was done over the engine was done over the file
-  ran : (lines : List (List ℕ)) (left : Layout → State → Logged → Type 0) → Ran (outside_of (Some (endless c.in-Ok-open_engine.engine.store.layout.log))) (first_of sound opened.first) did.now lines g.K.Sink.tells (g.K.Sink.held c.args.sink.now) (g.K.Sink.held c.run_engine-status.new.sink) → did.now.state.stopped ≡ false
+  ran : (lines : List (List ℕ)) (left : Layout → State → Logged → Type 0) → Ran engine_outside (first_of sound opened.first) did.now lines g.K.Sink.tells (g.K.Sink.held c.args.sink.now) (g.K.Sink.held c.run_engine-status.new.sink) → did.now.state.stopped ≡ false
       → left sound.store.layout sound.state did.now → HasRun sound lines g.K.Sink.tells (g.K.Sink.held c.args.sink.now) (g.K.Sink.held c.run_engine-status.new.sink) left
   ran lines left r going is = has_run g.D.Disk c.args.disk (ghosts g.row.D g.D.Disk g.D.Disk-dict) c.in-Ok-open_engine.engine sound opened did.now lines g.K.Sink.tells _ _ left r going is
 

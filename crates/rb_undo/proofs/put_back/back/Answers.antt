@@ -62,18 +62,12 @@ returns-in_default-clause-nothing g c told not =
 pub take_back-requires-clause-room : goal.take_back-requires-clause-room
 take_back-requires-clause-room g c = home_short _ _ _ _ _ _ _ c.new.ensures c.change.ensures.patches c.change.ensures.cell_sound
 
--- the loads change neither the number of the last group nor the room
-slots_kept : (g : Over) (c : goal.After-apply-arg-1 g) → g.S.Store.slots c.newest.new.store ≡ g.S.Store.slots c.args.store.now
-slots_kept g c = c.in_ok-undo.ensures.logs.same_slots ∙ c.in_ok-load.ensures.slots
-
+-- the loads don't change the number of the last group
 number_kept : (g : Over) (c : goal.After-apply-arg-1 g) → g.S.Store.lsn c.newest.new.store ≡ g.S.Store.lsn c.args.store.now
 number_kept g c = plus_none (g.S.Store.lsn c.newest.new.store) (g.S.Store.lsn c.load.new.self) (c.in_ok-undo.ensures.logs.number refl) ∙ c.in_ok-load.ensures.lsn
 
 pub apply-requires-clause-going : goal.apply-requires-clause-going
 apply-requires-clause-going g c = c.in_ok-undo.ensures.logs.failed
-
-pub apply-requires-clause-room : goal.apply-requires-clause-room
-apply-requires-clause-room g c = rw (slots_kept g c, number_kept g c) c.requires.room
 
 pub apply-requires-clause-few : goal.apply-requires-clause-few
 apply-requires-clause-few g c = rw (number_kept g c) c.requires.few

@@ -1,13 +1,11 @@
-use Rattle.std.proofs.Common.{◌≡◌, ◌<◌, ◌+◌, ◌^◌, ◌∷◌, Option, inl, inr, ℕ, true, false, not, List, [], Result, refl, sym, ◌∙◌, ap, subst, arith}
+use Rattle.std.proofs.Common.{◌≡◌, ◌<◌, ◌+◌, ◌^◌, ◌∷◌, inl, ℕ, not, List, [], refl, sym, ◌∙◌, ap, subst, arith}
 use Rattle.std.proofs.lemmas.Result.{on_ok_weaker}
 use Rattle.std.specs.Result.{is_err}
 use Rattle.rb_base.proofs.Each.{all_so}
 use Rattle.rb_base.specs.Blocks.{after_group, block_of, shape_blocks, table_blocks}
 use Rattle.rb_base.specs.Groups.{Patch}
 use Rattle.rb_base.specs.Logs.{Logs, apply_logs, more_logs, no_logs}
-use Rattle.rb_base.specs.Stores.{room_of}
 use Rattle.rb_base.specs.declared.shape.Shape.{Shape}
-use Rattle.rb_base.specs.declared.store.Store.{Ghosts}
 use Rattle.rb_cleanout.proofs.Grouped.{of_block}
 use Rattle.rb_cleanout.proofs.Plans.{planned, unplanned}
 use Rattle.rb_cleanout.specs.Cleaned.{IsPlan, PlansClean, look_of}
@@ -15,21 +13,21 @@ use Rattle.rb_heap.specs.Cleaning.{IsCleanPatch, cleaned_home}
 use Rattle.rb_heap.specs.Homes.{home_of}
 use Rattle.rb_image.specs.Made.{CleanMade}
 use Rattle.rb_model.specs.State.{State}
-use Rattle.rb_segment.specs.Segments.{owed_in}
 use Rattle.rb_standing.specs.Standing.{logged_of}
 use Rattle.rb_undoengine.proofs.Cleaned.{clean_made, home_after, home_is_clean}
+use Rattle.rb_undoengine.proofs.clean.clean_step.Given.{Over}
 use Rattle.rb_undoengine.proofs.clean.clean_step.Goals as goal
 
 -- what was planned over a store's shape, over that of the state
 of_shape : (shape : Shape) (h : State) (blocks : List (List ℕ)) (b : ℕ) (patches : List Patch) → shape ≡ h.shape → PlansClean (look_of shape blocks) b patches (block_of blocks b) → PlansClean (look_of h.shape blocks) b patches (block_of blocks b)
 of_shape shape h blocks b patches same plans = subst (λ (k : Shape). PlansClean (look_of k blocks) b patches (block_of blocks b)) same plans
 
-pub returns-then-not-can_log-clause-logs : goal.returns-then-not-can_log-clause-logs
-returns-then-not-can_log-clause-logs g c = ([], no_logs g.S.Store c.args.store.now c.requires.going, omega arith)
+pub returns-then-logged-ge-WORN-clause-logs : goal.returns-then-logged-ge-WORN-clause-logs
+returns-then-logged-ge-WORN-clause-logs g c = ([], no_logs g.S.Store c.args.store.now c.requires.going, omega arith)
 
 -- there was nothing to clean
 pub returns-in_default-clause-cleaned : goal.returns-in_default-clause-cleaned
-returns-in_default-clause-cleaned g c = λ told h xids shape holds young room.
+returns-in_default-clause-cleaned g c = λ told h xids shape holds young.
     let s = g.S.Store in
     let blocks = s.blocks c.args.store.now in
     let plan = c.in_ok-plan.ensures in
@@ -38,90 +36,56 @@ returns-in_default-clause-cleaned g c = λ told h xids shape holds young room.
     ap (λ (l : List (List ℕ)). home_of (block_of l c.args.no)) (plan.logs.blocks told refl)
     ∙ home_is_clean h xids blocks holds.blocks c.args.no there (subst (λ (k : Shape). cleaned_home (look_of k blocks) (home_of (block_of blocks c.args.no)) ≡ home_of (block_of blocks c.args.no)) shape clean)
 
--- the headers couldn't be read
-pub returns-in_err-needed-clause-logs : goal.returns-in_err-needed-clause-logs
-returns-in_err-needed-clause-logs g c =
-    ([], rw c.from_residual-in_err-needed.ensures.0 (more_logs g.S.Store c.args.store.now c.plan_clean.new.store c.owed.new.store [] [] false c.in_ok-plan.ensures.logs c.in_err-needed.ensures.logs), omega arith)
-
-pub returns-in_err-needed-clause-gives : goal.returns-in_err-needed-clause-gives
-returns-in_err-needed-clause-gives g c = λ told h xids shape holds sixteen.
-    inr (rw c.from_residual-in_err-needed.ensures.0 (more_logs g.S.Store c.args.store.now c.plan_clean.new.store c.owed.new.store [] [] false c.in_ok-plan.ensures.logs c.in_err-needed.ensures.logs))
-
--- there was no room
-pub returns-then-room-needed-clause-logs : goal.returns-then-room-needed-clause-logs
-returns-then-room-needed-clause-logs g c = ([], more_logs g.S.Store c.args.store.now c.plan_clean.new.store c.owed.new.store [] [] true c.in_ok-plan.ensures.logs c.in_ok-needed.ensures.logs, omega arith)
-
-pub returns-then-room-needed-clause-gives : goal.returns-then-room-needed-clause-gives
-returns-then-room-needed-clause-gives g c = λ told h xids shape holds sixteen.
-    inr (more_logs g.S.Store c.args.store.now c.plan_clean.new.store c.owed.new.store [] [] true c.in_ok-plan.ensures.logs c.in_ok-needed.ensures.logs)
-
 -- the group is given
 pub apply-requires-clause-within : goal.apply-requires-clause-within
 apply-requires-clause-within g c =
     let s = g.S.Store in
-    let looked = more_logs s c.args.store.now c.plan_clean.new.store c.owed.new.store [] [] true c.in_ok-plan.ensures.logs c.in_ok-needed.ensures.logs in
-    all_so (IsCleanPatch c.args.no) (λ (p : Patch). p.block < shape_blocks (s.shape_of c.owed.new.store)) c.in-Some.plan
-    (λ p is. omega (arith, of_block c.args.no p is, c.requires.there, ap shape_blocks looked.same_shape)) (planned (IsPlan c.args.no) c.in_ok-plan.field-0 c.in-Some.plan c.in-Some.is c.in_ok-plan.ensures.some).2
+    all_so (IsCleanPatch c.args.no) (λ (p : Patch). p.block < shape_blocks (s.shape_of c.plan_clean.new.store)) c.in-Some.plan
+    (λ p is. omega (arith, of_block c.args.no p is, c.requires.there, ap shape_blocks c.in_ok-plan.ensures.logs.same_shape)) (planned (IsPlan c.args.no) c.in_ok-plan.field-0 c.in-Some.plan c.in-Some.is c.in_ok-plan.ensures.some).2
 
 pub apply-requires-clause-some : goal.apply-requires-clause-some
 apply-requires-clause-some g c = (planned (IsPlan c.args.no) c.in_ok-plan.field-0 c.in-Some.plan c.in-Some.is c.in_ok-plan.ensures.some).0
 
-module _ {S : Type 0} (s : Ghosts S) where
-  -- a group behind two calls that gave none
-  given : {T E : Type 0} (old plan mid new : S) (group : List Patch) (r : Result T E) → Logs s old plan [] true → Logs s plan mid [] true → Logs s mid new (group ∷ []) (not (is_err r)) → Logs s old new (group ∷ []) (not (is_err r))
-  given old plan mid new group r one two three = more_logs s old mid new [] (group ∷ []) (not (is_err r)) (more_logs s old plan mid [] [] true one two) three
+given : (g : Over) (c : goal.After-apply g) → Logs g.S.Store c.args.store.now c.apply.new.self (c.in-Some.plan ∷ []) (not (is_err c.apply.result))
+given g c =
+    let s = g.S.Store in
+    let call = c.apply.ensures in
+    more_logs s c.args.store.now c.plan_clean.new.store c.apply.new.self [] (c.in-Some.plan ∷ []) (not (is_err c.apply.result)) c.in_ok-plan.ensures.logs
+    (apply_logs s c.plan_clean.new.store c.apply.new.self c.in-Some.plan c.apply.result call.shape call.slots call.failed call.counted call.lsn call.blocks call.settles call.any_moment call.holds_back)
 
 pub returns-clause-logs : goal.returns-clause-logs
-returns-clause-logs g c =
-    let s = g.S.Store in
-    let group = c.in-Some.plan in
-    let call = c.apply.ensures in (
-      group ∷ [],
-      given s c.args.store.now c.plan_clean.new.store c.owed.new.store c.apply.new.self group c.apply.result c.in_ok-plan.ensures.logs c.in_ok-needed.ensures.logs
-          (apply_logs s c.owed.new.store c.apply.new.self group c.apply.result call.shape call.slots call.failed call.counted call.lsn call.blocks call.settles call.any_moment call.holds_back),
-      omega arith,
-    )
+returns-clause-logs g c = (c.in-Some.plan ∷ [], given g c, omega arith)
 
 pub returns-clause-gives : goal.returns-clause-gives
-returns-clause-gives g c = λ told h xids shape holds sixteen.
+returns-clause-gives g c = λ told h xids shape holds.
     let s = g.S.Store in
     let old = c.args.store.now in
     let group = c.in-Some.plan in
-    let call = c.apply.ensures in
     let plan = c.in_ok-plan.ensures in
     let there : c.args.no < table_blocks h.shape = omega (arith, c.requires.there, ap table_blocks shape) in
     let is = planned (IsPlan c.args.no) c.in_ok-plan.field-0 group c.in-Some.is plan.some in
     let plans = planned (λ (l : List Patch). PlansClean (look_of (s.shape_of old) (s.blocks old)) c.args.no l (block_of (s.blocks old) c.args.no)) c.in_ok-plan.field-0 group c.in-Some.is (plan.plans told) in
-    let looked = more_logs s old c.plan_clean.new.store c.owed.new.store [] [] true plan.logs c.in_ok-needed.ensures.logs in
-    let can = (c.can_log.ensures.0 c.if-not-can_log.false).0 in
-    let young : logged_of h.shape (s.blocks old) < 2 ^ 60 = omega (arith, holds.logged, can) in
-    let sum : c.in_ok-needed.needed ≡ owed_in h.shape (s.blocks old) =
-    c.in_ok-needed.ensures.sum told ∙ (ap (λ (k : Shape). owed_in k (s.blocks c.plan_clean.new.store)) (plan.logs.same_shape ∙ shape) ∙ ap (owed_in h.shape) (plan.logs.blocks told refl)) in
-    let room : c.room.result ≡ room_of (s.slots old) (s.lsn old) =
-    c.room.ensures ∙ (ap (λ (k : Option ℕ). room_of k (s.lsn c.owed.new.store)) looked.same_slots ∙ ap (room_of (s.slots old)) (let n = looked.number refl in let e : s.lsn c.owed.new.store ≡ s.lsn old = omega (arith, n) in e)) in
-    let has_room : owed_in h.shape (s.blocks old) < room_of (s.slots old) (s.lsn old) = omega (arith, sum, room, c.if-room-needed.false) in
+    let young : logged_of h.shape (s.blocks old) < 2 ^ 60 = omega (arith, holds.logged, c.logged.ensures, c.if-logged-ge-WORN.false) in
     inl (record {
       groups = group ∷ [];
-      logs = given s old c.plan_clean.new.store c.owed.new.store c.apply.new.self group c.apply.result plan.logs c.in_ok-needed.ensures.logs
-          (apply_logs s c.owed.new.store c.apply.new.self group c.apply.result call.shape call.slots call.failed call.counted call.lsn call.blocks call.settles call.any_moment call.holds_back);
+      logs = given g c;
       few = omega arith;
       one = λ goes. refl;
-      made = λ any. subst (λ (n : ℕ). CleanMade h xids c.args.no (room_of (s.slots old) (s.lsn old)) (s.blocks old) (after_group (n + 1) group (s.blocks old))) (sym holds.logged)
-          (clean_made h xids (s.blocks old) holds.blocks c.args.no there group is.2 (of_shape (s.shape_of old) h (s.blocks old) c.args.no group shape plans) sixteen is.1 is.0 young (room_of (s.slots old) (s.lsn old)) has_room);
+      made = λ any. subst (λ (n : ℕ). CleanMade h xids c.args.no (s.blocks old) (after_group (n + 1) group (s.blocks old))) (sym holds.logged)
+          (clean_made h xids (s.blocks old) holds.blocks c.args.no there group is.2 (of_shape (s.shape_of old) h (s.blocks old) c.args.no group shape plans) is.1 is.0 young);
     })
 
 pub returns-clause-cleaned : goal.returns-clause-cleaned
-returns-clause-cleaned g c = λ told h xids shape holds young room.
+returns-clause-cleaned g c = λ told h xids shape holds young.
     let s = g.S.Store in
     let old = c.args.store.now in
-    let mid = c.owed.new.store in
+    let mid = c.plan_clean.new.store in
     let group = c.in-Some.plan in
     let plan = c.in_ok-plan.ensures in
     let there : c.args.no < table_blocks h.shape = omega (arith, c.requires.there, ap table_blocks shape) in
-    let looked = more_logs s old c.plan_clean.new.store mid [] [] true plan.logs c.in_ok-needed.ensures.logs in
     let is = planned (IsPlan c.args.no) c.in_ok-plan.field-0 group c.in-Some.is plan.some in
     let plans = planned (λ (l : List Patch). PlansClean (look_of (s.shape_of old) (s.blocks old)) c.args.no l (block_of (s.blocks old) c.args.no)) c.in_ok-plan.field-0 group c.in-Some.is (plan.plans told) in
     on_ok_weaker c.apply.result
-    (λ now. ap (λ (l : List (List ℕ)). home_of (block_of l c.args.no)) (now ∙ ap (after_group (s.lsn mid + 1) group) (looked.blocks told refl))
+    (λ now. ap (λ (l : List (List ℕ)). home_of (block_of l c.args.no)) (now ∙ ap (after_group (s.lsn mid + 1) group) (plan.logs.blocks told refl))
     ∙ home_after h xids (s.blocks old) holds.blocks c.args.no there group is.2 (of_shape (s.shape_of old) h (s.blocks old) c.args.no group shape plans) (s.lsn mid + 1))
     (c.apply.ensures.blocks told)

@@ -6,14 +6,14 @@ use Rattle.rb_undoengine.proofs.Writers.{writes_in}
 use Rattle.rb_undoengine.proofs.laws.step_laws.Goals as goal
 
 pub returns-clause-refused : goal.returns-clause-refused
-returns-clause-refused c = λ h xids blocks s logged room ask x ready fault about first last mine writer why.
-    (writes_in h xids blocks s ask.own about x ready writer, refused h xids blocks s logged room ask about first last mine x ready writer fault why)
+returns-clause-refused c = λ h xids blocks s logged ask x ready fault about first last mine writer why.
+    (writes_in h xids blocks s ask.own about x ready writer, refused h xids blocks s logged ask about first last mine x ready writer fault why)
 
 pub returns-clause-done : goal.returns-clause-done
-returns-clause-done c = λ h xids before now s room ask x ready address u about s_in first last mine writer asked takes is young enough few. (
+returns-clause-done c = λ h xids before now s ask x ready address u about s_in first last mine writer asked takes is young few. (
   writes_in h xids before s ask.own about x ready writer,
-  answered h xids before now s room ask about s_in first last mine x ready writer address u asked takes is young enough few,
-  stands h xids before now s room ask about s_in first last mine x ready writer address u asked takes is young enough few,
+  answered h xids before now s ask about s_in first last mine x ready writer address u asked takes is young few,
+  stands h xids before now s ask about s_in first last mine x ready writer address u asked takes is young few,
 )
 
 pub returns-clause-holder : goal.returns-clause-holder

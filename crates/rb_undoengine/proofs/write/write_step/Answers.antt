@@ -4,9 +4,8 @@ use Rattle.rb_attempt.specs.declared.ask.Ask.{Ask}
 use Rattle.rb_base.specs.Logs.{Logs, group_of}
 use Rattle.rb_base.specs.declared.shape.Shape.{Shape}
 use Rattle.rb_standing.specs.Standing.{logged_of}
-use Rattle.rb_undo.proofs.TakenBack.{on_ok}
 use Rattle.rb_undoengine.proofs.Calls.{done, failed_as, makes, refused_as}
-use Rattle.rb_undoengine.proofs.Kept.{kept_few}
+use Rattle.rb_undoengine.proofs.Owed.{after_few}
 use Rattle.rb_undoengine.proofs.May.{may_write}
 use Rattle.rb_undoengine.proofs.Young.{young}
 use Rattle.rb_undoengine.proofs.write.write_step.Goals as goal
@@ -19,9 +18,9 @@ returns-clause-gives g c told h xids s about same s_in mine number sixteen =
     let are_young : AreYoung (s_of.shape_of old) (s_of.blocks old) = subst (λ (k : Shape). AreYoung k (s_of.blocks old)) (sym same) (young h xids (s_of.blocks old) about.stand) in
     let last : c.args.table ≤ h.shape.tables = subst (λ (k : Shape). c.args.table ≤ k.tables) same c.requires.table.1 in
     let call = c.attempt.ensures in
-    done s_of told old c.attempt.new.store h xids s ask about same c.requires.table.0 last mine c.attempt.result call.logs.0 s_in number (kept_few h xids (s_of.blocks old) c.args.own about.stand sixteen) call.logs.1
+    done s_of told old c.attempt.new.store h xids s ask about same c.requires.table.0 last mine c.attempt.result call.logs.0 s_in number (after_few h xids (s_of.blocks old) c.args.own about.stand) call.logs.1
     (call.written told (number ∙ ap (λ (k : Shape). logged_of k (s_of.blocks old)) (sym same)) are_young)
-    (call.takes told are_young) (on_ok c.attempt.result (λ room. room.0) call.room) (call.kept told)
+    (call.takes told are_young) call.numbers
 
 pub returns-clause-refused : goal.returns-clause-refused
 returns-clause-refused g c told going h xids s about same s_in mine sixteen =
@@ -43,4 +42,4 @@ returns-clause-failed g c told fails h xids s about same s_in mine number sixtee
     let last : c.args.table ≤ h.shape.tables = subst (λ (k : Shape). c.args.table ≤ k.tables) same c.requires.table.1 in
     let group = c.attempt.ensures.group told (number ∙ ap (λ (k : Shape). logged_of k (s_of.blocks old)) (sym same)) are_young in
     failed_as s_of told old c.attempt.new.store h xids s ask about same c.requires.table.0 last mine group.0 (subst (λ (b : Bool). Logs s_of old c.attempt.new.store (group_of group.0) (not b)) fails group.1)
-    (makes s_of told old c.attempt.new.store h xids s ask about same c.requires.table.0 last mine group.0 s_in number (kept_few h xids (s_of.blocks old) c.args.own about.stand sixteen) group.2)
+    (makes s_of told old c.attempt.new.store h xids s ask about same c.requires.table.0 last mine group.0 s_in number (after_few h xids (s_of.blocks old) c.args.own about.stand) group.2)

@@ -22,5 +22,5 @@ pub returns-clause-makes : goal.returns-clause-makes
 returns-clause-makes g c = λ h st fine.
     let s = g.T.Store in
     let new = c.do_checkpoint.new.store in
-    subst (λ (e : EngineView _). Makes h machine.Checkpoint (plain_answer c.do_checkpoint.result) (s.slots e.store) (s.lsn new) (s.blocks e.store) (s.blocks new)) c.self.view_is
-    (let same = c.do_checkpoint.ensures.blocks st.told fine in makes_plain h machine.Checkpoint (s.slots c.self.inside.store) (s.lsn new) (s.blocks c.self.inside.store) (s.blocks new) same c.do_checkpoint.result same same)
+    subst (λ (e : EngineView _). Makes h machine.Checkpoint (plain_answer c.do_checkpoint.result) (s.lsn new) (s.blocks e.store) (s.blocks new)) c.self.view_is
+    (let same = c.do_checkpoint.ensures.blocks st.told fine in makes_plain h machine.Checkpoint (s.lsn new) (s.blocks c.self.inside.store) (s.blocks new) same c.do_checkpoint.result same same)

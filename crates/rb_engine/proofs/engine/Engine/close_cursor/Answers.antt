@@ -17,8 +17,8 @@ pub returns-clause-makes : goal.returns-clause-makes
 returns-clause-makes g c = λ h st fine.
     let s = g.T.Store in
     let new = c.self.inside.store in
-    subst (λ (e : EngineView _). Makes h (machine.CloseCursor c.args.s (name_text c.args.name.now)) (plain_answer c.do_close_cursor.result) (s.slots e.store) (s.lsn new) (s.blocks e.store) (s.blocks new)) c.self.view_is
-    (makes_plain h (machine.CloseCursor c.args.s (name_text c.args.name.now)) (s.slots new) (s.lsn new) (s.blocks new) (s.blocks new) refl c.do_close_cursor.result refl refl)
+    subst (λ (e : EngineView _). Makes h (machine.CloseCursor c.args.s (name_text c.args.name.now)) (plain_answer c.do_close_cursor.result) (s.lsn new) (s.blocks e.store) (s.blocks new)) c.self.view_is
+    (makes_plain h (machine.CloseCursor c.args.s (name_text c.args.name.now)) (s.lsn new) (s.blocks new) (s.blocks new) refl c.do_close_cursor.result refl refl)
 
 pub returns-clause-holds_back : goal.returns-clause-holds_back
 returns-clause-holds_back g c = λ fine.

@@ -15,5 +15,5 @@ pub returns-clause-makes : goal.returns-clause-makes
 returns-clause-makes g c = λ h st fine.
     let s = g.T.Store in
     let new = c.do_commit.new.store in
-    subst (λ (e : EngineView _). Makes h (machine.Commit c.args.s) (commit_answer c.do_commit.result) (s.slots e.store) (s.lsn new) (s.blocks e.store) (s.blocks new)) c.self.view_is
+    subst (λ (e : EngineView _). Makes h (machine.Commit c.args.s) (commit_answer c.do_commit.result) (s.lsn new) (s.blocks e.store) (s.blocks new)) c.self.view_is
     (c.do_commit.ensures.makes h (subst (Stands s h) (sym c.self.view_is) st) fine)

@@ -32,5 +32,5 @@ pub returns-clause-makes : goal.returns-clause-makes
 returns-clause-makes g c = λ h st fine.
     let s = g.T.Store in
     let new = c.do_fetch.new.store in
-    subst (λ (e : EngineView _). Makes h (machine.Fetch c.args.s (name_text c.args.name.now)) (fetch_answer c.do_fetch.result c.do_fetch.new.row) (s.slots e.store) (s.lsn new) (s.blocks e.store) (s.blocks new)) c.self.view_is
+    subst (λ (e : EngineView _). Makes h (machine.Fetch c.args.s (name_text c.args.name.now)) (fetch_answer c.do_fetch.result c.do_fetch.new.row) (s.lsn new) (s.blocks e.store) (s.blocks new)) c.self.view_is
     (c.do_fetch.ensures.makes h (subst (Stands s h) (sym c.self.view_is) st) fine)

@@ -16,5 +16,5 @@ pub returns-clause-makes : goal.returns-clause-makes
 returns-clause-makes g c = λ h st fine.
     let s = g.T.Store in
     let new = c.do_marks.new.store in
-    subst (λ (e : EngineView _). Makes h (machine.Marks c.args.seg) (marks_answer c.args.seg c.do_marks.result) (s.slots e.store) (s.lsn new) (s.blocks e.store) (s.blocks new)) c.self.view_is
-    (makes_marked h c.args.seg (s.slots c.self.inside.store) (s.lsn new) (s.blocks c.self.inside.store) (s.blocks new) c.do_marks.result (c.do_marks.ensures.blocks st.told fine))
+    subst (λ (e : EngineView _). Makes h (machine.Marks c.args.seg) (marks_answer c.args.seg c.do_marks.result) (s.lsn new) (s.blocks e.store) (s.blocks new)) c.self.view_is
+    (makes_marked h c.args.seg (s.lsn new) (s.blocks c.self.inside.store) (s.blocks new) c.do_marks.result (c.do_marks.ensures.blocks st.told fine))

@@ -34,5 +34,5 @@ pub returns-clause-makes : goal.returns-clause-makes
 returns-clause-makes g c = λ h st fine.
     let s = g.T.Store in
     let new = c.do_resume.new.store in
-    subst (λ (e : EngineView _). ResumeMakes h c.do_resume.result (s.slots e.store) (s.lsn new) (s.blocks e.store) (s.blocks new)) c.self.view_is
+    subst (λ (e : EngineView _). ResumeMakes h c.do_resume.result (s.lsn new) (s.blocks e.store) (s.blocks new)) c.self.view_is
     (c.do_resume.ensures.makes h (subst (Stands s h) (sym c.self.view_is) st) fine)

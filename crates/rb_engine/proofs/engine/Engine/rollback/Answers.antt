@@ -15,5 +15,5 @@ pub returns-clause-makes : goal.returns-clause-makes
 returns-clause-makes g c = λ h st fine.
     let s = g.T.Store in
     let new = c.do_rollback.new.store in
-    subst (λ (e : EngineView _). Makes h (machine.Rollback c.args.s) (plain_answer c.do_rollback.result) (s.slots e.store) (s.lsn new) (s.blocks e.store) (s.blocks new)) c.self.view_is
+    subst (λ (e : EngineView _). Makes h (machine.Rollback c.args.s) (plain_answer c.do_rollback.result) (s.lsn new) (s.blocks e.store) (s.blocks new)) c.self.view_is
     (c.do_rollback.ensures.makes h (subst (Stands s h) (sym c.self.view_is) st) fine)

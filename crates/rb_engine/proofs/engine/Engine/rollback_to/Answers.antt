@@ -16,5 +16,5 @@ pub returns-clause-makes : goal.returns-clause-makes
 returns-clause-makes g c = λ h st fine.
     let s = g.T.Store in
     let new = c.do_rollback_to.new.store in
-    subst (λ (e : EngineView _). Makes h (machine.RollbackTo c.args.s (name_text c.args.name.now)) (plain_answer c.do_rollback_to.result) (s.slots e.store) (s.lsn new) (s.blocks e.store) (s.blocks new)) c.self.view_is
+    subst (λ (e : EngineView _). Makes h (machine.RollbackTo c.args.s (name_text c.args.name.now)) (plain_answer c.do_rollback_to.result) (s.lsn new) (s.blocks e.store) (s.blocks new)) c.self.view_is
     (c.do_rollback_to.ensures.makes h (subst (Stands s h) (sym c.self.view_is) st) fine)

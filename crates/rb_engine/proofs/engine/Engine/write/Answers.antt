@@ -27,5 +27,5 @@ pub returns-clause-makes : goal.returns-clause-makes
 returns-clause-makes g c = λ h st fine.
     let s = g.T.Store in
     let new = c.do_write.new.store in
-    subst (λ (e : EngineView _). Makes h (machine.Write c.args.s c.args.table c.args.key (action_of c.args.op)) (write_answer c.do_write.result) (s.slots e.store) (s.lsn new) (s.blocks e.store) (s.blocks new)) c.self.view_is
+    subst (λ (e : EngineView _). Makes h (machine.Write c.args.s c.args.table c.args.key (action_of c.args.op)) (write_answer c.do_write.result) (s.lsn new) (s.blocks e.store) (s.blocks new)) c.self.view_is
     (c.do_write.ensures.makes h (subst (Stands s h) (sym c.self.view_is) st) fine)

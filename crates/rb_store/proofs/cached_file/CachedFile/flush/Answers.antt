@@ -1,4 +1,4 @@
-use Rattle.std.proofs.Common.{◌≡◌, ◌≢◌, ◌+◌, ◌<◌, ◌++◌, ◌∙◌, List, [], length, arith, ap, subst, sym, length-append}
+use Rattle.std.proofs.Common.{◌≡◌, ◌≢◌, ◌+◌, ◌++◌, ◌∙◌, List, [], length, arith, ap, subst, sym, length-append}
 use Rattle.rb_base.specs.Groups.{Patch}
 use Rattle.rb_base.specs.Moments.{weaker}
 use Rattle.rb_disk.specs.Moments.{Leaves}

@@ -1,5 +1,4 @@
-use Rattle.std.proofs.Common.{◌≡◌, ◌≢◌, ⊎_elim, ◌+◌, ◌<◌, ℕ, List, length, arith, subst, sym}
-use Rattle.rb_base.specs.Groups.{Patch}
+use Rattle.std.proofs.Common.{⊎_elim, arith}
 use Rattle.rb_log.specs.GroupLaws.{groups_end}
 use Rattle.rb_store.proofs.cached_file.CachedFile.shut_behind.Goals as goal
 

@@ -5,7 +5,6 @@ use Rattle.rb_base.specs.Moments.{joined, weaker}
 use Rattle.rb_base.specs.Stores.{OpensToSome}
 use Rattle.rb_layout.specs.Regions.{shape_of}
 use Rattle.rb_layout.specs.declared.layout.Layout.{Layout}
-use Rattle.rb_store.specs.Endless.{endless}
 use Rattle.rb_store.specs.Meaning.{Opens}
 use Rattle.rb_store.specs.StoreStates.{StoreState}
 use Rattle.rb_store.proofs.store.LogStore.clear_log.Goals as goal
@@ -29,8 +28,8 @@ returns-clause-any_moment g c told b n st =
     let one = c.in_ok-bring_home.ensures.settles told b n st in
     let b1 = after_groups (n + 1) (take one.count old.pending) b in
     let n1 = n + one.count in
-    let P : List ℕ → Type 0 = OpensToSome (Opens (shape_of old.layout) (Some (endless old.layout.log))) n old.pending b in
+    let P : List ℕ → Type 0 = OpensToSome (Opens (shape_of old.layout) (Some old.layout.log)) n old.pending b in
     joined moment since old mid new P (c.bring_home.ensures.any_moment told b n st)
-    (weaker moment since mid new (λ i. Opens (shape_of mid.layout) (Some (endless mid.layout.log)) i b1 n1) P
-    (λ i opens. record { count = one.count; few = one.few; opening = subst (λ (l : Layout). Opens (shape_of l) (Some (endless l.log)) i b1 n1) c.bring_home.ensures.layout opens })
+    (weaker moment since mid new (λ i. Opens (shape_of mid.layout) (Some mid.layout.log) i b1 n1) P
+    (λ i opens. record { count = one.count; few = one.few; opening = subst (λ (l : Layout). Opens (shape_of l) (Some l.log) i b1 n1) c.bring_home.ensures.layout opens })
     (c.move_log.ensures.any_moment told b1 n1 one.settled))

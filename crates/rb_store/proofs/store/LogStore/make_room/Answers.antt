@@ -1,4 +1,3 @@
-use Rattle.std.proofs.Common.{refl}
 use Rattle.rb_store.proofs.Settled.{still_moments, still_settles}
 use Rattle.rb_store.proofs.store.LogStore.make_room.Goals as goal
 

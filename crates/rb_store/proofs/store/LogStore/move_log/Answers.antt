@@ -1,15 +1,12 @@
-use Rattle.std.proofs.Common.{◌≡◌, ◌+◌, ◌<◌, ℕ, List, [], Bool, false, true, Some, length, ap, sym, subst, arith, ◌∙◌}
-use Rattle.rb_base.specs.Groups.{Patch}
+use Rattle.std.proofs.Common.{◌≡◌, ◌<◌, [], false, true, Some, ap, sym, subst, arith, ◌∙◌}
 use Rattle.rb_base.specs.Moments.{begun}
 use Rattle.rb_cache.specs.Frames.{NoneDirty}
 use Rattle.rb_layout.specs.Regions.{shape_of}
-use Rattle.rb_layout.specs.declared.layout.Head.{Head}
 use Rattle.rb_log.specs.Slots.{head_at}
 use Rattle.rb_store.specs.CachedFiles.{CachedState, IsCachedMemory, IsStoreMemory}
-use Rattle.rb_store.specs.Endless.{endless}
 use Rattle.rb_store.specs.Meaning.{Opens}
 use Rattle.rb_store.specs.StoreLaws.{stable_left}
-use Rattle.rb_store.specs.StoreStates.{StoreState, IsQuietAt, IsStableAt, StoreLeaves, blocks_by}
+use Rattle.rb_store.specs.StoreStates.{StoreState, IsQuietAt, IsStableAt, blocks_by}
 use Rattle.rb_store.proofs.MovedHead.{blocks_moved, move_moments, move_quiet, move_stable}
 use Rattle.rb_store.proofs.StoreLemmas.{store_of}
 use Rattle.rb_store.proofs.store.LogStore.move_log.Given.{Over}
@@ -19,7 +16,7 @@ use Rattle.rb_store.proofs.store.LogStore.move_log.Goals as goal
 pub returns-then-used-eq0-clause-any_moment : goal.returns-then-used-eq0-clause-any_moment
 returns-then-used-eq0-clause-any_moment g c told b n st =
     let s = c.args.self.now in
-    begun (λ (x : StoreState g.row.D.Denot). g.D.Disk.moment x.disk) (λ (x : StoreState g.row.D.Denot) t i. g.D.Disk.image_since x.disk t i) s (λ i. Opens (shape_of s.layout) (Some (endless s.layout.log)) i b n)
+    begun (λ (x : StoreState g.row.D.Denot). g.D.Disk.moment x.disk) (λ (x : StoreState g.row.D.Denot) t i. g.D.Disk.image_since x.disk t i) s (λ i. Opens (shape_of s.layout) (Some s.layout.log) i b n)
     (λ i left. stable_left i st (g.met.D.Disk.only_now s.disk i told left))
 
 -- the store before the head moves: all is at home, and none waits

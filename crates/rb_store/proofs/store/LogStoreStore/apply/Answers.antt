@@ -1,4 +1,4 @@
-use Rattle.std.proofs.Common.{ℕ, ◌+◌, List, [], ◌∷◌, ◌++◌, Some, take, subst, sym}
+use Rattle.std.proofs.Common.{ℕ, ◌+◌, List, [], ◌∷◌, ◌++◌, Some, take, subst}
 use Rattle.rb_base.specs.Blocks.{after_groups}
 use Rattle.std.proofs.lemmas.Result.{on_ok_weaker}
 use Rattle.rb_base.specs.Groups.{Patch}
@@ -7,7 +7,6 @@ use Rattle.rb_base.specs.Settling.{settles_joined, some_front, some_later}
 use Rattle.rb_base.specs.Stores.{OpensToSome}
 use Rattle.rb_layout.specs.Regions.{shape_of}
 use Rattle.rb_layout.specs.declared.layout.Layout.{Layout}
-use Rattle.rb_store.specs.Endless.{endless}
 use Rattle.rb_store.specs.Meaning.{Opens}
 use Rattle.rb_store.specs.StoreLaws.{held_back_joined}
 use Rattle.rb_store.specs.StoreStates.{StoreState, IsStable}
@@ -18,7 +17,7 @@ returns-in_err-make_room-clause-any_moment g c told b n st =
     let moment = λ (x : StoreState g.row.D.Denot). g.D.Disk.moment x.disk in
     let since = λ (x : StoreState g.row.D.Denot) (t : ℕ) (i : List ℕ). g.D.Disk.image_since x.disk t i in
     let old = c.args.self.now in
-    let opens = λ (i : List ℕ). Opens (shape_of old.layout) (Some (endless old.layout.log)) i in
+    let opens = λ (i : List ℕ). Opens (shape_of old.layout) (Some old.layout.log) i in
     weaker moment since old c.make_room.new.self (OpensToSome opens n old.pending b) (OpensToSome opens n (old.pending ++ c.args.group.now ∷ []) b)
     (λ i some. some_front opens n old.pending (c.args.group.now ∷ []) b i some) (c.make_room.ensures.any_moment told b n st)
 
@@ -39,14 +38,14 @@ returns-clause-any_moment g c told b n st =
     let mid = c.make_room.new.self in
     let new = c.take_group.new.self in
     let more : List (List Patch) = c.args.group.now ∷ [] in
-    let opens = λ (i : List ℕ). Opens (shape_of old.layout) (Some (endless old.layout.log)) i in
+    let opens = λ (i : List ℕ). Opens (shape_of old.layout) (Some old.layout.log) i in
     let P : List ℕ → Type 0 = OpensToSome opens n (old.pending ++ more) b in
     let one = c.in_ok-make_room.ensures.settles told b n st in
     let b1 = after_groups (n + 1) (take one.count old.pending) b in
     let n1 = n + one.count in
     joined moment since old mid new P
     (weaker moment since old mid (OpensToSome opens n old.pending b) P (λ i some. some_front opens n old.pending more b i some) (c.make_room.ensures.any_moment told b n st))
-    (weaker moment since mid new (OpensToSome (λ (i : List ℕ). Opens (shape_of mid.layout) (Some (endless mid.layout.log)) i) n1 (mid.pending ++ more) b1) P
+    (weaker moment since mid new (OpensToSome (λ (i : List ℕ). Opens (shape_of mid.layout) (Some mid.layout.log) i) n1 (mid.pending ++ more) b1) P
     (λ i some. some_later opens n old.pending more b (IsStable g.D.Disk mid) mid.pending i one
-    (subst (λ (l : Layout). OpensToSome (λ (i : List ℕ). Opens (shape_of l) (Some (endless l.log)) i) n1 (mid.pending ++ more) b1 i) c.make_room.ensures.layout some))
+    (subst (λ (l : Layout). OpensToSome (λ (i : List ℕ). Opens (shape_of l) (Some l.log) i) n1 (mid.pending ++ more) b1 i) c.make_room.ensures.layout some))
     (c.take_group.ensures.any_moment told b1 n1 one.settled))
