@@ -1,6 +1,6 @@
-"""What right replies are: a second machine of lines, replies, rows, books and slot entries, by docs/MODEL.md and
-docs/UNDO.md alone. It knows no bytes of a block and no file, and shares nothing with the program or with tools/.
-tests/model_check compares it with the program.
+"""What right replies are: a second machine of lines, replies, rows, books, slot entries and copies of homes, by
+docs/MODEL.md and docs/UNDO.md alone. It knows no bytes of a block and no file, and shares nothing with the program or
+with tools/. tests/model_check compares it with the program.
 
 All replies follow from the lines, but for one number: a `too old` tells what the segment concerned has lost, and where
 several are concerned in a home any of them may be told. So the machine is told what the program said, and takes that
@@ -12,6 +12,7 @@ SESSIONS, HOME_KEYS, HOME_SESSIONS = 16, 16, 8
 VALUE_BYTES, LINE_BYTES, NAMES = 80, 512, 16
 SLOTS, TURN_RECORDS, MOST_TURNS = 16, 40, 8
 ENTRIES = 8
+COPIES = 32
 
 ID, KEY = (r"(0|[1-9]\d*)", 2**16 - 1), (r"(0|[1-9]\d*)", 2**64 - 1)
 COUNT, NAME, VALUE = (r"([1-9]\d*)", 10**6), (r"([a-z0-9_]{1,16})", None), (r"([!-~]+)", None)
@@ -161,6 +162,43 @@ class Entry(collections.namedtuple("Entry", ["transaction", "record", "told", "b
         return self
 
 
+# ---- Copies
+
+# How a home is read where a copy may serve: it is built from the block, as there is none; a copy has it; it is built
+# from one of a later number; or from the block, as that one has a bound above the number that is asked for.
+READS = BUILT, SERVED, WENT_ON, PASSED = ["built", "served", "gone on from", "passed over"]
+# And that a copy had what undo alone couldn't give any more, and that one gave way to another.
+OUTLIVED, GAVE_WAY = "outlived undo", "gave way"
+
+
+class Copies:
+    """Homes as they were at a commit's number, so many at most: of each home and number the entries that it had then,
+    and which group had changed the home last when it was kept. The one that was used longest ago comes first."""
+
+    def __init__(self, most):
+        self.most, self.kept = most, {}
+
+    def least(self, home, number, group):
+        """The least number from that one on whose copy serves: no other group has changed the home since."""
+        return min((n for (at, n), (_, last) in self.kept.items() if at == home and n >= number and last == group),
+                   default=None)
+
+    def use(self, home, number):
+        """The entries of a copy, which is the latest used from now on."""
+        copy = self.kept[home, number] = self.kept.pop((home, number))
+        return copy[0]
+
+    def keep(self, home, number, group, entries):
+        """A copy more, the latest used, in the place of one of the same home and number. Where that is one too many,
+        the one that was used longest ago gives way. Gives whether another one did."""
+        self.kept.pop((home, number), None)
+        self.kept[home, number] = entries, group
+        full = len(self.kept) > self.most
+        if full:
+            del self.kept[next(iter(self.kept))]
+        return full and bool(self.kept)
+
+
 # ---- Sessions
 
 
@@ -209,10 +247,11 @@ class Session:
 
 class Cursor:
     """A query: its table and range of keys, the number of its snapshot, the rows that it gives, and how many changes of
-    the transaction that runs it has seen."""
+    the transaction that runs it has seen; also the transaction of which it saw changes, whether that runs or not."""
 
-    def __init__(self, table, keys, number, rows, seen):
-        self.table, self.keys, self.number, self.rows, self.seen = table, keys, number, rows, seen
+    def __init__(self, table, keys, number, rows, session):
+        self.table, self.keys, self.number, self.rows = table, keys, number, rows
+        self.seen, self.transaction = len(session.changes), session.place if session.changes else None
         self.taken = 0
 
     def homes(self, blocks):
@@ -250,9 +289,10 @@ def changed(rows, changes):
 
 class Model:
     """A run over a file. Of each group that was made in it there is a moment; the first one is that of a new file. The
-    log goes round: where all slots but one have groups, all that was made so far comes home, and the head moves."""
+    log goes round: where all slots but one have groups, all that was made so far comes home, and the head moves. A run
+    keeps so many copies of homes."""
 
-    def __init__(self, tables, blocks, segments, log):
+    def __init__(self, tables, blocks, segments, log, copies=COPIES):
         self.tables, self.blocks, self.log = tables, blocks, log
         self.moments = [Moment({}, 0, [Book() for _ in range(segments)], 0, {})]
         # Of each home that was written, by its table and number, its entries; and of those that changed since the last
@@ -264,6 +304,8 @@ class Model:
         self.changers = {}
         # The groups by which readers have cleaned a home.
         self.cleanings = set()
+        # The copies that this run keeps, and how often each use was made of one in all runs.
+        self.copies, self.uses = Copies(copies), collections.Counter()
         # How many groups there were each time the head moved behind them; 0 is the head of a new file.
         self.moves = [0]
         self.restart(0, 0)
@@ -285,6 +327,8 @@ class Model:
         # The replies to the writes that were tried again behind the last line.
         self.resumed = []
         self.changers.clear()
+        # Of each home that this run has changed the last group that did.
+        self.changed_by, self.copies = {}, Copies(self.copies.most)
         self.books = [book.copied() for book in left.books]
         for book in self.books:
             book.owners = [None] * SLOTS
@@ -301,7 +345,7 @@ class Model:
 
     def begun(self):
         """A model of such a file, with the same rows, with which a run begins."""
-        other = Model(self.tables, self.blocks, len(self.books), self.log)
+        other = Model(self.tables, self.blocks, len(self.books), self.log, self.copies.most)
         other.rows = self.rows
         return other
 
@@ -330,11 +374,13 @@ class Model:
         if self.logged - self.front == self.log - 1:
             self.checkpoint()
 
-    def grow(self):
-        """One group more."""
+    def grow(self, home=None):
+        """One group more, which changes a home, or none."""
         self.make_room()
         self.moments.append(Moment(self.rows, self.number, self.books, self.owed(), self.before))
         self.before = {}
+        if home:
+            self.changed_by[home] = self.logged
 
     def book(self, segment):
         """A book to change. The moments keep those of before."""
@@ -489,13 +535,13 @@ class Model:
         record = book.mark(session.place[1])
         place, before = self.take_entry(home, session.place, record)
         session.add(Change(at, home, Change.HELD if word == "lock" else value, place, before))
-        self.grow()
+        self.grow(home)
         return "ok"
 
     def serialize(self, number, at, home, reply):
         """A row that a commit above the number has changed can't be written, nor one of a home that can't be read at
         the number."""
-        self.read(home, number, reply)
+        self.read(self.entries(home), number, reply)
         for by in self.changers.get(at, []):
             if by > number:
                 raise Refused(f"cannot serialize {number} {by}")
@@ -563,7 +609,7 @@ class Model:
         while len(session.changes) > kept:
             change = session.changes.pop()
             self.set_entry(change.home, change.place, change.before)
-            self.grow()
+            self.grow(change.home)
         session.keep(session.changes)
 
     # ---- Cursors
@@ -579,7 +625,7 @@ class Model:
         seen = changed(seen, session.own)
         rows = [(key, value) for (t, key), value in seen.items() if t == table and lo <= key <= hi]
         rows.sort(key=lambda row: (row[0] % self.blocks, row[0]))
-        session.cursors[name] = Cursor(table, (lo, hi), number, rows, len(session.changes))
+        session.cursors[name] = Cursor(table, (lo, hi), number, rows, session)
         return "ok"
 
     def cursor(self, session, name):
@@ -592,7 +638,7 @@ class Model:
         for place in range(count):
             for home in cursor.homes(self.blocks):
                 self.clean_for_reader(home)
-                self.read(home, cursor.number, said(place))
+                self.view(home, cursor, said(place))
             if cursor.taken == len(cursor.rows):
                 yield "end"
                 return
@@ -641,7 +687,7 @@ class Model:
         if not self.unclean(home):
             return
         self.clean(home)
-        self.grow()
+        self.grow(home)
         self.cleanings.add(self.logged)
 
     def take_entry(self, home, transaction, record):
@@ -656,23 +702,78 @@ class Model:
             self.set_entry(home, place, Entry(transaction, record, None, entries[place]))
         return place, entries[place]
 
-    def read(self, home, number, reply):
-        """Reads the home as it was at a number. Where that needs what was given up it is too old, and that reply is the
-        program's, where it tells what a segment has lost that is concerned."""
-        concerned = [f"too old {number} {self.books[segment].lost}" for segment in self.missing(home, number)]
+    def view(self, home, cursor, reply):
+        """A cursor reads the home, which is clean, at its number. Where nothing in it is above that, it is read as it
+        stands. Else a copy may serve, and what had to be taken back is kept as one; but not for a cursor that has seen
+        changes of its own there."""
+        now, number = self.entries(home), cursor.number
+        if not any(self.is_above(entry, number) for entry in now):
+            return
+        if not self.shares(now, cursor):
+            self.read(now, number, reply)
+            return
+        how, start = self.start(home, number)
+        self.uses[how] += 1
+        if how != SERVED:
+            self.read(start, number, reply)
+            self.uses[GAVE_WAY] += self.copies.keep(home, number, self.changed_by.get(home, 0),
+                                                    self.taken_back(start, number))
+        self.uses[OUTLIVED] += how in (SERVED, WENT_ON) and bool(list(self.missing(now, number)))
+
+    def shares(self, entries, cursor):
+        """Whether a cursor has seen no change of its own in a home of these entries, as far as they tell: it has seen
+        none at all, or its transaction runs and has no entry there."""
+        own = cursor.transaction
+        here = any(entry and not entry.told and entry.transaction == own for entry in entries)
+        return own is None or own not in self.numbers and not here
+
+    def start(self, home, number):
+        """How a home is read at a number by one whom copies may serve, and the entries with which that begins."""
+        at = self.copies.least(home, number, self.changed_by.get(home, 0))
+        if at is None:
+            return BUILT, self.entries(home)
+        copy = self.copies.use(home, at)
+        if at == number:
+            return SERVED, copy
+        if any(self.is_above(entry, number) and self.is_bound(entry) for entry in copy):
+            return PASSED, self.entries(home)
+        return WENT_ON, copy
+
+    def read(self, entries, number, reply):
+        """Reads a home of these entries as it was at a number. Where that needs what was given up it is too old, and
+        that reply is the program's, where it tells what a segment has lost that is concerned."""
+        concerned = [f"too old {number} {self.books[segment].lost}" for segment in self.missing(entries, number)]
         if concerned:
             raise Refused(reply if reply in concerned else concerned[0])
 
-    def missing(self, home, number):
-        """The segments that have given up what it takes to read the home at a number. What runs and what committed
-        above it is taken back, entry by entry down to one that committed at it or before; where that is in doubt, or a
-        record is gone, there is no way on."""
-        for entry in self.entries(home):
-            while entry and (self.runs(entry) or self.told(entry).number > number):
-                if not self.runs(entry) and (self.told(entry).kind == BOUND or self.is_gone(entry)):
+    def missing(self, entries, number):
+        """The segments that have given up what it takes to read a home of these entries at a number. What runs and what
+        committed above it is taken back, entry by entry down to one that committed at it or before; where that is in
+        doubt, or a record is gone, there is no way on."""
+        for entry in entries:
+            while self.is_above(entry, number):
+                if not self.runs(entry) and (self.is_bound(entry) or self.is_gone(entry)):
                     yield entry.transaction[0]
                     break
                 entry = entry.below
+
+    def taken_back(self, entries, number):
+        """The entries once all that is above the number is taken back."""
+        return tuple(self.last_up_to(entry, number) for entry in entries)
+
+    def last_up_to(self, entry, number):
+        """What is left of an entry then."""
+        while self.is_above(entry, number):
+            entry = entry.below
+        return entry
+
+    def is_above(self, entry, number):
+        """Whether the transaction of an entry runs, or may have committed above the number."""
+        return entry is not None and (self.runs(entry) or self.told(entry).number > number)
+
+    def is_bound(self, entry):
+        """Whether no more is known of an entry's commit than a bound."""
+        return not self.runs(entry) and self.told(entry).kind == BOUND
 
     def told(self, entry):
         return entry.told or self.look(entry.transaction)
