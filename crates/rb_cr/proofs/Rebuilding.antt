@@ -12,8 +12,9 @@ use Rattle.rb_rebuild.specs.Keeping.{kept_room, Kept, behind_mine, first_count, 
 use Rattle.rb_rebuild.specs.Reading.{total, rows_at, count_above, Reader, flat, History, Reading, Worn}
 use Rattle.rb_rebuild.specs.Reading.{rows_in}
 use Rattle.rb_rebuild.specs.Turns.{Ends, Starts, Peeled, Running, WornIn}
-use Rattle.rb_walk.specs.Walk.{Change, Commit, Home, Env, Rows, Match, Distinct, IsActive, own}
+use Rattle.rb_walk.specs.Walk.{Change, Commit, Home, Env, Rows, Match, Walk, Distinct, IsActive, own}
 use Rattle.rb_walk.specs.Walk.{entry_at}
+use Rattle.rb_rebuild.proofs.Copying.{settled_walk}
 use Rattle.rb_rebuild.proofs.Keeping.{overlay_same}
 use Rattle.rb_rebuild.proofs.Peeling.{begins, fails, finishes, turns}
 use Rattle.rb_rebuild.proofs.Showing.{match_rows}
@@ -34,21 +35,23 @@ module _ (env : Env) (base : ℕ) (rows : Rows) (list : List Commit) (mine : Opt
     few_left : so.0 ≤ count_above n list
     few_left = omega (arith, so.4.count)
 
-    pub rewound_done : (i c : ℕ) → c ≤ n → Highest env n b (Ok (i, c)) → Rewound env rows list mine upto n start kept0 count0 (Ok (tt {0})) b kept count
+    pub rewound_done : (i c : ℕ) → c ≤ n → Highest env n b (Ok (i, c)) → Rewound env base rows list mine upto n start kept0 count0 (Ok (tt {0})) b kept count
     rewound_done i c le top =
         let is : c ≡ n = omega (arith, top.ok.0) in
         let f : Match b (rows_at n rows list) × (so.0 ≡ count_above n list) × ((kept : Kept) (over : Rows) (k : ℕ) → overlay (so.1 kept) over k ≡ overlay kept (behind_mine mine upto (flat n list) over) k) = finishes env base rows mine upto n (2 ^ 64 - 1) list st.honest st.low limit so.0 so.1 start b so.4 (subst (λ (z : ℕ). (j : ℕ) → AtMost env n z (entry_at b j)) is top.ok.1) in
         record {
           most = omega (arith, so.2, f.1);
           ok = (f.0, so.2 ∙ ap (λ (z : ℕ). count0 + z) f.1, λ over k. ap (λ (z : Kept). overlay z over k) so.3 ∙ f.2 kept0 over k);
+          left = subst (λ (z : List Commit). Walk env base rows z b) so.4.tail (settled_walk env base rows n so.4.left b so.4.walk (subst (λ (z : ℕ). (j : ℕ) → AtMost env n z (entry_at b j)) is top.ok.1));
           err = tt;
           counted = tt;
         }
 
-    pub rewound_over : (e : CrFault) → Highest env n b (Err e) → Goes env start count0 b count → Rewound env rows list mine upto n start kept0 count0 (Err e) b kept count
+    pub rewound_over : (e : CrFault) → Highest env n b (Err e) → Goes env start count0 b count → Rewound env base rows list mine upto n start kept0 count0 (Err e) b kept count
     rewound_over e top goes = record {
       most = omega (arith, so.2, few_left);
       ok = tt;
+      left = tt;
       err = because_over env n (λ seg. WornIn env n seg (flat n list) start) b e (fails env base rows mine upto n (2 ^ 64 - 1) list st.honest st.low limit so.0 so.1 start b so.4) top.err;
       counted = λ start0 first entries whole old. let to = goes start0 first entries whole in (to.0, b, count, to.1, inl refl);
     }
@@ -70,8 +73,8 @@ module _ (env : Env) (base : ℕ) (rows : Rows) (list : List Commit) (mine : Opt
       pub falls : c < limit
       falls = turn.0
 
-      pub rewound_worn : (e : CrFault) (b2 : Home) (kept2 : Kept) (count2 : ℕ) → Spent env mine upto n i b kept count (Err e) b2 kept2 count2 → count2 ≤ count + (entry_at b i).chain → Goes env start count0 b count → Rewound env rows list mine upto n start kept0 count0 (Err e) b2 kept2 count2
-      rewound_worn e b2 kept2 count2 spent most goes = record { most = omega (arith, most, so.2, turn.1.0); ok = tt; err = because_lost env n (λ seg. WornIn env n seg (flat n list) start) (entry_at b i).xid.seg e (λ old. gone (spent.err.0 old)) spent.err.1; counted = λ start0 first entries whole old. let to = goes start0 first entries whole in ⊎_elim (λ stops. (to.0, b, count, to.1, inr (i, stops.0, stops.1, stops.3, stops.2))) (λ full. absurd (too_few full)) (spent.err.0 old) }
+      pub rewound_worn : (e : CrFault) (b2 : Home) (kept2 : Kept) (count2 : ℕ) → Spent env mine upto n i b kept count (Err e) b2 kept2 count2 → count2 ≤ count + (entry_at b i).chain → Goes env start count0 b count → Rewound env base rows list mine upto n start kept0 count0 (Err e) b2 kept2 count2
+      rewound_worn e b2 kept2 count2 spent most goes = record { most = omega (arith, most, so.2, turn.1.0); ok = tt; left = tt; err = because_lost env n (λ seg. WornIn env n seg (flat n list) start) (entry_at b i).xid.seg e (λ old. gone (spent.err.0 old)) spent.err.1; counted = λ start0 first entries whole old. let to = goes start0 first entries whole in ⊎_elim (λ stops. (to.0, b, count, to.1, inr (i, stops.0, stops.1, stops.3, stops.2))) (λ full. absurd (too_few full)) (spent.err.0 old) }
         where
           too_few : kept_room < length (kept_after env mine upto (entry_at b i).chain i (entry_at b i).xid b kept) → ⊥
           too_few full =
@@ -169,7 +172,7 @@ undone env h mine upto n start kept count result b2 kept2 count2 none reading sa
 -- the whole rebuild
 module _ (env : Env) (h : History) (mine : Option Xid) (upto n : ℕ) (start : Home) (count0 : ℕ) (reading : Reading env h mine upto n start) where
   pub built_failed : (e : CrFault) (b : Home) (kept : Kept) (count : ℕ) → Undone env h.base h.rows h.list h.lives h.reader mine upto n start [] count0 (Err e) b kept count → Built env h mine upto n start count0 (Err e) b kept count
-  built_failed e b kept count undone = record { rows = tt; counted = tt; most = omega (arith, undone.most); old = because e undone.err; stopped = λ old. let wrong : true ≡ false = sym undone.err ∙ old in absurd (cc (wrong)) }
+  built_failed e b kept count undone = record { rows = tt; left = tt; counted = tt; most = omega (arith, undone.most); old = because e undone.err; stopped = λ old. let wrong : true ≡ false = sym undone.err ∙ old in absurd (cc (wrong)) }
     where
       because : (e : CrFault) → is_fault e ≡ true → Because env n (Worn env h n start) e
       because faults.Failed fault = tt
@@ -187,16 +190,17 @@ module _ (env : Env) (h : History) (mine : Option Xid) (upto n : ℕ) (start : H
         (λ at. ⊎_elim (λ entry. inl entry) (λ cause. inr (cause.1, inl (cause.0, cause.2), cause.3)) (undone.source at.0 seg at.1))
         (λ cause. inr (cause.0, inr cause.1, cause.2)) why
 
-    pub built : (result : Result (Unit {0}) CrFault) (b2 : Home) (kept2 : Kept) (count2 : ℕ) → Goes env start count0 b count → Rewound env h.rows h.list mine upto n b kept count result b2 kept2 count2 → Built env h mine upto n start count0 result b2 kept2 count2
+    pub built : (result : Result (Unit {0}) CrFault) (b2 : Home) (kept2 : Kept) (count2 : ℕ) → Goes env start count0 b count → Rewound env h.base h.rows h.list mine upto n b kept count result b2 kept2 count2 → Built env h mine upto n start count0 result b2 kept2 count2
     built (Ok u) b2 kept2 count2 goes rewound = record {
       rows = λ k. overlay_same kept2 (rows_in b2.cells) (rows_at n h.rows h.list) k (match_rows b2 (rows_at n h.rows h.list) rewound.ok.0 k)
           ∙ (rewound.ok.2 (rows_at n h.rows h.list) k ∙ undone.keeps (behind_mine mine upto (flat n h.list) (rows_at n h.rows h.list)) k);
+      left = rewound.left;
       counted = omega (arith, rewound.ok.1, undone.counted);
       most = omega (arith, rewound.most, undone.counted);
       old = tt;
       stopped = tt;
     }
-    built (Err e) b2 kept2 count2 goes rewound = record { rows = tt; counted = tt; most = omega (arith, rewound.most, undone.counted); old = because_map env n (λ seg. WornIn env n seg (flat n h.list) b) (Worn env h n start) e worn rewound.err; stopped = λ old. let to = goes start count0 [] (refl, refl) in rewound.counted start count0 to.0 to.1 old }
+    built (Err e) b2 kept2 count2 goes rewound = record { rows = tt; left = tt; counted = tt; most = omega (arith, rewound.most, undone.counted); old = because_map env n (λ seg. WornIn env n seg (flat n h.list) b) (Worn env h n start) e worn rewound.err; stopped = λ old. let to = goes start count0 [] (refl, refl) in rewound.counted start count0 to.0 to.1 old }
 
 -- no chain more
 pub goes_nowhere : (env : Env) (b : Home) (count : ℕ) → Goes env b count b count

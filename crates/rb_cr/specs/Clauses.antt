@@ -42,7 +42,7 @@ abbrev pub Rewinds : Said → Snapshot → Scratch → ℕ → Result (Unit {0})
 Rewinds said snap old count result new count2 = (base : ℕ) (rows : Rows) (list : List Commit)
     → Starts said.env base rows snap.scn (2 ^ 64 - 1) list (scratch_home said.shape old)
     → HasRoom snap old.kept (flat snap.scn list)
-    → Rewound said.env rows list snap.own snap.upto snap.scn (scratch_home said.shape old) old.kept count result
+    → Rewound said.env base rows list snap.own snap.upto snap.scn (scratch_home said.shape old) old.kept count result
     (scratch_home said.shape new) new.kept count2
 
 abbrev pub UndoesEntry : Said → Snapshot → ℕ → Scratch → ℕ → Result (Unit {0}) CrFault → Scratch → ℕ

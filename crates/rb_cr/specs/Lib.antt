@@ -1,7 +1,9 @@
 pub mod Builds
 pub mod Calls
 pub mod Clauses
+pub mod Copies
 pub mod Faults
+pub mod Going
 pub mod Heights
 pub mod KeptRows
 pub mod Late

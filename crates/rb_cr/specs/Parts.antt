@@ -8,7 +8,7 @@ use Rattle.rb_rebuild.specs.Chains.{Counted, Stops, Whole, spent, stepped, unwou
 use Rattle.rb_rebuild.specs.Heights.{AtMost, BeyondIn, Numbered, Over}
 use Rattle.rb_rebuild.specs.Keeping.{Kept, behind_mine, first_count, kept_after, kept_one, kept_room, kept_whole}
 use Rattle.rb_rebuild.specs.Keeping.{overlay}
-use Rattle.rb_rebuild.specs.Reading.{History, Worn, answer, count_above, flat, needed, rows_at, rows_in, total}
+use Rattle.rb_rebuild.specs.Reading.{History, Worn, answer, count_above, flat, needed, rows_at, rows_in, total, up_to}
 use Rattle.rb_rebuild.specs.Turns.{Running, WornIn, WornLive}
 use Rattle.rb_walk.specs.Walk.{Change, Commit, Home, Env, Rows, Match, Walk, entry_at, own}
 
@@ -57,13 +57,14 @@ pub record Highest (env : Env) (n : ℕ) (b : Home) (result : Result (ℕ × ℕ
       → (j : ℕ) × Over env n (entry_at b j) × Blames n (env.lost (entry_at b j).xid.seg) e)
 
 -- the commits above n taken back
-pub record Rewound (env : Env) (rows : Rows) (list : List Commit) (mine : Option Xid) (upto n : ℕ) (start : Home)
-    (kept : Kept) (count : ℕ) (result : Result (Unit {0}) CrFault) (b : Home) (kept2 : Kept) (count2 : ℕ)
-    : Type 0 where
+pub record Rewound (env : Env) (base : ℕ) (rows : Rows) (list : List Commit) (mine : Option Xid) (upto n : ℕ)
+    (start : Home) (kept : Kept) (count : ℕ) (result : Result (Unit {0}) CrFault) (b : Home) (kept2 : Kept)
+    (count2 : ℕ) : Type 0 where
   pub most : count2 ≤ count + count_above n list
   pub ok : OnOk result (Match b (rows_at n rows list) × (count2 ≡ count + count_above n list)
       × ((over : Rows) (k : ℕ) → overlay kept2 over k
       ≡ overlay kept (behind_mine mine upto (flat n list) over) k))
+  pub left : OnOk result (Walk env base rows (up_to n list) b)
   pub err : IfErr result (Because env n (λ seg. WornIn env n seg (flat n list) start))
   pub counted : IfErr result (Counts env start count count2)
 
@@ -93,6 +94,7 @@ pub record Undone (env : Env) (base : ℕ) (rows : Rows) (list : List Commit) (l
 pub record Built (env : Env) (h : History) (mine : Option Xid) (upto n : ℕ) (start : Home) (count : ℕ)
     (result : Result (Unit {0}) CrFault) (b : Home) (kept : Kept) (count2 : ℕ) : Type 0 where
   pub rows : OnOk result ((k : ℕ) → overlay kept (rows_in b.cells) k ≡ answer h mine upto n k)
+  pub left : OnOk result (Walk env h.base h.rows (up_to n h.list) b)
   pub counted : OnOk result (count2 ≡ count + needed h n)
   pub most : count2 ≤ count + needed h n
   pub old : IfErr result (Because env n (Worn env h n start))

@@ -6,10 +6,12 @@ ghost use Rattle.rb_base.specs.Logs.{Logs};
 ghost use Rattle.rb_cr.specs.Builds.{IsHomeRead, IsHomeOld};
 ghost use Rattle.rb_cr.specs.Clauses.{answer_to};
 ghost use Rattle.rb_cr.specs.Faults.{is_failed, is_fault};
-ghost use Rattle.rb_cr.specs.Scratches.{shown_by};
+ghost use Rattle.rb_cr.specs.Scratches.{scratch_home, shown_by};
 ghost use Rattle.rb_rebuild.specs.Chains.{Counted};
+ghost use Rattle.rb_rebuild.specs.Copies.{Copied};
 ghost use Rattle.rb_rebuild.specs.Reading.{needed, History};
 ghost use Rattle.rb_standing.specs.Standing.{env_of, homes_of};
+ghost use Rattle.rb_walk.specs.Walk.{last};
 
 use crate::faults::CrFault;
 use crate::restore::rebuild;
@@ -22,9 +24,9 @@ use std::sync::ledger::Ledger;
 /// What the scratch had is forgotten, and what it has after a refusal is open. For each history that the home stands
 /// for, the rows are those at the snapshot with these changes over them. Each record that is taken back is counted: as
 /// many as changes stand above the snapshot; or, where one of them is gone, those that were taken back before it and no
-/// more. `TooOld` only where what that needs was given up by a segment, above the
-/// snapshot; `Failed` only where a call failed. The store is given no group. (Oracle7 Server Concepts, *Multiversion
-/// Consistency Model*.)
+/// more. What is left in the scratch, entries and cells, is a home that can be kept at the snapshot. `TooOld` only
+/// where what that needs was given up by a segment, above the snapshot; `Failed` only where a call failed. The store is
+/// given no group. (Oracle7 Server Concepts, *Multiversion Consistency Model*.)
 pub fn build<S: Store, L: Ledger>(
     store: &mut S,
     block: BlockNo,
@@ -44,8 +46,13 @@ pub fn build<S: Store, L: Ledger>(
         snapshot.now → IfErr result (λ fault. is_fault fault ≡ false
         → Counted (env_of (S.shape_of store.old) (S.blocks store.old))
         (homes_of (S.shape_of store.old) (S.blocks store.old) block) steps.old steps.new) }
+    ensures left { S.tells → (h : History) → IsHomeRead (S.shape_of store.old) (S.blocks store.old) block h
+        snapshot.now → snapshot.now.scn ≤ last h.base h.list
+        → OnOk result (Copied (env_of (S.shape_of store.old) (S.blocks store.old)) h.base h.rows h.list
+        snapshot.now.scn (scratch_home (S.shape_of store.old) scratch.new)) }
     ensures old { S.tells → (h : History) → IsHomeRead (S.shape_of store.old) (S.blocks store.old) block h
         snapshot.now → IfErr result (IsHomeOld (S.shape_of store.old) (S.blocks store.old) block h snapshot.now) }
+    ensures block { OnOk result (scratch.new.block ≡ block) }
     ensures logs { Logs S.Store store.old store.new [] (not (is_failed result)) }
 {
     let Ok(()) = store.load(block) else {

@@ -27,6 +27,7 @@ fn step<S: Segments>(
     requires there { i < 8 }
     ensures told { S.tells → IfOk result (StepsBack (S.says segments.old) snapshot.now i xid
         scratch.old scratch.new) }
+    ensures block { scratch.new.block ≡ scratch.old.block }
     ensures reads { Reads S.Segments segments.old segments.new (not (is_err result)) }
 {
     let Some(found) = segments.record(scratch.entries[i].newest)? else {
@@ -54,6 +55,7 @@ fn unwind<S: Segments, L: Ledger>(
         xid scratch.old steps.old scratch.new steps.new) }
     ensures steps { IfOk result (λ whole. whole ≡ true → steps.new ≡ steps.old + count) }
     ensures most { steps.new ≤ steps.old + count }
+    ensures block { scratch.new.block ≡ scratch.old.block }
     ensures reads { Reads S.Segments segments.old segments.new (not (is_err result)) }
 {
     for _k in 0..count {
@@ -92,6 +94,7 @@ pub(crate) fn unwind_at<S: Segments, L: Ledger>(
     ensures steps { (shape : Shape)
         → OnOk result (steps.new ≡ steps.old + (entry_at (scratch_home shape scratch.old) i).chain) }
     ensures most { (shape : Shape) → steps.new ≤ steps.old + (entry_at (scratch_home shape scratch.old) i).chain }
+    ensures block { scratch.new.block ≡ scratch.old.block }
     ensures reads { Reads S.Segments segments.old segments.new (not (is_failed result)) }
 {
     let entry = scratch.entries[i];

@@ -5,7 +5,9 @@
 
 mod blocks;
 mod chains;
+mod copies;
 mod faults;
+mod going;
 mod heights;
 mod kept;
 mod late;
@@ -17,6 +19,7 @@ mod restore;
 mod rows;
 mod scratch;
 mod segments;
+mod shared;
 mod steps;
 mod stores;
 
@@ -30,4 +33,5 @@ pub use restore::rebuild;
 pub use rows::Wanted;
 pub use scratch::{Scratch, Snapshot};
 pub use segments::Segments;
+pub use shared::build_with;
 pub use steps::Steps;

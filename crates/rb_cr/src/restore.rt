@@ -10,8 +10,10 @@ ghost use Rattle.rb_cr.specs.Parts.{Highest};
 ghost use Rattle.rb_cr.specs.Reads.{Reads};
 ghost use Rattle.rb_cr.specs.Scratches.{scratch_home, shown_by};
 ghost use Rattle.rb_rebuild.specs.Chains.{Counted};
+ghost use Rattle.rb_rebuild.specs.Copies.{Copied};
 ghost use Rattle.rb_rebuild.specs.Reading.{needed, History};
 ghost use Rattle.rb_standing.specs.Says.{walk_entry};
+ghost use Rattle.rb_walk.specs.Walk.{last};
 
 use crate::chains::{too_old, unwind_at};
 use crate::faults::CrFault;
@@ -46,7 +48,7 @@ pub(crate) fn highest<S: Segments>(
 }
 
 /// The commits above the snapshot taken back, the greatest number first.
-fn rewind<S: Segments, L: Ledger>(
+pub(crate) fn rewind<S: Segments, L: Ledger>(
     segments: &mut S,
     scratch: &mut Scratch,
     snapshot: &Snapshot,
@@ -55,6 +57,7 @@ fn rewind<S: Segments, L: Ledger>(
     requires { S.ready segments.old }
     ensures told { S.tells → Rewinds (S.says segments.old) snapshot.now scratch.old steps.old
         result scratch.new steps.new }
+    ensures block { scratch.new.block ≡ scratch.old.block }
     ensures reads { Reads S.Segments segments.old segments.new (not (is_failed result)) }
 {
     let mut limit = u64::MAX;
@@ -108,6 +111,7 @@ fn undo_entry<S: Segments, L: Ledger>(
         steps.old result scratch.new steps.new }
     ensures goes { S.tells
         → OnOk result (GoesOn (S.says segments.old) scratch.old steps.old scratch.new steps.new) }
+    ensures block { scratch.new.block ≡ scratch.old.block }
     ensures reads { Reads S.Segments segments.old segments.new (not (is_failed result)) }
 {
     let entry = scratch.entries[i];
@@ -130,6 +134,7 @@ pub(crate) fn undo_active<S: Segments, L: Ledger>(
         steps.old result scratch.new steps.new }
     ensures goes { S.tells
         → OnOk result (GoesOn (S.says segments.old) scratch.old steps.old scratch.new steps.new) }
+    ensures block { scratch.new.block ≡ scratch.old.block }
     ensures reads { Reads S.Segments segments.old segments.new (not (is_failed result)) }
 {
     for i in 0..scratch.entries.len() {
@@ -152,6 +157,7 @@ fn take_all_back<S: Segments, L: Ledger>(
     requires none { scratch.old.kept ≡ [] }
     ensures told { S.tells → Builds (S.says segments.old) snapshot.now scratch.old steps.old
         result scratch.new steps.new }
+    ensures block { scratch.new.block ≡ scratch.old.block }
     ensures reads { Reads S.Segments segments.old segments.new (not (is_failed result)) }
 {
     match undo_active(segments, scratch, snapshot, steps) {
@@ -163,10 +169,10 @@ fn take_all_back<S: Segments, L: Ledger>(
 /// Makes of a decoded home what it was at a snapshot, and keeps the reader's own first changes beside it. For each
 /// history that the home stands for, the rows are those at the snapshot with these changes over them. Each record that
 /// is taken back is counted: as many as changes stand above the snapshot; or, where one of them is gone, those that
-/// were taken back before it and no more. `TooOld` only where what that needs was given up by a segment, above the
-/// snapshot; `Failed` only where a call failed. (Oracle7 Server Concepts, *Multiversion Consistency Model*: older
-/// versions are rebuilt from rollback segments. The order is this project's choice: what isn't committed first, and
-/// then the greatest number.)
+/// were taken back before it and no more. What is left, entries and cells, is a home that can be kept at the snapshot.
+/// `TooOld` only where what that needs was given up by a segment, above the snapshot; `Failed` only where a call
+/// failed. (Oracle7 Server Concepts, *Multiversion Consistency Model*: older versions are rebuilt from rollback
+/// segments. The order is this project's choice: what isn't committed first, and then the greatest number.)
 pub fn rebuild<S: Segments, L: Ledger>(
     segments: &mut S,
     scratch: &mut Scratch,
@@ -183,8 +189,12 @@ pub fn rebuild<S: Segments, L: Ledger>(
     ensures counted { S.tells → (h : History) → IsRead (S.says segments.old) h snapshot.now
         scratch.old → IfErr result (λ fault. is_fault fault ≡ false → Counted (S.says segments.old).env
         (scratch_home (S.says segments.old).shape scratch.old) steps.old steps.new) }
+    ensures left { S.tells → (h : History) → IsRead (S.says segments.old) h snapshot.now
+        scratch.old → snapshot.now.scn ≤ last h.base h.list → OnOk result (Copied (S.says segments.old).env h.base
+        h.rows h.list snapshot.now.scn (scratch_home (S.says segments.old).shape scratch.new)) }
     ensures old { S.tells → (h : History) → IsRead (S.says segments.old) h snapshot.now
         scratch.old → IfErr result (IsOld (S.says segments.old) h snapshot.now scratch.old) }
+    ensures block { scratch.new.block ≡ scratch.old.block }
     ensures reads { Reads S.Segments segments.old segments.new (not (is_failed result)) }
 {
     scratch.kept.clear();

@@ -148,7 +148,7 @@ pub(crate) fn row_in(cell: &Cell, key: u64) -> Option<ArrayVec<u8, VALUE_BYTES>>
 }
 
 /// Whether an entry is this transaction's, which was still to commit.
-fn is_own(entry: &Entry, xid: Xid) -> bool
+pub(crate) fn is_own(entry: &Entry, xid: Xid) -> bool
     ensures { (shape : Shape) → result ≡ is_own xid (walk_entry shape entry.now) }
 {
     entry.kind == OPEN && same(entry.xid, xid)
@@ -208,6 +208,7 @@ pub(crate) fn back(scratch: &mut Scratch, undo: &UndoRecord) -> Cell
     requires cell { undo.now.cell < CELLS }
     ensures home { (shape : Shape) (seg : ℕ) → scratch_home shape scratch.new
         ≡ taken_back (record_of shape (record { seg = seg; undo = undo.now })) (scratch_home shape scratch.old) }
+    ensures block { scratch.new.block ≡ scratch.old.block }
     ensures kept { scratch.new.kept ≡ scratch.old.kept }
     ensures cell { (key : ℕ) → row_of (walk_cell result) key ≡ shown_in scratch.old undo.now.cell key }
 {
@@ -224,6 +225,7 @@ pub(crate) fn apply(scratch: &mut Scratch, found: &SegmentRecord, snapshot: &Sna
     requires cell { found.now.undo.cell < CELLS }
     ensures home { (shape : Shape) → scratch_home shape scratch.new
         ≡ taken_back (record_of shape found.now) (scratch_home shape scratch.old) }
+    ensures block { scratch.new.block ≡ scratch.old.block }
     ensures kept { result ≡ true → scratch.new.kept ≡ kept_with snapshot.now found.now scratch.old }
     ensures full { result ≡ false → kept_room < length (kept_with snapshot.now found.now scratch.old) }
 {

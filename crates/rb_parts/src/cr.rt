@@ -1,24 +1,28 @@
 //! Homes of a small file as they were at snapshots: rows that records of undo bring back, the reader's own changes over
-//! them, and snapshots that are too old.
+//! them, and snapshots that are too old; and which readers a kept home serves, what it spares, and until when.
 ghost use Rattle.std.specs.Prelude.{◌≡◌, ◌<◌, ◌≤◌, false};
 
+use crate::loads::Loads;
 use crate::writers::{SHAPE, Writers, apply, copy_of};
 use arrayvec::ArrayVec;
-use rb_base::{BlockNo, Group, Scn, Store};
-use rb_cell::{CELLS, EMPTY, ROW, STUB, cells};
-use rb_cr::{CrFault, Scratch, Snapshot, Steps, build};
-use rb_itl::{ENTRIES, EXACT, OPEN, entry};
+use rb_base::{BlockNo, Group, Lsn, Scn, Shape, Store, array_of, u64_at};
+use rb_cell::{CELLS, Cell, EMPTY, ROW, STUB, cells};
+use rb_copies::{COPIES, Copies, CopyKey, KeptHome};
+use rb_cr::{CrFault, Scratch, Snapshot, Steps, build, build_with};
+use rb_itl::{ENTRIES, EXACT, Entry, OPEN, entry};
 use rb_model::{Op, Row};
+use std::array;
 use std::marker::Brand;
 use std::sync::ledger::{Blank, Ledger};
 use std::test::Fail;
 
-/// Rebuilds a home, and counts the records in a ledger.
+/// Rebuilds a home, with the help of kept ones where a table of them is given, and counts the records in a ledger.
 fn counted<S: Store, L: Ledger>(
     store: &mut S,
     home: BlockNo,
     snapshot: Snapshot,
     scratch: &mut Scratch,
+    copies: Option<&mut Copies>,
     blank: Blank,
 ) -> Result<(), CrFault>
     requires going { S.failed store.old ≡ false }
@@ -30,7 +34,10 @@ fn counted<S: Store, L: Ledger>(
         return Err(CrFault::Failed);
     }
     let mut steps = Steps::<L>::new(blank);
-    build(store, home, &snapshot, scratch, &mut steps)
+    match copies {
+        None => build(store, home, &snapshot, scratch, &mut steps),
+        Some(copies) => build_with(store, home, &snapshot, scratch, copies, &mut steps),
+    }
 }
 
 /// Rebuilds a home as a session sees it at a number with the first changes of its latest transaction, which may have
@@ -48,7 +55,38 @@ fn built(
         own: writers.id(s),
         upto,
     };
-    counted::<_, Brand>(&mut writers.store, home, snapshot, scratch, Blank::new(1))
+    counted::<_, Brand>(
+        &mut writers.store,
+        home,
+        snapshot,
+        scratch,
+        None,
+        Blank::new(1),
+    )
+}
+
+/// Rebuilds home 0 as such a reader sees it, with the help of kept homes.
+fn built_with(
+    writers: &mut Writers,
+    scn: Scn,
+    s: u16,
+    upto: u32,
+    scratch: &mut Scratch,
+    copies: &mut Copies,
+) -> Result<(), CrFault> {
+    let snapshot = Snapshot {
+        scn,
+        own: writers.id(s),
+        upto,
+    };
+    counted::<_, Brand>(
+        &mut writers.store,
+        0,
+        snapshot,
+        scratch,
+        Some(copies),
+        Blank::new(1),
+    )
 }
 
 /// Whether the rows of a home that was rebuilt are exactly these, in this order.
@@ -71,7 +109,28 @@ fn shows(scratch: &Scratch, rows: &[(u64, &[u8])]) -> bool {
 /// What a reader of home 0 sees: its number, its session with how many of its changes, and the rows.
 type Sight = (Scn, u16, u32, &'static [(u64, &'static [u8])]);
 
-/// Whether each reader of home 0 sees those rows.
+/// Whether a reader of home 0 sees those rows, with the help of kept homes.
+fn sees(writers: &mut Writers, scratch: &mut Scratch, copies: &mut Copies, sight: &Sight) -> bool {
+    let (scn, s, upto, rows) = sight;
+    built_with(writers, *scn, *s, *upto, scratch, copies).is_ok() && shows(scratch, rows)
+}
+
+/// Whether each reader of home 0 sees those rows, where what is built for one is kept for all.
+fn see_with(
+    writers: &mut Writers,
+    scratch: &mut Scratch,
+    copies: &mut Copies,
+    sights: &[Sight],
+) -> bool {
+    for sight in sights {
+        if !sees(writers, scratch, copies, sight) {
+            return false;
+        }
+    }
+    true
+}
+
+/// Whether each reader of home 0 sees those rows, and sees the same with a table that keeps nothing.
 fn see(writers: &mut Writers, scratch: &mut Scratch, sights: &[Sight]) -> bool {
     for (scn, s, upto, rows) in sights {
         let is_built = built(writers, 0, *scn, *s, *upto, scratch).is_ok();
@@ -79,14 +138,21 @@ fn see(writers: &mut Writers, scratch: &mut Scratch, sights: &[Sight]) -> bool {
             return false;
         }
     }
-    true
+    see_with(writers, scratch, &mut Copies::none(), sights)
 }
 
-/// Whether the lines are done over a new file, and each reader sees its rows then.
+/// Whether the lines are done over a new file, and each reader sees its rows then, also twice with a table that keeps
+/// homes.
 fn tells(rt: &HostRuntime, lines: &[u8], sights: &[Sight]) -> Result<bool, Fail> {
     let mut writers = Writers::new(rt.alloc(), SHAPE)?;
     let mut scratch = Scratch::new(rt.alloc())?;
-    Ok(writers.lines(lines) && see(&mut writers, &mut scratch, sights))
+    let mut copies = Copies::new(rt.alloc(), COPIES)?;
+    Ok(
+        writers.lines(lines)
+            && see(&mut writers, &mut scratch, sights)
+            && see_with(&mut writers, &mut scratch, &mut copies, sights)
+            && see_with(&mut writers, &mut scratch, &mut copies, sights),
+    )
 }
 
 #[test]
@@ -182,6 +248,225 @@ fn extent_taken_again(rt: HostRuntime) -> Result<(), Fail> {
     }
     let sights: [Sight; 2] = [(40, 0, 0, &[(0, b"u")]), (80, 0, 0, &[(0, b"u")])];
     assert!(rt; see(&mut writers, &mut scratch, &sights));
+    Ok(())
+}
+
+/// A table of one block, and a segment.
+const ONE_BLOCK: Shape = Shape {
+    tables: 1,
+    blocks: 1,
+    segments: 1,
+};
+
+/// A file of eighty commits: the first made row 1 `a`, and each of the others set it to `u`.
+fn eighty_commits(rt: &HostRuntime) -> Result<Loads, Fail> {
+    let mut writers = Writers::new(rt.alloc(), ONE_BLOCK)?;
+    if !writers.lines(b"insert 1 1 1 a\ncommit 1\n") || !commit_updates(&mut writers, 1, 79) {
+        return Err(Fail::new("a write was refused"));
+    }
+    let Writers { store, .. } = writers;
+    Ok(Loads::new(store))
+}
+
+/// How many records are taken back, each of which is a load of its block, until home 0 shows this value of row 1 to a
+/// reader at that number, with the help of kept homes where a table of them is given. None where it doesn't.
+fn records_back(
+    loads: &mut Loads,
+    scratch: &mut Scratch,
+    copies: Option<&mut Copies>,
+    scn: Scn,
+    value: &[u8],
+) -> Option<u32> {
+    let snapshot = Snapshot {
+        scn,
+        own: None,
+        upto: 0,
+    };
+    let built = counted::<_, Brand>(loads, 0, snapshot, scratch, copies, Blank::new(1));
+    if built.is_err() || !shows(scratch, &[(1, value)]) {
+        return None;
+    }
+    Some(loads.take())
+}
+
+// Seventy-nine records lead back to commit 1. The home that is kept at 40 spares the forty above it, and then the one
+// at 1 spares all.
+#[test]
+fn build_from_copy(rt: HostRuntime) -> Result<(), Fail> {
+    let mut loads = eighty_commits(&rt)?;
+    let mut scratch = Scratch::new(rt.alloc())?;
+    let mut copies = Copies::new(rt.alloc(), COPIES)?;
+    let builds: [(Scn, &[u8], u32); 3] = [(40, b"u", 40), (1, b"a", 39), (1, b"a", 0)];
+    for (scn, value, count) in builds {
+        let back = records_back(&mut loads, &mut scratch, Some(&mut copies), scn, value);
+        assert!(rt; back == Some(count), "{count} records back to {scn}");
+    }
+    let mut none = Copies::none();
+    assert!(rt; records_back(&mut loads, &mut scratch, Some(&mut none), 1, b"a") == Some(79));
+    assert!(rt; records_back(&mut loads, &mut scratch, None, 1, b"a") == Some(79));
+    Ok(())
+}
+
+/// A home to be kept of a block with this log number. It has a row 0 of this byte, which no writer made: a reader sees
+/// it only where its build began here.
+fn marked_home(number: Lsn, mark: u8) -> KeptHome {
+    KeptHome {
+        number,
+        entries: [Entry::default(); ENTRIES as usize],
+        cells: array::from_fn(|c| Cell {
+            state: if c == 0 { ROW } else { EMPTY },
+            lock: 0,
+            key: 0,
+            value: array_of(&[mark]),
+        }),
+    }
+}
+
+/// A table of such homes of block 0 at these commit numbers, with the number as the byte.
+fn marked_homes(rt: &HostRuntime, number: Lsn, kept: &[u8]) -> Result<Copies, Fail> {
+    let mut copies = Copies::new(rt.alloc(), COPIES)?;
+    for mark in kept {
+        let scn = u64::from(*mark);
+        copies.keep(CopyKey { block: 0, scn }, marked_home(number, *mark));
+    }
+    Ok(copies)
+}
+
+/// A history of home 0, in the middle of which marked homes of it are kept, and what readers see at its end.
+#[derive(Clone, Copy)]
+struct Case {
+    /// The lines before.
+    before: &'static [u8],
+    /// The commit numbers at which homes are kept then.
+    kept: &'static [u8],
+    /// The lines behind.
+    behind: &'static [u8],
+    /// The readers, to whom the home that serves shows the number at which it is kept.
+    sights: &'static [Sight],
+}
+
+/// Whether each reader of a case sees its rows. What is built for one isn't kept for the next.
+fn are_served(rt: &HostRuntime, case: &Case) -> Result<bool, Fail> {
+    let mut writers = Writers::new(rt.alloc(), SHAPE)?;
+    let mut scratch = Scratch::new(rt.alloc())?;
+    let is_done = writers.lines(case.before);
+    let number = u64_at(&copy_of(&mut writers.store, 0)?, 0);
+    if !is_done || !writers.lines(case.behind) {
+        return Ok(false);
+    }
+    for sight in case.sights {
+        let mut copies = marked_homes(rt, number, case.kept)?;
+        if !sees(&mut writers, &mut scratch, &mut copies, sight) {
+            return Ok(false);
+        }
+    }
+    Ok(true)
+}
+
+// Session 2 has a change in home 0, and session 3 has one elsewhere.
+const TWO_CHANGES: &[u8] = b"\
+insert 1 1 2 a
+commit 1
+insert 2 1 4 b
+insert 3 1 5 c
+";
+
+const THREE_COMMITS: &[u8] = b"\
+insert 1 1 2 a
+commit 1
+update 1 1 2 b
+commit 1
+update 1 1 2 c
+commit 1
+";
+
+const CASES: [Case; 6] = [
+    // A reader that sees a change of its own in the home, and three that don't.
+    Case {
+        before: TWO_CHANGES,
+        kept: &[1],
+        behind: b"",
+        sights: &[
+            (1, 2, 1, &[(2, b"a"), (4, b"b")]),
+            (1, 2, 0, &[(0, &[1])]),
+            (1, 3, 1, &[(0, &[1])]),
+            (1, 0, 0, &[(0, &[1])]),
+        ],
+    },
+    // The same ones, whose changes were committed since. Nothing tells any more that the third has none in the home.
+    Case {
+        before: TWO_CHANGES,
+        kept: &[1],
+        behind: b"commit 2\ncommit 3\n",
+        sights: &[
+            (1, 2, 1, &[(2, b"a"), (4, b"b")]),
+            (1, 2, 0, &[(0, &[1])]),
+            (1, 3, 1, &[(2, b"a")]),
+            (1, 0, 0, &[(0, &[1])]),
+        ],
+    },
+    // The block was written since, and the change goes on; or was committed.
+    Case {
+        before: b"insert 1 1 2 a\ncommit 1\n",
+        kept: &[1],
+        behind: b"update 1 1 2 b\n",
+        sights: &[(1, 0, 0, &[(2, b"a")]), (1, 1, 1, &[(2, b"b")])],
+    },
+    Case {
+        before: b"insert 1 1 2 a\ncommit 1\n",
+        kept: &[1],
+        behind: b"update 1 1 2 b\ncommit 1\n",
+        sights: &[(1, 0, 0, &[(2, b"a")]), (2, 0, 0, &[(2, b"b")])],
+    },
+    // Another block was.
+    Case {
+        before: b"insert 1 1 2 a\ncommit 1\n",
+        kept: &[1],
+        behind: b"insert 1 1 3 b\ncommit 1\n",
+        sights: &[(1, 0, 0, &[(0, &[1])])],
+    },
+    // The least number serves from the reader's on, and none below it.
+    Case {
+        before: THREE_COMMITS,
+        kept: &[3, 2],
+        behind: b"",
+        sights: &[
+            (1, 0, 0, &[(0, &[2])]),
+            (2, 0, 0, &[(0, &[2])]),
+            (3, 0, 0, &[(0, &[3])]),
+            (4, 0, 0, &[(2, b"c")]),
+        ],
+    },
+];
+
+#[test]
+fn readers_that_kept_homes_serve(rt: HostRuntime) -> Result<(), Fail> {
+    for i in 0..CASES.len() {
+        assert!(rt; are_served(&rt, &CASES[i])?, "case {i}");
+    }
+    Ok(())
+}
+
+// The record that leads back to commit 1 is gone by commit 81. The home that was kept before serves still, as no group
+// wrote its block. Once one does, the reader is as old as it is without that home.
+#[test]
+fn kept_home_outlives_undo(rt: HostRuntime) -> Result<(), Fail> {
+    let mut writers = Writers::new(rt.alloc(), SHAPE)?;
+    let mut scratch = Scratch::new(rt.alloc())?;
+    let mut copies = Copies::new(rt.alloc(), COPIES)?;
+    let sight: Sight = (1, 0, 0, &[(0, b"a")]);
+    assert!(rt; writers.lines(b"insert 1 1 0 a\ncommit 1\nupdate 1 1 0 b\ncommit 1\n"));
+    assert!(rt; sees(&mut writers, &mut scratch, &mut copies, &sight));
+    assert!(rt; writers.lines(b"insert 1 1 1 z\ncommit 1\n"));
+    assert!(rt; commit_updates(&mut writers, 1, 78));
+    assert!(rt; sees(&mut writers, &mut scratch, &mut copies, &sight));
+    let old = CrFault::TooOld { scn: 1, lost: 65 };
+    assert!(rt; built(&mut writers, 0, 1, 0, 0, &mut scratch) == Err(old));
+    let mut none = Copies::none();
+    assert!(rt; built_with(&mut writers, 1, 0, 0, &mut scratch, &mut none) == Err(old));
+    assert!(rt; writers.line(b"update 1 1 0 c").is_ok());
+    let older = CrFault::TooOld { scn: 1, lost: 66 };
+    assert!(rt; built_with(&mut writers, 1, 0, 0, &mut scratch, &mut copies) == Err(older));
     Ok(())
 }
 

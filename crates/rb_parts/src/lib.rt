@@ -23,6 +23,8 @@ mod itl;
 #[cfg(test)]
 mod layout;
 #[cfg(test)]
+mod loads;
+#[cfg(test)]
 mod log;
 #[cfg(test)]
 mod memdisk;

@@ -1,3 +1,4 @@
+pub mod Copying
 pub mod Fitting
 pub mod Keeping
 pub mod Newest
@@ -7,6 +8,7 @@ pub mod Quiet
 pub mod Shortening
 pub mod Showing
 pub mod Undoing
+pub mod Unseen
 pub mod Unwinding
 pub mod Watching
 pub mod Wearing

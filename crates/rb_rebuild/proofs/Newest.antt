@@ -7,7 +7,7 @@ use Rattle.std.specs.List.{list_any}
 use Rattle.rb_base.specs.declared.ids.Xid.{Xid}
 use Rattle.rb_rebuild.specs.Heights.{AtMost, LookAtMost, StatusAtMost, Numbered, LookNumbered, StatusNumbered}
 use Rattle.rb_rebuild.specs.Late.{changes_key, earlier, late_above}
-use Rattle.rb_rebuild.specs.Reading.{rows_at, count_above, flat}
+use Rattle.rb_rebuild.specs.Reading.{rows_at, count_above, flat, up_to}
 use Rattle.rb_txntable.specs.declared.looks.Look.{Look}
 use Rattle.rb_txntable.specs.declared.looks.Look.TheVariants.{Active, At, Before}
 use Rattle.rb_walk.specs.Kinds.{Status, Free, Open, Exact, Bound, Entry}
@@ -51,6 +51,9 @@ cut_count n t older lt = let test : nat_lt n t.number ≡ true = grind (arith, n
 pub cut_flat : (n : ℕ) (t : Commit) (older : List Commit) → n < t.number → flat n (t ∷ older) ≡ t.changes ++ flat n older
 cut_flat n t older lt = let test : nat_lt n t.number ≡ true = grind (arith, nat_tests) in rw test refl
 
+pub cut_tail : (n : ℕ) (t : Commit) (older : List Commit) → n < t.number → up_to n (t ∷ older) ≡ up_to n older
+cut_tail n t older lt = let test : nat_lt n t.number ≡ true = grind (arith, nat_tests) in rw test refl
+
 pub here_none : (n key : ℕ) (t : Commit) (older : List Commit) → t.number ≤ n → late_above n key (t ∷ older) ≡ None
 here_none n key t older le = let test : nat_lt n t.number ≡ false = grind (arith, nat_tests) in rw test refl
 
@@ -80,6 +83,7 @@ module _ (env : Env) (base : ℕ) (rows : Rows) (n i c : ℕ) (b : Home) where
     pub lower : last base older < c
     pub changes : flat n list ≡ (ch ∷ more) ++ flat n older
     pub same : rows_at n rows list ≡ rows_at n rows older
+    pub tail : up_to n list ≡ up_to n older
     pub count : count_above n list ≡ suc (length more) + count_above n older
     pub late : (key : ℕ) → late_above n key list ≡ earlier (late_above n key older) (if list_any (changes_key key) (ch ∷ more) then Some c else None)
     pub most : c ≤ last base list
@@ -108,6 +112,7 @@ module _ (env : Env) (base : ℕ) (rows : Rows) (n i c : ℕ) (b : Home) where
             lower = d.lower;
             changes = cut_flat n t older n_t ∙ ap (λ (z : List Change). z ++ flat n older) nothing ∙ d.changes;
             same = cut n rows t older n_t ∙ d.same;
+            tail = cut_tail n t older n_t ∙ d.tail;
             count = omega (arith, cut_count n t older n_t, z, d.count);
             late = λ key. late_past n key t older n_t nothing ∙ d.late key;
             most = at_most_t;
@@ -125,6 +130,7 @@ module _ (env : Env) (base : ℕ) (rows : Rows) (n i c : ℕ) (b : Home) where
               lower = omega (arith, walk.1, number);
               changes = cut_flat n t older n_t ∙ ap (λ (z : List Change). z ++ flat n older) some;
               same = cut n rows t older n_t;
+              tail = cut_tail n t older n_t;
               count = omega (arith, cut_count n t older n_t, long);
               late = λ key. cut_late n key t older n_t
                   ∙ ap (λ (z : List Change). earlier (late_above n key older) (if list_any (changes_key key) z then Some t.number else None)) some

@@ -150,6 +150,7 @@ module _ (env : Env) (base : ℕ) (rows : Rows) (honest : Honest env) (mine : Op
               source = left_source env base rows honest n list b i c high is b2 done;
               walk = w;
               same = sym high.same;
+              tail = sym high.tail;
               lower = high.lower;
               count = omega (arith, high.count, leads.chain);
               room = λ kept. omega (arith, fits kept, firsts);
@@ -193,7 +194,7 @@ module _ (env : Env) (base : ℕ) (rows : Rows) (n : ℕ) (left list : List Comm
 
 module _ (env : Env) (base : ℕ) (rows : Rows) (mine : Option Xid) (upto n limit : ℕ) (list : List Commit) where
   pub begins : (b : Home) → Starts env base rows n limit list b → Peeled env base rows mine upto n limit 0 (λ kept. kept) list b b
-  begins b starts = record { left = list; inside = λ x named. named; source = λ j seg over. inl (j, over); walk = starts.walk; same = refl; lower = starts.lower; count = omega arith; keeps = λ kept over k. refl; room = λ kept. omega arith }
+  begins b starts = record { left = list; inside = λ x named. named; source = λ j seg over. inl (j, over); walk = starts.walk; same = refl; tail = refl; lower = starts.lower; count = omega arith; keeps = λ kept over k. refl; room = λ kept. omega arith }
 
   module _ (honest : Honest env) (low : base ≤ n) (limit2 d : ℕ) (f : Kept → Kept) (start b : Home) (p : Peeled env base rows mine upto n limit2 d f list start b) where
     abbrev pub Reason : ℕ → Type 0
@@ -214,5 +215,5 @@ module _ (env : Env) (base : ℕ) (rows : Rows) (mine : Option Xid) (upto n limi
       omega (arith, t.0, p.lower),
       (omega (arith, t.1.0, p.count), λ kept. omega (arith, t.1.1 (f kept), p.room kept)),
       ends_map env (entry_at b i).xid.seg c (WornIn env n (entry_at b i).xid.seg (flat n p.left) b) (Reason (entry_at b i).xid.seg) (Left env base rows honest mine upto n b i c p.left) (Peeled env base rows mine upto n c (d + (entry_at b i).chain) (λ kept. kept_whole env mine upto b i (f kept)) list start) (spent env b i) (wide (entry_at b i).xid.seg)
-          (λ b2 is q. record { left = q.left; inside = λ x named. p.inside x (q.inside x named); source = λ j seg over. wide seg (q.source j seg over); walk = q.walk; same = q.same ∙ p.same; lower = q.lower; count = omega (arith, q.count, p.count); keeps = λ kept over k. q.keeps (f kept) over k ∙ p.keeps kept over k; room = λ kept. omega (arith, q.room (f kept), p.room kept) }) t.2,
+          (λ b2 is q. record { left = q.left; inside = λ x named. p.inside x (q.inside x named); source = λ j seg over. wide seg (q.source j seg over); walk = q.walk; same = q.same ∙ p.same; tail = q.tail ∙ p.tail; lower = q.lower; count = omega (arith, q.count, p.count); keeps = λ kept over k. q.keeps (f kept) over k ∙ p.keeps kept over k; room = λ kept. omega (arith, q.room (f kept), p.room kept) }) t.2,
     )

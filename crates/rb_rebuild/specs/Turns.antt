@@ -5,7 +5,7 @@ use Rattle.rb_base.specs.declared.ids.Xid.{Xid}
 use Rattle.rb_rebuild.specs.Heights.{BeyondIn}
 use Rattle.rb_rebuild.specs.Keeping.{Kept, behind_mine, first_count, overlay}
 use Rattle.rb_rebuild.specs.Late.{earlier, late_above}
-use Rattle.rb_rebuild.specs.Reading.{Cause, Honest, count_above, flat, rows_at, total}
+use Rattle.rb_rebuild.specs.Reading.{Cause, Honest, count_above, flat, rows_at, total, up_to}
 use Rattle.rb_walk.specs.Walk.{In, Change, Commit, Home, Env, Rows, Walk, Tree, IsActive, entry_at, last, own}
 
 -- How a chain ends, of a transaction of this segment that committed at c: at a home, or where a record is gone. Then c
@@ -39,6 +39,7 @@ pub record Peeled (env : Env) (base : ℕ) (rows : Rows) (mine : Option Xid) (up
   pub source : (j seg : ℕ) → BeyondIn env n seg (entry_at b j) → WornIn env n seg (flat n list) start
   pub walk : Walk env base rows left b
   pub same : rows_at n rows left ≡ rows_at n rows list
+  pub tail : up_to n left ≡ up_to n list
   pub lower : last base left < c
   pub count : steps + count_above n left ≡ count_above n list
   pub keeps : (kept : Kept) (over : Rows) (k : ℕ) → overlay (f kept) (behind_mine mine upto (flat n left) over) k

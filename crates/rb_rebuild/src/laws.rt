@@ -4,6 +4,8 @@ ghost use Rattle.rb_rebuild.specs.Laws.{LiveAreTakenBack, CommitsBegin, CommitIs
 ghost use Rattle.rb_rebuild.specs.Laws.{BoundIsWorn, CellsShowRows, QuietIsRead};
 ghost use Rattle.rb_rebuild.specs.Laws.{WatchBegins, WatchedBoundIsWorn, CommitIsWatched, NoneAboveIsLate};
 ghost use Rattle.rb_rebuild.specs.Laws.{QuietIsOld, StepsShorten};
+ghost use Rattle.rb_rebuild.specs.CopyLaws.{CopyAges, CopyBegins, CopyIsRead, CopyIsWorn, CopyOutlivesCommit};
+ghost use Rattle.rb_rebuild.specs.CopyLaws.{CopyShows, EndIsCopied, NoneIsUnseen, UnseenIsPlain};
 
 /// Each record that is taken back makes its chain shorter or ends it, over whatever bytes. A home that stands can be
 /// read. The live changes are taken back entry by entry, and none of their records is gone;
@@ -27,4 +29,20 @@ pub fn rebuild_laws()
     ensures watch { WatchBegins × WatchedBoundIsWorn }
     ensures watched { CommitIsWatched }
     ensures late { NoneAboveIsLate × QuietIsOld }
+{}
+
+/// A home from which all above a number was taken back can be kept at that number. It shows the rows at it, and can be
+/// taken further back as the block can: to the same rows, by the records that are left, and where that can't be done
+/// the block can't be taken back either. It stays so, whatever is written to its block: as records go, as looks become
+/// bounds, and as commits are made. A reader that has no changes in the block sees these rows alone.
+pub fn copy_laws()
+    ensures made { EndIsCopied }
+    ensures shown { CopyShows }
+    ensures begins { CopyBegins }
+    ensures read { CopyIsRead }
+    ensures worn { CopyIsWorn }
+    ensures aged { CopyAges }
+    ensures committed { CopyOutlivesCommit }
+    ensures plain { UnseenIsPlain }
+    ensures unseen { NoneIsUnseen }
 {}

@@ -19,4 +19,5 @@ pub mod Snapshots
 pub mod Staying
 pub mod Tables
 pub mod Taken
+pub mod Telling
 pub mod Written

@@ -61,11 +61,11 @@ module _ (h : State) (xids : List Xid) (blocks : List (List ℕ)) (stand : Block
   within : (t : ℕ) (o : Owner) → owner_at h t ≡ Some o → t < 16 * h.shape.segments
   within = owner_within h xids (segments_of h.shape blocks) (homes_of h.shape blocks) stood
 
-  owned_active : (t : ℕ) (o : Owner) → owner_at h t ≡ Some o → (slot_of segments t).state ≡ ACTIVE
+  pub owned_active : (t : ℕ) (o : Owner) → owner_at h t ≡ Some o → (slot_of segments t).state ≡ ACTIVE
   owned_active t o is = active_of h segments stand.tell.books t (within t o is) o is
 
   -- the transaction of a slot that is owned isn't that of a commit
-  apart : (i t : ℕ) (o : Owner) → i < length xids → owner_at h t ≡ Some o → get_or xids i no_xid ≡ env.xid t → ⊥
+  pub apart : (i t : ℕ) (o : Owner) → i < length xids → owner_at h t ≡ Some o → get_or xids i no_xid ≡ env.xid t → ⊥
   apart i t o lt is same = stand.tell.ids_over i t lt (within t o is) (owned_active t o is) same
 
   module _ (table k : ℕ) (first : 1 ≤ table) (last : table ≤ h.shape.tables) where

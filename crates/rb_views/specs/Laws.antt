@@ -19,6 +19,7 @@ use Rattle.rb_model.specs.State as model
 use Rattle.rb_model.specs.State.{State, cursor_of, is_table, opened, session_of, session_own}
 use Rattle.rb_model.specs.declared.mode.Mode.{Mode}
 use Rattle.rb_base.specs.declared.shape.Shape.{Shape}
+use Rattle.rb_rebuild.specs.Copies.{IsTold}
 use Rattle.rb_rebuild.specs.Late.{late_above}
 use Rattle.rb_rebuild.specs.Reading.{Reading, answer}
 use Rattle.rb_sessions.specs.Kept as kept
@@ -161,6 +162,15 @@ CursorReads = (h : State) (xids : List Xid) (blocks : List (List ℕ)) (s : ℕ)
     → 1 ≤ s → g < h.shape.blocks
     → Reading (env_of h.shape blocks) (history h xids blocks (home_in h.shape m.table g) m.own) m.own m.upto m.scn
     (homes_of h.shape blocks (home_in h.shape m.table g))
+
+-- And there the state tells of its transaction: changes are numbered from 1, and where the transaction goes on and the
+-- cursor sees changes of it, it has the reader's slot and made no commit above its snapshot.
+abbrev pub CursorIsTold : Type 0
+CursorIsTold = (h : State) (xids : List Xid) (blocks : List (List ℕ)) (s : ℕ) (name : List ℕ) (m : Cursor)
+    (c : model.Cursor) (g : ℕ)
+    → BlocksStand h xids blocks → IsCursor h xids (env_of h.shape blocks) s (record { name = name; cursor = m }) c
+    → 1 ≤ s → g < h.shape.blocks
+    → IsTold (env_of h.shape blocks) (history h xids blocks (home_in h.shape m.table g) m.own) m.own m.upto m.scn
 
 -- the rows of block g of a cursor's table, as it sees them
 abbrev pub rows_seen : State → List Xid → List (List ℕ) → Cursor → ℕ → Rows

@@ -1,5 +1,6 @@
 //! What holds of a table of sessions that remembers a state, as clauses for proofs to cite. Nothing calls it.
-ghost use Rattle.rb_views.specs.Laws.{ClosedIsRemembered, CommittedIsRemembered, CursorIsNamed, CursorReads};
+ghost use Rattle.rb_views.specs.Laws.{ClosedIsRemembered, CommittedIsRemembered};
+ghost use Rattle.rb_views.specs.Laws.{CursorIsNamed, CursorIsTold, CursorReads};
 ghost use Rattle.rb_views.specs.Laws.{CutIsRemembered, EndedIsRemembered, FetchEnds, FetchGives, FirstIsRemembered};
 ghost use Rattle.rb_views.specs.Laws.{HeldIsRemembered, IsolatedIsRemembered, LateIsMachines, LostIsBooks};
 ghost use Rattle.rb_views.specs.Laws.{OpenedIsRemembered, QueueIsRemembered, RolledBackIsRemembered};
@@ -9,9 +10,9 @@ ghost use Rattle.rb_views.specs.Laws.{SavepointIsRemembered, TakenIsRemembered, 
 /// after a mode or a savepoint is set and after a rollback to one, as a session waits or leaves the queue, and after a
 /// cursor is opened, gives a row or is closed; a new one remembers the state that a file opens to. What a cursor is
 /// asked for is the machine's: each home may be read for it, the least row behind the last one in the first home that
-/// has one is the machine's next row, and where none has one it is the end. The home of a key may be read for a write,
-/// and the first commit above a snapshot that changed the key there is the machine's. What a segment lost is what its
-/// book says.
+/// has one is the machine's next row, and where none has one it is the end. Where a cursor sees changes of a
+/// transaction that goes on, that one made none above. The home of a key may be read for a write, and the first commit
+/// above a snapshot that changed the key there is the machine's. What a segment lost is what its book says.
 pub fn view_laws()
     ensures first { FirstIsRemembered }
     ensures written { WrittenIsRemembered }
@@ -28,6 +29,7 @@ pub fn view_laws()
     ensures closed { ClosedIsRemembered }
     ensures named { CursorIsNamed }
     ensures reads { CursorReads }
+    ensures told { CursorIsTold }
     ensures gives { FetchGives }
     ensures ends { FetchEnds }
     ensures write { WriteReads }

@@ -1,8 +1,10 @@
-use Rattle.std.proofs.Common.{◌≡◌, [], Ok, not, IfErr, sym, false}
+use Rattle.std.proofs.Common.{◌≡◌, [], Ok, not, IfErr, OnOk, sym, subst, false}
 use Rattle.rb_base.specs.Logs.{load_logs, more_logs}
+use Rattle.rb_base.specs.declared.shape.Shape.{Shape}
 use Rattle.rb_cr.specs.Faults.{Because, is_failed, is_fault}
 use Rattle.rb_cr.specs.Scratches.{scratch_home}
 use Rattle.rb_rebuild.specs.Chains.{Counted}
+use Rattle.rb_rebuild.specs.Copies.{Copied}
 use Rattle.rb_rebuild.specs.Reading.{History, Reading, Worn}
 use Rattle.rb_standing.specs.Standing.{env_of, homes_of}
 use Rattle.rb_walk.specs.Walk.{Env, Home}
@@ -58,6 +60,15 @@ returns-clause-counted g c = λ told h reading. before g c told (λ env b. IfErr
 
 pub returns-clause-old : goal.returns-clause-old
 returns-clause-old g c = λ told h reading. before g c told (λ env b. IfErr c.rebuild.result (Because env c.args.snapshot.now.scn (Worn env h c.args.snapshot.now.scn b))) (c.rebuild.ensures.old told h (after g c told (IsReadAt c.args.snapshot.now h) reading))
+
+pub returns-clause-left : goal.returns-clause-left
+returns-clause-left g c = λ told h reading high.
+    let s = g.S.Store in
+    let scn = c.args.snapshot.now.scn in
+    let last = c.rebuild.new.scratch in
+    subst (λ (z : Shape). OnOk c.rebuild.result (Copied (env_of (s.shape_of c.args.store.now) (s.blocks c.args.store.now)) h.base h.rows h.list scn (scratch_home z last))) c.in-Ok.ensures.shape
+    (subst (λ (z : Env). OnOk c.rebuild.result (Copied z h.base h.rows h.list scn (scratch_home (s.shape_of c.load.new.self) last))) (loads g c told).0
+    (c.rebuild.ensures.left told h (after g c told (IsReadAt c.args.snapshot.now h) reading) high))
 
 pub returns-clause-logs : goal.returns-clause-logs
 returns-clause-logs g c =

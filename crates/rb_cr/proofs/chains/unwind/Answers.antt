@@ -40,6 +40,7 @@ loop-k-preserved g c =
     whole) in
     record {
       reads = more_reads s c.args.segments.now c.loop-k.segments c.step.new.segments true g.met.S.Segments.more_calls inv.reads c.in_ok-step.ensures.reads;
+      block = c.in_ok-step.ensures.block ∙ inv.block;
       count = omega (arith, c.tick.ensures, inv.count);
       rest = λ told. sym (step_on said.env c.args.count c.loop-k._k c.args.i c.args.xid b (Some b2) c.loop-k-test.true (took told).0) ∙ inv.rest told;
       back = λ told. unwound_more said.env c.loop-k._k c.args.i c.args.xid (scratch_home said.shape c.args.scratch.now) b (Some b2) (inv.back told) (took told).0;

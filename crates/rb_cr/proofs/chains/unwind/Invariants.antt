@@ -8,6 +8,7 @@ use Rattle.rb_cr.proofs.chains.unwind.Given as goal
 abbrev pub invariant-loop-k : goal.invariant-loop-k
 invariant-loop-k g l = record {
   reads : Reads g.S.Segments l.fn.segments l.segments true;
+  block : l.scratch.block ≡ l.fn.scratch.block;
   count : l.steps ≡ l.fn.steps + l._k;
   rest : g.S.Segments.tells → unwound (g.S.Segments.says l.fn.segments).env (l.count - l._k) l.i l.xid (scratch_home (g.S.Segments.says l.fn.segments).shape l.scratch) ≡ unwound (g.S.Segments.says l.fn.segments).env l.count l.i l.xid (scratch_home (g.S.Segments.says l.fn.segments).shape l.fn.scratch);
   back : g.S.Segments.tells → unwound (g.S.Segments.says l.fn.segments).env l._k l.i l.xid (scratch_home (g.S.Segments.says l.fn.segments).shape l.fn.scratch) ≡ Some (scratch_home (g.S.Segments.says l.fn.segments).shape l.scratch);

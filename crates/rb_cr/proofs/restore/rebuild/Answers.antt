@@ -1,3 +1,4 @@
+use Rattle.rb_rebuild.proofs.Copying.{on_ok}
 use Rattle.rb_cr.proofs.restore.rebuild.Goals as goal
 
 pub returns-clause-rows : goal.returns-clause-rows
@@ -14,3 +15,6 @@ returns-clause-old g c = λ told h reading. (c.take_all_back.ensures.told told h
 
 pub returns-clause-counted : goal.returns-clause-counted
 returns-clause-counted g c = λ told h reading. (c.take_all_back.ensures.told told h reading).stopped
+
+pub returns-clause-left : goal.returns-clause-left
+returns-clause-left g c = λ told h reading high. on_ok c.take_all_back.result (λ w. record { low = reading.low; high = high; walk = w }) (c.take_all_back.ensures.told told h reading).left

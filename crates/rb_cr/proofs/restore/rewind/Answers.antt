@@ -14,6 +14,7 @@ peel-init g c =
     let snap = c.args.snapshot.now in
     record {
       reads = no_read s c.args.segments.now c.requires (g.met.S.Segments.no_call c.args.segments.now c.requires);
+      block = refl;
       so_far = λ told base rows list st few. at_first said.env base rows list snap.own snap.upto snap.scn (scratch_home said.shape c.args.scratch.now) c.args.scratch.now.kept c.args.steps.now st few;
       goes = λ told. goes_nowhere said.env (scratch_home said.shape c.args.scratch.now) c.args.steps.now;
     }
@@ -59,6 +60,7 @@ peel-preserved g c =
     let i = c.in-Ok.top.0 in
     record {
       reads = more_reads s c.args.segments.now c.highest.new.segments c.unwind_at.new.segments true g.met.S.Segments.more_calls (more_reads s c.args.segments.now c.peel.segments c.highest.new.segments true g.met.S.Segments.more_calls c.peel.invariant.reads c.in-Ok.ensures.reads) c.in-Ok-unwind_at.ensures.reads;
+      block = c.in-Ok-unwind_at.ensures.block ∙ c.peel.invariant.block;
       so_far = λ told base rows list st few.
           let at_peel = c.peel.invariant.reads.same told refl in
           let at_top = c.in-Ok.ensures.reads.same told refl ∙ at_peel in

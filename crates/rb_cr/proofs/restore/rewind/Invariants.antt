@@ -11,6 +11,7 @@ use Rattle.rb_cr.proofs.restore.rewind.Given as goal
 abbrev pub invariant-peel : goal.invariant-peel
 invariant-peel g l = record {
   reads : Reads g.S.Segments l.fn.segments l.segments true;
+  block : l.scratch.block ≡ l.fn.scratch.block;
   goes : g.S.Segments.tells → GoesOn (g.S.Segments.says l.fn.segments) l.fn.scratch l.fn.steps l.scratch l.steps;
   so_far : g.S.Segments.tells → (base : ℕ) (rows : Rows) (list : List Commit) → Starts (g.S.Segments.says l.fn.segments).env base rows l.snapshot.scn (2 ^ 64 - 1) list (scratch_home (g.S.Segments.says l.fn.segments).shape l.fn.scratch)
       → HasRoom l.snapshot l.fn.scratch.kept (flat l.snapshot.scn list)

@@ -1,4 +1,4 @@
-use Rattle.std.proofs.Common.{rules, ◌≡◌, length, Ok, Err, refl, arith, true}
+use Rattle.std.proofs.Common.{rules, ◌≡◌, ◌∙◌, length, Ok, Err, refl, arith, true}
 use Rattle.std.proofs.Common.{subst}
 use Rattle.std.proofs.lemmas.List.{length-map}
 use Rattle.rb_cr.specs.Calls.{Said}
@@ -17,6 +17,7 @@ loop-i-init g c =
     let snap = c.args.snapshot.now in
     record {
       reads = no_read s c.args.segments.now c.requires (g.met.S.Segments.no_call c.args.segments.now c.requires);
+      block = refl;
       eight = search rules;
       so_far = λ told base rows list m lives r runs alone few. (0, λ kept. kept, omega arith, refl, starts_running said.env base rows list lives r snap.own snap.upto snap.scn (scratch_home said.shape c.args.scratch.now) m runs);
       goes = λ told. goes_nowhere said.env (scratch_home said.shape c.args.scratch.now) c.args.steps.now;
@@ -49,6 +50,7 @@ loop-i-preserved g c =
     let inv = c.loop-i.invariant in
     record {
       reads = more_reads s c.args.segments.now c.loop-i.segments c.undo_entry.new.segments true g.met.S.Segments.more_calls inv.reads c.in-Ok.ensures.reads;
+      block = c.in-Ok.ensures.block ∙ inv.block;
       eight = inv.eight;
       so_far = λ told base rows list m lives r runs alone few.
           let so = inv.so_far told base rows list m lives r runs alone few in

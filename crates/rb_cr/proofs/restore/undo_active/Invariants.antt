@@ -11,6 +11,7 @@ use Rattle.rb_cr.proofs.restore.undo_active.Given as goal
 abbrev pub invariant-loop-i : goal.invariant-loop-i
 invariant-loop-i g l = record {
   reads : Reads g.S.Segments l.fn.segments l.segments true;
+  block : l.scratch.block ≡ l.fn.scratch.block;
   eight : length l.fn.scratch.entries ≡ 8;
   goes : g.S.Segments.tells → GoesOn (g.S.Segments.says l.fn.segments) l.fn.scratch l.fn.steps l.scratch l.steps;
   so_far : g.S.Segments.tells → (base : ℕ) (rows : Rows) (list : List Commit) (m : ℕ) (lives : List (List Change)) (r : ℕ)

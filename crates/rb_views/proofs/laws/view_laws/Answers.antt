@@ -13,8 +13,10 @@ use Rattle.rb_views.proofs.Queues.{held_remembered, queue_remembered}
 use Rattle.rb_views.proofs.Readable.{write_read}
 use Rattle.rb_views.proofs.Savepoints.{cut_remembered, savepoint_remembered}
 use Rattle.rb_views.proofs.Taken as given
+use Rattle.rb_views.proofs.Telling.{told}
 use Rattle.rb_views.proofs.Written.{written_remembered}
 use Rattle.rb_views.proofs.laws.view_laws.Goals as goal
+use Rattle.rb_views.specs.Views.{home_in}
 
 pub returns-clause-first : goal.returns-clause-first
 returns-clause-first c = first_remembered
@@ -61,6 +63,9 @@ returns-clause-named c = λ h xids env table_of s name is low high. named_is h x
 
 pub returns-clause-reads : goal.returns-clause-reads
 returns-clause-reads c = λ h xids blocks s name m cursor g stand is low g_in. reads h xids blocks stand s (record { name = name; cursor = m }) cursor is g g_in
+
+pub returns-clause-told : goal.returns-clause-told
+returns-clause-told c = λ h xids blocks s name m cursor g stand is low g_in. told h xids blocks stand s (record { name = name; cursor = m }) cursor is (home_in h.shape m.table g)
 
 pub returns-clause-gives : goal.returns-clause-gives
 returns-clause-gives c = λ h xids blocks s name m cursor g key value stand is low g_in before found. gives h xids blocks stand s (record { name = name; cursor = m }) cursor is g key value before found
