@@ -1,5 +1,5 @@
 -- What a use and a put make of a table, as the cache below says it and as its own words do.
-use Rattle.std.proofs.Common.{◌≡◌, ◌≢◌, ◌⊎◌, ◌<◌, ◌≤◌, ◌-◌, ℕ, Bool, true, false, cond, [], ◌∷◌, length, take, Option, Some, None, option_map, refl, sym, ap, ◌∙◌, inl, inr, arith}
+use Rattle.std.proofs.Common.{◌≡◌, ◌≢◌, ◌⊎◌, ◌<◌, ◌≤◌, ◌-◌, ℕ, Bool, true, false, cond, [], ◌∷◌, length, take, Option, Some, None, is_some, option_map, refl, sym, ap, ◌∙◌, inl, inr, arith}
 use Rattle.std.specs.List.{IsDistinct}
 use Rattle.std.specs.Map.{keys_of, lookup_entry}
 use Rattle.std.specs.Option.{option_map_or}
@@ -33,6 +33,16 @@ module _ (key : CopyKey) where
   -- a use in the words of the cache
   pub used-promoted : (kept : KeptHomes) (most : ℕ) → table_of (promoted (same_key key) kept) most ≡ used (table_of kept most) key
   used-promoted kept most = rw (entry_under kept key) (use_is kept most (kept_under kept key))
+
+  -- a use of the latest used leaves the table as it is
+  pub used-latest : (kept : KeptHomes) (most : ℕ) → is_some (kept_under (take 1 kept) key) ≡ true
+      → used (table_of kept most) key ≡ table_of kept most
+  used-latest [] most first = refl
+  used-latest (e ∷ kept) most first = (elim (same_key key e.0) as (λ y. same_key key e.0 ≡ y
+      → used (table_of (e ∷ kept) most) key ≡ table_of (e ∷ kept) most) [
+        | true ↦ λ is. rw is (ap (λ k. table_of ((k, e.1) ∷ kept) most) (equal_keys key e.0 is))
+        | false ↦ λ is. let none = rw is at first in cc
+      ]) refl
 
   module _ (home : KeptHome) where
     put_is : (c : LruCache CopyKey KeptHome) → length c.entries ≤ c.cap → (e : Option (CopyKey × KeptHome)) → lookup_entry (same_key key) c.entries ≡ e

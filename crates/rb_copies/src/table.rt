@@ -1,6 +1,6 @@
 //! `Copies`: the kept homes of an engine, of which the one used longest ago gives way. A fetch will ask it before it
 //! rebuilds a home. They are the consistent-read copies of a buffer cache, Bridge and others, VLDB 1997.
-ghost use Rattle.std.specs.Prelude.{◌≡◌, ◌≢◌, ◌⊎◌, ◌<◌, ◌≤◌, [], ℕ, length, min};
+ghost use Rattle.std.specs.Prelude.{◌≡◌, ◌≢◌, ◌⊎◌, ◌<◌, ◌≤◌, [], ℕ, length, min, take};
 ghost use Rattle.std.specs.Prelude.{IfNone, IfOk, IfSome, IsSome, Some, is_some, option_copied};
 ghost use Rattle.std.specs.Option.{option_map_or};
 ghost use Rattle.rb_copies.specs.Copies.{IsLeast, IsTable, Serves, kept_under, table_of, used, with_copy};
@@ -80,7 +80,8 @@ impl Copies {
         ensures copy { option_copied result ≡ kept_under self.now.kept key }
         ensures sound { IsTable self.now }
     {
-        self.table.as_ref()?.peek(&key)
+        let table = self.table.as_ref()?;
+        latest(table, key).or_else(|| table.peek(&key))
     }
 
     /// Makes the home that is kept under this key the latest used, and says whether there is one.
@@ -93,7 +94,7 @@ impl Copies {
     {
         match &mut self.table {
             None => false,
-            Some(table) => table.promote(&key),
+            Some(table) => latest(table, key).is_some() || table.promote(&key),
         }
     }
 
@@ -117,6 +118,15 @@ impl Copies {
             let _ = table.put(key, home);
         }
     }
+}
+
+/// The home under this key, where it is the latest used. A scan asks for the same home again at each row, and here that
+/// takes no hash of the key.
+fn latest(table: &LruCache<CopyKey, KeptHome>, key: CopyKey) -> Option<&KeptHome>
+    ensures { option_copied result ≡ kept_under (take 1 table.now.entries) key }
+{
+    let (first, home) = table.peek_mru()?;
+    (key == *first).then_some(home)
 }
 
 /// The lesser of a number that was found, if one was, and another one.

@@ -1,13 +1,14 @@
 -- Where a build begins among the homes that are kept, and what it makes of the table.
-use Rattle.std.proofs.Common.{◌≡◌, ◌≢◌, ◌⊎◌, inl, inr, ⊎_elim, ◌≤◌, ◌==◌, ℕ, Bool, true, false, not, nat_eq, List, Option, Some, None, IfSome, IfNone, IsSome, refl, sym, ◌∙◌, ap, subst, arith}
+use Rattle.std.proofs.Common.{◌≡◌, ◌≢◌, ◌⊎◌, inl, inr, ⊎_elim, ◌≤◌, ◌==◌, ℕ, Bool, true, false, not, nat_eq, List, Option, Some, None, Ok, Err, IfSome, IfNone, IsSome, refl, sym, ◌∙◌, ap, subst, arith}
 use Rattle.std.proofs.lemmas.Bool.{eqb-true}
 use Rattle.std.proofs.lemmas.Bool.Decides.{nat_tests}
 use Rattle.std.specs.Option.{option_eq}
 use Rattle.rb_base.specs.declared.shape.Shape.{Shape}
-use Rattle.rb_copies.specs.Copies.{CopyTable, IsLeast, KeptHomes, Serves, copy_key, kept_under, with_copy}
+use Rattle.rb_copies.specs.Copies.{CopyTable, IsLeast, KeptHomes, Serves, copy_key, kept_under, used, with_copy}
 use Rattle.rb_copies.specs.declared.homes.CopyKey.{CopyKey}
 use Rattle.rb_copies.specs.declared.homes.KeptHome.{KeptHome}
-use Rattle.rb_cr.specs.Copies.{BeginsAt, IsMade, Keeps, begun}
+use Rattle.rb_cr.specs.Copies.{BeginsAt, IsMade, Keeps, Turns, begun}
+use Rattle.rb_cr.specs.declared.faults.CrFault.{CrFault}
 use Rattle.rb_cr.specs.declared.scratch.Snapshot.{Snapshot}
 
 is_some_by : (o : Option KeptHome) (x : KeptHome) → o ≡ Some x → IsSome o
@@ -74,6 +75,23 @@ module _ (shape : Shape) (blocks : List (List ℕ)) (b : ℕ) (snap : Snapshot) 
 pub put_is : (old mid new : CopyTable) (b n : ℕ) (first : Option ℕ) (home : KeptHome) → mid ≡ begun old b first → (new ≡ mid) ⊎ (new ≡ with_copy mid (copy_key b n) home)
     → (new ≡ begun old b first) ⊎ ((copy : KeptHome) × (new ≡ with_copy (begun old b first) (copy_key b n) copy))
 put_is old mid new b n first home was put = ⊎_elim (λ same. inl (same ∙ was)) (λ more. inr (home, more ∙ ap (λ (z : CopyTable). with_copy z (copy_key b n) home) was)) put
+
+-- the home at n itself was used, and nothing else
+pub turns_there : {T : Type 0} (b number n : ℕ) (x : T) (old new : CopyTable) → Serves old.kept b number n n → new ≡ used old (copy_key b n) → Turns b number n (Ok x) old new
+turns_there b number n x old new serves was = record {
+  first = Some n;
+  begins = record { serves = serves; least = λ k at. at.high };
+  refused = tt;
+  served = λ is. was;
+  put = inl was;
+}
+
+-- what a build makes of the table, a read by it makes too
+pub turns_read : {T : Type 0} (b number n : ℕ) (x : T) (old new : CopyTable) → Turns b number n (Ok (tt {0})) old new → Turns b number n (Ok x) old new
+turns_read b number n x old new turns = record { first = turns.first; begins = turns.begins; refused = tt; served = turns.served; put = turns.put }
+
+pub turns_refused : {T : Type 0} (b number n : ℕ) (fault : CrFault) (old new : CopyTable) → Turns {T = Unit {0}} b number n (Err fault) old new → Turns {T = T} b number n (Err fault) old new
+turns_refused b number n fault old new turns = record { first = turns.first; begins = turns.begins; refused = turns.refused; served = turns.served; put = turns.put }
 
 -- what is told of where a build begins
 pub if_some : {X : Type 0} (P : X → Type 0) (found : Option X) (x : X) → found ≡ Some x → IfSome found P → P x

@@ -2,6 +2,7 @@ pub mod Away
 pub mod Beyond
 pub mod Blaming
 pub mod Decoded
+pub mod EntryBytes
 pub mod Extents
 pub mod Firsts
 pub mod Found

@@ -5,6 +5,7 @@ use Rattle.rb_base.specs.declared.shape.Shape.{Shape}
 use Rattle.rb_copies.specs.Copies.{KeptHomes, copy_key, kept_under}
 use Rattle.rb_copies.specs.declared.homes.CopyKey.{CopyKey}
 use Rattle.rb_copies.specs.declared.homes.KeptHome.{KeptHome}
+use Rattle.rb_cr.specs.Clauses.{answer_to}
 use Rattle.rb_cr.specs.Copies.{BuiltAt, HasNoneIn, IsFree, IsReadWith, home_kept}
 use Rattle.rb_cr.specs.Going.{IsCopy, WentOn}
 use Rattle.rb_cr.specs.Scratches.{scratch_home}
@@ -24,6 +25,12 @@ use Rattle.rb_walk.specs.Walk.{Home, entry_at}
 module _ (shape : Shape) (blocks : List (List ℕ)) (kept : KeptHomes) (b : ℕ) (h : History) (snap : Snapshot) (read : IsReadWith shape blocks kept b h snap) (none : HasNoneIn shape blocks b snap) where
   unseen : Unseen h snap.own snap.upto snap.scn
   unseen = none_unseen (env_of shape blocks) h snap.own snap.upto snap.scn (homes_of shape blocks b) read.read read.told none
+
+  -- a home that is kept at the snapshot shows what the reader sees
+  pub kept_shows : (copy : KeptHome) → kept_under kept (copy_key b snap.scn) ≡ Some copy → (k : ℕ) → rows_in (map walk_cell copy.cells) k ≡ answer_to h snap k
+  kept_shows copy there k =
+      copy_shows (env_of shape blocks) h.base h.rows h.list snap.scn (home_kept shape b copy) (read.copies snap.scn copy there) k
+      ∙ sym (unseen_plain h snap.own snap.upto snap.scn unseen k)
 
   module _ (m : ℕ) (copy : KeptHome) (there : kept_under kept (copy_key b m) ≡ Some copy) (s : Scratch) (home : scratch_home shape s ≡ home_kept shape b copy) where
     pub copied_at : Copied (env_of shape blocks) h.base h.rows h.list m (scratch_home shape s)

@@ -1,5 +1,6 @@
--- Homes that are kept of a block, as the walk sees them, and what a build that may begin at one promises.
-use Rattle.std.specs.Prelude.{◌≡◌, ◌⊎◌, ◌≤◌, ◌+◌, ℕ, false, List}
+-- Homes that are kept of a block, as the walk sees them, and what a build that may begin at one promises, or a read of
+-- its rows.
+use Rattle.std.specs.Prelude.{◌≡◌, ◌⊎◌, ◌≤◌, ◌+◌, ℕ, Bool, true, false, List, map}
 use Rattle.std.specs.Prelude.{Option, Some, None, Result, OnOk, IfErr}
 use Rattle.rb_base.specs.Blocks.{block_of}
 use Rattle.rb_base.specs.Fields.{number_at}
@@ -10,15 +11,18 @@ use Rattle.rb_copies.specs.declared.homes.KeptHome.{KeptHome}
 use Rattle.rb_cr.specs.Builds.{IsHomeOld, IsHomeRead}
 use Rattle.rb_cr.specs.Clauses.{answer_to}
 use Rattle.rb_cr.specs.Faults.{is_fault}
+use Rattle.rb_cr.specs.Rows.{IsNext, IsWanted}
 use Rattle.rb_cr.specs.Scratches.{scratch_home, shown_by}
 use Rattle.rb_cr.specs.declared.faults.CrFault.{CrFault}
+use Rattle.rb_cr.specs.declared.rows.Wanted.{Wanted}
 use Rattle.rb_cr.specs.declared.scratch.Scratch.{Scratch}
 use Rattle.rb_cr.specs.declared.scratch.Snapshot.{Snapshot}
+use Rattle.rb_model.specs.declared.row.Row.{Row}
 use Rattle.rb_rebuild.specs.Chains.{Counted}
 use Rattle.rb_rebuild.specs.Copies.{Copied, HasNone, IsTold}
-use Rattle.rb_rebuild.specs.Heights.{Over}
-use Rattle.rb_rebuild.specs.Reading.{History, needed}
-use Rattle.rb_standing.specs.Says.{walk_home}
+use Rattle.rb_rebuild.specs.Heights.{AtMost, Over}
+use Rattle.rb_rebuild.specs.Reading.{History, needed, rows_in}
+use Rattle.rb_standing.specs.Says.{walk_cell, walk_home}
 use Rattle.rb_standing.specs.Standing.{env_of, homes_of}
 use Rattle.rb_walk.specs.Walk.{Env, Home, entry_at, last}
 
@@ -33,6 +37,10 @@ lsn_at blocks b = number_at (block_of blocks b) 0 8
 -- the reader has no changes of its own in block b, as far as this tells
 abbrev pub HasNoneIn : Shape → List (List ℕ) → ℕ → Snapshot → Type 0
 HasNoneIn shape blocks b snap = HasNone (env_of shape blocks) (homes_of shape blocks b) snap.own snap.upto
+
+-- no change of block b is above n
+abbrev pub IsQuiet : Shape → List (List ℕ) → (b n : ℕ) → Type 0
+IsQuiet shape blocks b n = (j : ℕ) → AtMost (env_of shape blocks) n n (entry_at (homes_of shape blocks b) j)
 
 -- what is kept of block b stands for what a history has at the numbers
 abbrev pub CopiesStand : Env → Shape → History → KeptHomes → ℕ → Type 0
@@ -69,6 +77,13 @@ pub record IsMade (shape : Shape) (blocks : List (List ℕ)) (kept : KeptHomes) 
   pub stands : (h : History) → IsReadWith shape blocks kept b h snap → snap.scn ≤ last h.base h.list
       → Copied (env_of shape blocks) h.base h.rows h.list snap.scn (home_kept shape b copy)
 
+-- the next row of a home that is kept, or that it has none
+pub record NextKept (wanted : Wanted) (copy : KeptHome) (result : Bool) (old new : Row) : Type 0 where
+  pub given : result ≡ true → IsNext wanted.after wanted.lo wanted.hi (rows_in (map walk_cell copy.cells)) new
+  pub none : result ≡ false → (k : ℕ) → IsWanted wanted.after wanted.lo wanted.hi k
+      → rows_in (map walk_cell copy.cells) k ≡ None
+  pub kept : result ≡ false → new ≡ old
+
 -- each home that is kept after a build was kept before, or is this block's at the snapshot
 abbrev pub Keeps : Shape → List (List ℕ) → ℕ → Snapshot → (old new : KeptHomes) → Type 0
 Keeps shape blocks b snap old new = (key : CopyKey) (copy : KeptHome) → kept_under new key ≡ Some copy
@@ -84,9 +99,9 @@ abbrev pub begun : CopyTable → ℕ → Option ℕ → CopyTable
 begun table b None = table
 begun table b (Some k) = used table (copy_key b k)
 
--- What a build of block b at n makes of the table: the home at which it begins is used. Where it comes to an end, and
--- didn't begin at n itself, the home at n is put, if there is memory for it.
-pub record Turns (b number n : ℕ) (result : Result (Unit {0}) CrFault) (old new : CopyTable) : Type 0 where
+-- What a build of block b at n makes of the table, or a read by it: the home at which it begins is used. Where it comes
+-- to an end, and didn't begin at n itself, the home at n is put, if there is memory for it.
+pub record Turns {T : Type 0} (b number n : ℕ) (result : Result T CrFault) (old new : CopyTable) : Type 0 where
   pub first : Option ℕ
   pub begins : BeginsAt old.kept b number n first
   pub refused : IfErr result (λ fault. new ≡ begun old b first)

@@ -1,7 +1,9 @@
 -- Which row of a home is the next one.
 use Rattle.std.specs.Prelude.{◌≡◌, ◌<◌, ◌≤◌, ◌==◌, ℕ, if◌then◌else◌, is_some, true}
-use Rattle.std.specs.Prelude.{List, [], ◌∷◌, get_or, map, Option, Some, None}
-use Rattle.rb_heap.specs.Homes.{home_of}
+use Rattle.std.specs.Prelude.{List, [], ◌∷◌, get_or, length, map, Option, Some, None}
+use Rattle.rb_cell.specs.declared.cell.Cell.{Cell}
+use Rattle.rb_cell.specs.declared.cell.TheConstants.{ROW}
+use Rattle.rb_heap.specs.Homes.{empty_cell, home_of}
 use Rattle.rb_model.specs.declared.row.Row.{Row}
 use Rattle.rb_rebuild.specs.Keeping.{Kept}
 use Rattle.rb_rebuild.specs.Reading.{rows_in}
@@ -31,9 +33,27 @@ IsFound after lo hi rows key = IsWanted after lo hi key × (is_some (rows key) �
 abbrev pub Reaches : Option ℕ → ℕ → Type 0
 Reaches found key = (least : ℕ) × (found ≡ Some least) × (least ≤ key)
 
--- the rows that a block's cells show as they stand
+-- the rows that cells show as they stand
+abbrev pub cell_rows : List Cell → Rows
+cell_rows cells = rows_in (map walk_cell cells)
+
+-- and those of a block
 abbrev pub block_rows : List ℕ → Rows
-block_rows block = rows_in (map walk_cell (home_of block).cells)
+block_rows block = cell_rows (home_of block).cells
+
+-- the cell shows the row of its key, which is wanted: none before it has one of that key
+pub record ShowsWanted (after : Option ℕ) (lo hi : ℕ) (cells : List Cell) (c : ℕ) : Type 0 where
+  pub there : c < length cells
+  pub state : (get_or cells c empty_cell).state ≡ ROW
+  pub wanted : IsWanted after lo hi (get_or cells c empty_cell).key
+  pub first : (j : ℕ) → j < c → (get_or cells j empty_cell).state ≡ ROW
+      → (get_or cells j empty_cell).key ≡ (get_or cells c empty_cell).key → ⊥
+
+-- of the first n cells, each with a row that is wanted has no lesser key than the one that was found
+abbrev pub NoneLesser : Option ℕ → ℕ → ℕ → List Cell → ℕ → Option ℕ → Type 0
+NoneLesser after lo hi cells n found = (j : ℕ) → j < n → (get_or cells j empty_cell).state ≡ ROW
+    → IsWanted after lo hi (get_or cells j empty_cell).key
+    → (c : ℕ) × (found ≡ Some c) × ((get_or cells c empty_cell).key ≤ (get_or cells j empty_cell).key)
 
 -- the key of the row that was kept as the i-th, from 0 on
 abbrev pub kept_key : Kept → ℕ → ℕ

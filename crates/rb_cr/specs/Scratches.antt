@@ -2,6 +2,7 @@
 use Rattle.std.specs.Prelude.{◌&&◌, ℕ, not, if◌then◌else◌, List, [], ◌∷◌, ◌++◌, get_or, map}
 use Rattle.std.specs.Prelude.{Option}
 use Rattle.rb_base.specs.declared.shape.Shape.{Shape}
+use Rattle.rb_cell.specs.declared.cell.Cell.{Cell}
 use Rattle.rb_cr.specs.Records.{maker_of}
 use Rattle.rb_cr.specs.declared.records.SegmentRecord.{SegmentRecord}
 use Rattle.rb_cr.specs.declared.scratch.Scratch.{Scratch}
@@ -16,8 +17,11 @@ abbrev pub scratch_home : Shape → Scratch → Home
 scratch_home shape s = walk_home shape s.block (record { entries = s.entries; cells = s.cells })
 
 -- what is kept lies over what the cells show
+abbrev pub shown_over : List Cell → Kept → Rows
+shown_over cells kept = overlay kept (rows_in (map walk_cell cells))
+
 abbrev pub shown_by : Scratch → Rows
-shown_by s = overlay s.kept (rows_in (map walk_cell s.cells))
+shown_by s = shown_over s.cells s.kept
 
 -- the row that a decoded home shows of this key in this cell
 abbrev pub shown_in : Scratch → ℕ → ℕ → Option (List ℕ)

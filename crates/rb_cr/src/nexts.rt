@@ -1,12 +1,17 @@
 //! The next row of a block of a store as it was at a snapshot. Whoever reads rows in the order of their keys calls it.
-ghost use Rattle.std.specs.Prelude.{[], ◌≡◌, ◌<◌, ℕ, true, false, not, length, None, IfOk, IfErr};
+ghost use Rattle.std.specs.Prelude.{[], ◌≡◌, ◌<◌, ℕ, true, false, not, length, None, Some};
+ghost use Rattle.std.specs.Prelude.{IfErr, IfNone, IfOk, IfSome};
 ghost use Rattle.std.specs.Result.{is_err};
-ghost use Rattle.rb_base.specs.Blocks.{shape_blocks};
+ghost use Rattle.rb_base.specs.Blocks.{AreBlocks, shape_blocks};
 ghost use Rattle.rb_base.specs.Logs.{Logs};
 ghost use Rattle.rb_base.specs.declared.shape.Shape.{Shape};
+ghost use Rattle.rb_copies.specs.Copies.{Serves, kept_under};
+ghost use Rattle.rb_copies.specs.declared.homes.KeptHome.{KeptHome};
 ghost use Rattle.rb_cr.specs.Builds.{IsHomeRead, IsHomeOld};
 ghost use Rattle.rb_cr.specs.Clauses.{answer_to};
-ghost use Rattle.rb_cr.specs.Faults.{is_failed};
+ghost use Rattle.rb_cr.specs.Copies.{HasNoneIn, IsQuiet, IsReadWith, Keeps, NextKept, ServesAt, Turns};
+ghost use Rattle.rb_cr.specs.Copies.{lsn_at};
+ghost use Rattle.rb_cr.specs.Faults.{is_failed, is_fault};
 ghost use Rattle.rb_cr.specs.Reads.{Reads};
 ghost use Rattle.rb_cr.specs.Rows.{IsNext, IsWanted};
 ghost use Rattle.rb_cr.specs.Scratches.{scratch_home};
@@ -14,19 +19,20 @@ ghost use Rattle.rb_heap.specs.Homes.{home_of};
 ghost use Rattle.rb_rebuild.specs.Heights.{AtMost};
 ghost use Rattle.rb_rebuild.specs.Reading.{History};
 ghost use Rattle.rb_standing.specs.Says.{walk_entry, walk_home};
-ghost use Rattle.rb_standing.specs.Standing.{env_of, homes_of};
 ghost use Rattle.rb_walk.specs.Walk.{Env, entry_at};
 
 use crate::blocks::build;
 use crate::faults::CrFault;
 use crate::heights::{Top, greatest};
-use crate::plain::next_plain;
+use crate::plain::{BlockCells, HomeCells, next_plain};
 use crate::rows::Wanted;
 use crate::scratch::{Scratch, Snapshot};
 use crate::segments::Segments;
+use crate::shared::{build_shared, shared_number};
 use crate::steps::Steps;
-use rb_base::{BlockNo, Failed, Scn, Store, UNIT};
-use rb_itl::{ENTRIES, Entry, OPEN, entry};
+use rb_base::{BlockNo, Failed, Lsn, Scn, Store, UNIT};
+use rb_copies::{Copies, CopyKey};
+use rb_itl::{BOUND, ENTRIES, EXACT, Entry, OPEN, entry};
 use rb_model::Row;
 use std::marker::Brand;
 use std::sync::ledger::{Blank, Ledger};
@@ -70,8 +76,31 @@ fn all_told_below(block: &[u8], scn: Scn) -> bool
     true
 }
 
+/// Whether an entry says by itself that it is above a snapshot, however its transaction stands.
+fn is_told_above(entry: &Entry, scn: Scn) -> bool
+    ensures { result ≡ true → (shape : Shape) (env : Env) → AtMost env scn scn (walk_entry shape entry.now) → ⊥ }
+{
+    (entry.kind == EXACT || entry.kind == BOUND) && entry.number > scn
+}
+
+/// Whether some entry of a block of rows says so. Most blocks that were changed behind the snapshot have an entry with
+/// that commit's number, and no header is looked at.
+fn any_told_above(block: &[u8], scn: Scn) -> bool
+    requires { length block.now ≡ UNIT }
+    ensures { result ≡ true → (shape : Shape) (env : Env) (b : ℕ) → ((j : ℕ)
+        → AtMost env scn scn (entry_at (walk_home shape b (home_of block.now)) j)) → ⊥ }
+{
+    for index in 0..ENTRIES {
+        if is_told_above(&entry(block, index), scn) {
+            return true;
+        }
+    }
+    false
+}
+
 /// Whether no entry of a block's home is above a snapshot. Its entries alone are read for that, and how their
-/// transactions stand where one is Open or tells a greater number.
+/// transactions stand where one is Open and no other is told to be above. Only then are they decoded into the scratch:
+/// a scan asks this for each row.
 pub(crate) fn is_plain<S: Store>(
     store: &mut S,
     block: BlockNo,
@@ -80,35 +109,33 @@ pub(crate) fn is_plain<S: Store>(
 ) -> Result<bool, Failed>
     requires going { S.failed store.old ≡ false }
     requires there { block < shape_blocks (S.shape_of store.old) }
-    ensures told { S.tells → IfOk result (λ plain. plain ≡ true → (j : ℕ)
-        → AtMost (env_of (S.shape_of store.old) (S.blocks store.old)) scn scn
-        (entry_at (homes_of (S.shape_of store.old) (S.blocks store.old) block) j)) }
-    ensures busy { S.tells → IfOk result (λ plain. plain ≡ false → ((j : ℕ)
-        → AtMost (env_of (S.shape_of store.old) (S.blocks store.old)) scn scn
-        (entry_at (homes_of (S.shape_of store.old) (S.blocks store.old) block) j)) → ⊥) }
+    ensures told { S.tells → IfOk result (λ plain. plain ≡ true
+        → IsQuiet (S.shape_of store.old) (S.blocks store.old) block scn) }
+    ensures busy { S.tells → IfOk result (λ plain. plain ≡ false
+        → IsQuiet (S.shape_of store.old) (S.blocks store.old) block scn → ⊥) }
     ensures logs { Logs S.Store store.old store.new [] (not (is_err result)) }
 {
     store.load(block)?;
     if all_told_below(store.block(), scn) {
         return Ok(true);
     }
+    if any_told_above(store.block(), scn) {
+        return Ok(false);
+    }
     scratch.decode_entries(store.block());
     is_quiet(store, scratch, scn)
 }
 
-/// The next row of a home that is rebuilt. The undo records are counted in a ledger that nobody reads.
-fn next_rebuilt<S: Store, L: Ledger>(
+/// The next row of a home that is rebuilt from the block.
+fn next_alone<S: Store, L: Ledger>(
     store: &mut S,
     block: BlockNo,
     snapshot: &Snapshot,
     wanted: Wanted,
     scratch: &mut Scratch,
     row: &mut Row,
-    blank: Blank,
+    steps: &mut Steps<L>,
 ) -> Result<bool, CrFault>
-    requires name { blank.name ≡ L.name }
-    requires parts { blank.parts ≡ L.parts }
-    requires some { 0 < blank.parts }
     requires going { S.failed store.old ≡ false }
     requires there { block < shape_blocks (S.shape_of store.old) }
     ensures given { S.tells → (h : History) → IsHomeRead (S.shape_of store.old) (S.blocks store.old) block h
@@ -123,16 +150,144 @@ fn next_rebuilt<S: Store, L: Ledger>(
     ensures same { IfErr result (λ fault. row.new ≡ row.old) }
     ensures logs { Logs S.Store store.old store.new [] (not (is_failed result)) }
 {
-    let mut steps = Steps::<L>::new(blank);
-    match build(store, block, snapshot, scratch, &mut steps) {
+    match build(store, block, snapshot, scratch, steps) {
         Err(fault) => Err(fault),
         Ok(()) => Ok(scratch.next(wanted.after, wanted.lo, wanted.hi, row)),
     }
 }
 
+/// The next row of the home that is kept under a key, where it has this log number. It is read in its place.
+fn next_kept(
+    copies: &Copies,
+    key: CopyKey,
+    number: Lsn,
+    wanted: Wanted,
+    row: &mut Row,
+) -> Option<bool>
+    ensures some { IfSome result (λ found. (copy : KeptHome) × (kept_under copies.now.kept key ≡ Some copy)
+        × (copy.number ≡ number) × NextKept wanted copy found row.old row.new) }
+    ensures none { IfNone result ((copy : KeptHome) → kept_under copies.now.kept key ≡ Some copy
+        → copy.number ≡ number → ⊥) }
+    ensures same { IfNone result (row.new ≡ row.old) }
+{
+    match copies.peek(key) {
+        Some(home) if home.number == number => {
+            let cells = HomeCells { cells: &home.cells };
+            Some(next_plain(&cells, wanted, row))
+        }
+        _ => None,
+    }
+}
+
+/// The next row for a reader without changes of its own in the block, which has this log number: of the home that is
+/// kept at the snapshot, or else of one that is rebuilt.
+fn next_shared<S: Store, L: Ledger>(
+    store: &mut S,
+    block: BlockNo,
+    number: Lsn,
+    snapshot: &Snapshot,
+    wanted: Wanted,
+    scratch: &mut Scratch,
+    copies: &mut Copies,
+    row: &mut Row,
+    steps: &mut Steps<L>,
+) -> Result<bool, CrFault>
+    requires going { S.failed store.old ≡ false }
+    requires there { block < shape_blocks (S.shape_of store.old) }
+    requires whole { S.tells → AreBlocks (S.shape_of store.old) (S.blocks store.old) }
+    requires number { S.tells → number ≡ lsn_at (S.blocks store.old) block }
+    requires none { S.tells → HasNoneIn (S.shape_of store.old) (S.blocks store.old) block snapshot.now }
+    ensures given { S.tells → (h : History)
+        → IsReadWith (S.shape_of store.old) (S.blocks store.old) copies.old.kept block h snapshot.now
+        → IfOk result (λ found. found ≡ true
+        → IsNext wanted.after wanted.lo wanted.hi (answer_to h snapshot.now) row.new) }
+    ensures none { S.tells → (h : History)
+        → IsReadWith (S.shape_of store.old) (S.blocks store.old) copies.old.kept block h snapshot.now
+        → IfOk result (λ found. found ≡ false → (k : ℕ)
+        → IsWanted wanted.after wanted.lo wanted.hi k → answer_to h snapshot.now k ≡ None) }
+    ensures old { S.tells → (h : History)
+        → IsReadWith (S.shape_of store.old) (S.blocks store.old) copies.old.kept block h snapshot.now
+        → IfErr result (IsHomeOld (S.shape_of store.old) (S.blocks store.old) block h snapshot.now) }
+    ensures kept { IfOk result (λ found. found ≡ false → row.new ≡ row.old) }
+    ensures same { IfErr result (λ fault. row.new ≡ row.old) }
+    ensures passed_over { IfErr result (λ fault.
+        Serves copies.old.kept block number snapshot.now.scn snapshot.now.scn → ⊥) }
+    ensures in_place { Serves copies.old.kept block number snapshot.now.scn snapshot.now.scn
+        → scratch.new.cells ≡ scratch.old.cells }
+    ensures turns { Turns block number snapshot.now.scn result copies.old copies.new }
+    ensures keeps { S.tells → Keeps (S.shape_of store.old) (S.blocks store.old) block snapshot.now
+        copies.old.kept copies.new.kept }
+    ensures logs { Logs S.Store store.old store.new [] (not (is_failed result)) }
+{
+    let scn = snapshot.scn;
+    let key = CopyKey { block, scn };
+    if let Some(found) = next_kept(copies, key, number, wanted, row) {
+        copies.touch(key);
+        return Ok(found);
+    }
+    match build_shared(store, block, number, snapshot, scratch, copies, steps) {
+        Err(fault) => Err(fault),
+        Ok(()) => Ok(scratch.next(wanted.after, wanted.lo, wanted.hi, row)),
+    }
+}
+
+/// The next row of a home in which something is above the snapshot: of one that is kept at the snapshot and serves, or
+/// else of one that is rebuilt. The undo records are counted in a ledger that nobody reads.
+fn next_rebuilt<S: Store, L: Ledger>(
+    store: &mut S,
+    block: BlockNo,
+    snapshot: &Snapshot,
+    wanted: Wanted,
+    scratch: &mut Scratch,
+    copies: &mut Copies,
+    row: &mut Row,
+    blank: Blank,
+) -> Result<bool, CrFault>
+    requires name { blank.name ≡ L.name }
+    requires parts { blank.parts ≡ L.parts }
+    requires some { 0 < blank.parts }
+    requires going { S.failed store.old ≡ false }
+    requires there { block < shape_blocks (S.shape_of store.old) }
+    ensures given { S.tells → (h : History)
+        → IsReadWith (S.shape_of store.old) (S.blocks store.old) copies.old.kept block h snapshot.now
+        → IfOk result (λ found. found ≡ true
+        → IsNext wanted.after wanted.lo wanted.hi (answer_to h snapshot.now) row.new) }
+    ensures none { S.tells → (h : History)
+        → IsReadWith (S.shape_of store.old) (S.blocks store.old) copies.old.kept block h snapshot.now
+        → IfOk result (λ found. found ≡ false → (k : ℕ)
+        → IsWanted wanted.after wanted.lo wanted.hi k → answer_to h snapshot.now k ≡ None) }
+    ensures old { S.tells → (h : History)
+        → IsReadWith (S.shape_of store.old) (S.blocks store.old) copies.old.kept block h snapshot.now
+        → IfErr result (IsHomeOld (S.shape_of store.old) (S.blocks store.old) block h snapshot.now) }
+    ensures kept { IfOk result (λ found. found ≡ false → row.new ≡ row.old) }
+    ensures same { IfErr result (λ fault. row.new ≡ row.old) }
+    ensures passed_over { S.tells → IfErr result (λ fault. is_fault fault ≡ false
+        → ServesAt (S.shape_of store.old) (S.blocks store.old) copies.old.kept block snapshot.now
+        snapshot.now.scn → ⊥) }
+    ensures keeps { S.tells → Keeps (S.shape_of store.old) (S.blocks store.old) block snapshot.now
+        copies.old.kept copies.new.kept }
+    ensures turns { S.tells → is_failed result ≡ false
+        → HasNoneIn (S.shape_of store.old) (S.blocks store.old) block snapshot.now
+        → Turns block (lsn_at (S.blocks store.old) block) snapshot.now.scn result copies.old copies.new }
+    ensures unshared { S.tells → (HasNoneIn (S.shape_of store.old) (S.blocks store.old) block snapshot.now → ⊥)
+        → copies.new ≡ copies.old }
+    ensures logs { Logs S.Store store.old store.new [] (not (is_failed result)) }
+{
+    let mut steps = Steps::<L>::new(blank);
+    match shared_number(store, block, snapshot, scratch) {
+        Err(_) => Err(CrFault::Failed),
+        Ok(None) => next_alone(store, block, snapshot, wanted, scratch, row, &mut steps),
+        Ok(Some(number)) => next_shared(
+            store, block, number, snapshot, wanted, scratch, copies, row, &mut steps,
+        ),
+    }
+}
+
 /// Puts the row of the least key that is asked for, as the block showed it at a snapshot, into `row`; false where it
 /// showed none, and the row stays as it was. Where no change of the block is above the snapshot its row is read as it
-/// stands, and no other is copied; else the home is rebuilt in the scratch. What this has afterwards is open.
+/// stands, and no other is copied: that needs no kept home and makes none. Else, where a home is kept at the snapshot
+/// that serves the reader, the row is read from it in its place: that is never `TooOld`, whatever was given up since.
+/// Else the home is rebuilt in the scratch, as `build_with` does it, and kept. What the scratch has afterwards is open.
 /// `TooOld` only where what the rebuild needs was given up by a segment, above the snapshot; `Failed` only where a call
 /// failed. The store is given no group.
 pub fn next_at<S: Store>(
@@ -141,20 +296,39 @@ pub fn next_at<S: Store>(
     snapshot: &Snapshot,
     wanted: Wanted,
     scratch: &mut Scratch,
+    copies: &mut Copies,
     row: &mut Row,
 ) -> Result<bool, CrFault>
     requires going { S.failed store.old ≡ false }
     requires there { block < shape_blocks (S.shape_of store.old) }
-    ensures given { S.tells → (h : History) → IsHomeRead (S.shape_of store.old) (S.blocks store.old) block h
-        snapshot.now → IfOk result (λ found. found ≡ true
+    ensures given { S.tells → (h : History)
+        → IsReadWith (S.shape_of store.old) (S.blocks store.old) copies.old.kept block h snapshot.now
+        → IfOk result (λ found. found ≡ true
         → IsNext wanted.after wanted.lo wanted.hi (answer_to h snapshot.now) row.new) }
-    ensures none { S.tells → (h : History) → IsHomeRead (S.shape_of store.old) (S.blocks store.old) block h
-        snapshot.now → IfOk result (λ found. found ≡ false → (k : ℕ)
+    ensures none { S.tells → (h : History)
+        → IsReadWith (S.shape_of store.old) (S.blocks store.old) copies.old.kept block h snapshot.now
+        → IfOk result (λ found. found ≡ false → (k : ℕ)
         → IsWanted wanted.after wanted.lo wanted.hi k → answer_to h snapshot.now k ≡ None) }
-    ensures old { S.tells → (h : History) → IsHomeRead (S.shape_of store.old) (S.blocks store.old) block h
-        snapshot.now → IfErr result (IsHomeOld (S.shape_of store.old) (S.blocks store.old) block h snapshot.now) }
+    ensures old { S.tells → (h : History)
+        → IsReadWith (S.shape_of store.old) (S.blocks store.old) copies.old.kept block h snapshot.now
+        → IfErr result (IsHomeOld (S.shape_of store.old) (S.blocks store.old) block h snapshot.now) }
     ensures kept { IfOk result (λ found. found ≡ false → row.new ≡ row.old) }
     ensures same { IfErr result (λ fault. row.new ≡ row.old) }
+    ensures passed_over { S.tells → IfErr result (λ fault. is_fault fault ≡ false
+        → ServesAt (S.shape_of store.old) (S.blocks store.old) copies.old.kept block snapshot.now
+        snapshot.now.scn → ⊥) }
+
+    // What becomes of the homes that are kept.
+    ensures keeps { S.tells → Keeps (S.shape_of store.old) (S.blocks store.old) block snapshot.now
+        copies.old.kept copies.new.kept }
+    ensures quiet { S.tells → IsQuiet (S.shape_of store.old) (S.blocks store.old) block snapshot.now.scn
+        → copies.new ≡ copies.old }
+    ensures turns { S.tells → is_failed result ≡ false
+        → (IsQuiet (S.shape_of store.old) (S.blocks store.old) block snapshot.now.scn → ⊥)
+        → HasNoneIn (S.shape_of store.old) (S.blocks store.old) block snapshot.now
+        → Turns block (lsn_at (S.blocks store.old) block) snapshot.now.scn result copies.old copies.new }
+    ensures unshared { S.tells → (HasNoneIn (S.shape_of store.old) (S.blocks store.old) block snapshot.now → ⊥)
+        → copies.new ≡ copies.old }
     ensures logs { Logs S.Store store.old store.new [] (not (is_failed result)) }
 {
     match is_plain(store, block, snapshot.scn, scratch) {
@@ -166,6 +340,7 @@ pub fn next_at<S: Store>(
                 snapshot,
                 wanted,
                 scratch,
+                copies,
                 row,
                 Blank::new(1),
             );
@@ -176,6 +351,11 @@ pub fn next_at<S: Store>(
     // loaded once more.
     match store.load(block) {
         Err(_) => Err(CrFault::Failed),
-        Ok(()) => Ok(next_plain(store.block(), wanted, row)),
+        Ok(()) => {
+            let cells = BlockCells {
+                block: store.block(),
+            };
+            Ok(next_plain(&cells, wanted, row))
+        }
     }
 }

@@ -1,82 +1,150 @@
-//! The rows of a home as its block has them, in the order of their keys. `next_at` reads them where no change of the
-//! block is above the snapshot.
-ghost use Rattle.std.specs.Prelude.{◌≡◌, ◌<◌, ◌≤◌, ℕ, true, false, length, None, IfSome};
-ghost use Rattle.rb_cell.specs.Cells.{cell_at};
-ghost use Rattle.rb_cr.specs.Records.{row_items};
-ghost use Rattle.rb_cr.specs.Rows.{IsNext, IsWanted, IsFound, Reaches, block_rows};
+//! The rows of a home as its cells stand, in the order of their keys. `next_at` reads them so where no change of the
+//! block is above the snapshot, and from a home that is kept at the snapshot.
+ghost use Rattle.std.specs.Prelude.{◌≡◌, ◌<◌, ◌+◌, ℕ, List, true, false, get_or, length, None, IfSome};
+ghost use Rattle.rb_base.specs.declared.sizes.TheConstants.{UNIT};
+ghost use Rattle.rb_cr.specs.Rows.{IsNext, IsWanted, NoneLesser, ShowsWanted, cell_rows};
+ghost use Rattle.rb_cell.specs.declared.cell.Cell.{Cell};
+ghost use Rattle.rb_heap.specs.Homes.{empty_cell, home_of};
 
+use crate::kept::copied;
 use crate::rows::Wanted;
 use arrayvec::ArrayVec;
 use rb_base::{UNIT, VALUE_BYTES};
-use rb_cell::{CELLS, ROW, cells, front};
+use rb_cell::{CELLS, Cell, CellFront, ROW, cells, front};
 use rb_model::Row;
 
-/// The row of a key, as the first cell with one shows it.
-fn value_at(block: &[u8], key: u64) -> Option<ArrayVec<u8, VALUE_BYTES>>
-    requires { length block.now ≡ UNIT }
-    ensures { row_items result ≡ block_rows block.now key }
-{
-    for c in 0..CELLS {
-        let head = front(block, c);
-        if head.state == ROW && key == head.key {
-            return Some(cells(block, c).value);
+/// Cells whose rows are read as they stand.
+pub(crate) trait PlainCells {
+    /// They can be read.
+    ghost ready: { Self → Type 0 };
+
+    /// All of them, in their order.
+    ghost all: { Self → List Cell };
+
+    /// How many there are.
+    fn count(&self) -> usize
+        requires { ready self.now }
+        ensures { result ≡ length (all self.now) };
+
+    /// What cell `c` begins with.
+    fn front(&self, c: usize) -> CellFront
+        requires ready { ready self.now }
+        requires within { c < length (all self.now) }
+        ensures state { result.state ≡ (get_or (all self.now) c empty_cell).state }
+        ensures key { result.key ≡ (get_or (all self.now) c empty_cell).key };
+
+    /// The value of cell `c`.
+    fn value(&self, c: usize) -> ArrayVec<u8, VALUE_BYTES>
+        requires ready { ready self.now }
+        requires within { c < length (all self.now) }
+        ensures { result.items ≡ (get_or (all self.now) c empty_cell).value.items };
+}
+
+/// A block of rows as its cells.
+#[derive(Drop)]
+pub(crate) struct BlockCells<'a> {
+    pub(crate) block: &'a [u8],
+}
+
+impl<'a> PlainCells for BlockCells<'a> {
+    ghost ready = { λ cells. length cells.block.now ≡ UNIT };
+
+    ghost all = { λ cells. (home_of cells.block.now).cells };
+
+    fn count(&self) -> usize {
+        CELLS as usize
+    }
+
+    fn front(&self, c: usize) -> CellFront {
+        front(self.block, c as u8)
+    }
+
+    fn value(&self, c: usize) -> ArrayVec<u8, VALUE_BYTES> {
+        cells(self.block, c as u8).value
+    }
+}
+
+/// The cells of a home that is in memory.
+#[derive(Drop)]
+pub(crate) struct HomeCells<'a> {
+    pub(crate) cells: &'a [Cell],
+}
+
+impl<'a> PlainCells for HomeCells<'a> {
+    ghost ready = { λ _. Unit {0} };
+
+    ghost all = { λ home. home.cells.now };
+
+    fn count(&self) -> usize {
+        self.cells.len()
+    }
+
+    fn front(&self, c: usize) -> CellFront {
+        let cell = &self.cells[c];
+        CellFront {
+            state: cell.state,
+            lock: cell.lock,
+            key: cell.key,
         }
     }
-    None
+
+    fn value(&self, c: usize) -> ArrayVec<u8, VALUE_BYTES> {
+        copied(&self.cells[c].value)
+    }
 }
 
-/// The lesser of a key that was found and that of a cell, where this cell holds a row that is asked for.
-fn lesser_at(block: &[u8], least: Option<u64>, c: u8, wanted: Wanted) -> Option<u64>
-    requires length { length block.now ≡ UNIT }
-    requires within { c < CELLS }
-    ensures found { IfSome least (λ k. IsFound wanted.after wanted.lo wanted.hi (block_rows block.now) k)
-        → IfSome result (λ k. IsFound wanted.after wanted.lo wanted.hi (block_rows block.now) k) }
-    ensures stays { (k : ℕ) → Reaches least k → Reaches result k }
-    ensures lower { (cell_at block.now c).state ≡ ROW
-        → IsWanted wanted.after wanted.lo wanted.hi (cell_at block.now c).key
-        → Reaches result (cell_at block.now c).key }
+/// The one of two cells that has the lesser key, of the first where they are equal: the one that was found, where one
+/// was, and `c`, where that holds a row that is asked for.
+fn lesser_at<C: PlainCells>(
+    cells: &C,
+    found: Option<usize>,
+    c: usize,
+    wanted: Wanted,
+) -> Option<usize>
+    requires ready { C.ready cells.now }
+    requires within { c < length (C.all cells.now) }
+    requires found { IfSome found (ShowsWanted wanted.after wanted.lo wanted.hi (C.all cells.now)) }
+    requires lesser { NoneLesser wanted.after wanted.lo wanted.hi (C.all cells.now) c found }
+    ensures found { IfSome result (ShowsWanted wanted.after wanted.lo wanted.hi (C.all cells.now)) }
+    ensures lesser { NoneLesser wanted.after wanted.lo wanted.hi (C.all cells.now) (c + 1) result }
 {
-    let head = front(block, c);
+    let head = cells.front(c);
     if head.state != ROW || !wanted.has(head.key) {
-        return least;
+        return found;
     }
-    match least {
-        Some(found) if found <= head.key => least,
-        _ => Some(head.key),
+    match found {
+        Some(least) if cells.front(least).key <= head.key => found,
+        _ => Some(c),
     }
 }
 
-/// The least key of a row that is asked for.
-fn least_at(block: &[u8], wanted: Wanted) -> Option<u64>
-    requires { length block.now ≡ UNIT }
-    ensures found { IfSome result (λ k. IsFound wanted.after wanted.lo wanted.hi (block_rows block.now) k) }
-    ensures reached { (c : ℕ) → c < CELLS → (cell_at block.now c).state ≡ ROW
-        → IsWanted wanted.after wanted.lo wanted.hi (cell_at block.now c).key
-        → Reaches result (cell_at block.now c).key }
+/// The cell with the row of the least key that is asked for.
+fn least_at<C: PlainCells>(cells: &C, wanted: Wanted) -> Option<usize>
+    requires { C.ready cells.now }
+    ensures found { IfSome result (ShowsWanted wanted.after wanted.lo wanted.hi (C.all cells.now)) }
+    ensures lesser { NoneLesser wanted.after wanted.lo wanted.hi (C.all cells.now) (length (C.all cells.now)) result }
 {
-    let mut least = None;
-    for c in 0..CELLS {
-        least = lesser_at(block, least, c, wanted);
+    let mut found = None;
+    for c in 0..cells.count() {
+        found = lesser_at(cells, found, c, wanted);
     }
-    least
+    found
 }
 
-/// Puts the row of the least key that is asked for into `row`. False where the block has none, and the row stays as it
+/// Puts the row of the least key that is asked for into `row`. False where the cells show none, and the row stays as it
 /// was.
-pub(crate) fn next_plain(block: &[u8], wanted: Wanted, row: &mut Row) -> bool
-    requires { length block.now ≡ UNIT }
-    ensures given { result ≡ true → IsNext wanted.after wanted.lo wanted.hi (block_rows block.now) row.new }
+pub(crate) fn next_plain<C: PlainCells>(cells: &C, wanted: Wanted, row: &mut Row) -> bool
+    requires { C.ready cells.now }
+    ensures given { result ≡ true
+        → IsNext wanted.after wanted.lo wanted.hi (cell_rows (C.all cells.now)) row.new }
     ensures none { result ≡ false → (k : ℕ) → IsWanted wanted.after wanted.lo wanted.hi k
-        → block_rows block.now k ≡ None }
+        → cell_rows (C.all cells.now) k ≡ None }
     ensures kept { result ≡ false → row.new ≡ row.old }
 {
-    let Some(key) = least_at(block, wanted) else {
+    let Some(c) = least_at(cells, wanted) else {
         return false;
     };
-    let Some(value) = value_at(block, key) else {
-        return false;
-    };
-    row.key = key;
-    row.value = value;
+    row.key = cells.front(c).key;
+    row.value = cells.value(c);
     true
 }

@@ -150,7 +150,7 @@ fn build_first<S: Store, L: Ledger>(
 }
 
 /// The build for a reader without changes of its own in the block, which has this log number.
-fn build_shared<S: Store, L: Ledger>(
+pub(crate) fn build_shared<S: Store, L: Ledger>(
     store: &mut S,
     block: BlockNo,
     number: Lsn,

@@ -1,10 +1,10 @@
 -- What a call does with the state that its engine stands for, from what it does with the memory and the store.
 use Rattle.std.proofs.Common.{◌≡◌, ◌≢◌, ⊎_elim, ◌<◌, ◌≤◌, ◌+◌, ◌-◌, ℕ, Bool, true, false, not, List, [], length, map, set, is_some, Option, Some, None, Result, Ok, Err, IfErr, OnOk, refl, sym, ◌∙◌, ap, subst, arith}
+use Rattle.rb_engine.proofs.CopyLemmas.{copies_same}
 use Rattle.std.proofs.lemmas.Bool.{cases_Bool, false≢true}
 use Rattle.std.specs.Result.{is_err}
 use Rattle.rb_base.specs.Blocks.{block_of, header_block}
 use Rattle.rb_base.specs.Counts.{err_is}
-use Rattle.rb_base.specs.Keeps.{Keeps}
 use Rattle.rb_base.specs.Logs.{Laws, Logs, LogsBy, no_logs}
 use Rattle.rb_base.specs.declared.ids.Xid.{Xid}
 use Rattle.rb_base.specs.declared.store.Store.{Ghosts}
@@ -28,7 +28,6 @@ use Rattle.rb_model.specs.declared.refusal.Refusal.TheVariants.{DiskFault, TooOl
 use Rattle.rb_model.proofs.Stops.{after_shape, after_stops, fine_stays, other_refusal}
 use Rattle.rb_ring.specs.Ring.{lost_number, record_count}
 use Rattle.rb_segment.specs.Header.{Header, header_of}
-use Rattle.rb_segment.specs.Segments.{owed_in}
 use Rattle.rb_sessions.specs.Kept.{KeptSession}
 use Rattle.rb_standing.specs.Standing.{env_of, logged_of, segments_of}
 use Rattle.rb_standing.specs.States.{BlocksStand}
@@ -135,11 +134,12 @@ module _ {S : Type 0} (s : Ghosts S) where
     pub remembers_logged : {Between : S → S → Type 0} (h : State) (xids : List Xid) (sessions : List KeptSession) (old new : S) → LogsBy s Between old new [] true → Remembers h xids (env_of h.shape (s.blocks old)) sessions → Remembers h xids (env_of h.shape (s.blocks new)) sessions
     remembers_logged h xids sessions old new logs knows = subst (λ b. Remembers h xids (env_of h.shape b) sessions) (sym (logs.blocks told refl)) knows
 
-    pub goes_logged : {Between : S → S → Type 0} (h : State) (old new : EngineView S) → Goes s h old → LogsBy s Between old.store new.store [] true → new.memory.sessions ≡ old.memory.sessions → Goes s h new
-    goes_logged h old new goes logs same = record {
+    pub goes_logged : {Between : S → S → Type 0} (h : State) (old new : EngineView S) → Goes s h old → LogsBy s Between old.store new.store [] true → new.memory.sessions ≡ old.memory.sessions → new.memory.copies ≡ old.memory.copies → Goes s h new
+    goes_logged h old new goes logs same copies = record {
       xids = goes.xids;
       holds = holds_logged h goes.xids old.store new.store goes.holds logs;
       remembers = subst (Remembers h goes.xids (env_of h.shape (s.blocks new.store))) (sym same) (remembers_logged h goes.xids old.memory.sessions old.store new.store logs goes.remembers);
+      copies = copies_same h h goes.xids (s.blocks old.store) (s.blocks new.store) old.memory.copies new.memory.copies refl refl (logs.blocks told refl) copies goes.copies;
     }
 
     -- A call that does nothing but load or make groups last, with an answer that leaves the state.
@@ -148,18 +148,25 @@ module _ {S : Type 0} (s : Ghosts S) where
         → new.memory ≡ old.memory → (h.stopped ≡ false → LogsBy s Between old.store new.store [] true) → SameStore s old.store new.store → Does s h call answer old new
     does_loaded h call answer old new st reply after grows retains memory logs same =
         does_by h h call answer old new 0 st reply after (λ _. retains) (subst (Knows h) (sym memory) st.knows) same
-        (λ going. (grows, (logs going).number refl, goes_logged h old new (st.goes going) (logs going) (ap (λ (k : Kept). k.sessions) memory)))
+        (λ going. (grows, (logs going).number refl, goes_logged h old new (st.goes going) (logs going) (ap (λ (k : Kept). k.sessions) memory) (ap (λ (k : Kept). k.copies) memory)))
         (λ before going keeps. survives_same h h (st.goes going).xids old.store new.store true st.shape refl refl refl (st.goes going).holds (logs going) keeps)
 
-    -- A fault of the disk, in calls that gave no group.
+    -- A fault of the disk, in calls that gave no group. What memory has is known of the state that is stopped.
+    pub does_fault_known : (h : State) (call : Call) (old new : EngineView S) → Stands s h old
+        → none_applies (early_tests h call) ≡ true → Knows (record h { stopped = true }) new.memory
+        → SameStore s old.store new.store → (s.keeps → Survives s (s.slots old.store) (Some call) h (record h { stopped = true }) old.store new.store)
+        → Does s h call (Refused DiskFault) old new
+    does_fault_known h call old new st early knows same survives =
+        does_by h (record h { stopped = true }) call (Refused DiskFault) old new 0 st (Reply.fault early refl) refl (λ _ s t k a is done. cc) knows same
+        (λ clash. absurd (false≢true (sym clash)))
+        (λ before going keeps. survives keeps)
+
+    -- Or it is as before, but stopped.
     pub does_fault : (h : State) (call : Call) (old new : EngineView S) → Stands s h old → h.stopped ≡ false
         → none_applies (early_tests h call) ≡ true → new.memory ≡ record old.memory { stopped = true }
         → SameStore s old.store new.store → (s.keeps → Survives s (s.slots old.store) (Some call) h (record h { stopped = true }) old.store new.store)
         → Does s h call (Refused DiskFault) old new
-    does_fault h call old new st going early stops same survives =
-        does_by h (record h { stopped = true }) call (Refused DiskFault) old new 0 st (Reply.fault early refl) refl (λ _ s t k a is done. cc) (knows_stop h old.memory new.memory st.knows stops) same
-        (λ clash. absurd (false≢true (sym clash)))
-        (λ before going keeps. survives keeps)
+    does_fault h call old new st going early stops same survives = does_fault_known h call old new st early (knows_stop h old.memory new.memory st.knows stops) same survives
 
     pub fault_survives : {Between : S → S → Type 0} {fault : Option Call} → (h : State) (xids : List Xid) (old new : S) → s.shape_of old ≡ h.shape → Holds s h xids old → LogsBy s Between old new [] false → s.keeps → Survives s (s.slots old) fault h (record h { stopped = true }) old new
     fault_survives h xids old new shape holds logs keeps = survives_same h (record h { stopped = true }) xids old new false shape refl refl refl holds logs keeps
@@ -169,10 +176,10 @@ module _ {S : Type 0} (s : Ghosts S) where
         → (1 ≤ who) × (who ≤ length h.sessions) → session.own ≡ session_own h who
         → Reply h (s.lsn old.store) call answer → After h call answer (with_session h who session) → Grows h call answer 0
         → Retained h call answer (with_session h who session) → is_fault answer ≡ false
-        → new.memory.stopped ≡ old.memory.stopped → new.memory.scn ≡ old.memory.scn → new.memory.waits ≡ old.memory.waits → map (λ k. k.asked) new.memory.sessions ≡ map (λ k. k.asked) old.memory.sessions
+        → new.memory.stopped ≡ old.memory.stopped → new.memory.scn ≡ old.memory.scn → new.memory.waits ≡ old.memory.waits → new.memory.copies ≡ old.memory.copies → map (λ k. k.asked) new.memory.sessions ≡ map (λ k. k.asked) old.memory.sessions
         → ((xids : List Xid) → BlocksStand h xids (s.blocks old.store) → Remembers h xids (env_of h.shape (s.blocks old.store)) old.memory.sessions → Remembers (with_session h who session) xids (env_of h.shape (s.blocks old.store)) new.memory.sessions)
         → Logs s old.store new.store [] true → SameStore s old.store new.store → Does s h call answer old new
-    does_session h call answer who session old new st going there own reply after grows retains fine stopped scn waits asked remembers logs same =
+    does_session h call answer who session old new st going there own reply after grows retains fine stopped scn waits copies asked remembers logs same =
         let h2 = with_session h who session in
         let goes = st.goes going in
         does_by h h2 call answer old new 0 st reply after (λ _. retains)
@@ -184,6 +191,7 @@ module _ {S : Type 0} (s : Ghosts S) where
             xids = goes.xids;
             holds = holds_session h who goes.xids new.store session there own (holds_logged h goes.xids old.store new.store goes.holds logs);
             remembers = remembers_logged h2 goes.xids new.memory.sessions old.store new.store logs (remembers goes.xids goes.holds.blocks goes.remembers);
+            copies = copies_same h h2 goes.xids (s.blocks old.store) (s.blocks new.store) old.memory.copies new.memory.copies refl refl (logs.blocks told refl) copies goes.copies;
           },
         ))
         (λ before _ keeps. survives_same h h2 goes.xids old.store new.store true st.shape refl refl refl goes.holds logs keeps)
@@ -193,7 +201,7 @@ module _ {S : Type 0} (s : Ghosts S) where
         → (1 ≤ who) × (who ≤ length h.sessions)
         → Reply h (s.lsn old.store) call answer → After h call answer (with_cursors h who cursors) → Grows h call answer 0
         → Retained h call answer (with_cursors h who cursors) → is_fault answer ≡ false
-        → new.memory.stopped ≡ old.memory.stopped → new.memory.scn ≡ old.memory.scn → new.memory.waits ≡ old.memory.waits → map (λ k. k.asked) new.memory.sessions ≡ map (λ k. k.asked) old.memory.sessions
+        → new.memory.stopped ≡ old.memory.stopped → new.memory.scn ≡ old.memory.scn → new.memory.waits ≡ old.memory.waits → new.memory.copies ≡ old.memory.copies → map (λ k. k.asked) new.memory.sessions ≡ map (λ k. k.asked) old.memory.sessions
         → ((xids : List Xid) → BlocksStand h xids (s.blocks old.store) → Remembers h xids (env_of h.shape (s.blocks old.store)) old.memory.sessions → Remembers (with_cursors h who cursors) xids (env_of h.shape (s.blocks old.store)) new.memory.sessions)
         → Logs s old.store new.store [] true → SameStore s old.store new.store → Does s h call answer old new
     does_cursors h call answer who cursors old new st going there =

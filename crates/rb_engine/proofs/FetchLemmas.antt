@@ -1,5 +1,8 @@
 -- What a search for a cursor's next row finds, from what the rebuilds of homes show, and what a fetch makes of it.
 use Rattle.std.proofs.Common.{not, ap, map, ◌-◌, ◌≡◌, inl, inr, ◌<◌, ◌≤◌, ◌%◌, ◌==◌, ◌&&◌, ◌||◌, nat_lt, if◌then◌else◌, ℕ, Bool, true, false, List, [], length, Option, Some, None, Result, Ok, Err, IfOk, IfErr, refl, sym, ◌∙◌, subst, arith, is_none, ◌∷◌}
+use Rattle.rb_engine.specs.Does.{with_copies}
+use Rattle.rb_outliving.specs.Copies.{CopiesStand}
+use Rattle.rb_engine.proofs.CopyLemmas.{copies_same, knows_copies}
 use Rattle.std.proofs.lemmas.Bool.{cases_Bool, cond_both}
 use Rattle.std.proofs.lemmas.Bool.Decides.{nat_tests}
 use Rattle.std.proofs.lemmas.Result.{IfErr-weaker}
@@ -20,7 +23,6 @@ use Rattle.rb_model.specs.Next.{is_after}
 use Rattle.rb_model.specs.State.{Session, State, cursor_of, is_session, is_waiting, session_of}
 use Rattle.rb_model.specs.declared.row.Row.{Row}
 use Rattle.rb_rebuild.specs.Reading.{Reading}
-use Rattle.rb_segment.specs.Segments.{owed_in}
 use Rattle.rb_sessions.specs.declared.cursor.Cursor.{Cursor}
 use Rattle.rb_standing.specs.Standing.{env_of, homes_of}
 use Rattle.rb_views.specs.Laws.{rows_seen}
@@ -164,7 +166,7 @@ module _ {S : Type 0} (s : Ghosts S) (laws : Laws s) (h : State) (old : EngineVi
   answers logged r is = Reply.later (machine.name_tests h (machine.Fetch who name)) early refl (answer_by h who name (Some one.0) r one.1 (sym is))
 
   -- what the search couldn't read
-  pub needs_lost : (fault : CrFault) (scn lost : ℕ) → fault ≡ faults.TooOld scn lost → ((xids : List Xid) → Serves s h xids m old.store → CannotRead h xids blocks m fault) → NeedsLost s h old who name scn lost
+  pub needs_lost : (fault : CrFault) (scn lost : ℕ) → fault ≡ faults.TooOld scn lost → ((xids : List Xid) → Serves s h xids m old.store → CopiesStand h xids blocks old.memory.copies.kept → CannotRead h xids blocks m fault) → NeedsLost s h old who name scn lost
   needs_lost fault scn lost is found =
       let one = cursor_for goes.xids goes.remembers in (
         goes.xids,
@@ -174,16 +176,16 @@ module _ {S : Type 0} (s : Ghosts S) (laws : Laws s) (h : State) (old : EngineVi
           named = one.1;
           kept = m;
           is = one.2;
-          cannot = subst (CannotRead h goes.xids blocks m) is (found goes.xids serves);
+          cannot = subst (CannotRead h goes.xids blocks m) is (found goes.xids serves goes.copies);
         },
         is_named,
       )
 
   -- what it cleaned
   pub cleans_read : (well : Type 0) (new : S) (result : Result Fetched CrFault) → (well → (f : Fetched) × (result ≡ Ok f))
-      → ((xids : List Xid) → Serves s h xids m old.store → HasCleaned s h xids (ReadIn h xids blocks m) (MustIn h xids blocks m result) h.shape.blocks old.store new) → CleansRead s h old who name well new
+      → ((xids : List Xid) → Serves s h xids m old.store → CopiesStand h xids blocks old.memory.copies.kept → HasCleaned s h xids (ReadIn h xids blocks m) (MustIn h xids blocks m result) h.shape.blocks old.store new) → CleansRead s h old who name well new
   cleans_read well new result fine cleaned =
-      let clean = cleaned goes.xids serves in record {
+      let clean = cleaned goes.xids serves goes.copies in record {
         xids = goes.xids;
         cursor = m;
         is = is_named;
@@ -193,9 +195,9 @@ module _ {S : Type 0} (s : Ghosts S) (laws : Laws s) (h : State) (old : EngineVi
 
   -- and so of the machine's cursor
   pub read_by : (well : Type 0) (new : S) (result : Result Fetched CrFault) → (well → (f : Fetched) × (result ≡ Ok f))
-      → ((xids : List Xid) → Serves s h xids m old.store → HasCleaned s h xids (ReadIn h xids blocks m) (MustIn h xids blocks m result) h.shape.blocks old.store new) → ReadBy h who name well (s.lsn new) blocks (s.blocks new)
+      → ((xids : List Xid) → Serves s h xids m old.store → CopiesStand h xids blocks old.memory.copies.kept → HasCleaned s h xids (ReadIn h xids blocks m) (MustIn h xids blocks m result) h.shape.blocks old.store new) → ReadBy h who name well (s.lsn new) blocks (s.blocks new)
   read_by well new result fine cleaned =
-      let clean = cleaned goes.xids serves in
+      let clean = cleaned goes.xids serves goes.copies in
       let one = cursor_for goes.xids goes.remembers in record {
         xids = goes.xids;
         cursor = one.0;
@@ -208,22 +210,23 @@ module _ {S : Type 0} (s : Ghosts S) (laws : Laws s) (h : State) (old : EngineVi
 
   -- what the search found, and what that makes of the call
   module _ (new : EngineView S) (same : SameStore s old.store new.store) (runs : s.failed new.store ≡ false) (row : Row) (result : Result Fetched CrFault)
-      (found : (xids : List Xid) → Serves s h xids m old.store → Finds h xids blocks m result row)
-      (cleaned : (xids : List Xid) → Serves s h xids m old.store → HasCleaned s h xids (ReadIn h xids blocks m) (MustIn h xids blocks m result) h.shape.blocks old.store new.store) where
+      (found : (xids : List Xid) → Serves s h xids m old.store → CopiesStand h xids blocks old.memory.copies.kept → Finds h xids blocks m result row)
+      (cleaned : (xids : List Xid) → Serves s h xids m old.store → CopiesStand h xids blocks old.memory.copies.kept → HasCleaned s h xids (ReadIn h xids blocks m) (MustIn h xids blocks m result) h.shape.blocks old.store new.store)
+      (kept : (xids : List Xid) → Serves s h xids m old.store → CopiesStand h xids blocks old.memory.copies.kept → CopiesStand h xids (s.blocks new.store) new.memory.copies.kept) where
     abbrev clean : HasCleaned s h goes.xids (ReadIn h goes.xids blocks m) (MustIn h goes.xids blocks m result) h.shape.blocks old.store new.store
-    clean = cleaned goes.xids serves
+    clean = cleaned goes.xids serves goes.copies
 
     finds : (r : Result Fetched CrFault) → result ≡ r → Finds h goes.xids blocks m r row
-    finds r is = subst (λ (x : Result Fetched CrFault). Finds h goes.xids blocks m x row) is (found goes.xids serves)
+    finds r is = subst (λ (x : Result Fetched CrFault). Finds h goes.xids blocks m x row) is (found goes.xids serves goes.copies)
 
     env : env_of h.shape (s.blocks new.store) ≡ env_of h.shape blocks
     env = env_same h.shape blocks (s.blocks new.store) clean.only.segments
 
     -- an answer that leaves the state
     stays : (answer : Answer) → is_fault answer ≡ false → Reply h (s.lsn old.store) (machine.Fetch who name) answer → After h (machine.Fetch who name) answer h
-        → Grows h (machine.Fetch who name) answer clean.count → new.memory ≡ old.memory → Does s h (machine.Fetch who name) answer old new
+        → Grows h (machine.Fetch who name) answer clean.count → new.memory ≡ with_copies new.memory.copies old.memory → Does s h (machine.Fetch who name) answer old new
     stays answer fine reply after grows memory =
-        does_by s h h (machine.Fetch who name) answer old new clean.count st reply after (λ _ s t k a is done. cc) (subst (Knows h) (sym memory) st.knows) same
+        does_by s h h (machine.Fetch who name) answer old new clean.count st reply after (λ _ s t k a is done. cc) (subst (Knows h) (sym memory) (knows_copies h old.memory new.memory.copies st.knows)) same
         (λ on. (
           grows,
           clean.lsn,
@@ -231,6 +234,7 @@ module _ {S : Type 0} (s : Ghosts S) (laws : Laws s) (h : State) (old : EngineVi
             xids = goes.xids;
             holds = clean.holds;
             remembers = subst (λ (e : Env). Remembers h goes.xids e new.memory.sessions) (sym env) (subst (λ (k : Kept). Remembers h goes.xids (env_of h.shape blocks) k.sessions) (sym memory) goes.remembers);
+            copies = kept goes.xids serves goes.copies;
           },
         ))
         (λ before on keeps. clean.survives (machine.failed_in (machine.Fetch who name) answer before) keeps)
@@ -257,16 +261,17 @@ module _ {S : Type 0} (s : Ghosts S) (laws : Laws s) (h : State) (old : EngineVi
             xids = goes.xids;
             holds = holds_session s st.told laws h who goes.xids new.store session in_table refl clean.holds;
             remembers = subst (λ (e : Env). Remembers h2 goes.xids e new.memory.sessions) (sym env) remembers;
+            copies = copies_same h h2 goes.xids (s.blocks new.store) (s.blocks new.store) new.memory.copies new.memory.copies refl refl refl refl (kept goes.xids serves goes.copies);
           },
         ))
         (λ before _ keeps. survives_on s (s.slots old.store) h h h2 old.store new.store new.store going (clean.survives before keeps)
         (subst (λ (k : Option ℕ). Survives s k before h h2 new.store new.store) same.slots (survives_same s st.told laws h h2 goes.xids new.store new.store true (same.shape ∙ st.shape) refl refl refl clean.holds (no_logs s new.store runs) keeps)))
 
-    pub does_end : result ≡ Ok fetched.End → new.memory ≡ old.memory → Does s h (machine.Fetch who name) machine.End old new
+    pub does_end : result ≡ Ok fetched.End → new.memory ≡ with_copies new.memory.copies old.memory → Does s h (machine.Fetch who name) machine.End old new
     does_end is memory =
         stays machine.End refl (answers _ machine.End (views.ends h goes.xids blocks goes.holds.blocks who (record { name = name; cursor = m }) one.0 one.2 (finds (Ok fetched.End) is))) refl clean.few memory
 
-    pub does_old : (scn lost : ℕ) → result ≡ Err (faults.TooOld scn lost) → new.memory ≡ old.memory → Does s h (machine.Fetch who name) (Refused (TooOld scn lost)) old new
+    pub does_old : (scn lost : ℕ) → result ≡ Err (faults.TooOld scn lost) → new.memory ≡ with_copies new.memory.copies old.memory → Does s h (machine.Fetch who name) (Refused (TooOld scn lost)) old new
     does_old scn lost is memory =
         let behind = finds (Err (faults.TooOld scn lost)) is in
         stays (Refused (TooOld scn lost)) refl

@@ -1,12 +1,13 @@
 -- What a commit leaves, from the groups of its step, and what the end of a transaction without a slot does.
 use Rattle.std.proofs.Common.{◌≡◌, inl, ◌<◌, ◌≤◌, ◌+◌, ◌-◌, ◌^◌, ◌∷◌, ◌++◌, nat_le, ℕ, true, false, not, min, List, [], length, map, Some, None, Result, Ok, Err, OnOk, refl, sym, ◌∙◌, ap, subst, arith, append-nil, length-append}
+use Rattle.rb_engine.proofs.CopyLemmas.{copies_committed, copies_same}
 use Rattle.std.proofs.lemmas.Bool.{le-leb, and_from}
 use Rattle.std.proofs.lemmas.List.{length-set}
 use Rattle.std.specs.Result.{is_err}
 use Rattle.rb_attempt.specs.Asks.{header_in}
 use Rattle.rb_base.specs.Blocks.{after_groups}
 use Rattle.rb_base.specs.Groups.{Patch}
-use Rattle.rb_base.specs.Logs.{Flushes, Laws, Logs, LogsBy, more_flushes, no_logs}
+use Rattle.rb_base.specs.Logs.{Flushes, Laws, LogsBy, more_flushes, no_logs}
 use Rattle.rb_base.specs.declared.ids.Xid.{Xid}
 use Rattle.rb_base.specs.declared.store.Store.{Ghosts}
 use Rattle.rb_engine.specs.Does.{Does, EngineView, Goes, Keeps, Kept, Knows, SameStore, Stands}
@@ -28,7 +29,7 @@ use Rattle.rb_model.specs.declared.refusal.Refusal.TheVariants.{DiskFault}
 use Rattle.rb_segment.specs.Calls.{Runs}
 use Rattle.rb_sessions.specs.Kept.{KeptSession, kept_at, with_kept}
 use Rattle.rb_sessions.specs.Kept as table
-use Rattle.rb_standing.specs.Standing.{env_of, segments_of}
+use Rattle.rb_standing.specs.Standing.{env_of, logged_of, segments_of}
 use Rattle.rb_standing.specs.States.{BlocksStand, lives_of, past_of}
 use Rattle.rb_standing.proofs.BlocksAs.{commit_logged}
 use Rattle.rb_standing.proofs.SegmentRead.{header_is}
@@ -108,8 +109,8 @@ module _ {S : Type 0} (s : Ghosts S) (told : s.tells) (laws : Laws s) (h : State
 
   module _ (some : 0 < length (session_own h who)) (new : EngineView S) (same : SameStore s old.store new.store) where
     pub does_committed : is_queued who old.memory.waits ≡ false → (n : ℕ) → n ≡ last_scn h.commits + 1 → Commits s h goes.xids who x old.store new.store true
-        → new.memory.sessions ≡ with_kept old.memory.sessions who (table.committed (kept_at old.memory.sessions who)) → new.memory.waits ≡ freed_by who old.memory.waits → new.memory.scn ≡ n → new.memory.stopped ≡ old.memory.stopped → Does s h (Commit who) (Numbered n) old new
-    does_committed free n next done table_is waits scn stopped =
+        → new.memory.sessions ≡ with_kept old.memory.sessions who (table.committed (kept_at old.memory.sessions who)) → new.memory.waits ≡ freed_by who old.memory.waits → new.memory.scn ≡ n → new.memory.stopped ≡ old.memory.stopped → new.memory.copies ≡ old.memory.copies → Does s h (Commit who) (Numbered n) old new
+    does_committed free n next done table_is waits scn stopped copies =
         let bare : State = committed h who x.seg x.slot in
         let now : State = freeing bare who in
         let full = some_own (session_own h who) some in
@@ -131,6 +132,10 @@ module _ {S : Type 0} (s : Ghosts S) (told : s.tells) (laws : Laws s) (h : State
             holds = holds_queue bare now.queue now.asked s (goes.xids ++ x ∷ []) new.store done.0;
             remembers = subst (Remembers now (goes.xids ++ x ∷ []) (env_of h.shape (s.blocks new.store))) (sym table_is)
                 (committed_remembered h goes.xids (s.blocks old.store) (s.blocks new.store) old.memory.sessions who x goes.holds.blocks goes.remembers there.0 there.1 own done.1);
+            copies =
+                let last : logged_of h.shape (s.blocks new.store) ≡ logged_of h.shape (s.blocks old.store) + 1 = omega (arith, done.0.logged, goes.holds.logged, done.2) in
+                copies_committed h now goes.xids (s.blocks old.store) (s.blocks new.store) who x old.memory.copies new.memory.copies refl refl goes.holds.blocks own_by.owned
+                (record { stand = done.0.blocks; ids = done.1; last = last; group = done.4 }) copies goes.copies;
           },
         ))
         (λ before _ keeps. survives_queue bare now.queue now.asked s (s.slots old.store) before h old.store new.store (done.3 before keeps))
@@ -145,8 +150,8 @@ pub does_ended : {S : Type 0} (s : Ghosts S) (laws : Laws s) (h : State) (call :
     → (HasNoSlot h who → is_empty (session_own h who) ≡ true → After h call Done (freeing (ended h who cursors) who)) → (HasNoSlot h who → is_empty (session_own h who) ≡ true → GrowsBy h call 0)
     → (HasNoSlot h who → session_own h who ≡ [] → (xids : List Xid) → BlocksStand h xids (s.blocks old.store) → Remembers h xids (env_of h.shape (s.blocks old.store)) old.memory.sessions → Remembers (freeing (ended h who cursors) who) xids (env_of h.shape (s.blocks old.store)) new.memory.sessions)
     → map (λ k. k.asked) new.memory.sessions ≡ map (λ k. k.asked) old.memory.sessions → new.memory.waits ≡ freed_by who old.memory.waits
-    → new.memory.scn ≡ old.memory.scn → new.memory.stopped ≡ old.memory.stopped → new.store ≡ old.store → Does s h call Done old new
-does_ended s laws h call who cursors old new st going there runs retains own empty early reply after grows knows asked waits scn stopped store =
+    → new.memory.scn ≡ old.memory.scn → new.memory.stopped ≡ old.memory.stopped → new.memory.copies ≡ old.memory.copies → new.store ≡ old.store → Does s h call Done old new
+does_ended s laws h call who cursors old new st going there runs retains own empty early reply after grows knows asked waits scn stopped copies store =
     let goes = st.goes going in
     let session = goes.remembers.each who there.0 there.1 in
     let who_in : (1 ≤ who) × (who ≤ length h.sessions) = let n = st.knows.sixteen in (there.0, omega (arith, there, n)) in
@@ -168,6 +173,7 @@ does_ended s laws h call who cursors old new st going there runs retains own emp
         xids = goes.xids;
         holds = subst (Holds s now goes.xids) (sym store) kept;
         remembers = subst (λ (y : _). Remembers now goes.xids (env_of h.shape (s.blocks y)) new.memory.sessions) (sym store) (knows free own_is goes.xids goes.holds.blocks goes.remembers);
+        copies = copies_same h now goes.xids (s.blocks old.store) (s.blocks new.store) old.memory.copies new.memory.copies refl refl (ap s.blocks store) copies goes.copies;
       },
     ))
     (λ before _ keeps. subst (λ (y : _). Survives s (s.slots old.store) before h now old.store y) (sym store) (survives_same s st.told laws h now goes.xids old.store old.store true st.shape refl refl refl goes.holds logs keeps))

@@ -1,4 +1,5 @@
 pub mod CleanLemmas
+pub mod CopyLemmas
 pub mod DoesLemmas
 pub mod FetchLemmas
 pub mod FewLemmas
@@ -12,6 +13,7 @@ pub mod RetainsLemmas
 pub mod RollbackLemmas
 pub mod SavepointLemmas
 pub mod SeenHomes
+pub mod SharedLemmas
 pub mod StepLemmas
 pub mod TellsLemmas
 pub mod WaitLemmas

@@ -1,6 +1,10 @@
 -- What an opening makes of a store whose blocks open to a state: an engine that stands for it, and images that restart
 -- in it.
-use Rattle.std.proofs.Common.{◌≡◌, ◌≢◌, ◌<◌, ◌≤◌, ◌+◌, ◌-◌, ◌^◌, ℕ, zero, suc, Bool, true, false, not, List, [], length, take, get_or, replicate, Option, Some, None, Result, Ok, Err, IfErr, IsErrOf, append-nil, refl, sym, ◌∙◌, ap, subst, arith, map}
+use Rattle.std.proofs.Common.{◌≡◌, ◌≢◌, ◌<◌, ◌≤◌, ◌+◌, ◌-◌, ◌^◌, ℕ, zero, suc, Bool, true, false, not, List, [], length, take, get_or, replicate, Some, None, Result, Ok, Err, IfErr, IsErrOf, append-nil, refl, sym, ◌∙◌, ap, subst, arith, map}
+use Rattle.std.specs.Result.{IsErrAnd}
+use Rattle.rb_copies.specs.Copies.{KeptHomes}
+use Rattle.rb_outliving.specs.Copies.{CopiesStand}
+use Rattle.rb_outliving.proofs.Outliving.{none_stand}
 use Rattle.std.proofs.Math.Seq.{take-nil}
 use Rattle.std.proofs.lemmas.List.{take_all}
 use Rattle.std.proofs.lemmas.List.FromFn.{get_or-map-range_with_len}
@@ -32,9 +36,8 @@ use Rattle.rb_opening.specs.Opens.{books_of}
 use Rattle.rb_opening.proofs.Opened.{books_same, unowned}
 use Rattle.rb_opening.proofs.Rolled.{none_sound, opened_by}
 use Rattle.rb_restart.specs.Rollback.{BackBy, IsPartlyBack, RolledBack, StaySound, found_book}
-use Rattle.rb_restart.proofs.Slots.{owed_none}
 use Rattle.rb_segment.specs.Header.{segment_of}
-use Rattle.rb_segment.specs.Segments.{commit_scn, owed_in}
+use Rattle.rb_segment.specs.Segments.{commit_scn}
 use Rattle.rb_sessions.specs.Kept.{KeptSession, fresh, kept_at}
 use Rattle.rb_sessions.specs.declared.sessions.TheConstants.{SESSIONS}
 use Rattle.rb_standing.specs.Standing.{SoundAs, env_of, logged_of, segments_of}
@@ -62,6 +65,11 @@ refused s old mid new (Err Failed) groups first logs none no_memory = λ other. 
 pub fails_with : {A B : Type 0} (result : Result A B) (X : Type 0) → X → IfErr result (λ (fault : B). X)
 fails_with (Ok value) X is = tt
 fails_with (Err fault) X is = is
+
+-- what holds of an error, from what is told of it
+pub told_err : {A B : Type 0} (P Q : B → Type 0) (result : Result A B) → IsErrAnd result P → ((e : B) → P e → Q e) → IfErr result Q
+told_err P Q (Ok value) is so = tt
+told_err P Q (Err e) is so = so e is
 
 -- no group behind the last
 pub loaded_on : {S : Type 0} (s : Ghosts S) (old mid new : S) (groups : List (List Patch)) (going : Bool) → Logs s old mid groups true → Logs s mid new [] going → Logs s old new groups going
@@ -198,8 +206,8 @@ module _ {S : Type 0} (s : Ghosts S) (laws : Laws s) (told : s.tells) (h : State
         subst (λ (x : State). (s.keeps → Keeps s (HasState x x.books (last_scn x.commits)) new) → Holds s x [] new) (sym opens.opening.state) holds_first images_new
 
     -- an engine with such a memory
-    pub opened_engine : (memory : Kept) → memory.sessions ≡ replicate SESSIONS fresh → memory.waits ≡ [] → memory.scn ≡ commit_scn Sh (s.blocks old) → memory.stopped ≡ false → Opened s h old (record { memory = memory; store = new })
-    opened_engine memory table_is empty scn going = record {
+    pub opened_engine : (memory : Kept) → memory.sessions ≡ replicate SESSIONS fresh → memory.waits ≡ [] → memory.scn ≡ commit_scn Sh (s.blocks old) → memory.stopped ≡ false → memory.copies.kept ≡ [] → Opened s h old (record { memory = memory; store = new })
+    opened_engine memory table_is empty scn going none_kept = record {
       stands = record {
         told = told;
         shape = logs.same_shape ∙ shape_is;
@@ -218,6 +226,7 @@ module _ {S : Type 0} (s : Ghosts S) (laws : Laws s) (told : s.tells) (h : State
           remembers = subst (Remembers h [] (env_of h.shape (s.blocks new))) (sym table_is)
               (subst (λ (x : State). Remembers x [] (env_of h.shape (s.blocks new)) (replicate SESSIONS fresh)) (sym opens.opening.state)
               (first_remembered Sh Number Rows (books_of Sh (s.blocks old)) (env_of h.shape (s.blocks new)) none_owns));
+          copies = subst (λ (k : KeptHomes). CopiesStand h [] (s.blocks new) k) (sym none_kept) (none_stand h [] (s.blocks new));
         };
       };
       lsn = logs.number refl ∙ ap (λ (n : ℕ). s.lsn old + n) back.count;

@@ -1,5 +1,6 @@
 -- The queue in memory and in a state, and that neither a store nor a crash knows anything of it.
 use Rattle.std.proofs.Common.{◌≡◌, ◌≢◌, inl, inr, ◌≤◌, ◌-◌, ◌*◌, ◌==◌, ◌||◌, ℕ, zero, suc, Bool, true, false, List, [], ◌∷◌, length, map, set, get_or, Option, Some, None, refl, sym, ◌∙◌, ap, subst, arith}
+use Rattle.rb_engine.proofs.CopyLemmas.{copies_same}
 use Rattle.std.proofs.lemmas.Bool.{cases_eq, ne_eqb}
 use Rattle.std.proofs.lemmas.List.{get_or-set_other, get_or-set_same}
 use Rattle.std.specs.List.{range_with_len}
@@ -157,11 +158,12 @@ module _ (h : State) (queue : List Waiter) (asked : List (Option Asked)) where
       images = λ keeps. let k = holds.images keeps in record { base = k.base; first = k.first; stable = k.stable; each = λ count few. has_state h.books (last_scn h.commits) _ _ (k.each count few) };
     }
 
-    pub goes_queue : (e : EngineView S) (memory : Kept) → memory.sessions ≡ e.memory.sessions → Goes s h e → Goes s Next (record { memory = memory; store = e.store })
-    goes_queue e memory same goes = record {
+    pub goes_queue : (e : EngineView S) (memory : Kept) → memory.sessions ≡ e.memory.sessions → memory.copies ≡ e.memory.copies → Goes s h e → Goes s Next (record { memory = memory; store = e.store })
+    goes_queue e memory same copies goes = record {
       xids = goes.xids;
       holds = holds_queue goes.xids e.store goes.holds;
       remembers = subst (Rattle.rb_views.specs.Views.Remembers Next goes.xids (env_of h.shape (s.blocks e.store))) (sym same) (queue_remembered h queue asked goes.xids (env_of h.shape (s.blocks e.store)) e.memory.sessions goes.remembers);
+      copies = copies_same h Next goes.xids (s.blocks e.store) (s.blocks e.store) e.memory.copies memory.copies refl refl refl copies goes.copies;
     }
 
     -- The images that a crash leaves.

@@ -1,5 +1,9 @@
 -- What a rollback leaves, change by change, from the groups of its steps.
 use Rattle.std.proofs.Common.{◌≡◌, ◌<◌, ◌≤◌, ◌+◌, ◌-◌, ◌*◌, ◌^◌, ◌∷◌, ◌++◌, inl, inr, ⊎_elim, ℕ, zero, suc, Bool, true, false, not, List, [], length, length-append, map, set, take, Option, Some, None, Result, Ok, Err, OnOk, refl, sym, ◌∙◌, ap, subst, arith}
+use Rattle.rb_outliving.proofs.Ages.{back_ages, end_ages}
+use Rattle.rb_aging.proofs.Aging as aging
+use Rattle.rb_aging.specs.Kept.{SegmentsAge}
+use Rattle.rb_engine.proofs.CopyLemmas.{copies_aged}
 use Rattle.std.proofs.Math.Nat.{div-add-mod}
 use Rattle.std.proofs.lemmas.Bool.{cases_lt}
 use Rattle.std.proofs.lemmas.List.{length-set, set-set, take_all}
@@ -34,26 +38,19 @@ use Rattle.rb_model.specs.Queue.{freed_by, is_queued}
 use Rattle.rb_model.specs.NextState.{EndsAs, cursors_of, ended, freeing, left_open, not_present, rolled_to, up_to, without_owner}
 use Rattle.rb_model.specs.Rows.{last_scn}
 use Rattle.rb_model.specs.State.{Savepoint, Session, State, no_session, savepoint_of, session_of, session_own, with_changes}
-use Rattle.rb_restart.proofs.Slots.{owed_is, slot_for}
 use Rattle.rb_segment.specs.Calls.{Runs}
-use Rattle.rb_segment.specs.Segments.{commit_scn, owed_in}
 use Rattle.rb_sessions.specs.Kept.{KeptSession, kept_at, rolled_back, with_kept}
 use Rattle.rb_sessions.specs.Kept.{committed as kept_committed, rolled_to as kept_rolled_to}
 use Rattle.rb_standing.specs.Groups.{IsPutBack, last_record}
 use Rattle.rb_standing.specs.NextStates.{with_own}
 use Rattle.rb_undoblock.specs.declared.record.UndoRecord.{UndoRecord}
-use Rattle.rb_standing.specs.Standing.{env_of, homes_of, logged_of, segments_of}
-use Rattle.rb_standing.specs.States.{BlocksStand, Owns, lives_of, past_of}
-use Rattle.rb_standing.specs.Values.{slot_of}
-use Rattle.rb_standing.proofs.OwedMoves.{owed_committed}
-use Rattle.rb_standing.proofs.States.{length_newest, lives_owned}
-use Rattle.rb_txntable.specs.declared.slots.TableSlot.{TableSlot}
+use Rattle.rb_standing.specs.Standing.{env_of, logged_of, segments_of}
+use Rattle.rb_standing.specs.States.{BlocksStand, Owns}
 use Rattle.rb_undoengine.proofs.LeftOwn.{last_of, own_again, own_all, own_left}
 use Rattle.rb_verdict.specs.Verdict.{IsOwnId}
 use Rattle.rb_views.specs.Views.{Remembers}
 use Rattle.rb_views.proofs.Ended.{back_remembered, end_remembered}
 use Rattle.rb_views.proofs.Savepoints.{cut_remembered}
-use Rattle.rb_walk.specs.Walk as walk
 use Rattle.rb_walk.specs.Walk.{Env, own}
 
 -- An id stays its session's over a step that changes no owner.
@@ -95,6 +92,7 @@ module _ {S : Type 0} (s : Ghosts S) where
     pub lsn : s.lsn now ≡ s.lsn old + turn
     pub survives : (before : Option Call) → s.keeps → Survives s (s.slots old) before h (with_own h who left) old now
     pub back : BackOver h.shape (16 * x.seg + x.slot) turn (s.blocks old) (s.blocks now)
+    pub ages : SegmentsAge (segments_of h.shape (s.blocks old)) (segments_of h.shape (s.blocks now))
 
   -- a state that a rollback of so many changes starts from
   pub record Starts (h : State) (xids : List Xid) (who : ℕ) (x : Xid) (count : ℕ) (old : S) : Type 0 where
@@ -183,6 +181,7 @@ module _ {S : Type 0} (s : Ghosts S) where
                   (subst (λ (u : UndoRecord). IsPutBack h.shape made.slot u (s.blocks mid) (s.blocks new)) (sym made.newest) made.group) in
                   let next : suc turn ≡ turn + 1 = omega arith in
                   subst (λ (n : ℕ). BackOver h.shape (16 * x.seg + x.slot) n (s.blocks old) (s.blocks new)) next (back_more h.shape (16 * x.seg + x.slot) turn (s.blocks old) (s.blocks mid) (s.blocks new) left.back put);
+              ages = aging.joined (segments_of h.shape (s.blocks old)) (segments_of h.shape (s.blocks mid)) (segments_of h.shape (s.blocks new)) left.ages (back_ages m xids (s.blocks mid) (s.blocks new) left.holds.blocks who front made);
             }
 
       -- the end of the slot, once no change is left
@@ -200,6 +199,7 @@ module _ {S : Type 0} (s : Ghosts S) where
                 (survives_on s (s.slots old) h m (without_owner x.seg x.slot (ended m who cursors)) old mid new st.going (left.survives before keeps)
                 (subst (λ (k : Option ℕ). Survives s k before m (without_owner x.seg x.slot (ended m who cursors)) mid new) same.slots ((all before).1 keeps))),
             (s.blocks mid, subst (λ (n : ℕ). BackOver h.shape (16 * x.seg + x.slot) n (s.blocks old) (s.blocks mid)) (sym whole) left.back, made.group),
+            aging.joined (segments_of h.shape (s.blocks old)) (segments_of h.shape (s.blocks mid)) (segments_of h.shape (s.blocks new)) left.ages (end_ages m xids (s.blocks mid) (s.blocks new) left.holds.blocks who x (id_left h xids who x [] count old mid left).owned made),
           )
       ends_all whole left false one = λ fault.
           let m : State = with_own h who [] in
@@ -224,6 +224,7 @@ module _ {S : Type 0} (s : Ghosts S) where
           survives = λ before keeps. subst (λ (z : State). Survives s (s.slots old) before h z old old) all
               (survives_same s told laws h h xids old old true st.shape refl refl refl st.holds (no_logs s old runs) keeps);
           back = refl;
+          ages = aging.same (segments_of h.shape (s.blocks old));
         };
   }
 
@@ -293,6 +294,7 @@ module _ {S : Type 0} (s : Ghosts S) where
           (let n = left.lsn in omega (arith, n, is, count_is)),
           left.survives,
           subst (λ (n : ℕ). BackOver h.shape (16 * x.seg + x.slot) n (s.blocks old) (s.blocks mid)) (is ∙ count_is) left.back,
+          left.ages,
         )
 
     -- All are.
@@ -324,6 +326,7 @@ module _ {S : Type 0} (s : Ghosts S) where
           lsn = let n = p.2 in let own = st.own in omega (arith, n, own);
           survives = p.3;
           back = let n : length mine - kept ≡ count = let own = st.own in omega (arith, own) in subst (λ (k : ℕ). BackOver h.shape (16 * x.seg + x.slot) k (s.blocks old) (s.blocks mid)) n p.4;
+          ages = p.5;
         };
   }
 
@@ -350,8 +353,8 @@ module _ {S : Type 0} (s : Ghosts S) (told : s.tells) (laws : Laws s) (h : State
   module _ (new : EngineView S) (same : SameStore s old.store new.store) where
     -- a rollback that went well
     pub does_back : is_queued who old.memory.waits ≡ false → PutsAllBack s h held.xids who x old.store new.store true
-        → new.memory.sessions ≡ with_kept old.memory.sessions who (rolled_back (kept_at old.memory.sessions who)) → new.memory.waits ≡ freed_by who old.memory.waits → new.memory.scn ≡ old.memory.scn → new.memory.stopped ≡ old.memory.stopped → Does s h (Rollback who) Done old new
-    does_back free done table_is waits scn stopped =
+        → new.memory.sessions ≡ with_kept old.memory.sessions who (rolled_back (kept_at old.memory.sessions who)) → new.memory.waits ≡ freed_by who old.memory.waits → new.memory.scn ≡ old.memory.scn → new.memory.stopped ≡ old.memory.stopped → new.memory.copies ≡ old.memory.copies → Does s h (Rollback who) Done old new
+    does_back free done table_is waits scn stopped copies =
         let cursors = left_open 0 (cursors_of h who) in
         let bare = without_owner x.seg x.slot (ended h who cursors) in
         let now = freeing bare who in
@@ -367,14 +370,15 @@ module _ {S : Type 0} (s : Ghosts S) (told : s.tells) (laws : Laws s) (h : State
             holds = holds_queue bare now.queue now.asked s held.xids new.store all.0;
             remembers = subst (Remembers now held.xids (env_of h.shape (s.blocks new.store))) (sym table_is)
                 (back_remembered h now held.xids (s.blocks old.store) (env_of h.shape (s.blocks new.store)) old.memory.sessions who held.holds.blocks held.remembers there.0 there.1 after all.1);
+            copies = copies_aged h now held.xids (s.blocks old.store) (s.blocks new.store) old.memory.copies new.memory.copies refl refl held.holds.blocks all.5 copies held.copies;
           },
         ))
         (λ before _ keeps. survives_queue bare now.queue now.asked s (s.slots old.store) before h old.store new.store (all.3 before keeps))
 
     -- The end of a transaction of which no change is left, by a commit.
     pub does_left : is_queued who old.memory.waits ≡ false → session_own h who ≡ [] → PutsAllBack s h held.xids who x old.store new.store true
-        → new.memory.sessions ≡ with_kept old.memory.sessions who (kept_committed (kept_at old.memory.sessions who)) → new.memory.waits ≡ freed_by who old.memory.waits → new.memory.scn ≡ old.memory.scn → new.memory.stopped ≡ old.memory.stopped → Does s h (Commit who) Done old new
-    does_left free none done table_is waits scn stopped =
+        → new.memory.sessions ≡ with_kept old.memory.sessions who (kept_committed (kept_at old.memory.sessions who)) → new.memory.waits ≡ freed_by who old.memory.waits → new.memory.scn ≡ old.memory.scn → new.memory.stopped ≡ old.memory.stopped → new.memory.copies ≡ old.memory.copies → Does s h (Commit who) Done old new
+    does_left free none done table_is waits scn stopped copies =
         let cursors = cursors_of h who in
         let bare = without_owner x.seg x.slot (ended h who cursors) in
         let now = freeing bare who in
@@ -391,14 +395,15 @@ module _ {S : Type 0} (s : Ghosts S) (told : s.tells) (laws : Laws s) (h : State
             holds = holds_queue bare now.queue now.asked s held.xids new.store all.0;
             remembers = subst (Remembers now held.xids (env_of h.shape (s.blocks new.store))) (sym table_is)
                 (end_remembered h now held.xids (s.blocks old.store) (env_of h.shape (s.blocks new.store)) old.memory.sessions who held.holds.blocks held.remembers there.0 there.1 none after all.1);
+            copies = copies_aged h now held.xids (s.blocks old.store) (s.blocks new.store) old.memory.copies new.memory.copies refl refl held.holds.blocks all.5 copies held.copies;
           },
         ))
         (λ before _ keeps. survives_queue bare now.queue now.asked s (s.slots old.store) before h old.store new.store (all.3 before keeps))
 
     -- A rollback to a savepoint that went well.
     pub does_cut : is_queued who old.memory.waits ≡ false → (name : List ℕ) (p : Savepoint) → savepoint_of h who name ≡ Some p → PutsBack s h held.xids who p.kept x old.store new.store true → s.failed new.store ≡ false
-        → new.memory.sessions ≡ with_kept old.memory.sessions who (kept_rolled_to name p.kept (kept_at old.memory.sessions who)) → new.memory.waits ≡ old.memory.waits → new.memory.scn ≡ old.memory.scn → new.memory.stopped ≡ old.memory.stopped → Does s h (RollbackTo who name) Done old new
-    does_cut free name p named done runs table_is waits scn stopped =
+        → new.memory.sessions ≡ with_kept old.memory.sessions who (kept_rolled_to name p.kept (kept_at old.memory.sessions who)) → new.memory.waits ≡ old.memory.waits → new.memory.scn ≡ old.memory.scn → new.memory.stopped ≡ old.memory.stopped → new.memory.copies ≡ old.memory.copies → Does s h (RollbackTo who name) Done old new
+    does_cut free name p named done runs table_is waits scn stopped copies =
         let mine = session_own h who in
         let m : State = with_own h who (take p.kept mine) in
         let now = rolled_to h who name p.kept in
@@ -418,6 +423,7 @@ module _ {S : Type 0} (s : Ghosts S) (told : s.tells) (laws : Laws s) (h : State
             holds = subst (λ (z : State). Holds s z held.xids new.store) again cut;
             remembers = subst (Remembers now held.xids (env_of h.shape (s.blocks new.store))) (sym table_is)
                 (cut_remembered h held.xids (env_of h.shape (s.blocks old.store)) (env_of h.shape (s.blocks new.store)) who name p.kept there.0 done.1 old.memory.sessions there.1 held.remembers);
+            copies = copies_aged h now held.xids (s.blocks old.store) (s.blocks new.store) old.memory.copies new.memory.copies refl refl held.holds.blocks done.5 copies held.copies;
           },
         ))
         (λ before _ keeps. survives_on s (s.slots old.store) h m now old.store new.store new.store going (done.3 before keeps)

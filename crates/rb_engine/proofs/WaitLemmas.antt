@@ -36,7 +36,7 @@ module _ {S : Type 0} (s : Ghosts S) (h : State) (who : ℕ) (kept now : Kept) (
       scn = ap (λ (k : Kept). k.scn) left ∙ st.knows.scn;
       queue = knows_left;
     };
-    goes = λ going. goes_queue h (left_by who h.queue) h.asked s (record { memory = kept; store = store }) now sessions (st.goes going);
+    goes = λ going. goes_queue h (left_by who h.queue) h.asked s (record { memory = kept; store = store }) now sessions (ap (λ (k : Kept). k.copies) left) (st.goes going);
   }
 
   -- A session that waits gives its write up.

@@ -1,5 +1,6 @@
 -- What a write of a session does with the state, from the group of its step.
 use Rattle.std.proofs.Common.{◌≡◌, ◌≢◌, ◌≤◌, ◌+◌, ◌&&◌, ℕ, Bool, true, false, not, nat_le, List, [], ◌∷◌, ◌++◌, length, map, set, if◌then◌else◌, ◌-◌, Option, Some, None, Result, Ok, Err, IfErr, IfOk, refl, sym, ◌∙◌, ap, subst, arith}
+use Rattle.rb_engine.proofs.CopyLemmas.{copies_same, copies_written}
 use Rattle.std.proofs.lemmas.List.{length-set}
 use Rattle.std.proofs.lemmas.Bool.Decides.{nat_tests}
 use Rattle.rb_attempt.specs.Refusals.{has_failed}
@@ -89,8 +90,8 @@ module _ {S : Type 0} (s : Ghosts S) (told : s.tells) (laws : Laws s) (h : State
 
   module _ (new : EngineView S) (same : SameStore s old.store new.store) where
     pub step_done : (x : Xid) → GivesOne s old.store new.store true (λ now. WriteMade h goes.xids who table key action x (s.blocks old.store) now)
-        → new.memory.sessions ≡ with_kept old.memory.sessions who (wrote x (kept_at old.memory.sessions who)) → new.memory.waits ≡ old.memory.waits → new.memory.scn ≡ old.memory.scn → new.memory.stopped ≡ old.memory.stopped → Does s h (Write who table key action) Done old new
-    step_done x one table_is waits scn stopped =
+        → new.memory.sessions ≡ with_kept old.memory.sessions who (wrote x (kept_at old.memory.sessions who)) → new.memory.waits ≡ old.memory.waits → new.memory.scn ≡ old.memory.scn → new.memory.stopped ≡ old.memory.stopped → new.memory.copies ≡ old.memory.copies → (1 ≤ table) × (table ≤ h.shape.tables) → Does s h (Write who table key action) Done old new
+    step_done x one table_is waits scn stopped copies in_tables =
         let after : State = written h who x.seg x.slot (change_in h x.seg table key action) in
         let high : who ≤ length h.sessions = let n = st.knows.sixteen in omega (arith, n, there.1) in
         let single = one.one refl in
@@ -109,6 +110,7 @@ module _ {S : Type 0} (s : Ghosts S) (told : s.tells) (laws : Laws s) (h : State
             xids = goes.xids;
             holds = (all None).0;
             remembers = subst (Remembers after goes.xids (env_of h.shape (s.blocks new.store))) (sym table_is) knows;
+            copies = copies_written h after goes.xids who table key action x (s.blocks old.store) (s.blocks new.store) old.memory.copies new.memory.copies refl refl goes.holds.blocks in_tables made copies goes.copies;
           },
         ))
         (λ before _ keeps. (all before).1 keeps)
@@ -168,6 +170,7 @@ module _ {S : Type 0} (s : Ghosts S) (told : s.tells) (laws : Laws s) (h : State
               remembers = subst (Remembers now goes.xids (env_of h.shape (s.blocks new.store))) (sym table_is)
                   (queue_remembered h now.queue now.asked goes.xids (env_of h.shape (s.blocks new.store)) (with_kept old.memory.sessions who (holding asked (kept_at old.memory.sessions who)))
                   (held_remembered h goes.xids (env_of h.shape (s.blocks new.store)) old.memory.sessions who asked there.0 there.1 (remembers_logged s told laws h goes.xids old.memory.sessions old.store new.store logs goes.remembers)));
+              copies = copies_same h now goes.xids (s.blocks old.store) (s.blocks new.store) old.memory.copies new.memory.copies refl refl (logs.blocks told refl) (ap (λ (k : Kept). k.copies) memory ∙ ap (λ (k : Kept). k.copies) before) goes.copies;
             },
           ))
           (λ fault _ keeps. survives_queue h now.queue now.asked s (s.slots old.store) fault h old.store new.store (survives_same s told laws h h goes.xids old.store new.store true st.shape refl refl refl goes.holds logs keeps))
@@ -234,7 +237,7 @@ module _ {S : Type 0} (s : Ghosts S) (told : s.tells) (laws : Laws s) (h : State
     told = told;
     shape = logs.same_shape ∙ st.shape;
     knows = subst (Knows h) (sym memory) st.knows;
-    goes = λ going. goes_logged s told laws h old mid (st.goes going) logs (ap (λ (k : Kept). k.sessions) memory);
+    goes = λ going. goes_logged s told laws h old mid (st.goes going) logs (ap (λ (k : Kept). k.sessions) memory) (ap (λ (k : Kept). k.copies) memory);
   }
 
   -- the call does what it does without them

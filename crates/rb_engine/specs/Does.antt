@@ -7,6 +7,7 @@ use Rattle.rb_base.specs.declared.ids.Xid.{Xid}
 use Rattle.rb_base.specs.declared.shape.Shape.{Shape}
 use Rattle.rb_base.specs.declared.sizes.TheConstants.{SLOTS}
 use Rattle.rb_base.specs.declared.store.Store.{Ghosts}
+use Rattle.rb_copies.specs.Copies.{CopyTable}
 use Rattle.rb_engine.specs.Retains.{Retains}
 use Rattle.rb_image.specs.Crash.{Survives}
 use Rattle.rb_image.specs.Holds.{Holds}
@@ -19,19 +20,25 @@ use Rattle.rb_model.specs.Rows.{last_scn}
 use Rattle.rb_model.specs.State.{State, asked_of, isolation_of}
 use Rattle.rb_model.specs.declared.refusal.Refusal.{Refusal}
 use Rattle.rb_model.specs.declared.wrote.Wrote.{Wrote}
+use Rattle.rb_outliving.specs.Copies.{CopiesStand}
 use Rattle.rb_sessions.specs.Kept.{KeptSession, kept_at}
 use Rattle.rb_sessions.specs.declared.sessions.TheConstants.{SESSIONS}
 use Rattle.rb_standing.specs.Standing.{env_of}
 use Rattle.rb_views.specs.Views.{Remembers}
 use Rattle.rb_waits.specs.Room.{AreQueuedOnce}
 
--- what the engine has in memory: the table of sessions, the queue of those that wait, the last commit number, and
--- whether the disk has failed
+-- what the engine has in memory: the table of sessions, the queue of those that wait, the last commit number, whether
+-- the disk has failed, and the homes that are kept for readers
 pub record Kept : Type 0 where
   pub sessions : List KeptSession
   pub waits : List Waiter
   pub scn : ℕ
   pub stopped : Bool
+  pub copies : CopyTable
+
+-- the same memory with these homes kept
+abbrev pub with_copies : CopyTable → Kept → Kept
+with_copies copies kept = record kept { copies = copies }
 
 -- an engine: its memory, and the store
 pub record EngineView (S : Type 0) : Type 0 where
@@ -92,11 +99,13 @@ abbrev pub KnowsModes : State → Kept → Type 0
 KnowsModes h kept = h.stopped ≡ false → (u : ℕ) → 1 ≤ u → u ≤ SESSIONS
     → (kept_at kept.sessions u).isolation ≡ isolation_of h u
 
--- An engine that goes on stands for a state: its store's blocks do, and the table of sessions remembers it.
+-- An engine that goes on stands for a state: its store's blocks do, the table of sessions remembers it, and each home
+-- that is kept stands for what it had at the home's number.
 pub record Goes {S : Type 0} (s : Ghosts S) (h : State) (e : EngineView S) : Type 0 where
   pub xids : List Xid
   pub holds : Holds s h xids e.store
   pub remembers : Remembers h xids (env_of h.shape (s.blocks e.store)) e.memory.sessions
+  pub copies : CopiesStand h xids (s.blocks e.store) e.memory.copies.kept
 
 -- An engine stands for a state. Of one that is stopped only the answers that are left are told. An engine over a store
 -- that tells nothing stands for none.

@@ -2,6 +2,7 @@
 use Rattle.std.specs.Prelude.{◌≡◌, ◌+◌, ◌-◌, ◌*◌, ◌∷◌, ◌++◌, ℕ, Bool, true, false}
 use Rattle.std.specs.Prelude.{length, take, [], Option, None, Some, List, Result, Ok, Err}
 use Rattle.rb_base.specs.declared.ids.Xid.{Xid}
+use Rattle.rb_aging.specs.Kept.{SegmentsAge}
 use Rattle.rb_base.specs.declared.store.Store.{Ghosts}
 use Rattle.rb_image.specs.Crash.{Survives}
 use Rattle.rb_image.specs.Holds.{Holds}
@@ -14,7 +15,7 @@ use Rattle.rb_model.specs.declared.refusal.Refusal.{Refusal}
 use Rattle.rb_model.specs.declared.refusal.Refusal.TheVariants.{DiskFault}
 use Rattle.rb_standing.specs.Groups.{IsCommitted, IsEnded}
 use Rattle.rb_standing.specs.NextStates.{with_own}
-use Rattle.rb_standing.specs.Standing.{env_of}
+use Rattle.rb_standing.specs.Standing.{env_of, segments_of}
 
 -- where the disk failed in a call, a crash leaves the state or what such a call may have left
 abbrev pub Fails : {S : Type 0} → Ghosts S → Option Call → State → S → S → Type 0
@@ -33,7 +34,8 @@ Commits s h xids who x old new true = Holds s (committed h who x.seg x.slot) (xi
     × IsCommitted h.shape (16 * x.seg + x.slot) (last_scn h.commits + 1) (s.blocks old) (s.blocks new)
 Commits s h xids who x old new false = Fails s (Some (Commit who)) h old new
 
--- the put back of its changes but for so many, its first ones, by the transaction of that id
+-- the put back of its changes but for so many, its first ones, by the transaction of that id; the segments are older
+-- then
 abbrev pub PutsBack : {S : Type 0} → Ghosts S → State → List Xid → ℕ → ℕ → Xid → S → S → Bool
     → Type 0
 PutsBack s h xids who kept x old new true = Holds s (with_own h who (take kept (session_own h who))) xids new
@@ -41,6 +43,7 @@ PutsBack s h xids who kept x old new true = Holds s (with_own h who (take kept (
     × ((before : Option Call) → s.keeps
     → Survives s (s.slots old) before h (with_own h who (take kept (session_own h who))) old new)
     × BackOver h.shape (16 * x.seg + x.slot) (length (session_own h who) - kept) (s.blocks old) (s.blocks new)
+    × SegmentsAge (segments_of h.shape (s.blocks old)) (segments_of h.shape (s.blocks new))
 PutsBack s h xids who kept x old new false = (fault : Option Call) → Fails s fault h old new
 
 -- its rollback, whatever cursors it keeps
@@ -54,6 +57,7 @@ PutsAllBack s h xids who x old new true = (cursors : List Cursor)
     × ((middle : List (List ℕ))
     × BackOver h.shape (16 * x.seg + x.slot) (length (session_own h who)) (s.blocks old) middle
     × IsEnded h.shape (16 * x.seg + x.slot) middle (s.blocks new))
+    × SegmentsAge (segments_of h.shape (s.blocks old)) (segments_of h.shape (s.blocks new))
 PutsAllBack s h xids who x old new false = (fault : Option Call) → Fails s fault h old new
 
 -- a commit answered no number, nor a fault of the disk: it ended a transaction without changes, or was refused

@@ -57,7 +57,7 @@ pub fn do_fetch<T: Store>(
     let Some(cursor) = memory.sessions.cursor(s, name) else {
         return Err(Refusal::NoCursor);
     };
-    match next_row(store, scratch, &cursor, row) {
+    match next_row(store, scratch, &mut memory.copies, &cursor, row) {
         Ok(Fetched::Row) => {
             memory.sessions.took(s, name, row.key);
             Ok(Fetched::Row)

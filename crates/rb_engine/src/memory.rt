@@ -1,16 +1,19 @@
 //! What the engine has in memory. It takes no more of it however many changes are made.
 use rb_base::Scn;
+use rb_copies::Copies;
 use rb_sessions::Sessions;
 use rb_waits::Waits;
 use std::marker::Model;
 
-/// The sessions, those of them that wait, the last commit number, and whether the disk has failed.
+/// The sessions, those of them that wait, the last commit number, whether the disk has failed, and the homes that are
+/// kept for readers.
 #[derive(Drop)]
 pub struct Memory {
     pub(crate) sessions: Sessions,
     pub(crate) waits: Waits,
     pub(crate) scn: Scn,
     pub(crate) stopped: bool,
+    pub(crate) copies: Copies,
 }
 
 impl Model for Memory {
@@ -18,7 +21,13 @@ impl Model for Memory {
 
     ghost Value = { Kept };
 
-    ghost view = { λ a. record { sessions = a.sessions; waits = a.waits; scn = a.scn; stopped = a.stopped } };
+    ghost view = { λ a. record {
+      sessions = a.sessions;
+      waits = a.waits;
+      scn = a.scn;
+      stopped = a.stopped;
+      copies = a.copies;
+    } };
 }
 
 impl Memory {

@@ -15,6 +15,7 @@ ghost use Rattle.rb_sound.specs.Sound.{AreSound};
 use crate::engine::Engine;
 use crate::memory::Memory;
 use rb_base::{Failed, OpenFault, Store};
+use rb_copies::{COPIES, Copies};
 use rb_cr::Scratch;
 use rb_opening::open_blocks;
 use rb_segment::commit_scn_of;
@@ -22,14 +23,25 @@ use rb_sessions::Sessions;
 use rb_waits::Waits;
 use std::alloc::Global;
 
+/// The table of kept homes, without any; one that never keeps any where there is no memory for it.
+fn new_copies(alloc: Global) -> Copies
+    ensures { result.kept ≡ [] }
+{
+    match Copies::new(alloc, COPIES) {
+        Ok(copies) => copies,
+        Err(_) => Copies::none(),
+    }
+}
+
 /// A memory of sessions that have done nothing yet, over the commits that the blocks have.
-fn new_memory<T: Store>(store: &mut T) -> Result<Memory, Failed>
+fn new_memory<T: Store>(store: &mut T, copies: Copies) -> Result<Memory, Failed>
     requires going { T.failed store.old ≡ false }
     ensures sessions { IfOk result (λ memory. memory.sessions ≡ replicate SESSIONS fresh) }
     ensures waits { IfOk result (λ memory. memory.waits ≡ []) }
     ensures scn { T.tells → IfOk result (λ memory. memory.scn
         ≡ commit_scn (T.shape_of store.old) (T.blocks store.old)) }
     ensures going { IfOk result (λ memory. memory.stopped ≡ false) }
+    ensures copies { IfOk result (λ memory. memory.copies ≡ copies) }
     ensures logs { Logs T.Store store.old store.new [] (not (is_err result)) }
 {
     let scn = commit_scn_of(store)?;
@@ -38,11 +50,13 @@ fn new_memory<T: Store>(store: &mut T) -> Result<Memory, Failed>
         waits: Waits::new(),
         scn,
         stopped: false,
+        copies,
     })
 }
 
 /// What `Engine::open` does with a store: the memory of the engine over it.
-fn open_memory<T: Store>(store: &mut T) -> Result<Memory, OpenFault>
+fn open_memory<T: Store>(store: &mut T, copies: Copies) -> Result<Memory, OpenFault>
+    requires empty { copies.kept ≡ [] }
     requires going { T.failed store.old ≡ false }
     requires few { T.lsn store.old ≤ 2 ^ 61 + 4096 }
     ensures step { IfOk result (λ memory. IsInStep T.Store memory store.new) }
@@ -62,13 +76,18 @@ fn open_memory<T: Store>(store: &mut T) -> Result<Memory, OpenFault>
     ensures same { SameStore T.Store store.old store.new }
     ensures counted { IsCountedAs (T.faults store.old) (T.faults store.new) (err_is is_failed result) }
 {
-    let memory = new_memory(store)?;
+    let memory = new_memory(store, copies)?;
     open_blocks(store)?;
     Ok(memory)
 }
 
-/// The engine over a store that can be opened, with that room for homes that are rebuilt.
-fn open_with<T: Store>(scratch: Scratch, store: T) -> Result<Engine<T>, (OpenFault, T)>
+/// The engine over a store that can be opened, with that room for homes that are rebuilt, and that table of kept ones.
+fn open_with<T: Store>(
+    scratch: Scratch,
+    copies: Copies,
+    store: T,
+) -> Result<Engine<T>, (OpenFault, T)>
+    requires empty { copies.kept ≡ [] }
     requires going { T.failed store ≡ false }
     requires few { T.lsn store ≤ 2 ^ 61 + 4096 }
     ensures opened { T.tells → (h : State) → OpensTo T.Store h store
@@ -89,7 +108,7 @@ fn open_with<T: Store>(scratch: Scratch, store: T) -> Result<Engine<T>, (OpenFau
     ensures counted_err { IfErr result (λ r. IsCountedAs (T.faults store) (T.faults r.1) (is_failed r.0)) }
 {
     let mut store = store;
-    match open_memory(&mut store) {
+    match open_memory(&mut store, copies) {
         Ok(memory) => Ok(Engine {
             memory,
             scratch,
@@ -124,7 +143,7 @@ impl<T: Store> Engine<T> {
         ensures counted_err { IfErr result (λ r. IsCountedAs (T.faults store) (T.faults r.1) (is_failed r.0)) }
     {
         match Scratch::new(alloc) {
-            Ok(scratch) => open_with(scratch, store),
+            Ok(scratch) => open_with(scratch, new_copies(alloc), store),
             Err(_) => Err((OpenFault::NoMemory, store)),
         }
     }

@@ -12,9 +12,11 @@ ghost use Rattle.rb_engine.specs.Cleaning.{Cleans, IsHere, MustIn, ReadIn, Serve
 ghost use Rattle.rb_engine.specs.Scanning.{Begins, Finds, HasKey, HasNext, HasNone, IsBehind};
 ghost use Rattle.rb_model.specs.Next.{is_after};
 ghost use Rattle.rb_model.specs.State.{State};
+ghost use Rattle.rb_outliving.specs.Copies.{CopiesStand};
 ghost use Rattle.rb_views.specs.Scan.{IsAskedKey};
 
 use rb_base::Store;
+use rb_copies::Copies;
 use rb_cr::{CrFault, Scratch, Snapshot, Wanted, next_at};
 use rb_model::{Fetched, Row};
 use rb_sessions::Cursor;
@@ -94,10 +96,12 @@ fn is_asked(cursor: &Cursor, blocks: u32, g: u32) -> bool
 }
 
 /// Puts the next row of home `g` into `row`, where it has one. The home is cleaned first, unless the log is worn out,
-/// so that what is known of its transactions now is still known when their undo is gone.
+/// so that what is known of its transactions now is still known when their undo is gone; then it is rebuilt with the
+/// help of the homes that are kept.
 fn next_in<S: Store>(
     store: &mut S,
     scratch: &mut Scratch,
+    copies: &mut Copies,
     cursor: &Cursor,
     g: u32,
     first: u32,
@@ -108,15 +112,20 @@ fn next_in<S: Store>(
     requires there { g < (S.shape_of store.old).blocks }
     requires begins { Begins (S.shape_of store.old).blocks first g cursor.now.last }
     ensures told { S.tells → (h : State) (xids : List Xid) → Serves S.Store h xids cursor.now store.old
+        → CopiesStand h xids (S.blocks store.old) copies.old.kept
         → IfOk result (λ found.
         (found ≡ true → HasNext h xids (S.blocks store.old) cursor.now g row.new)
         × (found ≡ false → HasNone h xids (S.blocks store.old) cursor.now g)) }
     ensures old { S.tells → (h : State) (xids : List Xid) → Serves S.Store h xids cursor.now store.old
+        → CopiesStand h xids (S.blocks store.old) copies.old.kept
         → IfErr result (λ fault. HasKey h.shape.blocks cursor.now.lo cursor.now.hi g
         × IsBehind h xids (S.blocks store.old) cursor.now g fault) }
     ensures cleans { S.tells → (h : State) (xids : List Xid) → Serves S.Store h xids cursor.now store.old
         → Cleans S.Store h xids (IsHere h.shape cursor.now g) (IsHere h.shape cursor.now g) 1 store.old store.new
         (not (is_failed result)) }
+    ensures copies { S.tells → (h : State) (xids : List Xid) → Serves S.Store h xids cursor.now store.old
+        → CopiesStand h xids (S.blocks store.old) copies.old.kept → is_failed result ≡ false
+        → CopiesStand h xids (S.blocks store.new) copies.new.kept }
     ensures kept { IfOk result (λ found. found ≡ false → row.new ≡ row.old) }
     ensures same { IfErr result (λ fault. row.new ≡ row.old) }
     ensures logs { (groups : List (List Patch))
@@ -142,7 +151,7 @@ fn next_in<S: Store>(
         lo: cursor.lo,
         hi: cursor.hi,
     };
-    next_at(store, block, &snapshot, wanted, scratch, row)
+    next_at(store, block, &snapshot, wanted, scratch, copies, row)
 }
 
 /// Puts the cursor's next row into `row`, where there is one. The homes are read from that of the last row on, up to
@@ -151,17 +160,23 @@ fn next_in<S: Store>(
 pub fn next_row<S: Store>(
     store: &mut S,
     scratch: &mut Scratch,
+    copies: &mut Copies,
     cursor: &Cursor,
     row: &mut Row,
 ) -> Result<Fetched, CrFault>
     requires going { S.failed store.old ≡ false }
     requires table { (1 ≤ cursor.now.table) × (cursor.now.table ≤ (S.shape_of store.old).tables) }
     ensures found { S.tells → (h : State) (xids : List Xid) → Serves S.Store h xids cursor.now store.old
+        → CopiesStand h xids (S.blocks store.old) copies.old.kept
         → Finds h xids (S.blocks store.old) cursor.now result row.new }
     ensures cleans { S.tells → (h : State) (xids : List Xid) → Serves S.Store h xids cursor.now store.old
+        → CopiesStand h xids (S.blocks store.old) copies.old.kept
         → Cleans S.Store h xids (ReadIn h xids (S.blocks store.old) cursor.now)
         (MustIn h xids (S.blocks store.old) cursor.now result) h.shape.blocks store.old store.new
         (not (is_failed result)) }
+    ensures copies { S.tells → (h : State) (xids : List Xid) → Serves S.Store h xids cursor.now store.old
+        → CopiesStand h xids (S.blocks store.old) copies.old.kept → is_failed result ≡ false
+        → CopiesStand h xids (S.blocks store.new) copies.new.kept }
     ensures kept { IfOk result (λ f. f ≡ Fetched.End → row.new ≡ row.old) }
     ensures same { IfErr result (λ fault. row.new ≡ row.old) }
     ensures logs { (groups : List (List Patch)) × Logs S.Store store.old store.new groups (not (is_failed result)) }
@@ -172,7 +187,7 @@ pub fn next_row<S: Store>(
     let first = first_home(cursor, blocks);
     let end = end_home(cursor, blocks);
     for g in first..end {
-        match next_in(store, scratch, cursor, g, first, row) {
+        match next_in(store, scratch, copies, cursor, g, first, row) {
             Err(fault) => return Err(fault),
             Ok(true) => return Ok(Fetched::Row),
             Ok(false) => {}

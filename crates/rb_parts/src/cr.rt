@@ -268,22 +268,23 @@ fn eighty_commits(rt: &HostRuntime) -> Result<Loads, Fail> {
     Ok(Loads::new(store))
 }
 
-/// How many records are taken back, each of which is a load of its block, until home 0 shows this value of row 1 to a
-/// reader at that number, with the help of kept homes where a table of them is given. None where it doesn't.
+/// How many records are taken back, each of which is a load of its block, until a home shows this row alone to a reader
+/// at that number, with the help of kept homes where a table of them is given. None where it doesn't.
 fn records_back(
     loads: &mut Loads,
+    home: BlockNo,
     scratch: &mut Scratch,
     copies: Option<&mut Copies>,
     scn: Scn,
-    value: &[u8],
+    row: (u64, &[u8]),
 ) -> Option<u32> {
     let snapshot = Snapshot {
         scn,
         own: None,
         upto: 0,
     };
-    let built = counted::<_, Brand>(loads, 0, snapshot, scratch, copies, Blank::new(1));
-    if built.is_err() || !shows(scratch, &[(1, value)]) {
+    let built = counted::<_, Brand>(loads, home, snapshot, scratch, copies, Blank::new(1));
+    if built.is_err() || !shows(scratch, &[row]) {
         return None;
     }
     Some(loads.take())
@@ -298,12 +299,63 @@ fn build_from_copy(rt: HostRuntime) -> Result<(), Fail> {
     let mut copies = Copies::new(rt.alloc(), COPIES)?;
     let builds: [(Scn, &[u8], u32); 3] = [(40, b"u", 40), (1, b"a", 39), (1, b"a", 0)];
     for (scn, value, count) in builds {
-        let back = records_back(&mut loads, &mut scratch, Some(&mut copies), scn, value);
+        let back = records_back(
+            &mut loads,
+            0,
+            &mut scratch,
+            Some(&mut copies),
+            scn,
+            (1, value),
+        );
         assert!(rt; back == Some(count), "{count} records back to {scn}");
     }
     let mut none = Copies::none();
-    assert!(rt; records_back(&mut loads, &mut scratch, Some(&mut none), 1, b"a") == Some(79));
-    assert!(rt; records_back(&mut loads, &mut scratch, None, 1, b"a") == Some(79));
+    assert!(rt;
+        records_back(&mut loads, 0, &mut scratch, Some(&mut none), 1, (1, b"a")) == Some(79)
+    );
+    assert!(rt; records_back(&mut loads, 0, &mut scratch, None, 1, (1, b"a")) == Some(79));
+    Ok(())
+}
+
+/// A table of one block more than homes are kept, and a segment.
+const MANY_BLOCKS: Shape = Shape {
+    tables: 1,
+    blocks: 33,
+    segments: 1,
+};
+
+/// Makes the same write of one key in each home of such a table, and commits. Answers whether all was done.
+fn commit_in_each(writers: &mut Writers, op: Op<'_>) -> bool {
+    for key in 0..u64::from(MANY_BLOCKS.blocks) {
+        if writers.write(1, 1, key, Some(op)).is_err() {
+            return false;
+        }
+    }
+    writers.commit(1).is_ok()
+}
+
+// Each home shows `a` at commit 1, behind one record. The home that is kept of block 32 takes the place of that of
+// block 0, and the one that is built of block 0 again that of block 1.
+#[test]
+fn oldest_kept_home_gives_way(rt: HostRuntime) -> Result<(), Fail> {
+    let mut writers = Writers::new(rt.alloc(), MANY_BLOCKS)?;
+    assert!(rt; commit_in_each(&mut writers, Op::Insert(b"a")));
+    assert!(rt; commit_in_each(&mut writers, Op::Update(b"b")));
+    let Writers { store, .. } = writers;
+    let mut loads = Loads::new(store);
+    let mut scratch = Scratch::new(rt.alloc())?;
+    let mut copies = Copies::new(rt.alloc(), COPIES)?;
+    for home in 0..MANY_BLOCKS.blocks {
+        let row = (u64::from(home), b"a".as_slice());
+        let back = records_back(&mut loads, home, &mut scratch, Some(&mut copies), 1, row);
+        assert!(rt; back == Some(1), "home {home}");
+    }
+    let again: [(BlockNo, u32); 6] = [(32, 0), (2, 0), (0, 1), (2, 0), (1, 1), (3, 1)];
+    for (home, count) in again {
+        let row = (u64::from(home), b"a".as_slice());
+        let back = records_back(&mut loads, home, &mut scratch, Some(&mut copies), 1, row);
+        assert!(rt; back == Some(count), "home {home} again");
+    }
     Ok(())
 }
 

@@ -1030,7 +1030,7 @@ fetch 1 c 5
 // What the undo keeps and gives up, and full blocks.
 #[test]
 fn undo_and_restarts(rt: HostRuntime) -> Result<(), Fail> {
-    let rows: [(&str, &[u8]); 9] = [
+    let rows: [(&str, &[u8]); 10] = [
         ("rollback full", ROLLBACK_FULL),
         ("restart rolls back", RESTART),
         ("restart rolls back, marks", RESTART_MARKS),
@@ -1038,6 +1038,7 @@ fn undo_and_restarts(rt: HostRuntime) -> Result<(), Fail> {
         ("undo extents", UNDO_EXTENTS),
         ("undo slots", UNDO_SLOTS),
         ("undo ring reuse", UNDO_RING_REUSE),
+        ("frozen changes, a copy", FROZEN_BESIDE_A_COPY),
         ("block full until commit", BLOCK_FULL_UNTIL_COMMIT),
         ("block full", BLOCK_FULL),
     ];
@@ -1475,6 +1476,23 @@ fetch 2 d 9
 #> 2 end
 ";
 
+// The copy that is made for `r` has no row. `c` has frozen a change of its own, which was committed since, and sees it.
+const FROZEN_BESIDE_A_COPY: &[u8] = b"\
+insert 1 1 1 a
+#> 1 ok
+open 2 r 1 0 9
+#> 2 ok
+open 1 c 1 0 9
+#> 1 ok
+commit 1
+#> 1 committed 1
+fetch 2 r 1
+#> 2 end
+fetch 1 c 5
+#> 1 row 1 a
+#> 1 end
+";
+
 // Sixteen keys of one home. The cell of a deleted row is free once its delete is committed.
 const BLOCK_FULL_UNTIL_COMMIT: &[u8] = b"\
 #* 0 15
@@ -1517,10 +1535,11 @@ insert 2 1 16 a
 
 #[test]
 fn two_blocks(rt: HostRuntime) -> Result<(), Fail> {
-    let rows: [(&str, &[u8]); 3] = [
+    let rows: [(&str, &[u8]); 4] = [
         ("two blocks", TWO_BLOCKS),
         ("bound above snapshot", BOUND_ABOVE_SNAPSHOT),
         ("reader cleans", READER_CLEANS),
+        ("copy outlives undo", COPY_OUTLIVES_UNDO),
     ];
     let file = formatted(rt.alloc(), FORMAT_TWO_BLOCKS)?;
     check_each(&rt, rt.alloc(), &file, &rows)?;
@@ -1612,6 +1631,37 @@ fetch 2 c 1
 #> 2 end
 marks
 #> segment 0 writes 17 lost 1
+";
+
+// Key 1 is of another home, so home 0 stays as it was when its copy was made for `c`. Record 81 takes the place of
+// record 2, but `d` at the same snapshot needs it no more.
+const COPY_OUTLIVES_UNDO: &[u8] = b"\
+insert 1 1 0 a
+#> 1 ok
+commit 1
+#> 1 committed 1
+open 2 c 1 0 9
+#> 2 ok
+open 2 d 1 0 9
+#> 2 ok
+update 1 1 0 b
+#> 1 ok
+commit 1
+#> 1 committed 2
+fetch 2 c 1
+#> 2 row 0 a
+insert 1 1 1 z
+#> 1 ok
+commit 1
+#> 1 committed 3
+#* 4 81
+update 1 1 1 z
+#> 1 ok
+commit 1
+#> 1 committed @
+#.
+fetch 2 d 1
+#> 2 row 0 a
 ";
 
 // A reader comes as the log is full: 63 of its 64 slots have groups. It cleans the home all the same, by one more.

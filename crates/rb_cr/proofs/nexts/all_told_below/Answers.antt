@@ -1,21 +1,15 @@
-use Rattle.std.proofs.Common.{◌<◌, ℕ, List, length, inl, inr, sym, ap, ◌∙◌, subst, arith}
+use Rattle.std.proofs.Common.{◌<◌, ℕ, List, inl, inr, sym, subst, arith}
 use Rattle.std.proofs.lemmas.Bool.{cases_eq, cases_lt}
-use Rattle.std.proofs.lemmas.List.{get_or-map, get_or_past, length-map}
+use Rattle.std.proofs.lemmas.List.{get_or_past, length-map}
 use Rattle.rb_base.specs.declared.shape.Shape.{Shape}
-use Rattle.rb_heap.proofs.Reading.{entries_counted, entry_read}
+use Rattle.rb_heap.proofs.Reading.{entries_counted}
 use Rattle.rb_heap.specs.Homes.{home_of}
-use Rattle.rb_itl.specs.Entries as bytes
 use Rattle.rb_itl.specs.declared.slots.Entry.{Entry}
 use Rattle.rb_rebuild.specs.Heights.{AtMost}
 use Rattle.rb_standing.specs.Says.{walk_entry, walk_home}
 use Rattle.rb_walk.specs.Walk.{Env, entry_at, free_entry}
+use Rattle.rb_cr.proofs.EntryBytes.{of_home}
 use Rattle.rb_cr.proofs.nexts.all_told_below.Goals as goal
-
--- what is said of an entry's bytes is said of the home's
-of_home : (block : List ℕ) (scn i : ℕ) (shape : Shape) (env : Env) (b : ℕ) → i < 8 → AtMost env scn scn (walk_entry shape (bytes.entry_at block i)) → AtMost env scn scn (entry_at (walk_home shape b (home_of block)) i)
-of_home block scn i shape env b lt is =
-    let within : i < length (home_of block).entries = omega (arith, lt, entries_counted block) in
-    subst (AtMost env scn scn) (sym (get_or-map (walk_entry shape) (home_of block).entries i bytes.free_entry free_entry within ∙ ap (walk_entry shape) (entry_read block i bytes.free_entry lt))) is
 
 -- a place behind the eighth has no entry
 behind : (block : List ℕ) (scn i : ℕ) (shape : Shape) (env : Env) (b : ℕ) → (i < 8 → ⊥) → AtMost env scn scn (entry_at (walk_home shape b (home_of block)) i)
@@ -28,7 +22,7 @@ loop-i-preserved c = λ shape env b j up. elim (cases_eq j c.loop-i.i) [
       let block = c.args.block.now in
       let told = subst (λ (e : Entry). AtMost env c.args.scn c.args.scn (walk_entry shape e)) c.entry.ensures (c.is_told_below.ensures c.if-not-is_told_below.false shape env) in
       subst (λ (n : ℕ). AtMost env c.args.scn c.args.scn (entry_at (walk_home shape b (home_of block)) n)) (sym is)
-      (of_home block c.args.scn c.loop-i.i shape env b (let lt = c.loop-i-test.true in omega (arith, lt)) told)
+      (subst (AtMost env c.args.scn c.args.scn) (sym (of_home block c.loop-i.i shape b (let lt = c.loop-i-test.true in omega (arith, lt)))) told)
   | inr ne ↦ c.loop-i.invariant shape env b j (omega (arith, up, ne))
 ]
 

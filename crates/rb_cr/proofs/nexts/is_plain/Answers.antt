@@ -1,4 +1,4 @@
-use Rattle.std.proofs.Common.{rules, ◌≡◌, ℕ, List, [], Ok, not, subst}
+use Rattle.std.proofs.Common.{rules, ◌≡◌, ℕ, List, [], Ok, not, sym, subst}
 use Rattle.std.specs.Result.{is_err}
 use Rattle.rb_base.specs.Blocks.{block_of}
 use Rattle.rb_base.specs.Logs.{load_logs, more_logs}
@@ -18,6 +18,15 @@ returns-then-all_told_below-clause-told g c = λ tells yes j.
     let env = env_of (s.shape_of old) (s.blocks old) in
     let same : c.block.result.now ≡ block_of (s.blocks old) c.args.block = search rules in
     subst (λ (l : List ℕ). AtMost env c.args.scn c.args.scn (entry_at (walk_home (s.shape_of old) c.args.block (home_of l)) j)) same (c.all_told_below.ensures c.if-all_told_below.true (s.shape_of old) env c.args.block j)
+
+pub returns-then-any_told_above-clause-busy : goal.returns-then-any_told_above-clause-busy
+returns-then-any_told_above-clause-busy g c = λ tells no quiet.
+    let s = g.S.Store in
+    let old = c.args.store.now in
+    let env = env_of (s.shape_of old) (s.blocks old) in
+    let same : c.block-2.result.now ≡ block_of (s.blocks old) c.args.block = search rules in
+    c.any_told_above.ensures c.if-any_told_above.true (s.shape_of old) env c.args.block
+    (λ j. subst (λ (l : List ℕ). AtMost env c.args.scn c.args.scn (entry_at (walk_home (s.shape_of old) c.args.block (home_of l)) j)) (sym same) (quiet j))
 
 pub returns-clause-logs : goal.returns-clause-logs
 returns-clause-logs g c =

@@ -1,9 +1,10 @@
-use Rattle.std.proofs.Common.{◌≡◌, ◌∙◌, [], ℕ, List, Ok, Err, not, refl, sym, ap, true, false}
+use Rattle.std.proofs.Common.{◌≡◌, ◌∙◌, [], ℕ, List, IfErr, Ok, Err, not, refl, sym, ap, true, false}
 use Rattle.rb_base.specs.Blocks.{block_of}
 use Rattle.rb_base.specs.Logs.{load_logs, more_logs}
-use Rattle.rb_cr.specs.Builds.{IsHomeRead}
+use Rattle.rb_base.specs.declared.shape.Shape.{Shape}
 use Rattle.rb_cr.specs.Clauses.{answer_to}
-use Rattle.rb_cr.specs.Faults.{is_failed}
+use Rattle.rb_cr.specs.Copies.{HasNoneIn, IsReadWith, Keeps, ServesAt, Turns, lsn_at}
+use Rattle.rb_cr.specs.Faults.{is_failed, is_fault}
 use Rattle.rb_cr.specs.Rows.{block_rows}
 use Rattle.rb_rebuild.specs.Reading.{History}
 use Rattle.rb_rebuild.proofs.Quiet.{quiet_reads}
@@ -15,12 +16,12 @@ use Rattle.rb_cr.proofs.nexts.next_at.Goals as goal
 
 -- the home is read after the look at its entries as it was before
 after : (g : Over) (c : goal.After-next_rebuilt g) → g.S.Store.tells → (h : History)
-    → IsHomeRead (g.S.Store.shape_of c.args.store.now) (g.S.Store.blocks c.args.store.now) c.args.block h c.args.snapshot.now
-    → IsHomeRead (g.S.Store.shape_of c.is_plain.new.store) (g.S.Store.blocks c.is_plain.new.store) c.args.block h c.args.snapshot.now
+    → IsReadWith (g.S.Store.shape_of c.args.store.now) (g.S.Store.blocks c.args.store.now) c.args.copies.now.kept c.args.block h c.args.snapshot.now
+    → IsReadWith (g.S.Store.shape_of c.is_plain.new.store) (g.S.Store.blocks c.is_plain.new.store) c.args.copies.now.kept c.args.block h c.args.snapshot.now
 after g c told h reading =
     let s = g.S.Store in
     let logs = c.in-Ok-false.ensures.logs in
-    carried (λ shape blocks. IsHomeRead shape blocks c.args.block h c.args.snapshot.now) (s.shape_of c.args.store.now) (s.shape_of c.is_plain.new.store) (s.blocks c.args.store.now) (s.blocks c.is_plain.new.store)
+    carried (λ shape blocks. IsReadWith shape blocks c.args.copies.now.kept c.args.block h c.args.snapshot.now) (s.shape_of c.args.store.now) (s.shape_of c.is_plain.new.store) (s.blocks c.args.store.now) (s.blocks c.is_plain.new.store)
     logs.same_shape (logs.blocks told refl) reading
 
 pub returns-in-Ok-false-clause-given : goal.returns-in-Ok-false-clause-given
@@ -31,6 +32,29 @@ returns-in-Ok-false-clause-none g c = λ told h reading. c.next_rebuilt.ensures.
 
 pub returns-in-Ok-false-clause-logs : goal.returns-in-Ok-false-clause-logs
 returns-in-Ok-false-clause-logs g c = more_logs g.S.Store c.args.store.now c.is_plain.new.store c.next_rebuilt.new.store [] [] (not (is_failed c.next_rebuilt.result)) c.in-Ok-false.ensures.logs c.next_rebuilt.ensures.logs
+
+-- and what is so after it was so before
+before : (g : Over) (c : goal.After-next_rebuilt g) → g.S.Store.tells → (P : Shape → List (List ℕ) → Type 0)
+    → P (g.S.Store.shape_of c.is_plain.new.store) (g.S.Store.blocks c.is_plain.new.store) → P (g.S.Store.shape_of c.args.store.now) (g.S.Store.blocks c.args.store.now)
+before g c told P holds =
+    let s = g.S.Store in
+    let logs = c.in-Ok-false.ensures.logs in
+    carried P (s.shape_of c.is_plain.new.store) (s.shape_of c.args.store.now) (s.blocks c.is_plain.new.store) (s.blocks c.args.store.now)
+    (sym logs.same_shape) (sym (logs.blocks told refl)) holds
+
+pub returns-in-Ok-false-clause-passed_over : goal.returns-in-Ok-false-clause-passed_over
+returns-in-Ok-false-clause-passed_over g c = λ told.
+    let snap = c.args.snapshot.now in
+    before g c told (λ shape blocks. IfErr c.next_rebuilt.result (λ fault. is_fault fault ≡ false → ServesAt shape blocks c.args.copies.now.kept c.args.block snap snap.scn → ⊥)) (c.next_rebuilt.ensures.passed_over told)
+
+pub returns-in-Ok-false-clause-keeps : goal.returns-in-Ok-false-clause-keeps
+returns-in-Ok-false-clause-keeps g c = λ told.
+    before g c told (λ shape blocks. Keeps shape blocks c.args.block c.args.snapshot.now c.args.copies.now.kept c.next_rebuilt.new.copies.kept) (c.next_rebuilt.ensures.keeps told)
+
+pub returns-in-Ok-false-clause-turns : goal.returns-in-Ok-false-clause-turns
+returns-in-Ok-false-clause-turns g c = λ told going busy.
+    let snap = c.args.snapshot.now in
+    before g c told (λ shape blocks. HasNoneIn shape blocks c.args.block snap → Turns c.args.block (lsn_at blocks c.args.block) snap.scn c.next_rebuilt.result c.args.copies.now c.next_rebuilt.new.copies) (c.next_rebuilt.ensures.turns told going)
 
 pub returns-in-Err-load-clause-logs : goal.returns-in-Err-load-clause-logs
 returns-in-Err-load-clause-logs g c =
@@ -50,7 +74,7 @@ returns-in-Ok-clause-logs g c =
 
 -- no change is above the snapshot, so the block that is read shows the rows as they were
 shown : (g : Over) (c : goal.After-next_plain g) → g.S.Store.tells → (h : History)
-    → IsHomeRead (g.S.Store.shape_of c.args.store.now) (g.S.Store.blocks c.args.store.now) c.args.block h c.args.snapshot.now
+    → IsReadWith (g.S.Store.shape_of c.args.store.now) (g.S.Store.blocks c.args.store.now) c.args.copies.now.kept c.args.block h c.args.snapshot.now
     → (k : ℕ) → block_rows c.block.result.now k ≡ answer_to h c.args.snapshot.now k
 shown g c told h reading k =
     let s = g.S.Store in
@@ -59,7 +83,7 @@ shown g c told h reading k =
     let snap = c.args.snapshot.now in
     let read : c.block.result.now ≡ block_of (s.blocks c.load.new.self) c.args.block = c.block.ensures.block told c.args.block c.in-Ok.ensures.loaded in
     let same : s.blocks c.load.new.self ≡ blocks = c.in-Ok.ensures.blocks told ∙ c.in-Ok-true.ensures.logs.blocks told refl in
-    let plain = quiet_reads (env_of shape blocks) h snap.own snap.upto snap.scn (homes_of shape blocks c.args.block) reading (c.in-Ok-true.ensures.told told c.in-Ok-true.field-0-test) in
+    let plain = quiet_reads (env_of shape blocks) h snap.own snap.upto snap.scn (homes_of shape blocks c.args.block) reading.read (c.in-Ok-true.ensures.told told c.in-Ok-true.field-0-test) in
     ap (λ (block : List ℕ). block_rows block k) (read ∙ ap (λ (z : List (List ℕ)). block_of z c.args.block) same) ∙ plain.0 k
 
 pub returns-in-Ok-clause-given : goal.returns-in-Ok-clause-given

@@ -1,40 +1,45 @@
-use Rattle.std.proofs.Common.{◌≡◌, ◌∙◌, ◌<◌, ◌≤◌, ℕ, List, Option, Some, None, IfSome, refl, sym, ap, subst, arith}
-use Rattle.rb_cell.specs.Cells.{cell_at}
-use Rattle.rb_cell.specs.declared.cell.TheConstants.{ROW}
-use Rattle.rb_cr.specs.Records.{row_items}
-use Rattle.rb_cr.specs.Rows.{IsFound, IsWanted, Reaches, block_rows}
-use Rattle.rb_cr.proofs.Shown.{shown_by_cell}
+use Rattle.std.proofs.Common.{◌≡◌, ◌∙◌, ◌<◌, ◌≤◌, ℕ, List, Option, Some, None, get_or, length, refl, sym, ap, subst, arith}
+use Rattle.rb_cell.specs.declared.cell.Cell.{Cell}
+use Rattle.rb_cr.specs.Rows.{IsWanted, NoneLesser, cell_rows}
+use Rattle.rb_cr.proofs.Overlays.{CellWith, cell_with}
+use Rattle.rb_cr.proofs.Shown.{first_shows}
+use Rattle.rb_heap.specs.Homes.{empty_cell}
 use Rattle.rb_cr.proofs.plain.next_plain.Goals as goal
 
--- a key that is asked for and has a row was reached, in its cell
-reaches : (block : List ℕ) (after : Option ℕ) (lo hi : ℕ) (least : Option ℕ)
-    → ((c : ℕ) → c < 16 → (cell_at block c).state ≡ ROW → IsWanted after lo hi (cell_at block c).key → Reaches least (cell_at block c).key)
-    → (k : ℕ) (v : List ℕ) → IsWanted after lo hi k → block_rows block k ≡ Some v → Reaches least k
-reaches block after lo hi least cells k v wanted is =
-    let at = shown_by_cell block k v is in
-    subst (λ (z : ℕ). Reaches least z) at.3 (cells at.0 at.1 at.2 (subst (λ (z : ℕ). IsWanted after lo hi z) (sym at.3) wanted))
+-- a cell was found whose key is up to that of a row that is wanted
+found_up_to : (cells : List Cell) (after : Option ℕ) (lo hi n : ℕ) (found : Option ℕ) → NoneLesser after lo hi cells n found → ((i : ℕ) → i < length cells → i < n)
+    → (k : ℕ) (v : List ℕ) → IsWanted after lo hi k → cell_rows cells k ≡ Some v → (c : ℕ) × (found ≡ Some c) × ((get_or cells c empty_cell).key ≤ k)
+found_up_to cells after lo hi n found lesser all k v wanted is =
+    let with : CellWith cells k = cell_with cells k v is in
+    let one = lesser with.0 (all with.0 with.1) with.2 (subst (λ (z : ℕ). IsWanted after lo hi z) (sym with.3) wanted) in
+    (one.0, one.1, omega (arith, one.2, with.3))
 
 pub returns-in_default-clause-none : goal.returns-in_default-clause-none
-returns-in_default-clause-none c = λ _ k wanted. by_row k wanted (block_rows c.args.block.now k) refl
+returns-in_default-clause-none g c = λ _ k wanted. by_row k wanted (cell_rows (g.C.PlainCells.all c.args.cells.now) k) refl
   where
-    by_row : (k : ℕ) → IsWanted c.args.wanted.after c.args.wanted.lo c.args.wanted.hi k → (o : Option (List ℕ)) → block_rows c.args.block.now k ≡ o → o ≡ None
+    by_row : (k : ℕ) → IsWanted c.args.wanted.after c.args.wanted.lo c.args.wanted.hi k → (o : Option (List ℕ)) → cell_rows (g.C.PlainCells.all c.args.cells.now) k ≡ o → o ≡ None
     by_row k wanted None is = refl
     by_row k wanted (Some v) is =
-        let r : Reaches c.least_at.result k = reaches c.args.block.now c.args.wanted.after c.args.wanted.lo c.args.wanted.hi c.least_at.result c.least_at.ensures.reached k v wanted is in
-        absurd (c.in_default.not-Some r.0 r.1)
+        let w = c.args.wanted in
+        let all = g.C.PlainCells.all c.args.cells.now in
+        let one = found_up_to all w.after w.lo w.hi (length all) c.least_at.result c.least_at.ensures.lesser (λ i lt. lt) k v wanted is in
+        absurd (c.in_default.not-Some one.0 one.1)
 
 pub returns-clause-given : goal.returns-clause-given
-returns-clause-given c = λ _.
-    let block = c.args.block.now in
+returns-clause-given g c = λ _.
+    let all = g.C.PlainCells.all c.args.cells.now in
     let w = c.args.wanted in
-    let here : IsFound w.after w.lo w.hi (block_rows block) c.in-Some.key = subst (λ (o : Option ℕ). IfSome o (λ k. IsFound w.after w.lo w.hi (block_rows block) k)) c.in-Some.is c.least_at.ensures.found in
+    let here = c.in-Some.ensures.found in
+    let key = c.front.ensures.key in
     record {
-      wanted = here.0;
-      shows = sym (ap row_items (sym c.in-Some-value_at.is) ∙ c.value_at.ensures);
+      wanted = subst (λ (k : ℕ). IsWanted w.after w.lo w.hi k) (sym key) here.wanted;
+      shows = ap (cell_rows all) key ∙ (first_shows all c.in-Some.c here.there here.state here.first ∙ ap Some (sym c.value-row.ensures));
       least = λ k v wanted is.
-          let r : Reaches c.least_at.result k = reaches block w.after w.lo w.hi c.least_at.result c.least_at.ensures.reached k v wanted is in
-          lesser r.0 k c.in-Some.key (sym r.1 ∙ c.in-Some.is) r.2;
+          let one = found_up_to all w.after w.lo w.hi (length all) c.least_at.result c.least_at.ensures.lesser (λ i lt. lt) k v wanted is in
+          up_to one.0 k (sym one.1 ∙ c.in-Some.is) one.2;
     }
   where
-    lesser : (m k key : ℕ) → Some m ≡ Some key → m ≤ k → key ≤ k
-    lesser m k key is le = let same : m ≡ key = cc in omega (arith, same, le)
+    up_to : (m k : ℕ) → Some m ≡ Some c.in-Some.c → (get_or (g.C.PlainCells.all c.args.cells.now) m empty_cell).key ≤ k → c.front.result.key ≤ k
+    up_to m k is le =
+        let same : m ≡ c.in-Some.c = cc in
+        omega (arith, c.front.ensures.key, subst (λ (n : ℕ). (get_or (g.C.PlainCells.all c.args.cells.now) n empty_cell).key ≤ k) same le)

@@ -7,8 +7,10 @@ use Rattle.rb_cr.specs.declared.faults.CrFault.{CrFault}
 use Rattle.rb_cr.specs.declared.faults.CrFault.TheVariants as faults
 use Rattle.rb_engine.specs.Cleaning.{Cleans, ReadIn}
 use Rattle.rb_model.specs.State.{State}
-use Rattle.rb_engine.specs.Does.{EngineView, Kept}
-use Rattle.rb_engine.proofs.DoesLemmas.{does_fault, does_refused, does_refused_late}
+use Rattle.rb_outliving.specs.Copies.{CopiesStand}
+use Rattle.rb_engine.specs.Does.{with_copies, EngineView, Kept}
+use Rattle.rb_engine.proofs.CopyLemmas.{knows_copies}
+use Rattle.rb_engine.proofs.DoesLemmas.{does_fault_known, does_refused, does_refused_late, knows_stop}
 use Rattle.rb_engine.proofs.FetchLemmas.{answer_by, cleans_read, does_end, does_old, does_row, needs_lost, not_old, read_by, same_old, serves}
 use Rattle.rb_engine.proofs.StepLemmas.{few_young, fit_at, fit_taken, in_step_moved, in_step_young, named_in, queue_moved}
 use Rattle.rb_model.specs.Calls as machine
@@ -82,7 +84,7 @@ returns-in-Ok-Row-clause-step g c =
     let kept = c.args.memory.now in
     let old = c.args.store.now in
     let new = c.next_row.new.store in
-    let now : Kept = record { sessions = c.took.new.self; waits = c.memory.inside.waits; scn = c.memory.inside.scn; stopped = c.memory.inside.stopped } in
+    let now : Kept = record { sessions = c.took.new.self; waits = c.memory.inside.waits; scn = c.memory.inside.scn; stopped = c.memory.inside.stopped; copies = c.next_row.new.copies } in
     let logs = c.in-Ok-Row.ensures.logs.1 in
     let step = c.requires.step in
     let at = kept_at kept.sessions c.args.s in
@@ -106,9 +108,9 @@ returns-in-Ok-Row-clause-did g c = λ h st.
     let table_is : c.memory.inside.sessions ≡ kept.sessions = ap (λ (k : Kept). k.sessions) c.memory.view_is in
     let is_named = ap (λ (l : List KeptSession). named name (kept_at l c.args.s).cursors) (sym table_is) ∙ (sym c.cursor.ensures ∙ c.in-Some.is) in
     does_row s (laws_of g) h (record { memory = kept; store = c.args.store.now }) st (sym st.knows.stopped ∙ e.going) c.args.s e.session name (e.granted h st.knows) c.in-Some.cursor is_named
-    (record { memory = record { sessions = c.took.new.self; waits = c.memory.inside.waits; scn = c.memory.inside.scn; stopped = c.memory.inside.stopped }; store = c.next_row.new.store })
+    (record { memory = record { sessions = c.took.new.self; waits = c.memory.inside.waits; scn = c.memory.inside.scn; stopped = c.memory.inside.stopped; copies = c.next_row.new.copies }; store = c.next_row.new.store })
     (record { shape = logs.same_shape; slots = logs.same_slots }) logs.failed c.next_row.new.row (Ok c.in-Ok-Row.field-0)
-    (λ xids serves. c.in-Ok-Row.ensures.found st.told h xids serves) (λ xids serves. c.in-Ok-Row.ensures.cleans st.told h xids serves) (ap (λ (f : Fetched). let r : Result Fetched CrFault = Ok f in r) c.in-Ok-Row.field-0-is)
+    (λ xids serves copies. c.in-Ok-Row.ensures.found st.told h xids serves (subst (λ (k : Kept). CopiesStand h xids (s.blocks c.args.store.now) k.copies.kept) (sym c.memory.view_is) copies)) (λ xids serves copies. c.in-Ok-Row.ensures.cleans st.told h xids serves (subst (λ (k : Kept). CopiesStand h xids (s.blocks c.args.store.now) k.copies.kept) (sym c.memory.view_is) copies)) (λ xids serves copies. c.in-Ok-Row.ensures.copies st.told h xids serves (subst (λ (k : Kept). CopiesStand h xids (s.blocks c.args.store.now) k.copies.kept) (sym c.memory.view_is) copies) refl) (ap (λ (f : Fetched). let r : Result Fetched CrFault = Ok f in r) c.in-Ok-Row.field-0-is)
     (ap (λ (k : Kept). k.stopped) c.memory.view_is) (ap (λ (k : Kept). k.scn) c.memory.view_is) (ap (λ (k : Kept). k.waits) c.memory.view_is) (moved_by g c)
 
 pub returns-in-Ok-End-clause-did : goal.returns-in-Ok-End-clause-did
@@ -123,9 +125,9 @@ returns-in-Ok-End-clause-did g c = λ h st.
     let is_named = ap (λ (l : List KeptSession). named name (kept_at l c.args.s).cursors) (sym table_is) ∙ (sym c.cursor.ensures ∙ c.in-Some.is) in
     let going : h.stopped ≡ false = sym st.knows.stopped ∙ e.going in
     let early = e.granted h st.knows in
-    does_end s (laws_of g) h old st going c.args.s e.session name early c.in-Some.cursor is_named (record { memory = kept; store = c.next_row.new.store })
+    does_end s (laws_of g) h old st going c.args.s e.session name early c.in-Some.cursor is_named (record { memory = record { sessions = c.memory.inside.sessions; waits = c.memory.inside.waits; scn = c.memory.inside.scn; stopped = c.memory.inside.stopped; copies = c.next_row.new.copies }; store = c.next_row.new.store })
     (record { shape = logs.same_shape; slots = logs.same_slots }) logs.failed c.next_row.new.row (Ok c.in-Ok-End.field-0)
-    (λ xids serves. c.in-Ok-End.ensures.found st.told h xids serves) (λ xids serves. c.in-Ok-End.ensures.cleans st.told h xids serves) (ap (λ (f : Fetched). let r : Result Fetched CrFault = Ok f in r) c.in-Ok-End.field-0-is) refl
+    (λ xids serves copies. c.in-Ok-End.ensures.found st.told h xids serves (subst (λ (k : Kept). CopiesStand h xids (s.blocks c.args.store.now) k.copies.kept) (sym c.memory.view_is) copies)) (λ xids serves copies. c.in-Ok-End.ensures.cleans st.told h xids serves (subst (λ (k : Kept). CopiesStand h xids (s.blocks c.args.store.now) k.copies.kept) (sym c.memory.view_is) copies)) (λ xids serves copies. c.in-Ok-End.ensures.copies st.told h xids serves (subst (λ (k : Kept). CopiesStand h xids (s.blocks c.args.store.now) k.copies.kept) (sym c.memory.view_is) copies) refl) (ap (λ (f : Fetched). let r : Result Fetched CrFault = Ok f in r) c.in-Ok-End.field-0-is) (ap (with_copies c.next_row.new.copies) c.memory.view_is)
 
 pub returns-in-Err-TooOld-clause-did : goal.returns-in-Err-TooOld-clause-did
 returns-in-Err-TooOld-clause-did g c = λ h st.
@@ -139,9 +141,9 @@ returns-in-Err-TooOld-clause-did g c = λ h st.
     let is_named = ap (λ (l : List KeptSession). named name (kept_at l c.args.s).cursors) (sym table_is) ∙ (sym c.cursor.ensures ∙ c.in-Some.is) in
     let going : h.stopped ≡ false = sym st.knows.stopped ∙ e.going in
     let early = e.granted h st.knows in
-    does_old s (laws_of g) h old st going c.args.s e.session name early c.in-Some.cursor is_named (record { memory = kept; store = c.next_row.new.store })
+    does_old s (laws_of g) h old st going c.args.s e.session name early c.in-Some.cursor is_named (record { memory = record { sessions = c.memory.inside.sessions; waits = c.memory.inside.waits; scn = c.memory.inside.scn; stopped = c.memory.inside.stopped; copies = c.next_row.new.copies }; store = c.next_row.new.store })
     (record { shape = logs.same_shape; slots = logs.same_slots }) logs.failed c.next_row.new.row (Err c.in-Err-TooOld.field-0)
-    (λ xids serves. c.in-Err-TooOld.ensures.found st.told h xids serves) (λ xids serves. by_fault s h xids (ReadIn h xids (s.blocks c.args.store.now) c.in-Some.cursor) h.shape.blocks c.args.store.now c.next_row.new.store true c.in-Err-TooOld.field-0 (faults.TooOld c.in-Err-TooOld.scn c.in-Err-TooOld.lost) c.in-Err-TooOld.field-0-is refl (c.in-Err-TooOld.ensures.cleans st.told h xids serves)) c.in-Err-TooOld.scn c.in-Err-TooOld.lost (ap (λ (f : CrFault). let r : Result Fetched CrFault = Err f in r) c.in-Err-TooOld.field-0-is) refl
+    (λ xids serves copies. c.in-Err-TooOld.ensures.found st.told h xids serves (subst (λ (k : Kept). CopiesStand h xids (s.blocks c.args.store.now) k.copies.kept) (sym c.memory.view_is) copies)) (λ xids serves copies. by_fault s h xids (ReadIn h xids (s.blocks c.args.store.now) c.in-Some.cursor) h.shape.blocks c.args.store.now c.next_row.new.store true c.in-Err-TooOld.field-0 (faults.TooOld c.in-Err-TooOld.scn c.in-Err-TooOld.lost) c.in-Err-TooOld.field-0-is refl (c.in-Err-TooOld.ensures.cleans st.told h xids serves (subst (λ (k : Kept). CopiesStand h xids (s.blocks c.args.store.now) k.copies.kept) (sym c.memory.view_is) copies))) (λ xids serves copies. c.in-Err-TooOld.ensures.copies st.told h xids serves (subst (λ (k : Kept). CopiesStand h xids (s.blocks c.args.store.now) k.copies.kept) (sym c.memory.view_is) copies) (ap is_fault c.in-Err-TooOld.field-0-is)) c.in-Err-TooOld.scn c.in-Err-TooOld.lost (ap (λ (f : CrFault). let r : Result Fetched CrFault = Err f in r) c.in-Err-TooOld.field-0-is) (ap (with_copies c.next_row.new.copies) c.memory.view_is)
 
 pub returns-in-Err-Failed-clause-did : goal.returns-in-Err-Failed-clause-did
 returns-in-Err-Failed-clause-did g c = λ h st.
@@ -155,10 +157,13 @@ returns-in-Err-Failed-clause-did g c = λ h st.
     let m = c.in-Some.cursor in
     let table_is : c.memory.inside.sessions ≡ kept.sessions = ap (λ (k : Kept). k.sessions) c.memory.view_is in
     let is_named = ap (λ (l : List KeptSession). named name (kept_at l c.args.s).cursors) (sym table_is) ∙ (sym c.cursor.ensures ∙ c.in-Some.is) in
-    does_fault s st.told (laws_of g) h (machine.Fetch c.args.s (name_text c.args.name.now)) old (record { memory = c.stop.new.self; store = c.next_row.new.store }) st going (e.granted h st.knows) c.stop.ensures
+    let copies = c.next_row.new.copies in
+    let stops : c.stop.new.self ≡ record (with_copies copies kept) { stopped = true } = c.stop.ensures ∙ ap (λ (k : Kept). record (with_copies copies k) { stopped = true }) c.memory.view_is in
+    does_fault_known s st.told (laws_of g) h (machine.Fetch c.args.s (name_text c.args.name.now)) old (record { memory = c.stop.new.self; store = c.next_row.new.store }) st (e.granted h st.knows)
+    (knows_stop h (with_copies copies kept) c.stop.new.self (knows_copies h kept copies st.knows) stops)
     (record { shape = logs.same_shape; slots = logs.same_slots })
     (λ keeps. by_fault s h (st.goes going).xids (ReadIn h (st.goes going).xids (s.blocks old.store) m) h.shape.blocks old.store c.next_row.new.store false c.in-Err-Failed.field-0 faults.Failed c.in-Err-Failed.field-0-is refl
-    (c.in-Err-Failed.ensures.cleans st.told h (st.goes going).xids (serves s (laws_of g) h old st going c.args.s e.session name (e.granted h st.knows) m is_named)) (Some (machine.Fetch c.args.s name)) keeps)
+    (c.in-Err-Failed.ensures.cleans st.told h (st.goes going).xids (serves s (laws_of g) h old st going c.args.s e.session name (e.granted h st.knows) m is_named) (subst (λ (k : Kept). CopiesStand h (st.goes going).xids (s.blocks c.args.store.now) k.copies.kept) (sym c.memory.view_is) (st.goes going).copies)) (Some (machine.Fetch c.args.s name)) keeps)
 
 pub returns-in-Err-clause-lost : goal.returns-in-Err-clause-lost
 returns-in-Err-clause-lost g c = λ h st scn lost is. absurd (not_old h c.args.s c.in-Err.why scn lost (c.in-Err.ensures.refused h st.knows) (let same : c.in-Err.why ≡ TooOld scn lost = cc in same))
@@ -176,13 +181,14 @@ returns-in-Err-TooOld-clause-lost g c = λ h st scn lost is.
     let numbers = same_old c.in-Err-TooOld.scn c.in-Err-TooOld.lost scn lost is in
     needs_lost s (laws_of g) h old st (sym st.knows.stopped ∙ e.going) c.args.s e.session name (e.granted h st.knows) m is_named c.in-Err-TooOld.field-0 scn lost
     (c.in-Err-TooOld.field-0-is ∙ rw (numbers.0, numbers.1) refl)
-    (λ xids serves. c.in-Err-TooOld.ensures.found st.told h xids serves)
+    (λ xids serves copies. c.in-Err-TooOld.ensures.found st.told h xids serves (subst (λ (k : Kept). CopiesStand h xids (s.blocks c.args.store.now) k.copies.kept) (sym c.memory.view_is) copies))
 
 -- the search may have given the log groups
 pub returns-in-Ok-End-clause-step : goal.returns-in-Ok-End-clause-step
 returns-in-Ok-End-clause-step g c =
     let e = c.in-Ok-End.ensures in
-    in_step_young g.T.Store c.args.memory.now c.args.memory.now c.args.store.now c.next_row.new.store c.requires.step e.logs.1.same_shape refl refl (λ going. (e.logs.1.failed, e.young refl, going))
+    in_step_young g.T.Store c.args.memory.now (record { sessions = c.memory.inside.sessions; waits = c.memory.inside.waits; scn = c.memory.inside.scn; stopped = c.memory.inside.stopped; copies = c.next_row.new.copies }) c.args.store.now c.next_row.new.store c.requires.step e.logs.1.same_shape
+    (ap (λ (k : Kept). k.sessions) c.memory.view_is) (ap (λ (k : Kept). k.waits) c.memory.view_is) (λ going. (e.logs.1.failed, e.young refl, sym (ap (λ (k : Kept). k.stopped) c.memory.view_is) ∙ going))
 
 pub returns-in-Err-TooOld-clause-step : goal.returns-in-Err-TooOld-clause-step
 returns-in-Err-TooOld-clause-step g c =
@@ -190,28 +196,31 @@ returns-in-Err-TooOld-clause-step g c =
     let s = g.T.Store in
     let old_one : is_fault c.in-Err-TooOld.field-0 ≡ false = ap is_fault c.in-Err-TooOld.field-0-is in
     let logs = subst (λ (f : CrFault). Logs s c.args.store.now c.next_row.new.store e.logs.0 (not (is_fault f))) c.in-Err-TooOld.field-0-is e.logs.1 in
-    in_step_young s c.args.memory.now c.args.memory.now c.args.store.now c.next_row.new.store c.requires.step logs.same_shape refl refl (λ going. (logs.failed, e.young old_one, going))
+    in_step_young s c.args.memory.now (record { sessions = c.memory.inside.sessions; waits = c.memory.inside.waits; scn = c.memory.inside.scn; stopped = c.memory.inside.stopped; copies = c.next_row.new.copies }) c.args.store.now c.next_row.new.store c.requires.step logs.same_shape
+    (ap (λ (k : Kept). k.sessions) c.memory.view_is) (ap (λ (k : Kept). k.waits) c.memory.view_is) (λ going. (logs.failed, e.young old_one, sym (ap (λ (k : Kept). k.stopped) c.memory.view_is) ∙ going))
 
 -- What it cleaned.
 pub returns-in-Ok-Row-clause-cleans : goal.returns-in-Ok-Row-clause-cleans
 returns-in-Ok-Row-clause-cleans g c = λ h st looked.
+    let s = g.T.Store in
     let kept = c.args.memory.now in
     let name = name_text c.args.name.now in
     let e = c.in_default.ensures in
     let table_is : c.memory.inside.sessions ≡ kept.sessions = ap (λ (k : Kept). k.sessions) c.memory.view_is in
     let is_named = ap (λ (l : List KeptSession). named name (kept_at l c.args.s).cursors) (sym table_is) ∙ (sym c.cursor.ensures ∙ c.in-Some.is) in
     cleans_read g.T.Store (laws_of g) h (record { memory = kept; store = c.args.store.now }) st (sym st.knows.stopped ∙ e.going) c.args.s e.session name (e.granted h st.knows) c.in-Some.cursor is_named
-    (false ≡ false) c.next_row.new.store (Ok c.in-Ok-Row.field-0) (λ fine. (c.in-Ok-Row.field-0, refl)) (λ xids serves. c.in-Ok-Row.ensures.cleans st.told h xids serves)
+    (false ≡ false) c.next_row.new.store (Ok c.in-Ok-Row.field-0) (λ fine. (c.in-Ok-Row.field-0, refl)) (λ xids serves copies. c.in-Ok-Row.ensures.cleans st.told h xids serves (subst (λ (k : Kept). CopiesStand h xids (s.blocks c.args.store.now) k.copies.kept) (sym c.memory.view_is) copies))
 
 pub returns-in-Ok-End-clause-cleans : goal.returns-in-Ok-End-clause-cleans
 returns-in-Ok-End-clause-cleans g c = λ h st looked.
+    let s = g.T.Store in
     let kept = c.args.memory.now in
     let name = name_text c.args.name.now in
     let e = c.in_default.ensures in
     let table_is : c.memory.inside.sessions ≡ kept.sessions = ap (λ (k : Kept). k.sessions) c.memory.view_is in
     let is_named = ap (λ (l : List KeptSession). named name (kept_at l c.args.s).cursors) (sym table_is) ∙ (sym c.cursor.ensures ∙ c.in-Some.is) in
     cleans_read g.T.Store (laws_of g) h (record { memory = kept; store = c.args.store.now }) st (sym st.knows.stopped ∙ e.going) c.args.s e.session name (e.granted h st.knows) c.in-Some.cursor is_named
-    (false ≡ false) c.next_row.new.store (Ok c.in-Ok-End.field-0) (λ fine. (c.in-Ok-End.field-0, refl)) (λ xids serves. c.in-Ok-End.ensures.cleans st.told h xids serves)
+    (false ≡ false) c.next_row.new.store (Ok c.in-Ok-End.field-0) (λ fine. (c.in-Ok-End.field-0, refl)) (λ xids serves copies. c.in-Ok-End.ensures.cleans st.told h xids serves (subst (λ (k : Kept). CopiesStand h xids (s.blocks c.args.store.now) k.copies.kept) (sym c.memory.view_is) copies))
 
 pub returns-in-Err-TooOld-clause-cleans : goal.returns-in-Err-TooOld-clause-cleans
 returns-in-Err-TooOld-clause-cleans g c = λ h st looked.
@@ -224,7 +233,7 @@ returns-in-Err-TooOld-clause-cleans g c = λ h st looked.
     let is_named = ap (λ (l : List KeptSession). named name (kept_at l c.args.s).cursors) (sym table_is) ∙ (sym c.cursor.ensures ∙ c.in-Some.is) in
     cleans_read s (laws_of g) h (record { memory = kept; store = c.args.store.now }) st (sym st.knows.stopped ∙ e.going) c.args.s e.session name (e.granted h st.knows) m is_named
     (true ≡ false) c.next_row.new.store (Err c.in-Err-TooOld.field-0) (λ clash. (let clash2 : true ≡ false = clash in absurd cc))
-    (λ xids serves. by_fault s h xids (ReadIn h xids (s.blocks c.args.store.now) m) h.shape.blocks c.args.store.now c.next_row.new.store true c.in-Err-TooOld.field-0 (faults.TooOld c.in-Err-TooOld.scn c.in-Err-TooOld.lost) c.in-Err-TooOld.field-0-is refl (c.in-Err-TooOld.ensures.cleans st.told h xids serves))
+    (λ xids serves copies. by_fault s h xids (ReadIn h xids (s.blocks c.args.store.now) m) h.shape.blocks c.args.store.now c.next_row.new.store true c.in-Err-TooOld.field-0 (faults.TooOld c.in-Err-TooOld.scn c.in-Err-TooOld.lost) c.in-Err-TooOld.field-0-is refl (c.in-Err-TooOld.ensures.cleans st.told h xids serves (subst (λ (k : Kept). CopiesStand h xids (s.blocks c.args.store.now) k.copies.kept) (sym c.memory.view_is) copies)))
 
 -- And so what it makes of the blocks.
 pub returns-in-Err-clause-makes : goal.returns-in-Err-clause-makes
@@ -243,7 +252,7 @@ returns-in-Ok-Row-clause-makes g c = λ h st fine.
     let table_is : c.memory.inside.sessions ≡ kept.sessions = ap (λ (k : Kept). k.sessions) c.memory.view_is in
     let is_named = ap (λ (l : List KeptSession). named name (kept_at l c.args.s).cursors) (sym table_is) ∙ (sym c.cursor.ensures ∙ c.in-Some.is) in
     read_by s (laws_of g) h (record { memory = kept; store = c.args.store.now }) st (sym st.knows.stopped ∙ e.going) c.args.s e.session name (e.granted h st.knows) c.in-Some.cursor is_named
-    (Unit {0}) c.next_row.new.store (Ok c.in-Ok-Row.field-0) (λ well. (c.in-Ok-Row.field-0, refl)) (λ xids serves. c.in-Ok-Row.ensures.cleans st.told h xids serves)
+    (Unit {0}) c.next_row.new.store (Ok c.in-Ok-Row.field-0) (λ well. (c.in-Ok-Row.field-0, refl)) (λ xids serves copies. c.in-Ok-Row.ensures.cleans st.told h xids serves (subst (λ (k : Kept). CopiesStand h xids (s.blocks c.args.store.now) k.copies.kept) (sym c.memory.view_is) copies))
 
 pub returns-in-Ok-End-clause-makes : goal.returns-in-Ok-End-clause-makes
 returns-in-Ok-End-clause-makes g c = λ h st fine.
@@ -254,7 +263,7 @@ returns-in-Ok-End-clause-makes g c = λ h st fine.
     let table_is : c.memory.inside.sessions ≡ kept.sessions = ap (λ (k : Kept). k.sessions) c.memory.view_is in
     let is_named = ap (λ (l : List KeptSession). named name (kept_at l c.args.s).cursors) (sym table_is) ∙ (sym c.cursor.ensures ∙ c.in-Some.is) in
     read_by s (laws_of g) h (record { memory = kept; store = c.args.store.now }) st (sym st.knows.stopped ∙ e.going) c.args.s e.session name (e.granted h st.knows) c.in-Some.cursor is_named
-    (Unit {0}) c.next_row.new.store (Ok c.in-Ok-End.field-0) (λ well. (c.in-Ok-End.field-0, refl)) (λ xids serves. c.in-Ok-End.ensures.cleans st.told h xids serves)
+    (Unit {0}) c.next_row.new.store (Ok c.in-Ok-End.field-0) (λ well. (c.in-Ok-End.field-0, refl)) (λ xids serves copies. c.in-Ok-End.ensures.cleans st.told h xids serves (subst (λ (k : Kept). CopiesStand h xids (s.blocks c.args.store.now) k.copies.kept) (sym c.memory.view_is) copies))
 
 pub returns-in-Err-TooOld-clause-makes : goal.returns-in-Err-TooOld-clause-makes
 returns-in-Err-TooOld-clause-makes g c = λ h st fine.
@@ -267,7 +276,7 @@ returns-in-Err-TooOld-clause-makes g c = λ h st fine.
     let m = c.in-Some.cursor in
     read_by s (laws_of g) h (record { memory = kept; store = c.args.store.now }) st (sym st.knows.stopped ∙ e.going) c.args.s e.session name (e.granted h st.knows) m is_named
     ⊥ c.next_row.new.store (Err c.in-Err-TooOld.field-0) (λ clash. absurd clash)
-    (λ xids serves. by_fault s h xids (ReadIn h xids (s.blocks c.args.store.now) m) h.shape.blocks c.args.store.now c.next_row.new.store true c.in-Err-TooOld.field-0 (faults.TooOld c.in-Err-TooOld.scn c.in-Err-TooOld.lost) c.in-Err-TooOld.field-0-is refl (c.in-Err-TooOld.ensures.cleans st.told h xids serves))
+    (λ xids serves copies. by_fault s h xids (ReadIn h xids (s.blocks c.args.store.now) m) h.shape.blocks c.args.store.now c.next_row.new.store true c.in-Err-TooOld.field-0 (faults.TooOld c.in-Err-TooOld.scn c.in-Err-TooOld.lost) c.in-Err-TooOld.field-0-is refl (c.in-Err-TooOld.ensures.cleans st.told h xids serves (subst (λ (k : Kept). CopiesStand h xids (s.blocks c.args.store.now) k.copies.kept) (sym c.memory.view_is) copies)))
 
 pub returns-in-Err-clause-holds_back : goal.returns-in-Err-clause-holds_back
 returns-in-Err-clause-holds_back g c = λ fine. g.met.T.Store.holds_back_same c.args.store.now

@@ -1,4 +1,4 @@
-use Rattle.std.proofs.Common.{◌+◌, not, Bool, refl, sym, subst, arith}
+use Rattle.std.proofs.Common.{not, Bool, refl, sym, subst, arith}
 use Rattle.std.specs.Result.{is_err}
 use Rattle.rb_base.specs.Logs.{Laws}
 use Rattle.rb_engine.specs.Finishing.{PutsAllBack}

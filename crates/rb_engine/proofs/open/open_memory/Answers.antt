@@ -1,7 +1,9 @@
-use Rattle.std.proofs.Common.{◌≡◌, ◌≢◌, ℕ, List, Option, [], Err, true, false, Bool, not, rules}
+use Rattle.std.proofs.Common.{sym, ◌≡◌, ◌∙◌, ap, ◌≢◌, ℕ, List, [], Err, true, false, Bool, not, rules}
 use Rattle.rb_base.specs.Logs.{Laws, Logs, more_logs}
-use Rattle.rb_base.specs.declared.faults.OpenFault.TheVariants.{Failed}
-use Rattle.rb_engine.proofs.OpenLemmas.{fails_with, in_step, moved, opened_engine, refused, stays, unchanged_stays}
+use Rattle.rb_base.specs.declared.faults.OpenFault.{OpenFault}
+use Rattle.rb_base.specs.declared.faults.OpenFault.TheVariants.{Failed, NotAStore}
+use Rattle.rb_copies.specs.Copies.{CopyTable}
+use Rattle.rb_engine.proofs.OpenLemmas.{fails_with, in_step, moved, opened_engine, refused, stays, told_err, unchanged_stays}
 use Rattle.rb_base.specs.Counts.{is_failed}
 use Rattle.rb_base.specs.declared.shape.Shape.{Shape}
 use Rattle.rb_sound.specs.Sound.{AreSound}
@@ -80,7 +82,7 @@ returns-clause-opened g c = λ told h opens.
     let logs = more_logs s old mid new [] back.0 true first.logs back.1 in
     let both = moved s old mid (λ shape lsn blocks. lsn ≡ logged_of shape blocks → SoundAs shape blocks opens.opening.number opens.opening.rows → StaySound shape opens.opening.number opens.opening.rows lsn back.0 blocks × RolledBack shape back.0 blocks (s.blocks new)) first.logs told
     (λ logged sound. back.4 opens.opening.number opens.opening.rows told logged sound) opens.logged opens.opening.sound in
-    opened_engine s (laws_of g) told h old opens new back.0 logs both.0 both.1 c.in_ok-memory.memory first.sessions first.waits (first.scn told) first.going
+    opened_engine s (laws_of g) told h old opens new back.0 logs both.0 both.1 c.in_ok-memory.memory first.sessions first.waits (first.scn told) first.going (ap (λ (z : CopyTable). z.kept) first.copies ∙ c.requires.empty)
 
 pub returns-in_err-memory-clause-untouched : goal.returns-in_err-memory-clause-untouched
 returns-in_err-memory-clause-untouched g c = λ told cannot.
@@ -99,3 +101,13 @@ returns-in_err-open_blocks-clause-untouched g c = λ told cannot.
     (c.in_err-open_blocks.ensures.untouched told) cannot in
     let some : (b : Bool) × Logs s old new [] b = (going, more_logs s old mid new [] [] going first none) in
     fails_with _ _ some
+
+pub returns-in_err-open_blocks-clause-none : goal.returns-in_err-open_blocks-clause-none
+returns-in_err-open_blocks-clause-none g c = λ told.
+    let s = g.T.Store in
+    let old = c.args.store.now in
+    let mid = c.new_memory.new.store in
+    let fault = c.in_err-open_blocks.field-0.0 in
+    let none : fault ≡ NotAStore → ¬ AreSound (s.shape_of old) (s.blocks old) =
+    λ is. moved s old mid (λ (shape : Shape) (lsn : ℕ) (blocks : List (List ℕ)). ¬ AreSound shape blocks) c.in_ok-memory.ensures.logs told (c.in_err-open_blocks.ensures.none told (ap (λ (f : OpenFault). Err f) is)) in
+    told_err (λ (e : OpenFault). e ≡ fault) (λ (e : OpenFault). e ≡ NotAStore → ¬ AreSound (s.shape_of old) (s.blocks old)) c.from_residual-in_err-open_blocks.result c.from_residual-in_err-open_blocks.ensures.1 (λ e is at. none (sym is ∙ at))

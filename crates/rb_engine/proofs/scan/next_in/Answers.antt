@@ -9,7 +9,10 @@ use Rattle.rb_cr.specs.declared.faults.CrFault.{CrFault}
 use Rattle.rb_engine.specs.Cleaning.{HasCleaned, IsHere, IsOnTheWay, Serves}
 use Rattle.rb_engine.specs.Scanning.{Begins, HasKey, HasNext, HasNone, IsBehind}
 use Rattle.rb_engine.proofs.CleanLemmas.{behind_same, cleans_loaded, env_same, in_table, next_same, none_cleaned, none_same, same_or_clean, serves_on, step_cleaned, step_fails}
-use Rattle.rb_engine.proofs.FetchLemmas.{found_next, home_read, is_behind}
+use Rattle.rb_engine.proofs.FetchLemmas.{found_next, is_behind}
+use Rattle.rb_engine.proofs.SharedLemmas.{read_with, reads_keep}
+use Rattle.rb_outliving.specs.Copies.{CopiesStand}
+use Rattle.rb_outliving.proofs.Outliving.{same_keeps}
 use Rattle.rb_model.specs.State.{State}
 use Rattle.rb_rebuild.specs.Reading.{History}
 use Rattle.rb_views.specs.Views.{history, home_in}
@@ -95,17 +98,24 @@ module _ (g : Over) (c : goal.After-next_at g) (told : g.S.Store.tells) (h : Sta
   abbrev hist : History
   hist = history h xids blocks (home_in h.shape c.args.cursor.now.table c.args.g) c.args.cursor.now.own
 
+  -- what is kept stands as the home is cleaned
+  here : CopiesStand h xids (g.S.Store.blocks c.args.store.now) c.args.copies.now.kept → CopiesStand h xids blocks c.args.copies.now.kept
+  here copies = same_keeps h h refl xids (g.S.Store.blocks c.args.store.now) blocks c.args.copies.now.kept refl clean.only.segments copies
+
+  b_in : home_in h.shape c.args.cursor.now.table c.args.g < table_blocks h.shape
+  b_in = in_table c.args.cursor.now.table c.args.g h.shape on.there (subst (λ (k : Shape). (1 ≤ c.args.cursor.now.table) × (c.args.cursor.now.table ≤ k.tables)) serves.shape c.requires.table)
+
   abbrev env : Rattle.rb_standing.specs.Standing.env_of h.shape blocks ≡ Rattle.rb_standing.specs.Standing.env_of h.shape (g.S.Store.blocks c.args.store.now)
   env = env_same h.shape (g.S.Store.blocks c.args.store.now) blocks clean.only.segments
 
 pub returns-clause-told : goal.returns-clause-told
-returns-clause-told g c = λ told h xids serves.
+returns-clause-told g c = λ told h xids serves copies.
     let m = c.args.cursor.now in
     let old = g.S.Store.blocks c.args.store.now in
     let b = g.S.Store.blocks c.clean_step.new.store in
     let served = mid g c told h xids serves in
     let way = on g c told h xids serves in
-    let read = home_read h xids b m served.reader c.args.g way.there (g.S.Store.shape_of c.clean_step.new.store) served.shape _ (at g c told h xids serves) in
+    let read = read_with h xids b m served.reader c.args.g way.there (g.S.Store.shape_of c.clean_step.new.store) served.shape _ (at g c told h xids serves) c.args.copies.now.kept (here g c told h xids serves copies) in
     let begins = subst (λ (k : Shape). Begins k.blocks c.args.first c.args.g m.last) serves.shape c.requires.begins in
     let found = found_next h xids b m served.reader c.args.g way.there c.args.first begins c.after_in.result c.after_in.ensures c.next_at.new.row c.next_at.result
     (c.next_at.ensures.given told (hist g c told h xids serves) read) (c.next_at.ensures.none told (hist g c told h xids serves) read) in
@@ -117,13 +127,13 @@ returns-clause-told g c = λ told h xids serves.
     before N N2 E E2 one two (Err fault) is = tt
 
 pub returns-clause-old : goal.returns-clause-old
-returns-clause-old g c = λ told h xids serves.
+returns-clause-old g c = λ told h xids serves copies.
     let m = c.args.cursor.now in
     let old = g.S.Store.blocks c.args.store.now in
     let b = g.S.Store.blocks c.clean_step.new.store in
     let served = mid g c told h xids serves in
     let way = on g c told h xids serves in
-    let read = home_read h xids b m served.reader c.args.g way.there (g.S.Store.shape_of c.clean_step.new.store) served.shape _ (at g c told h xids serves) in
+    let read = read_with h xids b m served.reader c.args.g way.there (g.S.Store.shape_of c.clean_step.new.store) served.shape _ (at g c told h xids serves) c.args.copies.now.kept (here g c told h xids serves copies) in
     let behind = is_behind h xids b m c.args.g (g.S.Store.shape_of c.clean_step.new.store) served.shape _ (at g c told h xids serves) way.key c.next_at.result (c.next_at.ensures.old told (hist g c told h xids serves) read) in
     let there : home_in h.shape m.table c.args.g < table_blocks h.shape = in_table m.table c.args.g h.shape way.there (subst (λ (k : Shape). (1 ≤ m.table) × (m.table ≤ k.tables)) serves.shape c.requires.table) in
     Rattle.std.proofs.lemmas.Result.IfErr-weaker c.next_at.result (λ fault. HasKey h.shape.blocks m.lo m.hi c.args.g × IsBehind h xids b m c.args.g fault) (λ fault. HasKey h.shape.blocks m.lo m.hi c.args.g × IsBehind h xids old m c.args.g fault)
@@ -139,3 +149,15 @@ returns-clause-logs g c =
     let step = c.clean_step.ensures.logs in
     let well : Logs s c.args.store.now c.clean_step.new.store step.0 true = subst (λ going. Logs s c.args.store.now c.clean_step.new.store step.0 (not going)) (sym c.is_err.ensures.value ∙ c.if-is_err.false) step.1 in
     (step.0 ++ [], more_logs s c.args.store.now c.clean_step.new.store c.next_at.new.store step.0 [] (not (is_failed c.next_at.result)) well c.next_at.ensures.logs, (let n = length-append step.0 [] in let few = step.2 in omega (arith, n, few)))
+
+pub returns-clause-copies : goal.returns-clause-copies
+returns-clause-copies g c = λ told h xids serves copies fine.
+    let s = g.S.Store in
+    let m = c.args.cursor.now in
+    let b = s.blocks c.clean_step.new.store in
+    let served = mid g c told h xids serves in
+    let way = on g c told h xids serves in
+    let logs = c.next_at.ensures.logs in
+    let same : s.blocks c.next_at.new.store ≡ b = logs.blocks told (ap not fine) in
+    subst (λ (z : List (List ℕ)). CopiesStand h xids z c.next_at.new.copies.kept) (sym same)
+    (reads_keep h xids b m served.reader c.args.g way.there (s.shape_of c.clean_step.new.store) served.shape _ (at g c told h xids serves) c.args.copies.now.kept c.next_at.new.copies.kept (b_in g c told h xids serves) (here g c told h xids serves copies) (c.next_at.ensures.keeps told))

@@ -34,12 +34,13 @@ loop-g-init g c =
       logs = no_logs s old c.requires.going;
       young = inr refl;
       row = refl;
-      none = λ told h xids serves f before k asked.
+      none = λ told h xids serves copies f before k asked.
           absurd (c.first_home-first.ensures.skips f k before (subst (λ (z : Shape). IsAskedKey z.blocks m.lo m.hi m.last f k) (sym (c.shape-blocks.ensures.shape ∙ serves.shape)) asked));
-      cleaned = λ told h xids serves.
+      cleaned = λ told h xids serves copies.
           let bs : c.shape-blocks.result.blocks ≡ h.shape.blocks = ap (λ (z : Shape). z.blocks) (c.shape-blocks.ensures.shape ∙ serves.shape) in
           none_cleaned s told (laws_of g) h xids m (IsBefore h.shape m c.first_home-first.result) (IsBefore h.shape m c.first_home-first.result) c.first_home-first.result old old serves (no_logs s old c.requires.going)
           (λ b is spare. absurd (not_before m.lo m.hi m.last c.first_home-first.result h.shape.blocks c.shape-blocks.result.blocks is.0 bs is.1 is.2.0.key is.2.0.behind c.first_home-first.ensures.skips c.first_home-first.ensures.last));
+      copies = λ told h xids serves copies. copies;
     }
   where
     -- no home on the way comes before the first
@@ -71,19 +72,19 @@ next_in-requires-clause-begins g c =
 
 -- the same fault behind the homes that were cleaned
 pub returns-in-Err-clause-found : goal.returns-in-Err-clause-found
-returns-in-Err-clause-found g c = λ told h xids serves.
+returns-in-Err-clause-found g c = λ told h xids serves copies.
     let s = g.S.Store in
     let m = c.args.cursor.now in
     let old = c.args.store.now in
     let mid = c.loop-g.store in
     let inv = c.loop-g.invariant in
-    let before = inv.cleaned told h xids serves in
+    let before = inv.cleaned told h xids serves copies in
     let served = serves_mid s told (laws_of g) h xids m c.loop-g.g old mid mid inv.logs.same_shape inv.logs.same_slots serves before in
-    let both = c.in-Err.ensures.old told h xids served in
+    let both = c.in-Err.ensures.old told h xids served (inv.copies told h xids serves copies) in
     let there : c.loop-g.g < h.shape.blocks = subst (λ (z : Shape). c.loop-g.g < z.blocks) (c.shape-blocks.ensures.shape ∙ serves.shape) (below c.loop-g.g c.end_home-end.result c.shape-blocks.result.blocks c.loop-g-test.true c.end_home-end.ensures.within) in (
       c.loop-g.g,
       there,
-      inv.none told h xids serves,
+      inv.none told h xids serves copies,
       both.0,
       λ l at.
           let first_is = c.first_home-first.ensures.last l at in
@@ -95,7 +96,7 @@ returns-in-Err-clause-found g c = λ told h xids serves.
     )
 
 pub returns-in-Err-clause-cleans : goal.returns-in-Err-clause-cleans
-returns-in-Err-clause-cleans g c = λ told h xids serves.
+returns-in-Err-clause-cleans g c = λ told h xids serves copies.
     let s = g.S.Store in
     let m = c.args.cursor.now in
     let old = c.args.store.now in
@@ -104,7 +105,7 @@ returns-in-Err-clause-cleans g c = λ told h xids serves.
     let inv = c.loop-g.invariant in
     let here = c.in-Err.ensures.cleans told h xids in
     let there : c.loop-g.g < h.shape.blocks = subst (λ (z : Shape). c.loop-g.g < z.blocks) (c.shape-blocks.ensures.shape ∙ serves.shape) (below c.loop-g.g c.end_home-end.result c.shape-blocks.result.blocks c.loop-g-test.true c.end_home-end.ensures.within) in
-    by (not (is_fault c.in-Err.fault)) c.loop-g.g told h xids serves inv.logs.same_shape inv.logs.same_slots (inv.cleaned told h xids serves) (inv.none told h xids serves) there here
+    by (not (is_fault c.in-Err.fault)) c.loop-g.g told h xids serves inv.logs.same_shape inv.logs.same_slots (inv.cleaned told h xids serves copies) (inv.none told h xids serves copies) there here
   where
     by : (going : Bool) (n : ℕ) (told : g.S.Store.tells) (h : State) (xids : List Xid) → (serves : Serves g.S.Store h xids c.args.cursor.now c.args.store.now)
         → g.S.Store.shape_of c.loop-g.store ≡ g.S.Store.shape_of c.args.store.now → g.S.Store.slots c.loop-g.store ≡ g.S.Store.slots c.args.store.now
@@ -133,24 +134,24 @@ returns-in-Err-clause-young g c = λ fine. young_on _ (g.S.Store.lsn c.args.stor
 
 -- a row of this home
 pub returns-in-Ok-true-clause-found : goal.returns-in-Ok-true-clause-found
-returns-in-Ok-true-clause-found g c = λ told h xids serves.
+returns-in-Ok-true-clause-found g c = λ told h xids serves copies.
     let s = g.S.Store in
     let m = c.args.cursor.now in
     let old = c.args.store.now in
     let mid = c.loop-g.store in
     let inv = c.loop-g.invariant in
-    let before = inv.cleaned told h xids serves in
+    let before = inv.cleaned told h xids serves copies in
     let served = serves_mid s told (laws_of g) h xids m c.loop-g.g old mid mid inv.logs.same_shape inv.logs.same_slots serves before in
     let env = env_mid s told (laws_of g) h xids m c.loop-g.g old mid mid inv.logs.same_shape inv.logs.same_slots serves before in
-    let next = (c.in-Ok-true.ensures.told told h xids served).0 c.in-Ok-true.field-0-test in (
+    let next = (c.in-Ok-true.ensures.told told h xids served (inv.copies told h xids serves copies)).0 c.in-Ok-true.field-0-test in (
       c.loop-g.g,
       subst (λ (z : Shape). c.loop-g.g < z.blocks) (c.shape-blocks.ensures.shape ∙ serves.shape) (below c.loop-g.g c.end_home-end.result c.shape-blocks.result.blocks c.loop-g-test.true c.end_home-end.ensures.within),
-      inv.none told h xids serves,
+      inv.none told h xids serves copies,
       next_same h xids (s.blocks old) (s.blocks mid) m env c.loop-g.g c.next_in.new.row next,
     )
 
 pub returns-in-Ok-true-clause-cleans : goal.returns-in-Ok-true-clause-cleans
-returns-in-Ok-true-clause-cleans g c = λ told h xids serves.
+returns-in-Ok-true-clause-cleans g c = λ told h xids serves copies.
     let s = g.S.Store in
     let m = c.args.cursor.now in
     let old = c.args.store.now in
@@ -158,13 +159,13 @@ returns-in-Ok-true-clause-cleans g c = λ told h xids serves.
     let new = c.next_in.new.store in
     let n = c.loop-g.g in
     let inv = c.loop-g.invariant in
-    let before = inv.cleaned told h xids serves in
+    let before = inv.cleaned told h xids serves copies in
     let served = serves_mid s told (laws_of g) h xids m n old mid mid inv.logs.same_shape inv.logs.same_slots serves before in
     let env = env_mid s told (laws_of g) h xids m n old mid mid inv.logs.same_shape inv.logs.same_slots serves before in
-    let next : HasNext h xids (s.blocks old) m n c.next_in.new.row = next_same h xids (s.blocks old) (s.blocks mid) m env n c.next_in.new.row ((c.in-Ok-true.ensures.told told h xids served).0 c.in-Ok-true.field-0-test) in
+    let next : HasNext h xids (s.blocks old) m n c.next_in.new.row = next_same h xids (s.blocks old) (s.blocks mid) m env n c.next_in.new.row ((c.in-Ok-true.ensures.told told h xids served (inv.copies told h xids serves copies)).0 c.in-Ok-true.field-0-test) in
     let there : n < h.shape.blocks = subst (λ (z : Shape). n < z.blocks) (c.shape-blocks.ensures.shape ∙ serves.shape) (below c.loop-g.g c.end_home-end.result c.shape-blocks.result.blocks c.loop-g-test.true c.end_home-end.ensures.within) in
     cleaned_as s told (laws_of g) h xids m (IsBefore h.shape m (n + 1)) (ReadIn h xids (s.blocks old) m) (IsBefore h.shape m (n + 1)) (ReadIn h xids (s.blocks old) m) (n + 1) h.shape.blocks old new
-    (read_up_to s told (laws_of g) h xids m n old (inv.none told h xids serves)) (read_no_more s told (laws_of g) h xids m n old c.next_in.new.row next) (omega (arith, there))
+    (read_up_to s told (laws_of g) h xids m n old (inv.none told h xids serves copies)) (read_no_more s told (laws_of g) h xids m n old c.next_in.new.row next) (omega (arith, there))
     (turned s told (laws_of g) h xids m n old mid new inv.logs.same_shape inv.logs.same_slots serves before (c.in-Ok-true.ensures.cleans told h xids))
 
 pub returns-in-Ok-true-clause-logs : goal.returns-in-Ok-true-clause-logs
@@ -191,28 +192,32 @@ loop-g-preserved g c =
       logs = more_logs s old mid new inv.groups step.0 true inv.logs step.1;
       young = young_on _ (s.lsn old) (s.lsn mid) (s.lsn new) inv.young (c.in-Ok-false.ensures.young refl);
       row = c.in-Ok-false.ensures.kept c.in-Ok-false.field-0-test ∙ inv.row;
-      none = λ told h xids serves f up. elim (cases_eq f c.loop-g.g) [
+      none = λ told h xids serves copies f up. elim (cases_eq f c.loop-g.g) [
         | inl this ↦
-            let before = inv.cleaned told h xids serves in
+            let before = inv.cleaned told h xids serves copies in
             let served = serves_mid s told (laws_of g) h xids m c.loop-g.g old mid mid inv.logs.same_shape inv.logs.same_slots serves before in
             let env = env_mid s told (laws_of g) h xids m c.loop-g.g old mid mid inv.logs.same_shape inv.logs.same_slots serves before in
-            let nothing = (c.in-Ok-false.ensures.told told h xids served).1 c.in-Ok-false.field-0-test in
+            let nothing = (c.in-Ok-false.ensures.told told h xids served (inv.copies told h xids serves copies)).1 c.in-Ok-false.field-0-test in
             subst (λ (n : ℕ). HasNone h xids (s.blocks old) m n) (sym this) (none_same h xids (s.blocks old) (s.blocks mid) m env c.loop-g.g nothing)
-        | inr other ↦ inv.none told h xids serves f (omega (arith, up, other))
+        | inr other ↦ inv.none told h xids serves copies f (omega (arith, up, other))
       ];
-      cleaned = λ told h xids serves. turned s told (laws_of g) h xids m c.loop-g.g old mid new inv.logs.same_shape inv.logs.same_slots serves (inv.cleaned told h xids serves) (c.in-Ok-false.ensures.cleans told h xids);
+      cleaned = λ told h xids serves copies. turned s told (laws_of g) h xids m c.loop-g.g old mid new inv.logs.same_shape inv.logs.same_slots serves (inv.cleaned told h xids serves copies) (c.in-Ok-false.ensures.cleans told h xids);
+      copies = λ told h xids serves copies.
+          let before = inv.cleaned told h xids serves copies in
+          let served = serves_mid s told (laws_of g) h xids m c.loop-g.g old mid mid inv.logs.same_shape inv.logs.same_slots serves before in
+          c.in-Ok-false.ensures.copies told h xids served (inv.copies told h xids serves copies) refl;
     }
 
 pub returns-clause-found : goal.returns-clause-found
-returns-clause-found g c = λ told h xids serves f there. elim (cases_lt f c.loop-g.g) [
-  | inl less ↦ c.loop-g.invariant.none told h xids serves f less
+returns-clause-found g c = λ told h xids serves copies f there. elim (cases_lt f c.loop-g.g) [
+  | inl less ↦ c.loop-g.invariant.none told h xids serves copies f less
   | inr from ↦ λ k asked.
       let bs = ap (λ (z : Shape). z.blocks) (c.shape-blocks.ensures.shape ∙ serves.shape) in
       absurd (c.end_home-end.ensures.none f k (let past = c.loop-g-test.false in omega (arith, from, past)) (omega (arith, there, bs)) (ap (λ (n : ℕ). k % n) bs ∙ asked.home) asked.low asked.high)
 ]
 
 pub returns-clause-cleans : goal.returns-clause-cleans
-returns-clause-cleans g c = λ told h xids serves.
+returns-clause-cleans g c = λ told h xids serves copies.
     let s = g.S.Store in
     let m = c.args.cursor.now in
     let old = c.args.store.now in
@@ -222,10 +227,10 @@ returns-clause-cleans g c = λ told h xids serves.
     let bs : c.shape-blocks.result.blocks ≡ h.shape.blocks = ap (λ (z : Shape). z.blocks) (c.shape-blocks.ensures.shape ∙ serves.shape) in
     let there : n ≤ h.shape.blocks = subst (λ (z : Shape). n ≤ z.blocks) serves.shape inv.there in
     cleaned_as s told (laws_of g) h xids m (IsBefore h.shape m n) (ReadIn h xids (s.blocks old) m) (IsBefore h.shape m n) (ReadIn h xids (s.blocks old) m) n h.shape.blocks old new
-    (read_by_end s told (laws_of g) h xids m n old (inv.none told h xids serves))
+    (read_by_end s told (laws_of g) h xids m n old (inv.none told h xids serves copies))
     (read_in_table s told (laws_of g) h xids m n old (λ f from there key. c.end_home-end.ensures.none f key.0 (let past = c.loop-g-test.false in omega (arith, from, past)) (omega (arith, there, bs)) (ap (λ (z : ℕ). key.0 % z) bs ∙ key.1) key.2 key.3))
     there
-    (inv.cleaned told h xids serves)
+    (inv.cleaned told h xids serves copies)
 
 pub returns-clause-kept : goal.returns-clause-kept
 returns-clause-kept g c = λ ended. c.loop-g.invariant.row
@@ -235,3 +240,18 @@ returns-clause-logs g c = (c.loop-g.invariant.groups, c.loop-g.invariant.logs)
 
 pub returns-clause-young : goal.returns-clause-young
 returns-clause-young g c = λ fine. c.loop-g.invariant.young
+
+pub returns-in-Err-clause-copies : goal.returns-in-Err-clause-copies
+returns-in-Err-clause-copies g c = λ told h xids serves copies fine.
+    let inv = c.loop-g.invariant in
+    let served = serves_mid g.S.Store told (laws_of g) h xids c.args.cursor.now c.loop-g.g c.args.store.now c.loop-g.store c.loop-g.store inv.logs.same_shape inv.logs.same_slots serves (inv.cleaned told h xids serves copies) in
+    c.in-Err.ensures.copies told h xids served (inv.copies told h xids serves copies) fine
+
+pub returns-in-Ok-true-clause-copies : goal.returns-in-Ok-true-clause-copies
+returns-in-Ok-true-clause-copies g c = λ told h xids serves copies fine.
+    let inv = c.loop-g.invariant in
+    let served = serves_mid g.S.Store told (laws_of g) h xids c.args.cursor.now c.loop-g.g c.args.store.now c.loop-g.store c.loop-g.store inv.logs.same_shape inv.logs.same_slots serves (inv.cleaned told h xids serves copies) in
+    c.in-Ok-true.ensures.copies told h xids served (inv.copies told h xids serves copies) refl
+
+pub returns-clause-copies : goal.returns-clause-copies
+returns-clause-copies g c = λ told h xids serves copies fine. c.loop-g.invariant.copies told h xids serves copies

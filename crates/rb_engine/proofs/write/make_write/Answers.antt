@@ -1,4 +1,5 @@
-use Rattle.std.proofs.Common.{inl, ◌≡◌, ⊎_elim, true, false, List, Option, refl, sym, ◌∙◌, ap, subst, arith}
+use Rattle.std.proofs.Common.{◌≤◌, inl, ◌≡◌, ⊎_elim, true, false, List, Option, refl, sym, ◌∙◌, ap, subst, arith}
+use Rattle.rb_base.specs.declared.shape.Shape.{Shape}
 use Rattle.std.proofs.lemmas.Bool.{cases_Bool, false≢true}
 use Rattle.rb_base.specs.Logs.{Laws}
 use Rattle.rb_base.specs.declared.ids.Xid.{Xid}
@@ -32,7 +33,7 @@ pub returns-in-Ok-clause-step : goal.returns-in-Ok-clause-step
 returns-in-Ok-clause-step g c =
     let s = g.T.Store in
     let kept = c.args.memory.now in
-    let now : Kept = record { sessions = c.wrote.new.self; waits = c.memory.inside.waits; scn = c.memory.inside.scn; stopped = c.memory.inside.stopped } in
+    let now : Kept = record { sessions = c.wrote.new.self; waits = c.memory.inside.waits; scn = c.memory.inside.scn; stopped = c.memory.inside.stopped; copies = c.memory.inside.copies } in
     let old = c.args.store.now in
     let new = c.write_step.new.store in
     let u = c.args.s in
@@ -55,7 +56,7 @@ returns-in-Ok-clause-did g c = λ h st early others.
     let kept = c.args.memory.now in
     let u = c.args.s in
     let old : EngineView _ = record { memory = kept; store = c.args.store.now } in
-    let new : EngineView _ = record { memory = record { sessions = c.wrote.new.self; waits = c.memory.inside.waits; scn = c.memory.inside.scn; stopped = c.memory.inside.stopped }; store = c.write_step.new.store } in
+    let new : EngineView _ = record { memory = record { sessions = c.wrote.new.self; waits = c.memory.inside.waits; scn = c.memory.inside.scn; stopped = c.memory.inside.stopped; copies = c.memory.inside.copies }; store = c.write_step.new.store } in
     let going : h.stopped ≡ false = sym st.knows.stopped ∙ c.requires.going in
     let logs = c.in-Ok.ensures.logs in
     let goes : Goes s h old = st.goes going in
@@ -67,7 +68,8 @@ returns-in-Ok-clause-did g c = λ h st early others.
     step_done s st.told (laws_of g) h old st going u c.args.table c.args.key action c.requires.session early new (record { shape = logs.1.same_shape; slots = logs.1.same_slots }) c.in-Ok.xid
     (c.in-Ok.ensures.gives st.told h goes.xids u is st.shape (omega (arith, sixteen, c.requires.session.1)) others goes.holds.logged (omega (arith, sixteen)))
     (c.wrote.ensures ∙ ap (λ (l : List KeptSession). with_kept l u (wrote c.in-Ok.xid (kept_at l u))) table)
-    (ap (λ (m : Kept). m.waits) c.memory.view_is) (ap (λ (m : Kept). m.scn) c.memory.view_is) (ap (λ (m : Kept). m.stopped) c.memory.view_is)
+    (ap (λ (m : Kept). m.waits) c.memory.view_is) (ap (λ (m : Kept). m.scn) c.memory.view_is) (ap (λ (m : Kept). m.stopped) c.memory.view_is) (ap (λ (m : Kept). m.copies) c.memory.view_is)
+    (subst (λ (z : Shape). (1 ≤ c.args.table) × (c.args.table ≤ z.tables)) st.shape c.requires.table)
 
 pub returns-in-Err-clause-step : goal.returns-in-Err-clause-step
 returns-in-Err-clause-step g c =

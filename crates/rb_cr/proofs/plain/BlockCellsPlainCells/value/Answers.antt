@@ -1,0 +1,13 @@
+use Rattle.std.proofs.Common.{◌∙◌, sym, ap, arith}
+use Rattle.rb_cell.specs.declared.cell.Cell.{Cell}
+use Rattle.rb_cr.proofs.Shown.{cell_there, sixteen}
+use Rattle.rb_cr.proofs.plain.BlockCellsPlainCells.value.Goals as goal
+
+pub overflow_cast-c : goal.overflow_cast-c
+overflow_cast-c c = omega (arith, c.requires.within, sixteen c.args.self.now.block.now)
+
+pub cells-requires-clause-within : goal.cells-requires-clause-within
+cells-requires-clause-within c = omega (arith, c.requires.within, sixteen c.args.self.now.block.now)
+
+pub returns : goal.returns
+returns c = ap (λ (x : Cell). x.value.items) (c.cells.ensures.cell ∙ sym (cell_there c.args.self.now.block.now c.args.c (omega (arith, c.requires.within, sixteen c.args.self.now.block.now))))
