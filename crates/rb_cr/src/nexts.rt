@@ -78,7 +78,7 @@ fn all_told_below(block: &[u8], scn: Scn) -> bool
 
 /// Whether an entry says by itself that it is above a snapshot, however its transaction stands.
 fn is_told_above(entry: &Entry, scn: Scn) -> bool
-    ensures { result ≡ true → (shape : Shape) (env : Env) → AtMost env scn scn (walk_entry shape entry.now) → ⊥ }
+    ensures { result ≡ true → (s : Shape) (env : Env) → AtMost env scn scn (walk_entry s entry.now) → ⊥ }
 {
     (entry.kind == EXACT || entry.kind == BOUND) && entry.number > scn
 }
