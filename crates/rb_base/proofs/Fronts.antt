@@ -45,9 +45,6 @@ front_2 bytes fits long = front_of 2 bytes fits long two
 pub front_4 : (bytes : List ℕ) → IsBytes bytes → 4 ≤ length bytes → bytes ≡ big_bytes 4 (big_number 4 bytes) ++ drop 4 bytes
 front_4 bytes fits long = front_of 4 bytes fits long four
 
-pub front_8 : (bytes : List ℕ) → IsBytes bytes → 8 ≤ length bytes → bytes ≡ big_bytes 8 (big_number 8 bytes) ++ drop 8 bytes
-front_8 bytes fits long = front_of 8 bytes fits long eight
-
 -- a number, and a byte, by the part of the bytes that it stands in
 pub number_of_part : (bytes : List ℕ) (at count : ℕ) → number_at (part bytes at count) 0 count ≡ number_at bytes at count
 number_of_part bytes at count = big_from-take 0 count count (drop at bytes) (omega arith)

@@ -5,6 +5,7 @@ use Rattle.std.proofs.lemmas.List.{length-set, map-append, set-get_or}
 use Rattle.std.specs.List.{AllByRecursion}
 use Rattle.std.specs.Map.{keys_of}
 use Rattle.rb_base.proofs.Each.{all_at, all_push, all_so}
+use Rattle.rb_base.specs.declared.sizes.TheConstants.{UNIT}
 use Rattle.rb_layout.specs.declared.layout.Layout.{Layout}
 use Rattle.rb_twin.specs.Batches.{Image, IsNoneOf}
 use Rattle.rb_cache.specs.Frames.{AreBelow, NoneDirty, blocks_of, cleaned, has_number, seen}
@@ -108,7 +109,7 @@ module _ (before slots : List Frame) (order places : List ℕ) (batch : List Ima
 
   pub gathered_more : length batch < 8 → GatheredSoFar before (set slots k (put (frame_at slots k))) order places (batch ++ image_of (frame_at slots k) ∷ [])
   gathered_more room = record {
-    frames = changed_frames slots order places k (put (frame_at slots k)) so_far.frames lt (all_at (λ (f : Frame). length f.bytes ≡ 2048) slots k no_frame so_far.frames.units lt) refl (λ none. refl);
+    frames = changed_frames slots order places k (put (frame_at slots k)) so_far.frames lt (all_at (λ (f : Frame). length f.bytes ≡ UNIT) slots k no_frame so_far.frames.units lt) refl (λ none. refl);
     gathered = record {
       held_is =
           held_put slots places k order lt (all_has (IsPlaced slots places) order k so_far.frames.placed (so_far.frames.all k lt)) dirty_used so_far.frames.placed

@@ -5,6 +5,7 @@ use Rattle.std.proofs.lemmas.List.{get_or-set_other, length-set}
 use Rattle.std.proofs.lemmas.Grind.{get_or-set_at}
 use Rattle.std.specs.List.{AllByRecursion}
 use Rattle.rb_base.proofs.Each.{all_at, all_set, all_so}
+use Rattle.rb_base.specs.declared.sizes.TheConstants.{UNIT}
 use Rattle.rb_cache.specs.Frames.{IsCacheMemory, has_number, numbers_of, room_made, without}
 use Rattle.rb_cache.specs.Slots.{AreFrames, AreOnce, FramesState, IsPlaced, IsUnused, UnusedLast, cache_of, frame_at, held_of, no_frame}
 use Rattle.rb_cache.specs.declared.frame.Frame.{Frame}
@@ -13,13 +14,13 @@ use Rattle.rb_cache.proofs.NumberLemmas.{all_has, all_without, behind_of, front_
 use Rattle.rb_cache.proofs.SlotLemmas.{all_held, at_set_other, at_set_same, held_append, held_differ, held_few, held_set_out, held_unused, held_used, lacks_held, room_is}
 
 -- the units of frames of these numbers
-all_units : (slots : List Frame) (ks : List ℕ) → AllByRecursion (λ f. length f.bytes ≡ 2048) slots → AllByRecursion (λ k. k < length slots) ks → AllByRecursion (λ k. length (frame_at slots k).bytes ≡ 2048) ks
+all_units : (slots : List Frame) (ks : List ℕ) → AllByRecursion (λ f. length f.bytes ≡ UNIT) slots → AllByRecursion (λ k. k < length slots) ks → AllByRecursion (λ k. length (frame_at slots k).bytes ≡ UNIT) ks
 all_units slots [] units below = tt
-all_units slots (k ∷ ks) units below = (all_at (λ (f : Frame). length f.bytes ≡ 2048) slots k no_frame units below.0, all_units slots ks units below.1)
+all_units slots (k ∷ ks) units below = (all_at (λ (f : Frame). length f.bytes ≡ UNIT) slots k no_frame units below.0, all_units slots ks units below.1)
 
 pub memory_of : (slots : List Frame) (order places : List ℕ) → AreFrames slots order places → IsCacheMemory (cache_of (record { slots = slots; order = order }))
 memory_of slots order places are = record {
-  units = all_held slots (λ (f : Frame). length f.bytes ≡ 2048) order (all_units slots order are.units are.below);
+  units = all_held slots (λ (f : Frame). length f.bytes ≡ UNIT) order (all_units slots order are.units are.below);
   differ = held_differ slots places order are.once are.placed;
   few = let few = held_few slots order in let whole = are.whole in omega (arith, few, whole);
 }
@@ -57,7 +58,7 @@ moved_frames slots order places p are lt used = record {
   leads = are.leads;
 }
 
-module _ (slots : List Frame) (order places : List ℕ) (k : ℕ) (f : Frame) (are : AreFrames slots order places) (lt : k < length slots) (unit : length f.bytes ≡ 2048) where
+module _ (slots : List Frame) (order places : List ℕ) (k : ℕ) (f : Frame) (are : AreFrames slots order places) (lt : k < length slots) (unit : length f.bytes ≡ UNIT) where
   long : length (set slots k f) ≡ length slots
   long = length-set slots k f
 
@@ -91,7 +92,7 @@ module _ (slots : List Frame) (order places : List ℕ) (k : ℕ) (f : Frame) (a
       once = are.once;
       all = λ j there. are.all j (omega (arith, there, long));
       below = all_so (λ j. j < length slots) (λ j. j < length (set slots k f)) order (λ j there. omega (arith, there, long)) are.below;
-      units = all_set (λ (g : Frame). length g.bytes ≡ 2048) slots k f are.units unit;
+      units = all_set (λ (g : Frame). length g.bytes ≡ UNIT) slots k f are.units unit;
       placed = all_so (IsPlaced slots places) (IsPlaced (set slots k f) places) order stays_placed are.placed;
       behind = unused_same slots (set slots k f) order block_stays are.behind;
       table = are.table;
@@ -169,7 +170,7 @@ module _ (slots : List Frame) (order places : List ℕ) (k : ℕ) (f : Frame) (a
         once = are.once;
         all = λ j there. are.all j (omega (arith, there, long));
         below = all_so (λ j. j < length slots) (λ j. j < length (set slots k f)) order (λ j there. omega (arith, there, long)) are.below;
-        units = all_set (λ (g : Frame). length g.bytes ≡ 2048) slots k f are.units unit;
+        units = all_set (λ (g : Frame). length g.bytes ≡ UNIT) slots k f are.units unit;
         placed = all_so (IsPlaced slots places) (IsPlaced (set slots k f) places) order placed_still are.placed;
         behind = subst (UnusedLast (set slots k f)) (sym split) (freed_behind front lacks (subst (UnusedLast slots) split are.behind));
         table = are.table;
@@ -218,7 +219,7 @@ module _ (slots : List Frame) (order places : List ℕ) (k : ℕ) (f : Frame) (a
           all_without (λ j. j < length (set slots k f)) k order
               (all_so (λ j. j < length slots) (λ j. j < length (set slots k f)) order (λ j there. omega (arith, there, long)) are.below),
         );
-        units = all_set (λ (g : Frame). length g.bytes ≡ 2048) slots k f are.units unit;
+        units = all_set (λ (g : Frame). length g.bytes ≡ UNIT) slots k f are.units unit;
         placed = (
           inr (
             subst (λ (g : Frame). g.block < BLOCKS) (sym own) below,

@@ -4,6 +4,7 @@ use Rattle.std.proofs.Common.{slice_index}
 use Rattle.std.proofs.lemmas.List.{drop-take, take-take, drop-drop}
 use Rattle.rb_base.specs.Fields.{part}
 use Rattle.rb_base.proofs.Fronts.{byte_of_part}
+use Rattle.rb_base.specs.declared.sizes.TheConstants.{UNIT}
 use Rattle.rb_disk.specs.Ranges.{SamePart}
 use Rattle.rb_layout.specs.Regions.{block_count, block_offset, file_length, log_offset, twin_offset}
 use Rattle.rb_layout.specs.declared.layout.Layout.{Layout}
@@ -34,18 +35,18 @@ same_part first last file c is = record {
 -- a block at home where files have the same blocks
 pub home_part : (l : Layout) (file c : List ℕ) (k : ℕ) → k < block_count l
     → SamePart (block_offset l 0) (file_length l) file c → home l c k ≡ home l file k
-home_part l file c k lt both = sym (among c) ∙ ap (λ (h : List ℕ). take 2048 (drop (2048 * k) h)) both.same ∙ among file
+home_part l file c k lt both = sym (among c) ∙ ap (λ (h : List ℕ). take UNIT (drop (UNIT * k) h)) both.same ∙ among file
   where
     size : ℕ
     size = file_length l - block_offset l 0
 
-    among : (h : List ℕ) → take 2048 (drop (2048 * k) (part h (block_offset l 0) size)) ≡ home l h k
+    among : (h : List ℕ) → take UNIT (drop (UNIT * k) (part h (block_offset l 0) size)) ≡ home l h k
     among h =
         let all = drop (block_offset l 0) h in
-        sym (drop-take (2048 * k) 2048 (take size all))
-        ∙ ap (drop (2048 * k)) (take-take (2048 * k + 2048) size all (omega (arith, lt)))
-        ∙ drop-take (2048 * k) 2048 all
-        ∙ ap (take 2048) (drop-drop (2048 * k) (block_offset l 0) h ∙ ap (λ (i : ℕ). drop i h) (omega arith))
+        sym (drop-take (UNIT * k) UNIT (take size all))
+        ∙ ap (drop (UNIT * k)) (take-take (UNIT * k + UNIT) size all (omega (arith, lt)))
+        ∙ drop-take (UNIT * k) UNIT all
+        ∙ ap (take UNIT) (drop-drop (UNIT * k) (block_offset l 0) h ∙ ap (λ (i : ℕ). drop i h) (omega arith))
 
 module _ (l : Layout) (c d : List ℕ) where
   -- what stands behind the log
@@ -55,7 +56,7 @@ module _ (l : Layout) (c d : List ℕ) where
       ∙ byte_of_part d (twin_offset l 0) 1 (omega arith)
 
   pub home_behind : (which : ℕ) → drop (log_offset l.log) c ≡ drop (log_offset l.log) d → home l c which ≡ home l d which
-  home_behind which same = part_behind (log_offset l.log) (block_offset l which) 2048 c d same (omega arith)
+  home_behind which same = part_behind (log_offset l.log) (block_offset l which) UNIT c d same (omega arith)
 
   pub blocks_behind : length c ≡ length d → drop (log_offset l.log) c ≡ drop (log_offset l.log) d
       → SamePart (block_offset l 0) (file_length l) d c

@@ -5,6 +5,7 @@ use Rattle.std.proofs.Math.Nat.{mul-le-mul_right}
 use Rattle.std.specs.List.{AllByRecursion}
 use Rattle.std.specs.Result.{OnErr}
 use Rattle.rb_base.proofs.Each.{all_at, all_so}
+use Rattle.rb_base.specs.declared.sizes.TheConstants.{UNIT}
 use Rattle.rb_layout.specs.Regions.{block_count}
 use Rattle.rb_layout.specs.declared.layout.Layout.{Layout}
 use Rattle.rb_cache.specs.Frames.{IsLastClean, NoneDirty, frame_in, has_number, numbers_of, others_of, without}
@@ -127,11 +128,11 @@ module _ (slots : List Frame) (order places : List ℕ) (are : AreFrames slots o
       cc (clean, dirty)
 
   -- the unit of a frame
-  pub unit_at : (k : ℕ) (f : Frame) → k < length slots → f ≡ get_or slots k f → length f.bytes ≡ 2048
-  unit_at k f lt is = ap (λ (g : Frame). length g.bytes) (sym (at_is slots k f lt is)) ∙ all_at (λ (g : Frame). length g.bytes ≡ 2048) slots k no_frame are.units lt
+  pub unit_at : (k : ℕ) (f : Frame) → k < length slots → f ≡ get_or slots k f → length f.bytes ≡ UNIT
+  unit_at k f lt is = ap (λ (g : Frame). length g.bytes) (sym (at_is slots k f lt is)) ∙ all_at (λ (g : Frame). length g.bytes ≡ UNIT) slots k no_frame are.units lt
 
   -- the first frame is another one, of the same block
-  module _ (k : ℕ) (found : k ≡ get_or order 0 0) (some : held_of slots order ≢ []) (f : Frame) (same : f.block ≡ (frame_at slots k).block) (unit : length f.bytes ≡ 2048) where
+  module _ (k : ℕ) (found : k ≡ get_or order 0 0) (some : held_of slots order ≢ []) (f : Frame) (same : f.block ≡ (frame_at slots k).block) (unit : length f.bytes ≡ UNIT) where
     pub front_changed : AreFrames (set slots k f) order places
     front_changed = changed_frames slots order places k f are (first_below k found) unit same (λ none. absurd (first_used k found some (sym same ∙ none)))
 
@@ -181,7 +182,7 @@ module _ (slots : List Frame) (count : ℕ) (long : length slots ≡ count) (emp
     once = below_once count;
     all = λ k lt. below_has count k (omega (arith, lt, long));
     below = below_all count (length slots) (omega (arith, long));
-    units = all_so IsEmptyFrame (λ f. length f.bytes ≡ 2048) slots (λ f is. is.unit) empty;
+    units = all_so IsEmptyFrame (λ f. length f.bytes ≡ UNIT) slots (λ f is. is.unit) empty;
     placed = new_placed places (numbers_below count) (below_all count count (omega arith));
     behind = new_behind (numbers_below count) (below_all count count (omega arith));
     table = table;

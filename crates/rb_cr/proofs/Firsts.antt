@@ -1,5 +1,5 @@
 -- Where a build begins among the homes that are kept, and what it makes of the table.
-use Rattle.std.proofs.Common.{◌≡◌, ◌≢◌, ◌⊎◌, inl, inr, ⊎_elim, ◌≤◌, ◌==◌, ℕ, Bool, true, false, not, nat_eq, List, Option, Some, None, Ok, Err, IfSome, IfNone, IsSome, refl, sym, ◌∙◌, ap, subst, arith}
+use Rattle.std.proofs.Common.{◌≡◌, ◌≢◌, ◌⊎◌, inl, inr, ⊎_elim, ◌≤◌, ◌==◌, ℕ, Bool, true, false, not, nat_eq, List, Option, Some, None, Ok, IfSome, IfNone, IsSome, refl, sym, ◌∙◌, ap, subst, arith}
 use Rattle.std.proofs.lemmas.Bool.{eqb-true}
 use Rattle.std.proofs.lemmas.Bool.Decides.{nat_tests}
 use Rattle.std.specs.Option.{option_eq}
@@ -8,7 +8,6 @@ use Rattle.rb_copies.specs.Copies.{CopyTable, IsLeast, KeptHomes, Serves, copy_k
 use Rattle.rb_copies.specs.declared.homes.CopyKey.{CopyKey}
 use Rattle.rb_copies.specs.declared.homes.KeptHome.{KeptHome}
 use Rattle.rb_cr.specs.Copies.{BeginsAt, IsMade, Keeps, Turns, begun}
-use Rattle.rb_cr.specs.declared.faults.CrFault.{CrFault}
 use Rattle.rb_cr.specs.declared.scratch.Snapshot.{Snapshot}
 
 is_some_by : (o : Option KeptHome) (x : KeptHome) → o ≡ Some x → IsSome o
@@ -85,13 +84,6 @@ turns_there b number n x old new serves was = record {
   served = λ is. was;
   put = inl was;
 }
-
--- what a build makes of the table, a read by it makes too
-pub turns_read : {T : Type 0} (b number n : ℕ) (x : T) (old new : CopyTable) → Turns b number n (Ok (tt {0})) old new → Turns b number n (Ok x) old new
-turns_read b number n x old new turns = record { first = turns.first; begins = turns.begins; refused = tt; served = turns.served; put = turns.put }
-
-pub turns_refused : {T : Type 0} (b number n : ℕ) (fault : CrFault) (old new : CopyTable) → Turns {T = Unit {0}} b number n (Err fault) old new → Turns {T = T} b number n (Err fault) old new
-turns_refused b number n fault old new turns = record { first = turns.first; begins = turns.begins; refused = turns.refused; served = turns.served; put = turns.put }
 
 -- what is told of where a build begins
 pub if_some : {X : Type 0} (P : X → Type 0) (found : Option X) (x : X) → found ≡ Some x → IfSome found P → P x

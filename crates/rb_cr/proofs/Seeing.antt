@@ -31,10 +31,6 @@ pub or_later : (a b c : Bool) → (a || b) || c ≡ a || (b || c)
 or_later true b c = refl
 or_later false b c = refl
 
-pub or_none : (a : Bool) → a || false ≡ a
-or_none true = refl
-or_none false = refl
-
 module _ (env : Env) (base : ℕ) (rows : Rows) (list : List Commit) (n key : ℕ) (start : Home) (st : Starts env base rows n (2 ^ 64 - 1) list start) where
   pub seen_first : Watched env base rows n key (2 ^ 64 - 1) None list start start
   seen_first = watch_begins env base rows n key list (2 ^ 64 - 1) start st

@@ -1,6 +1,6 @@
 -- What an opening makes of a store whose blocks open to a state: an engine that stands for it, and images that restart
 -- in it.
-use Rattle.std.proofs.Common.{◌≡◌, ◌≢◌, ◌<◌, ◌≤◌, ◌+◌, ◌-◌, ◌^◌, ℕ, zero, suc, Bool, true, false, not, List, [], length, take, get_or, replicate, Some, None, Result, Ok, Err, IfErr, IsErrOf, append-nil, refl, sym, ◌∙◌, ap, subst, arith, map}
+use Rattle.std.proofs.Common.{◌≡◌, ◌≢◌, ◌<◌, ◌≤◌, ◌+◌, ◌-◌, ◌^◌, ℕ, zero, suc, Bool, true, false, not, List, [], length, take, get_or, replicate, Some, None, Result, Ok, Err, IfErr, IsErrOf, refl, sym, ◌∙◌, ap, subst, arith, map}
 use Rattle.std.specs.Result.{IsErrAnd}
 use Rattle.rb_copies.specs.Copies.{KeptHomes}
 use Rattle.rb_outliving.specs.Copies.{CopiesStand}
@@ -70,10 +70,6 @@ fails_with (Err fault) X is = is
 pub told_err : {A B : Type 0} (P Q : B → Type 0) (result : Result A B) → IsErrAnd result P → ((e : B) → P e → Q e) → IfErr result Q
 told_err P Q (Ok value) is so = tt
 told_err P Q (Err e) is so = so e is
-
--- no group behind the last
-pub loaded_on : {S : Type 0} (s : Ghosts S) (old mid new : S) (groups : List (List Patch)) (going : Bool) → Logs s old mid groups true → Logs s mid new [] going → Logs s old new groups going
-loaded_on s old mid new groups going logs loads = subst (λ (l : List (List Patch)). Logs s old new l going) (append-nil groups) (more_logs s old mid new groups [] going logs loads)
 
 -- a new table is that of sessions that have done nothing
 fresh_at : (u : ℕ) → kept_at (replicate SESSIONS fresh) u ≡ fresh

@@ -16,8 +16,6 @@ use Rattle.rb_engine.specs.Scanning.{OtherHolds}
 use Rattle.rb_engine.proofs.DoesLemmas.{does_by, does_fault, does_loaded, goes_logged, holds_logged, knows_on, remembers_logged, survives_same, refused_none}
 use Rattle.rb_engine.proofs.QueueLemmas.{all_asked, holds_queue, knows_same, one_asked, queue_waiting, survives_queue}
 use Rattle.rb_engine.proofs.StepLemmas.{few_less, fit_at, fit_held, in_step_moved, in_step_same}
-use Rattle.rb_base.specs.Counts.{err_is}
-use Rattle.rb_waits.proofs.Turns.{wait_not_ready}
 use Rattle.rb_engine.proofs.RetainsLemmas.{retains}
 use Rattle.rb_image.proofs.Crashes.{survives_on}
 use Rattle.rb_image.proofs.Owners.{OwnedBy, owned_by}
@@ -28,7 +26,7 @@ use Rattle.rb_model.specs.Calls.{Action, Answer, Call, Done, Refused, Reply, Wai
 use Rattle.rb_model.specs.Change.{Asked}
 use Rattle.rb_model.specs.NextState.{AfterWait, change_in, queued, written}
 use Rattle.rb_model.specs.Answers.{write_answer}
-use Rattle.rb_model.specs.Queue.{Waiter, closes, is_queued, ready_count, waiting}
+use Rattle.rb_model.specs.Queue.{Waiter, closes, is_queued, waiting}
 use Rattle.rb_model.specs.declared.wrote.Wrote.{Wrote}
 use Rattle.rb_model.specs.declared.wrote.Wrote.TheVariants as wrote
 use Rattle.rb_model.specs.State.{State, isolation_of}
@@ -209,17 +207,6 @@ module _ {S : Type 0} (s : Ghosts S) (kept now : Kept) (old new : S) (is : IsInS
       → IsInStep s now new
   waited_in_step (Ok w) ring waits = waits_in_step waits.2
   waited_in_step (Err why) ring waits = same_in_step ring.2
-
--- as many are ready as before
-pub waited_ready : (kept now : Kept) (who u : ℕ) (sessions : List KeptSession) (r : Result Wrote Refusal) → IfErr r (λ why. (why ≡ Deadlock u) × (closes kept.waits who u ≡ true) × (now ≡ kept))
-    → IfOk r (λ w. (w ≡ wrote.Waits u) × (closes kept.waits who u ≡ false) × (now ≡ record kept { sessions = sessions; waits = waiting who u kept.waits })) → ready_count now.waits ≡ ready_count kept.waits
-waited_ready kept now who u sessions (Ok w) ring waits = ap (λ (z : Kept). ready_count z.waits) waits.2 ∙ wait_not_ready who u kept.waits
-waited_ready kept now who u sessions (Err why) ring waits = ap (λ (z : Kept). ready_count z.waits) ring.2
-
--- and the disk has not failed
-pub waited_fault : (P : Type 0) (u : ℕ) (r : Result Wrote Refusal) → IfErr r (λ why. (why ≡ Deadlock u) × P) → err_is is_disk_fault r ≡ false
-waited_fault P u (Ok w) ring = refl
-waited_fault P u (Err why) ring = ap is_disk_fault ring.0
 
 -- Some session in the table has the id of the transaction that holds a key.
 module _ (h : State) (xids : List Xid) (blocks : List (List ℕ)) (sessions : List KeptSession) (knows : Remembers h xids (env_of h.shape blocks) sessions) (table key : ℕ) (x : Xid) (held : IsHolder h (env_of h.shape blocks) table key (Some x)) where

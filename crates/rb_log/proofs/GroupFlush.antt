@@ -4,6 +4,7 @@ use Rattle.std.proofs.lemmas.Bool.{cases_eq, cases_lt}
 use Rattle.std.proofs.lemmas.Bool.Decides.{nat_tests}
 use Rattle.std.proofs.lemmas.List.{append-nil, take_all, length-take-le, get_or-take}
 use Rattle.std.specs.List.{AllByRecursion}
+use Rattle.rb_log.specs.declared.sizes.TheConstants.{FLUSH_SLOTS}
 use Rattle.rb_base.specs.Groups.{Patch}
 use Rattle.rb_base.proofs.Each.{all_take}
 use Rattle.rb_layout.specs.Regions.{file_length}
@@ -31,7 +32,7 @@ pub first_run : (rest : ℕ) → begins_run rest 0 ≡ true
 unfolding begins_run
 first_run rest = elim (cases_lt 0 rest) [
   | inl some ↦ let test : nat_lt 0 rest ≡ true = grind (arith, nat_tests) in rw test refl
-  | inr none ↦ let test : nat_lt 0 rest ≡ false = grind (arith, nat_tests) in let none : 0 - rest ≡ 0 = omega arith in rw test (ap (λ (k : ℕ). k % 32 == 0) none)
+  | inr none ↦ let test : nat_lt 0 rest ≡ false = grind (arith, nat_tests) in let none : 0 - rest ≡ 0 = omega arith in rw test (ap (λ (k : ℕ). k % FLUSH_SLOTS == 0) none)
 ]
 
 -- a crash where nothing is written

@@ -3,6 +3,7 @@ use Rattle.std.proofs.Common.{◌≡◌, inl, inr, ℕ, ◌+◌, ◌-◌, ◌*�
 use Rattle.std.proofs.lemmas.Bool.{cases_lt, cases_eq}
 use Rattle.std.proofs.lemmas.List.{length-take-le, length-drop, get_or-take, get_or-drop, take-take, take_at}
 use Rattle.std.specs.List.{AllByRecursion}
+use Rattle.rb_base.specs.declared.sizes.TheConstants.{UNIT}
 use Rattle.rb_base.specs.Fields.{part}
 use Rattle.rb_base.specs.Groups.{Patch}
 use Rattle.rb_base.specs.Moments.{begun, weaker, joined}
@@ -27,28 +28,28 @@ last_byte (b ∷ bytes) byte = last_byte bytes byte
 
 -- A buffer's units in a file, but for the gate behind the last: each body, and each gate between two.
 module _ (l : Layout) (slot number : ℕ) (groups : List (List Patch)) (buffer m : List ℕ) (each : AllByRecursion (IsLoggable l) groups) (filled : AreSideBySide number groups buffer (length groups))
-    (is : part m (log_offset slot + 1) (2048 * length groups - 1) ≡ part buffer 0 (2048 * length groups - 1)) where
+    (is : part m (log_offset slot + 1) (UNIT * length groups - 1) ≡ part buffer 0 (UNIT * length groups - 1)) where
   pub run_body : (k : ℕ) (d : List Patch) → k < length groups → drop 1 (slot_at m (slot + k)) ≡ drop 1 (group_unit 0 (number + k) (get_or groups k d))
   run_body k d lt =
-      let n = 2048 * length groups - 1 in
+      let n = UNIT * length groups - 1 in
       let body = drop 1 (group_unit 0 (number + k) (get_or groups k d)) in
       let next = min 1 (length groups - (k + 1)) in
       let logged = all_at (IsLoggable l) groups k d each lt in
-      body_part m (slot + k) ∙ ap (λ (i : ℕ). part m i 2047) (omega arith) ∙ sym (part_inside m (log_offset slot + 1) n (2048 * k) 2047 (omega (arith, lt)))
-      ∙ ap (λ (b : List ℕ). part b (2048 * k) 2047) is ∙ part_inside buffer 0 n (2048 * k) 2047 (omega (arith, lt)) ∙ ap (λ (i : ℕ). part buffer i 2047) (omega arith)
-      ∙ sym (take-take 2047 2048 (drop (2048 * k) buffer) (omega arith)) ∙ ap (take 2047) (filled k d lt) ∙ take_at body (next ∷ []) 2047 (length-body (number + k) (get_or groups k d) logged.valid)
+      body_part m (slot + k) ∙ ap (λ (i : ℕ). part m i (UNIT - 1)) (omega arith) ∙ sym (part_inside m (log_offset slot + 1) n (UNIT * k) (UNIT - 1) (omega (arith, lt)))
+      ∙ ap (λ (b : List ℕ). part b (UNIT * k) (UNIT - 1)) is ∙ part_inside buffer 0 n (UNIT * k) (UNIT - 1) (omega (arith, lt)) ∙ ap (λ (i : ℕ). part buffer i (UNIT - 1)) (omega arith)
+      ∙ sym (take-take (UNIT - 1) UNIT (drop (UNIT * k) buffer) (omega arith)) ∙ ap (take (UNIT - 1)) (filled k d lt) ∙ take_at body (next ∷ []) (UNIT - 1) (length-body (number + k) (get_or groups k d) logged.valid)
 
   pub run_gates : (k : ℕ) → 0 < k → k < length groups → slice_index (slot_at m (slot + k)) 0 ≡ 1
   run_gates k more lt =
-      let n = 2048 * length groups - 1 in
+      let n = UNIT * length groups - 1 in
       let j = k - 1 in
       let body = drop 1 (group_unit 0 (number + j) (get_or groups j [])) in
       let next = min 1 (length groups - (j + 1)) in
       let logged = all_at (IsLoggable l) groups j [] each (omega (arith, lt)) in
-      let long : length body ≡ 2047 = length-body (number + j) (get_or groups j []) logged.valid in
-      gate_at m (slot + k) ∙ ap (slice_index m) (omega (arith, more)) ∙ sym (byte_inside m (log_offset slot + 1) n (2048 * j + 2047) (omega (arith, more, lt)))
-      ∙ ap (λ (b : List ℕ). get_or b (2048 * j + 2047) 0) is ∙ byte_inside buffer 0 n (2048 * j + 2047) (omega (arith, more, lt)) ∙ ap (slice_index buffer) (omega arith)
-      ∙ sym (byte_inside buffer (2048 * j) 2048 2047 (omega arith)) ∙ ap (λ (b : List ℕ). get_or b 2047 0) (filled j [] (omega (arith, lt)))
+      let long : length body ≡ (UNIT - 1) = length-body (number + j) (get_or groups j []) logged.valid in
+      gate_at m (slot + k) ∙ ap (slice_index m) (omega (arith, more)) ∙ sym (byte_inside m (log_offset slot + 1) n (UNIT * j + (UNIT - 1)) (omega (arith, more, lt)))
+      ∙ ap (λ (b : List ℕ). get_or b (UNIT * j + (UNIT - 1)) 0) is ∙ byte_inside buffer 0 n (UNIT * j + (UNIT - 1)) (omega (arith, more, lt)) ∙ ap (slice_index buffer) (omega arith)
+      ∙ sym (byte_inside buffer (UNIT * j) UNIT (UNIT - 1) (omega arith)) ∙ ap (λ (b : List ℕ). get_or b (UNIT - 1) 0) (filled j [] (omega (arith, lt)))
       ∙ ap (λ (x : ℕ). get_or (body ++ next ∷ []) x 0) (sym long) ∙ last_byte body next ∙ omega (arith, more, lt)
 
 -- so many of the groups are written, whole runs of them

@@ -2,6 +2,7 @@
 use Rattle.std.proofs.Common.{◌≡◌, ◌⊎◌, inl, inr, ⊎_elim, ℕ, ◌+◌, ◌-◌, ◌*◌, ◌≤◌, ◌<◌, List, ◌∷◌, length, take, drop, slice_index, refl, sym, ◌∙◌, ap, subst, arith}
 use Rattle.std.proofs.lemmas.Bool.{cases_lt, cases_eq}
 use Rattle.std.proofs.lemmas.List.{drop-drop, drop-take, length-take-le, length-drop, drop_more}
+use Rattle.rb_base.specs.declared.sizes.TheConstants.{UNIT}
 use Rattle.rb_base.specs.Fields.{part}
 use Rattle.rb_disk.specs.DiskModel.{Torn}
 use Rattle.rb_disk.specs.Writes.{torn_stays}
@@ -14,14 +15,14 @@ use Rattle.rb_log.specs.Slots.{slot_at, slot_of, log_unit, gate_of, SameOutside}
 use Rattle.rb_log.proofs.Writes.{part_below, part_beyond, gate_at, torn_outside}
 
 -- a unit's body as bytes of the file
-pub body_part : (f : List ℕ) (slot : ℕ) → drop 1 (slot_at f slot) ≡ part f (log_offset slot + 1) 2047
-body_part f slot = drop-take 1 2047 (drop (log_offset slot) f) ∙ ap (take 2047) (drop-drop 1 (log_offset slot) f ∙ ap (λ (i : ℕ). drop i f) (omega arith))
+pub body_part : (f : List ℕ) (slot : ℕ) → drop 1 (slot_at f slot) ≡ part f (log_offset slot + 1) (UNIT - 1)
+body_part f slot = drop-take 1 (UNIT - 1) (drop (log_offset slot) f) ∙ ap (take (UNIT - 1)) (drop-drop 1 (log_offset slot) f ∙ ap (λ (i : ℕ). drop i f) (omega arith))
 
 -- a unit is its gate and its body
-pub unit_parts : (f : List ℕ) (slot : ℕ) (body : List ℕ) (gate : ℕ) → log_offset slot + 2048 ≤ length f → slice_index (slot_at f slot) 0 ≡ gate → drop 1 (slot_at f slot) ≡ body → slot_at f slot ≡ gate ∷ body
+pub unit_parts : (f : List ℕ) (slot : ℕ) (body : List ℕ) (gate : ℕ) → log_offset slot + UNIT ≤ length f → slice_index (slot_at f slot) 0 ≡ gate → drop 1 (slot_at f slot) ≡ body → slot_at f slot ≡ gate ∷ body
 unit_parts f slot body gate fits opened is =
     let unit = slot_at f slot in
-    let long : length unit ≡ 2048 = length-take-le 2048 (drop (log_offset slot) f) (omega (arith, length-drop (log_offset slot) f, fits)) in
+    let long : length unit ≡ UNIT = length-take-le UNIT (drop (log_offset slot) f) (omega (arith, length-drop (log_offset slot) f, fits)) in
     drop_more unit 0 0 (omega (arith, long)) ∙ ap (λ (g : ℕ). g ∷ drop 1 unit) opened ∙ ap (λ (b : List ℕ). gate ∷ b) is
 
 pub outside_both : (slots : ℕ) (f g h : List ℕ) → SameOutside slots f g → SameOutside slots g h → SameOutside slots f h
@@ -57,34 +58,34 @@ module _ (l : Layout) (head : Head) (slot : head.slot < l.log) where
   ]
 
   -- a torn write from behind a gate to the gate some places further
-  pub torn_run : (at count : ℕ) (d c : List ℕ) → at + count < l.log → slot_of l head at + count < l.log → length d ≡ file_length l → Torn (log_offset (slot_of l head at) + 1) (2048 * count) d c → SameButGroups l head at count d c
+  pub torn_run : (at count : ℕ) (d c : List ℕ) → at + count < l.log → slot_of l head at + count < l.log → length d ≡ file_length l → Torn (log_offset (slot_of l head at) + 1) (UNIT * count) d c → SameButGroups l head at count d c
   torn_run at count d c room line whole torn =
       let a = slot_of l head at in
       let there : slot_of l head (at + count) ≡ a + count = slot_on l head at count slot line in record {
-        outside = torn_outside l.log d c (log_offset a + 1) (2048 * count) (omega arith) (omega (arith, line)) (omega (arith, whole)) torn;
-        units = λ k lt away. ⊎_elim (λ before. part_below c d (log_offset a + 1) (log_offset (slot_of l head k)) 2048 torn.before (omega (arith, before)))
-            (λ behind. part_beyond c d (log_offset a + 1 + 2048 * count) (log_offset (slot_of l head k)) 2048 torn.behind (omega (arith, behind))) (apart at count k room lt away line);
-        behind = body_part c (slot_of l head (at + count)) ∙ part_beyond c d (log_offset a + 1 + 2048 * count) (log_offset (slot_of l head (at + count)) + 1) 2047 torn.behind (omega (arith, there)) ∙ sym (body_part d (slot_of l head (at + count)));
-        gate = gate_at c a ∙ torn_stays (log_offset a) (log_offset a + 1) (2048 * count) d c (inl (omega arith)) torn ∙ sym (gate_at d a);
+        outside = torn_outside l.log d c (log_offset a + 1) (UNIT * count) (omega arith) (omega (arith, line)) (omega (arith, whole)) torn;
+        units = λ k lt away. ⊎_elim (λ before. part_below c d (log_offset a + 1) (log_offset (slot_of l head k)) UNIT torn.before (omega (arith, before)))
+            (λ behind. part_beyond c d (log_offset a + 1 + UNIT * count) (log_offset (slot_of l head k)) UNIT torn.behind (omega (arith, behind))) (apart at count k room lt away line);
+        behind = body_part c (slot_of l head (at + count)) ∙ part_beyond c d (log_offset a + 1 + UNIT * count) (log_offset (slot_of l head (at + count)) + 1) (UNIT - 1) torn.behind (omega (arith, there)) ∙ sym (body_part d (slot_of l head (at + count)));
+        gate = gate_at c a ∙ torn_stays (log_offset a) (log_offset a + 1) (UNIT * count) d c (inl (omega arith)) torn ∙ sym (gate_at d a);
       }
 
   -- One up to the end of the log's last slot, and one of the gate of the first slot.
-  pub torn_round : (at count : ℕ) (d e c : List ℕ) → 0 < count → at + count < l.log → slot_of l head at + count ≡ l.log → length d ≡ file_length l → Torn (log_offset (slot_of l head at) + 1) (2048 * count - 1) d e → Torn (log_offset 0) 1 e c
+  pub torn_round : (at count : ℕ) (d e c : List ℕ) → 0 < count → at + count < l.log → slot_of l head at + count ≡ l.log → length d ≡ file_length l → Torn (log_offset (slot_of l head at) + 1) (UNIT * count - 1) d e → Torn (log_offset 0) 1 e c
       → SameButGroups l head at count d c
   torn_round at count d e c some room full whole one two =
       let a = slot_of l head at in
       let there : slot_of l head (at + count) ≡ 0 = slot_round l head at count slot room full in
       let long : length e ≡ length d = omega (arith, one.no_shorter, one.no_longer, whole, full, some) in record {
-        outside = outside_both l.log d e c (torn_outside l.log d e (log_offset a + 1) (2048 * count - 1) (omega arith) (omega (arith, full, some)) (omega (arith, whole)) one)
+        outside = outside_both l.log d e c (torn_outside l.log d e (log_offset a + 1) (UNIT * count - 1) (omega arith) (omega (arith, full, some)) (omega (arith, whole)) one)
             (torn_outside l.log e c (log_offset 0) 1 (omega arith) (omega (arith, full, some)) (omega (arith, whole, long)) two);
         units = λ k lt away.
             let away_from = apart_end at count k room lt away full in
-            part_beyond c e (log_offset 0 + 1) (log_offset (slot_of l head k)) 2048 two.behind (omega (arith, away_from.0)) ∙ part_below e d (log_offset a + 1) (log_offset (slot_of l head k)) 2048 one.before (omega (arith, away_from.1));
+            part_beyond c e (log_offset 0 + 1) (log_offset (slot_of l head k)) UNIT two.behind (omega (arith, away_from.0)) ∙ part_below e d (log_offset a + 1) (log_offset (slot_of l head k)) UNIT one.before (omega (arith, away_from.1));
         behind =
-            body_part c (slot_of l head (at + count)) ∙ ap (λ (s : ℕ). part c (log_offset s + 1) 2047) there ∙ part_beyond c e (log_offset 0 + 1) (log_offset 0 + 1) 2047 two.behind (omega arith) ∙ part_below e d (log_offset a + 1) (log_offset 0 + 1) 2047 one.before (omega (arith, room, full))
-            ∙ ap (λ (s : ℕ). part d (log_offset s + 1) 2047) (sym there) ∙ sym (body_part d (slot_of l head (at + count)));
+            body_part c (slot_of l head (at + count)) ∙ ap (λ (s : ℕ). part c (log_offset s + 1) (UNIT - 1)) there ∙ part_beyond c e (log_offset 0 + 1) (log_offset 0 + 1) (UNIT - 1) two.behind (omega arith) ∙ part_below e d (log_offset a + 1) (log_offset 0 + 1) (UNIT - 1) one.before (omega (arith, room, full))
+            ∙ ap (λ (s : ℕ). part d (log_offset s + 1) (UNIT - 1)) (sym there) ∙ sym (body_part d (slot_of l head (at + count)));
         gate =
-            gate_at c a ∙ torn_stays (log_offset a) (log_offset 0) 1 e c (inr (omega (arith, room, full))) two ∙ torn_stays (log_offset a) (log_offset a + 1) (2048 * count - 1) d e (inl (omega arith)) one
+            gate_at c a ∙ torn_stays (log_offset a) (log_offset 0) 1 e c (inr (omega (arith, room, full))) two ∙ torn_stays (log_offset a) (log_offset a + 1) (UNIT * count - 1) d e (inl (omega arith)) one
             ∙ sym (gate_at d a);
       }
 
@@ -127,6 +128,6 @@ module _ (l : Layout) (head : Head) (slot : head.slot < l.log) where
         outside = torn_outside l.log d c (log_offset a) 1 (omega arith) (omega (arith, line)) (omega (arith, whole)) torn;
         units = λ k lt away.
             let two = apart at 0 k (omega (arith, room)) lt (⊎_elim (λ before. inl before) (λ behind. inr (omega (arith, behind))) away) (omega (arith, line)) in
-            ⊎_elim (λ before. part_below c d (log_offset a) (log_offset (slot_of l head k)) 2048 torn.before (omega (arith, before))) (λ behind. part_beyond c d (log_offset a + 1) (log_offset (slot_of l head k)) 2048 torn.behind (omega (arith, behind))) two;
-        body = body_part c a ∙ part_beyond c d (log_offset a + 1) (log_offset a + 1) 2047 torn.behind (omega arith) ∙ sym (body_part d a);
+            ⊎_elim (λ before. part_below c d (log_offset a) (log_offset (slot_of l head k)) UNIT torn.before (omega (arith, before))) (λ behind. part_beyond c d (log_offset a + 1) (log_offset (slot_of l head k)) UNIT torn.behind (omega (arith, behind))) two;
+        body = body_part c a ∙ part_beyond c d (log_offset a + 1) (log_offset a + 1) (UNIT - 1) torn.behind (omega arith) ∙ sym (body_part d a);
       }

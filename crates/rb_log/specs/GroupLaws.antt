@@ -6,9 +6,7 @@ use Rattle.std.proofs.Common.{zero, suc, inl, inr, ⊎_elim, sym, ◌∙◌, ap,
 use Rattle.std.proofs.lemmas.Bool.{cases_lt}
 use Rattle.std.proofs.lemmas.Bool.Decides.{nat_tests}
 use Rattle.std.proofs.lemmas.List.{append-nil, drop-drop, drop-take, take-take}
-use Rattle.byteorder.specs.Numbers.{big_number-reads_back}
-use Rattle.rb_base.specs.Blocks.{patched}
-use Rattle.rb_base.specs.Fields.{part, number_at, overwritten}
+use Rattle.rb_base.specs.Fields.{part}
 use Rattle.rb_base.specs.Groups.{Patch}
 use Rattle.rb_group.proofs.Spelling.{group_same}
 use Rattle.rb_layout.specs.Regions.{log_offset}
@@ -31,18 +29,6 @@ pub slot_below : (l : Layout) (head : Head) (k : ℕ) → head.slot < l.log → 
 slot_below l head k lt le = elim (cases_lt (head.slot + k) l.log) [
   | inl low ↦ omega (arith, slot_low l head k low, low)
   | inr high ↦ omega (arith, slot_high l head k high, high, lt, le)
-]
-
--- two places of one lap have two slots
-pub slots_differ : (l : Layout) (head : Head) (j k : ℕ) → head.slot < l.log → j < k → k < l.log
-    → slot_of l head j ≢ slot_of l head k
-slots_differ l head j k lt less le same = elim (cases_lt (head.slot + k) l.log) [
-  | inl low ↦ absurd (omega (arith, slot_low l head k low, slot_low l head j (omega (arith, low, less)), same, less))
-  | inr high ↦
-      elim (cases_lt (head.slot + j) l.log) [
-        | inl low ↦ absurd (omega (arith, slot_high l head k high, slot_low l head j low, same, less, le, high))
-        | inr also ↦ absurd (omega (arith, slot_high l head k high, slot_high l head j also, same, less, high, also))
-      ]
 ]
 
 -- places behind one whose slots don't pass the end stand side by side, and slot 0 follows the last one
@@ -96,12 +82,6 @@ slot_moved l head k i lt le = elim (cases_lt (head.slot + k) l.log) [
         high,
       )
 ]
-
--- by a layout of as many slots a place has the same one
-pub slot_alike : (l m : Layout) (head : Head) (k : ℕ) → l.log ≡ m.log → slot_of l head k ≡ slot_of m head k
-unfolding slot_of
-slot_alike l m head k same =
-    ap (λ (slots : ℕ). if nat_lt (head.slot + k) slots then head.slot + k else head.slot + k - slots) same
 
 -- a slot's unit lies among the bytes of the log
 pub same_slot : (slots : ℕ) (file other : List ℕ) → SameSlots slots file other → (k : ℕ) → k < slots
@@ -178,13 +158,6 @@ pub groups_end : (l : Layout) (head : Head) (file : List ℕ) (at end : ℕ) (gr
 groups_end l head file at end [] e log = subst (λ (i : ℕ). GroupsAre l head file i []) (omega (arith, e)) log
 groups_end l head file at end (group ∷ groups) e log =
     groups_end l head file (at + 1) end groups (omega (arith, e)) log.2
-
--- the first of its groups are a log where the gate behind them is shut
-pub cut_log : (l : Layout) (head : Head) (file : List ℕ) (at : ℕ) (groups : List (List Patch))
-    → BeginsWithGroups l head file at groups → gate_of l head file (at + length groups) ≢ 1
-    → GroupsAre l head file at groups
-cut_log l head file at groups begins shut =
-    begins_end_group l head file at (at + length groups) groups refl begins (inr shut)
 
 -- a unit holds one group, and a file has one log
 pub one_group : (l : Layout) (unit : List ℕ) (number : ℕ) (first second : List Patch)
@@ -281,33 +254,3 @@ moved_log l head file k i (group ∷ groups) slot few shut log = (
       (subst (λ (j : ℕ). gate_of l head file (k + j) ≢ 1) (omega arith) shut)
       (subst (λ (j : ℕ). GroupsAre l head file j groups) (omega arith) log.2),
 )
-
-pub released_log : (l : Layout) (head : Head) (file : List ℕ) (k : ℕ) (groups : List (List Patch))
-    → head.slot < l.log → k ≤ length groups → gate_of l head file (length groups) ≢ 1
-    → GroupsAre l head file 0 groups → GroupsAre l (head_at l head k) file 0 (drop k groups)
-released_log l head file k groups slot le shut log =
-    let few = few_groups l head file 0 groups (omega (arith, slot)) log in
-    let long = length-drop k groups in
-    moved_log l head file k 0 (drop k groups) slot (omega (arith, few, long, le))
-    (subst (λ (i : ℕ). gate_of l head file i ≢ 1) (omega (arith, long, le)) shut)
-    (subst (λ (i : ℕ). GroupsAre l head file i (drop k groups)) (omega arith)
-    (rest_log l head file 0 k groups le log))
-  where
-    length-drop : (n : ℕ) (gs : List (List Patch)) → length (drop n gs) ≡ length gs - n
-    length-drop zero gs = omega arith
-    length-drop (suc n) [] = omega arith
-    length-drop (suc n) (g ∷ gs) = let rest = length-drop n gs in omega (arith, rest)
-
--- The gate of the next place is that of place 'used - k' from the head that stands k places further.
-pub shut_moved : (l : Layout) (head : Head) (file : List ℕ) (used k : ℕ) → head.slot < l.log → k ≤ used
-    → used < l.log → gate_of l head file used ≢ 1 → gate_of l (head_at l head k) file (used - k) ≢ 1
-shut_moved l head file used k slot le lt shut is = shut
-    (ap (gate_of l head file) (omega (arith, le))
-    ∙ ap (λ (s : ℕ). slice_index (slot_at file s) 0)
-    (sym (slot_moved l head k (used - k) slot (omega (arith, lt, le))))
-    ∙ is)
-
--- a block that a group patches has the group's number in front
-pub patched_number : (number : ℕ) (p : Patch) (block : List ℕ) → number < 256 ^ 8
-    → number_at (patched number p block) 0 8 ≡ number
-patched_number number p block few = big_number-reads_back 8 number (drop 8 (overwritten block p.at p.bytes)) few

@@ -4,6 +4,7 @@ use Rattle.std.specs.Prelude.{◌^◌, ◌<◌, ◌≤◌, ◌==◌, nat_lt, if�
 use Rattle.std.specs.Prelude.{[], ◌∷◌, ◌++◌, length, take, drop, replicate, get_or, slice_index, Bool, true}
 use Rattle.std.specs.Prelude.{false}
 use Rattle.std.specs.List.{AllByRecursion}
+use Rattle.rb_log.specs.declared.unit.TheConstants.{GROUP, LENGTH, NUMBER}
 use Rattle.byteorder.specs.Endian.{big_bytes}
 use Rattle.rb_base.specs.Blocks.{AreWithin}
 use Rattle.rb_base.specs.Fields.{part, number_at}
@@ -24,9 +25,9 @@ pub record IsLoggable (l : Layout) (group : List Patch) : Type 0 where
 
 -- The body of a unit holds this group under this number, and its blocks are those of the file.
 pub record HasGroup (l : Layout) (unit : List ℕ) (number : ℕ) (group : List Patch) : Type 0 where
-  pub numbered : number_at unit 8 8 ≡ number
-  pub spelled : SpellsGroup (part unit 16 (number_at unit 2 2)) group
-  pub long : number_at unit 2 2 ≡ group_length group
+  pub numbered : number_at unit NUMBER 8 ≡ number
+  pub spelled : SpellsGroup (part unit GROUP (number_at unit LENGTH 2)) group
+  pub long : number_at unit LENGTH 2 ≡ group_length group
   pub within : AreWithin (shape_of l) group
 
 -- and its gate is open
@@ -59,7 +60,7 @@ pub record IsFaultyGroup (l : Layout) (head : Head) (file : List ℕ) (place : �
 abbrev pub group_unit : ℕ → ℕ → List Patch → List ℕ
 group_unit gate number group =
     gate ∷ 0 ∷ big_bytes 2 (group_length group) ++ 0 ∷ 0 ∷ 0 ∷ 0 ∷ big_bytes 8 number ++ group_bytes group
-    ++ replicate (UNIT - 16 - group_length group) 0
+    ++ replicate (UNIT - GROUP - group_length group) 0
 
 -- Whether the group at this place of a flush is the first of a run, where so many slots stand from the flush's first
 -- one to the last of the file. A run has up to 32 slots, and doesn't pass the last of the file.

@@ -195,10 +195,6 @@ find_this blocks P b (x ∷ rows) o is passes first =
 
 -- of rows in order, where each that is the row of its key ..
 
--- .. passes two tests alike
-pub agree_in_rows : (blocks : ℕ) (P Q : TableRow → Bool) (rows : List TableRow) → InOrder blocks rows → ((r : TableRow) → key_row r.table r.key rows ≡ Some r → P r ≡ Q r) → find P rows ≡ find Q rows
-agree_in_rows blocks P Q rows o so = find_agree P Q rows (all_so (IsThere rows) (λ r. P r ≡ Q r) rows so (each_there blocks rows o))
-
 -- .. fails a test
 pub none_in_rows : (blocks : ℕ) (P : TableRow → Bool) (rows : List TableRow) → InOrder blocks rows → ((r : TableRow) → key_row r.table r.key rows ≡ Some r → P r ≡ false) → find P rows ≡ None
 none_in_rows blocks P rows o so = find_none P rows (all_so (IsThere rows) (λ r. P r ≡ false) rows so (each_there blocks rows o))

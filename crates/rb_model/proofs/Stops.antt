@@ -1,15 +1,12 @@
 -- When a state is stopped: after a fault of the disk, and else where it was before. No call changes the shape or how many
 -- sessions there are.
-use Rattle.std.proofs.Common.{◌≡◌, ◌≢◌, ◌∙◌, inl, inr, ⊎_elim, refl, sym, ap, ℕ, ◌-◌, true, false, List, length, length-set, Option, None, Some, Result, Ok, Err}
+use Rattle.std.proofs.Common.{◌≡◌, ◌≢◌, ◌∙◌, inl, inr, ⊎_elim, refl, sym, ap, ℕ, ◌-◌, true, false, List, length, length-set, Result, Ok, Err}
 use Rattle.std.proofs.lemmas.Bool.{cond_both, cases_Bool, false≢true}
 use Rattle.rb_base.specs.Counts.{err_is}
-use Rattle.rb_model.specs.Answers.{commit_answer, fetch_answer, marks_answer, plain_answer, write_answer}
+use Rattle.rb_model.specs.Answers.{write_answer}
 use Rattle.rb_model.specs.Calls.{Call, Write, Commit, Rollback, SetMode, SetSavepoint, RollbackTo, OpenCursor, Fetch, CloseCursor, Cancel, Marks, Checkpoint, Answer, Done, Waits, Numbered, Given, End, Marked, Refused, is_disk_fault, is_fault}
 use Rattle.rb_model.specs.NextState.{After, AfterGrant, AfterWait, EndsAs}
 use Rattle.rb_model.specs.State.{State, Cursor}
-use Rattle.rb_model.specs.declared.marks.Marks.{Marks as CodeMarks}
-use Rattle.rb_model.specs.declared.row.Row.{Row}
-use Rattle.rb_model.specs.declared.row.Fetched.{Fetched}
 use Rattle.rb_model.specs.declared.row.Fetched.TheVariants as fetched
 use Rattle.rb_model.specs.declared.refusal.Refusal.{Refusal}
 use Rattle.rb_model.specs.declared.refusal.Refusal.TheVariants.{DiskFault}
@@ -116,21 +113,3 @@ pub fault_of_write : (r : Result Wrote Refusal) → err_is is_disk_fault r ≡ i
 fault_of_write (Ok wrote.Done) = refl
 fault_of_write (Ok (wrote.Waits on)) = refl
 fault_of_write (Err why) = refl
-
-pub fault_of_commit : (r : Result (Option ℕ) Refusal) → err_is is_disk_fault r ≡ is_fault (commit_answer r)
-fault_of_commit (Ok None) = refl
-fault_of_commit (Ok (Some n)) = refl
-fault_of_commit (Err why) = refl
-
-pub fault_of_plain : (r : Result (Unit {0}) Refusal) → err_is is_disk_fault r ≡ is_fault (plain_answer r)
-fault_of_plain (Ok done) = refl
-fault_of_plain (Err why) = refl
-
-pub fault_of_marks : (seg : ℕ) (r : Result CodeMarks Refusal) → err_is is_disk_fault r ≡ is_fault (marks_answer seg r)
-fault_of_marks seg (Ok marks) = refl
-fault_of_marks seg (Err why) = refl
-
-pub fault_of_fetch : (r : Result Fetched Refusal) (row : Row) → err_is is_disk_fault r ≡ is_fault (fetch_answer r row)
-fault_of_fetch (Ok fetched.Row) row = refl
-fault_of_fetch (Ok fetched.End) row = refl
-fault_of_fetch (Err why) row = refl

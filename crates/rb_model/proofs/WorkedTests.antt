@@ -4,7 +4,7 @@ use Rattle.std.specs.List.{range_with_len}
 use Rattle.rb_model.specs.Book.{Book, fresh_book, left, marked, taken}
 use Rattle.rb_model.specs.Change.{Change, put, gone}
 use Rattle.rb_model.specs.State.{State, Session, no_session}
-use Rattle.rb_model.specs.Tests.{full_slots, holder, live_changes, made_since, owners_counted, works_in}
+use Rattle.rb_model.specs.Tests.{full_slots, holder, made_since, works_in}
 
 abbrev session : List Change → Session
 session own = record no_session { own = own }
@@ -49,12 +49,6 @@ works_elsewhere = refl
 
 not_in_its_way : works_in three 1 1 5 1 ≡ false
 not_in_its_way = refl
-
-live : live_changes three ≡ 3
-live = refl
-
-owned : owners_counted three ≡ 2
-owned = refl
 
 -- three records since session 1 began, one since session 2 did, and none where nobody is left
 since_first : made_since two_owners ≡ 3

@@ -1,14 +1,13 @@
 -- What a write's tests ask of the machine: who holds a key, whether other sessions fill its home, and how many records
 -- a segment has made since the first of its owners began. And what is owed.
-use Rattle.std.specs.Prelude.{ℕ, ◌-◌, ◌*◌, ◌==◌, ◌&&◌, Bool, not, min, nat_le, is_some}
+use Rattle.std.specs.Prelude.{ℕ, ◌-◌, ◌*◌, ◌==◌, ◌&&◌, Bool, not, min, nat_le}
 use Rattle.std.specs.Prelude.{List, [], ◌∷◌, length, filter, find, Option, None, Some}
-use Rattle.std.specs.List.{count_by, list_any, range_with_len, sum_by}
+use Rattle.std.specs.List.{list_any, range_with_len}
 use Rattle.rb_base.specs.declared.shape.Shape.{Shape}
-use Rattle.rb_base.specs.declared.sizes.TheConstants.{SLOTS}
 use Rattle.rb_model.specs.Book.{Book, BookSlot, Owner}
 use Rattle.rb_model.specs.Change.{Change}
 use Rattle.rb_model.specs.Full.{has_home}
-use Rattle.rb_model.specs.State.{State, session_own, owner_at}
+use Rattle.rb_model.specs.State.{State, session_own}
 
 -- the change is of that key
 abbrev pub is_change : ℕ → ℕ → Change → Bool
@@ -50,11 +49,3 @@ least_start (s ∷ slots) start = earlier_start s.owner (least_start slots start
 -- how many records the segment has made since the first of its owners began
 abbrev pub made_since : Book → ℕ
 made_since b = b.writes - least_start b.slots b.writes
-
--- the live changes of all sessions
-abbrev pub live_changes : State → ℕ
-live_changes h = sum_by (λ s. length (session_own h s)) (session_numbers h)
-
--- the table slots that are owned, those of all segments
-abbrev pub owners_counted : State → ℕ
-owners_counted h = count_by (λ t. is_some (owner_at h t)) (range_with_len 0 (SLOTS * h.shape.segments))

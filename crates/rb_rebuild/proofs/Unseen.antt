@@ -32,9 +32,6 @@ not_first : (mine : Option Xid) (upto : ℕ) (chs : List Change) → ((ch : Chan
 not_first mine upto [] each = refl
 not_first mine upto (ch ∷ more) each = let head : is_first mine upto ch.xid ch.number ≡ false = each ch (inl refl) in rw head (not_first mine upto more (λ x named. each x (inr named)))
 
-no_mine : (upto : ℕ) (xid : Xid) (number : ℕ) → is_first None upto xid number ≡ false
-no_mine upto xid number = refl
-
 none_first : (mine : Option Xid) (xid : Xid) (number k : ℕ) → number ≡ suc k → is_first mine 0 xid number ≡ false
 none_first mine xid number k is = by_mine (is_mine mine xid) (grind (arith, nat_tests, is))
   where

@@ -83,10 +83,6 @@ same_number text m n x y p q e f =
     let k = same_parts (decimal m) (decimal n) x y (decimal_is_word m p) (decimal_is_word n q) (sym e ∙ f) in
     (decimal_injective m n p q k.0, k.1)
 
--- a name in front of a space
-pub same_name : (text a b x y : List ℕ) → is_name a ≡ true → is_name b ≡ true → text ≡ a ++ 32 ∷ x → text ≡ b ++ 32 ∷ y → (a ≡ b) × (x ≡ y)
-same_name text a b x y p q e f = same_parts a b x y (name_is_word a p) (name_is_word b q) (sym e ∙ f)
-
 -- what a number that does not fit leaves open
 pub no_smaller : {E : Type 0} (text : List ℕ) (m limit : ℕ) (r : Result ℕ E) (o : Option ℕ) → m < 2 ^ 64 → limit ≤ 2 ^ 64 → text ≡ decimal m
     → OkIff r (m < limit) m → o ≡ result_ok r → IfNone o ((n : ℕ) → n < limit → text ≡ decimal n → ⊥)

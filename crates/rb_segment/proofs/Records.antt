@@ -102,9 +102,6 @@ turn_up_to writes ord records i count few le some =
     let b = mod-lt (i - 1) (positive) in
     omega (arith, a, b, count, few)
 
-turn_positive : (i : ℕ) → 2 ≤ turn_of i
-turn_positive i = omega arith
-
 -- the next record is found in the head
 module _ (i : ℕ) (address : Uba) (touched : ℕ) (r : UndoRecord) (s : Segment) (ring : Ring s.header) (few : s.header.records < 40) (room : length s.undo ≡ 320) where
   head_found : extent_with s.header.extents (head_turn s.header) ≡ Some s.header.head

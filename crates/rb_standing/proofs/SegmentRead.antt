@@ -11,7 +11,7 @@ use Rattle.rb_heap.specs.Homes.{home_of}
 use Rattle.rb_segment.specs.Header.{Header, Segment, header_of, segment_of, slot_in, undo_block}
 use Rattle.rb_segment.specs.Moves.{with_header, with_segment, taken_back, committed, ended}
 use Rattle.rb_segment.specs.Segments.{commit_scn}
-use Rattle.rb_standing.specs.Groups.{GroupOn, IsCleaned, IsPutBack, IsCommitted, IsEnded}
+use Rattle.rb_standing.specs.Groups.{GroupOn, IsPutBack, IsCommitted, IsEnded}
 use Rattle.rb_standing.specs.Says.{walk_home}
 use Rattle.rb_standing.specs.Standing.{segments_of, homes_of}
 use Rattle.rb_standing.specs.Values.{slot_of}
@@ -126,10 +126,6 @@ module _ (shape : Shape) (Is : ℕ → Type 0) (before now : List (List ℕ)) (g
         | inl at ↦ ap (segments_of shape now) at ∙ (segment_stays shape before now g (undo_same g) (ap header_of (block_stays shape Is before now group (header_block shape g) not)) ∙ ap (segments_of shape before) (sym at))
         | inr ne ↦ segments_off k ne
       ]
-
--- each kind of group
-pub segments_cleaned : (shape : Shape) (b : ℕ) (before now : List (List ℕ)) → b < table_blocks shape → IsCleaned shape b before now → segments_of shape now ≡ segments_of shape before
-segments_cleaned shape b before now b_in is = segments_stay shape (λ x. x ≡ b) before now is.group 0 (λ x at. inl (omega (arith, at, b_in))) (λ at. omega (arith, at, b_in))
 
 pub segments_put_back : (shape : Shape) (t : ℕ) (u : UndoRecord) (before now : List (List ℕ)) → u.home < table_blocks shape → IsPutBack shape t u before now → segments_of shape now ≡ with_segment (t / 16) (back_segment (segments_of shape before) t u) (segments_of shape before)
 segments_put_back shape t u before now home_in is =

@@ -18,13 +18,12 @@ use Rattle.rb_standing.specs.NextStates.{SameChange, Takes, after_write}
 use Rattle.rb_standing.specs.Says.{says, xid_by}
 use Rattle.rb_standing.specs.Standing.{env_of, homes_of, logged_of, segments_of}
 use Rattle.rb_standing.specs.States.{BlocksStand, BlocksStandAs, Owns, lives_of, past_of}
-use Rattle.rb_standing.specs.Values.{owed, slot_of}
+use Rattle.rb_standing.specs.Values.{slot_of}
 use Rattle.rb_standing.specs.Writing.{IsNotHeld, IsWritten}
 use Rattle.rb_standing.proofs.BlocksAs.{blocks_as}
 use Rattle.rb_standing.proofs.BlocksMachine.{told_blocks}
 use Rattle.rb_standing.proofs.BlocksWritten.{xid_after}
 use Rattle.rb_standing.proofs.MachineWritten.{owner_own, stands_written, xid_stays}
-use Rattle.rb_standing.proofs.OwedMoves.{owed_written}
 use Rattle.rb_standing.proofs.WriteMoves as write
 use Rattle.rb_undoblock.specs.declared.record.UndoRecord.{UndoRecord}
 use Rattle.rb_walk.specs.Walk.{Change, Home}
@@ -81,10 +80,3 @@ module _ (h : State) (xids : List Xid) (before now : List (List ℕ)) (s t : ℕ
       ap (λ (z : ℕ → Segment). xid_by z v) (write.moved h.shape before now (past_of h xids) Lives stand.standing stand.tell.running t t_in adds kind address u home_in is free key_here)
       ∙ xid_stays h xids (commit_scn h.shape before) (logged_of h.shape before) Segs (homes_of h.shape before) (blocks_as h xids before stand) After Homes2 s t c kind address u t_in s_in takes
       (write.values h.shape before now (past_of h xids) Lives stand.standing stand.tell.running t t_in adds kind address u home_in is free key_here) same v o v_in at
-
-  -- and one group more is owed, or two where it took the slot
-  pub owed_after : owed h.shape (segments_of h.shape now) ≡ owed h.shape Segs + (if (slot_of Segs t).state == 1 then 1 else 2)
-  owed_after =
-      ap (owed h.shape) (write.moved h.shape before now (past_of h xids) Lives stand.standing stand.tell.running t t_in adds kind address u home_in is free key_here)
-      ∙ owed_written h.shape (commit_scn h.shape before) (logged_of h.shape before) Segs (homes_of h.shape before) (past_of h xids) Lives stand.standing.stands t t_in stand.tell.running After Homes2 kind address u
-      (write.values h.shape before now (past_of h xids) Lives stand.standing stand.tell.running t t_in adds kind address u home_in is free key_here)

@@ -1,5 +1,5 @@
 -- An image of the cache's calls opens to the blocks after some of the groups that waited.
-use Rattle.std.proofs.Common.{◌≡◌, ◌≢◌, ⊎_elim, ℕ, ◌+◌, ◌^◌, ◌<◌, List, ◌++◌, length, take, arith, ap, sym, ◌∙◌, subst, refl, slice_index}
+use Rattle.std.proofs.Common.{◌*◌, ◌≡◌, ◌≢◌, ⊎_elim, ℕ, ◌+◌, ◌^◌, ◌<◌, List, ◌++◌, length, take, arith, ap, sym, ◌∙◌, subst, refl, slice_index}
 use Rattle.std.proofs.lemmas.List.{take_all, take-take, length-take-le, length-append}
 use Rattle.std.specs.List.{AllByRecursion}
 use Rattle.rb_base.specs.Blocks.{block_of, after_groups}
@@ -7,6 +7,7 @@ use Rattle.rb_base.specs.Fields.{number_at}
 use Rattle.rb_base.specs.Groups.{Patch, IsGroup}
 use Rattle.rb_base.proofs.Blocks.{block_long}
 use Rattle.rb_base.proofs.Each.{all_so, all_take}
+use Rattle.rb_base.specs.declared.sizes.TheConstants.{UNIT}
 use Rattle.rb_layout.specs.Regions.{HasIdentity, block_count, file_length, file_version, log_offset, shape_of}
 use Rattle.rb_layout.specs.declared.layout.Head.{Head}
 use Rattle.rb_layout.specs.declared.layout.Layout.{Layout}
@@ -36,7 +37,7 @@ same_identity l c d whole front id = record {
 
 -- and where they are of one length, its head
 pub front_head : (c d : List ℕ) → length c ≡ length d → take (log_offset 0) c ≡ take (log_offset 0) d → head_of c ≡ head_of d
-front_head c d long front = same_head d c (record { long = long; same = part_front 8192 2048 6144 c d front (omega arith) })
+front_head c d long front = same_head d c (record { long = long; same = part_front (4 * UNIT) UNIT (3 * UNIT) c d front (omega arith) })
 
 -- More groups behind those of a file that opens.
 module _ (l : Layout) (file : List ℕ) (b : List (List ℕ)) (n : ℕ) (at : OpensAt l file b n) (shut : twin_gate l file ≢ 1) (more : List (List Patch)) (valid : AllByRecursion IsGroup more) (fits : n + length more < 2 ^ 63) where

@@ -1,5 +1,5 @@
 -- What a new file opens to.
-use Rattle.std.proofs.Common.{◌≡◌, ◌≢◌, ℕ, ◌<◌, ◌+◌, ◌-◌, ◌%◌, ◌^◌, ◌++◌, List, [], length, replicate, drop, slice_index, refl, arith, ap, sym, subst, ◌∙◌, inr, append_assoc}
+use Rattle.std.proofs.Common.{◌*◌, ◌≡◌, ◌≢◌, ℕ, ◌<◌, ◌+◌, ◌-◌, ◌%◌, ◌^◌, ◌++◌, List, [], length, replicate, drop, slice_index, refl, arith, ap, sym, subst, ◌∙◌, inr, append_assoc}
 use Rattle.std.proofs.lemmas.List.{get_or-take, get_or-drop, drop_at, drop-drop, length-append, length-replicate}
 use Rattle.std.specs.List.{concat}
 use Rattle.byteorder.specs.Endian.{big_number}
@@ -7,6 +7,7 @@ use Rattle.rb_base.specs.Blocks.{block_kind, block_of, fresh_block, fresh_blocks
 use Rattle.rb_base.specs.Fields.{number_at}
 use Rattle.rb_base.specs.declared.shape.Shape.{Shape}
 use Rattle.rb_base.proofs.Blocks.{fresh_at}
+use Rattle.rb_base.specs.declared.sizes.TheConstants.{UNIT}
 use Rattle.rb_layout.specs.Fresh.{fresh_are_blocks, fresh_has_identity, fresh_home, fresh_zero}
 use Rattle.rb_control.specs.HeadLaws.{head_by}
 use Rattle.rb_control.specs.Heads.{chosen, copy_at, head_of}
@@ -24,7 +25,7 @@ use Rattle.rb_store.specs.Meaning.{IsHeaded, OpensAt, place_of}
 first_gate : (l : Layout) → slice_index (slot_at (fresh_file file_version l) 0) 0 ≡ 0
 first_gate l =
     let file = fresh_file file_version l in
-    get_or-take 2048 (drop 8192 file) 0 0 (omega arith) ∙ get_or-drop 8192 file 0 0 ∙ fresh_zero file_version l 8192 (omega arith) (omega arith)
+    get_or-take UNIT (drop (4 * UNIT) file) 0 0 (omega arith) ∙ get_or-drop (4 * UNIT) file 0 0 ∙ fresh_zero file_version l (4 * UNIT) (omega arith) (omega arith)
 
 -- and so is that of its twin area
 gate_shut : (l : Layout) → twin_gate l (fresh_file file_version l) ≢ 1
@@ -58,11 +59,11 @@ abbrev first_head : Head
 first_head = record { slot = 0; number = 1 }
 
 -- What a new file has behind its first unit: a control copy.
-behind_first : (l : Layout) → (rest : List ℕ) × (drop 2048 (fresh_file file_version l) ≡ fresh_copy ++ rest)
+behind_first : (l : Layout) → (rest : List ℕ) × (drop UNIT (fresh_file file_version l) ≡ fresh_copy ++ rest)
 behind_first l =
     let own = identity file_version l in
-    let zeros : List ℕ = replicate 2024 0 in
-    let more : List ℕ = replicate (block_offset l 0 - 6144) 0 in
+    let zeros : List ℕ = replicate (UNIT - 24) 0 in
+    let more : List ℕ = replicate (block_offset l 0 - (3 * UNIT)) 0 in
     let units = concat (fresh_blocks (shape_of l)) in
     let rest = fresh_copy ++ (more ++ units) in
     let long : length own ≡ 24 = omega arith in
@@ -72,7 +73,7 @@ behind_first l =
     ∙ ap (λ (x : List ℕ). own ++ x) (append_assoc zeros (fresh_copy ++ fresh_copy) (more ++ units)
     ∙ ap (λ (x : List ℕ). zeros ++ x) (append_assoc fresh_copy fresh_copy (more ++ units)))
     ∙ sym (append_assoc own zeros (fresh_copy ++ rest)) in
-    (rest, ap (drop 2048) split ∙ drop_at (own ++ zeros) (fresh_copy ++ rest) 2048 (omega (arith, long, length-append own zeros, length-replicate {A = ℕ} 2024 0)))
+    (rest, ap (drop UNIT) split ∙ drop_at (own ++ zeros) (fresh_copy ++ rest) UNIT (omega (arith, long, length-append own zeros, length-replicate {A = ℕ} (UNIT - 24) 0)))
 
 first_slot : (rest : List ℕ) → big_number 4 (fresh_copy ++ rest) ≡ 0
 first_slot rest = refl
@@ -84,10 +85,10 @@ head_is : (l : Layout) → head_of (fresh_file file_version l) ≡ first_head
 head_is l =
     let file = fresh_file file_version l in
     let behind = behind_first l in
-    let zero : chosen file ≡ 0 = ap (λ (b : ℕ). b % 2) (fresh_zero file_version l 6144 (omega arith) (omega arith)) in
-    let slot : number_at file 2048 4 ≡ 0 = ap (big_number 4) behind.1 ∙ first_slot behind.0 in
-    let number : number_at file 2056 8 ≡ 1 = ap (big_number 8) (sym (drop-drop 8 2048 file) ∙ ap (drop 8) behind.1) ∙ first_number behind.0 in
-    ap (copy_at file) zero ∙ ap (λ (n : ℕ). head_by n (number_at file 2056 8)) slot ∙ ap (head_by 0) number
+    let zero : chosen file ≡ 0 = ap (λ (b : ℕ). b % 2) (fresh_zero file_version l (3 * UNIT) (omega arith) (omega arith)) in
+    let slot : number_at file UNIT 4 ≡ 0 = ap (big_number 4) behind.1 ∙ first_slot behind.0 in
+    let number : number_at file (UNIT + 8) 8 ≡ 1 = ap (big_number 8) (sym (drop-drop 8 UNIT file) ∙ ap (drop 8) behind.1) ∙ first_number behind.0 in
+    ap (copy_at file) zero ∙ ap (λ (n : ℕ). head_by n (number_at file (UNIT + 8) 8)) slot ∙ ap (head_by 0) number
 
 pub fresh_opens : (l : Layout) → OpensAt l (fresh_file file_version l) (fresh_blocks (shape_of l)) 0
 fresh_opens l = record {

@@ -3,21 +3,22 @@ use Rattle.std.proofs.Common.{◌≡◌, ℕ, ◌+◌, ◌*◌, ◌-◌, ◌<◌
 use Rattle.std.proofs.lemmas.Bool.{cases_lt}
 use Rattle.std.proofs.lemmas.List.{drop-take, take-take, drop-drop}
 use Rattle.rb_base.specs.Fields.{part}
+use Rattle.rb_base.specs.declared.sizes.TheConstants.{UNIT}
 use Rattle.rb_layout.specs.Regions.{block_offset, shape_of}
 use Rattle.rb_layout.specs.declared.layout.Layout.{Layout}
 use Rattle.rb_twin.specs.Twins.{home}
 use Rattle.rb_store.specs.Meaning.{AreHomesHeaded, IsHeaded}
 
 -- one home of a piece
-pub home_in_piece : (l : Layout) (file bytes : List ℕ) (first count k : ℕ) → bytes ≡ part file (block_offset l first) (2048 * count) → k < count
-    → part bytes (2048 * k) 2048 ≡ home l file (first + k)
+pub home_in_piece : (l : Layout) (file bytes : List ℕ) (first count k : ℕ) → bytes ≡ part file (block_offset l first) (UNIT * count) → k < count
+    → part bytes (UNIT * k) UNIT ≡ home l file (first + k)
 home_in_piece l file bytes first count k is lt =
     let all = drop (block_offset l first) file in
-    ap (λ (b : List ℕ). take 2048 (drop (2048 * k) b)) is
-    ∙ sym (drop-take (2048 * k) 2048 (take (2048 * count) all))
-    ∙ ap (drop (2048 * k)) (take-take (2048 * k + 2048) (2048 * count) all (omega (arith, lt)))
-    ∙ drop-take (2048 * k) 2048 all
-    ∙ ap (take 2048) (drop-drop (2048 * k) (block_offset l first) file ∙ ap (λ (i : ℕ). drop i file) (omega arith))
+    ap (λ (b : List ℕ). take UNIT (drop (UNIT * k) b)) is
+    ∙ sym (drop-take (UNIT * k) UNIT (take (UNIT * count) all))
+    ∙ ap (drop (UNIT * k)) (take-take (UNIT * k + UNIT) (UNIT * count) all (omega (arith, lt)))
+    ∙ drop-take (UNIT * k) UNIT all
+    ∙ ap (take UNIT) (drop-drop (UNIT * k) (block_offset l first) file ∙ ap (λ (i : ℕ). drop i file) (omega arith))
 
 -- the homes so far, and those of a piece
 pub headed_more : (l : Layout) (last : ℕ) (file : List ℕ) (first count : ℕ) → AreHomesHeaded l last file first
@@ -28,8 +29,8 @@ headed_more l last file first count before piece k lt = elim (cases_lt k first) 
 ]
 
 -- those of a piece where all are headed
-pub piece_headed : (l : Layout) (last : ℕ) (file bytes : List ℕ) (first count end : ℕ) → bytes ≡ part file (block_offset l first) (2048 * count) → first + count ≤ end
+pub piece_headed : (l : Layout) (last : ℕ) (file bytes : List ℕ) (first count end : ℕ) → bytes ≡ part file (block_offset l first) (UNIT * count) → first + count ≤ end
     → ((k : ℕ) → k < end → IsHeaded (shape_of l) last k (home l file k))
-    → (k : ℕ) → k < count → IsHeaded (shape_of l) last (first + k) (part bytes (2048 * k) 2048)
+    → (k : ℕ) → k < count → IsHeaded (shape_of l) last (first + k) (part bytes (UNIT * k) UNIT)
 piece_headed l last file bytes first count end is le all k lt =
     subst (λ (x : List ℕ). IsHeaded (shape_of l) last (first + k) x) (sym (home_in_piece l file bytes first count k is lt)) (all (first + k) (omega (arith, le, lt)))

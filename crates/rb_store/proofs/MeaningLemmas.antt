@@ -5,6 +5,7 @@ use Rattle.std.specs.List.{AllByRecursion}
 use Rattle.rb_base.specs.Blocks.{block_of}
 use Rattle.rb_base.specs.Fields.{number_at}
 use Rattle.rb_base.specs.Groups.{Patch, IsGroup}
+use Rattle.rb_base.specs.declared.sizes.TheConstants.{UNIT}
 use Rattle.rb_layout.specs.Regions.{block_count, file_length, log_offset, shape_of}
 use Rattle.rb_layout.specs.declared.layout.Head.{Head}
 use Rattle.rb_layout.specs.declared.layout.Layout.{Layout}
@@ -26,7 +27,7 @@ pub logged_groups : (l : Layout) (head : Head) (file : List ℕ) (at : ℕ) (gro
 logged_groups l head file at [] log = tt
 logged_groups l head file at (g ∷ groups) log = (log.1.body.spelled.valid, logged_groups l head file (at + 1) groups log.2)
 
-module _ (l : Layout) (file : List ℕ) (b : List (List ℕ)) (n : ℕ) (m : Means l file b n) (fits : n < 2 ^ 62) (units : (which : ℕ) → which < block_count l → length (kept l file which) ≡ 2048) where
+module _ (l : Layout) (file : List ℕ) (b : List (List ℕ)) (n : ℕ) (m : Means l file b n) (fits : n < 2 ^ 62) (units : (which : ℕ) → which < block_count l → length (kept l file which) ≡ UNIT) where
   valid : AllByRecursion IsGroup m.groups
   valid = logged_groups l m.head file 0 m.groups m.log
 

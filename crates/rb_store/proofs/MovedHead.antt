@@ -40,12 +40,12 @@ later_part f g k m same le =
 
 same_identity : (l : Layout) (f g : List ℕ) → SameBut UNIT (log_offset 0) f g → HasIdentity file_version l f → HasIdentity file_version l g
 same_identity l f g same id = record {
-  front = sym (take-take 24 2048 g (omega arith)) ∙ ap (take 24) same.before ∙ take-take 24 2048 f (omega arith) ∙ id.front;
+  front = sym (take-take 24 UNIT g (omega arith)) ∙ ap (take 24) same.before ∙ take-take 24 UNIT f (omega arith) ∙ id.front;
   whole = same.long ∙ id.whole;
 }
 
 same_log : (l : Layout) (head : Head) (f g : List ℕ) (groups : List (List Patch)) → head.slot < l.log → SameBut UNIT (log_offset 0) f g → GroupsAre l head f 0 groups → GroupsAre l head g 0 groups
-same_log l head f g groups slot same log = same_units_log l head f g 0 groups (λ k lt. later_part f g (log_offset (slot_of l head k)) 2048 same (omega arith)) (omega (arith, slot)) log
+same_log l head f g groups slot same log = same_units_log l head f g 0 groups (λ k lt. later_part f g (log_offset (slot_of l head k)) UNIT same (omega arith)) (omega (arith, slot)) log
 
 pub same_gate : (l : Layout) (f g : List ℕ) → SameBut UNIT (log_offset 0) f g → twin_gate l g ≡ twin_gate l f
 same_gate l f g same = byte g ∙ ap (λ (h : List ℕ). slice_index h 0) (later_part f g (twin_offset l 0) 1 same (omega arith)) ∙ sym (byte f)
@@ -54,7 +54,7 @@ same_gate l f g same = byte g ∙ ap (λ (h : List ℕ). slice_index h 0) (later
     byte h = sym (byte_of_part h (twin_offset l 0) 1 (omega arith))
 
 pub same_home : (l : Layout) (f g : List ℕ) (which : ℕ) → SameBut UNIT (log_offset 0) f g → home l g which ≡ home l f which
-same_home l f g which same = later_part f g (block_offset l which) 2048 same (omega arith)
+same_home l f g which same = later_part f g (block_offset l which) UNIT same (omega arith)
 
 same_kept : (l : Layout) (f g : List ℕ) (which : ℕ) → SameBut UNIT (log_offset 0) f g → twin_gate l f ≢ 1 → kept l g which ≡ kept l f which
 same_kept l f g which same shut = kept_shut l g which (λ opened. shut (sym (same_gate l f g same) ∙ opened)) ∙ same_home l f g which same ∙ sym (kept_shut l f which shut)
@@ -79,7 +79,7 @@ means_old l f c blocks n means shut same head_is = record {
 pub moved_gate : (l : Layout) (head : Head) (f c : List ℕ) (used : ℕ) → head.slot < l.log → used < l.log → gate_of l head f used ≢ 1 → SameBut UNIT (log_offset 0) f c → gate_of l (head_at l head used) c 0 ≢ 1
 moved_gate l head f c used slot few next same is =
     let at : slot_of l (head_at l head used) 0 ≡ slot_of l head used = slot_moved l head used 0 slot (omega (arith, few)) ∙ ap (slot_of l head) (omega arith) in
-    next (ap (λ (u : List ℕ). slice_index u 0) (sym (later_part f c (log_offset (slot_of l head used)) 2048 same (omega arith)))
+    next (ap (λ (u : List ℕ). slice_index u 0) (sym (later_part f c (log_offset (slot_of l head used)) UNIT same (omega arith)))
     ∙ ap (λ (s : ℕ). slice_index (slot_at c s) 0) (sym at) ∙ is)
 
 -- One that has the new head, behind all groups, means the same where each block stands at home as it is, and the gate behind the

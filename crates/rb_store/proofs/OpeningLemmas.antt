@@ -7,6 +7,7 @@ use Rattle.std.specs.List.{AllByRecursion, range_with_len}
 use Rattle.rb_base.specs.Blocks.{block_of, after_groups}
 use Rattle.rb_base.specs.Groups.{Patch}
 use Rattle.rb_base.specs.Moments.{joined, weaker}
+use Rattle.rb_base.specs.declared.sizes.TheConstants.{UNIT}
 use Rattle.rb_disk.specs.DiskModel.{Only}
 use Rattle.rb_disk.specs.Ranges.{SameBut}
 use Rattle.std.proofs.lemmas.Bool.{eqb-true}
@@ -43,6 +44,7 @@ use Rattle.rb_store.proofs.CachedLemmas.{clean_same, seen_same}
 use Rattle.rb_store.proofs.MeaningLemmas.{heads_of_kept, kept_heads, logged_groups, means_kept, means_logged}
 use Rattle.rb_store.proofs.OneMeaning.{one_meaning}
 use Rattle.rb_store.proofs.StoreLemmas.{all_units, one_by, same_blocks}
+use Rattle.rb_twin.specs.declared.batch.TheConstants.{AREA}
 
 -- the blocks that groups make of what a file keeps
 abbrev pub made_blocks : Layout → Head → List (List Patch) → List ℕ → List (List ℕ)
@@ -52,28 +54,28 @@ pub made_one : (l : Layout) (head : Head) (groups : List (List Patch)) (file : L
 made_one l head groups file k lt = get_or-map-range_with_len (λ k. rolled head.number groups k (kept l file k)) 0 (block_count l) k k [] lt (omega arith)
 
 -- what a file keeps of a block is a unit
-unit_home : (l : Layout) (file : List ℕ) (k : ℕ) → length file ≡ file_length l → k < block_count l → length (home l file k) ≡ 2048
-unit_home l file k whole lt = length-take-le 2048 (drop (block_offset l k) file) (omega (arith, length-drop (block_offset l k) file, whole, lt))
+unit_home : (l : Layout) (file : List ℕ) (k : ℕ) → length file ≡ file_length l → k < block_count l → length (home l file k) ≡ UNIT
+unit_home l file k whole lt = length-take-le UNIT (drop (block_offset l k) file) (omega (arith, length-drop (block_offset l k) file, whole, lt))
 
-unit_with : (images : List Image) (which : ℕ) (unit : List ℕ) → AllByRecursion (λ (i : Image). length i.unit ≡ 2048) images → length unit ≡ 2048 → length (with_batch images which unit) ≡ 2048
+unit_with : (images : List Image) (which : ℕ) (unit : List ℕ) → AllByRecursion (λ (i : Image). length i.unit ≡ UNIT) images → length unit ≡ UNIT → length (with_batch images which unit) ≡ UNIT
 unit_with [] which unit each long = long
 unit_with (image ∷ images) which unit each long = by (image.no == which) (unit_with images which unit each.1 long)
   where
-    by : (a : Bool) → length (with_batch images which unit) ≡ 2048 → length (if a then image.unit else with_batch images which unit) ≡ 2048
+    by : (a : Bool) → length (with_batch images which unit) ≡ UNIT → length (if a then image.unit else with_batch images which unit) ≡ UNIT
     by true rest = each.0
     by false rest = rest
 
-unit_images : (l : Layout) (file : List ℕ) → length file ≡ file_length l → length (batch_in (twin_area l file)) ≤ 8 → AllByRecursion (λ (i : Image). length i.unit ≡ 2048) (batch_in (twin_area l file))
+unit_images : (l : Layout) (file : List ℕ) → length file ≡ file_length l → length (batch_in (twin_area l file)) ≤ 8 → AllByRecursion (λ (i : Image). length i.unit ≡ UNIT) (batch_in (twin_area l file))
 unit_images l file whole few =
     let area = twin_area l file in
-    let long : length area ≡ 18432 = length-take-le 18432 (drop (twin_offset l 0) file) (omega (arith, length-drop (twin_offset l 0) file, whole)) in
-    all_by (λ (i : Image). length i.unit ≡ 2048) area 0 (slice_index area 1) (λ k lt.
-    length-take-le 2048 (drop (2048 * (0 + k + 1)) area) (omega (arith, length-drop (2048 * (0 + k + 1)) area, long, lt, few, counted area)))
+    let long : length area ≡ AREA = length-take-le AREA (drop (twin_offset l 0) file) (omega (arith, length-drop (twin_offset l 0) file, whole)) in
+    all_by (λ (i : Image). length i.unit ≡ UNIT) area 0 (slice_index area 1) (λ k lt.
+    length-take-le UNIT (drop (UNIT * (0 + k + 1)) area) (omega (arith, length-drop (UNIT * (0 + k + 1)) area, long, lt, few, counted area)))
 
-pub unit_kept : (l : Layout) (file : List ℕ) (k : ℕ) → length file ≡ file_length l → IsTwin l file → k < block_count l → length (kept l file k) ≡ 2048
+pub unit_kept : (l : Layout) (file : List ℕ) (k : ℕ) → length file ≡ file_length l → IsTwin l file → k < block_count l → length (kept l file k) ≡ UNIT
 unit_kept l file k whole twin lt = by (twin_gate l file == 1) refl
   where
-    by : (a : Bool) → (twin_gate l file == 1) ≡ a → length (if a then with_batch (batch_in (twin_area l file)) k (home l file k) else home l file k) ≡ 2048
+    by : (a : Bool) → (twin_gate l file == 1) ≡ a → length (if a then with_batch (batch_in (twin_area l file)) k (home l file k) else home l file k) ≡ UNIT
     by true is = unit_with (batch_in (twin_area l file)) k (home l file k) (unit_images l file whole (twin (eqb-true (twin_gate l file) 1 is)).few) (unit_home l file k whole lt)
     by false is = unit_home l file k whole lt
 

@@ -12,6 +12,7 @@ use Rattle.rb_base.specs.Settling.{after_joined}
 use Rattle.rb_base.specs.Stores.{OpensToSome, Settles}
 use Rattle.rb_base.proofs.Blocks.{group_count}
 use Rattle.rb_base.proofs.Each.{all_push}
+use Rattle.rb_base.specs.declared.sizes.TheConstants.{UNIT}
 use Rattle.rb_disk.specs.declared.disk.Disk.{Ghosts}
 use Rattle.rb_disk.specs.Ranges.{SamePart}
 use Rattle.rb_layout.specs.Regions.{block_count, block_offset, file_length, log_offset, shape_of}
@@ -42,19 +43,19 @@ same_blocks n a b la lb same = same_lists a b (la ∙ sym lb) (λ i e lt.
     get_or_default a i e [] lt ∙ same i (omega (arith, lt, la)) ∙ sym (get_or_default b i e [] (omega (arith, lt, la, lb))))
 
 -- a block that is seen is a unit
-pub unit_seen : (l : Layout) (file : List ℕ) (held : List Frame) (k : ℕ) → length file ≡ file_length l → k < block_count l → AllByRecursion (λ f. length f.bytes ≡ 2048) held → length (seen l file held k) ≡ 2048
-unit_seen l file [] k whole lt units = length-take-le 2048 (drop (block_offset l k) file) (omega (arith, length-drop (block_offset l k) file, whole, lt))
+pub unit_seen : (l : Layout) (file : List ℕ) (held : List Frame) (k : ℕ) → length file ≡ file_length l → k < block_count l → AllByRecursion (λ f. length f.bytes ≡ UNIT) held → length (seen l file held k) ≡ UNIT
+unit_seen l file [] k whole lt units = length-take-le UNIT (drop (block_offset l k) file) (omega (arith, length-drop (block_offset l k) file, whole, lt))
 unit_seen l file (f ∷ held) k whole lt units = by (f.block == k) (unit_seen l file held k whole lt units.1)
   where
-    by : (a : Bool) → length (seen l file held k) ≡ 2048 → length (if a then f.bytes else seen l file held k) ≡ 2048
+    by : (a : Bool) → length (seen l file held k) ≡ UNIT → length (if a then f.bytes else seen l file held k) ≡ UNIT
     by true rest = units.0
     by false rest = rest
 
-pub all_units : (f : ℕ → List ℕ) (first n : ℕ) → ((k : ℕ) → first ≤ k → k < first + n → length (f k) ≡ 2048) → AllByRecursion (λ x. length x ≡ 2048) (map f (range_with_len first n))
+pub all_units : (f : ℕ → List ℕ) (first n : ℕ) → ((k : ℕ) → first ≤ k → k < first + n → length (f k) ≡ UNIT) → AllByRecursion (λ x. length x ≡ UNIT) (map f (range_with_len first n))
 all_units f first zero each = tt
 all_units f first (suc n) each = (each first (omega arith) (omega arith), all_units f (first + 1) n (λ k le lt. each k (omega (arith, le)) (omega (arith, lt))))
 
-pub are_blocks : (l : Layout) (file : List ℕ) (held : List Frame) → length file ≡ file_length l → AllByRecursion (λ f. length f.bytes ≡ 2048) held → AreBlocks (shape_of l) (blocks_by l file held)
+pub are_blocks : (l : Layout) (file : List ℕ) (held : List Frame) → length file ≡ file_length l → AllByRecursion (λ f. length f.bytes ≡ UNIT) held → AreBlocks (shape_of l) (blocks_by l file held)
 are_blocks l file held whole units = record {
   count = length-map-range_with_len (seen l file held) 0 (block_count l);
   each = all_units (seen l file held) 0 (block_count l) (λ k le lt. unit_seen l file held k whole (omega (arith, lt)) units);

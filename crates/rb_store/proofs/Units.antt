@@ -6,6 +6,7 @@ use Rattle.std.proofs.lemmas.List.{drop_all, nil_from_length, append-nil, length
 use Rattle.rb_base.specs.Blocks.{fresh_block, fresh_from}
 use Rattle.rb_base.specs.declared.shape.Shape.{Shape}
 use Rattle.rb_base.specs.Fields.{overwritten}
+use Rattle.rb_base.specs.declared.sizes.TheConstants.{UNIT}
 use Rattle.rb_layout.specs.declared.layout.Layout.{Layout}
 use Rattle.rb_layout.specs.Fresh.{first_long, fresh_unit, front_long, units_long, units_split}
 use Rattle.rb_layout.specs.Regions.{block_offset, fresh_first, fresh_front, shape_of}
@@ -20,12 +21,12 @@ written_at_end old bytes at e =
 pub first_written : (old new bytes : List ℕ) → length old ≡ 0 → new ≡ overwritten old 0 bytes → new ≡ bytes
 first_written old new bytes empty now = now ∙ written_at_end old bytes 0 (sym empty) ∙ ap (λ (l : List ℕ). l ++ bytes) (nil_from_length old empty)
 
-pub length_so_far : (version : ℕ) (file : List ℕ) (l : Layout) (n : ℕ) → file ≡ fresh_first version l ++ replicate n 0 → length file ≡ 6144 + n
+pub length_so_far : (version : ℕ) (file : List ℕ) (l : Layout) (n : ℕ) → file ≡ fresh_first version l ++ replicate n 0 → length file ≡ (3 * UNIT) + n
 length_so_far version file l n is =
-    ap length is ∙ length-append (fresh_first version l) (replicate n 0) ∙ ap (λ (k : ℕ). k + length (replicate {A = ℕ} n 0)) (first_long version l) ∙ ap (λ (k : ℕ). 6144 + k) (length-replicate n 0)
+    ap length is ∙ length-append (fresh_first version l) (replicate n 0) ∙ ap (λ (k : ℕ). k + length (replicate {A = ℕ} n 0)) (first_long version l) ∙ ap (λ (k : ℕ). (3 * UNIT) + k) (length-replicate n 0)
 
 -- `count` zeros more
-pub zeros_written : (version : ℕ) (old new zeros : List ℕ) (l : Layout) (at n count more : ℕ) → old ≡ fresh_first version l ++ replicate n 0 → at ≡ 6144 + n
+pub zeros_written : (version : ℕ) (old new zeros : List ℕ) (l : Layout) (at n count more : ℕ) → old ≡ fresh_first version l ++ replicate n 0 → at ≡ (3 * UNIT) + n
     → zeros ≡ replicate count 0 → new ≡ overwritten old at zeros → n + count ≡ more → new ≡ fresh_first version l ++ replicate more 0
 zeros_written version old new zeros l at n count more is place zero now total =
     now ∙ written_at_end old zeros at (place ∙ sym (length_so_far version old l n is)) ∙ ap (λ (f : List ℕ). f ++ zeros) is
@@ -53,21 +54,21 @@ blocks_end version file l first is =
     let u = units_long (shape_of l) 0 first in omega (arith, whole, f, u, length-append (fresh_front version l) (concat (fresh_from (shape_of l) 0 first)))
 
 -- one block more
-filled_more : (old new bytes front : List ℕ) (at : ℕ) → at ≤ length old → length bytes ≡ 2048 → new ≡ overwritten old at bytes → take at old ≡ front → take (at + 2048) new ≡ front ++ bytes
+filled_more : (old new bytes front : List ℕ) (at : ℕ) → at ≤ length old → length bytes ≡ UNIT → new ≡ overwritten old at bytes → take at old ≡ front → take (at + UNIT) new ≡ front ++ bytes
 filled_more old new bytes front at within long now before =
     let rest = drop (at + length bytes) old in
     let size = length-take-le at old within in
-    ap (take (at + 2048)) now
-    ∙ take_at (take at old ++ bytes) rest (at + 2048) (omega (arith, size, long, length-append (take at old) bytes))
+    ap (take (at + UNIT)) now
+    ∙ take_at (take at old ++ bytes) rest (at + UNIT) (omega (arith, size, long, length-append (take at old) bytes))
     ∙ ap (λ (f : List ℕ). f ++ bytes) before
 
-pub block_put : (shape : Shape) (old new : List ℕ) (first k : ℕ) → 2048 * (k + 1) ≤ length old → new ≡ overwritten old (2048 * k) (fresh_block shape (first + k))
-    → take (2048 * k) old ≡ concat (fresh_from shape first k) → take (2048 * (k + 1)) new ≡ concat (fresh_from shape first (k + 1))
+pub block_put : (shape : Shape) (old new : List ℕ) (first k : ℕ) → UNIT * (k + 1) ≤ length old → new ≡ overwritten old (UNIT * k) (fresh_block shape (first + k))
+    → take (UNIT * k) old ≡ concat (fresh_from shape first k) → take (UNIT * (k + 1)) new ≡ concat (fresh_from shape first (k + 1))
 block_put shape old new first k room now before =
     let block = fresh_block shape (first + k) in
     let one : concat (fresh_from shape (first + k) 1) ≡ block = append-nil block in
-    let place : 2048 * k + 2048 ≡ 2048 * (k + 1) = omega arith in
+    let place : UNIT * k + UNIT ≡ UNIT * (k + 1) = omega arith in
     ap (λ (n : ℕ). take n new) (sym place)
-    ∙ filled_more old new block (concat (fresh_from shape first k)) (2048 * k) (omega (arith, room)) (fresh_unit shape (first + k)) now before
+    ∙ filled_more old new block (concat (fresh_from shape first k)) (UNIT * k) (omega (arith, room)) (fresh_unit shape (first + k)) now before
     ∙ ap (λ (f : List ℕ). concat (fresh_from shape first k) ++ f) (sym one)
     ∙ units_split shape first k 1

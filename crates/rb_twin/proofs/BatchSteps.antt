@@ -3,6 +3,7 @@ use Rattle.std.proofs.Common.{◌≡◌, ℕ, ◌+◌, ◌-◌, ◌*◌, ◌≤�
 use Rattle.std.proofs.lemmas.List.{drop-drop, drop-take, take-take, length-take-le, length-drop}
 use Rattle.rb_base.specs.Fields.{part, overwritten}
 use Rattle.rb_base.proofs.Overwriting.{part_written}
+use Rattle.rb_base.specs.declared.sizes.TheConstants.{UNIT}
 use Rattle.rb_disk.specs.DiskModel.{Torn}
 use Rattle.rb_disk.specs.Ranges.{SameBut, TornFrom}
 use Rattle.rb_layout.specs.Regions.{file_length, twin_offset, block_offset}
@@ -11,6 +12,7 @@ use Rattle.rb_twin.specs.Batches.{batch_in}
 use Rattle.rb_twin.specs.Twins.{twin_area, twin_gate, SameBehindGate, StagedFrom, GateFrom}
 use Rattle.rb_twin.specs.TwinLaws.{torn_behind_gate, torn_gate, batch_same}
 use Rattle.rb_twin.proofs.Images.{counted}
+use Rattle.rb_twin.specs.declared.batch.TheConstants.{AREA}
 
 -- a part of a part
 pub part_inside : (xs : List ℕ) (a n k m : ℕ) → k + m ≤ n → part (part xs a n) k m ≡ part xs (a + k) m
@@ -22,14 +24,14 @@ pub length-part : (xs : List ℕ) (a n : ℕ) → a + n ≤ length xs → length
 length-part xs a n le = length-take-le n (drop a xs) (omega (arith, le, length-drop a xs))
 
 -- an image among the bytes of an area
-pub image_bytes : (area : List ℕ) (at place : ℕ) → at ≡ 2048 * (place + 1) → part area at (at + 2048 - at) ≡ part area (2048 * (place + 1)) 2048
+pub image_bytes : (area : List ℕ) (at place : ℕ) → at ≡ UNIT * (place + 1) → part area at (at + UNIT - at) ≡ part area (UNIT * (place + 1)) UNIT
 image_bytes area at place is =
-    let size : at + 2048 - at ≡ 2048 = omega arith in ap (part area at) size ∙ ap (λ (i : ℕ). part area i 2048) is
+    let size : at + UNIT - at ≡ UNIT = omega arith in ap (part area at) size ∙ ap (λ (i : ℕ). part area i UNIT) is
 
 -- The first step writes so many bytes of the area behind the gate.
-module _ (l : Layout) (area : List ℕ) (whole_area : length area ≡ 18432) (few : length (batch_in area) ≤ 8) (bytes : List ℕ) (is : bytes ≡ part area 1 (2048 * (slice_index area 1 + 1) - 1)) where
+module _ (l : Layout) (area : List ℕ) (whole_area : length area ≡ AREA) (few : length (batch_in area) ≤ 8) (bytes : List ℕ) (is : bytes ≡ part area 1 (UNIT * (slice_index area 1 + 1) - 1)) where
   abbrev count : ℕ
-  count = 2048 * (slice_index area 1 + 1) - 1
+  count = UNIT * (slice_index area 1 + 1) - 1
 
   small : slice_index area 1 ≤ 8
   small = omega (arith, few, counted area)
@@ -55,7 +57,7 @@ module _ (l : Layout) (area : List ℕ) (whole_area : length area ≡ 18432) (fe
       ∙ ap (λ (h : List ℕ). part h (at + 1) count) wrote
       ∙ part_written f (at + 1) bytes count (omega (arith, long, small, whole, here)) long in
       let same : part area 1 count ≡ part (twin_area l g) 1 count =
-      sym is ∙ sym there ∙ sym (part_inside g (twin_offset l 0) 18432 1 count (omega (arith, small))) in
+      sym is ∙ sym there ∙ sym (part_inside g (twin_offset l 0) AREA 1 count (omega (arith, small))) in
       batch_same area (twin_area l g) count same few (omega (arith, counted area))
 
 -- The gate is one byte.

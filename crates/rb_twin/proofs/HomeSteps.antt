@@ -5,6 +5,7 @@ use Rattle.std.proofs.lemmas.Bool.Decides.{nat_tests}
 use Rattle.rb_base.specs.Fields.{part, overwritten}
 use Rattle.rb_base.specs.Moments.{Passes, begun, goes_on}
 use Rattle.rb_base.proofs.Overwriting.{part_written}
+use Rattle.rb_base.specs.declared.sizes.TheConstants.{UNIT}
 use Rattle.rb_disk.specs.DiskModel.{Torn, Follows}
 use Rattle.rb_disk.specs.Moments.{Leaves}
 use Rattle.rb_disk.specs.Ranges.{SameBut}
@@ -24,7 +25,7 @@ pub but_none : (first last : ℕ) (f : List ℕ) → SameBut first last f f
 but_none first last f = record { long = refl; before = refl; behind = refl }
 
 -- whatever becomes of the home of one of the batch's blocks
-home_torn : (l : Layout) (batch : List Image) (f m c : List ℕ) (which : ℕ) → length f ≡ file_length l → which < block_count l → ((other : ℕ) → IsNoneOf other batch → which ≢ other) → Torn (block_offset l which) 2048 m c → SameButHomes l batch f m
+home_torn : (l : Layout) (batch : List Image) (f m c : List ℕ) (which : ℕ) → length f ≡ file_length l → which < block_count l → ((other : ℕ) → IsNoneOf other batch → which ≢ other) → Torn (block_offset l which) UNIT m c → SameButHomes l batch f m
     → SameButHomes l batch f c
 home_torn l batch f m c which whole lt named torn was =
     let both = torn_home l m c which (was.front.long ∙ whole) lt torn in record {
@@ -33,7 +34,7 @@ home_torn l batch f m c which whole lt named torn was =
     }
 
 -- one block more is home
-home_more : (l : Layout) (area : List ℕ) (place : ℕ) (f m n bytes : List ℕ) → IsBatch (block_count l) (batch_in area) → place < slice_index area 1 → length m ≡ file_length l → bytes ≡ part area (2048 * (place + 1)) 2048 → length bytes ≡ 2048
+home_more : (l : Layout) (area : List ℕ) (place : ℕ) (f m n bytes : List ℕ) → IsBatch (block_count l) (batch_in area) → place < slice_index area 1 → length m ≡ file_length l → bytes ≡ part area (UNIT * (place + 1)) UNIT → length bytes ≡ UNIT
     → ((which : ℕ) → home l m which ≡ with_batch (images_in area 0 place) which (home l f which)) → n ≡ overwritten m (block_offset l (name_of area place)) bytes
     → (which : ℕ) → home l n which ≡ with_batch (images_in area 0 (place + 1)) which (home l f which)
 home_more l area place f m n bytes valid lt whole is long homes wrote which =
@@ -42,14 +43,14 @@ home_more l area place f m n bytes valid lt whole is long homes wrote which =
     let images = images_in area 0 place in
     let below : b < block_count l = batch_at (λ image. image.no < block_count l) area valid.within place lt in
     let fits : at + length bytes ≤ length m = omega (arith, whole, below, long) in
-    let torn : Torn at 2048 m n = subst (λ (k : ℕ). Torn at k m n) long (subst (λ (h : List ℕ). Torn at (length bytes) m h) (sym wrote) (done_is_torn at m bytes (omega (arith, fits)))) in
-    let more : with_batch (images_in area 0 (place + 1)) which (home l f which) ≡ with_batch images which (if b == which then part area (2048 * (place + 1)) 2048 else home l f which) =
+    let torn : Torn at UNIT m n = subst (λ (k : ℕ). Torn at k m n) long (subst (λ (h : List ℕ). Torn at (length bytes) m h) (sym wrote) (done_is_torn at m bytes (omega (arith, fits)))) in
+    let more : with_batch (images_in area 0 (place + 1)) which (home l f which) ≡ with_batch images which (if b == which then part area (UNIT * (place + 1)) UNIT else home l f which) =
     ap (λ (xs : List Image). with_batch xs which (home l f which)) (front_more area place) ∙ with_push images (image_of area place) which (home l f which) in
     elim (cases_eq b which) [
       | inl here ↦
           let test : (b == which) ≡ true = grind (arith, nat_tests) in
           let none : IsNoneOf which images = subst (λ (k : ℕ). IsNoneOf k images) here (none_before area valid.differ place lt) in
-          ap (λ (k : ℕ). home l n k) (sym here) ∙ ap (λ (h : List ℕ). part h at 2048) wrote ∙ part_written m at bytes 2048 fits long ∙ is ∙ sym (with_none images which (part area (2048 * (place + 1)) 2048) none)
+          ap (λ (k : ℕ). home l n k) (sym here) ∙ ap (λ (h : List ℕ). part h at UNIT) wrote ∙ part_written m at bytes UNIT fits long ∙ is ∙ sym (with_none images which (part area (UNIT * (place + 1)) UNIT) none)
           ∙ sym (more ∙ rw test refl)
       | inr differ ↦
           let test : (b == which) ≡ false = grind (arith, nat_tests) in
@@ -75,7 +76,7 @@ module _ {D : Type 0} (d : Ghosts D) where
       }
 
   module _ (l : Layout) (area : List ℕ) (place : ℕ) (valid : IsBatch (block_count l) (batch_in area)) (lt : place < slice_index area 1) (old mid new : D) (whole : length (d.content old) ≡ file_length l)
-      (sized : (c : List ℕ) → d.image old c → length c ≡ file_length l) (so_far : BroughtSome l area place old mid) (at size : ℕ) (here : at ≡ block_offset l (name_of area place)) (unit : size ≡ 2048) where
+      (sized : (c : List ℕ) → d.image old c → length c ≡ file_length l) (so_far : BroughtSome l area place old mid) (at size : ℕ) (here : at ≡ block_offset l (name_of area place)) (unit : size ≡ UNIT) where
     below : name_of area place < block_count l
     below = batch_at (λ image. image.no < block_count l) area valid.within place lt
 
@@ -96,7 +97,7 @@ module _ {D : Type 0} (d : Ghosts D) where
     pub brought_moment : Follows (Torn at size) (d.image mid) (d.image new) → Passes (d.moment mid) (d.moment new) (d.image_since mid) (d.image_since new) (d.image new) → Leaves d old new (HomesFrom l (batch_in area) (d.image old))
     brought_moment follows time = goes_on d.moment d.image_since old mid new (HomesFrom l (batch_in area) (d.image old)) (d.image new) so_far.any_moment time (brought_images follows)
 
-    pub brought_more : (bytes : List ℕ) → bytes ≡ part area (2048 * (place + 1)) 2048 → length bytes ≡ size → d.content new ≡ overwritten (d.content mid) at bytes
+    pub brought_more : (bytes : List ℕ) → bytes ≡ part area (UNIT * (place + 1)) UNIT → length bytes ≡ size → d.content new ≡ overwritten (d.content mid) at bytes
         → Follows (Torn at size) (d.image mid) (d.image new) → Passes (d.moment mid) (d.moment new) (d.image_since mid) (d.image_since new) (d.image new) → BroughtSome l area (place + 1) old new
     brought_more bytes is long wrote follows time =
         let fits : at + length bytes ≤ length (d.content mid) = omega (arith, so_far.same.front.long, whole, here, below, long, unit) in

@@ -1,6 +1,8 @@
 -- One image more, put behind those of a batch.
 use Rattle.std.proofs.Common.{◌≡◌, ℕ, ◌+◌, ◌*◌, ◌^◌, ◌<◌, ◌≤◌, List, [], ◌∷◌, ◌++◌, length, take, drop, slice_index, slice_set, sym, ◌∙◌, ap, arith, inl, inr, append_assoc}
 use Rattle.std.proofs.lemmas.List.{length-set, drop-set-lt, drop-drop, get_or-set_same}
+use Rattle.rb_base.specs.declared.sizes.TheConstants.{UNIT}
+use Rattle.rb_twin.specs.declared.batch.TheConstants.{AREA}
 use borrow.Rule.Slice.PartMut.{put_mid}
 use Rattle.byteorder.specs.Endian.{big_bytes}
 use Rattle.byteorder.specs.Numbers.{length-bytes_high_first, big_number-reads_back}
@@ -17,26 +19,26 @@ pub part_put : (old : List ℕ) (at count : ℕ) (bytes : List ℕ) → length b
 part_put old at count bytes long =
     ap (λ (rest : List ℕ). take at old ++ (bytes ++ rest)) (drop-drop count at old ∙ ap (λ (n : ℕ). drop (at + n) old) (sym long)) ∙ sym (append_assoc (take at old) bytes (drop (at + length bytes) old))
 
-module _ (area : List ℕ) (n block : ℕ) (unit : List ℕ) (whole : length area ≡ 18432) (room : length (batch_in area) < 8) (is : n ≡ slice_index area 1) (fits : block < 256 ^ 4) (one : length unit ≡ 2048) (first second new : List ℕ)
-    (counted_up : first ≡ slice_set area 1 (n + 1)) (named : second ≡ with_number first (8 + 4 * n) 4 block) (put : new ≡ overwritten second (2048 * (n + 1)) unit) where
+module _ (area : List ℕ) (n block : ℕ) (unit : List ℕ) (whole : length area ≡ AREA) (room : length (batch_in area) < 8) (is : n ≡ slice_index area 1) (fits : block < 256 ^ 4) (one : length unit ≡ UNIT) (first second new : List ℕ)
+    (counted_up : first ≡ slice_set area 1 (n + 1)) (named : second ≡ with_number first (8 + 4 * n) 4 block) (put : new ≡ overwritten second (UNIT * (n + 1)) unit) where
   few : n < 8
   few = omega (arith, room, is, counted area)
 
   name_long : length (big_bytes 4 block) ≡ 4
   name_long = length-bytes_high_first 4 block
 
-  first_long : length first ≡ 18432
+  first_long : length first ≡ AREA
   first_long = ap length counted_up ∙ length-set area 1 (n + 1) ∙ whole
 
   second_is : second ≡ overwritten first (8 + 4 * n) (big_bytes 4 block)
   second_is = named ∙ number_written first (8 + 4 * n) block
 
-  second_long : length second ≡ 18432
+  second_long : length second ≡ AREA
   second_long = ap length second_is ∙ length-overwritten first (8 + 4 * n) (big_bytes 4 block) (omega (arith, name_long, first_long, few)) ∙ first_long
 
   -- what stays of a part
-  by_put : (k m : ℕ) → AreApart k m (2048 * (n + 1)) 2048 → part new k m ≡ part second k m
-  by_put k m apart = ap (λ (h : List ℕ). part h k m) put ∙ part_apart second (2048 * (n + 1)) unit k m 2048 (omega (arith, second_long, one, few)) one apart
+  by_put : (k m : ℕ) → AreApart k m (UNIT * (n + 1)) UNIT → part new k m ≡ part second k m
+  by_put k m apart = ap (λ (h : List ℕ). part h k m) put ∙ part_apart second (UNIT * (n + 1)) unit k m UNIT (omega (arith, second_long, one, few)) one apart
 
   by_name : (k m : ℕ) → AreApart k m (8 + 4 * n) 4 → part second k m ≡ part first k m
   by_name k m apart = ap (λ (h : List ℕ). part h k m) second_is ∙ part_apart first (8 + 4 * n) (big_bytes 4 block) k m 4 (omega (arith, first_long, name_long, few)) name_long apart
@@ -54,17 +56,17 @@ module _ (area : List ℕ) (n block : ℕ) (unit : List ℕ) (whole : length are
       let at = 8 + 4 * k in
       let name : number_at new at 4 ≡ number_at area at 4 =
       sym (number_of_part new at 4) ∙ ap (λ (h : List ℕ). number_at h 0 4) (by_put at 4 (inl (omega (arith, lt, few))) ∙ by_name at 4 (inl (omega (arith, lt))) ∙ by_count at 4 (omega arith)) ∙ number_of_part area at 4 in
-      let bytes : part new (2048 * (k + 1)) 2048 ≡ part area (2048 * (k + 1)) 2048 =
-      by_put (2048 * (k + 1)) 2048 (inl (omega (arith, lt))) ∙ by_name (2048 * (k + 1)) 2048 (inr (omega (arith, few))) ∙ by_count (2048 * (k + 1)) 2048 (omega arith) in
-      ap (λ (x : ℕ). record { no = x; unit = part new (2048 * (k + 1)) 2048 }) name ∙ ap (λ (x : List ℕ). record { no = number_at area at 4; unit = x }) bytes
+      let bytes : part new (UNIT * (k + 1)) UNIT ≡ part area (UNIT * (k + 1)) UNIT =
+      by_put (UNIT * (k + 1)) UNIT (inl (omega (arith, lt))) ∙ by_name (UNIT * (k + 1)) UNIT (inr (omega (arith, few))) ∙ by_count (UNIT * (k + 1)) UNIT (omega arith) in
+      ap (λ (x : ℕ). record { no = x; unit = part new (UNIT * (k + 1)) UNIT }) name ∙ ap (λ (x : List ℕ). record { no = number_at area at 4; unit = x }) bytes
 
   image_new : image_of new n ≡ record { no = block; unit = unit }
   image_new =
       let at = 8 + 4 * n in
       let spelled : part new at 4 ≡ big_bytes 4 block = by_put at 4 (inl (omega (arith, few))) ∙ ap (λ (h : List ℕ). part h at 4) second_is ∙ part_written first at (big_bytes 4 block) 4 (omega (arith, first_long, name_long, few)) name_long in
       let name : number_at new at 4 ≡ block = sym (number_of_part new at 4) ∙ ap (λ (h : List ℕ). number_at h 0 4) spelled ∙ big_number-reads_back 4 block [] fits in
-      let bytes : part new (2048 * (n + 1)) 2048 ≡ unit = ap (λ (h : List ℕ). part h (2048 * (n + 1)) 2048) put ∙ part_written second (2048 * (n + 1)) unit 2048 (omega (arith, second_long, one, few)) one in
-      ap (λ (x : ℕ). record { no = x; unit = part new (2048 * (n + 1)) 2048 }) name ∙ ap (λ (x : List ℕ). record { no = block; unit = x }) bytes
+      let bytes : part new (UNIT * (n + 1)) UNIT ≡ unit = ap (λ (h : List ℕ). part h (UNIT * (n + 1)) UNIT) put ∙ part_written second (UNIT * (n + 1)) unit UNIT (omega (arith, second_long, one, few)) one in
+      ap (λ (x : ℕ). record { no = x; unit = part new (UNIT * (n + 1)) UNIT }) name ∙ ap (λ (x : List ℕ). record { no = block; unit = x }) bytes
 
   pub image_put : batch_in new ≡ batch_in area ++ record { no = block; unit = unit } ∷ []
   image_put =

@@ -2,12 +2,13 @@
 use Rattle.std.proofs.Common.{◌≡◌, ◌≢◌, ℕ, zero, suc, ◌+◌, ◌-◌, ◌*◌, ◌<◌, List, [], ◌∷◌, ◌++◌, length, slice_index, refl, sym, ◌∙◌, ap, subst, arith}
 use Rattle.std.specs.List.{AllByRecursion}
 use Rattle.rb_base.specs.Fields.{part, number_at}
+use Rattle.rb_base.specs.declared.sizes.TheConstants.{UNIT}
 use Rattle.rb_twin.specs.Batches.{Image, IsNoneOf, Differ, images_in, batch_in}
 use Rattle.rb_twin.specs.TwinLaws.{length-images}
 
 -- the image in a place, and the number of its block
 abbrev pub image_of : List ℕ → ℕ → Image
-image_of area place = record { no = number_at area (8 + 4 * place) 4; unit = part area (2048 * (place + 1)) 2048 }
+image_of area place = record { no = number_at area (8 + 4 * place) 4; unit = part area (UNIT * (place + 1)) UNIT }
 
 abbrev pub name_of : List ℕ → ℕ → ℕ
 name_of area place = number_at area (8 + 4 * place) 4

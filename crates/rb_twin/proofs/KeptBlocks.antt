@@ -3,6 +3,7 @@ use Rattle.std.proofs.Common.{◌≡◌, ◌≢◌, ℕ, ◌-◌, ◌≤◌, ◌
 use Rattle.std.proofs.lemmas.List.{take_rest}
 use Rattle.rb_base.specs.Fields.{part}
 use Rattle.rb_base.proofs.Fronts.{byte_of_part}
+use Rattle.rb_base.specs.declared.sizes.TheConstants.{UNIT}
 use Rattle.rb_disk.specs.DiskModel.{Only}
 use Rattle.rb_disk.specs.Ranges.{SameBut, SamePart}
 use Rattle.rb_layout.specs.Regions.{file_length, twin_offset, block_offset, block_count}
@@ -11,6 +12,7 @@ use Rattle.rb_twin.specs.Batches.{Image, IsBatch, with_batch, batch_in}
 use Rattle.rb_twin.specs.Twins.{home, twin_area, twin_gate, kept, IsTwin, TwinSome, Repaired, SameBehindGate, SameButHomes, StagedFrom, GateFrom, HomesFrom}
 use Rattle.rb_twin.specs.TwinLaws.{area_stays, batch_same, behind_same, front_stays, homes_stay, kept_one, kept_two, kept_three, kept_four, kept_open, take_earlier}
 use Rattle.rb_twin.proofs.HomeSteps.{but_both, but_none}
+use Rattle.rb_twin.specs.declared.batch.TheConstants.{AREA}
 
 -- Files that are the same from a place to the end
 pub same_end : (f d : List ℕ) (a n : ℕ) → length f ≡ n → SamePart a n f d → drop a d ≡ drop a f
@@ -21,10 +23,10 @@ same_end f d a n long same = sym (rest d (same.long ∙ long)) ∙ same.same ∙
 
 -- have the same homes, and the same twin area where they are the same from there on.
 pub home_end : (l : Layout) (f d : List ℕ) (n : ℕ) → n ≤ block_offset l 0 → drop n d ≡ drop n f → (which : ℕ) → home l d which ≡ home l f which
-home_end l f d n le same which = behind_same f d n (block_offset l which) 2048 same (omega (arith, le))
+home_end l f d n le same which = behind_same f d n (block_offset l which) UNIT same (omega (arith, le))
 
 area_end : (l : Layout) (f d : List ℕ) → drop (twin_offset l 0) d ≡ drop (twin_offset l 0) f → twin_area l d ≡ twin_area l f
-area_end l f d same = ap (take 18432) same
+area_end l f d same = ap (take AREA) same
 
 gate_end : (l : Layout) (f d : List ℕ) → drop (twin_offset l 0) d ≡ drop (twin_offset l 0) f → twin_gate l d ≡ twin_gate l f
 gate_end l f d same = sym (byte_of_part d (twin_offset l 0) 1 (omega arith)) ∙ ap (λ (h : List ℕ). slice_index (take 1 h) 0) same ∙ byte_of_part f (twin_offset l 0) 1 (omega arith)
@@ -50,7 +52,7 @@ home_front l f g same = record {
 pub gate_batch : (l : Layout) (f g : List ℕ) (batch : List Image) → length batch ≤ 8 → SameBehindGate l f g → batch_in (twin_area l f) ≡ batch → batch_in (twin_area l g) ≡ batch
 gate_batch l f g batch few same is =
     let short : length (batch_in (twin_area l f)) ≤ 8 = omega (arith, few, ap length is) in
-    batch_same (twin_area l f) (twin_area l g) 18431 (sym same.area) short (omega (arith, short)) ∙ is
+    batch_same (twin_area l f) (twin_area l g) (AREA - 1) (sym same.area) short (omega (arith, short)) ∙ is
 
 -- A repair that hasn't begun
 pub repair_still : (l : Layout) (image : List ℕ → Type 0) (f : List ℕ) → length f ≡ file_length l → ((c : List ℕ) → image c → SamePart (twin_offset l 0) (file_length l) f c) → IsTwin l f → (c : List ℕ) → image c → Repaired image l f c

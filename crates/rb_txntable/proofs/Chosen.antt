@@ -1,7 +1,7 @@
 -- The table slot that a transaction takes, of the first few, one slot more at a time.
 use Rattle.std.proofs.Common.{◌≡◌, ◌≢◌, ℕ, ◌+◌, ◌<◌, ◌≤◌, List, Option, None, Some, IfSome, IfNone, arith, inl, inr}
 use Rattle.std.proofs.lemmas.Bool.{cases_lt, cases_eq}
-use Rattle.rb_txntable.specs.Slots.{slot_at, slot_state, slot_newest, IsChosen}
+use Rattle.rb_txntable.specs.Slots.{slot_state, slot_newest}
 
 -- slot c is to be taken, of the first n
 pub record IsBest (header : List ℕ) (n c : ℕ) : Type 0 where
@@ -20,10 +20,6 @@ IsPreferred header n chosen = (slot_state header n ≢ 1) × IfSome chosen (λ c
 
 pub no_choice : (header : List ℕ) → IsChoice header 0 None
 no_choice header = record { found = tt; none = λ j lt. absurd (omega arith) }
-
-pub choice_within : (header : List ℕ) (n : ℕ) (chosen : Option ℕ) → n ≤ 16 → IsChoice header n chosen → IfSome chosen (λ c. c < 16)
-choice_within header n None le h = tt
-choice_within header n (Some c) le h = let best : IsBest header n c = h.found in omega (arith, best.within)
 
 pub taken : (header : List ℕ) (n : ℕ) (chosen : Option ℕ) → IsChoice header n chosen → IsPreferred header n chosen → IsChoice header (n + 1) (Some n)
 taken header n None h preferred = record {
@@ -89,9 +85,3 @@ passed header n (Some c) h not_preferred =
       };
       none = tt;
     }
-
-pub chosen_found : (header : List ℕ) (chosen : Option ℕ) → IsChoice header 16 chosen → IfSome chosen (IsChosen (slot_at header))
-chosen_found header None h = tt
-chosen_found header (Some c) h =
-    let best : IsBest header 16 c = h.found in
-    record { within = best.within; idle = best.idle; least = best.least; first = best.first }

@@ -4,7 +4,6 @@ pub mod Cleaned
 pub mod Finding
 pub mod FullHomes
 pub mod Homes
-pub mod Owed
 pub mod Presence
 pub mod Since
 pub mod Sites

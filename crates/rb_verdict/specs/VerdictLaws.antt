@@ -9,15 +9,14 @@ use Rattle.rb_heap.specs.Homes.{home_of}
 use Rattle.rb_model.specs.Book.{Book, IsBegun, book_at, is_full, owners}
 use Rattle.rb_model.specs.BookLaws.{IsBookSound}
 use Rattle.rb_model.specs.State.{State}
-use Rattle.rb_model.specs.Tests.{live_changes, made_since, owners_counted}
+use Rattle.rb_model.specs.Tests.{made_since}
 use Rattle.rb_segment.specs.Books.{next_is_full}
 use Rattle.rb_segment.specs.Calls.{IsSince}
 use Rattle.rb_segment.specs.Header.{Header, Segment}
 use Rattle.rb_segment.specs.Moves.{MayClaim, NoneMayTurn}
 use Rattle.rb_standing.specs.Says.{says, walk_home}
-use Rattle.rb_standing.specs.Standing.{env_of, homes_of, segments_of}
+use Rattle.rb_standing.specs.Standing.{env_of, homes_of}
 use Rattle.rb_standing.specs.States.{BlocksStand}
-use Rattle.rb_standing.specs.Values.{owed}
 use Rattle.rb_standing.specs.Writing.{IsHeaderReady}
 use Rattle.rb_verdict.specs.Chosen.{IsLeastActive, active_in, book_number, free_number, header_in}
 use Rattle.rb_verdict.specs.Stood.{IsClean, Stood}
@@ -55,11 +54,6 @@ CleanHomeIsBlocks = (h : State) (xids : List Xid) (blocks : List (List ℕ)) (b 
     → BlocksStand h xids blocks → b < table_blocks h.shape
     → walk_home h.shape b (cleaned_home (env_of h.shape blocks).look (home_of (block_of blocks b)))
     ≡ clean_home h blocks b
-
--- What slots owe, to put back what is under way, is one group for each live change and one for each owner.
-abbrev pub OwedIsCounted : Type 0
-OwedIsCounted = (h : State) (xids : List Xid) (blocks : List (List ℕ)) → BlocksStand h xids blocks
-    → owed h.shape (segments_of h.shape blocks) ≡ live_changes h + owners_counted h
 
 -- A segment has no place for a record by its header, with slot i taken where no transaction had it, exactly where its
 -- book is full.

@@ -1,20 +1,18 @@
 //! What holds of the tests of a write where the blocks of a file stand for the machine's state, as clauses for proofs
 //! to cite. Nothing calls it.
 ghost use Rattle.rb_verdict.specs.VerdictLaws.{VerdictIsMachines, CleanVerdictIsMachines, CleanHomeIsBlocks};
-ghost use Rattle.rb_verdict.specs.VerdictLaws.{OwedIsCounted, FullIsBooks, SinceIsBooks, SinceInRange};
+ghost use Rattle.rb_verdict.specs.VerdictLaws.{FullIsBooks, SinceIsBooks, SinceInRange};
 ghost use Rattle.rb_verdict.specs.VerdictLaws.{BooksAreSound, FreeSlotsAlike, OwnersAlike, BeginsWhereChosen};
 
 /// The first test of a write that applies, by the key's cleaned home and a segment's header, is the machine's: another
 /// session that holds the key, a row that is there or isn't, a home without a cell or an entry, a segment without a
-/// place for a record. What slots owe is one group for each live change and one for each owner. The number that
-/// `RollbackFull` tells is the book's, 281 to 320, and so is whether there is a place. Header and book say the same of
-/// which slots are free, with which newest number, and of how many are owned: so a session begins where the machine's
-/// does.
+/// place for a record. The number that `RollbackFull` tells is the book's, 281 to 320, and so is whether there is a
+/// place. Header and book say the same of which slots are free, with which newest number, and of how many are owned: so
+/// a session begins where the machine's does.
 pub fn verdict_laws()
     ensures verdict { VerdictIsMachines }
     ensures clean_verdict { CleanVerdictIsMachines }
     ensures clean_home { CleanHomeIsBlocks }
-    ensures owed { OwedIsCounted }
     ensures full { FullIsBooks }
     ensures since { SinceIsBooks × SinceInRange }
     ensures sound { BooksAreSound }

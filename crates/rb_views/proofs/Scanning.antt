@@ -1,5 +1,5 @@
 -- The next row of a query is the least key of the first home that has one.
-use Rattle.std.proofs.Common.{◌≡◌, ◌⊎◌, inl, inr, ◌<◌, ◌≤◌, ◌%◌, ◌==◌, ◌&&◌, ◌||◌, nat_lt, nat_le, ℕ, suc, Bool, true, false, List, [], ◌∷◌, Option, Some, None, refl, sym, ◌∙◌, ap, subst, arith}
+use Rattle.std.proofs.Common.{◌≡◌, ◌⊎◌, inl, inr, ◌<◌, ◌≤◌, ◌%◌, ◌==◌, ◌&&◌, ◌||◌, nat_lt, nat_le, ℕ, suc, true, false, List, [], ◌∷◌, Option, Some, None, refl, sym, ◌∙◌, ap, subst, arith}
 use Rattle.std.proofs.lemmas.Bool.{cases_eq, cases_lt, cases_Bool, and_parts, and_from, cond-true, cond-false, eq-eqb, eqb-true, le-leb, leb-true}
 use Rattle.std.proofs.lemmas.Bool.Decides.{nat_tests}
 use Rattle.std.proofs.Math.Nat.{mod-lt}
@@ -47,27 +47,6 @@ before_key blocks k q same lt = lex_key (k % blocks) k (q % blocks) q same lt
   where
     lex_key : (a b c d : ℕ) → a ≡ c → b < d → (nat_lt a c || (a == c && nat_lt b d)) ≡ true
     lex_key a b c d same lt = grind (arith, nat_tests)
-
-pub after_home : (blocks last k : ℕ) → key_before blocks last k ≡ true → last % blocks ≤ k % blocks
-after_home blocks last k is = lex_up (last % blocks) last (k % blocks) k is
-  where
-    lex_up : (a b c d : ℕ) → (nat_lt a c || (a == c && nat_lt b d)) ≡ true → a ≤ c
-    lex_up a b c d is = grind (arith, nat_tests)
-
--- in the home of the last key, what comes after it is greater
-pub after_same : (blocks last k : ℕ) → k % blocks ≡ last % blocks → key_before blocks last k ≡ nat_lt last k
-after_same blocks last k same = lex_same (last % blocks) last (k % blocks) k same
-  where
-    lex_same : (a b c d : ℕ) → c ≡ a → (nat_lt a c || (a == c && nat_lt b d)) ≡ nat_lt b d
-    lex_same a b c d same = rw same (flat a (nat_lt b d))
-      where
-        flat : (a : ℕ) (x : Bool) → (nat_lt a a || (a == a && x)) ≡ x
-        flat a true = grind (arith, nat_tests)
-        flat a false = grind (arith, nat_tests)
-
--- homes before that of the last key have nothing that comes after it
-pub none_earlier : (blocks lo hi last : ℕ) (rows : ℕ → Rows) (g : ℕ) → g < last % blocks → NoneIn blocks lo hi (Some last) (rows g) g
-none_earlier blocks lo hi last rows g lt = λ k is. let up = after_home blocks last k is.after in let at = is.home in absurd (omega (arith, up, at, lt))
 
 module _ (blocks table lo hi : ℕ) (some : 0 < blocks) (last : Option ℕ) (all : List TableRow) (order : InOrder blocks all) (rows : ℕ → Rows) (are : (g k : ℕ) → k % blocks ≡ g → rows g k ≡ value_of table k all) where
   abbrev Is : ℕ → ℕ → Type 0

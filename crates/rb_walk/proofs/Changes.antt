@@ -24,11 +24,6 @@ no_other (Row j v lock) key k (inl is) ne = let same : j ≡ key = cc in grind (
 no_other (Row j v lock) key k (inr is) ne = cc
 no_other (Stub j lock) key k is ne = refl
 
-free_has_none : (x : Cell) (k : ℕ) → taken x ≡ None → row_of x k ≡ None
-free_has_none Empty k is = refl
-free_has_none (Row j v lock) k is = cc
-free_has_none (Stub j lock) k is = refl
-
 lock_locked : (x : Cell) (key lock : ℕ) → lock_of (locked_as x key lock) ≡ lock
 lock_locked Empty key lock = refl
 lock_locked (Row k v l) key lock = refl

@@ -40,14 +40,6 @@ module _ (env : Env) (rest : Home → Type 0) (s i : ℕ) where
       ])
       names
 
--- the cell of a key tells who holds it
-pub one_holder : (env : Env) (b : Home) (s u i j key : ℕ) → Unique b → Locks env (λ b. Unit {0}) s i b key → Locks env (λ b. Unit {0}) u j b key → i ≡ j
-one_holder env b s u i j key unique a c =
-    let same : a.0 ≡ c.0 = unique a.0 c.0 key a.1 c.1 in
-    let lock : lock_of (cell_at b a.0) ≡ suc j = subst (λ (z : ℕ). lock_of (cell_at b z) ≡ suc j) (sym same) c.2 in
-    let eq : suc i ≡ suc j = sym a.2 ∙ lock in
-    omega arith
-
 module _ (env : Env) (rest : Home → Type 0) (s i : ℕ) where
   abbrev Shown : Home → Change → Undo → Type 0
   Shown b c r = (taken (cell_at b r.cell) ≡ Some c.key) × (lock_of (cell_at b r.cell) ≡ suc i)

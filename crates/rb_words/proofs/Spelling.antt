@@ -5,7 +5,7 @@ use Rattle.std.specs.Fmt.{decimal}
 use Rattle.std.specs.List.{All}
 use Rattle.std.specs.Result.{OkIff, result_ok}
 use Rattle.std.proofs.lemmas.Fmt.{decimal_digit, decimal_injective, decimal_nonempty, first_decimal}
-use Rattle.std.proofs.lemmas.List.{append_cancel_left, length-map}
+use Rattle.std.proofs.lemmas.List.{append_cancel_left}
 use Rattle.std.proofs.lemmas.List.Elements.{All-cons, All-head, All-map, All-nil, All-tail}
 use Rattle.rb_layout.specs.declared.layout.Layout.{Layout}
 use Rattle.rb_layout.specs.Ranges.{InRange}
@@ -132,13 +132,6 @@ not_run_and_gen words m n asked also =
     let heads : ◌≡◌ {A = ℕ} 114 103 = cc in
     absurd (omega (arith, heads))
 
--- the same words ask for one number of frames, or of commands
-pub same_run : (words : List (String Global)) (m n : ℕ) → AsksRun words m → AsksRun words n → m ≡ n
-same_run words m n asked also =
-    let both : run_words asked.file m ≡ run_words also.file n = (sym asked.spelled ∙ also.spelled) in
-    let behind : codes "frames=" ++ decimal m ≡ codes "frames=" ++ decimal n = cc in
-    same_number (codes "frames=" ++ decimal m) (codes "frames=") m n (omega (arith, asked.few.1)) (omega (arith, also.few.1)) refl behind
-
 pub same_gen : (words : List (String Global)) (m n : ℕ) → AsksGen words m → AsksGen words n → m ≡ n
 same_gen words m n asked also =
     let both : gen_words asked.file m ≡ gen_words also.file n = (sym asked.spelled ∙ also.spelled) in
@@ -207,12 +200,6 @@ plain_of words (Run frames) asked =
 plain_of words (Gen commands) asked =
     subst (All IsPlain) (sym asked.spelled) (plain_two asked.file (codes "gen") (decimal commands ∷ []) asked.named
     (plain_letter (codes "gen") 103 (omega arith) refl (omega arith)) (plain_one (decimal commands) (plain_decimal commands (omega (arith, asked.few)))))
-
--- a request has two words at least
-pub two_of : (words : List (String Global)) (request : Request) → AskFor words request → 2 ≤ length words
-two_of words (Format l) asked = let count = sym (length-map words (λ (w : String Global). string_bytes w)) ∙ ap length asked.spelled in omega (arith, count)
-two_of words (Run frames) asked = let count = sym (length-map words (λ (w : String Global). string_bytes w)) ∙ ap length asked.spelled in omega (arith, count)
-two_of words (Gen commands) asked = let count = sym (length-map words (λ (w : String Global). string_bytes w)) ∙ ap length asked.spelled in omega (arith, count)
 
 -- ---- what the parts are asked for
 

@@ -1,7 +1,8 @@
-use Rattle.std.proofs.Common.{◌≡◌, ◌-◌, ◌≤◌, ◌∙◌, List, [], ◌∷◌, ℕ, length, ap, arith, subst}
+use Rattle.std.proofs.Common.{◌*◌, ◌≡◌, ◌-◌, ◌≤◌, ◌∙◌, List, [], ◌∷◌, ℕ, length, ap, arith, subst}
 use Rattle.std.proofs.lemmas.Result.{on_ok_weaker}
 use Rattle.rb_base.specs.Fields.{overwritten}
 use Rattle.rb_base.specs.Moments.{LeavesOnly, weaker, joined}
+use Rattle.rb_base.specs.declared.sizes.TheConstants.{UNIT}
 use Rattle.rb_disk.specs.DiskModel.{Torn}
 use Rattle.rb_disk.specs.Moments.{rests_leave}
 use Rattle.rb_disk.specs.Ranges.{SameBut}
@@ -27,17 +28,17 @@ other g c told = ap (λ (copy : ℕ). 1 - copy) (c.in_ok-other.ensures.copy told
 fits : (g : Over) (c : After-write_synced g) → g.D.Disk.tells → log_offset 0 ≤ length (g.D.Disk.content c.args.disk.now)
 fits g c told = omega (arith, c.requires.whole told)
 
-unit : (g : Over) (c : After-write_synced g) → length c.unit_of-unit.result ≡ 2048
+unit : (g : Over) (c : After-write_synced g) → length c.unit_of-unit.result ≡ UNIT
 unit g c = ap length c.unit_of-unit.ensures ∙ length-copy c.args.head
 
 -- where it is written, and what that leaves of a file
 wrote_from : (g : Over) (c : After-write_synced g) (f h : List ℕ) → Torn c.copy_start.result (length c.unit_of-unit.result) f h
-    → Torn (copy_offset (1 - c.in_ok-other.field-0)) 2048 f h
+    → Torn (copy_offset (1 - c.in_ok-other.field-0)) UNIT f h
 wrote_from g c f h torn =
-    subst (λ (at : ℕ). Torn at 2048 f h) c.copy_start.ensures (subst (λ (n : ℕ). Torn c.copy_start.result n f h) (unit g c) torn)
+    subst (λ (at : ℕ). Torn at UNIT f h) c.copy_start.ensures (subst (λ (n : ℕ). Torn c.copy_start.result n f h) (unit g c) torn)
 
 outside : (g : Over) (c : After-write_synced g) → g.D.Disk.tells
-    → SameBut 2048 8192 (g.D.Disk.content c.args.disk.now) (g.D.Disk.content c.write_synced.new.disk)
+    → SameBut UNIT (4 * UNIT) (g.D.Disk.content c.args.disk.now) (g.D.Disk.content c.write_synced.new.disk)
 outside g c told =
     let file = g.D.Disk.content c.args.disk.now in
     let new = g.D.Disk.content c.write_synced.new.disk in
@@ -80,7 +81,7 @@ returns-clause-outside g c told =
     let room : log_offset 0 ≤ length mid =
     omega (arith, one.long, fits g (goal.at.returns-clause-outside g c).After-write_synced told) in
     both_outside _ mid new one
-    (control_torn mid new 6144 1 (omega arith) (omega arith) room (c.write_synced-2.ensures.torn told))
+    (control_torn mid new (3 * UNIT) 1 (omega arith) (omega arith) room (c.write_synced-2.ensures.torn told))
 
 -- the other copy is the new one
 wrote : (g : Over) (c : goal.After-write_synced-2 g) → g.D.Disk.tells → g.D.Disk.content c.write_synced.new.disk
@@ -112,12 +113,12 @@ returns-clause-any_moment g c told =
 -- an Ok leaves the file that a move makes
 is_moved : (g : Over) (c : goal.After-write_synced-2 g) (f : List ℕ) → g.D.Disk.tells
     → 1 - c.in_ok-other.field-0 ≡ other_copy (g.D.Disk.content c.args.disk.now)
-    → f ≡ overwritten (g.D.Disk.content c.write_synced.new.disk) 6144 ((1 - c.in_ok-other.field-0) ∷ [])
+    → f ≡ overwritten (g.D.Disk.content c.write_synced.new.disk) (3 * UNIT) ((1 - c.in_ok-other.field-0) ∷ [])
     → f ≡ moved (g.D.Disk.content c.args.disk.now) c.args.head
 is_moved g c f told copy is =
     let file = g.D.Disk.content c.args.disk.now in
-    is ∙ ap (λ (h : List ℕ). overwritten h 6144 ((1 - c.in_ok-other.field-0) ∷ [])) (wrote g c told)
-    ∙ ap (λ (k : ℕ). overwritten (overwritten file (copy_offset k) (copy_unit c.args.head)) 6144 (k ∷ [])) copy
+    is ∙ ap (λ (h : List ℕ). overwritten h (3 * UNIT) ((1 - c.in_ok-other.field-0) ∷ [])) (wrote g c told)
+    ∙ ap (λ (k : ℕ). overwritten (overwritten file (copy_offset k) (copy_unit c.args.head)) (3 * UNIT) (k ∷ [])) copy
 
 pub returns-clause-written : goal.returns-clause-written
 returns-clause-written g c told =

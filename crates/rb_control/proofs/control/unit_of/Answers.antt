@@ -2,6 +2,7 @@ use Rattle.std.proofs.Common.{◌≡◌, ◌++◌, ◌∙◌, List, ℕ, take, d
 use Rattle.std.proofs.lemmas.List.{take-replicate, drop-replicate}
 use Rattle.byteorder.specs.Endian.{big_bytes}
 use Rattle.rb_base.specs.Fields.{with_number}
+use Rattle.rb_base.specs.declared.sizes.TheConstants.{UNIT}
 use Rattle.rb_layout.specs.declared.layout.Head.{Head}
 use Rattle.rb_control.specs.Heads.{copy_unit}
 use Rattle.rb_control.proofs.control.unit_of.Goals as goal
@@ -14,4 +15,4 @@ unit_is zeros head all =
     ∙ ap (λ (b : List ℕ). ((big_bytes 4 head.slot ++ replicate 4 0) ++ big_bytes 8 head.number) ++ b) back
 
 pub returns : goal.returns
-returns c = c.put_u64.ensures ∙ ap (λ (l : List ℕ). with_number l 8 8 c.args.head.number) c.put_u32.ensures ∙ unit_is (replicate 2048 0) c.args.head (drop-replicate 4 2048 0)
+returns c = c.put_u64.ensures ∙ ap (λ (l : List ℕ). with_number l 8 8 c.args.head.number) c.put_u32.ensures ∙ unit_is (replicate UNIT 0) c.args.head (drop-replicate 4 UNIT 0)

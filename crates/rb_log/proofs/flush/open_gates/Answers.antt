@@ -1,5 +1,6 @@
 use Rattle.std.proofs.Common.{◌≡◌, ◌+◌, ◌-◌, ◌∙◌, ⊎_elim, inl, min, [], ◌∷◌, ℕ, List, length, true, refl, ap, sym, arith, subst}
 use Rattle.std.proofs.lemmas.Result.{on_ok_weaker}
+use Rattle.rb_log.specs.declared.sizes.TheConstants.{FLUSH_SLOTS}
 use Rattle.rb_base.specs.Fields.{overwritten}
 use Rattle.rb_base.specs.Moments.{goes_on}
 use Rattle.rb_disk.specs.DiskModel.{Torn, Follows}
@@ -29,7 +30,7 @@ begins g c = ⊎_elim (λ is. is) (λ all. absurd (omega (arith, all, c.loop-don
 next : (g : Over) (c : After-log_at g) → Run (c.args.layout.now.log - slot_of c.args.layout.now c.args.head c.args.used) c.loop-done.done c.run_length-count.result (length c.args.groups.now)
 next g c =
     run_here c.args.layout.now c.args.head c.args.used c.loop-done.done (length c.args.groups.now) c.requires.slot c.requires.room c.loop-done-test.true c.run_length-count.result (begins g c)
-    (c.run_length-count.ensures ∙ ap (λ (s : ℕ). min (min (length c.args.groups.now - c.loop-done.done) 32) (c.args.layout.now.log - s)) c.slot_behind-slot.ensures.slot)
+    (c.run_length-count.ensures ∙ ap (λ (s : ℕ). min (min (length c.args.groups.now - c.loop-done.done) FLUSH_SLOTS) (c.args.layout.now.log - s)) c.slot_behind-slot.ensures.slot)
 
 at : (g : Over) (c : After-log_at g) → c.log_at.result ≡ log_offset (slot_of c.args.layout.now c.args.head (c.args.used + c.loop-done.done))
 at g c = c.log_at.ensures ∙ ap log_offset c.slot_behind-slot.ensures.slot

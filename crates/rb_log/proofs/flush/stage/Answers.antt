@@ -1,5 +1,6 @@
 use Rattle.std.proofs.Common.{◌≡◌, ◌+◌, ◌-◌, ◌∙◌, ⊎_elim, inl, min, ℕ, List, length, take, drop, true, refl, ap, sym, arith, subst}
 use Rattle.std.proofs.lemmas.Result.{on_ok_weaker}
+use Rattle.rb_log.specs.declared.sizes.TheConstants.{FLUSH_SLOTS}
 use Rattle.rb_base.specs.Moments.{goes_on}
 use Rattle.rb_log.specs.GroupSlots.{AreStaged, StagedFrom, begins_run}
 use Rattle.rb_log.specs.Slots.{slot_of, gate_of}
@@ -25,7 +26,7 @@ begins g c = ⊎_elim (λ is. is) (λ all. absurd (omega (arith, all, c.loop-don
 next : (g : Over) (c : After-run_length-count g) → Run (c.args.layout.now.log - slot_of c.args.layout.now c.args.head c.args.used) c.loop-done.done c.run_length-count.result (length c.args.groups.now)
 next g c =
     run_here c.args.layout.now c.args.head c.args.used c.loop-done.done (length c.args.groups.now) c.requires.slot c.requires.room c.loop-done-test.true c.run_length-count.result (begins g c)
-    (c.run_length-count.ensures ∙ ap (λ (s : ℕ). min (min (length c.args.groups.now - c.loop-done.done) 32) (c.args.layout.now.log - s)) c.slot_behind-slot.ensures.slot)
+    (c.run_length-count.ensures ∙ ap (λ (s : ℕ). min (min (length c.args.groups.now - c.loop-done.done) FLUSH_SLOTS) (c.args.layout.now.log - s)) c.slot_behind-slot.ensures.slot)
 
 pub write_run-requires-clause-whole : goal.write_run-requires-clause-whole
 write_run-requires-clause-whole g c told = (c.loop-done.invariant.so_far c.requires.slot c.requires.room told).whole

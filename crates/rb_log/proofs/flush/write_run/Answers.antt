@@ -1,6 +1,7 @@
 use Rattle.std.proofs.Common.{◌≡◌, ◌<◌, ◌≤◌, ◌+◌, ◌-◌, ◌*◌, ◌∙◌, List, [], ◌∷◌, ℕ, length, take, ap, sym, arith, refl, subst, Result, Ok, Err, OnOk, OnErr}
 use Rattle.std.proofs.lemmas.List.{length-take-le}
 use Rattle.std.proofs.lemmas.Result.{on_ok_weaker}
+use Rattle.rb_base.specs.declared.sizes.TheConstants.{UNIT}
 use Rattle.rb_base.specs.Fields.{overwritten}
 use Rattle.rb_base.specs.Moments.{LeavesOnly, Passes}
 use Rattle.rb_base.proofs.Overwriting.{length-overwritten}
@@ -28,7 +29,7 @@ line g c lt = omega (arith, lt, c.slot_behind-slot.ensures.slot)
 full : (g : Over) (c : After-log_at-at g) → c.args.layout.now.log ≤ c.slot_behind-slot.result + length c.args.groups.now → slot_of c.args.layout.now c.args.head c.args.place + length c.args.groups.now ≡ c.args.layout.now.log
 full g c ge = omega (arith, ge, c.requires.line, c.slot_behind-slot.ensures.slot)
 
-cut : (g : Over) (c : After-log_at-at g) (n : ℕ) → n ≤ 2048 * length c.args.groups.now → length (take n c.fill_run.new.buffer) ≡ n
+cut : (g : Over) (c : After-log_at-at g) (n : ℕ) → n ≤ UNIT * length c.args.groups.now → length (take n c.fill_run.new.buffer) ≡ n
 cut g c n le = length-take-le n c.fill_run.new.buffer (omega (arith, c.fill_run.auto.buffer, c.requires.buffer, c.requires.few, le))
 
 pub returns-then-slot-groups-clause-written : goal.returns-then-slot-groups-clause-written
@@ -38,10 +39,10 @@ returns-then-slot-groups-clause-written g c told =
     let n = length c.args.groups.now in
     let file = g.D.Disk.content c.args.disk.now in
     let buffer = c.fill_run.new.buffer in
-    let bytes = take (2048 * n) buffer in
+    let bytes = take (UNIT * n) buffer in
     on_ok_weaker c.write_at.result
     (λ is. line_written c.args.layout.now c.args.head r.slot c.args.place c.args.groups.now r.room r.line r.some file (g.D.Disk.content c.write_at.new.self) buffer bytes (line g here (omega (arith, c.if-slot-groups.true))) (r.whole told) r.each (filled g here) refl
-    (cut g here (2048 * n) (omega arith)) (is ∙ ap (λ (i : ℕ). overwritten file i bytes) (at g here)))
+    (cut g here (UNIT * n) (omega arith)) (is ∙ ap (λ (i : ℕ). overwritten file i bytes) (at g here)))
     (c.write_at.ensures.written told)
 
 pub returns-then-slot-groups-clause-images : goal.returns-then-slot-groups-clause-images
@@ -49,7 +50,7 @@ returns-then-slot-groups-clause-images g c told =
     let r = c.requires in
     let here = (goal.at.returns-then-slot-groups-clause-images g c).After-log_at-at in
     let n = length c.args.groups.now in
-    line_images c.args.layout.now c.args.head r.slot c.args.place c.args.groups.now r.room r.line r.some g.D.Disk c.args.disk.now c.write_at.new.self _ _ (at g here) (cut g here (2048 * n) (omega arith)) (line g here (omega (arith, c.if-slot-groups.true))) (r.sized told) (c.write_at.ensures.images told)
+    line_images c.args.layout.now c.args.head r.slot c.args.place c.args.groups.now r.room r.line r.some g.D.Disk c.args.disk.now c.write_at.new.self _ _ (at g here) (cut g here (UNIT * n) (omega arith)) (line g here (omega (arith, c.if-slot-groups.true))) (r.sized told) (c.write_at.ensures.images told)
 
 pub returns-then-slot-groups-clause-any_moment : goal.returns-then-slot-groups-clause-any_moment
 returns-then-slot-groups-clause-any_moment g c told =
@@ -59,18 +60,18 @@ returns-then-slot-groups-clause-any_moment g c told =
     let disk = c.args.disk.now in
     let first = start c.args.layout.now c.args.head r.slot c.args.place c.args.groups.now r.room r.line r.some g.D.Disk disk (λ f left. g.met.D.Disk.only_now disk f told left) in
     one_write c.args.layout.now c.args.head r.slot c.args.place c.args.groups.now r.room r.line r.some g.D.Disk disk disk c.write_at.new.self first (c.write_at.ensures.time told)
-    (line_images c.args.layout.now c.args.head r.slot c.args.place c.args.groups.now r.room r.line r.some g.D.Disk disk c.write_at.new.self _ _ (at g here) (cut g here (2048 * n) (omega arith)) (line g here (omega (arith, c.if-slot-groups.true))) (r.sized told) (c.write_at.ensures.images told))
+    (line_images c.args.layout.now c.args.head r.slot c.args.place c.args.groups.now r.room r.line r.some g.D.Disk disk c.write_at.new.self _ _ (at g here) (cut g here (UNIT * n) (omega arith)) (line g here (omega (arith, c.if-slot-groups.true))) (r.sized told) (c.write_at.ensures.images told))
 
 -- the images behind the first write of two, which leaves any gate of the first slot
-one : (g : Over) (c : After-log_at-at g) → g.D.Disk.tells → c.args.layout.now.log ≤ c.slot_behind-slot.result + length c.args.groups.now → (mid : g.row.D.Denot) → Follows (Torn (c.log_at-at.result + 1) (length (take (2048 * length c.args.groups.now - 1) c.fill_run.new.buffer))) (g.D.Disk.image c.args.disk.now) (g.D.Disk.image mid)
+one : (g : Over) (c : After-log_at-at g) → g.D.Disk.tells → c.args.layout.now.log ≤ c.slot_behind-slot.result + length c.args.groups.now → (mid : g.row.D.Denot) → Follows (Torn (c.log_at-at.result + 1) (length (take (UNIT * length c.args.groups.now - 1) c.fill_run.new.buffer))) (g.D.Disk.image c.args.disk.now) (g.D.Disk.image mid)
     → (e k : List ℕ) → g.D.Disk.image mid e → Torn (log_offset 0) 1 e k → StagedFrom c.args.layout.now c.args.head c.args.place (length c.args.groups.now) (g.D.Disk.image c.args.disk.now) k
 one g c told ge mid images =
     let r = c.requires in
     let n = length c.args.groups.now in
-    round_images c.args.layout.now c.args.head r.slot c.args.place c.args.groups.now r.room r.line r.some g.D.Disk c.args.disk.now mid _ _ (at g c) (cut g c (2048 * n - 1) (omega arith)) (full g c ge) (r.sized told) images
+    round_images c.args.layout.now c.args.head r.slot c.args.place c.args.groups.now r.room r.line r.some g.D.Disk c.args.disk.now mid _ _ (at g c) (cut g c (UNIT * n - 1) (omega arith)) (full g c ge) (r.sized told) images
 
 -- what a crash leaves behind it
-first_moment : (g : Over) (c : After-log_at-at g) → g.D.Disk.tells → c.args.layout.now.log ≤ c.slot_behind-slot.result + length c.args.groups.now → (mid : g.row.D.Denot) → Follows (Torn (c.log_at-at.result + 1) (length (take (2048 * length c.args.groups.now - 1) c.fill_run.new.buffer))) (g.D.Disk.image c.args.disk.now) (g.D.Disk.image mid)
+first_moment : (g : Over) (c : After-log_at-at g) → g.D.Disk.tells → c.args.layout.now.log ≤ c.slot_behind-slot.result + length c.args.groups.now → (mid : g.row.D.Denot) → Follows (Torn (c.log_at-at.result + 1) (length (take (UNIT * length c.args.groups.now - 1) c.fill_run.new.buffer))) (g.D.Disk.image c.args.disk.now) (g.D.Disk.image mid)
     → Passes (g.D.Disk.moment c.args.disk.now) (g.D.Disk.moment mid) (g.D.Disk.image_since c.args.disk.now) (g.D.Disk.image_since mid) (g.D.Disk.image mid)
     → LeavesOnly g.D.Disk.moment g.D.Disk.image_since c.args.disk.now mid (StagedFrom c.args.layout.now c.args.head c.args.place (length c.args.groups.now) (g.D.Disk.image c.args.disk.now))
 first_moment g c told ge mid images time =
@@ -94,10 +95,10 @@ returns-clause-written g c told =
     let file = g.D.Disk.content c.args.disk.now in
     let mid = g.D.Disk.content c.write_at-2.new.self in
     let buffer = c.fill_run.new.buffer in
-    let own = take (2048 * n - 1) buffer in
+    let own = take (UNIT * n - 1) buffer in
     on_ok_weaker c.write_at-3.result
     (λ is. round_written c.args.layout.now c.args.head r.slot c.args.place c.args.groups.now r.room r.line r.some file mid (g.D.Disk.content c.write_at-3.new.self) buffer own (0 ∷ []) (full g here (omega (arith, c.if-slot-groups.false))) (r.whole told) r.each (filled g here) refl
-    (cut g here (2048 * n - 1) (omega arith)) (c.in_ok-write_at.ensures.written told ∙ ap (λ (i : ℕ). overwritten file i own) (at g here)) refl (is ∙ ap (λ (i : ℕ). overwritten mid i (0 ∷ [])) c.log_at.ensures))
+    (cut g here (UNIT * n - 1) (omega arith)) (c.in_ok-write_at.ensures.written told ∙ ap (λ (i : ℕ). overwritten file i own) (at g here)) refl (is ∙ ap (λ (i : ℕ). overwritten mid i (0 ∷ [])) c.log_at.ensures))
     (c.write_at-3.ensures.written told)
 
 pub returns-clause-images : goal.returns-clause-images
@@ -127,9 +128,9 @@ returns-clause-whole g c told =
     let file = g.D.Disk.content c.args.disk.now in
     let mid = g.D.Disk.content c.write_at-2.new.self in
     let new = g.D.Disk.content c.write_at-3.new.self in
-    let long = cut g here (2048 * n - 1) (omega arith) in
+    let long = cut g here (UNIT * n - 1) (omega arith) in
     let first : length mid ≡ file_length c.args.layout.now =
-    ap length (c.in_ok-write_at.ensures.written told) ∙ length-overwritten file (c.log_at-at.result + 1) (take (2048 * n - 1) c.fill_run.new.buffer) (omega (arith, r.whole told, long, at g here, r.line, r.some)) ∙ r.whole told in
+    ap length (c.in_ok-write_at.ensures.written told) ∙ length-overwritten file (c.log_at-at.result + 1) (take (UNIT * n - 1) c.fill_run.new.buffer) (omega (arith, r.whole told, long, at g here, r.line, r.some)) ∙ r.whole told in
     ends c.write_at-3.result (λ is. ap length is ∙ length-overwritten mid c.log_at.result (0 ∷ []) (omega (arith, first, c.log_at.ensures)) ∙ first) (λ torn. within c.log_at.result 1 mid new (file_length c.args.layout.now) (omega (arith, c.log_at.ensures)) first torn) (c.write_at-3.ensures.written told) (c.write_at-3.ensures.torn told)
   where
     ends : {T E P Q R : Type 0} (r : Result T E) → (P → R) → (Q → R) → OnOk r P → OnErr r Q → R

@@ -1,6 +1,7 @@
 use Rattle.std.proofs.Common.{◌≡◌, ◌+◌, ◌-◌, ◌*◌, ◌∙◌, ℕ, length, slice_set, slice_index, ap, sym, arith}
 use Rattle.std.proofs.lemmas.List.{length-set}
 use Rattle.rb_base.specs.Fields.{overwritten}
+use Rattle.rb_base.specs.declared.sizes.TheConstants.{UNIT}
 use Rattle.rb_twin.proofs.ImagePut.{part_put, image_put}
 use Rattle.rb_twin.proofs.Images.{counted}
 use Rattle.rb_twin.proofs.batch.put_image.Goals as goal
@@ -23,8 +24,8 @@ returns-clause-batch c =
     let n = c.image_count-place.result in
     let second = c.put_u32.new.bytes in
     let copied = c.copy_from_slice.new.self in
-    let size : at + 2048 - at ≡ 2048 = omega arith in
-    let long : length copied ≡ at + 2048 - at = ap length c.copy_from_slice.ensures.after ∙ c.requires.unit ∙ sym size in
+    let size : at + UNIT - at ≡ UNIT = omega arith in
+    let long : length copied ≡ at + UNIT - at = ap length c.copy_from_slice.ensures.after ∙ c.requires.unit ∙ sym size in
     image_put area n c.args.block c.args.unit.now c.requires.whole c.requires.room c.image_count-place.ensures (omega (arith, c.ranges.block.fits)) c.requires.unit (slice_set area 1 (slice_index area 1 + 1)) second _
     (ap (λ (k : ℕ). slice_set area 1 (k + 1)) (sym c.image_count-place.ensures)) c.put_u32.ensures
-    (part_put second at (at + 2048 - at) copied long ∙ ap (λ (i : ℕ). overwritten second i copied) c.image_at-at.ensures ∙ ap (overwritten second (2048 * (n + 1))) c.copy_from_slice.ensures.after)
+    (part_put second at (at + UNIT - at) copied long ∙ ap (λ (i : ℕ). overwritten second i copied) c.image_at-at.ensures ∙ ap (overwritten second (UNIT * (n + 1))) c.copy_from_slice.ensures.after)

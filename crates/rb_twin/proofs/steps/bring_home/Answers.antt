@@ -1,5 +1,6 @@
 use Rattle.std.proofs.Common.{◌≡◌, ◌<◌, ◌≤◌, ◌+◌, ◌-◌, ◌∙◌, length, slice_index, refl, ap, arith}
 use Rattle.rb_base.specs.Fields.{part}
+use Rattle.rb_base.specs.declared.sizes.TheConstants.{UNIT}
 use Rattle.rb_layout.specs.Regions.{block_offset, block_count}
 use Rattle.rb_twin.proofs.BatchSteps.{length-part, image_bytes}
 use Rattle.rb_twin.proofs.HomeSteps.{none_brought, brought_torn, brought_moment, brought_more}
@@ -28,14 +29,14 @@ block_at-requires g c =
 within : (g : Over) (c : After-block_at g) → c.loop-place.place < slice_index c.args.area.now 1
 within g c = omega (arith, c.loop-place-test.true, c.image_count-place-end.ensures)
 
-fits : (g : Over) (c : After-block_at g) → c.image_at-at.result + 2048 ≤ length c.args.area.now
+fits : (g : Over) (c : After-block_at g) → c.image_at-at.result + UNIT ≤ length c.args.area.now
 fits g c = omega (arith, c.image_at-at.ensures, within g c, c.requires.valid.few, counted c.args.area.now, c.requires.area)
 
 here : (g : Over) (c : After-block_at g) → c.block_at.result ≡ block_offset c.args.layout.now (name_of c.args.area.now c.loop-place.place)
 here g c = c.block_at.ensures ∙ ap (block_offset c.args.layout.now) c.name_at.ensures
 
-unit : (g : Over) (c : After-block_at g) → length (part c.args.area.now c.image_at-at.result (c.image_at-at.result + 2048 - c.image_at-at.result)) ≡ 2048
-unit g c = length-part c.args.area.now c.image_at-at.result (c.image_at-at.result + 2048 - c.image_at-at.result) (omega (arith, fits g c)) ∙ omega arith
+unit : (g : Over) (c : After-block_at g) → length (part c.args.area.now c.image_at-at.result (c.image_at-at.result + UNIT - c.image_at-at.result)) ≡ UNIT
+unit g c = length-part c.args.area.now c.image_at-at.result (c.image_at-at.result + UNIT - c.image_at-at.result) (omega (arith, fits g c)) ∙ omega arith
 
 pub slice_bounds-write_at-end : goal.slice_bounds-write_at-end
 slice_bounds-write_at-end g c = fits g (goal.at.slice_bounds-write_at-end g c).After-block_at

@@ -11,6 +11,7 @@ use Rattle.rb_twin.proofs.KeptBlocks.{repair_still, repair_later}
 use Rattle.rb_twin.proofs.steps.repair_file.Given.{Over}
 use Rattle.rb_twin.proofs.steps.repair_file.Goals.{After-read_at, After-finish}
 use Rattle.rb_twin.proofs.steps.repair_file.Goals as goal
+use Rattle.rb_twin.specs.declared.batch.TheConstants.{AREA}
 
 -- The read leaves all as it was.
 still : (g : Over) (c : After-read_at g) → g.D.Disk.tells → Rests g.D.Disk c.args.disk.now c.read_at.new.self
@@ -32,11 +33,11 @@ pub returns-then-not-is_batch-clause-any_moment : goal.returns-then-not-is_batch
 returns-then-not-is_batch-clause-any_moment g c told twin = begun g (goal.at.returns-then-not-is_batch-clause-any_moment g c).After-read_at told twin
 
 -- what was read is the twin area, and its first byte the gate
-area_of : (at : ℕ) (n : ℕ) (file : List ℕ) (l : _) → at ≡ twin_offset l 0 → n ≡ 18432 → part file at n ≡ twin_area l file
+area_of : (at : ℕ) (n : ℕ) (file : List ℕ) (l : _) → at ≡ twin_offset l 0 → n ≡ AREA → part file at n ≡ twin_area l file
 area_of at n file l here long = ap (λ (i : ℕ). part file i n) here ∙ ap (part file (twin_offset l 0)) long
 
 gate_of : (area file : List ℕ) (l : _) → area ≡ twin_area l file → slice_index area 0 ≡ twin_gate l file
-gate_of area file l is = ap (λ (a : List ℕ). slice_index a 0) is ∙ byte_of_part file (twin_offset l 0) 18432 (omega arith)
+gate_of area file l is = ap (λ (a : List ℕ). slice_index a 0) is ∙ byte_of_part file (twin_offset l 0) AREA (omega arith)
 
 pub returns-then-not-is_batch-clause-none : goal.returns-then-not-is_batch-clause-none
 returns-then-not-is_batch-clause-none g c told err twin =

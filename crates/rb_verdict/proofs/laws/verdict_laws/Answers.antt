@@ -6,7 +6,6 @@ use Rattle.rb_verdict.specs.VerdictLaws.{clean_home}
 use Rattle.rb_verdict.proofs.Begun.{begins_there, owners_are}
 use Rattle.rb_verdict.proofs.Choices.{free_alike, owners_alike}
 use Rattle.rb_verdict.proofs.Cleaned.{is_clean, stood_clean}
-use Rattle.rb_verdict.proofs.Owed.{owed_is}
 use Rattle.rb_verdict.proofs.Since.{since_is, since_range}
 use Rattle.rb_verdict.proofs.StoodBlocks.{home_is, stood_of}
 use Rattle.rb_verdict.proofs.Told.{book, full_none, full_ready, none_full, slots_counted, sound}
@@ -24,9 +23,6 @@ returns-clause-clean_verdict c = λ h xids segments homes s table key header boo
 
 pub returns-clause-clean_home : goal.returns-clause-clean_home
 returns-clause-clean_home c = λ h xids blocks b stand b_in. home_is h xids blocks stand b b_in
-
-pub returns-clause-owed : goal.returns-clause-owed
-returns-clause-owed c = λ h xids blocks stand. owed_is h xids (segments_of h.shape blocks) (homes_of h.shape blocks) (stood_of h xids blocks stand)
 
 pub returns-clause-full : goal.returns-clause-full
 returns-clause-full c = λ h xids blocks g i ready stand g_in is_ready. (none_full h xids blocks stand g g_in i ready is_ready, full_none h xids blocks stand g g_in i ready is_ready)

@@ -2,6 +2,7 @@ use Rattle.std.proofs.Common.{◌≡◌, ◌-◌, ◌<◌, ℕ, true, false, Lis
 use Rattle.std.specs.Map.{keys_of}
 use Rattle.lru.specs.LruCache.{LruCache}
 use Rattle.rb_base.specs.Fields.{part}
+use Rattle.rb_base.specs.declared.sizes.TheConstants.{UNIT}
 use Rattle.rb_layout.specs.Regions.{block_offset}
 use Rattle.rb_cache.specs.Frames.{has_number, numbers_of, room_made, without}
 use Rattle.rb_cache.specs.Slots.{AreFrames, FramesState, held_in, held_of}
@@ -19,7 +20,7 @@ module _ (slots : List Frame) (order places : List ℕ) (are : AreFrames slots o
   below : k < length slots
   below = last_below slots order places are k found
 
-  unit : length bytes ≡ 2048
+  unit : length bytes ≡ UNIT
   unit = same ∙ unit_at slots order places are k was below read
 
   abbrev free : Frame
