@@ -6,9 +6,11 @@ ghost use Rattle.rb_base.specs.Logs.{Logs};
 ghost use Rattle.rb_cr.specs.Builds.{IsHomeRead, IsHomeOld};
 ghost use Rattle.rb_cr.specs.Clauses.{answer_to};
 ghost use Rattle.rb_cr.specs.Faults.{is_failed, is_fault};
+ghost use Rattle.rb_cr.specs.Late.{IsFresh};
 ghost use Rattle.rb_cr.specs.Scratches.{scratch_home, shown_by};
 ghost use Rattle.rb_rebuild.specs.Chains.{Counted};
 ghost use Rattle.rb_rebuild.specs.Copies.{Copied};
+ghost use Rattle.rb_rebuild.specs.Late.{late_above};
 ghost use Rattle.rb_rebuild.specs.Reading.{needed, History};
 ghost use Rattle.rb_standing.specs.Standing.{env_of, homes_of};
 ghost use Rattle.rb_walk.specs.Walk.{last};
@@ -52,6 +54,9 @@ pub fn build<S: Store, L: Ledger>(
         snapshot.now.scn (scratch_home (S.shape_of store.old) scratch.new)) }
     ensures old { S.tells → (h : History) → IsHomeRead (S.shape_of store.old) (S.blocks store.old) block h
         snapshot.now → IfErr result (IsHomeOld (S.shape_of store.old) (S.blocks store.old) block h snapshot.now) }
+    ensures first { S.tells → (h : History) (key : ℕ) → IsHomeRead (S.shape_of store.old) (S.blocks store.old) block h
+        snapshot.now → IsFresh scratch.old.watch key
+        → OnOk result (scratch.new.watch.first ≡ late_above snapshot.now.scn key h.list) }
     ensures block { OnOk result (scratch.new.block ≡ block) }
     ensures logs { Logs S.Store store.old store.new [] (not (is_failed result)) }
 {

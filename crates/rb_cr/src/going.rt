@@ -35,7 +35,7 @@ pub(crate) fn go_on<S: Segments, L: Ledger>(
     match greatest(segments, scratch, snapshot.scn) {
         Err(_) => Err(CrFault::Failed),
         Ok(Top::Over { .. }) => Ok(false),
-        Ok(Top::At { .. }) => match rewind(segments, scratch, snapshot, steps) {
+        Ok(Top::At(_)) => match rewind(segments, scratch, snapshot, steps) {
             Err(fault) => Err(fault),
             Ok(()) => Ok(true),
         },

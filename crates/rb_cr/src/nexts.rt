@@ -50,7 +50,7 @@ fn is_quiet<S: Segments>(segments: &mut S, scratch: &Scratch, scn: Scn) -> Resul
     ensures reads { Reads S.Segments segments.old segments.new (not (is_err result)) }
 {
     match greatest(segments, scratch, scn)? {
-        Top::At { number, .. } => Ok(number <= scn),
+        Top::At(top) => Ok(top.number <= scn),
         Top::Over { .. } => Ok(false),
     }
 }
