@@ -60,9 +60,7 @@ pub fn build<S: Store, L: Ledger>(
     ensures block { OnOk result (scratch.new.block ≡ block) }
     ensures logs { Logs S.Store store.old store.new [] (not (is_failed result)) }
 {
-    let Ok(()) = store.load(block) else {
-        return Err(CrFault::Failed);
-    };
+    store.load(block)?;
     scratch.decode(block, store.block());
     rebuild(store, scratch, snapshot, steps)
 }

@@ -80,11 +80,8 @@ pub fn changed_after<S: Store>(
     ensures logs { Logs S.Store store.old store.new [] (not (is_failed result)) }
 {
     let block = store.shape().home_block(table, key);
-    match is_plain(store, block, snapshot.scn, scratch) {
-        Err(_) => Err(CrFault::Failed),
-        Ok(true) => Ok(None),
-        Ok(false) => {
-            first_rebuilt::<S, Brand>(store, block, key, snapshot, scratch, Blank::new(1))
-        }
+    if is_plain(store, block, snapshot.scn, scratch)? {
+        return Ok(None);
     }
+    first_rebuilt::<S, Brand>(store, block, key, snapshot, scratch, Blank::new(1))
 }
