@@ -2,6 +2,7 @@
 use Rattle.std.specs.Prelude.{◌≡◌, ◌<◌, ◌≤◌, ℕ, Bool, true, false, Option, Some, None}
 use Rattle.rb_cr.specs.declared.heights.Top.{Top}
 use Rattle.rb_cr.specs.declared.heights.Top.TheVariants as tops
+use Rattle.rb_itl.specs.declared.slots.TheConstants.{ENTRIES}
 use Rattle.rb_rebuild.specs.Heights.{LookAtMost, LookNumbered, LookOver, AtMost, Numbered, Over}
 use Rattle.rb_txntable.specs.declared.looks.Look.{Look}
 use Rattle.rb_walk.specs.Kinds.{Entry}
@@ -22,7 +23,7 @@ IsTop env n b (tops.At top) = (n ≤ top.number) × ((j : ℕ) → AtMost env n 
 IsTop env n b (tops.Over seg) = (j : ℕ) × Over env n (entry_at b j) × ((entry_at b j).xid.seg ≡ seg)
 
 abbrev pub IsTopWithin : Top → Type 0
-IsTopWithin (tops.At top) = top.entry < 8
+IsTopWithin (tops.At top) = top.entry < ENTRIES
 IsTopWithin (tops.Over seg) = Unit {0}
 
 abbrev pub ActiveIs : Env → Entry → Bool → Type 0

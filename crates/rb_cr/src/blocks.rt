@@ -26,9 +26,10 @@ use std::sync::ledger::Ledger;
 /// What the scratch had is forgotten, and what it has after a refusal is open. For each history that the home stands
 /// for, the rows are those at the snapshot with these changes over them. Each record that is taken back is counted: as
 /// many as changes stand above the snapshot; or, where one of them is gone, those that were taken back before it and no
-/// more. What is left in the scratch, entries and cells, is a home that can be kept at the snapshot. `TooOld` only
-/// where what that needs was given up by a segment, above the snapshot; `Failed` only where a call failed. The store is
-/// given no group. (Oracle7 Server Concepts, *Multiversion Consistency Model*.)
+/// more. What is left in the scratch, entries and cells, is a home that can be kept at the snapshot. Where a key is
+/// watched, the watch tells the first commit above the snapshot that changed its row. `TooOld` only where what that
+/// needs was given up by a segment, above the snapshot; `Failed` only where a call failed. The store is given no group.
+/// (Oracle7 Server Concepts, *Multiversion Consistency Model*.)
 pub fn build<S: Store, L: Ledger>(
     store: &mut S,
     block: BlockNo,

@@ -8,6 +8,7 @@ ghost use Rattle.rb_cr.specs.Late.{SeesAll, SeesChain, SeesStep};
 ghost use Rattle.rb_cr.specs.Reads.{Reads};
 ghost use Rattle.rb_cr.specs.Scratches.{scratch_home};
 ghost use Rattle.rb_cr.specs.Watches.{Stays};
+ghost use Rattle.rb_itl.specs.declared.slots.TheConstants.{ENTRIES};
 ghost use Rattle.rb_walk.specs.Walk.{entry_at};
 
 use crate::faults::CrFault;
@@ -26,7 +27,7 @@ fn step<S: Segments>(
     xid: Xid,
 ) -> Result<bool, Failed>
     requires ready { S.ready segments.old }
-    requires there { i < 8 }
+    requires there { i < ENTRIES }
     ensures told { S.tells → IfOk result (StepsBack (S.says segments.old) snapshot.now i xid
         scratch.old scratch.new) }
     ensures seen { S.tells → IfOk result (SeesStep (S.says segments.old) i scratch.old scratch.new) }
@@ -54,7 +55,7 @@ fn unwind<S: Segments, L: Ledger>(
     steps: &mut Steps<L>,
 ) -> Result<bool, Failed>
     requires ready { S.ready segments.old }
-    requires there { i < 8 }
+    requires there { i < ENTRIES }
     ensures told { S.tells → IfOk result (Unwinds (S.says segments.old) snapshot.now count i
         xid scratch.old steps.old scratch.new steps.new) }
     ensures steps { IfOk result (λ whole. whole ≡ true → steps.new ≡ steps.old + count) }
@@ -94,7 +95,7 @@ pub(crate) fn unwind_at<S: Segments, L: Ledger>(
     steps: &mut Steps<L>,
 ) -> Result<(), CrFault>
     requires ready { S.ready segments.old }
-    requires there { i < 8 }
+    requires there { i < ENTRIES }
     ensures told { S.tells → Spends (S.says segments.old) snapshot.now i scratch.old steps.old result
         scratch.new steps.new }
     ensures steps { (shape : Shape)

@@ -11,6 +11,7 @@ ghost use Rattle.rb_cr.specs.Parts.{Highest};
 ghost use Rattle.rb_cr.specs.Reads.{Reads};
 ghost use Rattle.rb_cr.specs.Scratches.{scratch_home, shown_by};
 ghost use Rattle.rb_cr.specs.Watches.{Stays};
+ghost use Rattle.rb_itl.specs.declared.slots.TheConstants.{ENTRIES};
 ghost use Rattle.rb_rebuild.specs.Chains.{Counted};
 ghost use Rattle.rb_rebuild.specs.Copies.{Copied};
 ghost use Rattle.rb_rebuild.specs.Late.{late_above};
@@ -38,7 +39,7 @@ pub(crate) fn highest<S: Segments>(
     requires { S.ready segments.old }
     ensures told { S.tells → Highest (S.says segments.old).env scn
         (scratch_home (S.says segments.old).shape scratch.now) result }
-    ensures within { IfOk result (λ top. top.entry < 8) }
+    ensures within { IfOk result (λ top. top.entry < ENTRIES) }
     ensures reads { Reads S.Segments segments.old segments.new (not (is_failed result)) }
 {
     match greatest(segments, scratch, scn)? {
@@ -103,7 +104,7 @@ fn undo_entry<S: Segments, L: Ledger>(
     steps: &mut Steps<L>,
 ) -> Result<(), CrFault>
     requires ready { S.ready segments.old }
-    requires there { i < 8 }
+    requires there { i < ENTRIES }
     ensures told { S.tells → UndoesEntry (S.says segments.old) snapshot.now i scratch.old
         steps.old result scratch.new steps.new }
     ensures goes { S.tells
@@ -168,8 +169,8 @@ fn take_all_back<S: Segments, L: Ledger>(
 /// were taken back before it and no more. What is left, entries and cells, is a home that can be kept at the snapshot.
 /// `TooOld` only where what that needs was given up by a segment, above the snapshot; `Failed` only where a call
 /// failed. Where a key is watched, the watch tells the first commit above the snapshot that changed its row. (Oracle7
-/// Server Concepts, *Multiversion Consistency Model*: older versions are rebuilt from rollback
-/// segments. The order is this project's choice: what isn't committed first, and then the greatest number.)
+/// Server Concepts, *Multiversion Consistency Model*: older versions are rebuilt from rollback segments. The order is
+/// this project's choice: what isn't committed first, and then the greatest number.)
 pub fn rebuild<S: Segments, L: Ledger>(
     segments: &mut S,
     scratch: &mut Scratch,
