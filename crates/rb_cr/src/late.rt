@@ -19,8 +19,8 @@ use std::marker::Brand;
 use std::mem;
 use std::sync::ledger::{Blank, Ledger};
 
-/// The same of a block, by a rebuild of it for nobody that watches the key. The undo records are counted in a ledger
-/// that nobody reads.
+/// The number of the first commit above a snapshot that changed the row of a key in a block: the home is rebuilt for
+/// nobody, and the key is watched meanwhile. The undo records are counted in a ledger that nobody reads.
 fn first_rebuilt<S: Store, L: Ledger>(
     store: &mut S,
     block: BlockNo,

@@ -12,7 +12,7 @@ use rb_undoblock::UndoRecord;
 
 /// What was seen of a key.
 #[derive(Clone, Copy)]
-pub(crate) struct Watch {
+pub struct Watch {
     /// The key; none where nobody asks.
     key: Option<u64>,
     /// Whether the chain that is taken back has changed its row.
@@ -22,7 +22,7 @@ pub(crate) struct Watch {
 }
 
 impl Watch {
-    /// Nothing was taken back yet.
+    /// A watch of a key, or of none. Nothing was taken back yet.
     pub(crate) fn of(key: Option<u64>) -> Watch
         ensures key { result.key ≡ key }
         ensures first { result.first ≡ None }
