@@ -55,8 +55,9 @@ pub fn build<S: Store, L: Ledger>(
         snapshot.now.scn (scratch_home (S.shape_of store.old) scratch.new)) }
     ensures old { S.tells → (h : History) → IsHomeRead (S.shape_of store.old) (S.blocks store.old) block h
         snapshot.now → IfErr result (IsHomeOld (S.shape_of store.old) (S.blocks store.old) block h snapshot.now) }
-    ensures first { S.tells → (h : History) (key : ℕ) → IsHomeRead (S.shape_of store.old) (S.blocks store.old) block h
-        snapshot.now → IsFresh scratch.old.watch key
+    ensures first { S.tells → (h : History) (key : ℕ)
+        → IsHomeRead (S.shape_of store.old) (S.blocks store.old) block h snapshot.now
+        → IsFresh scratch.old.watch key
         → OnOk result (scratch.new.watch.first ≡ late_above snapshot.now.scn key h.list) }
     ensures block { OnOk result (scratch.new.block ≡ block) }
     ensures logs { Logs S.Store store.old store.new [] (not (is_failed result)) }
