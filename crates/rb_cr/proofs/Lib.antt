@@ -3,6 +3,7 @@ pub mod Beyond
 pub mod Blaming
 pub mod Decoded
 pub mod EntryBytes
+pub mod Erring
 pub mod Extents
 pub mod Firsts
 pub mod Found

@@ -6,6 +6,7 @@ use Rattle.rb_base.specs.declared.ids.Xid.{Xid}
 use Rattle.rb_cr.specs.Faults.{Because, is_fault}
 use Rattle.rb_cr.specs.Parts.{Built, Goes, Gone, Highest, Passed, Rewound, Spent, Undone}
 use Rattle.rb_cr.specs.declared.faults.CrFault.{CrFault}
+use Rattle.rb_cr.specs.declared.heights.HighestEntry.{HighestEntry}
 use Rattle.rb_rebuild.specs.Chains.{unwound}
 use Rattle.rb_rebuild.specs.Heights.{AtMost}
 use Rattle.rb_rebuild.specs.Keeping.{kept_room, Kept, behind_mine, first_count, kept_after, overlay}
@@ -35,14 +36,14 @@ module _ (env : Env) (base : ℕ) (rows : Rows) (list : List Commit) (mine : Opt
     few_left : so.0 ≤ count_above n list
     few_left = omega (arith, so.4.count)
 
-    pub rewound_done : (i c : ℕ) → c ≤ n → Highest env n b (Ok (i, c)) → Rewound env base rows list mine upto n start kept0 count0 (Ok (tt {0})) b kept count
-    rewound_done i c le top =
-        let is : c ≡ n = omega (arith, top.ok.0) in
-        let f : Match b (rows_at n rows list) × (so.0 ≡ count_above n list) × ((kept : Kept) (over : Rows) (k : ℕ) → overlay (so.1 kept) over k ≡ overlay kept (behind_mine mine upto (flat n list) over) k) = finishes env base rows mine upto n (2 ^ 64 - 1) list st.honest st.low limit so.0 so.1 start b so.4 (subst (λ (z : ℕ). (j : ℕ) → AtMost env n z (entry_at b j)) is top.ok.1) in
+    pub rewound_done : (top : HighestEntry) → top.number ≤ n → Highest env n b (Ok top) → Rewound env base rows list mine upto n start kept0 count0 (Ok (tt {0})) b kept count
+    rewound_done top le highest =
+        let is : top.number ≡ n = omega (arith, highest.ok.0) in
+        let f : Match b (rows_at n rows list) × (so.0 ≡ count_above n list) × ((kept : Kept) (over : Rows) (k : ℕ) → overlay (so.1 kept) over k ≡ overlay kept (behind_mine mine upto (flat n list) over) k) = finishes env base rows mine upto n (2 ^ 64 - 1) list st.honest st.low limit so.0 so.1 start b so.4 (subst (λ (z : ℕ). (j : ℕ) → AtMost env n z (entry_at b j)) is highest.ok.1) in
         record {
           most = omega (arith, so.2, f.1);
           ok = (f.0, so.2 ∙ ap (λ (z : ℕ). count0 + z) f.1, λ over k. ap (λ (z : Kept). overlay z over k) so.3 ∙ f.2 kept0 over k);
-          left = subst (λ (z : List Commit). Walk env base rows z b) so.4.tail (settled_walk env base rows n so.4.left b so.4.walk (subst (λ (z : ℕ). (j : ℕ) → AtMost env n z (entry_at b j)) is top.ok.1));
+          left = subst (λ (z : List Commit). Walk env base rows z b) so.4.tail (settled_walk env base rows n so.4.left b so.4.walk (subst (λ (z : ℕ). (j : ℕ) → AtMost env n z (entry_at b j)) is highest.ok.1));
           err = tt;
           counted = tt;
         }
@@ -56,7 +57,7 @@ module _ (env : Env) (base : ℕ) (rows : Rows) (list : List Commit) (mine : Opt
       counted = λ start0 first entries whole old. let to = goes start0 first entries whole in (to.0, b, count, to.1, inl refl);
     }
 
-    module _ (i c : ℕ) (above : n < c) (top : Highest env n b (Ok (i, c))) where
+    module _ (i c : ℕ) (above : n < c) (top : Highest env n b (Ok (record { entry = i; number = c }))) where
       abbrev chain : ℕ
       chain = (entry_at b i).chain
 

@@ -1,9 +1,8 @@
 -- One record taken back in a decoded home is one step of the walk's home.
-use Rattle.std.proofs.Common.{◌≡◌, inr, ◌<◌, ℕ, Bool, true, false, if◌then◌else◌, length, get_or}
+use Rattle.std.proofs.Common.{◌≡◌, ◌||◌, inr, ◌<◌, ℕ, Bool, true, false, if◌then◌else◌, length, get_or}
 use Rattle.std.proofs.Common.{Option, Some, None, refl, sym, ◌∙◌, ap, subst, arith}
 use Rattle.rb_base.specs.declared.ids.Xid.{Xid}
 use Rattle.rb_base.specs.declared.shape.Shape.{Shape}
-use Rattle.rb_cr.specs.Late.{Saw}
 use Rattle.rb_cr.specs.Parts.{Took}
 use Rattle.rb_cr.specs.Records.{record_of, walk_found}
 use Rattle.rb_cr.specs.Scratches.{kept_with, scratch_home}
@@ -30,15 +29,15 @@ module _ (shape : Shape) (env : Env) (s : Scratch) (i : ℕ) (xid : Xid) (eight 
   stored : env.store (entry_at b i).newest ≡ Some r
   stored = ap (λ (e : Entry). env.store e.newest) (entry_is shape s.entries i (omega (arith, eight, there))) ∙ sym told
 
+  pub noted : (key : ℕ) (was now : Bool) → now ≡ was || touches key (Some r) → now ≡ was || touches key (env.store (entry_at b i).newest)
+  noted key was now is = is ∙ ap (λ (o : Option Undo). was || touches key o) (sym stored)
+
   pub unfit : fits i xid b r ≡ false → stepped env i xid b ≡ None
   unfit not = ap (applied i xid b) stored ∙ ap (λ (t : Bool). if t then Some (back r b) else None) not
 
   module _ (yes_fits : fits i xid b r ≡ true) where
     stepped_is : stepped env i xid b ≡ Some (back r b)
     stepped_is = ap (applied i xid b) stored ∙ ap (λ (t : Bool). if t then Some (back r b) else None) yes_fits
-
-    pub saw : (key : ℕ) (t : Bool) (s2 : Scratch) → scratch_home shape s2 ≡ back r b → t ≡ touches key (Some r) → Saw env key i xid b (scratch_home shape s2) (Some t)
-    saw key t s2 home is = (stepped_is ∙ ap Some (sym home), is ∙ ap (touches key) (sym stored))
 
     kept_is : (snap : Snapshot) → kept_one snap.own snap.upto i xid b (env.store (entry_at b i).newest) s.kept ≡ kept_with snap found s
     kept_is snap = ap (λ (o : Option Undo). kept_one snap.own snap.upto i xid b o s.kept) stored ∙ ap (λ (t : Bool). if t then keep snap.own snap.upto r b s.kept else s.kept) yes_fits

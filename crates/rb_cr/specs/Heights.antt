@@ -2,6 +2,7 @@
 use Rattle.std.specs.Prelude.{◌≡◌, ◌<◌, ◌≤◌, ℕ, Bool, true, false, Option, Some, None}
 use Rattle.rb_cr.specs.declared.heights.Top.{Top}
 use Rattle.rb_cr.specs.declared.heights.Top.TheVariants as tops
+use Rattle.rb_itl.specs.declared.slots.TheConstants.{ENTRIES}
 use Rattle.rb_rebuild.specs.Heights.{LookAtMost, LookNumbered, LookOver, AtMost, Numbered, Over}
 use Rattle.rb_txntable.specs.declared.looks.Look.{Look}
 use Rattle.rb_walk.specs.Kinds.{Entry}
@@ -17,12 +18,12 @@ Tall env n e None = Over env n e
 Tall env n e (Some c) = (n ≤ c) × AtMost env n c e × (n < c → Numbered env e c)
 
 abbrev pub IsTop : Env → ℕ → Home → Top → Type 0
-IsTop env n b (tops.At i c) =
-    (n ≤ c) × ((j : ℕ) → AtMost env n c (entry_at b j)) × (n < c → Numbered env (entry_at b i) c)
+IsTop env n b (tops.At top) = (n ≤ top.number) × ((j : ℕ) → AtMost env n top.number (entry_at b j))
+    × (n < top.number → Numbered env (entry_at b top.entry) top.number)
 IsTop env n b (tops.Over seg) = (j : ℕ) × Over env n (entry_at b j) × ((entry_at b j).xid.seg ≡ seg)
 
 abbrev pub IsTopWithin : Top → Type 0
-IsTopWithin (tops.At i c) = i < 8
+IsTopWithin (tops.At top) = top.entry < ENTRIES
 IsTopWithin (tops.Over seg) = Unit {0}
 
 abbrev pub ActiveIs : Env → Entry → Bool → Type 0

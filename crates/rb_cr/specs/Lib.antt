@@ -12,3 +12,4 @@ pub mod Reads
 pub mod Records
 pub mod Rows
 pub mod Scratches
+pub mod Watches

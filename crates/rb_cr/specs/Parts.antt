@@ -4,6 +4,7 @@ use Rattle.std.specs.Prelude.{Option, Some, None, Result, OnOk, IfOk, IfErr}
 use Rattle.rb_base.specs.declared.ids.Xid.{Xid}
 use Rattle.rb_cr.specs.Faults.{is_fault, Blames, Because}
 use Rattle.rb_cr.specs.declared.faults.CrFault.{CrFault}
+use Rattle.rb_cr.specs.declared.heights.HighestEntry.{HighestEntry}
 use Rattle.rb_rebuild.specs.Chains.{Counted, Stops, Whole, spent, stepped, unwound}
 use Rattle.rb_rebuild.specs.Heights.{AtMost, BeyondIn, Numbered, Over}
 use Rattle.rb_rebuild.specs.Keeping.{Kept, behind_mine, first_count, kept_after, kept_one, kept_room, kept_whole}
@@ -50,9 +51,9 @@ Counts env b count count2 e = (start : Home) (first : ℕ) (entries : List ℕ)
     → Whole env start first entries b count → is_fault e ≡ false → Counted env start first count2
 
 -- the highest entry above n, or one that is over it
-pub record Highest (env : Env) (n : ℕ) (b : Home) (result : Result (ℕ × ℕ) CrFault) : Type 0 where
-  pub ok : IfOk result (λ r. (n ≤ r.1) × ((j : ℕ) → AtMost env n r.1 (entry_at b j))
-      × (n < r.1 → Numbered env (entry_at b r.0) r.1))
+pub record Highest (env : Env) (n : ℕ) (b : Home) (result : Result HighestEntry CrFault) : Type 0 where
+  pub ok : IfOk result (λ top. (n ≤ top.number) × ((j : ℕ) → AtMost env n top.number (entry_at b j))
+      × (n < top.number → Numbered env (entry_at b top.entry) top.number))
   pub err : IfErr result (λ e. is_fault e ≡ false
       → (j : ℕ) × Over env n (entry_at b j) × Blames n (env.lost (entry_at b j).xid.seg) e)
 

@@ -6,9 +6,11 @@ ghost use Rattle.rb_base.specs.Logs.{Logs};
 ghost use Rattle.rb_cr.specs.Builds.{IsHomeRead, IsHomeOld};
 ghost use Rattle.rb_cr.specs.Clauses.{answer_to};
 ghost use Rattle.rb_cr.specs.Faults.{is_failed, is_fault};
+ghost use Rattle.rb_cr.specs.Late.{IsFresh};
 ghost use Rattle.rb_cr.specs.Scratches.{scratch_home, shown_by};
 ghost use Rattle.rb_rebuild.specs.Chains.{Counted};
 ghost use Rattle.rb_rebuild.specs.Copies.{Copied};
+ghost use Rattle.rb_rebuild.specs.Late.{late_above};
 ghost use Rattle.rb_rebuild.specs.Reading.{needed, History};
 ghost use Rattle.rb_standing.specs.Standing.{env_of, homes_of};
 ghost use Rattle.rb_walk.specs.Walk.{last};
@@ -24,9 +26,10 @@ use std::sync::ledger::Ledger;
 /// What the scratch had is forgotten, and what it has after a refusal is open. For each history that the home stands
 /// for, the rows are those at the snapshot with these changes over them. Each record that is taken back is counted: as
 /// many as changes stand above the snapshot; or, where one of them is gone, those that were taken back before it and no
-/// more. What is left in the scratch, entries and cells, is a home that can be kept at the snapshot. `TooOld` only
-/// where what that needs was given up by a segment, above the snapshot; `Failed` only where a call failed. The store is
-/// given no group. (Oracle7 Server Concepts, *Multiversion Consistency Model*.)
+/// more. What is left in the scratch, entries and cells, is a home that can be kept at the snapshot. Where a key is
+/// watched, the watch tells the first commit above the snapshot that changed its row. `TooOld` only where what that
+/// needs was given up by a segment, above the snapshot; `Failed` only where a call failed. The store is given no group.
+/// (Oracle7 Server Concepts, *Multiversion Consistency Model*.)
 pub fn build<S: Store, L: Ledger>(
     store: &mut S,
     block: BlockNo,
@@ -52,12 +55,14 @@ pub fn build<S: Store, L: Ledger>(
         snapshot.now.scn (scratch_home (S.shape_of store.old) scratch.new)) }
     ensures old { S.tells → (h : History) → IsHomeRead (S.shape_of store.old) (S.blocks store.old) block h
         snapshot.now → IfErr result (IsHomeOld (S.shape_of store.old) (S.blocks store.old) block h snapshot.now) }
+    ensures first { S.tells → (h : History) (key : ℕ)
+        → IsHomeRead (S.shape_of store.old) (S.blocks store.old) block h snapshot.now
+        → IsFresh scratch.old.watch key
+        → OnOk result (scratch.new.watch.first ≡ late_above snapshot.now.scn key h.list) }
     ensures block { OnOk result (scratch.new.block ≡ block) }
     ensures logs { Logs S.Store store.old store.new [] (not (is_failed result)) }
 {
-    let Ok(()) = store.load(block) else {
-        return Err(CrFault::Failed);
-    };
+    store.load(block)?;
     scratch.decode(block, store.block());
     rebuild(store, scratch, snapshot, steps)
 }

@@ -4,8 +4,11 @@ ghost use Rattle.std.specs.Result.{is_err};
 ghost use Rattle.rb_base.specs.declared.shape.Shape.{Shape};
 ghost use Rattle.rb_cr.specs.Clauses.{StepsBack, Unwinds, Spends};
 ghost use Rattle.rb_cr.specs.Faults.{is_fault, is_failed, Blames};
+ghost use Rattle.rb_cr.specs.Late.{SeesAll, SeesChain, SeesStep};
 ghost use Rattle.rb_cr.specs.Reads.{Reads};
 ghost use Rattle.rb_cr.specs.Scratches.{scratch_home};
+ghost use Rattle.rb_cr.specs.Watches.{Stays};
+ghost use Rattle.rb_itl.specs.declared.slots.TheConstants.{ENTRIES};
 ghost use Rattle.rb_walk.specs.Walk.{entry_at};
 
 use crate::faults::CrFault;
@@ -24,9 +27,11 @@ fn step<S: Segments>(
     xid: Xid,
 ) -> Result<bool, Failed>
     requires ready { S.ready segments.old }
-    requires there { i < 8 }
+    requires there { i < ENTRIES }
     ensures told { S.tells → IfOk result (StepsBack (S.says segments.old) snapshot.now i xid
         scratch.old scratch.new) }
+    ensures seen { S.tells → IfOk result (SeesStep (S.says segments.old) i scratch.old scratch.new) }
+    ensures stays { Stays scratch.old.watch scratch.new.watch }
     ensures block { scratch.new.block ≡ scratch.old.block }
     ensures reads { Reads S.Segments segments.old segments.new (not (is_err result)) }
 {
@@ -50,11 +55,13 @@ fn unwind<S: Segments, L: Ledger>(
     steps: &mut Steps<L>,
 ) -> Result<bool, Failed>
     requires ready { S.ready segments.old }
-    requires there { i < 8 }
+    requires there { i < ENTRIES }
     ensures told { S.tells → IfOk result (Unwinds (S.says segments.old) snapshot.now count i
         xid scratch.old steps.old scratch.new steps.new) }
     ensures steps { IfOk result (λ whole. whole ≡ true → steps.new ≡ steps.old + count) }
     ensures most { steps.new ≤ steps.old + count }
+    ensures seen { S.tells → IfOk result (SeesAll (S.says segments.old) count i xid scratch.old scratch.new) }
+    ensures stays { Stays scratch.old.watch scratch.new.watch }
     ensures block { scratch.new.block ≡ scratch.old.block }
     ensures reads { Reads S.Segments segments.old segments.new (not (is_err result)) }
 {
@@ -88,27 +95,22 @@ pub(crate) fn unwind_at<S: Segments, L: Ledger>(
     steps: &mut Steps<L>,
 ) -> Result<(), CrFault>
     requires ready { S.ready segments.old }
-    requires there { i < 8 }
+    requires there { i < ENTRIES }
     ensures told { S.tells → Spends (S.says segments.old) snapshot.now i scratch.old steps.old result
         scratch.new steps.new }
     ensures steps { (shape : Shape)
         → OnOk result (steps.new ≡ steps.old + (entry_at (scratch_home shape scratch.old) i).chain) }
     ensures most { (shape : Shape) → steps.new ≤ steps.old + (entry_at (scratch_home shape scratch.old) i).chain }
+    ensures seen { S.tells → SeesChain (S.says segments.old) i scratch.old result scratch.new }
+    ensures stays { Stays scratch.old.watch scratch.new.watch }
     ensures block { scratch.new.block ≡ scratch.old.block }
     ensures reads { Reads S.Segments segments.old segments.new (not (is_failed result)) }
 {
+    scratch.watch.begin();
     let entry = scratch.entries[i];
-    match unwind(
-        segments,
-        scratch,
-        snapshot,
-        i,
-        entry.xid,
-        entry.length,
-        steps,
-    ) {
-        Err(_) => Err(CrFault::Failed),
-        Ok(true) => Ok(()),
-        Ok(false) => Err(too_old(segments, entry.xid.seg, snapshot.scn)),
+    let count = entry.length;
+    if unwind(segments, scratch, snapshot, i, entry.xid, count, steps)? {
+        return Ok(());
     }
+    Err(too_old(segments, entry.xid.seg, snapshot.scn))
 }

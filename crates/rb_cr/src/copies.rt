@@ -39,7 +39,7 @@ fn copied_cells(cells: &[Cell; CELLS as usize]) -> [Cell; CELLS as usize]
 {
     array::from_fn(
         |c|
-            requires { c < 16 }
+            requires { c < CELLS }
             ensures { result ≡ slice_index_or cells.entry.now c empty_cell }
         { copied_cell(&cells[c]) },
     )

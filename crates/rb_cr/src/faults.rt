@@ -1,5 +1,7 @@
 //! Why a home couldn't be rebuilt. Whoever reads by a rebuild hands it on.
-use rb_base::Scn;
+ghost use Rattle.std.specs.Prelude.{◌≡◌};
+
+use rb_base::{Failed, Scn};
 use thiserror::Error;
 
 /// Why a rebuild ended before its snapshot.
@@ -16,4 +18,14 @@ pub enum CrFault {
         /// The greatest commit number of which the segment concerned has given something up, above the snapshot.
         lost: Scn,
     },
+}
+
+impl From<Failed> for CrFault {
+    ghost use Rattle.rb_cr.specs.declared.faults.CrFault.TheVariants.{Failed};
+
+    ghost from_gives = { λ _ fault. fault ≡ Failed };
+
+    fn from(_failed: Failed) -> CrFault {
+        CrFault::Failed
+    }
 }

@@ -32,12 +32,11 @@ pub(crate) fn go_on<S: Segments, L: Ledger>(
     ensures block { scratch.new.block ≡ scratch.old.block }
     ensures reads { Reads S.Segments segments.old segments.new (not (is_failed result)) }
 {
-    match greatest(segments, scratch, snapshot.scn) {
-        Err(_) => Err(CrFault::Failed),
-        Ok(Top::Over { .. }) => Ok(false),
-        Ok(Top::At { .. }) => match rewind(segments, scratch, snapshot, steps) {
-            Err(fault) => Err(fault),
-            Ok(()) => Ok(true),
-        },
+    match greatest(segments, scratch, snapshot.scn)? {
+        Top::Over { .. } => Ok(false),
+        Top::At(_) => {
+            rewind(segments, scratch, snapshot, steps)?;
+            Ok(true)
+        }
     }
 }

@@ -13,16 +13,20 @@ use rb_base::{Failed, Scn, Xid};
 use rb_itl::{BOUND, EXACT, Entry, OPEN};
 use rb_txntable::Look;
 
+/// The entry with the greatest number above a snapshot.
+#[derive(Clone, Copy)]
+pub struct HighestEntry {
+    /// The entry, 0 to 7.
+    pub entry: usize,
+    /// Its number: the snapshot's where none is above it.
+    pub number: Scn,
+}
+
 /// What stands above a snapshot in a home.
 #[derive(Clone, Copy)]
 pub enum Top {
-    /// The entry with the greatest number, and that number: the snapshot's where none is above it.
-    At {
-        /// The entry, 0 to 7.
-        entry: usize,
-        /// The number.
-        number: Scn,
-    },
+    /// The entry with the greatest number.
+    At(HighestEntry),
     /// A transaction of this segment is above it by a bound, or goes on.
     Over {
         /// The segment.
@@ -78,17 +82,21 @@ pub(crate) fn greatest<S: Segments>(
     ensures within { IfOk result (λ top. IsTopWithin top) }
     ensures reads { Reads S.Segments segments.old segments.new (not (is_err result)) }
 {
-    let mut at = 0;
-    let mut number = scn;
+    let mut top = HighestEntry {
+        entry: 0,
+        number: scn,
+    };
     for i in 0..scratch.entries.len() {
         let entry = scratch.entries[i];
         let Some(above) = height(segments, &entry, scn)? else {
             return Ok(Top::Over { seg: entry.xid.seg });
         };
-        if number < above {
-            at = i;
-            number = above;
+        if top.number < above {
+            top = HighestEntry {
+                entry: i,
+                number: above,
+            };
         }
     }
-    Ok(Top::At { entry: at, number })
+    Ok(Top::At(top))
 }

@@ -37,13 +37,13 @@ pub struct KeptRows {
 impl Model for KeptRows {
     ghost use Rattle.std.specs.Prelude.{◌≤◌, vec_capacity};
     ghost use Rattle.rb_cr.specs.KeptRows.{kept_of};
-    ghost use Rattle.rb_rebuild.specs.Keeping.{Kept};
+    ghost use Rattle.rb_rebuild.specs.Keeping.{Kept, kept_room};
 
     ghost Value = { Kept };
 
     ghost view = { λ k. kept_of k.rows.items };
 
-    ghost invariant = { λ k. 320 ≤ vec_capacity k.rows };
+    ghost invariant = { λ k. kept_room ≤ vec_capacity k.rows };
 }
 
 impl KeptRows {

@@ -22,6 +22,7 @@ mod segments;
 mod shared;
 mod steps;
 mod stores;
+mod watch;
 
 pub use blocks::build;
 pub use faults::CrFault;

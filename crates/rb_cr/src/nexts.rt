@@ -50,7 +50,7 @@ fn is_quiet<S: Segments>(segments: &mut S, scratch: &Scratch, scn: Scn) -> Resul
     ensures reads { Reads S.Segments segments.old segments.new (not (is_err result)) }
 {
     match greatest(segments, scratch, scn)? {
-        Top::At { number, .. } => Ok(number <= scn),
+        Top::At(top) => Ok(top.number <= scn),
         Top::Over { .. } => Ok(false),
     }
 }
@@ -150,10 +150,8 @@ fn next_alone<S: Store, L: Ledger>(
     ensures same { IfErr result (λ fault. row.new ≡ row.old) }
     ensures logs { Logs S.Store store.old store.new [] (not (is_failed result)) }
 {
-    match build(store, block, snapshot, scratch, steps) {
-        Err(fault) => Err(fault),
-        Ok(()) => Ok(scratch.next(wanted.after, wanted.lo, wanted.hi, row)),
-    }
+    build(store, block, snapshot, scratch, steps)?;
+    Ok(scratch.next(wanted.after, wanted.lo, wanted.hi, row))
 }
 
 /// The next row of the home that is kept under a key, where it has this log number. It is read in its place.
@@ -225,10 +223,8 @@ fn next_shared<S: Store, L: Ledger>(
         copies.touch(key);
         return Ok(found);
     }
-    match build_shared(store, block, number, snapshot, scratch, copies, steps) {
-        Err(fault) => Err(fault),
-        Ok(()) => Ok(scratch.next(wanted.after, wanted.lo, wanted.hi, row)),
-    }
+    build_shared(store, block, number, snapshot, scratch, copies, steps)?;
+    Ok(scratch.next(wanted.after, wanted.lo, wanted.hi, row))
 }
 
 /// The next row of a home in which something is above the snapshot: of one that is kept at the snapshot and serves, or
@@ -274,10 +270,9 @@ fn next_rebuilt<S: Store, L: Ledger>(
     ensures logs { Logs S.Store store.old store.new [] (not (is_failed result)) }
 {
     let mut steps = Steps::<L>::new(blank);
-    match shared_number(store, block, snapshot, scratch) {
-        Err(_) => Err(CrFault::Failed),
-        Ok(None) => next_alone(store, block, snapshot, wanted, scratch, row, &mut steps),
-        Ok(Some(number)) => next_shared(
+    match shared_number(store, block, snapshot, scratch)? {
+        None => next_alone(store, block, snapshot, wanted, scratch, row, &mut steps),
+        Some(number) => next_shared(
             store, block, number, snapshot, wanted, scratch, copies, row, &mut steps,
         ),
     }
@@ -331,31 +326,17 @@ pub fn next_at<S: Store>(
         → copies.new ≡ copies.old }
     ensures logs { Logs S.Store store.old store.new [] (not (is_failed result)) }
 {
-    match is_plain(store, block, snapshot.scn, scratch) {
-        Err(_) => return Err(CrFault::Failed),
-        Ok(false) => {
-            return next_rebuilt::<S, Brand>(
-                store,
-                block,
-                snapshot,
-                wanted,
-                scratch,
-                copies,
-                row,
-                Blank::new(1),
-            );
-        }
-        Ok(true) => {}
+    if !is_plain(store, block, snapshot.scn, scratch)? {
+        let blank = Blank::new(1);
+        return next_rebuilt::<S, Brand>(
+            store, block, snapshot, wanted, scratch, copies, row, blank,
+        );
     }
     // A look at a transaction may have loaded another block. The one that is read may have given way to it, and is
     // loaded once more.
-    match store.load(block) {
-        Err(_) => Err(CrFault::Failed),
-        Ok(()) => {
-            let cells = BlockCells {
-                block: store.block(),
-            };
-            Ok(next_plain(&cells, wanted, row))
-        }
-    }
+    store.load(block)?;
+    let cells = BlockCells {
+        block: store.block(),
+    };
+    Ok(next_plain(&cells, wanted, row))
 }

@@ -24,12 +24,15 @@ use rb_undoblock::{UNDO_RECORDS, UndoRecord, undo_at};
 /// The records of an extent.
 const TURN_RECORDS: u64 = EXTENT_RECORDS as u64;
 
+/// The blocks of records of an extent.
+const EXTENT_BLOCKS: u32 = 4;
+
 /// The number of a record, counted from 1, in front of which so many turns and then so many records of its own turn
 /// were made; none where no count reaches it.
 fn record_number(turns: u64, records: u64) -> Option<u64>
     requires { records < 2 ^ 32 }
-    ensures some { IfSome result (λ index. index ≡ 40 * turns + records + 1) }
-    ensures none { IfNone result (2 ^ 64 ≤ 40 * turns + records + 1) }
+    ensures some { IfSome result (λ index. index ≡ EXTENT_RECORDS * turns + records + 1) }
+    ensures none { IfNone result (2 ^ 64 ≤ EXTENT_RECORDS * turns + records + 1) }
 {
     match turns.checked_mul(TURN_RECORDS) {
         Some(before) => before.checked_add(records + 1),
@@ -89,7 +92,7 @@ fn number_of(shape: &Shape, address: Uba, made: u64) -> Option<u64>
     ensures none { IfNone result (made < (place_of shape.now address).index) }
 {
     let block = address.block.saturating_sub(shape.table_blocks()) % SEGMENT_BLOCKS;
-    let part = block.saturating_sub(1) % 4;
+    let part = block.saturating_sub(1) % EXTENT_BLOCKS;
     let records = UNDO_RECORDS as u64 * u64::from(part) + u64::from(address.rec);
     match record_number(address.ord.saturating_sub(2), records) {
         Some(index) if index <= made => Some(index),

@@ -6,18 +6,22 @@ ghost use Rattle.rb_cr.specs.Clauses.{answer_to, GoesOn, Rewinds, UndoesEntry, U
 ghost use Rattle.rb_cr.specs.Clauses.{IsRead, IsOld};
 ghost use Rattle.rb_cr.specs.Faults.{is_failed, is_fault};
 ghost use Rattle.rb_cr.specs.Heights.{ActiveIs};
+ghost use Rattle.rb_cr.specs.Late.{IsFresh, SeesFirst};
 ghost use Rattle.rb_cr.specs.Parts.{Highest};
 ghost use Rattle.rb_cr.specs.Reads.{Reads};
 ghost use Rattle.rb_cr.specs.Scratches.{scratch_home, shown_by};
+ghost use Rattle.rb_cr.specs.Watches.{Stays};
+ghost use Rattle.rb_itl.specs.declared.slots.TheConstants.{ENTRIES};
 ghost use Rattle.rb_rebuild.specs.Chains.{Counted};
 ghost use Rattle.rb_rebuild.specs.Copies.{Copied};
+ghost use Rattle.rb_rebuild.specs.Late.{late_above};
 ghost use Rattle.rb_rebuild.specs.Reading.{needed, History};
 ghost use Rattle.rb_standing.specs.Says.{walk_entry};
 ghost use Rattle.rb_walk.specs.Walk.{last};
 
 use crate::chains::{too_old, unwind_at};
 use crate::faults::CrFault;
-use crate::heights::{Top, greatest};
+use crate::heights::{HighestEntry, Top, greatest};
 use crate::scratch::{Scratch, Snapshot};
 use crate::segments::Segments;
 use crate::steps::Steps;
@@ -31,19 +35,16 @@ pub(crate) fn highest<S: Segments>(
     segments: &mut S,
     scratch: &Scratch,
     scn: Scn,
-) -> Result<(usize, Scn), CrFault>
+) -> Result<HighestEntry, CrFault>
     requires { S.ready segments.old }
     ensures told { S.tells → Highest (S.says segments.old).env scn
         (scratch_home (S.says segments.old).shape scratch.now) result }
-    ensures within { IfOk result (λ top. top.0 < 8) }
+    ensures within { IfOk result (λ top. top.entry < ENTRIES) }
     ensures reads { Reads S.Segments segments.old segments.new (not (is_failed result)) }
 {
-    match greatest(segments, scratch, scn) {
-        Err(_) => Err(CrFault::Failed),
-        Ok(top) => match top {
-            Top::At { entry, number } => Ok((entry, number)),
-            Top::Over { seg } => Err(too_old(segments, seg, scn)),
-        },
+    match greatest(segments, scratch, scn)? {
+        Top::At(top) => Ok(top),
+        Top::Over { seg } => Err(too_old(segments, seg, scn)),
     }
 }
 
@@ -57,27 +58,24 @@ pub(crate) fn rewind<S: Segments, L: Ledger>(
     requires { S.ready segments.old }
     ensures told { S.tells → Rewinds (S.says segments.old) snapshot.now scratch.old steps.old
         result scratch.new steps.new }
+    ensures first { S.tells → SeesFirst (S.says segments.old) snapshot.now.scn scratch.old result scratch.new }
     ensures block { scratch.new.block ≡ scratch.old.block }
     ensures reads { Reads S.Segments segments.old segments.new (not (is_failed result)) }
 {
     let mut limit = u64::MAX;
-    'peel: loop {
-        let top = match highest(segments, scratch, snapshot.scn) {
-            Ok(top) => top,
-            Err(fault) => return Err(fault),
-        };
-        if top.1 <= snapshot.scn {
+    loop {
+        let top = highest(segments, scratch, snapshot.scn)?;
+        if top.number <= snapshot.scn {
             return Ok(());
         }
         // Over blocks that stand the numbers fall. Over others this ends the loop.
-        if limit <= top.1 {
-            return Err(too_old(segments, scratch.entries[top.0].xid.seg, snapshot.scn));
+        if limit <= top.number {
+            let seg = scratch.entries[top.entry].xid.seg;
+            return Err(too_old(segments, seg, snapshot.scn));
         }
-        limit = top.1;
-        match unwind_at(segments, scratch, snapshot, top.0, steps) {
-            Ok(()) => {}
-            Err(fault) => return Err(fault),
-        }
+        limit = top.number;
+        unwind_at(segments, scratch, snapshot, top.entry, steps)?;
+        scratch.watch.end(top.number);
     }
 }
 
@@ -106,20 +104,20 @@ fn undo_entry<S: Segments, L: Ledger>(
     steps: &mut Steps<L>,
 ) -> Result<(), CrFault>
     requires ready { S.ready segments.old }
-    requires there { i < 8 }
+    requires there { i < ENTRIES }
     ensures told { S.tells → UndoesEntry (S.says segments.old) snapshot.now i scratch.old
         steps.old result scratch.new steps.new }
     ensures goes { S.tells
         → OnOk result (GoesOn (S.says segments.old) scratch.old steps.old scratch.new steps.new) }
+    ensures stays { Stays scratch.old.watch scratch.new.watch }
     ensures block { scratch.new.block ≡ scratch.old.block }
     ensures reads { Reads S.Segments segments.old segments.new (not (is_failed result)) }
 {
     let entry = scratch.entries[i];
-    match is_active(segments, &entry) {
-        Err(_) => Err(CrFault::Failed),
-        Ok(false) => Ok(()),
-        Ok(true) => unwind_at(segments, scratch, snapshot, i, steps),
+    if !is_active(segments, &entry)? {
+        return Ok(());
     }
+    unwind_at(segments, scratch, snapshot, i, steps)
 }
 
 /// All live changes taken back, one entry after another.
@@ -134,14 +132,12 @@ pub(crate) fn undo_active<S: Segments, L: Ledger>(
         steps.old result scratch.new steps.new }
     ensures goes { S.tells
         → OnOk result (GoesOn (S.says segments.old) scratch.old steps.old scratch.new steps.new) }
+    ensures stays { Stays scratch.old.watch scratch.new.watch }
     ensures block { scratch.new.block ≡ scratch.old.block }
     ensures reads { Reads S.Segments segments.old segments.new (not (is_failed result)) }
 {
     for i in 0..scratch.entries.len() {
-        match undo_entry(segments, scratch, snapshot, i, steps) {
-            Ok(()) => {}
-            Err(fault) => return Err(fault),
-        }
+        undo_entry(segments, scratch, snapshot, i, steps)?;
     }
     Ok(())
 }
@@ -157,13 +153,14 @@ fn take_all_back<S: Segments, L: Ledger>(
     requires none { scratch.old.kept ≡ [] }
     ensures told { S.tells → Builds (S.says segments.old) snapshot.now scratch.old steps.old
         result scratch.new steps.new }
+    ensures first { S.tells → (h : History) (key : ℕ) → IsRead (S.says segments.old) h snapshot.now scratch.old
+        → IsFresh scratch.old.watch key
+        → OnOk result (scratch.new.watch.first ≡ late_above snapshot.now.scn key h.list) }
     ensures block { scratch.new.block ≡ scratch.old.block }
     ensures reads { Reads S.Segments segments.old segments.new (not (is_failed result)) }
 {
-    match undo_active(segments, scratch, snapshot, steps) {
-        Err(fault) => Err(fault),
-        Ok(()) => rewind(segments, scratch, snapshot, steps),
-    }
+    undo_active(segments, scratch, snapshot, steps)?;
+    rewind(segments, scratch, snapshot, steps)
 }
 
 /// Makes of a decoded home what it was at a snapshot, and keeps the reader's own first changes beside it. For each
@@ -171,8 +168,9 @@ fn take_all_back<S: Segments, L: Ledger>(
 /// is taken back is counted: as many as changes stand above the snapshot; or, where one of them is gone, those that
 /// were taken back before it and no more. What is left, entries and cells, is a home that can be kept at the snapshot.
 /// `TooOld` only where what that needs was given up by a segment, above the snapshot; `Failed` only where a call
-/// failed. (Oracle7 Server Concepts, *Multiversion Consistency Model*: older versions are rebuilt from rollback
-/// segments. The order is this project's choice: what isn't committed first, and then the greatest number.)
+/// failed. Where a key is watched, the watch tells the first commit above the snapshot that changed its row. (Oracle7
+/// Server Concepts, *Multiversion Consistency Model*: older versions are rebuilt from rollback segments. The order is
+/// this project's choice: what isn't committed first, and then the greatest number.)
 pub fn rebuild<S: Segments, L: Ledger>(
     segments: &mut S,
     scratch: &mut Scratch,
@@ -194,6 +192,9 @@ pub fn rebuild<S: Segments, L: Ledger>(
         h.rows h.list snapshot.now.scn (scratch_home (S.says segments.old).shape scratch.new)) }
     ensures old { S.tells → (h : History) → IsRead (S.says segments.old) h snapshot.now
         scratch.old → IfErr result (IsOld (S.says segments.old) h snapshot.now scratch.old) }
+    ensures first { S.tells → (h : History) (key : ℕ) → IsRead (S.says segments.old) h snapshot.now scratch.old
+        → IsFresh scratch.old.watch key
+        → OnOk result (scratch.new.watch.first ≡ late_above snapshot.now.scn key h.list) }
     ensures block { scratch.new.block ≡ scratch.old.block }
     ensures reads { Reads S.Segments segments.old segments.new (not (is_failed result)) }
 {

@@ -1,16 +1,19 @@
 //! A home decoded once, in which records are taken back, and what the reader keeps of it. A rebuild works on it.
-ghost use Rattle.std.specs.Prelude.{◌≡◌, ◌<◌, ℕ, None, true, false, length, IfOk};
+ghost use Rattle.std.specs.Prelude.{◌≡◌, ◌||◌, ◌<◌, ℕ, None, Some, true, false, length, IfOk};
 ghost use Rattle.rb_base.specs.declared.shape.Shape.{Shape};
 ghost use Rattle.rb_cr.specs.Records.{maker_of, names_at, record_of, row_items};
 ghost use Rattle.rb_cr.specs.Scratches.{kept_with, scratch_home, shown_by, shown_in};
+ghost use Rattle.rb_cr.specs.Watches.{Stays};
 ghost use Rattle.rb_heap.specs.Homes.{empty_cell, home_of};
 ghost use Rattle.rb_rebuild.specs.Chains.{fits, is_own, leads_back, number_falls, same_xid};
 ghost use Rattle.rb_rebuild.specs.Keeping.{is_first, is_held, kept_room};
+ghost use Rattle.rb_rebuild.specs.Late.{touches};
 ghost use Rattle.rb_standing.specs.Says.{walk_cell, walk_entry, sort_by};
 ghost use Rattle.rb_walk.specs.Walk.{row_of, back as taken_back};
 
 use crate::kept::{KeptRows, copied};
 use crate::records::SegmentRecord;
+use crate::watch::Watch;
 use arrayvec::ArrayVec;
 use rb_base::{BlockNo, NoMemory, Scn, UNIT, VALUE_BYTES, Xid};
 use rb_cell::{CELLS, Cell, EMPTY, ROW, cell_from, cells};
@@ -30,13 +33,15 @@ pub struct Snapshot {
     pub upto: u32,
 }
 
-/// The entries and cells of a home, its block's number, and the reader's own rows that were taken back from it.
+/// The entries and cells of a home, its block's number, the reader's own rows that were taken back from it, and a key
+/// that is watched meanwhile.
 #[derive(Drop)]
 pub struct Scratch {
     pub(crate) block: BlockNo,
     pub(crate) entries: [Entry; ENTRIES as usize],
     pub(crate) cells: [Cell; CELLS as usize],
     pub(crate) kept: KeptRows,
+    pub(crate) watch: Watch,
 }
 
 /// The cell that holds nothing.
@@ -61,6 +66,7 @@ impl Scratch {
             entries: [Entry::default(); ENTRIES as usize],
             cells: array::from_fn(|_| empty_cell()),
             kept: KeptRows::new(alloc)?,
+            watch: Watch::of(None),
         })
     }
 
@@ -70,6 +76,7 @@ impl Scratch {
         ensures entries { self.new.entries ≡ (home_of block.now).entries }
         ensures cells { self.new.cells ≡ self.old.cells }
         ensures number { self.new.block ≡ self.old.block }
+        ensures watch { self.new.watch ≡ self.old.watch }
     {
         for i in 0..ENTRIES {
             self.entries[i as usize] = entry(block, i);
@@ -82,6 +89,7 @@ impl Scratch {
         ensures entries { self.new.entries ≡ self.old.entries }
         ensures cells { self.new.cells ≡ (home_of block.now).cells }
         ensures number { self.new.block ≡ self.old.block }
+        ensures watch { self.new.watch ≡ self.old.watch }
     {
         for c in 0..CELLS {
             self.cells[c as usize] = cells(block, c);
@@ -94,6 +102,7 @@ impl Scratch {
         ensures entries { self.new.entries ≡ (home_of block.now).entries }
         ensures cells { self.new.cells ≡ (home_of block.now).cells }
         ensures number { self.new.block ≡ no }
+        ensures watch { self.new.watch ≡ self.old.watch }
     {
         self.block = no;
         self.decode_entries(block);
@@ -203,13 +212,14 @@ pub(crate) fn fits(scratch: &Scratch, found: &SegmentRecord, i: usize, xid: Xid)
 }
 
 /// Puts back the entry and the cell that a record kept, and answers the cell as it was before.
-pub(crate) fn back(scratch: &mut Scratch, undo: &UndoRecord) -> Cell
+fn back(scratch: &mut Scratch, undo: &UndoRecord) -> Cell
     requires entry { undo.now.entry < ENTRIES }
     requires cell { undo.now.cell < CELLS }
     ensures home { (shape : Shape) (seg : ℕ) → scratch_home shape scratch.new
         ≡ taken_back (record_of shape (record { seg = seg; undo = undo.now })) (scratch_home shape scratch.old) }
     ensures block { scratch.new.block ≡ scratch.old.block }
     ensures kept { scratch.new.kept ≡ scratch.old.kept }
+    ensures watch { scratch.new.watch ≡ scratch.old.watch }
     ensures cell { (key : ℕ) → row_of (walk_cell result) key ≡ shown_in scratch.old undo.now.cell key }
 {
     scratch.entries[undo.entry as usize] = entry_from(&undo.entry_before);
@@ -219,7 +229,8 @@ pub(crate) fn back(scratch: &mut Scratch, undo: &UndoRecord) -> Cell
     )
 }
 
-/// Takes one record back, and keeps the reader's row before it. False where the room for rows is used up.
+/// Takes one record back, tells the watch of it, and keeps the reader's row before it. False where the room for rows is
+/// used up.
 pub(crate) fn apply(scratch: &mut Scratch, found: &SegmentRecord, snapshot: &Snapshot) -> bool
     requires entry { found.now.undo.entry < ENTRIES }
     requires cell { found.now.undo.cell < CELLS }
@@ -228,10 +239,14 @@ pub(crate) fn apply(scratch: &mut Scratch, found: &SegmentRecord, snapshot: &Sna
     ensures block { scratch.new.block ≡ scratch.old.block }
     ensures kept { result ≡ true → scratch.new.kept ≡ kept_with snapshot.now found.now scratch.old }
     ensures full { result ≡ false → kept_room < length (kept_with snapshot.now found.now scratch.old) }
+    ensures seen { (shape : Shape) (key : ℕ) → scratch.old.watch.key ≡ Some key → scratch.new.watch.seen
+        ≡ scratch.old.watch.seen || touches key (Some (record_of shape found.now)) }
+    ensures stays { Stays scratch.old.watch scratch.new.watch }
 {
     let key = found.undo.key;
     let wanted = is_first_of(snapshot, found) && !holds(found.undo.kind) && !scratch.kept.has(key);
     let cell = back(scratch, &found.undo);
+    scratch.watch.note(&found.undo);
     if wanted {
         return scratch.kept.add(key, row_in(&cell, key));
     }

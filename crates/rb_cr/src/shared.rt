@@ -95,11 +95,10 @@ fn build_from<S: Store, L: Ledger>(
     if key.scn == snapshot.scn {
         return Ok(());
     }
-    match go_on(store, scratch, snapshot, steps) {
-        Err(fault) => Err(fault),
-        Ok(true) => Ok(()),
-        Ok(false) => build(store, key.block, snapshot, scratch, steps),
+    if go_on(store, scratch, snapshot, steps)? {
+        return Ok(());
     }
+    build(store, key.block, snapshot, scratch, steps)
 }
 
 /// The build that begins at the home that is kept at `first`, or at the block where there is none, for a reader without
@@ -187,9 +186,7 @@ pub(crate) fn build_shared<S: Store, L: Ledger>(
     ensures logs { Logs S.Store store.old store.new [] (not (is_failed result)) }
 {
     let first = copies.least(block, number, snapshot.scn);
-    if let Err(fault) = build_first(store, block, first, snapshot, scratch, copies, steps) {
-        return Err(fault);
-    }
+    build_first(store, block, first, snapshot, scratch, copies, steps)?;
     if first != Some(snapshot.scn) {
         let scn = snapshot.scn;
         copies.keep(CopyKey { block, scn }, scratch.home(number));
@@ -251,9 +248,8 @@ pub fn build_with<S: Store, L: Ledger>(
         → copies.new ≡ copies.old }
     ensures logs { Logs S.Store store.old store.new [] (not (is_failed result)) }
 {
-    match shared_number(store, block, snapshot, scratch) {
-        Err(_) => Err(CrFault::Failed),
-        Ok(None) => build(store, block, snapshot, scratch, steps),
-        Ok(Some(number)) => { build_shared(store, block, number, snapshot, scratch, copies, steps) }
+    match shared_number(store, block, snapshot, scratch)? {
+        None => build(store, block, snapshot, scratch, steps),
+        Some(number) => build_shared(store, block, number, snapshot, scratch, copies, steps),
     }
 }

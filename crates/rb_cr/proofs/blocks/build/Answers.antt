@@ -2,6 +2,7 @@ use Rattle.std.proofs.Common.{◌≡◌, [], Ok, not, IfErr, OnOk, sym, subst, f
 use Rattle.rb_base.specs.Logs.{load_logs, more_logs}
 use Rattle.rb_base.specs.declared.shape.Shape.{Shape}
 use Rattle.rb_cr.specs.Faults.{Because, is_failed, is_fault}
+use Rattle.rb_cr.specs.Late.{IsFresh}
 use Rattle.rb_cr.specs.Scratches.{scratch_home}
 use Rattle.rb_rebuild.specs.Chains.{Counted}
 use Rattle.rb_rebuild.specs.Copies.{Copied}
@@ -10,11 +11,9 @@ use Rattle.rb_standing.specs.Standing.{env_of, homes_of}
 use Rattle.rb_walk.specs.Walk.{Env, Home}
 use Rattle.rb_cr.proofs.Homes.{both, env_stays, home_stays}
 use Rattle.rb_cr.specs.declared.scratch.Snapshot.{Snapshot}
+use Rattle.rb_cr.specs.declared.watch.Watch.{Watch}
 use Rattle.rb_cr.proofs.blocks.build.Given.{Over}
 use Rattle.rb_cr.proofs.blocks.build.Goals as goal
-
-pub returns-in_default-clause-old : goal.returns-in_default-clause-old
-returns-in_default-clause-old g c = λ told h reading. tt
 
 -- what the segments say, and the home, after the load
 loads : (g : Over) (c : goal.After-rebuild g) → g.S.Store.tells
@@ -24,7 +23,7 @@ loads g c told =
     let s = g.S.Store in
     let old = c.args.store.now in
     let now = c.load.new.self in
-    let load = c.in-Ok.ensures in (
+    let load = c.in_ok-load.ensures in (
       env_stays (s.shape_of old) (s.shape_of now) (s.blocks old) (s.blocks now) load.shape (load.blocks told),
       home_stays c.decode.new.self (s.shape_of old) (s.shape_of now) c.block.result.now (s.blocks old) (s.blocks now) c.args.block c.decode.ensures.number c.decode.ensures.entries c.decode.ensures.cells (c.block.ensures.block told c.args.block load.loaded) load.shape (load.blocks told),
     )
@@ -52,9 +51,6 @@ returns-clause-count g c = λ told h reading. c.rebuild.ensures.count told h (af
 pub returns-clause-most : goal.returns-clause-most
 returns-clause-most g c = λ told h reading. c.rebuild.ensures.most told h (after g c told (IsReadAt c.args.snapshot.now h) reading)
 
-pub returns-in_default-clause-counted : goal.returns-in_default-clause-counted
-returns-in_default-clause-counted g c = λ told h reading old. absurd (cc (old))
-
 pub returns-clause-counted : goal.returns-clause-counted
 returns-clause-counted g c = λ told h reading. before g c told (λ env b. IfErr c.rebuild.result (λ fault. is_fault fault ≡ false → Counted env b c.args.steps.now c.rebuild.new.steps)) (c.rebuild.ensures.counted told h (after g c told (IsReadAt c.args.snapshot.now h) reading))
 
@@ -66,14 +62,17 @@ returns-clause-left g c = λ told h reading high.
     let s = g.S.Store in
     let scn = c.args.snapshot.now.scn in
     let last = c.rebuild.new.scratch in
-    subst (λ (z : Shape). OnOk c.rebuild.result (Copied (env_of (s.shape_of c.args.store.now) (s.blocks c.args.store.now)) h.base h.rows h.list scn (scratch_home z last))) c.in-Ok.ensures.shape
+    subst (λ (z : Shape). OnOk c.rebuild.result (Copied (env_of (s.shape_of c.args.store.now) (s.blocks c.args.store.now)) h.base h.rows h.list scn (scratch_home z last))) c.in_ok-load.ensures.shape
     (subst (λ (z : Env). OnOk c.rebuild.result (Copied z h.base h.rows h.list scn (scratch_home (s.shape_of c.load.new.self) last))) (loads g c told).0
     (c.rebuild.ensures.left told h (after g c told (IsReadAt c.args.snapshot.now h) reading) high))
+
+pub returns-clause-first : goal.returns-clause-first
+returns-clause-first g c = λ told h key reading fresh. c.rebuild.ensures.first told h key (after g c told (IsReadAt c.args.snapshot.now h) reading) (subst (λ (w : Watch). IsFresh w key) (sym c.decode.ensures.watch) fresh)
 
 pub returns-clause-logs : goal.returns-clause-logs
 returns-clause-logs g c =
     let s = g.S.Store in
     let old = c.args.store.now in
     let loaded = c.load.new.self in
-    let load = c.in-Ok.ensures in
-    more_logs s old loaded c.rebuild.new.segments [] [] (not (is_failed c.rebuild.result)) (load_logs s old loaded (Ok c.in-Ok.field-0) load.shape load.slots load.failed load.counted load.lsn load.blocks load.settles load.any_moment load.holds_back) c.rebuild.ensures.reads.made
+    let load = c.in_ok-load.ensures in
+    more_logs s old loaded c.rebuild.new.segments [] [] (not (is_failed c.rebuild.result)) (load_logs s old loaded (Ok c.in_ok-load.field-0) load.shape load.slots load.failed load.counted load.lsn load.blocks load.settles load.any_moment load.holds_back) c.rebuild.ensures.reads.made

@@ -1,13 +1,17 @@
-use Rattle.std.proofs.Common.{⊎_elim, inl, inr, ◌<◌, ◌∙◌, Bool, true, false, length, Some, refl, sym, subst, arith}
+use Rattle.std.proofs.Common.{⊎_elim, inl, inr, ◌||◌, ◌<◌, ◌∙◌, ◌+◌, ◌-◌, Bool, true, false, length, Some, refl, sym, ap, subst, arith}
 use Rattle.rb_cr.specs.Calls.{Said}
 use Rattle.rb_cr.specs.Clauses.{StepsBack}
+use Rattle.rb_cr.specs.Late.{SeesStep}
 use Rattle.rb_cr.specs.Parts.{Took}
 use Rattle.rb_cr.specs.Reads.{more_reads}
 use Rattle.rb_cr.specs.Scratches.{scratch_home}
 use Rattle.rb_rebuild.specs.Keeping.{kept_room, Kept}
+use Rattle.rb_rebuild.specs.Late.{touched_after, touches}
+use Rattle.rb_walk.specs.Walk.{entry_at}
 use Rattle.rb_cr.proofs.Rooms.{room_fails}
 use Rattle.rb_rebuild.proofs.Keeping.{kept_on}
 use Rattle.rb_rebuild.proofs.Unwinding.{step_on, unwound_more}
+use Rattle.rb_cr.proofs.Seeing.{or_later, touched_on}
 use Rattle.rb_cr.proofs.chains.unwind.Goals as goal
 
 pub returns-then-not-branch-clause-told : goal.returns-then-not-branch-clause-told
@@ -45,4 +49,11 @@ loop-k-preserved g c =
       rest = λ told. sym (step_on said.env c.args.count c.loop-k._k c.args.i c.args.xid b (Some b2) c.loop-k-test.true (took told).0) ∙ inv.rest told;
       back = λ told. unwound_more said.env c.loop-k._k c.args.i c.args.xid (scratch_home said.shape c.args.scratch.now) b (Some b2) (inv.back told) (took told).0;
       kept = λ told. sym (kept_on said.env snap.own snap.upto c.args.count c.loop-k._k c.args.i c.args.xid b b2 kept kept2 c.loop-k-test.true (took told).0 (took told).1) ∙ inv.kept told;
+      stays = (c.in_ok-step.ensures.stays.0 ∙ inv.stays.0, c.in_ok-step.ensures.stays.1 ∙ inv.stays.1);
+      seen = λ told key watched.
+          let sees : SeesStep said c.args.i c.loop-k.scratch c.step.new.scratch c.in_ok-step.field-0 = subst (λ (z : Said). SeesStep z c.args.i c.loop-k.scratch c.step.new.scratch c.in_ok-step.field-0) (inv.reads.same told refl) (c.in_ok-step.ensures.seen told) in
+          let now = touches key (said.env.store (entry_at b c.args.i).newest) in
+          let later = touched_after said.env key (c.args.count - (c.loop-k._k + 1)) c.args.i c.args.xid b2 in
+          ap (λ (z : Bool). z || later) (sees key (inv.stays.0 ∙ watched) c.if-not-branch.false) ∙ or_later c.loop-k.scratch.watch.seen now later
+          ∙ ap (λ (z : Bool). c.loop-k.scratch.watch.seen || z) (sym (touched_on said.env key c.args.count c.loop-k._k c.args.i c.args.xid b b2 c.loop-k-test.true (took told).0)) ∙ inv.seen told key watched;
     }

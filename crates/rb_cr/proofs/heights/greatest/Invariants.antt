@@ -8,8 +8,8 @@ use Rattle.rb_cr.proofs.heights.greatest.Given as goal
 abbrev pub invariant-loop-i : goal.invariant-loop-i
 invariant-loop-i g l = record {
   reads : Reads g.S.Segments l.fn.segments l.segments true;
-  within : l.at < 8;
-  least : l.scn ≤ l.number;
-  most : g.S.Segments.tells → (j : ℕ) → j < l.i → AtMost (g.S.Segments.says l.fn.segments).env l.scn l.number (entry_at (scratch_home (g.S.Segments.says l.fn.segments).shape l.scratch) j);
-  number : g.S.Segments.tells → l.scn < l.number → Numbered (g.S.Segments.says l.fn.segments).env (entry_at (scratch_home (g.S.Segments.says l.fn.segments).shape l.scratch) l.at) l.number;
+  within : l.top.entry < 8;
+  least : l.scn ≤ l.top.number;
+  most : g.S.Segments.tells → (j : ℕ) → j < l.i → AtMost (g.S.Segments.says l.fn.segments).env l.scn l.top.number (entry_at (scratch_home (g.S.Segments.says l.fn.segments).shape l.scratch) j);
+  number : g.S.Segments.tells → l.scn < l.top.number → Numbered (g.S.Segments.says l.fn.segments).env (entry_at (scratch_home (g.S.Segments.says l.fn.segments).shape l.scratch) l.top.entry) l.top.number;
 }

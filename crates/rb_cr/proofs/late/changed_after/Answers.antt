@@ -12,14 +12,14 @@ use Rattle.rb_cr.proofs.late.changed_after.Goals as goal
 home : (shape read : Shape) (table key block : ℕ) → block ≡ home_block read table key → read ≡ shape → home_block shape table key ≡ block
 home shape read table key block is same = sym (is ∙ ap (λ (z : Shape). home_block z table key) same)
 
-pub returns-in-Ok-true-clause-late : goal.returns-in-Ok-true-clause-late
-returns-in-Ok-true-clause-late g c = λ told h reading.
+pub returns-then-branch-clause-late : goal.returns-then-branch-clause-late
+returns-then-branch-clause-late g c = λ told h reading.
     let s = g.S.Store in
     let shape = s.shape_of c.args.store.now in
     let blocks = s.blocks c.args.store.now in
     let snap = c.args.snapshot.now in
     let at : home_block shape c.args.table c.args.key ≡ c.home_block-block.result = home shape c.shape.result c.args.table c.args.key c.home_block-block.result c.home_block-block.ensures.number c.shape.ensures.shape in
-    sym (quiet_late (env_of shape blocks) h snap.own snap.upto snap.scn c.args.key (homes_of shape blocks c.home_block-block.result) (subst (λ (z : ℕ). IsHomeRead shape blocks z h snap) at reading) (c.in-Ok-true.ensures.told told c.in-Ok-true.field-0-test))
+    sym (quiet_late (env_of shape blocks) h snap.own snap.upto snap.scn c.args.key (homes_of shape blocks c.home_block-block.result) (subst (λ (z : ℕ). IsHomeRead shape blocks z h snap) at reading) (c.in_ok-is_plain.ensures.told told c.if-branch.true))
 
-pub returns-in-Ok-false-clause-logs : goal.returns-in-Ok-false-clause-logs
-returns-in-Ok-false-clause-logs g c = more_logs g.S.Store c.args.store.now c.is_plain.new.store c.first_rebuilt.new.store [] [] (not (is_failed c.first_rebuilt.result)) c.in-Ok-false.ensures.logs c.first_rebuilt.ensures.logs
+pub returns-clause-logs : goal.returns-clause-logs
+returns-clause-logs g c = more_logs g.S.Store c.args.store.now c.is_plain.new.store c.first_rebuilt.new.store [] [] (not (is_failed c.first_rebuilt.result)) c.in_ok-is_plain.ensures.logs c.first_rebuilt.ensures.logs

@@ -1,44 +1,27 @@
-use Rattle.std.proofs.Common.{◌≡◌, [], Ok, not, sym}
-use Rattle.rb_base.specs.Logs.{load_logs, more_logs}
-use Rattle.rb_cr.specs.Faults.{is_failed}
-use Rattle.rb_cr.specs.Late.{SawAbove}
-use Rattle.rb_cr.specs.Scratches.{scratch_home}
-use Rattle.rb_rebuild.specs.Reading.{History, Reading}
+use Rattle.std.proofs.Common.{◌∙◌, Option, Result, IfErr, ℕ, sym, ap, subst}
+use Rattle.rb_cr.specs.Builds.{IsHomeOld}
+use Rattle.rb_cr.specs.declared.faults.CrFault.{CrFault}
+use Rattle.rb_cr.specs.declared.watch.Watch.{Watch}
 use Rattle.rb_standing.specs.Standing.{env_of, homes_of}
-use Rattle.rb_cr.proofs.Homes.{both, env_stays, home_stays}
-use Rattle.rb_cr.specs.Builds.{IsHomeRead}
-use Rattle.rb_cr.proofs.late.first_rebuilt.Given.{Over}
+use Rattle.rb_cr.proofs.Erring.{handed_on}
+use Rattle.rb_cr.proofs.Seeing.{by_nobody}
 use Rattle.rb_cr.proofs.late.first_rebuilt.Goals as goal
 
-pub returns-in_default-clause-old : goal.returns-in_default-clause-old
-returns-in_default-clause-old g c = λ told h reading. tt
-
--- what is seen of the home that was loaded, as its block says it before
-saw : (g : Over) (c : goal.After-drop-steps-inside-2 g) → g.S.Store.tells → (h : History)
-    → IsHomeRead (g.S.Store.shape_of c.args.store.now) (g.S.Store.blocks c.args.store.now) c.args.block h c.args.snapshot.now
-    → SawAbove (env_of (g.S.Store.shape_of c.args.store.now) (g.S.Store.blocks c.args.store.now)) h c.args.snapshot.now.scn c.args.key
-    (homes_of (g.S.Store.shape_of c.args.store.now) (g.S.Store.blocks c.args.store.now) c.args.block) c.first_seen.result
-saw g c told h reading =
+pub returns-in_err-built-clause-old : goal.returns-in_err-built-clause-old
+returns-in_err-built-clause-old g c = λ told h reading.
     let s = g.S.Store in
-    let old = c.args.store.now in
-    let now = c.load.new.self in
-    let load = c.in-Ok.ensures in
+    let shape = s.shape_of c.args.store.now in
+    let blocks = s.blocks c.args.store.now in
     let snap = c.args.snapshot.now in
-    let env_is : env_of (s.shape_of now) (s.blocks now) ≡ env_of (s.shape_of old) (s.blocks old) = env_stays (s.shape_of old) (s.shape_of now) (s.blocks old) (s.blocks now) load.shape (load.blocks told) in
-    let home_is : scratch_home (s.shape_of now) c.decode.new.self ≡ homes_of (s.shape_of old) (s.blocks old) c.args.block = home_stays c.decode.new.self (s.shape_of old) (s.shape_of now) c.block.result.now (s.blocks old) (s.blocks now) c.args.block c.decode.ensures.number c.decode.ensures.entries c.decode.ensures.cells (c.block.ensures.block told c.args.block load.loaded) load.shape (load.blocks told) in
-    both (λ env b. SawAbove env h snap.scn c.args.key b c.first_seen.result) _ _ _ _ env_is home_is
-    (c.first_seen.ensures.told told h snap.own snap.upto (both (λ env b. Reading env h snap.own snap.upto snap.scn b) _ _ _ _ (sym env_is) (sym home_is) reading))
+    let b = c.args.block in
+    subst (λ (z : Result (Option ℕ) CrFault). IfErr z (IsHomeOld shape blocks b h snap)) (sym (handed_on c.in_err-built.field-0.0 c.from_residual.result c.from_residual.ensures.1))
+    (c.in_err-built.ensures.old told h (by_nobody (env_of shape blocks) h snap.own snap.upto snap.scn (homes_of shape blocks b) reading))
 
 pub returns-clause-late : goal.returns-clause-late
-returns-clause-late g c = λ told h reading. (saw g c told h reading).ok
-
-pub returns-clause-old : goal.returns-clause-old
-returns-clause-old g c = λ told h reading. (saw g c told h reading).err
-
-pub returns-clause-logs : goal.returns-clause-logs
-returns-clause-logs g c =
+returns-clause-late g c = λ told h reading.
     let s = g.S.Store in
-    let old = c.args.store.now in
-    let loaded = c.load.new.self in
-    let load = c.in-Ok.ensures in
-    more_logs s old loaded c.first_seen.new.segments [] [] (not (is_failed c.first_seen.result)) (load_logs s old loaded (Ok c.in-Ok.field-0) load.shape load.slots load.failed load.counted load.lsn load.blocks load.settles load.any_moment load.holds_back) c.first_seen.ensures.reads.made
+    let shape = s.shape_of c.args.store.now in
+    let blocks = s.blocks c.args.store.now in
+    let snap = c.args.snapshot.now in
+    ap (λ (w : Watch). w.first) c.replace-watch.ensures.value
+    ∙ c.in_ok-built.ensures.first told h c.args.key (by_nobody (env_of shape blocks) h snap.own snap.upto snap.scn (homes_of shape blocks c.args.block) reading) (c.of-scratch.ensures.key, c.of-scratch.ensures.first)

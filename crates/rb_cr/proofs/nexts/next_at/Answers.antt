@@ -1,14 +1,17 @@
-use Rattle.std.proofs.Common.{◌≡◌, ◌∙◌, [], ℕ, List, IfErr, Ok, Err, not, refl, sym, ap, true, false}
+use Rattle.std.proofs.Common.{◌≡◌, ◌∙◌, [], ℕ, Bool, List, Result, IfErr, Ok, Err, not, refl, sym, ap, subst, true, false}
 use Rattle.rb_base.specs.Blocks.{block_of}
-use Rattle.rb_base.specs.Logs.{load_logs, more_logs}
+use Rattle.rb_base.specs.Logs.{Logs, load_logs, more_logs}
 use Rattle.rb_base.specs.declared.shape.Shape.{Shape}
 use Rattle.rb_cr.specs.Clauses.{answer_to}
 use Rattle.rb_cr.specs.Copies.{HasNoneIn, IsReadWith, Keeps, ServesAt, Turns, lsn_at}
 use Rattle.rb_cr.specs.Faults.{is_failed, is_fault}
 use Rattle.rb_cr.specs.Rows.{block_rows}
+use Rattle.rb_cr.specs.declared.faults.CrFault.{CrFault}
+use Rattle.rb_cr.specs.declared.faults.CrFault.TheVariants as faults
 use Rattle.rb_rebuild.specs.Reading.{History}
 use Rattle.rb_rebuild.proofs.Quiet.{quiet_reads}
 use Rattle.rb_standing.specs.Standing.{env_of, homes_of}
+use Rattle.rb_cr.proofs.Erring.{handed_on}
 use Rattle.rb_cr.proofs.Homes.{carried}
 use Rattle.rb_cr.proofs.Shown.{next_same}
 use Rattle.rb_cr.proofs.nexts.next_at.Given.{Over}
@@ -20,57 +23,58 @@ after : (g : Over) (c : goal.After-next_rebuilt g) → g.S.Store.tells → (h : 
     → IsReadWith (g.S.Store.shape_of c.is_plain.new.store) (g.S.Store.blocks c.is_plain.new.store) c.args.copies.now.kept c.args.block h c.args.snapshot.now
 after g c told h reading =
     let s = g.S.Store in
-    let logs = c.in-Ok-false.ensures.logs in
+    let logs = c.in_ok-is_plain.ensures.logs in
     carried (λ shape blocks. IsReadWith shape blocks c.args.copies.now.kept c.args.block h c.args.snapshot.now) (s.shape_of c.args.store.now) (s.shape_of c.is_plain.new.store) (s.blocks c.args.store.now) (s.blocks c.is_plain.new.store)
     logs.same_shape (logs.blocks told refl) reading
 
-pub returns-in-Ok-false-clause-given : goal.returns-in-Ok-false-clause-given
-returns-in-Ok-false-clause-given g c = λ told h reading. c.next_rebuilt.ensures.given told h (after g c told h reading)
+pub returns-then-not-branch-clause-given : goal.returns-then-not-branch-clause-given
+returns-then-not-branch-clause-given g c = λ told h reading. c.next_rebuilt.ensures.given told h (after g c told h reading)
 
-pub returns-in-Ok-false-clause-none : goal.returns-in-Ok-false-clause-none
-returns-in-Ok-false-clause-none g c = λ told h reading. c.next_rebuilt.ensures.none told h (after g c told h reading)
+pub returns-then-not-branch-clause-none : goal.returns-then-not-branch-clause-none
+returns-then-not-branch-clause-none g c = λ told h reading. c.next_rebuilt.ensures.none told h (after g c told h reading)
 
-pub returns-in-Ok-false-clause-logs : goal.returns-in-Ok-false-clause-logs
-returns-in-Ok-false-clause-logs g c = more_logs g.S.Store c.args.store.now c.is_plain.new.store c.next_rebuilt.new.store [] [] (not (is_failed c.next_rebuilt.result)) c.in-Ok-false.ensures.logs c.next_rebuilt.ensures.logs
+pub returns-then-not-branch-clause-logs : goal.returns-then-not-branch-clause-logs
+returns-then-not-branch-clause-logs g c = more_logs g.S.Store c.args.store.now c.is_plain.new.store c.next_rebuilt.new.store [] [] (not (is_failed c.next_rebuilt.result)) c.in_ok-is_plain.ensures.logs c.next_rebuilt.ensures.logs
 
 -- and what is so after it was so before
 before : (g : Over) (c : goal.After-next_rebuilt g) → g.S.Store.tells → (P : Shape → List (List ℕ) → Type 0)
     → P (g.S.Store.shape_of c.is_plain.new.store) (g.S.Store.blocks c.is_plain.new.store) → P (g.S.Store.shape_of c.args.store.now) (g.S.Store.blocks c.args.store.now)
 before g c told P holds =
     let s = g.S.Store in
-    let logs = c.in-Ok-false.ensures.logs in
+    let logs = c.in_ok-is_plain.ensures.logs in
     carried P (s.shape_of c.is_plain.new.store) (s.shape_of c.args.store.now) (s.blocks c.is_plain.new.store) (s.blocks c.args.store.now)
     (sym logs.same_shape) (sym (logs.blocks told refl)) holds
 
-pub returns-in-Ok-false-clause-passed_over : goal.returns-in-Ok-false-clause-passed_over
-returns-in-Ok-false-clause-passed_over g c = λ told.
+pub returns-then-not-branch-clause-passed_over : goal.returns-then-not-branch-clause-passed_over
+returns-then-not-branch-clause-passed_over g c = λ told.
     let snap = c.args.snapshot.now in
     before g c told (λ shape blocks. IfErr c.next_rebuilt.result (λ fault. is_fault fault ≡ false → ServesAt shape blocks c.args.copies.now.kept c.args.block snap snap.scn → ⊥)) (c.next_rebuilt.ensures.passed_over told)
 
-pub returns-in-Ok-false-clause-keeps : goal.returns-in-Ok-false-clause-keeps
-returns-in-Ok-false-clause-keeps g c = λ told.
+pub returns-then-not-branch-clause-keeps : goal.returns-then-not-branch-clause-keeps
+returns-then-not-branch-clause-keeps g c = λ told.
     before g c told (λ shape blocks. Keeps shape blocks c.args.block c.args.snapshot.now c.args.copies.now.kept c.next_rebuilt.new.copies.kept) (c.next_rebuilt.ensures.keeps told)
 
-pub returns-in-Ok-false-clause-turns : goal.returns-in-Ok-false-clause-turns
-returns-in-Ok-false-clause-turns g c = λ told going busy.
+pub returns-then-not-branch-clause-turns : goal.returns-then-not-branch-clause-turns
+returns-then-not-branch-clause-turns g c = λ told going busy.
     let snap = c.args.snapshot.now in
     before g c told (λ shape blocks. HasNoneIn shape blocks c.args.block snap → Turns c.args.block (lsn_at blocks c.args.block) snap.scn c.next_rebuilt.result c.args.copies.now c.next_rebuilt.new.copies) (c.next_rebuilt.ensures.turns told going)
 
-pub returns-in-Err-load-clause-logs : goal.returns-in-Err-load-clause-logs
-returns-in-Err-load-clause-logs g c =
+pub returns-in_err-load-clause-logs : goal.returns-in_err-load-clause-logs
+returns-in_err-load-clause-logs g c =
     let s = g.S.Store in
     let mid = c.is_plain.new.store in
     let new = c.load.new.self in
-    let load = c.in-Err-load.ensures in
-    more_logs s c.args.store.now mid new [] [] false c.in-Ok-true.ensures.logs (load_logs s mid new (Err c.in-Err-load.field-0) load.shape load.slots load.failed load.counted load.lsn load.blocks load.settles load.any_moment load.holds_back)
+    let load = c.in_err-load.ensures in
+    subst (λ (z : Result Bool CrFault). Logs s c.args.store.now new [] (not (is_failed z))) (sym (handed_on faults.Failed c.from_residual-in_err-load.result c.from_residual-in_err-load.ensures.1))
+    (more_logs s c.args.store.now mid new [] [] false c.in_ok-is_plain.ensures.logs (load_logs s mid new (Err c.in_err-load.field-0.0) load.shape load.slots load.failed load.counted load.lsn load.blocks load.settles load.any_moment load.holds_back))
 
-pub returns-in-Ok-clause-logs : goal.returns-in-Ok-clause-logs
-returns-in-Ok-clause-logs g c =
+pub returns-clause-logs : goal.returns-clause-logs
+returns-clause-logs g c =
     let s = g.S.Store in
     let mid = c.is_plain.new.store in
     let new = c.load.new.self in
-    let load = c.in-Ok.ensures in
-    more_logs s c.args.store.now mid new [] [] true c.in-Ok-true.ensures.logs (load_logs s mid new (Ok c.in-Ok.field-0) load.shape load.slots load.failed load.counted load.lsn load.blocks load.settles load.any_moment load.holds_back)
+    let load = c.in_ok-load.ensures in
+    more_logs s c.args.store.now mid new [] [] true c.in_ok-is_plain.ensures.logs (load_logs s mid new (Ok c.in_ok-load.field-0) load.shape load.slots load.failed load.counted load.lsn load.blocks load.settles load.any_moment load.holds_back)
 
 -- no change is above the snapshot, so the block that is read shows the rows as they were
 shown : (g : Over) (c : goal.After-next_plain g) → g.S.Store.tells → (h : History)
@@ -81,15 +85,15 @@ shown g c told h reading k =
     let shape = s.shape_of c.args.store.now in
     let blocks = s.blocks c.args.store.now in
     let snap = c.args.snapshot.now in
-    let read : c.block.result.now ≡ block_of (s.blocks c.load.new.self) c.args.block = c.block.ensures.block told c.args.block c.in-Ok.ensures.loaded in
-    let same : s.blocks c.load.new.self ≡ blocks = c.in-Ok.ensures.blocks told ∙ c.in-Ok-true.ensures.logs.blocks told refl in
-    let plain = quiet_reads (env_of shape blocks) h snap.own snap.upto snap.scn (homes_of shape blocks c.args.block) reading.read (c.in-Ok-true.ensures.told told c.in-Ok-true.field-0-test) in
+    let read : c.block.result.now ≡ block_of (s.blocks c.load.new.self) c.args.block = c.block.ensures.block told c.args.block c.in_ok-load.ensures.loaded in
+    let same : s.blocks c.load.new.self ≡ blocks = c.in_ok-load.ensures.blocks told ∙ c.in_ok-is_plain.ensures.logs.blocks told refl in
+    let plain = quiet_reads (env_of shape blocks) h snap.own snap.upto snap.scn (homes_of shape blocks c.args.block) reading.read (c.in_ok-is_plain.ensures.told told c.if-not-branch.false) in
     ap (λ (block : List ℕ). block_rows block k) (read ∙ ap (λ (z : List (List ℕ)). block_of z c.args.block) same) ∙ plain.0 k
 
-pub returns-in-Ok-clause-given : goal.returns-in-Ok-clause-given
-returns-in-Ok-clause-given g c = λ told h reading found.
+pub returns-clause-given : goal.returns-clause-given
+returns-clause-given g c = λ told h reading found.
     let w = c.args.wanted in
     next_same w.after w.lo w.hi (block_rows c.block.result.now) (answer_to h c.args.snapshot.now) c.next_plain.new.row (shown g c told h reading) (c.next_plain.ensures.given found)
 
-pub returns-in-Ok-clause-none : goal.returns-in-Ok-clause-none
-returns-in-Ok-clause-none g c = λ told h reading none k wanted. sym (shown g c told h reading k) ∙ c.next_plain.ensures.none none k wanted
+pub returns-clause-none : goal.returns-clause-none
+returns-clause-none g c = λ told h reading none k wanted. sym (shown g c told h reading k) ∙ c.next_plain.ensures.none none k wanted

@@ -29,7 +29,7 @@ returns-in-Some-clause-turns g c =
     turns_there c.args.block c.args.number c.args.snapshot.now.scn c.in-Some.found c.args.copies.now c.touch.new.self
     (record { home = at.0; there = at.1; unchanged = at.2; high = omega arith }) c.touch.ensures.used
 
-pub returns-in-Ok-clause-given : goal.returns-in-Ok-clause-given
-returns-in-Ok-clause-given g c = λ told h read is.
+pub returns-clause-given : goal.returns-clause-given
+returns-clause-given g c = λ told h read is.
     let w = c.args.wanted in
-    next_same w.after w.lo w.hi (shown_by c.build_shared.new.scratch) (answer_to h c.args.snapshot.now) c.next.new.row ((c.in-Ok.ensures.told told h read).rows) (c.next.ensures.given is)
+    next_same w.after w.lo w.hi (shown_by c.build_shared.new.scratch) (answer_to h c.args.snapshot.now) c.next.new.row ((c.in_ok-build_shared.ensures.told told h read).rows) (c.next.ensures.given is)

@@ -18,3 +18,6 @@ returns-clause-counted g c = λ told h reading. (c.take_all_back.ensures.told to
 
 pub returns-clause-left : goal.returns-clause-left
 returns-clause-left g c = λ told h reading high. on_ok c.take_all_back.result (λ w. record { low = reading.low; high = high; walk = w }) (c.take_all_back.ensures.told told h reading).left
+
+pub returns-clause-first : goal.returns-clause-first
+returns-clause-first g c = c.take_all_back.ensures.first

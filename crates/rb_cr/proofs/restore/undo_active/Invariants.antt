@@ -2,6 +2,7 @@ use Rattle.std.proofs.Common.{◌≡◌, ◌+◌, ℕ, List, length, true}
 use Rattle.rb_cr.specs.Clauses.{GoesOn, HasRoom}
 use Rattle.rb_cr.specs.Reads.{Reads}
 use Rattle.rb_cr.specs.Scratches.{scratch_home}
+use Rattle.rb_cr.specs.Watches.{Stays}
 use Rattle.rb_rebuild.specs.Keeping.{Kept}
 use Rattle.rb_rebuild.specs.Reading.{Reader, Runs}
 use Rattle.rb_rebuild.specs.Turns.{Running}
@@ -12,6 +13,7 @@ abbrev pub invariant-loop-i : goal.invariant-loop-i
 invariant-loop-i g l = record {
   reads : Reads g.S.Segments l.fn.segments l.segments true;
   block : l.scratch.block ≡ l.fn.scratch.block;
+  stays : Stays l.fn.scratch.watch l.scratch.watch;
   eight : length l.fn.scratch.entries ≡ 8;
   goes : g.S.Segments.tells → GoesOn (g.S.Segments.says l.fn.segments) l.fn.scratch l.fn.steps l.scratch l.steps;
   so_far : g.S.Segments.tells → (base : ℕ) (rows : Rows) (list : List Commit) (m : ℕ) (lives : List (List Change)) (r : ℕ)

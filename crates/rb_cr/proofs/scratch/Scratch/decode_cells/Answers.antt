@@ -6,7 +6,7 @@ use Rattle.rb_cr.proofs.Decoded.{CellsFilled, cells_all, filled_more}
 use Rattle.rb_cr.proofs.scratch.Scratch.decode_cells.Goals as goal
 
 pub loop-c-init : goal.loop-c-init
-loop-c-init c = record { long = search rules; filled = λ j lt. absurd (omega (arith, lt)); entries = refl; number = refl }
+loop-c-init c = record { long = search rules; filled = λ j lt. absurd (omega (arith, lt)); entries = refl; number = refl; watch = refl }
 
 pub loop-c-preserved : goal.loop-c-preserved
 loop-c-preserved c =
@@ -18,6 +18,7 @@ loop-c-preserved c =
       filled = subst (λ z. CellsFilled block (c.loop-c.c + 1) (set c.loop-c.self.cells c.loop-c.c z)) (sym c.cells.ensures.cell) more;
       entries = inv.entries;
       number = inv.number;
+      watch = inv.watch;
     }
 
 pub returns-clause-cells : goal.returns-clause-cells
@@ -28,3 +29,6 @@ returns-clause-entries c = c.loop-c.invariant.entries
 
 pub returns-clause-number : goal.returns-clause-number
 returns-clause-number c = c.loop-c.invariant.number
+
+pub returns-clause-watch : goal.returns-clause-watch
+returns-clause-watch c = c.loop-c.invariant.watch

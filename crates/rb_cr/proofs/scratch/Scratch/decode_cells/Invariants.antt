@@ -8,4 +8,5 @@ invariant-loop-c l = record {
   filled : CellsFilled l.block l.c l.self.cells;
   entries : l.self.entries ≡ l.initial.self.entries;
   number : l.self.block ≡ l.initial.self.block;
+  watch : l.self.watch ≡ l.initial.self.watch;
 }

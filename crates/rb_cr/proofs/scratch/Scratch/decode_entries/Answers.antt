@@ -6,7 +6,7 @@ use Rattle.rb_cr.proofs.Decoded.{EntriesFilled, entries_all, filled_more}
 use Rattle.rb_cr.proofs.scratch.Scratch.decode_entries.Goals as goal
 
 pub loop-i-init : goal.loop-i-init
-loop-i-init c = record { long = search rules; filled = λ j lt. absurd (omega (arith, lt)); cells = refl; number = refl }
+loop-i-init c = record { long = search rules; filled = λ j lt. absurd (omega (arith, lt)); cells = refl; number = refl; watch = refl }
 
 pub loop-i-preserved : goal.loop-i-preserved
 loop-i-preserved c =
@@ -18,6 +18,7 @@ loop-i-preserved c =
       filled = subst (λ z. EntriesFilled block (c.loop-i.i + 1) (set c.loop-i.self.entries c.loop-i.i z)) (sym c.entry.ensures) more;
       cells = inv.cells;
       number = inv.number;
+      watch = inv.watch;
     }
 
 pub returns-clause-entries : goal.returns-clause-entries
@@ -28,3 +29,6 @@ returns-clause-cells c = c.loop-i.invariant.cells
 
 pub returns-clause-number : goal.returns-clause-number
 returns-clause-number c = c.loop-i.invariant.number
+
+pub returns-clause-watch : goal.returns-clause-watch
+returns-clause-watch c = c.loop-i.invariant.watch

@@ -8,4 +8,5 @@ invariant-loop-i l = record {
   filled : EntriesFilled l.block l.i l.self.entries;
   cells : l.self.cells ≡ l.initial.self.cells;
   number : l.self.block ≡ l.initial.self.block;
+  watch : l.self.watch ≡ l.initial.self.watch;
 }
