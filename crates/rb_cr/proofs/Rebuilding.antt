@@ -6,7 +6,7 @@ use Rattle.rb_base.specs.declared.ids.Xid.{Xid}
 use Rattle.rb_cr.specs.Faults.{Because, is_fault}
 use Rattle.rb_cr.specs.Parts.{Built, Goes, Gone, Highest, Passed, Rewound, Spent, Undone}
 use Rattle.rb_cr.specs.declared.faults.CrFault.{CrFault}
-use Rattle.rb_cr.specs.declared.heights.HighestEntry.{HighestEntry}
+use Rattle.rb_cr.specs.declared.visible.HighestEntry.{HighestEntry}
 use Rattle.rb_rebuild.specs.Chains.{unwound}
 use Rattle.rb_rebuild.specs.Heights.{AtMost}
 use Rattle.rb_rebuild.specs.Keeping.{kept_room, Kept, behind_mine, first_count, kept_after, overlay}

@@ -3,7 +3,7 @@ use Rattle.std.proofs.Common.{◌≡◌, ◌<◌, ◌≤◌, ◌+◌, ◌-◌, �
 use Rattle.std.proofs.Common.{Ok, refl, sym, ◌∙◌, ap, subst, arith}
 use Rattle.rb_base.specs.declared.ids.Xid.{Xid}
 use Rattle.rb_cr.specs.Parts.{Highest}
-use Rattle.rb_cr.specs.declared.heights.HighestEntry.{HighestEntry}
+use Rattle.rb_cr.specs.declared.visible.HighestEntry.{HighestEntry}
 use Rattle.rb_rebuild.specs.Chains.{spent, stepped}
 use Rattle.rb_rebuild.specs.Heights.{AtMost}
 use Rattle.rb_rebuild.specs.Keeping.{first_count}

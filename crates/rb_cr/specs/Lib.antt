@@ -4,7 +4,7 @@ pub mod Clauses
 pub mod Copies
 pub mod Faults
 pub mod Going
-pub mod Heights
+pub mod Visible
 pub mod KeptRows
 pub mod Late
 pub mod Parts

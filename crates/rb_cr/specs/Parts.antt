@@ -4,7 +4,7 @@ use Rattle.std.specs.Prelude.{Option, Some, None, Result, OnOk, IfOk, IfErr}
 use Rattle.rb_base.specs.declared.ids.Xid.{Xid}
 use Rattle.rb_cr.specs.Faults.{is_fault, Blames, Because}
 use Rattle.rb_cr.specs.declared.faults.CrFault.{CrFault}
-use Rattle.rb_cr.specs.declared.heights.HighestEntry.{HighestEntry}
+use Rattle.rb_cr.specs.declared.visible.HighestEntry.{HighestEntry}
 use Rattle.rb_rebuild.specs.Chains.{Counted, Stops, Whole, spent, stepped, unwound}
 use Rattle.rb_rebuild.specs.Heights.{AtMost, BeyondIn, Numbered, Over}
 use Rattle.rb_rebuild.specs.Keeping.{Kept, behind_mine, first_count, kept_after, kept_one, kept_room, kept_whole}

@@ -12,14 +12,14 @@ ghost use Rattle.rb_itl.specs.declared.slots.TheConstants.{ENTRIES};
 ghost use Rattle.rb_walk.specs.Walk.{entry_at};
 
 use crate::faults::CrFault;
-use crate::scratch::{Scratch, Snapshot, apply, fits};
+use crate::scratch::{Scratch, Snapshot, fits, take_back};
 use crate::segments::Segments;
 use crate::steps::Steps;
 use rb_base::{Failed, Scn, Xid};
 use std::sync::ledger::Ledger;
 
 /// The newest record of an entry's chain taken back; false where it is gone.
-fn step<S: Segments>(
+fn newest_back<S: Segments>(
     segments: &mut S,
     scratch: &mut Scratch,
     snapshot: &Snapshot,
@@ -41,7 +41,7 @@ fn step<S: Segments>(
     if !fits(scratch, &found, i, xid) {
         return Ok(false);
     }
-    Ok(apply(scratch, &found, snapshot))
+    Ok(take_back(scratch, &found, snapshot))
 }
 
 /// So many records of an entry's chain taken back, each of them counted; false where one is gone.
@@ -66,7 +66,7 @@ fn unwind<S: Segments, L: Ledger>(
     ensures reads { Reads S.Segments segments.old segments.new (not (is_err result)) }
 {
     for _k in 0..count {
-        if !step(segments, scratch, snapshot, i, xid)? {
+        if !newest_back(segments, scratch, snapshot, i, xid)? {
             return Ok(false);
         }
         steps.tick();

@@ -8,11 +8,11 @@ ghost use Rattle.rb_rebuild.specs.Heights.{Over};
 ghost use Rattle.rb_walk.specs.Walk.{entry_at};
 
 use crate::faults::CrFault;
-use crate::heights::{Top, greatest};
 use crate::restore::rewind;
 use crate::scratch::{Scratch, Snapshot};
 use crate::segments::Segments;
 use crate::steps::Steps;
+use crate::visible::{Top, greatest};
 use std::sync::ledger::Ledger;
 
 /// Takes a home that was kept at a number further back, to a snapshot at or below it: true. Where an entry of it is

@@ -10,9 +10,9 @@ ghost use Rattle.rb_rebuild.specs.Reading.{History};
 
 use crate::blocks::build;
 use crate::faults::CrFault;
-use crate::nexts::is_plain;
 use crate::scratch::{Scratch, Snapshot};
 use crate::steps::Steps;
+use crate::visible::changes_visible;
 use crate::watch::Watch;
 use rb_base::{BlockNo, Scn, Store};
 use std::marker::Brand;
@@ -80,7 +80,7 @@ pub fn changed_after<S: Store>(
     ensures logs { Logs S.Store store.old store.new [] (not (is_failed result)) }
 {
     let block = store.shape().home_block(table, key);
-    if is_plain(store, block, snapshot.scn, scratch)? {
+    if changes_visible(store, block, snapshot.scn, scratch)? {
         return Ok(None);
     }
     first_rebuilt::<S, Brand>(store, block, key, snapshot, scratch, Blank::new(1))

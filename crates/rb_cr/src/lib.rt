@@ -8,7 +8,6 @@ mod chains;
 mod copies;
 mod faults;
 mod going;
-mod heights;
 mod kept;
 mod late;
 mod nexts;
@@ -22,6 +21,7 @@ mod segments;
 mod shared;
 mod steps;
 mod stores;
+mod visible;
 mod watch;
 
 pub use blocks::build;

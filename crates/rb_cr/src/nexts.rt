@@ -1,10 +1,8 @@
 //! The next row of a block of a store as it was at a snapshot. Whoever reads rows in the order of their keys calls it.
-ghost use Rattle.std.specs.Prelude.{[], ◌≡◌, ◌<◌, ℕ, true, false, not, length, None, Some};
+ghost use Rattle.std.specs.Prelude.{[], ◌≡◌, ◌<◌, ℕ, true, false, not, None, Some};
 ghost use Rattle.std.specs.Prelude.{IfErr, IfNone, IfOk, IfSome};
-ghost use Rattle.std.specs.Result.{is_err};
 ghost use Rattle.rb_base.specs.Blocks.{AreBlocks, shape_blocks};
 ghost use Rattle.rb_base.specs.Logs.{Logs};
-ghost use Rattle.rb_base.specs.declared.shape.Shape.{Shape};
 ghost use Rattle.rb_copies.specs.Copies.{Serves, kept_under};
 ghost use Rattle.rb_copies.specs.declared.homes.KeptHome.{KeptHome};
 ghost use Rattle.rb_cr.specs.Builds.{IsHomeRead, IsHomeOld};
@@ -12,119 +10,23 @@ ghost use Rattle.rb_cr.specs.Clauses.{answer_to};
 ghost use Rattle.rb_cr.specs.Copies.{HasNoneIn, IsQuiet, IsReadWith, Keeps, NextKept, ServesAt, Turns};
 ghost use Rattle.rb_cr.specs.Copies.{lsn_at};
 ghost use Rattle.rb_cr.specs.Faults.{is_failed, is_fault};
-ghost use Rattle.rb_cr.specs.Reads.{Reads};
 ghost use Rattle.rb_cr.specs.Rows.{IsNext, IsWanted};
-ghost use Rattle.rb_cr.specs.Scratches.{scratch_home};
-ghost use Rattle.rb_heap.specs.Homes.{home_of};
-ghost use Rattle.rb_rebuild.specs.Heights.{AtMost};
 ghost use Rattle.rb_rebuild.specs.Reading.{History};
-ghost use Rattle.rb_standing.specs.Says.{walk_entry, walk_home};
-ghost use Rattle.rb_walk.specs.Walk.{Env, entry_at};
 
 use crate::blocks::build;
 use crate::faults::CrFault;
-use crate::heights::{Top, greatest};
 use crate::plain::{BlockCells, HomeCells, next_plain};
 use crate::rows::Wanted;
 use crate::scratch::{Scratch, Snapshot};
 use crate::segments::Segments;
 use crate::shared::{build_shared, shared_number};
 use crate::steps::Steps;
-use rb_base::{BlockNo, Failed, Lsn, Scn, Store, UNIT};
+use crate::visible::changes_visible;
+use rb_base::{BlockNo, Lsn, Store};
 use rb_copies::{Copies, CopyKey};
-use rb_itl::{BOUND, ENTRIES, EXACT, Entry, OPEN, entry};
 use rb_model::Row;
 use std::marker::Brand;
 use std::sync::ledger::{Blank, Ledger};
-
-/// Whether no entry of a home is above a snapshot. Its rows are then those at the snapshot as they stand, and nothing
-/// is to be taken back.
-fn is_quiet<S: Segments>(segments: &mut S, scratch: &Scratch, scn: Scn) -> Result<bool, Failed>
-    requires { S.ready segments.old }
-    ensures told { S.tells → IfOk result (λ quiet. quiet ≡ true → (j : ℕ)
-        → AtMost (S.says segments.old).env scn scn
-        (entry_at (scratch_home (S.says segments.old).shape scratch.now) j)) }
-    ensures busy { S.tells → IfOk result (λ quiet. quiet ≡ false → ((j : ℕ)
-        → AtMost (S.says segments.old).env scn scn
-        (entry_at (scratch_home (S.says segments.old).shape scratch.now) j)) → ⊥) }
-    ensures reads { Reads S.Segments segments.old segments.new (not (is_err result)) }
-{
-    match greatest(segments, scratch, scn)? {
-        Top::At(top) => Ok(top.number <= scn),
-        Top::Over { .. } => Ok(false),
-    }
-}
-
-/// Whether an entry says by itself that it isn't above a snapshot, however its transaction stands.
-fn is_told_below(entry: &Entry, scn: Scn) -> bool
-    ensures { result ≡ true → (shape : Shape) (env : Env) → AtMost env scn scn (walk_entry shape entry.now) }
-{
-    entry.kind != OPEN && entry.number <= scn
-}
-
-/// Whether each entry of a block of rows says so. Most blocks are found quiet by that, and no header is looked at.
-fn all_told_below(block: &[u8], scn: Scn) -> bool
-    requires { length block.now ≡ UNIT }
-    ensures { result ≡ true → (shape : Shape) (env : Env) (b j : ℕ)
-        → AtMost env scn scn (entry_at (walk_home shape b (home_of block.now)) j) }
-{
-    for i in 0..ENTRIES {
-        if !is_told_below(&entry(block, i), scn) {
-            return false;
-        }
-    }
-    true
-}
-
-/// Whether an entry says by itself that it is above a snapshot, however its transaction stands.
-fn is_told_above(entry: &Entry, scn: Scn) -> bool
-    ensures { result ≡ true → (s : Shape) (env : Env) → AtMost env scn scn (walk_entry s entry.now) → ⊥ }
-{
-    (entry.kind == EXACT || entry.kind == BOUND) && entry.number > scn
-}
-
-/// Whether some entry of a block of rows says so. Most blocks that were changed behind the snapshot have an entry with
-/// that commit's number, and no header is looked at.
-fn any_told_above(block: &[u8], scn: Scn) -> bool
-    requires { length block.now ≡ UNIT }
-    ensures { result ≡ true → (shape : Shape) (env : Env) (b : ℕ) → ((j : ℕ)
-        → AtMost env scn scn (entry_at (walk_home shape b (home_of block.now)) j)) → ⊥ }
-{
-    for index in 0..ENTRIES {
-        if is_told_above(&entry(block, index), scn) {
-            return true;
-        }
-    }
-    false
-}
-
-/// Whether no entry of a block's home is above a snapshot. Its entries alone are read for that, and how their
-/// transactions stand where one is Open and no other is told to be above. Only then are they decoded into the scratch:
-/// a scan asks this for each row.
-pub(crate) fn is_plain<S: Store>(
-    store: &mut S,
-    block: BlockNo,
-    scn: Scn,
-    scratch: &mut Scratch,
-) -> Result<bool, Failed>
-    requires going { S.failed store.old ≡ false }
-    requires there { block < shape_blocks (S.shape_of store.old) }
-    ensures told { S.tells → IfOk result (λ plain. plain ≡ true
-        → IsQuiet (S.shape_of store.old) (S.blocks store.old) block scn) }
-    ensures busy { S.tells → IfOk result (λ plain. plain ≡ false
-        → IsQuiet (S.shape_of store.old) (S.blocks store.old) block scn → ⊥) }
-    ensures logs { Logs S.Store store.old store.new [] (not (is_err result)) }
-{
-    store.load(block)?;
-    if all_told_below(store.block(), scn) {
-        return Ok(true);
-    }
-    if any_told_above(store.block(), scn) {
-        return Ok(false);
-    }
-    scratch.decode_entries(store.block());
-    is_quiet(store, scratch, scn)
-}
 
 /// The next row of a home that is rebuilt from the block.
 fn next_alone<S: Store, L: Ledger>(
@@ -326,7 +228,7 @@ pub fn next_at<S: Store>(
         → copies.new ≡ copies.old }
     ensures logs { Logs S.Store store.old store.new [] (not (is_failed result)) }
 {
-    if !is_plain(store, block, snapshot.scn, scratch)? {
+    if !changes_visible(store, block, snapshot.scn, scratch)? {
         let blank = Blank::new(1);
         return next_rebuilt::<S, Brand>(
             store, block, snapshot, wanted, scratch, copies, row, blank,

@@ -231,7 +231,7 @@ fn back(scratch: &mut Scratch, undo: &UndoRecord) -> Cell
 
 /// Takes one record back, tells the watch of it, and keeps the reader's row before it. False where the room for rows is
 /// used up.
-pub(crate) fn apply(scratch: &mut Scratch, found: &SegmentRecord, snapshot: &Snapshot) -> bool
+pub(crate) fn take_back(scratch: &mut Scratch, found: &SegmentRecord, snapshot: &Snapshot) -> bool
     requires entry { found.now.undo.entry < ENTRIES }
     requires cell { found.now.undo.cell < CELLS }
     ensures home { (shape : Shape) → scratch_home shape scratch.new

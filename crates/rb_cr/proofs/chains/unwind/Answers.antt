@@ -20,10 +20,10 @@ returns-then-not-branch-clause-told g c = λ told.
     let snap = c.args.snapshot.now in
     let inv = c.loop-k.invariant in
     let b = scratch_home said.shape c.loop-k.scratch in
-    let b2 = scratch_home said.shape c.step.new.scratch in
+    let b2 = scratch_home said.shape c.newest_back.new.scratch in
     let kept = c.loop-k.scratch.kept in
-    let kept2 = c.step.new.scratch.kept in
-    let here : StepsBack said snap c.args.i c.args.xid c.loop-k.scratch c.step.new.scratch c.in_ok-step.field-0 = subst (λ (z : Said). StepsBack z snap c.args.i c.args.xid c.loop-k.scratch c.step.new.scratch c.in_ok-step.field-0) (inv.reads.same told refl) (c.in_ok-step.ensures.told told) in
+    let kept2 = c.newest_back.new.scratch.kept in
+    let here : StepsBack said snap c.args.i c.args.xid c.loop-k.scratch c.newest_back.new.scratch c.in_ok-newest_back.field-0 = subst (λ (z : Said). StepsBack z snap c.args.i c.args.xid c.loop-k.scratch c.newest_back.new.scratch c.in_ok-newest_back.field-0) (inv.reads.same told refl) (c.in_ok-newest_back.ensures.told told) in
     let took : Took said.env snap.own snap.upto c.args.i c.args.xid b kept b2 kept2 false = subst (λ (z : Bool). Took said.env snap.own snap.upto c.args.i c.args.xid b kept b2 kept2 z) c.if-not-branch.true here in
     ⊎_elim (λ none. inl (c.loop-k._k, c.loop-k-test.true, inv.count, (b, inv.back told, none)))
     (λ full. inr (subst (λ (z : Kept). kept_room < length z) (inv.kept told) (room_fails said.env snap.own snap.upto c.args.count c.loop-k._k c.args.i c.args.xid b kept c.loop-k-test.true full))) took
@@ -35,23 +35,23 @@ loop-k-preserved g c =
     let snap = c.args.snapshot.now in
     let inv = c.loop-k.invariant in
     let b = scratch_home said.shape c.loop-k.scratch in
-    let b2 = scratch_home said.shape c.step.new.scratch in
+    let b2 = scratch_home said.shape c.newest_back.new.scratch in
     let kept = c.loop-k.scratch.kept in
-    let kept2 = c.step.new.scratch.kept in
+    let kept2 = c.newest_back.new.scratch.kept in
     let took = λ (told : s.tells).
-    (let here : StepsBack said snap c.args.i c.args.xid c.loop-k.scratch c.step.new.scratch c.in_ok-step.field-0 = subst (λ (z : Said). StepsBack z snap c.args.i c.args.xid c.loop-k.scratch c.step.new.scratch c.in_ok-step.field-0) (inv.reads.same told refl) (c.in_ok-step.ensures.told told) in
+    (let here : StepsBack said snap c.args.i c.args.xid c.loop-k.scratch c.newest_back.new.scratch c.in_ok-newest_back.field-0 = subst (λ (z : Said). StepsBack z snap c.args.i c.args.xid c.loop-k.scratch c.newest_back.new.scratch c.in_ok-newest_back.field-0) (inv.reads.same told refl) (c.in_ok-newest_back.ensures.told told) in
     let whole : Took said.env snap.own snap.upto c.args.i c.args.xid b kept b2 kept2 true = subst (λ (z : Bool). Took said.env snap.own snap.upto c.args.i c.args.xid b kept b2 kept2 z) c.if-not-branch.false here in
     whole) in
     record {
-      reads = more_reads s c.args.segments.now c.loop-k.segments c.step.new.segments true g.met.S.Segments.more_calls inv.reads c.in_ok-step.ensures.reads;
-      block = c.in_ok-step.ensures.block ∙ inv.block;
+      reads = more_reads s c.args.segments.now c.loop-k.segments c.newest_back.new.segments true g.met.S.Segments.more_calls inv.reads c.in_ok-newest_back.ensures.reads;
+      block = c.in_ok-newest_back.ensures.block ∙ inv.block;
       count = omega (arith, c.tick.ensures, inv.count);
       rest = λ told. sym (step_on said.env c.args.count c.loop-k._k c.args.i c.args.xid b (Some b2) c.loop-k-test.true (took told).0) ∙ inv.rest told;
       back = λ told. unwound_more said.env c.loop-k._k c.args.i c.args.xid (scratch_home said.shape c.args.scratch.now) b (Some b2) (inv.back told) (took told).0;
       kept = λ told. sym (kept_on said.env snap.own snap.upto c.args.count c.loop-k._k c.args.i c.args.xid b b2 kept kept2 c.loop-k-test.true (took told).0 (took told).1) ∙ inv.kept told;
-      stays = (c.in_ok-step.ensures.stays.0 ∙ inv.stays.0, c.in_ok-step.ensures.stays.1 ∙ inv.stays.1);
+      stays = (c.in_ok-newest_back.ensures.stays.0 ∙ inv.stays.0, c.in_ok-newest_back.ensures.stays.1 ∙ inv.stays.1);
       seen = λ told key watched.
-          let sees : SeesStep said c.args.i c.loop-k.scratch c.step.new.scratch c.in_ok-step.field-0 = subst (λ (z : Said). SeesStep z c.args.i c.loop-k.scratch c.step.new.scratch c.in_ok-step.field-0) (inv.reads.same told refl) (c.in_ok-step.ensures.seen told) in
+          let sees : SeesStep said c.args.i c.loop-k.scratch c.newest_back.new.scratch c.in_ok-newest_back.field-0 = subst (λ (z : Said). SeesStep z c.args.i c.loop-k.scratch c.newest_back.new.scratch c.in_ok-newest_back.field-0) (inv.reads.same told refl) (c.in_ok-newest_back.ensures.seen told) in
           let now = touches key (said.env.store (entry_at b c.args.i).newest) in
           let later = touched_after said.env key (c.args.count - (c.loop-k._k + 1)) c.args.i c.args.xid b2 in
           ap (λ (z : Bool). z || later) (sees key (inv.stays.0 ∙ watched) c.if-not-branch.false) ∙ or_later c.loop-k.scratch.watch.seen now later

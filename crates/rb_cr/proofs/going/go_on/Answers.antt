@@ -2,12 +2,12 @@ use Rattle.std.proofs.Common.{◌-◌, ◌^◌, Bool, Result, Ok, Err, refl, sym
 use Rattle.rb_cr.specs.Calls.{Said}
 use Rattle.rb_cr.specs.Clauses.{Rewinds}
 use Rattle.rb_cr.specs.Going.{WentOn}
-use Rattle.rb_cr.specs.Heights.{IsTop}
+use Rattle.rb_cr.specs.Visible.{IsTop}
 use Rattle.rb_cr.specs.Scratches.{scratch_home}
 use Rattle.rb_cr.specs.declared.faults.CrFault.{CrFault}
 use Rattle.rb_cr.specs.declared.faults.CrFault.TheVariants as faults
-use Rattle.rb_cr.specs.declared.heights.Top.{Top}
-use Rattle.rb_cr.specs.declared.heights.Top.TheVariants as tops
+use Rattle.rb_cr.specs.declared.visible.Top.{Top}
+use Rattle.rb_cr.specs.declared.visible.Top.TheVariants as tops
 use Rattle.rb_rebuild.specs.Reading.{up_to}
 use Rattle.rb_cr.proofs.Erring.{handed_on}
 use Rattle.rb_cr.proofs.Further.{room, went_failed, went_nowhere, went_on, went_worn}

@@ -19,7 +19,7 @@ returns-then-branch-clause-late g c = λ told h reading.
     let blocks = s.blocks c.args.store.now in
     let snap = c.args.snapshot.now in
     let at : home_block shape c.args.table c.args.key ≡ c.home_block-block.result = home shape c.shape.result c.args.table c.args.key c.home_block-block.result c.home_block-block.ensures.number c.shape.ensures.shape in
-    sym (quiet_late (env_of shape blocks) h snap.own snap.upto snap.scn c.args.key (homes_of shape blocks c.home_block-block.result) (subst (λ (z : ℕ). IsHomeRead shape blocks z h snap) at reading) (c.in_ok-is_plain.ensures.told told c.if-branch.true))
+    sym (quiet_late (env_of shape blocks) h snap.own snap.upto snap.scn c.args.key (homes_of shape blocks c.home_block-block.result) (subst (λ (z : ℕ). IsHomeRead shape blocks z h snap) at reading) (c.in_ok-changes_visible.ensures.told told c.if-branch.true))
 
 pub returns-clause-logs : goal.returns-clause-logs
-returns-clause-logs g c = more_logs g.S.Store c.args.store.now c.is_plain.new.store c.first_rebuilt.new.store [] [] (not (is_failed c.first_rebuilt.result)) c.in_ok-is_plain.ensures.logs c.first_rebuilt.ensures.logs
+returns-clause-logs g c = more_logs g.S.Store c.args.store.now c.changes_visible.new.store c.first_rebuilt.new.store [] [] (not (is_failed c.first_rebuilt.result)) c.in_ok-changes_visible.ensures.logs c.first_rebuilt.ensures.logs

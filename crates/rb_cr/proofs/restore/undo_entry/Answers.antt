@@ -1,7 +1,7 @@
 use Rattle.std.proofs.Common.{rules, ◌≡◌, length, Bool, true, false, get_or, refl, sym, subst, arith}
 use Rattle.rb_cr.specs.Calls.{Said}
 use Rattle.rb_cr.specs.Clauses.{Spends}
-use Rattle.rb_cr.specs.Heights.{ActiveIs}
+use Rattle.rb_cr.specs.Visible.{ActiveIs}
 use Rattle.rb_cr.specs.Scratches.{scratch_home}
 use Rattle.rb_itl.specs.Entries.{free_entry as zero_entry}
 use Rattle.rb_standing.specs.Says.{walk_entry}

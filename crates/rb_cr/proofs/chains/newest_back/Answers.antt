@@ -3,7 +3,7 @@ use Rattle.rb_cr.specs.Records.{walk_found}
 use Rattle.rb_itl.specs.Entries.{free_entry as zero_entry}
 use Rattle.rb_standing.specs.Says.{place_of}
 use Rattle.rb_cr.proofs.Stepping.{noted, took, unfit}
-use Rattle.rb_cr.proofs.chains.step.Goals as goal
+use Rattle.rb_cr.proofs.chains.newest_back.Goals as goal
 
 pub returns-then-not-fits-clause-told : goal.returns-then-not-fits-clause-told
 returns-then-not-fits-clause-told g c = λ told.
@@ -21,7 +21,7 @@ returns-clause-told g c = λ told.
     let eight : length scratch.entries ≡ 8 = search rules in
     let sixteen : length scratch.cells ≡ 16 = search rules in
     let here : walk_found said.shape (Some c.in-Some.found) ≡ said.env.store (place_of said.shape (get_or scratch.entries c.args.i zero_entry).newest) = ap (walk_found said.shape) (sym c.in-Some.is) ∙ c.in_ok-found.ensures.told told in
-    took said.shape said.env scratch c.args.i c.args.xid eight sixteen c.requires.there c.in-Some.found here (sym (c.fits.ensures.told said.shape) ∙ c.if-not-fits.false) c.args.snapshot.now c.apply.result c.apply.new.scratch (c.apply.ensures.home said.shape) c.apply.ensures.kept c.apply.ensures.full
+    took said.shape said.env scratch c.args.i c.args.xid eight sixteen c.requires.there c.in-Some.found here (sym (c.fits.ensures.told said.shape) ∙ c.if-not-fits.false) c.args.snapshot.now c.take_back.result c.take_back.new.scratch (c.take_back.ensures.home said.shape) c.take_back.ensures.kept c.take_back.ensures.full
 
 pub returns-clause-seen : goal.returns-clause-seen
 returns-clause-seen g c = λ told key watched whole.
@@ -30,4 +30,4 @@ returns-clause-seen g c = λ told key watched whole.
     let eight : length scratch.entries ≡ 8 = search rules in
     let sixteen : length scratch.cells ≡ 16 = search rules in
     let here : walk_found said.shape (Some c.in-Some.found) ≡ said.env.store (place_of said.shape (get_or scratch.entries c.args.i zero_entry).newest) = ap (walk_found said.shape) (sym c.in-Some.is) ∙ c.in_ok-found.ensures.told told in
-    noted said.shape said.env scratch c.args.i c.args.xid eight sixteen c.requires.there c.in-Some.found here key scratch.watch.seen c.apply.new.scratch.watch.seen (c.apply.ensures.seen said.shape key watched)
+    noted said.shape said.env scratch c.args.i c.args.xid eight sixteen c.requires.there c.in-Some.found here key scratch.watch.seen c.take_back.new.scratch.watch.seen (c.take_back.ensures.seen said.shape key watched)

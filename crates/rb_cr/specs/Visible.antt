@@ -1,21 +1,21 @@
--- The height of an entry over a snapshot, and the highest one.
+-- By which number an entry stands above a snapshot, and the one that stands highest.
 use Rattle.std.specs.Prelude.{◌≡◌, ◌<◌, ◌≤◌, ℕ, Bool, true, false, Option, Some, None}
-use Rattle.rb_cr.specs.declared.heights.Top.{Top}
-use Rattle.rb_cr.specs.declared.heights.Top.TheVariants as tops
+use Rattle.rb_cr.specs.declared.visible.Top.{Top}
+use Rattle.rb_cr.specs.declared.visible.Top.TheVariants as tops
 use Rattle.rb_itl.specs.declared.slots.TheConstants.{ENTRIES}
 use Rattle.rb_rebuild.specs.Heights.{LookAtMost, LookNumbered, LookOver, AtMost, Numbered, Over}
 use Rattle.rb_txntable.specs.declared.looks.Look.{Look}
 use Rattle.rb_walk.specs.Kinds.{Entry}
 use Rattle.rb_walk.specs.Walk.{Home, Env, IsActive, entry_at}
 
--- the height of a look, and of an entry, over n: none where it is over it
-abbrev pub LookTall : ℕ → Look → Option ℕ → Type 0
-LookTall n look None = LookOver n look
-LookTall n look (Some c) = (n ≤ c) × LookAtMost n c look × (n < c → LookNumbered look c)
+-- the number by which a look, and an entry, stands above n: n where it doesn't, and none where no number is known
+abbrev pub LookStandsAbove : ℕ → Look → Option ℕ → Type 0
+LookStandsAbove n look None = LookOver n look
+LookStandsAbove n look (Some c) = (n ≤ c) × LookAtMost n c look × (n < c → LookNumbered look c)
 
-abbrev pub Tall : Env → ℕ → Entry → Option ℕ → Type 0
-Tall env n e None = Over env n e
-Tall env n e (Some c) = (n ≤ c) × AtMost env n c e × (n < c → Numbered env e c)
+abbrev pub StandsAbove : Env → ℕ → Entry → Option ℕ → Type 0
+StandsAbove env n e None = Over env n e
+StandsAbove env n e (Some c) = (n ≤ c) × AtMost env n c e × (n < c → Numbered env e c)
 
 abbrev pub IsTop : Env → ℕ → Home → Top → Type 0
 IsTop env n b (tops.At top) = (n ≤ top.number) × ((j : ℕ) → AtMost env n top.number (entry_at b j))

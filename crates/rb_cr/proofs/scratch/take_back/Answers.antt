@@ -4,7 +4,7 @@ use Rattle.rb_cr.specs.Records.{record_of}
 use Rattle.rb_cr.specs.declared.records.SegmentRecord.{SegmentRecord}
 use Rattle.rb_cr.specs.declared.watch.Watch.{Watch}
 use Rattle.rb_rebuild.specs.Late.{touches}
-use Rattle.rb_cr.proofs.scratch.apply.Goals as goal
+use Rattle.rb_cr.proofs.scratch.take_back.Goals as goal
 
 pub returns-then-wanted-clause-home : goal.returns-then-wanted-clause-home
 returns-then-wanted-clause-home c = λ shape. c.back-cell.ensures.home shape c.args.found.now.seg

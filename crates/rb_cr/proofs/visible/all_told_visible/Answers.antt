@@ -9,7 +9,7 @@ use Rattle.rb_rebuild.specs.Heights.{AtMost}
 use Rattle.rb_standing.specs.Says.{walk_entry, walk_home}
 use Rattle.rb_walk.specs.Walk.{Env, entry_at, free_entry}
 use Rattle.rb_cr.proofs.EntryBytes.{of_home}
-use Rattle.rb_cr.proofs.nexts.all_told_below.Goals as goal
+use Rattle.rb_cr.proofs.visible.all_told_visible.Goals as goal
 
 -- a place behind the eighth has no entry
 behind : (block : List ℕ) (scn i : ℕ) (shape : Shape) (env : Env) (b : ℕ) → (i < 8 → ⊥) → AtMost env scn scn (entry_at (walk_home shape b (home_of block)) i)
@@ -20,7 +20,7 @@ pub loop-i-preserved : goal.loop-i-preserved
 loop-i-preserved c = λ shape env b j up. elim (cases_eq j c.loop-i.i) [
   | inl is ↦
       let block = c.args.block.now in
-      let told = subst (λ (e : Entry). AtMost env c.args.scn c.args.scn (walk_entry shape e)) c.entry.ensures (c.is_told_below.ensures c.if-not-is_told_below.false shape env) in
+      let told = subst (λ (e : Entry). AtMost env c.args.scn c.args.scn (walk_entry shape e)) c.entry.ensures (c.is_told_visible.ensures c.if-not-is_told_visible.false shape env) in
       subst (λ (n : ℕ). AtMost env c.args.scn c.args.scn (entry_at (walk_home shape b (home_of block)) n)) (sym is)
       (subst (AtMost env c.args.scn c.args.scn) (sym (of_home block c.loop-i.i shape b (let lt = c.loop-i-test.true in omega (arith, lt)))) told)
   | inr ne ↦ c.loop-i.invariant shape env b j (omega (arith, up, ne))

@@ -9,23 +9,23 @@ use Rattle.rb_rebuild.specs.Heights.{AtMost}
 use Rattle.rb_standing.specs.Says.{walk_home}
 use Rattle.rb_standing.specs.Standing.{env_of, homes_of}
 use Rattle.rb_walk.specs.Walk.{Home, entry_at}
-use Rattle.rb_cr.proofs.nexts.is_plain.Goals as goal
+use Rattle.rb_cr.proofs.visible.changes_visible.Goals as goal
 
-pub returns-then-all_told_below-clause-told : goal.returns-then-all_told_below-clause-told
-returns-then-all_told_below-clause-told g c = λ tells yes j.
+pub returns-then-all_told_visible-clause-told : goal.returns-then-all_told_visible-clause-told
+returns-then-all_told_visible-clause-told g c = λ tells yes j.
     let s = g.S.Store in
     let old = c.args.store.now in
     let env = env_of (s.shape_of old) (s.blocks old) in
     let same : c.block.result.now ≡ block_of (s.blocks old) c.args.block = search rules in
-    subst (λ (l : List ℕ). AtMost env c.args.scn c.args.scn (entry_at (walk_home (s.shape_of old) c.args.block (home_of l)) j)) same (c.all_told_below.ensures c.if-all_told_below.true (s.shape_of old) env c.args.block j)
+    subst (λ (l : List ℕ). AtMost env c.args.scn c.args.scn (entry_at (walk_home (s.shape_of old) c.args.block (home_of l)) j)) same (c.all_told_visible.ensures c.if-all_told_visible.true (s.shape_of old) env c.args.block j)
 
-pub returns-then-any_told_above-clause-busy : goal.returns-then-any_told_above-clause-busy
-returns-then-any_told_above-clause-busy g c = λ tells no quiet.
+pub returns-then-any_told_hidden-clause-busy : goal.returns-then-any_told_hidden-clause-busy
+returns-then-any_told_hidden-clause-busy g c = λ tells no quiet.
     let s = g.S.Store in
     let old = c.args.store.now in
     let env = env_of (s.shape_of old) (s.blocks old) in
     let same : c.block-2.result.now ≡ block_of (s.blocks old) c.args.block = search rules in
-    c.any_told_above.ensures c.if-any_told_above.true (s.shape_of old) env c.args.block
+    c.any_told_hidden.ensures c.if-any_told_hidden.true (s.shape_of old) env c.args.block
     (λ j. subst (λ (l : List ℕ). AtMost env c.args.scn c.args.scn (entry_at (walk_home (s.shape_of old) c.args.block (home_of l)) j)) (sym same) (quiet j))
 
 pub returns-clause-logs : goal.returns-clause-logs
@@ -34,7 +34,7 @@ returns-clause-logs g c =
     let old = c.args.store.now in
     let loaded = c.load.new.self in
     let load = c.in_ok-load.ensures in
-    more_logs s old loaded c.is_quiet.new.segments [] [] (not (is_err c.is_quiet.result)) (load_logs s old loaded (Ok c.in_ok-load.field-0) load.shape load.slots load.failed load.counted load.lsn load.blocks load.settles load.any_moment load.holds_back) c.is_quiet.ensures.reads.made
+    more_logs s old loaded c.is_home_visible.new.segments [] [] (not (is_err c.is_home_visible.result)) (load_logs s old loaded (Ok c.in_ok-load.field-0) load.shape load.slots load.failed load.counted load.lsn load.blocks load.settles load.any_moment load.holds_back) c.is_home_visible.ensures.reads.made
 
 pub returns-clause-busy : goal.returns-clause-busy
 returns-clause-busy g c tells =
@@ -46,4 +46,4 @@ returns-clause-busy g c tells =
     let read : Home = scratch_home (s.shape_of loaded) c.decode_entries.new.self in
     let same : env_of (s.shape_of loaded) (s.blocks loaded) ≡ env_of (s.shape_of old) (s.blocks old) = search rules in
     let each : (j : ℕ) → entry_at read j ≡ entry_at home j = search rules in
-    still_busy (env_of (s.shape_of old) (s.blocks old)) (env_of (s.shape_of loaded) (s.blocks loaded)) c.args.scn home read c.is_quiet.result same each (c.is_quiet.ensures.busy tells)
+    still_busy (env_of (s.shape_of old) (s.blocks old)) (env_of (s.shape_of loaded) (s.blocks loaded)) c.args.scn home read c.is_home_visible.result same each (c.is_home_visible.ensures.busy tells)

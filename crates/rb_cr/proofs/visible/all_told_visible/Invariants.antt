@@ -4,7 +4,7 @@ use Rattle.rb_heap.specs.Homes.{home_of}
 use Rattle.rb_rebuild.specs.Heights.{AtMost}
 use Rattle.rb_standing.specs.Says.{walk_home}
 use Rattle.rb_walk.specs.Walk.{Env, entry_at}
-use Rattle.rb_cr.proofs.nexts.all_told_below.Given as goal
+use Rattle.rb_cr.proofs.visible.all_told_visible.Given as goal
 
 abbrev pub invariant-loop-i : goal.invariant-loop-i
 invariant-loop-i l = (shape : Shape) (env : Env) (b j : ℕ) → j < l.i → AtMost env l.scn l.scn (entry_at (walk_home shape b (home_of l.block)) j)

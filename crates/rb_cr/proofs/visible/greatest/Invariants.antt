@@ -3,7 +3,7 @@ use Rattle.rb_cr.specs.Reads.{Reads}
 use Rattle.rb_cr.specs.Scratches.{scratch_home}
 use Rattle.rb_rebuild.specs.Heights.{AtMost, Numbered}
 use Rattle.rb_walk.specs.Walk.{entry_at}
-use Rattle.rb_cr.proofs.heights.greatest.Given as goal
+use Rattle.rb_cr.proofs.visible.greatest.Given as goal
 
 abbrev pub invariant-loop-i : goal.invariant-loop-i
 invariant-loop-i g l = record {
