@@ -1,30 +1,19 @@
 -- What is left where a script's end makes last what waits.
-use Rattle.std.proofs.Common.{◌≡◌, ◌≢◌, ◌∙◌, ℕ, false, List, [], Option, refl, sym, ap, subst, arith}
-use Rattle.std.proofs.lemmas.Bool.{false≢true}
+use Rattle.std.proofs.Common.{◌≡◌, ◌≢◌, ◌∙◌, ℕ, false, List, [], Option, sym, ap, subst, arith}
 use Rattle.rb_base.specs.Logs.{Laws}
 use Rattle.rb_base.specs.declared.shape.Shape.{Shape}
 use Rattle.rb_base.specs.declared.store.Store.{Ghosts}
 use Rattle.rb_engine.specs.Does.{Does, EngineView, LeavesState, SameStore}
 use Rattle.rb_image.proofs.Steps.{opens_last}
 use Rattle.rb_image.specs.Images.{HasState}
-use Rattle.rb_model.specs.Calls.{Answer, Checkpoint, Done, Refused, Reply, early, later, first_of}
-use Rattle.rb_model.specs.Calls as calls
+use Rattle.rb_model.specs.Calls.{Checkpoint, Done}
 use Rattle.rb_model.specs.Out.{Logged}
 use Rattle.rb_model.specs.Rows.{last_scn}
 use Rattle.rb_model.specs.State.{State}
-use Rattle.rb_model.specs.declared.refusal.Refusal.{Refusal}
-use Rattle.rb_model.specs.declared.refusal.Refusal.TheVariants.{DiskFault}
 use Rattle.rb_shell.specs.Runs.{MadeLast}
 use Rattle.rb_calls.specs.Since.{StandsAs}
 use Rattle.rb_shell.specs.declared.status.Status.{Status}
 use Rattle.rb_shell.specs.declared.status.Status.TheVariants as ends
-
--- a checkpoint of an engine that goes on is refused for a fault of the disk alone
-pub only_fault : (h : State) (n : ℕ) (why : Refusal) → h.stopped ≡ false → Reply h n Checkpoint (Refused why) → why ≡ DiskFault
-only_fault h n why going (early some is) = absurd (false≢true (sym some ∙ rw going refl))
-only_fault h n why going (later tests none which is) = let clash : Refused why ≡ Done = is ∙ ap (λ ts. first_of ts Done) which in absurd cc
-only_fault h n why going (calls.fault none is) = cc
-only_fault h n why going (calls.old none late) = absurd late.reads
 
 module _ {S : Type 0} (s : Ghosts S) (laws : Laws s) (m : Logged) (old new : EngineView S) (is : StandsAs s old m) (going : m.state.stopped ≡ false) where
   -- an image has all to the last group, in the machine's blocks
