@@ -4,6 +4,8 @@ use Rattle.std.proofs.lemmas.Bool.{cases_Bool, false≢true}
 use Rattle.std.specs.Bool.{MatchBool}
 use Rattle.rb_base.specs.Counts.{IsCountedAs}
 use Rattle.rb_base.specs.declared.store.Store.{Ghosts}
+use Rattle.rb_calls.specs.Made.{Made}
+use Rattle.rb_calls.specs.Resumes.{TriedAgain}
 use Rattle.rb_calls.specs.Since.{IsSince, StandsAs, engine_outside}
 use Rattle.rb_engine.proofs.QueueLemmas.{survives_from, survives_queue}
 use Rattle.rb_engine.specs.Does.{Does, EngineView, Resumes, SameStore, Stands}
@@ -17,7 +19,7 @@ use Rattle.rb_model.specs.Calls.{Answer, Call, Done, End, Given, Marked, Numbere
 use Rattle.rb_model.specs.Calls.{Write, Commit, Rollback, SetMode, SetSavepoint, RollbackTo, OpenCursor, Fetch, CloseCursor, Cancel, Marks, Checkpoint}
 use Rattle.rb_model.specs.Change.{Asked}
 use Rattle.rb_model.specs.NextState.{After, unqueued}
-use Rattle.rb_model.specs.Out.{Logged, Outside, CallOut, Resumed, goes_on}
+use Rattle.rb_model.specs.Out.{Logged, CallOut, goes_on}
 use Rattle.rb_model.specs.Queue.{first_ready, left_by}
 use Rattle.rb_model.specs.State.{State, asked_of}
 use Rattle.rb_model.specs.declared.answer.Answer as code
@@ -29,11 +31,14 @@ use Rattle.rb_model.specs.declared.row.Fetched.TheVariants as fetched
 use Rattle.rb_model.specs.declared.row.Row.{Row}
 use Rattle.rb_model.specs.declared.wrote.Wrote.{Wrote}
 use Rattle.rb_model.specs.declared.wrote.Wrote.TheVariants as wrote
+use Rattle.rb_model.specs.Lines.{caller}
+use Rattle.rb_script.specs.Commands.{asked_by}
+use Rattle.rb_script.specs.declared.command.Request.{Request}
 use Rattle.rb_model.proofs.Stops.{after_stops, fine_stays}
 
--- a count by another test that comes to the same
-pub counted_as : (before now : ℕ) (a b : Bool) → a ≡ b → IsCountedAs before now a → IsCountedAs before now b
-counted_as before now a b same counted = subst (λ (x : Bool). IsCountedAs before now x) same counted
+-- what a session asks for is told to it
+pub caller_asked : (s : ℕ) (request : Request) → caller (asked_by s request) ≡ Some s
+caller_asked s request = grind arith
 
 -- the code's answers after which a command goes on, whatever the row
 pub on_calls : (answer : code.Answer) (row : Row) → (answer ≡ answers.Row) ⊎ ((seg : ℕ) × (writes : ℕ) × (lost : ℕ) × (answer ≡ answers.Marked seg writes lost)) → goes_on (answer_of answer row) ≡ true
@@ -95,6 +100,16 @@ tried_old w outcome scn lost is = ap (λ (o : Result Wrote Refusal). let r : Opt
 -- one call, as the engine tells it
 
 module _ {S : Type 0} (s : Ghosts S) where
+  -- by what the engine says of its outcome
+  pub made_by : (c : Call) (old new : EngineView S) (a b : Answer) (fault : Bool) → b ≡ a → is_fault b ≡ fault → ((h : State) → Stands s h old → Does s h c a old new)
+      → ((h : State) → Stands s h old → fault ≡ false → Makes h c a (s.lsn new.store) (s.blocks old.store) (s.blocks new.store))
+      → ((h : State) → Stands s h old → (scn lost : ℕ) → a ≡ Refused (TooOld scn lost) → CallNeedsLost s h old c scn lost)
+      → SameStore s old.store new.store → IsCountedAs (s.faults old.store) (s.faults new.store) fault → Made s c b old new
+  made_by c old new a b fault is f did makes lost same disk =
+      let e : is_fault a ≡ fault = sym (ap is_fault is) ∙ f in
+      subst (λ (r : Answer). Made s c r old new) (sym is)
+      (record { did = did; makes = λ h st fine. makes h st (sym e ∙ fine); lost = lost; same = same; disk = subst (λ (x : Bool). IsCountedAs (s.faults old.store) (s.faults new.store) x) (sym e) disk })
+
   -- what a call makes of the store's blocks, it makes of the machine's
   pub made_of : (m : Logged) (h : State) (c : Call) (r : Answer) (old new : EngineView S) → StandsAs s old m → Makes h c r (s.lsn new.store) (s.blocks old.store) (s.blocks new.store)
       → Makes h c r (s.lsn new.store) m.blocks (s.blocks new.store)
@@ -102,12 +117,10 @@ module _ {S : Type 0} (s : Ghosts S) where
       subst (λ (b : List (List ℕ)). Makes h c r (s.lsn new.store) b (s.blocks new.store)) (sym is.blocks) makes
 
   -- from a state that the engine stood for, to the one that it stands for after the call
-  pub did_call : (m : Logged) (c : Call) (r : Answer) (old new : EngineView S) (P : Logged → Type 0) → StandsAs s old m → m.state.stopped ≡ false → Does s m.state c r old new → SameStore s old.store new.store
-      → ((scn lost : ℕ) → r ≡ Refused (TooOld scn lost) → CallNeedsLost s m.state old c scn lost)
-      → (is_fault r ≡ false → Makes m.state c r (s.lsn new.store) (s.blocks old.store) (s.blocks new.store))
-      → (is_fault r ≡ false → s.faults new.store ≡ s.faults old.store)
+  pub did_call : (m : Logged) (c : Call) (r : Answer) (old new : EngineView S) (P : Logged → Type 0) → StandsAs s old m → m.state.stopped ≡ false → Made s c r old new
       → ((now : Logged) → CallOut m engine_outside c r now → P now) → Did (StandsAs s) (IsSince s) old new m P
-  did_call m c r old new P is going does same lost makes quiet so =
+  did_call m c r old new P is going made so =
+      let does = made.did m.state is.engine in
       let no_fault : does.now.stopped ≡ false → is_fault r ≡ false = λ on. ⊎_elim
       (λ (e : is_fault r ≡ true). absurd (false≢true (sym on ∙ ap (λ (h : State). h.stopped) (after_stops m.state does.now c r e does.after))))
       (λ (e : is_fault r ≡ false). e)
@@ -116,17 +129,17 @@ module _ {S : Type 0} (s : Ghosts S) where
       record {
         now = now;
         reached = record { engine = does.stands; lsn = refl; blocks = refl };
-        passed = record { same = same; crash = λ kept. does.survives m.fault going kept; still = λ on. quiet (no_fault on) };
+        passed = record { same = made.same; crash = λ kept. does.survives m.fault going kept; still = λ on. made.disk.still (no_fault on) };
         ran = so now (record {
           reply = subst (λ (n : ℕ). Reply m.state n c r) (sym is.lsn) does.reply;
-          worn = λ n gone old_one. subst (λ (b : List (List ℕ)). IsWorn m.state b c n gone) (sym is.blocks) (worn_by s m.state old c n gone (lost n gone old_one));
+          worn = λ n gone old_one. subst (λ (b : List (List ℕ)). IsWorn m.state b c n gone) (sym is.blocks) (worn_by s m.state old c n gone (made.lost m.state is.engine n gone old_one));
           state = does.after;
           fault = refl;
           groups = does.groups;
           grows = does.grows;
           few = does.few going;
           lsn = λ on. does.lsn on ∙ ap (λ (n : ℕ). n + does.groups) (sym is.lsn);
-          makes = λ on. (made_of m m.state c r old new is (makes (no_fault on)), ((does.stands.goes on).xids, (does.stands.goes on).holds.blocks));
+          makes = λ on. (made_of m m.state c r old new is (made.makes m.state is.engine (no_fault on)), ((does.stands.goes on).xids, (does.stands.goes on).holds.blocks));
         });
       }
 
@@ -144,14 +157,6 @@ none_some {A} {r} {x} none some = let clash : ◌≡◌ {A = Option A} None (Som
 pub did_still : {M : Type 0} {stands : M → Logged → Type 0} {since : M → M → Logged → Logged → Type 0} (old mid new : M) (m : Logged) (P : Logged → Type 0) → new ≡ mid → Did stands since old mid m P → Did stands since old new m P
 did_still {M} {stands} {since} old mid new m P still did = subst (λ (x : M). Did stands since old x m P) (sym still) did
 
--- The write of the first ready session was tried once more.
-pub record TriedAgain (m : Logged) (outside : Outside) (w : ℕ) (r : Answer) (now : Logged) : Type 0 where
-  pub asked : Asked
-  pub known : asked_of m.state w ≡ Some asked
-  pub ready : first_ready m.state.queue ≡ Some w
-  pub resumed : Resumed m outside w asked r now
-  pub stopped : now.state.stopped ≡ is_fault r
-
 module _ {S : Type 0} (s : Ghosts S) (m : Logged) (w : ℕ) (outcome : Result Wrote Refusal) (old new : EngineView S) (is : StandsAs s old m) (going : m.state.stopped ≡ false) (same : SameStore s old.store new.store)
     (lost : (scn gone : ℕ) → outcome ≡ Err (TooOld scn gone) → ResumeNeedsLost s m.state old w scn gone)
     (makes : is_fault (write_answer outcome) ≡ false → ResumeMakes m.state (Some (w, outcome)) (s.lsn new.store) (s.blocks old.store) (s.blocks new.store))
@@ -162,11 +167,11 @@ module _ {S : Type 0} (s : Ghosts S) (m : Logged) (w : ℕ) (outcome : Result Wr
   abbrev call : Asked → Call
   call a = Write w a.table a.key a.action
 
-  abbrev Made : Asked → Type 0
-  Made a = Does s (unqueued m.state w) (call a) r old new
+  abbrev Again : Asked → Type 0
+  Again a = Does s (unqueued m.state w) (call a) r old new
 
   -- the engine's last log number is the machine's
-  told_reply : (a : Asked) → Made a → Reply (unqueued m.state w) m.lsn (call a) r
+  told_reply : (a : Asked) → Again a → Reply (unqueued m.state w) m.lsn (call a) r
   told_reply a does = subst (λ (n : ℕ). Reply (unqueued m.state w) n (call a) r) (sym is.lsn) does.reply
 
   -- the write with which the session waited
@@ -189,7 +194,7 @@ module _ {S : Type 0} (s : Ghosts S) (m : Logged) (w : ℕ) (outcome : Result Wr
       (subst (λ (b : Asked). Makes (unqueued m.state w) (call b) r (s.lsn new.store) (s.blocks old.store) (s.blocks new.store)) (asked_is a all.0 known all.1) all.2)
 
   -- no fault: the state after the write
-  fine : (P : Logged → Type 0) (a : Asked) → asked_of m.state w ≡ Some a → first_ready m.state.queue ≡ Some w → Made a → is_fault r ≡ false
+  fine : (P : Logged → Type 0) (a : Asked) → asked_of m.state w ≡ Some a → first_ready m.state.queue ≡ Some w → Again a → is_fault r ≡ false
       → ((now : Logged) → TriedAgain m engine_outside w r now → P now) → Did (StandsAs s) (IsSince s) old new m P
   fine P a known ready does e so =
       let now : Logged = record { state = does.now; lsn = s.lsn new.store; fault = failed_in (call a) r m.fault; blocks = s.blocks new.store } in
@@ -221,7 +226,7 @@ module _ {S : Type 0} (s : Ghosts S) (m : Logged) (w : ℕ) (outcome : Result Wr
       }
 
   -- a fault: the session keeps its place
-  failed : (P : Logged → Type 0) (a : Asked) → asked_of m.state w ≡ Some a → first_ready m.state.queue ≡ Some w → Made a → is_fault r ≡ true
+  failed : (P : Logged → Type 0) (a : Asked) → asked_of m.state w ≡ Some a → first_ready m.state.queue ≡ Some w → Again a → is_fault r ≡ true
       → ((now : Logged) → TriedAgain m engine_outside w r now → P now) → Did (StandsAs s) (IsSince s) old new m P
   failed P a known ready does e so =
       let left : State = record (unqueued m.state w) { stopped = true } in

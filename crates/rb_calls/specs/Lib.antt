@@ -1,2 +1,4 @@
 pub mod Fits
+pub mod Made
+pub mod Resumes
 pub mod Since

@@ -3,6 +3,8 @@
 
 mod answers;
 mod calls;
+mod resumes;
 
 pub use answers::answer_to_write;
-pub use calls::{MOST_READY, answer, calls_of};
+pub use calls::{answer, calls_of};
+pub use resumes::{Listener, MOST_READY, resume_ready};

@@ -1,5 +1,5 @@
 -- Answers one after another: those of a command's calls, of writes that are tried again, and of commands.
-use Rattle.std.proofs.Common.{append_assoc, ◌≡◌, ◌∙◌, inl, inr, ⊎_elim, refl, sym, ap, subst, arith, ℕ, suc, ◌+◌, ◌-◌, ◌*◌, ◌<◌, Bool, true, false, List, [], ◌∷◌, ◌++◌, map, Err, Ok, None}
+use Rattle.std.proofs.Common.{append_assoc, ◌≡◌, ◌∙◌, inl, ⊎_elim, refl, sym, ap, subst, arith, ℕ, suc, ◌+◌, ◌-◌, ◌*◌, ◌<◌, ◌≤◌, Bool, true, false, List, [], ◌∷◌, ◌++◌, length, map, Err, Ok}
 use Rattle.std.proofs.lemmas.Bool.{cases_Bool, false≢true}
 use Rattle.std.proofs.lemmas.List.{append-nil}
 use Rattle.std.specs.Bool.{MatchBool}
@@ -7,10 +7,11 @@ use Rattle.std.specs.Fmt.{decimal}
 use Rattle.std.specs.List.{range_with_len}
 use Rattle.rb_base.specs.declared.faults.Failed.{Failed}
 use Rattle.rb_base.specs.declared.shape.Shape.{Shape}
-use Rattle.rb_calls.proofs.CallLemmas.{TriedAgain, on_no_fault}
+use Rattle.rb_calls.proofs.CallLemmas.{on_no_fault}
+use Rattle.rb_calls.specs.Resumes.{AllHeard, AllResumed, HasResumed}
 use Rattle.rb_generator.proofs.CountLemmas.{counted_on, plus_none, none_plus}
 use Rattle.rb_generator.specs.Answered.{CallsAnswered, CommandAnswered, CommandsAnswered, ResumesAnswered}
-use Rattle.rb_generator.specs.Counted.{counts_of, no_counts, plus}
+use Rattle.rb_generator.specs.Counted.{HasCountedOne, counts_of, no_counts, plus, told}
 use Rattle.rb_generator.specs.Draws.{commands_of, drawn, state_after}
 use Rattle.rb_generator.specs.Ends.{EndsInFault, HasCounted, HasGenerated, StopsBy}
 use Rattle.rb_generator.specs.declared.counts.Counts.{Counts}
@@ -18,7 +19,6 @@ use Rattle.rb_model.proofs.Stops.{after_stops, fine_stays, the_fault}
 use Rattle.rb_model.specs.Calls.{Answer, Done, Waits, Numbered, Given, End, Marked, Refused, is_fault}
 use Rattle.rb_model.specs.Lines.{Command, call_of, most_calls}
 use Rattle.rb_model.specs.Out.{Logged, CallOut, goes_on, Outside}
-use Rattle.rb_model.specs.Queue.{first_ready}
 use Rattle.rb_model.specs.State.{State}
 use Rattle.rb_model.specs.declared.refusal.Refusal.TheVariants.{DiskFault}
 
@@ -97,46 +97,46 @@ calls_all start m outside c most k before counts is so = record {
 
 -- writes that are tried again
 
--- Some were, and none failed: what is tried from here on goes on from the start.
-pub record ResumesSoFar (start : Logged) (outside : Outside) (now : Logged) (before counts : Counts) : Type 0 where
-  pub answers : List Answer
-  pub goes_on : (rest : List Answer) (end : Logged) → ResumesAnswered now outside rest end → ResumesAnswered start outside (answers ++ rest) end
-  pub counted : counts ≡ plus before (counts_of answers)
-  pub going : now.state.stopped ≡ false
+-- their answers, whichever sessions they are told to
+abbrev only_answers : List (ℕ × Answer) → List Answer
+only_answers [] = []
+only_answers (r ∷ more) = r.1 ∷ only_answers more
 
-pub resumes_none : (m : Logged) (outside : Outside) (before : Counts) → m.state.stopped ≡ false → ResumesSoFar m outside m before before
-resumes_none m outside before going = record { answers = []; goes_on = λ rest end f. f; counted = sym (plus_none before); going = going }
+resumes_answered : (rs : List (ℕ × Answer)) (m now : Logged) (outside : Outside) → AllResumed m outside rs now → ResumesAnswered m outside (only_answers rs) now
+resumes_answered [] m now outside all = all
+resumes_answered (r ∷ more) m now outside (middle, going, again, rest) =
+    (r.0, again.asked, middle, going, again.ready, again.known, again.resumed, resumes_answered more middle now outside rest)
 
-module _ (start m now : Logged) (outside : Outside) (w : ℕ) (r : Answer) (before counts counts2 : Counts)
-    (so : ResumesSoFar start outside m before counts) (counted : counts2 ≡ plus counts (counts_of (r ∷ []))) (again : TriedAgain m outside w r now) where
-  -- it and what follows it
-  step_on : (rest : List Answer) (end : Logged) → ResumesAnswered now outside rest end → ResumesAnswered m outside (r ∷ rest) end
-  step_on rest end f = (w, again.asked, now, so.going, again.ready, again.known, again.resumed, f)
+resumes_counted : (rs : List (ℕ × Answer)) (before after : Counts) → AllHeard HasCountedOne before rs after → after ≡ plus before (counts_of (only_answers rs))
+resumes_counted [] before after is = is ∙ sym (plus_none before)
+resumes_counted (r ∷ more) before after (middle, one, rest) =
+    counted_on before middle after (r.1 ∷ []) (only_answers more) one.0 (resumes_counted more middle after rest)
 
-  pub resumes_more : is_fault r ≡ false → ResumesSoFar start outside now before counts2
-  resumes_more e = record {
-    answers = so.answers ++ r ∷ [];
-    goes_on = λ rest end f.
-        subst (λ (xs : List Answer). ResumesAnswered start outside xs end) (sym (append_assoc so.answers (r ∷ []) rest)) (so.goes_on (r ∷ rest) end (step_on rest end f));
-    counted = counted_on before counts counts2 so.answers (r ∷ []) so.counted counted;
-    going = again.stopped ∙ e;
-  }
+-- each counts one at most
+pub resumes_few : (rs : List (ℕ × Answer)) (before after : Counts) → AllHeard HasCountedOne before rs after → told after ≤ told before + length rs
+resumes_few [] before after is = let same = ap told is in omega (arith, same)
+resumes_few (r ∷ more) before after (middle, one, rest) =
+    let few = resumes_few more middle after rest in omega (arith, few, one.1)
 
-  pub resumes_fail : is_fault r ≡ true → HasCounted (ResumesAnswered start outside) now before counts2 true
-  resumes_fail e = record {
-    answers = so.answers ++ r ∷ [];
-    allowed = so.goes_on (r ∷ []) now (step_on [] now (inl (again.stopped ∙ e), refl));
-    counted = counted_on before counts counts2 so.answers (r ∷ []) so.counted counted;
-    stops = ((so.answers, ap (λ (x : Answer). so.answers ++ x ∷ []) (fault_is r e)), again.stopped ∙ e);
-  }
+-- where it is stopped, the last answer tells why
+resumes_fault : (rs : List (ℕ × Answer)) (m now : Logged) (outside : Outside) → AllResumed m outside rs now → m.state.stopped ≡ false → now.state.stopped ≡ true → EndsInFault (only_answers rs)
+resumes_fault [] m now outside (settled, is) going stopped = absurd (false≢true (sym going ∙ ap (λ (x : Logged). x.state.stopped) (sym is) ∙ stopped))
+resumes_fault (r ∷ []) m now outside (middle, going, again, (settled, is)) before stopped =
+    ([], ap (λ (x : Answer). x ∷ []) (fault_is r.1 (sym again.stopped ∙ ap (λ (x : Logged). x.state.stopped) (sym is) ∙ stopped)))
+resumes_fault (r ∷ q ∷ more) m now outside (middle, going, again, rest) before stopped =
+    let ends = resumes_fault (q ∷ more) middle now outside rest rest.1 stopped in
+    (r.1 ∷ ends.0, ap (λ (xs : List Answer). r.1 ∷ xs) ends.1)
 
--- none is left
-pub resumes_all : (start m : Logged) (outside : Outside) (before counts : Counts) → ResumesSoFar start outside m before counts → first_ready m.state.queue ≡ None → HasCounted (ResumesAnswered start outside) m before counts false
-resumes_all start m outside before counts so settled = record {
-  answers = so.answers;
-  allowed = subst (λ (xs : List Answer). ResumesAnswered start outside xs m) (append-nil so.answers) (so.goes_on [] m (inr settled, refl));
-  counted = so.counted;
-  stops = so.going;
+resumes_stop : (fault : Bool) (rs : List (ℕ × Answer)) (m now : Logged) (outside : Outside) → AllResumed m outside rs now → m.state.stopped ≡ false → now.state.stopped ≡ fault → StopsBy fault (only_answers rs) now
+resumes_stop true rs m now outside all going stopped = (resumes_fault rs m now outside all going stopped, stopped)
+resumes_stop false rs m now outside all going stopped = stopped
+
+resumes_end : (m now : Logged) (outside : Outside) (before after : Counts) (fault : Bool) → m.state.stopped ≡ false → HasResumed HasCountedOne m outside now before after fault → HasCounted (ResumesAnswered m outside) now before after fault
+resumes_end m now outside before after fault going has = record {
+  answers = only_answers has.answers;
+  allowed = resumes_answered has.answers m now outside has.resumed;
+  counted = resumes_counted has.answers before after has.all_heard;
+  stops = resumes_stop fault has.answers m now outside has.resumed going has.stopped;
 }
 
 -- a command and what it has made ready
@@ -158,13 +158,15 @@ command_fails m now outside c before counts has = record {
 }
 
 pub command_ends : (m mid now : Logged) (outside : Outside) (c : Command) (before counts counts2 : Counts) (fault : Bool) → HasCounted (CallsAnswered m outside c (most_calls m.state.shape c) 0) mid before counts false
-    → HasCounted (ResumesAnswered mid outside) now counts counts2 fault → HasCounted (CommandAnswered m outside c) now before counts2 fault
-command_ends m mid now outside c before counts counts2 fault own resumed = record {
-  answers = own.answers ++ resumed.answers;
-  allowed = (own.answers, resumed.answers, mid, own.allowed, refl, resumed.allowed);
-  counted = counted_on before counts counts2 own.answers resumed.answers own.counted resumed.counted;
-  stops = stops_on fault own.answers resumed.answers now resumed.stops;
-}
+    → HasResumed HasCountedOne mid outside now counts counts2 fault → HasCounted (CommandAnswered m outside c) now before counts2 fault
+command_ends m mid now outside c before counts counts2 fault own has =
+    let resumed = resumes_end mid now outside counts counts2 fault own.stops has in
+    record {
+      answers = own.answers ++ resumed.answers;
+      allowed = (own.answers, resumed.answers, mid, own.allowed, refl, resumed.allowed);
+      counted = counted_on before counts counts2 own.answers resumed.answers own.counted resumed.counted;
+      stops = stops_on fault own.answers resumed.answers now resumed.stops;
+    }
 
 -- one command after another
 

@@ -1,5 +1,5 @@
 -- How many answers of each kind a list has.
-use Rattle.std.specs.Prelude.{ℕ, ◌+◌, Bool, true, false, List}
+use Rattle.std.specs.Prelude.{◌≡◌, ℕ, ◌+◌, ◌≤◌, Bool, true, false, List, [], ◌∷◌}
 use Rattle.std.specs.List.{count_by}
 use Rattle.rb_generator.specs.declared.counts.Counts.{Counts}
 use Rattle.rb_model.specs.Calls.{Answer, Done, Waits, Numbered, Given, End}
@@ -49,3 +49,7 @@ no_counts = record { committed = 0; rows = 0; waits = 0; refused = 0 }
 -- how many answers they tell of
 abbrev pub told : Counts → ℕ
 told counts = counts.committed + counts.rows + counts.waits + counts.refused
+
+-- one answer more was counted, whichever session it is told to
+abbrev pub HasCountedOne : Counts → ℕ → Answer → Counts → Type 0
+HasCountedOne before s r after = (after ≡ plus before (counts_of (r ∷ []))) × (told after ≤ told before + 1)

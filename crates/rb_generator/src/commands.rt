@@ -5,7 +5,7 @@ ghost use Rattle.std.specs.Result.{is_err};
 ghost use Rattle.rb_base.specs.Counts.{IsCounted};
 ghost use Rattle.rb_calls.specs.Since.{IsSince, StandsAs, engine_outside};
 ghost use Rattle.rb_engine.specs.Does.{SameStore};
-ghost use Rattle.rb_generator.specs.Answered.{CallsAnswered, CommandAnswered, ResumesAnswered};
+ghost use Rattle.rb_generator.specs.Answered.{CallsAnswered, CommandAnswered};
 ghost use Rattle.rb_generator.specs.Counted.{told};
 ghost use Rattle.rb_generator.specs.Ends.{HasCounted};
 ghost use Rattle.rb_lines.specs.Ran.{Did};
@@ -16,7 +16,7 @@ ghost use Rattle.rb_script.specs.Commands.{command_of};
 use crate::counts::Counts;
 use arrayvec::ArrayVec;
 use rb_base::{Failed, Store};
-use rb_calls::{MOST_READY, answer, answer_to_write, calls_of};
+use rb_calls::{MOST_READY, answer, calls_of, resume_ready};
 use rb_engine::Engine;
 use rb_model::{Answer, Row};
 use rb_script::Command;
@@ -48,27 +48,6 @@ fn make_calls<T: Store>(
             Answer::Row | Answer::Marked { .. } => {}
             _ => return Ok(()),
         }
-    }
-    Ok(())
-}
-
-/// Tries the writes of ready sessions again, that of the session that came first each time, until none is ready or the
-/// disk failed.
-fn resume_ready<T: Store>(engine: &mut Engine<T>, counts: &mut Counts) -> Result<(), Failed>
-    requires { told counts.old + MOST_READY ≤ 2 ^ 62 }
-    ensures did { (m : Logged) → StandsAs T.Store engine.old m → m.state.stopped ≡ false
-        → Did (StandsAs T.Store) (IsSince T.Store) engine.old engine.new m (λ now. HasCounted (ResumesAnswered m
-        engine_outside) now counts.old counts.new (is_err result)) }
-    ensures few { told counts.new ≤ told counts.old + MOST_READY }
-    ensures same { SameStore T.Store engine.old.store engine.new.store }
-    ensures disk { IsCounted (T.faults engine.old.store) (T.faults engine.new.store) result }
-{
-    // A write that was tried again leaves fewer sessions ready.
-    for _turn in 0..MOST_READY {
-        let Some((_s, outcome)) = engine.resume() else {
-            return Ok(());
-        };
-        counts.note(answer_to_write(outcome))?;
     }
     Ok(())
 }

@@ -6,7 +6,8 @@ ghost use Rattle.rb_model.specs.Answers.{answer_of};
 ghost use Rattle.rb_model.specs.Calls.{is_fault};
 
 use rb_base::Failed;
-use rb_model::{Answer, Refusal, Row};
+use rb_calls::{Listener, answer_to_write};
+use rb_model::{Answer, Refusal, Row, Wrote};
 
 /// How many answers of each kind there were. Those that say `ok` or `end` are in none of them.
 #[derive(Clone, Copy, Debug, PartialEq, Eq)]
@@ -63,5 +64,19 @@ impl Counts {
             } => Err(Failed),
             _ => Ok(()),
         }
+    }
+}
+
+/// It counts how the writes came out that were tried again.
+impl Listener for Counts {
+    ghost use Rattle.std.specs.Prelude.{◌-◌, ◌^◌};
+    ghost use Rattle.rb_generator.specs.Counted.{HasCountedOne, told};
+
+    ghost room = { λ counts. 2 ^ 62 - told counts };
+
+    ghost heard = { HasCountedOne };
+
+    fn hear(&mut self, _s: u16, outcome: Result<Wrote, Refusal>) {
+        self.count(answer_to_write(outcome));
     }
 }

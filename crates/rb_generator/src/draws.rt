@@ -1,14 +1,14 @@
 //! The numbers that the generator draws, and the command that four of them make. `generate` takes its commands from
 //! here.
-ghost use Rattle.std.specs.Prelude.{◌≡◌, ◌+◌, ◌*◌, ◌%◌, ◌<◌, ◌≤◌};
+ghost use Rattle.std.specs.Prelude.{◌≡◌, ◌+◌, ◌*◌, ◌%◌, ◌<◌, ◌≤◌, ℕ};
 ghost use Rattle.rb_base.specs.Blocks.{IsShape};
 ghost use Rattle.rb_generator.specs.Draws.{chosen, cursor_name, drawn, next, number_of};
 ghost use Rattle.rb_model.specs.Names.{name_text};
-ghost use Rattle.rb_script.specs.Commands.{command_of};
+ghost use Rattle.rb_script.specs.Commands.{asked_by, command_of};
 
 use rb_base::Shape;
 use rb_model::{Name, Op};
-use rb_script::Command;
+use rb_script::{Command, Request};
 
 const MULTIPLIER: u64 = 6_364_136_223_846_793_005;
 
@@ -51,7 +51,8 @@ impl Draws {
         let s = 1 + self.below(CALLERS) as u16;
         let k = self.below(8 * u64::from(shape.blocks));
         let t = 1 + self.below(u64::from(shape.tables)) as u16;
-        choose(kind, s, t, k, value)
+        let request = choose(kind, t, k, value);
+        Command::Session { s, request }
     }
 }
 
@@ -65,45 +66,40 @@ fn cursor() -> Name
     }
 }
 
-/// The command of a kind, 0 to 99.
-fn choose<'a>(kind: u64, s: u16, t: u16, k: u64, value: &'a [u8]) -> Command<'a>
-    ensures { command_of result ≡ chosen kind s t k value.now }
+/// What a command of a kind, 0 to 99, asks for.
+fn choose<'a>(kind: u64, t: u16, k: u64, value: &'a [u8]) -> Request<'a>
+    ensures { (s : ℕ) → asked_by s result ≡ chosen kind s t k value.now }
 {
     match kind {
-        0..=24 => Command::Write {
-            s,
+        0..=24 => Request::Write {
             t,
             k,
             op: Op::Insert(value),
         },
-        25..=54 => Command::Write {
-            s,
+        25..=54 => Request::Write {
             t,
             k,
             op: Op::Update(value),
         },
-        55..=64 => Command::Write {
-            s,
+        55..=64 => Request::Write {
             t,
             k,
             op: Op::Delete,
         },
-        65..=69 => Command::Lock { s, t, k },
-        70..=79 => Command::Commit { s },
-        80..=84 => Command::Rollback { s },
-        85..=92 => Command::OpenCursor {
-            s,
+        65..=69 => Request::Lock { t, k },
+        70..=79 => Request::Commit,
+        80..=84 => Request::Rollback,
+        85..=92 => Request::OpenCursor {
             name: cursor(),
             t,
             lo: 0,
             hi: u64::MAX,
         },
-        93..=97 => Command::Fetch {
-            s,
+        93..=97 => Request::Fetch {
             name: cursor(),
             n: FETCHED,
         },
-        98 => Command::CloseCursor { s, name: cursor() },
-        _ => Command::Cancel { s },
+        98 => Request::CloseCursor { name: cursor() },
+        _ => Request::Cancel,
     }
 }

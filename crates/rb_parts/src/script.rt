@@ -1,7 +1,7 @@
 //! Lines and replies, worked by hand.
 use arrayvec::ArrayVec;
 use rb_model::{Mode, Op, Refusal};
-use rb_script::{Command, Reply, parse, print};
+use rb_script::{Command, Reply, Request, parse, print};
 
 // Each line is a bad one.
 const BAD_LINES: &[u8] = b"\
@@ -101,29 +101,37 @@ fn lines_that_spell_no_command(rt: HostRuntime) {
     }
 }
 
-/// A letter for a command, and its numbers in the order of the line.
-fn numbers_of(command: &Command<'_>) -> (u8, [u64; 4]) {
-    match command {
-        Command::Write { s, t, k, op } => {
+/// A letter for what a session asks for, and the numbers of its line behind that of the session.
+fn numbers_of_request(request: &Request<'_>) -> (u8, [u64; 3]) {
+    match request {
+        Request::Write { t, k, op } => {
             let letter = match op {
                 Op::Insert(_) => b'i',
                 Op::Update(_) => b'u',
                 Op::Delete => b'd',
             };
-            (letter, [u64::from(*s), u64::from(*t), *k, 0])
+            (letter, [u64::from(*t), *k, 0])
         }
-        Command::Lock { s, t, k } => (b'l', [u64::from(*s), u64::from(*t), *k, 0]),
-        Command::Commit { s } => (b'c', [u64::from(*s), 0, 0, 0]),
-        Command::Rollback { s } => (b'r', [u64::from(*s), 0, 0, 0]),
-        Command::Set { s, .. } => (b'e', [u64::from(*s), 0, 0, 0]),
-        Command::Savepoint { s, .. } => (b's', [u64::from(*s), 0, 0, 0]),
-        Command::RollbackTo { s, .. } => (b't', [u64::from(*s), 0, 0, 0]),
-        Command::OpenCursor { s, t, lo, hi, .. } => {
-            (b'o', [u64::from(*s), u64::from(*t), *lo, *hi])
+        Request::Lock { t, k } => (b'l', [u64::from(*t), *k, 0]),
+        Request::Commit => (b'c', [0; 3]),
+        Request::Rollback => (b'r', [0; 3]),
+        Request::Set { .. } => (b'e', [0; 3]),
+        Request::Savepoint { .. } => (b's', [0; 3]),
+        Request::RollbackTo { .. } => (b't', [0; 3]),
+        Request::OpenCursor { t, lo, hi, .. } => (b'o', [u64::from(*t), *lo, *hi]),
+        Request::Fetch { n, .. } => (b'f', [u64::from(*n), 0, 0]),
+        Request::CloseCursor { .. } => (b'x', [0; 3]),
+        Request::Cancel => (b'n', [0; 3]),
+    }
+}
+
+/// A letter for a command, and its numbers in the order of the line.
+fn numbers_of(command: &Command<'_>) -> (u8, [u64; 4]) {
+    match command {
+        Command::Session { s, request } => {
+            let (letter, [first, second, third]) = numbers_of_request(request);
+            (letter, [u64::from(*s), first, second, third])
         }
-        Command::Fetch { s, n, .. } => (b'f', [u64::from(*s), u64::from(*n), 0, 0]),
-        Command::CloseCursor { s, .. } => (b'x', [u64::from(*s), 0, 0, 0]),
-        Command::Cancel { s } => (b'n', [u64::from(*s), 0, 0, 0]),
         Command::Marks => (b'm', [0; 4]),
         Command::Checkpoint => (b'p', [0; 4]),
     }
@@ -139,19 +147,27 @@ fn mode_of(text: &[u8]) -> Option<Mode> {
     }
 }
 
-/// Whether a command has this value, name or mode, or none where that is empty.
-fn has_text(command: &Command<'_>, text: &[u8]) -> bool {
-    match command {
-        Command::Write { op, .. } => match op {
+/// Whether what a session asks for has this value, name or mode, or none where that is empty.
+fn request_has_text(request: &Request<'_>, text: &[u8]) -> bool {
+    match request {
+        Request::Write { op, .. } => match op {
             Op::Insert(value) | Op::Update(value) => *value == text,
             Op::Delete => text.is_empty(),
         },
-        Command::Set { mode, .. } => mode_of(text) == Some(*mode),
-        Command::Savepoint { name, .. }
-        | Command::RollbackTo { name, .. }
-        | Command::OpenCursor { name, .. }
-        | Command::Fetch { name, .. }
-        | Command::CloseCursor { name, .. } => name.as_bytes() == text,
+        Request::Set { mode } => mode_of(text) == Some(*mode),
+        Request::Savepoint { name }
+        | Request::RollbackTo { name }
+        | Request::OpenCursor { name, .. }
+        | Request::Fetch { name, .. }
+        | Request::CloseCursor { name } => name.as_bytes() == text,
+        _ => text.is_empty(),
+    }
+}
+
+/// Whether a command has this value, name or mode, or none where that is empty.
+fn has_text(command: &Command<'_>, text: &[u8]) -> bool {
+    match command {
+        Command::Session { request, .. } => request_has_text(request, text),
         _ => text.is_empty(),
     }
 }

@@ -10,7 +10,7 @@ use rb_attempt::{Ask, AttemptFault, attempt};
 use rb_base::{BlockNo, Failed, Group, NoMemory, SLOTS, Scn, Shape, Store, UNIT, VALUE_BYTES, Xid};
 use rb_model::Op;
 use rb_plainstore::PlainStore;
-use rb_script::{Command, parse};
+use rb_script::{Command, Request, parse};
 use rb_segment::commit;
 use std::alloc::Global;
 
@@ -155,10 +155,13 @@ impl Writers {
 
     /// Does a line, and answers its transaction.
     pub(crate) fn line(&mut self, line: &[u8]) -> Result<Xid, AttemptFault> {
-        match parse(line) {
-            Some(Command::Write { s, t, k, op }) => self.write(s, t, k, Some(op)),
-            Some(Command::Lock { s, t, k }) => self.write(s, t, k, None),
-            Some(Command::Commit { s }) => self.commit(s),
+        let Some(Command::Session { s, request }) = parse(line) else {
+            return Err(AttemptFault::Failed);
+        };
+        match request {
+            Request::Write { t, k, op } => self.write(s, t, k, Some(op)),
+            Request::Lock { t, k } => self.write(s, t, k, None),
+            Request::Commit => self.commit(s),
             _ => Err(AttemptFault::Failed),
         }
     }

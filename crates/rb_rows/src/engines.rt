@@ -10,7 +10,7 @@ use rb_layout::Layout;
 use rb_memdisk::MemDisk;
 use rb_model::{Fetched, Marks, Op, Refusal, Row, Wrote};
 use rb_plainstore::PlainStore;
-use rb_script::{Command, Reply, parse, print};
+use rb_script::{Command, Reply, Request, parse, print};
 use rb_store::{LogStore, format};
 use std::alloc::Global;
 use std::test::Fail;
@@ -92,6 +92,33 @@ fn op_of(op: Op<'_>) -> Op<'_> {
     }
 }
 
+// Calls an engine as a session asks. A row is given into `row`.
+fn asked<'a, S: Store>(
+    engine: &mut Engine<S>,
+    s: u16,
+    request: &Request<'_>,
+    row: &'a mut Row,
+) -> Reply<'a> {
+    match request {
+        Request::Write { t, k, op } => wrote(s, engine.write(s, *t, *k, op_of(*op))),
+        Request::Lock { t, k } => wrote(s, engine.lock(s, *t, *k)),
+        Request::Commit => committed(s, engine.commit(s)),
+        Request::Rollback => done(s, engine.rollback(s)),
+        Request::Set { mode } => done(s, engine.set(s, *mode)),
+        Request::Savepoint { name } => done(s, engine.savepoint(s, name)),
+        Request::RollbackTo { name } => done(s, engine.rollback_to(s, name)),
+        Request::OpenCursor { name, t, lo, hi } => {
+            done(s, engine.open_cursor(s, name, *t, *lo, *hi))
+        }
+        Request::Fetch { name, .. } => {
+            let answer = engine.fetch(s, name, row);
+            fetched(s, answer, row)
+        }
+        Request::CloseCursor { name } => done(s, engine.close_cursor(s, name)),
+        Request::Cancel => done(s, engine.cancel(s)),
+    }
+}
+
 // Calls an engine as a line says. A row is given into `row`.
 fn called<'a, S: Store>(engine: &mut Engine<S>, line: &[u8], row: &'a mut Row) -> Reply<'a> {
     if line == b"resume".as_slice() {
@@ -101,22 +128,7 @@ fn called<'a, S: Store>(engine: &mut Engine<S>, line: &[u8], row: &'a mut Row) -
         };
     }
     match parse(line) {
-        Some(Command::Write { s, t, k, op }) => wrote(s, engine.write(s, t, k, op_of(op))),
-        Some(Command::Lock { s, t, k }) => wrote(s, engine.lock(s, t, k)),
-        Some(Command::Commit { s }) => committed(s, engine.commit(s)),
-        Some(Command::Rollback { s }) => done(s, engine.rollback(s)),
-        Some(Command::Set { s, mode }) => done(s, engine.set(s, mode)),
-        Some(Command::Savepoint { s, name }) => done(s, engine.savepoint(s, &name)),
-        Some(Command::RollbackTo { s, name }) => done(s, engine.rollback_to(s, &name)),
-        Some(Command::OpenCursor { s, name, t, lo, hi }) => {
-            done(s, engine.open_cursor(s, &name, t, lo, hi))
-        }
-        Some(Command::Fetch { s, name, .. }) => {
-            let answer = engine.fetch(s, &name, row);
-            fetched(s, answer, row)
-        }
-        Some(Command::CloseCursor { s, name }) => done(s, engine.close_cursor(s, &name)),
-        Some(Command::Cancel { s }) => done(s, engine.cancel(s)),
+        Some(Command::Session { s, request }) => asked(engine, s, &request, row),
         Some(Command::Marks) => of_nobody(engine, true),
         Some(Command::Checkpoint) => of_nobody(engine, false),
         None => Reply::BadLine,

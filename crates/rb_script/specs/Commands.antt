@@ -1,25 +1,31 @@
 -- The commands of the code as those of the lines.
+use Rattle.std.specs.Prelude.{ℕ}
 use Rattle.rb_model.specs.Calls as calls
 use Rattle.rb_model.specs.Lines as lines
 use Rattle.rb_model.specs.Names.{name_text}
 use Rattle.rb_model.specs.Answers.{action_of}
 use Rattle.rb_script.specs.declared.command.Command.{Command}
-use Rattle.rb_script.specs.declared.command.Command.TheVariants.{Write, Lock, Commit, Rollback, Set, Savepoint}
-use Rattle.rb_script.specs.declared.command.Command.TheVariants.{RollbackTo, OpenCursor, Fetch, CloseCursor}
-use Rattle.rb_script.specs.declared.command.Command.TheVariants.{Cancel, Marks, Checkpoint}
+use Rattle.rb_script.specs.declared.command.Command.TheVariants.{Session, Marks, Checkpoint}
+use Rattle.rb_script.specs.declared.command.Request.{Request}
+use Rattle.rb_script.specs.declared.command.Request.TheVariants.{Write, Lock, Commit, Rollback, Set, Savepoint}
+use Rattle.rb_script.specs.declared.command.Request.TheVariants.{RollbackTo, OpenCursor, Fetch, CloseCursor, Cancel}
+
+-- the command by which a session asks for something
+abbrev pub asked_by : ℕ → Request → lines.Command
+asked_by s (Write t k op) = lines.WriteLine s t k (action_of op)
+asked_by s (Lock t k) = lines.WriteLine s t k calls.Lock
+asked_by s Commit = lines.CommitLine s
+asked_by s Rollback = lines.RollbackLine s
+asked_by s (Set mode) = lines.SetLine s mode
+asked_by s (Savepoint name) = lines.SavepointLine s (name_text name)
+asked_by s (RollbackTo name) = lines.RollbackToLine s (name_text name)
+asked_by s (OpenCursor name t lo hi) = lines.OpenLine s (name_text name) t lo hi
+asked_by s (Fetch name n) = lines.FetchLine s (name_text name) n
+asked_by s (CloseCursor name) = lines.CloseLine s (name_text name)
+asked_by s Cancel = lines.CancelLine s
 
 -- the command that a value of the code stands for
 abbrev pub command_of : Command → lines.Command
-command_of (Write s t k op) = lines.WriteLine s t k (action_of op)
-command_of (Lock s t k) = lines.WriteLine s t k calls.Lock
-command_of (Commit s) = lines.CommitLine s
-command_of (Rollback s) = lines.RollbackLine s
-command_of (Set s mode) = lines.SetLine s mode
-command_of (Savepoint s name) = lines.SavepointLine s (name_text name)
-command_of (RollbackTo s name) = lines.RollbackToLine s (name_text name)
-command_of (OpenCursor s name t lo hi) = lines.OpenLine s (name_text name) t lo hi
-command_of (Fetch s name n) = lines.FetchLine s (name_text name) n
-command_of (CloseCursor s name) = lines.CloseLine s (name_text name)
-command_of (Cancel s) = lines.CancelLine s
+command_of (Session s request) = asked_by s request
 command_of Marks = lines.MarksLine
 command_of Checkpoint = lines.CheckpointLine

@@ -3,18 +3,18 @@ ghost use Rattle.std.specs.Prelude.{◌≡◌, ◌∷◌, ◌++◌, IfSome, IfNo
 ghost use Rattle.std.specs.List.{AllByRecursion};
 ghost use Rattle.rb_model.specs.Lines.{Spells, SpellsNone, IsField, Word, fields_text, word_text};
 ghost use Rattle.rb_model.specs.Names.{name_text};
-ghost use Rattle.rb_script.specs.Commands.{command_of};
+ghost use Rattle.rb_script.specs.Commands.{asked_by, command_of};
 ghost use Rattle.rb_script.specs.Words.{NoFields, is_word, key_fields, key_kinds, name_fields, name_kinds};
 ghost use Rattle.rb_script.specs.Words.{names_key, row_fields, row_kinds};
 
-use crate::command::Command;
+use crate::command::{Command, Request};
 use crate::words::{
     count_of, id_and_rest, id_of, is_visible, key_and_rest, mode_of, name_and_rest, split,
 };
 use rb_base::parse_decimal;
 use rb_model::{Name, Op};
 
-// the session, the table, the key and the value that these fields are
+// The session, the table, the key and the value that these fields are
 fn write_of(fields: &[u8]) -> Option<(u16, u16, u64, &[u8])>
     ensures found { IfSome result (λ p. 32 ∷ fields.now ≡ fields_text (row_fields p.0 p.1 p.2 p.3.now)) }
     ensures valid { IfSome result (λ p. AllByRecursion IsField (row_fields p.0 p.1 p.2 p.3.now)) }
@@ -29,7 +29,7 @@ fn write_of(fields: &[u8]) -> Option<(u16, u16, u64, &[u8])>
     Some((s, t, k, value))
 }
 
-// the session, the table and the key that these fields are
+// The session, the table and the key that these fields are
 fn key_of(fields: &[u8]) -> Option<(u16, u16, u64)>
     ensures found { IfSome result (λ p. 32 ∷ fields.now ≡ fields_text (key_fields p.0 p.1 p.2)) }
     ensures valid { IfSome result (λ p. AllByRecursion IsField (key_fields p.0 p.1 p.2)) }
@@ -41,7 +41,7 @@ fn key_of(fields: &[u8]) -> Option<(u16, u16, u64)>
     Some((s, t, k))
 }
 
-// the session and the name that these fields are
+// The session and the name that these fields are
 fn named_of(fields: &[u8]) -> Option<(u16, Name)>
     ensures found { IfSome result (λ p. 32 ∷ fields.now ≡ fields_text (name_fields p.0 (name_text p.1))) }
     ensures valid { IfSome result (λ p. AllByRecursion IsField (name_fields p.0 (name_text p.1))) }
@@ -52,88 +52,88 @@ fn named_of(fields: &[u8]) -> Option<(u16, Name)>
     Some((s, name))
 }
 
-// the command of the line that is `insert`, a space and these fields
-fn insert_of(fields: &[u8]) -> Option<Command<'_>>
-    ensures found { IfSome result (λ command. Spells (codes "insert" ++ 32 ∷ fields.now) (command_of command)) }
+// What the line asks for that is `insert`, a space and these fields
+fn insert_of(fields: &[u8]) -> Option<(u16, Request<'_>)>
+    ensures found { IfSome result (λ p. Spells (codes "insert" ++ 32 ∷ fields.now) (asked_by p.0 p.1)) }
     ensures none { IfNone result (SpellsNone (codes "insert" ++ 32 ∷ fields.now)) }
 {
     let (s, t, k, value) = write_of(fields)?;
     let op = Op::Insert(value);
-    Some(Command::Write { s, t, k, op })
+    Some((s, Request::Write { t, k, op }))
 }
 
-// the command of the line that is `update`, a space and these fields
-fn update_of(fields: &[u8]) -> Option<Command<'_>>
-    ensures found { IfSome result (λ command. Spells (codes "update" ++ 32 ∷ fields.now) (command_of command)) }
+// What the line asks for that is `update`, a space and these fields
+fn update_of(fields: &[u8]) -> Option<(u16, Request<'_>)>
+    ensures found { IfSome result (λ p. Spells (codes "update" ++ 32 ∷ fields.now) (asked_by p.0 p.1)) }
     ensures none { IfNone result (SpellsNone (codes "update" ++ 32 ∷ fields.now)) }
 {
     let (s, t, k, value) = write_of(fields)?;
     let op = Op::Update(value);
-    Some(Command::Write { s, t, k, op })
+    Some((s, Request::Write { t, k, op }))
 }
 
-// the command of the line that is `delete`, a space and these fields
-fn delete_of(fields: &[u8]) -> Option<Command<'_>>
-    ensures found { IfSome result (λ command. Spells (codes "delete" ++ 32 ∷ fields.now) (command_of command)) }
+// What the line asks for that is `delete`, a space and these fields
+fn delete_of(fields: &[u8]) -> Option<(u16, Request<'_>)>
+    ensures found { IfSome result (λ p. Spells (codes "delete" ++ 32 ∷ fields.now) (asked_by p.0 p.1)) }
     ensures none { IfNone result (SpellsNone (codes "delete" ++ 32 ∷ fields.now)) }
 {
     let (s, t, k) = key_of(fields)?;
     let op = Op::Delete;
-    Some(Command::Write { s, t, k, op })
+    Some((s, Request::Write { t, k, op }))
 }
 
-// the command of the line that is `lock`, a space and these fields
-fn lock_of(fields: &[u8]) -> Option<Command<'_>>
-    ensures found { IfSome result (λ command. Spells (codes "lock" ++ 32 ∷ fields.now) (command_of command)) }
+// What the line asks for that is `lock`, a space and these fields
+fn lock_of(fields: &[u8]) -> Option<(u16, Request<'_>)>
+    ensures found { IfSome result (λ p. Spells (codes "lock" ++ 32 ∷ fields.now) (asked_by p.0 p.1)) }
     ensures none { IfNone result (SpellsNone (codes "lock" ++ 32 ∷ fields.now)) }
 {
     let (s, t, k) = key_of(fields)?;
-    Some(Command::Lock { s, t, k })
+    Some((s, Request::Lock { t, k }))
 }
 
-// the command of the line that is `commit`, a space and these fields
-fn commit_of(fields: &[u8]) -> Option<Command<'_>>
-    ensures found { IfSome result (λ command. Spells (codes "commit" ++ 32 ∷ fields.now) (command_of command)) }
+// What the line asks for that is `commit`, a space and these fields
+fn commit_of(fields: &[u8]) -> Option<(u16, Request<'_>)>
+    ensures found { IfSome result (λ p. Spells (codes "commit" ++ 32 ∷ fields.now) (asked_by p.0 p.1)) }
     ensures none { IfNone result (SpellsNone (codes "commit" ++ 32 ∷ fields.now)) }
 {
     let s = id_of(fields)?;
-    Some(Command::Commit { s })
+    Some((s, Request::Commit))
 }
 
-// the command of the line that is `rollback`, a space and these fields
-fn rollback_of(fields: &[u8]) -> Option<Command<'_>>
-    ensures found { IfSome result (λ command. Spells (codes "rollback" ++ 32 ∷ fields.now) (command_of command)) }
+// What the line asks for that is `rollback`, a space and these fields
+fn rollback_of(fields: &[u8]) -> Option<(u16, Request<'_>)>
+    ensures found { IfSome result (λ p. Spells (codes "rollback" ++ 32 ∷ fields.now) (asked_by p.0 p.1)) }
     ensures none { IfNone result (SpellsNone (codes "rollback" ++ 32 ∷ fields.now)) }
 {
     if let Some(s) = id_of(fields) {
-        return Some(Command::Rollback { s });
+        return Some((s, Request::Rollback));
     }
     let (s, name) = named_of(fields)?;
-    Some(Command::RollbackTo { s, name })
+    Some((s, Request::RollbackTo { name }))
 }
 
-// the command of the line that is `set`, a space and these fields
-fn set_of(fields: &[u8]) -> Option<Command<'_>>
-    ensures found { IfSome result (λ command. Spells (codes "set" ++ 32 ∷ fields.now) (command_of command)) }
+// What the line asks for that is `set`, a space and these fields
+fn set_of(fields: &[u8]) -> Option<(u16, Request<'_>)>
+    ensures found { IfSome result (λ p. Spells (codes "set" ++ 32 ∷ fields.now) (asked_by p.0 p.1)) }
     ensures none { IfNone result (SpellsNone (codes "set" ++ 32 ∷ fields.now)) }
 {
     let (s, word) = id_and_rest(fields)?;
     let mode = mode_of(word)?;
-    Some(Command::Set { s, mode })
+    Some((s, Request::Set { mode }))
 }
 
-// the command of the line that is `savepoint`, a space and these fields
-fn savepoint_of(fields: &[u8]) -> Option<Command<'_>>
-    ensures found { IfSome result (λ command. Spells (codes "savepoint" ++ 32 ∷ fields.now) (command_of command)) }
+// What the line asks for that is `savepoint`, a space and these fields
+fn savepoint_of(fields: &[u8]) -> Option<(u16, Request<'_>)>
+    ensures found { IfSome result (λ p. Spells (codes "savepoint" ++ 32 ∷ fields.now) (asked_by p.0 p.1)) }
     ensures none { IfNone result (SpellsNone (codes "savepoint" ++ 32 ∷ fields.now)) }
 {
     let (s, name) = named_of(fields)?;
-    Some(Command::Savepoint { s, name })
+    Some((s, Request::Savepoint { name }))
 }
 
-// the command of the line that is `open`, a space and these fields
-fn open_of(fields: &[u8]) -> Option<Command<'_>>
-    ensures found { IfSome result (λ command. Spells (codes "open" ++ 32 ∷ fields.now) (command_of command)) }
+// What the line asks for that is `open`, a space and these fields
+fn open_of(fields: &[u8]) -> Option<(u16, Request<'_>)>
+    ensures found { IfSome result (λ p. Spells (codes "open" ++ 32 ∷ fields.now) (asked_by p.0 p.1)) }
     ensures none { IfNone result (SpellsNone (codes "open" ++ 32 ∷ fields.now)) }
 {
     let (s, fields) = id_and_rest(fields)?;
@@ -141,39 +141,39 @@ fn open_of(fields: &[u8]) -> Option<Command<'_>>
     let (t, fields) = id_and_rest(fields)?;
     let (lo, fields) = key_and_rest(fields)?;
     let hi = parse_decimal(fields)?;
-    Some(Command::OpenCursor { s, name, t, lo, hi })
+    Some((s, Request::OpenCursor { name, t, lo, hi }))
 }
 
-// the command of the line that is `fetch`, a space and these fields
-fn fetch_of(fields: &[u8]) -> Option<Command<'_>>
-    ensures found { IfSome result (λ command. Spells (codes "fetch" ++ 32 ∷ fields.now) (command_of command)) }
+// What the line asks for that is `fetch`, a space and these fields
+fn fetch_of(fields: &[u8]) -> Option<(u16, Request<'_>)>
+    ensures found { IfSome result (λ p. Spells (codes "fetch" ++ 32 ∷ fields.now) (asked_by p.0 p.1)) }
     ensures none { IfNone result (SpellsNone (codes "fetch" ++ 32 ∷ fields.now)) }
 {
     let (s, fields) = id_and_rest(fields)?;
     let (name, fields) = name_and_rest(fields)?;
     let n = count_of(fields)?;
-    Some(Command::Fetch { s, name, n })
+    Some((s, Request::Fetch { name, n }))
 }
 
-// the command of the line that is `close`, a space and these fields
-fn close_of(fields: &[u8]) -> Option<Command<'_>>
-    ensures found { IfSome result (λ command. Spells (codes "close" ++ 32 ∷ fields.now) (command_of command)) }
+// What the line asks for that is `close`, a space and these fields
+fn close_of(fields: &[u8]) -> Option<(u16, Request<'_>)>
+    ensures found { IfSome result (λ p. Spells (codes "close" ++ 32 ∷ fields.now) (asked_by p.0 p.1)) }
     ensures none { IfNone result (SpellsNone (codes "close" ++ 32 ∷ fields.now)) }
 {
     let (s, name) = named_of(fields)?;
-    Some(Command::CloseCursor { s, name })
+    Some((s, Request::CloseCursor { name }))
 }
 
-// the command of the line that is `cancel`, a space and these fields
-fn cancel_of(fields: &[u8]) -> Option<Command<'_>>
-    ensures found { IfSome result (λ command. Spells (codes "cancel" ++ 32 ∷ fields.now) (command_of command)) }
+// What the line asks for that is `cancel`, a space and these fields
+fn cancel_of(fields: &[u8]) -> Option<(u16, Request<'_>)>
+    ensures found { IfSome result (λ p. Spells (codes "cancel" ++ 32 ∷ fields.now) (asked_by p.0 p.1)) }
     ensures none { IfNone result (SpellsNone (codes "cancel" ++ 32 ∷ fields.now)) }
 {
     let s = id_of(fields)?;
-    Some(Command::Cancel { s })
+    Some((s, Request::Cancel))
 }
 
-// the command of a line that is one word
+// The command of a line that is one word
 fn command_alone(word: &[u8]) -> Option<Command<'_>>
     requires { IsTrue (is_word word.now) }
     ensures found { IfSome result (λ command. Spells word.now (command_of command)) }
@@ -188,11 +188,11 @@ fn command_alone(word: &[u8]) -> Option<Command<'_>>
     None
 }
 
-// the command of the line that is this word, a space and these fields, where the word is none of a key's
-fn command_of_session<'a>(word: &[u8], fields: &'a [u8]) -> Option<Command<'a>>
+// What the line asks for that is this word, a space and these fields, where the word is none of a key's
+fn request_without_key<'a>(word: &[u8], fields: &'a [u8]) -> Option<(u16, Request<'a>)>
     requires word { IsTrue (is_word word.now) }
     requires other { (w : Word) → word.now ≡ word_text w → names_key w ≡ false }
-    ensures found { IfSome result (λ command. Spells (word.now ++ 32 ∷ fields.now) (command_of command)) }
+    ensures found { IfSome result (λ p. Spells (word.now ++ 32 ∷ fields.now) (asked_by p.0 p.1)) }
     ensures none { IfNone result (SpellsNone (word.now ++ 32 ∷ fields.now)) }
 {
     if word == b"commit".as_slice() {
@@ -222,14 +222,12 @@ fn command_of_session<'a>(word: &[u8], fields: &'a [u8]) -> Option<Command<'a>>
     None
 }
 
-/// The command that the line spells, without the bytes that end it. None exactly where it spells none.
-pub fn parse(line: &[u8]) -> Option<Command<'_>>
-    ensures found { IfSome result (λ command. Spells line.now (command_of command)) }
-    ensures none { IfNone result (SpellsNone line.now) }
+// What the line asks for that is this word, a space and these fields
+fn request_of<'a>(word: &[u8], fields: &'a [u8]) -> Option<(u16, Request<'a>)>
+    requires { IsTrue (is_word word.now) }
+    ensures found { IfSome result (λ p. Spells (word.now ++ 32 ∷ fields.now) (asked_by p.0 p.1)) }
+    ensures none { IfNone result (SpellsNone (word.now ++ 32 ∷ fields.now)) }
 {
-    let Some((word, fields)) = split(line) else {
-        return command_alone(line);
-    };
     if word == b"insert".as_slice() {
         return insert_of(fields);
     }
@@ -242,5 +240,17 @@ pub fn parse(line: &[u8]) -> Option<Command<'_>>
     if word == b"lock".as_slice() {
         return lock_of(fields);
     }
-    command_of_session(word, fields)
+    request_without_key(word, fields)
+}
+
+/// The command that the line spells, without the bytes that end it. None exactly where it spells none.
+pub fn parse(line: &[u8]) -> Option<Command<'_>>
+    ensures found { IfSome result (λ command. Spells line.now (command_of command)) }
+    ensures none { IfNone result (SpellsNone line.now) }
+{
+    let Some((word, fields)) = split(line) else {
+        return command_alone(line);
+    };
+    let (s, request) = request_of(word, fields)?;
+    Some(Command::Session { s, request })
 }

@@ -7,7 +7,7 @@ mod reply;
 mod text;
 mod words;
 
-pub use command::{Command, one_spelling};
+pub use command::{Command, Request, one_spelling};
 pub use grammar::parse;
 pub use reply::{Reply, print};
 pub use text::{put, put_part};

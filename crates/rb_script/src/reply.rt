@@ -30,7 +30,7 @@ pub enum Reply<'a> {
     BadLine,
 }
 
-// puts the session that a reply is to, if there is one, and a space
+// Puts the session that a reply is to, if there is one, and a space
 fn put_caller(s: Option<u16>, into: &mut Line)
     requires { into.old.items ≡ [] }
     ensures items { into.new.items ≡ caller_text s }
@@ -42,7 +42,7 @@ fn put_caller(s: Option<u16>, into: &mut Line)
     }
 }
 
-// appends the text of a refusal
+// Appends the text of a refusal
 fn put_refusal(why: Refusal, into: &mut Line)
     requires { array_vec_len into.old + 74 ≤ 512 }
     ensures items { into.new.items ≡ into.old.items ++ refusal_text why }
@@ -67,7 +67,7 @@ fn put_refusal(why: Refusal, into: &mut Line)
     }
 }
 
-// all but the LF
+// Puts all but the LF
 fn put_reply(reply: &Reply<'_>, into: &mut Line)
     requires empty { into.old.items ≡ [] }
     requires fits { FitsALine reply.now }

@@ -1,6 +1,5 @@
 -- What is left where a script's end makes last what waits.
 use Rattle.std.proofs.Common.{◌≡◌, ◌≢◌, ◌∙◌, ℕ, false, List, [], Option, sym, ap, subst, arith}
-use Rattle.std.proofs.lemmas.Bool.{false≢true}
 use Rattle.rb_base.specs.Logs.{Laws}
 use Rattle.rb_base.specs.declared.shape.Shape.{Shape}
 use Rattle.rb_base.specs.declared.store.Store.{Ghosts}
@@ -8,7 +7,6 @@ use Rattle.rb_engine.specs.Does.{Does, EngineView, LeavesState, SameStore}
 use Rattle.rb_image.proofs.Steps.{opens_last}
 use Rattle.rb_image.specs.Images.{HasState}
 use Rattle.rb_model.specs.Calls.{Checkpoint, Done}
-use Rattle.rb_model.specs.Calls as calls
 use Rattle.rb_model.specs.Out.{Logged}
 use Rattle.rb_model.specs.Rows.{last_scn}
 use Rattle.rb_model.specs.State.{State}

@@ -8,5 +8,6 @@ pub mod ResumeLemmas
 pub mod Returns
 pub mod RunLemmas
 pub mod SaidLemmas
+pub mod SentLemmas
 pub mod StatusLemmas
 pub mod Restarting

@@ -1,14 +1,13 @@
 -- What the calls of a line say, one after another, and what becomes of it where the replies are sent.
-use Rattle.std.proofs.Common.{append_assoc, ◌≡◌, ◌∙◌, inr, ⊎_elim, refl, sym, ap, subst, arith, ℕ, suc, ◌+◌, ◌-◌, ◌<◌, ◌≤◌, Bool, true, false, List, [], ◌++◌, length, take, drop, Result, Ok, Err, min}
+use Rattle.std.proofs.Common.{append_assoc, ◌≡◌, ◌∙◌, inr, ⊎_elim, refl, sym, ap, subst, arith, ℕ, suc, ◌+◌, ◌-◌, ◌<◌, ◌≤◌, Bool, true, false, List, [], ◌++◌, length, Result, Ok, Err, min}
 use Rattle.std.proofs.lemmas.Bool.{cases_Bool, false≢true}
-use Rattle.std.proofs.lemmas.List.{append-nil, length-append, drop-append-le, take-append-drop, take-append-le, take_all, take_min}
-use Rattle.std.proofs.Math.Seq.{drop-append_seam, take-add}
+use Rattle.std.proofs.lemmas.List.{append-nil}
 use Rattle.std.specs.Bool.{MatchBool}
-use Rattle.std.specs.Prelude.{IfErr, OnErr, OnOk, Option}
+use Rattle.std.specs.Prelude.{Option}
 use Rattle.rb_base.specs.Counts.{err_is}
 use Rattle.rb_calls.proofs.CallLemmas.{on_no_fault}
 use Rattle.rb_lines.specs.Faults.{is_sink}
-use Rattle.rb_lines.specs.Ran.{CallsBegun, CutShort, LineBegun, Replied, RepliedAs}
+use Rattle.rb_lines.specs.Ran.{CallsBegun, CutShort, LineBegun}
 use Rattle.rb_lines.specs.declared.runner.StepFault.{StepFault}
 use Rattle.rb_lines.specs.declared.runner.StepFault.TheVariants.{Disk, Sink}
 use Rattle.rb_model.specs.Answers.{answer_of}
@@ -19,6 +18,7 @@ use Rattle.rb_model.specs.Lines.{Command, Spells, call_of, caller, most_calls, r
 use Rattle.rb_model.specs.Out.{Logged, CallOut, CallsOut, CommandOut, LineSaid, command, goes_on, Outside}
 use Rattle.rb_model.specs.State.{State}
 use Rattle.rb_model.proofs.Stops.{after_stops, fine_stays}
+use Rattle.rb_shell.proofs.SentLemmas.{added_holds, lost_holds, take_within}
 use Rattle.rb_shell.specs.Steps.{Added, CalledOnce, Calls, Lost, Said, SaidAs, SaidSoFar, Told}
 
 -- calls one after another
@@ -37,49 +37,6 @@ once_only : (m mid : Logged) (outside : Outside) (c : Command) (k : ℕ) (r : An
 once_only m mid outside c k r once =
     let none : ◌≡◌ {A = List ℕ} [] [] = refl in
     (r, [], mid, once, sym (append-nil (reply_text (caller c) r)), elim (goes_on r) as (λ b. MatchBool b (CallsOut mid outside c (suc k) 0 [] mid) (◌≡◌ {A = List ℕ} [] [] × (mid ≡ mid))) [ true ↦ (none, refl) | false ↦ (none, refl) ])
-
--- texts that were added, of which some were sent
-
-take_within : (n : ℕ) (text more : List ℕ) → take (min n (length text)) (text ++ more) ≡ take n text
-take_within n text more = take-append-le (min n (length text)) text more (omega arith) ∙ take_min n text
-
--- the sink holds the first of them
-abbrev Holds : Type 0 → (before held waiting out : List ℕ) → ℕ → Type 0
-Holds tells before held waiting out sent = (sent ≤ length out) × (tells → held ≡ before ++ take sent out) × (waiting ≡ drop sent out)
-
-added_holds : (tells : Type 0) (before held waiting held2 waiting2 out text : List ℕ) (sent : ℕ) → sent ≤ length out → (tells → held ≡ before ++ take sent out) → waiting ≡ drop sent out
-    → Added text tells held waiting held2 waiting2 → (sent2 : ℕ) × Holds tells before held2 waiting2 (out ++ text) sent2
-added_holds tells before held waiting held2 waiting2 out text sent few holds waits added =
-    let long = length-append out text in
-    ⊎_elim
-    (λ a. (
-      sent,
-      (
-        omega (arith, few, long),
-        (λ t. a.1 t ∙ holds t ∙ ap (λ (xs : List ℕ). before ++ xs) (sym (take-append-le sent out text few))),
-        a.0 ∙ ap (λ (xs : List ℕ). xs ++ text) waits ∙ sym (drop-append-le sent out text few),
-      ),
-    ))
-    (λ a. (
-      length out,
-      (
-        omega (arith, long),
-        (λ t. a.1 t ∙ ap (λ (xs : List ℕ). xs ++ waiting) (holds t) ∙ ap (λ (xs : List ℕ). (before ++ take sent out) ++ xs) waits
-            ∙ append_assoc before (take sent out) (drop sent out) ∙ ap (λ (xs : List ℕ). before ++ xs) (take-append-drop sent out ∙ sym (take-append-le (length out) out text (omega arith) ∙ take_all (length out) out (omega arith)))),
-        a.0 ∙ sym (drop-append_seam out text),
-      ),
-    ))
-    added
-
--- what was lost was some of what waited
-lost_holds : (tells : Type 0) (before held waiting held2 out : List ℕ) (sent : ℕ) → (tells → held ≡ before ++ take sent out) → waiting ≡ drop sent out
-    → Lost tells held waiting held2 → tells → (size : ℕ) × (held2 ≡ before ++ take size out)
-lost_holds tells before held waiting held2 out sent holds waits lost t =
-    let l = lost t in (
-      sent + l.0,
-      l.1 ∙ ap (λ (xs : List ℕ). xs ++ take l.0 waiting) (holds t) ∙ ap (λ (xs : List ℕ). (before ++ take sent out) ++ take l.0 xs) waits
-          ∙ append_assoc before (take sent out) (take l.0 (drop sent out)) ∙ ap (λ (xs : List ℕ). before ++ xs) (sym (take-add sent l.0 out)),
-    )
 
 -- calls of a line, each of which goes on
 
@@ -178,37 +135,6 @@ command_said m now outside line c tells before held waiting (Err Disk) short spe
 command_said m now outside line c tells before held waiting (Err Sink) short spells cut = λ t.
     let w = cut t in
     record { out = w.out; reply = inr (short, c, spells, w.reply); size = w.size; written = w.written }
-
--- what waited is sent
-
-all_sent : (R : List ℕ → Logged → Type 0) (now : Logged) (tells : Type 0) (before held waiting held2 : List ℕ) → Said R now tells before held waiting → (tells → held2 ≡ held ++ waiting) → Replied R now tells before held2
-all_sent R now tells before held waiting held2 said sent = record {
-  out = said.out;
-  reply = said.reply;
-  written = λ t. sent t ∙ ap (λ (xs : List ℕ). xs ++ waiting) (said.holds t) ∙ ap (λ (xs : List ℕ). (before ++ take said.sent said.out) ++ xs) said.waits
-      ∙ append_assoc before (take said.sent said.out) (drop said.sent said.out) ∙ ap (λ (xs : List ℕ). before ++ xs) (take-append-drop said.sent said.out);
-}
-
--- and where the sink fails then, some of it is
-some_sent : (R B : List ℕ → Logged → Type 0) (now : Logged) (tells : Type 0) (before held waiting held2 : List ℕ) → ((out : List ℕ) → R out now → B out now) → Said R now tells before held waiting → Lost tells held waiting held2 → tells → CutShort B now before held2
-some_sent R B now tells before held waiting held2 begun said lost t =
-    let l = lost_holds tells before held waiting held2 said.out said.sent said.holds said.waits lost t in
-    record { out = said.out; reply = begun said.out said.reply; size = l.0; written = l.1 }
-
--- by the end of the line
-
-module _ (R B : List ℕ → Logged → Type 0) (now : Logged) (tells : Type 0) (before held waiting held2 : List ℕ) (begun : (out : List ℕ) → R out now → B out now) where
-  pub ok_sent : (result : Result (Unit {0}) StepFault) → SaidAs R B now tells before held waiting (Ok tt)
-      → OnOk result (tells → held2 ≡ held ++ waiting) → OnErr result (Lost tells held waiting held2) → IfErr result (λ fault. fault ≡ Sink) → RepliedAs R B now tells before held2 result
-  ok_sent (Ok done) (said, going) sent lost by = (all_sent R now tells before held waiting held2 said sent, going)
-  ok_sent (Err Disk) (said, going) sent lost by = cc
-  ok_sent (Err Sink) (said, going) sent lost by = λ t. some_sent R B now tells before held waiting held2 begun said lost t
-
-  pub disk_sent : SaidAs R B now tells before held waiting (Err Disk) → (tells → held2 ≡ held ++ waiting) → RepliedAs R B now tells before held2 (Err Disk)
-  disk_sent (said, stopped) sent = (all_sent R now tells before held waiting held2 said sent, stopped)
-
-  pub disk_lost : SaidAs R B now tells before held waiting (Err Disk) → Lost tells held waiting held2 → RepliedAs R B now tells before held2 (Err Sink)
-  disk_lost (said, stopped) lost = λ t. some_sent R B now tells before held waiting held2 begun said lost t
 
 -- what a call ends with, by what became of its reply
 abbrev pub MatchTold : Result (Unit {0}) StepFault → code.Answer → Result code.Answer StepFault → Type 0

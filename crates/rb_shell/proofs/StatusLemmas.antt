@@ -12,6 +12,10 @@ use Rattle.rb_shell.specs.Statuses.{EndsFormat, by_disk, by_sink, by_source, sta
 use Rattle.rb_shell.specs.declared.status.Status.{Status}
 use Rattle.rb_shell.specs.declared.status.Status.TheVariants.{Done, Usage, SourceFault, DiskFault, SinkFault, NotAStore, NoMemory, NotEmpty, TooLong}
 
+-- a count by another test that comes to the same
+pub counted_as : (before now : ℕ) (a b : Bool) → a ≡ b → IsCountedAs before now a → IsCountedAs before now b
+counted_as before now a b same counted = subst (λ (x : Bool). IsCountedAs before now x) same counted
+
 -- lines that were done
 
 pub done_of : (e : LinesEnd) → status_of e ≡ Done → e ≡ ends.Done

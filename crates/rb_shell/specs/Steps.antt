@@ -1,15 +1,16 @@
 -- What a line's calls and replies leave, while some of the replies wait to be sent.
-use Rattle.std.specs.Prelude.{◌≡◌, ◌⊎◌, ℕ, ◌+◌, ◌≤◌, Bool, true, false, List, ◌++◌, length}
-use Rattle.std.specs.Prelude.{take, drop, Option, Result, Ok, Err}
+use Rattle.std.specs.Prelude.{◌≡◌, ◌⊎◌, ℕ, ◌+◌, ◌-◌, ◌/◌, ◌≤◌, Bool, true, false, List}
+use Rattle.std.specs.Prelude.{◌++◌, length, take, drop, Option, Some, Result, Ok, Err}
 use Rattle.rb_lines.specs.Ran.{CutShort}
 use Rattle.rb_lines.specs.declared.runner.StepFault.{StepFault}
 use Rattle.rb_lines.specs.declared.runner.StepFault.TheVariants.{Disk, Sink}
 use Rattle.rb_model.specs.Answers.{answer_of}
 use Rattle.rb_model.specs.Lines.{Command, is_remark, reply_text, without_return}
-use Rattle.rb_model.specs.Out.{Logged, CallOut, CallsOut, ResumesOut, Outside}
+use Rattle.rb_model.specs.Out.{Logged, CallOut, CallsOut, Outside}
 use Rattle.rb_model.specs.Calls.{Answer, Call, is_disk_fault}
 use Rattle.rb_model.specs.declared.answer.Answer as code
 use Rattle.rb_model.specs.declared.row.Row.{Row}
+use Rattle.rb_shell.specs.declared.replies.Waiting.{Waiting}
 use Rattle.rb_script.specs.declared.reply.Reply.{Reply}
 use Rattle.rb_script.specs.declared.reply.Reply.TheVariants as replies
 
@@ -88,24 +89,13 @@ SaidAs allows begun now tells before held waiting (Err Disk) = Said allows now t
     × (now.state.stopped ≡ true)
 SaidAs allows begun now tells before held waiting (Err Sink) = tells → CutShort begun now before held
 
--- Writes of ready sessions were tried again until none was ready, or one of them failed. Their replies wait.
-pub record HasResumed (start : Logged) (outside : Outside) (now : Logged) (waiting_before waiting_now : List ℕ)
-    (failed : Bool) : Type 0 where
-  pub count : ℕ
-  pub rest : List ℕ
-  pub resumed : ResumesOut start outside count rest now
-  pub waits : waiting_now ≡ waiting_before ++ rest
-  pub stopped : now.state.stopped ≡ failed
+-- for how many replies of a write there is room
+abbrev pub reply_room : Waiting → ℕ
+reply_room waiting = (73728 - length waiting.bytes.items) / 512
 
--- So many of them were, and none failed: what is tried from here on goes on from the start.
-pub record ResumedSoFar (start : Logged) (outside : Outside) (now : Logged)
-    (waiting_before waiting_now : List ℕ) : Type 0 where
-  pub count : ℕ
-  pub rest : List ℕ
-  pub goes_on : (more : ℕ) (out : List ℕ) (end : Logged) → ResumesOut now outside more out end
-      → ResumesOut start outside (count + more) (rest ++ out) end
-  pub waits : waiting_now ≡ waiting_before ++ rest
-  pub going : now.state.stopped ≡ false
+-- the reply to a session waits behind what waited
+abbrev pub HasReply : Waiting → ℕ → Answer → Waiting → Type 0
+HasReply before s r after = after.bytes.items ≡ before.bytes.items ++ reply_text (Some s) r
 
 -- So many calls of a command were made, each of which goes on: what goes on from here goes on from the start.
 pub record SaidSoFar (start : Logged) (outside : Outside) (c : Command) (count : ℕ) (now : Logged) (tells : Type 0)

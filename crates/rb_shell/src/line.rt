@@ -13,12 +13,12 @@ ghost use Rattle.rb_model.specs.Lines.{call_of, caller, most_calls};
 ghost use Rattle.rb_model.specs.Out.{Logged, CommandOut, LineOut, LineSaid};
 ghost use Rattle.rb_model.specs.Queue.{first_ready};
 ghost use Rattle.rb_script.specs.Commands.{command_of};
-ghost use Rattle.rb_shell.specs.Steps.{Calls, HasResumed, IsSkipped, Lost, SaidAs};
+ghost use Rattle.rb_shell.specs.Steps.{Calls, IsSkipped, Lost, SaidAs};
 
-use crate::replies::{OWN_BYTES, Waiting, reply_of, send, tell, tell_resumed};
+use crate::replies::{OWN_BYTES, Waiting, reply_of, send, tell};
 use arrayvec::ArrayVec;
 use rb_base::Store;
-use rb_calls::{MOST_READY, answer, calls_of};
+use rb_calls::{answer, calls_of, resume_ready};
 use rb_engine::Engine;
 use rb_lines::StepFault;
 use rb_model::{Answer, Row};
@@ -48,38 +48,6 @@ fn is_remark(line: &[u8]) -> bool
     }
 }
 
-/// The session that a command names, if it names one.
-fn caller_of(command: &Command<'_>) -> Option<u16>
-    ensures { result ≡ caller (command_of command.now) }
-{
-    match command {
-        Command::Write {
-            s,
-            t: _,
-            k: _,
-            op: _,
-        } => Some(*s),
-        Command::Lock { s, t: _, k: _ } => Some(*s),
-        Command::Commit { s } => Some(*s),
-        Command::Rollback { s } => Some(*s),
-        Command::Set { s, mode: _ } => Some(*s),
-        Command::Savepoint { s, name: _ } => Some(*s),
-        Command::RollbackTo { s, name: _ } => Some(*s),
-        Command::OpenCursor {
-            s,
-            name: _,
-            t: _,
-            lo: _,
-            hi: _,
-        } => Some(*s),
-        Command::Fetch { s, name: _, n: _ } => Some(*s),
-        Command::CloseCursor { s, name: _ } => Some(*s),
-        Command::Cancel { s } => Some(*s),
-        Command::Marks => None,
-        Command::Checkpoint => None,
-    }
-}
-
 /// Makes the k-th call of a command, from 0 on, and tells its answer.
 fn call_once<T: Store, K: Sink>(
     engine: &mut Engine<T>,
@@ -93,16 +61,16 @@ fn call_once<T: Store, K: Sink>(
     ensures did { (m : Logged) → StandsAs T.Store engine.old m → m.state.stopped ≡ false
         → Did (StandsAs T.Store) (IsSince T.Store) engine.old engine.new m (λ now. Calls m engine_outside
         (caller (command_of command.now)) (call_of (command_of command.now) k) row.new now K.tells (K.held sink.old)
-        waiting.old.items (K.held sink.new) waiting.new.items result) }
-    ensures room { OnOk result (array_vec_len waiting.new ≤ OWN_BYTES) }
-    ensures first { waiting.old.items ≡ [] → err_is is_sink result ≡ false }
+        waiting.old.bytes.items (K.held sink.new) waiting.new.bytes.items result) }
+    ensures room { OnOk result (array_vec_len waiting.new.bytes ≤ OWN_BYTES) }
+    ensures first { waiting.old.bytes.items ≡ [] → err_is is_sink result ≡ false }
     ensures same { SameStore T.Store engine.old.store engine.new.store }
     ensures disk { IsCountedBeside (T.faults engine.old.store) (T.faults engine.new.store) (err_is is_disk result)
         (err_is is_sink result) }
     ensures sink { IsCountedAs (K.faults sink.old) (K.faults sink.new) (err_is is_sink result) }
 {
     let answer = answer(engine, command, k, row);
-    tell(&reply_of(caller_of(command), answer, row), waiting, sink)?;
+    tell(&reply_of(command.session(), answer, row), waiting, sink)?;
     Ok(answer)
 }
 
@@ -114,12 +82,12 @@ fn run_command<T: Store, K: Sink>(
     waiting: &mut Waiting,
     sink: &mut K,
 ) -> Result<(), StepFault>
-    requires { waiting.old.items ≡ [] }
+    requires { waiting.old.bytes.items ≡ [] }
     ensures did { (m : Logged) → StandsAs T.Store engine.old m → m.state.stopped ≡ false
         → Did (StandsAs T.Store) (IsSince T.Store) engine.old engine.new m (λ now. SaidAs
         (CommandOut m engine_outside (command_of command.now)) (CallsBegun m engine_outside (command_of command.now))
-        now K.tells (K.held sink.old) (K.held sink.new) waiting.new.items result) }
-    ensures room { OnOk result (array_vec_len waiting.new ≤ OWN_BYTES) }
+        now K.tells (K.held sink.old) (K.held sink.new) waiting.new.bytes.items result) }
+    ensures room { OnOk result (array_vec_len waiting.new.bytes ≤ OWN_BYTES) }
     ensures same { SameStore T.Store engine.old.store engine.new.store }
     ensures disk { IsCountedBeside (T.faults engine.old.store) (T.faults engine.new.store) (err_is is_disk result)
         (err_is is_sink result) }
@@ -145,14 +113,14 @@ fn say_itself<T: Store, K: Sink>(
     waiting: &mut Waiting,
     sink: &mut K,
 ) -> Result<(), StepFault>
-    requires { waiting.old.items ≡ [] }
+    requires { waiting.old.bytes.items ≡ [] }
     ensures did { (m : Logged) → StandsAs T.Store engine.old m → m.state.stopped ≡ false
         → Did (StandsAs T.Store) (IsSince T.Store) engine.old engine.new m (λ now. SaidAs
         (LineSaid m engine_outside line.now) (LineBegun m engine_outside line.now) now K.tells (K.held sink.old)
-        (K.held sink.new) waiting.new.items result) }
-    ensures room { OnOk result (array_vec_len waiting.new ≤ OWN_BYTES) }
+        (K.held sink.new) waiting.new.bytes.items result) }
+    ensures room { OnOk result (array_vec_len waiting.new.bytes ≤ OWN_BYTES) }
     ensures skipped { IsSkipped line.now → (engine.new ≡ engine.old) × (sink.new ≡ sink.old)
-        × (waiting.new.items ≡ []) × (is_err result ≡ false) }
+        × (waiting.new.bytes.items ≡ []) × (is_err result ≡ false) }
     ensures same { SameStore T.Store engine.old.store engine.new.store }
     ensures disk { IsCountedBeside (T.faults engine.old.store) (T.faults engine.new.store) (err_is is_disk result)
         (err_is is_sink result) }
@@ -171,29 +139,6 @@ fn say_itself<T: Store, K: Sink>(
     }
 }
 
-/// Tries the writes of ready sessions again, that of the session that came first each time, until none is ready or the
-/// disk failed. The replies to them have room, and none is sent yet.
-fn resume_ready<T: Store>(engine: &mut Engine<T>, waiting: &mut Waiting) -> Result<(), StepFault>
-    requires { array_vec_len waiting.old ≤ OWN_BYTES }
-    ensures did { (m : Logged) → StandsAs T.Store engine.old m → m.state.stopped ≡ false
-        → Did (StandsAs T.Store) (IsSince T.Store) engine.old engine.new m (λ now. HasResumed m engine_outside now
-        waiting.old.items waiting.new.items (is_err result)) }
-    ensures idle { first_ready engine.old.memory.waits ≡ None
-        → (engine.new ≡ engine.old) × (waiting.new ≡ waiting.old) × (is_err result ≡ false) }
-    ensures same { SameStore T.Store engine.old.store engine.new.store }
-    ensures disk { IsCountedAs (T.faults engine.old.store) (T.faults engine.new.store) (is_err result) }
-    ensures by_disk { IfErr result (λ fault. fault ≡ StepFault.Disk) }
-{
-    // A write that was tried again leaves fewer sessions ready.
-    for _turn in 0..MOST_READY {
-        let Some((s, outcome)) = engine.resume() else {
-            return Ok(());
-        };
-        tell_resumed(s, outcome, waiting)?;
-    }
-    Ok(())
-}
-
 /// Does one line and the writes that it has made ready, and leaves the last of the replies waiting.
 fn say_line<T: Store, K: Sink>(
     engine: &mut Engine<T>,
@@ -201,29 +146,32 @@ fn say_line<T: Store, K: Sink>(
     waiting: &mut Waiting,
     sink: &mut K,
 ) -> Result<(), StepFault>
-    requires { waiting.old.items ≡ [] }
+    requires { waiting.old.bytes.items ≡ [] }
     ensures did { (m : Logged) → StandsAs T.Store engine.old m → m.state.stopped ≡ false
         → Did (StandsAs T.Store) (IsSince T.Store) engine.old engine.new m (λ now. SaidAs
         (LineOut m engine_outside line.now) (LineBegun m engine_outside line.now) now K.tells (K.held sink.old)
-        (K.held sink.new) waiting.new.items result) }
+        (K.held sink.new) waiting.new.bytes.items result) }
     ensures skipped { IsSkipped line.now → first_ready engine.old.memory.waits ≡ None
         → (engine.new ≡ engine.old) × (sink.new ≡ sink.old)
-        × (waiting.new.items ≡ []) × (is_err result ≡ false) }
+        × (waiting.new.bytes.items ≡ []) × (is_err result ≡ false) }
     ensures same { SameStore T.Store engine.old.store engine.new.store }
     ensures disk { IsCountedBeside (T.faults engine.old.store) (T.faults engine.new.store) (err_is is_disk result)
         (err_is is_sink result) }
     ensures sink { IsCountedAs (K.faults sink.old) (K.faults sink.new) (err_is is_sink result) }
 {
     say_itself(engine, line, waiting, sink)?;
-    resume_ready(engine, waiting)
+    match resume_ready(engine, waiting) {
+        Ok(()) => Ok(()),
+        Err(_) => Err(StepFault::Disk),
+    }
 }
 
 /// Puts the replies that wait at the end of a line.
 fn send_last<K: Sink>(waiting: &mut Waiting, sink: &mut K) -> Result<(), StepFault>
-    ensures sent { OnOk result (K.tells → K.held sink.new ≡ K.held sink.old ++ waiting.old.items) }
-    ensures lost { OnErr result (Lost K.tells (K.held sink.old) waiting.old.items (K.held sink.new)) }
+    ensures sent { OnOk result (K.tells → K.held sink.new ≡ K.held sink.old ++ waiting.old.bytes.items) }
+    ensures lost { OnErr result (Lost K.tells (K.held sink.old) waiting.old.bytes.items (K.held sink.new)) }
     ensures by_sink { IfErr result (λ fault. fault ≡ StepFault.Sink) }
-    ensures idle { waiting.old.items ≡ [] → (sink.new ≡ sink.old) × (is_err result ≡ false) }
+    ensures idle { waiting.old.bytes.items ≡ [] → (sink.new ≡ sink.old) × (is_err result ≡ false) }
     ensures counted { IsCounted (K.faults sink.old) (K.faults sink.new) result }
 {
     match send(waiting, sink) {
@@ -250,7 +198,7 @@ pub fn do_line<T: Store, K: Sink>(
         (err_is is_sink result) }
     ensures sink { IsCountedAs (K.faults sink.old) (K.faults sink.new) (err_is is_sink result) }
 {
-    waiting.clear();
+    waiting.bytes.clear();
     match say_line(engine, line, waiting, sink) {
         Ok(()) => send_last(waiting, sink),
         Err(StepFault::Disk) => {
@@ -281,5 +229,5 @@ pub fn step<T: Store, K: Sink>(
         (err_is is_sink result) }
     ensures sink { IsCountedAs (K.faults sink.old) (K.faults sink.new) (err_is is_sink result) }
 {
-    do_line(engine, line, &mut ArrayVec::new(), sink)
+    do_line(engine, line, &mut Waiting::none(), sink)
 }

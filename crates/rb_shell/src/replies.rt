@@ -1,6 +1,6 @@
 //! The replies of a line, which wait until it is done and are put in few pieces. `line` tells them.
 ghost use Rattle.std.specs.Prelude.{◌≡◌, ◌+◌, ◌≤◌, ◌++◌, ℕ, List, length, [], OnOk, OnErr};
-ghost use Rattle.std.specs.Prelude.{IsTrue, ◌↔◌, Option, None, Some, false, IfErr};
+ghost use Rattle.std.specs.Prelude.{IsTrue, ◌↔◌, Option, None, Some, false};
 ghost use Rattle.std.specs.Result.{is_err};
 ghost use Rattle.arrayvec.specs.ArrayVec.{array_vec_len};
 ghost use Rattle.rb_base.specs.Counts.{IsCounted, IsCountedAs, err_is};
@@ -15,7 +15,7 @@ ghost use Rattle.rb_stream.specs.StreamModel.{Puts};
 
 use arrayvec::ArrayVec;
 use rb_base::Failed;
-use rb_calls::MOST_READY;
+use rb_calls::{Listener, MOST_READY};
 use rb_lines::StepFault;
 use rb_model::{Answer, Refusal, Row, Wrote};
 use rb_script::{Reply, print};
@@ -34,7 +34,21 @@ const WAITING_BYTES: usize = 73_728;
 const _: () = prove!(OWN_BYTES + MOST_READY * REPLY_BYTES == WAITING_BYTES);
 
 /// What waits to be put: 64 KiB, and sixteen replies.
-pub type Waiting = ArrayVec<u8, WAITING_BYTES>;
+#[derive(Drop)]
+pub struct Waiting {
+    pub bytes: ArrayVec<u8, WAITING_BYTES>,
+}
+
+impl Waiting {
+    /// No reply waits.
+    pub fn none() -> Waiting
+        ensures { result.bytes.items ≡ [] }
+    {
+        Waiting {
+            bytes: ArrayVec::new(),
+        }
+    }
+}
 
 /// The reply to session `s`, or to none, where that answer has one.
 pub fn reply_of(s: Option<u16>, answer: Answer, row: &Row) -> Reply<'_>
@@ -84,47 +98,47 @@ fn is_disk_fault(reply: &Reply<'_>) -> bool
 
 /// Puts what waits, as one piece. Where nothing waits, the sink isn't called.
 pub fn send<K: Sink>(waiting: &mut Waiting, sink: &mut K) -> Result<(), Failed>
-    ensures sent { K.tells → Puts (K.held sink.old) (K.held sink.new) waiting.old.items result }
-    ensures none { OnOk result (waiting.new.items ≡ []) }
-    ensures idle { waiting.old.items ≡ [] → (sink.new ≡ sink.old) × (is_err result ≡ false) }
+    ensures sent { K.tells → Puts (K.held sink.old) (K.held sink.new) waiting.old.bytes.items result }
+    ensures none { OnOk result (waiting.new.bytes.items ≡ []) }
+    ensures idle { waiting.old.bytes.items ≡ [] → (sink.new ≡ sink.old) × (is_err result ≡ false) }
     ensures counted { IsCounted (K.faults sink.old) (K.faults sink.new) result }
 {
-    if waiting.is_empty() {
+    if waiting.bytes.is_empty() {
         return Ok(());
     }
-    sink.put(waiting.as_slice())?;
-    waiting.clear();
+    sink.put(waiting.bytes.as_slice())?;
+    waiting.bytes.clear();
     Ok(())
 }
 
 /// Whether one more reply of the line itself has room.
 fn has_room(waiting: &Waiting) -> bool
-    ensures { IsTrue result ↔ (array_vec_len waiting.now + REPLY_BYTES ≤ OWN_BYTES) }
+    ensures { IsTrue result ↔ (array_vec_len waiting.now.bytes + REPLY_BYTES ≤ OWN_BYTES) }
 {
-    waiting.len() + REPLY_BYTES <= OWN_BYTES
+    waiting.bytes.len() + REPLY_BYTES <= OWN_BYTES
 }
 
 /// Adds the text of a reply to what waits.
 fn keep(reply: &Reply<'_>, waiting: &mut Waiting)
     requires fits { FitsALine reply.now }
-    requires room { array_vec_len waiting.old + REPLY_BYTES ≤ WAITING_BYTES }
-    ensures items { waiting.new.items ≡ waiting.old.items ++ text_of_reply reply.now }
-    ensures len { array_vec_len waiting.new ≤ array_vec_len waiting.old + REPLY_BYTES }
+    requires room { array_vec_len waiting.old.bytes + REPLY_BYTES ≤ WAITING_BYTES }
+    ensures items { waiting.new.bytes.items ≡ waiting.old.bytes.items ++ text_of_reply reply.now }
+    ensures len { array_vec_len waiting.new.bytes ≤ array_vec_len waiting.old.bytes + REPLY_BYTES }
 {
     let mut text = ArrayVec::new();
     print(reply, &mut text);
-    let fits = waiting.try_extend_from_slice(text.as_slice()).is_ok();
+    let fits = waiting.bytes.try_extend_from_slice(text.as_slice()).is_ok();
     prove!(fits);
 }
 
 /// Adds the text of a reply to what waits, which is sent first where it leaves no room.
 fn add<K: Sink>(reply: &Reply<'_>, waiting: &mut Waiting, sink: &mut K) -> Result<(), Failed>
     requires { FitsALine reply.now }
-    ensures added { OnOk result (Added (text_of_reply reply.now) K.tells (K.held sink.old) waiting.old.items
-        (K.held sink.new) waiting.new.items) }
-    ensures lost { OnErr result (Lost K.tells (K.held sink.old) waiting.old.items (K.held sink.new)) }
-    ensures room { OnOk result (array_vec_len waiting.new ≤ OWN_BYTES) }
-    ensures first { waiting.old.items ≡ [] → is_err result ≡ false }
+    ensures added { OnOk result (Added (text_of_reply reply.now) K.tells (K.held sink.old) waiting.old.bytes.items
+        (K.held sink.new) waiting.new.bytes.items) }
+    ensures lost { OnErr result (Lost K.tells (K.held sink.old) waiting.old.bytes.items (K.held sink.new)) }
+    ensures room { OnOk result (array_vec_len waiting.new.bytes ≤ OWN_BYTES) }
+    ensures first { waiting.old.bytes.items ≡ [] → is_err result ≡ false }
     ensures counted { IsCounted (K.faults sink.old) (K.faults sink.new) result }
 {
     if !has_room(waiting) {
@@ -142,10 +156,10 @@ pub fn tell<K: Sink>(
     sink: &mut K,
 ) -> Result<(), StepFault>
     requires { FitsALine reply.now }
-    ensures told { Told (text_of_reply reply.now) (tells_fault reply.now) K.tells (K.held sink.old) waiting.old.items
-        (K.held sink.new) waiting.new.items result }
-    ensures room { OnOk result (array_vec_len waiting.new ≤ OWN_BYTES) }
-    ensures first { waiting.old.items ≡ [] → err_is is_sink result ≡ false }
+    ensures told { Told (text_of_reply reply.now) (tells_fault reply.now) K.tells (K.held sink.old)
+        waiting.old.bytes.items (K.held sink.new) waiting.new.bytes.items result }
+    ensures room { OnOk result (array_vec_len waiting.new.bytes ≤ OWN_BYTES) }
+    ensures first { waiting.old.bytes.items ≡ [] → err_is is_sink result ≡ false }
     ensures sink { IsCountedAs (K.faults sink.old) (K.faults sink.new) (err_is is_sink result) }
 {
     if add(reply, waiting, sink).is_err() {
@@ -157,23 +171,15 @@ pub fn tell<K: Sink>(
     Ok(())
 }
 
-/// Tells session `s` how the write came out that was tried again, and ends the step where the disk failed. The reply
-/// has room.
-pub fn tell_resumed(
-    s: u16,
-    outcome: Result<Wrote, Refusal>,
-    waiting: &mut Waiting,
-) -> Result<(), StepFault>
-    requires { array_vec_len waiting.old + REPLY_BYTES ≤ WAITING_BYTES }
-    ensures told { waiting.new.items ≡ waiting.old.items ++ reply_text (Some s) (write_answer outcome) }
-    ensures len { array_vec_len waiting.new ≤ array_vec_len waiting.old + REPLY_BYTES }
-    ensures fault { is_err result ≡ is_fault (write_answer outcome) }
-    ensures by_disk { IfErr result (λ fault. fault ≡ StepFault.Disk) }
-{
-    let reply = reply_to_write(s, outcome);
-    keep(&reply, waiting);
-    if is_disk_fault(&reply) {
-        return Err(StepFault::Disk);
+/// The replies to writes that are tried again wait too, behind those of the line itself.
+impl Listener for Waiting {
+    ghost use Rattle.rb_shell.specs.Steps.{HasReply, reply_room};
+
+    ghost room = { reply_room };
+
+    ghost heard = { HasReply };
+
+    fn hear(&mut self, s: u16, outcome: Result<Wrote, Refusal>) {
+        keep(&reply_to_write(s, outcome), self);
     }
-    Ok(())
 }

@@ -18,7 +18,6 @@ ghost use Rattle.rb_shell.specs.Statuses.{by_disk, by_sink, by_source, status_of
 use crate::line::do_line;
 use crate::replies::Waiting;
 use crate::status::Status;
-use arrayvec::ArrayVec;
 use rb_base::{OpenFault, Store};
 use rb_disk::Disk;
 use rb_engine::Engine;
@@ -147,7 +146,7 @@ fn run_engine<S: Source, K: Sink, T: Store>(
 {
     let mut interpreter = Interpreter {
         engine,
-        waiting: ArrayVec::new(),
+        waiting: Waiting::none(),
     };
     let end = run_lines(&mut interpreter, source, sink, buffer);
     let Interpreter {

@@ -44,13 +44,13 @@ loop-k-preserved g c =
     let fine = sym (t.fault c.answer-answer.new.row) ∙ ap is_err c.in_ok-note.was in
     record {
       so_far = λ m is going. did_on c.args.engine.now c.loop-k.engine c.answer-answer.new.engine m _ _ _ (λ a b d h n k. since_joined a b d h n k) (i.so_far m is going) (λ n so. so.going)
-          (λ n reached on. did_call g.T.Store n _ _ c.loop-k.engine c.answer-answer.new.engine _ reached on (o.did n.state reached.engine) o.same (o.lost n.state reached.engine) (o.makes n.state reached.engine) o.disk.still (λ now once. once))
+          (λ n reached on. did_call g.T.Store n _ _ c.loop-k.engine c.answer-answer.new.engine _ reached on o.made (λ now once. once))
           (λ n k so once. calls_more m n k _ _ _ c.loop-k.k (answer_of c.answer-answer.result c.answer-answer.new.row) _ _ _ so
           (subst (λ (end : ℕ). c.loop-k.k < end) (c.calls_of-k-end.ensures ∙ ap (λ (x : Shape). most_calls x (command_of c.args.command.now)) (c.shape.ensures.shape ∙ is.engine.shape)) c.loop-k-test.true)
           once (t.counted c.answer-answer.new.row) (on_calls c.answer-answer.result c.answer-answer.new.row c.in-Row.is));
       few = omega (arith, i.few, t.few);
-      same = record { shape = o.same.shape ∙ i.same.shape; slots = o.same.slots ∙ i.same.slots };
-      disk = o.disk.still fine ∙ i.disk;
+      same = record { shape = o.made.same.shape ∙ i.same.shape; slots = o.made.same.slots ∙ i.same.slots };
+      disk = o.made.disk.still fine ∙ i.disk;
     }
 
 pub returns-in_err-note-clause-did : goal.returns-in_err-note-clause-did
@@ -60,7 +60,7 @@ returns-in_err-note-clause-did g c = λ m is going.
     let t = c.note.ensures in
     let p = err_from_is_err_and c.from_residual.result c.from_residual.ensures.1 in
     did_on c.args.engine.now c.loop-k.engine c.answer-answer.new.engine m _ _ _ (λ a b d h n k. since_joined a b d h n k) (i.so_far m is going) (λ n so. so.going)
-    (λ n reached on. did_call g.T.Store n _ _ c.loop-k.engine c.answer-answer.new.engine _ reached on (o.did n.state reached.engine) o.same (o.lost n.state reached.engine) (o.makes n.state reached.engine) o.disk.still (λ now once. once))
+    (λ n reached on. did_call g.T.Store n _ _ c.loop-k.engine c.answer-answer.new.engine _ reached on o.made (λ now once. once))
     (λ n k so once.
     subst (λ (fault : Bool). HasCounted (CallsAnswered m engine_outside (command_of c.args.command.now) (most_calls m.state.shape (command_of c.args.command.now)) 0) k c.args.counts.now c.note.new.self fault) (sym (ap is_err p.1))
     (calls_fault m n k _ _ _ c.loop-k.k (answer_of c.answer-answer.result c.answer-answer.new.row) _ _ _ so
@@ -76,15 +76,15 @@ returns-in_default g c =
     let here : c.loop-k.k < most_calls (g.T.Store.shape_of c.args.engine.now.store) (command_of c.args.command.now) = subst (λ (end : ℕ). c.loop-k.k < end) (c.calls_of-k-end.ensures ∙ ap (λ (x : Shape). most_calls x (command_of c.args.command.now)) c.shape.ensures.shape) c.loop-k-test.true in
     record {
       did = λ m is going. did_on c.args.engine.now c.loop-k.engine c.answer-answer.new.engine m _ _ _ (λ a b d h n k. since_joined a b d h n k) (i.so_far m is going) (λ n so. so.going)
-          (λ n reached on. did_call g.T.Store n _ _ c.loop-k.engine c.answer-answer.new.engine _ reached on (o.did n.state reached.engine) o.same (o.lost n.state reached.engine) (o.makes n.state reached.engine) o.disk.still (λ now once. once))
+          (λ n reached on. did_call g.T.Store n _ _ c.loop-k.engine c.answer-answer.new.engine _ reached on o.made (λ now once. once))
           (λ n k so once.
           subst (λ (fault : Bool). HasCounted (CallsAnswered m engine_outside (command_of c.args.command.now) (most_calls m.state.shape (command_of c.args.command.now)) 0) k c.args.counts.now c.note.new.self fault) fine
           (calls_last m n k _ _ _ c.loop-k.k (answer_of c.answer-answer.result c.answer-answer.new.row) _ _ _ so
           (subst (λ (x : Shape). c.loop-k.k < most_calls x (command_of c.args.command.now)) is.engine.shape here)
           once (t.counted c.answer-answer.new.row) (ends_calls _ _ c.in_default.not-Row c.in_default.not-Marked)));
       few = omega (arith, i.few, t.few, here);
-      same = record { shape = o.same.shape ∙ i.same.shape; slots = o.same.slots ∙ i.same.slots };
-      disk = record { no_less = omega (arith, o.disk.still fine, i.disk); cause = tt; still = o.disk.still fine ∙ i.disk };
+      same = record { shape = o.made.same.shape ∙ i.same.shape; slots = o.made.same.slots ∙ i.same.slots };
+      disk = record { no_less = omega (arith, o.made.disk.still fine, i.disk); cause = tt; still = o.made.disk.still fine ∙ i.disk };
     }
 
 pub returns-clause-did : goal.returns-clause-did

@@ -10,14 +10,14 @@ use Rattle.rb_shell.proofs.line.call_once.Goals as goal
 pub returns-in_err-tell-clause-did : goal.returns-in_err-tell-clause-did
 returns-in_err-tell-clause-did g c = λ m is going.
     let p = err_from_is_err_and c.from_residual.result c.from_residual.ensures.1 in
-    did_call g.T.Store m _ _ c.args.engine.now c.answer-answer.new.engine _ is going (c.answer-answer.ensures.did m.state is.engine) c.answer-answer.ensures.same (c.answer-answer.ensures.lost m.state is.engine) (c.answer-answer.ensures.makes m.state is.engine) c.answer-answer.ensures.disk.still
+    did_call g.T.Store m _ _ c.args.engine.now c.answer-answer.new.engine _ is going c.answer-answer.ensures.made
     (λ now once. calls_as m now _ _ _ c.answer-answer.result c.answer-answer.new.row _ _ g.K.Sink.tells _ _ _ _ c.tell.result going once
-    (c.reply_of.ensures.text ∙ ap (λ (s : Option ℕ). reply_text s (answer_of c.answer-answer.result c.answer-answer.new.row)) c.caller_of.ensures) c.reply_of.ensures.fault c.tell.ensures.told c.from_residual.result
+    (c.reply_of.ensures.text ∙ ap (λ (s : Option ℕ). reply_text s (answer_of c.answer-answer.result c.answer-answer.new.row)) c.session.ensures) c.reply_of.ensures.fault c.tell.ensures.told c.from_residual.result
     (subst (λ (t : Result (Unit {0}) StepFault). MatchTold t c.answer-answer.result c.from_residual.result) (sym c.in_err-tell.was) (p.1 ∙ ap (λ (x : StepFault). Err x) p.2)))
 
 pub returns-clause-did : goal.returns-clause-did
 returns-clause-did g c = λ m is going.
-    did_call g.T.Store m _ _ c.args.engine.now c.answer-answer.new.engine _ is going (c.answer-answer.ensures.did m.state is.engine) c.answer-answer.ensures.same (c.answer-answer.ensures.lost m.state is.engine) (c.answer-answer.ensures.makes m.state is.engine) c.answer-answer.ensures.disk.still
+    did_call g.T.Store m _ _ c.args.engine.now c.answer-answer.new.engine _ is going c.answer-answer.ensures.made
     (λ now once. calls_as m now _ _ _ c.answer-answer.result c.answer-answer.new.row _ _ g.K.Sink.tells _ _ _ _ c.tell.result going once
-    (c.reply_of.ensures.text ∙ ap (λ (s : Option ℕ). reply_text s (answer_of c.answer-answer.result c.answer-answer.new.row)) c.caller_of.ensures) c.reply_of.ensures.fault c.tell.ensures.told (Ok c.answer-answer.result)
+    (c.reply_of.ensures.text ∙ ap (λ (s : Option ℕ). reply_text s (answer_of c.answer-answer.result c.answer-answer.new.row)) c.session.ensures) c.reply_of.ensures.fault c.tell.ensures.told (Ok c.answer-answer.result)
     (subst (λ (t : Result (Unit {0}) StepFault). MatchTold t c.answer-answer.result (Ok c.answer-answer.result)) (sym c.in_ok-tell.was) refl))

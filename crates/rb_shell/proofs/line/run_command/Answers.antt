@@ -87,8 +87,8 @@ returns-in_err-call_once-clause-did g c = λ m is going.
     (λ n reached on. c.call_once.ensures.did n reached on)
     (λ n k so calls.
     let fault : c.call_once.result ≡ Err p.0 = c.in_err-call_once.was ∙ sym (ap (λ (x : StepFault). Err x) p.2) in
-    let here = subst (λ (r : Result code.Answer StepFault). Calls n engine_outside (caller (command_of c.args.command.now)) (call_of (command_of c.args.command.now) c.loop-k.k) c.call_once.new.row k g.K.Sink.tells (g.K.Sink.held c.loop-k.sink) c.loop-k.waiting.items (g.K.Sink.held c.call_once.new.sink) c.call_once.new.waiting.items r) fault calls in
-    subst (λ (r : Result (Unit {0}) StepFault). SaidAs (CommandOut m engine_outside (command_of c.args.command.now)) (CallsBegun m engine_outside (command_of c.args.command.now)) k g.K.Sink.tells (g.K.Sink.held c.args.sink.now) (g.K.Sink.held c.call_once.new.sink) c.call_once.new.waiting.items r) (sym p.1)
+    let here = subst (λ (r : Result code.Answer StepFault). Calls n engine_outside (caller (command_of c.args.command.now)) (call_of (command_of c.args.command.now) c.loop-k.k) c.call_once.new.row k g.K.Sink.tells (g.K.Sink.held c.loop-k.sink) c.loop-k.waiting.bytes.items (g.K.Sink.held c.call_once.new.sink) c.call_once.new.waiting.bytes.items r) fault calls in
+    subst (λ (r : Result (Unit {0}) StepFault). SaidAs (CommandOut m engine_outside (command_of c.args.command.now)) (CallsBegun m engine_outside (command_of c.args.command.now)) k g.K.Sink.tells (g.K.Sink.held c.args.sink.now) (g.K.Sink.held c.call_once.new.sink) c.call_once.new.waiting.bytes.items r) (sym p.1)
     (calls_fault m n k _ _ c.loop-k.k c.call_once.new.row g.K.Sink.tells _ _ _ _ _ so p.0 (λ zero. sym (ap (λ (r : Result code.Answer StepFault). err_is is_sink r) fault) ∙ c.call_once.ensures.first (i.first zero)) (subst (λ (end : ℕ). c.loop-k.k < end) (c.calls_of-k-end.ensures ∙ ap (λ (x : Shape). most_calls x (command_of c.args.command.now)) (c.shape.ensures.shape ∙ is.engine.shape)) c.loop-k-test.true) here))
 
 pub returns-clause-did : goal.returns-clause-did

@@ -12,9 +12,9 @@ abbrev pub invariant-loop-k : goal.invariant-loop-k
 invariant-loop-k g l = record {
   so_far : (m : Logged) → StandsAs g.T.Store l.initial.engine m → m.state.stopped ≡ false
       → Did (StandsAs g.T.Store) (IsSince g.T.Store) l.initial.engine l.engine m
-      (λ now. SaidSoFar m engine_outside (command_of l.command) l.k now g.K.Sink.tells (g.K.Sink.held l.initial.sink) (g.K.Sink.held l.sink) l.waiting.items);
-  room : length l.waiting.items ≤ OWN_BYTES;
-  first : l.k ≡ 0 → l.waiting.items ≡ [];
+      (λ now. SaidSoFar m engine_outside (command_of l.command) l.k now g.K.Sink.tells (g.K.Sink.held l.initial.sink) (g.K.Sink.held l.sink) l.waiting.bytes.items);
+  room : length l.waiting.bytes.items ≤ OWN_BYTES;
+  first : l.k ≡ 0 → l.waiting.bytes.items ≡ [];
   same : SameStore g.T.Store l.initial.engine.store l.engine.store;
   disk : g.T.Store.faults l.engine.store ≡ g.T.Store.faults l.initial.engine.store;
   sink : g.K.Sink.faults l.sink ≡ g.K.Sink.faults l.initial.sink;

@@ -10,8 +10,7 @@ use Rattle.rb_shell.specs.Runs.{MadeLast}
 use Rattle.rb_calls.specs.Since.{engine_outside}
 use Rattle.rb_shell.specs.Statuses.{by_disk, by_sink, by_source}
 use Rattle.rb_shell.specs.declared.status.Status.TheVariants as statuses
-use Rattle.rb_calls.proofs.CallLemmas.{counted_as}
-use Rattle.rb_shell.proofs.StatusLemmas.{cases_end, counted_beside, counted_on, disk_of, done_by, done_of, last_sink, last_source, line_ends, sink_by, sink_of, source_of}
+use Rattle.rb_shell.proofs.StatusLemmas.{cases_end, counted_as, counted_beside, counted_on, disk_of, done_by, done_of, last_sink, last_source, line_ends, sink_by, sink_of, source_of}
 use Rattle.rb_shell.proofs.script.run_engine.Goals as goal
 
 pub returns-clause-did : goal.returns-clause-did

@@ -15,8 +15,7 @@ use Rattle.rb_shell.specs.Runs.{Endures, HasOpened, HasRun, Lasts, LeftBehind, P
 use Rattle.rb_shell.specs.Statuses.{AsksNothing, by_disk, by_sink}
 use Rattle.rb_shell.specs.declared.status.Status.TheVariants.{Done}
 use Rattle.rb_shell.proofs.RunLemmas.{endures, has_halted, has_run, rests_alone, rests_itself, was_cut_off}
-use Rattle.rb_calls.proofs.CallLemmas.{counted_as}
-use Rattle.rb_shell.proofs.StatusLemmas.{beside, disk_by, done_by, long_by, sink_by, source_by, uncounted}
+use Rattle.rb_shell.proofs.StatusLemmas.{beside, counted_as, disk_by, done_by, long_by, sink_by, source_by, uncounted}
 use Rattle.rb_shell.proofs.script.run_script.Given.{Over}
 use Rattle.rb_shell.proofs.script.run_script.Goals.{After-close}
 use Rattle.rb_shell.proofs.script.run_script.Goals as goal

@@ -1,7 +1,7 @@
 use Rattle.std.proofs.Common.{◌≡◌, false, refl, arith}
 use Rattle.rb_script.specs.Words.{names_key}
 use Rattle.rb_script.proofs.Spellings.{no_command}
-use Rattle.rb_script.proofs.grammar.command_of_session.Goals as goal
+use Rattle.rb_script.proofs.grammar.request_without_key.Goals as goal
 
 pub returns-clause-none : goal.returns-clause-none
 returns-clause-none c =

@@ -1,18 +1,16 @@
-use Rattle.std.proofs.Common.{◌≡◌, ◌∙◌, Bool, false, None, refl, sym, ap, subst, arith}
-use Rattle.std.proofs.lemmas.Result.{err_from_is_err_and}
-use Rattle.std.specs.Result.{is_err}
+use Rattle.std.proofs.Common.{◌≡◌, ◌+◌, ◌∙◌, ℕ, [], false, None, refl, sym, ap, subst, arith}
+use Rattle.rb_base.specs.Counts.{Rose}
+use Rattle.rb_calls.proofs.CallLemmas.{did_resume, did_still, fewer_on, none_some, tried_old}
+use Rattle.rb_calls.proofs.ResumeLemmas.{few_more, few_within, resumed_all, resumed_fails, resumed_more, resumed_none}
+use Rattle.rb_calls.specs.Since.{IsSince, StandsAs, since_same, since_joined}
 use Rattle.rb_engine.specs.Does.{EngineView}
 use Rattle.rb_lines.proofs.Dids.{did_on}
 use Rattle.rb_model.proofs.Stops.{fault_of_write}
 use Rattle.rb_model.specs.Out.{Logged}
 use Rattle.rb_model.specs.Queue.{first_ready}
-use Rattle.rb_calls.specs.Since.{IsSince, StandsAs, since_same, since_joined, engine_outside}
-use Rattle.rb_shell.specs.Steps.{HasResumed}
-use Rattle.rb_calls.proofs.CallLemmas.{did_resume, did_still, fewer_on, none_some, tried_old}
-use Rattle.rb_shell.proofs.ResumeLemmas.{resumed_all, resumed_fails, resumed_more, resumed_none}
 use Rattle.rb_waits.proofs.Turns.{none_ready}
-use Rattle.rb_shell.proofs.line.resume_ready.Given.{Over}
-use Rattle.rb_shell.proofs.line.resume_ready.Goals as goal
+use Rattle.rb_calls.proofs.resumes.resume_ready.Given.{Over}
+use Rattle.rb_calls.proofs.resumes.resume_ready.Goals as goal
 
 -- where no call is made yet, the store stays
 still : (g : Over) (e : EngineView g.row.T.Denot) (m : Logged) → StandsAs g.T.Store e m → m.state.stopped ≡ false → IsSince g.T.Store e e m m
@@ -28,9 +26,10 @@ still g e m is going = since_same e m (λ kept. record {
 
 pub loop-turn-init : goal.loop-turn-init
 loop-turn-init g c = record {
-  so_far = λ m is going. record { now = m; reached = is; passed = still g c.args.engine.now m is going; ran = resumed_none m _ _ going };
+  so_far = λ m is going. record { now = m; reached = is; passed = still g c.args.engine.now m is going; ran = resumed_none g.L.Listener.heard m _ _ going };
   fewer = λ one. absurd (omega (arith, one));
-  room = c.requires;
+  room = omega (arith, c.requires);
+  few = ([], omega arith, refl);
   idle = λ none. (refl, refl);
   same = record { shape = refl; slots = refl };
   disk = refl;
@@ -41,29 +40,40 @@ returns-in_default-clause-did g c = λ m is going.
     let d = c.loop-turn.invariant.so_far m is going in
     let e = c.in_default.ensures.did d.now.state d.reached.engine in
     did_still c.args.engine.now c.loop-turn.engine c.resume.new.self m _ e.1
-    (record { now = d.now; reached = d.reached; passed = d.passed; ran = resumed_all m d.now _ _ _ d.ran (e.0 d.ran.going) })
+    (record { now = d.now; reached = d.reached; passed = d.passed; ran = resumed_all g.L.Listener.heard m d.now _ _ _ d.ran (e.0 d.ran.going) })
 
-pub returns-in_err-tell_resumed-clause-did : goal.returns-in_err-tell_resumed-clause-did
-returns-in_err-tell_resumed-clause-did g c = λ m is going.
-    let i = c.loop-turn.invariant in
-    let t = c.tell_resumed.ensures in
-    let p = err_from_is_err_and c.from_residual.result c.from_residual.ensures.1 in
-    did_on c.args.engine.now c.loop-turn.engine c.resume.new.self m _ _ _ (λ a b d h n k. since_joined a b d h n k) (i.so_far m is going) (λ n so. so.going)
+pub returns-in_default-clause-few : goal.returns-in_default-clause-few
+returns-in_default-clause-few g c = few_within g.L.Listener.heard c.loop-turn._turn 16 _ _ (omega arith) c.loop-turn.invariant.few
+
+pub returns-then-has_failed-clause-did : goal.returns-then-has_failed-clause-did
+returns-then-has_failed-clause-did g c = λ m is going.
+    did_on c.args.engine.now c.loop-turn.engine c.resume.new.self m _ _ _ (λ a b d h n k. since_joined a b d h n k) (c.loop-turn.invariant.so_far m is going) (λ n so. so.going)
     (λ n reached on. did_resume g.T.Store n c.in-Some.s c.in-Some.outcome c.loop-turn.engine c.resume.new.self reached on c.resume.ensures.same (λ scn lost is. c.in-Some.ensures.lost n.state reached.engine c.in-Some.s scn lost (tried_old c.in-Some.s c.in-Some.outcome scn lost is)) (λ fine. c.in-Some.ensures.makes n.state reached.engine (fault_of_write c.in-Some.outcome ∙ fine)) (λ fine. c.in-Some.ensures.disk.still (fault_of_write c.in-Some.outcome ∙ fine)) _ (c.in-Some.ensures.did n.state reached.engine) (λ now again. again))
-    (λ n k so again. subst (λ (failed : Bool). HasResumed m engine_outside k c.args.waiting.now.items c.tell_resumed.new.waiting.items failed) (sym (ap is_err p.1))
-    (resumed_fails m n k _ c.in-Some.s _ _ _ _ so t.told again (sym t.fault ∙ ap is_err c.in_err-tell_resumed.was)))
+    (λ n k so again. resumed_fails g.L.Listener.heard m n k _ c.in-Some.s _ _ _ _ so again c.hear.ensures.heard (sym c.has_failed.ensures ∙ c.if-has_failed.true))
+
+pub returns-then-has_failed-clause-few : goal.returns-then-has_failed-clause-few
+returns-then-has_failed-clause-few g c = few_within g.L.Listener.heard (c.loop-turn._turn + 1) 16 _ _ (omega arith) (few_more g.L.Listener.heard c.loop-turn._turn _ _ _ c.in-Some.s _ c.loop-turn.invariant.few c.hear.ensures.heard)
+
+pub returns-then-has_failed-clause-disk : goal.returns-then-has_failed-clause-disk
+returns-then-has_failed-clause-disk g c =
+    let d = c.in-Some.ensures.disk in
+    record {
+      no_less = omega (arith, d.no_less, c.loop-turn.invariant.disk);
+      cause = subst (λ (n : ℕ). Rose n (g.T.Store.faults c.resume.new.self.store)) c.loop-turn.invariant.disk (d.cause (fault_of_write c.in-Some.outcome ∙ (sym c.has_failed.ensures ∙ c.if-has_failed.true)));
+      still = tt;
+    }
 
 pub loop-turn-preserved : goal.loop-turn-preserved
 loop-turn-preserved g c =
     let i = c.loop-turn.invariant in
-    let t = c.tell_resumed.ensures in
-    let fine = sym t.fault ∙ ap is_err c.in_ok-tell_resumed.was in
+    let fine = sym c.has_failed.ensures ∙ c.if-has_failed.false in
     record {
       so_far = λ m is going. did_on c.args.engine.now c.loop-turn.engine c.resume.new.self m _ _ _ (λ a b d h n k. since_joined a b d h n k) (i.so_far m is going) (λ n so. so.going)
           (λ n reached on. did_resume g.T.Store n c.in-Some.s c.in-Some.outcome c.loop-turn.engine c.resume.new.self reached on c.resume.ensures.same (λ scn lost is. c.in-Some.ensures.lost n.state reached.engine c.in-Some.s scn lost (tried_old c.in-Some.s c.in-Some.outcome scn lost is)) (λ fine. c.in-Some.ensures.makes n.state reached.engine (fault_of_write c.in-Some.outcome ∙ fine)) (λ fine. c.in-Some.ensures.disk.still (fault_of_write c.in-Some.outcome ∙ fine)) _ (c.in-Some.ensures.did n.state reached.engine) (λ now again. again))
-          (λ n k so again. resumed_more m n k _ c.in-Some.s _ _ _ _ so t.told again fine);
+          (λ n k so again. resumed_more g.L.Listener.heard m n k _ c.in-Some.s _ _ _ _ so again c.hear.ensures.heard fine);
       fewer = λ one. fewer_on _ _ c.loop-turn._turn c.in-Some.ensures.fewer c.resume.ensures.few i.fewer;
-      room = omega (arith, i.room, t.len);
+      room = omega (arith, i.room, c.hear.ensures.room);
+      few = few_more g.L.Listener.heard c.loop-turn._turn _ _ _ c.in-Some.s _ i.few c.hear.ensures.heard;
       idle = λ none. absurd (none_some (c.resume.ensures.idle (ap (λ (x : EngineView g.row.T.Denot). first_ready x.memory.waits) (i.idle none).0 ∙ none)).0 c.in-Some.is);
       same = record { shape = c.resume.ensures.same.shape ∙ i.same.shape; slots = c.resume.ensures.same.slots ∙ i.same.slots };
       disk = c.in-Some.ensures.disk.still (fault_of_write c.in-Some.outcome ∙ fine) ∙ i.disk;
@@ -79,5 +89,11 @@ returns-clause-did g c = λ m is going.
       now = d.now;
       reached = d.reached;
       passed = d.passed;
-      ran = resumed_all m d.now _ _ _ d.ran (sym (ap first_ready (d.reached.engine.knows.queue d.ran.going).waits) ∙ none);
+      ran = resumed_all g.L.Listener.heard m d.now _ _ _ d.ran (sym (ap first_ready (d.reached.engine.knows.queue d.ran.going).waits) ∙ none);
     }
+
+pub returns-clause-few : goal.returns-clause-few
+returns-clause-few g c = few_within g.L.Listener.heard c.loop-turn._turn 16 _ _ (omega arith) c.loop-turn.invariant.few
+
+pub hear-requires : goal.hear-requires
+hear-requires g c = let room = c.loop-turn.invariant.room in omega (arith, room)

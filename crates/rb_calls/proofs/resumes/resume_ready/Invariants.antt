@@ -1,20 +1,22 @@
-use Rattle.std.proofs.Common.{◌≡◌, ◌≤◌, ◌+◌, false}
+use Rattle.std.proofs.Common.{◌≡◌, ◌≤◌, ◌+◌, false, None}
+use Rattle.rb_calls.specs.Resumes.{HeardFew}
 use Rattle.rb_calls.specs.Since.{IsSince, StandsAs, engine_outside}
+use Rattle.rb_calls.proofs.ResumeLemmas.{ResumedSoFar}
 use Rattle.rb_engine.specs.Does.{SameStore}
-use Rattle.rb_generator.specs.Counted.{told}
-use Rattle.rb_generator.proofs.AnsweredLemmas.{ResumesSoFar}
 use Rattle.rb_lines.specs.Ran.{Did}
 use Rattle.rb_model.specs.Out.{Logged}
-use Rattle.rb_model.specs.Queue.{ready_count}
-use Rattle.rb_generator.proofs.commands.resume_ready.Given as goal
+use Rattle.rb_model.specs.Queue.{first_ready, ready_count}
+use Rattle.rb_calls.proofs.resumes.resume_ready.Given as goal
 
 abbrev pub invariant-loop-turn : goal.invariant-loop-turn
 invariant-loop-turn g l = record {
   so_far : (m : Logged) → StandsAs g.T.Store l.initial.engine m → m.state.stopped ≡ false
       → Did (StandsAs g.T.Store) (IsSince g.T.Store) l.initial.engine l.engine m
-      (λ now. ResumesSoFar m engine_outside now l.initial.counts l.counts);
+      (λ now. ResumedSoFar g.L.Listener.heard m engine_outside now l.initial.listener l.listener);
   fewer : 1 ≤ l._turn → ready_count l.engine.memory.waits + l._turn ≤ 16;
-  few : told l.counts ≤ told l.initial.counts + l._turn;
+  room : 16 ≤ g.L.Listener.room l.listener + l._turn;
+  few : HeardFew g.L.Listener.heard l._turn l.initial.listener l.listener;
+  idle : first_ready l.initial.engine.memory.waits ≡ None → (l.engine ≡ l.initial.engine) × (l.listener ≡ l.initial.listener);
   same : SameStore g.T.Store l.initial.engine.store l.engine.store;
   disk : g.T.Store.faults l.engine.store ≡ g.T.Store.faults l.initial.engine.store;
 }
