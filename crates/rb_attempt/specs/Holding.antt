@@ -1,11 +1,10 @@
--- Who holds a key, and whether it has a row, by its home as the blocks have it, which isn't cleaned.
-use Rattle.std.specs.Prelude.{◌==◌, ℕ, zero, suc, Bool, false, if◌then◌else◌, List, find}
+-- Who holds a key, by its home as the blocks have it, which isn't cleaned.
+use Rattle.std.specs.Prelude.{◌==◌, ℕ, zero, suc, if◌then◌else◌, List, find}
 use Rattle.std.specs.Prelude.{Option, None, Some}
 use Rattle.rb_base.specs.Blocks.{block_of, home_block}
 use Rattle.rb_base.specs.declared.ids.Xid.{Xid}
 use Rattle.rb_base.specs.declared.shape.Shape.{Shape}
 use Rattle.rb_cell.specs.declared.cell.Cell.{Cell}
-use Rattle.rb_cell.specs.declared.cell.TheConstants.{ROW}
 use Rattle.rb_heap.specs.Cleaning.{has_ended}
 use Rattle.rb_heap.specs.Homes.{Home, home_entry, home_of, is_keyed}
 use Rattle.rb_itl.specs.declared.slots.Entry.{Entry}
@@ -31,10 +30,6 @@ abbrev pub cell_locker : Home → Option Cell → Option Xid
 cell_locker home None = None
 cell_locker home (Some cell) = locker home cell.lock
 
-abbrev pub is_row : Option Cell → Bool
-is_row None = false
-is_row (Some cell) = cell.state == ROW
-
 -- the transaction, where it runs
 abbrev pub if_runs : (Xid → Look) → Option Xid → Option Xid
 if_runs look None = None
@@ -48,7 +43,3 @@ key_home shape blocks table key = home_of (block_of blocks (home_block shape tab
 abbrev pub holder_in : Shape → List (List ℕ) → ℕ → ℕ → Option Xid
 holder_in shape blocks table key = if_runs (env_of shape blocks).look
     (cell_locker (key_home shape blocks table key) (cell_of_key (key_home shape blocks table key) key))
-
--- the cell of the key is a row
-abbrev pub is_present : Shape → List (List ℕ) → ℕ → ℕ → Bool
-is_present shape blocks table key = is_row (cell_of_key (key_home shape blocks table key) key)

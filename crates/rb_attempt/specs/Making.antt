@@ -1,5 +1,5 @@
 -- What a write makes: the undo record of its change, and what the change adds to its group.
-use Rattle.std.specs.Prelude.{◌≡◌, ◌<◌, ◌≤◌, ◌+◌, ◌*◌, ◌^◌, ℕ, List, ◌++◌, length}
+use Rattle.std.specs.Prelude.{◌≡◌, ◌<◌, ◌+◌, ◌*◌, ◌^◌, ℕ, List, ◌++◌, length}
 use Rattle.rb_attempt.specs.Asks.{adds_row, home_for, kind_of, IsWriterOf}
 use Rattle.rb_attempt.specs.Refusals.{TakesWrite}
 use Rattle.rb_attempt.specs.declared.ask.Ask.{Ask}

@@ -1,6 +1,7 @@
 //! What a write is asked for, and why it isn't made. Callers of `attempt` use both.
+ghost use Rattle.std.specs.Prelude.{◌≡◌};
 
-use rb_base::Xid;
+use rb_base::{Failed, Xid};
 use rb_model::Op;
 use thiserror::Error;
 
@@ -46,4 +47,14 @@ pub enum AttemptFault {
     /// 2^60 groups or more are logged.
     #[error("the log numbers are used up")]
     WornOut,
+}
+
+impl From<Failed> for AttemptFault {
+    ghost use Rattle.rb_attempt.specs.declared.ask.AttemptFault.TheVariants.{Failed};
+
+    ghost from_gives = { λ _ fault. fault ≡ Failed };
+
+    fn from(_failed: Failed) -> AttemptFault {
+        AttemptFault::Failed
+    }
 }

@@ -22,7 +22,9 @@ use rb_base::{Group, SLOTS, Store, UNIT, WORN, Xid};
 use rb_heap::choose;
 
 /// Puts the write that is asked for into the group, or refuses to. The store is given no group by it, and only loads
-/// blocks.
+/// blocks. The key is looked for once more here: who holds it was asked of its block as it is (`holder_of`), since a
+/// write that waits for another transaction, or comes too late, leaves no group and so cleans nothing, while this one
+/// is made in the cleaned block.
 fn prepare<S: Store>(store: &mut S, ask: &Ask<'_>, group: &mut Group) -> Result<Xid, AttemptFault>
     requires going { S.failed store.old ≡ false }
     requires table { (1 ≤ ask.now.table) × (ask.now.table ≤ (S.shape_of store.old).tables) }
@@ -108,8 +110,6 @@ pub fn attempt<S: Store>(
     ensures numbers { OnOk result (S.lsn store.old < WORN) }
 {
     let xid = prepare(store, ask, group)?;
-    match store.apply(group) {
-        Ok(()) => Ok(xid),
-        Err(_) => Err(AttemptFault::Failed),
-    }
+    store.apply(group)?;
+    Ok(xid)
 }

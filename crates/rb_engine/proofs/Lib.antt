@@ -18,3 +18,4 @@ pub mod StepLemmas
 pub mod TellsLemmas
 pub mod WaitLemmas
 pub mod WriteLemmas
+pub mod WriteOrder

@@ -1,14 +1,17 @@
 -- What a write of a session does with the state, from the group of its step.
-use Rattle.std.proofs.Common.{◌≡◌, ◌≢◌, ◌≤◌, ◌+◌, ◌&&◌, ℕ, Bool, true, false, not, nat_le, List, [], ◌∷◌, ◌++◌, length, map, set, if◌then◌else◌, ◌-◌, Option, Some, None, Result, Ok, Err, IfErr, IfOk, refl, sym, ◌∙◌, ap, subst, arith}
+use Rattle.std.proofs.Common.{◌≡◌, ◌≢◌, ◌≤◌, ◌+◌, ◌/◌, ◌%◌, ◌&&◌, ℕ, Bool, true, false, not, nat_le, List, [], ◌∷◌, ◌++◌, length, map, set, if◌then◌else◌, ◌-◌, Option, Some, None, Result, Ok, Err, IfErr, IfOk, refl, sym, ◌∙◌, ap, subst, arith}
 use Rattle.rb_engine.proofs.CopyLemmas.{copies_same, copies_written}
 use Rattle.std.proofs.lemmas.List.{length-set}
 use Rattle.std.proofs.lemmas.Bool.Decides.{nat_tests}
+use Rattle.rb_attempt.specs.Asks.{AreYoung}
+use Rattle.rb_attempt.specs.Holding.{holder_in}
 use Rattle.rb_attempt.specs.Refusals.{has_failed}
 use Rattle.rb_attempt.specs.declared.ask.AttemptFault.{AttemptFault}
 use Rattle.rb_attempt.specs.declared.ask.AttemptFault.TheVariants as faults
 use Rattle.rb_base.specs.Groups.{Patch}
 use Rattle.rb_base.specs.Logs.{Laws, Logs, group_of}
 use Rattle.rb_base.specs.declared.ids.Xid.{Xid}
+use Rattle.rb_base.specs.declared.shape.Shape.{Shape}
 use Rattle.rb_base.specs.declared.store.Store.{Ghosts}
 use Rattle.rb_engine.specs.Does.{Does, EngineView, Goes, IsInStep, Kept, Keeps, Knows, SameStore, Stands}
 use Rattle.rb_engine.specs.Retains.{Retains}
@@ -29,7 +32,8 @@ use Rattle.rb_model.specs.Answers.{write_answer}
 use Rattle.rb_model.specs.Queue.{Waiter, closes, is_queued, waiting}
 use Rattle.rb_model.specs.declared.wrote.Wrote.{Wrote}
 use Rattle.rb_model.specs.declared.wrote.Wrote.TheVariants as wrote
-use Rattle.rb_model.specs.State.{State, isolation_of}
+use Rattle.rb_model.specs.Book.{Owner}
+use Rattle.rb_model.specs.State.{State, isolation_of, owner_at}
 use Rattle.rb_model.specs.Tests.{holder}
 use Rattle.rb_model.specs.declared.refusal.Refusal.{Refusal}
 use Rattle.rb_model.specs.declared.refusal.Refusal.TheVariants.{Deadlock, DiskFault}
@@ -38,7 +42,9 @@ use Rattle.rb_sessions.specs.Kept.{KeptSession, holding, kept_at, with_kept, wro
 use Rattle.rb_standing.specs.Standing.{env_of}
 use Rattle.rb_standing.specs.States.{BlocksStand}
 use Rattle.rb_undoengine.proofs.Firsts.{row_tests, split_tests}
-use Rattle.rb_undoengine.specs.Steps.{IsAbout, IsHolder, refusal_of}
+use Rattle.rb_undoengine.proofs.HolderWords.{holder_is}
+use Rattle.rb_undoengine.proofs.Young.{young}
+use Rattle.rb_undoengine.specs.Steps.{IsAbout, IsHolder, NotOthers, refusal_of}
 use Rattle.rb_verdict.specs.Verdict.{IsOwnId}
 use Rattle.rb_views.specs.Views.{Remembers}
 use Rattle.rb_views.proofs.Queues.{held_remembered, queue_remembered}
@@ -56,6 +62,9 @@ failed_is faults.WornOut = refl
 
 pub the_failure : (fault : AttemptFault) → is_disk_fault (refusal_of fault) ≡ true → refusal_of fault ≡ DiskFault
 the_failure fault is = the_fault (refusal_of fault) is
+
+pub same_some : (u v : ℕ) → ◌≡◌ {A = Option ℕ} (Some u) (Some v) → u ≡ v
+same_some u v is = cc
 
 pub few_group : (patches : List Patch) → length (group_of patches) ≤ 1
 few_group [] = omega arith
@@ -216,6 +225,21 @@ module _ (h : State) (xids : List Xid) (blocks : List (List ℕ)) (sessions : Li
       let up : held.0 ≤ 16 = omega (arith, range.1, sixteen) in
       none held.0 range.0 up ((knows.each held.0 range.0 up).id.owns held.1 held.3 ∙ ap (λ (y : Xid). Some y) (sym held.4))
 
+  -- and no other one has it
+  pub holder_only : (u : ℕ) → 1 ≤ u → u ≤ 16 → (kept_at sessions u).own ≡ Some x → held.0 ≡ u
+  holder_only u low high own =
+      let mine = (knows.each u low high).id.owned x own in
+      let a : x.seg ≡ held.1 / 16 = ap (λ (y : Xid). y.seg) held.4 in
+      let b : x.slot ≡ held.1 % 16 = ap (λ (y : Xid). y.slot) held.4 in
+      let d : x.seg ≡ mine.0 / 16 = ap (λ (y : Xid). y.seg) mine.2 in
+      let e : x.slot ≡ mine.0 % 16 = ap (λ (y : Xid). y.slot) mine.2 in
+      let slot : held.1 ≡ mine.0 = omega (arith, a, b, d, e) in
+      let one : held.3.owner ≡ mine.1.owner = same_owner held.3.owner mine.1.owner (sym held.3.at ∙ (ap (owner_at h) slot ∙ mine.1.at)) in
+      sym held.3.session ∙ (ap (λ (o : Owner). o.session) one ∙ mine.1.session)
+    where
+      same_owner : (o p : Owner) → ◌≡◌ {A = Option Owner} (Some o) (Some p) → o ≡ p
+      same_owner o p is = cc
+
 -- Calls that gave no group, and what a call does after them.
 module _ {S : Type 0} (s : Ghosts S) (told : s.tells) (laws : Laws s) (h : State) (old mid : EngineView S) (st : Stands s h old) (memory : mid.memory ≡ old.memory) (logs : Logs s old.store mid.store [] true) where
   -- the engine stands for the same state
@@ -244,3 +268,19 @@ module _ {S : Type 0} (s : Ghosts S) (told : s.tells) (laws : Laws s) (h : State
             (survives_same s told laws {fault = None} h h (st.goes going).xids old.store mid.store true st.shape refl refl refl (st.goes going).holds logs keeps)
             (subst (λ (k : Option ℕ). Survives s k (failed_in call answer before) h does.now mid.store new.store) logs.same_slots (does.survives before going keeps));
       }
+
+-- Who holds a key by its block is who does in the machine.
+pub holder_found : {S : Type 0} (s : Ghosts S) (store : S) (h : State) (xids : List Xid) (table key : ℕ) (o : Option Xid) → 1 ≤ table → table ≤ (s.shape_of store).tables → (AreYoung (s.shape_of store) (s.blocks store) → o ≡ holder_in (s.shape_of store) (s.blocks store) table key)
+    → BlocksStand h xids (s.blocks store) → s.shape_of store ≡ h.shape → IsHolder h (env_of h.shape (s.blocks store)) table key o
+holder_found s store h xids table key o first last is stand shape =
+    let blocks = s.blocks store in
+    let are_young : AreYoung (s.shape_of store) blocks = subst (λ (k : Shape). AreYoung k blocks) (sym shape) (young h xids blocks stand) in
+    let up : table ≤ h.shape.tables = subst (λ (k : Shape). table ≤ k.tables) shape last in
+    let at = is are_young ∙ ap (λ (k : Shape). holder_in k blocks table key) shape in
+    subst (λ (x : Option Xid). IsHolder h (env_of h.shape blocks) table key x) (sym at) (holder_is h xids blocks stand table key first up)
+
+pub none_holds : (h : State) (who table key : ℕ) → holder h table key ≡ None → NotOthers h who table key
+none_holds h who table key none u is = let clash : None ≡ Some u = sym none ∙ is in absurd cc
+
+pub own_holds : (h : State) (who table key u : ℕ) → holder h table key ≡ Some u → u ≡ who → NotOthers h who table key
+own_holds h who table key u held mine v is = let same : u ≡ v = same_some u v (sym held ∙ is) in sym same ∙ mine

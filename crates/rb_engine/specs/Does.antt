@@ -40,6 +40,11 @@ pub record Kept : Type 0 where
 abbrev pub with_copies : CopyTable → Kept → Kept
 with_copies copies kept = record kept { copies = copies }
 
+-- the engine is stopped where a call of the store failed, and else its memory is as it was
+abbrev pub StopsIf : Bool → (old new : Kept) → Type 0
+StopsIf true old new = new ≡ record old { stopped = true }
+StopsIf false old new = new ≡ old
+
 -- an engine: its memory, and the store
 pub record EngineView (S : Type 0) : Type 0 where
   pub memory : Kept

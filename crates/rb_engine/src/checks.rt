@@ -55,9 +55,7 @@ pub fn check_session(memory: &Memory, s: u16) -> Result<(), Refusal>
     ensures going { OnOk result (memory.now.stopped ≡ false) }
     ensures free { OnOk result (is_queued s memory.now.waits ≡ false) }
 {
-    if let Err(why) = check_number(memory, s) {
-        return Err(why);
-    }
+    check_number(memory, s)?;
     if memory.waits.waits(s) {
         return Err(Refusal::Waiting);
     }
@@ -83,9 +81,7 @@ pub fn check_table(memory: &Memory, shape: Shape, s: u16, table: u16) -> Result<
     ensures going { OnOk result (memory.now.stopped ≡ false) }
     ensures free { OnOk result (is_queued s memory.now.waits ≡ false) }
 {
-    if let Err(why) = check_session(memory, s) {
-        return Err(why);
-    }
+    check_session(memory, s)?;
     if !is_table(shape, table) {
         return Err(Refusal::NoTable);
     }
@@ -124,9 +120,7 @@ pub fn check_write(
     ensures going { OnOk result (memory.now.stopped ≡ false) }
     ensures free { OnOk result (is_queued s memory.now.waits ≡ false) }
 {
-    if let Err(why) = check_session(memory, s) {
-        return Err(why);
-    }
+    check_session(memory, s)?;
     if is_reader(memory, s) {
         return Err(Refusal::ReadOnly);
     }

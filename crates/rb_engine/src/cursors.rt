@@ -33,9 +33,7 @@ pub fn do_open_cursor<T: Store>(
         (record { memory = memory.old; store = store.now }) (record { memory = memory.new; store = store.now }) }
     ensures other { IfErr result (λ why. why ≢ Refusal.DiskFault) }
 {
-    if let Err(why) = check_table(memory, store.shape(), s, table) {
-        return Err(why);
-    }
+    check_table(memory, store.shape(), s, table)?;
     if memory.sessions.cursor(s, name).is_some() {
         return Err(Refusal::CursorThere);
     }
@@ -71,9 +69,7 @@ pub fn do_close_cursor<T: Store>(
         (record { memory = memory.old; store = store.now }) (record { memory = memory.new; store = store.now }) }
     ensures other { IfErr result (λ why. why ≢ Refusal.DiskFault) }
 {
-    if let Err(why) = check_session(memory, s) {
-        return Err(why);
-    }
+    check_session(memory, s)?;
     if memory.sessions.cursor(s, name).is_none() {
         return Err(Refusal::NoCursor);
     }

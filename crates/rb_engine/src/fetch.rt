@@ -51,9 +51,7 @@ pub fn do_fetch<T: Store>(
     ensures same { SameStore T.Store store.old store.new }
     ensures disk { IsCountedAs (T.faults store.old) (T.faults store.new) (err_is is_disk_fault result) }
 {
-    if let Err(why) = check_session(memory, s) {
-        return Err(why);
-    }
+    check_session(memory, s)?;
     let Some(cursor) = memory.sessions.cursor(s, name) else {
         return Err(Refusal::NoCursor);
     };
@@ -64,9 +62,6 @@ pub fn do_fetch<T: Store>(
         }
         Ok(Fetched::End) => Ok(Fetched::End),
         Err(CrFault::TooOld { scn, lost }) => Err(Refusal::TooOld { scn, lost }),
-        Err(CrFault::Failed) => {
-            memory.stop();
-            Err(Refusal::DiskFault)
-        }
+        Err(CrFault::Failed) => Err(memory.fail()),
     }
 }

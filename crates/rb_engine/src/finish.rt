@@ -134,10 +134,7 @@ fn commit_changes<T: Store>(
             memory.scn = scn;
             Ok(Some(scn))
         }
-        Err(_) => {
-            memory.stop();
-            Err(Refusal::DiskFault)
-        }
+        Err(_) => Err(memory.fail()),
     }
 }
 
@@ -169,10 +166,7 @@ fn end_without_changes<T: Store>(
 {
     match put_all_back(store, xid, 0) {
         Ok(()) => {}
-        Err(_) => {
-            memory.stop();
-            return Err(Refusal::DiskFault);
-        }
+        Err(_) => return Err(memory.fail()),
     }
     memory.sessions.commit(s);
     memory.waits.free(s);
@@ -209,10 +203,7 @@ fn roll_back_changes<T: Store>(
             memory.waits.free(s);
             Ok(())
         }
-        Err(_) => {
-            memory.stop();
-            Err(Refusal::DiskFault)
-        }
+        Err(_) => Err(memory.fail()),
     }
 }
 
@@ -236,9 +227,7 @@ pub fn do_commit<T: Store>(
     ensures same { SameStore T.Store store.old store.new }
     ensures disk { IsCountedAs (T.faults store.old) (T.faults store.new) (err_is is_disk_fault result) }
 {
-    if let Err(why) = check_session(memory, s) {
-        return Err(why);
-    }
+    check_session(memory, s)?;
     let session = memory.sessions.session(s);
     match session.own {
         Some(xid) if session.length > 0 => commit_changes(memory, store, s, xid),
@@ -266,9 +255,7 @@ pub fn do_rollback<T: Store>(memory: &mut Memory, store: &mut T, s: u16) -> Resu
     ensures same { SameStore T.Store store.old store.new }
     ensures disk { IsCountedAs (T.faults store.old) (T.faults store.new) (err_is is_disk_fault result) }
 {
-    if let Err(why) = check_session(memory, s) {
-        return Err(why);
-    }
+    check_session(memory, s)?;
     match memory.sessions.session(s).own {
         Some(xid) => roll_back_changes(memory, store, s, xid),
         None => {

@@ -30,8 +30,7 @@ pub fn do_marks<T: Store>(memory: &mut Memory, store: &mut T, seg: u16) -> Resul
     }
     let header = store.shape().header_block(seg);
     if store.load(header).is_err() {
-        memory.stop();
-        return Err(Refusal::DiskFault);
+        return Err(memory.fail());
     }
     let block = store.block();
     Ok(Marks {
@@ -59,9 +58,6 @@ pub fn do_checkpoint<T: Store>(memory: &mut Memory, store: &mut T) -> Result<(),
     }
     match store.checkpoint() {
         Ok(()) => Ok(()),
-        Err(_) => {
-            memory.stop();
-            Err(Refusal::DiskFault)
-        }
+        Err(_) => Err(memory.fail()),
     }
 }

@@ -1,6 +1,7 @@
 //! What the engine has in memory. It takes no more of it however many changes are made.
 use rb_base::Scn;
 use rb_copies::Copies;
+use rb_model::Refusal;
 use rb_sessions::Sessions;
 use rb_waits::Waits;
 use std::marker::Model;
@@ -32,11 +33,14 @@ impl Model for Memory {
 
 impl Memory {
     ghost use Rattle.std.specs.Prelude.{◌≡◌, true};
+    ghost use Rattle.rb_model.specs.declared.refusal.Refusal.TheVariants.{DiskFault};
 
-    /// Notes that the disk failed: no later call does anything.
-    pub(crate) fn stop(&mut self)
-        ensures { self.new ≡ record self.old { stopped = true } }
+    /// A call of the store failed: the engine is stopped, so that no later call does anything, and this is the answer.
+    pub(crate) fn fail(&mut self) -> Refusal
+        ensures stopped { self.new ≡ record self.old { stopped = true } }
+        ensures answer { result ≡ DiskFault }
     {
         self.stopped = true;
+        Refusal::DiskFault
     }
 }

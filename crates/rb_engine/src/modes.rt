@@ -31,9 +31,7 @@ pub fn do_set<T: Store>(memory: &mut Memory, store: &T, s: u16, mode: Mode) -> R
         (record { memory = memory.old; store = store.now }) (record { memory = memory.new; store = store.now }) }
     ensures other { IfErr result (λ why. why ≢ Refusal.DiskFault) }
 {
-    if let Err(why) = check_session(memory, s) {
-        return Err(why);
-    }
+    check_session(memory, s)?;
     if !is_unbegun(memory.sessions.session(s)) {
         return Err(Refusal::NotFirst);
     }

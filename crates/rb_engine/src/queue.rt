@@ -47,9 +47,7 @@ pub fn do_cancel<T: Store>(memory: &mut Memory, store: &T, s: u16) -> Result<(),
         (record { memory = memory.old; store = store.now }) (record { memory = memory.new; store = store.now }) }
     ensures other { IfErr result (λ why. why ≢ Refusal.DiskFault) }
 {
-    if let Err(why) = check_number(memory, s) {
-        return Err(why);
-    }
+    check_number(memory, s)?;
     if !memory.waits.waits(s) {
         return Err(Refusal::NotWaiting);
     }

@@ -32,9 +32,7 @@ pub fn do_savepoint<T: Store>(
         (record { memory = memory.old; store = store.now }) (record { memory = memory.new; store = store.now }) }
     ensures other { IfErr result (λ why. why ≢ Refusal.DiskFault) }
 {
-    if let Err(why) = check_session(memory, s) {
-        return Err(why);
-    }
+    check_session(memory, s)?;
     let count = memory.sessions.session(s).savepoints as usize;
     if count >= SAVEPOINTS && memory.sessions.savepoint(s, name).is_none() {
         return Err(Refusal::TooManySavepoints);
@@ -77,10 +75,7 @@ fn roll_back_later<T: Store>(
             memory.sessions.rollback_to(s, name);
             Ok(())
         }
-        Err(_) => {
-            memory.stop();
-            Err(Refusal::DiskFault)
-        }
+        Err(_) => Err(memory.fail()),
     }
 }
 
@@ -105,9 +100,7 @@ pub fn do_rollback_to<T: Store>(
     ensures same { SameStore T.Store store.old store.new }
     ensures disk { IsCountedAs (T.faults store.old) (T.faults store.new) (err_is is_disk_fault result) }
 {
-    if let Err(why) = check_session(memory, s) {
-        return Err(why);
-    }
+    check_session(memory, s)?;
     let Some(kept) = memory.sessions.savepoint(s, name) else {
         return Err(Refusal::NoSavepoint);
     };

@@ -2,7 +2,7 @@
 //! a key then.
 use crate::cell::reads;
 use crate::writers::{Writers, copy_of};
-use rb_attempt::{AttemptFault, Found, find};
+use rb_attempt::{AttemptFault, holder_of};
 use rb_base::{Shape, Store, Xid};
 use rb_cell::{ROW, STUB};
 use rb_model::Op;
@@ -86,30 +86,29 @@ fn rollback_full(rt: HostRuntime) -> Result<(), Fail> {
     Ok(())
 }
 
-/// Whether a key of the first table is held by the session's transaction, and has a row or not. Session 0 is none.
-fn is_held(writers: &mut Writers, key: u64, s: u16, present: bool) -> bool {
+/// Whether a key of the first table is held by the session's transaction. Session 0 is none.
+fn is_held(writers: &mut Writers, key: u64, s: u16) -> bool {
     let holder = writers.id(s);
     if writers.store.shape().tables == 0 {
         return false;
     }
-    find(&mut writers.store, 1, key) == Ok(Found { holder, present })
+    holder_of(&mut writers.store, 1, key) == Ok(holder)
 }
 
-// Who holds keys 7 and 9 of one block, and whether they have a row. A row that is deleted is held until the
-// transaction ends.
+// Who holds keys 7 and 9 of one block. A row that is deleted is held until the transaction ends.
 #[test]
 fn holders(rt: HostRuntime) -> Result<(), Fail> {
-    let rows: [(&[u8], u16, bool, u16, bool); 3] = [
-        (b"insert 1 1 7 a", 1, true, 0, false),
-        (b"insert 2 1 9 b", 1, true, 2, true),
-        (b"delete 1 1 7", 1, false, 2, true),
+    let rows: [(&[u8], u16, u16); 3] = [
+        (b"insert 1 1 7 a", 1, 0),
+        (b"insert 2 1 9 b", 1, 2),
+        (b"delete 1 1 7", 1, 2),
     ];
     let mut writers = Writers::new(rt.alloc(), SHAPE)?;
-    assert!(rt; is_held(&mut writers, 7, 0, false));
-    for (line, seven, has_seven, nine, has_nine) in rows {
+    assert!(rt; is_held(&mut writers, 7, 0));
+    for (line, seven, nine) in rows {
         assert!(rt; writers.line(line).is_ok());
-        assert!(rt; is_held(&mut writers, 7, seven, has_seven));
-        assert!(rt; is_held(&mut writers, 9, nine, has_nine));
+        assert!(rt; is_held(&mut writers, 7, seven));
+        assert!(rt; is_held(&mut writers, 9, nine));
     }
     Ok(())
 }

@@ -1,5 +1,5 @@
 -- What an attempt over a store tells of a write is the machine's answer, and its next state.
-use Rattle.std.proofs.Common.{◌≡◌, ◌<◌, ◌≤◌, ◌+◌, ◌*◌, ◌^◌, ℕ, Bool, true, false, not, List, [], ◌∷◌, length, Result, Ok, Err, IfOk, IfErr, OnOk, refl, sym, ap, subst, arith}
+use Rattle.std.proofs.Common.{◌≡◌, ◌<◌, ◌≤◌, ◌+◌, ◌*◌, ℕ, Bool, true, false, not, List, [], ◌∷◌, length, Result, Ok, Err, IfOk, IfErr, OnOk, refl, sym, ap, subst, arith}
 use Rattle.rb_attempt.specs.Asks.{IsWriterOf, adds_row, home_for, kind_of}
 use Rattle.rb_attempt.specs.Making.{MakesIfAny}
 use Rattle.rb_attempt.specs.Refusals.{Refuses, TakesWrite, has_failed}
@@ -23,7 +23,7 @@ use Rattle.rb_standing.specs.Writing.{IsWritten}
 use Rattle.rb_undoblock.specs.declared.record.UndoRecord.{UndoRecord}
 use Rattle.rb_undoengine.specs.StepLaws.{IsAsked}
 use Rattle.rb_model.specs.Answers.{action_by}
-use Rattle.rb_undoengine.specs.Steps.{IsAbout, MayWrite, refusal_of, owed_after}
+use Rattle.rb_undoengine.specs.Steps.{IsAbout, MayWrite, refusal_of}
 use Rattle.rb_undoengine.proofs.Firsts.{adds_is, kind_is}
 use Rattle.rb_undoengine.proofs.Done.{answered, id_is, ids_are, stands}
 use Rattle.rb_undoengine.proofs.HomeWords.{which_in}
@@ -62,7 +62,7 @@ module _ {S : Type 0} (store : Ghosts S) (told : store.tells) (old new : S) (h :
       × (Answered (store.lsn old) x.seg x.slot ≡ Refused (refusal_of fault))
 
   -- blocks in which the write that was asked for is made, and which no test of it refused
-  module _ (x : Xid) (now : List (List ℕ)) (s_in : s ≤ length h.sessions) (number : store.lsn old ≡ logged_of h.shape Before) (few : owed_after h.shape Before ask.own ≤ 2 ^ 13) (w : IsAskMade h.shape Before now ask x)
+  module _ (x : Xid) (now : List (List ℕ)) (s_in : s ≤ length h.sessions) (number : store.lsn old ≡ logged_of h.shape Before) (w : IsAskMade h.shape Before now ask x)
       (takes : TakesWrite (home_for h.shape Before ask) (adds_row ask.op) ask.key) (young : store.lsn old < WORN) where
     asked : IsAsked h ask x w.1
     asked = record { table = w.4; key = w.5; wrap = w.6; home = w.7 }
@@ -85,11 +85,11 @@ module _ {S : Type 0} (store : Ghosts S) (told : store.tells) (old new : S) (h :
         let more = write_logged h xids Before now (16 * x.seg + x.slot) (adds_row ask.op) (kind_of ask.op) w.0 w.1 about.stand t_in home_in w.8 in
         record {
           in_slot = writers.writes_in h xids Before s ask.own about x w.2 w.3;
-          granted = answered h xids Before now s ask about s_in first last mine x w.2 w.3 w.0 w.1 asked takes w.8 early few;
-          stand = stands h xids Before now s ask about s_in first last mine x w.2 w.3 w.0 w.1 asked takes w.8 early few;
+          granted = answered h xids Before now s ask about s_in first last mine x w.2 w.3 w.0 w.1 asked takes w.8 early;
+          stand = stands h xids Before now s ask about s_in first last mine x w.2 w.3 w.0 w.1 asked takes w.8 early;
           last = more;
-          ids = λ r t owns. ids_are h xids Before now s ask about s_in first last mine x w.2 w.3 w.0 w.1 asked takes w.8 early few t owns.owner (owner_within h xids (segments_of h.shape Before) (homes_of h.shape Before) (stood_of h xids Before about.stand) t owns.owner owns.at) owns.at;
-          id = id_is h xids Before now s ask about s_in first last mine x w.2 w.3 w.0 w.1 asked takes w.8 early few;
+          ids = λ r t owns. ids_are h xids Before now s ask about s_in first last mine x w.2 w.3 w.0 w.1 asked takes w.8 early t owns.owner (owner_within h xids (segments_of h.shape Before) (homes_of h.shape Before) (stood_of h xids Before about.stand) t owns.owner owns.at) owns.at;
+          id = id_is h xids Before now s ask about s_in first last mine x w.2 w.3 w.0 w.1 asked takes w.8 early;
           tells = write_tells h xids Before now (16 * x.seg + x.slot) (adds_row ask.op) (kind_of ask.op) w.0 w.1 about.stand t_in w.8;
           address = w.0;
           undo = w.1;
@@ -102,20 +102,20 @@ module _ {S : Type 0} (store : Ghosts S) (told : store.tells) (old new : S) (h :
         }
 
   -- what a group makes, where one is given
-  pub makes : (patches : List Patch) → s ≤ length h.sessions → store.lsn old ≡ logged_of h.shape Before → owed_after h.shape Before ask.own ≤ 2 ^ 13 → MakesIfAny (store.shape_of old) Before ask (store.lsn old) patches
+  pub makes : (patches : List Patch) → s ≤ length h.sessions → store.lsn old ≡ logged_of h.shape Before → MakesIfAny (store.shape_of old) Before ask (store.lsn old) patches
       → 0 < length patches → (x : Xid) × WriteMade h xids s ask.table ask.key (action_by ask.op) x Before (after_group (store.lsn old + 1) patches Before)
-  makes patches s_in number few made some =
+  makes patches s_in number made some =
       let m = subst (λ (k : Shape). MakesIfAny k Before ask (store.lsn old) patches) same made some in
       let now = after_group (store.lsn old + 1) patches Before in
       let may = m.0 in
-      (m.1.0, write_made m.1.0 now s_in number few m.1.1 may.takes may.numbers)
+      (m.1.0, write_made m.1.0 now s_in number m.1.1 may.takes may.numbers)
 
   -- a write that is done
-  done_one : (x : Xid) (patches : List Patch) → s ≤ length h.sessions → store.lsn old ≡ logged_of h.shape Before → owed_after h.shape Before ask.own ≤ 2 ^ 13 → Logs store old new (group_of patches) true
+  done_one : (x : Xid) (patches : List Patch) → s ≤ length h.sessions → store.lsn old ≡ logged_of h.shape Before → Logs store old new (group_of patches) true
       → IsAskMade h.shape Before Now ask x → TakesWrite (home_for h.shape Before ask) (adds_row ask.op) ask.key → store.lsn old < WORN
       → GivesOne store old new true (λ now. WriteMade h xids s ask.table ask.key (action_by ask.op) x Before now)
-  done_one x patches s_in number few logs w takes young =
-      let made = write_made x Now s_in number few w takes young in
+  done_one x patches s_in number logs w takes young =
+      let made = write_made x Now s_in number w takes young in
       by patches logs made
     where
       by : (l : List Patch) → Logs store old new (group_of l) true → WriteMade h xids s ask.table ask.key (action_by ask.op) x Before Now → GivesOne store old new true (λ now. WriteMade h xids s ask.table ask.key (action_by ask.op) x Before now)
@@ -130,15 +130,15 @@ module _ {S : Type 0} (store : Ghosts S) (told : store.tells) (old new : S) (h :
         made = λ some. subst (λ (b : List (List ℕ)). WriteMade h xids s ask.table ask.key (action_by ask.op) x Before b) (logs.blocks told refl) made;
       }
 
-  pub done : (r : Result Xid AttemptFault) (patches : List Patch) → s ≤ length h.sessions → store.lsn old ≡ logged_of h.shape Before → owed_after h.shape Before ask.own ≤ 2 ^ 13 → Logs store old new (group_of patches) (not (has_failed r))
+  pub done : (r : Result Xid AttemptFault) (patches : List Patch) → s ≤ length h.sessions → store.lsn old ≡ logged_of h.shape Before → Logs store old new (group_of patches) (not (has_failed r))
       → IfOk r (IsAskMade (store.shape_of old) Before Now ask) → OnOk r (TakesWrite (home_for (store.shape_of old) Before ask) (adds_row ask.op) ask.key) → OnOk r (store.lsn old < WORN)
       → IfOk r (λ x. GivesOne store old new true (λ now. WriteMade h xids s ask.table ask.key (action_by ask.op) x Before now))
-  done (Ok x) patches s_in number few logs made takes young =
-      done_one x patches s_in number few logs
+  done (Ok x) patches s_in number logs made takes young =
+      done_one x patches s_in number logs
       (subst (λ (k : Shape). IsAskMade k Before Now ask x) same made)
       (subst (λ (k : Shape). TakesWrite (home_for k Before ask) (adds_row ask.op) ask.key) same takes)
       young
-  done (Err fault) patches s_in number few logs made takes young = tt
+  done (Err fault) patches s_in number logs made takes young = tt
 
   -- a call of the store failed, with the group or before it
   pub failed_as : (patches : List Patch) → Logs store old new (group_of patches) false → (0 < length patches → (x : Xid) × WriteMade h xids s ask.table ask.key (action_by ask.op) x Before (after_group (store.lsn old + 1) patches Before))

@@ -34,9 +34,10 @@ use Rattle.rb_standing.proofs.WriteMachine.{id_after, ids_after, owns_after, wri
 use Rattle.rb_undoblock.specs.declared.record.UndoRecord.{UndoRecord}
 use Rattle.rb_undoengine.specs.StepLaws.{IsAsked}
 use Rattle.rb_model.specs.Answers.{action_by}
-use Rattle.rb_undoengine.specs.Steps.{IsAbout, MayWrite, owed_after}
+use Rattle.rb_undoengine.specs.Steps.{IsAbout, MayWrite}
 use Rattle.rb_undoengine.proofs.Firsts.{kind_is}
 use Rattle.rb_undoengine.proofs.HomeWords as home
+use Rattle.rb_undoengine.proofs.Owed.{after_few}
 use Rattle.rb_undoengine.proofs.Refused.{not_refused}
 use Rattle.rb_undoengine.proofs.WriterWords as words
 use Rattle.rb_undoengine.proofs.Writers as writers
@@ -58,7 +59,7 @@ has_place ready room (inr (e, may, is)) none =
 
 module _ (h : State) (xids : List Xid) (before now : List (List ℕ)) (s : ℕ) (ask : Ask) (about : IsAbout h xids s ask.own before) (s_in : s ≤ length h.sessions) (first : 1 ≤ ask.table) (last : ask.table ≤ h.shape.tables) (mine : MayWrite h s ask.table ask.key)
     (x : Xid) (ready : Header) (writer : IsWriterOf h.shape before ask.own x ready) (address : Uba) (u : UndoRecord) (asked : IsAsked h ask x u) (takes : TakesWrite (home_for h.shape before ask) (adds_row ask.op) ask.key)
-    (is : IsWritten h.shape (16 * x.seg + x.slot) (adds_row ask.op) (kind_of ask.op) address u before now) (young : logged_of h.shape before < WORN) (few : owed_after h.shape before ask.own ≤ 2 ^ 13) where
+    (is : IsWritten h.shape (16 * x.seg + x.slot) (adds_row ask.op) (kind_of ask.op) address u before now) (young : logged_of h.shape before < WORN) where
   abbrev At : ℕ
   At = 16 * x.seg + x.slot
 
@@ -143,7 +144,7 @@ module _ (h : State) (xids : List Xid) (before now : List (List ℕ)) (s : ℕ) 
 
   -- what is owed leaves room for the record, and for its slot
   has_room : HasRoomFor h.shape before At
-  has_room = by (is_some ask.own) (writers.active_is h xids before s ask.own about x ready writer) few
+  has_room = by (is_some ask.own) (writers.active_is h xids before s ask.own about x ready writer) (after_few h xids before ask.own about.stand)
     where
       by : (b : Bool) → ((slot_of Segs At).state == 1) ≡ b → owed_in h.shape before + (if b then 1 else 2) ≤ 2 ^ 13 → HasRoomFor h.shape before At
       by true test kept = let o = owed_same h before in rw test (omega (arith, o, kept, young))

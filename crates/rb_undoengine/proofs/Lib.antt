@@ -4,7 +4,7 @@ mod Done
 pub mod Finishing
 pub mod Firsts
 mod Found
-mod HolderWords
+pub mod HolderWords
 mod HomeWords
 pub mod LeftOwn
 mod Logged
@@ -17,4 +17,4 @@ mod StepBack
 mod Told
 mod WriterWords
 mod Writers
-mod Young
+pub mod Young

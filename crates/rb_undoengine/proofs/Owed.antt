@@ -18,7 +18,6 @@ use Rattle.rb_standing.specs.Values.{IsSaved, Listed, SlotStands, StandingAs, ow
 use Rattle.rb_txntable.specs.declared.slots.TableSlot.{TableSlot}
 use Rattle.rb_undoblock.specs.Undo.{no_undo}
 use Rattle.rb_undoblock.specs.declared.record.UndoRecord.{UndoRecord}
-use Rattle.rb_undoengine.specs.Steps.{owed_after}
 use Rattle.rb_undoengine.proofs.Writers.{owed_same}
 use Rattle.rb_verdict.proofs.Sums.{sum_none, sum_plus, sum_swap}
 use Rattle.rb_walk.specs.Walk.{Change, own}
@@ -240,6 +239,10 @@ module _ (h : State) (xids : List Xid) (blocks : List (List ℕ)) (stand : Block
 
   owed_few : owed h.shape Segs ≤ 336 * h.shape.segments
   owed_few = sum_sixteens (λ t. slot_owed (slot_of Segs t)) h.shape.segments segment_few
+
+-- how many groups put back what is under way after a write of a transaction that has its slot, or takes one
+abbrev pub owed_after : Shape → List (List ℕ) → Option Xid → ℕ
+owed_after shape blocks own = owed_in shape blocks + (if is_some own then 1 else 2)
 
 -- So it is after a write, in at most 16 segments.
 pub after_few : (h : State) (xids : List Xid) (blocks : List (List ℕ)) (own : Option Xid) → BlocksStand h xids blocks → owed_after h.shape blocks own ≤ 2 ^ 13

@@ -1,7 +1,7 @@
 -- An attempt's answer is the machine's: a refusal is the first of its tests that applies, and a write that is done is
 -- one that no test refuses, after which the blocks stand for the machine's next state. Who holds a key is who does in
 -- the machine, and a session that is about to write has a place for it.
-use Rattle.std.specs.Prelude.{◌≡◌, ◌<◌, ◌≤◌, ◌+◌, ◌*◌, ◌^◌, ℕ, List, length, Option}
+use Rattle.std.specs.Prelude.{◌≡◌, ◌<◌, ◌≤◌, ◌+◌, ◌*◌, ℕ, List, length, Option}
 use Rattle.rb_attempt.specs.Asks.{adds_row, home_for, kind_of, IsWriterOf}
 use Rattle.rb_attempt.specs.Holding.{holder_in}
 use Rattle.rb_attempt.specs.Refusals.{Refuses, TakesWrite}
@@ -20,7 +20,7 @@ use Rattle.rb_standing.specs.States.{BlocksStand}
 use Rattle.rb_standing.specs.Writing.{IsWritten}
 use Rattle.rb_undoblock.specs.declared.record.UndoRecord.{UndoRecord}
 use Rattle.rb_model.specs.Answers.{action_by}
-use Rattle.rb_undoengine.specs.Steps.{refusal_of, owed_after, IsAbout, IsHolder, MayWrite}
+use Rattle.rb_undoengine.specs.Steps.{refusal_of, IsAbout, IsHolder, MayWrite}
 
 -- the record is that of the ask, by that transaction
 pub record IsAsked (h : State) (ask : Ask) (x : Xid) (u : UndoRecord) : Type 0 where
@@ -49,7 +49,7 @@ DoneAsMachine = (h : State) (xids : List Xid) (before now : List (List ℕ)) (s 
     → ask.table ≤ h.shape.tables → MayWrite h s ask.table ask.key → IsWriterOf h.shape before ask.own x ready
     → IsAsked h ask x u → TakesWrite (home_for h.shape before ask) (adds_row ask.op) ask.key
     → IsWritten h.shape (16 * x.seg + x.slot) (adds_row ask.op) (kind_of ask.op) address u before now
-    → logged_of h.shape before < WORN → owed_after h.shape before ask.own ≤ 2 ^ 13
+    → logged_of h.shape before < WORN
     → WritesIn h s x.seg x.slot
     × (first_of (write_tests h (logged_of h.shape before) x.seg x.slot s ask.table ask.key (action_by ask.op))
     Done ≡ Done)

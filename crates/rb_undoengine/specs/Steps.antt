@@ -1,15 +1,13 @@
 -- What the engine's calls of the store are to the machine.
-use Rattle.std.specs.Prelude.{◌≡◌, ◌≤◌, ◌+◌, ℕ, if◌then◌else◌, is_some, List, [], Option}
+use Rattle.std.specs.Prelude.{◌≡◌, ◌≤◌, ℕ, List, [], Option}
 use Rattle.std.specs.Prelude.{None, Some}
 use Rattle.rb_attempt.specs.declared.ask.AttemptFault.{AttemptFault}
 use Rattle.rb_attempt.specs.declared.ask.AttemptFault.TheVariants as faults
-use Rattle.rb_base.specs.declared.shape.Shape.{Shape}
 use Rattle.rb_model.specs.declared.refusal.Refusal.{Refusal}
 use Rattle.rb_model.specs.declared.refusal.Refusal.TheVariants as refusals
 use Rattle.rb_model.specs.Calls.{serial_tests}
 use Rattle.rb_model.specs.State.{State, isolation_of}
 use Rattle.rb_model.specs.Tests.{holder}
-use Rattle.rb_segment.specs.Segments.{owed_in}
 use Rattle.rb_standing.specs.Standing.{env_of}
 use Rattle.rb_standing.specs.States.{BlocksStand, Owns}
 use Rattle.rb_verdict.specs.Verdict.{IsOwnId}
@@ -43,10 +41,6 @@ abbrev pub IsHolder : State → Env → ℕ → ℕ → Option Xid → Type 0
 IsHolder h env table key None = holder h table key ≡ None
 IsHolder h env table key (Some x) =
     (u : ℕ) × (t : ℕ) × (holder h table key ≡ Some u) × Owns h u t × (x ≡ env.xid t)
-
--- how many groups put back what is under way after a write of a transaction that has its slot, or takes one
-abbrev pub owed_after : Shape → List (List ℕ) → Option Xid → ℕ
-owed_after shape blocks own = owed_in shape blocks + (if is_some own then 1 else 2)
 
 -- Session s is about to write in blocks that stand for the machine's state: the id that it keeps is that of its slot.
 pub record IsAbout (h : State) (xids : List Xid) (s : ℕ) (own : Option Xid) (blocks : List (List ℕ)) : Type 0 where

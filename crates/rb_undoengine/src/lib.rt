@@ -4,14 +4,12 @@
 
 mod clean;
 mod finish;
-mod holder;
 mod laws;
 mod rollback;
 mod write;
 
 pub use clean::clean_step;
 pub use finish::{commit_step, end_step};
-pub use holder::holder_step;
 pub use laws::step_laws;
 pub use rollback::back_step;
 pub use write::write_step;

@@ -1,46 +1,49 @@
-use Rattle.std.proofs.Common.{◌≡◌, ◌+◌, ℕ, List, [], ◌∷◌, true, false, Ok, Err, refl, ap, sym, subst, ◌∙◌, arith}
+use Rattle.std.proofs.Common.{◌≡◌, ◌+◌, ℕ, List, [], ◌∷◌, true, false, not, Result, Ok, Err, refl, ap, sym, subst, ◌∙◌, arith}
 use Rattle.std.proofs.lemmas.Result.{err_from_is_err_and}
 use Rattle.rb_attempt.proofs.Causes.{logs_on}
 use Rattle.rb_attempt.specs.Making.{IsMade}
+use Rattle.rb_attempt.specs.Refusals.{has_failed}
 use Rattle.rb_attempt.specs.declared.ask.AttemptFault.{AttemptFault}
 use Rattle.rb_base.specs.declared.ids.Xid.{Xid}
 use Rattle.rb_base.specs.Blocks.{after_group}
 use Rattle.rb_base.specs.Groups.{Patch}
-use Rattle.rb_base.specs.Logs.{Logs, apply_logs, more_logs}
+use Rattle.rb_base.specs.Logs.{Logs, apply_logs, group_of, more_logs}
 use Rattle.rb_cleanout.proofs.Grouped.{one_group}
 use Rattle.rb_standing.specs.Standing.{logged_of}
 use Rattle.rb_attempt.proofs.change.attempt.Goals as goal
 
-pub returns-in-Ok-clause-logs : goal.returns-in-Ok-clause-logs
-returns-in-Ok-clause-logs g c =
+pub returns-clause-logs : goal.returns-clause-logs
+returns-clause-logs g c =
     let s = g.S.Store in
     let old = c.args.store.now in
     let mid = c.prepare.new.store in
     let new = c.apply.new.self in
     let group = c.prepare.new.group in
-    let call = c.in-Ok.ensures in
-    let applied = apply_logs s mid new group (Ok c.in-Ok.field-0) call.shape call.slots call.failed call.counted call.lsn call.blocks call.settles call.any_moment call.holds_back in (
+    let call = c.in_ok-apply.ensures in
+    let applied = apply_logs s mid new group (Ok c.in_ok-apply.field-0) call.shape call.slots call.failed call.counted call.lsn call.blocks call.settles call.any_moment call.holds_back in (
       group,
       subst (λ (l : List (List Patch)). Logs s old new l true) (one_group group c.in_ok-xid.ensures.some)
           (more_logs s old mid new [] (group ∷ []) true c.in_ok-xid.ensures.logs applied),
     )
 
-pub returns-in-Err-clause-logs : goal.returns-in-Err-clause-logs
-returns-in-Err-clause-logs g c =
+pub returns-in_err-apply-clause-logs : goal.returns-in_err-apply-clause-logs
+returns-in_err-apply-clause-logs g c =
     let s = g.S.Store in
     let old = c.args.store.now in
     let mid = c.prepare.new.store in
     let new = c.apply.new.self in
     let group = c.prepare.new.group in
-    let call = c.in-Err.ensures in
-    let applied = apply_logs s mid new group (Err c.in-Err.field-0) call.shape call.slots call.failed call.counted call.lsn call.blocks call.settles call.any_moment call.holds_back in (
+    let call = c.in_err-apply.ensures in
+    let failed = err_from_is_err_and c.from_residual-in_err-apply.result c.from_residual-in_err-apply.ensures.1 in
+    let applied = apply_logs s mid new group (Err c.in_err-apply.field-0.0) call.shape call.slots call.failed call.counted call.lsn call.blocks call.settles call.any_moment call.holds_back in (
       group,
-      subst (λ (l : List (List Patch)). Logs s old new l false) (one_group group c.in_ok-xid.ensures.some)
-          (more_logs s old mid new [] (group ∷ []) false c.in_ok-xid.ensures.logs applied),
+      subst (λ (r : Result Xid AttemptFault). Logs s old new (group_of group) (not (has_failed r))) (sym (failed.1 ∙ ap (λ (f : AttemptFault). Err f) failed.2))
+          (subst (λ (l : List (List Patch)). Logs s old new l false) (one_group group c.in_ok-xid.ensures.some)
+          (more_logs s old mid new [] (group ∷ []) false c.in_ok-xid.ensures.logs applied)),
     )
 
-pub returns-in-Ok-clause-written : goal.returns-in-Ok-clause-written
-returns-in-Ok-clause-written g c told number young =
+pub returns-clause-written : goal.returns-clause-written
+returns-clause-written g c told number young =
     let s = g.S.Store in
     let old = c.args.store.now in
     let shape = s.shape_of old in
@@ -48,7 +51,7 @@ returns-in-Ok-clause-written g c told number young =
     let logs = c.in_ok-xid.ensures.logs in
     let group = c.prepare.new.group in
     let last : s.lsn c.prepare.new.store + 1 ≡ logged_of shape blocks + 1 = omega (arith, logs.number refl, number) in
-    let now = c.in-Ok.ensures.blocks told
+    let now = c.in_ok-apply.ensures.blocks told
     ∙ ap (λ (n : ℕ). after_group n group (s.blocks c.prepare.new.store)) last
     ∙ ap (after_group (logged_of shape blocks + 1) group) (logs.blocks told refl) in
     subst (λ (l : List (List ℕ)). IsMade shape blocks l c.args.ask.now c.in_ok-xid.xid) (sym now) (c.in_ok-xid.ensures.made told young)
@@ -64,14 +67,14 @@ returns-in_err-xid-clause-group g c told number young =
       λ some. absurd (omega (arith, some)),
     )
 
-pub returns-in-Ok-clause-group : goal.returns-in-Ok-clause-group
-unfolding returns-in-Ok-clause-logs
-returns-in-Ok-clause-group g c told number young =
+pub returns-clause-group : goal.returns-clause-group
+unfolding returns-clause-logs
+returns-clause-group g c told number young =
     let s = g.S.Store in
     let old = c.args.store.now in
     let shape = s.shape_of old in
     let blocks = s.blocks old in
-    let logs = returns-in-Ok-clause-logs g c in
+    let logs = returns-clause-logs g c in
     let made = c.in_ok-xid.ensures in (
       logs.0,
       logs.1,
@@ -81,14 +84,14 @@ returns-in-Ok-clause-group g c told number young =
       ),
     )
 
-pub returns-in-Err-clause-group : goal.returns-in-Err-clause-group
-unfolding returns-in-Err-clause-logs
-returns-in-Err-clause-group g c told number young =
+pub returns-in_err-apply-clause-group : goal.returns-in_err-apply-clause-group
+unfolding returns-in_err-apply-clause-logs
+returns-in_err-apply-clause-group g c told number young =
     let s = g.S.Store in
     let old = c.args.store.now in
     let shape = s.shape_of old in
     let blocks = s.blocks old in
-    let logs = returns-in-Err-clause-logs g c in
+    let logs = returns-in_err-apply-clause-logs g c in
     let made = c.in_ok-xid.ensures in (
       logs.0,
       logs.1,

@@ -1,4 +1,5 @@
 use Rattle.std.proofs.Common.{inl, ◌≡◌, List, None, refl, sym, ◌∙◌, ap, subst, arith, map, ◌-◌}
+use Rattle.std.proofs.lemmas.Result.{err_from_is_err_and}
 use Rattle.rb_base.specs.Logs.{Laws, no_logs}
 use Rattle.rb_engine.specs.Does.{Does, Goes, IsInStep, Kept, Stands}
 use Rattle.rb_model.specs.Calls as machine
@@ -29,16 +30,18 @@ laws_of g = record {
   holds_back_joined = λ a b c first second. g.met.T.Store.holds_back_joined a b c first second;
 }
 
-pub returns-in-Err-clause-did : goal.returns-in-Err-clause-did
-returns-in-Err-clause-did g c = λ h st.
-    does_refused g.T.Store (laws_of g) h (machine.CloseCursor c.args.s (name_text c.args.name.now)) c.in-Err.why (record { memory = c.args.memory.now; store = c.args.store.now }) st c.requires.step.going
-    (c.in-Err.ensures.refused h st.knows) c.in-Err.ensures.other
+pub returns-in_err-check_session-clause-did : goal.returns-in_err-check_session-clause-did
+returns-in_err-check_session-clause-did g c =
+    let p = err_from_is_err_and c.from_residual.result c.from_residual.ensures.1 in
+    rw (p.1, p.2) (λ h st.
+    does_refused g.T.Store (laws_of g) h (machine.CloseCursor c.args.s (name_text c.args.name.now)) c.in_err-check_session.field-0.0 (record { memory = c.args.memory.now; store = c.args.store.now }) st c.requires.step.going
+    (c.in_err-check_session.ensures.refused h st.knows) c.in_err-check_session.ensures.other)
 
 pub returns-then-is_none-clause-did : goal.returns-then-is_none-clause-did
 returns-then-is_none-clause-did g c = λ h st.
     let s = g.T.Store in
-    let there = c.in_default.ensures.session in
-    let going = sym st.knows.stopped ∙ c.in_default.ensures.going in
+    let there = c.in_ok-check_session.ensures.session in
+    let going = sym st.knows.stopped ∙ c.in_ok-check_session.ensures.going in
     let name = name_text c.args.name.now in
     let call = machine.CloseCursor c.args.s name in
     let goes : Goes s h (record { memory = c.args.memory.now; store = c.args.store.now }) = st.goes going in
@@ -46,7 +49,7 @@ returns-then-is_none-clause-did g c = λ h st.
     let missing : named name (kept_at c.args.memory.now.sessions c.args.s).cursors ≡ None = ap (λ (l : List KeptSession). named name (kept_at l c.args.s).cursors) (sym sessions) ∙ (sym c.cursor.ensures ∙ none_of c.cursor.result c.is_none.result c.is_none.ensures c.if-is_none.true) in
     let none : cursor_of h c.args.s name ≡ None = (views.named_is h goes.xids (env_of h.shape (s.blocks c.args.store.now)) c.args.s name c.args.memory.now.sessions goes.remembers there.0 there.1).0 missing in
     does_refused_late s (laws_of g) h call NoCursor (record { memory = c.args.memory.now; store = c.args.store.now }) st c.requires.step.going
-    (Reply.later (name_tests h call) (c.in_default.ensures.granted h st.knows) refl (rw none refl)) (λ clash. cc)
+    (Reply.later (name_tests h call) (c.in_ok-check_session.ensures.granted h st.knows) refl (rw none refl)) (λ clash. cc)
 
 pub returns-clause-step : goal.returns-clause-step
 returns-clause-step g c =
@@ -59,9 +62,9 @@ returns-clause-step g c =
     let name = name_text c.args.name.now in
     let fit = fit_closed (s.shape_of store) name k (fit_at s old store is c.args.s) in
     let moved = with_cursors k (without name k.cursors) in
-    in_step_moved s old now store store is refl c.args.s c.in_default.ensures.session moved fit c.close_cursor.ensures
-    (queue_moved s old now store store is refl c.args.s c.in_default.ensures.session moved fit c.close_cursor.ensures refl (inl refl))
-    (λ going. (is.going going, few_less s old now store store is refl c.args.s c.in_default.ensures.session moved fit c.close_cursor.ensures going (omega arith)))
+    in_step_moved s old now store store is refl c.args.s c.in_ok-check_session.ensures.session moved fit c.close_cursor.ensures
+    (queue_moved s old now store store is refl c.args.s c.in_ok-check_session.ensures.session moved fit c.close_cursor.ensures refl (inl refl))
+    (λ going. (is.going going, few_less s old now store store is refl c.args.s c.in_ok-check_session.ensures.session moved fit c.close_cursor.ensures going (omega arith)))
 
 pub returns-clause-did : goal.returns-clause-did
 returns-clause-did g c = λ h st.
@@ -70,8 +73,8 @@ returns-clause-did g c = λ h st.
     let old : Kept = record { sessions = c.memory.inside.sessions; waits = c.memory.inside.waits; scn = c.memory.inside.scn; stopped = c.memory.inside.stopped; copies = c.memory.inside.copies } in
     let now : Kept = record { sessions = c.close_cursor.new.self; waits = c.memory.inside.waits; scn = c.memory.inside.scn; stopped = c.memory.inside.stopped; copies = c.memory.inside.copies } in
     let here : Stands s h (record { memory = old; store = store }) = subst (λ (k : Kept). Stands s h (record { memory = k; store = store })) (sym c.memory.view_is) st in
-    let there = c.in_default.ensures.session in
-    let going = sym st.knows.stopped ∙ c.in_default.ensures.going in
+    let there = c.in_ok-check_session.ensures.session in
+    let going = sym st.knows.stopped ∙ c.in_ok-check_session.ensures.going in
     let name = name_text c.args.name.now in
     let call = machine.CloseCursor c.args.s name in
     let goes = here.goes going in
@@ -80,8 +83,8 @@ returns-clause-did g c = λ h st.
     subst (λ (k : Kept). Does s h call machine.Done (record { memory = k; store = store }) (record { memory = now; store = store })) c.memory.view_is
     (does_cursors s st.told (laws_of g) h call machine.Done c.args.s (without_cursor name (cursors_of h c.args.s)) (record { memory = old; store = store }) (record { memory = now; store = store }) here going
     (there.0, (let n = st.knows.sixteen in omega (arith, there, n)))
-    (Reply.later (name_tests h call) (c.in_default.ensures.granted h st.knows) refl (rw its.1 refl)) refl refl (λ s t k a is done. cc) refl refl refl refl refl
+    (Reply.later (name_tests h call) (c.in_ok-check_session.ensures.granted h st.knows) refl (rw its.1 refl)) refl refl (λ s t k a is done. cc) refl refl refl refl refl
     (ap (λ (l : List KeptSession). map (λ k. k.asked) l) c.close_cursor.ensures ∙ all_asked old.sessions (c.args.s - 1) (with_cursors (kept_at old.sessions c.args.s) (without name (kept_at old.sessions c.args.s).cursors)) refl)
     (λ xids stand is. subst (Remembers (next.with_cursors h c.args.s (without_cursor name (cursors_of h c.args.s))) xids (env_of h.shape (s.blocks store))) (sym c.close_cursor.ensures) (views.closed h xids (env_of h.shape (s.blocks store)) old.sessions c.args.s name is there.0 there.1))
-    (no_logs s store ((subst (λ (k : Kept). IsInStep s k store) (sym c.memory.view_is) c.requires.step).going (ap (λ (k : Kept). k.stopped) c.memory.view_is ∙ c.in_default.ensures.going)))
+    (no_logs s store ((subst (λ (k : Kept). IsInStep s k store) (sym c.memory.view_is) c.requires.step).going (ap (λ (k : Kept). k.stopped) c.memory.view_is ∙ c.in_ok-check_session.ensures.going)))
     (record { shape = refl; slots = refl }))

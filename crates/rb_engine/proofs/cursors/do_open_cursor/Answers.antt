@@ -1,5 +1,6 @@
 use Rattle.std.proofs.Common.{inl, ◌≡◌, ◌++◌, ◌∷◌, [], ◌≤◌, ◌<◌, ℕ, List, length, nat_le, ◌&&◌, Option, None, Some, true, refl, sym, ◌∙◌, ap, subst, arith, map, ◌-◌}
 use Rattle.std.proofs.lemmas.Bool.{le-leb, lt-leb, and_from}
+use Rattle.std.proofs.lemmas.Result.{err_from_is_err_and}
 use Rattle.rb_base.specs.Logs.{Laws, no_logs}
 use Rattle.rb_base.specs.declared.ids.Xid.{Xid}
 use Rattle.rb_base.specs.declared.shape.Shape.{Shape}
@@ -41,16 +42,18 @@ same_cursor : (table lo hi scn scn2 upto upto2 : ℕ) (own own2 : Option Xid) �
     let two : Cursor = record { table = table; lo = lo; hi = hi; scn = scn2; own = own2; upto = upto2; last = None; present = true } in one ≡ two
 same_cursor table lo hi scn scn2 upto upto2 own own2 a b c = rw (a, b, c) refl
 
-pub returns-in-Err-clause-did : goal.returns-in-Err-clause-did
-returns-in-Err-clause-did g c = λ h st.
-    does_refused g.T.Store (laws_of g) h (machine.OpenCursor c.args.s (name_text c.args.name.now) c.args.table c.args.lo c.args.hi) c.in-Err.why (record { memory = c.args.memory.now; store = c.args.store.now }) st c.requires.step.going
-    (c.in-Err.ensures.refused h (name_text c.args.name.now) c.args.lo c.args.hi st.knows (c.shape.ensures.shape ∙ st.shape)) c.in-Err.ensures.other
+pub returns-in_err-check_table-clause-did : goal.returns-in_err-check_table-clause-did
+returns-in_err-check_table-clause-did g c =
+    let p = err_from_is_err_and c.from_residual.result c.from_residual.ensures.1 in
+    rw (p.1, p.2) (λ h st.
+    does_refused g.T.Store (laws_of g) h (machine.OpenCursor c.args.s (name_text c.args.name.now) c.args.table c.args.lo c.args.hi) c.in_err-check_table.field-0.0 (record { memory = c.args.memory.now; store = c.args.store.now }) st c.requires.step.going
+    (c.in_err-check_table.ensures.refused h (name_text c.args.name.now) c.args.lo c.args.hi st.knows (c.shape.ensures.shape ∙ st.shape)) c.in_err-check_table.ensures.other)
 
 pub returns-then-is_some-clause-did : goal.returns-then-is_some-clause-did
 returns-then-is_some-clause-did g c = λ h st.
     let s = g.T.Store in
-    let there = c.in_default.ensures.session in
-    let going = sym st.knows.stopped ∙ c.in_default.ensures.going in
+    let there = c.in_ok-check_table.ensures.session in
+    let going = sym st.knows.stopped ∙ c.in_ok-check_table.ensures.going in
     let name = name_text c.args.name.now in
     let call = machine.OpenCursor c.args.s name c.args.table c.args.lo c.args.hi in
     let goes : Goes s h (record { memory = c.args.memory.now; store = c.args.store.now }) = st.goes going in
@@ -59,13 +62,13 @@ returns-then-is_some-clause-did g c = λ h st.
     let here : named name (kept_at c.args.memory.now.sessions c.args.s).cursors ≡ Some found.0 = ap (λ (l : List KeptSession). named name (kept_at l c.args.s).cursors) (sym sessions) ∙ (sym c.cursor.ensures ∙ found.1) in
     let its = (views.named_is h goes.xids (env_of h.shape (s.blocks c.args.store.now)) c.args.s name c.args.memory.now.sessions goes.remembers there.0 there.1).1 found.0 here in
     does_refused_late s (laws_of g) h call CursorThere (record { memory = c.args.memory.now; store = c.args.store.now }) st c.requires.step.going
-    (Reply.later (name_tests h call) (c.in_default.ensures.granted h (name_text c.args.name.now) c.args.lo c.args.hi st.knows (c.shape.ensures.shape ∙ st.shape)) refl (rw its.1 refl)) (λ clash. cc)
+    (Reply.later (name_tests h call) (c.in_ok-check_table.ensures.granted h (name_text c.args.name.now) c.args.lo c.args.hi st.knows (c.shape.ensures.shape ∙ st.shape)) refl (rw its.1 refl)) (λ clash. cc)
 
 pub returns-then-session-ge-CURSORS-clause-did : goal.returns-then-session-ge-CURSORS-clause-did
 returns-then-session-ge-CURSORS-clause-did g c = λ h st.
     let s = g.T.Store in
-    let there = c.in_default.ensures.session in
-    let going = sym st.knows.stopped ∙ c.in_default.ensures.going in
+    let there = c.in_ok-check_table.ensures.session in
+    let going = sym st.knows.stopped ∙ c.in_ok-check_table.ensures.going in
     let name = name_text c.args.name.now in
     let call = machine.OpenCursor c.args.s name c.args.table c.args.lo c.args.hi in
     let goes : Goes s h (record { memory = c.args.memory.now; store = c.args.store.now }) = st.goes going in
@@ -75,7 +78,7 @@ returns-then-session-ge-CURSORS-clause-did g c = λ h st.
     let many : 16 ≤ length (cursors_of h c.args.s) = let full = c.if-session-ge-CURSORS.true in let same = its.2 in omega (arith, full, count, same) in
     let none : cursor_of h c.args.s name ≡ None = its.0 (ap (λ (l : List KeptSession). named name (kept_at l c.args.s).cursors) (sym sessions) ∙ (sym c.cursor.ensures ∙ not_some c.cursor.result (sym c.is_some.ensures ∙ c.if-is_some.false))) in
     does_refused_late s (laws_of g) h call TooManyCursors (record { memory = c.args.memory.now; store = c.args.store.now }) st c.requires.step.going
-    (Reply.later (name_tests h call) (c.in_default.ensures.granted h (name_text c.args.name.now) c.args.lo c.args.hi st.knows (c.shape.ensures.shape ∙ st.shape)) refl (rw (none, le-leb 16 (length (cursors_of h c.args.s)) many) refl)) (λ clash. cc)
+    (Reply.later (name_tests h call) (c.in_ok-check_table.ensures.granted h (name_text c.args.name.now) c.args.lo c.args.hi st.knows (c.shape.ensures.shape ∙ st.shape)) refl (rw (none, le-leb 16 (length (cursors_of h c.args.s)) many) refl)) (λ clash. cc)
 
 pub returns-clause-step : goal.returns-clause-step
 returns-clause-step g c =
@@ -87,12 +90,12 @@ returns-clause-step g c =
     let k = kept_at c.memory.inside.sessions c.args.s in
     let name = name_text c.args.name.now in
     let opened : Cursor = record { table = c.args.table; lo = c.args.lo; hi = c.args.hi; scn = c.snapshot_at.result; own = c.session-session.result.own; upto = c.session-session.result.length; last = None; present = true } in
-    let here : (1 ≤ c.args.table) × (c.args.table ≤ (s.shape_of store).tables) = subst (λ (z : Shape). (1 ≤ c.args.table) × (c.args.table ≤ z.tables)) c.shape.ensures.shape c.in_default.ensures.table in
+    let here : (1 ≤ c.args.table) × (c.args.table ≤ (s.shape_of store).tables) = subst (λ (z : Shape). (1 ≤ c.args.table) × (c.args.table ≤ z.tables)) c.shape.ensures.shape c.in_ok-check_table.ensures.table in
     let fit = fit_opened (s.shape_of store) name opened k (fit_at s old store is c.args.s) here in
     let moved = with_cursor name opened k in
-    in_step_moved s old now store store is refl c.args.s c.in_default.ensures.session moved fit c.open_cursor.ensures
-    (queue_moved s old now store store is refl c.args.s c.in_default.ensures.session moved fit c.open_cursor.ensures refl (inl refl))
-    (λ going. (is.going going, few_less s old now store store is refl c.args.s c.in_default.ensures.session moved fit c.open_cursor.ensures going (omega arith)))
+    in_step_moved s old now store store is refl c.args.s c.in_ok-check_table.ensures.session moved fit c.open_cursor.ensures
+    (queue_moved s old now store store is refl c.args.s c.in_ok-check_table.ensures.session moved fit c.open_cursor.ensures refl (inl refl))
+    (λ going. (is.going going, few_less s old now store store is refl c.args.s c.in_ok-check_table.ensures.session moved fit c.open_cursor.ensures going (omega arith)))
 
 pub returns-clause-did : goal.returns-clause-did
 returns-clause-did g c = λ h st.
@@ -101,8 +104,8 @@ returns-clause-did g c = λ h st.
     let old : Kept = record { sessions = c.memory.inside.sessions; waits = c.memory.inside.waits; scn = c.memory.inside.scn; stopped = c.memory.inside.stopped; copies = c.memory.inside.copies } in
     let now : Kept = record { sessions = c.open_cursor.new.self; waits = c.memory.inside.waits; scn = c.memory.inside.scn; stopped = c.memory.inside.stopped; copies = c.memory.inside.copies } in
     let here : Stands s h (record { memory = old; store = store }) = subst (λ (k : Kept). Stands s h (record { memory = k; store = store })) (sym c.memory.view_is) st in
-    let there = c.in_default.ensures.session in
-    let going = sym st.knows.stopped ∙ c.in_default.ensures.going in
+    let there = c.in_ok-check_table.ensures.session in
+    let going = sym st.knows.stopped ∙ c.in_ok-check_table.ensures.going in
     let name = name_text c.args.name.now in
     let call = machine.OpenCursor c.args.s name c.args.table c.args.lo c.args.hi in
     let goes = here.goes going in
@@ -112,15 +115,15 @@ returns-clause-did g c = λ h st.
     let few : length (cursors_of h c.args.s) < 16 = let room = c.if-session-ge-CURSORS.false in let count = c.session-session.ensures.cursors in let same = its.2 in omega (arith, room, count, same) in
     let in_tables : is_table h c.args.table ≡ true =
     subst (λ (z : Shape). nat_le 1 c.args.table && nat_le c.args.table z.tables ≡ true) (c.shape.ensures.shape ∙ st.shape)
-    (and_from (nat_le 1 c.args.table) (nat_le c.args.table c.shape.result.tables) (le-leb 1 c.args.table c.in_default.ensures.table.0) (le-leb c.args.table c.shape.result.tables c.in_default.ensures.table.1)) in
+    (and_from (nat_le 1 c.args.table) (nat_le c.args.table c.shape.result.tables) (le-leb 1 c.args.table c.in_ok-check_table.ensures.table.0) (le-leb c.args.table c.shape.result.tables c.in_ok-check_table.ensures.table.1)) in
     let opened : Cursor = record { table = c.args.table; lo = c.args.lo; hi = c.args.hi; scn = c.snapshot_at.result; own = c.session-session.result.own; upto = c.session-session.result.length; last = None; present = true } in
     let same : opened ≡ cursor_opened h k c.args.table c.args.lo c.args.hi = same_cursor c.args.table c.args.lo c.args.hi c.snapshot_at.result (snapshot_at (last_scn h.commits) k.isolation) c.session-session.result.length k.count c.session-session.result.own k.own (c.snapshot_at.ensures ∙ (ap (λ (n : ℕ). snapshot_at n c.session-session.result.isolation) here.knows.scn ∙ ap (snapshot_at (last_scn h.commits)) c.session-session.ensures.isolation)) c.session-session.ensures.own c.session-session.ensures.length in
     subst (λ (m : Kept). Does s h call machine.Done (record { memory = m; store = store }) (record { memory = now; store = store })) c.memory.view_is
     (does_cursors s st.told (laws_of g) h call machine.Done c.args.s (cursors_of h c.args.s ++ opened_cursor h c.args.s name c.args.table c.args.lo c.args.hi ∷ []) (record { memory = old; store = store }) (record { memory = now; store = store }) here going
     (there.0, (let n = st.knows.sixteen in omega (arith, there, n)))
-    (Reply.later (name_tests h call) (c.in_default.ensures.granted h (name_text c.args.name.now) c.args.lo c.args.hi st.knows (c.shape.ensures.shape ∙ st.shape)) refl (rw (none, lt-leb 16 (length (cursors_of h c.args.s)) few) refl)) refl refl (λ s t k a is done. cc) refl refl refl refl refl
+    (Reply.later (name_tests h call) (c.in_ok-check_table.ensures.granted h (name_text c.args.name.now) c.args.lo c.args.hi st.knows (c.shape.ensures.shape ∙ st.shape)) refl (rw (none, lt-leb 16 (length (cursors_of h c.args.s)) few) refl)) refl refl (λ s t k a is done. cc) refl refl refl refl refl
     (ap (λ (l : List KeptSession). map (λ k. k.asked) l) c.open_cursor.ensures ∙ all_asked old.sessions (c.args.s - 1) (with_cursor name opened k) refl)
     (λ xids stand is. subst (Remembers (next.with_cursors h c.args.s (cursors_of h c.args.s ++ opened_cursor h c.args.s name c.args.table c.args.lo c.args.hi ∷ [])) xids (env_of h.shape (s.blocks store)))
     (ap (λ (m : Cursor). with_kept old.sessions c.args.s (with_cursor name m k)) (sym same) ∙ sym c.open_cursor.ensures) (views.opened h xids (s.blocks store) old.sessions c.args.s name c.args.table c.args.lo c.args.hi stand is there.0 there.1 in_tables))
-    (no_logs s store ((subst (λ (m : Kept). IsInStep s m store) (sym c.memory.view_is) c.requires.step).going (ap (λ (m : Kept). m.stopped) c.memory.view_is ∙ c.in_default.ensures.going)))
+    (no_logs s store ((subst (λ (m : Kept). IsInStep s m store) (sym c.memory.view_is) c.requires.step).going (ap (λ (m : Kept). m.stopped) c.memory.view_is ∙ c.in_ok-check_table.ensures.going)))
     (record { shape = refl; slots = refl }))

@@ -1,4 +1,5 @@
 use Rattle.std.proofs.Common.{inl, ◌≡◌, ℕ, Bool, true, false, not, List, None, Some, Result, Ok, Err, refl, sym, ◌∙◌, ap, subst}
+use Rattle.std.proofs.lemmas.Result.{err_from_is_err_and}
 use Rattle.rb_base.specs.Logs.{Laws, Logs}
 use Rattle.rb_cr.specs.Faults.{is_fault}
 use Rattle.rb_base.specs.declared.ids.Xid.{Xid}
@@ -41,23 +42,25 @@ by_fault : {S : Type 0} (s : Ghosts S) (h : State) (xids : List Xid) (May : ℕ 
     → Cleans s h xids May (λ b. ⊥) most old new (not (is_fault fault)) → Cleans s h xids May (λ b. ⊥) most old new going
 by_fault s h xids May most old new going fault other is goes clean = subst (λ (b : Bool). Cleans s h xids May (λ b. ⊥) most old new b) (ap (λ (f : CrFault). not (is_fault f)) is ∙ goes) clean
 
-pub returns-in-Err-clause-did : goal.returns-in-Err-clause-did
-returns-in-Err-clause-did g c = λ h st.
-    does_refused g.T.Store (laws_of g) h (machine.Fetch c.args.s (name_text c.args.name.now)) c.in-Err.why (record { memory = c.args.memory.now; store = c.args.store.now }) st c.requires.step.going
-    (c.in-Err.ensures.refused h st.knows) c.in-Err.ensures.other
+pub returns-in_err-check_session-clause-did : goal.returns-in_err-check_session-clause-did
+returns-in_err-check_session-clause-did g c =
+    let p = err_from_is_err_and c.from_residual.result c.from_residual.ensures.1 in
+    rw (p.1, p.2) (λ h st.
+    does_refused g.T.Store (laws_of g) h (machine.Fetch c.args.s (name_text c.args.name.now)) c.in_err-check_session.field-0.0 (record { memory = c.args.memory.now; store = c.args.store.now }) st c.requires.step.going
+    (c.in_err-check_session.ensures.refused h st.knows) c.in_err-check_session.ensures.other)
 
-pub returns-in_default-cursor-clause-did : goal.returns-in_default-cursor-clause-did
-returns-in_default-cursor-clause-did g c = λ h st.
+pub returns-in_default-clause-did : goal.returns-in_default-clause-did
+returns-in_default-clause-did g c = λ h st.
     let s = g.T.Store in
     let name = name_text c.args.name.now in
     let call = machine.Fetch c.args.s name in
     let kept = c.args.memory.now in
-    let e = c.in_default.ensures in
+    let e = c.in_ok-check_session.ensures in
     let going : h.stopped ≡ false = sym st.knows.stopped ∙ e.going in
     let goes = st.goes going in
     let table_is : c.memory.inside.sessions ≡ kept.sessions = ap (λ (k : Kept). k.sessions) c.memory.view_is in
     let nothing : named name (kept_at kept.sessions c.args.s).cursors ≡ None =
-    ap (λ (l : List KeptSession). named name (kept_at l c.args.s).cursors) (sym table_is) ∙ (sym c.cursor.ensures ∙ c.in_default-cursor.is) in
+    ap (λ (l : List KeptSession). named name (kept_at l c.args.s).cursors) (sym table_is) ∙ (sym c.cursor.ensures ∙ c.in_default.is) in
     let none = (named_is h goes.xids _ c.args.s name kept.sessions goes.remembers e.session.0 e.session.1).0 nothing in
     does_refused_late s (laws_of g) h call NoCursor (record { memory = kept; store = c.args.store.now }) st c.requires.step.going
     (Reply.later (machine.name_tests h call) (e.granted h st.knows) refl (answer_by h c.args.s name None (Refused NoCursor) none refl)) (λ clash. cc)
@@ -92,18 +95,18 @@ returns-in-Ok-Row-clause-step g c =
     let key = c.next_row.new.row.key in
     let k : KeptSession = table.with_cursors at (with_last name key at.cursors) in
     let fit = fit_taken (s.shape_of old) name key at (fit_at s kept old step c.args.s) in
-    let there = c.in_default.ensures.session in
+    let there = c.in_ok-check_session.ensures.session in
     let moved = moved_by g c in
     in_step_moved s kept now old new step logs.same_shape c.args.s there k fit moved
     (queue_moved s kept now old new step logs.same_shape c.args.s there k fit moved refl (inl (ap (λ (k : Kept). k.waits) c.memory.view_is)))
-    (λ _. (logs.failed, few_young s kept now old new step logs.same_shape c.args.s there k fit moved c.in_default.ensures.going (fit.small) refl (c.in-Ok-Row.ensures.young refl)))
+    (λ _. (logs.failed, few_young s kept now old new step logs.same_shape c.args.s there k fit moved c.in_ok-check_session.ensures.going (fit.small) refl (c.in-Ok-Row.ensures.young refl)))
 
 pub returns-in-Ok-Row-clause-did : goal.returns-in-Ok-Row-clause-did
 returns-in-Ok-Row-clause-did g c = λ h st.
     let s = g.T.Store in
     let kept = c.args.memory.now in
     let name = name_text c.args.name.now in
-    let e = c.in_default.ensures in
+    let e = c.in_ok-check_session.ensures in
     let logs = c.in-Ok-Row.ensures.logs.1 in
     let table_is : c.memory.inside.sessions ≡ kept.sessions = ap (λ (k : Kept). k.sessions) c.memory.view_is in
     let is_named = ap (λ (l : List KeptSession). named name (kept_at l c.args.s).cursors) (sym table_is) ∙ (sym c.cursor.ensures ∙ c.in-Some.is) in
@@ -118,7 +121,7 @@ returns-in-Ok-End-clause-did g c = λ h st.
     let s = g.T.Store in
     let kept = c.args.memory.now in
     let name = name_text c.args.name.now in
-    let e = c.in_default.ensures in
+    let e = c.in_ok-check_session.ensures in
     let logs = c.in-Ok-End.ensures.logs.1 in
     let old : EngineView _ = record { memory = kept; store = c.args.store.now } in
     let table_is : c.memory.inside.sessions ≡ kept.sessions = ap (λ (k : Kept). k.sessions) c.memory.view_is in
@@ -134,7 +137,7 @@ returns-in-Err-TooOld-clause-did g c = λ h st.
     let s = g.T.Store in
     let kept = c.args.memory.now in
     let name = name_text c.args.name.now in
-    let e = c.in_default.ensures in
+    let e = c.in_ok-check_session.ensures in
     let logs = subst (λ (f : CrFault). Logs s c.args.store.now c.next_row.new.store c.in-Err-TooOld.ensures.logs.0 (not (is_fault f))) c.in-Err-TooOld.field-0-is c.in-Err-TooOld.ensures.logs.1 in
     let old : EngineView _ = record { memory = kept; store = c.args.store.now } in
     let table_is : c.memory.inside.sessions ≡ kept.sessions = ap (λ (k : Kept). k.sessions) c.memory.view_is in
@@ -146,10 +149,10 @@ returns-in-Err-TooOld-clause-did g c = λ h st.
     (λ xids serves copies. c.in-Err-TooOld.ensures.found st.told h xids serves (subst (λ (k : Kept). CopiesStand h xids (s.blocks c.args.store.now) k.copies.kept) (sym c.memory.view_is) copies)) (λ xids serves copies. by_fault s h xids (ReadIn h xids (s.blocks c.args.store.now) c.in-Some.cursor) h.shape.blocks c.args.store.now c.next_row.new.store true c.in-Err-TooOld.field-0 (faults.TooOld c.in-Err-TooOld.scn c.in-Err-TooOld.lost) c.in-Err-TooOld.field-0-is refl (c.in-Err-TooOld.ensures.cleans st.told h xids serves (subst (λ (k : Kept). CopiesStand h xids (s.blocks c.args.store.now) k.copies.kept) (sym c.memory.view_is) copies))) (λ xids serves copies. c.in-Err-TooOld.ensures.copies st.told h xids serves (subst (λ (k : Kept). CopiesStand h xids (s.blocks c.args.store.now) k.copies.kept) (sym c.memory.view_is) copies) (ap is_fault c.in-Err-TooOld.field-0-is)) c.in-Err-TooOld.scn c.in-Err-TooOld.lost (ap (λ (f : CrFault). let r : Result Fetched CrFault = Err f in r) c.in-Err-TooOld.field-0-is) (ap (with_copies c.next_row.new.copies) c.memory.view_is)
 
 pub returns-in-Err-Failed-clause-did : goal.returns-in-Err-Failed-clause-did
-returns-in-Err-Failed-clause-did g c = λ h st.
+returns-in-Err-Failed-clause-did g c = rw c.fail.ensures.answer (λ h st.
     let s = g.T.Store in
     let kept = c.args.memory.now in
-    let e = c.in_default.ensures in
+    let e = c.in_ok-check_session.ensures in
     let logs = subst (λ (f : CrFault). Logs s c.args.store.now c.next_row.new.store c.in-Err-Failed.ensures.logs.0 (not (is_fault f))) c.in-Err-Failed.field-0-is c.in-Err-Failed.ensures.logs.1 in
     let old : EngineView _ = record { memory = kept; store = c.args.store.now } in
     let going : h.stopped ≡ false = sym st.knows.stopped ∙ e.going in
@@ -158,15 +161,17 @@ returns-in-Err-Failed-clause-did g c = λ h st.
     let table_is : c.memory.inside.sessions ≡ kept.sessions = ap (λ (k : Kept). k.sessions) c.memory.view_is in
     let is_named = ap (λ (l : List KeptSession). named name (kept_at l c.args.s).cursors) (sym table_is) ∙ (sym c.cursor.ensures ∙ c.in-Some.is) in
     let copies = c.next_row.new.copies in
-    let stops : c.stop.new.self ≡ record (with_copies copies kept) { stopped = true } = c.stop.ensures ∙ ap (λ (k : Kept). record (with_copies copies k) { stopped = true }) c.memory.view_is in
-    does_fault_known s st.told (laws_of g) h (machine.Fetch c.args.s (name_text c.args.name.now)) old (record { memory = c.stop.new.self; store = c.next_row.new.store }) st (e.granted h st.knows)
-    (knows_stop h (with_copies copies kept) c.stop.new.self (knows_copies h kept copies st.knows) stops)
+    let stops : c.fail.new.self ≡ record (with_copies copies kept) { stopped = true } = c.fail.ensures.stopped ∙ ap (λ (k : Kept). record (with_copies copies k) { stopped = true }) c.memory.view_is in
+    does_fault_known s st.told (laws_of g) h (machine.Fetch c.args.s (name_text c.args.name.now)) old (record { memory = c.fail.new.self; store = c.next_row.new.store }) st (e.granted h st.knows)
+    (knows_stop h (with_copies copies kept) c.fail.new.self (knows_copies h kept copies st.knows) stops)
     (record { shape = logs.same_shape; slots = logs.same_slots })
     (λ keeps. by_fault s h (st.goes going).xids (ReadIn h (st.goes going).xids (s.blocks old.store) m) h.shape.blocks old.store c.next_row.new.store false c.in-Err-Failed.field-0 faults.Failed c.in-Err-Failed.field-0-is refl
-    (c.in-Err-Failed.ensures.cleans st.told h (st.goes going).xids (serves s (laws_of g) h old st going c.args.s e.session name (e.granted h st.knows) m is_named) (subst (λ (k : Kept). CopiesStand h (st.goes going).xids (s.blocks c.args.store.now) k.copies.kept) (sym c.memory.view_is) (st.goes going).copies)) (Some (machine.Fetch c.args.s name)) keeps)
+    (c.in-Err-Failed.ensures.cleans st.told h (st.goes going).xids (serves s (laws_of g) h old st going c.args.s e.session name (e.granted h st.knows) m is_named) (subst (λ (k : Kept). CopiesStand h (st.goes going).xids (s.blocks c.args.store.now) k.copies.kept) (sym c.memory.view_is) (st.goes going).copies)) (Some (machine.Fetch c.args.s name)) keeps))
 
-pub returns-in-Err-clause-lost : goal.returns-in-Err-clause-lost
-returns-in-Err-clause-lost g c = λ h st scn lost is. absurd (not_old h c.args.s c.in-Err.why scn lost (c.in-Err.ensures.refused h st.knows) (let same : c.in-Err.why ≡ TooOld scn lost = cc in same))
+pub returns-in_err-check_session-clause-lost : goal.returns-in_err-check_session-clause-lost
+returns-in_err-check_session-clause-lost g c =
+    let p = err_from_is_err_and c.from_residual.result c.from_residual.ensures.1 in
+    rw (p.1, p.2) (λ h st scn lost is. absurd (not_old h c.args.s c.in_err-check_session.field-0.0 scn lost (c.in_err-check_session.ensures.refused h st.knows) (let same : c.in_err-check_session.field-0.0 ≡ TooOld scn lost = cc in same)))
 
 pub returns-in-Err-TooOld-clause-lost : goal.returns-in-Err-TooOld-clause-lost
 returns-in-Err-TooOld-clause-lost g c = λ h st scn lost is.
@@ -174,7 +179,7 @@ returns-in-Err-TooOld-clause-lost g c = λ h st scn lost is.
     let kept = c.args.memory.now in
     let name = name_text c.args.name.now in
     let m = c.in-Some.cursor in
-    let e = c.in_default.ensures in
+    let e = c.in_ok-check_session.ensures in
     let old : EngineView _ = record { memory = kept; store = c.args.store.now } in
     let table_is : c.memory.inside.sessions ≡ kept.sessions = ap (λ (k : Kept). k.sessions) c.memory.view_is in
     let is_named = ap (λ (l : List KeptSession). named name (kept_at l c.args.s).cursors) (sym table_is) ∙ (sym c.cursor.ensures ∙ c.in-Some.is) in
@@ -205,7 +210,7 @@ returns-in-Ok-Row-clause-cleans g c = λ h st looked.
     let s = g.T.Store in
     let kept = c.args.memory.now in
     let name = name_text c.args.name.now in
-    let e = c.in_default.ensures in
+    let e = c.in_ok-check_session.ensures in
     let table_is : c.memory.inside.sessions ≡ kept.sessions = ap (λ (k : Kept). k.sessions) c.memory.view_is in
     let is_named = ap (λ (l : List KeptSession). named name (kept_at l c.args.s).cursors) (sym table_is) ∙ (sym c.cursor.ensures ∙ c.in-Some.is) in
     cleans_read g.T.Store (laws_of g) h (record { memory = kept; store = c.args.store.now }) st (sym st.knows.stopped ∙ e.going) c.args.s e.session name (e.granted h st.knows) c.in-Some.cursor is_named
@@ -216,7 +221,7 @@ returns-in-Ok-End-clause-cleans g c = λ h st looked.
     let s = g.T.Store in
     let kept = c.args.memory.now in
     let name = name_text c.args.name.now in
-    let e = c.in_default.ensures in
+    let e = c.in_ok-check_session.ensures in
     let table_is : c.memory.inside.sessions ≡ kept.sessions = ap (λ (k : Kept). k.sessions) c.memory.view_is in
     let is_named = ap (λ (l : List KeptSession). named name (kept_at l c.args.s).cursors) (sym table_is) ∙ (sym c.cursor.ensures ∙ c.in-Some.is) in
     cleans_read g.T.Store (laws_of g) h (record { memory = kept; store = c.args.store.now }) st (sym st.knows.stopped ∙ e.going) c.args.s e.session name (e.granted h st.knows) c.in-Some.cursor is_named
@@ -228,7 +233,7 @@ returns-in-Err-TooOld-clause-cleans g c = λ h st looked.
     let kept = c.args.memory.now in
     let name = name_text c.args.name.now in
     let m = c.in-Some.cursor in
-    let e = c.in_default.ensures in
+    let e = c.in_ok-check_session.ensures in
     let table_is : c.memory.inside.sessions ≡ kept.sessions = ap (λ (k : Kept). k.sessions) c.memory.view_is in
     let is_named = ap (λ (l : List KeptSession). named name (kept_at l c.args.s).cursors) (sym table_is) ∙ (sym c.cursor.ensures ∙ c.in-Some.is) in
     cleans_read s (laws_of g) h (record { memory = kept; store = c.args.store.now }) st (sym st.knows.stopped ∙ e.going) c.args.s e.session name (e.granted h st.knows) m is_named
@@ -236,19 +241,21 @@ returns-in-Err-TooOld-clause-cleans g c = λ h st looked.
     (λ xids serves copies. by_fault s h xids (ReadIn h xids (s.blocks c.args.store.now) m) h.shape.blocks c.args.store.now c.next_row.new.store true c.in-Err-TooOld.field-0 (faults.TooOld c.in-Err-TooOld.scn c.in-Err-TooOld.lost) c.in-Err-TooOld.field-0-is refl (c.in-Err-TooOld.ensures.cleans st.told h xids serves (subst (λ (k : Kept). CopiesStand h xids (s.blocks c.args.store.now) k.copies.kept) (sym c.memory.view_is) copies)))
 
 -- And so what it makes of the blocks.
-pub returns-in-Err-clause-makes : goal.returns-in-Err-clause-makes
-returns-in-Err-clause-makes g c = λ h st fine.
+pub returns-in_err-check_session-clause-makes : goal.returns-in_err-check_session-clause-makes
+returns-in_err-check_session-clause-makes g c =
+    let p = err_from_is_err_and c.from_residual.result c.from_residual.ensures.1 in
+    rw (p.1, p.2) (λ h st fine.
     let s = g.T.Store in
     let store = c.args.store.now in
-    makes_refused h (machine.Fetch c.args.s (name_text c.args.name.now)) (s.lsn store) (s.blocks store) (s.blocks store) refl c.in-Err.why
-    (λ scn lost is. absurd (not_old h c.args.s c.in-Err.why scn lost (c.in-Err.ensures.refused h st.knows) is))
+    makes_refused h (machine.Fetch c.args.s (name_text c.args.name.now)) (s.lsn store) (s.blocks store) (s.blocks store) refl c.in_err-check_session.field-0.0
+    (λ scn lost is. absurd (not_old h c.args.s c.in_err-check_session.field-0.0 scn lost (c.in_err-check_session.ensures.refused h st.knows) is)))
 
 pub returns-in-Ok-Row-clause-makes : goal.returns-in-Ok-Row-clause-makes
 returns-in-Ok-Row-clause-makes g c = λ h st fine.
     let s = g.T.Store in
     let kept = c.args.memory.now in
     let name = name_text c.args.name.now in
-    let e = c.in_default.ensures in
+    let e = c.in_ok-check_session.ensures in
     let table_is : c.memory.inside.sessions ≡ kept.sessions = ap (λ (k : Kept). k.sessions) c.memory.view_is in
     let is_named = ap (λ (l : List KeptSession). named name (kept_at l c.args.s).cursors) (sym table_is) ∙ (sym c.cursor.ensures ∙ c.in-Some.is) in
     read_by s (laws_of g) h (record { memory = kept; store = c.args.store.now }) st (sym st.knows.stopped ∙ e.going) c.args.s e.session name (e.granted h st.knows) c.in-Some.cursor is_named
@@ -259,7 +266,7 @@ returns-in-Ok-End-clause-makes g c = λ h st fine.
     let s = g.T.Store in
     let kept = c.args.memory.now in
     let name = name_text c.args.name.now in
-    let e = c.in_default.ensures in
+    let e = c.in_ok-check_session.ensures in
     let table_is : c.memory.inside.sessions ≡ kept.sessions = ap (λ (k : Kept). k.sessions) c.memory.view_is in
     let is_named = ap (λ (l : List KeptSession). named name (kept_at l c.args.s).cursors) (sym table_is) ∙ (sym c.cursor.ensures ∙ c.in-Some.is) in
     read_by s (laws_of g) h (record { memory = kept; store = c.args.store.now }) st (sym st.knows.stopped ∙ e.going) c.args.s e.session name (e.granted h st.knows) c.in-Some.cursor is_named
@@ -270,7 +277,7 @@ returns-in-Err-TooOld-clause-makes g c = λ h st fine.
     let s = g.T.Store in
     let kept = c.args.memory.now in
     let name = name_text c.args.name.now in
-    let e = c.in_default.ensures in
+    let e = c.in_ok-check_session.ensures in
     let table_is : c.memory.inside.sessions ≡ kept.sessions = ap (λ (k : Kept). k.sessions) c.memory.view_is in
     let is_named = ap (λ (l : List KeptSession). named name (kept_at l c.args.s).cursors) (sym table_is) ∙ (sym c.cursor.ensures ∙ c.in-Some.is) in
     let m = c.in-Some.cursor in
@@ -278,11 +285,13 @@ returns-in-Err-TooOld-clause-makes g c = λ h st fine.
     ⊥ c.next_row.new.store (Err c.in-Err-TooOld.field-0) (λ clash. absurd clash)
     (λ xids serves copies. by_fault s h xids (ReadIn h xids (s.blocks c.args.store.now) m) h.shape.blocks c.args.store.now c.next_row.new.store true c.in-Err-TooOld.field-0 (faults.TooOld c.in-Err-TooOld.scn c.in-Err-TooOld.lost) c.in-Err-TooOld.field-0-is refl (c.in-Err-TooOld.ensures.cleans st.told h xids serves (subst (λ (k : Kept). CopiesStand h xids (s.blocks c.args.store.now) k.copies.kept) (sym c.memory.view_is) copies)))
 
-pub returns-in-Err-clause-holds_back : goal.returns-in-Err-clause-holds_back
-returns-in-Err-clause-holds_back g c = λ fine. g.met.T.Store.holds_back_same c.args.store.now
+pub returns-in_err-check_session-clause-holds_back : goal.returns-in_err-check_session-clause-holds_back
+returns-in_err-check_session-clause-holds_back g c =
+    let p = err_from_is_err_and c.from_residual.result c.from_residual.ensures.1 in
+    rw (p.1, p.2) (λ fine. g.met.T.Store.holds_back_same c.args.store.now)
 
-pub returns-in_default-cursor-clause-holds_back : goal.returns-in_default-cursor-clause-holds_back
-returns-in_default-cursor-clause-holds_back g c = λ fine. g.met.T.Store.holds_back_same c.args.store.now
+pub returns-in_default-clause-holds_back : goal.returns-in_default-clause-holds_back
+returns-in_default-clause-holds_back g c = λ fine. g.met.T.Store.holds_back_same c.args.store.now
 
 pub returns-in-Ok-Row-clause-holds_back : goal.returns-in-Ok-Row-clause-holds_back
 returns-in-Ok-Row-clause-holds_back g c = λ fine. c.in-Ok-Row.ensures.logs.1.between refl (laws_of g)
@@ -298,4 +307,4 @@ returns-in-Err-TooOld-clause-holds_back g c = λ fine.
     logs.between refl (laws_of g)
 
 pub returns-in-Err-Failed-clause-holds_back : goal.returns-in-Err-Failed-clause-holds_back
-returns-in-Err-Failed-clause-holds_back g c = λ fine. (let clash : true ≡ false = fine in absurd cc)
+returns-in-Err-Failed-clause-holds_back g c = rw c.fail.ensures.answer (λ fine. (let clash : true ≡ false = fine in absurd cc))

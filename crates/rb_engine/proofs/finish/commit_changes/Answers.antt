@@ -89,7 +89,7 @@ returns-in-Ok-clause-rows g c = λ h st.
     rows_kept h.shape ((16 * c.args.xid.seg + c.args.xid.slot) / 16) (s.blocks store) (s.blocks c.commit_and_flush.new.store) did.4.group
 
 pub returns-in-Err-clause-did : goal.returns-in-Err-clause-did
-returns-in-Err-clause-did g c = λ h st.
+returns-in-Err-clause-did g c = rw c.fail.ensures.answer (λ h st.
     let s = g.T.Store in
     let store = c.args.store.now in
     let inside : Kept = record { sessions = c.memory.inside.sessions; waits = c.memory.inside.waits; scn = c.memory.inside.scn; stopped = c.memory.inside.stopped; copies = c.memory.inside.copies } in
@@ -101,7 +101,7 @@ returns-in-Err-clause-did g c = λ h st.
     let out : is_queued c.args.s inside.waits ≡ false = ap (λ (k : Kept). is_queued c.args.s k.waits) c.memory.view_is ∙ c.requires.free in
     let low = (subst (λ (k : Kept). IsInStep s k store) (sym c.memory.view_is) c.requires.step) in
     let count = count_is s st.told (laws_of g) h old c.args.s c.args.xid here going there own in
-    let new : EngineView _ = record { memory = c.stop.new.self; store = c.commit_and_flush.new.store } in
+    let new : EngineView _ = record { memory = c.fail.new.self; store = c.commit_and_flush.new.store } in
     let held = goes s st.told (laws_of g) h old c.args.s c.args.xid here going there own in
     let busy : 0 < (kept_at inside.sessions c.args.s).count = subst (λ (k : Kept). 0 < (kept_at k.sessions c.args.s).count) (sym c.memory.view_is) c.requires.some in
     let some : 0 < length (session_own h c.args.s) = omega (arith, busy, count) in
@@ -110,7 +110,7 @@ returns-in-Err-clause-did g c = λ h st.
     subst (λ (k : Kept). Does s h (machine.Commit c.args.s) (machine.Refused DiskFault) (record { memory = k; store = store }) new) c.memory.view_is
     (does_not s st.told (laws_of g) h old c.args.s c.args.xid here going there own new c.commit_and_flush.ensures.same (machine.Commit c.args.s) (no_early h inside c.args.s here.knows going there out)
     (c.in-Err.ensures.commits st.told h held.xids c.args.s st.shape held.holds who.0 who.1 (own_id s st.told (laws_of g) h old c.args.s c.args.xid here going there own) some number)
-    (c.stop.ensures ∙ ap (λ (k : Kept). let n : Kept = record k { stopped = true } in n) (sym c.memory.view_is)))
+    (c.fail.ensures.stopped ∙ ap (λ (k : Kept). let n : Kept = record k { stopped = true } in n) (sym c.memory.view_is))))
 
 pub returns-in-Ok-clause-makes : goal.returns-in-Ok-clause-makes
 returns-in-Ok-clause-makes g c = λ h st fine.
@@ -139,4 +139,4 @@ pub returns-in-Ok-clause-holds_back : goal.returns-in-Ok-clause-holds_back
 returns-in-Ok-clause-holds_back g c = λ none. absurd none
 
 pub returns-in-Err-clause-holds_back : goal.returns-in-Err-clause-holds_back
-returns-in-Err-clause-holds_back g c = λ none. absurd none
+returns-in-Err-clause-holds_back g c = rw c.fail.ensures.answer (λ none. absurd none)

@@ -90,7 +90,7 @@ returns-clause-rows g c = λ h st.
     rows_kept h.shape (slot / 16) (s.blocks store) now (subst (λ (blocks : List (List ℕ)). IsEnded h.shape slot blocks now) back last.2).group
 
 pub returns-in-Err-clause-did : goal.returns-in-Err-clause-did
-returns-in-Err-clause-did g c = λ h st.
+returns-in-Err-clause-did g c = rw c.fail.ensures.answer (λ h st.
     let s = g.T.Store in
     let old : EngineView _ = record { memory = c.args.memory.now; store = c.args.store.now } in
     let own = c.requires.own in
@@ -98,12 +98,12 @@ returns-in-Err-clause-did g c = λ h st.
     let there = c.requires.session in
     let count = count_is s st.told (laws_of g) h old c.args.s c.args.xid st going there own in
     let none : length (session_own h c.args.s) ≡ 0 = sym count ∙ c.requires.none in
-    let new : EngineView _ = record { memory = c.stop.new.self; store = c.put_all_back.new.store } in
+    let new : EngineView _ = record { memory = c.fail.new.self; store = c.put_all_back.new.store } in
     let held = goes s st.told (laws_of g) h old c.args.s c.args.xid st going there own in
     let who = who_in s st.told (laws_of g) h old c.args.s c.args.xid st going there own in
     does_not s st.told (laws_of g) h old c.args.s c.args.xid st going there own new c.put_all_back.ensures.same (machine.Commit c.args.s) (no_early h c.args.memory.now c.args.s st.knows going there c.requires.free)
     (c.in-Err.ensures.puts_back st.told h held.xids c.args.s st.shape held.holds who.0 who.1 (own_id s st.told (laws_of g) h old c.args.s c.args.xid st going there own) going none (Some (machine.Commit c.args.s)))
-    c.stop.ensures
+    c.fail.ensures.stopped)
 
 pub returns-clause-makes : goal.returns-clause-makes
 returns-clause-makes g c = λ h st fine.
@@ -128,4 +128,4 @@ pub returns-clause-holds_back : goal.returns-clause-holds_back
 returns-clause-holds_back g c = λ none. c.in-Ok.ensures.holds_back
 
 pub returns-in-Err-clause-holds_back : goal.returns-in-Err-clause-holds_back
-returns-in-Err-clause-holds_back g c = λ none. absurd none
+returns-in-Err-clause-holds_back g c = rw c.fail.ensures.answer (λ none. absurd none)

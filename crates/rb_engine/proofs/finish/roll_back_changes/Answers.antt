@@ -66,7 +66,7 @@ returns-in-Ok-clause-did g c = λ h st.
     c.rollback.ensures c.free.ensures refl refl refl)
 
 pub returns-in-Err-clause-did : goal.returns-in-Err-clause-did
-returns-in-Err-clause-did g c = λ h st.
+returns-in-Err-clause-did g c = rw c.fail.ensures.answer (λ h st.
     let s = g.T.Store in
     let store = c.args.store.now in
     let inside : Kept = record { sessions = c.memory.inside.sessions; waits = c.memory.inside.waits; scn = c.memory.inside.scn; stopped = c.memory.inside.stopped; copies = c.memory.inside.copies } in
@@ -78,13 +78,13 @@ returns-in-Err-clause-did g c = λ h st.
     let out : is_queued c.args.s inside.waits ≡ false = ap (λ (k : Kept). is_queued c.args.s k.waits) c.memory.view_is ∙ c.requires.free in
     let low = (subst (λ (k : Kept). IsInStep s k store) (sym c.memory.view_is) c.requires.step) in
     let count = count_is s st.told (laws_of g) h old c.args.s c.args.xid here going there own in
-    let new : EngineView _ = record { memory = c.stop.new.self; store = c.put_all_back.new.store } in
+    let new : EngineView _ = record { memory = c.fail.new.self; store = c.put_all_back.new.store } in
     let held = goes s st.told (laws_of g) h old c.args.s c.args.xid here going there own in
     let who = who_in s st.told (laws_of g) h old c.args.s c.args.xid here going there own in
     subst (λ (k : Kept). Does s h (machine.Rollback c.args.s) (machine.Refused DiskFault) (record { memory = k; store = store }) new) c.memory.view_is
     (does_not s st.told (laws_of g) h old c.args.s c.args.xid here going there own new c.put_all_back.ensures.same (machine.Rollback c.args.s) (no_early h inside c.args.s here.knows going there out)
     (c.in-Err.ensures.puts_back st.told h held.xids c.args.s st.shape held.holds who.0 who.1 (own_id s st.told (laws_of g) h old c.args.s c.args.xid here going there own) going (sym count ∙ sym c.session-count.ensures.length) (Some (machine.Rollback c.args.s)))
-    (c.stop.ensures ∙ ap (λ (k : Kept). let n : Kept = record k { stopped = true } in n) (sym c.memory.view_is)))
+    (c.fail.ensures.stopped ∙ ap (λ (k : Kept). let n : Kept = record k { stopped = true } in n) (sym c.memory.view_is))))
 
 pub returns-in-Ok-clause-makes : goal.returns-in-Ok-clause-makes
 returns-in-Ok-clause-makes g c = λ h st fine.
@@ -108,4 +108,4 @@ pub returns-in-Ok-clause-holds_back : goal.returns-in-Ok-clause-holds_back
 returns-in-Ok-clause-holds_back g c = λ fine. c.in-Ok.ensures.holds_back
 
 pub returns-in-Err-clause-holds_back : goal.returns-in-Err-clause-holds_back
-returns-in-Err-clause-holds_back g c = λ fine. (let clash : true ≡ false = fine in absurd cc)
+returns-in-Err-clause-holds_back g c = rw c.fail.ensures.answer (λ fine. (let clash : true ≡ false = fine in absurd cc))

@@ -20,15 +20,15 @@ laws_of g = record {
 }
 
 pub returns-in-Err-clause-did : goal.returns-in-Err-clause-did
-returns-in-Err-clause-did g c = λ h st.
+returns-in-Err-clause-did g c = rw c.fail.ensures.answer (λ h st.
     let s = g.T.Store in
     let old : EngineView _ = record { memory = c.args.memory.now; store = c.args.store.now } in
     let going : h.stopped ≡ false = sym st.knows.stopped ∙ (ap (λ (k : Kept). k.stopped) (sym c.memory.view_is) ∙ c.if-memory.false) in
     let e = c.in-Err.ensures in
     let logs : Flushes s c.args.store.now c.checkpoint.new.self [] false = flush_logs s c.args.store.now c.checkpoint.new.self (Err c.in-Err.field-0) e.shape e.slots e.failed e.counted e.lsn e.blocks e.settles e.any_moment in
     let goes = st.goes going in
-    does_fault s st.told (laws_of g) h machine.Checkpoint old (record { memory = c.stop.new.self; store = c.checkpoint.new.self }) st going (rw going refl) c.stop.ensures
-    (record { shape = e.shape; slots = e.slots }) (λ keeps. fault_survives s st.told (laws_of g) h goes.xids old.store c.checkpoint.new.self st.shape goes.holds logs keeps)
+    does_fault s st.told (laws_of g) h machine.Checkpoint old (record { memory = c.fail.new.self; store = c.checkpoint.new.self }) st going (rw going refl) c.fail.ensures.stopped
+    (record { shape = e.shape; slots = e.slots }) (λ keeps. fault_survives s st.told (laws_of g) h goes.xids old.store c.checkpoint.new.self st.shape goes.holds logs keeps))
 
 pub returns-in-Ok-clause-did : goal.returns-in-Ok-clause-did
 returns-in-Ok-clause-did g c = λ h st.

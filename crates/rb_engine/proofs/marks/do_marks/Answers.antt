@@ -24,7 +24,7 @@ laws_of g = record {
 }
 
 pub returns-then-is_err-clause-did : goal.returns-then-is_err-clause-did
-returns-then-is_err-clause-did g c = λ h st.
+returns-then-is_err-clause-did g c = rw c.fail.ensures.answer (λ h st.
     let s = g.T.Store in
     let old : EngineView _ = record { memory = c.args.memory.now; store = c.args.store.now } in
     let going : h.stopped ≡ false = sym st.knows.stopped ∙ (ap (λ (k : Kept). k.stopped) (sym c.memory.view_is) ∙ c.if-memory.false) in
@@ -32,8 +32,8 @@ returns-then-is_err-clause-did g c = λ h st.
     let failed : is_err c.load.result ≡ true = sym c.is_err.ensures.value ∙ c.if-is_err.true in
     let logs = subst (λ (b : Bool). Logs s c.args.store.now c.load.new.self [] (not b)) failed (load_logs s c.args.store.now c.load.new.self c.load.result e.shape e.slots e.failed e.counted e.lsn e.blocks e.settles e.any_moment e.holds_back) in
     let goes = st.goes going in
-    does_fault s st.told (laws_of g) h (machine.Marks c.args.seg) old (record { memory = c.stop.new.self; store = c.load.new.self }) st going (rw going refl) c.stop.ensures
-    (record { shape = e.shape; slots = e.slots }) (λ keeps. fault_survives s st.told (laws_of g) h goes.xids old.store c.load.new.self st.shape goes.holds logs keeps)
+    does_fault s st.told (laws_of g) h (machine.Marks c.args.seg) old (record { memory = c.fail.new.self; store = c.load.new.self }) st going (rw going refl) c.fail.ensures.stopped
+    (record { shape = e.shape; slots = e.slots }) (λ keeps. fault_survives s st.told (laws_of g) h goes.xids old.store c.load.new.self st.shape goes.holds logs keeps))
 
 pub returns-clause-step : goal.returns-clause-step
 returns-clause-step g c =
@@ -68,7 +68,7 @@ pub returns-then-memory-clause-holds_back : goal.returns-then-memory-clause-hold
 returns-then-memory-clause-holds_back g c = λ fine. g.met.T.Store.holds_back_same c.args.store.now
 
 pub returns-then-is_err-clause-holds_back : goal.returns-then-is_err-clause-holds_back
-returns-then-is_err-clause-holds_back g c = λ fine. (let clash : true ≡ false = fine in absurd cc)
+returns-then-is_err-clause-holds_back g c = rw c.fail.ensures.answer (λ fine. (let clash : true ≡ false = fine in absurd cc))
 
 pub returns-clause-holds_back : goal.returns-clause-holds_back
 returns-clause-holds_back g c = λ _.

@@ -78,7 +78,7 @@ returns-in-Ok-clause-did g c = λ h st.
     c.in-Ok.ensures.failed moved refl refl refl refl)
 
 pub returns-in-Err-clause-did : goal.returns-in-Err-clause-did
-returns-in-Err-clause-did g c = λ h st.
+returns-in-Err-clause-did g c = rw c.fail.ensures.answer (λ h st.
     let s = g.T.Store in
     let store = c.args.store.now in
     let inside : Kept = record { sessions = c.memory.inside.sessions; waits = c.memory.inside.waits; scn = c.memory.inside.scn; stopped = c.memory.inside.stopped; copies = c.memory.inside.copies } in
@@ -96,11 +96,11 @@ returns-in-Err-clause-did g c = λ h st.
     let who = who_in s st.told (laws_of g) h old c.args.s c.args.xid here going there own in
     let id = own_id s st.told (laws_of g) h old c.args.s c.args.xid here going there own in
     let back : c.saturating_sub-count.result ≡ length (session_own h c.args.s) - p.kept = (let a = c.saturating_sub-count.ensures in let b = c.session.ensures.length in let e = found.2 in omega (arith, a, b, e, count)) in
-    let new : EngineView _ = record { memory = c.stop.new.self; store = c.put_back.new.store } in
+    let new : EngineView _ = record { memory = c.fail.new.self; store = c.put_back.new.store } in
     subst (λ (k : Kept). Does s h (machine.RollbackTo c.args.s name) (machine.Refused DiskFault) (record { memory = k; store = store }) new) c.memory.view_is
     (does_not s st.told (laws_of g) h old c.args.s c.args.xid here going there own new c.put_back.ensures.same (machine.RollbackTo c.args.s name) (no_early h inside c.args.s here.knows going there out)
     (c.in-Err.ensures.puts_back st.told h held.xids c.args.s p.kept st.shape held.holds who.0 who.1 id going back (Some (machine.RollbackTo c.args.s name)))
-    (c.stop.ensures ∙ ap (λ (k : Kept). let n : Kept = record k { stopped = true } in n) (sym c.memory.view_is)))
+    (c.fail.ensures.stopped ∙ ap (λ (k : Kept). let n : Kept = record k { stopped = true } in n) (sym c.memory.view_is))))
 
 pub returns-in-Ok-clause-makes : goal.returns-in-Ok-clause-makes
 returns-in-Ok-clause-makes g c = λ h st fine.
@@ -129,4 +129,4 @@ pub returns-in-Ok-clause-holds_back : goal.returns-in-Ok-clause-holds_back
 returns-in-Ok-clause-holds_back g c = λ fine. c.in-Ok.ensures.logs.1.between refl (laws_of g)
 
 pub returns-in-Err-clause-holds_back : goal.returns-in-Err-clause-holds_back
-returns-in-Err-clause-holds_back g c = λ fine. (let clash : true ≡ false = fine in absurd cc)
+returns-in-Err-clause-holds_back g c = rw c.fail.ensures.answer (λ fine. (let clash : true ≡ false = fine in absurd cc))

@@ -10,10 +10,10 @@ returns-clause-refused c = λ h xids blocks s logged ask x ready fault about fir
     (writes_in h xids blocks s ask.own about x ready writer, refused h xids blocks s logged ask about first last mine x ready writer fault why)
 
 pub returns-clause-done : goal.returns-clause-done
-returns-clause-done c = λ h xids before now s ask x ready address u about s_in first last mine writer asked takes is young few. (
+returns-clause-done c = λ h xids before now s ask x ready address u about s_in first last mine writer asked takes is young. (
   writes_in h xids before s ask.own about x ready writer,
-  answered h xids before now s ask about s_in first last mine x ready writer address u asked takes is young few,
-  stands h xids before now s ask about s_in first last mine x ready writer address u asked takes is young few,
+  answered h xids before now s ask about s_in first last mine x ready writer address u asked takes is young,
+  stands h xids before now s ask about s_in first last mine x ready writer address u asked takes is young,
 )
 
 pub returns-clause-holder : goal.returns-clause-holder

@@ -1,10 +1,8 @@
 use Rattle.std.proofs.Common.{ℕ, List, [], true, false, Ok, Err, sym, ◌∙◌, ap}
 use Rattle.rb_base.specs.Blocks.{block_of}
 use Rattle.rb_base.specs.Logs.{load_logs, more_logs}
-use Rattle.rb_heap.specs.Homes.{home_of}
-use Rattle.rb_attempt.specs.Holding.{cell_of_key, is_row}
 use Rattle.rb_attempt.proofs.Held.{holder_ended, holder_runs, home_at}
-use Rattle.rb_attempt.proofs.holder.find.Goals as goal
+use Rattle.rb_attempt.proofs.holder.holder_of.Goals as goal
 
 pub returns-in_err-load-clause-logs : goal.returns-in_err-load-clause-logs
 returns-in_err-load-clause-logs g c =
@@ -38,7 +36,7 @@ returns-in-Active-clause-holder g c told young =
     let at = home_at c.shape-shape.result (s.shape_of old) c.args.table c.args.key c.home_block.result c.shape-shape.ensures.shape c.home_block.ensures.number c.home_block.ensures.there in
     let read = c.block.ensures.block told c.home_block.result load.loaded ∙ (ap (λ (l : List (List ℕ)). block_of l c.home_block.result) (load.blocks told) ∙ ap (block_of (s.blocks old)) at.0) in
     holder_runs s old c.load.new.self loads told young c.args.table c.args.key c.block.result.now at.1 read c.in-Some.xid c.in_ok-look_up.field-0
-    (sym c.found_in-found.ensures.holder ∙ c.in-Some.is) (c.in_ok-look_up.ensures.look told) c.in-Active.is
+    (sym c.locker_of_key.ensures ∙ c.in-Some.is) (c.in_ok-look_up.ensures.look told) c.in-Active.is
 
 pub returns-in_default-2 : goal.returns-in_default-2
 returns-in_default-2 g c =
@@ -52,6 +50,5 @@ returns-in_default-2 g c =
       logs = more_logs s old c.load.new.self c.look_up.new.store [] [] true loads c.in_ok-look_up.ensures.logs;
       holder = λ told young.
           holder_ended s old c.load.new.self loads told young c.args.table c.args.key c.block.result.now at.1 (read told) c.in-Some.xid c.in_ok-look_up.field-0
-          (sym c.found_in-found.ensures.holder ∙ c.in-Some.is) (c.in_ok-look_up.ensures.look told) c.in_default-2.not-Active;
-      present = λ told. c.found_in-found.ensures.present ∙ ap (λ (b : List ℕ). is_row (cell_of_key (home_of b) c.args.key)) (read told);
+          (sym c.locker_of_key.ensures ∙ c.in-Some.is) (c.in_ok-look_up.ensures.look told) c.in_default-2.not-Active;
     }
