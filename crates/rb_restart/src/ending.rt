@@ -18,7 +18,7 @@ pub fn is_rolled_back(header: &[u8], xid: Xid) -> bool
     ensures { IsTrue result ↔ (Runs (header_of header.now) xid
         × ((slot_in (header_of header.now) xid.slot).live ≡ 0)) }
 {
-    running(header, xid).is_some_and(|slot| slot.live == 0)
+    matches!(running(header, xid), Some(slot) if slot.live == 0)
 }
 
 /// Ends the slot of a transaction that runs and has no live change, by one group. What `group` held is dropped. Nothing

@@ -27,7 +27,7 @@ fn has_live(header: &[u8], xid: Xid) -> bool
     ensures { IsTrue result ↔ (Runs (header_of header.now) xid
         × ((slot_in (header_of header.now) xid.slot).live ≢ 0)) }
 {
-    running(header, xid).is_some_and(|slot| slot.live != 0)
+    matches!(running(header, xid), Some(slot) if slot.live != 0)
 }
 
 /// Commits the transaction at `scn` by one group, which waits. What `group` held is dropped. Nothing is done
