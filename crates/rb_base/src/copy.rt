@@ -1,5 +1,7 @@
-//! Changes of a block: of a copy of it, and the same as a patch of a group. Whatever changes a block by a group calls it.
-ghost use Rattle.std.specs.Prelude.{◌≡◌, ◌+◌, ◌<◌, ◌≤◌, [], ◌∷◌, ◌++◌, length, false, not, IfOk, OnOk};
+//! A copy of a block, and a change of it: of the copy, and the same as a patch of a group. Whatever changes a block by
+//! a group calls it.
+ghost use Rattle.std.specs.Prelude.{◌≡◌, ◌+◌, ◌<◌, ◌≤◌, [], ◌∷◌, ◌++◌};
+ghost use Rattle.std.specs.Prelude.{length, false, not, IfOk, OnOk};
 ghost use Rattle.std.specs.Result.{is_err};
 ghost use Rattle.rb_base.specs.Blocks.{block_of, shape_blocks, AreBlocks};
 ghost use Rattle.rb_base.specs.Fields.{overwritten};

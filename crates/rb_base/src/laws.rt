@@ -20,7 +20,8 @@ pub fn parts_written()
     ensures own { (old bytes : List ℕ) (at : ℕ) → at + length bytes ≤ length old
         → part (overwritten old at bytes) at (length bytes) ≡ bytes }
     ensures others { (old bytes : List ℕ) (at from count : ℕ) → at + length bytes ≤ length old
-        → AreApart from count at (length bytes) → part (overwritten old at bytes) from count ≡ part old from count }
+        → AreApart from count at (length bytes)
+        → part (overwritten old at bytes) from count ≡ part old from count }
     ensures length { (old bytes : List ℕ) (at : ℕ) → at + length bytes ≤ length old
         → length (overwritten old at bytes) ≡ length old }
     ensures places { (first size i j : ℕ) → j ≢ i → AreApart (first + size * j) size (first + size * i) size }

@@ -1,5 +1,5 @@
-//! The cells of a heap block, read from its bytes; and the place and the bytes of each, which go into a block. Each row of
-//! a table stands in one.
+//! The cells of a heap block, read from its bytes; and the place and the bytes of each, which go into a block. Each row
+//! of a table stands in one.
 #![tactic(auto)]
 
 mod bytes;

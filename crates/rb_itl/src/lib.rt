@@ -1,6 +1,6 @@
 //! The slot entries of a heap block: which transactions changed it, and what became of them. They are read from the
-//! block's bytes; and here are the place and the bytes of each, which writes of rows, rollbacks and cleanings put into a
-//! block. An opening tests them.
+//! block's bytes; and here are the place and the bytes of each, which writes of rows, rollbacks and cleanings put into
+//! a block. An opening tests them.
 #![tactic(auto)]
 
 mod bytes;

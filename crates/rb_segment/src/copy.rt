@@ -27,13 +27,8 @@ pub fn set_slot(header: &mut [u8], no: BlockNo, group: &mut Group, i: u8, slot: 
         ≡ record (header_of header.old) { slots = set (header_of header.old).slots i slot.now } }
     ensures read { slot_in (header_of header.new) i ≡ slot.now }
 {
-    set(
-        header,
-        no,
-        group,
-        slot_place(i as usize),
-        &slot_bytes(*slot),
-    );
+    let at = slot_place(i as usize);
+    set(header, no, group, at, &slot_bytes(*slot));
 }
 
 /// Extent `e`, 0 to 7, becomes `extent`.
@@ -49,13 +44,8 @@ pub fn set_extent(header: &mut [u8], no: BlockNo, group: &mut Group, e: u8, exte
         ≡ record (header_of header.old) { extents = set (header_of header.old).extents e extent.now } }
     ensures read { extent_in (header_of header.new) e ≡ extent.now }
 {
-    set(
-        header,
-        no,
-        group,
-        extent_place(e as usize),
-        &extent_bytes(*extent),
-    );
+    let at = extent_place(e as usize);
+    set(header, no, group, at, &extent_bytes(*extent));
 }
 
 /// Extent `head` becomes the head, with so many records.

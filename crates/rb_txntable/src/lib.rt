@@ -1,6 +1,6 @@
 //! The sixteen table slots of a segment's header: each is a place for one transaction at a time, and tells how the last
-//! one stands. They are read from the header's bytes; and here are the place and the bytes of each, which rb_segment puts
-//! into a header as a transaction begins, changes a row or ends.
+//! one stands. They are read from the header's bytes; and here are the place and the bytes of each, which rb_segment
+//! puts into a header as a transaction begins, changes a row or ends.
 #![tactic(auto)]
 
 mod bytes;
