@@ -11,7 +11,7 @@ returns-in-Some c =
     let read = is.0 ∙ sym (slot_read c.args.header.now c.args.xid.slot c.requires.slot) in (
       λ _. (
         runs_read c.args.header.now c.args.xid c.requires.slot (subst (λ (s : TableSlot). IsRunning s c.args.xid.wrap) is.0 is.1),
-        λ none. c.if-matches.true (ap (λ (s : TableSlot). s.live) read ∙ none),
+        λ none. omega (arith, ap (λ (s : TableSlot). s.live) read, none),
       ),
       λ _. refl,
     )
@@ -19,7 +19,7 @@ returns-in-Some c =
 pub returns-in_default : goal.returns-in_default
 returns-in_default c =
     let read = c.in-Some.ensures.0 ∙ sym (slot_read c.args.header.now c.args.xid.slot c.requires.slot) in
-    (λ clash. absurd (false≢true clash), λ lives. absurd (lives.1 (omega (arith, c.if-matches.false, ap (λ (s : TableSlot). s.live) read))))
+    (λ clash. absurd (false≢true clash), λ lives. absurd (lives.1 (omega (arith, ap (λ (s : TableSlot). s.live) read))))
 
 pub returns-in_default-2 : goal.returns-in_default-2
 returns-in_default-2 c = (λ clash. absurd (false≢true clash), λ lives. absurd (c.in_default.ensures (has_slot c.args.header.now c.args.xid lives.0)))
