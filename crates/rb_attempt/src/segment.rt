@@ -20,7 +20,7 @@ use rb_base::{
     ACTIVE, Failed, GROUP_BYTES, GROUP_PATCHES, Group, SLOT_BYTES, SLOTS, Shape, Store, UNIT, Xid,
 };
 use rb_segment::claim;
-use rb_txntable::{active, choose, slot_at};
+use rb_txntable::{active, choose, running};
 
 /// How many transactions of segment `g` run.
 fn active_in<S: Store>(store: &mut S, shape: Shape, g: u16) -> Result<u32, Failed>
@@ -82,8 +82,7 @@ fn runs(header: &[u8], xid: Xid) -> bool
     requires slot { xid.slot < SLOTS }
     ensures { IsTrue result ↔ Runs (header_of header.now) xid }
 {
-    let slot = slot_at(header, xid.slot as u8);
-    slot.state == ACTIVE && slot.wrap == xid.wrap
+    running(header, xid).is_some()
 }
 
 /// Whether a transaction can take a table slot.

@@ -1,6 +1,7 @@
 //! What holds of the blocks of every file, as clauses for proofs to cite. Nothing calls them.
-ghost use Rattle.std.specs.Prelude.{◌≡◌, ◌^◌};
+ghost use Rattle.std.specs.Prelude.{◌≡◌, ◌≢◌, ◌+◌, ◌*◌, ◌^◌, ◌≤◌, ℕ, List, length};
 ghost use Rattle.rb_base.specs.Blocks.{OneBlock};
+ghost use Rattle.rb_base.specs.Fields.{overwritten, part, AreApart};
 
 use crate::sizes::{
     ACTIVE, BLOCK_HEAD, FIRST_AT, GROUP_BYTES, GROUP_PATCHES, SEGMENT_BLOCKS, SLOT_BYTES, SLOTS,
@@ -11,6 +12,19 @@ use crate::sizes::{
 /// So a call that patches a copy of a block knows what the store's block reads as after its group.
 pub fn one_block()
     ensures { OneBlock }
+{}
+
+/// What was written over bytes is read there, every part apart from it is read as before, and there are as many bytes.
+/// In a row of places of one size each is apart from the others.
+pub fn parts_written()
+    ensures own { (old bytes : List ℕ) (at : ℕ) → at + length bytes ≤ length old
+        → part (overwritten old at bytes) at (length bytes) ≡ bytes }
+    ensures others { (old bytes : List ℕ) (at from count : ℕ) → at + length bytes ≤ length old
+        → AreApart from count at (length bytes)
+        → part (overwritten old at bytes) from count ≡ part old from count }
+    ensures length { (old bytes : List ℕ) (at : ℕ) → at + length bytes ≤ length old
+        → length (overwritten old at bytes) ≡ length old }
+    ensures places { (first size i j : ℕ) → j ≢ i → AreApart (first + size * j) size (first + size * i) size }
 {}
 
 /// The sizes and limits of the form of a file, as docs/FORMAT.md has them.

@@ -1,5 +1,5 @@
 //! A cell in memory, and where it stands in its block. What reads cells and what writes them use both.
-ghost use Rattle.std.specs.Prelude.{◌≡◌, ◌<◌};
+ghost use Rattle.std.specs.Prelude.{◌≡◌, ◌+◌, ◌<◌};
 ghost use Rattle.rb_cell.specs.Cells.{cell_place};
 
 use arrayvec::ArrayVec;
@@ -45,10 +45,18 @@ pub struct Cell {
     pub value: ArrayVec<u8, VALUE_BYTES>,
 }
 
-/// The byte of its block at which cell `c` begins, 416 to 1,796.
-pub(crate) fn place_of(c: u8) -> u16
+/// The byte of its block at which cell `c`, 0 to 15, begins: 416 to 1,796.
+pub fn cell_place(c: u8) -> usize
     requires { c < CELLS }
     ensures { result ≡ cell_place c }
 {
-    (CELLS_AT + CELL_BYTES * c as usize) as u16
+    CELLS_AT + CELL_BYTES * c as usize
+}
+
+/// The byte of its block at which the lock of cell `c`, 0 to 15, stands.
+pub fn lock_place(c: u8) -> usize
+    requires { c < CELLS }
+    ensures { result ≡ cell_place c + 1 }
+{
+    cell_place(c) + 1
 }

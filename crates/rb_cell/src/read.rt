@@ -3,7 +3,7 @@ ghost use Rattle.std.specs.Prelude.{◌≡◌, ◌<◌, length};
 ghost use Rattle.rb_base.specs.Fields.{part};
 ghost use Rattle.rb_cell.specs.Cells.{cell_place, cell_of, cell_at, value_length, IsCell};
 
-use crate::cell::{CELL_BYTES, CELLS, Cell, HEAD_BYTES, KEY_AT, LENGTH_AT, place_of};
+use crate::cell::{CELL_BYTES, CELLS, Cell, HEAD_BYTES, KEY_AT, LENGTH_AT, cell_place};
 use rb_base::{UNIT, VALUE_BYTES, array_of, u16_at, u64_at};
 
 /// What a cell says but for its value, which isn't copied: enough to search cells by.
@@ -54,7 +54,7 @@ fn bytes_at(block: &[u8], c: u8) -> &[u8]
     ensures part { result.now ≡ part block.now (cell_place c) CELL_BYTES }
     ensures count { length result.now ≡ CELL_BYTES }
 {
-    let at = place_of(c) as usize;
+    let at = cell_place(c);
     &block[at..at + CELL_BYTES]
 }
 
@@ -88,5 +88,5 @@ pub fn value_length(block: &[u8], c: u8) -> u16
     requires within { c < CELLS }
     ensures { result ≡ value_length block.now c }
 {
-    u16_at(block, place_of(c) as usize + LENGTH_AT)
+    u16_at(block, cell_place(c) + LENGTH_AT)
 }

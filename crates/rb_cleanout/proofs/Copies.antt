@@ -1,10 +1,11 @@
 -- Copies of a block that are cleaned patch by patch, in step with a group.
 use Rattle.std.proofs.Common.{◌≡◌, ℕ, ◌+◌, ◌≤◌, ◌==◌, if◌then◌else◌, List, [], ◌∷◌, ◌++◌, length, refl, arith, ap, sym, ◌∙◌, append_assoc, append-nil, length-append}
+use Rattle.std.proofs.lemmas.Bool.{eq-eqb}
 use Rattle.std.proofs.lemmas.List.Sums.{sum_by_push}
 use Rattle.std.specs.List.{AllByRecursion}
 use Rattle.rb_base.specs.Blocks.{written_to}
 use Rattle.rb_base.specs.Fields.{overwritten}
-use Rattle.rb_base.specs.Groups.{Patch, group_length, patch_length}
+use Rattle.rb_base.specs.Groups.{Patch, patch, group_length, patch_length}
 use Rattle.rb_cleanout.specs.Cleaned.{Cleans}
 use Rattle.rb_heap.specs.Cleaning.{IsCleanPatch}
 
@@ -34,6 +35,11 @@ one_clean block old now held holds p is copy group = record {
   few = omega (arith, ap length group, length-append held (p ∷ []));
   short = omega (arith, ap group_length group, sum_by_push patch_length held p);
 }
+
+-- bytes that were set in the copy and in the group
+pub one_set : (block : ℕ) (old now : List ℕ) (held holds : List Patch) (at : ℕ) (bytes : List ℕ) → IsCleanPatch block (patch block at bytes) → now ≡ overwritten old at bytes → holds ≡ held ++ patch block at bytes ∷ []
+    → Cleans block old now held holds 1 (8 + length bytes)
+one_set block old now held holds at bytes is copy group = one_clean block old now held holds (patch block at bytes) is (copy ∙ rw (eq-eqb block block refl) refl) group
 
 -- some patches, and then others
 pub more_cleans : (block : ℕ) (old mid now : List ℕ) (held group holds : List Patch) (count bytes more longer all size : ℕ) → Cleans block old mid held group count bytes → Cleans block mid now group holds more longer → count + more ≤ all → bytes + longer ≤ size

@@ -8,9 +8,8 @@ ghost use Rattle.rb_cleanout.specs.Cleaned.{look_of, Cleans, EntriesCleaned};
 ghost use Rattle.rb_heap.specs.Cleaning.{cleaned_entry, has_ended, to_clean, told_entry};
 ghost use Rattle.rb_heap.specs.Homes.{home_entry, home_of, with_home_entry};
 
-use rb_base::{BlockNo, Failed, GROUP_BYTES, GROUP_PATCHES, Group, SLOTS, Store, UNIT, Xid};
-use rb_heap::set_entry;
-use rb_itl::{BOUND, ENTRIES, ENTRY_BYTES, EXACT, Entry, OPEN, entry};
+use rb_base::{BlockNo, Failed, GROUP_BYTES, GROUP_PATCHES, Group, SLOTS, Store, UNIT, Xid, set};
+use rb_itl::{BOUND, ENTRIES, ENTRY_BYTES, EXACT, Entry, OPEN, entry, entry_bytes, entry_place};
 use rb_txntable::{Look, look};
 
 /// How the transaction stands, by the header of its segment, which is loaded. One of a slot that isn't there counts as
@@ -74,7 +73,7 @@ fn clean_entry<S: Store>(
     let Some(cleaned) = told(found, look) else {
         return Ok(false);
     };
-    set_entry(copy, no, group, i, &cleaned);
+    set(copy, no, group, entry_place(i), &entry_bytes(cleaned));
     Ok(true)
 }
 

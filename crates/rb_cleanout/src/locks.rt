@@ -4,9 +4,8 @@ ghost use Rattle.rb_base.specs.Groups.{group_length};
 ghost use Rattle.rb_cleanout.specs.Cleaned.{is_named, Cleans, LocksCleared};
 ghost use Rattle.rb_heap.specs.Homes.{home_of};
 
-use rb_base::{BlockNo, GROUP_BYTES, GROUP_PATCHES, Group, UNIT};
-use rb_cell::{CELLS, front};
-use rb_heap::set_lock;
+use rb_base::{BlockNo, GROUP_BYTES, GROUP_PATCHES, Group, UNIT, set};
+use rb_cell::{CELLS, front, lock_place};
 use rb_itl::ENTRIES;
 
 /// Whether the lock names an entry that was cleaned. 0 names none, and a lock above 8 none that is there.
@@ -32,7 +31,7 @@ pub fn clear_locks(
 {
     for c in 0..CELLS {
         if is_named(cleaned, front(copy, c).lock) {
-            set_lock(copy, no, group, c, 0);
+            set(copy, no, group, lock_place(c), &[0]);
         }
     }
 }

@@ -3,13 +3,11 @@
 #![tactic(auto)]
 
 mod choice;
-mod copy;
 mod laws;
 mod search;
 mod write;
 
 pub use choice::choose;
-pub use copy::{set_cell, set_entry, set_lock};
 pub use laws::{head_patched, home_changed, home_listed, home_patched, home_read, home_searched};
 pub use search::{find, free_cell};
 pub use write::change;

@@ -1,4 +1,5 @@
-//! Writes a cell and the slot entry of its transaction as patches of one block. What changes rows calls it.
+//! Writes a cell and the slot entry of its transaction as patches of one block. A write of a row calls it, and what
+//! takes one back.
 ghost use Rattle.std.specs.Prelude.{◌≡◌, ◌+◌, ◌<◌, ◌≤◌, ◌++◌, length};
 ghost use Rattle.rb_base.specs.Groups.{group_length};
 ghost use Rattle.rb_cell.specs.Cells.{IsCell};
@@ -6,17 +7,8 @@ ghost use Rattle.rb_itl.specs.Entries.{IsEntry};
 ghost use Rattle.rb_heap.specs.Homes.{home_patches};
 
 use rb_base::{BlockNo, GROUP_BYTES, GROUP_PATCHES, Group};
-use rb_cell::{CELL_BYTES, CELLS, Cell, put_cell};
-use rb_itl::{ENTRIES, ENTRY_BYTES, Entry, put_entry};
-
-/// The entry as it is.
-// For the proof: a field that is read is a number of its type, and so is each of what is passed by value.
-pub(crate) fn in_range(entry: Entry) -> Entry
-    ensures same { result ≡ entry }
-    ensures sound { IsEntry entry }
-{
-    entry
-}
+use rb_cell::{CELL_BYTES, CELLS, Cell, cell_bytes, cell_place};
+use rb_itl::{ENTRIES, ENTRY_BYTES, Entry, entry_bytes, entry_place};
 
 /// Puts two patches at the end of the group, the cell's and then the entry's: the cell goes to place `c`, 0 to 15, and
 /// the entry to place `i`, 0 to 7, of block `no`.
@@ -29,6 +21,6 @@ pub fn change(group: &mut Group, no: BlockNo, c: u8, cell: &Cell, i: u8, entry: 
     ensures cell_sound { IsCell cell.now }
     ensures entry_sound { IsEntry entry.now }
 {
-    put_cell(group, no, c, cell);
-    put_entry(group, no, i, &in_range(*entry));
+    group.push(no, cell_place(c) as u16, &cell_bytes(cell));
+    group.push(no, entry_place(i) as u16, &entry_bytes(*entry));
 }

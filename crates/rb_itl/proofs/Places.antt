@@ -1,8 +1,8 @@
 -- An entry that was written over a block's bytes.
-use Rattle.std.proofs.Common.{◌≡◌, ◌⊎◌, ◌+◌, ◌≤◌, drop, refl, arith, ap, sym, ◌∙◌, inl, inr}
-use Rattle.std.proofs.lemmas.Bool.{cases_lt}
+use Rattle.std.proofs.Common.{◌≡◌, ◌+◌, ◌≤◌, drop, refl, arith, ap, sym, ◌∙◌, inr}
 use Rattle.std.proofs.lemmas.List.{take_all, length-drop}
 use Rattle.byteorder.specs.Numbers.{big_number-reads_back}
+use Rattle.rb_base.proofs.Apart.{places_apart}
 use Rattle.rb_base.proofs.Overwriting.{length-overwritten, part_written, part_apart}
 use Rattle.rb_base.specs.Fields.{number_at}
 use Rattle.rb_itl.specs.Entries.{entry_place, entry_bytes, entry_of, with_entry, ReadsOwn, KeepsOthers, KeepsOutside, KeepsCells, KeepsLength, ReadsBack}
@@ -12,12 +12,7 @@ entry_kept_outside block i at count e long lt side = part_apart block (entry_pla
 
 pub others_kept : KeepsOthers
 others_kept block i j e long lt lt_too other =
-    let side : (entry_place j + 48 ≤ entry_place i) ⊎ (entry_place i + 48 ≤ entry_place j) =
-    elim (cases_lt j i) [
-      | inl less ↦ inl (omega arith)
-      | inr le ↦ inr (omega arith)
-    ] in
-    ap entry_of (entry_kept_outside block i (entry_place j) 48 e long lt side)
+    ap entry_of (entry_kept_outside block i (entry_place j) 48 e long lt (places_apart 32 48 i j other))
 
 pub length_kept : KeepsLength
 length_kept block i e long lt = length-overwritten block (entry_place i) (entry_bytes e) (omega (arith, long)) ∙ long

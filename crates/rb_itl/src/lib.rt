@@ -1,13 +1,16 @@
 //! The slot entries of a heap block: which transactions changed it, and what became of them. They are read from the
-//! block's bytes, and written as patches of a group. An opening tests them; as long as no undo is kept they stay free.
+//! block's bytes; and here are the place and the bytes of each, which writes of rows, rollbacks and cleanings put into
+//! a block. An opening tests them.
 #![tactic(auto)]
 
+mod bytes;
 mod laws;
 mod read;
 mod slots;
-mod write;
 
+pub use bytes::entry_bytes;
 pub use laws::{entries_apart, entry_sizes};
 pub use read::{entry, entry_from};
-pub use slots::{BOUND, CHAIN_RECORDS, ENTRIES, ENTRY_BYTES, EXACT, Entry, FREE, OPEN};
-pub use write::{put_entry, write_entry};
+pub use slots::{
+    BOUND, CHAIN_RECORDS, ENTRIES, ENTRY_BYTES, EXACT, Entry, FREE, OPEN, entry_place,
+};

@@ -2,7 +2,7 @@
 ghost use Rattle.std.specs.Prelude.{◌≡◌, ◌<◌, length};
 ghost use Rattle.rb_itl.specs.Entries.{entry_at, entry_of};
 
-use crate::slots::{ENTRIES, ENTRY_BYTES, Entry, place_of};
+use crate::slots::{ENTRIES, ENTRY_BYTES, Entry, entry_place};
 use rb_base::{UNIT, Xid, u16_at, u32_at, u64_at, uba_at};
 
 /// The entry that 48 bytes say, as an undo record keeps them. Bytes that have no meaning in an entry aren't looked at.
@@ -29,6 +29,6 @@ pub fn entry(block: &[u8], i: u8) -> Entry
     requires place { i < ENTRIES }
     ensures { result ≡ entry_at block.now i }
 {
-    let place = place_of(i);
+    let place = entry_place(i);
     entry_from(&block[place..place + ENTRY_BYTES])
 }

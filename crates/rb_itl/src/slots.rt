@@ -41,8 +41,8 @@ pub struct Entry {
     pub length: u32,
 }
 
-/// The byte of its block at which entry `i` begins, 32 to 368.
-pub(crate) fn place_of(i: u8) -> usize
+/// The byte of its block at which entry `i`, 0 to 7, begins: 32 to 368.
+pub fn entry_place(i: u8) -> usize
     requires { i < ENTRIES }
     ensures { result ≡ entry_place i }
 {

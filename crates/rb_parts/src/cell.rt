@@ -2,7 +2,7 @@
 use crate::patches::are_patches;
 use arrayvec::ArrayVec;
 use rb_base::{BlockNo, Group};
-use rb_cell::{CELLS, Cell, EMPTY, ROW, STUB, cells, put_cell, put_lock};
+use rb_cell::{CELLS, Cell, EMPTY, ROW, STUB, cell_bytes, cell_place, cells, lock_place};
 
 /// The bytes in front of the zeros of an unlocked row: its key in 8 bytes after the length 3.
 const ROW_BYTES: &[u8; 15] = b"\x01\0\0\x03\x01\x02\x03\x04\x05\x06\x07\x08abc";
@@ -77,7 +77,7 @@ fn is_written(block: BlockNo, c: u8, cell: &Cell, at: usize, front: &[u8], fill:
     }
     bytes[..front.len()].copy_from_slice(front);
     let mut group = Group::new();
-    put_cell(&mut group, block, c, cell);
+    group.push(block, cell_place(c) as u16, &cell_bytes(cell));
     are_patches(&group, &[(block, at, &bytes)])
 }
 
@@ -109,6 +109,6 @@ fn states_written(rt: HostRuntime) {
 #[test]
 fn lock_written(rt: HostRuntime) {
     let mut group = Group::new();
-    put_lock(&mut group, 9, 15, 8);
+    group.push(9, lock_place(15) as u16, &[8]);
     assert!(rt; are_patches(&group, &[(9, 1797, &[8])]));
 }

@@ -1,7 +1,7 @@
 //! Entries by their bytes, worked by hand.
 use crate::patches::are_patches;
 use rb_base::{Group, Uba, Xid};
-use rb_itl::{BOUND, ENTRIES, EXACT, Entry, FREE, OPEN, entry, put_entry};
+use rb_itl::{BOUND, ENTRIES, EXACT, Entry, FREE, OPEN, entry, entry_bytes, entry_place};
 
 /// Segment 2, slot 15, the 7th transaction there: open, with 3 records, the newest in block 0x01020304 at place 9.
 const OPEN_ENTRY: Entry = Entry {
@@ -107,17 +107,15 @@ const GREATEST_BYTES: [u8; 48] = [
     255, 255, 255, 255, 0, 0, 0, 0, //
 ];
 
-/// Whether an entry is written as these bytes, one patch at its place, and read of them.
+/// Whether an entry has these bytes at its place, and is read of them.
 fn is_spelled(i: u8, value: &Entry, bytes: &[u8; 48]) -> bool {
     if i >= ENTRIES {
         return false;
     }
     let place = 32 + 48 * i as usize;
-    let mut group = Group::new();
-    put_entry(&mut group, 5, i, value);
     let mut block = [9; 2048];
     block[place..place + 48].copy_from_slice(bytes);
-    are_patches(&group, &[(5, place, bytes)]) && entry(&block, i) == *value
+    entry_place(i) == place && entry_bytes(*value) == *bytes && entry(&block, i) == *value
 }
 
 #[test]
@@ -145,8 +143,8 @@ fn meaningless_bytes(rt: HostRuntime) {
 fn entries_behind_others(rt: HostRuntime) {
     let mut group = Group::new();
     group.push(1, 416, &[1]);
-    put_entry(&mut group, u32::MAX, 0, &OPEN_ENTRY);
-    put_entry(&mut group, 0, 7, &EXACT_ENTRY);
+    group.push(u32::MAX, entry_place(0) as u16, &entry_bytes(OPEN_ENTRY));
+    group.push(0, entry_place(7) as u16, &entry_bytes(EXACT_ENTRY));
     let patches: [(u32, usize, &[u8]); 3] = [
         (1, 416, &[1]),
         (u32::MAX, 32, &OPEN_BYTES),

@@ -1,9 +1,9 @@
 //! Extents and the numbers of a ring by their bytes, and where the next record of a segment goes.
 use crate::patches::are_patches;
-use rb_base::Group;
+use rb_base::{Group, set};
 use rb_ring::{
-    EXTENTS, Extent, Turn, extent_at, head_extent, head_records, lost, next, put_extent, put_head,
-    put_lost, put_writes, write_extent, write_head, write_lost, write_writes, writes,
+    EXTENTS, Extent, HEAD_AT, LOST_AT, Turn, WRITES_AT, extent_at, extent_bytes, extent_place,
+    head_bytes, head_extent, head_records, lost, next, number_bytes, writes,
 };
 
 const EXTENT: Extent = Extent {
@@ -21,9 +21,9 @@ fn is_spelled(e: u8, place: usize) -> bool {
     let mut expected = [9; 2048];
     expected[place..place + 16].copy_from_slice(EXTENT_BYTES);
     let mut header = [9; 2048];
-    write_extent(&mut header, e, &EXTENT);
     let mut group = Group::new();
-    put_extent(&mut group, 10, e, &EXTENT);
+    let at = extent_place(e as usize);
+    set(&mut header, 10, &mut group, at, &extent_bytes(EXTENT));
     header == expected
         && extent_at(&header, e) == EXTENT
         && are_patches(&group, &[(10, place, EXTENT_BYTES)])
@@ -46,27 +46,38 @@ fn worked_numbers(rt: HostRuntime) {
     let mut expected = [9; 2048];
     expected[1312..1336].copy_from_slice(&bytes);
     let mut header = [9; 2048];
-    write_head(&mut header, 0x0102, 0x0304);
-    write_writes(&mut header, 0x0506_0708_090a_0b0c);
-    write_lost(&mut header, 0x0d0e_0f10_1112_1314);
+    let mut group = Group::new();
+    set(
+        &mut header,
+        10,
+        &mut group,
+        HEAD_AT,
+        &head_bytes(0x0102, 0x0304),
+    );
+    set(
+        &mut header,
+        10,
+        &mut group,
+        WRITES_AT,
+        &number_bytes(0x0506_0708_090a_0b0c),
+    );
+    set(
+        &mut header,
+        10,
+        &mut group,
+        LOST_AT,
+        &number_bytes(0x0d0e_0f10_1112_1314),
+    );
     assert!(rt; header == expected);
+    let patches: [(u32, usize, &[u8]); 3] = [
+        (10, 1312, &bytes[..4]),
+        (10, 1320, &bytes[8..16]),
+        (10, 1328, &bytes[16..]),
+    ];
+    assert!(rt; are_patches(&group, &patches));
     assert!(rt; head_extent(&header) == 0x0102 && head_records(&header) == 0x0304);
     assert!(rt; writes(&header) == 0x0506_0708_090a_0b0c);
     assert!(rt; lost(&header) == 0x0d0e_0f10_1112_1314);
-}
-
-#[test]
-fn patches_of_numbers(rt: HostRuntime) {
-    let mut group = Group::new();
-    put_head(&mut group, 10, 0x0102, 0x0304);
-    put_writes(&mut group, 11, 5);
-    put_lost(&mut group, 12, 6);
-    let patches: [(u32, usize, &[u8]); 3] = [
-        (10, 1312, &[1, 2, 3, 4]),
-        (11, 1320, &[0, 0, 0, 0, 0, 0, 0, 5]),
-        (12, 1328, &[0, 0, 0, 0, 0, 0, 0, 6]),
-    ];
-    assert!(rt; are_patches(&group, &patches));
 }
 
 // A transaction of table slot 0 began in turn 1, that of extent 1, and runs or not, by its state.
@@ -90,7 +101,7 @@ fn turns(rt: HostRuntime) {
         for byte in [1127, 1159, 1191, 1223, 1255, 1287] {
             header[byte] = more;
         }
-        write_head(&mut header, 0, records);
+        header[1312..1316].copy_from_slice(&head_bytes(0, records));
         assert!(rt; next(&header) == expected, "{records} records");
     }
 }

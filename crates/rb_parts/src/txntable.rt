@@ -1,8 +1,9 @@
 //! Table slots by their bytes, how a transaction stands by its slot, and which slot the next one takes.
 use crate::patches::are_patches;
-use rb_base::{ACTIVE, Group, SLOTS, Uba, Xid};
+use rb_base::{ACTIVE, Group, SLOTS, Uba, Xid, set};
 use rb_txntable::{
-    COMMITTED, ENDED, Look, TableSlot, active, choose, look, put_slot, slot_at, write_slot,
+    COMMITTED, ENDED, Look, TableSlot, active, choose, look, running, slot_at, slot_bytes,
+    slot_place,
 };
 
 /// The seventh transaction of its slot, as it committed at 9 with three live records, in extents 0 and 2.
@@ -41,9 +42,9 @@ fn is_spelled(i: u8, place: usize, slot: &TableSlot, bytes: &[u8; 64]) -> bool {
     let mut expected = [0; 2048];
     expected[place..place + 64].copy_from_slice(bytes);
     let mut header = [0; 2048];
-    write_slot(&mut header, i, slot);
     let mut group = Group::new();
-    put_slot(&mut group, 10, i, slot);
+    let at = slot_place(i as usize);
+    set(&mut header, 10, &mut group, at, &slot_bytes(*slot));
     header == expected && slot_at(&header, i) == *slot && are_patches(&group, &[(10, place, bytes)])
 }
 
@@ -77,8 +78,10 @@ fn looks(rt: HostRuntime) {
             wrap,
         };
         let mut header = [0; 2048];
-        write_slot(&mut header, 1, &TableSlot { state, ..SLOT });
+        header[96..160].copy_from_slice(&slot_bytes(TableSlot { state, ..SLOT }));
         assert!(rt; look(&header, xid) == expected, "{state}, {wrap}");
+        let runs = state == ACTIVE && wrap == 7;
+        assert!(rt; running(&header, xid).is_some() == runs, "{state}, {wrap}");
     }
 }
 
@@ -86,7 +89,8 @@ fn looks(rt: HostRuntime) {
 fn header_of_slots(slot: &TableSlot) -> [u8; 2048] {
     let mut header = [0; 2048];
     for i in 0..16 {
-        write_slot(&mut header, i, slot);
+        let at = slot_place(i);
+        header[at..at + 64].copy_from_slice(&slot_bytes(*slot));
     }
     header
 }
@@ -112,7 +116,8 @@ fn chosen_slots(rt: HostRuntime) {
             newest,
             ..SLOT
         };
-        write_slot(&mut header, i, &slot);
+        let at = slot_place(i);
+        header[at..at + 64].copy_from_slice(&slot_bytes(slot));
         assert!(rt;
             active(&header) == running && choose(&header) == Some(chosen),
             "slot {i}"

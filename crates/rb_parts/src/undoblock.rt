@@ -1,7 +1,7 @@
 //! An undo record by its bytes, worked by hand.
 use crate::patches::are_patches;
 use rb_base::{Group, Uba};
-use rb_undoblock::{PUT, UndoRecord, put_undo, undo_at};
+use rb_undoblock::{PUT, UndoRecord, undo_at, undo_bytes, undo_place};
 
 /// The third change of the seventh transaction in table slot 4: row 0x0102 of table 2 was given a value.
 const CHANGE: UndoRecord = UndoRecord {
@@ -39,7 +39,7 @@ fn worked_record(rt: HostRuntime) {
     bytes[48..96].copy_from_slice(&[0x11; 48]);
     bytes[96..188].copy_from_slice(&[0x22; 92]);
     let mut group = Group::new();
-    put_undo(&mut group, 12, 4, &CHANGE);
+    group.push(12, undo_place(4) as u16, &undo_bytes(CHANGE));
     assert!(rt; are_patches(&group, &[(12, 800, &bytes)]));
     // The bytes that have no meaning aren't looked at.
     bytes[30] = 9;

@@ -1,5 +1,5 @@
 -- What a call that ends a slot says, in blocks that may be rolled back and in any others.
-use Rattle.std.proofs.Common.{◌≡◌, ◌<◌, ◌≤◌, ◌+◌, ◌*◌, ℕ, Bool, Option, Some, List, [], ◌∷◌, sym, ◌∙◌, ap, subst, arith}
+use Rattle.std.proofs.Common.{◌≡◌, ◌<◌, ◌+◌, ◌*◌, ℕ, Bool, Some, List, [], ◌∷◌, sym, ◌∙◌, ap, subst, arith}
 use Rattle.rb_base.specs.Blocks.{after_group, block_of, header_block, written_to, AreBlocks, IsShape}
 use Rattle.rb_base.specs.Groups.{Patch}
 use Rattle.rb_base.specs.Logs.{Logs}
@@ -9,7 +9,7 @@ use Rattle.rb_base.specs.declared.store.Store.{Ghosts}
 use Rattle.rb_model.specs.Rows.{TableRow}
 use Rattle.rb_restart.specs.Steps.{HasLive, IsIdle, MayRoll, PutsBack, Rolls}
 use Rattle.rb_restart.proofs.Ends.{end_group, end_puts, header_ended}
-use Rattle.rb_segment.specs.Calls.{slot_patches, Runs}
+use Rattle.rb_segment.specs.Calls.{slot_patches}
 use Rattle.rb_segment.specs.Header.{header_of}
 use Rattle.rb_segment.specs.Moves.{ended}
 use Rattle.rb_undo.specs.Backs.{header_for}

@@ -1,6 +1,5 @@
 -- A table slot by its number over all segments and by a transaction's id, and what is owed by the slots.
-use Rattle.std.proofs.Common.{◌≡◌, ◌≢◌, inl, inr, ◌<◌, ◌≤◌, ◌==◌, ◌+◌, ◌*◌, ◌/◌, ◌%◌, ℕ, zero, suc, true, false, List, ◌∷◌, refl, sym, ◌∙◌, ap, subst, arith}
-use Rattle.std.proofs.lemmas.Bool.{cases_eq}
+use Rattle.std.proofs.Common.{◌≡◌, ◌≢◌, ◌<◌, ◌==◌, ◌+◌, ◌*◌, ◌/◌, ◌%◌, ℕ, zero, suc, false, List, ◌∷◌, refl, sym, ◌∙◌, ap, subst, arith}
 use Rattle.std.proofs.lemmas.Bool.Decides.{nat_tests}
 use Rattle.std.proofs.lemmas.List.Sums.{sum_by-cons}
 use Rattle.std.specs.List.{sum_by, range_with_len}
@@ -9,7 +8,6 @@ use Rattle.rb_base.specs.declared.ids.Xid.{Xid}
 use Rattle.rb_base.specs.declared.shape.Shape.{Shape}
 use Rattle.rb_base.specs.declared.sizes.TheConstants.{ACTIVE}
 use Rattle.rb_restart.specs.Steps.{HasLive, IsIdle}
-use Rattle.rb_segment.specs.Calls.{Runs}
 use Rattle.rb_segment.proofs.Parts.{slot_read}
 use Rattle.rb_segment.specs.Header.{Header, header_of, slot_in, slot_owed}
 use Rattle.rb_segment.specs.Segments.{owed_in}

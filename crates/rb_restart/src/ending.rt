@@ -7,9 +7,9 @@ ghost use Rattle.rb_restart.specs.Steps.{HasLive, IsIdle, Rolls};
 ghost use Rattle.rb_segment.specs.Calls.{Runs};
 ghost use Rattle.rb_segment.specs.Header.{header_of, slot_in};
 
-use rb_base::{ACTIVE, Failed, Group, SLOTS, Shape, Store, UNIT, Xid};
+use rb_base::{Failed, Group, SLOTS, Shape, Store, UNIT, Xid, copy_of};
 use rb_segment::end;
-use rb_txntable::slot_at;
+use rb_txntable::running;
 
 /// Whether the transaction runs and has no live record. Its slot may end then.
 pub fn is_rolled_back(header: &[u8], xid: Xid) -> bool
@@ -18,8 +18,7 @@ pub fn is_rolled_back(header: &[u8], xid: Xid) -> bool
     ensures { IsTrue result ↔ (Runs (header_of header.now) xid
         × ((slot_in (header_of header.now) xid.slot).live ≡ 0)) }
 {
-    let slot = slot_at(header, xid.slot as u8);
-    slot.state == ACTIVE && slot.wrap == xid.wrap && slot.live == 0
+    matches!(running(header, xid), Some(slot) if slot.live == 0)
 }
 
 /// Ends the slot of a transaction that runs and has no live change, by one group. What `group` held is dropped. Nothing
@@ -39,9 +38,7 @@ pub fn end_slot<S: Store>(
     ensures { Rolls S.Store shape store.old store.new 1 (not (is_err result))
         (λ now. HasLive shape (S.blocks store.old) xid 0 → IsIdle shape now (16 * xid.seg + xid.slot)) }
 {
-    store.load(shape.header_block(xid.seg))?;
-    let mut header = [0; UNIT];
-    header.copy_from_slice(store.block());
+    let mut header = copy_of(store, shape.header_block(xid.seg))?;
     if !is_rolled_back(&header, xid) {
         return Ok(());
     }

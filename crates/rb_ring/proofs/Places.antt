@@ -5,7 +5,7 @@ use Rattle.std.proofs.lemmas.Bool.Decides.{eqb_tells}
 use Rattle.std.proofs.lemmas.List.{drop_at, drop-drop, length-take-le}
 use Rattle.byteorder.specs.Endian.{big_bytes, big_number}
 use Rattle.byteorder.specs.Numbers.{big_number-reads_back}
-use Rattle.rb_base.proofs.Fronts.{number_of_part, byte_of_part}
+use Rattle.rb_base.proofs.Apart.{number_apart, byte_apart}
 use Rattle.rb_base.proofs.Overwriting.{length-overwritten, part_apart}
 use Rattle.rb_base.specs.Fields.{part, number_at, overwritten, AreApart}
 use Rattle.rb_ring.specs.Ring.{extent_place, extent_at, extent_ord, extent_newest, head_extent, head_records, record_count, lost_number, IsExtent}
@@ -17,13 +17,11 @@ use Rattle.rb_ring.specs.Written.{ChangesOnly, ExtentApart, HeadApart, RecordCou
 only : (old : List ℕ) (at count : ℕ) (bytes : List ℕ) → length old ≡ 2048 → at + count ≤ 2048 → length bytes ≡ count → ChangesOnly at count old (overwritten old at bytes)
 only old at count bytes long within size_is =
     let inside : at + length bytes ≤ length old = omega (arith, long, within, size_is) in
-    let new = overwritten old at bytes in
-    let parts : (from size : ℕ) → AreApart from size at count → part new from size ≡ part old from size = λ from size apart. part_apart old at bytes from size count inside size_is apart in
     record {
       long = length-overwritten old at bytes inside ∙ long;
-      parts = parts;
-      numbers = λ from size apart. sym (number_of_part new from size) ∙ ap (λ (l : List ℕ). number_at l 0 size) (parts from size apart) ∙ number_of_part old from size;
-      bytes = λ from apart. sym (byte_of_part new from 1 (omega arith)) ∙ ap (λ (l : List ℕ). slice_index l 0) (parts from 1 apart) ∙ byte_of_part old from 1 (omega arith);
+      parts = λ from size apart. part_apart old at bytes from size count inside size_is apart;
+      numbers = number_apart old at bytes count inside size_is;
+      bytes = byte_apart old at bytes count inside size_is;
     }
 
 pub extent_only : ExtentApart

@@ -43,7 +43,7 @@ pub struct Extent {
 }
 
 /// The byte of a header at which extent `e`, 0 to 7, begins.
-pub(crate) fn extent_place(e: usize) -> usize
+pub fn extent_place(e: usize) -> usize
     requires { e < EXTENTS }
     ensures { result ≡ extent_place e }
 {

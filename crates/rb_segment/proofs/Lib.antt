@@ -20,7 +20,6 @@ pub mod Recording
 pub mod Records
 pub mod Rings
 pub mod Rooms
-pub mod ScnWritten
 pub mod SegmentWritten
 pub mod Slots
 pub mod WithSegment

@@ -1,17 +1,22 @@
 -- What a header reads as once a part of it is written.
-use Rattle.std.proofs.Common.{◌≡◌, ◌≢◌, ℕ, ◌+◌, ◌==◌, ◌^◌, ◌<◌, ◌≤◌, List, length, set, refl, arith, ap, sym, ◌∙◌, inl, inr, slice_index}
-use Rattle.std.proofs.lemmas.Bool.{cond-true, cond-false}
+use Rattle.std.proofs.Common.{◌≡◌, ◌≢◌, ℕ, ◌+◌, ◌==◌, ◌^◌, ◌<◌, ◌≤◌, List, [], ◌∷◌, length, set, refl, arith, ap, sym, ◌∙◌, inl, inr, slice_index}
+use Rattle.std.proofs.lemmas.Bool.{cond-true, cond-false, eq-eqb}
 use Rattle.std.proofs.lemmas.Bool.Decides.{nat_tests}
 use Rattle.std.proofs.lemmas.List.FromFn.{length-map-range_with_len, get_or-map-range_with_len}
 use Rattle.rb_base.proofs.Listed.{listed_same, listed_set}
 use Rattle.rb_base.specs.Addresses.{slot_place}
-use Rattle.rb_base.specs.Fields.{number_at}
+use Rattle.rb_base.specs.Blocks.{written_to}
+use Rattle.rb_base.specs.Fields.{number_at, overwritten}
+use Rattle.rb_base.specs.Groups.{patch}
+use Rattle.rb_base.specs.declared.ids.Xid.{Xid}
 use Rattle.rb_ring.proofs.Places.{extent_only, head_only, record_count_only, lost_only, extent_written, head_written, record_count_written, lost_written}
 use Rattle.rb_ring.specs.Ring.{extent_place, extent_at, extent_ord, extent_newest, head_extent, head_records, record_count, lost_number, with_extent, with_head, with_record_count, with_lost, IsExtent}
 use Rattle.rb_ring.specs.Written.{ChangesOnly, RingReads, extents_with}
 use Rattle.rb_ring.specs.declared.extents.Extent.{Extent}
+use Rattle.rb_segment.specs.Calls.{Runs}
 use Rattle.rb_segment.specs.Header.{header_of, no_extent, slot_in, extent_in}
 use Rattle.rb_txntable.proofs.Places.{numbers_kept, own_read, others_kept}
+use Rattle.rb_txntable.specs.Looks.{IsRunning}
 use Rattle.rb_txntable.specs.Slots.{slot_at, slot_state, slot_touched, slot_live, slot_wrap, slot_newest, slot_before, slot_record, slot_first, slot_start, with_slot, no_slot, IsTableSlot, IsChosen}
 use Rattle.rb_txntable.specs.declared.slots.TableSlot.{TableSlot}
 
@@ -103,10 +108,23 @@ pub lost_set : (header : List ℕ) (c : ℕ) → length header ≡ 2048 → c < 
 unfolding header_of
 lost_set header c long fits = ring_of header (with_lost header c) 1328 8 (head_extent header) (head_records header) (record_count header) c (omega arith) (lost_only header c long) (lost_written header c long fits)
 
+-- Bytes that were set in a copy are those of one patch of its block.
+pub set_over : (block at : ℕ) (bytes old now : List ℕ) → now ≡ overwritten old at bytes → now ≡ written_to block (patch block at bytes ∷ []) old
+set_over block at bytes old now set = set ∙ rw (eq-eqb block block refl) refl
+
 -- A header's parts, read one by one.
 pub slot_read : (header : List ℕ) (i : ℕ) → i < 16 → slot_in (header_of header) i ≡ slot_at header i
 unfolding header_of
 slot_read header i few = get_or-map-range_with_len (slot_at header) 0 16 i i no_slot few (omega arith)
+
+-- so a transaction that has its slot runs, and the other way round
+pub runs_read : (header : List ℕ) (x : Xid) → x.slot < 16 → IsRunning (slot_at header x.slot) x.wrap → Runs (header_of header) x
+runs_read header x few is = let read = slot_read header x.slot few in
+    record { slot = few; active = ap (λ (s : TableSlot). s.state) read ∙ is.active; wrap = ap (λ (s : TableSlot). s.wrap) read ∙ is.wrap }
+
+pub has_slot : (header : List ℕ) (x : Xid) → Runs (header_of header) x → IsRunning (slot_at header x.slot) x.wrap
+has_slot header x runs = let read = sym (slot_read header x.slot runs.slot) in
+    record { active = ap (λ (s : TableSlot). s.state) read ∙ runs.active; wrap = ap (λ (s : TableSlot). s.wrap) read ∙ runs.wrap }
 
 pub extent_read : (header : List ℕ) (e : ℕ) → e < 8 → extent_in (header_of header) e ≡ extent_at header e
 unfolding header_of

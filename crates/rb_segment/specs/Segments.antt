@@ -1,25 +1,14 @@
 -- The number of a file's last commit and the wraps of its table slots, as the headers of all segments say them.
 use Rattle.std.specs.Prelude.{ℕ, ◌*◌, ◌/◌, ◌%◌, List, [], slice_index, slice_index_or}
 use Rattle.std.specs.List.{range_with_len, sum_by}
-use Rattle.byteorder.specs.Endian.{big_bytes}
 use Rattle.rb_base.specs.Blocks.{block_of, greatest, header_block}
-use Rattle.rb_base.specs.Fields.{number_at}
-use Rattle.rb_base.specs.Groups.{Patch, patch}
 use Rattle.rb_base.specs.declared.shape.Shape.{Shape}
 use Rattle.rb_segment.specs.Header.{header_of, slot_in, slot_owed}
-use Rattle.rb_txntable.specs.Slots.{newest_place, slot_wrap, header_newest}
+use Rattle.rb_txntable.specs.Slots.{slot_wrap, header_newest}
 
 -- the commit number of a file, the greatest that a table slot has
 abbrev pub commit_scn : Shape → List (List ℕ) → ℕ
 commit_scn shape blocks = greatest (λ g. header_newest (block_of blocks (header_block shape g))) shape.segments
-
--- the log number in front of the header of the first segment, which each commit patches
-abbrev pub commit_lsn : Shape → List (List ℕ) → ℕ
-commit_lsn shape blocks = number_at (block_of blocks (header_block shape 0)) 0 8
-
--- the patch of a commit of that number, which becomes the newest of the first table slot of the first segment
-abbrev pub scn_patch : Shape → ℕ → Patch
-scn_patch shape scn = patch (header_block shape 0) (newest_place 0) (big_bytes 8 scn)
 
 -- how often a slot of a segment had been taken, and the same in a table of them
 abbrev pub wrap_at : Shape → List (List ℕ) → ℕ → ℕ → ℕ

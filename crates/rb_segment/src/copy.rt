@@ -7,12 +7,12 @@ ghost use Rattle.rb_ring.specs.Ring.{extent_patch, head_patch, record_count_patc
 ghost use Rattle.rb_segment.specs.Header.{extent_in, header_of, slot_in};
 ghost use Rattle.rb_txntable.specs.Slots.{slot_patch};
 
-use rb_base::{BlockNo, GROUP_BYTES, GROUP_PATCHES, Group, SLOT_BYTES, SLOTS, Scn, UNIT};
+use rb_base::{BlockNo, GROUP_BYTES, GROUP_PATCHES, Group, SLOT_BYTES, SLOTS, Scn, UNIT, set};
 use rb_ring::{
-    EXTENTS, Extent, put_extent, put_head, put_lost, put_writes, write_extent, write_head,
-    write_lost, write_writes,
+    EXTENTS, Extent, HEAD_AT, LOST_AT, WRITES_AT, extent_bytes, extent_place, head_bytes,
+    number_bytes,
 };
-use rb_txntable::{TableSlot, put_slot, write_slot};
+use rb_txntable::{TableSlot, slot_bytes, slot_place};
 
 /// Table slot `i`, 0 to 15, becomes `slot`.
 pub fn set_slot(header: &mut [u8], no: BlockNo, group: &mut Group, i: u8, slot: &TableSlot)
@@ -27,8 +27,8 @@ pub fn set_slot(header: &mut [u8], no: BlockNo, group: &mut Group, i: u8, slot: 
         ≡ record (header_of header.old) { slots = set (header_of header.old).slots i slot.now } }
     ensures read { slot_in (header_of header.new) i ≡ slot.now }
 {
-    write_slot(header, i, slot);
-    put_slot(group, no, i, slot);
+    let at = slot_place(i as usize);
+    set(header, no, group, at, &slot_bytes(*slot));
 }
 
 /// Extent `e`, 0 to 7, becomes `extent`.
@@ -44,8 +44,8 @@ pub fn set_extent(header: &mut [u8], no: BlockNo, group: &mut Group, e: u8, exte
         ≡ record (header_of header.old) { extents = set (header_of header.old).extents e extent.now } }
     ensures read { extent_in (header_of header.new) e ≡ extent.now }
 {
-    write_extent(header, e, extent);
-    put_extent(group, no, e, extent);
+    let at = extent_place(e as usize);
+    set(header, no, group, at, &extent_bytes(*extent));
 }
 
 /// Extent `head` becomes the head, with so many records.
@@ -58,8 +58,7 @@ pub fn set_head(header: &mut [u8], no: BlockNo, group: &mut Group, head: u16, re
     ensures length { length header.new ≡ UNIT }
     ensures means { header_of header.new ≡ record (header_of header.old) { head = head; records = records } }
 {
-    write_head(header, head, records);
-    put_head(group, no, head, records);
+    set(header, no, group, HEAD_AT, &head_bytes(head, records));
 }
 
 /// So many records were made.
@@ -72,8 +71,7 @@ pub fn set_writes(header: &mut [u8], no: BlockNo, group: &mut Group, writes: u64
     ensures length { length header.new ≡ UNIT }
     ensures means { header_of header.new ≡ record (header_of header.old) { writes = writes } }
 {
-    write_writes(header, writes);
-    put_writes(group, no, writes);
+    set(header, no, group, WRITES_AT, &number_bytes(writes));
 }
 
 /// The greatest commit number that was given up.
@@ -86,6 +84,5 @@ pub fn set_lost(header: &mut [u8], no: BlockNo, group: &mut Group, lost: Scn)
     ensures length { length header.new ≡ UNIT }
     ensures means { header_of header.new ≡ record (header_of header.old) { lost = lost } }
 {
-    write_lost(header, lost);
-    put_lost(group, no, lost);
+    set(header, no, group, LOST_AT, &number_bytes(lost));
 }

@@ -1,15 +1,15 @@
 //! What holds of the numbers in every file's headers, and of the moves of every segment, as clauses for proofs to cite.
 //! Nothing calls them.
-ghost use Rattle.std.specs.Prelude.{◌≡◌, ℕ, ◌+◌, ◌^◌, ◌<◌, ◌≤◌, List, [], ◌∷◌};
+ghost use Rattle.std.specs.Prelude.{◌≡◌, ℕ, ◌<◌, ◌≤◌, List};
 ghost use Rattle.rb_base.specs.declared.shape.Shape.{Shape};
 ghost use Rattle.std.specs.List.{AllByRecursion};
-ghost use Rattle.rb_base.specs.Blocks.{block_of, after_group, header_block, shape_blocks, table_blocks, written_to};
-ghost use Rattle.rb_base.specs.Blocks.{AreBlocks, IsShape, StaysBehind};
+ghost use Rattle.rb_base.specs.Blocks.{block_of, after_group, header_block, shape_blocks, written_to};
+ghost use Rattle.rb_base.specs.Blocks.{AreBlocks, StaysBehind};
 ghost use Rattle.rb_base.specs.Groups.{Patch};
 ghost use Rattle.rb_segment.specs.Header.{header_of};
 ghost use Rattle.rb_txntable.specs.Slots.{slot_newest};
 ghost use Rattle.rb_segment.specs.MoveLaws as moves;
-ghost use Rattle.rb_segment.specs.Segments.{commit_lsn, commit_scn, scn_patch};
+ghost use Rattle.rb_segment.specs.Segments.{commit_scn};
 
 use crate::headers::SEGMENTS;
 use crate::record::{RECORD_BYTES, TURN_BYTES};
@@ -22,19 +22,6 @@ pub fn commit_greatest()
     ensures least { (shape : Shape) (blocks : List (List ℕ)) (n : ℕ)
         → ((g i : ℕ) → g < shape.segments → i < SLOTS → slot_newest (block_of blocks (header_block shape g)) i
         ≤ n) → commit_scn shape blocks ≤ n }
-{}
-
-/// A commit writes the next commit number into the first table slot of the first segment: that is the file's commit
-/// number then, its group's log number stands in front of that block, and no block of rows changes.
-pub fn scn_written()
-    ensures commit { (shape : Shape) (blocks : List (List ℕ)) (number n : ℕ) → IsShape shape
-        → AreBlocks shape blocks → commit_scn shape blocks ≡ n → n + 1 < 2 ^ 64
-        → commit_scn shape (after_group number (scn_patch shape (n + 1) ∷ []) blocks) ≡ n + 1 }
-    ensures number { (shape : Shape) (blocks : List (List ℕ)) (number n : ℕ) → IsShape shape
-        → AreBlocks shape blocks → number < 2 ^ 64
-        → commit_lsn shape (after_group number (scn_patch shape (n + 1) ∷ []) blocks) ≡ number }
-    ensures rows { (shape : Shape) (blocks : List (List ℕ)) (number n b : ℕ) → b < table_blocks shape
-        → block_of (after_group number (scn_patch shape (n + 1) ∷ []) blocks) b ≡ block_of blocks b }
 {}
 
 /// After a group of patches a header says what its block says with the patches of that block written over it. So a call

@@ -19,7 +19,7 @@ use rb_base::{
 };
 use rb_ring::{EXTENT_RECORDS, EXTENTS, extent_ord, head_records, writes};
 use rb_txntable::{TableSlot, slot_at};
-use rb_undoblock::{UNDO_BYTES, UNDO_RECORDS, UndoRecord, put_undo};
+use rb_undoblock::{UNDO_BYTES, UNDO_RECORDS, UndoRecord, undo_bytes, undo_place};
 
 /// The bytes that the patches of a turn take in a group.
 pub const TURN_BYTES: usize = 24 + 12 + 16;
@@ -97,7 +97,8 @@ fn append(header: &mut [u8], block: BlockNo, i: u8, undo: &UndoRecord, group: &m
     set_slot(header, block, group, i, &slot);
     set_head(header, block, group, head as u16, records);
     set_writes(header, block, group, made);
-    put_undo(group, address.block, address.rec as u8, undo);
+    let place = undo_place(address.rec as u8) as u16;
+    group.push(address.block, place, &undo_bytes(*undo));
     address
 }
 

@@ -9,7 +9,8 @@ ghost use Rattle.rb_sound.specs.Active.{AreActive, Chain, Fits, HasBegun, IsActi
 
 use crate::home::{Limits, cell_sound, entry_sound};
 use rb_base::{
-    ACTIVE, Failed, SEGMENT_BLOCKS, SLOTS, Shape, Store, UNIT, Uba, VALUE_BYTES, Xid, u16_at,
+    ACTIVE, Failed, SEGMENT_BLOCKS, SLOTS, Shape, Store, UNIT, Uba, VALUE_BYTES, Xid, copy_of,
+    u16_at,
 };
 use rb_cell::{CELLS, cell_from};
 use rb_itl::{ENTRIES, entry_from};
@@ -243,9 +244,7 @@ fn slots_sound<S: Store>(
         → (slot_in (segment_of shape (S.blocks store.old) g).header i).state ≡ ACTIVE
         → IsActive (Fits limits.now) shape g (segment_of shape (S.blocks store.old) g) i)) }
 {
-    store.load(shape.header_block(g))?;
-    let mut header = [0; UNIT];
-    header.copy_from_slice(store.block());
+    let header = copy_of(store, shape.header_block(g))?;
     for i in 0..SLOTS as u8 {
         if !slot_sound(store, shape, g, &header, i, limits)? {
             return Ok(false);

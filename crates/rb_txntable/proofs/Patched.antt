@@ -1,15 +1,13 @@
--- What a patch leaves of its block's bytes, and what a group of one leaves of a file's blocks. Slots, cells and entries are
--- all read from such bytes, so it stands below the crates of each.
-use Rattle.std.proofs.Common.{◌≡◌, ◌≢◌, ℕ, ◌+◌, ◌^◌, ◌<◌, ◌≤◌, List, [], ◌∷◌, length, drop, refl, arith, ap, sym, ◌∙◌, inr, slice_index}
+-- What a patch leaves of its block's bytes. Slots, cells and entries are all read from such bytes, so it stands below the
+-- crates of each.
+use Rattle.std.proofs.Common.{◌≡◌, ℕ, ◌+◌, ◌^◌, ◌<◌, ◌≤◌, List, length, drop, refl, arith, ap, sym, ◌∙◌, inr, slice_index}
 use Rattle.byteorder.specs.Endian.{big_bytes}
 use Rattle.byteorder.specs.Numbers.{big_number-reads_back}
-use Rattle.rb_base.specs.declared.shape.Shape.{Shape}
-use Rattle.rb_base.specs.Blocks.{block_of, patched, after_group, shape_blocks, AreBlocks}
+use Rattle.rb_base.specs.Blocks.{patched}
 use Rattle.rb_base.specs.Fields.{part, number_at, overwritten, with_number, AreApart}
 use Rattle.rb_base.specs.Groups.{Patch}
-use Rattle.rb_base.proofs.Blocks.{patch_own, patch_others}
 use Rattle.rb_base.proofs.Fronts.{number_of_part, byte_of_part}
-use Rattle.rb_base.proofs.Overwriting.{length-overwritten, part_written, part_apart}
+use Rattle.rb_base.proofs.Overwriting.{length-overwritten, part_apart}
 
 -- what is behind the log number in front
 behind_number : (block : List ℕ) (number at count : ℕ) → length block ≡ 2048 → 8 ≤ at → part (with_number block 0 8 number) at count ≡ part block at count
@@ -28,17 +26,6 @@ module _ (block : List ℕ) (number size : ℕ) (p : Patch) (long : length block
 
   pub byte_kept : (at : ℕ) → 8 ≤ at → AreApart at 1 p.at size → slice_index (patched number p block) at ≡ slice_index block at
   byte_kept at behind apart = sym (byte_of_part (patched number p block) at 1 (omega arith)) ∙ ap (λ (l : List ℕ). slice_index l 0) (part_kept at 1 behind apart) ∙ byte_of_part block at 1 (omega arith)
-
-  -- the patch itself
-  pub part_there : 8 ≤ p.at → part (patched number p block) p.at size ≡ p.bytes
-  part_there behind = numbered p.at size behind ∙ part_written block p.at p.bytes size (omega (arith, long, size_is, within)) size_is
-
--- the patched block of a file, and every other one
-pub block_there : (shape : Shape) (blocks : List (List ℕ)) (number : ℕ) (p : Patch) → AreBlocks shape blocks → p.block < shape_blocks shape → block_of (after_group number (p ∷ []) blocks) p.block ≡ patched number p (block_of blocks p.block)
-block_there shape blocks number p are lt = patch_own number p blocks (omega (arith, are.count, lt))
-
-pub block_elsewhere : (blocks : List (List ℕ)) (number b : ℕ) (p : Patch) → b ≢ p.block → block_of (after_group number (p ∷ []) blocks) b ≡ block_of blocks b
-block_elsewhere blocks number b p differ = patch_others number p blocks b differ
 
 -- the number of the group in front
 pub number_patched : (block : List ℕ) (number : ℕ) (p : Patch) → number < 2 ^ 64 → number_at (patched number p block) 0 8 ≡ number

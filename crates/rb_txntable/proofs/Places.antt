@@ -1,11 +1,11 @@
 -- A table slot that was written over a header's bytes.
 use Rattle.std.proofs.Common.{◌≡◌, ℕ, ◌+◌, ◌-◌, ◌<◌, ◌≤◌, List, take, drop, refl, arith, ap, sym, ◌∙◌, inl, inr, slice_index}
-use Rattle.std.proofs.lemmas.Bool.{cases_lt}
 use Rattle.std.proofs.lemmas.List.{drop-drop, drop-take, get_or-take, get_or-drop}
 use Rattle.byteorder.specs.Numbers.{big_number-reads_back, big_from-take}
 use Rattle.byteorder.specs.Endian.{big_number}
 use Rattle.rb_base.specs.Addresses.{slot_place, uba_at}
 use Rattle.rb_base.specs.Fields.{part, number_at, AreApart}
+use Rattle.rb_base.proofs.Apart.{number_apart, byte_apart, places_apart}
 use Rattle.rb_base.proofs.Fronts.{number_of_part, byte_of_part}
 use Rattle.rb_base.proofs.Overwriting.{length-overwritten, part_written, part_apart}
 use Rattle.rb_txntable.specs.declared.slots.TableSlot.{TableSlot}
@@ -16,12 +16,10 @@ pub kept_outside : KeepsOutsideSlot
 kept_outside header i at count s long lt side = part_apart header (slot_place i) (slot_bytes s) at count 64 (omega (arith, long)) refl side
 
 pub numbers_kept : KeepsNumbersOutside
-numbers_kept header i at count s long lt side =
-    sym (number_of_part (with_slot header i s) at count) ∙ ap (λ (l : List ℕ). number_at l 0 count) (kept_outside header i at count s long lt side) ∙ number_of_part header at count
+numbers_kept header i at count s long lt side = number_apart header (slot_place i) (slot_bytes s) 64 (omega (arith, long)) refl at count side
 
 pub bytes_kept : KeepsBytesOutside
-bytes_kept header i at s long lt side =
-    sym (byte_of_part (with_slot header i s) at 1 (omega arith)) ∙ ap (λ (l : List ℕ). slice_index l 0) (kept_outside header i at 1 s long lt side) ∙ byte_of_part header at 1 (omega arith)
+bytes_kept header i at s long lt side = byte_apart header (slot_place i) (slot_bytes s) 64 (omega (arith, long)) refl at side
 
 pub length_kept : SlotLengthKept
 length_kept header i s long lt = length-overwritten header (slot_place i) (slot_bytes s) (omega (arith, long)) ∙ long
@@ -94,9 +92,4 @@ own_read header i s long lt fits = read_back (with_slot header i s) i s fits (pa
 
 pub others_kept : SlotsKept
 others_kept header i j s long lt lt_too other =
-    let side : AreApart (slot_place j) 64 (slot_place i) 64 =
-    elim (cases_lt j i) [
-      | inl less ↦ inl (omega arith)
-      | inr le ↦ inr (omega arith)
-    ] in
-    slot_there (with_slot header i s) j ∙ ap slot_of (kept_outside header i (slot_place j) 64 s long lt side) ∙ sym (slot_there header j)
+    slot_there (with_slot header i s) j ∙ ap slot_of (kept_outside header i (slot_place j) 64 s long lt (places_apart 32 64 i j other)) ∙ sym (slot_there header j)

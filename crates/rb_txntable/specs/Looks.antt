@@ -14,6 +14,11 @@ slot_look s wrap =
     else if s.state == COMMITTED then At s.newest else Before s.newest)
     else if s.state == COMMITTED then Before s.before else Before s.newest
 
+-- The transaction that was the nth to take the slot has it, and runs.
+pub record IsRunning (s : TableSlot) (n : ℕ) : Type 0 where
+  pub active : s.state ≡ ACTIVE
+  pub wrap : s.wrap ≡ n
+
 -- A look that ages. A bound that isn't above lost stays so; so a look that stays the same ages, whatever the segment
 -- has.
 abbrev pub LookAges : ℕ → ℕ → Look → Look → Type 0

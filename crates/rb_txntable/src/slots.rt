@@ -64,7 +64,7 @@ pub fn slot_place(i: usize) -> usize
 }
 
 /// The byte of a header at which the newest commit number of table slot `i`, 0 to 15, stands.
-pub fn newest_place(i: usize) -> usize
+fn newest_place(i: usize) -> usize
     requires { i < SLOTS }
     ensures { result ≡ newest_place i }
 {

@@ -8,10 +8,10 @@ ghost use Rattle.rb_segment.specs.Calls.{Runs};
 ghost use Rattle.rb_segment.specs.Header.{header_of, slot_in};
 ghost use Rattle.rb_undo.specs.Backs.{newest_record, CanBack};
 
-use rb_base::{ACTIVE, Failed, SLOTS, Shape, Store, UNIT, Uba, Xid};
+use rb_base::{Failed, SLOTS, Shape, Store, UNIT, Uba, Xid};
 use rb_cell::CELLS;
 use rb_itl::ENTRIES;
-use rb_txntable::slot_at;
+use rb_txntable::running;
 use rb_undoblock::{UNDO_RECORDS, UndoRecord, undo_at};
 
 /// The address of the newest live record of a transaction, as its segment's header says. None exactly where it doesn't
@@ -25,11 +25,9 @@ fn newest_at(header: &[u8], xid: Xid) -> Option<Uba>
     ensures none { IfNone result (Runs (header_of header.now) xid
         → (slot_in (header_of header.now) xid.slot).live ≡ 0) }
 {
-    let slot = slot_at(header, xid.slot as u8);
-    if slot.state == ACTIVE && slot.wrap == xid.wrap && slot.live > 0 {
-        Some(slot.newest_at)
-    } else {
-        None
+    match running(header, xid) {
+        Some(slot) if slot.live > 0 => Some(slot.newest_at),
+        _ => None,
     }
 }
 

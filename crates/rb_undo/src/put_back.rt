@@ -7,7 +7,7 @@ ghost use Rattle.rb_base.specs.Logs.{Logs};
 ghost use Rattle.rb_undo.specs.Backs.{back_patches, header_for, newest_record, ArePutBack, CanBack, TakesBack};
 
 use crate::find::newest;
-use rb_base::{Failed, Group, SLOTS, Store, UNIT, Xid};
+use rb_base::{Failed, Group, SLOTS, Store, Xid, copy_of};
 use rb_cell::cell_from;
 use rb_heap::change;
 use rb_itl::entry_from;
@@ -38,9 +38,7 @@ pub fn back<S: Store>(store: &mut S, xid: Xid, group: &mut Group) -> Result<(), 
         → OnOk result (Logs S.Store store.old store.new [] true) }
 {
     let shape = store.shape();
-    store.load(shape.header_block(xid.seg))?;
-    let mut header = [0; UNIT];
-    header.copy_from_slice(store.block());
+    let mut header = copy_of(store, shape.header_block(xid.seg))?;
     let Some(undo) = newest(store, &shape, &header, xid)? else {
         return Ok(());
     };

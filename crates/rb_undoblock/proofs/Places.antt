@@ -1,11 +1,11 @@
 -- A record that was written over a block's bytes.
-use Rattle.std.proofs.Common.{◌≡◌, ℕ, List, [], ◌∷◌, ◌++◌, length, take, drop, replicate, refl, arith, ap, ◌∙◌, append_assoc, inl, inr}
-use Rattle.std.proofs.lemmas.Bool.{cases_lt}
+use Rattle.std.proofs.Common.{◌≡◌, ℕ, List, [], ◌∷◌, ◌++◌, length, take, drop, replicate, refl, arith, ap, ◌∙◌, append_assoc}
 use Rattle.std.proofs.lemmas.List.{take_at, drop_at, length-append}
 use Rattle.byteorder.specs.Endian.{big_bytes}
 use Rattle.byteorder.specs.Numbers.{big_number-reads_back}
 use Rattle.rb_base.specs.Addresses.{uba_bytes}
-use Rattle.rb_base.specs.Fields.{part, number_at, AreApart}
+use Rattle.rb_base.specs.Fields.{part, number_at}
+use Rattle.rb_base.proofs.Apart.{places_apart}
 use Rattle.rb_base.proofs.Overwriting.{length-overwritten, part_written, part_apart}
 use Rattle.rb_undoblock.specs.declared.record.UndoRecord.{UndoRecord}
 use Rattle.rb_undoblock.specs.Undo.{undo_place, undo_of, undo_at, undo_bytes, IsUndoRecord}
@@ -25,12 +25,7 @@ kept_outside block r at count u long lt h side = part_apart block (undo_place r)
 pub others_kept : UndoKept
 unfolding undo_at
 others_kept block r s u long lt lt_too h other =
-    let side : AreApart (undo_place s) 192 (undo_place r) 192 =
-    elim (cases_lt s r) [
-      | inl less ↦ inl (omega arith)
-      | inr le ↦ inr (omega arith)
-    ] in
-    ap undo_of (kept_outside block r (undo_place s) 192 u long lt h side)
+    ap undo_of (kept_outside block r (undo_place s) 192 u long lt h (places_apart 32 192 r s other))
 
 pub length_kept : UndoLengthKept
 length_kept block r u long lt h = length-overwritten block (undo_place r) (undo_bytes u) (omega (arith, long, undo_long u h)) ∙ long

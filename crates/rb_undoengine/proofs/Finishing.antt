@@ -1,6 +1,5 @@
 -- What the group of a commit, or of an end, makes of blocks that stand for the machine's state.
-use Rattle.std.proofs.Common.{◌≡◌, inl, inr, ◌<◌, ◌≤◌, ◌+◌, ◌-◌, ◌*◌, ◌/◌, ◌%◌, ◌++◌, Bool, true, false, not, nat_eq, if◌then◌else◌, zero, suc, ℕ, List, [], ◌∷◌, length, get_or, map, set, Option, Some, None, refl, sym, ◌∙◌, ap, subst, arith}
-use Rattle.std.proofs.Math.Dec.{eqb-suc-zero}
+use Rattle.std.proofs.Common.{◌≡◌, inl, inr, ◌<◌, ◌≤◌, ◌+◌, ◌-◌, ◌*◌, ◌/◌, ◌%◌, ◌++◌, Bool, true, false, if◌then◌else◌, ℕ, List, [], ◌∷◌, length, get_or, map, set, Option, Some, None, refl, sym, ◌∙◌, ap, subst, arith}
 use Rattle.std.proofs.lemmas.Bool.{cases_eq}
 use Rattle.std.proofs.lemmas.List.{get_or-set_same, get_or-set_other, length-set}
 use Rattle.std.specs.List.{AllByRecursion, flat_map, range_with_len}
@@ -50,11 +49,6 @@ commit_there block i h = (refl, stamps_there block (slot_in h i).touched h (rang
 
 pub end_there : (block i : ℕ) (h : Header) → AllByRecursion (λ p. p.block ≡ block) (slot_patches block i h)
 end_there block i h = (refl, tt)
-
--- a number that isn't 0 is told so
-pub not_zero : (n : ℕ) → (n ≡ 0 → ⊥) → not (nat_eq n 0) ≡ true
-not_zero zero is = absurd (is refl)
-not_zero (suc n) is = ap not (eqb-suc-zero n)
 
 behind : (p : Patch) → IsPatch p → StaysBehind p
 behind p is = record { behind_head = is.behind_head; within_block = is.within_block }

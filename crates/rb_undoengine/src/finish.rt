@@ -15,10 +15,10 @@ ghost use Rattle.rb_segment.specs.Header.{header_of, slot_in};
 ghost use Rattle.rb_standing.specs.Standing.{logged_of};
 ghost use Rattle.rb_standing.specs.States.{BlocksStand};
 
-use rb_base::{ACTIVE, Failed, Group, SLOTS, Scn, Store, UNIT, Xid};
+use rb_base::{Failed, Group, SLOTS, Scn, Store, UNIT, Xid, copy_of};
 use rb_restart::is_rolled_back;
 use rb_segment::{commit, end};
-use rb_txntable::slot_at;
+use rb_txntable::running;
 
 /// Whether the transaction runs and has a live record.
 fn has_live(header: &[u8], xid: Xid) -> bool
@@ -27,8 +27,7 @@ fn has_live(header: &[u8], xid: Xid) -> bool
     ensures { IsTrue result ↔ (Runs (header_of header.now) xid
         × ((slot_in (header_of header.now) xid.slot).live ≢ 0)) }
 {
-    let slot = slot_at(header, xid.slot as u8);
-    slot.state == ACTIVE && slot.wrap == xid.wrap && slot.live != 0
+    matches!(running(header, xid), Some(slot) if slot.live != 0)
 }
 
 /// Commits the transaction at `scn` by one group, which waits. What `group` held is dropped. Nothing is done
@@ -56,9 +55,7 @@ pub fn commit_step<S: Store>(
         → OnOk result (Logs S.Store store.old store.new [] true) }
 {
     let shape = store.shape();
-    store.load(shape.header_block(xid.seg))?;
-    let mut header = [0; UNIT];
-    header.copy_from_slice(store.block());
+    let mut header = copy_of(store, shape.header_block(xid.seg))?;
     if !has_live(&header, xid) {
         return Ok(());
     }
@@ -89,9 +86,7 @@ pub fn end_step<S: Store>(store: &mut S, xid: Xid, group: &mut Group) -> Result<
         → OnOk result (Logs S.Store store.old store.new [] true) }
 {
     let shape = store.shape();
-    store.load(shape.header_block(xid.seg))?;
-    let mut header = [0; UNIT];
-    header.copy_from_slice(store.block());
+    let mut header = copy_of(store, shape.header_block(xid.seg))?;
     if !is_rolled_back(&header, xid) {
         return Ok(());
     }

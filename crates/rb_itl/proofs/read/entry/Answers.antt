@@ -4,6 +4,6 @@ use Rattle.rb_itl.proofs.read.entry.Goals as goal
 
 pub returns : goal.returns
 returns c =
-    let place = c.place_of-place.result in
+    let place = c.entry_place-place.result in
     let long : place + 48 - place ≡ 48 = omega arith in
-    c.entry_from.ensures ∙ ap (λ (count : ℕ). entry_of (take count (drop place c.args.block.now))) long ∙ ap (λ (from : ℕ). entry_of (take 48 (drop from c.args.block.now))) c.place_of-place.ensures
+    c.entry_from.ensures ∙ ap (λ (count : ℕ). entry_of (take count (drop place c.args.block.now))) long ∙ ap (λ (from : ℕ). entry_of (take 48 (drop from c.args.block.now))) c.entry_place-place.ensures

@@ -30,7 +30,8 @@ returns-clause-patches c =
     let second = head_patch b c.head-head.result (c.head_records-records.result + 1) ∷ [] in
     let third = record_count_patch b c.saturating_add-made.result ∷ [] in
     let last = undo_patch c.next_address-address.result.block c.next_address-address.result.rec c.args.undo.now ∷ [] in
-    rw (slot, head, records, writes) (c.put_undo.ensures.patch ∙ ap (λ (l : List Patch). l ++ last) c.set_writes.ensures.patch ∙ ap (λ (l : List Patch). (l ++ third) ++ last) c.set_head.ensures.patch
+    let put : c.push.new.self ≡ c.set_writes.new.group ++ last = c.push.ensures ∙ rw (c.undo_place-place.ensures, c.undo_bytes.ensures.bytes) refl in
+    rw (slot, head, records, writes) (put ∙ ap (λ (l : List Patch). l ++ last) c.set_writes.ensures.patch ∙ ap (λ (l : List Patch). (l ++ third) ++ last) c.set_head.ensures.patch
     ∙ ap (λ (l : List Patch). ((l ++ second) ++ third) ++ last) c.set_slot.ensures.patch
     ∙ append_assoc ((old ++ first) ++ second) third last ∙ append_assoc (old ++ first) second (third ++ last) ∙ append_assoc old first (second ++ (third ++ last)))
 

@@ -1,23 +1,19 @@
-use Rattle.std.proofs.Common.{◌≡◌, ◌∙◌, ℕ, List, [], true, false, Ok, Err, refl, sym, subst, arith}
+use Rattle.std.proofs.Common.{◌≡◌, ◌∙◌, ℕ, List, [], true, false, refl, sym, subst, arith}
 use Rattle.std.proofs.lemmas.Bool.{false≢true}
 use borrow.Author.Count.{below_more, below_none}
-use Rattle.rb_base.specs.Logs.{load_logs, more_logs}
+use Rattle.rb_base.specs.Logs.{more_logs}
 use Rattle.rb_base.specs.declared.sizes.TheConstants.{ACTIVE}
 use Rattle.rb_segment.specs.Header.{segment_of, slot_in}
 use Rattle.rb_sound.specs.Active.{Fits, IsActive}
 use Rattle.rb_sound.proofs.active.slots_sound.Goals as goal
 
-pub returns-in_err-load-clause-logs : goal.returns-in_err-load-clause-logs
-returns-in_err-load-clause-logs g c =
-    let load = c.in_err-load.ensures in
-    rw c.from_residual.ensures.0
-    (load_logs g.S.Store c.args.store.now c.load.new.self (Err c.in_err-load.field-0.0) load.shape load.slots load.failed load.counted load.lsn load.blocks load.settles load.any_moment load.holds_back)
+pub returns-in_err-header-clause-logs : goal.returns-in_err-header-clause-logs
+returns-in_err-header-clause-logs g c = rw c.from_residual.ensures.0 c.in_err-header.ensures.logs
 
 pub loop-i-init : goal.loop-i-init
 loop-i-init g c =
-    let load = c.in_ok-load.ensures in
     record {
-      logs = load_logs g.S.Store c.args.store.now c.load.new.self (Ok c.in_ok-load.field-0) load.shape load.slots load.failed load.counted load.lsn load.blocks load.settles load.any_moment load.holds_back;
+      logs = c.in_ok-header.ensures.logs;
       so_far = λ told. below_none (λ (k : ℕ). (slot_in (segment_of c.args.shape (g.S.Store.blocks c.args.store.now) c.args.g).header k).state ≡ ACTIVE → IsActive (Fits c.args.limits.now) c.args.shape c.args.g (segment_of c.args.shape (g.S.Store.blocks c.args.store.now) c.args.g) k);
     }
 
